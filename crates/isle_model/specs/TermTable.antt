@@ -1,0 +1,106 @@
+-- Which lists of definitions have a term table, and the table. Of the forms of terms, declarations that are neither
+-- partial nor multi; extractors, converters and externs are not carried yet.
+use Rattle.std.specs.Prelude.{ℕ, suc, Bool, true, false, not, ◌&&◌, List, [], ◌∷◌, Option, Some, None, slice_get, All, IsTrue, map, is_some, unwrap_or, if◌then◌else◌}
+use Rattle.std.specs.List.{flat_map, list_any}
+use Rattle.std.specs.Str.{bytes_eq}
+use Rattle.isle_model.specs.Syntax.{Name, PatternTree, term_pattern, DeclTree, RuleTree, Definition, declaration, extractor_definition, converter_definition, rule_definition, extern_definition, extern_constructor, extern_extractor}
+use Rattle.isle_model.specs.Names.{number, with_names, IsDistinct}
+use Rattle.isle_model.specs.Outcome.{then_option}
+use Rattle.isle_model.specs.Tables.{Flags, ConstructorEntry, internal_constructor, declared_term, TermEntry}
+use Rattle.isle_model.specs.TypeTable.{type_table_names, type_id, place_from}
+
+abbrev pub decl_of : Definition → List DeclTree
+decl_of (declaration d) = d ∷ []
+decl_of _ = []
+
+abbrev pub rule_of : Definition → List RuleTree
+rule_of (rule_definition r) = r ∷ []
+rule_of _ = []
+
+-- the declarations and the rules, each in order: the i-th declaration, from 0, is term i, the i-th rule is rule i
+abbrev pub decl_trees : List Definition → List DeclTree
+decl_trees defs = flat_map decl_of defs
+
+abbrev pub rule_trees : List Definition → List RuleTree
+rule_trees defs = flat_map rule_of defs
+
+abbrev pub decl_names : List Definition → List (List ℕ)
+decl_names defs = map (λ d. d.term.text) (decl_trees defs)
+
+-- the names of the type table, then the declared terms
+abbrev pub term_table_names : List Definition → List (List ℕ)
+term_table_names defs = with_names (type_table_names defs) (decl_names defs)
+
+-- the id of the term of a name
+abbrev pub term_id : List Definition → List ℕ → Option ℕ
+term_id defs x = place_from 0 x (decl_names defs)
+
+-- the id of the term whose name has a number
+abbrev pub term_of_number : List Definition → List (List ℕ) → ℕ → Option ℕ
+term_of_number defs names k = then_option (slice_get names k) (term_id defs)
+
+abbrev pub root_name : PatternTree → Option Name
+root_name (term_pattern term args at) = Some term
+root_name _ = None
+
+-- whether a rule is one of this term
+abbrev pub has_root : List ℕ → Option Name → Bool
+has_root x None = false
+has_root x (Some n) = bytes_eq n.text x
+
+abbrev pub is_rule_of : List ℕ → RuleTree → Bool
+is_rule_of x r = has_root x (root_name r.pattern)
+
+-- whether the term table carries a definition
+abbrev pub is_carried_term : Definition → Bool
+is_carried_term (declaration d) = not d.multi && not d.partial
+is_carried_term (extractor_definition e) = false
+is_carried_term (converter_definition c) = false
+is_carried_term (extern_definition (extern_constructor term function at)) = false
+is_carried_term (extern_definition (extern_extractor term function at infallible)) = false
+is_carried_term _ = true
+
+abbrev pub is_declared : List Definition → Option Name → Bool
+is_declared defs None = false
+is_declared defs (Some n) = is_some (term_id defs n.text)
+
+-- all forms are carried, no term is declared twice, the types of each declaration are known, and the left side of
+-- each rule is a declared term
+pub record IsValidTerms (defs : List Definition) : Type 0 where
+  pub carried : All (λ d. IsTrue (is_carried_term d)) defs
+  pub distinct : IsDistinct (decl_names defs)
+  pub arguments : All (λ d. All (λ n. IsTrue (is_some (type_id defs n.text))) d.arg_tys) (decl_trees defs)
+  pub results : All (λ d. IsTrue (is_some (type_id defs d.ret_ty.text))) (decl_trees defs)
+  pub roots : All (λ r. IsTrue (is_declared defs (root_name r.pattern))) (rule_trees defs)
+
+-- each declared term has a rule
+abbrev pub AllDefined : List Definition → Type 0
+AllDefined defs = All (λ d. IsTrue (list_any (is_rule_of d.term.text) (rule_trees defs))) (decl_trees defs)
+
+-- a term with rules is made by them
+abbrev pub constructor_of : List Definition → List ℕ → Option ConstructorEntry
+constructor_of defs x = if list_any (is_rule_of x) (rule_trees defs) then Some internal_constructor else None
+
+abbrev pub decl_flags : DeclTree → Flags
+decl_flags d = record { pure = d.pure; multi = d.multi; partial = d.partial; rec = d.rec }
+
+abbrev pub type_or_first : List Definition → Name → ℕ
+type_or_first defs n = unwrap_or (type_id defs n.text) 0
+
+abbrev pub decl_entry : List Definition → ℕ → DeclTree → TermEntry
+decl_entry defs id d = record {
+  id = id;
+  at = d.at;
+  name = number (term_table_names defs) d.term.text;
+  arg_tys = map (type_or_first defs) d.arg_tys;
+  ret_ty = type_or_first defs d.ret_ty;
+  kind = declared_term (decl_flags d) (constructor_of defs d.term.text) None;
+}
+
+abbrev pub decl_entries : List Definition → ℕ → List DeclTree → List TermEntry
+decl_entries defs id [] = []
+decl_entries defs id (d ∷ ds) = decl_entry defs id d ∷ decl_entries defs (suc id) ds
+
+-- the terms of a valid list, each at its id
+abbrev pub term_entries : List Definition → List TermEntry
+term_entries defs = decl_entries defs 0 (decl_trees defs)
