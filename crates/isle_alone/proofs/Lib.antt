@@ -1,0 +1,5 @@
+pub mod Orders
+pub mod InOrder
+pub mod Flat
+pub mod Marks
+pub mod Soundness
