@@ -1,0 +1,14 @@
+pub mod Elements
+pub mod ValuesEqual
+pub mod Simple
+pub mod DemandsOfSimple
+pub mod SimpleRules
+pub mod SimpleMatches
+pub mod AskedOfSimple
+pub mod Priorities
+pub mod PlainSites
+pub mod BuiltRules
+pub mod ServedWorlds
+pub mod Accepted
+pub mod SampleServed
+pub mod SimpleElaborated
