@@ -1,0 +1,4 @@
+pub mod PatternViews
+pub mod ExprViews
+mod Files
+mod Classes

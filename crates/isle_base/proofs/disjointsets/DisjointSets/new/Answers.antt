@@ -1,0 +1,8 @@
+use Rattle.std.proofs.Common.{rules, hash_map_len}
+use Rattle.std.specs.HashMap.{get}
+use Rattle.isle_base.proofs.Classes.{no_sets}
+use Rattle.isle_base.proofs.disjointsets.DisjointSets.new.Goals as goal
+
+pub invariant_of-result : goal.invariant_of-result
+invariant_of-result g c =
+    rw c.new-2.ensures.items (no_sets g.T.PartialEq.eq (get g.T.PartialEq.eq c.new.result) (hash_map_len c.new.result) (λ x. search rules) (search rules))

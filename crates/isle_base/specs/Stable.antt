@@ -1,0 +1,42 @@
+-- What a map and a set have. The list that carries them is no part of what can be named, so no clause sees an order.
+use Rattle.std.specs.Prelude.{ℕ, Bool, List, length, Option, refl}
+use Rattle.std.specs.Coded.{Coded, code_by, coded×, coded_list}
+use Rattle.std.specs.List.{list_any}
+use Rattle.std.specs.Map.{lookup}
+
+-- a set of values
+pub record Members (T : Type 0) : Type 0 where
+  listed : List T
+
+-- keys and their values
+pub record Entries (K V : Type 0) : Type 0 where
+  listed : List (K × V)
+
+abbrev pub set_of : {T : Type 0} → List T → Members T
+set_of xs = record { listed = xs }
+
+abbrev pub map_of : {K V : Type 0} → List (K × V) → Entries K V
+map_of es = record { listed = es }
+
+-- a set and a map are stored as their lists
+abbrev pub members_code : {T : Type 0} → Coded T → Coded (Members T)
+members_code {T} c = code_by (List T) (coded_list c) (λ s. s.listed) set_of (λ _. refl)
+
+abbrev pub entries_code : {K V : Type 0} → Coded K → Coded V → Coded (Entries K V)
+entries_code {K} {V} c d = code_by (List (K × V)) (coded_list (coded× c d)) (λ m. m.listed) map_of (λ _. refl)
+
+-- the set has the value
+abbrev pub contains : {T : Type 0} → (T → T → Bool) → Members T → T → Bool
+contains eq s x = list_any (eq x) s.listed
+
+-- what the map has at the key
+abbrev pub look_up : {K V : Type 0} → (K → K → Bool) → Entries K V → K → Option V
+look_up eq m k = lookup (eq k) m.listed
+
+-- how many values
+abbrev pub member_count : {T : Type 0} → Members T → ℕ
+member_count s = length s.listed
+
+-- how many keys
+abbrev pub entry_count : {K V : Type 0} → Entries K V → ℕ
+entry_count m = length m.listed

@@ -1,0 +1,797 @@
+//! Syntax trees of definitions, patterns and expressions, the places that they stand at, and what can be
+//! wrong with them.
+#![tactic(auto, using(crate::proofs::PatternViews::pattern_steps, crate::proofs::ExprViews::expr_steps))]
+
+ghost use Rattle.std.specs.Prelude.{◌≡◌, ◌++◌, ◌<◌, alloc_error, map, length, IfOk, OnOk, option_map, string_bytes};
+ghost use Rattle.std.specs.List.{position_from};
+ghost use Rattle.std.specs.Str.{bytes_eq};
+ghost use Rattle.isle_base.specs.declared.syntax.Fault.TheVariants.{Memory};
+ghost use Rattle.isle_base.specs.Expressions.{expr_position, terms_of_expr, terms_of_exprs, terms_of_lets};
+ghost use Rattle.isle_base.specs.Patterns.{pattern_position, root_term_of, subst_of, subst_all, template_of, templates_of, terms_of, terms_of_all};
+ghost use Rattle.isle_base.specs.Places.{full_name_of, line_of, printed_line, single_end, term_view};
+ghost use Rattle.isle_base.specs.SyntaxViews.{position, name_view, pattern_view, pattern_views, expr_view, expr_views, let_views};
+
+use std::alloc::{AllocError, AllocFailed, Global};
+
+/// A place in a file. Ordered by file, then offset.
+#[derive(Clone, Copy, Debug, Default, PartialEq, Eq, PartialOrd, Ord, Hash)]
+pub struct Pos {
+    /// The file's number in `Files`.
+    pub file: usize,
+    /// The offset in the file's bytes.
+    pub offset: usize,
+}
+
+/// A piece of a file.
+#[derive(Clone, Copy, Debug, PartialEq, Eq)]
+pub struct Span {
+    /// Where it begins.
+    pub from: Pos,
+    /// Where it ends.
+    pub to: Pos,
+}
+
+/// The files that were read: two lists of equal length.
+#[derive(Debug, Drop)]
+pub struct Files {
+    /// The files' names.
+    pub names: Vec<String>,
+    /// The files' texts.
+    pub texts: Vec<String>,
+}
+
+/// A name, and where it stands.
+#[derive(Debug, PartialEq, Eq, Drop)]
+pub struct Ident(pub String, pub Pos);
+
+/// What is bounded.
+#[derive(Clone, Copy, Debug, PartialEq, Eq)]
+pub enum Limit {
+    /// The fields that a constraint matches.
+    Fields,
+    /// The outputs of an extractor.
+    Outputs,
+    /// The arguments of a rule.
+    Arguments,
+    /// The binding sites of a term.
+    Sites,
+    /// How deep expansions nest.
+    Nesting,
+    /// The expansions in one rule.
+    Expansions,
+}
+
+/// What is wrong with the definitions.
+#[derive(Debug, Drop)]
+pub enum Error {
+    /// A definition, or what it says, isn't right.
+    TypeError {
+        msg: String,
+        span: Span,
+    },
+    /// A rule can never match.
+    UnreachableError {
+        msg: String,
+        span: Span,
+    },
+    /// Rules of one priority match the same values.
+    OverlapError {
+        msg: String,
+        rules: Vec<Span>,
+    },
+    /// Rules that another one comes before wherever they match.
+    ShadowedError {
+        shadowed: Vec<Span>,
+        mask: Span,
+    },
+    /// More of something than there may be.
+    LimitError {
+        limit: Limit,
+        msg: String,
+        span: Span,
+    },
+}
+
+/// Why there is no answer: memory, or the definitions.
+#[derive(Debug, Drop)]
+pub enum Fault {
+    /// The allocator refused.
+    Memory(AllocError),
+    /// What is wrong with the definitions.
+    Errors(Vec<Error>),
+}
+
+impl From<AllocError> for Fault {
+    ghost from_gives = { λ a e. e ≡ Memory a };
+
+    fn from(e: AllocError) -> Fault {
+        Fault::Memory(e)
+    }
+}
+
+impl<T: Drop> From<AllocFailed<T>> for Fault {
+    ghost from_gives = { λ _ e. e ≡ Memory alloc_error };
+
+    fn from(e: AllocFailed<T>) -> Fault {
+        Fault::Memory(AllocError::from(e))
+    }
+}
+
+/// A definition.
+#[derive(Clone, Debug, PartialEq, Eq, Drop)]
+pub enum Def {
+    TypeDef(Type),
+    Decl(Decl),
+    Extractor(Extractor),
+    Converter(Converter),
+    Rule(Rule),
+    Extern(Extern),
+    /// Any other definition. It changes nothing.
+    Other,
+}
+
+/// A type's definition.
+#[derive(Clone, Debug, PartialEq, Eq, Drop)]
+pub struct Type {
+    pub name: Ident,
+    pub is_extern: bool,
+    pub is_nodebug: bool,
+    pub ty: TypeValue,
+    pub pos: Pos,
+}
+
+/// What a type is.
+#[derive(Clone, Debug, PartialEq, Eq, Drop)]
+pub enum TypeValue {
+    Primitive(Ident, Pos),
+    Enum(Vec<Variant>, Pos),
+    Struct(Fields, Pos),
+}
+
+/// A variant of an enum type.
+#[derive(Clone, Debug, PartialEq, Eq, Drop)]
+pub struct Variant {
+    pub name: Ident,
+    pub fields: Fields,
+    pub pos: Pos,
+}
+
+/// The fields of a variant or of a struct type.
+#[derive(Clone, Debug, PartialEq, Eq, Drop)]
+pub enum Fields {
+    Unit,
+    Struct(StructFields),
+    Tuple(TupleFields),
+}
+
+/// Fields with names.
+#[derive(Clone, Debug, PartialEq, Eq, Drop)]
+pub struct StructFields {
+    pub fields: Vec<StructField>,
+}
+
+/// A field with a name.
+#[derive(Clone, Debug, PartialEq, Eq, Drop)]
+pub struct StructField {
+    pub name: Ident,
+    pub ty: Ident,
+    pub pos: Pos,
+}
+
+/// Fields without names.
+#[derive(Clone, Debug, PartialEq, Eq, Drop)]
+pub struct TupleFields {
+    pub fields: Vec<TupleField>,
+}
+
+/// A field without a name.
+#[derive(Clone, Debug, PartialEq, Eq, Drop)]
+pub struct TupleField {
+    pub index: usize,
+    pub ty: Ident,
+    pub pos: Pos,
+}
+
+/// A term's declaration.
+#[derive(Clone, Debug, PartialEq, Eq, Drop)]
+pub struct Decl {
+    pub term: Ident,
+    pub arg_tys: Vec<Ident>,
+    pub ret_ty: Ident,
+    pub pure: bool,
+    pub multi: bool,
+    pub partial: bool,
+    pub rec: bool,
+    pub pos: Pos,
+}
+
+/// A term's extractor, as a pattern that stands for it.
+#[derive(Clone, Debug, PartialEq, Eq, Drop)]
+pub struct Extractor {
+    pub term: Ident,
+    pub args: Vec<Ident>,
+    pub template: Pattern,
+    pub pos: Pos,
+}
+
+/// A term that converts one type into another.
+#[derive(Clone, Debug, PartialEq, Eq, Drop)]
+pub struct Converter {
+    pub term: Ident,
+    pub inner_ty: Ident,
+    pub outer_ty: Ident,
+    pub pos: Pos,
+}
+
+/// A rule.
+#[derive(Clone, Debug, PartialEq, Eq, Drop)]
+pub struct Rule {
+    pub pattern: Pattern,
+    pub iflets: Vec<IfLet>,
+    pub expr: Expr,
+    pub pos: Pos,
+    pub prio: Option<i64>,
+    pub name: Option<Ident>,
+}
+
+/// A further condition of a rule: an expression's value matches a pattern.
+#[derive(Clone, Debug, PartialEq, Eq, Drop)]
+pub struct IfLet {
+    pub pattern: Pattern,
+    pub expr: Expr,
+    pub pos: Pos,
+}
+
+/// What is defined outside.
+#[derive(Clone, Debug, PartialEq, Eq, Drop)]
+pub enum Extern {
+    Constructor {
+        term: Ident,
+        func: Ident,
+        pos: Pos,
+    },
+    Extractor {
+        term: Ident,
+        func: Ident,
+        pos: Pos,
+        infallible: bool,
+    },
+    Const {
+        name: Ident,
+        ty: Ident,
+        pos: Pos,
+    },
+}
+
+/// What a rule matches.
+#[derive(Debug, PartialEq, Eq, Drop)]
+pub enum Pattern {
+    Var {
+        var: Ident,
+        pos: Pos,
+    },
+    BindPattern {
+        var: Ident,
+        subpat: Box<Pattern>,
+        pos: Pos,
+    },
+    ConstBool {
+        val: bool,
+        pos: Pos,
+    },
+    ConstInt {
+        val: i128,
+        pos: Pos,
+    },
+    ConstPrim {
+        val: Ident,
+        pos: Pos,
+    },
+    Term {
+        sym: Ident,
+        args: Vec<Pattern>,
+        pos: Pos,
+    },
+    Wildcard {
+        pos: Pos,
+    },
+    And {
+        subpats: Vec<Pattern>,
+        pos: Pos,
+    },
+    MacroArg {
+        index: usize,
+        pos: Pos,
+    },
+}
+
+/// What a rule makes.
+#[cycle(expr)]
+#[derive(Debug, PartialEq, Eq, Drop)]
+pub enum Expr {
+    Term {
+        sym: Ident,
+        args: Vec<Expr>,
+        pos: Pos,
+    },
+    Var {
+        name: Ident,
+        pos: Pos,
+    },
+    ConstBool {
+        val: bool,
+        pos: Pos,
+    },
+    ConstInt {
+        val: i128,
+        pos: Pos,
+    },
+    ConstPrim {
+        val: Ident,
+        pos: Pos,
+    },
+    Let {
+        defs: Vec<LetDef>,
+        body: Box<Expr>,
+        pos: Pos,
+    },
+}
+
+/// One name of a let.
+#[cycle(expr)]
+#[derive(Debug, PartialEq, Eq, Drop)]
+pub struct LetDef {
+    pub var: Ident,
+    pub ty: Ident,
+    pub val: Box<Expr>,
+    pub pos: Pos,
+}
+
+impl Pos {
+    /// The place as text: the file's name, ` line `, and the line's number, which is 1 plus the number of line
+    /// feeds before the offset. The file must be one of these.
+    pub fn pretty_print_line(&self, files: &Files, alloc: Global) -> Result<String, AllocError>
+        requires name { self.now.file < length files.now.names.items }
+        requires text { self.now.file < length files.now.texts.items }
+        ensures { IfOk result (λ s. string_bytes s
+            ≡ printed_line (map string_bytes files.now.names.items) (map string_bytes files.now.texts.items) (position self.now)) }
+    {
+        let name = &files.names[self.file];
+        let line = line_at(&files.texts[self.file], self.offset);
+        format!(in alloc; "{name} line {line}")
+    }
+}
+
+// The number of the line that the offset stands in.
+fn line_at(text: &str, offset: usize) -> usize
+    ensures { result ≡ line_of text.now offset }
+{
+    let bytes = text.as_bytes();
+    let end = offset.min(bytes.len());
+    let mut line = 1;
+    for b in &bytes[..end] {
+        if *b == b'\n' {
+            line += 1;
+        }
+    }
+    line
+}
+
+impl Span {
+    /// The piece that begins at the place and ends at the next offset of the same file, or where it begins if
+    /// there is no greater offset.
+    pub fn new_single(pos: Pos) -> Span
+        ensures from { result.from ≡ pos }
+        ensures to { result.to ≡ single_end pos }
+    {
+        Span {
+            from: pos,
+            to: Pos {
+                file: pos.file,
+                offset: pos.offset.saturating_add(1),
+            },
+        }
+    }
+}
+
+impl Variant {
+    /// The name of a variant with that of its type before it, joined with a point; it stands where the
+    /// variant's name does.
+    pub fn full_name(enum_name: &Ident, variant_name: &Ident) -> Result<Ident, AllocError>
+        ensures { IfOk result (λ i. name_view i ≡ full_name_of (name_view enum_name.now) (name_view variant_name.now)) }
+    {
+        let alloc = *variant_name.0.allocator();
+        let type_text = &enum_name.0;
+        let variant_text = &variant_name.0;
+        let text = format!(in alloc; "{type_text}.{variant_text}")?;
+        Ok(Ident(text, variant_name.1))
+    }
+}
+
+impl Pattern {
+    /// The position of the form.
+    pub fn pos(&self) -> Pos
+        ensures { position result ≡ pattern_position (pattern_view self.now) }
+    {
+        match self {
+            Pattern::Var { pos, .. }
+            | Pattern::BindPattern { pos, .. }
+            | Pattern::ConstBool { pos, .. }
+            | Pattern::ConstInt { pos, .. }
+            | Pattern::ConstPrim { pos, .. }
+            | Pattern::Term { pos, .. }
+            | Pattern::Wildcard { pos }
+            | Pattern::And { pos, .. }
+            | Pattern::MacroArg { pos, .. } => *pos,
+        }
+    }
+
+    /// The symbol of a term, and `None` of any other form.
+    pub fn root_term(&self) -> Option<&Ident>
+        ensures { option_map (λ s. name_view s.now) result ≡ root_term_of (pattern_view self.now) }
+    {
+        match self {
+            Pattern::Term { sym, .. } => Some(sym),
+            _ => None,
+        }
+    }
+
+    /// Adds the position and the symbol of each term to the list, an outer term before its parts, left to
+    /// right. A refusal leaves some of them there. Upstream calls a closure with each, in this order.
+    pub fn terms<'a>(&'a self, out: &mut Vec<(Pos, &'a Ident)>) -> Result<(), AllocError>
+        ensures { OnOk result (map (λ t. term_view t.0 t.1.now) out.new.items
+            ≡ map (λ t. term_view t.0 t.1.now) out.old.items ++ terms_of (pattern_view self.now)) }
+    {
+        match self {
+            Pattern::BindPattern { subpat, .. } => subpat.terms(out),
+            Pattern::Term { sym, args, pos } => {
+                out.push((*pos, sym))?;
+                for arg in args {
+                    arg.terms(out)?;
+                }
+                Ok(())
+            }
+            Pattern::And { subpats, .. } => {
+                for subpat in subpats {
+                    subpat.terms(out)?;
+                }
+                Ok(())
+            }
+            _ => Ok(()),
+        }
+    }
+
+    /// The template that the pattern is for arguments of these names: a variable named as an argument, or a
+    /// binding of that name over a wildcard, becomes the argument of the first place with that name. All else
+    /// is kept, and its parts are treated alike.
+    #[cycle(template)]
+    pub fn make_macro_template(&self, alloc: Global, args: &[Ident]) -> Result<Pattern, AllocError>
+        ensures { IfOk result (λ q. pattern_view q
+            ≡ template_of (map (λ a. string_bytes a.0) args.now) (pattern_view self.now)) }
+    {
+        match self {
+            Pattern::Var { var, pos } => {
+                if let Some(index) = place_of(args, var) {
+                    return Ok(Pattern::MacroArg { index, pos: *pos });
+                }
+                self.clone()
+            }
+            Pattern::BindPattern { var, subpat, pos } => {
+                if let Pattern::Wildcard { .. } = &**subpat {
+                    if let Some(index) = place_of(args, var) {
+                        return Ok(Pattern::MacroArg { index, pos: *pos });
+                    }
+                }
+                Ok(Pattern::BindPattern {
+                    var: var.clone()?,
+                    subpat: Box::new(alloc, subpat.make_macro_template(alloc, args)?)?,
+                    pos: *pos,
+                })
+            }
+            Pattern::Term {
+                sym,
+                args: parts,
+                pos,
+            } => Ok(Pattern::Term {
+                sym: sym.clone()?,
+                args: templates(alloc, parts, args)?,
+                pos: *pos,
+            }),
+            Pattern::And { subpats, pos } => Ok(Pattern::And {
+                subpats: templates(alloc, subpats, args)?,
+                pos: *pos,
+            }),
+            _ => self.clone(),
+        }
+    }
+
+    /// The pattern with the i-th of these in the place of each argument i, and `None` where an argument has no
+    /// pattern.
+    #[cycle(subst)]
+    pub fn subst_macro_args(
+        &self,
+        alloc: Global,
+        macro_args: &[Pattern],
+    ) -> Result<Option<Pattern>, AllocError>
+        ensures { IfOk result (λ o. option_map pattern_view o
+            ≡ subst_of (map pattern_view macro_args.now) (pattern_view self.now)) }
+    {
+        match self {
+            Pattern::MacroArg { index, .. } => match macro_args.get(*index) {
+                Some(p) => Ok(Some(p.clone()?)),
+                None => Ok(None),
+            },
+            Pattern::BindPattern { var, subpat, pos } => {
+                let Some(q) = subpat.subst_macro_args(alloc, macro_args)? else {
+                    return Ok(None);
+                };
+                Ok(Some(Pattern::BindPattern {
+                    var: var.clone()?,
+                    subpat: Box::new(alloc, q)?,
+                    pos: *pos,
+                }))
+            }
+            Pattern::Term { sym, args, pos } => {
+                let Some(args) = subst_each(alloc, args, macro_args)? else {
+                    return Ok(None);
+                };
+                Ok(Some(Pattern::Term {
+                    sym: sym.clone()?,
+                    args,
+                    pos: *pos,
+                }))
+            }
+            Pattern::And { subpats, pos } => {
+                let Some(subpats) = subst_each(alloc, subpats, macro_args)? else {
+                    return Ok(None);
+                };
+                Ok(Some(Pattern::And { subpats, pos: *pos }))
+            }
+            _ => Ok(Some(self.clone()?)),
+        }
+    }
+}
+
+impl Expr {
+    /// The position of the form.
+    pub fn pos(&self) -> Pos
+        ensures { position result ≡ expr_position (expr_view self.now) }
+    {
+        match self {
+            Expr::Term { pos, .. }
+            | Expr::Var { pos, .. }
+            | Expr::ConstBool { pos, .. }
+            | Expr::ConstInt { pos, .. }
+            | Expr::ConstPrim { pos, .. }
+            | Expr::Let { pos, .. } => *pos,
+        }
+    }
+
+    /// Adds the position and the symbol of each term to the list, an outer term before its parts, left to
+    /// right, a let's definitions before its body. A refusal leaves some of them there. Upstream calls a
+    /// closure with each, in this order.
+    pub fn terms<'a>(&'a self, out: &mut Vec<(Pos, &'a Ident)>) -> Result<(), AllocError>
+        ensures { OnOk result (map (λ t. term_view t.0 t.1.now) out.new.items
+            ≡ map (λ t. term_view t.0 t.1.now) out.old.items ++ terms_of_expr (expr_view self.now)) }
+    {
+        match self {
+            Expr::Term { sym, args, pos } => {
+                out.push((*pos, sym))?;
+                for arg in args {
+                    arg.terms(out)?;
+                }
+                Ok(())
+            }
+            Expr::Let { defs, body, .. } => {
+                for def in defs {
+                    def.val.terms(out)?;
+                }
+                body.terms(out)
+            }
+            _ => Ok(()),
+        }
+    }
+}
+
+// The place of the first of the names that has this one's text.
+fn place_of(args: &[Ident], name: &Ident) -> Option<usize>
+    ensures { result ≡ position_from (bytes_eq (string_bytes name.now.0)) 0 (map (λ a. string_bytes a.0) args.now) }
+{
+    for i in 0..args.len() {
+        if name.0 == args[i].0 {
+            return Some(i);
+        }
+    }
+    None
+}
+
+// The templates of several patterns.
+#[cycle(template)]
+fn templates(alloc: Global, parts: &[Pattern], args: &[Ident]) -> Result<Vec<Pattern>, AllocError>
+    ensures { IfOk result (λ v. pattern_views v.items
+        ≡ templates_of (map (λ a. string_bytes a.0) args.now) (pattern_views parts.now)) }
+{
+    let mut out = Vec::new(alloc);
+    for part in parts {
+        out.push(part.make_macro_template(alloc, args)?)?;
+    }
+    Ok(out)
+}
+
+// Several patterns with these in the places of their arguments.
+#[cycle(subst)]
+fn subst_each(
+    alloc: Global,
+    parts: &[Pattern],
+    macro_args: &[Pattern],
+) -> Result<Option<Vec<Pattern>>, AllocError>
+    ensures { IfOk result (λ o. option_map (λ v. pattern_views v.items) o
+        ≡ subst_all (map pattern_view macro_args.now) (pattern_views parts.now)) }
+{
+    let mut out = Vec::new(alloc);
+    for part in parts {
+        let Some(q) = part.subst_macro_args(alloc, macro_args)? else {
+            return Ok(None);
+        };
+        out.push(q)?;
+    }
+    Ok(Some(out))
+}
+
+impl Clone for Ident {
+    ghost use Rattle.isle_base.specs.SyntaxViews.{name_view};
+
+    ghost is_clone = { λ i j. name_view j ≡ name_view i };
+
+    fn clone(&self) -> Result<Ident, AllocError> {
+        Ok(Ident(self.0.clone()?, self.1))
+    }
+}
+
+impl Clone for Pattern {
+    ghost use Rattle.isle_base.specs.SyntaxViews.{pattern_view};
+
+    ghost is_clone = { λ p q. pattern_view q ≡ pattern_view p };
+
+    #[cycle(pattern_clone)]
+    fn clone(&self) -> Result<Pattern, AllocError> {
+        match self {
+            Pattern::Var { var, pos } => Ok(Pattern::Var {
+                var: var.clone()?,
+                pos: *pos,
+            }),
+            Pattern::BindPattern { var, subpat, pos } => {
+                let alloc = *Box::allocator(subpat);
+                Ok(Pattern::BindPattern {
+                    var: var.clone()?,
+                    subpat: Box::new(alloc, (**subpat).clone()?)?,
+                    pos: *pos,
+                })
+            }
+            Pattern::ConstBool { val, pos } => Ok(Pattern::ConstBool {
+                val: *val,
+                pos: *pos,
+            }),
+            Pattern::ConstInt { val, pos } => Ok(Pattern::ConstInt {
+                val: *val,
+                pos: *pos,
+            }),
+            Pattern::ConstPrim { val, pos } => Ok(Pattern::ConstPrim {
+                val: val.clone()?,
+                pos: *pos,
+            }),
+            Pattern::Term { sym, args, pos } => Ok(Pattern::Term {
+                sym: sym.clone()?,
+                args: pattern_clones(*args.allocator(), args)?,
+                pos: *pos,
+            }),
+            Pattern::Wildcard { pos } => Ok(Pattern::Wildcard { pos: *pos }),
+            Pattern::And { subpats, pos } => Ok(Pattern::And {
+                subpats: pattern_clones(*subpats.allocator(), subpats)?,
+                pos: *pos,
+            }),
+            Pattern::MacroArg { index, pos } => Ok(Pattern::MacroArg {
+                index: *index,
+                pos: *pos,
+            }),
+        }
+    }
+}
+
+// The clones of several patterns.
+#[cycle(pattern_clone)]
+fn pattern_clones(alloc: Global, parts: &[Pattern]) -> Result<Vec<Pattern>, AllocError>
+    ensures { IfOk result (λ v. pattern_views v.items ≡ pattern_views parts.now) }
+{
+    let mut out = Vec::new(alloc);
+    for part in parts {
+        out.push(part.clone()?)?;
+    }
+    Ok(out)
+}
+
+impl Clone for Expr {
+    ghost use Rattle.isle_base.specs.SyntaxViews.{expr_view};
+
+    ghost is_clone = { λ e f. expr_view f ≡ expr_view e };
+
+    #[cycle(expr_clone)]
+    fn clone(&self) -> Result<Expr, AllocError> {
+        match self {
+            Expr::Term { sym, args, pos } => Ok(Expr::Term {
+                sym: sym.clone()?,
+                args: expr_clones(*args.allocator(), args)?,
+                pos: *pos,
+            }),
+            Expr::Var { name, pos } => Ok(Expr::Var {
+                name: name.clone()?,
+                pos: *pos,
+            }),
+            Expr::ConstBool { val, pos } => Ok(Expr::ConstBool {
+                val: *val,
+                pos: *pos,
+            }),
+            Expr::ConstInt { val, pos } => Ok(Expr::ConstInt {
+                val: *val,
+                pos: *pos,
+            }),
+            Expr::ConstPrim { val, pos } => Ok(Expr::ConstPrim {
+                val: val.clone()?,
+                pos: *pos,
+            }),
+            Expr::Let { defs, body, pos } => {
+                let alloc = *Box::allocator(body);
+                Ok(Expr::Let {
+                    defs: let_clones(*defs.allocator(), defs)?,
+                    body: Box::new(alloc, (**body).clone()?)?,
+                    pos: *pos,
+                })
+            }
+        }
+    }
+}
+
+impl Clone for LetDef {
+    ghost use Rattle.std.specs.Prelude.{◌∷◌, []};
+    ghost use Rattle.isle_base.specs.SyntaxViews.{let_views};
+
+    ghost is_clone = { λ d e. let_views (e ∷ []) ≡ let_views (d ∷ []) };
+
+    #[cycle(expr_clone)]
+    fn clone(&self) -> Result<LetDef, AllocError> {
+        let alloc = *Box::allocator(&self.val);
+        Ok(LetDef {
+            var: self.var.clone()?,
+            ty: self.ty.clone()?,
+            val: Box::new(alloc, (*self.val).clone()?)?,
+            pos: self.pos,
+        })
+    }
+}
+
+// The clones of several expressions.
+#[cycle(expr_clone)]
+fn expr_clones(alloc: Global, parts: &[Expr]) -> Result<Vec<Expr>, AllocError>
+    ensures { IfOk result (λ v. expr_views v.items ≡ expr_views parts.now) }
+{
+    let mut out = Vec::new(alloc);
+    for part in parts {
+        out.push(part.clone()?)?;
+    }
+    Ok(out)
+}
+
+// The clones of several definitions.
+#[cycle(expr_clone)]
+fn let_clones(alloc: Global, parts: &[LetDef]) -> Result<Vec<LetDef>, AllocError>
+    ensures { IfOk result (λ v. let_views v.items ≡ let_views parts.now) }
+{
+    let mut out = Vec::new(alloc);
+    for part in parts {
+        out.push(part.clone()?)?;
+    }
+    Ok(out)
+}
+
+#[cfg(test)]
+mod tests;
