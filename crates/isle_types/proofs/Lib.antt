@@ -1,0 +1,11 @@
+pub mod FieldTypes
+pub mod Inverse
+pub mod Places
+pub mod Texts
+pub mod Seen
+pub mod Booting
+pub mod Naming
+pub mod Filling
+pub mod Ending
+pub mod Reports
+pub mod TypeMaps

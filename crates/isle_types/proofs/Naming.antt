@@ -1,0 +1,112 @@
+-- Reading the names of the types, one definition after another.
+use Rattle.std.proofs.Common.{◌≡◌, ℕ, ◌+◌, ◌<◌, length, drop, get_or, List, [], ◌∷◌, ◌++◌, false, slice_get, refl, sym, ap, subst, ◌∙◌, inl, inr, ◌⊎◌, ⊎_elim}
+use Rattle.std.proofs.lemmas.List.{append_assoc, at_drop_more}
+use Rattle.std.proofs.lemmas.List.Elements.{All-nil}
+use Rattle.isle_model.specs.Syntax.{TypeTree, Definition, type_definition, declaration, extractor_definition, converter_definition, rule_definition, extern_definition, other_definition}
+use Rattle.isle_model.specs.Names.{has_name, with_names}
+use Rattle.isle_model.specs.Outcome.{then_option}
+use Rattle.isle_model.specs.TypeTable.{builtin_names, type_names, place_from, IsValidTypes}
+use Rattle.isle_base.specs.declared.syntax.Def.{Def}
+use Rattle.isle_base.specs.declared.syntax.Error.{Error}
+use Rattle.isle_base.specs.SyntaxViews.{definition_view, definition_views}
+use Rattle.isle_base.specs.Stable.{entry_count}
+use Rattle.isle_types.specs.declared.type_env.TypeEnv.{TypeEnv}
+use Rattle.isle_types.specs.Envs.{names_of, symbol_of}
+use Rattle.isle_types.specs.Names.{IsInverse}
+use Rattle.isle_types.specs.Reading.{Reports, NamesType, IsTaken, NamesDefinition}
+use Rattle.isle_types.specs.Stages.{ArePlain, Naming, NamesTypes}
+use Rattle.isle_types.specs.TypeTables.{SeesTypes}
+use Rattle.isle_types.specs.TypeViews.{type_views}
+use Rattle.isle_types.proofs.Seen.{type_of_text, was_free, sees_type}
+use Rattle.isle_types.proofs.Texts.{distinct_push, distinct_builtin, place_absent, twice}
+
+module _ (defs rest : List Definition) (t : TypeTree) (old : TypeEnv) (n : Naming defs (type_definition t ∷ rest) old) where
+  pub name_right : (new : TypeEnv) → IsInverse (names_of new) (symbol_of new) → NamesType t.name.text old new → new.types ≡ old.types → Naming defs rest new
+  name_right new i a types = record {
+    named = n.named ++ t.name.text ∷ [];
+    sees = sees_type old n.named n.sees new t.name.text a i;
+    distinct = distinct_push n.named t.name.text n.distinct (was_free old n.named n.sees new t.name.text a i);
+    whole = append_assoc n.named (t.name.text ∷ []) (type_names rest) ∙ n.whole;
+    names = ap (λ ns. with_names ns (type_names rest)) a.names ∙ n.names;
+    types = ap (λ v. type_views v.items) types ∙ n.types;
+  }
+
+  pub name_wrong : IsTaken t.name.text old → IsValidTypes defs → ⊥
+  name_wrong a v =
+      twice n.named (type_names rest) (builtin_names ++ type_names defs) t.name.text a.id v.distinct n.whole (sym (type_of_text old n.named n.sees t.name.text) ∙ a.taken)
+
+-- after a definition of a type
+step_type : (defs rest : List Definition) (t : TypeTree) (old new : TypeEnv) (es es' : List Error) → IsInverse (names_of new) (symbol_of new) → NamesTypes defs (type_definition t ∷ rest) old es → ((es' ≡ es) × NamesType t.name.text old new × (new.types ≡ old.types)) ⊎ (Reports es es' × IsTaken t.name.text old) → NamesTypes defs rest new es'
+step_type defs rest t old new es es' i s (inl a) = record {
+  inverse = i;
+  plain = rw a.0 s.plain;
+  so_far = ⊎_elim
+      (λ right. inl (a.0 ∙ right.0, name_right defs rest t old right.1 new i a.1 a.2))
+      (λ wrong. inr (rw a.0 wrong.0, wrong.1)) s.so_far;
+}
+step_type defs rest t old new es es' i s (inr a) = record {
+  inverse = i;
+  plain = a.0.plain s.plain;
+  so_far = inr (a.0.some, ⊎_elim (λ right. name_wrong defs rest t old right.1 a.1) (λ wrong. wrong.1) s.so_far);
+}
+
+-- after another one
+step_other : (defs rest rest' : List Definition) (old new : TypeEnv) (es es' : List Error) → type_names rest' ≡ type_names rest → NamesTypes defs rest old es → (es' ≡ es) × (new ≡ old) → NamesTypes defs rest' new es'
+step_other defs rest rest' old new es es' same s a =
+    subst (λ env. NamesTypes defs rest' env es') (sym a.1) (record {
+      inverse = s.inverse;
+      plain = rw a.0 s.plain;
+      so_far = ⊎_elim
+          (λ right. inl (
+            a.0 ∙ right.0,
+            record {
+              named = right.1.named;
+              sees = right.1.sees;
+              distinct = right.1.distinct;
+              whole = ap (λ xs. right.1.named ++ xs) same ∙ right.1.whole;
+              names = ap (λ xs. with_names (names_of old) xs) same ∙ right.1.names;
+              types = right.1.types;
+            },
+          ))
+          (λ wrong. inr (rw a.0 wrong.0, wrong.1)) s.so_far;
+    })
+
+pub step_name : (defs rest : List Definition) (d : Definition) (old new : TypeEnv) (es es' : List Error) → IsInverse (names_of new) (symbol_of new) → NamesTypes defs (d ∷ rest) old es → NamesDefinition d old es new es' → NamesTypes defs rest new es'
+step_name defs rest (type_definition t) old new es es' i s a = step_type defs rest t old new es es' i s a
+step_name defs rest (declaration d) old new es es' i s a = step_other defs (declaration d ∷ rest) rest old new es es' refl s a
+step_name defs rest (extractor_definition d) old new es es' i s a = step_other defs (extractor_definition d ∷ rest) rest old new es es' refl s a
+step_name defs rest (converter_definition d) old new es es' i s a = step_other defs (converter_definition d ∷ rest) rest old new es es' refl s a
+step_name defs rest (rule_definition d) old new es es' i s a = step_other defs (rule_definition d ∷ rest) rest old new es es' refl s a
+step_name defs rest (extern_definition d) old new es es' i s a = step_other defs (extern_definition d ∷ rest) rest old new es es' refl s a
+step_name defs rest other_definition old new es es' i s a = step_other defs (other_definition ∷ rest) rest old new es es' refl s a
+
+-- after the definition at i
+pub next_name : (defs : List Def) (i : ℕ) (d : Def) → i < length defs → d ≡ get_or defs i d → (old new : TypeEnv) (es es' : List Error) → IsInverse (names_of new) (symbol_of new) → NamesTypes (definition_views defs) (definition_views (drop i defs)) old es → NamesDefinition (definition_view d) old es new es' → NamesTypes (definition_views defs) (definition_views (drop (i + 1) defs)) new es'
+next_name defs i d within at old new es es' inverse s a =
+    let left : definition_views (drop i defs) ≡ definition_view d ∷ definition_views (drop (i + 1) defs) =
+    at_drop_more definition_views defs i d within ∙ ap (λ x. definition_view x ∷ definition_views (drop (i + 1) defs)) (sym at) in
+    step_name (definition_views defs) (definition_views (drop (i + 1) defs)) (definition_view d) old new es es' inverse (subst (λ ds. NamesTypes (definition_views defs) ds old es) left s) a
+
+-- before the first definition
+pub first_name : (defs : List Definition) (env : TypeEnv) (es : List Error) → SeesTypes env [] builtin_names → entry_count env.type_map ≡ 13 → es ≡ [] → NamesTypes defs defs env es
+first_name defs env es s count none = record {
+  inverse = subst (λ ns. IsInverse ns (symbol_of env)) (sym s.names) s.inverse;
+  plain = subst ArePlain (sym none) (All-nil _);
+  so_far = inl (
+    none,
+    record {
+      named = builtin_names;
+      sees = record {
+        ids = λ k. s.ids k ∙ ap (λ ns. then_option (slice_get ns k) (λ x. place_from 0 x builtin_names)) (sym s.names);
+        known = λ x e. place_absent 0 builtin_names x (subst (λ ns. has_name ns x ≡ false) s.names e);
+        count = count;
+        constants = s.constants;
+        errors = s.errors;
+      };
+      distinct = distinct_builtin;
+      whole = refl;
+      names = ap (λ ns. with_names ns (type_names defs)) s.names;
+      types = s.types;
+    },
+  );
+}

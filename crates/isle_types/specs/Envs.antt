@@ -1,0 +1,28 @@
+-- What a client sees of a type environment.
+use Rattle.std.specs.Prelude.{ℕ, Bool, nat_eq, List, map, Option, option_map, string_bytes}
+use Rattle.std.specs.HashMap.{get_by_text}
+use Rattle.isle_base.specs.Stable.{look_up}
+use Rattle.isle_types.specs.declared.ids.Sym.{Sym}
+use Rattle.isle_types.specs.declared.type_env.TypeEnv.{TypeEnv}
+
+-- the names, in the order of their numbers
+abbrev pub names_of : TypeEnv → List (List ℕ)
+names_of env = map string_bytes env.syms.items
+
+-- the number that is looked up for a text
+abbrev pub symbol_of : TypeEnv → List ℕ → Option ℕ
+symbol_of env q = option_map (λ s. s.0) (get_by_text env.sym_map q)
+
+abbrev pub same_symbol : Sym → Sym → Bool
+same_symbol a b = nat_eq a.0 b.0
+
+abbrev pub symbol : ℕ → Sym
+symbol n = record { 0 = n }
+
+-- the type of the name of a number
+abbrev pub type_at : TypeEnv → ℕ → Option ℕ
+type_at env n = option_map (λ t. t.0) (look_up same_symbol env.type_map (symbol n))
+
+-- the type of the constant that has the name of a number
+abbrev pub constant_at : TypeEnv → ℕ → Option ℕ
+constant_at env n = option_map (λ t. t.0) (look_up same_symbol env.const_types (symbol n))

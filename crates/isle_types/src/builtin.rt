@@ -1,0 +1,187 @@
+//! The built-in types: `bool` and the integers of fixed width.
+
+ghost use Rattle.std.specs.Prelude.{◌≡◌, ◌∷◌, [], map};
+ghost use Rattle.isle_model.specs.TypeTable.{builtin_names};
+ghost use Rattle.isle_types.specs.Builtin.{int_name, int_signed, builtin_name, builtin_place, builtin_id};
+
+use crate::ids::TypeId;
+use std::fmt;
+
+/// A built-in type.
+#[derive(Clone, Copy, PartialEq, Eq, Debug)]
+pub enum BuiltinType {
+    /// The type of `true` and `false`.
+    Bool,
+    /// An integer of fixed width.
+    Int(IntType),
+}
+
+/// An integer type of fixed width.
+#[derive(Clone, Copy, PartialEq, Eq, Debug)]
+pub enum IntType {
+    /// Unsigned, 8 bits.
+    U8,
+    /// Unsigned, 16 bits.
+    U16,
+    /// Unsigned, 32 bits.
+    U32,
+    /// Unsigned, 64 bits.
+    U64,
+    /// Unsigned, 128 bits.
+    U128,
+    /// Unsigned, as wide as a pointer.
+    USize,
+    /// Signed, 8 bits.
+    I8,
+    /// Signed, 16 bits.
+    I16,
+    /// Signed, 32 bits.
+    I32,
+    /// Signed, 64 bits.
+    I64,
+    /// Signed, 128 bits.
+    I128,
+    /// Signed, as wide as a pointer.
+    ISize,
+}
+
+impl IntType {
+    /// The name of the type, as a program writes it.
+    pub fn name(&self) -> &'static str
+        ensures { result.now ≡ int_name self.now }
+    {
+        match self {
+            IntType::U8 => "u8",
+            IntType::U16 => "u16",
+            IntType::U32 => "u32",
+            IntType::U64 => "u64",
+            IntType::U128 => "u128",
+            IntType::USize => "usize",
+            IntType::I8 => "i8",
+            IntType::I16 => "i16",
+            IntType::I32 => "i32",
+            IntType::I64 => "i64",
+            IntType::I128 => "i128",
+            IntType::ISize => "isize",
+        }
+    }
+
+    /// Whether the type has negative numbers.
+    pub fn is_signed(&self) -> bool
+        ensures { result ≡ int_signed self.now }
+    {
+        match self {
+            IntType::U8
+            | IntType::U16
+            | IntType::U32
+            | IntType::U64
+            | IntType::U128
+            | IntType::USize => false,
+            IntType::I8
+            | IntType::I16
+            | IntType::I32
+            | IntType::I64
+            | IntType::I128
+            | IntType::ISize => true,
+        }
+    }
+}
+
+impl fmt::Display for IntType {
+    ghost use Rattle.std.specs.Prelude.{Some};
+    ghost use Rattle.isle_types.specs.Builtin.{int_name};
+
+    ghost output = { λ ty. Some (int_name ty) };
+
+    fn fmt<W: fmt::Write>(&self, f: &mut fmt::Formatter<W>) -> fmt::Result {
+        write!(f, "{}", self.name())
+    }
+}
+
+impl BuiltinType {
+    /// All built-in types. The place of a type is its number, both as a type and as a name.
+    pub const ALL: [BuiltinType; 13] = [
+        BuiltinType::Bool,
+        BuiltinType::Int(IntType::U8),
+        BuiltinType::Int(IntType::U16),
+        BuiltinType::Int(IntType::U32),
+        BuiltinType::Int(IntType::U64),
+        BuiltinType::Int(IntType::U128),
+        BuiltinType::Int(IntType::USize),
+        BuiltinType::Int(IntType::I8),
+        BuiltinType::Int(IntType::I16),
+        BuiltinType::Int(IntType::I32),
+        BuiltinType::Int(IntType::I64),
+        BuiltinType::Int(IntType::I128),
+        BuiltinType::Int(IntType::ISize),
+    ];
+
+    /// The name of the type, as a program writes it.
+    pub fn name(&self) -> &'static str
+        ensures { result.now ≡ builtin_name self.now }
+    {
+        match self {
+            BuiltinType::Bool => "bool",
+            BuiltinType::Int(ty) => ty.name(),
+        }
+    }
+
+    /// The place of the type in `ALL`, from 0 to 12.
+    pub fn to_usize(&self) -> usize
+        ensures { result ≡ builtin_place self.now }
+    {
+        match self {
+            BuiltinType::Bool => 0,
+            BuiltinType::Int(ty) => *ty as usize + 1,
+        }
+    }
+}
+
+impl TypeId {
+    /// The number of `bool`.
+    pub const BOOL: TypeId = TypeId(0);
+    /// The number of `u8`.
+    pub const U8: TypeId = TypeId(1);
+    /// The number of `u16`.
+    pub const U16: TypeId = TypeId(2);
+    /// The number of `u32`.
+    pub const U32: TypeId = TypeId(3);
+    /// The number of `u64`.
+    pub const U64: TypeId = TypeId(4);
+    /// The number of `u128`.
+    pub const U128: TypeId = TypeId(5);
+    /// The number of `usize`.
+    pub const USIZE: TypeId = TypeId(6);
+    /// The number of `i8`.
+    pub const I8: TypeId = TypeId(7);
+    /// The number of `i16`.
+    pub const I16: TypeId = TypeId(8);
+    /// The number of `i32`.
+    pub const I32: TypeId = TypeId(9);
+    /// The number of `i64`.
+    pub const I64: TypeId = TypeId(10);
+    /// The number of `i128`.
+    pub const I128: TypeId = TypeId(11);
+    /// The number of `isize`.
+    pub const ISIZE: TypeId = TypeId(12);
+
+    /// The number of a built-in type: its place in `BuiltinType::ALL`.
+    pub fn builtin(builtin: BuiltinType) -> TypeId
+        ensures { result ≡ builtin_id builtin }
+    {
+        TypeId(builtin.to_usize())
+    }
+}
+
+/// The constants of `TypeId` are the numbers of the built-in types, in the order of
+/// `BuiltinType::ALL`.
+pub fn builtin_ids_in_order()
+    ensures { map builtin_id BuiltinType.ALL
+        ≡ TypeId.BOOL ∷ TypeId.U8 ∷ TypeId.U16 ∷ TypeId.U32 ∷ TypeId.U64 ∷ TypeId.U128 ∷ TypeId.USIZE
+        ∷ TypeId.I8 ∷ TypeId.I16 ∷ TypeId.I32 ∷ TypeId.I64 ∷ TypeId.I128 ∷ TypeId.ISIZE ∷ [] }
+{}
+
+/// The names of the built-in types stand in the order of `BuiltinType::ALL`.
+pub fn builtin_names_in_order()
+    ensures { map builtin_name BuiltinType.ALL ≡ builtin_names }
+{}

@@ -1,0 +1,348 @@
+//! How the type table is read off a list of definitions: the names of the types first, then what the
+//! types are, then constants. What is wrong with a definition is noted, and the reading goes on.
+
+ghost use Rattle.std.specs.Prelude.{◌≡◌, ◌⊎◌, [], IfOk, OnOk, MatchOption, Some};
+ghost use Rattle.isle_model.specs.Names.{number};
+ghost use Rattle.isle_model.specs.TypeTable.{IsValidTypes, builtin_names, type_table_names};
+ghost use Rattle.isle_base.specs.Answers.{Answers, NoLimit};
+ghost use Rattle.isle_base.specs.Stable.{entry_count};
+ghost use Rattle.isle_base.specs.SyntaxViews.{definition_view, definition_views, type_view};
+ghost use Rattle.isle_types.specs.Envs.{names_of, symbol_of, type_at};
+ghost use Rattle.isle_types.specs.Names.{IsInverse};
+ghost use Rattle.isle_types.specs.Reading.{Reports, AddsBuiltin, NamesType, NamesDefinition, FillsType, IsWrong, FillsDefinition, ChecksDefinition};
+ghost use Rattle.isle_types.specs.Stages.{Booting, ChecksConstants, NamesTypes, FillsTypes};
+ghost use Rattle.isle_types.specs.TypeTables.{SeesTypes};
+
+use crate::builtin::BuiltinType;
+use crate::ids::TypeId;
+use crate::type_env::TypeEnv;
+use crate::types::Type;
+use isle_base::stablemapset::StableMap;
+use isle_base::syntax;
+use isle_base::syntax::{Def, Error, Extern, Fault, Pos, Span, TypeValue};
+use std::alloc::{AllocError, Global};
+use std::collections::HashMap;
+
+impl TypeEnv {
+    /// A table of the built-in types alone, each with its place in `BuiltinType::ALL` as its number and
+    /// as that of its name. An error where memory is refused. Stands for upstream's `Default`.
+    pub fn try_default(alloc: Global) -> Result<TypeEnv, AllocError>
+        ensures table { IfOk result (λ env. SeesTypes env [] builtin_names) }
+        ensures count { IfOk result (λ env. entry_count env.type_map ≡ 13) }
+    {
+        let mut env = TypeEnv::empty(alloc);
+        env.add_builtins(&BuiltinType::ALL)?;
+        Ok(env)
+    }
+
+    /// The type table of a list of definitions. The built-in types come first; the types that are
+    /// defined follow in order. Names are numbered by first meeting: those of the built-in types, those
+    /// of the types that are defined, and those inside them.
+    ///
+    /// Of the forms, primitive types are carried now. `Errors` has all that is wrong, each with the
+    /// place of its definition: a type whose name is another type's, a primitive type that is marked
+    /// `extern` or `nodebug`, and, as `not carried yet`, each enum, struct and constant. `Memory` where
+    /// memory is refused.
+    pub fn from_ast(alloc: Global, defs: &[Def]) -> Result<TypeEnv, Fault>
+        ensures answers { Answers result (IsValidTypes (definition_views defs.now))
+            (λ env. SeesTypes env (definition_views defs.now) (type_table_names (definition_views defs.now))) }
+        ensures no_limit { NoLimit result }
+    {
+        let mut env = TypeEnv::try_default(alloc)?;
+        let mut errors = Vec::new(alloc);
+        env.name_types(&mut errors, defs)?;
+        env.fill_types(&mut errors, defs)?;
+        check_constants(&mut errors, defs)?;
+        if errors.is_empty() {
+            Ok(env)
+        } else {
+            Err(Fault::Errors(errors))
+        }
+    }
+
+    // A table of nothing.
+    fn empty(alloc: Global) -> TypeEnv
+        ensures { Booting result BuiltinType.ALL }
+    {
+        TypeEnv {
+            syms: Vec::new(alloc),
+            sym_map: HashMap::new(alloc),
+            types: Vec::new(alloc),
+            type_map: StableMap::new(alloc),
+            const_types: StableMap::new(alloc),
+            errors: Vec::new(alloc),
+        }
+    }
+
+    // The number of a name, where it is a type's; else it becomes the name of the next type.
+    fn name_type(&mut self, name: &str) -> Result<Option<TypeId>, AllocError>
+        requires { IsInverse (names_of self.old) (symbol_of self.old) }
+        ensures inverse { IsInverse (names_of self.new) (symbol_of self.new) }
+        ensures named { IfOk result (λ o. MatchOption o (NamesType name.now self.old self.new)
+            (λ id. type_at self.old (number (names_of self.old) name.now) ≡ Some id.0)) }
+        ensures types { self.new.types ≡ self.old.types }
+    {
+        let sym = self.intern_text(name)?;
+        if let Some(existing) = self.type_map.get(&sym) {
+            return Ok(Some(*existing));
+        }
+        let id = TypeId(self.type_map.len());
+        self.type_map.insert(sym, id)?;
+        Ok(None)
+    }
+
+    // Adds the built-in types.
+    fn add_builtins(&mut self, builtins: &[BuiltinType]) -> Result<(), AllocError>
+        requires { Booting self.old builtins.now }
+        ensures { OnOk result (Booting self.new []) }
+    {
+        for builtin in builtins {
+            self.add_builtin(*builtin)?;
+        }
+        Ok(())
+    }
+
+    // Adds a built-in type, the next one.
+    fn add_builtin(&mut self, builtin: BuiltinType) -> Result<(), AllocError>
+        requires { IsInverse (names_of self.old) (symbol_of self.old) }
+        ensures inverse { IsInverse (names_of self.new) (symbol_of self.new) }
+        ensures adds { OnOk result (AddsBuiltin builtin self.old self.new) }
+    {
+        let _existing = self.name_type(builtin.name())?;
+        self.types.push(Type::Builtin(builtin))?;
+        Ok(())
+    }
+
+    // Reads the name of the type that a definition is of, if it is one.
+    fn name_definition(&mut self, errors: &mut Vec<Error>, def: &Def) -> Result<(), AllocError>
+        requires { IsInverse (names_of self.old) (symbol_of self.old) }
+        ensures inverse { IsInverse (names_of self.new) (symbol_of self.new) }
+        ensures names { OnOk result (NamesDefinition (definition_view def.now) self.old errors.old.items self.new errors.new.items) }
+    {
+        let Def::TypeDef(ty) = def else {
+            return Ok(());
+        };
+        let Some(existing) = self.name_type(ty.name.0.as_str())? else {
+            return Ok(());
+        };
+        report_duplicate(errors, ty, existing)
+    }
+
+    // Reads the names of all types.
+    fn name_types(&mut self, errors: &mut Vec<Error>, defs: &[Def]) -> Result<(), AllocError>
+        requires { NamesTypes (definition_views defs.now) (definition_views defs.now) self.old errors.old.items }
+        ensures { OnOk result (NamesTypes (definition_views defs.now) [] self.new errors.new.items) }
+    {
+        for def in defs {
+            self.name_definition(errors, def)?;
+        }
+        Ok(())
+    }
+
+    // Reads what the type is that a definition is of.
+    fn fill_type(&mut self, errors: &mut Vec<Error>, ty: &syntax::Type) -> Result<(), AllocError>
+        requires { IsInverse (names_of self.old) (symbol_of self.old) }
+        ensures inverse { IsInverse (names_of self.new) (symbol_of self.new) }
+        ensures fills { OnOk result (((errors.new.items ≡ errors.old.items) × FillsType (type_view ty.now) self.old self.new)
+            ⊎ (Reports errors.old.items errors.new.items × IsWrong (type_view ty.now))) }
+    {
+        let TypeValue::Primitive(name, _) = &ty.ty else {
+            return report(errors, ty.pos, "not carried yet");
+        };
+        if ty.is_nodebug {
+            return report(errors, ty.pos, "primitive types cannot be marked `nodebug`");
+        }
+        if ty.is_extern {
+            return report(errors, ty.pos, "primitive types cannot be marked `extern`");
+        }
+        let id = TypeId(self.types.len());
+        let sym = self.intern_mut(name)?;
+        self.types.push(Type::Primitive(id, sym, ty.pos))?;
+        Ok(())
+    }
+
+    // Reads a definition after all names of types are known.
+    fn fill_definition(&mut self, errors: &mut Vec<Error>, def: &Def) -> Result<(), AllocError>
+        requires { IsInverse (names_of self.old) (symbol_of self.old) }
+        ensures inverse { IsInverse (names_of self.new) (symbol_of self.new) }
+        ensures fills { OnOk result (FillsDefinition (definition_view def.now) self.old errors.old.items self.new errors.new.items) }
+    {
+        let Def::TypeDef(ty) = def else {
+            return Ok(());
+        };
+        self.fill_type(errors, ty)
+    }
+
+    // Reads what all types are.
+    fn fill_types(&mut self, errors: &mut Vec<Error>, defs: &[Def]) -> Result<(), AllocError>
+        requires { NamesTypes (definition_views defs.now) [] self.old errors.old.items }
+        ensures { OnOk result (FillsTypes (definition_views defs.now) [] self.new errors.new.items) }
+    {
+        for def in defs {
+            self.fill_definition(errors, def)?;
+        }
+        Ok(())
+    }
+}
+
+// Notes each constant with a name.
+fn check_constants(errors: &mut Vec<Error>, defs: &[Def]) -> Result<(), AllocError>
+    ensures { OnOk result (ChecksConstants (definition_views defs.now) [] errors.old.items errors.new.items) }
+{
+    for def in defs {
+        check_definition(errors, def)?;
+    }
+    Ok(())
+}
+
+// Notes that a constant with a name isn't carried.
+fn check_definition(errors: &mut Vec<Error>, def: &Def) -> Result<(), AllocError>
+    ensures { OnOk result (ChecksDefinition (definition_view def.now) errors.old.items errors.new.items) }
+{
+    let Def::Extern(Extern::Const { pos, .. }) = def else {
+        return Ok(());
+    };
+    report(errors, *pos, "not carried yet")
+}
+
+// Notes an error in the definition at a place.
+fn report(errors: &mut Vec<Error>, pos: Pos, msg: &str) -> Result<(), AllocError>
+    ensures { OnOk result (Reports errors.old.items errors.new.items) }
+{
+    let msg = String::from_str(*errors.allocator(), msg)?;
+    let span = Span::new_single(pos);
+    errors.push(Error::TypeError { msg, span })?;
+    Ok(())
+}
+
+// Notes that the name of a definition is that of another type.
+fn report_duplicate(
+    errors: &mut Vec<Error>,
+    ty: &syntax::Type,
+    existing: TypeId,
+) -> Result<(), AllocError>
+    ensures { OnOk result (Reports errors.old.items errors.new.items) }
+{
+    let alloc = *errors.allocator();
+    let twice = format!(in alloc; "Type with name '{}' defined more than once", ty.name.0)?;
+    report(errors, ty.pos, twice.as_str())?;
+    if existing.index() >= BuiltinType::ALL.len() {
+        return Ok(());
+    }
+    let builtin = format!(in alloc; "Type with name '{}' is a built-in type", ty.name.0)?;
+    report(errors, ty.pos, builtin.as_str())
+}
+
+#[cfg(test)]
+mod tests {
+    use super::*;
+    use crate::ids::Sym;
+    use isle_base::syntax::Ident;
+    use std::test::Fail;
+
+    fn ident(alloc: Global, text: &str) -> Result<Ident, AllocError> {
+        Ok(Ident(String::from_str(alloc, text)?, Pos::default()))
+    }
+
+    fn type_def(
+        alloc: Global,
+        name: &str,
+        ty: TypeValue,
+        is_nodebug: bool,
+        offset: usize,
+    ) -> Result<Def, AllocError> {
+        Ok(Def::TypeDef(syntax::Type {
+            name: ident(alloc, name)?,
+            is_extern: false,
+            is_nodebug,
+            ty,
+            pos: Pos { file: 0, offset },
+        }))
+    }
+
+    fn primitive(alloc: Global, inner: &str) -> Result<TypeValue, AllocError> {
+        Ok(TypeValue::Primitive(ident(alloc, inner)?, Pos::default()))
+    }
+
+    // The errors, each with its place.
+    fn printed(alloc: Global, read: Result<TypeEnv, Fault>) -> Result<String, AllocError> {
+        let mut text = String::new(alloc);
+        if let Err(Fault::Errors(errors)) = &read {
+            for error in errors {
+                if let Error::TypeError { msg, span } = error {
+                    text = format!(in alloc;
+                        "{text}{}:{} {msg};",
+                        span.from.file, span.from.offset
+                    )?;
+                }
+            }
+        }
+        Ok(text)
+    }
+
+    #[test]
+    fn a_type_with_the_name_of_a_built_in_one(rt: HostRuntime) -> Result<(), Fail> {
+        let alloc = rt.alloc();
+        let defs = [type_def(alloc, "u8", primitive(alloc, "X")?, false, 0)?];
+        let text = printed(alloc, TypeEnv::from_ast(alloc, &defs))?;
+        assert_eq!(rt;
+            text.as_str(),
+            "0:0 Type with name 'u8' defined more than once;0:0 Type with name 'u8' is a built-in type;"
+        );
+        Ok(())
+    }
+
+    #[test]
+    fn a_name_of_two_types(rt: HostRuntime) -> Result<(), Fail> {
+        let alloc = rt.alloc();
+        let defs = [
+            type_def(alloc, "A", primitive(alloc, "X")?, false, 0)?,
+            type_def(alloc, "A", primitive(alloc, "Y")?, false, 1)?,
+        ];
+        let text = printed(alloc, TypeEnv::from_ast(alloc, &defs))?;
+        assert_eq!(rt;
+            text.as_str(),
+            "0:1 Type with name 'A' defined more than once;"
+        );
+        Ok(())
+    }
+
+    #[test]
+    fn forms_that_are_refused(rt: HostRuntime) -> Result<(), Fail> {
+        let alloc = rt.alloc();
+        let nodebug = [type_def(alloc, "A", primitive(alloc, "X")?, true, 0)?];
+        let text = printed(alloc, TypeEnv::from_ast(alloc, &nodebug))?;
+        assert_eq!(rt;
+            text.as_str(),
+            "0:0 primitive types cannot be marked `nodebug`;"
+        );
+        let variants = TypeValue::Enum(Vec::new(alloc), Pos::default());
+        let with_variants = [type_def(alloc, "E", variants, false, 2)?];
+        let text = printed(alloc, TypeEnv::from_ast(alloc, &with_variants))?;
+        assert_eq!(rt; text.as_str(), "0:2 not carried yet;");
+        let constant = [Def::Extern(Extern::Const {
+            name: ident(alloc, "c")?,
+            ty: ident(alloc, "u8")?,
+            pos: Pos { file: 0, offset: 3 },
+        })];
+        let text = printed(alloc, TypeEnv::from_ast(alloc, &constant))?;
+        assert_eq!(rt; text.as_str(), "0:3 not carried yet;");
+        Ok(())
+    }
+
+    #[test]
+    fn numbers_of_a_primitive_type(rt: HostRuntime) -> Result<(), Fail> {
+        let alloc = rt.alloc();
+        let defs = [type_def(alloc, "P", primitive(alloc, "Q")?, false, 0)?];
+        let mut env = TypeEnv::from_ast(alloc, &defs)?;
+        let outer = ident(alloc, "P")?;
+        let inner = ident(alloc, "Q")?;
+        assert_eq!(rt; env.intern(&outer), Some(Sym(13)));
+        assert_eq!(rt; env.intern(&inner), Some(Sym(14)));
+        assert_eq!(rt; env.get_type_by_name(&outer), Some(TypeId(13)));
+        assert_eq!(rt; env.get_type_by_name(&inner), None);
+        assert_eq!(rt; env.intern_mut(&ident(alloc, "R")?)?, Sym(15));
+        assert_eq!(rt; env.intern_mut(&inner)?, Sym(14));
+        Ok(())
+    }
+}

@@ -1,0 +1,119 @@
+//! The table of all names and types.
+
+ghost use Rattle.std.specs.Prelude.{◌≡◌, ℕ, List, ◌++◌, ◌∷◌, [], map, option_map, option_and_then, IfOk, OnOk, OnErr, string_bytes, length, Some, slice_get};
+ghost use Rattle.std.specs.HashMap.{get_by_text};
+ghost use Rattle.isle_model.specs.Names.{number, with_name};
+ghost use Rattle.isle_types.specs.Names.{place_of, IsInverse};
+ghost use Rattle.isle_types.specs.Envs.{names_of, symbol_of, type_at};
+
+use crate::ids::{Sym, TypeId};
+use crate::types::Type;
+use isle_base::stablemapset::StableMap;
+use isle_base::syntax::{Error, Ident};
+use std::alloc::AllocError;
+use std::collections::HashMap;
+
+/// The names and the types that definitions speak of.
+#[derive(Debug, Drop)]
+pub struct TypeEnv {
+    /// The names: the place of each is its number. No name stands twice.
+    pub syms: Vec<String>,
+    /// The number of each name.
+    pub sym_map: HashMap<String, Sym>,
+    /// The types: the place of each is its number.
+    pub types: Vec<Type>,
+    /// The type of each type's name.
+    pub type_map: StableMap<Sym, TypeId>,
+    /// The type of each constant's name.
+    pub const_types: StableMap<Sym, TypeId>,
+    /// What was found wrong in a run that is not finished.
+    pub errors: Vec<Error>,
+}
+
+impl TypeEnv {
+    /// The number of a name, or None where it isn't known.
+    pub fn intern(&self, ident: &Ident) -> Option<Sym>
+        ensures looked_up { option_map (λ s. s.0) result ≡ symbol_of self.now (string_bytes ident.now.0) }
+        ensures place { IsInverse (names_of self.now) (symbol_of self.now)
+            → option_map (λ s. s.0) result ≡ place_of (names_of self.now) (string_bytes ident.now.0) }
+    {
+        self.look_up_text(ident.0.as_str())
+    }
+
+    /// The number of a name, which is the next one where the name isn't known yet. An error where
+    /// memory is refused, and then nothing has changed.
+    pub fn intern_mut(&mut self, ident: &Ident) -> Result<Sym, AllocError>
+        requires { IsInverse (names_of self.old) (symbol_of self.old) }
+        ensures names { OnOk result (names_of self.new ≡ with_name (names_of self.old) (string_bytes ident.now.0)) }
+        ensures number { IfOk result (λ s. s.0 ≡ number (names_of self.old) (string_bytes ident.now.0)) }
+        ensures inverse { IsInverse (names_of self.new) (symbol_of self.new) }
+        ensures err_names { OnErr result (names_of self.new ≡ names_of self.old) }
+        ensures err_symbols { OnErr result ((q : List ℕ) → symbol_of self.new q ≡ symbol_of self.old q) }
+        ensures types { self.new.types ≡ self.old.types }
+        ensures type_map { self.new.type_map ≡ self.old.type_map }
+        ensures const_types { self.new.const_types ≡ self.old.const_types }
+        ensures errors { self.new.errors ≡ self.old.errors }
+    {
+        self.intern_text(ident.0.as_str())
+    }
+
+    /// The type of a name, or None where it isn't a type's.
+    pub fn get_type_by_name(&self, ident: &Ident) -> Option<TypeId>
+        ensures { option_map (λ t. t.0) result ≡ option_and_then (type_at self.now) (symbol_of self.now (string_bytes ident.now.0)) }
+    {
+        let sym = self.intern(ident)?;
+        self.type_map.get(&sym).copied()
+    }
+
+    // The number of the name of a text.
+    fn look_up_text(&self, name: &str) -> Option<Sym>
+        ensures looked_up { option_map (λ s. s.0) result ≡ symbol_of self.now name.now }
+        ensures place { IsInverse (names_of self.now) (symbol_of self.now)
+            → option_map (λ s. s.0) result ≡ place_of (names_of self.now) name.now }
+    {
+        self.sym_map.get(name).copied()
+    }
+
+    // The number of the name of a text, the next one where the text isn't known yet.
+    pub(crate) fn intern_text(&mut self, name: &str) -> Result<Sym, AllocError>
+        requires { IsInverse (names_of self.old) (symbol_of self.old) }
+        ensures names { OnOk result (names_of self.new ≡ with_name (names_of self.old) name.now) }
+        ensures number { IfOk result (λ s. s.0 ≡ number (names_of self.old) name.now) }
+        ensures inverse { IsInverse (names_of self.new) (symbol_of self.new) }
+        ensures err_names { OnErr result (names_of self.new ≡ names_of self.old) }
+        ensures err_symbols { OnErr result ((q : List ℕ) → symbol_of self.new q ≡ symbol_of self.old q) }
+        ensures types { self.new.types ≡ self.old.types }
+        ensures type_map { self.new.type_map ≡ self.old.type_map }
+        ensures const_types { self.new.const_types ≡ self.old.const_types }
+        ensures errors { self.new.errors ≡ self.old.errors }
+    {
+        if let Some(sym) = self.look_up_text(name) {
+            return Ok(sym);
+        }
+        self.add_name(name)
+    }
+
+    // Gives a name that isn't known yet the next number.
+    fn add_name(&mut self, name: &str) -> Result<Sym, AllocError>
+        requires inverse { IsInverse (names_of self.old) (symbol_of self.old) }
+        requires absent { (k : ℕ) → slice_get (names_of self.old) k ≡ Some name.now → ⊥ }
+        ensures names { OnOk result (names_of self.new ≡ names_of self.old ++ name.now ∷ []) }
+        ensures number { IfOk result (λ s. s.0 ≡ length (names_of self.old)) }
+        ensures inverse { IsInverse (names_of self.new) (symbol_of self.new) }
+        ensures err_names { OnErr result (names_of self.new ≡ names_of self.old) }
+        ensures err_symbols { OnErr result ((q : List ℕ) → symbol_of self.new q ≡ symbol_of self.old q) }
+        ensures types { self.new.types ≡ self.old.types }
+        ensures type_map { self.new.type_map ≡ self.old.type_map }
+        ensures const_types { self.new.const_types ≡ self.old.const_types }
+        ensures errors { self.new.errors ≡ self.old.errors }
+    {
+        let alloc = *self.syms.allocator();
+        let number = Sym(self.syms.len());
+        let sym = String::from_str(alloc, name)?;
+        let key = String::from_str(alloc, name)?;
+        self.syms.reserve(1)?;
+        self.sym_map.insert(key, number)?;
+        self.syms.push(sym).unwrap();
+        Ok(number)
+    }
+}

@@ -1,0 +1,193 @@
+//! The types that a type table holds, with their variants and fields.
+
+ghost use Rattle.std.specs.Prelude.{◌≡◌, IfOk, IsSome, Some, map, option_map};
+ghost use Rattle.isle_base.specs.SyntaxViews.{position};
+ghost use Rattle.isle_types.specs.Envs.{names_of};
+ghost use Rattle.isle_types.specs.Types.{type_text, field_types, type_id_of, type_pos_of, is_primitive_type, is_int_type};
+ghost use Rattle.isle_types.specs.TypeViews.{fields_view, type_view};
+
+use crate::builtin::BuiltinType;
+use crate::ids::{FieldId, Sym, TypeId, VariantId};
+use crate::type_env::TypeEnv;
+use isle_base::syntax::Pos;
+use std::alloc::{AllocError, Global};
+
+/// A type.
+#[derive(Clone, Debug, PartialEq, Eq, Drop)]
+pub enum Type {
+    /// A built-in type, which no definition makes.
+    Builtin(BuiltinType),
+    /// A type of which only constants with a name or a number are known: its number, its name and
+    /// where it is defined.
+    Primitive(TypeId, Sym, Pos),
+    /// A type with variants.
+    Enum {
+        /// The name of the type.
+        name: Sym,
+        /// The number of the type.
+        id: TypeId,
+        /// Whether the type is declared outside of what is compiled.
+        is_extern: bool,
+        /// Whether the type is to be declared without `Debug`.
+        is_nodebug: bool,
+        /// The variants: the place of each is its number.
+        variants: Vec<Variant>,
+        /// Where the type is defined.
+        pos: Pos,
+    },
+    /// A type with fields.
+    Struct {
+        /// The name of the type.
+        name: Sym,
+        /// The number of the type.
+        id: TypeId,
+        /// Whether the type is declared outside of what is compiled.
+        is_extern: bool,
+        /// Whether the type is to be declared without `Debug`.
+        is_nodebug: bool,
+        /// The fields of the type.
+        fields: Fields,
+        /// Where the type is defined.
+        pos: Pos,
+    },
+}
+
+/// A variant of an enum.
+#[derive(Clone, Debug, PartialEq, Eq, Drop)]
+pub struct Variant {
+    /// The name of the variant.
+    pub name: Sym,
+    /// The name of the enum, a point, and the name of the variant.
+    pub fullname: Sym,
+    /// The number of the variant: its place in its enum.
+    pub id: VariantId,
+    /// The fields of the variant.
+    pub fields: Fields,
+    /// Where the variant is defined.
+    pub pos: Pos,
+}
+
+/// The fields of a struct or of a variant.
+#[derive(Clone, Debug, PartialEq, Eq, Drop)]
+pub enum Fields {
+    /// No fields.
+    Unit,
+    /// Fields with names.
+    Struct(StructFields),
+    /// Fields without names.
+    Tuple(TupleFields),
+}
+
+/// Fields with names.
+#[derive(Clone, Debug, PartialEq, Eq, Drop)]
+pub struct StructFields {
+    /// The fields: the place of each is its number.
+    pub fields: Vec<StructField>,
+}
+
+/// A field with a name.
+#[derive(Clone, Debug, PartialEq, Eq, Drop)]
+pub struct StructField {
+    /// The name of the field.
+    pub name: Sym,
+    /// The number of the field.
+    pub id: FieldId,
+    /// The type of the field.
+    pub ty: TypeId,
+}
+
+/// Fields without names.
+#[derive(Clone, Debug, PartialEq, Eq, Drop)]
+pub struct TupleFields {
+    /// The fields: the place of each is its number.
+    pub fields: Vec<TupleField>,
+}
+
+/// A field without a name.
+#[derive(Clone, Debug, PartialEq, Eq, Drop)]
+pub struct TupleField {
+    /// The number of the field.
+    pub id: FieldId,
+    /// The type of the field.
+    pub ty: TypeId,
+}
+
+impl Type {
+    /// The number of the type.
+    pub fn id(&self) -> TypeId
+        ensures { result.0 ≡ type_id_of (type_view self.now) }
+    {
+        match self {
+            Type::Builtin(builtin) => TypeId::builtin(*builtin),
+            Type::Primitive(id, _, _) | Type::Enum { id, .. } | Type::Struct { id, .. } => *id,
+        }
+    }
+
+    /// The name of the type. Condition: the table has a name of that number, where the type isn't a
+    /// built-in one.
+    pub fn name<'a>(&self, tyenv: &'a TypeEnv) -> &'a str
+        requires { IsSome (type_text (names_of tyenv.now) (type_view self.now)) }
+        ensures { Some result.now ≡ type_text (names_of tyenv.now) (type_view self.now) }
+    {
+        match self {
+            Type::Builtin(builtin) => builtin.name(),
+            Type::Primitive(_, name, _) | Type::Enum { name, .. } | Type::Struct { name, .. } => {
+                tyenv.syms[name.index()].as_str()
+            }
+        }
+    }
+
+    /// Where the type is defined, or None for a built-in type.
+    pub fn pos(&self) -> Option<Pos>
+        ensures { option_map position result ≡ type_pos_of (type_view self.now) }
+    {
+        match self {
+            Type::Builtin(_) => None,
+            Type::Primitive(_, _, pos) | Type::Enum { pos, .. } | Type::Struct { pos, .. } => {
+                Some(*pos)
+            }
+        }
+    }
+
+    /// Whether only constants of the type are known.
+    pub fn is_prim(&self) -> bool
+        ensures { result ≡ is_primitive_type (type_view self.now) }
+    {
+        matches!(self, Type::Primitive(..))
+    }
+
+    /// Whether the type is a built-in integer.
+    pub fn is_int(&self) -> bool
+        ensures { result ≡ is_int_type (type_view self.now) }
+    {
+        matches!(self, Type::Builtin(BuiltinType::Int(_)))
+    }
+}
+
+impl Fields {
+    /// The types of the fields, in order. An error where memory is refused.
+    #[tactic(auto, using(crate::proofs::FieldTypes::types_of_struct, crate::proofs::FieldTypes::types_of_tuple))]
+    pub fn types(&self, alloc: Global) -> Result<Vec<TypeId>, AllocError>
+        ensures { IfOk result (λ v. map (λ ty. ty.0) v.items ≡ field_types (fields_view self.now)) }
+    {
+        match self {
+            Fields::Unit => Ok(Vec::new(alloc)),
+            Fields::Struct(fields) => struct_field_types(alloc, &fields.fields),
+            Fields::Tuple(fields) => tuple_field_types(alloc, &fields.fields),
+        }
+    }
+}
+
+// The types of fields with names.
+fn struct_field_types(alloc: Global, fields: &[StructField]) -> Result<Vec<TypeId>, AllocError>
+    ensures { IfOk result (λ v. v.items ≡ map (λ f. f.ty) fields.now) }
+{
+    fields.iter().map(|field| field.ty).collect(alloc)
+}
+
+// The types of fields without names.
+fn tuple_field_types(alloc: Global, fields: &[TupleField]) -> Result<Vec<TypeId>, AllocError>
+    ensures { IfOk result (λ v. v.items ≡ map (λ f. f.ty) fields.now) }
+{
+    fields.iter().map(|part| part.ty).collect(alloc)
+}
