@@ -1,0 +1,5 @@
+pub mod Terms
+pub mod TermViews
+pub mod TermTables
+pub mod Reading
+pub mod Stages

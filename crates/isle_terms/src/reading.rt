@@ -1,0 +1,275 @@
+//! How the term table is read off a list of definitions: what the declarations say first, then the
+//! terms that rules are of. What is wrong with a definition is noted, and the reading goes on.
+
+ghost use Rattle.std.specs.Prelude.{◌≡◌, ◌⊎◌, ◌++◌, ◌∷◌, [], ℕ, None, Some, All, nat_eq, if◌then◌else◌, length, map, IfOk, OnOk, MatchOption, option_map};
+ghost use Rattle.isle_base.specs.SyntaxViews.{decl_view, definition_view, definition_views, name_view, rule_view};
+ghost use Rattle.isle_types.specs.Reading.{Reports};
+ghost use Rattle.isle_terms.specs.TermTables.{term_at};
+ghost use Rattle.isle_terms.specs.TermViews.{term_view, term_views};
+ghost use Rattle.isle_terms.specs.Reading.{IsWithin, IsInterned, IsKnownType, HaveTypes, IsFree, AddsOrReports, ReadsDecl, ReadsSignature, ReadsRule, ReadsRoot, internal_entry, signature_entry, term_named};
+ghost use Rattle.isle_terms.specs.Stages.{ReadsSignatures, ReadsRoots};
+
+use crate::term::{ConstructorKind, Term, TermFlags, TermKind};
+use crate::term_table::TermTable;
+use isle_base::syntax::{Decl, Def, Error, Extern, Ident, Pos, Rule, Span};
+use isle_types::{Sym, TermId, TypeEnv, TypeId};
+use std::alloc::AllocError;
+
+impl TermTable {
+    // Reads what all declarations say.
+    pub(crate) fn collect_term_sigs(
+        &mut self,
+        tyenv: &mut TypeEnv,
+        errors: &mut Vec<Error>,
+        defs: &[Def],
+    ) -> Result<(), AllocError>
+        requires { ReadsSignatures (definition_views defs.now) (definition_views defs.now) tyenv.old self.old errors.old.items }
+        ensures { OnOk result (ReadsSignatures (definition_views defs.now) [] tyenv.new self.new errors.new.items) }
+    {
+        for def in defs {
+            self.collect_term_sig(tyenv, errors, def)?;
+        }
+        Ok(())
+    }
+
+    // Reads what a definition says of terms.
+    fn collect_term_sig(
+        &mut self,
+        tyenv: &mut TypeEnv,
+        errors: &mut Vec<Error>,
+        def: &Def,
+    ) -> Result<(), AllocError>
+        requires inverse { IsInterned tyenv.old }
+        requires within { IsWithin self.old }
+        ensures inverse { IsInterned tyenv.new }
+        ensures within { OnOk result (IsWithin self.new) }
+        ensures reads { OnOk result (ReadsSignature (definition_view def.now) tyenv.old self.old errors.old.items tyenv.new self.new errors.new.items) }
+    {
+        match def {
+            Def::Decl(decl) => self.collect_decl(tyenv, errors, decl),
+            Def::Extractor(extractor) => report(errors, extractor.pos, "not carried yet"),
+            Def::Converter(converter) => report(errors, converter.pos, "not carried yet"),
+            Def::Extern(Extern::Constructor { pos, .. }) => report(errors, *pos, "not carried yet"),
+            Def::Extern(Extern::Extractor { pos, .. }) => report(errors, *pos, "not carried yet"),
+            Def::TypeDef(_) | Def::Rule(_) | Def::Extern(Extern::Const { .. }) | Def::Other => {
+                Ok(())
+            }
+        }
+    }
+
+    // Reads what a declaration says.
+    fn collect_decl(
+        &mut self,
+        tyenv: &mut TypeEnv,
+        errors: &mut Vec<Error>,
+        decl: &Decl,
+    ) -> Result<(), AllocError>
+        requires inverse { IsInterned tyenv.old }
+        requires within { IsWithin self.old }
+        ensures inverse { IsInterned tyenv.new }
+        ensures within { OnOk result (IsWithin self.new) }
+        ensures reads { OnOk result (ReadsDecl (decl_view decl.now) tyenv.old self.old errors.old.items tyenv.new self.new errors.new.items) }
+    {
+        if decl.multi || decl.partial {
+            return report(errors, decl.pos, "not carried yet");
+        }
+        let name = tyenv.intern_mut(&decl.term)?;
+        self.check_free(errors, decl, name)?;
+        self.add_decl(tyenv, errors, decl, name)
+    }
+
+    // Notes a declaration whose name is a term's already, and then the earlier one.
+    fn check_free(&self, errors: &mut Vec<Error>, decl: &Decl, name: Sym) -> Result<(), AllocError>
+        requires { IsWithin self.now }
+        ensures { OnOk result (IsFree name.0 self.now errors.old.items errors.new.items) }
+    {
+        let Some(existing) = self.term_map.get(&name) else {
+            return Ok(());
+        };
+        let earlier = self.terms[existing.index()].decl_pos;
+        report_name(errors, decl.pos, "Duplicate decl for", &decl.term)?;
+        report_name(errors, earlier, "Duplicate decl for", &decl.term)
+    }
+
+    // Adds a declared term, if the types that it names are known.
+    fn add_decl(
+        &mut self,
+        tyenv: &TypeEnv,
+        errors: &mut Vec<Error>,
+        decl: &Decl,
+        name: Sym,
+    ) -> Result<(), AllocError>
+        requires { IsWithin self.old }
+        ensures within { OnOk result (IsWithin self.new) }
+        ensures adds { OnOk result (AddsOrReports (decl_view decl.now) tyenv.now name.0 self.old self.new errors.old.items errors.new.items) }
+    {
+        let Some(arg_tys) = arg_types(tyenv, errors, &decl.arg_tys)? else {
+            return Ok(());
+        };
+        let Some(ret_ty) = tyenv.get_type_by_name(&decl.ret_ty) else {
+            return report_name(errors, decl.ret_ty.1, "Unknown return type:", &decl.ret_ty);
+        };
+        self.push_term(decl, name, arg_tys, ret_ty)
+    }
+
+    // Adds a declared term, the next one.
+    fn push_term(
+        &mut self,
+        decl: &Decl,
+        name: Sym,
+        arg_tys: Vec<TypeId>,
+        ret_ty: TypeId,
+    ) -> Result<(), AllocError>
+        ensures ids { OnOk result ((k : ℕ) → term_at self.new k ≡ (if nat_eq name.0 k then Some (length self.old.terms.items) else term_at self.old k)) }
+        ensures terms { OnOk result (term_views self.new.terms.items
+            ≡ term_views self.old.terms.items ++ signature_entry (length self.old.terms.items) name.0 (map (λ t. t.0) arg_tys.items) ret_ty.0 (decl_view decl.now) ∷ []) }
+        ensures converters { self.new.converters ≡ self.old.converters }
+    {
+        let id = TermId(self.terms.len());
+        let flags = TermFlags {
+            pure: decl.pure,
+            multi: decl.multi,
+            partial: decl.partial,
+            rec: decl.rec,
+        };
+        let kind = TermKind::Decl {
+            flags,
+            constructor_kind: None,
+            extractor_kind: None,
+        };
+        self.terms.push(Term {
+            id,
+            decl_pos: decl.pos,
+            name,
+            arg_tys,
+            ret_ty,
+            kind,
+        })?;
+        self.term_map.insert(name, id)?;
+        Ok(())
+    }
+
+    // Reads which terms all rules are of.
+    pub(crate) fn collect_constructors(
+        &mut self,
+        tyenv: &TypeEnv,
+        errors: &mut Vec<Error>,
+        defs: &[Def],
+    ) -> Result<(), AllocError>
+        requires { ReadsRoots (definition_views defs.now) (definition_views defs.now) tyenv.now self.old errors.old.items }
+        ensures { OnOk result (ReadsRoots (definition_views defs.now) [] tyenv.now self.new errors.new.items) }
+    {
+        for def in defs {
+            self.collect_constructor(tyenv, errors, def)?;
+        }
+        Ok(())
+    }
+
+    // Reads which term a definition is a rule of, if it is one.
+    fn collect_constructor(
+        &mut self,
+        tyenv: &TypeEnv,
+        errors: &mut Vec<Error>,
+        def: &Def,
+    ) -> Result<(), AllocError>
+        requires { IsWithin self.old }
+        ensures within { OnOk result (IsWithin self.new) }
+        ensures reads { OnOk result (ReadsRoot (definition_view def.now) tyenv.now self.old errors.old.items self.new errors.new.items) }
+    {
+        let Def::Rule(rule) = def else {
+            return Ok(());
+        };
+        self.collect_rule(tyenv, errors, rule)
+    }
+
+    // Reads which term a rule is of.
+    fn collect_rule(
+        &mut self,
+        tyenv: &TypeEnv,
+        errors: &mut Vec<Error>,
+        rule: &Rule,
+    ) -> Result<(), AllocError>
+        requires { IsWithin self.old }
+        ensures within { OnOk result (IsWithin self.new) }
+        ensures reads { OnOk result (ReadsRule (rule_view rule.now) tyenv.now self.old errors.old.items self.new errors.new.items) }
+    {
+        let Some(root) = rule.pattern.root_term() else {
+            return report(
+                errors,
+                rule.pos,
+                "Rule does not have a term at the LHS root",
+            );
+        };
+        let Some(term) = self.find_term(tyenv, root) else {
+            return report(errors, rule.pos, "Rule LHS root term is not defined");
+        };
+        set_internal(&mut self.terms[term.index()]);
+        Ok(())
+    }
+
+    // The term of a name.
+    fn find_term(&self, tyenv: &TypeEnv, name: &Ident) -> Option<TermId>
+        ensures { option_map (λ t. t.0) result ≡ term_named tyenv.now self.now (name_view name.now) }
+    {
+        let sym = tyenv.intern(name)?;
+        self.term_map.get(&sym).copied()
+    }
+}
+
+// Makes a declared term one that rules make.
+fn set_internal(term: &mut Term)
+    ensures { term_view term.new ≡ internal_entry (term_view term.old) }
+{
+    if let TermKind::Decl {
+        constructor_kind,
+        ..
+    } = &mut term.kind
+    {
+        *constructor_kind = Some(ConstructorKind::InternalConstructor);
+    }
+}
+
+// The types of these names, or None and an error at the first one that isn't a type's.
+fn arg_types(
+    tyenv: &TypeEnv,
+    errors: &mut Vec<Error>,
+    names: &[Ident],
+) -> Result<Option<Vec<TypeId>>, AllocError>
+    ensures { IfOk result (λ o. MatchOption o
+        (Reports errors.old.items errors.new.items × (All (IsKnownType tyenv.now) (map name_view names.now) → ⊥))
+        (λ tys. (errors.new.items ≡ errors.old.items) × HaveTypes tyenv.now (map name_view names.now) (map (λ t. t.0) tys.items))) }
+{
+    let mut arg_tys = Vec::new(*errors.allocator());
+    for name in names {
+        let Some(ty) = tyenv.get_type_by_name(name) else {
+            report_name(errors, name.1, "Unknown arg type:", name)?;
+            return Ok(None);
+        };
+        arg_tys.push(ty)?;
+    }
+    Ok(Some(arg_tys))
+}
+
+// Notes an error at a place.
+fn report(errors: &mut Vec<Error>, pos: Pos, msg: &str) -> Result<(), AllocError>
+    ensures { OnOk result (Reports errors.old.items errors.new.items) }
+{
+    let msg = String::from_str(*errors.allocator(), msg)?;
+    let span = Span::new_single(pos);
+    errors.push(Error::TypeError { msg, span })?;
+    Ok(())
+}
+
+// Notes at a place what is wrong with a name.
+fn report_name(
+    errors: &mut Vec<Error>,
+    pos: Pos,
+    what: &str,
+    name: &Ident,
+) -> Result<(), AllocError>
+    ensures { OnOk result (Reports errors.old.items errors.new.items) }
+{
+    let alloc = *errors.allocator();
+    let msg = format!(in alloc; "{what} '{}'", name.0)?;
+    report(errors, pos, msg.as_str())
+}

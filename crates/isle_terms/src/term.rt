@@ -1,0 +1,208 @@
+//! Terms: their types, how they are declared, and what makes or takes them apart.
+
+ghost use Rattle.std.specs.Prelude.{◌≡◌, true};
+ghost use Rattle.isle_terms.specs.Terms.{is_variant_term, is_struct_term, is_partial_term, is_recursive_term, has_constructor_term, has_extractor_term, has_external_extractor_term, has_external_constructor_term, has_internal_constructor_term};
+ghost use Rattle.isle_terms.specs.TermViews.{term_view};
+
+use isle_base::syntax::{Pattern, Pos};
+use isle_types::{Sym, TermId, TypeId, VariantId};
+
+/// A term. A constructor makes a value of its type from values of the argument types, an extractor
+/// takes one apart into such values, and a term may be both.
+#[derive(Clone, Debug, PartialEq, Eq, Drop)]
+pub struct Term {
+    /// The number of the term.
+    pub id: TermId,
+    /// Where the term is declared.
+    pub decl_pos: Pos,
+    /// The name of the term.
+    pub name: Sym,
+    /// The types of the arguments.
+    pub arg_tys: Vec<TypeId>,
+    /// The type of what the term makes.
+    pub ret_ty: TypeId,
+    /// What the term is.
+    pub kind: TermKind,
+}
+
+/// How a term is declared.
+#[derive(Clone, Copy, PartialEq, Eq, Debug)]
+pub struct TermFlags {
+    /// Whether the term has no effects.
+    pub pure: bool,
+    /// Whether the term may give many values.
+    pub multi: bool,
+    /// Whether the term may give no value.
+    pub partial: bool,
+    /// Whether the term may call itself.
+    pub rec: bool,
+}
+
+/// What a term is.
+#[derive(Clone, Debug, PartialEq, Eq, Drop)]
+pub enum TermKind {
+    /// A variant of an enum.
+    EnumVariant {
+        /// The number of the variant in its enum.
+        variant: VariantId,
+    },
+    /// A struct.
+    Struct,
+    /// A declared term.
+    Decl {
+        /// How the term is declared.
+        flags: TermFlags,
+        /// What makes a value, where the term has a constructor.
+        constructor_kind: Option<ConstructorKind>,
+        /// What takes a value apart, where the term has an extractor.
+        extractor_kind: Option<ExtractorKind>,
+    },
+}
+
+/// What makes a value of a declared term.
+#[derive(Clone, Debug, PartialEq, Eq, Drop)]
+pub enum ConstructorKind {
+    /// The rules of the term.
+    InternalConstructor,
+    /// An external function.
+    ExternalConstructor {
+        /// The name of the function.
+        name: Sym,
+    },
+}
+
+/// What takes a value of a declared term apart.
+#[derive(Clone, Debug, PartialEq, Eq, Drop)]
+pub enum ExtractorKind {
+    /// A pattern with places for the arguments.
+    InternalExtractor {
+        /// The pattern.
+        template: Pattern,
+    },
+    /// An external function.
+    ExternalExtractor {
+        /// The name of the function.
+        name: Sym,
+        /// Whether the function always answers.
+        infallible: bool,
+        /// Where the extractor is declared.
+        pos: Pos,
+    },
+}
+
+impl TermFlags {
+    /// The flags of a term that a rule's left side uses: it has to be pure, and may give no value.
+    /// Nothing else changes.
+    pub fn on_lhs(mut self) -> TermFlags
+        ensures { result ≡ record self { pure = true; partial = true } }
+    {
+        self.pure = true;
+        self.partial = true;
+        self
+    }
+}
+
+impl Term {
+    /// The type of what the term makes.
+    pub fn ty(&self) -> TypeId
+        ensures { result.0 ≡ (term_view self.now).ret_ty }
+    {
+        self.ret_ty
+    }
+
+    /// Whether the term is a variant of an enum.
+    pub fn is_enum_variant(&self) -> bool
+        ensures { result ≡ is_variant_term (term_view self.now) }
+    {
+        matches!(self.kind, TermKind::EnumVariant { .. })
+    }
+
+    /// Whether the term is a struct.
+    pub fn is_struct(&self) -> bool
+        ensures { result ≡ is_struct_term (term_view self.now) }
+    {
+        matches!(self.kind, TermKind::Struct)
+    }
+
+    /// Whether the term is declared as one that may give no value.
+    pub fn is_partial(&self) -> bool
+        ensures { result ≡ is_partial_term (term_view self.now) }
+    {
+        match &self.kind {
+            TermKind::Decl { flags, .. } => flags.partial,
+            TermKind::EnumVariant { .. } | TermKind::Struct => false,
+        }
+    }
+
+    /// Whether the term is declared as one that may call itself.
+    pub fn is_recursive(&self) -> bool
+        ensures { result ≡ is_recursive_term (term_view self.now) }
+    {
+        match &self.kind {
+            TermKind::Decl { flags, .. } => flags.rec,
+            TermKind::EnumVariant { .. } | TermKind::Struct => false,
+        }
+    }
+
+    /// Whether something makes a value of the term: all but declared terms without a constructor.
+    pub fn has_constructor(&self) -> bool
+        ensures { result ≡ has_constructor_term (term_view self.now) }
+    {
+        match &self.kind {
+            TermKind::Decl {
+                constructor_kind,
+                ..
+            } => constructor_kind.is_some(),
+            TermKind::EnumVariant { .. } | TermKind::Struct => true,
+        }
+    }
+
+    /// Whether something takes a value of the term apart: all but declared terms without an extractor.
+    pub fn has_extractor(&self) -> bool
+        ensures { result ≡ has_extractor_term (term_view self.now) }
+    {
+        match &self.kind {
+            TermKind::Decl { extractor_kind, .. } => extractor_kind.is_some(),
+            TermKind::EnumVariant { .. } | TermKind::Struct => true,
+        }
+    }
+
+    /// Whether an external function takes a value of the term apart.
+    pub fn has_external_extractor(&self) -> bool
+        ensures { result ≡ has_external_extractor_term (term_view self.now) }
+    {
+        matches!(
+            &self.kind,
+            TermKind::Decl {
+                extractor_kind: Some(ExtractorKind::ExternalExtractor { .. }),
+                ..
+            }
+        )
+    }
+
+    /// Whether an external function makes a value of the term.
+    pub fn has_external_constructor(&self) -> bool
+        ensures { result ≡ has_external_constructor_term (term_view self.now) }
+    {
+        matches!(
+            &self.kind,
+            TermKind::Decl {
+                constructor_kind: Some(ConstructorKind::ExternalConstructor { .. }),
+                ..
+            }
+        )
+    }
+
+    /// Whether rules make a value of the term.
+    pub fn has_internal_constructor(&self) -> bool
+        ensures { result ≡ has_internal_constructor_term (term_view self.now) }
+    {
+        matches!(
+            &self.kind,
+            TermKind::Decl {
+                constructor_kind: Some(ConstructorKind::InternalConstructor),
+                ..
+            }
+        )
+    }
+}
