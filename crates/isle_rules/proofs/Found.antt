@@ -1,0 +1,76 @@
+-- The tables by all names, and what a rule becomes by them.
+use Rattle.std.proofs.Common.{◌≡◌, ℕ, true, false, cond, List, [], ◌++◌, Option, Some, None, option_map, option_and_then, slice_get, refl, sym, ap, subst, ◌∙◌}
+use Rattle.std.specs.List.{flat_map}
+use Rattle.isle_base.specs.Stable.{look_up}
+use Rattle.isle_model.specs.Syntax.{Name, RuleTree, Definition}
+use Rattle.isle_model.specs.Names.{number, has_name, with_names}
+use Rattle.isle_model.specs.Outcome.{then_option}
+use Rattle.isle_model.specs.TypeTable.{builtin_names, type_names, type_trees, inner_names, type_table_names, type_id}
+use Rattle.isle_model.specs.TermTable.{decl_names, term_table_names, term_id, term_entries, root_name, rule_trees}
+use Rattle.isle_model.specs.Elaboration.{all_names, names_of_rule, elaborate_at, root_id, elaborate_rule}
+use Rattle.isle_types.specs.declared.type_env.TypeEnv.{TypeEnv}
+use Rattle.isle_types.specs.Envs.{names_of, symbol_of, same_symbol, symbol}
+use Rattle.isle_types.specs.Names.{IsInverse}
+use Rattle.isle_types.specs.TypeTables.{SeesTypes}
+use Rattle.isle_types.specs.TypeViews.{type_views}
+use Rattle.isle_terms.specs.declared.term_table.TermTable.{TermTable}
+use Rattle.isle_terms.specs.TermTables.{SeesTerms, term_at}
+use Rattle.isle_terms.specs.TermViews.{term_views}
+use Rattle.isle_rules.specs.Elaborating.{elaborate_found}
+use Rattle.isle_rules.specs.Numbering.{Meets}
+use Rattle.isle_rules.proofs.Texts.{then_withs, missing_before, missing_among, missing_first, missing_both, place_absent, found, looked_up}
+
+-- a text that is no name is no type's
+no_type : (defs : List Definition) (x : List ℕ) → has_name (type_table_names defs) x ≡ false → type_id defs x ≡ None
+no_type defs x e =
+    let inside : List (List ℕ) = flat_map (λ t. inner_names t.value) (type_trees defs) in
+    let a : has_name builtin_names x ≡ false = missing_before builtin_names (type_names defs ++ inside) x e in
+    let b : has_name (type_names defs ++ inside) x ≡ false = missing_among builtin_names (type_names defs ++ inside) x e in
+    place_absent 0 (builtin_names ++ type_names defs) x (missing_both builtin_names (type_names defs) x a (missing_first (type_names defs) inside x b))
+
+-- nor a term's
+no_term : (defs : List Definition) (x : List ℕ) → has_name (term_table_names defs) x ≡ false → term_id defs x ≡ None
+no_term defs x e = place_absent 0 (decl_names defs) x (missing_among (type_table_names defs) (decl_names defs) x e)
+
+abbrev pub rule_texts : List Definition → List (List ℕ)
+rule_texts defs = flat_map names_of_rule (rule_trees defs)
+
+pub sees_more : (defs : List Definition) (old new : TypeEnv) → SeesTypes old defs (term_table_names defs) → Meets old new [] (rule_texts defs) → SeesTypes new defs (all_names defs)
+sees_more defs old new s m =
+    let names : names_of new ≡ all_names defs = m.names ∙ ap (λ ns. with_names ns (rule_texts defs)) s.names in
+    record {
+      names = names;
+      inverse = subst (λ ns. IsInverse ns (symbol_of new)) names m.inverse;
+      types = ap (λ v. type_views v.items) m.types ∙ s.types;
+      ids = λ k. ap (λ t. option_map (λ i. i.0) (look_up same_symbol t (symbol k))) m.type_map ∙ s.ids k
+          ∙ sym (then_withs (term_table_names defs) (rule_texts defs) (type_id defs) (λ x e. no_type defs x (missing_before (type_table_names defs) (decl_names defs) x e)) k);
+      constants = λ k. ap (λ t. option_map (λ i. i.0) (look_up same_symbol t (symbol k))) m.const_types ∙ s.constants k;
+      errors = ap (λ v. v.items) m.errors ∙ s.errors;
+    }
+
+pub terms_more : (defs : List Definition) (table : TermTable) → SeesTerms table defs (term_table_names defs) → SeesTerms table defs (all_names defs)
+terms_more defs table s = record {
+  terms = s.terms;
+  ids = λ k. s.ids k ∙ sym (then_withs (term_table_names defs) (rule_texts defs) (term_id defs) (no_term defs) k);
+  converters = s.converters;
+}
+
+module _ (defs : List Definition) (env : TypeEnv) (table : TermTable) (s : SeesTypes env defs (all_names defs)) (t : SeesTerms table defs (all_names defs)) where
+  term_of_text : (x : List ℕ) → option_and_then (term_at table) (symbol_of env x) ≡ term_id defs x
+  term_of_text x =
+      ap (option_and_then (term_at table)) (looked_up (all_names defs) (symbol_of env) s.inverse x) ∙ (elim (has_name (all_names defs) x) as (λ b. has_name (all_names defs) x ≡ b → option_and_then (term_at table) (cond b (Some (number (all_names defs) x)) None) ≡ term_id defs x) [
+        | true ↦ λ e. t.ids (number (all_names defs) x) ∙ ap (λ o. then_option o (term_id defs)) (found (all_names defs) x e)
+        | false ↦ λ e. sym (no_term defs x (missing_before (term_table_names defs) (rule_texts defs) x e))
+      ] refl)
+
+  root_found : (o : Option Name) → then_option o (λ n. option_and_then (term_at table) (symbol_of env n.text)) ≡ then_option o (λ n. term_id defs n.text)
+  root_found None = refl
+  root_found (Some n) = term_of_text n.text
+
+  -- what a rule becomes by the tables is what it becomes
+  pub same_rule : (id : ℕ) (r : RuleTree) → elaborate_found env table id r ≡ elaborate_rule defs id r
+  same_rule id r =
+      ap (λ o. then_option o (λ root. then_option (slice_get (term_views table.terms.items) root) (λ term. elaborate_at (names_of env) (type_views env.types.items) r id root term))) (root_found (root_name r.pattern))
+      ∙ ap (λ ts. then_option (root_id defs r) (λ root. then_option (slice_get ts root) (λ term. elaborate_at (names_of env) (type_views env.types.items) r id root term))) t.terms
+      ∙ ap (λ ns. then_option (root_id defs r) (λ root. then_option (slice_get (term_entries defs) root) (λ term. elaborate_at ns (type_views env.types.items) r id root term))) s.names
+      ∙ ap (λ ts. then_option (root_id defs r) (λ root. then_option (slice_get (term_entries defs) root) (λ term. elaborate_at (all_names defs) ts r id root term))) s.types

@@ -1,0 +1,7 @@
+use Rattle.std.proofs.Common.{◌≡◌, drop}
+use Rattle.isle_model.specs.Elaboration.{var_named}
+use Rattle.isle_rules.specs.Elaborating.{var_views}
+use Rattle.isle_rules.proofs.elaboration.find_var.Given as goal
+
+abbrev pub invariant-loop-var : goal.invariant-loop-var
+invariant-loop-var l = var_named l.name.0 (var_views (drop l.var-index l.vars)) ≡ var_named l.name.0 (var_views l.vars)

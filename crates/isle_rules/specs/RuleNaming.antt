@@ -1,0 +1,37 @@
+-- What naming one rule after another does.
+use Rattle.std.specs.Prelude.{◌≡◌, ℕ, ◌⊎◌, nat_eq, List, Option, Some, None, option_map, is_some, All, IsTrue, if◌then◌else◌}
+use Rattle.isle_base.specs.declared.syntax.Error.{Error}
+use Rattle.isle_base.specs.Stable.{Entries, look_up}
+use Rattle.isle_model.specs.Names.{IsDistinct}
+use Rattle.isle_model.specs.Tables.{TermEntry}
+use Rattle.isle_model.specs.Typed.{TypedRule}
+use Rattle.isle_model.specs.Elaboration.{rule_names, rule_named}
+use Rattle.isle_types.specs.declared.ids.Sym.{Sym}
+use Rattle.isle_types.specs.declared.ids.RuleId.{RuleId}
+use Rattle.isle_types.specs.Envs.{same_symbol, symbol}
+use Rattle.isle_terms.specs.Terms.{has_internal_constructor_term}
+use Rattle.isle_rules.specs.Elaborating.{Reports}
+
+-- the rule of the name of a number
+abbrev pub rule_in : Entries Sym RuleId → ℕ → Option ℕ
+rule_in m k = option_map (λ r. r.0) (look_up same_symbol m (symbol k))
+
+-- a rule with a name that no rule has is found by it from now on
+abbrev pub NamesAs : List Error → List Error → ℕ → Option ℕ → Entries Sym RuleId → Entries Sym RuleId → Type 0
+NamesAs old new id None before after = (new ≡ old) × (after ≡ before)
+NamesAs old new id (Some name) before after =
+    ((new ≡ old) × (rule_in before name ≡ None) × ((k : ℕ) → rule_in after k ≡ (if nat_eq name k then Some id else rule_in before k)))
+    ⊎ (Reports old new × IsTrue (is_some (rule_in before name)))
+
+abbrev pub NamesRule : List Error → List Error → TypedRule → Entries Sym RuleId → Entries Sym RuleId → Type 0
+NamesRule old new r before after = NamesAs old new r.id r.name before after
+
+-- no two rules have one name, and each is found by its own; or there is an error, and two have one name
+abbrev pub MapsNames : List Error → List Error → List TypedRule → Entries Sym RuleId → Type 0
+MapsNames old new rules m =
+    ((new ≡ old) × IsDistinct (rule_names rules) × ((k : ℕ) → rule_in m k ≡ rule_named rules k))
+    ⊎ (Reports old new × (IsDistinct (rule_names rules) → ⊥))
+
+-- rules make each term
+abbrev pub AreMade : List TermEntry → Type 0
+AreMade terms = All (λ t. IsTrue (has_internal_constructor_term t)) terms

@@ -1,0 +1,85 @@
+//! Typed rules and their parts.
+
+use crate::exprs::Expr;
+use crate::patterns::Pattern;
+use isle_base::syntax::Pos;
+use isle_types::{RuleId, Sym, TermId, TypeId, VarId};
+use std::alloc::AllocError;
+
+/// A condition of a rule: the pattern must match the value of the expression.
+#[derive(Debug, Drop)]
+pub struct IfLet {
+    /// What the value must be.
+    pub lhs: Pattern,
+    /// What is evaluated.
+    pub rhs: Expr,
+}
+
+impl Clone for IfLet {
+    ghost use Rattle.std.specs.Prelude.{◌≡◌};
+    ghost use Rattle.isle_rules.specs.RuleViews.{iflet_view};
+
+    ghost is_clone = { λ i j. iflet_view j ≡ iflet_view i };
+
+    fn clone(&self) -> Result<IfLet, AllocError> {
+        Ok(IfLet {
+            lhs: self.lhs.clone()?,
+            rhs: self.rhs.clone()?,
+        })
+    }
+}
+
+/// A variable of a rule, bound by a pattern or by a let.
+#[derive(Clone, Copy, Debug)]
+pub struct BoundVar {
+    /// Its number: its place in `Rule::vars`.
+    pub id: VarId,
+    /// Its name.
+    pub name: Sym,
+    /// The type of the value that it is bound to.
+    pub ty: TypeId,
+}
+
+/// A typed rule.
+#[derive(Debug, Drop)]
+pub struct Rule {
+    /// Its place in `TermEnv::rules`.
+    pub id: RuleId,
+    /// The term that it is a rule of.
+    pub root_term: TermId,
+    /// What the term's arguments must be, in order.
+    pub args: Vec<Pattern>,
+    /// Further conditions, in order.
+    pub iflets: Vec<IfLet>,
+    /// What the term then is.
+    pub rhs: Expr,
+    /// The variables, by their numbers.
+    pub vars: Vec<BoundVar>,
+    /// Of the rules that match, one of greatest priority is taken; 0 where none was given.
+    pub prio: i64,
+    /// Where it was defined.
+    pub pos: Pos,
+    /// Its name, where it has one.
+    pub name: Option<Sym>,
+}
+
+impl Clone for Rule {
+    ghost use Rattle.std.specs.Prelude.{◌≡◌};
+    ghost use Rattle.isle_rules.specs.RuleViews.{rule_view};
+
+    ghost is_clone = { λ r s. rule_view s ≡ rule_view r };
+
+    fn clone(&self) -> Result<Rule, AllocError> {
+        Ok(Rule {
+            id: self.id,
+            root_term: self.root_term,
+            args: self.args.clone()?,
+            iflets: self.iflets.clone()?,
+            rhs: self.rhs.clone()?,
+            vars: self.vars.clone()?,
+            prio: self.prio,
+            pos: self.pos,
+            name: self.name,
+        })
+    }
+}

@@ -1,0 +1,93 @@
+//! The table of terms and rules.
+
+ghost use Rattle.isle_base.specs.Answers.{Answers, NoLimit};
+ghost use Rattle.isle_base.specs.SyntaxViews.{definition_views};
+ghost use Rattle.isle_model.specs.Typed.{TypedRule};
+ghost use Rattle.isle_model.specs.TypeTable.{IsValidTypes, type_table_names};
+ghost use Rattle.isle_model.specs.Elaboration.{IsElaborated, all_names};
+ghost use Rattle.isle_types.specs.TypeTables.{SeesTypes};
+ghost use Rattle.isle_rules.specs.TermEnvs.{SeesRules};
+ghost use Rattle.std.specs.Prelude.{List};
+
+use crate::elaboration::elaborate_rules;
+use crate::numbering::number_names;
+use crate::rule_names::{check_defined, map_names, name_rules};
+use crate::rules::Rule;
+use isle_base::stablemapset::StableMap;
+use isle_base::syntax::{Def, Fault};
+use isle_terms::{Term, TermTable};
+use isle_types::{RuleId, Sym, TermId, TypeEnv, TypeId};
+use std::alloc::Global;
+
+/// All terms, and all rules in typed form.
+#[derive(Debug, Drop)]
+pub struct TermEnv {
+    /// The terms, by their numbers.
+    pub terms: Vec<Term>,
+    /// Each term's number by its name.
+    pub term_map: StableMap<Sym, TermId>,
+    /// The rules, by their numbers.
+    pub rules: Vec<Rule>,
+    /// Each named rule's number by its name.
+    pub rule_map: StableMap<Sym, RuleId>,
+    /// The term that converts the first type into the second, where there is one.
+    pub converters: StableMap<(TypeId, TypeId), TermId>,
+    /// Whether internal extractors are replaced by their templates in `rules`.
+    pub expand_internal_extractors: bool,
+}
+
+impl TermEnv {
+    /// The terms and the typed rules of a list of definitions, each found by its name. `tyenv` is the type
+    /// table of the same list. Names are numbered by first meeting: those of the type table, the terms,
+    /// then rule by rule the variables of its left side, the variable of its right side, and its own name.
+    /// An unnamed rule that is the only one of its term has the term's name.
+    ///
+    /// Of the forms, declarations that are neither partial nor multi are carried now, and rules whose
+    /// argument patterns are integers, wildcards and variables, each bound once, without conditions, and
+    /// with an integer or a variable on the right. `Errors` has all that is wrong with the terms, and
+    /// where nothing is, all that is wrong with the rules: each at its place, a rule that is not carried
+    /// (`not carried yet`), a wrong count of arguments, an integer where the type has none, a variable that
+    /// is not bound or has another type; then a name that an earlier rule has; then a term without rules.
+    /// `Memory` where memory is refused.
+    pub fn from_ast(
+        alloc: Global,
+        tyenv: &mut TypeEnv,
+        defs: &[Def],
+        expand_internal_extractors: bool,
+    ) -> Result<TermEnv, Fault>
+        requires typed { SeesTypes tyenv.old (definition_views defs.now) (type_table_names (definition_views defs.now)) }
+        requires valid { IsValidTypes (definition_views defs.now) }
+        ensures answers { Answers result ((rules : List TypedRule) × IsElaborated (definition_views defs.now) rules)
+            (λ env. (rules : List TypedRule) × IsElaborated (definition_views defs.now) rules
+            × SeesTypes tyenv.new (definition_views defs.now) (all_names (definition_views defs.now))
+            × SeesRules env (definition_views defs.now) rules expand_internal_extractors) }
+        ensures no_limit { NoLimit result }
+    {
+        let table = TermTable::from_ast(alloc, tyenv, defs)?;
+        number_names(tyenv, defs)?;
+        let mut errors = Vec::new(alloc);
+        let mut rules = elaborate_rules(alloc, tyenv, &table, defs, &mut errors)?;
+        name_rules(&table.terms, &mut rules);
+        let rule_map = map_names(alloc, tyenv, &rules, &mut errors)?;
+        check_defined(tyenv, &table.terms, &mut errors)?;
+        if !errors.is_empty() {
+            return Err(Fault::Errors(errors));
+        }
+        let TermTable {
+            terms,
+            term_map,
+            converters,
+        } = table;
+        Ok(TermEnv {
+            terms,
+            term_map,
+            rules,
+            rule_map,
+            converters,
+            expand_internal_extractors,
+        })
+    }
+}
+
+#[cfg(test)]
+mod tests;

@@ -1,0 +1,33 @@
+//! Why a visit ended before its end.
+ghost use Rattle.std.specs.Prelude.{◌≡◌, alloc_error};
+ghost use Rattle.isle_rules.specs.declared.visit_fault.VisitFault.TheVariants.{Memory};
+
+use isle_base::syntax::Limit;
+use std::alloc::{AllocError, AllocFailed};
+
+/// Why a visit ended before its end.
+#[derive(Debug, Drop)]
+pub enum VisitFault {
+    /// The allocator refused.
+    Memory(AllocError),
+    /// The rule passed this limit.
+    Limit(Limit),
+    /// The visitor wanted to see no more.
+    Stopped,
+}
+
+impl From<AllocError> for VisitFault {
+    ghost from_gives = { λ a e. e ≡ Memory a };
+
+    fn from(e: AllocError) -> VisitFault {
+        VisitFault::Memory(e)
+    }
+}
+
+impl<T: Drop> From<AllocFailed<T>> for VisitFault {
+    ghost from_gives = { λ _ e. e ≡ Memory alloc_error };
+
+    fn from(e: AllocFailed<T>) -> VisitFault {
+        VisitFault::Memory(AllocError::from(e))
+    }
+}
