@@ -1,0 +1,39 @@
+use Rattle.std.proofs.Common.{◌≡◌, false, ◌∷◌, [], ◌++◌, map, refl, sym, ap, ◌∙◌, subst}
+use Rattle.std.specs.Prelude.{All}
+use Rattle.std.proofs.lemmas.List.{map-append}
+use Rattle.std.proofs.lemmas.List.Elements.{All-nil, All-push, All-head, All-tail}
+use Rattle.isle_model.specs.Sound.{IsSound}
+use Rattle.isle_building.specs.Building.{IsSimpleSet}
+use Rattle.cranelift_isle.specs.SiteViews.{set_view}
+use Rattle.cranelift_isle.specs.TreeViews.{tree_view}
+use Rattle.cranelift_isle.specs.Buildings.{term_set_view, term_set_views}
+use Rattle.cranelift_isle.specs.Lowerings.{TermView, term_view, term_views}
+use Rattle.cranelift_isle.proofs.PlainSets.{plain_set}
+use Rattle.cranelift_isle.proofs.TreesSoFar.{moved}
+use Rattle.cranelift_isle.proofs.lower.trees_of.Goals as goal
+
+pub loop-id-init : goal.loop-id-init
+loop-id-init c =
+    let h = c.into_iter-id-iterator.ensures.into_iter_gives.0 in
+    let n = c.new-terms.ensures.items in (
+      ap (λ ts. map (λ t. (t.id, t.set)) (term_views ts) ++ term_set_views c.into_iter-id-iterator.result.rest.items) n ∙ ap term_set_views h,
+      subst (λ ts. All (λ t. IsSound t.set false t.tree) (term_views ts)) (sym n) (All-nil (λ t. IsSound t.set false t.tree)),
+      subst (λ l. All (λ b. IsSimpleSet b.1) (term_set_views l)) (sym h) c.requires.simple,
+    )
+
+pub serialize_alone-requires : goal.serialize_alone-requires
+serialize_alone-requires c =
+    let s = c.in-Some.ensures.steps.0 in
+    let all = subst (λ l. All (λ b. IsSimpleSet b.1) (term_set_views l)) s c.loop-id.invariant.2 in
+    record { plain = plain_set (set_view c.in-Some.rules) (All-head (λ b. IsSimpleSet b.1) (term_set_view (c.in-Some.id, c.in-Some.rules)) (term_set_views c.next.new.self.rest.items) all) }
+
+pub loop-id-preserved : goal.loop-id-preserved
+loop-id-preserved c =
+    let s = c.in-Some.ensures.steps.0 in
+    let one : TermView = record { id = c.in-Some.id.0; set = set_view c.in-Some.rules; tree = tree_view c.in_ok-block.block } in
+    let more : term_views c.push.new.self.items ≡ term_views c.loop-id.terms.items ++ one ∷ [] = ap term_views c.in_ok-push.ensures.items ∙ map-append term_view c.loop-id.terms.items _ in
+    let all = subst (λ l. All (λ b. IsSimpleSet b.1) (term_set_views l)) s c.loop-id.invariant.2 in (
+      moved (λ t. (t.id, t.set)) term_set_view (term_views c.loop-id.terms.items) (term_views c.push.new.self.items) one c.loop-id.id-iterator.rest.items c.next.new.self.rest.items (c.in-Some.id, c.in-Some.rules) (term_set_views c.args.sets.items) s more refl c.loop-id.invariant.0,
+      subst (All (λ t. IsSound t.set false t.tree)) (sym more) (All-push (λ t. IsSound t.set false t.tree) (term_views c.loop-id.terms.items) one c.loop-id.invariant.1 c.in_ok-block.ensures.sound),
+      All-tail (λ b. IsSimpleSet b.1) (term_set_view (c.in-Some.id, c.in-Some.rules)) (term_set_views c.next.new.self.rest.items) all,
+    )

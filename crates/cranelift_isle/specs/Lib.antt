@@ -1,0 +1,5 @@
+pub mod SiteViews
+pub mod TreeViews
+pub mod Buildings
+pub mod Clashes
+pub mod Lowerings

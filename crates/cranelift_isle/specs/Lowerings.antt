@@ -1,0 +1,52 @@
+-- What lowering a list of definitions gives.
+use Rattle.std.specs.Prelude.{◌≡◌, ℕ, Bool, List, map, Option, Some, None, All}
+use Rattle.isle_base.specs.declared.syntax.Limit.{Limit}
+use Rattle.isle_model.specs.Syntax.{Definition}
+use Rattle.isle_model.specs.Typed.{TypedRule}
+use Rattle.isle_model.specs.Program.{Program, is_multi}
+use Rattle.isle_model.specs.Sites.{SiteSet}
+use Rattle.isle_model.specs.Trees.{Tree}
+use Rattle.isle_model.specs.Sound.{IsSound}
+use Rattle.isle_model.specs.Built.{IsBuiltSet, terms_with_rules, RunsAsChosen}
+use Rattle.isle_model.specs.Elaboration.{IsElaborated, all_names, program_of}
+use Rattle.isle_types.specs.TypeTables.{SeesTypes}
+use Rattle.isle_rules.specs.TermEnvs.{SeesRules}
+use Rattle.cranelift_isle.specs.declared.lower.LoweredTerm.{LoweredTerm}
+use Rattle.cranelift_isle.specs.declared.lower.Lowered.{Lowered}
+use Rattle.cranelift_isle.specs.SiteViews.{set_view}
+use Rattle.cranelift_isle.specs.TreeViews.{tree_view}
+use Rattle.cranelift_isle.specs.Buildings.{IsPassed}
+
+-- what each term became: its number, its rule set, its tree
+pub record TermView : Type 0 where
+  pub id : ℕ
+  pub set : SiteSet
+  pub tree : Tree
+
+abbrev pub term_view : LoweredTerm → TermView
+term_view t = record { id = t.id.0; set = set_view t.rules; tree = tree_view t.block }
+
+abbrev pub term_views : List LoweredTerm → List TermView
+term_views ts = map term_view ts
+
+-- each term with rules stands once, ascending, with the set that is built of its rules, and with a sound tree, in which
+-- each rule has one return
+pub record AreLowered (p : Program) (ts : List TermView) : Type 0 where
+  pub ids : map (λ t. t.id) ts ≡ terms_with_rules p
+  pub built : All (λ t. IsBuiltSet p t.id t.set) ts
+  pub sound : All (λ t. IsSound t.set (is_multi p t.id) t.tree) ts
+
+-- the environments are the tables and the typed rules of the definitions, and the terms are those of these rules
+pub record IsLowered (l : Lowered) (defs : List Definition) (typed : List TypedRule) (expanded : Bool) : Type 0 where
+  pub types : SeesTypes l.tyenv defs (all_names defs)
+  pub rules : SeesRules l.termenv defs typed expanded
+  pub terms : AreLowered (program_of defs typed) (term_views l.terms.items)
+
+-- the tree of each term runs as a test of every rule by priority would
+abbrev pub ChoosesAsSource : Program → List TermView → Type 0
+ChoosesAsSource p ts = All (λ t. RunsAsChosen p t.id t.set.sites t.tree) ts
+
+-- where an error names a limit, some rule of the definitions passes it
+abbrev pub LimitPassed : List Definition → Option Limit → Type 0
+LimitPassed defs None = Unit {0}
+LimitPassed defs (Some l) = (typed : List TypedRule) × IsElaborated defs typed × IsPassed (program_of defs typed) (Some l)

@@ -1,0 +1,110 @@
+//! From definitions to trees of tests, in one call.
+
+ghost use Rattle.std.specs.Prelude.{◌≡◌, ◌<◌, vec_len, false, List, map, Some, All, IfOk};
+ghost use Rattle.isle_base.specs.Answers.{Answers, OnErrors, limit_of};
+ghost use Rattle.isle_base.specs.SyntaxViews.{definition_views};
+ghost use Rattle.isle_model.specs.Typed.{TypedRule};
+ghost use Rattle.isle_model.specs.Simple.{IsSimpleRule};
+ghost use Rattle.isle_model.specs.Sound.{IsSound};
+ghost use Rattle.isle_model.specs.Elaboration.{typed_rules, program_of};
+ghost use Rattle.isle_model.specs.Accepted.{IsAccepted};
+ghost use Rattle.isle_building.specs.Building.{IsSimpleSet};
+ghost use Rattle.isle_rules.specs.RuleViews.{rule_views};
+ghost use Rattle.cranelift_isle.specs.Buildings.{env_program, term_set_views, AreSetsOf, IsPassed};
+ghost use Rattle.cranelift_isle.specs.Clashes.{IsBuildable};
+ghost use Rattle.cranelift_isle.specs.Lowerings.{term_views, IsLowered, ChoosesAsSource, LimitPassed};
+
+use crate::alone::serialize_alone;
+use crate::building::{build, check_overlaps};
+use crate::serialize::Block;
+use crate::trie_again::RuleSet;
+use isle_base::syntax::{Def, Fault};
+use isle_rules::TermEnv;
+use isle_types::{TermId, TypeEnv};
+use std::alloc::{AllocError, Global};
+
+/// A term with rules: its rule set, and the tree of tests that takes one of the rules.
+#[derive(Drop)]
+pub struct LoweredTerm {
+    /// The term, a place in `TermEnv::terms`.
+    pub id: TermId,
+    /// Its rules by their demands.
+    pub rules: RuleSet,
+    /// The tree. Its sites are those of `rules`.
+    pub block: Block,
+}
+
+/// What a list of definitions becomes.
+#[derive(Drop)]
+pub struct Lowered {
+    /// The names and types.
+    pub tyenv: TypeEnv,
+    /// The terms and the typed rules.
+    pub termenv: TermEnv,
+    /// Each term with rules, once, ascending by its number.
+    pub terms: Vec<LoweredTerm>,
+}
+
+/// The trees of all terms with rules. The whole way: types and terms, typed rules, rule sets, trees.
+///
+/// `expand` says whether uses of internal extractors are replaced by their templates. Errors are those of the first
+/// layer that refuses the definitions: type errors of `TypeEnv::from_ast` and `TermEnv::from_ast`; then limit errors
+/// (more than 256 arguments of a term with rules, more than 65,536 binding sites of a term) and the overlap of two
+/// rules of one priority. So far enums, structs, constants, extractors, converters, externs, partial and multi
+/// declarations, if-lets, and rules beyond integer literals, wildcards and variables bound once on the left, an integer
+/// literal or a variable on the right, are answered with the error `not carried yet`. The upstream crate leaves the
+/// chaining of these passes to its callers.
+pub fn lower(alloc: Global, defs: &[Def], expand: bool) -> Result<Lowered, Fault>
+    // Ok exactly where the definitions are accepted, and then the environments and trees of these definitions
+    ensures accepted { Answers result
+        ((typed : List TypedRule) × IsAccepted (definition_views defs.now) typed)
+        (λ l. (typed : List TypedRule) × IsAccepted (definition_views defs.now) typed × IsLowered l (definition_views defs.now) typed expand) }
+
+    // each tree chooses as a test of every source rule by priority would
+    ensures chosen { IfOk result (λ l. (typed : List TypedRule) → typed_rules (definition_views defs.now) ≡ Some typed
+        → ChoosesAsSource (program_of (definition_views defs.now) typed) (term_views l.terms.items)) }
+
+    // an error names a limit only where it was passed
+    ensures limits { OnErrors result (All (λ e. LimitPassed (definition_views defs.now) (limit_of e))) }
+{
+    let mut tyenv = TypeEnv::from_ast(alloc, defs)?;
+    let termenv = TermEnv::from_ast(alloc, &mut tyenv, defs, expand)?;
+    let sets = sets_of(alloc, &termenv)?;
+    let terms = trees_of(alloc, sets)?;
+    Ok(Lowered {
+        tyenv,
+        termenv,
+        terms,
+    })
+}
+
+// The rule sets of all terms with rules, or the errors of limits and overlaps.
+fn sets_of(alloc: Global, termenv: &TermEnv) -> Result<Vec<(TermId, RuleSet)>, Fault>
+    requires simple { All (IsSimpleRule (env_program termenv.now)) (rule_views termenv.now.rules.items) }
+    requires known { All (λ r. r.root_term < vec_len termenv.now.terms) (rule_views termenv.now.rules.items) }
+    ensures answers { Answers result (IsBuildable (env_program termenv.now))
+        (λ sets. AreSetsOf (env_program termenv.now) (term_set_views sets.items)) }
+    ensures limits { OnErrors result (All (λ e. IsPassed (env_program termenv.now) (limit_of e))) }
+{
+    let (sets, mut errors) = build(alloc, termenv)?;
+    check_overlaps(alloc, &sets, &mut errors)?;
+    if errors.is_empty() {
+        Ok(sets)
+    } else {
+        Err(Fault::Errors(errors))
+    }
+}
+
+// The tree of each set.
+fn trees_of(alloc: Global, sets: Vec<(TermId, RuleSet)>) -> Result<Vec<LoweredTerm>, AllocError>
+    requires simple { All (λ b. IsSimpleSet b.1) (term_set_views sets.items) }
+    ensures same { IfOk result (λ ts. map (λ t. (t.id, t.set)) (term_views ts.items) ≡ term_set_views sets.items) }
+    ensures sound { IfOk result (λ ts. All (λ t. IsSound t.set false t.tree) (term_views ts.items)) }
+{
+    let mut terms = Vec::new(alloc);
+    for (id, rules) in sets {
+        let block = serialize_alone(alloc, &rules)?;
+        terms.push(LoweredTerm { id, rules, block })?;
+    }
+    Ok(terms)
+}

@@ -1,0 +1,10 @@
+//! Types, terms and typed rules: what definitions mean.
+
+pub use isle_rules::{BoundVar, Expr, IfLet, Pattern, Rule, TermEnv, VisitFault};
+pub use isle_terms::{
+    ConstructorKind, ExternalSig, ExtractorKind, ReturnKind, Term, TermFlags, TermKind, TermTable,
+};
+pub use isle_types::{
+    BuiltinType, FieldId, Fields, IntType, RuleId, StructField, StructFields, Sym, TermId,
+    TupleField, TupleFields, Type, TypeEnv, TypeId, VarId, Variant, VariantId,
+};
