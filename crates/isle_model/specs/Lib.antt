@@ -24,3 +24,6 @@ pub mod TermTable
 pub mod Elaboration
 pub mod Accepted
 pub mod Statements
+pub mod Closure
+pub mod Limits
+pub mod Overlap
