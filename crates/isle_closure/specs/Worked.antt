@@ -1,0 +1,211 @@
+-- What the samples' rules demand, their closed demands, and what is reported of them.
+use Rattle.std.specs.Prelude.{◌≡◌, ℕ, pos, Bool, true, false, List, [], ◌∷◌, Some, None}
+use Rattle.isle_model.specs.Syntax.{Position}
+use Rattle.isle_model.specs.Program.{Program, rules_of}
+use Rattle.isle_model.specs.Typed.{TypedRule}
+use Rattle.isle_model.specs.Sites.{Constraint, is_variant, is_int, is_present, SiteTerm, int_term, argument, extractor_call, constructor_call, pick_of, variant_made, variant_field, some_made, some_part, no_site_term, site_term_and}
+use Rattle.isle_model.specs.Demands.{Demands, demands_of}
+use Rattle.isle_model.specs.Closure.{IsUnreachable, is_settled, is_unreachable, Unreachability, conflict, cycle, reported, Closed, closed}
+use Rattle.isle_model.specs.Limits.{first_limit}
+use Rattle.isle_model.specs.Overlap.{overlaps, BuiltRule, built_rules, built_rule, clash, shadows, is_subset_pair, OverlapReport, ShadowReport, wrong_overlaps, overlap_reports, shadow_reports, RuleReport, not_reached, rules_overlap, rule_shadows, check_reports}
+use Rattle.isle_closure.specs.Samples as sample
+
+abbrev pub a0 : SiteTerm
+a0 = argument 0
+
+abbrev pub a1 : SiteTerm
+a1 = argument 1
+
+abbrev pub int : ℕ → SiteTerm
+int n = int_term (pos n) 1
+
+abbrev pub asked_int : ℕ → Constraint
+asked_int n = is_int (pos n) 1
+
+-- the demands of each rule
+abbrev pub ConstEqDemands : Type 0
+ConstEqDemands = demands_of sample.const_eq sample.const_eq_rule ≡ record { constraints = (a0, asked_int 2) ∷ []; equalities = (a1, a0) ∷ []; iterators = []; impure = []; made = a0 ∷ (a1 ∷ []) }
+
+abbrev pub FallDemands : Type 0
+FallDemands =
+    (demands_of sample.fall sample.fall_one ≡ record { constraints = (a0, asked_int 1) ∷ []; equalities = []; iterators = []; impure = []; made = a0 ∷ (int 10 ∷ []) })
+    × (demands_of sample.fall sample.fall_any ≡ record { constraints = []; equalities = []; iterators = []; impure = []; made = a0 ∷ [] })
+
+abbrev pub call_e : SiteTerm
+call_e = extractor_call 0 a0
+
+abbrev pub ExtractDemands : Type 0
+ExtractDemands =
+    (demands_of sample.extract sample.extract_one ≡ record {
+      constraints = (call_e, is_present) ∷ ((some_part call_e, asked_int 1) ∷ []);
+      equalities = [];
+      iterators = [];
+      impure = [];
+      made = a0 ∷ (call_e ∷ (some_part call_e ∷ (int 10 ∷ [])));
+    })
+    × (demands_of sample.extract sample.extract_any ≡ record {
+      constraints = (call_e, is_present) ∷ [];
+      equalities = [];
+      iterators = [];
+      impure = [];
+      made = a0 ∷ (call_e ∷ (some_part call_e ∷ []));
+    })
+
+-- the one impure call of the first rule
+abbrev pub call_g : SiteTerm
+call_g = constructor_call 0 (site_term_and (int 1) no_site_term) 1
+
+abbrev pub PartialDemands : Type 0
+PartialDemands =
+    (demands_of sample.partial sample.partial_call ≡ record {
+      constraints = (a0, asked_int 1) ∷ [];
+      equalities = [];
+      iterators = [];
+      impure = some_part call_g ∷ [];
+      made = a0 ∷ (int 1 ∷ (call_g ∷ (some_part call_g ∷ (some_made (some_part call_g) ∷ []))));
+    })
+    × (demands_of sample.partial sample.partial_any ≡ record {
+      constraints = [];
+      equalities = [];
+      iterators = [];
+      impure = [];
+      made = a0 ∷ (int 7 ∷ (some_made (int 7) ∷ []));
+    })
+
+abbrev pub call_pp : SiteTerm
+call_pp = constructor_call 0 (site_term_and a0 no_site_term) 0
+
+abbrev pub call_im : SiteTerm
+call_im = constructor_call 1 (site_term_and a0 no_site_term) 1
+
+abbrev pub made_p : SiteTerm
+made_p = variant_made 13 0 (site_term_and (some_part call_pp) (site_term_and call_im no_site_term))
+
+abbrev pub EffectsDemands : Type 0
+EffectsDemands =
+    demands_of sample.effects sample.effects_rule ≡ record {
+      constraints = [];
+      equalities = [];
+      iterators = [];
+      impure = call_im ∷ [];
+      made = a0 ∷ (call_pp ∷ (some_part call_pp ∷ (call_im ∷ (made_p ∷ (some_made made_p ∷ [])))));
+    }
+
+abbrev pub call_m : SiteTerm
+call_m = constructor_call 0 (site_term_and a0 no_site_term) 0
+
+abbrev pub MultiDemands : Type 0
+MultiDemands =
+    (demands_of sample.multi sample.multi_call ≡ record {
+      constraints = [];
+      equalities = [];
+      iterators = call_m ∷ [];
+      impure = [];
+      made = a0 ∷ (call_m ∷ (pick_of call_m ∷ []));
+    })
+    × (demands_of sample.multi sample.multi_one ≡ record { constraints = (a0, asked_int 1) ∷ []; equalities = []; iterators = []; impure = []; made = a0 ∷ (int 9 ∷ []) })
+
+-- the constraint of the variant T.A of one field, and its field
+abbrev pub is_a : Constraint
+is_a = is_variant 13 0 1
+
+abbrev pub v_of : SiteTerm → SiteTerm
+v_of s = variant_field s 0 0
+
+abbrev pub VariantEqDemands : Type 0
+VariantEqDemands =
+    demands_of sample.variant_eq sample.variant_eq_rule ≡ record {
+      constraints = (a0, is_a) ∷ [];
+      equalities = (a1, a0) ∷ [];
+      iterators = [];
+      impure = [];
+      made = a0 ∷ (v_of a0 ∷ (a1 ∷ []));
+    }
+
+-- the literal stands at both arguments, and no equality is left
+abbrev pub ConstEqClosed : Type 0
+ConstEqClosed =
+    closed [] (demands_of sample.const_eq sample.const_eq_rule) ≡ record { constraints = (a0, asked_int 2) ∷ ((a1, asked_int 2) ∷ []); classes = []; made = a0 ∷ (a1 ∷ []) }
+
+-- the variant stands at both arguments; the closure makes the field of the second, and the fields are equal
+abbrev pub VariantEqClosed : Type 0
+VariantEqClosed =
+    closed [] (demands_of sample.variant_eq sample.variant_eq_rule) ≡ record {
+      constraints = (a0, is_a) ∷ ((a1, is_a) ∷ []);
+      classes = (v_of a0 ∷ (v_of a1 ∷ [])) ∷ [];
+      made = a0 ∷ (v_of a0 ∷ (a1 ∷ (v_of a1 ∷ [])));
+    }
+
+-- a class that a later step adds to is taken then: the fields of fields are made in this order
+abbrev pub is_c : Constraint
+is_c = is_variant 13 0 1
+
+abbrev pub is_t : Constraint
+is_t = is_variant 14 0 1
+
+abbrev pub a2 : SiteTerm
+a2 = argument 2
+
+abbrev pub NestedClosed : Type 0
+NestedClosed =
+    closed [] (demands_of sample.nested sample.nested_rule) ≡ record {
+      constraints = (a0, is_c) ∷ ((a1, is_t) ∷ ((a2, is_t) ∷ ((v_of a2, is_c) ∷ ((v_of a1, is_c) ∷ []))));
+      classes = (v_of a0 ∷ (v_of (v_of a2) ∷ (v_of (v_of a1) ∷ []))) ∷ [];
+      made = a0 ∷ (v_of a0 ∷ (a1 ∷ (v_of a1 ∷ (a2 ∷ (v_of a2 ∷ (int 1 ∷ (v_of (v_of a2) ∷ (v_of (v_of a1) ∷ []))))))));
+    }
+
+-- the demands of the only rule of a program
+abbrev pub demands_in : Program → List Demands
+demands_in p = elim p.rules [ [] ↦ [] | r ∷ rs ↦ demands_of p r ∷ [] ]
+
+abbrev pub reports_in : Program → List (List Unreachability)
+reports_in p = elim (demands_in p) [ [] ↦ [] | d ∷ ds ↦ reported d.made d ∷ [] ]
+
+abbrev pub ConflictReported : Type 0
+ConflictReported = reports_in sample.conflict ≡ (conflict (asked_int 2) (asked_int 3) ∷ []) ∷ []
+
+abbrev pub CyclesReported : Type 0
+CyclesReported = (reports_in sample.cycle ≡ (cycle ∷ []) ∷ []) × (reports_in sample.cycle2 ≡ (cycle ∷ []) ∷ [])
+
+abbrev pub NothingReported : Type 0
+NothingReported = (reports_in sample.const_eq ≡ [] ∷ []) × (reports_in sample.variant_eq ≡ [] ∷ []) × (reports_in sample.nested ≡ [] ∷ [])
+
+-- a cycle and a conflict are no match
+abbrev pub UnreachableSamples : Type 0
+UnreachableSamples =
+    (is_unreachable (demands_of sample.cycle sample.cycle_rule) ≡ true)
+    × (is_unreachable (demands_of sample.cycle2 sample.cycle2_rule) ≡ true)
+    × (is_unreachable (demands_of sample.conflict sample.conflict_rule) ≡ true)
+
+-- the reports of programs
+abbrev pub OverlapReported : Type 0
+OverlapReported = check_reports sample.overlap ≡ rules_overlap (record { first = sample.at 2; others = sample.at 1 ∷ [] }) ∷ []
+
+abbrev pub ShadowReported : Type 0
+ShadowReported = check_reports sample.shadow ≡ rule_shadows (record { mask = sample.at 1; shadowed = sample.at 2 ∷ [] }) ∷ []
+
+abbrev pub UnreachableReported : Type 0
+UnreachableReported =
+    (check_reports sample.conflict ≡ not_reached (conflict (asked_int 2) (asked_int 3)) (sample.at 1) ∷ [])
+    × (check_reports sample.cycle ≡ not_reached cycle (sample.at 2) ∷ [])
+    × (check_reports sample.cycle2 ≡ not_reached cycle (sample.at 2) ∷ [])
+
+abbrev pub NotReported : Type 0
+NotReported =
+    (check_reports sample.const_eq ≡ [])
+    × (check_reports sample.fall ≡ [])
+    × (check_reports sample.prio ≡ [])
+    × (check_reports sample.equal ≡ [])
+    × (check_reports sample.below ≡ [])
+    × (check_reports sample.variant_eq ≡ [])
+    × (check_reports sample.extract ≡ [])
+    × (check_reports sample.partial ≡ [])
+    × (check_reports sample.effects ≡ [])
+    × (check_reports sample.multi ≡ [])
+    × (check_reports sample.nested ≡ [])
+
+-- near misses: a priority of its own, equal priorities in place of a shadow, and different constants
+abbrev pub NearMisses : Type 0
+NearMisses =
+    (check_reports (sample.overlap_at (pos 1)) ≡ [])
+    × (check_reports (sample.shadow_at (pos 0)) ≡ rules_overlap (record { first = sample.at 2; others = sample.at 1 ∷ [] }) ∷ [])
