@@ -1,0 +1,11 @@
+//! Laws of best trees: at each place the greatest test is made, for exactly the rules that it covers.
+//!
+//! A function here has an empty body: its clause is a law, and its proof stands in `proofs/`.
+#![tactic(auto)]
+
+ghost use Rattle.isle_best.specs.Judged.{PrintedTreesPass};
+
+/// The judge passes the trees that are printed for the samples.
+pub fn printed_trees_pass()
+    ensures { PrintedTreesPass }
+{}
