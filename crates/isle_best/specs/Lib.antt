@@ -1,2 +1,4 @@
 pub mod Samples
+pub mod NearMisses
 pub mod Judged
+pub mod Refused

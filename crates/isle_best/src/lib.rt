@@ -4,8 +4,14 @@
 #![tactic(auto)]
 
 ghost use Rattle.isle_best.specs.Judged.{PrintedTreesPass};
+ghost use Rattle.isle_best.specs.Refused.{NearMissesFail};
 
 /// The judge passes the trees that are printed for the samples.
 pub fn printed_trees_pass()
     ensures { PrintedTreesPass }
+{}
+
+/// It refuses trees that miss being best by one thing each.
+pub fn near_misses_fail()
+    ensures { NearMissesFail }
 {}
