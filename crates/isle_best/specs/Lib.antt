@@ -2,3 +2,4 @@ pub mod Samples
 pub mod NearMisses
 pub mod Judged
 pub mod Refused
+pub mod Laws

@@ -38,12 +38,12 @@ abbrev pub is_that : Option Constraint → Constraint → Bool
 is_that None c = false
 is_that (Some d) c = constraint_eq d c
 
+abbrev pub asks_for : ℕ → Constraint → Option SetRule → Bool
+asks_for s c None = true
+asks_for s c (Some r) = is_that (constraint_at r.constraints s) c
+
 abbrev pub asks_at : List SetRule → ℕ → Constraint → ℕ → Bool
-asks_at rules s c i = asks_of (slice_get rules i) s c
-  where
-    asks_of : Option SetRule → ℕ → Constraint → Bool
-    asks_of None s c = true
-    asks_of (Some r) s c = is_that (constraint_at r.constraints s) c
+asks_at rules s c i = asks_for s c (slice_get rules i)
 
 abbrev pub is_after : Option Constraint → Constraint → Bool
 is_after None c = true
