@@ -16,6 +16,9 @@ pub mod Serves
 pub mod Trees
 pub mod Places
 pub mod Sound
+pub mod Tests
+pub mod Best
+pub mod Judge
 pub mod Runs
 pub mod Simple
 pub mod Built

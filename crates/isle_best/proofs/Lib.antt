@@ -1,0 +1,5 @@
+pub mod Lists
+pub mod OpenTests
+pub mod Constraints
+pub mod Exact
+pub mod Marking

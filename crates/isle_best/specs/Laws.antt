@@ -1,0 +1,28 @@
+-- Laws of the judge, and of open tests.
+use Rattle.std.specs.Prelude.{false, Contains, Decides, IsTrue}
+use Rattle.isle_model.specs.Sites.{SiteSet}
+use Rattle.isle_model.specs.Trees.{Tree, Marked, plain}
+use Rattle.isle_model.specs.Places.{Around, nothing_around}
+use Rattle.isle_model.specs.Sound.{ReturnsEach}
+use Rattle.isle_model.specs.Tests.{Test, is_open, open_tests}
+use Rattle.isle_model.specs.Best.{BestSteps, NoSiteTwice, HasFewSteps, IsBestTree}
+use Rattle.isle_model.specs.Judge.{is_best, is_best_tree, returns_apart}
+
+-- the list of a place's open tests holds exactly these
+abbrev pub OpenTestsAreListed : Type 0
+OpenTestsAreListed = (set : SiteSet) (ar : Around) (t : Test) → Decides (is_open set ar t) (Contains (open_tests set ar) t)
+
+-- a marked tree is a best tree of a set
+pub record IsBestMarked (set : SiteSet) (m : Marked) : Type 0 where
+  pub returns : ReturnsEach set (plain set.rules m) m
+  pub steps : BestSteps set nothing_around false m
+  pub no_site_twice : NoSiteTwice (plain set.rules m)
+  pub few_steps : HasFewSteps set (plain set.rules m)
+
+-- the judge of a marked tree says whether it is a best tree
+abbrev pub JudgeIsExact : Type 0
+JudgeIsExact = (set : SiteSet) (m : Marked) → Decides (is_best set m) (IsBestMarked set m)
+
+-- where no two rules return at one position with one result, so does the judge of a tree
+abbrev pub TreeJudgeIsExact : Type 0
+TreeJudgeIsExact = (set : SiteSet) (tree : Tree) → IsTrue (returns_apart set.rules) → Decides (is_best_tree set tree) (IsBestTree set tree)

@@ -1,0 +1,5 @@
+pub mod Samples
+pub mod NearMisses
+pub mod Judged
+pub mod Refused
+pub mod Laws
