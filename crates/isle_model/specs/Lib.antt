@@ -24,3 +24,5 @@ pub mod TermTable
 pub mod Elaboration
 pub mod Accepted
 pub mod Statements
+pub mod Picks
+pub mod Collects
