@@ -1,0 +1,2 @@
+pub mod WithoutMulti
+pub mod Samples

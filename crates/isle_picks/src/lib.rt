@@ -1,0 +1,87 @@
+//! Laws of picks and bags: what a pick can't change, and what the samples' rules and trees give.
+//!
+//! A function here has an empty body: its clause is a law, and its proof stands in `proofs/`.
+#![tactic(auto)]
+
+ghost use Rattle.std.specs.Prelude.{[], ◌∷◌, pos};
+ghost use Rattle.isle_model.specs.Meaning.{one, just, nothing};
+ghost use Rattle.isle_model.specs.Outcome.{failed, ended, no_rule};
+ghost use Rattle.isle_picks.specs.Samples.{EffectsEnds, ExtractEnds, MultiCollects, MultiGives, PartialEnds, ends_with, g_of_one, im_of_one, pair_of, v};
+ghost use Rattle.isle_picks.specs.WithoutMulti.{EndsAsPlain, MatchesAsPlain};
+
+/// A rule without multi calls matches under every pick as it does without one.
+#[tactic(auto, using(crate::proofs::Plain::matches_as_plain_lem))]
+pub fn matches_as_plain()
+    ensures { MatchesAsPlain }
+{}
+
+/// The right side of a rule without multi calls ends under every pick as it does without one.
+#[tactic(auto, using(crate::proofs::Plain::ends_as_plain_lem))]
+pub fn ends_as_plain()
+    ensures { EndsAsPlain }
+{}
+
+/// Where the extractor answers 1, the higher rule gives 10.
+pub fn extract_of_one()
+    ensures { ExtractEnds (pos 7) (ends_with (one (v (pos 10)))) }
+{}
+
+/// Where it answers 5, the lower rule gives it.
+pub fn extract_of_another()
+    ensures { ExtractEnds (pos 8) (ends_with (one (v (pos 5)))) }
+{}
+
+/// Where it answers nothing, no rule matches.
+pub fn extract_of_none()
+    ensures { ExtractEnds (pos 9) no_rule }
+{}
+
+/// Where the partial call answers nothing, the one call is made and then all fails: the lower rule isn't tried.
+pub fn partial_fails()
+    ensures { PartialEnds nothing (pos 1) (record { calls = g_of_one; results = []; ending = failed }) }
+{}
+
+/// Where it answers 3, the result is Some of 3.
+pub fn partial_gives_some()
+    ensures { PartialEnds (just (one (v (pos 3)))) (pos 1) (record { calls = g_of_one; results = just (one (v (pos 3))) ∷ []; ending = ended }) }
+{}
+
+/// Elsewhere the lower rule gives Some of 7, and nothing is called.
+pub fn partial_elsewhere()
+    ensures { PartialEnds nothing (pos 2) (ends_with (just (one (v (pos 7))))) }
+{}
+
+/// Where the pure call answers nothing, the impure one is made once, and then all fails.
+pub fn effects_fail()
+    ensures { EffectsEnds nothing (record { calls = im_of_one; results = []; ending = failed }) }
+{}
+
+/// Where it answers 5, the result has both answers.
+pub fn effects_give_both()
+    ensures { EffectsEnds (just (one (v (pos 5)))) (record { calls = im_of_one; results = pair_of (pos 5) (pos 6) ∷ []; ending = ended }) }
+{}
+
+/// On 1 the bag is 4, 4 and 9; the run gives 9 first.
+pub fn multi_on_one()
+    ensures { MultiGives (pos 1) (pos 4 ∷ (pos 4 ∷ (pos 9 ∷ []))) (pos 9 ∷ (pos 4 ∷ (pos 4 ∷ []))) }
+{}
+
+/// Both are one bag.
+#[tactic(auto, using(crate::proofs::MultiCollected::on_one))]
+pub fn multi_on_one_collects()
+    ensures { MultiCollects (pos 1) }
+{}
+
+/// On 2, where the call answers 7 alone, the bag is 7.
+#[tactic(auto, using(crate::proofs::MultiCollected::on_two))]
+pub fn multi_on_two()
+    ensures gives { MultiGives (pos 2) (pos 7 ∷ []) (pos 7 ∷ []) }
+    ensures collects { MultiCollects (pos 2) }
+{}
+
+/// On 3, where the call answers the empty list, there is no result.
+#[tactic(auto, using(crate::proofs::MultiCollected::on_three))]
+pub fn multi_on_three()
+    ensures gives { MultiGives (pos 3) [] [] }
+    ensures collects { MultiCollects (pos 3) }
+{}
