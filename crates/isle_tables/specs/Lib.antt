@@ -1,0 +1,2 @@
+pub mod TypeTables
+pub mod TermTables
