@@ -1,2 +1,4 @@
 pub mod TypeTables
 pub mod TermTables
+pub mod Written
+pub mod WorkedTypes

@@ -2,7 +2,7 @@
 use Rattle.std.specs.Prelude.{ℕ, ◌<◌, Bool, false, not, ◌&&◌, ◌||◌, ◌≡◌, List, [], ◌∷◌, ◌++◌, length, Option, Some, None, option_map, unwrap_or, All, Contains, IsTrue, map, is_some, slice_get, if◌then◌else◌}
 use Rattle.std.specs.List.{flat_map, enumerate_from, list_any, find, position_from}
 use Rattle.std.specs.Str.{bytes_eq}
-use Rattle.isle_model.specs.Syntax.{Position, Name, PatternTree, var_pattern, bind_pattern, bool_pattern, int_pattern, prim_pattern, term_pattern, wildcard_pattern, and_pattern, macro_arg, PatternTrees, no_pattern, pattern_and, TypeValueTree, primitive_value, enum_value, struct_value, DeclTree, ExtractorTree, ConverterTree, Definition, extractor_definition, converter_definition, extern_definition, extern_constructor, extern_extractor}
+use Rattle.isle_model.specs.Syntax.{Position, Name, PatternTree, var_pattern, bind_pattern, bool_pattern, int_pattern, prim_pattern, term_pattern, wildcard_pattern, and_pattern, macro_arg, PatternTrees, no_pattern, pattern_and, TypeValueTree, primitive_value, enum_value, struct_value, DeclTree, ExtractorTree, ConverterTree, RuleTree, Definition, extractor_definition, converter_definition, extern_definition, extern_constructor, extern_extractor}
 use Rattle.isle_model.specs.Names.{number, has_name, with_names, IsDistinct}
 use Rattle.isle_model.specs.Outcome.{then_option}
 use Rattle.isle_model.specs.Tables.{FieldEntries, unit_entries, struct_entries, tuple_entries, VariantEntry, TypeEntry, builtin_type, primitive_type, enum_type, struct_type, ConstructorEntry, internal_constructor, external_constructor, ExtractorEntry, internal_extractor, external_extractor, variant_term, struct_term, declared_term, TermEntry}
@@ -196,39 +196,65 @@ pub data Reaches (defs : List Definition) : List ℕ → List ℕ → Type 0 whe
 abbrev pub IsAcyclic : List Definition → Type 0
 IsAcyclic defs = (t : List ℕ) → Reaches defs t t → ⊥
 
--- what a list of definitions must meet to have a term table
+-- the types of a declaration's arguments are known, and its result's type; it is not both multi and partial
+abbrev pub HasKnownArguments : List Definition → DeclTree → Type 0
+HasKnownArguments defs d = All (IsKnownType defs) d.arg_tys
+
+abbrev pub HasKnownResult : List Definition → DeclTree → Type 0
+HasKnownResult defs d = IsKnownType defs d.ret_ty
+
+abbrev pub IsMultiOrPartial : DeclTree → Type 0
+IsMultiOrPartial d = IsTrue (not (d.multi && d.partial))
+
+-- the left side of a rule is a declared term
+abbrev pub HasDeclaredRoot : List Definition → RuleTree → Type 0
+HasDeclaredRoot defs r = IsTrue (is_declared defs (root_name r.pattern))
+
+-- a term with an external constructor has no rules
+abbrev pub IsWithoutRules : List Definition → ConstructorTree → Type 0
+IsWithoutRules defs c = IsTrue (not (has_rules defs c.term.text))
+
+-- the definition of an extractor is of a term that is not multi, names known terms, holds no argument by number, and
+-- uses no argument past the declared ones
+abbrev pub IsOfPlainTerm : List Definition → ExtractorTree → Type 0
+IsOfPlainTerm defs e = IsTrue (not (is_multi defs e.term.text))
+
+abbrev pub NamesKnownTerms : List Definition → ExtractorTree → Type 0
+NamesKnownTerms defs e = All (IsKnownTerm defs) (terms_in e.template)
+
+abbrev pub HoldsNoNumber : ExtractorTree → Type 0
+HoldsNoNumber e = arguments_in e.template ≡ []
+
+abbrev pub UsesDeclaredArguments : List Definition → ExtractorTree → Type 0
+UsesDeclaredArguments defs e = All (λ i. i < argument_count defs e.term.text) (arguments_in (template_of e))
+
+-- a converter is a known term, from a known type to a known type
+abbrev pub IsKnownConverter : List Definition → ConverterTree → Type 0
+IsKnownConverter defs c = IsKnownTerm defs c.term × IsKnownType defs c.inner_ty × IsKnownType defs c.outer_ty
+
+-- what a list of definitions must meet to have a term table: no two terms have one name, variants and structs included;
+-- the types of declarations are known, and none is both multi and partial; rules, extractors and external functions are
+-- those of declared terms; a term has rules or one external constructor, and one extractor, internal or external, which
+-- is not internal in a multi term; templates are as said above, and none comes back to itself; converters are known,
+-- one for each pair of types
 pub record IsValidTerms (defs : List Definition) : Type 0 where
-  -- no two terms have one name, variants and structs included
   pub distinct : IsDistinct (term_names defs)
-  -- the types of each declared term are known
-  pub types_of_arguments : All (λ d. All (IsKnownType defs) d.arg_tys) (decl_trees defs)
-  pub types_of_results : All (λ d. IsKnownType defs d.ret_ty) (decl_trees defs)
-  -- no term is both multi and partial
-  pub marks : All (λ d. IsTrue (not (d.multi && d.partial))) (decl_trees defs)
-  -- the left side of each rule is a declared term
-  pub roots : All (λ r. IsTrue (is_declared defs (root_name r.pattern))) (rule_trees defs)
-  -- each extractor and each external function is that of a declared term
+  pub types_of_arguments : All (HasKnownArguments defs) (decl_trees defs)
+  pub types_of_results : All (HasKnownResult defs) (decl_trees defs)
+  pub marks : All IsMultiOrPartial (decl_trees defs)
+  pub roots : All (HasDeclaredRoot defs) (rule_trees defs)
   pub terms_of_extractors : All (λ e. IsDeclaredTerm defs e.term) (extractor_trees defs)
   pub terms_of_externals : All (λ e. IsDeclaredTerm defs e.term) (external_trees defs)
   pub terms_of_constructors : All (λ c. IsDeclaredTerm defs c.term) (constructor_trees defs)
-  -- no term with an external constructor has rules
-  pub rules_or_function : All (λ c. IsTrue (not (has_rules defs c.term.text))) (constructor_trees defs)
-  -- no term has two external constructors
+  pub rules_or_function : All (IsWithoutRules defs) (constructor_trees defs)
   pub one_constructor : IsDistinct (external_constructors defs)
-  -- no term has two extractors
   pub one_extractor : IsDistinct (internal_extractors defs ++ external_extractors defs)
-  -- no multi term has an internal extractor
-  pub plain_extractors : All (λ e. IsTrue (not (is_multi defs e.term.text))) (extractor_trees defs)
-  -- the definition of an extractor names known terms, holds no argument by number, and uses no argument past the declared ones
-  pub known_terms : All (λ e. All (IsKnownTerm defs) (terms_in e.template)) (extractor_trees defs)
-  pub no_numbers : All (λ e. arguments_in e.template ≡ []) (extractor_trees defs)
-  pub arguments_declared : All (λ e. All (λ i. i < argument_count defs e.term.text) (arguments_in (template_of e))) (extractor_trees defs)
-  -- no internal extractor comes back to itself through templates
+  pub plain_terms : All (IsOfPlainTerm defs) (extractor_trees defs)
+  pub known_terms : All (NamesKnownTerms defs) (extractor_trees defs)
+  pub no_numbers : All HoldsNoNumber (extractor_trees defs)
+  pub declared_arguments : All (UsesDeclaredArguments defs) (extractor_trees defs)
   pub acyclic : IsAcyclic defs
-  -- each converter is a known term from a known type to a known type, the only one for its pair of types
-  pub inner_types : All (λ c. IsKnownType defs c.inner_ty) (converter_trees defs)
-  pub outer_types : All (λ c. IsKnownType defs c.outer_ty) (converter_trees defs)
-  pub terms_of_converters : All (λ c. IsKnownTerm defs c.term) (converter_trees defs)
+  pub converters : All (IsKnownConverter defs) (converter_trees defs)
   pub one_converter : IsDistinct (converted_pairs defs)
 
 -- whether a term has something that makes it: rules, an external constructor or an extractor

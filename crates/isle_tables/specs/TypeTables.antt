@@ -85,22 +85,38 @@ IsKnownType defs n = IsTrue (is_some (type_id defs n.text))
 abbrev pub IsUnmarked : TypeTree → Type 0
 IsUnmarked t = (t.is_extern ≡ false) × (t.is_nodebug ≡ false)
 
--- what a list of definitions must meet to have a type table
+-- a primitive type has no mark, and no type has both
+abbrev pub IsUnmarkedPrimitive : TypeTree → Type 0
+IsUnmarkedPrimitive t = IsTrue (is_primitive t.value) → IsUnmarked t
+
+abbrev pub HasOneMark : TypeTree → Type 0
+HasOneMark t = IsTrue (not (t.is_extern && t.is_nodebug))
+
+-- no two variants of a type have one name, no two fields of a list have one
+abbrev pub HasDistinctVariants : TypeTree → Type 0
+HasDistinctVariants t = IsDistinct (variants_of t.value)
+
+abbrev pub HasDistinctFields : FieldTrees → Type 0
+HasDistinctFields fields = IsDistinct (field_names fields)
+
+-- the types of all fields of a list are known, the type of a constant is
+abbrev pub HasKnownTypes : List Definition → FieldTrees → Type 0
+HasKnownTypes defs fields = All (IsKnownType defs) (field_types fields)
+
+abbrev pub IsOfKnownType : List Definition → ConstantTree → Type 0
+IsOfKnownType defs c = IsKnownType defs c.ty
+
+-- what a list of definitions must meet to have a type table: no two types have one name, the built-in ones included; a
+-- primitive type is neither extern nor nodebug, and another type not both; the names of an enum's variants are
+-- distinct, and those of the fields of a list; the type of each field and of each constant is known
 pub record IsValidTypes (defs : List Definition) : Type 0 where
-  -- no two types have one name, the built-in ones included
   pub distinct : IsDistinct (builtin_names ++ type_names defs)
-  -- a primitive type is neither extern nor nodebug
-  pub primitives : All (λ t. IsTrue (is_primitive t.value) → IsUnmarked t) (type_trees defs)
-  -- no type is both extern and nodebug
-  pub marks : All (λ t. IsTrue (not (t.is_extern && t.is_nodebug))) (type_trees defs)
-  -- no two variants of an enum have one name
-  pub variants : All (λ t. IsDistinct (variants_of t.value)) (type_trees defs)
-  -- no two fields of a list have one name
-  pub fields : All (λ fs. IsDistinct (field_names fs)) (field_lists defs)
-  -- the type of each field is known
-  pub types_of_fields : All (λ fs. All (IsKnownType defs) (field_types fs)) (field_lists defs)
-  -- the type of each constant is known
-  pub types_of_constants : All (λ c. IsKnownType defs c.ty) (constant_trees defs)
+  pub primitives : All IsUnmarkedPrimitive (type_trees defs)
+  pub marks : All HasOneMark (type_trees defs)
+  pub variants : All HasDistinctVariants (type_trees defs)
+  pub fields : All HasDistinctFields (field_lists defs)
+  pub types_of_fields : All (HasKnownTypes defs) (field_lists defs)
+  pub types_of_constants : All (IsOfKnownType defs) (constant_trees defs)
 
 -- a field's entry: its id is its place
 abbrev pub field_entry : List Definition → List (List ℕ) → ℕ → FieldTree → FieldEntry
