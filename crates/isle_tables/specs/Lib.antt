@@ -2,3 +2,4 @@ pub mod TypeTables
 pub mod TermTables
 pub mod Written
 pub mod WorkedTypes
+pub mod WorkedTerms

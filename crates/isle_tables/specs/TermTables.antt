@@ -261,9 +261,12 @@ pub record IsValidTerms (defs : List Definition) : Type 0 where
 abbrev pub is_defined : List Definition → List ℕ → Bool
 is_defined defs x = has_rules defs x || has_name (external_constructors defs) x || has_name (internal_extractors defs) x || has_name (external_extractors defs) x
 
+abbrev pub IsDefined : List Definition → DeclTree → Type 0
+IsDefined defs d = IsTrue (is_defined defs d.term.text)
+
 -- each declared term has rules, an external constructor or an extractor
 abbrev pub AllDefined : List Definition → Type 0
-AllDefined defs = All (λ d. IsTrue (is_defined defs d.term.text)) (decl_trees defs)
+AllDefined defs = All (IsDefined defs) (decl_trees defs)
 
 -- the types of fields, in order
 abbrev pub entry_types : FieldEntries → List ℕ

@@ -1,20 +1,20 @@
 -- Lists of definitions of types: what their tables are, and which have none.
-use Rattle.std.specs.Prelude.{◌≡◌, ℕ, true, false, List, [], ◌∷◌, ◌++◌, Some, codes}
+use Rattle.std.specs.Prelude.{◌≡◌, true, false, List, [], ◌∷◌, ◌++◌, Some, codes}
 use Rattle.std.specs.Bool.{◌==◌}
-use Rattle.isle_model.specs.Syntax.{tuple_fields, struct_fields, VariantTree, TypeTree, Definition, type_definition}
+use Rattle.isle_model.specs.Syntax.{tuple_fields, struct_fields, TypeTree, Definition, type_definition}
 use Rattle.isle_model.specs.Meaning.{look}
-use Rattle.isle_model.specs.Tables.{struct_entries, tuple_entries, VariantEntry, TypeEntry, primitive_type, enum_type, struct_type}
+use Rattle.isle_model.specs.Tables.{struct_entries, tuple_entries, primitive_type, enum_type, struct_type}
 use Rattle.isle_model.specs.TypeTable.{builtin_names, builtin_from}
 use Rattle.isle_tables.specs.TypeTables.{type_names_met, type_table, constant_types, IsValidTypes}
-use Rattle.isle_tables.specs.Written.{at, name, field, part, variant, primitive, enum, struct, constant}
+use Rattle.isle_tables.specs.Written.{at, field, part, variant, primitive, enum, struct, constant}
 
 -- a primitive type, and an extern enum of two variants
 abbrev pub two_types : List Definition
 two_types =
     type_definition (primitive 19 (codes "UImm8") (codes "UImm8"))
     ∷ (type_definition (record (enum 62 (codes "A") (
-      variant 77 (codes "B") (field 77 (codes "f1") (codes "u32") ∷ (field 77 (codes "f2") (codes "u32") ∷ []))
-      ∷ (variant 99 (codes "C") (field 99 (codes "f1") (codes "u32") ∷ []) ∷ [])
+    variant 77 (codes "B") (field 77 (codes "f1") (codes "u32") ∷ (field 77 (codes "f2") (codes "u32") ∷ []))
+    ∷ (variant 99 (codes "C") (field 99 (codes "f1") (codes "u32") ∷ []) ∷ [])
     )) { is_extern = true }) ∷ [])
 
 abbrev pub TwoTypes : Type 0
@@ -22,8 +22,8 @@ TwoTypes =
     (type_names_met two_types ≡ builtin_names ++ codes "UImm8" ∷ (codes "A" ∷ (codes "A.B" ∷ (codes "B" ∷ (codes "f1" ∷ (codes "f2" ∷ (codes "A.C" ∷ (codes "C" ∷ []))))))))
     × (type_table two_types ≡ builtin_from 0 builtin_names ++ primitive_type 13 13 (at 19)
     ∷ (enum_type 14 14 true false (
-      record { name = 16; full_name = 15; id = 0; fields = struct_entries (record { name = 17; id = 0; ty = 3 } ∷ (record { name = 18; id = 1; ty = 3 } ∷ [])); at = at 77 }
-      ∷ (record { name = 20; full_name = 19; id = 1; fields = struct_entries (record { name = 17; id = 0; ty = 3 } ∷ []); at = at 99 } ∷ [])
+    record { name = 16; full_name = 15; id = 0; fields = struct_entries (record { name = 17; id = 0; ty = 3 } ∷ (record { name = 18; id = 1; ty = 3 } ∷ [])); at = at 77 }
+    ∷ (record { name = 20; full_name = 19; id = 1; fields = struct_entries (record { name = 17; id = 0; ty = 3 } ∷ []); at = at 99 } ∷ [])
     ) (at 62) ∷ []))
     × IsValidTypes two_types
 

@@ -1,6 +1,6 @@
 -- Forms of definitions, written short: every place inside a definition is the same offset of the first file.
-use Rattle.std.specs.Prelude.{ℕ, pos, false, true, List, [], ◌∷◌, None, map}
-use Rattle.isle_model.specs.Syntax.{Position, Name, PatternTree, term_pattern, PatternTrees, no_pattern, pattern_and, int_expr, FieldTree, TupleFieldTree, FieldTrees, struct_fields, tuple_fields, VariantTree, TypeTree, TypeValueTree, primitive_value, enum_value, struct_value, DeclTree, Definition, type_definition, declaration, extractor_definition, converter_definition, rule_definition, extern_definition, extern_constructor, extern_extractor, extern_const}
+use Rattle.std.specs.Prelude.{ℕ, pos, false, List, [], ◌∷◌, None, map}
+use Rattle.isle_model.specs.Syntax.{Position, Name, PatternTree, term_pattern, PatternTrees, no_pattern, pattern_and, int_expr, FieldTree, TupleFieldTree, FieldTrees, struct_fields, VariantTree, TypeTree, primitive_value, enum_value, struct_value, DeclTree, ExtractorTree, Definition, type_definition, declaration, extractor_definition, converter_definition, rule_definition, extern_definition, extern_constructor, extern_extractor, extern_const}
 
 abbrev pub at : ℕ → Position
 at n = record { file = 0; offset = n }
@@ -50,8 +50,11 @@ abbrev pub term : ℕ → List ℕ → List PatternTree → PatternTree
 term n t args = term_pattern (name n t) (patterns args) (at n)
 
 -- an extractor by a template, a converter, external functions, a rule that answers 1
+abbrev pub by_template : ℕ → List ℕ → List (List ℕ) → PatternTree → ExtractorTree
+by_template n t args p = record { term = name n t; args = map (name n) args; template = p; at = at n }
+
 abbrev pub extractor : ℕ → List ℕ → List (List ℕ) → PatternTree → Definition
-extractor n t args p = extractor_definition (record { term = name n t; args = map (name n) args; template = p; at = at n })
+extractor n t args p = extractor_definition (by_template n t args p)
 
 abbrev pub converter : ℕ → List ℕ → List ℕ → List ℕ → Definition
 converter n inner outer t = converter_definition (record { term = name n t; inner_ty = name n inner; outer_ty = name n outer; at = at n })
