@@ -1,0 +1,65 @@
+-- Lists in which nothing stands twice, and members of lists.
+use Rattle.std.proofs.Common.{◌≡◌, ◌⊎◌, ℕ, zero, suc, ◌<◌, not, ◌&&◌, ◌||◌, true, false, List, [], ◌∷◌, length, get_or, Some, slice_get, IsTrue, Contains, refl, sym, ap, ◌∙◌, inl, inr, arith}
+use Rattle.std.specs.Str.{bytes_eq}
+use Rattle.std.proofs.lemmas.Bool.{false≢true}
+use Rattle.std.proofs.lemmas.Slice.Eq.{bytes_eq-Decides}
+use Rattle.isle_model.specs.Names.{has_name, IsDistinct}
+use Rattle.isle_model.specs.Elaboration.{all_different}
+
+-- a name that isn't among names stands nowhere
+absent : (names : List (List ℕ)) (x : List ℕ) → has_name names x ≡ false → (k : ℕ) → slice_get names k ≡ Some x → ⊥
+absent [] x e k h = cc
+absent (y ∷ ys) x e zero h =
+    elim (bytes_eq y x) as (λ b. bytes_eq y x ≡ b → b || has_name ys x ≡ false → ⊥) [
+      | true ↦ λ _ h. false≢true (sym h)
+      | false ↦ λ other _. let same : y ≡ x = cc in false≢true (sym other ∙ (bytes_eq-Decides y x).1 same)
+    ] refl e
+absent (y ∷ ys) x e (suc k) h =
+    elim (bytes_eq y x) as (λ b. b || has_name ys x ≡ false → ⊥) [
+      | true ↦ λ h. false≢true (sym h)
+      | false ↦ λ none. absent ys x none k h
+    ] e
+
+first_absent : (x : List ℕ) (xs : List (List ℕ)) → IsTrue (all_different (x ∷ xs)) → has_name xs x ≡ false
+first_absent x xs t =
+    elim (has_name xs x) as (λ b. IsTrue (not b && all_different xs) → b ≡ false) [
+      | true ↦ λ n. absurd (false≢true n)
+      | false ↦ λ _. refl
+    ] t
+
+rest_different : (x : List ℕ) (xs : List (List ℕ)) → IsTrue (all_different (x ∷ xs)) → IsTrue (all_different xs)
+rest_different x xs t =
+    elim (has_name xs x) as (λ b. IsTrue (not b && all_different xs) → IsTrue (all_different xs)) [
+      | true ↦ λ n. absurd (false≢true n)
+      | false ↦ λ r. r
+    ] t
+
+-- the test says so where no name stands twice
+pub distinct_if : (xs : List (List ℕ)) → IsTrue (all_different xs) → IsDistinct xs
+distinct_if [] t j k x p q = absurd (cc)
+distinct_if (y ∷ ys) t zero zero x p q = refl
+distinct_if (y ∷ ys) t zero (suc k) x p q = absurd (absent ys y (first_absent y ys t) k (q ∙ sym p))
+distinct_if (y ∷ ys) t (suc j) zero x p q = absurd (absent ys y (first_absent y ys t) j (p ∙ sym q))
+distinct_if (y ∷ ys) t (suc j) (suc k) x p q = ap suc (distinct_if ys (rest_different y ys t) j k x p q)
+
+module _ {X : Type 0} where
+  pub distinct_nil : IsDistinct {X = X} []
+  distinct_nil j k x p q = absurd (cc)
+
+  pub distinct_one : (y : X) → IsDistinct (y ∷ [])
+  distinct_one y zero zero x p q = refl
+  distinct_one y zero (suc k) x p q = absurd (cc)
+  distinct_one y (suc j) k x p q = absurd (cc)
+
+  pub nothing_in : (x : X) → Contains [] x → ⊥
+  nothing_in x c = (let l = c.1 in omega arith)
+
+  member_at : (y x : X) (xs : List X) (k : ℕ) → k < length (y ∷ xs) → get_or (y ∷ xs) k x ≡ x → (y ≡ x) ⊎ Contains xs x
+  member_at y x xs zero l e = inl e
+  member_at y x xs (suc k) l e = inr (k, omega arith, e)
+
+  pub in_cases : (y x : X) (xs : List X) → Contains (y ∷ xs) x → (y ≡ x) ⊎ Contains xs x
+  in_cases y x xs c = member_at y x xs c.0 c.1 c.2
+
+  pub in_alone : (y x : X) → Contains (y ∷ []) x → y ≡ x
+  in_alone y x c = elim (in_cases y x [] c) [ inl e ↦ e | inr n ↦ absurd (nothing_in x n) ]

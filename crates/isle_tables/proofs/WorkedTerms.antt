@@ -1,0 +1,334 @@
+-- The worked lists of terms: which are valid, and which are not.
+use Rattle.std.proofs.Common.{◌≡◌, ℕ, ◌<◌, pos, false, List, [], ◌∷◌, None, codes, cond, map, All, Contains, refl, sym, ap, subst, subst₂, ◌∙◌, inl, inr, arith}
+use Rattle.std.specs.Str.{bytes_eq}
+use Rattle.std.proofs.lemmas.Bool.{false≢true}
+use Rattle.std.proofs.lemmas.List.Elements.{All-from_recursion, All-nil}
+use Rattle.isle_model.specs.Syntax.{Name, ExtractorTree, ConverterTree, DeclTree, RuleTree, Definition, int_expr}
+use Rattle.isle_model.specs.TermTable.{decl_trees, rule_trees}
+use Rattle.isle_tables.specs.TypeTables.{IsKnownType}
+use Rattle.isle_tables.specs.TermTables.{ConstructorTree, ExternalTree, constructor_trees, external_trees, extractor_trees, converter_trees, term_names, terms_in, argument_count, IsDeclaredTerm, IsKnownTerm, Uses, Reaches, directly, through, IsAcyclic, HasKnownArguments, HasKnownResult, IsMultiOrPartial, HasDeclaredRoot, IsWithoutRules, IsOfPlainTerm, NamesKnownTerms, HoldsNoNumber, UsesDeclaredArguments, IsKnownConverter, IsDefined, IsValidTerms, AllDefined}
+use Rattle.isle_tables.specs.Written.{at, name, decl, term, by_template}
+use Rattle.isle_tables.specs.WorkedTypes.{three_types}
+use Rattle.isle_tables.specs.WorkedTerms.{var, any, both, by_function, ByFunction, converted, Converted, doubled, Doubled, chained, Chained, effects, Effects, Structs, alone, Alone, recursive, itself, RefusedTerms}
+use Rattle.isle_tables.proofs.Lists.{distinct_if, distinct_nil, distinct_one, nothing_in, in_alone, in_cases}
+
+-- templates whose terms have falling ranks don't come back
+reaches_below : (defs : List Definition) (rank : List ℕ → ℕ) → ((t u : List ℕ) → Uses defs t u → rank u < rank t) → (t u : List ℕ) → Reaches defs t u → rank u < rank t
+reaches_below defs rank falls t u (directly x) = falls t u x
+reaches_below defs rank falls t v (through {u = u} x r) = (let a = falls t u x in let b = reaches_below defs rank falls u v r in omega arith)
+
+pub acyclic_by : (defs : List Definition) (rank : List ℕ → ℕ) → ((t u : List ℕ) → Uses defs t u → rank u < rank t) → IsAcyclic defs
+acyclic_by defs rank falls t r = (let l = reaches_below defs rank falls t t r in omega arith)
+
+-- a list of one type that is known
+known_one : (defs : List Definition) (n : Name) → IsKnownType defs n → All (IsKnownType defs) (n ∷ [])
+known_one defs n h = All-from_recursion (IsKnownType defs) (n ∷ []) (h, tt)
+
+module _ (defs : List Definition) where
+  nothing_uses : extractor_trees defs ≡ [] → (t u : List ℕ) → Uses defs t u → ⊥
+  nothing_uses e t u x = nothing_in x.definition (subst (λ es. Contains es x.definition) e x.there)
+
+  pub plain_acyclic : extractor_trees defs ≡ [] → IsAcyclic defs
+  plain_acyclic e = acyclic_by defs (λ _. 0) (λ t u x. absurd (nothing_uses e t u x))
+
+-- valid
+by_function_valid : IsValidTerms by_function
+by_function_valid = record {
+  distinct = distinct_if (term_names by_function) refl;
+  types_of_arguments = All-from_recursion (HasKnownArguments by_function) (decl_trees by_function) (known_one by_function (name 0 (codes "u8")) refl, (known_one by_function (name 2 (codes "u8")) refl, tt));
+  types_of_results = All-from_recursion (HasKnownResult by_function) (decl_trees by_function) (refl, (refl, tt));
+  marks = All-from_recursion IsMultiOrPartial (decl_trees by_function) (refl, (refl, tt));
+  roots = All-from_recursion (HasDeclaredRoot by_function) (rule_trees by_function) (refl, (refl, tt));
+  terms_of_extractors = All-nil (λ e. IsDeclaredTerm by_function e.term);
+  terms_of_externals = All-from_recursion (λ e. IsDeclaredTerm by_function e.term) (external_trees by_function) (refl, tt);
+  terms_of_constructors = All-nil (λ c. IsDeclaredTerm by_function c.term);
+  rules_or_function = All-nil (IsWithoutRules by_function);
+  one_constructor = distinct_nil;
+  one_extractor = distinct_one (codes "e");
+  plain_terms = All-nil (IsOfPlainTerm by_function);
+  known_terms = All-nil (NamesKnownTerms by_function);
+  no_numbers = All-nil HoldsNoNumber;
+  declared_arguments = All-nil (UsesDeclaredArguments by_function);
+  acyclic = plain_acyclic by_function refl;
+  converters = All-nil (IsKnownConverter by_function);
+  one_converter = distinct_nil;
+}
+
+by_function_defined : AllDefined by_function
+by_function_defined = All-from_recursion (IsDefined by_function) (decl_trees by_function) (refl, (refl, tt))
+
+pub by_function_lem : ByFunction
+by_function_lem = (refl, refl, refl, by_function_valid, by_function_defined)
+
+-- the one template calls an external extractor
+converted_falls : (t u : List ℕ) → Uses converted t u → 0 < 0
+converted_falls t u x =
+    let own = in_alone (codes "conv") u x.internal in
+    let definition = in_alone (by_template 5 (codes "conv") (codes "x" ∷ []) (term 5 (codes "k") (var 5 (codes "x") ∷ []))) x.definition x.there in
+    let called = in_alone (codes "k") u (subst (λ e. Contains (map (λ n. n.text) (terms_in e.template)) u) (sym definition) x.calls) in
+    let same : codes "conv" ≡ codes "k" = own ∙ sym called in
+    absurd (false≢true (ap (bytes_eq (codes "k")) same))
+
+converted_valid : IsValidTerms converted
+converted_valid = record {
+  distinct = distinct_if (term_names converted) refl;
+  types_of_arguments = All-from_recursion (HasKnownArguments converted) (decl_trees converted) (known_one converted (name 2 (codes "A")) refl, (known_one converted (name 4 (codes "A")) refl, (known_one converted (name 7 (codes "B")) refl, tt)));
+  types_of_results = All-from_recursion (HasKnownResult converted) (decl_trees converted) (refl, (refl, (refl, tt)));
+  marks = All-from_recursion IsMultiOrPartial (decl_trees converted) (refl, (refl, (refl, tt)));
+  roots = All-from_recursion (HasDeclaredRoot converted) (rule_trees converted) (refl, tt);
+  terms_of_extractors = All-from_recursion (λ e. IsDeclaredTerm converted e.term) (extractor_trees converted) (refl, tt);
+  terms_of_externals = All-from_recursion (λ e. IsDeclaredTerm converted e.term) (external_trees converted) (refl, tt);
+  terms_of_constructors = All-nil (λ c. IsDeclaredTerm converted c.term);
+  rules_or_function = All-nil (IsWithoutRules converted);
+  one_constructor = distinct_nil;
+  one_extractor = distinct_if (codes "conv" ∷ (codes "k" ∷ [])) refl;
+  plain_terms = All-from_recursion (IsOfPlainTerm converted) (extractor_trees converted) (refl, tt);
+  known_terms = All-from_recursion (NamesKnownTerms converted) (extractor_trees converted) (All-from_recursion (IsKnownTerm converted) (name 5 (codes "k") ∷ []) (refl, tt), tt);
+  no_numbers = All-from_recursion HoldsNoNumber (extractor_trees converted) (refl, tt);
+  declared_arguments = All-from_recursion (UsesDeclaredArguments converted) (extractor_trees converted) (All-from_recursion (λ i. i < argument_count converted (codes "conv")) (0 ∷ []) (omega arith, tt), tt);
+  acyclic = acyclic_by converted (λ _. 0) converted_falls;
+  converters = All-from_recursion (IsKnownConverter converted) (converter_trees converted) ((refl, refl, refl), tt);
+  one_converter = distinct_one (codes "A", codes "B");
+}
+
+converted_defined : AllDefined converted
+converted_defined = All-from_recursion (IsDefined converted) (decl_trees converted) (refl, (refl, (refl, tt)))
+
+pub converted_lem : Converted
+converted_lem = (refl, refl, refl, converted_valid, converted_defined)
+
+-- the one template calls nothing
+doubled_falls : (t u : List ℕ) → Uses doubled t u → 0 < 0
+doubled_falls t u x =
+    let definition = in_alone (by_template 1 (codes "d") (codes "a" ∷ []) (both 1 (var 1 (codes "a") ∷ (var 1 (codes "a") ∷ [])))) x.definition x.there in
+    absurd (nothing_in u (subst (λ e. Contains (map (λ n. n.text) (terms_in e.template)) u) (sym definition) x.calls))
+
+doubled_valid : IsValidTerms doubled
+doubled_valid = record {
+  distinct = distinct_if (term_names doubled) refl;
+  types_of_arguments = All-from_recursion (HasKnownArguments doubled) (decl_trees doubled) (known_one doubled (name 0 (codes "u8")) refl, (known_one doubled (name 2 (codes "u8")) refl, tt));
+  types_of_results = All-from_recursion (HasKnownResult doubled) (decl_trees doubled) (refl, (refl, tt));
+  marks = All-from_recursion IsMultiOrPartial (decl_trees doubled) (refl, (refl, tt));
+  roots = All-from_recursion (HasDeclaredRoot doubled) (rule_trees doubled) (refl, tt);
+  terms_of_extractors = All-from_recursion (λ e. IsDeclaredTerm doubled e.term) (extractor_trees doubled) (refl, tt);
+  terms_of_externals = All-nil (λ e. IsDeclaredTerm doubled e.term);
+  terms_of_constructors = All-nil (λ c. IsDeclaredTerm doubled c.term);
+  rules_or_function = All-nil (IsWithoutRules doubled);
+  one_constructor = distinct_nil;
+  one_extractor = distinct_one (codes "d");
+  plain_terms = All-from_recursion (IsOfPlainTerm doubled) (extractor_trees doubled) (refl, tt);
+  known_terms = All-from_recursion (NamesKnownTerms doubled) (extractor_trees doubled) (All-nil (IsKnownTerm doubled), tt);
+  no_numbers = All-from_recursion HoldsNoNumber (extractor_trees doubled) (refl, tt);
+  declared_arguments = All-from_recursion (UsesDeclaredArguments doubled) (extractor_trees doubled) (All-from_recursion (λ i. i < argument_count doubled (codes "d")) (0 ∷ (0 ∷ [])) (omega arith, (omega arith, tt)), tt);
+  acyclic = acyclic_by doubled (λ _. 0) doubled_falls;
+  converters = All-nil (IsKnownConverter doubled);
+  one_converter = distinct_nil;
+}
+
+doubled_defined : AllDefined doubled
+doubled_defined = All-from_recursion (IsDefined doubled) (decl_trees doubled) (refl, (refl, tt))
+
+pub doubled_lem : Doubled
+doubled_lem = (refl, doubled_valid, doubled_defined)
+
+-- the first template calls the second one, which calls nothing
+chained_rank : List ℕ → ℕ
+chained_rank t = cond (bytes_eq t (codes "a")) 1 0
+
+chained_falls : (t u : List ℕ) → Uses chained t u → chained_rank u < chained_rank t
+unfolding chained_rank
+chained_falls t u x =
+    elim (in_cases (by_template 2 (codes "a") (codes "x" ∷ (codes "y" ∷ [])) (term 2 (codes "b") (var 2 (codes "x") ∷ []))) x.definition (by_template 3 (codes "b") (codes "x" ∷ []) (var 3 (codes "x")) ∷ []) x.there) [
+      | inl first ↦
+          let called = in_alone (codes "b") u (subst (λ e. Contains (map (λ n. n.text) (terms_in e.template)) u) (sym first) x.calls) in
+          let own : codes "a" ≡ t = ap (λ e. e.term.text) first ∙ x.of_term in
+          subst₂ (λ p q. cond (bytes_eq p (codes "a")) 1 0 < cond (bytes_eq q (codes "a")) 1 0) called own (omega arith)
+      | inr other ↦
+          let second = in_alone (by_template 3 (codes "b") (codes "x" ∷ []) (var 3 (codes "x"))) x.definition other in
+          absurd (nothing_in u (subst (λ e. Contains (map (λ n. n.text) (terms_in e.template)) u) (sym second) x.calls))
+    ]
+
+chained_valid : IsValidTerms chained
+chained_valid = record {
+  distinct = distinct_if (term_names chained) refl;
+  types_of_arguments = All-from_recursion (HasKnownArguments chained) (decl_trees chained) (known_one chained (name 0 (codes "u8")) refl, (known_one chained (name 1 (codes "u8")) refl, tt));
+  types_of_results = All-from_recursion (HasKnownResult chained) (decl_trees chained) (refl, (refl, tt));
+  marks = All-from_recursion IsMultiOrPartial (decl_trees chained) (refl, (refl, tt));
+  roots = All-nil (HasDeclaredRoot chained);
+  terms_of_extractors = All-from_recursion (λ e. IsDeclaredTerm chained e.term) (extractor_trees chained) (refl, (refl, tt));
+  terms_of_externals = All-nil (λ e. IsDeclaredTerm chained e.term);
+  terms_of_constructors = All-nil (λ c. IsDeclaredTerm chained c.term);
+  rules_or_function = All-nil (IsWithoutRules chained);
+  one_constructor = distinct_nil;
+  one_extractor = distinct_if (codes "a" ∷ (codes "b" ∷ [])) refl;
+  plain_terms = All-from_recursion (IsOfPlainTerm chained) (extractor_trees chained) (refl, (refl, tt));
+  known_terms = All-from_recursion (NamesKnownTerms chained) (extractor_trees chained) (All-from_recursion (IsKnownTerm chained) (name 2 (codes "b") ∷ []) (refl, tt), (All-nil (IsKnownTerm chained), tt));
+  no_numbers = All-from_recursion HoldsNoNumber (extractor_trees chained) (refl, (refl, tt));
+  declared_arguments = All-from_recursion (UsesDeclaredArguments chained) (extractor_trees chained) (All-from_recursion (λ i. i < argument_count chained (codes "a")) (0 ∷ []) (omega arith, tt), (All-from_recursion (λ i. i < argument_count chained (codes "b")) (0 ∷ []) (omega arith, tt), tt));
+  acyclic = acyclic_by chained chained_rank chained_falls;
+  converters = All-nil (IsKnownConverter chained);
+  one_converter = distinct_nil;
+}
+
+chained_defined : AllDefined chained
+chained_defined = All-from_recursion (IsDefined chained) (decl_trees chained) (refl, (refl, tt))
+
+pub chained_lem : Chained
+chained_lem = (chained_valid, chained_defined)
+
+effects_valid : IsValidTerms effects
+effects_valid = record {
+  distinct = distinct_if (term_names effects) refl;
+  types_of_arguments = All-from_recursion (HasKnownArguments effects) (decl_trees effects) (known_one effects (name 1 (codes "u8")) refl, (known_one effects (name 3 (codes "u8")) refl, (known_one effects (name 5 (codes "u8")) refl, tt)));
+  types_of_results = All-from_recursion (HasKnownResult effects) (decl_trees effects) (refl, (refl, (refl, tt)));
+  marks = All-from_recursion IsMultiOrPartial (decl_trees effects) (refl, (refl, (refl, tt)));
+  roots = All-from_recursion (HasDeclaredRoot effects) (rule_trees effects) (refl, tt);
+  terms_of_extractors = All-nil (λ e. IsDeclaredTerm effects e.term);
+  terms_of_externals = All-nil (λ e. IsDeclaredTerm effects e.term);
+  terms_of_constructors = All-from_recursion (λ c. IsDeclaredTerm effects c.term) (constructor_trees effects) (refl, (refl, tt));
+  rules_or_function = All-from_recursion (IsWithoutRules effects) (constructor_trees effects) (refl, (refl, tt));
+  one_constructor = distinct_if (codes "pp" ∷ (codes "im" ∷ [])) refl;
+  one_extractor = distinct_nil;
+  plain_terms = All-nil (IsOfPlainTerm effects);
+  known_terms = All-nil (NamesKnownTerms effects);
+  no_numbers = All-nil HoldsNoNumber;
+  declared_arguments = All-nil (UsesDeclaredArguments effects);
+  acyclic = plain_acyclic effects refl;
+  converters = All-nil (IsKnownConverter effects);
+  one_converter = distinct_nil;
+}
+
+effects_defined : AllDefined effects
+effects_defined = All-from_recursion (IsDefined effects) (decl_trees effects) (refl, (refl, (refl, tt)))
+
+pub effects_lem : Effects
+effects_lem = (refl, refl, effects_valid, effects_defined)
+
+three_types_valid : IsValidTerms three_types
+three_types_valid = record {
+  distinct = distinct_if (term_names three_types) refl;
+  types_of_arguments = All-nil (HasKnownArguments three_types);
+  types_of_results = All-nil (HasKnownResult three_types);
+  marks = All-nil IsMultiOrPartial;
+  roots = All-nil (HasDeclaredRoot three_types);
+  terms_of_extractors = All-nil (λ e. IsDeclaredTerm three_types e.term);
+  terms_of_externals = All-nil (λ e. IsDeclaredTerm three_types e.term);
+  terms_of_constructors = All-nil (λ c. IsDeclaredTerm three_types c.term);
+  rules_or_function = All-nil (IsWithoutRules three_types);
+  one_constructor = distinct_nil;
+  one_extractor = distinct_nil;
+  plain_terms = All-nil (IsOfPlainTerm three_types);
+  known_terms = All-nil (NamesKnownTerms three_types);
+  no_numbers = All-nil HoldsNoNumber;
+  declared_arguments = All-nil (UsesDeclaredArguments three_types);
+  acyclic = plain_acyclic three_types refl;
+  converters = All-nil (IsKnownConverter three_types);
+  one_converter = distinct_nil;
+}
+
+pub structs_lem : Structs
+structs_lem = (refl, three_types_valid)
+
+alone_valid : IsValidTerms alone
+alone_valid = record {
+  distinct = distinct_if (term_names alone) refl;
+  types_of_arguments = All-from_recursion (HasKnownArguments alone) (decl_trees alone) (known_one alone (name 0 (codes "u8")) refl, tt);
+  types_of_results = All-from_recursion (HasKnownResult alone) (decl_trees alone) (refl, tt);
+  marks = All-from_recursion IsMultiOrPartial (decl_trees alone) (refl, tt);
+  roots = All-nil (HasDeclaredRoot alone);
+  terms_of_extractors = All-nil (λ e. IsDeclaredTerm alone e.term);
+  terms_of_externals = All-nil (λ e. IsDeclaredTerm alone e.term);
+  terms_of_constructors = All-nil (λ c. IsDeclaredTerm alone c.term);
+  rules_or_function = All-nil (IsWithoutRules alone);
+  one_constructor = distinct_nil;
+  one_extractor = distinct_nil;
+  plain_terms = All-nil (IsOfPlainTerm alone);
+  known_terms = All-nil (NamesKnownTerms alone);
+  no_numbers = All-nil HoldsNoNumber;
+  declared_arguments = All-nil (UsesDeclaredArguments alone);
+  acyclic = plain_acyclic alone refl;
+  converters = All-nil (IsKnownConverter alone);
+  one_converter = distinct_nil;
+}
+
+pub alone_lem : Alone
+alone_lem = (alone_valid, λ h. false≢true (h 0 (decl 0 [] [] []) (omega arith)))
+
+-- not valid: in each, the demand that is broken, at the element that breaks it
+any_decl : DeclTree
+any_decl = decl 0 [] [] []
+
+any_extractor : ExtractorTree
+any_extractor = by_template 0 [] [] (any 0)
+
+any_external : ExternalTree
+any_external = record { term = name 0 []; function = name 0 []; infallible = false; at = at 0 }
+
+any_constructor : ConstructorTree
+any_constructor = record { term = name 0 []; function = name 0 [] }
+
+any_rule : RuleTree
+any_rule = record { pattern = any 0; iflets = []; expr = int_expr (pos 1) (at 0); at = at 0; prio = None; name = None }
+
+any_converter : ConverterTree
+any_converter = record { term = name 0 []; inner_ty = name 0 []; outer_ty = name 0 []; at = at 0 }
+
+-- a template that calls one term, the extractor's own or another one's
+recursive_first : Uses recursive (codes "a") (codes "b")
+recursive_first = record {
+  definition = by_template 2 (codes "a") (codes "x" ∷ []) (term 2 (codes "b") (var 2 (codes "x") ∷ []));
+  there = (0, omega arith, refl);
+  of_term = refl;
+  calls = (0, omega arith, refl);
+  internal = (1, omega arith, refl);
+}
+
+recursive_second : Uses recursive (codes "b") (codes "a")
+recursive_second = record {
+  definition = by_template 3 (codes "b") (codes "x" ∷ []) (term 3 (codes "a") (var 3 (codes "x") ∷ []));
+  there = (1, omega arith, refl);
+  of_term = refl;
+  calls = (0, omega arith, refl);
+  internal = (0, omega arith, refl);
+}
+
+itself_uses : Uses itself (codes "a") (codes "a")
+itself_uses = record {
+  definition = by_template 1 (codes "a") (codes "x" ∷ []) (term 1 (codes "a") (var 1 (codes "x") ∷ []));
+  there = (0, omega arith, refl);
+  of_term = refl;
+  calls = (0, omega arith, refl);
+  internal = (0, omega arith, refl);
+}
+
+pub refused_terms_lem : RefusedTerms
+refused_terms_lem = record {
+  term_twice = λ v. (let e = v.distinct 0 1 (codes "f") refl refl in omega arith);
+  variant_again = λ v. (let e = v.distinct 0 1 (codes "T.A") refl refl in omega arith);
+  struct_again = λ v. (let e = v.distinct 0 1 (codes "S") refl refl in omega arith);
+  unknown_argument_type = λ v. false≢true (v.types_of_arguments 0 any_decl (omega arith) 0 (name 0 []) (omega arith));
+  unknown_result_type = λ v. false≢true (v.types_of_results 0 any_decl (omega arith));
+  multi_and_partial = λ v. false≢true (v.marks 0 any_decl (omega arith));
+  no_root = λ v. false≢true (v.roots 0 any_rule (omega arith));
+  unknown_root = λ v. false≢true (v.roots 0 any_rule (omega arith));
+  variant_root = λ v. false≢true (v.roots 0 any_rule (omega arith));
+  extractor_of_none = λ v. false≢true (v.terms_of_extractors 0 any_extractor (omega arith));
+  extractor_of_variant = λ v. false≢true (v.terms_of_extractors 0 any_extractor (omega arith));
+  function_of_none = λ v. false≢true (v.terms_of_externals 0 any_external (omega arith));
+  constructor_of_none = λ v. false≢true (v.terms_of_constructors 0 any_constructor (omega arith));
+  rules_and_function = λ v. false≢true (v.rules_or_function 0 any_constructor (omega arith));
+  constructor_twice = λ v. (let e = v.one_constructor 0 1 (codes "f") refl refl in omega arith);
+  extractor_twice = λ v. (let e = v.one_extractor 0 1 (codes "d") refl refl in omega arith);
+  function_twice = λ v. (let e = v.one_extractor 0 1 (codes "d") refl refl in omega arith);
+  both_extractors = λ v. (let e = v.one_extractor 0 1 (codes "d") refl refl in omega arith);
+  multi_by_template = λ v. false≢true (v.plain_terms 0 any_extractor (omega arith));
+  unknown_in_template = λ v. false≢true (v.known_terms 0 any_extractor (omega arith) 0 (name 0 []) (omega arith));
+  number_in_template = λ v. (let e = v.no_numbers 0 any_extractor (omega arith) in cc);
+  argument_past = λ v. (let l = v.declared_arguments 0 any_extractor (omega arith) 1 0 (omega arith) in omega arith);
+  recursive = λ v. v.acyclic (codes "a") (through recursive_first (directly recursive_second));
+  itself = λ v. v.acyclic (codes "a") (directly itself_uses);
+  unknown_inner_type = λ v. false≢true (v.converters 0 any_converter (omega arith)).1;
+  unknown_outer_type = λ v. false≢true (v.converters 0 any_converter (omega arith)).2;
+  unknown_converter = λ v. false≢true (v.converters 0 any_converter (omega arith)).0;
+  converter_twice = λ v. (let e = v.one_converter 0 1 (codes "u8", codes "u16") refl refl in omega arith);
+}

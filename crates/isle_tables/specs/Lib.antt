@@ -1,0 +1,5 @@
+pub mod TypeTables
+pub mod TermTables
+pub mod Written
+pub mod WorkedTypes
+pub mod WorkedTerms

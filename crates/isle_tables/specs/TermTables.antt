@@ -1,0 +1,328 @@
+-- Which lists of definitions have a term table, and the table: the terms, the names and the converters.
+use Rattle.std.specs.Prelude.{ℕ, ◌<◌, Bool, false, not, ◌&&◌, ◌||◌, ◌≡◌, List, [], ◌∷◌, ◌++◌, length, Option, Some, None, option_map, unwrap_or, All, Contains, IsTrue, map, is_some, slice_get, if◌then◌else◌}
+use Rattle.std.specs.List.{flat_map, enumerate_from, list_any, find, position_from}
+use Rattle.std.specs.Str.{bytes_eq}
+use Rattle.isle_model.specs.Syntax.{Position, Name, PatternTree, var_pattern, bind_pattern, bool_pattern, int_pattern, prim_pattern, term_pattern, wildcard_pattern, and_pattern, macro_arg, PatternTrees, no_pattern, pattern_and, TypeValueTree, primitive_value, enum_value, struct_value, DeclTree, ExtractorTree, ConverterTree, RuleTree, Definition, extractor_definition, converter_definition, extern_definition, extern_constructor, extern_extractor}
+use Rattle.isle_model.specs.Names.{number, has_name, with_names, IsDistinct}
+use Rattle.isle_model.specs.Outcome.{then_option}
+use Rattle.isle_model.specs.Tables.{FieldEntries, unit_entries, struct_entries, tuple_entries, VariantEntry, TypeEntry, builtin_type, primitive_type, enum_type, struct_type, ConstructorEntry, internal_constructor, external_constructor, ExtractorEntry, internal_extractor, external_extractor, variant_term, struct_term, declared_term, TermEntry}
+use Rattle.isle_model.specs.TypeTable.{type_trees, place_from}
+use Rattle.isle_model.specs.TermTable.{decl_trees, rule_trees, decl_names, root_name, is_rule_of, is_declared, decl_flags, type_or_first}
+use Rattle.isle_tables.specs.TypeTables.{full_name, type_names_met, IsKnownType, type_table}
+
+-- an external constructor: its term and its function
+pub record ConstructorTree : Type 0 where
+  pub term : Name
+  pub function : Name
+
+-- an external extractor: its term, its function, whether it always answers, and where it stands
+pub record ExternalTree : Type 0 where
+  pub term : Name
+  pub function : Name
+  pub infallible : Bool
+  pub at : Position
+
+abbrev pub constructor_of : Definition → List ConstructorTree
+constructor_of (extern_definition (extern_constructor term function at)) = record { term = term; function = function } ∷ []
+constructor_of _ = []
+
+abbrev pub external_of : Definition → List ExternalTree
+external_of (extern_definition (extern_extractor term function at infallible)) = record { term = term; function = function; infallible = infallible; at = at } ∷ []
+external_of _ = []
+
+abbrev pub extractor_of : Definition → List ExtractorTree
+extractor_of (extractor_definition e) = e ∷ []
+extractor_of _ = []
+
+abbrev pub converter_of : Definition → List ConverterTree
+converter_of (converter_definition c) = c ∷ []
+converter_of _ = []
+
+abbrev pub function_of : Definition → List (List ℕ)
+function_of (extern_definition (extern_constructor term function at)) = function.text ∷ []
+function_of (extern_definition (extern_extractor term function at infallible)) = function.text ∷ []
+function_of _ = []
+
+-- the external constructors, the external extractors, the definitions of extractors and the converters, each in order
+abbrev pub constructor_trees : List Definition → List ConstructorTree
+constructor_trees defs = flat_map constructor_of defs
+
+abbrev pub external_trees : List Definition → List ExternalTree
+external_trees defs = flat_map external_of defs
+
+abbrev pub extractor_trees : List Definition → List ExtractorTree
+extractor_trees defs = flat_map extractor_of defs
+
+abbrev pub converter_trees : List Definition → List ConverterTree
+converter_trees defs = flat_map converter_of defs
+
+-- the names of the terms that a type makes: the full name of each variant, or the struct's name
+abbrev pub made_by : List ℕ → TypeValueTree → List (List ℕ)
+made_by ty (primitive_value name at) = []
+made_by ty (enum_value variants at) = map (λ v. full_name ty v.name.text) variants
+made_by ty (struct_value fields at) = ty ∷ []
+
+-- the names of all terms, each at its id: the declared terms, then, types ascending, each variant and struct
+abbrev pub term_names : List Definition → List (List ℕ)
+term_names defs = decl_names defs ++ flat_map (λ t. made_by t.name.text t.value) (type_trees defs)
+
+-- the names of the type table, then the declared terms, then the external functions, by first meeting
+abbrev pub term_names_met : List Definition → List (List ℕ)
+term_names_met defs = with_names (type_names_met defs) (decl_names defs ++ flat_map function_of defs)
+
+-- the id of the term of a name
+abbrev pub term_id : List Definition → List ℕ → Option ℕ
+term_id defs x = place_from 0 x (term_names defs)
+
+-- the id of the term whose name has a number
+abbrev pub term_of_number : List Definition → List (List ℕ) → ℕ → Option ℕ
+term_of_number defs names k = then_option (slice_get names k) (term_id defs)
+
+-- an argument in the place of a form, where there is one
+abbrev pub argument_or : Option ℕ → Position → PatternTree → PatternTree
+argument_or None at p = p
+argument_or (Some i) at p = macro_arg i at
+
+-- a binding over a wildcard is that argument, any other is kept
+abbrev pub binding_or : Option ℕ → Name → PatternTree → Position → PatternTree
+binding_or i name (wildcard_pattern w) at = argument_or i at (bind_pattern name (wildcard_pattern w) at)
+binding_or i name p at = bind_pattern name p at
+
+-- the template that a pattern is, for arguments of these names: the first place of a name counts
+abbrev mutual
+  pub template : List (List ℕ) → PatternTree → PatternTree
+  template args (var_pattern name at) = argument_or (position_from (bytes_eq name.text) 0 args) at (var_pattern name at)
+  template args (bind_pattern name p at) = binding_or (position_from (bytes_eq name.text) 0 args) name (template args p) at
+  template args (term_pattern term ps at) = term_pattern term (templates args ps) at
+  template args (and_pattern ps at) = and_pattern (templates args ps) at
+  template args (bool_pattern b at) = bool_pattern b at
+  template args (int_pattern z at) = int_pattern z at
+  template args (prim_pattern name at) = prim_pattern name at
+  template args (wildcard_pattern at) = wildcard_pattern at
+  template args (macro_arg i at) = macro_arg i at
+
+  pub templates : List (List ℕ) → PatternTrees → PatternTrees
+  templates args no_pattern = no_pattern
+  templates args (pattern_and p ps) = pattern_and (template args p) (templates args ps)
+
+-- the template of an extractor's definition
+abbrev pub template_of : ExtractorTree → PatternTree
+template_of e = template (map (λ n. n.text) e.args) e.template
+
+-- the terms that a pattern names, an outer one before its parts
+abbrev mutual
+  pub terms_in : PatternTree → List Name
+  terms_in (bind_pattern name p at) = terms_in p
+  terms_in (term_pattern term ps at) = term ∷ terms_in_all ps
+  terms_in (and_pattern ps at) = terms_in_all ps
+  terms_in _ = []
+
+  pub terms_in_all : PatternTrees → List Name
+  terms_in_all no_pattern = []
+  terms_in_all (pattern_and p ps) = terms_in p ++ terms_in_all ps
+
+-- the arguments that a pattern uses as a template, by number
+abbrev mutual
+  pub arguments_in : PatternTree → List ℕ
+  arguments_in (bind_pattern name p at) = arguments_in p
+  arguments_in (term_pattern term ps at) = arguments_in_all ps
+  arguments_in (and_pattern ps at) = arguments_in_all ps
+  arguments_in (macro_arg i at) = i ∷ []
+  arguments_in _ = []
+
+  pub arguments_in_all : PatternTrees → List ℕ
+  arguments_in_all no_pattern = []
+  arguments_in_all (pattern_and p ps) = arguments_in p ++ arguments_in_all ps
+
+-- the declaration of a term
+abbrev pub decl_named : List Definition → List ℕ → Option DeclTree
+decl_named defs x = find (λ d. bytes_eq d.term.text x) (decl_trees defs)
+
+-- how many arguments a declared term has
+abbrev pub count_of : Option DeclTree → ℕ
+count_of None = 0
+count_of (Some d) = length d.arg_tys
+
+abbrev pub argument_count : List Definition → List ℕ → ℕ
+argument_count defs x = count_of (decl_named defs x)
+
+abbrev pub is_marked_multi : Option DeclTree → Bool
+is_marked_multi None = false
+is_marked_multi (Some d) = d.multi
+
+-- whether a term is declared multi
+abbrev pub is_multi : List Definition → List ℕ → Bool
+is_multi defs x = is_marked_multi (decl_named defs x)
+
+-- a name is that of a declared term, and of a term of any kind
+abbrev pub IsDeclaredTerm : List Definition → Name → Type 0
+IsDeclaredTerm defs n = IsTrue (is_declared defs (Some n))
+
+abbrev pub IsKnownTerm : List Definition → Name → Type 0
+IsKnownTerm defs n = IsTrue (is_some (term_id defs n.text))
+
+-- a term has rules
+abbrev pub has_rules : List Definition → List ℕ → Bool
+has_rules defs x = list_any (is_rule_of x) (rule_trees defs)
+
+-- the terms of the internal extractors, of the external ones and of the external constructors, in order
+abbrev pub internal_extractors : List Definition → List (List ℕ)
+internal_extractors defs = map (λ e. e.term.text) (extractor_trees defs)
+
+abbrev pub external_extractors : List Definition → List (List ℕ)
+external_extractors defs = map (λ e. e.term.text) (external_trees defs)
+
+abbrev pub external_constructors : List Definition → List (List ℕ)
+external_constructors defs = map (λ c. c.term.text) (constructor_trees defs)
+
+-- the pairs of types of the converters, by name, inner type first
+abbrev pub converted_pairs : List Definition → List (List ℕ × List ℕ)
+converted_pairs defs = map (λ c. (c.inner_ty.text, c.outer_ty.text)) (converter_trees defs)
+
+-- the template of a term calls an internal extractor
+pub record Uses (defs : List Definition) (t u : List ℕ) : Type 0 where
+  pub definition : ExtractorTree
+  pub there : Contains (extractor_trees defs) definition
+  pub of_term : definition.term.text ≡ t
+  pub calls : Contains (map (λ n. n.text) (terms_in definition.template)) u
+  pub internal : Contains (internal_extractors defs) u
+
+-- a term comes to an internal extractor through one or more templates
+pub data Reaches (defs : List Definition) : List ℕ → List ℕ → Type 0 where
+  directly : {t u : List ℕ} → Uses defs t u → Reaches defs t u
+  through : {t u v : List ℕ} → Uses defs t u → Reaches defs u v → Reaches defs t v
+
+-- no internal extractor comes back to itself
+abbrev pub IsAcyclic : List Definition → Type 0
+IsAcyclic defs = (t : List ℕ) → Reaches defs t t → ⊥
+
+-- the types of a declaration's arguments are known, and its result's type; it is not both multi and partial
+abbrev pub HasKnownArguments : List Definition → DeclTree → Type 0
+HasKnownArguments defs d = All (IsKnownType defs) d.arg_tys
+
+abbrev pub HasKnownResult : List Definition → DeclTree → Type 0
+HasKnownResult defs d = IsKnownType defs d.ret_ty
+
+abbrev pub IsMultiOrPartial : DeclTree → Type 0
+IsMultiOrPartial d = IsTrue (not (d.multi && d.partial))
+
+-- the left side of a rule is a declared term
+abbrev pub HasDeclaredRoot : List Definition → RuleTree → Type 0
+HasDeclaredRoot defs r = IsTrue (is_declared defs (root_name r.pattern))
+
+-- a term with an external constructor has no rules
+abbrev pub IsWithoutRules : List Definition → ConstructorTree → Type 0
+IsWithoutRules defs c = IsTrue (not (has_rules defs c.term.text))
+
+-- the definition of an extractor is of a term that is not multi, names known terms, holds no argument by number, and
+-- uses no argument past the declared ones
+abbrev pub IsOfPlainTerm : List Definition → ExtractorTree → Type 0
+IsOfPlainTerm defs e = IsTrue (not (is_multi defs e.term.text))
+
+abbrev pub NamesKnownTerms : List Definition → ExtractorTree → Type 0
+NamesKnownTerms defs e = All (IsKnownTerm defs) (terms_in e.template)
+
+abbrev pub HoldsNoNumber : ExtractorTree → Type 0
+HoldsNoNumber e = arguments_in e.template ≡ []
+
+abbrev pub UsesDeclaredArguments : List Definition → ExtractorTree → Type 0
+UsesDeclaredArguments defs e = All (λ i. i < argument_count defs e.term.text) (arguments_in (template_of e))
+
+-- a converter is a known term, from a known type to a known type
+abbrev pub IsKnownConverter : List Definition → ConverterTree → Type 0
+IsKnownConverter defs c = IsKnownTerm defs c.term × IsKnownType defs c.inner_ty × IsKnownType defs c.outer_ty
+
+-- what a list of definitions must meet to have a term table: no two terms have one name, variants and structs included;
+-- the types of declarations are known, and none is both multi and partial; rules, extractors and external functions are
+-- those of declared terms; a term has rules or one external constructor, and one extractor, internal or external, which
+-- is not internal in a multi term; templates are as said above, and none comes back to itself; converters are known,
+-- one for each pair of types
+pub record IsValidTerms (defs : List Definition) : Type 0 where
+  pub distinct : IsDistinct (term_names defs)
+  pub types_of_arguments : All (HasKnownArguments defs) (decl_trees defs)
+  pub types_of_results : All (HasKnownResult defs) (decl_trees defs)
+  pub marks : All IsMultiOrPartial (decl_trees defs)
+  pub roots : All (HasDeclaredRoot defs) (rule_trees defs)
+  pub terms_of_extractors : All (λ e. IsDeclaredTerm defs e.term) (extractor_trees defs)
+  pub terms_of_externals : All (λ e. IsDeclaredTerm defs e.term) (external_trees defs)
+  pub terms_of_constructors : All (λ c. IsDeclaredTerm defs c.term) (constructor_trees defs)
+  pub rules_or_function : All (IsWithoutRules defs) (constructor_trees defs)
+  pub one_constructor : IsDistinct (external_constructors defs)
+  pub one_extractor : IsDistinct (internal_extractors defs ++ external_extractors defs)
+  pub plain_terms : All (IsOfPlainTerm defs) (extractor_trees defs)
+  pub known_terms : All (NamesKnownTerms defs) (extractor_trees defs)
+  pub no_numbers : All HoldsNoNumber (extractor_trees defs)
+  pub declared_arguments : All (UsesDeclaredArguments defs) (extractor_trees defs)
+  pub acyclic : IsAcyclic defs
+  pub converters : All (IsKnownConverter defs) (converter_trees defs)
+  pub one_converter : IsDistinct (converted_pairs defs)
+
+-- whether a term has something that makes it: rules, an external constructor or an extractor
+abbrev pub is_defined : List Definition → List ℕ → Bool
+is_defined defs x = has_rules defs x || has_name (external_constructors defs) x || has_name (internal_extractors defs) x || has_name (external_extractors defs) x
+
+abbrev pub IsDefined : List Definition → DeclTree → Type 0
+IsDefined defs d = IsTrue (is_defined defs d.term.text)
+
+-- each declared term has rules, an external constructor or an extractor
+abbrev pub AllDefined : List Definition → Type 0
+AllDefined defs = All (IsDefined defs) (decl_trees defs)
+
+-- the types of fields, in order
+abbrev pub entry_types : FieldEntries → List ℕ
+entry_types unit_entries = []
+entry_types (struct_entries fields) = map (λ f. f.ty) fields
+entry_types (tuple_entries fields) = map (λ f. f.ty) fields
+
+-- the entry that a variant of a type becomes, when it is the term of an id
+abbrev pub variant_as_term : ℕ → VariantEntry → ℕ → TermEntry
+variant_as_term ty v id = record { id = id; at = v.at; name = v.full_name; arg_tys = entry_types v.fields; ret_ty = ty; kind = variant_term v.id }
+
+abbrev pub struct_as_term : ℕ → ℕ → FieldEntries → Position → ℕ → TermEntry
+struct_as_term name ty fields at id = record { id = id; at = at; name = name; arg_tys = entry_types fields; ret_ty = ty; kind = struct_term }
+
+-- the terms that a type makes, when their ids are known
+abbrev pub terms_made : TypeEntry → List (ℕ → TermEntry)
+terms_made (builtin_type place) = []
+terms_made (primitive_type id name at) = []
+terms_made (enum_type name id is_extern is_nodebug variants at) = map (variant_as_term id) variants
+terms_made (struct_type name id is_extern is_nodebug fields at) = struct_as_term name id fields at ∷ []
+
+-- what makes a declared term: its rules, or its external constructor, by the number of the function's name
+abbrev pub constructor_kind : List Definition → List (List ℕ) → List ℕ → Option ConstructorEntry
+constructor_kind defs names x =
+    if has_rules defs x then Some internal_constructor
+    else option_map (λ c. external_constructor (number names c.function.text)) (find (λ c. bytes_eq c.term.text x) (constructor_trees defs))
+
+-- what takes a declared term apart: its internal extractor's template, or its external extractor
+abbrev pub extractor_kind : List Definition → List (List ℕ) → List ℕ → Option ExtractorEntry
+extractor_kind defs names x =
+    if has_name (internal_extractors defs) x then option_map (λ e. internal_extractor (template_of e)) (find (λ e. bytes_eq e.term.text x) (extractor_trees defs))
+    else option_map (λ e. external_extractor (number names e.function.text) e.infallible e.at) (find (λ e. bytes_eq e.term.text x) (external_trees defs))
+
+-- the entry of a declared term of an id
+abbrev pub decl_as_term : List Definition → List (List ℕ) → DeclTree → ℕ → TermEntry
+decl_as_term defs names d id = record {
+  id = id;
+  at = d.at;
+  name = number names d.term.text;
+  arg_tys = map (type_or_first defs) d.arg_tys;
+  ret_ty = type_or_first defs d.ret_ty;
+  kind = declared_term (decl_flags d) (constructor_kind defs names d.term.text) (extractor_kind defs names d.term.text);
+}
+
+-- all terms of a valid list, when their ids are known: the declared ones, then, types ascending, each variant and struct
+abbrev pub terms_in_order : List Definition → List (ℕ → TermEntry)
+terms_in_order defs = map (decl_as_term defs (term_names_met defs)) (decl_trees defs) ++ flat_map terms_made (type_table defs)
+
+-- the terms of a valid list, each at its id
+abbrev pub term_table : List Definition → List TermEntry
+term_table defs = map (λ p. p.1 p.0) (enumerate_from 0 (terms_in_order defs))
+
+-- the id of a known term
+abbrev pub term_or_first : List Definition → Name → ℕ
+term_or_first defs n = unwrap_or (term_id defs n.text) 0
+
+-- the term that converts a type into another one, by inner and outer type
+abbrev pub converters : List Definition → List ((ℕ × ℕ) × ℕ)
+converters defs = map (λ c. ((type_or_first defs c.inner_ty, type_or_first defs c.outer_ty), term_or_first defs c.term)) (converter_trees defs)

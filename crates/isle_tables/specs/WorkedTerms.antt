@@ -1,0 +1,245 @@
+-- Lists of definitions of terms: what their tables are, and which have none.
+use Rattle.std.specs.Prelude.{◌≡◌, ℕ, pos, true, false, List, [], ◌∷◌, ◌++◌, Some, None, codes}
+use Rattle.isle_model.specs.Syntax.{PatternTree, var_pattern, int_pattern, wildcard_pattern, and_pattern, macro_arg, unit_fields, DeclTree, Definition, type_definition, declaration}
+use Rattle.isle_model.specs.Tables.{Flags, internal_constructor, external_constructor, internal_extractor, external_extractor, TermKindEntry, variant_term, struct_term, declared_term, TermEntry}
+use Rattle.isle_model.specs.TypeTable.{builtin_names}
+use Rattle.isle_tables.specs.TermTables.{term_names_met, term_table, converters, IsValidTerms, AllDefined}
+use Rattle.isle_tables.specs.Written.{at, name, field, variant, primitive, enum, struct, decl, declared, patterns, term, extractor, converter, constructor_by, extractor_by, rule}
+use Rattle.isle_tables.specs.WorkedTypes.{three_types}
+
+abbrev pub no_flags : Flags
+no_flags = record { pure = false; multi = false; partial = false; rec = false }
+
+abbrev pub var : ℕ → List ℕ → PatternTree
+var n x = var_pattern (name n x) (at n)
+
+abbrev pub any : ℕ → PatternTree
+any n = wildcard_pattern (at n)
+
+abbrev pub both : ℕ → List PatternTree → PatternTree
+both n ps = and_pattern (patterns ps) (at n)
+
+-- a term from numbers to numbers
+abbrev pub numbers : ℕ → List ℕ → DeclTree
+numbers n t = decl n t (codes "u8" ∷ []) (codes "u8")
+
+abbrev pub number_term : ℕ → ℕ → ℕ → TermKindEntry → TermEntry
+number_term id n t kind = record { id = id; at = at n; name = t; arg_tys = 1 ∷ []; ret_ty = 1; kind = kind }
+
+-- an external extractor, and a term with rules
+abbrev pub by_function : List Definition
+by_function =
+    declaration (numbers 0 (codes "e")) ∷ (extractor_by 1 (codes "e") (codes "e_fn") ∷ (declaration (numbers 2 (codes "f"))
+    ∷ (rule 3 (term 3 (codes "f") (term 3 (codes "e") (int_pattern (pos 1) (at 3) ∷ []) ∷ []))
+    ∷ (rule 4 (term 4 (codes "f") (term 4 (codes "e") (var 4 (codes "x") ∷ []) ∷ [])) ∷ []))))
+
+abbrev pub ByFunction : Type 0
+ByFunction =
+    (term_names_met by_function ≡ builtin_names ++ codes "e" ∷ (codes "f" ∷ (codes "e_fn" ∷ [])))
+    × (term_table by_function ≡ number_term 0 0 13 (declared_term no_flags None (Some (external_extractor 15 false (at 1))))
+    ∷ (number_term 1 2 14 (declared_term no_flags (Some internal_constructor) None) ∷ []))
+    × (converters by_function ≡ [])
+    × IsValidTerms by_function
+    × AllDefined by_function
+
+-- an internal extractor, and a converter by it
+abbrev pub converted : List Definition
+converted =
+    type_definition (primitive 0 (codes "A") (codes "A")) ∷ (type_definition (primitive 1 (codes "B") (codes "B"))
+    ∷ (declared 2 (codes "k") (codes "A" ∷ []) (codes "A") ∷ (extractor_by 3 (codes "k") (codes "k_fn")
+    ∷ (declared 4 (codes "conv") (codes "A" ∷ []) (codes "B") ∷ (extractor 5 (codes "conv") (codes "x" ∷ []) (term 5 (codes "k") (var 5 (codes "x") ∷ []))
+    ∷ (converter 6 (codes "A") (codes "B") (codes "conv") ∷ (declared 7 (codes "f") (codes "B" ∷ []) (codes "u8")
+    ∷ (rule 8 (term 8 (codes "f") (term 8 (codes "k") (any 8 ∷ []) ∷ [])) ∷ []))))))))
+
+abbrev pub Converted : Type 0
+Converted =
+    (term_names_met converted ≡ builtin_names ++ codes "A" ∷ (codes "B" ∷ (codes "k" ∷ (codes "conv" ∷ (codes "f" ∷ (codes "k_fn" ∷ []))))))
+    × (term_table converted
+    ≡ record { id = 0; at = at 2; name = 15; arg_tys = 13 ∷ []; ret_ty = 13; kind = declared_term no_flags None (Some (external_extractor 18 false (at 3))) }
+    ∷ (record { id = 1; at = at 4; name = 16; arg_tys = 13 ∷ []; ret_ty = 14; kind = declared_term no_flags None (Some (internal_extractor (term 5 (codes "k") (macro_arg 0 (at 5) ∷ [])))) }
+    ∷ (record { id = 2; at = at 7; name = 17; arg_tys = 14 ∷ []; ret_ty = 1; kind = declared_term no_flags (Some internal_constructor) None } ∷ [])))
+    × (converters converted ≡ ((13, 14), 1) ∷ [])
+    × IsValidTerms converted
+    × AllDefined converted
+
+-- an internal extractor that uses its argument twice
+abbrev pub doubled : List Definition
+doubled =
+    declaration (numbers 0 (codes "d")) ∷ (extractor 1 (codes "d") (codes "a" ∷ []) (both 1 (var 1 (codes "a") ∷ (var 1 (codes "a") ∷ [])))
+    ∷ (declaration (numbers 2 (codes "f")) ∷ (rule 3 (term 3 (codes "f") (term 3 (codes "d") (var 3 (codes "x") ∷ []) ∷ [])) ∷ [])))
+
+abbrev pub Doubled : Type 0
+Doubled =
+    (term_table doubled ≡ number_term 0 0 13 (declared_term no_flags None (Some (internal_extractor (both 1 (macro_arg 0 (at 1) ∷ (macro_arg 0 (at 1) ∷ []))))))
+    ∷ (number_term 1 2 14 (declared_term no_flags (Some internal_constructor) None) ∷ []))
+    × IsValidTerms doubled
+    × AllDefined doubled
+
+-- an internal extractor that calls another one, and an argument too many that nothing uses
+abbrev pub chained : List Definition
+chained =
+    declaration (numbers 0 (codes "a")) ∷ (declaration (numbers 1 (codes "b"))
+    ∷ (extractor 2 (codes "a") (codes "x" ∷ (codes "y" ∷ [])) (term 2 (codes "b") (var 2 (codes "x") ∷ [])) ∷ (extractor 3 (codes "b") (codes "x" ∷ []) (var 3 (codes "x")) ∷ [])))
+
+abbrev pub Chained : Type 0
+Chained = IsValidTerms chained × AllDefined chained
+
+-- external constructors, pure and partial, and the term of a variant
+abbrev pub effects : List Definition
+effects =
+    type_definition (enum 0 (codes "T") (variant 0 (codes "P") (field 0 (codes "a") (codes "u8") ∷ (field 0 (codes "b") (codes "u8") ∷ [])) ∷ []))
+    ∷ (declaration (record (numbers 1 (codes "pp")) { pure = true; partial = true }) ∷ (constructor_by 2 (codes "pp") (codes "pp_fn")
+    ∷ (declaration (numbers 3 (codes "im")) ∷ (constructor_by 4 (codes "im") (codes "im_fn")
+    ∷ (declaration (record (decl 5 (codes "f") (codes "u8" ∷ []) (codes "T")) { partial = true }) ∷ (rule 6 (term 6 (codes "f") (var 6 (codes "x") ∷ [])) ∷ []))))))
+
+abbrev pub Effects : Type 0
+Effects =
+    (term_names_met effects
+    ≡ builtin_names ++ codes "T" ∷ (codes "T.P" ∷ (codes "P" ∷ (codes "a" ∷ (codes "b" ∷ (codes "pp" ∷ (codes "im" ∷ (codes "f" ∷ (codes "pp_fn" ∷ (codes "im_fn" ∷ []))))))))))
+    × (term_table effects ≡ number_term 0 1 18 (declared_term (record no_flags { pure = true; partial = true }) (Some (external_constructor 21)) None)
+    ∷ (number_term 1 3 19 (declared_term no_flags (Some (external_constructor 22)) None)
+    ∷ (record { id = 2; at = at 5; name = 20; arg_tys = 1 ∷ []; ret_ty = 13; kind = declared_term (record no_flags { partial = true }) (Some internal_constructor) None }
+    ∷ (record { id = 3; at = at 0; name = 14; arg_tys = 1 ∷ (1 ∷ []); ret_ty = 13; kind = variant_term 0 } ∷ []))))
+    × IsValidTerms effects
+    × AllDefined effects
+
+-- the terms of structs
+abbrev pub Structs : Type 0
+Structs =
+    (term_table three_types
+    ≡ record { id = 0; at = at 0; name = 13; arg_tys = 14 ∷ []; ret_ty = 13; kind = struct_term }
+    ∷ (record { id = 1; at = at 2; name = 15; arg_tys = 13 ∷ (0 ∷ []); ret_ty = 15; kind = struct_term } ∷ []))
+    × IsValidTerms three_types
+
+-- a term that nothing makes: it has a place in the table, but isn't defined
+abbrev pub alone : List Definition
+alone = declaration (numbers 0 (codes "f")) ∷ []
+
+abbrev pub Alone : Type 0
+Alone = IsValidTerms alone × (AllDefined alone → ⊥)
+
+-- lists that each break one demand
+abbrev pub plain_enum : Definition
+plain_enum = type_definition (enum 0 (codes "T") (variant 0 (codes "A") [] ∷ []))
+
+abbrev pub term_twice : List Definition
+term_twice = declaration (numbers 0 (codes "f")) ∷ (declaration (numbers 1 (codes "f")) ∷ [])
+
+abbrev pub variant_again : List Definition
+variant_again = plain_enum ∷ (declaration (numbers 1 (codes "T.A")) ∷ [])
+
+abbrev pub struct_again : List Definition
+struct_again = type_definition (struct 0 (codes "S") unit_fields) ∷ (declaration (numbers 1 (codes "S")) ∷ [])
+
+abbrev pub unknown_argument_type : List Definition
+unknown_argument_type = declared 0 (codes "f") (codes "nope" ∷ []) (codes "u8") ∷ []
+
+abbrev pub unknown_result_type : List Definition
+unknown_result_type = declared 0 (codes "f") [] (codes "nope") ∷ []
+
+abbrev pub multi_and_partial : List Definition
+multi_and_partial = declaration (record (numbers 0 (codes "f")) { multi = true; partial = true }) ∷ []
+
+abbrev pub no_root : List Definition
+no_root = rule 0 (any 0) ∷ []
+
+abbrev pub unknown_root : List Definition
+unknown_root = rule 0 (term 0 (codes "f") []) ∷ []
+
+abbrev pub variant_root : List Definition
+variant_root = plain_enum ∷ (rule 1 (term 1 (codes "T.A") []) ∷ [])
+
+abbrev pub extractor_of_none : List Definition
+extractor_of_none = extractor 0 (codes "d") [] (any 0) ∷ []
+
+abbrev pub extractor_of_variant : List Definition
+extractor_of_variant = plain_enum ∷ (extractor 1 (codes "T.A") [] (any 1) ∷ [])
+
+abbrev pub function_of_none : List Definition
+function_of_none = extractor_by 0 (codes "e") (codes "e_fn") ∷ []
+
+abbrev pub constructor_of_none : List Definition
+constructor_of_none = constructor_by 0 (codes "f") (codes "f_fn") ∷ []
+
+abbrev pub rules_and_function : List Definition
+rules_and_function =
+    declaration (numbers 0 (codes "f")) ∷ (constructor_by 1 (codes "f") (codes "f_fn") ∷ (rule 2 (term 2 (codes "f") (any 2 ∷ [])) ∷ []))
+
+abbrev pub constructor_twice : List Definition
+constructor_twice =
+    declaration (numbers 0 (codes "f")) ∷ (constructor_by 1 (codes "f") (codes "f_fn") ∷ (constructor_by 2 (codes "f") (codes "g_fn") ∷ []))
+
+abbrev pub extractor_twice : List Definition
+extractor_twice = declaration (numbers 0 (codes "d")) ∷ (extractor 1 (codes "d") [] (any 1) ∷ (extractor 2 (codes "d") [] (any 2) ∷ []))
+
+abbrev pub function_twice : List Definition
+function_twice =
+    declaration (numbers 0 (codes "d")) ∷ (extractor_by 1 (codes "d") (codes "d_fn") ∷ (extractor_by 2 (codes "d") (codes "e_fn") ∷ []))
+
+abbrev pub both_extractors : List Definition
+both_extractors = declaration (numbers 0 (codes "d")) ∷ (extractor 1 (codes "d") [] (any 1) ∷ (extractor_by 2 (codes "d") (codes "d_fn") ∷ []))
+
+abbrev pub multi_by_template : List Definition
+multi_by_template = declaration (record (numbers 0 (codes "d")) { multi = true }) ∷ (extractor 1 (codes "d") [] (any 1) ∷ [])
+
+abbrev pub unknown_in_template : List Definition
+unknown_in_template = declaration (numbers 0 (codes "d")) ∷ (extractor 1 (codes "d") [] (term 1 (codes "nope") []) ∷ [])
+
+abbrev pub number_in_template : List Definition
+number_in_template = declaration (numbers 0 (codes "d")) ∷ (extractor 1 (codes "d") (codes "a" ∷ []) (macro_arg 0 (at 1)) ∷ [])
+
+abbrev pub argument_past : List Definition
+argument_past =
+    declaration (numbers 0 (codes "d")) ∷ (extractor 1 (codes "d") (codes "a" ∷ (codes "b" ∷ [])) (both 1 (var 1 (codes "a") ∷ (var 1 (codes "b") ∷ []))) ∷ [])
+
+abbrev pub recursive : List Definition
+recursive =
+    declaration (numbers 0 (codes "a")) ∷ (declaration (numbers 1 (codes "b"))
+    ∷ (extractor 2 (codes "a") (codes "x" ∷ []) (term 2 (codes "b") (var 2 (codes "x") ∷ [])) ∷ (extractor 3 (codes "b") (codes "x" ∷ []) (term 3 (codes "a") (var 3 (codes "x") ∷ [])) ∷ [])))
+
+abbrev pub itself : List Definition
+itself = declaration (numbers 0 (codes "a")) ∷ (extractor 1 (codes "a") (codes "x" ∷ []) (term 1 (codes "a") (var 1 (codes "x") ∷ [])) ∷ [])
+
+abbrev pub unknown_inner_type : List Definition
+unknown_inner_type = declaration (numbers 0 (codes "c")) ∷ (converter 1 (codes "nope") (codes "u8") (codes "c") ∷ [])
+
+abbrev pub unknown_outer_type : List Definition
+unknown_outer_type = declaration (numbers 0 (codes "c")) ∷ (converter 1 (codes "u8") (codes "nope") (codes "c") ∷ [])
+
+abbrev pub unknown_converter : List Definition
+unknown_converter = converter 0 (codes "u8") (codes "u16") (codes "c") ∷ []
+
+abbrev pub converter_twice : List Definition
+converter_twice =
+    declaration (numbers 0 (codes "c")) ∷ (converter 1 (codes "u8") (codes "u16") (codes "c") ∷ (converter 2 (codes "u8") (codes "u16") (codes "c") ∷ []))
+
+-- none of them is valid
+pub record RefusedTerms : Type 0 where
+  pub term_twice : IsValidTerms term_twice → ⊥
+  pub variant_again : IsValidTerms variant_again → ⊥
+  pub struct_again : IsValidTerms struct_again → ⊥
+  pub unknown_argument_type : IsValidTerms unknown_argument_type → ⊥
+  pub unknown_result_type : IsValidTerms unknown_result_type → ⊥
+  pub multi_and_partial : IsValidTerms multi_and_partial → ⊥
+  pub no_root : IsValidTerms no_root → ⊥
+  pub unknown_root : IsValidTerms unknown_root → ⊥
+  pub variant_root : IsValidTerms variant_root → ⊥
+  pub extractor_of_none : IsValidTerms extractor_of_none → ⊥
+  pub extractor_of_variant : IsValidTerms extractor_of_variant → ⊥
+  pub function_of_none : IsValidTerms function_of_none → ⊥
+  pub constructor_of_none : IsValidTerms constructor_of_none → ⊥
+  pub rules_and_function : IsValidTerms rules_and_function → ⊥
+  pub constructor_twice : IsValidTerms constructor_twice → ⊥
+  pub extractor_twice : IsValidTerms extractor_twice → ⊥
+  pub function_twice : IsValidTerms function_twice → ⊥
+  pub both_extractors : IsValidTerms both_extractors → ⊥
+  pub multi_by_template : IsValidTerms multi_by_template → ⊥
+  pub unknown_in_template : IsValidTerms unknown_in_template → ⊥
+  pub number_in_template : IsValidTerms number_in_template → ⊥
+  pub argument_past : IsValidTerms argument_past → ⊥
+  pub recursive : IsValidTerms recursive → ⊥
+  pub itself : IsValidTerms itself → ⊥
+  pub unknown_inner_type : IsValidTerms unknown_inner_type → ⊥
+  pub unknown_outer_type : IsValidTerms unknown_outer_type → ⊥
+  pub unknown_converter : IsValidTerms unknown_converter → ⊥
+  pub converter_twice : IsValidTerms converter_twice → ⊥

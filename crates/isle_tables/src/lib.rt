@@ -1,0 +1,67 @@
+//! The type table and the term table of a list of definitions, for all forms of definitions.
+//!
+//! The definitions are in `specs/`, the proofs in `proofs/`. A function here has an empty body: its clause is a law.
+#![tactic(auto)]
+
+ghost use Rattle.isle_tables.specs.WorkedTerms.{Alone, ByFunction, Chained, Converted, Doubled, Effects, RefusedTerms, Structs};
+ghost use Rattle.isle_tables.specs.WorkedTypes.{Constants, RefusedTypes, ThreeTypes, TwoTypes};
+
+/// The table and the names of a primitive type and an extern enum, which are valid.
+pub fn two_types()
+    ensures { TwoTypes }
+{}
+
+/// The table and the names of structs, one of them a tuple, whose types are named before they are defined.
+pub fn three_types()
+    ensures { ThreeTypes }
+{}
+
+/// A constant that is defined twice has the type of its last definition.
+pub fn constants()
+    ensures { Constants }
+{}
+
+/// Lists that break one demand on types each have no type table.
+pub fn refused_types()
+    ensures { RefusedTypes }
+{}
+
+/// The table of an external extractor and of a term with rules, which are valid and defined.
+pub fn by_function()
+    ensures { ByFunction }
+{}
+
+/// The table of an internal extractor, with its template, and of a converter by it, which are valid and defined.
+pub fn converted()
+    ensures { Converted }
+{}
+
+/// A template may use its argument twice.
+pub fn doubled()
+    ensures { Doubled }
+{}
+
+/// A template may call another internal extractor, and a surplus argument that it doesn't use is accepted.
+pub fn chained()
+    ensures { Chained }
+{}
+
+/// The table of external constructors and, after the declared terms, of a variant.
+pub fn effects()
+    ensures { Effects }
+{}
+
+/// The table of structs.
+pub fn structs()
+    ensures { Structs }
+{}
+
+/// A term that nothing makes has a place in a valid table, but isn't defined.
+pub fn alone()
+    ensures { Alone }
+{}
+
+/// Lists that break one demand on terms each have no term table.
+pub fn refused_terms()
+    ensures { RefusedTerms }
+{}
