@@ -69,28 +69,28 @@ module _ (e : Setting) (multi : Bool) where
       sound_with (term_pattern name args at) ty s r h =
           let m = then_gives (term_of e s name.text) _ h in
           ⊎_elim
-              (λ c. ⊎_elim
-                  (λ k.
-                      let u = if_gives (is_matchable e multi m.0.kind) _ k.1 in
-                      let v = made_gives _ (elaborated_parts e multi d args m.0.arg_tys s) u.1 in
-                      subst (λ (v : Typing TypedPattern). ElaboratesPattern e multi d (term_pattern name args at) ty s v.made v.scope v.expansions) v.2
-                          (a_term m.1 ((Decides-eqb m.0.ret_ty ty).0 c.0) k.0 u.0 (sound_parts args m.0.arg_tys s v.0 v.1)))
-                  (λ k.
-                      let u = then_gives (expanded m.0 args k.0) _ k.2 in
-                      let v = counted_gives (deeper_pattern e multi d u.0 ty s) u.2 in
-                      let w = deeper u.0 ty s v.0 v.1 in
-                      subst (λ (v : Typing TypedPattern). ElaboratesPattern e multi d (term_pattern name args at) ty s v.made v.scope v.expansions) v.2
-                          (subst (λ c. ElaboratesPattern e multi c (term_pattern name args at) ty s v.0.made v.0.scope (suc v.0.expansions)) w.1
-                              (a_template m.1 ((Decides-eqb m.0.ret_ty ty).0 c.0) k.1 u.1 w.2)))
-                  (template_gives (template_in e m.0.kind) (by_template (deeper_pattern e multi d) m.0 args ty s) _ c.1))
-              (λ c.
-                  let u = then_gives (pattern_converter e m.0.ret_ty ty) _ c.1 in
-                  let v = counted_gives (deeper_pattern e multi d (wrapped_pattern s u.0 at (term_pattern name args at)) ty s) u.2 in
-                  let w = deeper (wrapped_pattern s u.0 at (term_pattern name args at)) ty s v.0 v.1 in
-                  subst (λ (v : Typing TypedPattern). ElaboratesPattern e multi d (term_pattern name args at) ty s v.made v.scope v.expansions) v.2
-                      (subst (λ c. ElaboratesPattern e multi c (term_pattern name args at) ty s v.0.made v.0.scope (suc v.0.expansions)) w.1
-                          (a_conversion m.1 (eqb-ne m.0.ret_ty ty c.0) u.1 w.2)))
-              (cond_gives (eqb m.0.ret_ty ty) _ _ m.2)
+          (λ c. ⊎_elim
+          (λ k.
+          let u = if_gives (is_matchable e multi m.0.kind) _ k.1 in
+          let v = made_gives _ (elaborated_parts e multi d args m.0.arg_tys s) u.1 in
+          subst (λ (v : Typing TypedPattern). ElaboratesPattern e multi d (term_pattern name args at) ty s v.made v.scope v.expansions) v.2
+          (a_term m.1 ((Decides-eqb m.0.ret_ty ty).0 c.0) k.0 u.0 (sound_parts args m.0.arg_tys s v.0 v.1)))
+          (λ k.
+          let u = then_gives (expanded m.0 args k.0) _ k.2 in
+          let v = counted_gives (deeper_pattern e multi d u.0 ty s) u.2 in
+          let w = deeper u.0 ty s v.0 v.1 in
+          subst (λ (v : Typing TypedPattern). ElaboratesPattern e multi d (term_pattern name args at) ty s v.made v.scope v.expansions) v.2
+          (subst (λ c. ElaboratesPattern e multi c (term_pattern name args at) ty s v.0.made v.0.scope (suc v.0.expansions)) w.1
+          (a_template m.1 ((Decides-eqb m.0.ret_ty ty).0 c.0) k.1 u.1 w.2)))
+          (template_gives (template_in e m.0.kind) (by_template (deeper_pattern e multi d) m.0 args ty s) _ c.1))
+          (λ c.
+          let u = then_gives (pattern_converter e m.0.ret_ty ty) _ c.1 in
+          let v = counted_gives (deeper_pattern e multi d (wrapped_pattern s u.0 at (term_pattern name args at)) ty s) u.2 in
+          let w = deeper (wrapped_pattern s u.0 at (term_pattern name args at)) ty s v.0 v.1 in
+          subst (λ (v : Typing TypedPattern). ElaboratesPattern e multi d (term_pattern name args at) ty s v.made v.scope v.expansions) v.2
+          (subst (λ c. ElaboratesPattern e multi c (term_pattern name args at) ty s v.0.made v.0.scope (suc v.0.expansions)) w.1
+          (a_conversion m.1 (eqb-ne m.0.ret_ty ty c.0) u.1 w.2)))
+          (cond_gives (eqb m.0.ret_ty ty) _ _ m.2)
       sound_with (wildcard_pattern at) ty s r h =
           subst (λ (v : Typing TypedPattern). ElaboratesPattern e multi d (wildcard_pattern at) ty s v.made v.scope v.expansions) (same_Some _ _ h) anything
       sound_with (and_pattern parts at) ty s r h =
@@ -105,14 +105,14 @@ module _ (e : Setting) (multi : Bool) where
       sound_parts (pattern_and p rest) (ty ∷ tys) s r h =
           let m = followed_gives _ (elaborated_pattern e multi d p ty s) (λ a. elaborated_parts e multi d rest tys a.scope) h in
           subst (λ (v : Typing TypedPatterns). ElaboratesParts e multi d (pattern_and p rest) (ty ∷ tys) s v.made v.scope v.expansions) m.4
-              (part (sound_with p ty s m.0 m.2) (sound_parts rest tys m.0.scope m.1 m.3))
+          (part (sound_with p ty s m.0 m.2) (sound_parts rest tys m.0.scope m.1 m.3))
 
       sound_each : (ps : PatternTrees) (ty : ℕ) (s : Scope) (r : Typing TypedPatterns) → each_with e multi (deeper_pattern e multi d) ps ty s ≡ Some r → ElaboratesEach e multi d ps ty s r.made r.scope r.expansions
       sound_each no_pattern ty s r h = subst (λ (v : Typing TypedPatterns). ElaboratesEach e multi d no_pattern ty s v.made v.scope v.expansions) (same_Some _ _ h) no_more
       sound_each (pattern_and p rest) ty s r h =
           let m = followed_gives _ (elaborated_pattern e multi d p ty s) (λ a. each_with e multi (deeper_pattern e multi d) rest ty a.scope) h in
           subst (λ (v : Typing TypedPatterns). ElaboratesEach e multi d (pattern_and p rest) ty s v.made v.scope v.expansions) m.4
-              (one_more (sound_with p ty s m.0 m.2) (sound_each rest ty m.0.scope m.1 m.3))
+          (one_more (sound_with p ty s m.0 m.2) (sound_each rest ty m.0.scope m.1 m.3))
 
   is_deeper : (d : ℕ) → IsDeeper d
   is_deeper zero p ty s r h = absurd (cc)
@@ -123,3 +123,38 @@ module _ (e : Setting) (multi : Bool) where
 
   pub parts_sound : (d : ℕ) (ps : PatternTrees) (tys : List ℕ) (s : Scope) (r : Typing TypedPatterns) → elaborated_parts e multi d ps tys s ≡ Some r → ElaboratesParts e multi d ps tys s r.made r.scope r.expansions
   parts_sound d = sound_parts d (is_deeper d)
+
+  -- what elaborates within some nested expansions does so within more
+  mutual
+    pub deepen : {d ty n : ℕ} {p : PatternTree} {s t : Scope} {q : TypedPattern} → ElaboratesPattern e multi d p ty s q t n → ElaboratesPattern e multi (suc d) p ty s q t n
+    deepen (new_name h) = new_name h
+    deepen (bound_name h i) = bound_name h i
+    deepen (binding g h) = binding (deepen g) h
+    deepen (a_truth h) = a_truth h
+    deepen (an_integer h) = an_integer h
+    deepen (a_constant h) = a_constant h
+    deepen (a_term h i j l g) = a_term h i j l (deepen_parts g)
+    deepen (a_template h i j l g) = a_template h i j l (deepen g)
+    deepen (a_conversion h i j g) = a_conversion h i j (deepen g)
+    deepen anything = anything
+    deepen (all_of g) = all_of (deepen_each g)
+
+    pub deepen_parts : {d n : ℕ} {tys : List ℕ} {ps : PatternTrees} {s t : Scope} {qs : TypedPatterns} → ElaboratesParts e multi d ps tys s qs t n → ElaboratesParts e multi (suc d) ps tys s qs t n
+    deepen_parts no_part = no_part
+    deepen_parts (part g h) = part (deepen g) (deepen_parts h)
+
+    deepen_each : {d ty n : ℕ} {ps : PatternTrees} {s t : Scope} {qs : TypedPatterns} → ElaboratesEach e multi d ps ty s qs t n → ElaboratesEach e multi (suc d) ps ty s qs t n
+    deepen_each no_more = no_more
+    deepen_each (one_more g h) = one_more (deepen g) (deepen_each h)
+
+  pub raised : (k : ℕ) {d c ty n : ℕ} {p : PatternTree} {s t : Scope} {q : TypedPattern} → k + d ≡ c → ElaboratesPattern e multi d p ty s q t n → ElaboratesPattern e multi c p ty s q t n
+  raised zero {d} {c} {ty = ty} {n = n} {p = p} {s = s} {t = t} {q = q} h g = let i : d ≡ c = omega arith in subst (λ m. ElaboratesPattern e multi m p ty s q t n) i g
+  raised (suc k) {d} {c} {ty = ty} {n = n} {p = p} {s = s} {t = t} {q = q} h g = let i : suc (k + d) ≡ c = omega arith in subst (λ m. ElaboratesPattern e multi m p ty s q t n) i (deepen (raised k refl g))
+
+  -- two derivations of one pattern agree
+  pub one_way : {d c ty n m : ℕ} {p : PatternTree} {s t u : Scope} {q r : TypedPattern}
+      → ElaboratesPattern e multi d p ty s q t n → ElaboratesPattern e multi c p ty s r u m → (q ≡ r) × (t ≡ u) × (n ≡ m)
+  one_way {d} {c} g h =
+      let i : d + c ≡ c + d = omega arith in
+      let same = same_Some _ _ (sym (complete (raised c refl g)) ∙ complete (raised d i h)) in
+      (ap (λ (v : Typing TypedPattern). v.made) same, ap (λ (v : Typing TypedPattern). v.scope) same, ap (λ (v : Typing TypedPattern). v.expansions) same)
