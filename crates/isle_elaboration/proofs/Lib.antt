@@ -1,0 +1,3 @@
+mod Typings
+mod Patterns
+mod Exprs

@@ -1,0 +1,5 @@
+pub mod Setting
+pub mod Expansions
+pub mod Typings
+pub mod Elaborated
+pub mod Elaborates
