@@ -32,3 +32,4 @@ pub mod Limits
 pub mod Overlap
 pub mod Picks
 pub mod Collects
+pub mod SetRuns
