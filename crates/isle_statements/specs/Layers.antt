@@ -1,0 +1,136 @@
+-- What the layers answer of typed rules, rule sets and trees: building, checking, serializing, and the whole way.
+use Rattle.std.specs.Prelude.{◌≡◌, ℕ, Bool, true, false, not, ◌&&◌, ◌||◌, List, [], ◌∷◌, ◌++◌, map, slice_get, All, IsTrue, if◌then◌else◌}
+use Rattle.std.specs.List.{list_all}
+use Rattle.isle_model.specs.Syntax.{Definition}
+use Rattle.isle_model.specs.Names.{IsDistinct}
+use Rattle.isle_model.specs.Program.{Program, is_multi, rules_of}
+use Rattle.isle_model.specs.Sites.{Site, SiteSet, sources_at}
+use Rattle.isle_model.specs.Trees.{Tree, no_step, step, Check, match_at, equal_at, loop_at, return_at, Arms, no_arm, arm}
+use Rattle.isle_model.specs.Run.{World, run}
+use Rattle.isle_model.specs.Places.{is_in, is_in_place, field_sites}
+use Rattle.isle_model.specs.Best.{IsBestTree}
+use Rattle.isle_model.specs.Built.{RunsAsChosen, terms_with_rules}
+use Rattle.isle_model.specs.Collects.{Collects, CollectsAsChosen, IsCollectedSet, ServesSet, set_bag}
+use Rattle.isle_model.specs.SetRuns.{IsTestedSet, ServesTests, ChoosesFrom}
+use Rattle.isle_model.specs.Overlap.{built_rules, BuiltOverlapWrongly, IsShadowed, RuleReport, build_reports, check_reports}
+use Rattle.isle_elaboration.specs.Elaborated.{TypedRules}
+use Rattle.isle_statements.specs.Environments.{IsElaborated, program_of}
+use Rattle.isle_statements.specs.RuleSets.{IsBuilt}
+
+-- building gives each term with rules, ascending, with its built set, also where every rule is left out; and what there
+-- is to report of the rules left out, in rule order
+pub record AreBuiltSets (p : Program) (sets : List (ℕ × SiteSet)) : Type 0 where
+  pub terms : map (λ s. s.0) sets ≡ terms_with_rules p
+  pub built : All (λ s. IsBuilt p s.0 s.1) sets
+
+pub record BuildAnswers (p : Program) (sets : List (ℕ × SiteSet)) (reports : List RuleReport) : Type 0 where
+  pub sets_built : AreBuiltSets p sets
+  pub reported : reports ≡ build_reports p
+
+-- the rules of a program can be told apart: each one is reachable and passes no limit, no two of a term that isn't multi
+-- overlap wrongly, and none is shadowed. Checking then gives what building gives
+pub record IsCheckable (p : Program) : Type 0 where
+  pub built : (t : ℕ) → map (λ b. b.rule) (built_rules p t) ≡ rules_of p t
+  pub overlaps : (t i j : ℕ) → BuiltOverlapWrongly p t i j → ⊥
+  pub shadows : (t i : ℕ) → IsShadowed p t i → ⊥
+
+-- what is reported where they can't, if no two rules stand at one position
+abbrev pub CheckReports : Program → List RuleReport → Type 0
+CheckReports p reports = IsDistinct (map (λ r. r.at) p.rules) → reports ≡ check_reports p
+
+-- the run of a tree means what its set does. In a term that isn't multi, where the rules go over no calls, it takes a rule
+-- of greatest priority among those whose demands hold; in a multi term whose rules make no impure call and demand every
+-- gate, it collects the bag of their results
+pub record MeansItsSet (set : SiteSet) (multi : Bool) (tree : Tree) : Type 0 where
+  pub chooses : multi ≡ false → IsTestedSet set → (w : World) → ServesTests set w → w.multi ≡ false → ChoosesFrom set w (run tree w)
+  pub collects : multi ≡ true → IsCollectedSet set → (w : World) → ServesSet set w → w.multi ≡ true → Collects (run tree w) (set_bag set w)
+
+-- what serializing a built set gives: a best tree, which means what its set does, in a multi term or in another one
+pub record IsSerialized (set : SiteSet) (tree : Tree) : Type 0 where
+  pub best : IsBestTree set tree
+  pub meaning : (multi : Bool) → MeansItsSet set multi tree
+
+-- the sites that a step uses
+abbrev pub used_by : List Site → Check → List ℕ
+used_by sites (match_at source arms) = source ∷ []
+used_by sites (equal_at a b body) = a ∷ (b ∷ [])
+used_by sites (loop_at result body) = sources_at sites result
+used_by sites (return_at at result) = result ∷ []
+
+-- a site can be used: it was bound, or it is written in place
+abbrev pub can_be_used : List Site → List ℕ → ℕ → Bool
+can_be_used sites scope s = is_in s scope || is_in_place (slice_get sites s)
+
+-- sites that are bound now: none stands twice, nor was bound before, but for the sources of loops
+abbrev pub binds_once : List ℕ → List ℕ → List ℕ → Bool
+binds_once again scope [] = true
+binds_once again scope (s ∷ rest) = (not (is_in s scope) || is_in s again) && binds_once again (s ∷ scope) rest
+
+abbrev pub returns_at : Check → Bool
+returns_at (return_at at result) = true
+returns_at _ = false
+
+-- whether, in each step that a run reaches, each site that is used was bound before it in scope or is written in place,
+-- and no site but the source of a loop is bound twice in one scope. A step is reached where no return stands before it
+-- in its block, nor before a step around it in that one's block; in a multi term every step is
+abbrev mutual
+  pub binds_before_use : List Site → Bool → List ℕ → List ℕ → Tree → Bool
+  binds_before_use sites multi again scope no_step = true
+  binds_before_use sites multi again scope (step binds check rest) =
+      binds_once again scope binds && list_all (can_be_used sites (binds ++ scope)) (used_by sites check)
+      && binds_in_check sites multi again (binds ++ scope) check
+      && (if returns_at check && not multi then true else binds_before_use sites multi again (binds ++ scope) rest)
+
+  pub binds_in_check : List Site → Bool → List ℕ → List ℕ → Check → Bool
+  binds_in_check sites multi again scope (match_at source arms) = binds_in_arms sites multi again scope arms
+  binds_in_check sites multi again scope (equal_at a b body) = binds_before_use sites multi again scope body
+  binds_in_check sites multi again scope (loop_at result body) = binds_before_use sites multi (sources_at sites result ++ again) (result ∷ scope) body
+  binds_in_check sites multi again scope (return_at at result) = true
+
+  pub binds_in_arms : List Site → Bool → List ℕ → List ℕ → Arms → Bool
+  binds_in_arms sites multi again scope no_arm = true
+  binds_in_arms sites multi again scope (arm constraint fields body rest) =
+      binds_before_use sites multi again (field_sites fields ++ scope) body && binds_in_arms sites multi again scope rest
+
+abbrev pub BindsBeforeUse : SiteSet → Bool → Tree → Type 0
+BindsBeforeUse set multi tree = IsTrue (binds_before_use set.sites multi [] [] tree)
+
+-- accepted definitions: they have types, terms and typed rules, and their rules can be told apart
+pub record IsAccepted (defs : List Definition) (expand : Bool) (rules : TypedRules) : Type 0 where
+  pub elaborated : IsElaborated defs expand rules
+  pub checkable : IsCheckable (program_of defs rules.rules)
+
+-- a term with rules: its built set and its tree
+pub record Lowered : Type 0 where
+  pub term : ℕ
+  pub set : SiteSet
+  pub tree : Tree
+
+-- the headline. In a term that isn't multi and uses no multi extractor, on all well-typed arguments and under every
+-- meaning of the called terms that tells constants apart, the tree's run gives the result or failure and the impure calls
+-- of the one matching source rule of highest priority, or neither where none matches; and nowhere would an open test
+-- cover more rules than the test made
+pub record ChoosesAndShares (p : Program) (l : Lowered) : Type 0 where
+  pub runs : RunsAsChosen p l.term l.set.sites l.tree
+  pub shares : IsBestTree l.set l.tree
+
+-- the tree of a term: of its built set, with the headline; sites are bound before they are used; in a multi term whose
+-- rules make no impure call and need each multi call of an if-let, the run collects the bag of their results
+pub record IsLoweredTerm (p : Program) (l : Lowered) : Type 0 where
+  pub built : IsBuilt p l.term l.set
+  pub headline : ChoosesAndShares p l
+  pub collects : CollectsAsChosen p l.term l.set.sites l.tree
+  pub binds : BindsBeforeUse l.set (is_multi p l.term) l.tree
+
+-- what lowering accepted definitions gives: each term with rules once, ascending
+pub record AreLowered (p : Program) (terms : List Lowered) : Type 0 where
+  pub each : map (λ l. l.term) terms ≡ terms_with_rules p
+  pub lowered : All (IsLoweredTerm p) terms
+
+-- what theory has to show of them: the trees of built sets of accepted definitions keep the headline, whatever body of
+-- code made them, if only they are best trees
+abbrev pub BestTreesKeepTheHeadline : Type 0
+BestTreesKeepTheHeadline =
+    (defs : List Definition) (expand : Bool) (rules : TypedRules) (l : Lowered)
+    → IsAccepted defs expand rules → IsBuilt (program_of defs rules.rules) l.term l.set → IsBestTree l.set l.tree
+    → IsLoweredTerm (program_of defs rules.rules) l
