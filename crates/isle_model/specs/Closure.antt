@@ -287,16 +287,12 @@ closing (suc n) k =
       | Some c ↦ closing n (taken k c (ascending k.made (class_at k.classes c.0)))
     ]
 
--- the sites of the demands, as the visit made them
-abbrev pub sites_met : Demands → List SiteTerm
-sites_met d = d.made ++ map (λ c. c.0) d.constraints ++ flat_map (λ c. field_terms c.1 c.0) d.constraints ++ flat_map (λ e. e.0 ∷ (e.1 ∷ [])) d.equalities
-
 -- where the closing starts, after the sites of the term's rules before
 abbrev pub opening : List SiteTerm → Demands → Closed
 opening before d = record {
   constraints = with_constraints [] d.constraints;
   classes = merged_all [] d.equalities;
-  made = with_sites before (sites_met d);
+  made = with_sites before d.made;
 }
 
 -- the classes in order
