@@ -1,3 +1,5 @@
 pub mod Elements
 pub mod SameSites
 pub mod Names
+pub mod Classes
+pub mod Verdict
