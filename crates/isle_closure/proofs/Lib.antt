@@ -3,3 +3,4 @@ pub mod SameSites
 pub mod Names
 pub mod Classes
 pub mod Verdict
+pub mod Settled
