@@ -1,16 +1,16 @@
 -- Classes that respect the demands hold all that must be equal; the names of a settled closure are such classes, once
 -- they are carried to the fields that no rule makes.
-use Rattle.std.proofs.Common.{◌≡◌, ◌≢◌, ◌⊎◌, ℕ, zero, suc, ◌<◌, ◌≤◌, Bool, true, false, not, ◌&&◌, ◌||◌, if◌then◌else◌, List, [], ◌∷◌, ◌++◌, map, length, Option, Some, None, slice_get, Contains, flat_map, refl, sym, ap, ◌∙◌, subst, inl, inr, arith}
-use Rattle.std.proofs.lemmas.Bool.{cases_Bool, cond-true, cond-false, and_parts, and_from, false≢true}
-use Rattle.std.specs.List.{list_any, list_all, zip}
+use Rattle.std.proofs.Common.{◌≡◌, ◌⊎◌, ℕ, zero, suc, true, false, not, if◌then◌else◌, List, [], ◌∷◌, ◌++◌, map, length, Option, Some, None, slice_get, flat_map, refl, sym, ap, ◌∙◌, subst, inl, inr}
+use Rattle.std.proofs.lemmas.Bool.{cases_Bool, cond-true, cond-false, and_from, false≢true}
+use Rattle.std.specs.List.{list_any, zip}
 use Rattle.isle_model.specs.Sites.{Constraint, is_variant, is_struct, is_bool, is_int, is_prim, is_present, SiteTerm, bool_term, int_term, prim_term, argument, extractor_call, constructor_call, pick_of, variant_made, variant_field, struct_made, struct_field, some_made, some_part, tuple_part, no_site}
 use Rattle.isle_model.specs.Demands.{Demands, site_term_eq, has_site, with_sites}
 use Rattle.isle_model.specs.Built.{constraint_eq}
-use Rattle.isle_model.specs.Closure.{Joined, given, itself, turned, chained, at_field, fields_from, field_terms, HasConstraint, IsPartOf, IsProperPart, directly, deeper, IsUnreachable, two_at_a_site, two_in_a_class, part_of_itself, class_name, same_class, due_with, due, with_owners, spoken_of, class_names, is_settled, differs_in_class, has_conflict, constrained_in, fields_of_first, parts_of, goes_deeper, has_cycle, is_unreachable}
+use Rattle.isle_model.specs.Closure.{Joined, given, itself, turned, chained, at_field, fields_from, field_terms, HasConstraint, IsPartOf, IsProperPart, directly, deeper, class_name, same_class, due_with, due, with_owners, spoken_of, class_names, differs_in_class, has_conflict, constrained_in, fields_of_first, parts_of, goes_deeper, has_cycle}
 use Rattle.isle_closure.specs.Laws.{IsEquivalence, RespectsDemands}
-use Rattle.isle_closure.proofs.Elements.{In, in_from_contains, contains_from_in, some_is, none_some, in_left, in_right, in_either, in_slice, slice_in, any_in, in_any, all_in, or_split, or_left, or_right, in_map, map_in, from_flat_map, in_flat_map, in_zip, zip_in}
-use Rattle.isle_closure.proofs.SameSites.{term_means, term_same, same_term, constraint_means, same_constraint}
-use Rattle.isle_closure.proofs.Names.{SameName, same_name, name_same, given_joined, named_joined, names_sound, named_alike}
+use Rattle.isle_closure.proofs.Elements.{In, in_from_contains, some_is, none_some, in_left, in_right, in_either, in_slice, slice_in, any_in, in_any, or_split, or_left, or_right, map_in, from_flat_map, in_flat_map, zip_in}
+use Rattle.isle_closure.proofs.SameSites.{term_means, same_term, constraint_means}
+use Rattle.isle_closure.proofs.Names.{SameName, name_same, given_joined}
 
 pub joined_is_equivalence_lem : (d : Demands) → IsEquivalence (Joined d)
 joined_is_equivalence_lem d = record { reflexive = λ a. itself; symmetric = λ a b j. turned j; transitive = λ a b c j k. chained j k }
@@ -209,9 +209,10 @@ pub asked_spoken : (d : Demands) (c : SiteTerm × Constraint) → In d.constrain
 asked_spoken d c i = spoken_in d c.0 (inl (in_flat_map owners_of_asked d.constraints c c.0 i (own_first c.0)))
 
 pub equal_spoken : (d : Demands) (e : SiteTerm × SiteTerm) → In d.equalities e → In (spoken_of d) e.0 × In (spoken_of d) e.1
-equal_spoken d e i =
-    (spoken_in d e.0 (inr (in_flat_map owners_of_equal d.equalities e e.0 i (in_left (with_owners e.0) (with_owners e.1) e.0 (own_first e.0)))),
-     spoken_in d e.1 (inr (in_flat_map owners_of_equal d.equalities e e.1 i (in_right (with_owners e.0) (with_owners e.1) e.1 (own_first e.1)))))
+equal_spoken d e i = (
+  spoken_in d e.0 (inr (in_flat_map owners_of_equal d.equalities e e.0 i (in_left (with_owners e.0) (with_owners e.1) e.0 (own_first e.0)))),
+  spoken_in d e.1 (inr (in_flat_map owners_of_equal d.equalities e e.1 i (in_right (with_owners e.0) (with_owners e.1) e.1 (own_first e.1)))),
+)
 
 -- names under which the fields of a constrained class have one name, place by place
 abbrev pub IsSettled : List (SiteTerm × SiteTerm) → Demands → Type 0
@@ -225,11 +226,6 @@ in_due rs d s c i x y m n e f g =
     (in_flat_map (due_with rs s) d.constraints c (x, y) n
     (subst (λ l. In l (x, y)) (sym (cond-true (same_class rs s c.0) (zip (field_terms c.1 s) (field_terms c.1 c.0)) [] (name_same rs s c.0 e)))
     (zip_in (field_terms c.1 s) (field_terms c.1 c.0) i x y f g)))
-
-pub settled_from : (d : Demands) → is_settled d ≡ true → IsSettled (class_names d) d
-settled_from d h s c i x y m n e f g =
-    same_name (class_names d) x y
-    (all_in (λ (p : SiteTerm × SiteTerm). same_class (class_names d) p.0 p.1) (due (class_names d) d.constraints (spoken_of d)) (x, y) h (in_due (class_names d) d s c i x y m n e f g))
 
 -- the first constrained site of a class is one
 pub constrained_means : (rs : List (SiteTerm × SiteTerm)) (cs : List (SiteTerm × Constraint)) (n : SiteTerm) (c : SiteTerm × Constraint) → constrained_in rs cs n ≡ Some c → In cs c × (class_name rs c.0 ≡ n)
@@ -270,7 +266,7 @@ no_conflict rs d h a b i j e =
       | inr f ↦
           absurd (false≢true (sym h
           ∙ any_in (λ x. list_any (differs_in_class rs x) d.constraints) d.constraints a i
-              (any_in (differs_in_class rs a) d.constraints b j (and_from (same_class rs a.0 b.0) (not (constraint_eq a.1 b.1)) (name_same rs a.0 b.0 e) (ap not f)))))
+          (any_in (differs_in_class rs a) d.constraints b j (and_from (same_class rs a.0 b.0) (not (constraint_eq a.1 b.1)) (name_same rs a.0 b.0 e) (ap not f)))))
     ]
 
 -- under settled names without conflict
@@ -320,7 +316,7 @@ module _ (d : Demands) (settled : IsSettled (class_names d) d) (agreed : HasNoCo
   field_placed : (a t : SiteTerm) (k : Constraint) (i : ℕ) (x : SiteTerm) → place (class_names d) d.constraints t ≡ place (class_names d) d.constraints a → In d.constraints (t, k)
       → slice_get (field_terms k a) i ≡ Some x
       → (c : SiteTerm × Constraint) × (constrained_in (class_names d) d.constraints (place (class_names d) d.constraints a) ≡ Some c) × (c.1 ≡ k)
-        × (place (class_names d) d.constraints x ≡ class_name (class_names d) (moved c.0 x))
+      × (place (class_names d) d.constraints x ≡ class_name (class_names d) (moved c.0 x))
   unfolding placed
   field_placed a t k i x e m f =
       let named = sym (place_spoken t (asked_spoken d (t, k) m)) ∙ e in
@@ -328,27 +324,30 @@ module _ (d : Demands) (settled : IsSettled (class_names d) d) (agreed : HasNoCo
       let means = constrained_means (class_names d) d.constraints (place (class_names d) d.constraints a) first.0 first.1 in
       let same = agreed first.0 (t, k) means.0 m (means.1 ∙ sym named) in
       let here : slice_get (field_terms first.0.1 a) i ≡ Some x = subst (λ q. slice_get (field_terms q a) i ≡ Some x) (sym same) f in
-      let within : has_site (field_terms first.0.1 a) x ≡ true = in_has (field_terms first.0.1 a) x (in_slice (field_terms first.0.1 a) i x here) in
-      (first.0, first.1, same,
-       place_of_field (class_names d) d.constraints k a i x f
-       ∙ ap (λ o. placed (class_names d) o a x) first.1
-       ∙ cond-true (has_site (field_terms first.0.1 a) x) (class_name (class_names d) (moved first.0.0 x)) (class_name (class_names d) x) within)
+      let within : has_site (field_terms first.0.1 a) x ≡ true = in_has (field_terms first.0.1 a) x (in_slice (field_terms first.0.1 a) i x here) in (
+        first.0,
+        first.1,
+        same,
+        place_of_field (class_names d) d.constraints k a i x f
+            ∙ ap (λ o. placed (class_names d) o a x) first.1
+            ∙ cond-true (has_site (field_terms first.0.1 a) x) (class_name (class_names d) (moved first.0.0 x)) (class_name (class_names d) x) within,
+      )
 
   place_respects : RespectsDemands d (place (class_names d) d.constraints)
   place_respects = record {
     given = λ a b h.
-      let i = in_from_contains d.equalities (a, b) h in
-      let m = equal_spoken d (a, b) i in
-      place_spoken a m.0 ∙ given_joined d a b i ∙ sym (place_spoken b m.1);
+        let i = in_from_contains d.equalities (a, b) h in
+        let m = equal_spoken d (a, b) i in
+        place_spoken a m.0 ∙ given_joined d a b i ∙ sym (place_spoken b m.1);
     fields = λ a b t x y k i e f h g l.
-      let m = in_from_contains d.constraints (t, k) h in
-      let p = field_placed a t k i x f m g in
-      let q = field_placed b t k i y (f ∙ e) m l in
-      let one : p.0 ≡ q.0 = some_is p.0 q.0 (sym p.1 ∙ ap (constrained_in (class_names d) d.constraints) e ∙ q.1) in
-      let xs = fields_at k a p.0.0 i x g in
-      let ys = fields_at k b p.0.0 i y l in
-      p.3 ∙ ap (class_name (class_names d)) (some_is (moved p.0.0 x) (moved p.0.0 y) (sym xs ∙ ys))
-      ∙ ap (λ (c : SiteTerm × Constraint). class_name (class_names d) (moved c.0 y)) one ∙ sym q.3;
+        let m = in_from_contains d.constraints (t, k) h in
+        let p = field_placed a t k i x f m g in
+        let q = field_placed b t k i y (f ∙ e) m l in
+        let one : p.0 ≡ q.0 = some_is p.0 q.0 (sym p.1 ∙ ap (constrained_in (class_names d) d.constraints) e ∙ q.1) in
+        let xs = fields_at k a p.0.0 i x g in
+        let ys = fields_at k b p.0.0 i y l in
+        p.3 ∙ ap (class_name (class_names d)) (some_is (moved p.0.0 x) (moved p.0.0 y) (sym xs ∙ ys))
+        ∙ ap (λ (c : SiteTerm × Constraint). class_name (class_names d) (moved c.0 y)) one ∙ sym q.3;
   }
 
   pub joined_placed : (a b : SiteTerm) → Joined d a b → place (class_names d) d.constraints a ≡ place (class_names d) d.constraints b
@@ -369,7 +368,7 @@ module _ (d : Demands) (settled : IsSettled (class_names d) d) (agreed : HasNoCo
   -- a part's name is among the parts of the name of the whole
   part_placed : (s t : SiteTerm) → IsPartOf d s t
       → (c : SiteTerm × Constraint) × (constrained_in (class_names d) d.constraints (place (class_names d) d.constraints t) ≡ Some c)
-        × In (parts_of (class_names d) d.constraints (place (class_names d) d.constraints t)) (place (class_names d) d.constraints s)
+      × In (parts_of (class_names d) d.constraints (place (class_names d) d.constraints t)) (place (class_names d) d.constraints s)
   part_placed s t h =
       let m = in_from_contains d.constraints (h.constrained.source, h.constraint) h.constrained.asked in
       let at_place = slice_in (field_terms h.constraint h.whole) h.field (in_from_contains (field_terms h.constraint h.whole) h.field h.there) in
@@ -377,12 +376,14 @@ module _ (d : Demands) (settled : IsSettled (class_names d) d) (agreed : HasNoCo
       let whole = joined_placed h.whole t h.of_class in
       let first : constrained_in (class_names d) d.constraints (place (class_names d) d.constraints t) ≡ Some p.0 = ap (constrained_in (class_names d) d.constraints) (sym whole) ∙ p.1 in
       let there : In (field_terms p.0.1 p.0.0) (moved p.0.0 h.field) =
-          in_slice (field_terms p.0.1 p.0.0) at_place.0 (moved p.0.0 h.field)
-          (subst (λ q. slice_get (field_terms q p.0.0) at_place.0 ≡ Some (moved p.0.0 h.field)) (sym p.2) (fields_at h.constraint h.whole p.0.0 at_place.0 h.field at_place.1)) in
-      (p.0, first,
-       subst (λ o. In (fields_of_first (class_names d) o) (place (class_names d) d.constraints s)) (sym first)
-       (subst (In (map (class_name (class_names d)) (field_terms p.0.1 p.0.0))) (sym p.3 ∙ joined_placed h.field s h.in_class)
-       (map_in (class_name (class_names d)) (field_terms p.0.1 p.0.0) (moved p.0.0 h.field) there)))
+      in_slice (field_terms p.0.1 p.0.0) at_place.0 (moved p.0.0 h.field)
+      (subst (λ q. slice_get (field_terms q p.0.0) at_place.0 ≡ Some (moved p.0.0 h.field)) (sym p.2) (fields_at h.constraint h.whole p.0.0 at_place.0 h.field at_place.1)) in (
+        p.0,
+        first,
+        subst (λ o. In (fields_of_first (class_names d) o) (place (class_names d) d.constraints s)) (sym first)
+            (subst (In (map (class_name (class_names d)) (field_terms p.0.1 p.0.0))) (sym p.3 ∙ joined_placed h.field s h.in_class)
+            (map_in (class_name (class_names d)) (field_terms p.0.1 p.0.0) (moved p.0.0 h.field) there)),
+      )
 
   less_deep : (n : ℕ) (s : SiteTerm) → goes_deeper (suc n) (class_names d) d.constraints s ≡ true → goes_deeper n (class_names d) d.constraints s ≡ true
   less_deep zero s h = refl
@@ -416,4 +417,4 @@ module _ (d : Demands) (settled : IsSettled (class_names d) d) (agreed : HasNoCo
       let n = suc (length d.constraints) in
       false≢true (sym f
       ∙ any_in (λ (c : SiteTerm × Constraint). goes_deeper n (class_names d) d.constraints (class_name (class_names d) c.0)) d.constraints w.0 w.1
-          (ap (goes_deeper n (class_names d) d.constraints) w.2 ∙ cycle_deep s h n))
+      (ap (goes_deeper n (class_names d) d.constraints) w.2 ∙ cycle_deep s h n))

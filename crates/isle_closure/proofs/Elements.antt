@@ -1,5 +1,5 @@
 -- Elements of lists, as a choice by recursion, and tests of lists.
-use Rattle.std.proofs.Common.{◌≡◌, ◌⊎◌, ℕ, zero, suc, ◌<◌, Bool, true, false, ◌||◌, List, [], ◌∷◌, ◌++◌, map, length, get_or, Option, Some, None, slice_get, Contains, filter, flat_map, refl, sym, ap, ◌∙◌, subst, inl, inr, arith}
+use Rattle.std.proofs.Common.{◌≡◌, ◌⊎◌, ℕ, zero, suc, ◌<◌, Bool, true, false, ◌||◌, List, [], ◌∷◌, ◌++◌, map, length, get_or, Some, None, slice_get, Contains, filter, flat_map, refl, sym, ap, ◌∙◌, subst, inl, inr, arith}
 use Rattle.std.proofs.lemmas.Bool.{cases_Bool, cond-true, cond-false, and_parts, and_from, false≢true}
 use Rattle.std.specs.List.{list_any, list_all, zip}
 
@@ -84,6 +84,22 @@ module _ {X : Type 0} where
   pub all_from : (p : X → Bool) (xs : List X) → ((x : X) → In xs x → p x ≡ true) → list_all p xs ≡ true
   all_from p [] f = refl
   all_from p (y ∷ ys) f = and_from (p y) (list_all p ys) (f y (inl refl)) (all_from p ys (λ x i. f x (inr i)))
+
+pub in_filter : {X : Type 0} (p : X → Bool) (xs : List X) (x : X) → In (filter p xs) x → In xs x
+in_filter p [] x i = absurd i
+in_filter p (y ∷ ys) x i =
+    elim (cases_Bool (p y)) [
+      | inl t ↦ elim (subst (λ l. In l x) (cond-true (p y) (y ∷ filter p ys) (filter p ys) t) i) [ inl e ↦ inl e | inr j ↦ inr (in_filter p ys x j) ]
+      | inr f ↦ inr (in_filter p ys x (subst (λ l. In l x) (cond-false (p y) (y ∷ filter p ys) (filter p ys) f) i))
+    ]
+
+pub passed_filter : {X : Type 0} (p : X → Bool) (xs : List X) (x : X) → In (filter p xs) x → p x ≡ true
+passed_filter p [] x i = absurd i
+passed_filter p (y ∷ ys) x i =
+    elim (cases_Bool (p y)) [
+      | inl t ↦ elim (subst (λ l. In l x) (cond-true (p y) (y ∷ filter p ys) (filter p ys) t) i) [ inl e ↦ ap p (sym e) ∙ t | inr j ↦ passed_filter p ys x j ]
+      | inr f ↦ passed_filter p ys x (subst (λ l. In l x) (cond-false (p y) (y ∷ filter p ys) (filter p ys) f) i)
+    ]
 
 pub in_map : {X Y : Type 0} (f : X → Y) (xs : List X) (y : Y) → In (map f xs) y → (x : X) × In xs x × (f x ≡ y)
 in_map f [] y i = absurd i

@@ -4,3 +4,7 @@ pub mod Names
 pub mod Classes
 pub mod Verdict
 pub mod Settled
+pub mod Overlaps
+pub mod Closing
+pub mod SamplesReached
+pub mod LimitsPassed

@@ -1,12 +1,12 @@
 -- Names of classes: joining keeps what is joined, joins what it is given, and joins nothing else.
-use Rattle.std.proofs.Common.{◌≡◌, ◌⊎◌, ℕ, zero, suc, Bool, true, false, if◌then◌else◌, List, [], ◌∷◌, ◌++◌, length, Option, Some, None, slice_get, Contains, flat_map, refl, sym, ap, ◌∙◌, subst, inl, inr}
-use Rattle.std.proofs.lemmas.Bool.{cases_Bool, cond-true, cond-false, and_parts, and_from, false≢true}
-use Rattle.std.specs.List.{list_any, list_all, zip}
+use Rattle.std.proofs.Common.{◌≡◌, ℕ, zero, suc, true, if◌then◌else◌, List, [], ◌∷◌, ◌++◌, length, flat_map, refl, sym, ap, ◌∙◌, subst, inl, inr}
+use Rattle.std.proofs.lemmas.Bool.{cases_Bool, cond-true, cond-false}
+use Rattle.std.specs.List.{zip}
 use Rattle.isle_model.specs.Sites.{Constraint, SiteTerm}
 use Rattle.isle_model.specs.Demands.{Demands, site_term_eq}
-use Rattle.isle_model.specs.Closure.{Joined, given, itself, turned, chained, at_field, field_terms, class_name, same_class, joining, joining_each, due_with, due, joined_in, spoken_of, class_names, is_settled}
-use Rattle.isle_closure.proofs.Elements.{In, in_from_contains, contains_from_in, from_flat_map, in_flat_map, in_zip, zip_in, all_in}
-use Rattle.isle_closure.proofs.SameSites.{term_means, term_same, same_term}
+use Rattle.isle_model.specs.Closure.{Joined, given, itself, turned, chained, at_field, field_terms, class_name, same_class, joining, joining_each, due_with, due, joined_in, spoken_of, class_names}
+use Rattle.isle_closure.proofs.Elements.{In, contains_from_in, from_flat_map, in_zip}
+use Rattle.isle_closure.proofs.SameSites.{term_means, same_term}
 
 abbrev Renamings : Type 0
 Renamings = List (SiteTerm × SiteTerm)

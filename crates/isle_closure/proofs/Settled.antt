@@ -1,15 +1,16 @@
 -- Rounds of joining come to their end: each round that joins anything lessens the number of sites that are their own
 -- class's name.
-use Rattle.std.proofs.Common.{◌≡◌, ◌≢◌, ◌⊎◌, ◌+◌, ℕ, zero, suc, ◌<◌, ◌≤◌, Bool, true, false, ◌&&◌, if◌then◌else◌, List, [], ◌∷◌, ◌++◌, length, Some, Contains, slice_get, flat_map, refl, sym, ap, ◌∙◌, subst, inl, inr, arith}
+use Rattle.std.proofs.Common.{◌≡◌, ◌≢◌, ◌↔◌, ℕ, zero, suc, ◌≤◌, Bool, true, false, ◌&&◌, if◌then◌else◌, List, [], ◌∷◌, ◌++◌, length, Some, Contains, slice_get, flat_map, refl, sym, ap, ◌∙◌, subst, inl, inr, arith}
 use Rattle.std.proofs.lemmas.Bool.{cases_Bool, cond-true, cond-false, and_parts, false≢true}
 use Rattle.std.specs.List.{list_all, zip}
 use Rattle.isle_model.specs.Sites.{Constraint, SiteTerm}
 use Rattle.isle_model.specs.Demands.{Demands, site_term_eq}
-use Rattle.isle_model.specs.Closure.{field_terms, class_name, same_class, joining, joining_each, due_with, due, joined_in, spoken_of, class_names}
-use Rattle.isle_closure.proofs.Elements.{In, in_left, in_right, in_slice, all_in, all_from, from_flat_map, in_flat_map, in_zip}
-use Rattle.isle_closure.proofs.SameSites.{term_means, term_same, same_term}
-use Rattle.isle_closure.proofs.Names.{SameName, same_name, name_same}
-use Rattle.isle_closure.proofs.Classes.{IsSettled, in_due, asked_spoken, equal_spoken}
+use Rattle.isle_model.specs.Closure.{field_terms, class_name, same_class, joining, joining_each, due_with, due, joined_in, spoken_of, class_names, Joined, IsUnreachable, has_conflict, is_unreachable}
+use Rattle.isle_closure.proofs.Elements.{In, in_from_contains, in_left, in_right, in_slice, all_in, from_flat_map, in_flat_map, in_zip}
+use Rattle.isle_closure.proofs.SameSites.{term_means, same_term}
+use Rattle.isle_closure.proofs.Names.{same_name, name_same, named_alike}
+use Rattle.isle_closure.proofs.Classes.{IsSettled, HasNoConflict, no_conflict, joined_named, in_due, asked_spoken, equal_spoken}
+use Rattle.isle_closure.proofs.Verdict.{conflict_is, verdict_is, unreachable_is}
 
 -- the number of elements that pass a test
 counted : {X : Type 0} → (X → Bool) → List X → ℕ
@@ -270,3 +271,16 @@ module _ (d : Demands) where
   names_settled =
       settles (length all_sites) (joining_each [] d.equalities) (after_each all_sites d.equalities [] first_names equal_within).good
       (counted_most (is_own (joining_each [] d.equalities)) all_sites)
+
+pub verdict_is_exact_lem : (d : Demands) → (is_unreachable d ≡ true) ↔ IsUnreachable d
+verdict_is_exact_lem d = (verdict_is d, unreachable_is d (names_settled d))
+
+-- of demands that can be met, sites that are spoken of have one name exactly where they must be equal
+pub names_are_exact_lem : (d : Demands) → (IsUnreachable d → ⊥) → (a b : SiteTerm) → Contains (spoken_of d) a → Contains (spoken_of d) b → (same_class (class_names d) a b ≡ true) ↔ Joined d a b
+names_are_exact_lem d n a b i j = (
+  λ h. named_alike d a b (same_name (class_names d) a b h),
+  λ h. name_same (class_names d) a b (joined_named d (names_settled d) agreed a b (in_from_contains (spoken_of d) a i) (in_from_contains (spoken_of d) b j) h),
+)
+  where
+    agreed : HasNoConflict (class_names d) d
+    agreed = elim (cases_Bool (has_conflict (class_names d) d.constraints)) [ inl t ↦ absurd (n (conflict_is d t)) | inr f ↦ no_conflict (class_names d) d f ]

@@ -1,14 +1,14 @@
 -- What the names of classes say of unreachable demands.
-use Rattle.std.proofs.Common.{◌≡◌, ◌≢◌, ◌⊎◌, ◌↔◌, ℕ, zero, suc, ◌<◌, ◌≤◌, Bool, true, false, not, ◌&&◌, ◌||◌, List, [], ◌∷◌, map, length, Option, Some, None, Contains, refl, sym, ap, ◌∙◌, subst, inl, inr, arith}
+use Rattle.std.proofs.Common.{◌≡◌, ◌⊎◌, ℕ, zero, suc, ◌≤◌, Bool, true, false, not, List, [], ◌∷◌, map, length, Option, Some, None, refl, sym, ap, ◌∙◌, subst, inl, inr, arith}
 use Rattle.std.proofs.lemmas.Bool.{cases_Bool, and_parts, false≢true}
 use Rattle.std.specs.List.{list_any}
 use Rattle.isle_model.specs.Sites.{Constraint, SiteTerm}
 use Rattle.isle_model.specs.Demands.{Demands}
 use Rattle.isle_model.specs.Built.{constraint_eq}
-use Rattle.isle_model.specs.Closure.{Joined, itself, turned, chained, field_terms, HasConstraint, IsPartOf, IsProperPart, directly, deeper, IsUnreachable, two_at_a_site, two_in_a_class, part_of_itself, class_name, same_class, class_names, differs_in_class, has_conflict, constrained_in, fields_of_first, parts_of, goes_deeper, has_cycle, is_unreachable}
-use Rattle.isle_closure.proofs.Elements.{In, in_from_contains, contains_from_in, in_any, in_map, map_in, or_split, or_left, or_right}
+use Rattle.isle_model.specs.Closure.{Joined, itself, field_terms, IsPartOf, IsProperPart, directly, deeper, IsUnreachable, two_at_a_site, two_in_a_class, part_of_itself, class_name, same_class, class_names, differs_in_class, has_conflict, constrained_in, fields_of_first, parts_of, goes_deeper, has_cycle, is_unreachable}
+use Rattle.isle_closure.proofs.Elements.{In, contains_from_in, in_any, in_map, map_in, or_split, or_left, or_right}
 use Rattle.isle_closure.proofs.SameSites.{same_constraint}
-use Rattle.isle_closure.proofs.Names.{SameName, same_name, named_joined, names_sound, named_alike}
+use Rattle.isle_closure.proofs.Names.{same_name, named_joined, names_sound, named_alike}
 use Rattle.isle_closure.proofs.Classes.{IsSettled, HasNoConflict, no_conflict, one_constraint, no_cycle, constrained_means}
 
 not_same : (b : Bool) → not b ≡ true → b ≡ false
@@ -46,16 +46,18 @@ module _ (d : Demands) where
       from None e j = absurd j
       from (Some c) e j =
           let m = constrained_means (class_names d) d.constraints n c e in
-          let f = in_map (class_name (class_names d)) (field_terms c.1 c.0) s j in
-          (record {
-             whole = c.0;
-             constraint = c.1;
-             field = f.0;
-             of_class = subst (Joined d c.0) m.1 (named_joined d (class_names d) (names_sound d) c.0);
-             constrained = record { source = c.0; joined = itself; asked = contains_from_in d.constraints c m.0 };
-             there = contains_from_in (field_terms c.1 c.0) f.0 f.1;
-             in_class = subst (Joined d f.0) f.2 (named_joined d (class_names d) (names_sound d) f.0);
-           }, (c, m.0, m.1))
+          let f = in_map (class_name (class_names d)) (field_terms c.1 c.0) s j in (
+            record {
+              whole = c.0;
+              constraint = c.1;
+              field = f.0;
+              of_class = subst (Joined d c.0) m.1 (named_joined d (class_names d) (names_sound d) c.0);
+              constrained = record { source = c.0; joined = itself; asked = contains_from_in d.constraints c m.0 };
+              there = contains_from_in (field_terms c.1 c.0) f.0 f.1;
+              in_class = subst (Joined d f.0) f.2 (named_joined d (class_names d) (names_sound d) f.0);
+            },
+            (c, m.0, m.1),
+          )
 
   abbrev Found : Type 0
   Found = (s : SiteTerm) × IsProperPart d s s
@@ -108,8 +110,8 @@ module _ (d : Demands) where
   cycle_is h =
       let c = in_any (λ (x : SiteTerm × Constraint). goes_deeper (suc (length d.constraints)) (class_names d) d.constraints (class_name (class_names d) x.0)) d.constraints h in
       let f = chain_returns (length d.constraints) (map (λ (x : SiteTerm × Constraint). class_name (class_names d) x.0) d.constraints) [] (class_name (class_names d) c.0.0) (names_count d.constraints)
-          (λ x i. inl (map_in (λ (y : SiteTerm × Constraint). class_name (class_names d) y.0) d.constraints x i))
-          (λ v i. absurd i) c.2 in
+      (λ x i. inl (map_in (λ (y : SiteTerm × Constraint). class_name (class_names d) y.0) d.constraints x i))
+      (λ v i. absurd i) c.2 in
       part_of_itself f.0 f.1
 
   pub verdict_is : is_unreachable d ≡ true → IsUnreachable d

@@ -1,8 +1,14 @@
--- What theory proves of the closure of demands, and of overlap.
-use Rattle.std.specs.Prelude.{◌≡◌, ℕ, Bool, true, false, List, [], Some, slice_get, Contains, ◌↔◌, Decides}
+-- What theory proves of the closure of demands, of limits, and of overlap.
+use Rattle.std.specs.Prelude.{◌≡◌, ◌≢◌, ℕ, true, List, [], Some, slice_get, Contains, ◌↔◌}
+use Rattle.std.specs.Bool.{Decides}
+use Rattle.isle_model.specs.Typed.{TypedRule}
+use Rattle.isle_model.specs.Program.{Program}
 use Rattle.isle_model.specs.Sites.{Constraint, SiteTerm}
-use Rattle.isle_model.specs.Demands.{Demands}
-use Rattle.isle_model.specs.Closure.{field_terms, Joined, IsUnreachable, is_settled, is_unreachable}
+use Rattle.isle_model.specs.Demands.{Demands, demands_of, with_sites}
+use Rattle.isle_model.specs.Built.{may_overlap}
+use Rattle.isle_model.specs.Closure.{field_terms, Joined, HasConstraint, IsClosedConstraint, IsClosedEquality, IsUnreachable, is_unreachable, same_class, class_names, spoken_of, with_constraints, Closed, closed}
+use Rattle.isle_model.specs.Limits.{RuleLimit, first_limit, PassesLimit}
+use Rattle.isle_model.specs.Overlap.{Overlaps, overlaps, IsSubsetPair, is_subset_pair, BuiltRule, is_built, clash}
 
 -- a relation between sites is an equivalence
 pub record IsEquivalence (R : SiteTerm → SiteTerm → Type 0) : Type 0 where
@@ -23,6 +29,72 @@ pub record RespectsDemands {X : Type 0} (d : Demands) (class : SiteTerm → X) :
 abbrev pub ClassesBoundJoined : Type 0
 ClassesBoundJoined = (d : Demands) (class : SiteTerm → ℕ) → RespectsDemands d class → (a b : SiteTerm) → Joined d a b → class a ≡ class b
 
--- where rounds of joining have come to their end, the test says what is unreachable
-abbrev pub SettledVerdictIsExact : Type 0
-SettledVerdictIsExact = (d : Demands) → is_settled d ≡ true → (is_unreachable d ≡ true) ↔ IsUnreachable d
+-- the test says what is unreachable
+abbrev pub VerdictIsExact : Type 0
+VerdictIsExact = (d : Demands) → (is_unreachable d ≡ true) ↔ IsUnreachable d
+
+-- of demands that can be met, sites that are spoken of have one name exactly where they must be equal
+abbrev pub NamesAreExact : Type 0
+NamesAreExact =
+    (d : Demands) → (IsUnreachable d → ⊥) → (a b : SiteTerm) → Contains (spoken_of d) a → Contains (spoken_of d) b
+    → (same_class (class_names d) a b ≡ true) ↔ Joined d a b
+
+-- closing demands without equalities leaves their constraints, each site once, and makes no site
+abbrev pub ClosingAddsNothing : Type 0
+ClosingAddsNothing =
+    (before : List SiteTerm) (d : Demands) → d.equalities ≡ []
+    → closed before d ≡ record { constraints = with_constraints [] d.constraints; classes = []; made = with_sites before d.made }
+
+-- of demands that can be met these are all their constraints
+abbrev pub ConstraintsAreKept : Type 0
+ConstraintsAreKept =
+    (d : Demands) → (IsUnreachable d → ⊥) → (s : SiteTerm) (c : Constraint)
+    → Contains (with_constraints [] d.constraints) (s, c) ↔ Contains d.constraints (s, c)
+
+-- of reachable rules without equalities, closed demands overlap exactly where the demands themselves do
+abbrev pub EarlyOverlapAgrees : Type 0
+EarlyOverlapAgrees =
+    (p : Program) (r s : TypedRule) (before after : List SiteTerm)
+    → (demands_of p r).equalities ≡ [] → (demands_of p s).equalities ≡ [] → (IsUnreachable (demands_of p r) → ⊥) → (IsUnreachable (demands_of p s) → ⊥)
+    → overlaps (closed before (demands_of p r)) (closed after (demands_of p s)) ≡ may_overlap p r s
+
+-- closed demands ask nothing that doesn't follow
+pub record ClosedFollows (d : Demands) (k : Closed) : Type 0 where
+  pub constraints : (s : SiteTerm) (c : Constraint) → Contains k.constraints (s, c) → HasConstraint d s c
+  pub classes : (class : List SiteTerm) (a b : SiteTerm) → Contains k.classes class → Contains class a → Contains class b → Joined d a b
+
+abbrev pub ClosingIsSound : Type 0
+ClosingIsSound = (before : List SiteTerm) (d : Demands) → ClosedFollows d (closed before d)
+
+abbrev pub OverlapIsSymmetric : Type 0
+OverlapIsSymmetric = (a b : Closed) → overlaps a b ≡ overlaps b a
+
+-- the tests are exact
+pub record OverlapTestsAreExact (a b : Closed) : Type 0 where
+  pub overlap : Decides (overlaps a b) (Overlaps a b)
+  pub subset : Decides (is_subset_pair a b) (IsSubsetPair a b)
+
+abbrev pub OverlapIsExact : Type 0
+OverlapIsExact = (a b : Closed) → OverlapTestsAreExact a b
+
+abbrev pub ClashIsExact : Type 0
+ClashIsExact = (a b : BuiltRule) → Decides (clash a b) ((a.rule.prio ≡ b.rule.prio) × Overlaps a.demands b.demands)
+
+-- a reported limit is passed, and where one is passed one is reported
+abbrev pub FirstLimitIsPassed : Type 0
+FirstLimitIsPassed = (p : Program) (before : List SiteTerm) (r : TypedRule) (l : RuleLimit) → first_limit p before r ≡ Some l → PassesLimit p before r l
+
+abbrev pub PassedLimitIsMet : Type 0
+PassedLimitIsMet =
+    (p : Program) (before : List SiteTerm) (r : TypedRule) (l : RuleLimit) → PassesLimit p before r l
+    → (m : RuleLimit) × (first_limit p before r ≡ Some m)
+
+-- not proved here. The closed demands of a rule that can be met and passes no limit are all that follows: the
+-- constraints of demanded sites, and the equalities of those that have none
+pub record ClosedIsWhole (d : Demands) (k : Closed) : Type 0 where
+  pub constraints : (s : SiteTerm) (c : Constraint) → Contains k.constraints (s, c) ↔ IsClosedConstraint d s c
+  pub equalities : (a b : SiteTerm) → (a ≢ b) × ((class : List SiteTerm) × Contains k.classes class × Contains class a × Contains class b) ↔ IsClosedEquality d a b
+
+abbrev pub ClosingIsWhole : Type 0
+ClosingIsWhole =
+    (p : Program) (before : List SiteTerm) (r : TypedRule) → is_built p before r ≡ true → ClosedIsWhole (demands_of p r) (closed before (demands_of p r))
