@@ -43,7 +43,7 @@ struct_fields_at a b j zero i x e = absurd (none_some x e)
 struct_fields_at a b j (suc n) zero x e = let q = some_is (struct_field a j) x e in (ap (λ u. Some (moved b u)) q, (j, sym q))
 struct_fields_at a b j (suc n) (suc i) x e = struct_fields_at a b (suc j) n i x e
 
-fields_at : (c : Constraint) (a b : SiteTerm) (i : ℕ) (x : SiteTerm) → slice_get (field_terms c a) i ≡ Some x → slice_get (field_terms c b) i ≡ Some (moved b x)
+pub fields_at : (c : Constraint) (a b : SiteTerm) (i : ℕ) (x : SiteTerm) → slice_get (field_terms c a) i ≡ Some x → slice_get (field_terms c b) i ≡ Some (moved b x)
 fields_at (is_variant ty variant n) a b i x e = (variant_fields_at a b variant 0 n i x e).0
 fields_at (is_struct ty n) a b i x e = (struct_fields_at a b 0 n i x e).0
 fields_at (is_bool v ty) a b i x e = absurd (none_some x e)

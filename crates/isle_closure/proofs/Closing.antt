@@ -165,7 +165,7 @@ module _ (d : Demands) where
   abbrev pub AreJoined : List (List SiteTerm) → Type 0
   AreJoined ks = (k : List SiteTerm) (a b : SiteTerm) → In ks k → In k a → In k b → Joined d a b
 
-  in_class_joined : (ks : List (List SiteTerm)) → AreJoined ks → (s x : SiteTerm) → In (class_at ks s) x → Joined d s x
+  pub in_class_joined : (ks : List (List SiteTerm)) → AreJoined ks → (s x : SiteTerm) → In (class_at ks s) x → Joined d s x
   in_class_joined [] j s x i = elim i [ inl e ↦ subst (Joined d s) e itself | inr n ↦ absurd n ]
   in_class_joined (k ∷ ks) j s x i =
       elim (cases_Bool (has_site k s)) [
@@ -199,7 +199,7 @@ module _ (d : Demands) where
   all_merged_joined [] ks j f = j
   all_merged_joined (e ∷ es) ks j f = all_merged_joined es (merged ks e) (merged_joined ks j e (f e (inl refl))) (λ x i. f x (inr i))
 
-  constraint_carried : (a b : SiteTerm) (c : Constraint) → Joined d a b → HasConstraint d a c → HasConstraint d b c
+  pub constraint_carried : (a b : SiteTerm) (c : Constraint) → Joined d a b → HasConstraint d a c → HasConstraint d b c
   constraint_carried a b c j h = record { source = h.source; joined = chained h.joined j; asked = h.asked }
 
   fields_joined : (c : Constraint) (members : List SiteTerm) (s : SiteTerm) → HasConstraint d s c → ((m : SiteTerm) → In members m → Joined d s m)
@@ -216,7 +216,7 @@ module _ (d : Demands) where
     pub constraints : AreDue k.constraints
     pub classes : AreJoined k.classes
 
-  next_asked : (ks : List (List SiteTerm)) (cs : List (SiteTerm × Constraint)) (order : List SiteTerm) (c : SiteTerm × Constraint) → next_constrained ks cs order ≡ Some c → In cs c
+  pub next_asked : (ks : List (List SiteTerm)) (cs : List (SiteTerm × Constraint)) (order : List SiteTerm) (c : SiteTerm × Constraint) → next_constrained ks cs order ≡ Some c → In cs c
   next_asked ks cs [] c e = absurd (none_some c e)
   next_asked ks cs (s ∷ ss) c e = at_site (constraint_of cs s) refl e (next_asked ks cs ss c)
     where
@@ -230,7 +230,7 @@ module _ (d : Demands) where
             | inr n ↦ later (sym (cond-false (is_in_class ks s) (Some (s, b)) (next_constrained ks cs ss) n) ∙ f)
           ]
 
-  taken_follows : (k : Closed) → FollowsSoFar k → (c : SiteTerm × Constraint) → In k.constraints c → FollowsSoFar (taken k c (ascending k.made (class_at k.classes c.0)))
+  pub taken_follows : (k : Closed) → FollowsSoFar k → (c : SiteTerm × Constraint) → In k.constraints c → FollowsSoFar (taken k c (ascending k.made (class_at k.classes c.0)))
   taken_follows k f c i =
       record {
         constraints = λ x j. elim (constraints_in k.constraints (map (λ m. (m, c.1)) members) x j) [
@@ -257,13 +257,13 @@ module _ (d : Demands) where
       go_on None e later = f
       go_on (Some c) e later = later (taken k c (ascending k.made (class_at k.classes c.0))) (taken_follows k f c (next_asked k.classes k.constraints k.made c e))
 
-  opening_follows : (before : List SiteTerm) → FollowsSoFar (opening before d)
+  pub opening_follows : (before : List SiteTerm) → FollowsSoFar (opening before d)
   opening_follows before = record {
     constraints = λ x i. record { source = x.0; joined = itself; asked = contains_from_in d.constraints x (from_constraints d.constraints x i) };
     classes = all_merged_joined d.equalities [] (λ k a b n. absurd n) (λ e i. given (contains_from_in d.equalities e i));
   }
 
-  in_order_follows : (k : Closed) → FollowsSoFar k → FollowsSoFar (in_order k)
+  pub in_order_follows : (k : Closed) → FollowsSoFar k → FollowsSoFar (in_order k)
   in_order_follows k f = record {
     constraints = f.constraints;
     classes = λ l a b i m n.

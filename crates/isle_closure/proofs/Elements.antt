@@ -93,6 +93,16 @@ in_filter p (y ∷ ys) x i =
       | inr f ↦ inr (in_filter p ys x (subst (λ l. In l x) (cond-false (p y) (y ∷ filter p ys) (filter p ys) f) i))
     ]
 
+pub filter_from : {X : Type 0} (p : X → Bool) (xs : List X) (x : X) → In xs x → p x ≡ true → In (filter p xs) x
+filter_from p [] x i h = absurd i
+filter_from p (y ∷ ys) x (inl e) h =
+    subst (λ l. In l x) (sym (cond-true (p y) (y ∷ filter p ys) (filter p ys) (ap p e ∙ h))) (inl e)
+filter_from p (y ∷ ys) x (inr i) h =
+    elim (cases_Bool (p y)) [
+      | inl t ↦ subst (λ l. In l x) (sym (cond-true (p y) (y ∷ filter p ys) (filter p ys) t)) (inr (filter_from p ys x i h))
+      | inr f ↦ subst (λ l. In l x) (sym (cond-false (p y) (y ∷ filter p ys) (filter p ys) f)) (filter_from p ys x i h)
+    ]
+
 pub passed_filter : {X : Type 0} (p : X → Bool) (xs : List X) (x : X) → In (filter p xs) x → p x ≡ true
 passed_filter p [] x i = absurd i
 passed_filter p (y ∷ ys) x i =

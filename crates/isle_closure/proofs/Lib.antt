@@ -8,3 +8,5 @@ pub mod Overlaps
 pub mod Closing
 pub mod SamplesReached
 pub mod LimitsPassed
+pub mod Whole
+pub mod WholeClosing

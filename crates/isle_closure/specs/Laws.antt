@@ -1,12 +1,12 @@
 -- What theory proves of the closure of demands, of limits, and of overlap.
-use Rattle.std.specs.Prelude.{◌≡◌, ◌≢◌, ℕ, true, List, [], Some, slice_get, Contains, ◌↔◌}
+use Rattle.std.specs.Prelude.{◌≡◌, ◌≢◌, ℕ, true, List, [], Some, None, slice_get, Contains, ◌↔◌}
 use Rattle.std.specs.Bool.{Decides}
 use Rattle.isle_model.specs.Typed.{TypedRule}
 use Rattle.isle_model.specs.Program.{Program}
 use Rattle.isle_model.specs.Sites.{Constraint, SiteTerm}
 use Rattle.isle_model.specs.Demands.{Demands, demands_of, with_sites}
 use Rattle.isle_model.specs.Built.{may_overlap}
-use Rattle.isle_model.specs.Closure.{field_terms, Joined, HasConstraint, IsClosedConstraint, IsClosedEquality, IsUnreachable, is_unreachable, same_class, class_names, spoken_of, with_constraints, Closed, closed}
+use Rattle.isle_model.specs.Closure.{field_terms, Joined, HasConstraint, IsClosedConstraint, IsClosedEquality, IsUnreachable, is_unreachable, same_class, class_names, spoken_of, with_constraints, Closed, next_constrained, closing, opening, most_steps, closed}
 use Rattle.isle_model.specs.Limits.{RuleLimit, first_limit, PassesLimit}
 use Rattle.isle_model.specs.Overlap.{Overlaps, overlaps, IsSubsetPair, is_subset_pair, BuiltRule, is_built, clash}
 
@@ -89,12 +89,29 @@ PassedLimitIsMet =
     (p : Program) (before : List SiteTerm) (r : TypedRule) (l : RuleLimit) → PassesLimit p before r l
     → (m : RuleLimit) × (first_limit p before r ≡ Some m)
 
--- not proved here. The closed demands of a rule that can be met and passes no limit are all that follows: the
--- constraints of demanded sites, and the equalities of those that have none
+-- the equated sites are made, as a visit does
+abbrev pub EqualSitesAreMade : Demands → Type 0
+EqualSitesAreMade d = (a b : SiteTerm) → Contains d.equalities (a, b) → Contains d.made a × Contains d.made b
+
+-- no class is left to be taken where the closing stops
+abbrev pub HasEnded : Closed → Type 0
+HasEnded k = next_constrained k.classes k.constraints k.made ≡ None
+
+-- closed demands are all that follows: the constraints of demanded sites, and the equalities of those that have none
 pub record ClosedIsWhole (d : Demands) (k : Closed) : Type 0 where
   pub constraints : (s : SiteTerm) (c : Constraint) → Contains k.constraints (s, c) ↔ IsClosedConstraint d s c
   pub equalities : (a b : SiteTerm) → (a ≢ b) × ((class : List SiteTerm) × Contains k.classes class × Contains class a × Contains class b) ↔ IsClosedEquality d a b
 
+-- where demands can be met and their closing ended, the closed demands are whole
 abbrev pub ClosingIsWhole : Type 0
 ClosingIsWhole =
-    (p : Program) (before : List SiteTerm) (r : TypedRule) → is_built p before r ≡ true → ClosedIsWhole (demands_of p r) (closed before (demands_of p r))
+    (before : List SiteTerm) (d : Demands) → EqualSitesAreMade d → (IsUnreachable d → ⊥) → HasEnded (closing most_steps (opening before d))
+    → ClosedIsWhole d (closed before d)
+
+-- not proved here: the closing of a rule that is built ends
+abbrev pub ClosingEnds : Type 0
+ClosingEnds = (p : Program) (before : List SiteTerm) (r : TypedRule) → is_built p before r ≡ true → HasEnded (closing most_steps (opening before (demands_of p r)))
+
+-- not proved here: the sites that a rule's demands equate are made by its visit
+abbrev pub VisitsMakeEqualSites : Type 0
+VisitsMakeEqualSites = (p : Program) (r : TypedRule) → EqualSitesAreMade (demands_of p r)

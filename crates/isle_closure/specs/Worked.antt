@@ -1,11 +1,13 @@
 -- What the samples' rules demand, their closed demands, and what is reported of them.
-use Rattle.std.specs.Prelude.{◌≡◌, ℕ, pos, true, false, List, [], ◌∷◌}
+use Rattle.std.specs.Prelude.{◌≡◌, ℕ, zero, suc, length, pos, true, false, List, [], ◌∷◌, None}
 use Rattle.isle_model.specs.Program.{Program}
-use Rattle.isle_model.specs.Typed.{TypedRule}
+use Rattle.isle_model.specs.Typed.{TypedRule, TypedPattern, match_any, make_int}
 use Rattle.isle_model.specs.Sites.{Constraint, is_variant, is_int, is_present, SiteTerm, int_term, argument, extractor_call, constructor_call, pick_of, variant_made, variant_field, some_made, some_part, no_site_term, site_term_and}
 use Rattle.isle_model.specs.Demands.{Demands, demands_of}
-use Rattle.isle_model.specs.Closure.{IsUnreachable, is_unreachable, Unreachability, conflict, cycle, reported, closed}
+use Rattle.isle_model.specs.Closure.{IsUnreachable, is_unreachable, Unreachability, conflict, cycle, reported, closed, closing, opening, most_steps}
+use Rattle.isle_model.specs.Limits.{arguments_limit, first_limit, limits_of_shape, walked_rule}
 use Rattle.isle_model.specs.Overlap.{overlaps, BuiltRule, built_rule, clash, shadows, wrong_overlaps, not_reached, rules_overlap, rule_shadows, check_reports}
+use Rattle.isle_closure.specs.Laws.{HasEnded}
 use Rattle.isle_closure.specs.Samples as sample
 
 abbrev pub a0 : SiteTerm
@@ -255,3 +257,32 @@ abbrev pub NearMisses : Type 0
 NearMisses =
     (check_reports (sample.overlap_at (pos 1)) ≡ [])
     × (check_reports (sample.shadow_at (pos 0)) ≡ rules_overlap (record { first = sample.at 2; others = sample.at 1 ∷ [] }) ∷ [])
+
+-- nothing is left to be taken
+abbrev pub Ends : Program → TypedRule → Type 0
+Ends p r = HasEnded (closing most_steps (opening [] (demands_of p r)))
+
+abbrev pub ClosingsEnd : Type 0
+ClosingsEnd =
+    Ends sample.const_eq sample.const_eq_rule
+    × Ends sample.fall sample.fall_one
+    × Ends sample.equal sample.equal_same
+    × Ends sample.below sample.below_same
+    × Ends sample.variant_eq sample.variant_eq_rule
+    × Ends sample.nested sample.nested_rule
+
+-- n wildcards
+abbrev pub wildcards : ℕ → List TypedPattern
+wildcards zero = []
+wildcards (suc n) = match_any sample.u8 ∷ wildcards n
+
+abbrev pub wide_rule : ℕ → TypedRule
+wide_rule n = sample.rule 0 1 (pos 0) 0 (wildcards n) (make_int sample.u8 (pos 1)) []
+
+abbrev pub LimitsMet : Type 0
+LimitsMet =
+    (first_limit sample.variant_eq [] sample.variant_eq_rule ≡ None)
+    × (first_limit sample.extract [] sample.extract_one ≡ None)
+    × (limits_of_shape (sample.of_one [] []) (wide_rule 256) ≡ [])
+    × (limits_of_shape (sample.of_one [] []) (wide_rule 257) ≡ arguments_limit ∷ [])
+    × (length (walked_rule (sample.of_one [] []) (wide_rule 257)).args ≡ 256)

@@ -3,8 +3,8 @@
 //! The definitions are in `isle_model`, the samples in `specs/`. A function here has an empty body: its clause is a law.
 #![tactic(auto)]
 
-ghost use Rattle.isle_closure.specs.Laws.{FirstLimitIsPassed, PassedLimitIsMet, ClashIsExact, ClassesBoundJoined, ClosingAddsNothing, ClosingIsSound, ConstraintsAreKept, EarlyOverlapAgrees, JoinedIsEquivalence, NamesAreExact, OverlapIsExact, OverlapIsSymmetric, VerdictIsExact};
-ghost use Rattle.isle_closure.specs.Worked.{Overlapping, Shadowing, SamplesAreReachable, SamplesAreUnreachable, TwoReports, ConflictReported, ConstEqClosed, ConstEqDemands, CyclesReported, EffectsDemands, ExtractDemands, FallDemands, MultiDemands, NearMisses, NestedClosed, NotReported, NothingReported, OverlapReported, PartialDemands, ShadowReported, UnreachableReported, UnreachableSamples, VariantEqClosed, VariantEqDemands};
+ghost use Rattle.isle_closure.specs.Laws.{ClosingIsWhole, FirstLimitIsPassed, PassedLimitIsMet, ClashIsExact, ClassesBoundJoined, ClosingAddsNothing, ClosingIsSound, ConstraintsAreKept, EarlyOverlapAgrees, JoinedIsEquivalence, NamesAreExact, OverlapIsExact, OverlapIsSymmetric, VerdictIsExact};
+ghost use Rattle.isle_closure.specs.Worked.{ClosingsEnd, LimitsMet, Overlapping, Shadowing, SamplesAreReachable, SamplesAreUnreachable, TwoReports, ConflictReported, ConstEqClosed, ConstEqDemands, CyclesReported, EffectsDemands, ExtractDemands, FallDemands, MultiDemands, NearMisses, NestedClosed, NotReported, NothingReported, OverlapReported, PartialDemands, ShadowReported, UnreachableReported, UnreachableSamples, VariantEqClosed, VariantEqDemands};
 
 /// A literal and a repeated variable: one constraint, one equality.
 pub fn const_eq_demands()
@@ -194,4 +194,19 @@ pub fn overlapping()
 /// One shadowed rule, and near misses: equal priorities, a mask with more constraints, equalities.
 pub fn shadowing()
     ensures { Shadowing }
+{}
+
+/// Where closing ends, closed demands are all that follows from demands that can be met.
+pub fn closing_is_whole()
+    ensures { ClosingIsWhole }
+{}
+
+/// The closings of the samples end.
+pub fn closings_end()
+    ensures { ClosingsEnd }
+{}
+
+/// No rule of a sample passes a limit; a term of 257 arguments does, and the 256 before it are walked.
+pub fn limits_met()
+    ensures { LimitsMet }
 {}
