@@ -10,3 +10,4 @@ pub mod SamplesReached
 pub mod LimitsPassed
 pub mod Whole
 pub mod WholeClosing
+pub mod Reports

@@ -6,7 +6,7 @@ use Rattle.isle_model.specs.Program.{Program}
 use Rattle.isle_model.specs.Sites.{Constraint, SiteTerm}
 use Rattle.isle_model.specs.Demands.{Demands, demands_of, with_sites}
 use Rattle.isle_model.specs.Built.{may_overlap}
-use Rattle.isle_model.specs.Closure.{field_terms, Joined, HasConstraint, IsClosedConstraint, IsClosedEquality, IsUnreachable, is_unreachable, same_class, class_names, spoken_of, with_constraints, Closed, next_constrained, closing, opening, most_steps, closed}
+use Rattle.isle_model.specs.Closure.{field_terms, Joined, HasConstraint, IsClosedConstraint, IsClosedEquality, IsUnreachable, is_unreachable, reported, same_class, class_names, spoken_of, with_constraints, Closed, next_constrained, closing, opening, most_steps, closed}
 use Rattle.isle_model.specs.Limits.{RuleLimit, first_limit, PassesLimit}
 use Rattle.isle_model.specs.Overlap.{Overlaps, overlaps, IsSubsetPair, is_subset_pair, BuiltRule, is_built, clash}
 
@@ -32,6 +32,12 @@ ClassesBoundJoined = (d : Demands) (class : SiteTerm → ℕ) → RespectsDemand
 -- the test says what is unreachable
 abbrev pub VerdictIsExact : Type 0
 VerdictIsExact = (d : Demands) → (is_unreachable d ≡ true) ↔ IsUnreachable d
+
+-- where the constrained sites are among the sites made, nothing is reported of demands exactly where they can be met
+abbrev pub ReportsAreExact : Type 0
+ReportsAreExact =
+    (order : List SiteTerm) (d : Demands) → ((s : SiteTerm) (c : Constraint) → Contains d.constraints (s, c) → Contains order s)
+    → (reported order d ≡ []) ↔ (IsUnreachable d → ⊥)
 
 -- of demands that can be met, sites that are spoken of have one name exactly where they must be equal
 abbrev pub NamesAreExact : Type 0

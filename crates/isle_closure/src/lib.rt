@@ -3,7 +3,7 @@
 //! The definitions are in `isle_model`, the samples in `specs/`. A function here has an empty body: its clause is a law.
 #![tactic(auto)]
 
-ghost use Rattle.isle_closure.specs.Laws.{ClosingIsWhole, FirstLimitIsPassed, PassedLimitIsMet, ClashIsExact, ClassesBoundJoined, ClosingAddsNothing, ClosingIsSound, ConstraintsAreKept, EarlyOverlapAgrees, JoinedIsEquivalence, NamesAreExact, OverlapIsExact, OverlapIsSymmetric, VerdictIsExact};
+ghost use Rattle.isle_closure.specs.Laws.{ReportsAreExact, ClosingIsWhole, FirstLimitIsPassed, PassedLimitIsMet, ClashIsExact, ClassesBoundJoined, ClosingAddsNothing, ClosingIsSound, ConstraintsAreKept, EarlyOverlapAgrees, JoinedIsEquivalence, NamesAreExact, OverlapIsExact, OverlapIsSymmetric, VerdictIsExact};
 ghost use Rattle.isle_closure.specs.Worked.{ClosingsEnd, LimitsMet, Overlapping, Shadowing, SamplesAreReachable, SamplesAreUnreachable, TwoReports, ConflictReported, ConstEqClosed, ConstEqDemands, CyclesReported, EffectsDemands, ExtractDemands, FallDemands, MultiDemands, NearMisses, NestedClosed, NotReported, NothingReported, OverlapReported, PartialDemands, ShadowReported, UnreachableReported, UnreachableSamples, VariantEqClosed, VariantEqDemands};
 
 /// A literal and a repeated variable: one constraint, one equality.
@@ -209,4 +209,9 @@ pub fn closings_end()
 /// No rule of a sample passes a limit; a term of 257 arguments does, and the 256 before it are walked.
 pub fn limits_met()
     ensures { LimitsMet }
+{}
+
+/// Something is reported of demands exactly where they can't be met.
+pub fn reports_are_exact()
+    ensures { ReportsAreExact }
 {}
