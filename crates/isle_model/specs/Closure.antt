@@ -1,7 +1,7 @@
 -- The closure of a rule's demands: what follows from its constraints and equalities, when nothing can meet them, and
 -- the demands that are left once each constraint stands at every site that must meet it.
 use Rattle.std.specs.Prelude.{◌≡◌, ◌≢◌, ℕ, zero, suc, Bool, true, false, not, ◌&&◌, ◌||◌, List, [], ◌∷◌, ◌++◌, length, map, Option, Some, None, is_some, if◌then◌else◌, slice_get, Contains, IsTrue}
-use Rattle.std.specs.List.{filter, flat_map, list_all, list_any, zip}
+use Rattle.std.specs.List.{filter, flat_map, list_any, zip}
 use Rattle.isle_model.specs.Values.{Value}
 use Rattle.isle_model.specs.Meaning.{Content, one, Meaning}
 use Rattle.isle_model.specs.Sites.{Constraint, is_variant, is_struct, SiteTerm, variant_field, struct_field}
@@ -128,10 +128,6 @@ abbrev pub class_names : Demands → List (SiteTerm × SiteTerm)
 class_names d =
     let sites = spoken_of d in
     joined_in (length (sites ++ flat_map (λ s. flat_map (λ c. field_terms c.1 s) d.constraints) sites)) d.constraints sites (joining_each [] d.equalities)
-
--- nothing more is due
-abbrev pub is_settled : Demands → Bool
-is_settled d = list_all (λ e. same_class (class_names d) e.0 e.1) (due (class_names d) d.constraints (spoken_of d))
 
 -- a site's class has another constraint
 abbrev pub differs_in_class : List (SiteTerm × SiteTerm) → SiteTerm × Constraint → SiteTerm × Constraint → Bool
@@ -287,16 +283,12 @@ closing (suc n) k =
       | Some c ↦ closing n (taken k c (ascending k.made (class_at k.classes c.0)))
     ]
 
--- the sites of the demands, as the visit made them
-abbrev pub sites_met : Demands → List SiteTerm
-sites_met d = d.made ++ map (λ c. c.0) d.constraints ++ flat_map (λ c. field_terms c.1 c.0) d.constraints ++ flat_map (λ e. e.0 ∷ (e.1 ∷ [])) d.equalities
-
 -- where the closing starts, after the sites of the term's rules before
 abbrev pub opening : List SiteTerm → Demands → Closed
 opening before d = record {
   constraints = with_constraints [] d.constraints;
   classes = merged_all [] d.equalities;
-  made = with_sites before (sites_met d);
+  made = with_sites before d.made;
 }
 
 -- the classes in order

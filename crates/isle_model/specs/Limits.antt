@@ -1,5 +1,5 @@
 -- Limits on the rules of a term: which a rule passes, which is met first, and the sites that the term then has.
-use Rattle.std.specs.Prelude.{◌≡◌, ℕ, suc, ◌<◌, Bool, true, false, ◌||◌, List, [], ◌∷◌, ◌++◌, length, take, nat_lt, Option, Some, None, if◌then◌else◌, Contains}
+use Rattle.std.specs.Prelude.{ℕ, suc, ◌<◌, Bool, true, false, ◌||◌, List, [], ◌∷◌, ◌++◌, length, take, nat_lt, Option, Some, None, if◌then◌else◌, Contains}
 use Rattle.std.specs.List.{flat_map}
 use Rattle.isle_model.specs.Typed.{TypedPattern, match_bind, match_var, match_bool, match_int, match_prim, match_term, match_any, match_and, TypedPatterns, no_typed_pattern, typed_pattern_and, TypedIfLet, TypedRule}
 use Rattle.isle_model.specs.Program.{Program, Kind, a_variant, a_struct, a_call, unknown, kind}
@@ -80,16 +80,6 @@ PassesArguments r = most_arguments < length r.args
 abbrev pub sites_with : Program → List SiteTerm → TypedRule → List SiteTerm
 sites_with p before r =
     if is_unreachable (demands_of p r) then with_sites before (demands_of p r).made else (closed before (demands_of p r)).made
-
--- they are more than 65,536
-abbrev pub PassesSites : Program → List SiteTerm → TypedRule → Type 0
-PassesSites p before r = most_sites < length (sites_with p before r)
-
-abbrev pub PassesLimit : Program → List SiteTerm → TypedRule → RuleLimit → Type 0
-PassesLimit p before r fields_limit = PassesFields p r
-PassesLimit p before r outputs_limit = PassesOutputs p r
-PassesLimit p before r arguments_limit = PassesArguments r
-PassesLimit p before r sites_limit = PassesSites p before r
 
 -- the limits that single patterns and the number of arguments pass, in the order of the visit
 abbrev pub limit_of_width : Width → List RuleLimit
@@ -186,6 +176,16 @@ abbrev pub sites_reached : Program → List SiteTerm → TypedRule → List Site
 sites_reached p before r =
     let w = walked_rule p r in if w.ended then with_sites before (made_walking p w) else sites_with p before r
 
+-- the sites that are reached are more than 65,536
+abbrev pub PassesSites : Program → List SiteTerm → TypedRule → Type 0
+PassesSites p before r = most_sites < length (sites_reached p before r)
+
+abbrev pub PassesLimit : Program → List SiteTerm → TypedRule → RuleLimit → Type 0
+PassesLimit p before r fields_limit = PassesFields p r
+PassesLimit p before r outputs_limit = PassesOutputs p r
+PassesLimit p before r arguments_limit = PassesArguments r
+PassesLimit p before r sites_limit = PassesSites p before r
+
 abbrev pub first_in : List RuleLimit → Option RuleLimit
 first_in [] = None
 first_in (l ∷ ls) = Some l
@@ -201,7 +201,3 @@ sites_after_rule p before r = take most_sites (sites_reached p before r)
 abbrev pub sites_after_rules : Program → List SiteTerm → List TypedRule → List SiteTerm
 sites_after_rules p before [] = before
 sites_after_rules p before (r ∷ rs) = sites_after_rules p (sites_after_rule p before r) rs
-
--- a limit that is met first is passed
-abbrev pub FirstLimitIsPassed : Type 0
-FirstLimitIsPassed = (p : Program) (before : List SiteTerm) (r : TypedRule) (l : RuleLimit) → first_limit p before r ≡ Some l → PassesLimit p before r l
