@@ -3,3 +3,5 @@ pub mod OpenTests
 pub mod Constraints
 pub mod Exact
 pub mod Marking
+pub mod Scores
+pub mod Judged

@@ -3,3 +3,4 @@ pub mod NearMisses
 pub mod Judged
 pub mod Refused
 pub mod Laws
+pub mod Scores
