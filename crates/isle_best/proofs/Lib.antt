@@ -5,3 +5,5 @@ pub mod Exact
 pub mod Marking
 pub mod Scores
 pub mod Judged
+pub mod Available
+pub mod Covers
