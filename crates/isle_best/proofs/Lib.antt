@@ -7,3 +7,5 @@ pub mod Scores
 pub mod Judged
 pub mod Available
 pub mod Covers
+pub mod Ends
+pub mod Soundness

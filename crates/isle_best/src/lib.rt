@@ -7,6 +7,7 @@ ghost use Rattle.isle_best.specs.Judged.{PrintedTreesAreBest, PrintedTreesPass};
 ghost use Rattle.isle_best.specs.Laws.{JudgeIsExact, OpenTestsAreListed, TreeJudgeIsExact};
 ghost use Rattle.isle_best.specs.Refused.{NearMissesAreNotBest, NearMissesFail};
 ghost use Rattle.isle_best.specs.Scores.{OneTestIsGreatest, ScoresAreOrdered};
+ghost use Rattle.isle_model.specs.WellBuilt.{BestTreesAreSound};
 
 /// The list of a place's open tests holds exactly the tests that are open there.
 pub fn open_tests_are_listed()
@@ -31,6 +32,11 @@ pub fn judge_is_exact()
 /// The judge of a tree passes it exactly where it is a best tree, if the set's returns can be told apart.
 pub fn tree_judge_is_exact()
     ensures { TreeJudgeIsExact }
+{}
+
+/// A best tree of a well built set is sound.
+pub fn best_trees_are_sound()
+    ensures { BestTreesAreSound }
 {}
 
 /// The judge passes the trees that are printed for the samples.
