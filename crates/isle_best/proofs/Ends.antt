@@ -14,11 +14,7 @@ use Rattle.isle_best.proofs.Lists.{from_map, member_found, member_is_in}
 use Rattle.isle_best.proofs.Available.{Brings, Made, within, reach}
 use Rattle.isle_best.proofs.Covers.{prio_at, top_is_covered}
 use Rattle.isle_best.proofs.Exact.{not_exact}
-
--- what the tests around a place say of a rule there
-pub record Passed (ar : Around) (r : SetRule) : Type 0 where
-  pub asks : (s : ℕ) (c : Constraint) → Contains ar.tested (s, c) → constraint_at r.constraints s ≡ Some c
-  pub goes_over : (s : ℕ) → Contains ar.looped s → Contains r.iterators s
+use Rattle.isle_best.proofs.Passing.{Passed}
 
 pub joins_in_itself : (classes : List (List ℕ)) (a b : ℕ) → joins_in classes a b ≡ true → joins_in classes a a ≡ true
 joins_in_itself [] a b h = absurd (false≢true h)

@@ -7,5 +7,6 @@ pub mod Scores
 pub mod Judged
 pub mod Available
 pub mod Covers
+pub mod Passing
 pub mod Ends
 pub mod Soundness

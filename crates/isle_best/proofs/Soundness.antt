@@ -15,8 +15,9 @@ use Rattle.isle_trees.proofs.Lists.{nothing_in, in_head, in_tail, in_cases, get_
 use Rattle.isle_best.proofs.Lists.{member_found, member_is_in}
 use Rattle.isle_best.proofs.Available.{Brings}
 use Rattle.isle_best.proofs.Covers.{prio_at, none_higher, first_is_top, descend_rest, cover_over, cover_needs}
-use Rattle.isle_best.proofs.Ends.{Passed, end_is_tested}
+use Rattle.isle_best.proofs.Ends.{end_is_tested}
 use Rattle.isle_best.proofs.Exact.{not_exact}
+use Rattle.isle_best.proofs.Passing.{Passed, sources_there, passed_after, passed_arm, passed_equal, passed_loop, passed_at_start}
 
 module _ (set : SiteSet) (multi : Bool) (built : IsWellBuilt set) (one : multi ≡ true → HasOnePriority set.rules) where
   -- what the place's surroundings say of its rules
@@ -46,27 +47,21 @@ module _ (set : SiteSet) (multi : Bool) (built : IsWellBuilt set) (one : multi �
   keeps_after : (ar : Around) (check : MarkedCheck) (ids : List ℕ) → Keeps ar ids → Keeps (after_step set ar check) ids
   keeps_after ar check ids k = record {
     known = k.known;
-    passed = λ i r c e. let p = k.passed i r c e in record { asks = p.asks; goes_over = p.goes_over };
+    passed = λ i r c e. passed_after set ar r check (k.passed i r c e);
     brings = record { fields = k.brings.fields; picks = k.brings.picks };
   }
 
-  keeps_equal : (ar : Around) (a b : ℕ) (ids : List ℕ) → Keeps ar ids → Keeps (in_equal set ar a b) ids
-  keeps_equal ar a b ids k = record {
+  keeps_equal : (ar : Around) (a b : ℕ) (ids : List ℕ) → AllJoin set.rules ids a b → Keeps ar ids → Keeps (in_equal set ar a b) ids
+  keeps_equal ar a b ids join k = record {
     known = k.known;
-    passed = λ i r c e. let p = k.passed i r c e in record { asks = p.asks; goes_over = p.goes_over };
+    passed = λ i r c e. passed_equal set ar r a b (join i r c e) (k.passed i r c e);
     brings = record { fields = k.brings.fields; picks = k.brings.picks };
   }
 
   keeps_arm : (ar : Around) (s : ℕ) (c : Constraint) (fields : List (Option ℕ)) (ids : List ℕ) → AllAsk set.rules ids s c → fields ≡ fields_of set.sites s c → Keeps ar ids → Keeps (in_arm set ar s c fields) ids
   keeps_arm ar s c fields ids ask exact k = record {
     known = k.known;
-    passed = λ i r in_ids e. let p = k.passed i r in_ids e in record {
-      asks = λ t d m. elim (in_cases (s, c) (t, d) ar.tested m) [
-        | inl same ↦ subst (λ (x : ℕ × Constraint). constraint_at r.constraints x.0 ≡ Some x.1) same (ask i r in_ids e)
-        | inr older ↦ p.asks t d older
-      ];
-      goes_over = p.goes_over;
-    };
+    passed = λ i r in_ids e. passed_arm set ar r s c fields (ask i r in_ids e) (k.passed i r in_ids e);
     brings = record {
       fields = λ t d x m f. elim (in_cases (s, c) (t, d) ar.tested m) [
         | inl same ↦
@@ -78,22 +73,13 @@ module _ (set : SiteSet) (multi : Bool) (built : IsWellBuilt set) (one : multi �
     };
   }
 
-  sources_there : (result source : ℕ) → slice_get set.sites result ≡ Some (iterator_site source) → sources_at set.sites result ≡ source ∷ []
-  sources_there result source e = ap (λ (o : Option Site). elim o as (λ _. List ℕ) [ None ↦ [] | Some b ↦ sources_of b ]) e
-
   keeps_loop : (ar : Around) (result source : ℕ) (ids : List ℕ) → slice_get set.sites result ≡ Some (iterator_site source) → AllGoOver set.rules ids source → Keeps ar ids → Keeps (in_loop set ar result) ids
   keeps_loop ar result source ids e over k = record {
     known = k.known;
-    passed = λ i r in_ids at. let p = k.passed i r in_ids at in record {
-      asks = p.asks;
-      goes_over = λ t m. elim (in_cases source t ar.looped (subst (λ l. Contains (l ++ ar.looped) t) (sources_there result source e) m)) [
-        | inl same ↦ subst (Contains r.iterators) same (over i r in_ids at)
-        | inr older ↦ p.goes_over t older
-      ];
-    };
+    passed = λ i r in_ids at. passed_loop set ar r result source e (over i r in_ids at) (k.passed i r in_ids at);
     brings = record {
       fields = λ t d x m f. in_tail result x ar.brought (k.brings.fields t d x m f);
-      picks = λ t x m at. elim (in_cases source t ar.looped (subst (λ l. Contains (l ++ ar.looped) t) (sources_there result source e) m)) [
+      picks = λ t x m at. elim (in_cases source t ar.looped (subst (λ l. Contains (l ++ ar.looped) t) (sources_there set result source e) m)) [
         | inl same ↦
             let there : slice_get set.sites x ≡ Some (iterator_site source) = at ∙ ap (λ y. Some (iterator_site y)) (sym same) in
             subst (Contains (result ∷ ar.brought)) (built.sites_once result x (iterator_site source) e there) (in_head result ar.brought)
@@ -190,11 +176,12 @@ module _ (set : SiteSet) (multi : Bool) (built : IsWellBuilt set) (one : multi �
         let second = and_parts _ (is_at_hand set ar b) pair.0 in
         let first = and_parts _ (is_at_hand set ar a) second.0 in
         let here = left ar (marks body) (marks rest) keeps in
+        let join : AllJoin set.rules (marks body) a b = λ i r c e. needed_here (marks body) (marks rest) (equal_test a b) made.rules i r c e in
         (λ q. best.0,
         (λ q. (hand_available ar a first.1, hand_available ar b second.1),
         made.some_rule,
-        λ i r c e. needed_here (marks body) (marks rest) (equal_test a b) made.rules i r c e,
-        steps_sound body (in_equal set ar a b) false reached (keeps_equal ar a b (marks body) here) (not_closing (in_equal set ar a b) reached (marks body)) check.2),
+        join,
+        steps_sound body (in_equal set ar a b) false reached (keeps_equal ar a b (marks body) join here) (not_closing (in_equal set ar a b) reached (marks body)) check.2),
         cover_over set.rules (equal_test a b) (marks body) (marks rest) made.rules,
         steps_sound rest (after_step set ar (m_equal a b body)) false (reached && (multi || true)) (keeps_after ar (m_equal a b body) (marks rest) (right ar (marks body) (marks rest) keeps)) (not_closing (after_step set ar (m_equal a b body)) (reached && (multi || true)) (marks rest)) best.2)
     steps_sound (m_step binds (m_loop result body) rest) ar closing reached keeps closes best =
@@ -240,7 +227,7 @@ best_trees_are_sound_lem set multi tree built one best = record {
       steps_sound set multi built one best.marked nothing_around false true
       (record {
         known = λ i c. All-contains (λ j. j < length set.rules) (marks best.marked) i best.returns.known c;
-        passed = λ i r c e. record { asks = λ s d k. absurd (nothing_in (s, d) k); goes_over = λ s k. absurd (nothing_in s k) };
+        passed = λ i r c e. passed_at_start r;
         brings = record { fields = λ s c x k f. absurd (nothing_in (s, c) k); picks = λ s x k e. absurd (nothing_in s k) };
       })
       (λ h. absurd (false≢true h))
