@@ -10,3 +10,5 @@ pub mod Covers
 pub mod Passing
 pub mod Ends
 pub mod Soundness
+pub mod Counting
+pub mod Pairs
