@@ -5,6 +5,7 @@ use Rattle.isle_model.specs.Sites.{SiteSet}
 use Rattle.isle_model.specs.Trees.{Tree}
 use Rattle.isle_model.specs.Best.{IsBestTree}
 use Rattle.isle_model.specs.Judge.{is_best_tree, returns_apart}
+use Rattle.isle_best.specs.MoreSamples.{const_eq, const_eq_tree, wrap, wrap_tree, used, used_tree, multi_ext, multi_ext_tree, shared, shared_tree}
 use Rattle.isle_best.specs.Samples.{fall, fall_tree, prio, prio_tree, equal, equal_tree, below, below_tree, variant_eq, variant_eq_tree, extract, extract_tree, partial, partial_tree, effects, effects_tree, multi, multi_tree, surplus, surplus_tree, ties, ties_tree}
 use Rattle.isle_best.specs.NearMisses.{prio_exchanged, prio_leaves_out, prio_takes_in, prio_arms_exchanged, prio_other_arm, fall_empty_arm, fall_twice, fall_missing, fall_other_result, fall_returns_first, fall_untested, equal_exchanged, equal_tested, variant_eq_wrong_field, variant_eq_no_field, variant_eq_untested, extract_alone, extract_two_arms, extract_unbound, effects_reordered, multi_no_iterator, multi_no_loop, surplus_unbound, ties_exchanged}
 use Rattle.isle_best.specs.Judged.{PrintedTreesAreBest}
@@ -30,6 +31,11 @@ printed_trees_are_best_lem = (
   passed multi multi_tree refl refl,
   passed surplus surplus_tree refl refl,
   passed ties ties_tree refl refl,
+  passed const_eq const_eq_tree refl refl,
+  passed wrap wrap_tree refl refl,
+  passed used used_tree refl refl,
+  passed multi_ext multi_ext_tree refl refl,
+  passed shared shared_tree refl refl,
 )
 
 pub near_misses_are_not_best_lem : NearMissesAreNotBest

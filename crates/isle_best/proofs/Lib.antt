@@ -12,3 +12,6 @@ pub mod Ends
 pub mod Soundness
 pub mod Counting
 pub mod Pairs
+pub mod Straight
+pub mod Once
+pub mod Few

@@ -2,6 +2,7 @@
 use Rattle.std.specs.Prelude.{◌≡◌, true}
 use Rattle.isle_model.specs.Best.{IsBestTree}
 use Rattle.isle_model.specs.Judge.{is_best_tree}
+use Rattle.isle_best.specs.MoreSamples.{const_eq, const_eq_tree, wrap, wrap_tree, used, used_tree, multi_ext, multi_ext_tree, shared, shared_tree}
 use Rattle.isle_best.specs.Samples.{fall, fall_tree, prio, prio_tree, equal, equal_tree, below, below_tree, variant_eq, variant_eq_tree, extract, extract_tree, partial, partial_tree, effects, effects_tree, multi, multi_tree, surplus, surplus_tree, ties, ties_tree}
 
 abbrev pub PrintedTreesPass : Type 0
@@ -17,6 +18,11 @@ PrintedTreesPass =
     × (is_best_tree multi multi_tree ≡ true)
     × (is_best_tree surplus surplus_tree ≡ true)
     × (is_best_tree ties ties_tree ≡ true)
+    × (is_best_tree const_eq const_eq_tree ≡ true)
+    × (is_best_tree wrap wrap_tree ≡ true)
+    × (is_best_tree used used_tree ≡ true)
+    × (is_best_tree multi_ext multi_ext_tree ≡ true)
+    × (is_best_tree shared shared_tree ≡ true)
 
 abbrev pub PrintedTreesAreBest : Type 0
 PrintedTreesAreBest =
@@ -31,3 +37,8 @@ PrintedTreesAreBest =
     × IsBestTree multi multi_tree
     × IsBestTree surplus surplus_tree
     × IsBestTree ties ties_tree
+    × IsBestTree const_eq const_eq_tree
+    × IsBestTree wrap wrap_tree
+    × IsBestTree used used_tree
+    × IsBestTree multi_ext multi_ext_tree
+    × IsBestTree shared shared_tree

@@ -1,4 +1,5 @@
 pub mod Samples
+pub mod MoreSamples
 pub mod NearMisses
 pub mod Judged
 pub mod Refused

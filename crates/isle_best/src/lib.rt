@@ -4,7 +4,7 @@
 #![tactic(auto)]
 
 ghost use Rattle.isle_best.specs.Judged.{PrintedTreesAreBest, PrintedTreesPass};
-ghost use Rattle.isle_best.specs.Laws.{JudgeIsExact, OpenTestsAreListed, TreeJudgeIsExact};
+ghost use Rattle.isle_best.specs.Laws.{JudgeIsExact, OpenTestsAreListed, SitesAreTestedOnce, StepsAreFew, TreeJudgeIsExact};
 ghost use Rattle.isle_best.specs.Refused.{NearMissesAreNotBest, NearMissesFail};
 ghost use Rattle.isle_best.specs.Scores.{OneTestIsGreatest, ScoresAreOrdered};
 ghost use Rattle.isle_model.specs.WellBuilt.{BestTreesAreSound};
@@ -22,6 +22,16 @@ pub fn scores_are_ordered()
 /// Where a test is open, one and only one is the greatest.
 pub fn one_test_is_greatest()
     ensures { OneTestIsGreatest }
+{}
+
+/// Where the greatest tests are made, no site is tested twice around a return.
+pub fn sites_are_tested_once()
+    ensures { SitesAreTestedOnce }
+{}
+
+/// And all blocks together hold at most a step for each demand of a rule, and its return.
+pub fn steps_are_few()
+    ensures { StepsAreFew }
 {}
 
 /// The judge of a marked tree passes it exactly where it is a best tree.
