@@ -10,13 +10,14 @@ use Rattle.isle_model.specs.Trees.{Marked, m_no_step, m_step, MarkedCheck, m_mat
 use Rattle.isle_model.specs.Places.{Around, nothing_around, is_in, joins_in, in_arm, in_equal, in_loop, after_step}
 use Rattle.isle_model.specs.Sound.{is_return, AllAsk}
 use Rattle.isle_model.specs.Tests.{Test, match_test, equal_test, loop_test, needs, is_needed, cover, IsOpen}
-use Rattle.isle_model.specs.Best.{IsMade, BestSteps, BestCheck, BestArms, are_distinct, steps_of, steps_in, steps_among, total_constraints, most_steps}
+use Rattle.isle_model.specs.Best.{IsMade, BestSteps, BestCheck, BestArms, are_distinct, steps_of, steps_in, steps_among, total_constraints, most_steps, NoSiteTwice, HasFewSteps}
 use Rattle.isle_trees.proofs.Lists.{nothing_in, in_head, in_tail, in_cases, get_within, constraint_in}
-use Rattle.isle_best.specs.Laws.{StepsAreFew}
+use Rattle.isle_best.specs.Laws.{StepsAreFew, StepsMakeBestTrees}
 use Rattle.isle_best.proofs.Counting.{distinct_sum, distinct_within}
 use Rattle.isle_best.proofs.Covers.{cover_needs}
 use Rattle.isle_best.proofs.Exact.{not_exact}
 use Rattle.isle_best.proofs.Lists.{in_map, from_map, in_flat_map, member_found}
+use Rattle.isle_best.proofs.Once.{sites_are_tested_once_lem}
 use Rattle.isle_best.proofs.Pairs.{Names, independent_few}
 use Rattle.isle_best.proofs.Passing.{Passed, sources_there, passed_after, passed_arm, passed_equal, passed_loop, passed_at_start}
 use Rattle.isle_best.proofs.Straight.{matched_around, IsStraight, straight_at_start, straight_after, straight_arm, straight_equal, straight_loop}
@@ -25,14 +26,14 @@ use Rattle.isle_best.proofs.Straight.{matched_around, IsStraight, straight_at_st
 abbrev path : Around → ℕ
 path ar = length ar.tested + length ar.joined + length ar.looped
 
-abbrev members : List (List ℕ) → List ℕ
+abbrev pub members : List (List ℕ) → List ℕ
 members classes = flat_map (λ (c : List ℕ). c) classes
 
 members_count : (classes : List (List ℕ)) → length (members classes) ≡ sum_by length classes
 members_count [] = refl
 members_count (c ∷ cs) = length-append c (members cs) ∙ ap (λ n. length c + n) (members_count cs) ∙ sym (sum_by-cons length c cs)
 
-joined_member : (classes : List (List ℕ)) (a b : ℕ) → joins_in classes a b ≡ true → Contains (members classes) a × Contains (members classes) b
+pub joined_member : (classes : List (List ℕ)) (a b : ℕ) → joins_in classes a b ≡ true → Contains (members classes) a × Contains (members classes) b
 joined_member [] a b h = absurd (false≢true h)
 joined_member (c ∷ cs) a b h =
     elim (or_cases (is_in a c && is_in b c) (joins_in cs a b) h) [
@@ -258,3 +259,15 @@ steps_are_few_lem set m returns best =
   where
     total : (x y z w : ℕ) → x ≤ y → y ≤ z → z ≡ w → x ≤ w
     total x y z w a b e = omega arith
+
+pub steps_make_best_trees_lem : StepsMakeBestTrees
+steps_make_best_trees_lem set tree m returns best =
+    let same = returns.same in
+    let few = steps_are_few_lem set m (record { same = refl; once = returns.once; known = returns.known }) best in
+    record {
+      marked = m;
+      returns = returns;
+      steps = best;
+      no_site_twice = subst NoSiteTwice same (sites_are_tested_once_lem set m best);
+      few_steps = subst (HasFewSteps set) same few;
+    }

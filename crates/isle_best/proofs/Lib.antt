@@ -15,3 +15,5 @@ pub mod Pairs
 pub mod Straight
 pub mod Once
 pub mod Few
+pub mod WellBuilt
+pub mod WellBuiltSamples

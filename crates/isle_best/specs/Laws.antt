@@ -33,3 +33,7 @@ SitesAreTestedOnce = (set : SiteSet) (m : Marked) → BestSteps set nothing_arou
 
 abbrev pub StepsAreFew : Type 0
 StepsAreFew = (set : SiteSet) (m : Marked) → ReturnsEach set (plain set.rules m) m → BestSteps set nothing_around false m → HasFewSteps set (plain set.rules m)
+
+-- so the facts of its steps are enough
+abbrev pub StepsMakeBestTrees : Type 0
+StepsMakeBestTrees = (set : SiteSet) (tree : Tree) (m : Marked) → ReturnsEach set tree m → BestSteps set nothing_around false m → IsBestTree set tree

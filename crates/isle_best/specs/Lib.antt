@@ -5,3 +5,4 @@ pub mod Judged
 pub mod Refused
 pub mod Laws
 pub mod Scores
+pub mod WellBuiltSamples

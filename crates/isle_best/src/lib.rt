@@ -4,9 +4,10 @@
 #![tactic(auto)]
 
 ghost use Rattle.isle_best.specs.Judged.{PrintedTreesAreBest, PrintedTreesPass};
-ghost use Rattle.isle_best.specs.Laws.{JudgeIsExact, OpenTestsAreListed, SitesAreTestedOnce, StepsAreFew, TreeJudgeIsExact};
+ghost use Rattle.isle_best.specs.Laws.{JudgeIsExact, OpenTestsAreListed, SitesAreTestedOnce, StepsAreFew, StepsMakeBestTrees, TreeJudgeIsExact};
 ghost use Rattle.isle_best.specs.Refused.{NearMissesAreNotBest, NearMissesFail};
 ghost use Rattle.isle_best.specs.Scores.{OneTestIsGreatest, ScoresAreOrdered};
+ghost use Rattle.isle_best.specs.WellBuiltSamples.{PrintedTreesAreSound, SamplesAreWellBuilt};
 ghost use Rattle.isle_model.specs.WellBuilt.{BestTreesAreSound};
 
 /// The list of a place's open tests holds exactly the tests that are open there.
@@ -32,6 +33,11 @@ pub fn sites_are_tested_once()
 /// And all blocks together hold at most a step for each demand of a rule, and its return.
 pub fn steps_are_few()
     ensures { StepsAreFew }
+{}
+
+/// So the facts of a tree's steps are enough.
+pub fn steps_make_best_trees()
+    ensures { StepsMakeBestTrees }
 {}
 
 /// The judge of a marked tree passes it exactly where it is a best tree.
@@ -67,4 +73,14 @@ pub fn near_misses_fail()
 /// However their returns are marked, they are no best trees.
 pub fn near_misses_are_not_best()
     ensures { NearMissesAreNotBest }
+{}
+
+/// The samples' sets are well built.
+pub fn samples_are_well_built()
+    ensures { SamplesAreWellBuilt }
+{}
+
+/// So the trees that are printed for them are sound.
+pub fn printed_trees_are_sound()
+    ensures { PrintedTreesAreSound }
 {}
