@@ -1,9 +1,9 @@
 -- What a rule tests is available once what brings it was tested.
-use Rattle.std.proofs.Common.{◌≡◌, ◌≢◌, ℕ, zero, suc, ◌+◌, ◌<◌, ◌≤◌, ◌==◌, Bool, true, false, not, ◌&&◌, ◌||◌, List, [], ◌∷◌, ◌++◌, length, Option, Some, None, slice_get, Contains, IsTrue, flat_map, refl, sym, ap, ◌∙◌, subst, inl, inr, arith, eqb-true, eq-eqb}
+use Rattle.std.proofs.Common.{◌≡◌, ℕ, zero, suc, ◌+◌, ◌<◌, ◌≤◌, ◌==◌, Bool, true, false, not, ◌&&◌, List, [], ◌∷◌, length, Option, Some, None, slice_get, Contains, flat_map, refl, sym, ap, ◌∙◌, subst, inl, inr, arith, eqb-true, eq-eqb}
 use Rattle.std.specs.List.{list_all}
 use Rattle.std.proofs.lemmas.Bool.{cases_Bool, cond-true, cond-false, and_parts, and_from, or_cases, or_left, or_right, false≢true, cases_lt}
 use Rattle.std.proofs.lemmas.Option.{none-some, same_Some, slice_get_within}
-use Rattle.isle_model.specs.Sites.{Site, bool_site, int_site, prim_site, argument_site, extractor_site, constructor_site, iterator_site, make_variant_site, match_variant_site, make_struct_site, extract_struct_site, make_some_site, match_some_site, match_tuple_site, Constraint, is_variant, is_struct, is_present, SetRule, SiteSet, sources_of, sources_at}
+use Rattle.isle_model.specs.Sites.{Site, iterator_site, match_variant_site, extract_struct_site, match_some_site, Constraint, is_variant, is_struct, is_present, SetRule, SiteSet, sources_of, sources_at}
 use Rattle.isle_model.specs.Places.{Around, is_in, waits, is_available, available, below, is_variant_field, is_struct_field, is_part_of, site_from, each_field, fields_of, field_sites}
 use Rattle.isle_model.specs.WellBuilt.{Demands, IsWellBuilt}
 use Rattle.isle_trees.proofs.Lists.{nothing_in, in_head, in_tail, in_cases}
@@ -204,9 +204,9 @@ module _ (set : SiteSet) (built : IsWellBuilt set) (ar : Around) (r : SetRule) (
   reach_below (suc n) s l g =
       reach_site s (slice_get sites s) refl (g s (in_head s (flat_map (below s sites) (sources_at sites s))))
       (λ u c.
-          let m = built.sources s u c in
-          let gu : Gated u = λ x k. g x (below_source sites s u x c m k) in
-          (reach_below n u (omega arith) gu, within u gu))
+      let m = built.sources s u c in
+      let gu : Gated u = λ x k. g x (below_source sites s u x c m k) in
+      (reach_below n u (omega arith) gu, within u gu))
 
   -- a site whose gates the rule demands is available
   pub reach : (s : ℕ) → Gated s → available sites ar s ≡ true

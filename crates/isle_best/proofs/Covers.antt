@@ -1,17 +1,17 @@
 -- Priorities, and what a cover that is a step's rules says of them.
-use Rattle.std.proofs.Common.{◌≡◌, ◌≢◌, ℕ, ℤ, Bool, true, false, not, ◌&&◌, ◌||◌, nat_lt, List, [], ◌∷◌, ◌++◌, Option, Some, None, slice_get, Contains, IsTrue, filter, refl, sym, ap, ◌∙◌, subst, inl, inr, arith, int_cmp, int_eq, is_lt, Ordering, Less, Equal, Greater, ◌≤ℤ◌, ◌<ℤ◌}
+use Rattle.std.proofs.Common.{◌≡◌, ℕ, ℤ, Bool, true, false, not, ◌&&◌, ◌||◌, nat_lt, List, [], ◌∷◌, ◌++◌, Some, slice_get, Contains, filter, refl, sym, ap, ◌∙◌, subst, inl, inr, arith, int_cmp, int_eq, is_lt, Ordering, Less, Equal, Greater, ◌≤ℤ◌, ◌<ℤ◌}
 use Rattle.std.specs.List.{list_all}
-use Rattle.std.proofs.lemmas.Bool.{cases_Bool, cond-true, cond-false, and_parts, and_from, or_cases, or_left, or_right, false≢true, both_ways}
+use Rattle.std.proofs.lemmas.Bool.{cases_Bool, cond-true, and_parts, and_from, or_cases, or_right, false≢true, both_ways}
 use Rattle.std.proofs.lemmas.Bool.Decides.{Decides-int_eq}
 use Rattle.std.proofs.lemmas.Int.{ints}
-use Rattle.std.proofs.lemmas.List.Elements.{Contains-append_left, Contains-append_right}
+use Rattle.std.proofs.lemmas.List.Elements.{Contains-append_right}
 use Rattle.std.specs.Cmp.{int_ranks}
 use Rattle.std.specs.Ordering.{MatchOrdering}
-use Rattle.isle_model.specs.Sites.{SetRule, SiteSet}
+use Rattle.isle_model.specs.Sites.{SetRule}
 use Rattle.isle_model.specs.Sound.{NoneHigher}
-use Rattle.isle_model.specs.Tests.{Test, needs, is_needed, priority, needs_at, is_lower, is_covered, cover}
+use Rattle.isle_model.specs.Tests.{Test, priority, needs_at, is_lower, is_covered, cover}
 use Rattle.isle_model.specs.Best.{comes_first, descend}
-use Rattle.isle_trees.proofs.Lists.{nothing_in, in_head, in_tail, in_alone, in_cases}
+use Rattle.isle_trees.proofs.Lists.{nothing_in, in_head, in_tail, in_cases}
 use Rattle.isle_best.proofs.Lists.{in_filter, from_filter, each_passes, all_pass}
 use Rattle.isle_best.proofs.Exact.{not_exact}
 
@@ -147,7 +147,7 @@ module _ (rules : List SetRule) (t : Test) where
   pub cover_over : (here later : List ℕ) → cover rules (here ++ later) t ≡ here → NoneHigher rules here later
   cover_over here later e =
       none_higher rules here later (λ i j c d.
-          later_lower (here ++ later) i j (kept_passes (is_covered rules (here ++ later) t) here later e i c) (Contains-append_right here later j d) (rest_fails (is_covered rules (here ++ later) t) here later e j d))
+      later_lower (here ++ later) i j (kept_passes (is_covered rules (here ++ later) t) here later e i c) (Contains-append_right here later j d) (rest_fails (is_covered rules (here ++ later) t) here later e j d))
 
   pub cover_needs : (here later : List ℕ) → cover rules (here ++ later) t ≡ here → (i : ℕ) → Contains here i → needs_at rules t i ≡ true
   cover_needs here later e i c =
@@ -159,4 +159,4 @@ module _ (rules : List SetRule) (t : Test) where
       in_filter (is_covered rules here t) here i c
       (and_from (needs_at rules t i) (list_all (λ k. needs_at rules t k || not (is_lower rules i k)) here) n
       (all_pass (λ k. needs_at rules t k || not (is_lower rules i k)) here (λ k d.
-          or_right (needs_at rules t k) (not (is_lower rules i k)) ((not_exact (is_lower rules i k)).1 (at_least_not_lower rules i k (top k d))))))
+      or_right (needs_at rules t k) (not (is_lower rules i k)) ((not_exact (is_lower rules i k)).1 (at_least_not_lower rules i k (top k d))))))

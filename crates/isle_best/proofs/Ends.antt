@@ -1,14 +1,13 @@
 -- At the end of a block, the demands of a rule than which none there is higher were all tested.
-use Rattle.std.proofs.Common.{◌≡◌, ◌≢◌, ◌⊎◌, ℕ, suc, ◌<◌, ◌==◌, Bool, true, false, not, ◌&&◌, ◌||◌, nat_lt, List, [], ◌∷◌, ◌++◌, map, length, Option, Some, None, is_some, slice_get, Contains, IsTrue, ◌≤ℤ◌, refl, sym, ap, ◌∙◌, subst, inl, inr, arith, eqb-true, eq-eqb, ltb-true, lt-ltb}
-use Rattle.std.specs.List.{list_any}
+use Rattle.std.proofs.Common.{◌≡◌, ◌⊎◌, ℕ, ◌<◌, true, false, not, ◌&&◌, ◌||◌, nat_lt, List, [], ◌∷◌, map, length, Some, is_some, slice_get, Contains, ◌≤ℤ◌, sym, ap, ◌∙◌, subst, inl, inr, arith, eqb-true, eq-eqb, lt-ltb}
 use Rattle.std.proofs.lemmas.Bool.{cases_Bool, and_parts, and_from, or_cases, or_left, or_right, false≢true, cases_lt}
 use Rattle.std.proofs.lemmas.Option.{same_Some}
 use Rattle.std.proofs.lemmas.List.Elements.{Contains-append_cases}
-use Rattle.isle_model.specs.Sites.{Site, Constraint, SetRule, SiteSet}
-use Rattle.isle_model.specs.Places.{Around, is_in, class, joins, joins_in, constraint_at, available, below}
+use Rattle.isle_model.specs.Sites.{Constraint, SetRule, SiteSet}
+use Rattle.isle_model.specs.Places.{Around, is_in, class, joins, joins_in, available}
 use Rattle.isle_model.specs.Sound.{IsTested}
-use Rattle.isle_model.specs.Tests.{Test, match_test, equal_test, loop_test, needs, is_needed, needs_at, cover, sources_around, is_at_hand, is_open, IsOpen}
-use Rattle.isle_model.specs.WellBuilt.{tests_site, Demands, IsWellBuiltRule, IsWellBuilt}
+use Rattle.isle_model.specs.Tests.{Test, match_test, equal_test, loop_test, needs, is_needed, needs_at, cover, sources_around, is_at_hand, IsOpen}
+use Rattle.isle_model.specs.WellBuilt.{tests_site, IsWellBuiltRule, IsWellBuilt}
 use Rattle.isle_trees.proofs.Lists.{nothing_in, constraint_in}
 use Rattle.isle_best.proofs.Lists.{from_map, member_found, member_is_in}
 use Rattle.isle_best.proofs.Available.{Brings, Made, within, reach}

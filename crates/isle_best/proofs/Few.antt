@@ -1,22 +1,22 @@
 -- All blocks together hold at most a step for each demand of a rule, and its return.
-use Rattle.std.proofs.Common.{◌≡◌, ◌≢◌, ℕ, zero, suc, ◌+◌, ◌-◌, ◌<◌, ◌≤◌, ◌==◌, Bool, true, false, not, ◌&&◌, cond, List, [], ◌∷◌, ◌++◌, map, length, Option, Some, None, slice_get, All, Contains, count_by, sum_by, flat_map, refl, sym, ap, ◌∙◌, subst, inl, inr, arith, eqb-true, eq-eqb}
-use Rattle.std.proofs.lemmas.Bool.{cases_Bool, cond-true, cond-false, and_parts, and_from, or_cases, false≢true}
+use Rattle.std.proofs.Common.{◌≡◌, ◌≢◌, ℕ, zero, suc, ◌+◌, ◌-◌, ◌<◌, ◌≤◌, ◌==◌, Bool, true, false, not, ◌&&◌, cond, List, [], ◌∷◌, ◌++◌, map, length, Option, Some, None, slice_get, Contains, count_by, sum_by, flat_map, refl, sym, ap, ◌∙◌, subst, inl, inr, arith, eq-eqb}
+use Rattle.std.proofs.lemmas.Bool.{cases_Bool, cond-true, and_parts, and_from, or_cases, false≢true}
 use Rattle.std.proofs.lemmas.List.{length-map}
 use Rattle.std.proofs.lemmas.List.Elements.{Contains-append_left, Contains-append_right, All-contains}
 use Rattle.std.proofs.lemmas.List.Sums.{sum_by-cons, sum_by-append, sum_by-le-sum_by}
 use Rattle.std.proofs.Common.{length-append}
-use Rattle.isle_model.specs.Sites.{Site, iterator_site, Constraint, SetRule, SiteSet}
-use Rattle.isle_model.specs.Trees.{Marked, m_no_step, m_step, MarkedCheck, m_match, m_equal, m_loop, m_return, MarkedArms, m_no_arm, m_arm, marks, marks_check, marks_arms, return_of, plain, plain_check, plain_arms}
+use Rattle.isle_model.specs.Sites.{Constraint, SetRule, SiteSet}
+use Rattle.isle_model.specs.Trees.{Marked, m_no_step, m_step, MarkedCheck, m_match, m_equal, m_loop, m_return, MarkedArms, m_no_arm, m_arm, marks, marks_arms, return_of, plain, plain_arms}
 use Rattle.isle_model.specs.Places.{Around, nothing_around, is_in, joins_in, in_arm, in_equal, in_loop, after_step}
-use Rattle.isle_model.specs.Sound.{is_return, AllAsk}
+use Rattle.isle_model.specs.Sound.{is_return}
 use Rattle.isle_model.specs.Tests.{Test, match_test, equal_test, loop_test, needs, is_needed, cover, IsOpen}
-use Rattle.isle_model.specs.Best.{IsMade, BestSteps, BestCheck, BestArms, are_distinct, steps_of, steps_in, steps_among, total_constraints, most_steps, NoSiteTwice, HasFewSteps}
-use Rattle.isle_trees.proofs.Lists.{nothing_in, in_head, in_tail, in_cases, get_within, constraint_in}
+use Rattle.isle_model.specs.Best.{BestSteps, BestArms, are_distinct, steps_of, steps_in, steps_among, most_steps, NoSiteTwice, HasFewSteps}
+use Rattle.isle_trees.proofs.Lists.{in_head, in_tail, get_within, constraint_in}
 use Rattle.isle_best.specs.Laws.{StepsAreFew, StepsMakeBestTrees}
 use Rattle.isle_best.proofs.Counting.{distinct_sum, distinct_within}
 use Rattle.isle_best.proofs.Covers.{cover_needs}
 use Rattle.isle_best.proofs.Exact.{not_exact}
-use Rattle.isle_best.proofs.Lists.{in_map, from_map, in_flat_map, member_found}
+use Rattle.isle_best.proofs.Lists.{in_map, from_map, member_found}
 use Rattle.isle_best.proofs.Once.{sites_are_tested_once_lem}
 use Rattle.isle_best.proofs.Pairs.{Names, independent_few}
 use Rattle.isle_best.proofs.Passing.{Passed, sources_there, passed_after, passed_arm, passed_equal, passed_loop, passed_at_start}

@@ -1,5 +1,5 @@
 -- Among the tests around a return no site is matched twice, and no equality tests two sites that the others join.
-use Rattle.std.proofs.Common.{◌≡◌, ℕ, Bool, true, false, ◌&&◌, List, [], ◌∷◌, Option, Some, None, slice_get, IsTrue, refl}
+use Rattle.std.proofs.Common.{◌≡◌, ℕ, Bool, true, false, List, [], ◌∷◌, Option, Some, None, slice_get, refl}
 use Rattle.std.proofs.lemmas.Bool.{and_from}
 use Rattle.isle_model.specs.Sites.{Constraint, SetRule, SiteSet}
 use Rattle.isle_model.specs.Trees.{Marked, m_no_step, m_step, MarkedCheck, m_match, m_equal, m_loop, m_return, MarkedArms, m_no_arm, m_arm, marks, return_of, plain, plain_check, plain_arms}

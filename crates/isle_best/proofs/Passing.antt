@@ -1,5 +1,5 @@
 -- What the tests around a place say of a rule there, and how it is kept on the way down.
-use Rattle.std.proofs.Common.{◌≡◌, ℕ, true, List, [], ◌∷◌, ◌++◌, Option, Some, None, slice_get, Contains, refl, sym, ap, ◌∙◌, subst, inl, inr}
+use Rattle.std.proofs.Common.{◌≡◌, ℕ, true, List, [], ◌∷◌, ◌++◌, Option, Some, None, slice_get, Contains, ap, subst, inl, inr}
 use Rattle.isle_model.specs.Sites.{Site, iterator_site, Constraint, SetRule, SiteSet, sources_of, sources_at}
 use Rattle.isle_model.specs.Trees.{MarkedCheck}
 use Rattle.isle_model.specs.Places.{Around, nothing_around, joins_in, constraint_at, in_arm, in_equal, in_loop, after_step}

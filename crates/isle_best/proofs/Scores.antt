@@ -1,5 +1,5 @@
 -- Scores are ordered, and one open test has the greatest.
-use Rattle.std.proofs.Common.{◌≡◌, ◌≢◌, ◌⊎◌, ℕ, ◌<◌, ◌==◌, Bool, true, false, ◌&&◌, nat_lt, List, [], ◌∷◌, Contains, IsTrue, refl, sym, ap, ◌∙◌, subst, inl, inr, arith, eqb-true, eq-eqb, ltb-true, lt-ltb}
+use Rattle.std.proofs.Common.{◌≡◌, ◌≢◌, ◌⊎◌, ℕ, ◌<◌, ◌==◌, Bool, true, false, ◌&&◌, nat_lt, List, [], ◌∷◌, Contains, sym, ap, ◌∙◌, subst, inl, inr, arith, eqb-true, eq-eqb, ltb-true, lt-ltb}
 use Rattle.std.proofs.lemmas.Bool.{cases_Bool, and_parts, and_from, or_cases, or_left, or_right, false≢true, cases_lt}
 use Rattle.isle_model.specs.Sites.{SiteSet}
 use Rattle.isle_model.specs.Places.{Around}
@@ -13,7 +13,6 @@ use Rattle.isle_best.proofs.OpenTests.{open_listed, listed_open}
 -- 1. one number, and what follows where two are the same
 below_itself : (n : ℕ) → nat_lt n n ≡ true → ⊥
 below_itself n h = (let l = ltb-true n n h in omega arith)
-
 
 module _ (a : ℕ) (t : Bool) where
   pub one_itself : or_later (nat_lt a a) (a == a) t ≡ true → t ≡ true
@@ -128,7 +127,6 @@ compare_scores x y d =
     (λ g. compare_up x.site y.site (nat_lt x.other y.other) (nat_lt y.other x.other)
     (λ h. differ_last x.other y.other (d g h)))))
 
-
 same_tests : (set : SiteSet) (ar : Around) (here : List ℕ) (t u : Test)
     → (score set ar here t).form ≡ (score set ar here u).form → (score set ar here t).site ≡ (score set ar here u).site → (score set ar here t).other ≡ (score set ar here u).other → t ≡ u
 same_tests set ar here (match_test s) (match_test t) f g h = ap match_test g
@@ -169,12 +167,16 @@ module _ (set : SiteSet) (ar : Around) (here : List ℕ) where
   greatest_of x (y ∷ ys) =
       let g = greatest_of y ys in
       elim (cases_Bool (is_greater (of x) (of g.0))) [
-        | inl t ↦
-            (x, in_head x (y ∷ ys),
-            λ v c. elim (in_cases x v (y ∷ ys) c) [ inl e ↦ subst (λ w. is_greater (of w) (of x) ≡ false) e (not_greater_itself (of x)) | inr d ↦ not_above x g.0 v t (g.2 v d) ])
-        | inr f ↦
-            (g.0, in_tail x g.0 (y ∷ ys) g.1,
-            λ v c. elim (in_cases x v (y ∷ ys) c) [ inl e ↦ subst (λ w. is_greater (of w) (of g.0) ≡ false) e f | inr d ↦ g.2 v d ])
+        | inl t ↦ (
+          x,
+          in_head x (y ∷ ys),
+          λ v c. elim (in_cases x v (y ∷ ys) c) [ inl e ↦ subst (λ w. is_greater (of w) (of x) ≡ false) e (not_greater_itself (of x)) | inr d ↦ not_above x g.0 v t (g.2 v d) ],
+        )
+        | inr f ↦ (
+          g.0,
+          in_tail x g.0 (y ∷ ys) g.1,
+          λ v c. elim (in_cases x v (y ∷ ys) c) [ inl e ↦ subst (λ w. is_greater (of w) (of g.0) ≡ false) e f | inr d ↦ g.2 v d ],
+        )
       ]
 
   greatest_among : (xs : List Test) (t : Test) → Contains xs t → Greatest xs
@@ -190,8 +192,8 @@ module _ (set : SiteSet) (ar : Around) (here : List ℕ) where
             inl (eqb-true x.form y.form r.0, eqb-true x.site y.site r.1, eqb-true x.other y.other q.1)
         | inr f ↦
             inr (λ a b c.
-                false≢true (sym f ∙ and_from ((x.form == y.form) && (x.site == y.site)) (x.other == y.other)
-                (and_from (x.form == y.form) (x.site == y.site) (eq-eqb x.form y.form a) (eq-eqb x.site y.site b)) (eq-eqb x.other y.other c)))
+            false≢true (sym f ∙ and_from ((x.form == y.form) && (x.site == y.site)) (x.other == y.other)
+            (and_from (x.form == y.form) (x.site == y.site) (eq-eqb x.form y.form a) (eq-eqb x.site y.site b)) (eq-eqb x.other y.other c)))
       ]
 
   one_greatest : (u v : Test) → IsGreatest set ar here u → IsGreatest set ar here v → v ≡ u

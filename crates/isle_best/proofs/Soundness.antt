@@ -1,15 +1,14 @@
 -- A best tree of a well built set is sound.
-use Rattle.std.proofs.Common.{◌≡◌, ◌≢◌, ℕ, suc, ◌<◌, Bool, true, false, not, ◌&&◌, ◌||◌, List, [], ◌∷◌, ◌++◌, map, length, Option, Some, None, slice_get, All, Contains, IsTrue, ◌≤ℤ◌, refl, sym, ap, ◌∙◌, subst, inl, inr, arith}
-use Rattle.std.proofs.lemmas.Bool.{cases_Bool, and_parts, or_right, false≢true}
-use Rattle.std.proofs.lemmas.Option.{same_Some}
+use Rattle.std.proofs.Common.{◌≡◌, ℕ, ◌<◌, Bool, true, false, not, ◌&&◌, ◌||◌, List, [], ◌∷◌, ◌++◌, map, length, Option, Some, None, slice_get, Contains, IsTrue, ◌≤ℤ◌, refl, sym, ap, ◌∙◌, subst, inl, inr, arith}
+use Rattle.std.proofs.lemmas.Bool.{cases_Bool, and_parts, false≢true}
 use Rattle.std.proofs.lemmas.Int.{ints}
-use Rattle.std.proofs.lemmas.List.Elements.{Contains-append_left, Contains-append_right, Contains-append_cases, All-contains}
-use Rattle.isle_model.specs.Sites.{Site, iterator_site, Constraint, SetRule, SiteSet, sources_of, sources_at}
-use Rattle.isle_model.specs.Trees.{Marked, m_no_step, m_step, MarkedCheck, m_match, m_equal, m_loop, m_return, MarkedArms, m_no_arm, m_arm, marks, marks_check, marks_arms}
-use Rattle.isle_model.specs.Places.{Around, nothing_around, is_in, joins_in, constraint_at, fields_of, field_sites, in_arm, in_equal, in_loop, after_step, available}
-use Rattle.isle_model.specs.Sound.{IsTested, is_return, NoneHigher, AllAsk, AllJoin, AllGoOver, SoundSteps, SoundCheck, SoundArms}
-use Rattle.isle_model.specs.Tests.{Test, match_test, equal_test, loop_test, needs, is_needed, needs_at, priority, sources_around, is_at_hand, is_open, IsOpen, cover}
-use Rattle.isle_model.specs.Best.{IsMade, IsEnd, descend, BestSteps, BestCheck, BestArms}
+use Rattle.std.proofs.lemmas.List.Elements.{Contains-append_left, Contains-append_right, All-contains}
+use Rattle.isle_model.specs.Sites.{iterator_site, Constraint, SetRule, SiteSet}
+use Rattle.isle_model.specs.Trees.{Marked, m_no_step, m_step, MarkedCheck, m_match, m_equal, m_loop, m_return, MarkedArms, m_no_arm, m_arm, marks, marks_arms}
+use Rattle.isle_model.specs.Places.{Around, nothing_around, is_in, fields_of, field_sites, in_arm, in_equal, in_loop, after_step, available}
+use Rattle.isle_model.specs.Sound.{IsTested, NoneHigher, AllAsk, AllJoin, AllGoOver, SoundSteps, SoundArms}
+use Rattle.isle_model.specs.Tests.{Test, match_test, equal_test, loop_test, needs, is_needed, priority, sources_around, is_at_hand, cover}
+use Rattle.isle_model.specs.Best.{IsEnd, descend, BestSteps, BestArms}
 use Rattle.isle_model.specs.WellBuilt.{IsWellBuilt, HasOnePriority, BestTreesAreSound}
 use Rattle.isle_trees.proofs.Lists.{nothing_in, in_head, in_tail, in_cases, get_within}
 use Rattle.isle_best.proofs.Lists.{member_found, member_is_in}
@@ -140,8 +139,8 @@ module _ (set : SiteSet) (multi : Bool) (built : IsWellBuilt set) (one : multi �
   return_over : (rule : ℕ) (later : List ℕ) → descend set.rules (rule ∷ later) ≡ true → NoneHigher set.rules (rule ∷ []) later
   return_over rule later h =
       none_higher set.rules (rule ∷ []) later (λ i j c d.
-          let e : rule ≡ i = (elim (in_cases rule i [] c) [ inl same ↦ same | inr n ↦ absurd (nothing_in i n) ]) in
-          subst (λ x. prio_at set.rules j ≤ℤ prio_at set.rules x) e (first_is_top set.rules rule later h j (in_tail rule j later d)))
+      let e : rule ≡ i = (elim (in_cases rule i [] c) [ inl same ↦ same | inr n ↦ absurd (nothing_in i n) ]) in
+      subst (λ x. prio_at set.rules j ≤ℤ prio_at set.rules x) e (first_is_top set.rules rule later h j (in_tail rule j later d)))
 
   not_looped : (ar : Around) (s : ℕ) → is_in s (sources_around ar) ≡ false → is_in s ar.looped ≡ false
   not_looped ar s f =
@@ -162,13 +161,16 @@ module _ (set : SiteSet) (multi : Bool) (built : IsWellBuilt set) (one : multi �
     steps_sound (m_step binds (m_match source arms) rest) ar closing reached keeps closes best =
         let check = best.1 in
         let made = check.1 in
-        let free = made.test.at_hand in
-        (λ q. best.0,
-        (λ q. hand_available ar source (and_parts (is_at_hand set ar source) (not (is_in source (sources_around ar))) free).0,
-        made.some_rule,
-        arms_sound arms ar source None reached (left ar (marks_arms arms) (marks rest) keeps) check.2),
-        cover_over set.rules (match_test source) (marks_arms arms) (marks rest) made.rules,
-        steps_sound rest (after_step set ar (m_match source arms)) false (reached && (multi || true)) (keeps_after ar (m_match source arms) (marks rest) (right ar (marks_arms arms) (marks rest) keeps)) (not_closing (after_step set ar (m_match source arms)) (reached && (multi || true)) (marks rest)) best.2)
+        let free = made.test.at_hand in (
+          λ q. best.0,
+          (
+            λ q. hand_available ar source (and_parts (is_at_hand set ar source) (not (is_in source (sources_around ar))) free).0,
+            made.some_rule,
+            arms_sound arms ar source None reached (left ar (marks_arms arms) (marks rest) keeps) check.2,
+          ),
+          cover_over set.rules (match_test source) (marks_arms arms) (marks rest) made.rules,
+          steps_sound rest (after_step set ar (m_match source arms)) false (reached && (multi || true)) (keeps_after ar (m_match source arms) (marks rest) (right ar (marks_arms arms) (marks rest) keeps)) (not_closing (after_step set ar (m_match source arms)) (reached && (multi || true)) (marks rest)) best.2,
+        )
     steps_sound (m_step binds (m_equal a b body) rest) ar closing reached keeps closes best =
         let check = best.1 in
         let made = check.1 in
@@ -176,48 +178,60 @@ module _ (set : SiteSet) (multi : Bool) (built : IsWellBuilt set) (one : multi �
         let second = and_parts _ (is_at_hand set ar b) pair.0 in
         let first = and_parts _ (is_at_hand set ar a) second.0 in
         let here = left ar (marks body) (marks rest) keeps in
-        let join : AllJoin set.rules (marks body) a b = λ i r c e. needed_here (marks body) (marks rest) (equal_test a b) made.rules i r c e in
-        (λ q. best.0,
-        (λ q. (hand_available ar a first.1, hand_available ar b second.1),
-        made.some_rule,
-        join,
-        steps_sound body (in_equal set ar a b) false reached (keeps_equal ar a b (marks body) join here) (not_closing (in_equal set ar a b) reached (marks body)) check.2),
-        cover_over set.rules (equal_test a b) (marks body) (marks rest) made.rules,
-        steps_sound rest (after_step set ar (m_equal a b body)) false (reached && (multi || true)) (keeps_after ar (m_equal a b body) (marks rest) (right ar (marks body) (marks rest) keeps)) (not_closing (after_step set ar (m_equal a b body)) (reached && (multi || true)) (marks rest)) best.2)
+        let join : AllJoin set.rules (marks body) a b = λ i r c e. needed_here (marks body) (marks rest) (equal_test a b) made.rules i r c e in (
+          λ q. best.0,
+          (
+            λ q. (hand_available ar a first.1, hand_available ar b second.1),
+            made.some_rule,
+            join,
+            steps_sound body (in_equal set ar a b) false reached (keeps_equal ar a b (marks body) join here) (not_closing (in_equal set ar a b) reached (marks body)) check.2,
+          ),
+          cover_over set.rules (equal_test a b) (marks body) (marks rest) made.rules,
+          steps_sound rest (after_step set ar (m_equal a b body)) false (reached && (multi || true)) (keeps_after ar (m_equal a b body) (marks rest) (right ar (marks body) (marks rest) keeps)) (not_closing (after_step set ar (m_equal a b body)) (reached && (multi || true)) (marks rest)) best.2,
+        )
     steps_sound (m_step binds (m_loop result body) rest) ar closing reached keeps closes best =
         let check = best.1 in
         let source = check.1.0 in
         let made = check.1.2 in
         let free = and_parts (is_at_hand set ar source) (not (is_in source (sources_around ar))) made.test.at_hand in
         let over : AllGoOver set.rules (marks body) source = λ i r c e. member_found source r.iterators (needed_here (marks body) (marks rest) (loop_test source) made.rules i r c e) in
-        let here = left ar (marks body) (marks rest) keeps in
-        (λ q. best.0,
-        ((source, check.1.1, over, not_looped ar source ((not_exact (is_in source (sources_around ar))).0 free.1), λ q. hand_available ar source free.0),
-        made.some_rule,
-        steps_sound body (in_loop set ar result) false reached (keeps_loop ar result source (marks body) check.1.1 over here) (not_closing (in_loop set ar result) reached (marks body)) check.2),
-        cover_over set.rules (loop_test source) (marks body) (marks rest) made.rules,
-        steps_sound rest (after_step set ar (m_loop result body)) false (reached && (multi || true)) (keeps_after ar (m_loop result body) (marks rest) (right ar (marks body) (marks rest) keeps)) (not_closing (after_step set ar (m_loop result body)) (reached && (multi || true)) (marks rest)) best.2)
+        let here = left ar (marks body) (marks rest) keeps in (
+          λ q. best.0,
+          (
+            (source, check.1.1, over, not_looped ar source ((not_exact (is_in source (sources_around ar))).0 free.1), λ q. hand_available ar source free.0),
+            made.some_rule,
+            steps_sound body (in_loop set ar result) false reached (keeps_loop ar result source (marks body) check.1.1 over here) (not_closing (in_loop set ar result) reached (marks body)) check.2,
+          ),
+          cover_over set.rules (loop_test source) (marks body) (marks rest) made.rules,
+          steps_sound rest (after_step set ar (m_loop result body)) false (reached && (multi || true)) (keeps_after ar (m_loop result body) (marks rest) (right ar (marks body) (marks rest) keeps)) (not_closing (after_step set ar (m_loop result body)) (reached && (multi || true)) (marks rest)) best.2,
+        )
     steps_sound (m_step binds (m_return rule) rest) ar true reached keeps closes best =
         let k = closes refl in
-        let next = closes_after ar (m_return rule) (reached && (multi || false)) (marks rest) (closes_next ar reached rule (marks rest) k) in
-        (λ q. best.0,
-        λ q r e. k.tested q rule r (in_head rule (marks rest)) e,
-        return_over rule (marks rest) k.ordered,
-        steps_sound rest (after_step set ar (m_return rule)) true (reached && (multi || false)) (keeps_after ar (m_return rule) (marks rest) (right ar (rule ∷ []) (marks rest) keeps)) (λ q. next) best.2)
+        let next = closes_after ar (m_return rule) (reached && (multi || false)) (marks rest) (closes_next ar reached rule (marks rest) k) in (
+          λ q. best.0,
+          λ q r e. k.tested q rule r (in_head rule (marks rest)) e,
+          return_over rule (marks rest) k.ordered,
+          steps_sound rest (after_step set ar (m_return rule)) true (reached && (multi || false)) (keeps_after ar (m_return rule) (marks rest) (right ar (rule ∷ []) (marks rest) keeps)) (λ q. next) best.2,
+        )
     steps_sound (m_step binds (m_return rule) rest) ar false reached keeps closes best =
         let end = best.1 refl in
-        let next = closes_after ar (m_return rule) (reached && (multi || false)) (marks rest) (closes_first ar reached rule (marks rest) keeps end) in
-        (λ q. best.0,
-        λ q r e. tested_at_end ar (rule ∷ marks rest) keeps end rule r (in_head rule (marks rest)) e (first_is_top set.rules rule (marks rest) end.ordered),
-        return_over rule (marks rest) end.ordered,
-        steps_sound rest (after_step set ar (m_return rule)) true (reached && (multi || false)) (keeps_after ar (m_return rule) (marks rest) (right ar (rule ∷ []) (marks rest) keeps)) (λ q. next) best.2)
+        let next = closes_after ar (m_return rule) (reached && (multi || false)) (marks rest) (closes_first ar reached rule (marks rest) keeps end) in (
+          λ q. best.0,
+          λ q r e. tested_at_end ar (rule ∷ marks rest) keeps end rule r (in_head rule (marks rest)) e (first_is_top set.rules rule (marks rest) end.ordered),
+          return_over rule (marks rest) end.ordered,
+          steps_sound rest (after_step set ar (m_return rule)) true (reached && (multi || false)) (keeps_after ar (m_return rule) (marks rest) (right ar (rule ∷ []) (marks rest) keeps)) (λ q. next) best.2,
+        )
 
     arms_sound : (arms : MarkedArms) (ar : Around) (source : ℕ) (before : Option Constraint) (reached : Bool) → Keeps ar (marks_arms arms) → BestArms set ar source before arms → SoundArms set multi ar reached source before arms
     arms_sound m_no_arm ar source before reached keeps best = tt
-    arms_sound (m_arm constraint fields body rest) ar source before reached keeps best =
-        (best.0, best.1, best.2, best.3,
-        steps_sound body (in_arm set ar source constraint fields) false reached (keeps_arm ar source constraint fields (marks body) best.2 best.3 (left ar (marks body) (marks_arms rest) keeps)) (not_closing (in_arm set ar source constraint fields) reached (marks body)) best.4,
-        arms_sound rest ar source (Some constraint) reached (right ar (marks body) (marks_arms rest) keeps) best.5)
+    arms_sound (m_arm constraint fields body rest) ar source before reached keeps best = (
+      best.0,
+      best.1,
+      best.2,
+      best.3,
+      steps_sound body (in_arm set ar source constraint fields) false reached (keeps_arm ar source constraint fields (marks body) best.2 best.3 (left ar (marks body) (marks_arms rest) keeps)) (not_closing (in_arm set ar source constraint fields) reached (marks body)) best.4,
+      arms_sound rest ar source (Some constraint) reached (right ar (marks body) (marks_arms rest) keeps) best.5,
+    )
 
 pub best_trees_are_sound_lem : BestTreesAreSound
 best_trees_are_sound_lem set multi tree built one best = record {

@@ -1,8 +1,8 @@
 -- Around a place the sources of arms differ, so do those of loops, and no pair is joined by the others.
-use Rattle.std.proofs.Common.{◌≡◌, ℕ, Bool, true, false, not, ◌&&◌, ◌||◌, nat_lt, List, [], ◌∷◌, ◌++◌, map, Option, Some, slice_get, IsTrue, refl, sym, ap, ◌∙◌, subst, inl, inr}
-use Rattle.std.proofs.lemmas.Bool.{cases_Bool, and_parts, and_from, or_left, or_right, false≢true}
+use Rattle.std.proofs.Common.{◌≡◌, ℕ, Bool, true, false, not, ◌&&◌, ◌||◌, nat_lt, List, ◌∷◌, ◌++◌, map, Option, Some, slice_get, refl, sym, ◌∙◌, subst}
+use Rattle.std.proofs.lemmas.Bool.{and_parts, and_from, false≢true}
 use Rattle.std.proofs.lemmas.List.Folds.{list_any-append}
-use Rattle.isle_model.specs.Sites.{Site, iterator_site, Constraint, SetRule, SiteSet}
+use Rattle.isle_model.specs.Sites.{iterator_site, Constraint, SiteSet}
 use Rattle.isle_model.specs.Trees.{MarkedCheck}
 use Rattle.isle_model.specs.Places.{Around, nothing_around, is_in, joins, in_arm, in_equal, in_loop, after_step}
 use Rattle.isle_model.specs.Tests.{match_test, equal_test, loop_test, sources_around, is_at_hand, IsOpen}

@@ -1,5 +1,5 @@
 -- The samples' sets are well built, and their printed trees sound.
-use Rattle.std.proofs.Common.{◌≡◌, ℕ, ℤ, pos, zero, suc, Bool, true, false, List, [], ◌∷◌, Some, slice_get, IsTrue, Contains, refl, sym, ap, ◌∙◌}
+use Rattle.std.proofs.Common.{◌≡◌, ℕ, pos, true, false, List, Some, slice_get, refl, sym, ◌∙◌}
 use Rattle.std.specs.List.{list_all}
 use Rattle.std.specs.Ordering.{int_eq}
 use Rattle.std.proofs.lemmas.Bool.{false≢true}
@@ -7,7 +7,6 @@ use Rattle.std.proofs.lemmas.Bool.Decides.{Decides-int_eq}
 use Rattle.isle_model.specs.Sites.{SetRule, SiteSet}
 use Rattle.isle_model.specs.Trees.{Tree}
 use Rattle.isle_model.specs.Sound.{IsSound}
-use Rattle.isle_model.specs.Best.{IsBestTree}
 use Rattle.isle_model.specs.Judge.{is_best_tree, returns_apart}
 use Rattle.isle_model.specs.WellBuilt.{HasOnePriority}
 use Rattle.isle_trees.proofs.Lists.{member_from_get}

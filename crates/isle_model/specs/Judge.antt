@@ -4,7 +4,7 @@ use Rattle.std.specs.Bool.{◌==◌}
 use Rattle.std.specs.Str.{bytes_eq}
 use Rattle.std.specs.List.{list_all}
 use Rattle.isle_model.specs.Syntax.{Position}
-use Rattle.isle_model.specs.Sites.{Site, Constraint, SetRule, SiteSet}
+use Rattle.isle_model.specs.Sites.{Constraint, SetRule, SiteSet}
 use Rattle.isle_model.specs.Trees.{Tree, no_step, step, Check, match_at, equal_at, loop_at, return_at, Arms, no_arm, arm, Marked, m_no_step, m_step, MarkedCheck, m_match, m_equal, m_loop, m_return, MarkedArms, m_no_arm, m_arm, marks, marks_arms, plain}
 use Rattle.isle_model.specs.Places.{Around, nothing_around, uses, bind_order, constraint_at, fields_of, in_arm, in_equal, in_loop, after_step}
 use Rattle.isle_model.specs.Run.{iterated}
