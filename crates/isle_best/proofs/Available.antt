@@ -5,9 +5,10 @@ use Rattle.std.proofs.lemmas.Bool.{cases_Bool, cond-true, cond-false, and_parts,
 use Rattle.std.proofs.lemmas.Option.{none-some, same_Some, slice_get_within}
 use Rattle.isle_model.specs.Sites.{Site, iterator_site, match_variant_site, extract_struct_site, match_some_site, Constraint, is_variant, is_struct, is_present, SetRule, SiteSet, sources_of, sources_at}
 use Rattle.isle_model.specs.Places.{Around, is_in, waits, is_available, available, below, is_variant_field, is_struct_field, is_part_of, site_from, each_field, fields_of, field_sites}
-use Rattle.isle_model.specs.WellBuilt.{Demands, IsWellBuilt}
+use Rattle.isle_model.specs.WellBuilt.{gate_demanded, IsWellBuilt}
 use Rattle.isle_trees.proofs.Lists.{nothing_in, in_head, in_tail, in_cases}
-use Rattle.isle_best.proofs.Lists.{each_passes, all_pass, in_flat_map, from_flat_map, member_is_in}
+use Rattle.isle_best.proofs.Gates.{variant_gate, struct_gate, answer_gate}
+use Rattle.isle_best.proofs.Lists.{member_found, each_passes, all_pass, in_flat_map, from_flat_map, member_is_in}
 
 -- 1. more layers change nothing
 module _ (sites : List Site) (brought : List ℕ) where
@@ -135,10 +136,10 @@ module _ (set : SiteSet) (built : IsWellBuilt set) (ar : Around) (r : SetRule) (
   sites = set.sites
 
   abbrev pub Gated : ℕ → Type 0
-  Gated s = (u : ℕ) → Contains (below (suc s) sites s) u → Demands r (slice_get sites u)
+  Gated s = (u : ℕ) → Contains (below (suc s) sites s) u → gate_demanded r (slice_get sites u) ≡ true
 
-  within_of : (s : ℕ) (o : Option Site) → slice_get sites s ≡ o → Demands r o → s < length sites
-  within_of s None e d = absurd d
+  within_of : (s : ℕ) (o : Option Site) → slice_get sites s ≡ o → gate_demanded r o ≡ true → s < length sites
+  within_of s None e d = absurd (false≢true d)
   within_of s (Some b) e d = slice_get_within sites s b e
 
   pub within : (s : ℕ) → Gated s → s < length sites
@@ -172,16 +173,18 @@ module _ (set : SiteSet) (built : IsWellBuilt set) (ar : Around) (r : SetRule) (
   up : (f n : ℕ) → f < n → f < 0 + n
   up f n l = omega arith
 
-  reach_site : (s : ℕ) (o : Option Site) → slice_get sites s ≡ o → Demands r o → AllSources s → available sites ar s ≡ true
-  reach_site s None e d all = absurd d
-  reach_site s (Some (match_variant_site source variant field)) e d all =
+  reach_site : (s : ℕ) (o : Option Site) → slice_get sites s ≡ o → gate_demanded r o ≡ true → AllSources s → available sites ar s ≡ true
+  reach_site s None e d all = absurd (false≢true d)
+  reach_site s (Some (match_variant_site source variant field)) e h all =
+      let d = variant_gate r.constraints source variant field h in
       let b = match_variant_site source variant field in
       let a = all source (source_there s b source e (in_head source [])) in
       let tested = made.matched source (is_variant d.0 variant d.1) a.1 d.2 a.0 in
       let here = and_from ((source == source) && (variant == variant)) (field == field) (and_from (source == source) (variant == variant) (eq-eqb source source refl) (eq-eqb variant variant refl)) (eq-eqb field field refl) in
       let found = only_site s b e (is_variant_field source variant field) here (variant_field_same source variant field) in
       brought_by s (brings.fields source (is_variant d.0 variant d.1) s tested (field_listed (is_variant_field source variant) sites 0 d.1 field s (omega arith) (up field d.1 d.3) found))
-  reach_site s (Some (extract_struct_site source field)) e d all =
+  reach_site s (Some (extract_struct_site source field)) e h all =
+      let d = struct_gate r.constraints source field h in
       let b = extract_struct_site source field in
       let a = all source (source_there s b source e (in_head source [])) in
       let tested = made.matched source (is_struct d.0 d.1) a.1 d.2 a.0 in
@@ -191,12 +194,12 @@ module _ (set : SiteSet) (built : IsWellBuilt set) (ar : Around) (r : SetRule) (
   reach_site s (Some (match_some_site source)) e d all =
       let b = match_some_site source in
       let a = all source (source_there s b source e (in_head source [])) in
-      let tested = made.matched source is_present a.1 d a.0 in
+      let tested = made.matched source is_present a.1 (answer_gate r.constraints source d) a.0 in
       let found = only_site s b e (is_part_of source) (eq-eqb source source refl) (part_same source) in
       brought_by s (brings.fields source is_present s tested (subst (λ o. Contains (field_sites (o ∷ [])) s) (sym found) (in_head s [])))
   reach_site s (Some (iterator_site source)) e d all =
       let a = all source (source_there s (iterator_site source) source e (in_head source [])) in
-      brought_by s (brings.picks source s (made.looped source a.1 d a.0) e)
+      brought_by s (brings.picks source s (made.looped source a.1 (member_found source r.iterators d) a.0) e)
   reach_site s (Some b) e d all = not_waiting s (ap waits e) (λ u c. (all u c).0)
 
   reach_below : (n s : ℕ) → s < n → Gated s → available sites ar s ≡ true

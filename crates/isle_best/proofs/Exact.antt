@@ -1,5 +1,6 @@
 -- The judge of a marked tree is exact.
-use Rattle.std.proofs.Common.{◌≡◌, ◌≢◌, ℕ, ◌==◌, Bool, true, false, not, ◌&&◌, ◌||◌, nat_lt, nat_le, List, [], ◌∷◌, ◌++◌, length, get_or, Option, Some, None, is_some, slice_get, Decides, count_by, sum_by, bytes_eq, refl, sym, ap, subst, eqb-true, eq-eqb, ltb-true, lt-ltb, leb-true, le-leb}
+use Rattle.std.proofs.Common.{◌≡◌, ◌≢◌, ℕ, ◌==◌, Bool, true, false, not, ◌&&◌, ◌||◌, nat_lt, nat_le, List, [], ◌∷◌, ◌++◌, length, get_or, Option, Some, None, is_some, slice_get, Decides, count_by, sum_by, refl, sym, ap, subst, eqb-true, eq-eqb, ltb-true, lt-ltb, leb-true, le-leb}
+use Rattle.std.specs.Cmp.Lexicographic.{pointwise}
 use Rattle.std.specs.List.{list_all}
 use Rattle.std.proofs.lemmas.Bool.{and_parts, and_from, false≢true}
 use Rattle.std.proofs.lemmas.Slice.Eq.{bytes_eq-Decides}
@@ -58,40 +59,40 @@ module _ (set : SiteSet) where
       let all = all_open set ar (λ u. not (is_greater (score set ar here u) top)) in
       (λ h u o. (not_exact (is_greater (score set ar here u) top)).0 (all.0 h u o), λ h. all.1 (λ u o. (not_exact (is_greater (score set ar here u) top)).1 (h u o)))
 
-  made_exact : (ar : Around) (covered later : List ℕ) (t : Test) → Decides (is_made set ar covered later t) (IsMade set ar covered later t)
-  made_exact ar covered later t =
-      let here = covered ++ later in
+  made_exact : (ar : Around) (held later : List ℕ) (t : Test) → Decides (is_made set ar held later t) (IsMade set ar held later t)
+  made_exact ar held later t =
+      let here = held ++ later in
       let top = score set ar here t in
       let greatest = greatest_exact ar here top in
-      let same = bytes_eq-Decides (cover set.rules here t) covered in
-      let some = some_exact covered in (
+      let same = bytes_eq-Decides (cover set.rules here t) held in
+      let some = some_exact held in (
         λ h.
-            let q = and_parts (is_open set ar t && none_greater set ar here top && bytes_eq (cover set.rules here t) covered) (not (is_empty covered)) h in
-            let r = and_parts (is_open set ar t && none_greater set ar here top) (bytes_eq (cover set.rules here t) covered) q.0 in
+            let q = and_parts (is_open set ar t && none_greater set ar here top && pointwise ◌==◌ (cover set.rules here t) held) (not (is_empty held)) h in
+            let r = and_parts (is_open set ar t && none_greater set ar here top) (pointwise ◌==◌ (cover set.rules here t) held) q.0 in
             let s = and_parts (is_open set ar t) (none_greater set ar here top) r.0 in
-            record { test = record { at_hand = s.0; greatest = greatest.0 s.1 }; rules = same.0 r.1; some_rule = some.0 q.1 },
+            record { test = record { open_here = s.0; greatest = greatest.0 s.1 }; rules = same.0 r.1; some_rule = some.0 q.1 },
         λ h.
-            and_from (is_open set ar t && none_greater set ar here top && bytes_eq (cover set.rules here t) covered) (not (is_empty covered))
-            (and_from (is_open set ar t && none_greater set ar here top) (bytes_eq (cover set.rules here t) covered)
-            (and_from (is_open set ar t) (none_greater set ar here top) h.test.at_hand (greatest.1 h.test.greatest))
+            and_from (is_open set ar t && none_greater set ar here top && pointwise ◌==◌ (cover set.rules here t) held) (not (is_empty held))
+            (and_from (is_open set ar t && none_greater set ar here top) (pointwise ◌==◌ (cover set.rules here t) held)
+            (and_from (is_open set ar t) (none_greater set ar here top) h.test.open_here (greatest.1 h.test.greatest))
             (same.1 h.rules))
             (some.1 h.some_rule),
       )
 
   abbrev IsLoopMade : Around → List ℕ → List ℕ → Option Site → Type 0
-  IsLoopMade ar covered later o = (source : ℕ) × (o ≡ Some (iterator_site source)) × IsMade set ar covered later (loop_test source)
+  IsLoopMade ar held later o = (source : ℕ) × (o ≡ Some (iterator_site source)) × IsMade set ar held later (loop_test source)
 
   abbrev source_or_none : Option Site → ℕ
   source_or_none (Some (iterator_site source)) = source
   source_or_none _ = 0
 
-  loop_exact : (ar : Around) (covered later : List ℕ) (o : Option Site) → Decides (is_loop_made set ar covered later (then_option o iterated)) (IsLoopMade ar covered later o)
-  loop_exact ar covered later None = (λ h. absurd (false≢true h), λ m. absurd (false≢true (ap is_some m.1)))
-  loop_exact ar covered later (Some (iterator_site s)) = (
-    λ h. (s, refl, (made_exact ar covered later (loop_test s)).0 h),
-    λ m. (made_exact ar covered later (loop_test s)).1 (subst (λ x. IsMade set ar covered later (loop_test x)) (sym (ap source_or_none m.1)) m.2),
+  loop_exact : (ar : Around) (held later : List ℕ) (o : Option Site) → Decides (is_loop_made set ar held later (then_option o iterated)) (IsLoopMade ar held later o)
+  loop_exact ar held later None = (λ h. absurd (false≢true h), λ m. absurd (false≢true (ap is_some m.1)))
+  loop_exact ar held later (Some (iterator_site s)) = (
+    λ h. (s, refl, (made_exact ar held later (loop_test s)).0 h),
+    λ m. (made_exact ar held later (loop_test s)).1 (subst (λ x. IsMade set ar held later (loop_test x)) (sym (ap source_or_none m.1)) m.2),
   )
-  loop_exact ar covered later (Some b) = (λ h. absurd (false≢true h), λ m. absurd (false≢true (ap (λ o. is_some (then_option o iterated)) m.1)))
+  loop_exact ar held later (Some b) = (λ h. absurd (false≢true h), λ m. absurd (false≢true (ap (λ o. is_some (then_option o iterated)) m.1)))
 
   end_exact : (ar : Around) (here : List ℕ) → Decides (is_end set ar here) (IsEnd set ar here)
   end_exact ar here =
@@ -116,7 +117,7 @@ module _ (set : SiteSet) where
     steps_exact : (m : Marked) (ar : Around) (closing : Bool) → Decides (best_steps set ar closing m) (BestSteps set ar closing m)
     steps_exact m_no_step ar closing = (λ h. tt, λ h. refl)
     steps_exact (m_step binds check rest) ar closing =
-        three (bytes_eq binds (bind_order set.sites ar (uses set check))) (best_check set ar closing (marks rest) check) (best_steps set (after_step set ar check) (is_return check) rest)
+        three (pointwise ◌==◌ binds (bind_order set.sites ar (uses set check))) (best_check set ar closing (marks rest) check) (best_steps set (after_step set ar check) (is_return check) rest)
         (bytes_eq-Decides binds (bind_order set.sites ar (uses set check)))
         (check_exact check ar closing (marks rest))
         (steps_exact rest (after_step set ar check) (is_return check))

@@ -149,7 +149,7 @@ module _ (set : SiteSet) where
     steps_few (m_step binds (m_match source arms) rest) ar closing straight fits best =
         let made = best.1.1 in
         add_up ar (marks_arms arms) (marks rest) (steps_among (plain_arms set.rules arms)) (steps_of (plain set.rules rest)) made.some_rule straight fits
-        (arms_few arms ar source None made.test.at_hand straight (fits_left ar (marks_arms arms) (marks rest) fits) best.1.2)
+        (arms_few arms ar source None made.test.open_here straight (fits_left ar (marks_arms arms) (marks rest) fits) best.1.2)
         (steps_few rest (after_step set ar (m_match source arms)) (is_return (m_match source arms)) (straight_after set ar straight (m_match source arms)) (fits_after ar (m_match source arms) (marks rest) (fits_right ar (marks_arms arms) (marks rest) fits)) best.2)
     steps_few (m_step binds (m_equal a b body) rest) ar closing straight fits best =
         let made = best.1.1 in
@@ -160,7 +160,7 @@ module _ (set : SiteSet) where
         } in
         add_up ar (marks body) (marks rest) (steps_of (plain set.rules body)) (steps_of (plain set.rules rest)) made.some_rule straight fits
         (subst (λ n. steps_of (plain set.rules body) ≤ cost set.rules n (marks body)) (one_pair (length ar.tested) (length ar.joined) (length ar.looped))
-        (steps_few body (in_equal set ar a b) false (straight_equal set ar straight a b made.test.at_hand) inside best.1.2))
+        (steps_few body (in_equal set ar a b) false (straight_equal set ar straight a b made.test.open_here) inside best.1.2))
         (steps_few rest (after_step set ar (m_equal a b body)) (is_return (m_equal a b body)) (straight_after set ar straight (m_equal a b body)) (fits_after ar (m_equal a b body) (marks rest) (fits_right ar (marks body) (marks rest) fits)) best.2)
     steps_few (m_step binds (m_loop result body) rest) ar closing straight fits best =
         let source = best.1.1.0 in
@@ -173,7 +173,7 @@ module _ (set : SiteSet) where
         } in
         add_up ar (marks body) (marks rest) (steps_of (plain set.rules body)) (steps_of (plain set.rules rest)) made.some_rule straight fits
         (subst (λ n. steps_of (plain set.rules body) ≤ cost set.rules n (marks body)) (ap (λ l. length ar.tested + length ar.joined + length (l ++ ar.looped)) (sources_there set result source at) ∙ one_loop (length ar.tested) (length ar.joined) (length ar.looped))
-        (steps_few body (in_loop set ar result) false (straight_loop set ar straight result source at made.test.at_hand) inside best.1.2))
+        (steps_few body (in_loop set ar result) false (straight_loop set ar straight result source at made.test.open_here) inside best.1.2))
         (steps_few rest (after_step set ar (m_loop result body)) (is_return (m_loop result body)) (straight_after set ar straight (m_loop result body)) (fits_after ar (m_loop result body) (marks rest) (fits_right ar (marks body) (marks rest) fits)) best.2)
     steps_few (m_step binds (m_return rule) rest) ar closing straight fits best =
         let a = steps_few rest (after_step set ar (m_return rule)) true (straight_after set ar straight (m_return rule)) (fits_after ar (m_return rule) (marks rest) (fits_right ar (rule ∷ []) (marks rest) fits)) best.2 in

@@ -5,6 +5,7 @@ pub mod Exact
 pub mod Marking
 pub mod Scores
 pub mod Judged
+pub mod Gates
 pub mod Available
 pub mod Covers
 pub mod Passing

@@ -25,9 +25,9 @@ module _ (set : SiteSet) where
         (steps_once rest (after_step set ar check) (is_return check) (straight_after set ar straight check) best.2)
 
     check_once : (check : MarkedCheck) (ar : Around) (closing : Bool) (later : List ℕ) → IsStraight ar → BestCheck set ar closing later check → no_site_twice_in (matched_around ar) ar.joined (plain_check set.rules check) ≡ true
-    check_once (m_match source arms) ar closing later straight best = arms_once arms ar source None best.1.test.at_hand straight best.2
-    check_once (m_equal a b body) ar closing later straight best = steps_once body (in_equal set ar a b) false (straight_equal set ar straight a b best.1.test.at_hand) best.2
-    check_once (m_loop result body) ar closing later straight best = steps_once body (in_loop set ar result) false (straight_loop set ar straight result best.1.0 best.1.1 best.1.2.test.at_hand) best.2
+    check_once (m_match source arms) ar closing later straight best = arms_once arms ar source None best.1.test.open_here straight best.2
+    check_once (m_equal a b body) ar closing later straight best = steps_once body (in_equal set ar a b) false (straight_equal set ar straight a b best.1.test.open_here) best.2
+    check_once (m_loop result body) ar closing later straight best = steps_once body (in_loop set ar result) false (straight_loop set ar straight result best.1.0 best.1.1 best.1.2.test.open_here) best.2
     check_once (m_return rule) ar closing later straight best = return_once (slice_get set.rules rule) (matched_around ar) ar.joined straight.matched (independent_apart ar.joined straight.joined)
 
     arms_once : (arms : MarkedArms) (ar : Around) (source : ℕ) (before : Option Constraint) → IsOpen set ar (match_test source) → IsStraight ar → BestArms set ar source before arms

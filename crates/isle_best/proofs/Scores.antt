@@ -202,15 +202,15 @@ module _ (set : SiteSet) (ar : Around) (here : List ℕ) where
         | inl e ↦ same_tests set ar here v u e.0 e.1 e.2
         | inr d ↦
             elim (compare_scores (of v) (of u) d) [
-              | inl t ↦ absurd (false≢true (sym (g.greatest v h.at_hand) ∙ t))
-              | inr t ↦ absurd (false≢true (sym (h.greatest u g.at_hand) ∙ t))
+              | inl t ↦ absurd (false≢true (sym (g.greatest v h.open_here) ∙ t))
+              | inr t ↦ absurd (false≢true (sym (h.greatest u g.open_here) ∙ t))
             ]
       ]
 
   the_greatest : (t : Test) → IsOpen set ar t → (u : Test) × IsGreatest set ar here u × ((v : Test) → IsGreatest set ar here v → v ≡ u)
   the_greatest t o =
       let g = greatest_among (open_tests set ar) t (open_listed set ar t o) in
-      let top : IsGreatest set ar here g.0 = record { at_hand = listed_open set ar g.0 g.1; greatest = λ v p. g.2 v (open_listed set ar v p) } in
+      let top : IsGreatest set ar here g.0 = record { open_here = listed_open set ar g.0 g.1; greatest = λ v p. g.2 v (open_listed set ar v p) } in
       (g.0, top, λ v h. one_greatest g.0 v top h)
 
 pub one_test_is_greatest_lem : OneTestIsGreatest

@@ -161,7 +161,7 @@ module _ (set : SiteSet) (multi : Bool) (built : IsWellBuilt set) (one : multi â
     steps_sound (m_step binds (m_match source arms) rest) ar closing reached keeps closes best =
         let check = best.1 in
         let made = check.1 in
-        let free = made.test.at_hand in (
+        let free = made.test.open_here in (
           Î» q. best.0,
           (
             Î» q. hand_available ar source (and_parts (is_at_hand set ar source) (not (is_in source (sources_around ar))) free).0,
@@ -174,7 +174,7 @@ module _ (set : SiteSet) (multi : Bool) (built : IsWellBuilt set) (one : multi â
     steps_sound (m_step binds (m_equal a b body) rest) ar closing reached keeps closes best =
         let check = best.1 in
         let made = check.1 in
-        let pair = and_parts _ _ made.test.at_hand in
+        let pair = and_parts _ _ made.test.open_here in
         let second = and_parts _ (is_at_hand set ar b) pair.0 in
         let first = and_parts _ (is_at_hand set ar a) second.0 in
         let here = left ar (marks body) (marks rest) keeps in
@@ -193,7 +193,7 @@ module _ (set : SiteSet) (multi : Bool) (built : IsWellBuilt set) (one : multi â
         let check = best.1 in
         let source = check.1.0 in
         let made = check.1.2 in
-        let free = and_parts (is_at_hand set ar source) (not (is_in source (sources_around ar))) made.test.at_hand in
+        let free = and_parts (is_at_hand set ar source) (not (is_in source (sources_around ar))) made.test.open_here in
         let over : AllGoOver set.rules (marks body) source = Î» i r c e. member_found source r.iterators (needed_here (marks body) (marks rest) (loop_test source) made.rules i r c e) in
         let here = left ar (marks body) (marks rest) keeps in (
           Î» q. best.0,

@@ -11,7 +11,7 @@ use Rattle.isle_model.specs.Places.{is_in, constraint_at, below}
 use Rattle.isle_model.specs.Sound.{as_number}
 use Rattle.isle_model.specs.Tests.{match_test, equal_test, loop_test, needs, up_to}
 use Rattle.isle_model.specs.Best.{are_distinct}
-use Rattle.isle_model.specs.WellBuilt.{tests_site, Demands, IsWellBuiltRule, IsWellBuilt}
+use Rattle.isle_model.specs.WellBuilt.{tests_site, gate_demanded, IsWellBuiltRule, IsWellBuilt}
 use Rattle.isle_trees.proofs.Lists.{nothing_in, in_head, in_tail, in_cases, constraint_in, member_from_get}
 use Rattle.isle_best.proofs.Lists.{each_passes, in_map, member_found, member_is_in, in_up_to}
 use Rattle.isle_best.proofs.Exact.{not_exact}
@@ -79,58 +79,6 @@ smaller sites h s u c = by (slice_get sites s) refl
         within (x ∷ xs) (suc s) b e = (let l = within xs s b e in omega arith)
 
 -- 3. rules
-abbrev pub brings_variant : ℕ → ℕ → ℕ → ℕ × Constraint → Bool
-brings_variant source variant field (s, is_variant ty v fields) = (s == source) && (v == variant) && nat_lt field fields
-brings_variant source variant field _ = false
-
-abbrev pub brings_struct : ℕ → ℕ → ℕ × Constraint → Bool
-brings_struct source field (s, is_struct ty fields) = (s == source) && nat_lt field fields
-brings_struct source field _ = false
-
-abbrev pub brings_part : ℕ → ℕ × Constraint → Bool
-brings_part source (s, is_present) = s == source
-brings_part source _ = false
-
-abbrev pub demands : SetRule → Option Site → Bool
-demands r (Some (match_variant_site source variant field)) = list_any (brings_variant source variant field) r.constraints
-demands r (Some (extract_struct_site source field)) = list_any (brings_struct source field) r.constraints
-demands r (Some (match_some_site source)) = list_any (brings_part source) r.constraints
-demands r (Some (iterator_site source)) = is_in source r.iterators
-demands r (Some _) = true
-demands r None = false
-
-some_passes : {X : Type 0} (p : X → Bool) (xs : List X) → list_any p xs ≡ true → (x : X) × Contains xs x × (p x ≡ true)
-some_passes p [] h = absurd (false≢true h)
-some_passes p (x ∷ xs) h = elim (or_cases (p x) (list_any p xs) h) [ inl t ↦ (x, in_head x xs, t) | inr t ↦ let r = some_passes p xs t in (r.0, in_tail x r.0 xs r.1, r.2) ]
-
-module _ (r : SetRule) where
-  variant_brought : (source variant field : ℕ) (d : ℕ × Constraint) → Contains r.constraints d → brings_variant source variant field d ≡ true → Demands r (Some (match_variant_site source variant field))
-  variant_brought source variant field (s, is_variant ty v fields) c h =
-      let q = and_parts ((s == source) && (v == variant)) (nat_lt field fields) h in
-      let p = and_parts (s == source) (v == variant) q.0 in
-      let a = eqb-true s source p.0 in
-      let b = eqb-true v variant p.1 in
-      (ty, fields, subst (λ (x : ℕ × ℕ). Contains r.constraints (x.0, is_variant ty x.1 fields)) (λ k. (a k, b k)) c, ltb-true field fields q.1)
-  variant_brought source variant field (s, _) c h = absurd (false≢true h)
-
-  struct_brought : (source field : ℕ) (d : ℕ × Constraint) → Contains r.constraints d → brings_struct source field d ≡ true → Demands r (Some (extract_struct_site source field))
-  struct_brought source field (s, is_struct ty fields) c h =
-      let q = and_parts (s == source) (nat_lt field fields) h in
-      (ty, fields, subst (λ x. Contains r.constraints (x, is_struct ty fields)) (eqb-true s source q.0) c, ltb-true field fields q.1)
-  struct_brought source field (s, _) c h = absurd (false≢true h)
-
-  part_brought : (source : ℕ) (d : ℕ × Constraint) → Contains r.constraints d → brings_part source d ≡ true → Contains r.constraints (source, is_present)
-  part_brought source (s, is_present) c h = subst (λ x. Contains r.constraints (x, is_present)) (eqb-true s source h) c
-  part_brought source (s, _) c h = absurd (false≢true h)
-
-  demanded : (o : Option Site) → demands r o ≡ true → Demands r o
-  demanded (Some (match_variant_site source variant field)) h = let x = some_passes (brings_variant source variant field) r.constraints h in variant_brought source variant field x.0 x.1 x.2
-  demanded (Some (extract_struct_site source field)) h = let x = some_passes (brings_struct source field) r.constraints h in struct_brought source field x.0 x.1 x.2
-  demanded (Some (match_some_site source)) h = let x = some_passes (brings_part source) r.constraints h in part_brought source x.0 x.1 x.2
-  demanded (Some (iterator_site source)) h = member_found source r.iterators h
-  demanded (Some _) h = tt
-  demanded None h = absurd (false≢true h)
-
 abbrev pub sites_asked : SetRule → List ℕ
 sites_asked r = map (λ (d : ℕ × Constraint). d.0) r.constraints
 
@@ -138,7 +86,7 @@ abbrev pub sites_tested : SetRule → List ℕ
 sites_tested r = sites_asked r ++ (members r.classes ++ r.iterators)
 
 abbrev pub gates_demanded : List Site → SetRule → ℕ → Bool
-gates_demanded sites r s = list_all (λ u. demands r (slice_get sites u)) (below (suc s) sites s)
+gates_demanded sites r s = list_all (λ u. gate_demanded r (slice_get sites u)) (below (suc s) sites s)
 
 abbrev pub rule_passes : List Site → SetRule → Bool
 rule_passes sites r =
@@ -193,7 +141,7 @@ rule_well_built sites r h =
           let n = each_passes (λ x. not (is_in x r.iterators)) (sites_asked r) b.1 s (in_map (λ (d : ℕ × Constraint). d.0) r.constraints (s, c) k) in
           false≢true (sym ((not_exact (is_in s r.iterators)).0 n) ∙ member_is_in s r.iterators m);
       gates = λ s u t k.
-          demanded r (slice_get sites u) (each_passes (λ v. demands r (slice_get sites v)) (below (suc s) sites s) (each_passes (gates_demanded sites r) (sites_tested r) a.1 s (tested_in r s t)) u k);
+          each_passes (λ v. gate_demanded r (slice_get sites v)) (below (suc s) sites s) (each_passes (gates_demanded sites r) (sites_tested r) a.1 s (tested_in r s t)) u k;
     }
 
 pub passes_well_built : (set : SiteSet) → set_passes set ≡ true → IsWellBuilt set
