@@ -26,3 +26,14 @@ JudgeIsExact = (set : SiteSet) (m : Marked) → Decides (is_best set m) (IsBestM
 -- where no two rules return at one position with one result, so does the judge of a tree
 abbrev pub TreeJudgeIsExact : Type 0
 TreeJudgeIsExact = (set : SiteSet) (tree : Tree) → IsTrue (returns_apart set.rules) → Decides (is_best_tree set tree) (IsBestTree set tree)
+
+-- two facts of best trees follow from the others
+abbrev pub SitesAreTestedOnce : Type 0
+SitesAreTestedOnce = (set : SiteSet) (m : Marked) → BestSteps set nothing_around false m → NoSiteTwice (plain set.rules m)
+
+abbrev pub StepsAreFew : Type 0
+StepsAreFew = (set : SiteSet) (m : Marked) → ReturnsEach set (plain set.rules m) m → BestSteps set nothing_around false m → HasFewSteps set (plain set.rules m)
+
+-- so the facts of its steps are enough
+abbrev pub StepsMakeBestTrees : Type 0
+StepsMakeBestTrees = (set : SiteSet) (tree : Tree) (m : Marked) → ReturnsEach set tree m → BestSteps set nothing_around false m → IsBestTree set tree

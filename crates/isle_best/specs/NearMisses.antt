@@ -1,7 +1,7 @@
 -- Trees that miss being best by one thing each.
-use Rattle.std.specs.Prelude.{ℕ, List, [], ◌∷◌, Some, None}
+use Rattle.std.specs.Prelude.{[], ◌∷◌, Some, None}
 use Rattle.isle_model.specs.Sites.{is_variant, is_present}
-use Rattle.isle_model.specs.Trees.{Tree, no_step, step, match_at, equal_at, loop_at, no_arm, arm}
+use Rattle.isle_model.specs.Trees.{Tree, no_step, step, match_at, equal_at, loop_at, arm}
 use Rattle.isle_best.specs.Samples.{is_byte, returning, one_arm}
 
 -- of `prio`: the test of the first argument goes first, though it covers one rule and the other one two

@@ -1,10 +1,10 @@
 -- The judge of a finished tree: whether it is a best tree, by computing.
 use Rattle.std.specs.Prelude.{ℕ, suc, Bool, true, false, not, ◌&&◌, ◌||◌, nat_lt, nat_le, List, [], ◌∷◌, ◌++◌, length, Option, Some, None, if◌then◌else◌, slice_get, count_by, sum_by}
 use Rattle.std.specs.Bool.{◌==◌}
-use Rattle.std.specs.Str.{bytes_eq}
+use Rattle.std.specs.Cmp.Lexicographic.{pointwise}
 use Rattle.std.specs.List.{list_all}
 use Rattle.isle_model.specs.Syntax.{Position}
-use Rattle.isle_model.specs.Sites.{Site, Constraint, SetRule, SiteSet}
+use Rattle.isle_model.specs.Sites.{Constraint, SetRule, SiteSet}
 use Rattle.isle_model.specs.Trees.{Tree, no_step, step, Check, match_at, equal_at, loop_at, return_at, Arms, no_arm, arm, Marked, m_no_step, m_step, MarkedCheck, m_match, m_equal, m_loop, m_return, MarkedArms, m_no_arm, m_arm, marks, marks_arms, plain}
 use Rattle.isle_model.specs.Places.{Around, nothing_around, uses, bind_order, constraint_at, fields_of, in_arm, in_equal, in_loop, after_step}
 use Rattle.isle_model.specs.Run.{iterated}
@@ -23,13 +23,13 @@ is_empty (x ∷ xs) = false
 
 -- the greatest test is made, for exactly the rules that it covers
 abbrev pub is_made : SiteSet → Around → List ℕ → List ℕ → Test → Bool
-is_made set ar covered later t =
-    is_open set ar t && none_greater set ar (covered ++ later) (score set ar (covered ++ later) t)
-    && bytes_eq (cover set.rules (covered ++ later) t) covered && not (is_empty covered)
+is_made set ar held later t =
+    is_open set ar t && none_greater set ar (held ++ later) (score set ar (held ++ later) t)
+    && pointwise ◌==◌ (cover set.rules (held ++ later) t) held && not (is_empty held)
 
 abbrev pub is_loop_made : SiteSet → Around → List ℕ → List ℕ → Option ℕ → Bool
-is_loop_made set ar covered later None = false
-is_loop_made set ar covered later (Some source) = is_made set ar covered later (loop_test source)
+is_loop_made set ar held later None = false
+is_loop_made set ar held later (Some source) = is_made set ar held later (loop_test source)
 
 abbrev pub is_end : SiteSet → Around → List ℕ → Bool
 is_end set ar here = list_all (λ u. is_empty (cover set.rules here u)) (open_tests set ar) && descend set.rules here
@@ -64,7 +64,7 @@ abbrev mutual
   pub best_steps : SiteSet → Around → Bool → Marked → Bool
   best_steps set ar closing m_no_step = true
   best_steps set ar closing (m_step binds check rest) =
-      bytes_eq binds (bind_order set.sites ar (uses set check))
+      pointwise ◌==◌ binds (bind_order set.sites ar (uses set check))
       && best_check set ar closing (marks rest) check
       && best_steps set (after_step set ar check) (is_return check) rest
 

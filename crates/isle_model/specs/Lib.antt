@@ -19,6 +19,7 @@ pub mod Sound
 pub mod Tests
 pub mod Best
 pub mod Judge
+pub mod WellBuilt
 pub mod Runs
 pub mod Simple
 pub mod Built

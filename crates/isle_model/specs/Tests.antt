@@ -1,5 +1,5 @@
 -- Tests at a place of a tree: which rules need one, which are open, what each covers, and its score.
-use Rattle.std.specs.Prelude.{ℕ, zero, suc, ℤ, pos, Bool, true, false, not, ◌&&◌, ◌||◌, nat_lt, List, [], ◌∷◌, ◌++◌, length, map, Option, Some, None, is_some, slice_get, IsTrue}
+use Rattle.std.specs.Prelude.{ℕ, zero, suc, ℤ, pos, Bool, false, not, ◌&&◌, ◌||◌, nat_lt, List, [], ◌∷◌, ◌++◌, length, map, Option, Some, None, is_some, slice_get, IsTrue}
 use Rattle.std.specs.Bool.{◌==◌}
 use Rattle.std.specs.Ordering.{int_cmp, is_lt}
 use Rattle.std.specs.List.{filter, list_all, flat_map}
@@ -35,7 +35,7 @@ needs_at rules t i = is_needed t (slice_get rules i)
 abbrev pub is_lower : List SetRule → ℕ → ℕ → Bool
 is_lower rules i j = is_lt (int_cmp (priority (slice_get rules i)) (priority (slice_get rules j)))
 
--- each rule here needs the test, or has at most the priority of the rule at i
+-- the rule at i needs the test, and each rule here needs it too or has at most its priority
 abbrev pub is_covered : List SetRule → List ℕ → Test → ℕ → Bool
 is_covered rules here t i = needs_at rules t i && list_all (λ j. needs_at rules t j || not (is_lower rules i j)) here
 
@@ -51,7 +51,7 @@ sources_around ar = map (λ d. d.0) ar.tested ++ ar.looped
 abbrev pub is_at_hand : SiteSet → Around → ℕ → Bool
 is_at_hand set ar s = nat_lt s (length set.sites) && available set.sites ar s
 
--- and the source of no arm or loop around
+-- an available site that is the source of no arm or loop around
 abbrev pub is_open_site : SiteSet → Around → ℕ → Bool
 is_open_site set ar s = is_at_hand set ar s && not (is_in s (sources_around ar))
 
