@@ -66,11 +66,19 @@ alone z = value_and (v z) no_value
 abbrev pub literal : ℤ → Literal × Value
 literal z = (int_literal z 1, v z)
 
+-- a meaning with literals and no calls, and one with nothing
+abbrev pub mute : List (Literal × Value) → Meaning
+mute literals = record { literals = literals; constants = []; extractor_calls = []; pure_calls = []; impure_calls = [] }
+
 abbrev pub blank : Meaning
-blank = record { literals = []; constants = []; extractor_calls = []; pure_calls = []; impure_calls = [] }
+blank = mute []
 
 abbrev pub ends_with : Content → Outcome
 ends_with c = record { calls = []; results = c ∷ []; ending = ended }
+
+-- on an argument the meaning lacks something that the rules ask
+abbrev pub DoesNotServe : Program → Meaning → ℤ → Type 0
+DoesNotServe p m z = Serves p m (given z) p.rules → ⊥
 
 -- 2. (f (e 1)) is 10 at priority 1, (f (e x)) is x: e is an extractor that may answer nothing
 abbrev pub extract_rules : List TypedRule
@@ -106,6 +114,9 @@ extract_meaning = record {
   pure_calls = [];
   impure_calls = [];
 }
+
+abbrev pub extract_mute : Meaning
+extract_mute = mute extract_meaning.literals
 
 -- choice and run end so on an argument
 abbrev pub ExtractEnds : ℤ → Outcome → Type 0
@@ -148,6 +159,9 @@ partial_meaning answer = record {
   pure_calls = [];
   impure_calls = ((0, 0), answer) ∷ [];
 }
+
+abbrev pub partial_mute : Meaning
+partial_mute = mute (partial_meaning nothing).literals
 
 abbrev pub g_of_one : List Call
 g_of_one = record { term = 0; args = alone (pos 1) } ∷ []
@@ -259,6 +273,9 @@ multi_meaning = record {
       ∷ (((0, alone (pos 2)), many (all_of (pos 7 ∷ []))) ∷ (((0, alone (pos 3)), many (all_of [])) ∷ []));
   impure_calls = [];
 }
+
+abbrev pub multi_mute : Meaning
+multi_mute = mute multi_meaning.literals
 
 abbrev pub multi_world : ℤ → World
 multi_world z = world_of multi_program 1 multi_set.sites multi_meaning (given z)

@@ -6,7 +6,7 @@
 ghost use Rattle.std.specs.Prelude.{[], ◌∷◌, pos};
 ghost use Rattle.isle_model.specs.Meaning.{one, just, nothing};
 ghost use Rattle.isle_model.specs.Outcome.{failed, ended, no_rule};
-ghost use Rattle.isle_picks.specs.Samples.{EffectsEnds, ExtractEnds, MultiCollects, MultiGives, PartialEnds, ends_with, g_of_one, im_of_one, pair_of, v};
+ghost use Rattle.isle_picks.specs.Samples.{DoesNotServe, EffectsEnds, ExtractEnds, ExtractIsServed, MultiCollects, MultiGives, MultiIsServed, PartialEnds, PartialIsServed, blank, ends_with, extract_mute, extract_program, g_of_one, im_of_one, multi_mute, multi_program, pair_of, partial_mute, partial_program, v};
 ghost use Rattle.isle_picks.specs.WithoutMulti.{EndsAsPlain, MatchesAsPlain};
 
 /// A rule without multi calls matches under every pick as it does without one.
@@ -84,4 +84,58 @@ pub fn multi_on_two()
 pub fn multi_on_three()
     ensures gives { MultiGives (pos 3) [] [] }
     ensures collects { MultiCollects (pos 3) }
+{}
+
+/// The meaning of the sample with an extractor has what its rules ask, and tells its constants apart.
+#[tactic(auto, using(crate::proofs::SamplesServed::extract_served))]
+pub fn extract_is_served()
+    ensures { ExtractIsServed }
+{}
+
+/// A meaning without its literals and calls does not serve it.
+#[tactic(auto, using(crate::proofs::SamplesServed::blank_extract))]
+pub fn extract_without_all()
+    ensures { DoesNotServe extract_program blank (pos 7) }
+{}
+
+/// A meaning with its literals and without its calls does not either.
+#[tactic(auto, using(crate::proofs::SamplesServed::mute_extract))]
+pub fn extract_without_calls()
+    ensures { DoesNotServe extract_program extract_mute (pos 7) }
+{}
+
+/// The meaning of the sample with an impure call has what its rules ask, and tells its constants apart.
+#[tactic(auto, using(crate::proofs::SamplesServed::partial_served))]
+pub fn partial_is_served()
+    ensures { PartialIsServed }
+{}
+
+/// A meaning without its literals and calls does not serve it.
+#[tactic(auto, using(crate::proofs::SamplesServed::blank_partial))]
+pub fn partial_without_all()
+    ensures { DoesNotServe partial_program blank (pos 1) }
+{}
+
+/// A meaning with its literals and without its calls does not either.
+#[tactic(auto, using(crate::proofs::SamplesServed::mute_partial))]
+pub fn partial_without_calls()
+    ensures { DoesNotServe partial_program partial_mute (pos 1) }
+{}
+
+/// The meaning of the sample with a multi call has what its rules ask, and tells its constants apart.
+#[tactic(auto, using(crate::proofs::SamplesServed::multi_served))]
+pub fn multi_is_served()
+    ensures { MultiIsServed }
+{}
+
+/// A meaning without its literals and calls does not serve it.
+#[tactic(auto, using(crate::proofs::SamplesServed::blank_multi))]
+pub fn multi_without_all()
+    ensures { DoesNotServe multi_program blank (pos 1) }
+{}
+
+/// A meaning with its literals and without its calls does not either.
+#[tactic(auto, using(crate::proofs::SamplesServed::mute_multi))]
+pub fn multi_without_calls()
+    ensures { DoesNotServe multi_program multi_mute (pos 1) }
 {}
