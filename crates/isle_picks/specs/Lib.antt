@@ -1,2 +1,3 @@
 pub mod WithoutMulti
 pub mod Samples
+pub mod Calls

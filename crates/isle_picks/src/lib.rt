@@ -6,6 +6,7 @@
 ghost use Rattle.std.specs.Prelude.{[], ◌∷◌, pos};
 ghost use Rattle.isle_model.specs.Meaning.{one, just, nothing};
 ghost use Rattle.isle_model.specs.Outcome.{failed, ended, no_rule};
+ghost use Rattle.isle_picks.specs.Calls.{DemandsAll, Gives, LeavesAGate, condition, extracted_twice, nested, twice, twice_impure, unused, unused_condition};
 ghost use Rattle.isle_picks.specs.Samples.{DoesNotServe, EffectsEnds, ExtractEnds, ExtractIsServed, MultiCollects, MultiGives, MultiIsServed, PartialEnds, PartialIsServed, blank, ends_with, extract_mute, extract_program, g_of_one, im_of_one, multi_mute, multi_program, pair_of, partial_mute, partial_program, v};
 ghost use Rattle.isle_picks.specs.WithoutMulti.{EndsAsPlain, MatchesAsPlain};
 
@@ -138,4 +139,49 @@ pub fn multi_without_all()
 #[tactic(auto, using(crate::proofs::SamplesServed::mute_multi))]
 pub fn multi_without_calls()
     ensures { DoesNotServe multi_program multi_mute (pos 1) }
+{}
+
+/// A call that a rule makes twice on the same sites is one call: both take one answer.
+pub fn same_calls_are_one()
+    ensures { Gives twice (pos 1) (pos 44 ∷ (pos 55 ∷ [])) }
+{}
+
+/// So it is with a multi extractor.
+pub fn same_extractor_calls_are_one()
+    ensures { Gives extracted_twice (pos 1) (pos 44 ∷ (pos 55 ∷ [])) }
+{}
+
+/// Two impure calls on the same sites are two: each takes an answer of its own list.
+pub fn impure_calls_are_two()
+    ensures { Gives twice_impure (pos 1) (pos 46 ∷ (pos 47 ∷ (pos 56 ∷ (pos 57 ∷ [])))) }
+{}
+
+/// A call on another call's answer has a list for each of them.
+pub fn nested_calls_follow()
+    ensures { Gives nested (pos 1) (pos 6 ∷ (pos 7 ∷ (pos 8 ∷ []))) }
+{}
+
+/// A call that a right side leaves unused still gives a result for each answer.
+pub fn unused_calls_count()
+    ensures { Gives unused (pos 1) (pos 1 ∷ (pos 1 ∷ [])) }
+{}
+
+/// Where an argument of a condition's call has no value, the rule has no pick, and no result.
+pub fn calls_without_lists_give_nothing()
+    ensures { Gives condition (pos 2) [] }
+{}
+
+/// Where it has one, there is a result for each answer.
+pub fn calls_with_lists_give_all()
+    ensures { Gives condition (pos 1) (pos 8 ∷ []) }
+{}
+
+/// A condition whose value takes the call's answer demands every gate.
+pub fn used_condition_demands_all()
+    ensures { DemandsAll condition }
+{}
+
+/// One that leaves its multi call unused does not.
+pub fn unused_condition_leaves_a_gate()
+    ensures { LeavesAGate unused_condition }
 {}
