@@ -1,3 +1,5 @@
 pub mod Plain
 pub mod MultiCollected
 pub mod SamplesServed
+pub mod SameSites
+pub mod Ordered
