@@ -3,3 +3,4 @@ pub mod MultiCollected
 pub mod SamplesServed
 pub mod SameSites
 pub mod Ordered
+pub mod Enumerated

@@ -7,6 +7,7 @@ ghost use Rattle.std.specs.Prelude.{[], ◌∷◌, pos};
 ghost use Rattle.isle_model.specs.Meaning.{one, just, nothing};
 ghost use Rattle.isle_model.specs.Outcome.{failed, ended, no_rule};
 ghost use Rattle.isle_picks.specs.Calls.{DemandsAll, Gives, LeavesAGate, condition, extracted_twice, nested, twice, twice_impure, unused, unused_condition};
+ghost use Rattle.isle_picks.specs.Exact.{PicksAreExact};
 ghost use Rattle.isle_picks.specs.Samples.{DoesNotServe, EffectsEnds, ExtractEnds, ExtractIsServed, MultiCollects, MultiGives, MultiIsServed, PartialEnds, PartialIsServed, blank, ends_with, extract_mute, extract_program, g_of_one, im_of_one, multi_mute, multi_program, pair_of, partial_mute, partial_program, v};
 ghost use Rattle.isle_picks.specs.WithoutMulti.{EndsAsPlain, MatchesAsPlain};
 
@@ -20,6 +21,11 @@ pub fn matches_as_plain()
 #[tactic(auto, using(crate::proofs::Plain::ends_as_plain_lem))]
 pub fn ends_as_plain()
     ensures { EndsAsPlain }
+{}
+
+/// The list of a rule's picks has its picks and no others, each once.
+pub fn picks_are_exact()
+    ensures { PicksAreExact }
 {}
 
 /// Where the extractor answers 1, the higher rule gives 10.

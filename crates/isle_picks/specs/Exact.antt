@@ -1,0 +1,17 @@
+-- The list of a rule's picks against what a pick is.
+use Rattle.std.specs.Prelude.{List, Contains}
+use Rattle.isle_model.specs.Values.{Value}
+use Rattle.isle_model.specs.Meaning.{Meaning}
+use Rattle.isle_model.specs.Program.{Program}
+use Rattle.isle_model.specs.Names.{IsDistinct}
+use Rattle.isle_model.specs.Picks.{Pick, IsPick, picks}
+use Rattle.isle_model.specs.Typed.{TypedRule}
+
+-- the list has the picks of a rule and no others, each once
+pub record ListsPicks (p : Program) (m : Meaning) (args : List Value) (r : TypedRule) : Type 0 where
+  pub all : (k : Pick) → IsPick p m args r k → Contains (picks p m args r) k
+  pub only : (k : Pick) → Contains (picks p m args r) k → IsPick p m args r k
+  pub once : IsDistinct (picks p m args r)
+
+abbrev pub PicksAreExact : Type 0
+PicksAreExact = (p : Program) (m : Meaning) (args : List Value) (r : TypedRule) → ListsPicks p m args r
