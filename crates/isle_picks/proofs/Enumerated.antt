@@ -125,7 +125,7 @@ to_places o n a = subst (λ q. Contains (places q) n) (sym a.1) (subst (Contains
 
 -- 3. lists whose elements stand once
 module _ {X : Type 0} where
-  distinct_none : IsDistinct {X = X} []
+  pub distinct_none : IsDistinct {X = X} []
   distinct_none j k x e f = absurd (none-some x e)
 
   distinct_cons : (x : X) (xs : List X) → (Contains xs x → ⊥) → IsDistinct xs → IsDistinct (x ∷ xs)

@@ -4,3 +4,4 @@ pub mod SamplesServed
 pub mod SameSites
 pub mod Ordered
 pub mod Enumerated
+pub mod MultiSound

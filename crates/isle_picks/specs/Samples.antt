@@ -1,6 +1,6 @@
 -- Samples: a term that matches with an extractor, one with a partial right side, one with an impure call beside a call
 -- that may fail, and a multi one; each with its typed rules, its sites, its tree, and meanings.
-use Rattle.std.specs.Prelude.{◌≡◌, ℕ, ℤ, pos, true, false, List, [], ◌∷◌, Some, None}
+use Rattle.std.specs.Prelude.{◌≡◌, ℕ, ℤ, pos, true, false, List, [], ◌∷◌, Some, None, All}
 use Rattle.isle_model.specs.Syntax.{Position}
 use Rattle.isle_model.specs.Tables.{TypeEntry, builtin_type, enum_type, struct_entries, Flags, TermKindEntry, variant_term, declared_term, internal_constructor, external_constructor, external_extractor, TermEntry}
 use Rattle.isle_model.specs.Values.{Value, atom, of_variant, Values, no_value, value_and}
@@ -8,14 +8,15 @@ use Rattle.isle_model.specs.Meaning.{Content, one, nothing, just, many, Contents
 use Rattle.isle_model.specs.Outcome.{Call, ended, ran_through, Outcome}
 use Rattle.isle_model.specs.Program.{Program}
 use Rattle.isle_model.specs.Typed.{TypedPattern, match_bind, match_int, match_term, match_any, no_typed_pattern, typed_pattern_and, TypedExpr, make_term, make_var, make_int, no_typed_expr, typed_expr_and, TypedVar, TypedRule}
-use Rattle.isle_model.specs.Sites.{Site, int_site, argument_site, extractor_site, constructor_site, iterator_site, make_variant_site, make_some_site, match_some_site, is_int, is_present, SiteSet}
+use Rattle.isle_model.specs.Sites.{Site, int_site, argument_site, extractor_site, constructor_site, iterator_site, make_variant_site, make_some_site, match_some_site, is_int, is_present, SetRule, SiteSet}
 use Rattle.isle_model.specs.Trees.{Tree, no_step, step, match_at, loop_at, return_at, no_arm, arm}
 use Rattle.isle_model.specs.Serves.{Serves, TellsConstantsApart}
 use Rattle.isle_model.specs.Choice.{choice}
 use Rattle.isle_model.specs.Run.{World, run}
+use Rattle.isle_model.specs.Sound.{IsSound}
 use Rattle.isle_model.specs.Built.{world_of}
 use Rattle.isle_model.specs.Picks.{bag}
-use Rattle.isle_model.specs.Collects.{Collects, set_bag}
+use Rattle.isle_model.specs.Collects.{Collects, IsCollected, set_bag, IsCollectedSet, ServesSet}
 
 -- 1. what the samples share: type 1 has 8 bits
 abbrev pub at : ℕ → Position
@@ -226,10 +227,14 @@ abbrev pub pair_of : ℤ → ℤ → Content
 pair_of y z = just (one (of_variant 13 0 (value_and (v y) (alone z))))
 
 -- 5. (f x) is each of (m x), (f 1) is 9: f is multi, and m is pure and multi
+abbrev pub each_m : TypedRule
+each_m = rule 0 3 1 (pos 0) x_matched (make_term 1 0 (typed_expr_and x_used no_typed_expr)) (variable 16)
+
+abbrev pub nine : TypedRule
+nine = rule 1 4 1 (pos 0) (match_int 1 (pos 1)) (make_int 1 (pos 9)) []
+
 abbrev pub multi_rules : List TypedRule
-multi_rules =
-    rule 0 3 1 (pos 0) x_matched (make_term 1 0 (typed_expr_and x_used no_typed_expr)) (variable 16)
-    ∷ (rule 1 4 1 (pos 0) (match_int 1 (pos 1)) (make_int 1 (pos 9)) [] ∷ [])
+multi_rules = each_m ∷ (nine ∷ [])
 
 abbrev pub multi_program : Program
 multi_program = record {
@@ -241,11 +246,15 @@ multi_program = record {
   rules = multi_rules;
 }
 
+abbrev pub each_of_m : SetRule
+each_of_m = record { id = 0; at = at 3; prio = pos 0; name = None; constraints = []; classes = []; iterators = 1 ∷ []; impure = []; result = 2 }
+
+abbrev pub nine_for_one : SetRule
+nine_for_one = record { id = 1; at = at 4; prio = pos 0; name = None; constraints = (0, is_int (pos 1) 1) ∷ []; classes = []; iterators = []; impure = []; result = 3 }
+
 abbrev pub multi_set : SiteSet
 multi_set = record {
-  rules =
-      record { id = 0; at = at 3; prio = pos 0; name = None; constraints = []; classes = []; iterators = 1 ∷ []; impure = []; result = 2 }
-      ∷ (record { id = 1; at = at 4; prio = pos 0; name = None; constraints = (0, is_int (pos 1) 1) ∷ []; classes = []; iterators = []; impure = []; result = 3 } ∷ []);
+  rules = each_of_m ∷ (nine_for_one ∷ []);
   sites = argument_site 0 ∷ (constructor_site 0 (0 ∷ []) 0 ∷ (iterator_site 1 ∷ (int_site (pos 9) 1 ∷ [])));
 }
 
@@ -293,3 +302,11 @@ MultiCollects z = Collects (run multi_tree (multi_world z)) (bag multi_program m
 
 abbrev pub MultiIsServed : Type 0
 MultiIsServed = Serves multi_program multi_meaning (given (pos 1)) multi_rules × TellsConstantsApart multi_program multi_meaning multi_rules
+
+-- the typed rules make no impure call and demand every gate; the set's rules too, its sites stand in order, and the
+-- world serves it; and its tree is sound
+abbrev pub MultiIsCollected : Type 0
+MultiIsCollected = All (IsCollected multi_program) multi_rules × IsCollectedSet multi_set × ServesSet multi_set (multi_world (pos 1))
+
+abbrev pub MultiIsSound : Type 0
+MultiIsSound = IsSound multi_set true multi_tree

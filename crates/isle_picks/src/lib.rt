@@ -8,7 +8,7 @@ ghost use Rattle.isle_model.specs.Meaning.{one, just, nothing};
 ghost use Rattle.isle_model.specs.Outcome.{failed, ended, no_rule};
 ghost use Rattle.isle_picks.specs.Calls.{DemandsAll, Gives, LeavesAGate, condition, extracted_twice, nested, twice, twice_impure, unused, unused_condition};
 ghost use Rattle.isle_picks.specs.Exact.{PicksAreExact};
-ghost use Rattle.isle_picks.specs.Samples.{DoesNotServe, EffectsEnds, ExtractEnds, ExtractIsServed, MultiCollects, MultiGives, MultiIsServed, PartialEnds, PartialIsServed, blank, ends_with, extract_mute, extract_program, g_of_one, im_of_one, multi_mute, multi_program, pair_of, partial_mute, partial_program, v};
+ghost use Rattle.isle_picks.specs.Samples.{DoesNotServe, EffectsEnds, ExtractEnds, ExtractIsServed, MultiCollects, MultiGives, MultiIsCollected, MultiIsServed, MultiIsSound, PartialEnds, PartialIsServed, blank, ends_with, extract_mute, extract_program, g_of_one, im_of_one, multi_mute, multi_program, pair_of, partial_mute, partial_program, v};
 ghost use Rattle.isle_picks.specs.WithoutMulti.{EndsAsPlain, MatchesAsPlain};
 
 /// A rule without multi calls matches under every pick as it does without one.
@@ -190,4 +190,14 @@ pub fn used_condition_demands_all()
 /// One that leaves its multi call unused does not.
 pub fn unused_condition_leaves_a_gate()
     ensures { LeavesAGate unused_condition }
+{}
+
+/// The multi sample's rules and set are such as a run collects, and the world serves the set.
+pub fn multi_is_collected()
+    ensures { MultiIsCollected }
+{}
+
+/// Its tree is sound.
+pub fn multi_is_sound()
+    ensures { MultiIsSound }
 {}
