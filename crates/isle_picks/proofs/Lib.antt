@@ -5,3 +5,4 @@ pub mod SameSites
 pub mod Ordered
 pub mod Enumerated
 pub mod MultiSound
+pub mod OnePick

@@ -5,7 +5,8 @@ use Rattle.isle_model.specs.Meaning.{Meaning}
 use Rattle.isle_model.specs.Program.{Program, is_multi}
 use Rattle.isle_model.specs.Matching.{Vars, matches}
 use Rattle.isle_model.specs.RightSide.{right_side}
-use Rattle.isle_model.specs.Picks.{Pick, SitedVars, values_in, matches_under, right_side_under}
+use Rattle.isle_model.specs.Choice.{with_vars}
+use Rattle.isle_model.specs.Picks.{Pick, picks, SitedVars, values_in, matches_under, right_side_under, bag}
 use Rattle.isle_model.specs.Typed.{TypedPattern, match_bind, match_term, match_and, TypedPatterns, no_typed_pattern, typed_pattern_and, TypedExpr, make_term, make_let, TypedExprs, no_typed_expr, typed_expr_and, TypedLets, no_typed_let, typed_let_and, TypedIfLet, TypedRule}
 
 -- no term of a pattern, of an expression, is multi
@@ -60,3 +61,9 @@ MatchesAsPlain = (p : Program) (m : Meaning) (k : Pick) (r : TypedRule) (args : 
 -- under every pick, its right side does the same
 abbrev pub EndsAsPlain : Type 0
 EndsAsPlain = (p : Program) (m : Meaning) (k : Pick) (r : TypedRule) (e : SitedVars) → CallsNoMulti p r → right_side_under p m k r e ≡ right_side p m r (values_in e)
+
+-- so it has the empty pick alone, and its bag is the result of its right side, where it matches
+abbrev pub BagAsPlain : Type 0
+BagAsPlain =
+    (p : Program) (m : Meaning) (args : List Value) (r : TypedRule) → CallsNoMulti p r
+    → (picks p m args r ≡ [] ∷ []) × (bag p m (r ∷ []) args ≡ (with_vars p m r (matches p m r args)).results)

@@ -9,7 +9,7 @@ ghost use Rattle.isle_model.specs.Outcome.{failed, ended, no_rule};
 ghost use Rattle.isle_picks.specs.Calls.{DemandsAll, Gives, LeavesAGate, condition, extracted_twice, nested, twice, twice_impure, unused, unused_condition};
 ghost use Rattle.isle_picks.specs.Exact.{PicksAreExact};
 ghost use Rattle.isle_picks.specs.Samples.{DoesNotServe, EffectsEnds, ExtractEnds, ExtractIsServed, MultiCollects, MultiGives, MultiIsCollected, MultiIsServed, MultiIsSound, PartialEnds, PartialIsServed, blank, ends_with, extract_mute, extract_program, g_of_one, im_of_one, multi_mute, multi_program, pair_of, partial_mute, partial_program, v};
-ghost use Rattle.isle_picks.specs.WithoutMulti.{EndsAsPlain, MatchesAsPlain};
+ghost use Rattle.isle_picks.specs.WithoutMulti.{BagAsPlain, EndsAsPlain, MatchesAsPlain};
 
 /// A rule without multi calls matches under every pick as it does without one.
 #[tactic(auto, using(crate::proofs::Plain::matches_as_plain_lem))]
@@ -21,6 +21,11 @@ pub fn matches_as_plain()
 #[tactic(auto, using(crate::proofs::Plain::ends_as_plain_lem))]
 pub fn ends_as_plain()
     ensures { EndsAsPlain }
+{}
+
+/// A rule without multi calls has the empty pick alone, and its bag is the result of its right side, where it matches.
+pub fn bag_as_plain()
+    ensures { BagAsPlain }
 {}
 
 /// The list of a rule's picks has its picks and no others, each once.
