@@ -6,3 +6,4 @@ pub mod Ordered
 pub mod Enumerated
 pub mod MultiSound
 pub mod OnePick
+pub mod Held

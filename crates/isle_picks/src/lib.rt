@@ -7,7 +7,7 @@ ghost use Rattle.std.specs.Prelude.{[], ◌∷◌, pos};
 ghost use Rattle.isle_model.specs.Meaning.{one, just, nothing};
 ghost use Rattle.isle_model.specs.Outcome.{failed, ended, no_rule};
 ghost use Rattle.isle_picks.specs.Calls.{DemandsAll, Gives, LeavesAGate, condition, extracted_twice, nested, twice, twice_impure, unused, unused_condition};
-ghost use Rattle.isle_picks.specs.Exact.{PicksAreExact};
+ghost use Rattle.isle_picks.specs.Exact.{ContentsAreHeld, PicksAreExact};
 ghost use Rattle.isle_picks.specs.Samples.{DoesNotServe, EffectsEnds, ExtractEnds, ExtractIsServed, MultiCollects, MultiGives, MultiIsCollected, MultiIsServed, MultiIsSound, PartialEnds, PartialIsServed, blank, ends_with, extract_mute, extract_program, g_of_one, im_of_one, multi_mute, multi_program, pair_of, partial_mute, partial_program, v};
 ghost use Rattle.isle_picks.specs.WithoutMulti.{BagAsPlain, EndsAsPlain, MatchesAsPlain};
 
@@ -31,6 +31,11 @@ pub fn bag_as_plain()
 /// The list of a rule's picks has its picks and no others, each once.
 pub fn picks_are_exact()
     ensures { PicksAreExact }
+{}
+
+/// What a site has under a pick, it can hold.
+pub fn contents_are_held()
+    ensures { ContentsAreHeld }
 {}
 
 /// Where the extractor answers 1, the higher rule gives 10.
