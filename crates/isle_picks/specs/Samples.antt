@@ -300,6 +300,10 @@ MultiGives z results in_run =
 abbrev pub MultiCollects : ℤ → Type 0
 MultiCollects z = Collects (run multi_tree (multi_world z)) (bag multi_program multi_meaning multi_rules (given z))
 
+-- results that are not the bag on 1
+abbrev pub MultiIsNot : List ℤ → Type 0
+MultiIsNot results = Collects (record { calls = []; results = each results; ending = ran_through }) (bag multi_program multi_meaning multi_rules (given (pos 1))) → ⊥
+
 abbrev pub MultiIsServed : Type 0
 MultiIsServed = Serves multi_program multi_meaning (given (pos 1)) multi_rules × TellsConstantsApart multi_program multi_meaning multi_rules
 

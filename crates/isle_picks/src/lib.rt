@@ -8,7 +8,7 @@ ghost use Rattle.isle_model.specs.Meaning.{one, just, nothing};
 ghost use Rattle.isle_model.specs.Outcome.{failed, ended, no_rule};
 ghost use Rattle.isle_picks.specs.Calls.{DemandsAll, Gives, LeavesAGate, condition, extracted_twice, nested, twice, twice_impure, unused, unused_condition};
 ghost use Rattle.isle_picks.specs.Exact.{ContentsAreHeld, PicksAreExact};
-ghost use Rattle.isle_picks.specs.Samples.{DoesNotServe, EffectsEnds, ExtractEnds, ExtractIsServed, MultiCollects, MultiGives, MultiIsCollected, MultiIsServed, MultiIsSound, PartialEnds, PartialIsServed, blank, ends_with, extract_mute, extract_program, g_of_one, im_of_one, multi_mute, multi_program, pair_of, partial_mute, partial_program, v};
+ghost use Rattle.isle_picks.specs.Samples.{DoesNotServe, EffectsEnds, ExtractEnds, ExtractIsServed, MultiCollects, MultiGives, MultiIsCollected, MultiIsNot, MultiIsServed, MultiIsSound, PartialEnds, PartialIsServed, blank, ends_with, extract_mute, extract_program, g_of_one, im_of_one, multi_mute, multi_program, pair_of, partial_mute, partial_program, v};
 ghost use Rattle.isle_picks.specs.WithoutMulti.{BagAsPlain, EndsAsPlain, MatchesAsPlain};
 
 /// A rule without multi calls matches under every pick as it does without one.
@@ -87,6 +87,18 @@ pub fn multi_on_one()
 #[tactic(auto, using(crate::proofs::MultiCollected::on_one))]
 pub fn multi_on_one_collects()
     ensures { MultiCollects (pos 1) }
+{}
+
+/// A run that stopped after the first answer would not collect the bag.
+#[tactic(auto, using(crate::proofs::MultiCollected::stopped))]
+pub fn stopped_is_not_the_bag()
+    ensures { MultiIsNot (pos 9 ∷ (pos 4 ∷ [])) }
+{}
+
+/// Nor would one with as many results, of which another stands twice.
+#[tactic(auto, using(crate::proofs::MultiCollected::exchanged))]
+pub fn exchanged_is_not_the_bag()
+    ensures { MultiIsNot (pos 9 ∷ (pos 9 ∷ (pos 4 ∷ []))) }
 {}
 
 /// On 2, where the call answers 7 alone, the bag is 7.
