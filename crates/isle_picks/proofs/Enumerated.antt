@@ -17,6 +17,7 @@ use Rattle.isle_model.specs.Picks.{Pick, place_of, picked, field_of_variant, fie
 use Rattle.isle_trees.proofs.Lists.{nothing_in, in_head, in_tail, in_cases, in_alone, member_from_get, get_from_member}
 use Rattle.isle_picks.specs.Exact.{PicksAreExact}
 use Rattle.isle_picks.proofs.SameSites.{term_same}
+use Rattle.isle_picks.proofs.Plain.{then_same}
 use Rattle.isle_picks.proofs.Ordered.{Within, Covered, OrderedFrom, calls_ordered}
 
 abbrev keys : Pick → List SiteTerm
@@ -44,13 +45,6 @@ picked_kept k rest s (parts vs) h = refl
 picked_kept k rest s nothing h = refl
 picked_kept k rest s (just c) h = refl
 
-then_kept : {X Y : Type 0} (o q : Option X) (f g : X → Option Y) → o ≡ q → ((x : X) → f x ≡ g x) → then_option o f ≡ then_option q g
-then_kept o q f g e h = ap (λ u. then_option u f) e ∙ each q
-  where
-    each : (u : Option _) → then_option u f ≡ then_option u g
-    each None = refl
-    each (Some x) = h x
-
 module _ (m : Meaning) (args : List Value) (k rest : Pick) where
   mutual
     content_kept : (u : SiteTerm) → Covered (keys k) u → site_content m args (k ++ rest) u ≡ site_content m args k u
@@ -61,7 +55,7 @@ module _ (m : Meaning) (args : List Value) (k rest : Pick) where
     content_kept (extractor_call t s) h = ap (λ o. then_option (then_option o as_value) (extractor_answer m t)) (content_kept s h)
     content_kept (constructor_call t ss i) h = ap (λ o. then_option o (call_answer m t i)) (values_kept ss h)
     content_kept (pick_of s) h =
-        then_kept (site_content m args (k ++ rest) s) (site_content m args k s) (picked (k ++ rest) s) (picked k s)
+        then_same (site_content m args (k ++ rest) s) (site_content m args k s) (picked (k ++ rest) s) (picked k s)
         (content_kept s (λ c n. h c (in_tail s c (calls_in s) n))) (λ c. picked_kept k rest s c (h s (in_head s (calls_in s))))
     content_kept (variant_made ty variant ss) h = ap (λ o. then_option o (λ vs. Some (one (of_variant ty variant vs)))) (values_kept ss h)
     content_kept (variant_field s variant i) h = ap (λ o. then_option (then_option o as_value) (field_of_variant variant i)) (content_kept s h)

@@ -10,24 +10,10 @@ use Rattle.isle_model.specs.Demands.{site_term_eq, Visit, visit_start, making, a
 use Rattle.isle_model.specs.Picks.{multi_calls, picks_over, picks, SitedVars, matches_under, results_with, results_under}
 use Rattle.isle_model.specs.Typed.{TypedPattern, match_bind, match_var, match_bool, match_int, match_prim, match_term, match_any, match_and, TypedPatterns, no_typed_pattern, typed_pattern_and, TypedExpr, make_term, make_var, make_bool, make_int, make_prim, make_let, TypedExprs, no_typed_expr, typed_expr_and, TypedLets, no_typed_let, typed_let_and, TypedIfLet, TypedRule}
 use Rattle.isle_picks.specs.WithoutMulti.{PatternCallsNoMulti, PatternsCallNoMulti, ExprCallsNoMulti, ExprsCallNoMulti, LetsCallNoMulti, ArgsCallNoMulti, IfLetsCallNoMulti, CallsNoMulti, without_sites, BagAsPlain}
+use Rattle.isle_picks.proofs.Ordered.{met, either}
 use Rattle.isle_picks.proofs.Plain.{matches_as_plain_lem, ends_as_plain_lem}
 
-abbrev met : Visit → List SiteTerm
-met v = v.demands.iterators
-
 -- 1. what isn't multi isn't gone over
-either_met : (b : Bool) (v w u : Visit) → met v ≡ met u → met w ≡ met u → met (cond b v w) ≡ met u
-either_met true v w u g h = g
-either_met false v w u g h = h
-
-either_opened : (b : Bool) (x y : Opened) (u : Visit) → met x.visit ≡ met u → met y.visit ≡ met u → met (cond b x y).visit ≡ met u
-either_opened true x y u g h = g
-either_opened false x y u g h = h
-
-either_valued : (b : Bool) (x y : Valued) (u : Visit) → met x.visit ≡ met u → met y.visit ≡ met u → met (cond b x y).visit ≡ met u
-either_valued true x y u g h = g
-either_valued false x y u g h = h
-
 not_over : (b : Bool) (x y : Opened) (u : Visit) → b ≡ false → met y.visit ≡ met u → met (cond b x y).visit ≡ met u
 not_over b x y u e h = subst (λ c. met (cond c x y).visit ≡ met u) (sym e) h
 
@@ -35,7 +21,7 @@ not_iterated : (b : Bool) (call : SiteTerm) (v : Visit) → b ≡ false → met 
 not_iterated b call v e = subst (λ c. met (cond c (iterating call v) v) ≡ met v) (sym e) refl
 
 call_opened : (flags : Flags) (infallible : Bool) (call : SiteTerm) (args : TypedPatterns) (v : Visit) → flags.multi ≡ false → met (open_call flags infallible call args v).visit ≡ met v
-call_opened flags infallible call args v e = not_over flags.multi _ _ v e (either_opened infallible _ _ v refl refl)
+call_opened flags infallible call args v e = not_over flags.multi _ _ v e (either (λ (o : Opened). met o.visit ≡ met v) infallible _ _ refl refl)
 
 term_opened : (k : Kind) (t : ℕ) (s : SiteTerm) (args : TypedPatterns) (v : Visit) → (flags_of k).multi ≡ false → met (open_term k t s args v).visit ≡ met v
 term_opened (a_variant ty variant) t s args v e = refl
@@ -45,7 +31,7 @@ term_opened unknown t s args v e = refl
 
 call_visited : (flags : Flags) (t : ℕ) (args : SiteTerms) (v : Visit) → flags.multi ≡ false → met (visit_call flags t args v).visit ≡ met v
 call_visited flags t args v e =
-    either_valued flags.pure _ _ v (not_iterated flags.multi (constructor_call t args 0) (making (call_sites flags (constructor_call t args 0)) v) e)
+    either (λ (a : Valued). met a.visit ≡ met v) flags.pure _ _ (not_iterated flags.multi (constructor_call t args 0) (making (call_sites flags (constructor_call t args 0)) v) e)
     (not_iterated flags.multi (constructor_call t args (suc v.impure_calls)) (making (call_sites flags (constructor_call t args (suc v.impure_calls))) v) e)
 
 term_visited : (k : Kind) (t : ℕ) (a : ValuedAll) → (flags_of k).multi ≡ false → met (visit_term k t a).visit ≡ met a.visit
@@ -63,7 +49,7 @@ module _ (p : Program) where
   mutual
     pattern_met : (q : TypedPattern) (s : SiteTerm) (v : Visit) → PatternCallsNoMulti p q → met (visit_pattern p q s v) ≡ met v
     pattern_met (match_bind ty x sub) s v h = pattern_met sub s (binding x s v) h
-    pattern_met (match_var ty x) s v h = either_met (site_term_eq s (var_site v x)) v _ v refl refl
+    pattern_met (match_var ty x) s v h = either (λ (w : Visit). met w ≡ met v) (site_term_eq s (var_site v x)) v _ refl refl
     pattern_met (match_bool ty b) s v h = refl
     pattern_met (match_int ty z) s v h = refl
     pattern_met (match_prim ty name) s v h = refl

@@ -66,7 +66,7 @@ once_ordered ts ls (s ∷ rest) w h g =
     more c k = elim (Contains-append_cases ls (s ∷ []) c k) [ inl a ↦ Contains-append_left ts (s ∷ []) c (w c a) | inr b ↦ Contains-append_right ts (s ∷ []) c b ]
 
 -- 2. visits
-abbrev met : Visit → List SiteTerm
+abbrev pub met : Visit → List SiteTerm
 met v = v.demands.iterators
 
 pub record Fine (v : Visit) : Type 0 where
@@ -99,7 +99,7 @@ after_iterating s v f h = record {
   kept = within_push (met v) s;
 }
 
-either : {X : Type 0} (P : X → Type 0) (b : Bool) (x y : X) → P x → P y → P (cond b x y)
+pub either : {X : Type 0} (P : X → Type 0) (b : Bool) (x y : X) → P x → P y → P (cond b x y)
 either P true x y h g = h
 either P false x y h g = g
 
