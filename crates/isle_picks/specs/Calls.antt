@@ -9,6 +9,7 @@ use Rattle.isle_model.specs.Picks.{bag}
 use Rattle.isle_model.specs.Collects.{DemandsEveryGate}
 use Rattle.isle_picks.specs.Samples.{at, builtins, term, multi, v, given, alone, each, all_of, x_matched, x_used}
 
+-- the flags of the constructors
 abbrev pub pure_multi : Flags
 pure_multi = record { pure = true; multi = true; partial = false; rec = false }
 
@@ -37,6 +38,7 @@ program = record {
 abbrev pub rule_of : TypedPattern → List TypedIfLet → TypedExpr → TypedRule
 rule_of arg iflets rhs = record { id = 0; root_term = 0; args = arg ∷ []; iflets = iflets; rhs = rhs; vars = []; prio = pos 0; at = at 6; name = None }
 
+-- a call of a term on one argument, and of pr on two
 abbrev pub call_of : ℕ → TypedExpr → TypedExpr
 call_of t x = make_term 1 t (typed_expr_and x no_typed_expr)
 
@@ -55,10 +57,11 @@ twice_impure = rule_of x_matched [] (pair_made (call_of 4 x_used) (call_of 4 x_u
 abbrev pub nested : TypedRule
 nested = rule_of x_matched [] (call_of 1 (call_of 1 x_used))
 
--- (f (and (e x) (e y))) is (pr x y)
+-- a pattern (e x)
 abbrev pub extracted : ℕ → TypedPattern
 extracted x = match_term 1 5 (typed_pattern_and (match_bind 1 x (match_any 1)) no_typed_pattern)
 
+-- (f (and (e x) (e y))) is (pr x y)
 abbrev pub extracted_twice : TypedRule
 extracted_twice = rule_of (match_and 1 (typed_pattern_and (extracted 0) (typed_pattern_and (extracted 1) no_typed_pattern))) [] (pair_made x_used (make_var 1 1))
 
@@ -75,6 +78,7 @@ unused_condition =
 abbrev pub condition : TypedRule
 condition = rule_of x_matched (record { lhs = match_bind 1 1 (match_any 1); rhs = call_of 1 (call_of 3 x_used) } ∷ []) (make_var 1 1)
 
+-- pr answers c on a and b
 abbrev pub paired : ℤ → ℤ → ℤ → (ℕ × Values) × Content
 paired a b c = ((2, value_and (v a) (alone b)), one (v c))
 
@@ -99,6 +103,7 @@ meaning = record {
 abbrev pub Gives : TypedRule → ℤ → List ℤ → Type 0
 Gives r z results = bag program meaning (r ∷ []) (given z) ≡ each results
 
+-- some multi call of an if-let is unused, or all are used
 abbrev pub LeavesAGate : TypedRule → Type 0
 LeavesAGate r = DemandsEveryGate program r → ⊥
 

@@ -15,6 +15,7 @@ pub record ListsPicks (p : Program) (m : Meaning) (args : List Value) (r : Typed
   pub only : (k : Pick) → Contains (picks p m args r) k → IsPick p m args r k
   pub once : IsDistinct (picks p m args r)
 
+-- so it is of every rule, on all arguments under every meaning
 abbrev pub PicksAreExact : Type 0
 PicksAreExact = (p : Program) (m : Meaning) (args : List Value) (r : TypedRule) → ListsPicks p m args r
 
