@@ -81,18 +81,21 @@ calls_gone_over set r = map (unfold_site set.sites) (filter (λ s. is_in s r.ite
 abbrev pub content_at : World → Pick → ℕ → Option Content
 content_at w k s = site_content w.meaning w.args k (unfold_site w.sites s)
 
--- whether a content is there and meets the constraint, whether two are there and are one value
+-- whether a content is there and meets the constraint
 abbrev pub meets : Meaning → Constraint → Option Content → Bool
 meets m c None = false
 meets m c (Some x) = is_some (content_fields m c x)
 
+-- whether both are there and are one value
 abbrev pub same_value : Option Value → Option Value → Bool
 same_value (Some v) (Some w) = value_eq v w
 same_value _ _ = false
 
+-- the value of a site's number under a pick, where its content is one value
 abbrev pub value_at : World → Pick → ℕ → Option Value
 value_at w k s = then_option (content_at w k s) as_value
 
+-- whether all sites of a class have one value, the first one's
 abbrev pub all_same : World → Pick → List ℕ → Bool
 all_same w k [] = true
 all_same w k (s ∷ rest) = list_all (λ t. same_value (value_at w k s) (value_at w k t)) rest
@@ -101,10 +104,12 @@ all_same w k (s ∷ rest) = list_all (λ t. same_value (value_at w k s) (value_a
 abbrev pub demands_hold : World → Pick → SetRule → Bool
 demands_hold w k r = list_all (λ d. meets w.meaning d.1 (content_at w k d.0)) r.constraints && list_all (all_same w k) r.classes
 
+-- one element, or none
 abbrev pub as_list : {X : Type 0} → Option X → List X
 as_list None = []
 as_list (Some x) = x ∷ []
 
+-- the result of a set's rule under a pick, where its demands hold
 abbrev pub result_in : World → SetRule → Pick → List Content
 result_in w r k = if demands_hold w k r then as_list (content_at w k r.result) else []
 
@@ -112,15 +117,17 @@ result_in w r k = if demands_hold w k r then as_list (content_at w k r.result) e
 abbrev pub set_bag : SiteSet → World → List Content
 set_bag set w = flat_map (λ r. flat_map (result_in w r) (picks_over w.meaning w.args [] (calls_gone_over set r))) set.rules
 
--- whether a rule asks a site to be that variant, or to be a struct, with more than i fields
+-- whether a demand asks the site s to be that variant, with more than i fields
 abbrev pub asks_variant : ℕ → ℕ → ℕ → ℕ × Constraint → Bool
 asks_variant s variant i (a, is_variant ty v fields) = (a == s) && (v == variant) && nat_lt i fields
 asks_variant s variant i _ = false
 
+-- whether it asks the site to be a struct with more than i fields
 abbrev pub asks_struct : ℕ → ℕ → ℕ × Constraint → Bool
 asks_struct s i (a, is_struct ty fields) = (a == s) && nat_lt i fields
 asks_struct s i _ = false
 
+-- whether it asks the call of that site to answer
 abbrev pub asks_answer : ℕ → ℕ × Constraint → Bool
 asks_answer s (a, is_present) = a == s
 asks_answer s _ = false
@@ -144,6 +151,7 @@ pub record IsCollectedRule (sites : List Site) (r : SetRule) : Type 0 where
   pub no_calls : r.impure ≡ []
   pub gates : All (λ s. IsTrue (gate_demanded r (slice_get sites s))) (all_below sites (sites_of_rule r))
 
+-- a site that isn't an impure call
 abbrev pub IsPureSite : Site → Type 0
 IsPureSite (constructor_site term sources (suc before)) = ⊥
 IsPureSite _ = Unit {0}

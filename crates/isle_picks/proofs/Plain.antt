@@ -13,7 +13,7 @@ use Rattle.isle_model.specs.Typed.{TypedPattern, match_bind, match_var, match_bo
 use Rattle.isle_picks.specs.WithoutMulti.{PatternCallsNoMulti, PatternsCallNoMulti, ExprCallsNoMulti, ExprsCallNoMulti, LetsCallNoMulti, ArgsCallNoMulti, IfLetsCallNoMulti, without_sites, MatchesAsPlain, EndsAsPlain}
 
 -- 1. one after another
-then_same : {X Y : Type 0} (o q : Option X) (f g : X → Option Y) → o ≡ q → ((x : X) → f x ≡ g x) → then_option o f ≡ then_option q g
+pub then_same : {X Y : Type 0} (o q : Option X) (f g : X → Option Y) → o ≡ q → ((x : X) → f x ≡ g x) → then_option o f ≡ then_option q g
 then_same o q f g e h = ap (λ u. then_option u f) e ∙ each q
   where
     each : (u : Option _) → then_option u f ≡ then_option u g

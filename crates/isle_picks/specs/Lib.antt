@@ -1,2 +1,4 @@
 pub mod WithoutMulti
 pub mod Samples
+pub mod Calls
+pub mod Exact
