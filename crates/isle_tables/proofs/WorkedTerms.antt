@@ -6,30 +6,16 @@ use Rattle.std.proofs.lemmas.List.Elements.{All-from_recursion, All-nil}
 use Rattle.isle_model.specs.Syntax.{Name, ExtractorTree, ConverterTree, DeclTree, RuleTree, Definition, int_expr}
 use Rattle.isle_model.specs.TermTable.{decl_trees, rule_trees}
 use Rattle.isle_tables.specs.TypeTables.{IsKnownType}
-use Rattle.isle_tables.specs.TermTables.{ConstructorTree, ExternalTree, constructor_trees, external_trees, extractor_trees, converter_trees, term_names, terms_in, argument_count, IsDeclaredTerm, IsKnownTerm, Uses, Reaches, directly, through, IsAcyclic, HasKnownArguments, HasKnownResult, IsMultiOrPartial, HasDeclaredRoot, IsWithoutRules, IsOfPlainTerm, NamesKnownTerms, HoldsNoNumber, UsesDeclaredArguments, IsKnownConverter, IsDefined, IsValidTerms, AllDefined}
+use Rattle.isle_tables.specs.TermTables.{ConstructorTree, ExternalTree, constructor_trees, external_trees, extractor_trees, converter_trees, term_names, terms_in, argument_count, IsDeclaredTerm, IsKnownTerm, Uses, directly, through, HasKnownArguments, HasKnownResult, IsMultiOrPartial, HasDeclaredRoot, IsWithoutRules, IsOfPlainTerm, NamesKnownTerms, HoldsNoNumber, UsesDeclaredArguments, IsKnownConverter, IsDefined, IsValidTerms, AllDefined}
 use Rattle.isle_tables.specs.Written.{at, name, decl, term, by_template}
 use Rattle.isle_tables.specs.WorkedTypes.{three_types}
 use Rattle.isle_tables.specs.WorkedTerms.{var, any, both, by_function, ByFunction, converted, Converted, doubled, Doubled, chained, Chained, effects, Effects, Structs, alone, Alone, recursive, itself, RefusedTerms}
+use Rattle.isle_tables.proofs.Acyclic.{acyclic_by, plain_acyclic}
 use Rattle.isle_tables.proofs.Lists.{distinct_if, distinct_nil, distinct_one, nothing_in, in_alone, in_cases}
-
--- templates whose terms have falling ranks don't come back
-reaches_below : (defs : List Definition) (rank : List ℕ → ℕ) → ((t u : List ℕ) → Uses defs t u → rank u < rank t) → (t u : List ℕ) → Reaches defs t u → rank u < rank t
-reaches_below defs rank falls t u (directly x) = falls t u x
-reaches_below defs rank falls t v (through {u = u} x r) = (let a = falls t u x in let b = reaches_below defs rank falls u v r in omega arith)
-
-pub acyclic_by : (defs : List Definition) (rank : List ℕ → ℕ) → ((t u : List ℕ) → Uses defs t u → rank u < rank t) → IsAcyclic defs
-acyclic_by defs rank falls t r = (let l = reaches_below defs rank falls t t r in omega arith)
 
 -- a list of one type that is known
 known_one : (defs : List Definition) (n : Name) → IsKnownType defs n → All (IsKnownType defs) (n ∷ [])
 known_one defs n h = All-from_recursion (IsKnownType defs) (n ∷ []) (h, tt)
-
-module _ (defs : List Definition) where
-  nothing_uses : extractor_trees defs ≡ [] → (t u : List ℕ) → Uses defs t u → ⊥
-  nothing_uses e t u x = nothing_in x.definition (subst (λ es. Contains es x.definition) e x.there)
-
-  pub plain_acyclic : extractor_trees defs ≡ [] → IsAcyclic defs
-  plain_acyclic e = acyclic_by defs (λ _. 0) (λ t u x. absurd (nothing_uses e t u x))
 
 -- valid
 by_function_valid : IsValidTerms by_function

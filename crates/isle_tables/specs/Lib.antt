@@ -3,3 +3,4 @@ pub mod TermTables
 pub mod Written
 pub mod WorkedTypes
 pub mod WorkedTerms
+pub mod Agreement

@@ -3,6 +3,7 @@
 //! The definitions are in `specs/`, the proofs in `proofs/`. A function here has an empty body: its clause is a law.
 #![tactic(auto)]
 
+ghost use Rattle.isle_tables.specs.Agreement.{TermsAgree, TypesAgree};
 ghost use Rattle.isle_tables.specs.WorkedTerms.{Alone, ByFunction, Chained, Converted, Doubled, Effects, RefusedTerms, Structs};
 ghost use Rattle.isle_tables.specs.WorkedTypes.{Constants, RefusedTypes, ThreeTypes, TwoTypes};
 
@@ -64,4 +65,15 @@ pub fn alone()
 /// Lists that break one demand on terms each have no term table.
 pub fn refused_terms()
     ensures { RefusedTerms }
+{}
+
+/// On lists of primitive types, the type table is the one that the code makes, and lists are valid alike.
+pub fn types_agree()
+    ensures { TypesAgree }
+{}
+
+/// On lists of declarations that are neither partial nor multi, the term table is the one that the code makes, and
+/// lists are valid and defined alike.
+pub fn terms_agree()
+    ensures { TermsAgree }
 {}

@@ -1,0 +1,36 @@
+-- On lists of the forms that the code carries, the tables are those that the code makes.
+use Rattle.std.specs.Prelude.{◌≡◌, ℕ, List, [], All, IsTrue, ◌↔◌}
+use Rattle.isle_model.specs.Syntax.{Definition}
+use Rattle.isle_model.specs.TypeTable.{type_table_names, type_entries, is_carried_type, IsValidTypes as IsValidCarriedTypes}
+use Rattle.isle_model.specs.TermTable.{term_table_names, term_entries, is_carried_term, term_id as carried_term_id, IsValidTerms as IsValidCarriedTerms, AllDefined as AllCarriedDefined}
+use Rattle.isle_tables.specs.TypeTables.{type_names_met, type_table, constant_types, IsValidTypes}
+use Rattle.isle_tables.specs.TermTables.{term_names_met, term_table, term_id, converters, IsValidTerms, AllDefined}
+
+-- each definition is of a form that the type table carries, and that the term table does
+abbrev pub AreCarriedTypes : List Definition → Type 0
+AreCarriedTypes defs = All (λ d. IsTrue (is_carried_type d)) defs
+
+abbrev pub AreCarriedTerms : List Definition → Type 0
+AreCarriedTerms defs = All (λ d. IsTrue (is_carried_term d)) defs
+
+-- the type table is the one carried, and there are no constants
+pub record SameTypes (defs : List Definition) : Type 0 where
+  pub valid : IsValidCarriedTypes defs ↔ IsValidTypes defs
+  pub names : type_table_names defs ≡ type_names_met defs
+  pub entries : type_entries defs ≡ type_table defs
+  pub constants : constant_types defs ≡ []
+
+-- the term table is the one carried, and there are no converters
+pub record SameTerms (defs : List Definition) : Type 0 where
+  pub valid : IsValidCarriedTerms defs ↔ IsValidTerms defs
+  pub defined : AllCarriedDefined defs ↔ AllDefined defs
+  pub names : term_table_names defs ≡ term_names_met defs
+  pub entries : term_entries defs ≡ term_table defs
+  pub ids : (x : List ℕ) → carried_term_id defs x ≡ term_id defs x
+  pub converters : converters defs ≡ []
+
+abbrev pub TypesAgree : Type 0
+TypesAgree = (defs : List Definition) → AreCarriedTypes defs → SameTypes defs
+
+abbrev pub TermsAgree : Type 0
+TermsAgree = (defs : List Definition) → AreCarriedTypes defs → AreCarriedTerms defs → SameTerms defs
