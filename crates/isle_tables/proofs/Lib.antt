@@ -4,3 +4,6 @@ pub mod WorkedTypes
 pub mod WorkedTerms
 pub mod Carried
 pub mod CarriedTerms
+pub mod Names
+pub mod TypeLaws
+pub mod TermLaws

@@ -7,7 +7,7 @@ use Rattle.isle_model.specs.Names.{has_name, IsDistinct}
 use Rattle.isle_model.specs.Elaboration.{all_different}
 
 -- a name that isn't among names stands nowhere
-absent : (names : List (List ℕ)) (x : List ℕ) → has_name names x ≡ false → (k : ℕ) → slice_get names k ≡ Some x → ⊥
+pub absent : (names : List (List ℕ)) (x : List ℕ) → has_name names x ≡ false → (k : ℕ) → slice_get names k ≡ Some x → ⊥
 absent [] x e k h = cc
 absent (y ∷ ys) x e zero h =
     elim (bytes_eq y x) as (λ b. bytes_eq y x ≡ b → b || has_name ys x ≡ false → ⊥) [

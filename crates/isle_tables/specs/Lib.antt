@@ -1,5 +1,6 @@
 pub mod TypeTables
 pub mod TermTables
+pub mod Laws
 pub mod Written
 pub mod WorkedTypes
 pub mod WorkedTerms

@@ -22,6 +22,8 @@ pub record ExternalTree : Type 0 where
   pub infallible : Bool
   pub at : Position
 
+-- what a definition makes of each kind: an external constructor, an external extractor, an internal extractor, a
+-- converter, and the name of an external function
 abbrev pub constructor_of : Definition → List ConstructorTree
 constructor_of (extern_definition (extern_constructor term function at)) = record { term = term; function = function } ∷ []
 constructor_of _ = []
@@ -139,20 +141,12 @@ abbrev pub decl_named : List Definition → List ℕ → Option DeclTree
 decl_named defs x = find (λ d. bytes_eq d.term.text x) (decl_trees defs)
 
 -- how many arguments a declared term has
-abbrev pub count_of : Option DeclTree → ℕ
-count_of None = 0
-count_of (Some d) = length d.arg_tys
-
 abbrev pub argument_count : List Definition → List ℕ → ℕ
-argument_count defs x = count_of (decl_named defs x)
-
-abbrev pub is_marked_multi : Option DeclTree → Bool
-is_marked_multi None = false
-is_marked_multi (Some d) = d.multi
+argument_count defs x = unwrap_or (option_map (λ d. length d.arg_tys) (decl_named defs x)) 0
 
 -- whether a term is declared multi
 abbrev pub is_multi : List Definition → List ℕ → Bool
-is_multi defs x = is_marked_multi (decl_named defs x)
+is_multi defs x = unwrap_or (option_map (λ d. d.multi) (decl_named defs x)) false
 
 -- a name is that of a declared term, and of a term of any kind
 abbrev pub IsDeclaredTerm : List Definition → Name → Type 0

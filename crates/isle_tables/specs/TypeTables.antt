@@ -23,7 +23,7 @@ constant_trees defs = flat_map constant_of defs
 
 -- the full name of a variant: its type's name, a point, its own name
 abbrev pub full_name : List ℕ → List ℕ → List ℕ
-full_name ty variant = ty ++ codes "." ++ variant
+full_name ty variant = ty ++ (codes "." ++ variant)
 
 -- the names of a list of fields, in order; those of a tuple have none
 abbrev pub field_names : FieldTrees → List (List ℕ)
@@ -72,6 +72,7 @@ field_lists_of (struct_value fields at) = fields ∷ []
 abbrev pub field_lists : List Definition → List FieldTrees
 field_lists defs = flat_map (λ t. field_lists_of t.value) (type_trees defs)
 
+-- a type is a primitive one
 abbrev pub is_primitive : TypeValueTree → Bool
 is_primitive (primitive_value name at) = true
 is_primitive (enum_value variants at) = false

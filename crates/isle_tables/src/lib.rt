@@ -4,6 +4,7 @@
 #![tactic(auto)]
 
 ghost use Rattle.isle_tables.specs.Agreement.{TermsAgree, TypesAgree};
+ghost use Rattle.isle_tables.specs.Laws.{LastDefinitionCounts, NamesStandOnce, NumbersStay, TermsHaveNames, TermsStandAtIds, TypesStandAtIds};
 ghost use Rattle.isle_tables.specs.WorkedTerms.{Alone, ByFunction, Chained, Converted, Doubled, Effects, RefusedTerms, Structs};
 ghost use Rattle.isle_tables.specs.WorkedTypes.{Constants, RefusedTypes, ThreeTypes, TwoTypes};
 
@@ -76,4 +77,34 @@ pub fn types_agree()
 /// lists are valid and defined alike.
 pub fn terms_agree()
     ensures { TermsAgree }
+{}
+
+/// A name has one number.
+pub fn names_stand_once()
+    ensures { NamesStandOnce }
+{}
+
+/// A name of the type table keeps its number in the term table.
+pub fn numbers_stay()
+    ensures { NumbersStay }
+{}
+
+/// The i-th type, from 0, stands at 13 + i, which in a valid list is the id of its name.
+pub fn types_stand_at_ids()
+    ensures { TypesStandAtIds }
+{}
+
+/// Of the definitions of a constant the last one counts.
+pub fn last_definition_counts()
+    ensures { LastDefinitionCounts }
+{}
+
+/// Each term stands at its id.
+pub fn terms_stand_at_ids()
+    ensures { TermsStandAtIds }
+{}
+
+/// Each term has the number of its name, variants and structs too.
+pub fn terms_have_names()
+    ensures { TermsHaveNames }
 {}
