@@ -168,7 +168,7 @@ module _ (defs : List Definition) (types : AreCarriedTypes defs) (terms : AreCar
     no_numbers = subst (All HoldsNoNumber) (sym no_extractors) (All-nil HoldsNoNumber);
     declared_arguments = subst (All (UsesDeclaredArguments defs)) (sym no_extractors) (All-nil (UsesDeclaredArguments defs));
     acyclic = plain_acyclic defs no_extractors;
-    converters = subst (All (IsKnownConverter defs)) (sym no_converters) (All-nil (IsKnownConverter defs));
+    known_converters = subst (All (IsKnownConverter defs)) (sym no_converters) (All-nil (IsKnownConverter defs));
     one_converter = subst (λ cs. IsDistinct {X = List ℕ × List ℕ} (map (λ c. (c.inner_ty.text, c.outer_ty.text)) cs)) (sym no_converters) distinct_nil;
   }
 

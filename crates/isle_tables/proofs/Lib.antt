@@ -7,3 +7,4 @@ pub mod CarriedTerms
 pub mod Names
 pub mod TypeLaws
 pub mod TermLaws
+pub mod Converters

@@ -36,7 +36,7 @@ by_function_valid = record {
   no_numbers = All-nil HoldsNoNumber;
   declared_arguments = All-nil (UsesDeclaredArguments by_function);
   acyclic = plain_acyclic by_function refl;
-  converters = All-nil (IsKnownConverter by_function);
+  known_converters = All-nil (IsKnownConverter by_function);
   one_converter = distinct_nil;
 }
 
@@ -73,7 +73,7 @@ converted_valid = record {
   no_numbers = All-from_recursion HoldsNoNumber (extractor_trees converted) (refl, tt);
   declared_arguments = All-from_recursion (UsesDeclaredArguments converted) (extractor_trees converted) (All-from_recursion (λ i. i < argument_count converted (codes "conv")) (0 ∷ []) (omega arith, tt), tt);
   acyclic = acyclic_by converted (λ _. 0) converted_falls;
-  converters = All-from_recursion (IsKnownConverter converted) (converter_trees converted) ((refl, refl, refl), tt);
+  known_converters = All-from_recursion (IsKnownConverter converted) (converter_trees converted) ((refl, refl, refl), tt);
   one_converter = distinct_one (codes "A", codes "B");
 }
 
@@ -107,7 +107,7 @@ doubled_valid = record {
   no_numbers = All-from_recursion HoldsNoNumber (extractor_trees doubled) (refl, tt);
   declared_arguments = All-from_recursion (UsesDeclaredArguments doubled) (extractor_trees doubled) (All-from_recursion (λ i. i < argument_count doubled (codes "d")) (0 ∷ (0 ∷ [])) (omega arith, (omega arith, tt)), tt);
   acyclic = acyclic_by doubled (λ _. 0) doubled_falls;
-  converters = All-nil (IsKnownConverter doubled);
+  known_converters = All-nil (IsKnownConverter doubled);
   one_converter = distinct_nil;
 }
 
@@ -152,7 +152,7 @@ chained_valid = record {
   no_numbers = All-from_recursion HoldsNoNumber (extractor_trees chained) (refl, (refl, tt));
   declared_arguments = All-from_recursion (UsesDeclaredArguments chained) (extractor_trees chained) (All-from_recursion (λ i. i < argument_count chained (codes "a")) (0 ∷ []) (omega arith, tt), (All-from_recursion (λ i. i < argument_count chained (codes "b")) (0 ∷ []) (omega arith, tt), tt));
   acyclic = acyclic_by chained chained_rank chained_falls;
-  converters = All-nil (IsKnownConverter chained);
+  known_converters = All-nil (IsKnownConverter chained);
   one_converter = distinct_nil;
 }
 
@@ -180,7 +180,7 @@ effects_valid = record {
   no_numbers = All-nil HoldsNoNumber;
   declared_arguments = All-nil (UsesDeclaredArguments effects);
   acyclic = plain_acyclic effects refl;
-  converters = All-nil (IsKnownConverter effects);
+  known_converters = All-nil (IsKnownConverter effects);
   one_converter = distinct_nil;
 }
 
@@ -208,7 +208,7 @@ three_types_valid = record {
   no_numbers = All-nil HoldsNoNumber;
   declared_arguments = All-nil (UsesDeclaredArguments three_types);
   acyclic = plain_acyclic three_types refl;
-  converters = All-nil (IsKnownConverter three_types);
+  known_converters = All-nil (IsKnownConverter three_types);
   one_converter = distinct_nil;
 }
 
@@ -233,7 +233,7 @@ alone_valid = record {
   no_numbers = All-nil HoldsNoNumber;
   declared_arguments = All-nil (UsesDeclaredArguments alone);
   acyclic = plain_acyclic alone refl;
-  converters = All-nil (IsKnownConverter alone);
+  known_converters = All-nil (IsKnownConverter alone);
   one_converter = distinct_nil;
 }
 
@@ -302,6 +302,8 @@ refused_terms_lem = record {
   extractor_of_variant = λ v. false≢true (v.terms_of_extractors 0 any_extractor (omega arith));
   function_of_none = λ v. false≢true (v.terms_of_externals 0 any_external (omega arith));
   constructor_of_none = λ v. false≢true (v.terms_of_constructors 0 any_constructor (omega arith));
+  function_of_variant = λ v. false≢true (v.terms_of_externals 0 any_external (omega arith));
+  constructor_of_struct = λ v. false≢true (v.terms_of_constructors 0 any_constructor (omega arith));
   rules_and_function = λ v. false≢true (v.rules_or_function 0 any_constructor (omega arith));
   constructor_twice = λ v. (let e = v.one_constructor 0 1 (codes "f") refl refl in omega arith);
   extractor_twice = λ v. (let e = v.one_extractor 0 1 (codes "d") refl refl in omega arith);
@@ -313,8 +315,8 @@ refused_terms_lem = record {
   argument_past = λ v. (let l = v.declared_arguments 0 any_extractor (omega arith) 1 0 (omega arith) in omega arith);
   recursive = λ v. v.acyclic (codes "a") (through recursive_first (directly recursive_second));
   itself = λ v. v.acyclic (codes "a") (directly itself_uses);
-  unknown_inner_type = λ v. false≢true (v.converters 0 any_converter (omega arith)).1;
-  unknown_outer_type = λ v. false≢true (v.converters 0 any_converter (omega arith)).2;
-  unknown_converter = λ v. false≢true (v.converters 0 any_converter (omega arith)).0;
+  unknown_inner_type = λ v. false≢true (v.known_converters 0 any_converter (omega arith)).1;
+  unknown_outer_type = λ v. false≢true (v.known_converters 0 any_converter (omega arith)).2;
+  unknown_converter = λ v. false≢true (v.known_converters 0 any_converter (omega arith)).0;
   converter_twice = λ v. (let e = v.one_converter 0 1 (codes "u8", codes "u16") refl refl in omega arith);
 }

@@ -10,7 +10,7 @@ use Rattle.isle_model.specs.Tables.{TermEntry}
 use Rattle.isle_model.specs.TypeTable.{type_trees, type_id}
 use Rattle.isle_model.specs.TermTable.{type_or_first}
 use Rattle.isle_tables.specs.TypeTables.{constant_trees, type_names_met, name_number, IsValidTypes, type_entry, type_table, constant_types}
-use Rattle.isle_tables.specs.TermTables.{term_names, term_names_met, term_table}
+use Rattle.isle_tables.specs.TermTables.{term_names, term_names_met, IsValidTerms, term_table, converters}
 
 -- no name has two numbers
 abbrev pub NamesStandOnce : Type 0
@@ -39,3 +39,7 @@ abbrev pub LastDefinitionCounts : Type 0
 LastDefinitionCounts =
     (defs : List Definition) (x : List ℕ)
     → look (λ k. k == name_number defs x) (constant_types defs) ≡ option_map (λ c. type_or_first defs c.ty) (find (λ c. bytes_eq c.name.text x) (reverse (constant_trees defs)))
+
+-- in a valid list no two converters have one pair of types
+abbrev pub ConvertersStandOnce : Type 0
+ConvertersStandOnce = (defs : List Definition) → IsValidTerms defs → IsDistinct (map (λ e. e.0) (converters defs))

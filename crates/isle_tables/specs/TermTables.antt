@@ -248,7 +248,7 @@ pub record IsValidTerms (defs : List Definition) : Type 0 where
   pub no_numbers : All HoldsNoNumber (extractor_trees defs)
   pub declared_arguments : All (UsesDeclaredArguments defs) (extractor_trees defs)
   pub acyclic : IsAcyclic defs
-  pub converters : All (IsKnownConverter defs) (converter_trees defs)
+  pub known_converters : All (IsKnownConverter defs) (converter_trees defs)
   pub one_converter : IsDistinct (converted_pairs defs)
 
 -- whether a term has something that makes it: rules, an external constructor or an extractor

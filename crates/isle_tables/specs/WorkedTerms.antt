@@ -1,9 +1,9 @@
 -- Lists of definitions of terms: what their tables are, and which have none.
 use Rattle.std.specs.Prelude.{◌≡◌, ℕ, pos, true, false, List, [], ◌∷◌, ◌++◌, Some, None, codes}
-use Rattle.isle_model.specs.Syntax.{PatternTree, var_pattern, int_pattern, wildcard_pattern, and_pattern, macro_arg, unit_fields, DeclTree, Definition, type_definition, declaration}
+use Rattle.isle_model.specs.Syntax.{PatternTree, var_pattern, bind_pattern, int_pattern, wildcard_pattern, and_pattern, macro_arg, unit_fields, DeclTree, Definition, type_definition, declaration}
 use Rattle.isle_model.specs.Tables.{Flags, internal_constructor, external_constructor, internal_extractor, external_extractor, TermKindEntry, variant_term, struct_term, declared_term, TermEntry}
 use Rattle.isle_model.specs.TypeTable.{builtin_names}
-use Rattle.isle_tables.specs.TermTables.{term_names_met, term_table, converters, IsValidTerms, AllDefined}
+use Rattle.isle_tables.specs.TermTables.{template, term_names_met, term_table, converters, IsValidTerms, AllDefined}
 use Rattle.isle_tables.specs.Written.{at, name, field, variant, primitive, enum, struct, decl, declared, patterns, term, extractor, converter, constructor_by, extractor_by, rule}
 use Rattle.isle_tables.specs.WorkedTypes.{three_types}
 
@@ -111,6 +111,15 @@ Structs =
     ∷ (record { id = 1; at = at 2; name = 15; arg_tys = 13 ∷ (0 ∷ []); ret_ty = 15; kind = struct_term } ∷ []))
     × IsValidTerms three_types
 
+-- a variable with an argument's name is the argument, of two arguments of one name the first one, and so is a binding of it
+-- over a wildcard; other variables and bindings are kept
+abbrev pub Templates : Type 0
+Templates =
+    template (codes "x" ∷ (codes "y" ∷ (codes "x" ∷ []))) (both 0 (bind_pattern (name 1 (codes "x")) (any 1) (at 1) ∷ (bind_pattern (name 2 (codes "y")) (var 2 (codes "y")) (at 2)
+    ∷ (term 3 (codes "e") (var 3 (codes "z") ∷ (var 4 (codes "x") ∷ [])) ∷ []))))
+    ≡ both 0 (macro_arg 0 (at 1) ∷ (bind_pattern (name 2 (codes "y")) (macro_arg 1 (at 2)) (at 2)
+    ∷ (term 3 (codes "e") (var 3 (codes "z") ∷ (macro_arg 0 (at 4) ∷ [])) ∷ [])))
+
 -- a term that nothing makes: it has a place in the table, but isn't defined
 abbrev pub alone : List Definition
 alone = declaration (numbers 0 (codes "f")) ∷ []
@@ -160,6 +169,12 @@ function_of_none = extractor_by 0 (codes "e") (codes "e_fn") ∷ []
 
 abbrev pub constructor_of_none : List Definition
 constructor_of_none = constructor_by 0 (codes "f") (codes "f_fn") ∷ []
+
+abbrev pub function_of_variant : List Definition
+function_of_variant = plain_enum ∷ (extractor_by 1 (codes "T.A") (codes "e_fn") ∷ [])
+
+abbrev pub constructor_of_struct : List Definition
+constructor_of_struct = type_definition (struct 0 (codes "S") unit_fields) ∷ (constructor_by 1 (codes "S") (codes "f_fn") ∷ [])
 
 abbrev pub rules_and_function : List Definition
 rules_and_function =
@@ -228,6 +243,8 @@ pub record RefusedTerms : Type 0 where
   pub extractor_of_variant : IsValidTerms extractor_of_variant → ⊥
   pub function_of_none : IsValidTerms function_of_none → ⊥
   pub constructor_of_none : IsValidTerms constructor_of_none → ⊥
+  pub function_of_variant : IsValidTerms function_of_variant → ⊥
+  pub constructor_of_struct : IsValidTerms constructor_of_struct → ⊥
   pub rules_and_function : IsValidTerms rules_and_function → ⊥
   pub constructor_twice : IsValidTerms constructor_twice → ⊥
   pub extractor_twice : IsValidTerms extractor_twice → ⊥

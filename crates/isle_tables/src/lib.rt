@@ -4,8 +4,8 @@
 #![tactic(auto)]
 
 ghost use Rattle.isle_tables.specs.Agreement.{TermsAgree, TypesAgree};
-ghost use Rattle.isle_tables.specs.Laws.{LastDefinitionCounts, NamesStandOnce, NumbersStay, TermsHaveNames, TermsStandAtIds, TypesStandAtIds};
-ghost use Rattle.isle_tables.specs.WorkedTerms.{Alone, ByFunction, Chained, Converted, Doubled, Effects, RefusedTerms, Structs};
+ghost use Rattle.isle_tables.specs.Laws.{ConvertersStandOnce, LastDefinitionCounts, NamesStandOnce, NumbersStay, TermsHaveNames, TermsStandAtIds, TypesStandAtIds};
+ghost use Rattle.isle_tables.specs.WorkedTerms.{Alone, ByFunction, Chained, Converted, Doubled, Effects, RefusedTerms, Structs, Templates};
 ghost use Rattle.isle_tables.specs.WorkedTypes.{Constants, RefusedTypes, ThreeTypes, TwoTypes};
 
 /// The table and the names of a primitive type and an extern enum, which are valid.
@@ -58,6 +58,11 @@ pub fn structs()
     ensures { Structs }
 {}
 
+/// The template of a pattern: what becomes an argument, and what is kept.
+pub fn templates()
+    ensures { Templates }
+{}
+
 /// A term that nothing makes has a place in a valid table, but isn't defined.
 pub fn alone()
     ensures { Alone }
@@ -107,4 +112,9 @@ pub fn terms_stand_at_ids()
 /// Each term has the number of its name, variants and structs too.
 pub fn terms_have_names()
     ensures { TermsHaveNames }
+{}
+
+/// In a valid list no two converters have one pair of types.
+pub fn converters_stand_once()
+    ensures { ConvertersStandOnce }
 {}
