@@ -12,7 +12,7 @@ use Rattle.isle_model.specs.Tables.{ConstructorEntry, internal_constructor, exte
 use Rattle.isle_model.specs.TypeTable.{builtin_names, type_trees, builtin_from, is_carried_value, place_from}
 use Rattle.isle_model.specs.TermTable.{decl_of, decl_trees, decl_names, term_table_names, is_carried_term, decl_flags, type_or_first, decl_entry, decl_entries, term_entries, IsValidTerms as IsValidCarriedTerms}
 use Rattle.isle_tables.specs.TypeTables.{type_names_met, type_entry, type_table}
-use Rattle.isle_tables.specs.TermTables.{constructor_of, external_of, extractor_of, converter_of, function_of, constructor_trees, external_trees, extractor_trees, converter_trees, made_by, term_names, term_names_met, term_or_first, has_rules, is_defined, internal_extractors, external_extractors, external_constructors, template_of, IsDeclaredTerm, IsMultiOrPartial, IsWithoutRules, IsOfPlainTerm, NamesKnownTerms, HoldsNoNumber, UsesDeclaredArguments, IsKnownConverter, IsDefined, IsValidTerms, terms_made, constructor_kind, extractor_kind, decl_as_term, term_table}
+use Rattle.isle_tables.specs.TermTables.{constructor_of, external_of, extractor_of, converter_of, function_of, constructor_trees, external_trees, extractor_trees, converter_trees, made_by, term_names, term_names_met, term_or_first, has_rules, is_defined, internal_extractors, external_extractors, external_constructors, template_of, IsDeclaredTerm, IsNotMultiAndPartial, IsWithoutRules, IsOfPlainTerm, NamesKnownTerms, HoldsNoNumber, UsesDeclaredArguments, IsKnownConverter, IsDefined, IsValidTerms, terms_made, constructor_kind, extractor_kind, decl_as_term, term_table}
 use Rattle.isle_tables.specs.Agreement.{AreCarriedTypes, AreCarriedTerms, SameTerms, TermsAgree}
 use Rattle.isle_tables.proofs.Lists.{distinct_nil}
 use Rattle.isle_tables.proofs.Acyclic.{plain_acyclic}
@@ -46,7 +46,7 @@ not_both : (multi partial : Bool) → IsTrue (not multi && not partial) → IsTr
 not_both true partial h = absurd (false≢true h)
 not_both false partial h = refl
 
-carried_decl : (d : Definition) → IsCarriedTerm d → AllByRecursion IsMultiOrPartial (decl_of d)
+carried_decl : (d : Definition) → IsCarriedTerm d → AllByRecursion IsNotMultiAndPartial (decl_of d)
 carried_decl (declaration d) h = (not_both d.multi d.partial h, tt)
 carried_decl _ h = tt
 
@@ -85,8 +85,8 @@ module _ (defs : List Definition) (types : AreCarriedTypes defs) (terms : AreCar
   no_functions : flat_map function_of defs ≡ []
   no_functions = none_of function_of IsCarriedTerm no_function defs each_carried
 
-  all_plain : All IsMultiOrPartial (decl_trees defs)
-  all_plain = All-from_recursion IsMultiOrPartial (decl_trees defs) (each_of decl_of IsCarriedTerm IsMultiOrPartial carried_decl defs each_carried)
+  all_plain : All IsNotMultiAndPartial (decl_trees defs)
+  all_plain = All-from_recursion IsNotMultiAndPartial (decl_trees defs) (each_of decl_of IsCarriedTerm IsNotMultiAndPartial carried_decl defs each_carried)
 
   none_made : flat_map (λ t. made_by t.name.text t.value) (type_trees defs) ≡ []
   none_made = none_of (λ t. made_by t.name.text t.value) IsCarriedTree (λ t h. makes_none t.name.text t.value h) (type_trees defs) (carried_trees defs types)

@@ -6,7 +6,7 @@ use Rattle.std.proofs.lemmas.List.Elements.{All-from_recursion, All-nil}
 use Rattle.isle_model.specs.Syntax.{Name, ExtractorTree, ConverterTree, DeclTree, RuleTree, Definition, int_expr}
 use Rattle.isle_model.specs.TermTable.{decl_trees, rule_trees}
 use Rattle.isle_tables.specs.TypeTables.{IsKnownType}
-use Rattle.isle_tables.specs.TermTables.{ConstructorTree, ExternalTree, constructor_trees, external_trees, extractor_trees, converter_trees, term_names, terms_in, argument_count, IsDeclaredTerm, IsKnownTerm, Uses, directly, through, HasKnownArguments, HasKnownResult, IsMultiOrPartial, HasDeclaredRoot, IsWithoutRules, IsOfPlainTerm, NamesKnownTerms, HoldsNoNumber, UsesDeclaredArguments, IsKnownConverter, IsDefined, IsValidTerms, AllDefined}
+use Rattle.isle_tables.specs.TermTables.{ConstructorTree, ExternalTree, constructor_trees, external_trees, extractor_trees, converter_trees, term_names, terms_in, argument_count, IsDeclaredTerm, IsKnownTerm, Uses, directly, through, HasKnownArguments, HasKnownResult, IsNotMultiAndPartial, HasDeclaredRoot, IsWithoutRules, IsOfPlainTerm, NamesKnownTerms, HoldsNoNumber, UsesDeclaredArguments, IsKnownConverter, IsDefined, IsValidTerms, AllDefined}
 use Rattle.isle_tables.specs.Written.{at, name, decl, term, by_template}
 use Rattle.isle_tables.specs.WorkedTypes.{three_types}
 use Rattle.isle_tables.specs.WorkedTerms.{var, any, both, by_function, ByFunction, converted, Converted, doubled, Doubled, chained, Chained, effects, Effects, Structs, alone, Alone, recursive, itself, RefusedTerms}
@@ -23,7 +23,7 @@ by_function_valid = record {
   distinct = distinct_if (term_names by_function) refl;
   types_of_arguments = All-from_recursion (HasKnownArguments by_function) (decl_trees by_function) (known_one by_function (name 0 (codes "u8")) refl, (known_one by_function (name 2 (codes "u8")) refl, tt));
   types_of_results = All-from_recursion (HasKnownResult by_function) (decl_trees by_function) (refl, (refl, tt));
-  marks = All-from_recursion IsMultiOrPartial (decl_trees by_function) (refl, (refl, tt));
+  marks = All-from_recursion IsNotMultiAndPartial (decl_trees by_function) (refl, (refl, tt));
   roots = All-from_recursion (HasDeclaredRoot by_function) (rule_trees by_function) (refl, (refl, tt));
   terms_of_extractors = All-nil (λ e. IsDeclaredTerm by_function e.term);
   terms_of_externals = All-from_recursion (λ e. IsDeclaredTerm by_function e.term) (external_trees by_function) (refl, tt);
@@ -60,7 +60,7 @@ converted_valid = record {
   distinct = distinct_if (term_names converted) refl;
   types_of_arguments = All-from_recursion (HasKnownArguments converted) (decl_trees converted) (known_one converted (name 2 (codes "A")) refl, (known_one converted (name 4 (codes "A")) refl, (known_one converted (name 7 (codes "B")) refl, tt)));
   types_of_results = All-from_recursion (HasKnownResult converted) (decl_trees converted) (refl, (refl, (refl, tt)));
-  marks = All-from_recursion IsMultiOrPartial (decl_trees converted) (refl, (refl, (refl, tt)));
+  marks = All-from_recursion IsNotMultiAndPartial (decl_trees converted) (refl, (refl, (refl, tt)));
   roots = All-from_recursion (HasDeclaredRoot converted) (rule_trees converted) (refl, tt);
   terms_of_extractors = All-from_recursion (λ e. IsDeclaredTerm converted e.term) (extractor_trees converted) (refl, tt);
   terms_of_externals = All-from_recursion (λ e. IsDeclaredTerm converted e.term) (external_trees converted) (refl, tt);
@@ -94,7 +94,7 @@ doubled_valid = record {
   distinct = distinct_if (term_names doubled) refl;
   types_of_arguments = All-from_recursion (HasKnownArguments doubled) (decl_trees doubled) (known_one doubled (name 0 (codes "u8")) refl, (known_one doubled (name 2 (codes "u8")) refl, tt));
   types_of_results = All-from_recursion (HasKnownResult doubled) (decl_trees doubled) (refl, (refl, tt));
-  marks = All-from_recursion IsMultiOrPartial (decl_trees doubled) (refl, (refl, tt));
+  marks = All-from_recursion IsNotMultiAndPartial (decl_trees doubled) (refl, (refl, tt));
   roots = All-from_recursion (HasDeclaredRoot doubled) (rule_trees doubled) (refl, tt);
   terms_of_extractors = All-from_recursion (λ e. IsDeclaredTerm doubled e.term) (extractor_trees doubled) (refl, tt);
   terms_of_externals = All-nil (λ e. IsDeclaredTerm doubled e.term);
@@ -139,7 +139,7 @@ chained_valid = record {
   distinct = distinct_if (term_names chained) refl;
   types_of_arguments = All-from_recursion (HasKnownArguments chained) (decl_trees chained) (known_one chained (name 0 (codes "u8")) refl, (known_one chained (name 1 (codes "u8")) refl, tt));
   types_of_results = All-from_recursion (HasKnownResult chained) (decl_trees chained) (refl, (refl, tt));
-  marks = All-from_recursion IsMultiOrPartial (decl_trees chained) (refl, (refl, tt));
+  marks = All-from_recursion IsNotMultiAndPartial (decl_trees chained) (refl, (refl, tt));
   roots = All-nil (HasDeclaredRoot chained);
   terms_of_extractors = All-from_recursion (λ e. IsDeclaredTerm chained e.term) (extractor_trees chained) (refl, (refl, tt));
   terms_of_externals = All-nil (λ e. IsDeclaredTerm chained e.term);
@@ -167,7 +167,7 @@ effects_valid = record {
   distinct = distinct_if (term_names effects) refl;
   types_of_arguments = All-from_recursion (HasKnownArguments effects) (decl_trees effects) (known_one effects (name 1 (codes "u8")) refl, (known_one effects (name 3 (codes "u8")) refl, (known_one effects (name 5 (codes "u8")) refl, tt)));
   types_of_results = All-from_recursion (HasKnownResult effects) (decl_trees effects) (refl, (refl, (refl, tt)));
-  marks = All-from_recursion IsMultiOrPartial (decl_trees effects) (refl, (refl, (refl, tt)));
+  marks = All-from_recursion IsNotMultiAndPartial (decl_trees effects) (refl, (refl, (refl, tt)));
   roots = All-from_recursion (HasDeclaredRoot effects) (rule_trees effects) (refl, tt);
   terms_of_extractors = All-nil (λ e. IsDeclaredTerm effects e.term);
   terms_of_externals = All-nil (λ e. IsDeclaredTerm effects e.term);
@@ -195,7 +195,7 @@ three_types_valid = record {
   distinct = distinct_if (term_names three_types) refl;
   types_of_arguments = All-nil (HasKnownArguments three_types);
   types_of_results = All-nil (HasKnownResult three_types);
-  marks = All-nil IsMultiOrPartial;
+  marks = All-nil IsNotMultiAndPartial;
   roots = All-nil (HasDeclaredRoot three_types);
   terms_of_extractors = All-nil (λ e. IsDeclaredTerm three_types e.term);
   terms_of_externals = All-nil (λ e. IsDeclaredTerm three_types e.term);
@@ -220,7 +220,7 @@ alone_valid = record {
   distinct = distinct_if (term_names alone) refl;
   types_of_arguments = All-from_recursion (HasKnownArguments alone) (decl_trees alone) (known_one alone (name 0 (codes "u8")) refl, tt);
   types_of_results = All-from_recursion (HasKnownResult alone) (decl_trees alone) (refl, tt);
-  marks = All-from_recursion IsMultiOrPartial (decl_trees alone) (refl, tt);
+  marks = All-from_recursion IsNotMultiAndPartial (decl_trees alone) (refl, tt);
   roots = All-nil (HasDeclaredRoot alone);
   terms_of_extractors = All-nil (λ e. IsDeclaredTerm alone e.term);
   terms_of_externals = All-nil (λ e. IsDeclaredTerm alone e.term);

@@ -197,8 +197,8 @@ HasKnownArguments defs d = All (IsKnownType defs) d.arg_tys
 abbrev pub HasKnownResult : List Definition → DeclTree → Type 0
 HasKnownResult defs d = IsKnownType defs d.ret_ty
 
-abbrev pub IsMultiOrPartial : DeclTree → Type 0
-IsMultiOrPartial d = IsTrue (not (d.multi && d.partial))
+abbrev pub IsNotMultiAndPartial : DeclTree → Type 0
+IsNotMultiAndPartial d = IsTrue (not (d.multi && d.partial))
 
 -- the left side of a rule is a declared term
 abbrev pub HasDeclaredRoot : List Definition → RuleTree → Type 0
@@ -235,7 +235,7 @@ pub record IsValidTerms (defs : List Definition) : Type 0 where
   pub distinct : IsDistinct (term_names defs)
   pub types_of_arguments : All (HasKnownArguments defs) (decl_trees defs)
   pub types_of_results : All (HasKnownResult defs) (decl_trees defs)
-  pub marks : All IsMultiOrPartial (decl_trees defs)
+  pub marks : All IsNotMultiAndPartial (decl_trees defs)
   pub roots : All (HasDeclaredRoot defs) (rule_trees defs)
   pub terms_of_extractors : All (λ e. IsDeclaredTerm defs e.term) (extractor_trees defs)
   pub terms_of_externals : All (λ e. IsDeclaredTerm defs e.term) (external_trees defs)

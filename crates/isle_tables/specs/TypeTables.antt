@@ -90,8 +90,8 @@ IsUnmarked t = (t.is_extern ≡ false) × (t.is_nodebug ≡ false)
 abbrev pub IsUnmarkedPrimitive : TypeTree → Type 0
 IsUnmarkedPrimitive t = IsTrue (is_primitive t.value) → IsUnmarked t
 
-abbrev pub HasOneMark : TypeTree → Type 0
-HasOneMark t = IsTrue (not (t.is_extern && t.is_nodebug))
+abbrev pub HasAtMostOneMark : TypeTree → Type 0
+HasAtMostOneMark t = IsTrue (not (t.is_extern && t.is_nodebug))
 
 -- no two variants of a type have one name, no two fields of a list have one
 abbrev pub HasDistinctVariants : TypeTree → Type 0
@@ -113,7 +113,7 @@ IsOfKnownType defs c = IsKnownType defs c.ty
 pub record IsValidTypes (defs : List Definition) : Type 0 where
   pub distinct : IsDistinct (builtin_names ++ type_names defs)
   pub primitives : All IsUnmarkedPrimitive (type_trees defs)
-  pub marks : All HasOneMark (type_trees defs)
+  pub marks : All HasAtMostOneMark (type_trees defs)
   pub variants : All HasDistinctVariants (type_trees defs)
   pub fields : All HasDistinctFields (field_lists defs)
   pub types_of_fields : All (HasKnownTypes defs) (field_lists defs)
