@@ -12,7 +12,7 @@ use Rattle.isle_model.specs.Tables.{ConstructorEntry, internal_constructor, exte
 use Rattle.isle_model.specs.TypeTable.{builtin_names, type_trees, builtin_from, is_carried_value, place_from}
 use Rattle.isle_model.specs.TermTable.{decl_of, decl_trees, decl_names, term_table_names, is_carried_term, decl_flags, type_or_first, decl_entry, decl_entries, term_entries, IsValidTerms as IsValidCarriedTerms}
 use Rattle.isle_tables.specs.TypeTables.{type_names_met, type_entry, type_table}
-use Rattle.isle_tables.specs.TermTables.{constructor_of, external_of, extractor_of, converter_of, function_of, constructor_trees, external_trees, extractor_trees, converter_trees, made_by, term_names, term_names_met, term_or_first, has_rules, is_defined, internal_extractors, external_extractors, external_constructors, template_of, IsDeclaredTerm, IsNotMultiAndPartial, IsWithoutRules, IsOfPlainTerm, NamesKnownTerms, HoldsNoNumber, UsesDeclaredArguments, IsKnownConverter, IsDefined, IsValidTerms, terms_made, constructor_kind, extractor_kind, decl_as_term, term_table}
+use Rattle.isle_tables.specs.TermTables.{external_constructor_of, external_extractor_of, extractor_of, converter_of, function_of, constructor_trees, external_trees, extractor_trees, converter_trees, made_by, term_names, term_names_met, term_or_first, has_rules, is_defined, internal_extractors, external_extractors, external_constructors, extractor_template, IsDeclaredTerm, IsNotBothMultiAndPartial, IsWithoutRules, IsOfPlainTerm, NamesKnownTerms, HoldsNoMacroArg, UsesDeclaredArguments, IsKnownConverter, IsDefined, IsValidTerms, terms_made, constructor_kind, extractor_kind, decl_as_term, term_table}
 use Rattle.isle_tables.specs.Agreement.{AreCarriedTypes, AreCarriedTerms, SameTerms, TermsAgree}
 use Rattle.isle_tables.proofs.Lists.{distinct_nil}
 use Rattle.isle_tables.proofs.Acyclic.{plain_acyclic}
@@ -21,11 +21,11 @@ use Rattle.isle_tables.proofs.Carried.{none_of, each_of, IsCarriedTree, carried_
 abbrev IsCarriedTerm : Definition → Type 0
 IsCarriedTerm d = IsTrue (is_carried_term d)
 
-no_constructor : (d : Definition) → IsCarriedTerm d → constructor_of d ≡ []
+no_constructor : (d : Definition) → IsCarriedTerm d → external_constructor_of d ≡ []
 no_constructor (extern_definition (extern_constructor term function at)) h = absurd (false≢true h)
 no_constructor _ h = refl
 
-no_external : (d : Definition) → IsCarriedTerm d → external_of d ≡ []
+no_external : (d : Definition) → IsCarriedTerm d → external_extractor_of d ≡ []
 no_external (extern_definition (extern_extractor term function at infallible)) h = absurd (false≢true h)
 no_external _ h = refl
 
@@ -46,7 +46,7 @@ not_both : (multi partial : Bool) → IsTrue (not multi && not partial) → IsTr
 not_both true partial h = absurd (false≢true h)
 not_both false partial h = refl
 
-carried_decl : (d : Definition) → IsCarriedTerm d → AllByRecursion IsNotMultiAndPartial (decl_of d)
+carried_decl : (d : Definition) → IsCarriedTerm d → AllByRecursion IsNotBothMultiAndPartial (decl_of d)
 carried_decl (declaration d) h = (not_both d.multi d.partial h, tt)
 carried_decl _ h = tt
 
@@ -71,10 +71,10 @@ module _ (defs : List Definition) (types : AreCarriedTypes defs) (terms : AreCar
   each_carried = recursion_from_All IsCarriedTerm defs terms
 
   no_constructors : constructor_trees defs ≡ []
-  no_constructors = none_of constructor_of IsCarriedTerm no_constructor defs each_carried
+  no_constructors = none_of external_constructor_of IsCarriedTerm no_constructor defs each_carried
 
   no_externals : external_trees defs ≡ []
-  no_externals = none_of external_of IsCarriedTerm no_external defs each_carried
+  no_externals = none_of external_extractor_of IsCarriedTerm no_external defs each_carried
 
   no_extractors : extractor_trees defs ≡ []
   no_extractors = none_of extractor_of IsCarriedTerm no_extractor defs each_carried
@@ -85,8 +85,8 @@ module _ (defs : List Definition) (types : AreCarriedTypes defs) (terms : AreCar
   no_functions : flat_map function_of defs ≡ []
   no_functions = none_of function_of IsCarriedTerm no_function defs each_carried
 
-  all_plain : All IsNotMultiAndPartial (decl_trees defs)
-  all_plain = All-from_recursion IsNotMultiAndPartial (decl_trees defs) (each_of decl_of IsCarriedTerm IsNotMultiAndPartial carried_decl defs each_carried)
+  all_plain : All IsNotBothMultiAndPartial (decl_trees defs)
+  all_plain = All-from_recursion IsNotBothMultiAndPartial (decl_trees defs) (each_of decl_of IsCarriedTerm IsNotBothMultiAndPartial carried_decl defs each_carried)
 
   none_made : flat_map (λ t. made_by t.name.text t.value) (type_trees defs) ≡ []
   none_made = none_of (λ t. made_by t.name.text t.value) IsCarriedTree (λ t h. makes_none t.name.text t.value h) (type_trees defs) (carried_trees defs types)
@@ -111,8 +111,8 @@ module _ (defs : List Definition) (types : AreCarriedTypes defs) (terms : AreCar
 
   extractor_same : (names : List (List ℕ)) (x : List ℕ) → None ≡ extractor_kind defs names x
   extractor_same names x =
-      ap (λ es. cond (has_name (map (λ e. e.term.text) es) x) (option_map (λ e. internal_extractor (template_of e)) (find (λ e. bytes_eq e.term.text x) es)) None) (sym no_extractors)
-      ∙ ap (λ xs. cond (has_name (internal_extractors defs) x) (option_map (λ e. internal_extractor (template_of e)) (find (λ e. bytes_eq e.term.text x) (extractor_trees defs)))
+      ap (λ es. cond (has_name (map (λ e. e.term.text) es) x) (option_map (λ e. internal_extractor (extractor_template e)) (find (λ e. bytes_eq e.term.text x) es)) None) (sym no_extractors)
+      ∙ ap (λ xs. cond (has_name (internal_extractors defs) x) (option_map (λ e. internal_extractor (extractor_template e)) (find (λ e. bytes_eq e.term.text x) (extractor_trees defs)))
       (option_map (λ e. external_extractor (number names e.function.text) e.infallible e.at) (find (λ e. bytes_eq e.term.text x) xs))) (sym no_externals)
 
   entry_of : DeclTree → ℕ → ℕ → Option ConstructorEntry → Option ExtractorEntry → TermEntry
@@ -165,7 +165,7 @@ module _ (defs : List Definition) (types : AreCarriedTypes defs) (terms : AreCar
         (subst (λ es. IsDistinct (map (λ e. e.term.text) es)) (sym no_externals) distinct_nil);
     plain_terms = subst (All (IsOfPlainTerm defs)) (sym no_extractors) (All-nil (IsOfPlainTerm defs));
     known_terms = subst (All (NamesKnownTerms defs)) (sym no_extractors) (All-nil (NamesKnownTerms defs));
-    no_numbers = subst (All HoldsNoNumber) (sym no_extractors) (All-nil HoldsNoNumber);
+    no_macro_args = subst (All HoldsNoMacroArg) (sym no_extractors) (All-nil HoldsNoMacroArg);
     declared_arguments = subst (All (UsesDeclaredArguments defs)) (sym no_extractors) (All-nil (UsesDeclaredArguments defs));
     acyclic = plain_acyclic defs no_extractors;
     known_converters = subst (All (IsKnownConverter defs)) (sym no_converters) (All-nil (IsKnownConverter defs));

@@ -1,4 +1,4 @@
--- On lists of the forms that the code carries, the tables are those that the code makes.
+-- On lists of carried forms, the tables are those of the definitions for carried forms.
 use Rattle.std.specs.Prelude.{◌≡◌, ℕ, List, [], All, IsTrue, ◌↔◌}
 use Rattle.isle_model.specs.Syntax.{Definition}
 use Rattle.isle_model.specs.TypeTable.{type_table_names, type_entries, is_carried_type, IsValidTypes as IsValidCarriedTypes}

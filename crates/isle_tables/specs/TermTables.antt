@@ -5,7 +5,8 @@ use Rattle.std.specs.Str.{bytes_eq}
 use Rattle.isle_model.specs.Syntax.{Position, Name, PatternTree, var_pattern, bind_pattern, bool_pattern, int_pattern, prim_pattern, term_pattern, wildcard_pattern, and_pattern, macro_arg, PatternTrees, no_pattern, pattern_and, TypeValueTree, primitive_value, enum_value, struct_value, DeclTree, ExtractorTree, ConverterTree, RuleTree, Definition, extractor_definition, converter_definition, extern_definition, extern_constructor, extern_extractor}
 use Rattle.isle_model.specs.Names.{number, has_name, with_names, IsDistinct}
 use Rattle.isle_model.specs.Outcome.{then_option}
-use Rattle.isle_model.specs.Tables.{FieldEntries, unit_entries, struct_entries, tuple_entries, VariantEntry, TypeEntry, builtin_type, primitive_type, enum_type, struct_type, ConstructorEntry, internal_constructor, external_constructor, ExtractorEntry, internal_extractor, external_extractor, variant_term, struct_term, declared_term, TermEntry}
+use Rattle.isle_model.specs.Values.{field_types}
+use Rattle.isle_model.specs.Tables.{FieldEntries, VariantEntry, TypeEntry, builtin_type, primitive_type, enum_type, struct_type, ConstructorEntry, internal_constructor, external_constructor, ExtractorEntry, internal_extractor, external_extractor, variant_term, struct_term, declared_term, TermEntry}
 use Rattle.isle_model.specs.TypeTable.{type_trees, place_from}
 use Rattle.isle_model.specs.TermTable.{decl_trees, rule_trees, decl_names, root_name, is_rule_of, is_declared, decl_flags, type_or_first}
 use Rattle.isle_tables.specs.TypeTables.{full_name, type_names_met, IsKnownType, type_table}
@@ -22,39 +23,45 @@ pub record ExternalTree : Type 0 where
   pub infallible : Bool
   pub at : Position
 
--- what a definition makes of each kind: an external constructor, an external extractor, an internal extractor, a
--- converter, and the name of an external function
-abbrev pub constructor_of : Definition → List ConstructorTree
-constructor_of (extern_definition (extern_constructor term function at)) = record { term = term; function = function } ∷ []
-constructor_of _ = []
+-- the external constructor that a definition is
+abbrev pub external_constructor_of : Definition → List ConstructorTree
+external_constructor_of (extern_definition (extern_constructor term function at)) = record { term = term; function = function } ∷ []
+external_constructor_of _ = []
 
-abbrev pub external_of : Definition → List ExternalTree
-external_of (extern_definition (extern_extractor term function at infallible)) = record { term = term; function = function; infallible = infallible; at = at } ∷ []
-external_of _ = []
+-- the external extractor that a definition is
+abbrev pub external_extractor_of : Definition → List ExternalTree
+external_extractor_of (extern_definition (extern_extractor term function at infallible)) = record { term = term; function = function; infallible = infallible; at = at } ∷ []
+external_extractor_of _ = []
 
+-- the internal extractor that a definition is
 abbrev pub extractor_of : Definition → List ExtractorTree
 extractor_of (extractor_definition e) = e ∷ []
 extractor_of _ = []
 
+-- the converter that a definition is
 abbrev pub converter_of : Definition → List ConverterTree
 converter_of (converter_definition c) = c ∷ []
 converter_of _ = []
 
+-- the name of the function that a definition of an external constructor or extractor names
 abbrev pub function_of : Definition → List (List ℕ)
 function_of (extern_definition (extern_constructor term function at)) = function.text ∷ []
 function_of (extern_definition (extern_extractor term function at infallible)) = function.text ∷ []
 function_of _ = []
 
--- the external constructors, the external extractors, the definitions of extractors and the converters, each in order
+-- the external constructors, in order
 abbrev pub constructor_trees : List Definition → List ConstructorTree
-constructor_trees defs = flat_map constructor_of defs
+constructor_trees defs = flat_map external_constructor_of defs
 
+-- the external extractors, in order
 abbrev pub external_trees : List Definition → List ExternalTree
-external_trees defs = flat_map external_of defs
+external_trees defs = flat_map external_extractor_of defs
 
+-- the internal extractors, in order
 abbrev pub extractor_trees : List Definition → List ExtractorTree
 extractor_trees defs = flat_map extractor_of defs
 
+-- the converters, in order
 abbrev pub converter_trees : List Definition → List ConverterTree
 converter_trees defs = flat_map converter_of defs
 
@@ -108,8 +115,8 @@ abbrev mutual
   templates args (pattern_and p ps) = pattern_and (template args p) (templates args ps)
 
 -- the template of an extractor's definition
-abbrev pub template_of : ExtractorTree → PatternTree
-template_of e = template (map (λ n. n.text) e.args) e.template
+abbrev pub extractor_template : ExtractorTree → PatternTree
+extractor_template e = template (map (λ n. n.text) e.args) e.template
 
 -- the terms that a pattern names, an outer one before its parts
 abbrev mutual
@@ -145,13 +152,14 @@ abbrev pub argument_count : List Definition → List ℕ → ℕ
 argument_count defs x = unwrap_or (option_map (λ d. length d.arg_tys) (decl_named defs x)) 0
 
 -- whether a term is declared multi
-abbrev pub is_multi : List Definition → List ℕ → Bool
-is_multi defs x = unwrap_or (option_map (λ d. d.multi) (decl_named defs x)) false
+abbrev pub is_declared_multi : List Definition → List ℕ → Bool
+is_declared_multi defs x = unwrap_or (option_map (λ d. d.multi) (decl_named defs x)) false
 
--- a name is that of a declared term, and of a term of any kind
+-- a name is that of a declared term
 abbrev pub IsDeclaredTerm : List Definition → Name → Type 0
 IsDeclaredTerm defs n = IsTrue (is_declared defs (Some n))
 
+-- a name is that of a term: a declared one, a variant or a struct
 abbrev pub IsKnownTerm : List Definition → Name → Type 0
 IsKnownTerm defs n = IsTrue (is_some (term_id defs n.text))
 
@@ -159,13 +167,15 @@ IsKnownTerm defs n = IsTrue (is_some (term_id defs n.text))
 abbrev pub has_rules : List Definition → List ℕ → Bool
 has_rules defs x = list_any (is_rule_of x) (rule_trees defs)
 
--- the terms of the internal extractors, of the external ones and of the external constructors, in order
+-- the terms of the internal extractors, in order
 abbrev pub internal_extractors : List Definition → List (List ℕ)
 internal_extractors defs = map (λ e. e.term.text) (extractor_trees defs)
 
+-- the terms of the external extractors, in order
 abbrev pub external_extractors : List Definition → List (List ℕ)
 external_extractors defs = map (λ e. e.term.text) (external_trees defs)
 
+-- the terms of the external constructors, in order
 abbrev pub external_constructors : List Definition → List (List ℕ)
 external_constructors defs = map (λ c. c.term.text) (constructor_trees defs)
 
@@ -190,15 +200,17 @@ pub data Reaches (defs : List Definition) : List ℕ → List ℕ → Type 0 whe
 abbrev pub IsAcyclic : List Definition → Type 0
 IsAcyclic defs = (t : List ℕ) → Reaches defs t t → ⊥
 
--- the types of a declaration's arguments are known, and its result's type; it is not both multi and partial
+-- the types of a declaration's arguments are known
 abbrev pub HasKnownArguments : List Definition → DeclTree → Type 0
 HasKnownArguments defs d = All (IsKnownType defs) d.arg_tys
 
+-- the type of a declaration's result is known
 abbrev pub HasKnownResult : List Definition → DeclTree → Type 0
 HasKnownResult defs d = IsKnownType defs d.ret_ty
 
-abbrev pub IsNotMultiAndPartial : DeclTree → Type 0
-IsNotMultiAndPartial d = IsTrue (not (d.multi && d.partial))
+-- a declaration is not multi and partial at once; it may be neither
+abbrev pub IsNotBothMultiAndPartial : DeclTree → Type 0
+IsNotBothMultiAndPartial d = IsTrue (not (d.multi && d.partial))
 
 -- the left side of a rule is a declared term
 abbrev pub HasDeclaredRoot : List Definition → RuleTree → Type 0
@@ -208,19 +220,21 @@ HasDeclaredRoot defs r = IsTrue (is_declared defs (root_name r.pattern))
 abbrev pub IsWithoutRules : List Definition → ConstructorTree → Type 0
 IsWithoutRules defs c = IsTrue (not (has_rules defs c.term.text))
 
--- the definition of an extractor is of a term that is not multi, names known terms, holds no argument by number, and
--- uses no argument past the declared ones
+-- an internal extractor is of a term that isn't multi
 abbrev pub IsOfPlainTerm : List Definition → ExtractorTree → Type 0
-IsOfPlainTerm defs e = IsTrue (not (is_multi defs e.term.text))
+IsOfPlainTerm defs e = IsTrue (not (is_declared_multi defs e.term.text))
 
+-- the pattern of an internal extractor names known terms
 abbrev pub NamesKnownTerms : List Definition → ExtractorTree → Type 0
 NamesKnownTerms defs e = All (IsKnownTerm defs) (terms_in e.template)
 
-abbrev pub HoldsNoNumber : ExtractorTree → Type 0
-HoldsNoNumber e = arguments_in e.template ≡ []
+-- the pattern of an internal extractor holds no macro argument: these come with its template
+abbrev pub HoldsNoMacroArg : ExtractorTree → Type 0
+HoldsNoMacroArg e = arguments_in e.template ≡ []
 
+-- the template of an internal extractor uses no argument past those that its term is declared with
 abbrev pub UsesDeclaredArguments : List Definition → ExtractorTree → Type 0
-UsesDeclaredArguments defs e = All (λ i. i < argument_count defs e.term.text) (arguments_in (template_of e))
+UsesDeclaredArguments defs e = All (λ i. i < argument_count defs e.term.text) (arguments_in (extractor_template e))
 
 -- a converter is a known term, from a known type to a known type
 abbrev pub IsKnownConverter : List Definition → ConverterTree → Type 0
@@ -228,14 +242,14 @@ IsKnownConverter defs c = IsKnownTerm defs c.term × IsKnownType defs c.inner_ty
 
 -- what a list of definitions must meet to have a term table: no two terms have one name, variants and structs included;
 -- the types of declarations are known, and none is both multi and partial; rules, extractors and external functions are
--- those of declared terms; a term has rules or one external constructor, and one extractor, internal or external, which
--- is not internal in a multi term; templates are as said above, and none comes back to itself; converters are known,
--- one for each pair of types
+-- those of declared terms; no term has rules and an external constructor, none has two external constructors or two
+-- extractors, and a multi term has no internal extractor; templates are as said above, and none comes back to itself;
+-- converters are known, one for each pair of types
 pub record IsValidTerms (defs : List Definition) : Type 0 where
   pub distinct : IsDistinct (term_names defs)
   pub types_of_arguments : All (HasKnownArguments defs) (decl_trees defs)
   pub types_of_results : All (HasKnownResult defs) (decl_trees defs)
-  pub marks : All IsNotMultiAndPartial (decl_trees defs)
+  pub marks : All IsNotBothMultiAndPartial (decl_trees defs)
   pub roots : All (HasDeclaredRoot defs) (rule_trees defs)
   pub terms_of_extractors : All (λ e. IsDeclaredTerm defs e.term) (extractor_trees defs)
   pub terms_of_externals : All (λ e. IsDeclaredTerm defs e.term) (external_trees defs)
@@ -245,7 +259,7 @@ pub record IsValidTerms (defs : List Definition) : Type 0 where
   pub one_extractor : IsDistinct (internal_extractors defs ++ external_extractors defs)
   pub plain_terms : All (IsOfPlainTerm defs) (extractor_trees defs)
   pub known_terms : All (NamesKnownTerms defs) (extractor_trees defs)
-  pub no_numbers : All HoldsNoNumber (extractor_trees defs)
+  pub no_macro_args : All HoldsNoMacroArg (extractor_trees defs)
   pub declared_arguments : All (UsesDeclaredArguments defs) (extractor_trees defs)
   pub acyclic : IsAcyclic defs
   pub known_converters : All (IsKnownConverter defs) (converter_trees defs)
@@ -255,6 +269,7 @@ pub record IsValidTerms (defs : List Definition) : Type 0 where
 abbrev pub is_defined : List Definition → List ℕ → Bool
 is_defined defs x = has_rules defs x || has_name (external_constructors defs) x || has_name (internal_extractors defs) x || has_name (external_extractors defs) x
 
+-- a declared term has something that makes it
 abbrev pub IsDefined : List Definition → DeclTree → Type 0
 IsDefined defs d = IsTrue (is_defined defs d.term.text)
 
@@ -262,18 +277,13 @@ IsDefined defs d = IsTrue (is_defined defs d.term.text)
 abbrev pub AllDefined : List Definition → Type 0
 AllDefined defs = All (IsDefined defs) (decl_trees defs)
 
--- the types of fields, in order
-abbrev pub entry_types : FieldEntries → List ℕ
-entry_types unit_entries = []
-entry_types (struct_entries fields) = map (λ f. f.ty) fields
-entry_types (tuple_entries fields) = map (λ f. f.ty) fields
-
 -- the entry that a variant of a type becomes, when it is the term of an id
 abbrev pub variant_as_term : ℕ → VariantEntry → ℕ → TermEntry
-variant_as_term ty v id = record { id = id; at = v.at; name = v.full_name; arg_tys = entry_types v.fields; ret_ty = ty; kind = variant_term v.id }
+variant_as_term ty v id = record { id = id; at = v.at; name = v.full_name; arg_tys = field_types v.fields; ret_ty = ty; kind = variant_term v.id }
 
+-- the entry that a struct becomes, when it is the term of an id
 abbrev pub struct_as_term : ℕ → ℕ → FieldEntries → Position → ℕ → TermEntry
-struct_as_term name ty fields at id = record { id = id; at = at; name = name; arg_tys = entry_types fields; ret_ty = ty; kind = struct_term }
+struct_as_term name ty fields at id = record { id = id; at = at; name = name; arg_tys = field_types fields; ret_ty = ty; kind = struct_term }
 
 -- the terms that a type makes, when their ids are known
 abbrev pub terms_made : TypeEntry → List (ℕ → TermEntry)
@@ -291,7 +301,7 @@ constructor_kind defs names x =
 -- what takes a declared term apart: its internal extractor's template, or its external extractor
 abbrev pub extractor_kind : List Definition → List (List ℕ) → List ℕ → Option ExtractorEntry
 extractor_kind defs names x =
-    if has_name (internal_extractors defs) x then option_map (λ e. internal_extractor (template_of e)) (find (λ e. bytes_eq e.term.text x) (extractor_trees defs))
+    if has_name (internal_extractors defs) x then option_map (λ e. internal_extractor (extractor_template e)) (find (λ e. bytes_eq e.term.text x) (extractor_trees defs))
     else option_map (λ e. external_extractor (number names e.function.text) e.infallible e.at) (find (λ e. bytes_eq e.term.text x) (external_trees defs))
 
 -- the entry of a declared term of an id

@@ -200,8 +200,8 @@ multi_by_template = declaration (record (numbers 0 (codes "d")) { multi = true }
 abbrev pub unknown_in_template : List Definition
 unknown_in_template = declaration (numbers 0 (codes "d")) ∷ (extractor 1 (codes "d") [] (term 1 (codes "nope") []) ∷ [])
 
-abbrev pub number_in_template : List Definition
-number_in_template = declaration (numbers 0 (codes "d")) ∷ (extractor 1 (codes "d") (codes "a" ∷ []) (macro_arg 0 (at 1)) ∷ [])
+abbrev pub macro_arg_in_template : List Definition
+macro_arg_in_template = declaration (numbers 0 (codes "d")) ∷ (extractor 1 (codes "d") (codes "a" ∷ []) (macro_arg 0 (at 1)) ∷ [])
 
 abbrev pub argument_past : List Definition
 argument_past =
@@ -252,7 +252,7 @@ pub record RefusedTerms : Type 0 where
   pub both_extractors : IsValidTerms both_extractors → ⊥
   pub multi_by_template : IsValidTerms multi_by_template → ⊥
   pub unknown_in_template : IsValidTerms unknown_in_template → ⊥
-  pub number_in_template : IsValidTerms number_in_template → ⊥
+  pub macro_arg_in_template : IsValidTerms macro_arg_in_template → ⊥
   pub argument_past : IsValidTerms argument_past → ⊥
   pub recursive : IsValidTerms recursive → ⊥
   pub itself : IsValidTerms itself → ⊥

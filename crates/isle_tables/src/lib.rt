@@ -73,13 +73,13 @@ pub fn refused_terms()
     ensures { RefusedTerms }
 {}
 
-/// On lists of primitive types, the type table is the one that the code makes, and lists are valid alike.
+/// On lists of primitive types, the type table is that of the definitions for carried forms, and lists are valid alike.
 pub fn types_agree()
     ensures { TypesAgree }
 {}
 
-/// On lists of declarations that are neither partial nor multi, the term table is the one that the code makes, and
-/// lists are valid and defined alike.
+/// On lists of declarations that are neither partial nor multi, the term table is that of the definitions for carried
+/// forms, and lists are valid and defined alike.
 pub fn terms_agree()
     ensures { TermsAgree }
 {}
