@@ -10,7 +10,7 @@ use Rattle.isle_model.specs.TypeTable.{builtin_names, type_of, type_trees, type_
 use Rattle.isle_model.specs.TermTable.{type_or_first}
 use Rattle.isle_tables.specs.TypeTables.{constant_of, constant_trees, names_inside, type_names_met, name_number, field_lists_of, field_lists, is_primitive, HasDistinctVariants, HasDistinctFields, HasKnownTypes, IsOfKnownType, IsValidTypes, entry_at, type_entry, type_table, last_definitions}
 use Rattle.isle_tables.specs.Agreement.{AreCarriedTypes, SameTypes, TypesAgree}
-use Rattle.isle_tables.proofs.Lists.{distinct_nil}
+use Rattle.isle_tables.proofs.Lists.{distinct_nil, all_joined}
 
 module _ {X Y : Type 0} (f : X → List Y) (P : X → Type 0) where
   -- what no element gives, the list doesn't give
@@ -21,11 +21,7 @@ module _ {X Y : Type 0} (f : X → List Y) (P : X → Type 0) where
   -- what holds of all that each element gives holds of all that the list gives
   pub each_of : (Q : Y → Type 0) → ((x : X) → P x → AllByRecursion Q (f x)) → (xs : List X) → AllByRecursion P xs → AllByRecursion Q (flat_map f xs)
   each_of Q h [] a = tt
-  each_of Q h (x ∷ xs) a = joined (f x) (flat_map f xs) (h x a.0) (each_of Q h xs a.1)
-    where
-      joined : (ys zs : List Y) → AllByRecursion Q ys → AllByRecursion Q zs → AllByRecursion Q (ys ++ zs)
-      joined [] zs a b = b
-      joined (y ∷ ys) zs a b = (a.0, joined ys zs a.1 b)
+  each_of Q h (x ∷ xs) a = all_joined Q (f x) (flat_map f xs) (h x a.0) (each_of Q h xs a.1)
 
 abbrev pub IsCarriedType : Definition → Type 0
 IsCarriedType d = IsTrue (is_carried_type d)

@@ -12,11 +12,14 @@ use Rattle.isle_model.specs.Tables.{ConstructorEntry, internal_constructor, exte
 use Rattle.isle_model.specs.TypeTable.{builtin_names, type_trees, builtin_from, is_carried_value, place_from}
 use Rattle.isle_model.specs.TermTable.{decl_of, decl_trees, decl_names, term_table_names, is_carried_term, decl_flags, type_or_first, decl_entry, decl_entries, term_entries, IsValidTerms as IsValidCarriedTerms}
 use Rattle.isle_tables.specs.TypeTables.{type_names_met, type_entry, type_table}
-use Rattle.isle_tables.specs.TermTables.{external_constructor_of, external_extractor_of, extractor_of, converter_of, function_of, constructor_trees, external_trees, extractor_trees, converter_trees, made_by, term_names, term_names_met, term_or_first, has_rules, is_defined, internal_extractors, external_extractors, external_constructors, extractor_template, IsDeclaredTerm, IsNotBothMultiAndPartial, IsWithoutRules, IsOfPlainTerm, NamesKnownTerms, HoldsNoMacroArg, UsesDeclaredArguments, IsKnownConverter, IsDefined, IsValidTerms, terms_made, constructor_kind, extractor_kind, decl_as_term, term_table}
+use Rattle.isle_tables.specs.KnownTypes.{types_of, known_type}
+use Rattle.isle_tables.specs.TermTables.{external_constructor_of, external_extractor_of, extractor_of, converter_of, function_of, constructor_trees, external_trees, extractor_trees, converter_trees, term_names, term_names_met, known_term, has_rules, is_defined, internal_extractors, external_extractors, external_constructors, extractor_template, IsDeclaredTerm, IsNotBothMultiAndPartial, IsWithoutRules, IsOfPlainTerm, NamesKnownTerms, HoldsNoMacroArg, UsesDeclaredArguments, IsKnownConverter, IsDefined, IsValidTerms, terms_made, constructor_kind, extractor_kind, decl_as_term, term_table}
 use Rattle.isle_tables.specs.Agreement.{AreCarriedTypes, AreCarriedTerms, SameTerms, TermsAgree}
+use Rattle.isle_tables.specs.Laws.{names_made}
 use Rattle.isle_tables.proofs.Lists.{distinct_nil}
 use Rattle.isle_tables.proofs.Acyclic.{plain_acyclic}
 use Rattle.isle_tables.proofs.Carried.{none_of, each_of, IsCarriedTree, carried_trees, names_same}
+use Rattle.isle_tables.proofs.TermLaws.{types_make_terms_lem}
 
 abbrev IsCarriedTerm : Definition → Type 0
 IsCarriedTerm d = IsTrue (is_carried_term d)
@@ -50,7 +53,7 @@ carried_decl : (d : Definition) → IsCarriedTerm d → AllByRecursion IsNotBoth
 carried_decl (declaration d) h = (not_both d.multi d.partial h, tt)
 carried_decl _ h = tt
 
-makes_none : (ty : List ℕ) (v : TypeValueTree) → IsTrue (is_carried_value v) → made_by ty v ≡ []
+makes_none : (ty : List ℕ) (v : TypeValueTree) → IsTrue (is_carried_value v) → names_made ty v ≡ []
 makes_none ty (primitive_value name at) h = refl
 makes_none ty (enum_value variants at) h = absurd (false≢true h)
 makes_none ty (struct_value fields at) h = absurd (false≢true h)
@@ -88,18 +91,21 @@ module _ (defs : List Definition) (types : AreCarriedTypes defs) (terms : AreCar
   all_plain : All IsNotBothMultiAndPartial (decl_trees defs)
   all_plain = All-from_recursion IsNotBothMultiAndPartial (decl_trees defs) (each_of decl_of IsCarriedTerm IsNotBothMultiAndPartial carried_decl defs each_carried)
 
-  none_made : flat_map (λ t. made_by t.name.text t.value) (type_trees defs) ≡ []
-  none_made = none_of (λ t. made_by t.name.text t.value) IsCarriedTree (λ t h. makes_none t.name.text t.value h) (type_trees defs) (carried_trees defs types)
+  none_made : flat_map (λ t. names_made t.name.text t.value) (type_trees defs) ≡ []
+  none_made = none_of (λ t. names_made t.name.text t.value) IsCarriedTree (λ t h. makes_none t.name.text t.value h) (type_trees defs) (carried_trees defs types)
 
   no_terms_made : flat_map terms_made (type_table defs) ≡ []
   no_terms_made =
       flat_map-append terms_made (builtin_from 0 builtin_names) (map (λ p. type_entry defs (type_names_met defs) p.0 p.1) (enumerate_from 13 (type_trees defs)))
       ∙ entries_make_none defs (type_names_met defs) 13 (type_trees defs) (carried_trees defs types)
 
-  term_names_same : decl_names defs ≡ term_names defs
-  term_names_same = sym (append-nil (decl_names defs)) ∙ ap (λ l. decl_names defs ++ l) (sym none_made)
+  term_names_same : decl_names defs ≡ term_names (types_of defs) defs
+  term_names_same = sym (append-nil (decl_names defs)) ∙ ap (λ l. decl_names defs ++ l) (sym none_made) ∙ sym (types_make_terms_lem defs)
 
-  met_same : term_table_names defs ≡ term_names_met defs
+  abbrev own_met : List (List ℕ)
+  own_met = term_names_met (types_of defs) defs
+
+  met_same : term_table_names defs ≡ own_met
   met_same =
       ap (λ ns. with_names ns (decl_names defs)) (names_same defs types)
       ∙ ap (with_names (type_names_met defs)) (sym (append-nil (decl_names defs)) ∙ ap (λ l. decl_names defs ++ l) (sym no_functions))
@@ -118,25 +124,25 @@ module _ (defs : List Definition) (types : AreCarriedTypes defs) (terms : AreCar
   entry_of : DeclTree → ℕ → ℕ → Option ConstructorEntry → Option ExtractorEntry → TermEntry
   entry_of d id n c x = record { id = id; at = d.at; name = n; arg_tys = map (type_or_first defs) d.arg_tys; ret_ty = type_or_first defs d.ret_ty; kind = declared_term (decl_flags d) c x }
 
-  entry_same : (d : DeclTree) (id : ℕ) → decl_entry defs id d ≡ decl_as_term defs (term_names_met defs) d id
+  entry_same : (d : DeclTree) (id : ℕ) → decl_entry defs id d ≡ decl_as_term (types_of defs) defs own_met d id
   unfolding entry_of
   entry_same d id =
       ap (λ ns. entry_of d id (number ns d.term.text) (cond (has_rules defs d.term.text) (Some internal_constructor) None) None) met_same
-      ∙ ap (λ c. entry_of d id (number (term_names_met defs) d.term.text) c None) (constructor_same (term_names_met defs) d.term.text)
-      ∙ ap (entry_of d id (number (term_names_met defs) d.term.text) (constructor_kind defs (term_names_met defs) d.term.text)) (extractor_same (term_names_met defs) d.term.text)
+      ∙ ap (λ c. entry_of d id (number own_met d.term.text) c None) (constructor_same own_met d.term.text)
+      ∙ ap (entry_of d id (number own_met d.term.text) (constructor_kind defs own_met d.term.text)) (extractor_same own_met d.term.text)
 
-  entries_same : (id : ℕ) (ds : List DeclTree) → decl_entries defs id ds ≡ map (λ p. p.1 p.0) (enumerate_from id (map (decl_as_term defs (term_names_met defs)) ds))
+  entries_same : (id : ℕ) (ds : List DeclTree) → decl_entries defs id ds ≡ map (λ p. p.1 p.0) (enumerate_from id (map (decl_as_term (types_of defs) defs own_met) ds))
   entries_same id [] = refl
   entries_same id (d ∷ ds) =
       ap (λ e. e ∷ decl_entries defs (suc id) ds) (entry_same d id)
-      ∙ ap (λ n. decl_as_term defs (term_names_met defs) d id ∷ decl_entries defs n ds) (sym (add-one id))
-      ∙ ap (λ l. decl_as_term defs (term_names_met defs) d id ∷ l) (entries_same (id + 1) ds)
+      ∙ ap (λ n. decl_as_term (types_of defs) defs own_met d id ∷ decl_entries defs n ds) (sym (add-one id))
+      ∙ ap (λ l. decl_as_term (types_of defs) defs own_met d id ∷ l) (entries_same (id + 1) ds)
 
-  terms_same : term_entries defs ≡ term_table defs
+  terms_same : term_entries defs ≡ term_table (types_of defs) defs
   terms_same =
       entries_same 0 (decl_trees defs)
       ∙ ap (λ fs. map (λ p. p.1 p.0) (enumerate_from 0 fs))
-      (sym (append-nil (map (decl_as_term defs (term_names_met defs)) (decl_trees defs))) ∙ ap (λ l. map (decl_as_term defs (term_names_met defs)) (decl_trees defs) ++ l) (sym no_terms_made))
+      (sym (append-nil (map (decl_as_term (types_of defs) defs own_met) (decl_trees defs))) ∙ ap (λ l. map (decl_as_term (types_of defs) defs own_met) (decl_trees defs) ++ l) (sym no_terms_made))
 
   defined_same : (x : List ℕ) → has_rules defs x ≡ is_defined defs x
   defined_same x =
@@ -149,7 +155,7 @@ module _ (defs : List Definition) (types : AreCarriedTypes defs) (terms : AreCar
       or_none true = refl
       or_none false = refl
 
-  whole : IsValidCarriedTerms defs → IsValidTerms defs
+  whole : IsValidCarriedTerms defs → IsValidTerms (types_of defs) defs
   whole v = record {
     distinct = subst IsDistinct term_names_same v.distinct;
     types_of_arguments = v.arguments;
@@ -164,15 +170,15 @@ module _ (defs : List Definition) (types : AreCarriedTypes defs) (terms : AreCar
     one_extractor = subst (λ es. IsDistinct (map (λ e. e.term.text) es ++ external_extractors defs)) (sym no_extractors)
         (subst (λ es. IsDistinct (map (λ e. e.term.text) es)) (sym no_externals) distinct_nil);
     plain_terms = subst (All (IsOfPlainTerm defs)) (sym no_extractors) (All-nil (IsOfPlainTerm defs));
-    known_terms = subst (All (NamesKnownTerms defs)) (sym no_extractors) (All-nil (NamesKnownTerms defs));
+    known_terms = subst (All (NamesKnownTerms (types_of defs) defs)) (sym no_extractors) (All-nil (NamesKnownTerms (types_of defs) defs));
     no_macro_args = subst (All HoldsNoMacroArg) (sym no_extractors) (All-nil HoldsNoMacroArg);
     declared_arguments = subst (All (UsesDeclaredArguments defs)) (sym no_extractors) (All-nil (UsesDeclaredArguments defs));
     acyclic = plain_acyclic defs no_extractors;
-    known_converters = subst (All (IsKnownConverter defs)) (sym no_converters) (All-nil (IsKnownConverter defs));
+    known_converters = subst (All (IsKnownConverter (types_of defs) defs)) (sym no_converters) (All-nil (IsKnownConverter (types_of defs) defs));
     one_converter = subst (λ cs. IsDistinct {X = List ℕ × List ℕ} (map (λ c. (c.inner_ty.text, c.outer_ty.text)) cs)) (sym no_converters) distinct_nil;
   }
 
-  part : IsValidTerms defs → IsValidCarriedTerms defs
+  part : IsValidTerms (types_of defs) defs → IsValidCarriedTerms defs
   part v = record {
     carried = terms;
     distinct = subst IsDistinct (sym term_names_same) v.distinct;
@@ -191,7 +197,7 @@ module _ (defs : List Definition) (types : AreCarriedTypes defs) (terms : AreCar
     names = met_same;
     entries = terms_same;
     ids = λ x. ap (place_from 0 x) term_names_same;
-    converters = ap (λ cs. map (λ c. ((type_or_first defs c.inner_ty, type_or_first defs c.outer_ty), term_or_first defs c.term)) cs) no_converters;
+    converters = ap (λ cs. map (λ c. ((known_type (types_of defs) c.inner_ty, known_type (types_of defs) c.outer_ty), known_term (types_of defs) defs c.term)) cs) no_converters;
   }
 
 pub terms_agree_lem : TermsAgree

@@ -1,15 +1,15 @@
 -- Converters that differ by the names of their types differ by the ids.
-use Rattle.std.proofs.Common.{◌≡◌, ℕ, zero, suc, ◌≤◌, true, false, cond, List, [], ◌∷◌, ◌++◌, map, Some, None, is_some, unwrap_or, slice_get, Contains, IsTrue, refl, sym, ap, ◌∙◌, subst, arith}
+use Rattle.std.proofs.Common.{◌≡◌, ℕ, zero, suc, ◌≤◌, true, false, cond, List, [], ◌∷◌, map, Some, None, is_some, unwrap_or, slice_get, Contains, IsTrue, refl, sym, ap, ◌∙◌, subst, arith}
 use Rattle.std.specs.Str.{bytes_eq}
 use Rattle.std.proofs.lemmas.Bool.{false≢true}
 use Rattle.std.proofs.lemmas.List.Elements.{All-contains}
 use Rattle.std.proofs.lemmas.Option.{same_Some, slice_get_within, get_or_from_slice_get}
-use Rattle.isle_model.specs.Syntax.{Name, ConverterTree, Definition}
+use Rattle.isle_model.specs.Syntax.{Name, ConverterTree}
 use Rattle.isle_model.specs.Names.{IsDistinct}
-use Rattle.isle_model.specs.TypeTable.{builtin_names, type_names, type_id, place_from}
-use Rattle.isle_model.specs.TermTable.{type_or_first}
+use Rattle.isle_model.specs.TypeTable.{place_from}
 use Rattle.isle_tables.specs.TypeTables.{IsKnownType}
-use Rattle.isle_tables.specs.TermTables.{converter_trees, term_or_first, IsKnownConverter}
+use Rattle.isle_tables.specs.KnownTypes.{KnownTypes, type_named, known_type}
+use Rattle.isle_tables.specs.TermTables.{converter_trees, known_term, IsKnownConverter}
 use Rattle.isle_tables.specs.Laws.{ConvertersStandOnce}
 use Rattle.isle_tables.proofs.Names.{same_bytes}
 
@@ -36,17 +36,16 @@ one_place (z ∷ zs) n k x y p q =
       ] refl q
     ] refl p
 
-known_place : (defs : List Definition) (n : Name) → IsKnownType defs n → type_id defs n.text ≡ Some (type_or_first defs n)
-known_place defs n h =
-    elim (type_id defs n.text) as (λ o. IsTrue (is_some o) → o ≡ Some (unwrap_or o 0)) [
+known_place : (k : KnownTypes) (n : Name) → IsKnownType k.type_names n → type_named k n.text ≡ Some (known_type k n)
+known_place k n h =
+    elim (type_named k n.text) as (λ o. IsTrue (is_some o) → o ≡ Some (unwrap_or o 0)) [
       | None ↦ λ e. absurd (false≢true e)
-      | Some k ↦ λ _. refl
+      | Some i ↦ λ _. refl
     ] h
 
 -- known types of one id have one name
-one_type : (defs : List Definition) (a b : Name) → IsKnownType defs a → IsKnownType defs b → type_or_first defs a ≡ type_or_first defs b → a.text ≡ b.text
-one_type defs a b h k e =
-    one_place (builtin_names ++ type_names defs) 0 (type_or_first defs b) a.text b.text (known_place defs a h ∙ ap Some e) (known_place defs b k)
+one_type : (k : KnownTypes) (a b : Name) → IsKnownType k.type_names a → IsKnownType k.type_names b → known_type k a ≡ known_type k b → a.text ≡ b.text
+one_type k a b h j e = one_place k.type_names 0 (known_type k b) a.text b.text (known_place k a h ∙ ap Some e) (known_place k b j)
 
 get_mapped : {X Y : Type 0} (f : X → Y) (xs : List X) (j : ℕ) (y : Y) → slice_get (map f xs) j ≡ Some y → (x : X) × (slice_get xs j ≡ Some x) × (f x ≡ y)
 get_mapped f [] j y h = absurd (cc)
@@ -70,23 +69,23 @@ distinct_by f g xs tells d j k y p q =
     d j k (g b.0) (get_map g xs j a.0 a.1 ∙ ap Some same) (get_map g xs k b.0 b.1)
 
 pub converters_stand_once_lem : ConvertersStandOnce
-converters_stand_once_lem defs v =
+converters_stand_once_lem k defs v =
     subst (IsDistinct {X = ℕ × ℕ}) (firsts (converter_trees defs)) (distinct_by ids texts (converter_trees defs) tells v.one_converter)
   where
     ids : ConverterTree → ℕ × ℕ
-    ids c = (type_or_first defs c.inner_ty, type_or_first defs c.outer_ty)
+    ids c = (known_type k c.inner_ty, known_type k c.outer_ty)
 
     texts : ConverterTree → List ℕ × List ℕ
     texts c = (c.inner_ty.text, c.outer_ty.text)
 
     tells : (c d : ConverterTree) → Contains (converter_trees defs) c → Contains (converter_trees defs) d → ids c ≡ ids d → texts c ≡ texts d
-    tells c d h k e =
-        let a = All-contains (IsKnownConverter defs) (converter_trees defs) c v.known_converters h in
-        let b = All-contains (IsKnownConverter defs) (converter_trees defs) d v.known_converters k in
-        let inner = one_type defs c.inner_ty d.inner_ty a.1 b.1 (ap (λ (p : ℕ × ℕ). p.0) e) in
-        let outer = one_type defs c.outer_ty d.outer_ty a.2 b.2 (ap (λ (p : ℕ × ℕ). p.1) e) in
+    tells c d h j e =
+        let a = All-contains (IsKnownConverter k defs) (converter_trees defs) c v.known_converters h in
+        let b = All-contains (IsKnownConverter k defs) (converter_trees defs) d v.known_converters j in
+        let inner = one_type k c.inner_ty d.inner_ty a.1 b.1 (ap (λ (p : ℕ × ℕ). p.0) e) in
+        let outer = one_type k c.outer_ty d.outer_ty a.2 b.2 (ap (λ (p : ℕ × ℕ). p.1) e) in
         ap (λ x. (x, c.outer_ty.text)) inner ∙ ap (λ y. (d.inner_ty.text, y)) outer
 
-    firsts : (cs : List ConverterTree) → map ids cs ≡ map (λ (e : (ℕ × ℕ) × ℕ). e.0) (map (λ c. (ids c, term_or_first defs c.term)) cs)
+    firsts : (cs : List ConverterTree) → map ids cs ≡ map (λ (e : (ℕ × ℕ) × ℕ). e.0) (map (λ c. (ids c, known_term k defs c.term)) cs)
     firsts [] = refl
     firsts (c ∷ cs) = ap (λ l. ids c ∷ l) (firsts cs)

@@ -6,5 +6,6 @@ pub mod Carried
 pub mod CarriedTerms
 pub mod Names
 pub mod TypeLaws
+pub mod WellFormed
 pub mod TermLaws
 pub mod Converters

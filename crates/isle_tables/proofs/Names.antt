@@ -1,8 +1,8 @@
 -- Names that were met: each stands once, at its number, and keeps it.
-use Rattle.std.proofs.Common.{◌≡◌, ◌⊎◌, ℕ, zero, suc, ◌==◌, ◌||◌, true, false, cond, List, [], ◌∷◌, ◌++◌, length, Some, slice_get, refl, sym, ap, ◌∙◌, subst, inl, inr, ⊎_elim, eqb-true}
+use Rattle.std.proofs.Common.{◌≡◌, ◌⊎◌, ℕ, zero, suc, ◌<◌, ◌==◌, ◌||◌, true, false, cond, List, [], ◌∷◌, ◌++◌, length, Some, slice_get, refl, sym, ap, ◌∙◌, subst, inl, inr, ⊎_elim, eqb-true}
 use Rattle.std.specs.Str.{bytes_eq}
 use Rattle.std.proofs.lemmas.Bool.{false≢true, eq-eqb, cases_Bool}
-use Rattle.std.proofs.lemmas.Option.{same_Some}
+use Rattle.std.proofs.lemmas.Option.{same_Some, slice_get_within}
 use Rattle.std.proofs.lemmas.Slice.Eq.{bytes_eq-Decides}
 use Rattle.isle_model.specs.Names.{number, has_name, with_name, with_names, IsDistinct}
 use Rattle.isle_tables.proofs.Lists.{absent}
@@ -22,7 +22,17 @@ found (y ∷ ys) x e =
       | false ↦ λ _ h. found ys x h
     ] refl e
 
--- and what stands at a name's number is this name
+-- what stands among names was met
+pub has_at : (ns : List (List ℕ)) (k : ℕ) (x : List ℕ) → slice_get ns k ≡ Some x → has_name ns x ≡ true
+has_at [] k x e = absurd (cc)
+has_at (y ∷ ys) zero x e = rw ((bytes_eq-Decides y x).1 (same_Some y x e)) refl
+has_at (y ∷ ys) (suc k) x e = elim (bytes_eq y x) as (λ b. b || has_name ys x ≡ true) [ true ↦ refl | false ↦ has_at ys k x e ]
+
+-- the number of a name that was met is below their count
+pub number_below : (ns : List (List ℕ)) (x : List ℕ) → has_name ns x ≡ true → number ns x < length ns
+number_below ns x h = slice_get_within ns (number ns x) x (found ns x h)
+
+-- what stands at a name's number is this name
 at_number : (ns : List (List ℕ)) (x z : List ℕ) → slice_get ns (number ns x) ≡ Some z → z ≡ x
 at_number [] x z e = absurd (cc)
 at_number (y ∷ ys) x z e =

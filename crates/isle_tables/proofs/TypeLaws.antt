@@ -11,12 +11,11 @@ use Rattle.isle_model.specs.Syntax.{Definition}
 use Rattle.isle_model.specs.Names.{number, has_name, IsDistinct}
 use Rattle.isle_model.specs.Meaning.{look}
 use Rattle.isle_model.specs.TypeTable.{builtin_names, builtin_from, type_trees, type_names, place_from}
-use Rattle.isle_model.specs.TermTable.{decl_names, type_or_first}
+use Rattle.isle_model.specs.TermTable.{type_or_first}
 use Rattle.isle_tables.specs.TypeTables.{ConstantTree, constant_trees, names_inside, type_names_met, type_entry, last_definitions}
-use Rattle.isle_tables.specs.TermTables.{function_of}
-use Rattle.isle_tables.specs.Laws.{NamesStandOnce, NumbersStay, TypesStandAtIds, LastDefinitionCounts}
+use Rattle.isle_tables.specs.Laws.{TypesStandAtIds, LastDefinitionCounts}
 use Rattle.isle_tables.proofs.Lists.{distinct_if}
-use Rattle.isle_tables.proofs.Names.{same_bytes, same_self, same_test, has_met, has_right, get_kept, distinct_names}
+use Rattle.isle_tables.proofs.Names.{same_bytes, same_self, same_test, has_met, has_left, has_right, distinct_names}
 
 pub builtin_distinct : IsDistinct builtin_names
 builtin_distinct = distinct_if builtin_names refl
@@ -27,12 +26,6 @@ names_later defs = type_names defs ++ flat_map (λ t. names_inside t.name.text t
 
 pub type_names_distinct : (defs : List Definition) → IsDistinct (type_names_met defs)
 type_names_distinct defs = distinct_names builtin_names (names_later defs) builtin_distinct
-
-pub names_stand_once_lem : NamesStandOnce
-names_stand_once_lem defs = (type_names_distinct defs, distinct_names (type_names_met defs) (decl_names defs ++ flat_map function_of defs) (type_names_distinct defs))
-
-pub numbers_stay_lem : NumbersStay
-numbers_stay_lem defs k x h = get_kept (type_names_met defs) (decl_names defs ++ flat_map function_of defs) k x h
 
 -- past a first list, the second one
 get_past : {A : Type 0} (xs ys : List A) (n i : ℕ) → n ≡ length xs + i → slice_get (xs ++ ys) n ≡ slice_get ys i
@@ -65,6 +58,20 @@ types_stand_at_ids_lem defs i t h = (
   λ v. place_at (builtin_names ++ type_names defs) 0 (13 + i) (13 + i) t.name.text v.distinct (omega arith)
       (get_past builtin_names (type_names defs) (13 + i) i refl ∙ slice_get-map (λ u. u.name.text) (type_trees defs) i ∙ ap (option_map (λ u. u.name.text)) h),
 )
+
+-- the names of the types, and those inside them, were met
+module _ (defs : List Definition) where
+  abbrev constant_names : List (List ℕ)
+  constant_names = map (λ c. c.name.text) (constant_trees defs)
+
+  abbrev names_in_types : List (List ℕ)
+  names_in_types = flat_map (λ t. names_inside t.name.text t.value) (type_trees defs)
+
+  pub types_met : (x : List ℕ) → has_name (type_names defs) x ≡ true → has_name (type_names_met defs) x ≡ true
+  types_met x h = has_met builtin_names (names_later defs) x (has_left (type_names defs ++ names_in_types) constant_names x (has_left (type_names defs) names_in_types x h))
+
+  pub inside_met : (x : List ℕ) → has_name (flat_map (λ t. names_inside t.name.text t.value) (type_trees defs)) x ≡ true → has_name (type_names_met defs) x ≡ true
+  inside_met x h = has_met builtin_names (names_later defs) x (has_left (type_names defs ++ names_in_types) constant_names x (has_right (type_names defs) names_in_types x h))
 
 -- constants
 abbrev texts : List ConstantTree → List (List ℕ)

@@ -1,4 +1,5 @@
 pub mod TypeTables
+pub mod KnownTypes
 pub mod TermTables
 pub mod Laws
 pub mod Written

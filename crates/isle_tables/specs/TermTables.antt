@@ -1,15 +1,16 @@
 -- Which lists of definitions have a term table, and the table: the terms, the names and the converters.
 use Rattle.std.specs.Prelude.{ℕ, ◌<◌, Bool, false, not, ◌&&◌, ◌||◌, ◌≡◌, List, [], ◌∷◌, ◌++◌, length, Option, Some, None, option_map, unwrap_or, All, Contains, IsTrue, map, is_some, slice_get, if◌then◌else◌}
-use Rattle.std.specs.List.{flat_map, enumerate_from, list_any, find, position_from}
+use Rattle.std.specs.List.{flat_map, filter_map, enumerate_from, list_any, find, position_from}
 use Rattle.std.specs.Str.{bytes_eq}
-use Rattle.isle_model.specs.Syntax.{Position, Name, PatternTree, var_pattern, bind_pattern, bool_pattern, int_pattern, prim_pattern, term_pattern, wildcard_pattern, and_pattern, macro_arg, PatternTrees, no_pattern, pattern_and, TypeValueTree, primitive_value, enum_value, struct_value, DeclTree, ExtractorTree, ConverterTree, RuleTree, Definition, extractor_definition, converter_definition, extern_definition, extern_constructor, extern_extractor}
+use Rattle.isle_model.specs.Syntax.{Position, Name, PatternTree, var_pattern, bind_pattern, bool_pattern, int_pattern, prim_pattern, term_pattern, wildcard_pattern, and_pattern, macro_arg, PatternTrees, no_pattern, pattern_and, DeclTree, ExtractorTree, ConverterTree, RuleTree, Definition, extractor_definition, converter_definition, extern_definition, extern_constructor, extern_extractor}
 use Rattle.isle_model.specs.Names.{number, has_name, with_names, IsDistinct}
 use Rattle.isle_model.specs.Outcome.{then_option}
 use Rattle.isle_model.specs.Values.{field_types}
 use Rattle.isle_model.specs.Tables.{FieldEntries, VariantEntry, TypeEntry, builtin_type, primitive_type, enum_type, struct_type, ConstructorEntry, internal_constructor, external_constructor, ExtractorEntry, internal_extractor, external_extractor, variant_term, struct_term, declared_term, TermEntry}
-use Rattle.isle_model.specs.TypeTable.{type_trees, place_from}
-use Rattle.isle_model.specs.TermTable.{decl_trees, rule_trees, decl_names, root_name, is_rule_of, is_declared, decl_flags, type_or_first}
-use Rattle.isle_tables.specs.TypeTables.{full_name, type_names_met, IsKnownType, type_table}
+use Rattle.isle_model.specs.TypeTable.{place_from}
+use Rattle.isle_model.specs.TermTable.{decl_trees, rule_trees, decl_names, root_name, is_rule_of, is_declared, decl_flags}
+use Rattle.isle_tables.specs.TypeTables.{IsKnownType}
+use Rattle.isle_tables.specs.KnownTypes.{KnownTypes, known_type}
 
 -- an external constructor: its term and its function
 pub record ConstructorTree : Type 0 where
@@ -65,27 +66,28 @@ extractor_trees defs = flat_map extractor_of defs
 abbrev pub converter_trees : List Definition → List ConverterTree
 converter_trees defs = flat_map converter_of defs
 
--- the names of the terms that a type makes: the full name of each variant, or the struct's name
-abbrev pub made_by : List ℕ → TypeValueTree → List (List ℕ)
-made_by ty (primitive_value name at) = []
-made_by ty (enum_value variants at) = map (λ v. full_name ty v.name.text) variants
-made_by ty (struct_value fields at) = ty ∷ []
+-- the names of the terms that a type makes, by number: the full name of each variant, or the struct's name
+abbrev pub made_by : TypeEntry → List ℕ
+made_by (builtin_type place) = []
+made_by (primitive_type id name at) = []
+made_by (enum_type name id is_extern is_nodebug variants at) = map (λ v. v.full_name) variants
+made_by (struct_type name id is_extern is_nodebug fields at) = name ∷ []
 
 -- the names of all terms, each at its id: the declared terms, then, types ascending, each variant and struct
-abbrev pub term_names : List Definition → List (List ℕ)
-term_names defs = decl_names defs ++ flat_map (λ t. made_by t.name.text t.value) (type_trees defs)
+abbrev pub term_names : KnownTypes → List Definition → List (List ℕ)
+term_names k defs = decl_names defs ++ filter_map (slice_get k.names) (flat_map made_by k.types)
 
--- the names of the type table, then the declared terms, then the external functions, by first meeting
-abbrev pub term_names_met : List Definition → List (List ℕ)
-term_names_met defs = with_names (type_names_met defs) (decl_names defs ++ flat_map function_of defs)
+-- the names met before, then the declared terms, then the external functions, by first meeting
+abbrev pub term_names_met : KnownTypes → List Definition → List (List ℕ)
+term_names_met k defs = with_names k.names (decl_names defs ++ flat_map function_of defs)
 
 -- the id of the term of a name
-abbrev pub term_id : List Definition → List ℕ → Option ℕ
-term_id defs x = place_from 0 x (term_names defs)
+abbrev pub term_named : KnownTypes → List Definition → List ℕ → Option ℕ
+term_named k defs x = place_from 0 x (term_names k defs)
 
--- the id of the term whose name has a number
-abbrev pub term_of_number : List Definition → List (List ℕ) → ℕ → Option ℕ
-term_of_number defs names k = then_option (slice_get names k) (term_id defs)
+-- the id of the term whose name has this number among names
+abbrev pub term_of_number : KnownTypes → List Definition → List (List ℕ) → ℕ → Option ℕ
+term_of_number k defs names n = then_option (slice_get names n) (term_named k defs)
 
 -- an argument in the place of a form, where there is one
 abbrev pub argument_or : Option ℕ → Position → PatternTree → PatternTree
@@ -160,8 +162,8 @@ abbrev pub IsDeclaredTerm : List Definition → Name → Type 0
 IsDeclaredTerm defs n = IsTrue (is_declared defs (Some n))
 
 -- a name is that of a term: a declared one, a variant or a struct
-abbrev pub IsKnownTerm : List Definition → Name → Type 0
-IsKnownTerm defs n = IsTrue (is_some (term_id defs n.text))
+abbrev pub IsKnownTerm : KnownTypes → List Definition → Name → Type 0
+IsKnownTerm k defs n = IsTrue (is_some (term_named k defs n.text))
 
 -- a term has rules
 abbrev pub has_rules : List Definition → List ℕ → Bool
@@ -183,30 +185,29 @@ external_constructors defs = map (λ c. c.term.text) (constructor_trees defs)
 abbrev pub converted_pairs : List Definition → List (List ℕ × List ℕ)
 converted_pairs defs = map (λ c. (c.inner_ty.text, c.outer_ty.text)) (converter_trees defs)
 
--- the template of a term calls an internal extractor
+-- the pattern of an internal extractor of a term names a term
 pub record Uses (defs : List Definition) (t u : List ℕ) : Type 0 where
   pub definition : ExtractorTree
   pub there : Contains (extractor_trees defs) definition
   pub of_term : definition.term.text ≡ t
   pub calls : Contains (map (λ n. n.text) (terms_in definition.template)) u
-  pub internal : Contains (internal_extractors defs) u
 
--- a term comes to an internal extractor through one or more templates
+-- a term comes to a term through one or more internal extractors
 pub data Reaches (defs : List Definition) : List ℕ → List ℕ → Type 0 where
   directly : {t u : List ℕ} → Uses defs t u → Reaches defs t u
   through : {t u v : List ℕ} → Uses defs t u → Reaches defs u v → Reaches defs t v
 
--- no internal extractor comes back to itself
+-- no term comes back to itself through internal extractors
 abbrev pub IsAcyclic : List Definition → Type 0
 IsAcyclic defs = (t : List ℕ) → Reaches defs t t → ⊥
 
 -- the types of a declaration's arguments are known
-abbrev pub HasKnownArguments : List Definition → DeclTree → Type 0
-HasKnownArguments defs d = All (IsKnownType defs) d.arg_tys
+abbrev pub HasKnownArguments : KnownTypes → DeclTree → Type 0
+HasKnownArguments k d = All (IsKnownType k.type_names) d.arg_tys
 
 -- the type of a declaration's result is known
-abbrev pub HasKnownResult : List Definition → DeclTree → Type 0
-HasKnownResult defs d = IsKnownType defs d.ret_ty
+abbrev pub HasKnownResult : KnownTypes → DeclTree → Type 0
+HasKnownResult k d = IsKnownType k.type_names d.ret_ty
 
 -- a declaration is not multi and partial at once; it may be neither
 abbrev pub IsNotBothMultiAndPartial : DeclTree → Type 0
@@ -225,8 +226,8 @@ abbrev pub IsOfPlainTerm : List Definition → ExtractorTree → Type 0
 IsOfPlainTerm defs e = IsTrue (not (is_declared_multi defs e.term.text))
 
 -- the pattern of an internal extractor names known terms
-abbrev pub NamesKnownTerms : List Definition → ExtractorTree → Type 0
-NamesKnownTerms defs e = All (IsKnownTerm defs) (terms_in e.template)
+abbrev pub NamesKnownTerms : KnownTypes → List Definition → ExtractorTree → Type 0
+NamesKnownTerms k defs e = All (IsKnownTerm k defs) (terms_in e.template)
 
 -- the pattern of an internal extractor holds no macro argument: these come with its template
 abbrev pub HoldsNoMacroArg : ExtractorTree → Type 0
@@ -237,18 +238,18 @@ abbrev pub UsesDeclaredArguments : List Definition → ExtractorTree → Type 0
 UsesDeclaredArguments defs e = All (λ i. i < argument_count defs e.term.text) (arguments_in (extractor_template e))
 
 -- a converter is a known term, from a known type to a known type
-abbrev pub IsKnownConverter : List Definition → ConverterTree → Type 0
-IsKnownConverter defs c = IsKnownTerm defs c.term × IsKnownType defs c.inner_ty × IsKnownType defs c.outer_ty
+abbrev pub IsKnownConverter : KnownTypes → List Definition → ConverterTree → Type 0
+IsKnownConverter k defs c = IsKnownTerm k defs c.term × IsKnownType k.type_names c.inner_ty × IsKnownType k.type_names c.outer_ty
 
--- what a list of definitions must meet to have a term table: no two terms have one name, variants and structs included;
+-- what a list of definitions, read with these types, must meet to have a term table: no two terms have one name, variants and structs included;
 -- the types of declarations are known, and none is both multi and partial; rules, extractors and external functions are
 -- those of declared terms; no term has rules and an external constructor, none has two external constructors or two
 -- extractors, and a multi term has no internal extractor; templates are as said above, and none comes back to itself;
 -- converters are known, one for each pair of types
-pub record IsValidTerms (defs : List Definition) : Type 0 where
-  pub distinct : IsDistinct (term_names defs)
-  pub types_of_arguments : All (HasKnownArguments defs) (decl_trees defs)
-  pub types_of_results : All (HasKnownResult defs) (decl_trees defs)
+pub record IsValidTerms (k : KnownTypes) (defs : List Definition) : Type 0 where
+  pub distinct : IsDistinct (term_names k defs)
+  pub types_of_arguments : All (HasKnownArguments k) (decl_trees defs)
+  pub types_of_results : All (HasKnownResult k) (decl_trees defs)
   pub marks : All IsNotBothMultiAndPartial (decl_trees defs)
   pub roots : All (HasDeclaredRoot defs) (rule_trees defs)
   pub terms_of_extractors : All (λ e. IsDeclaredTerm defs e.term) (extractor_trees defs)
@@ -258,11 +259,11 @@ pub record IsValidTerms (defs : List Definition) : Type 0 where
   pub one_constructor : IsDistinct (external_constructors defs)
   pub one_extractor : IsDistinct (internal_extractors defs ++ external_extractors defs)
   pub plain_terms : All (IsOfPlainTerm defs) (extractor_trees defs)
-  pub known_terms : All (NamesKnownTerms defs) (extractor_trees defs)
+  pub known_terms : All (NamesKnownTerms k defs) (extractor_trees defs)
   pub no_macro_args : All HoldsNoMacroArg (extractor_trees defs)
   pub declared_arguments : All (UsesDeclaredArguments defs) (extractor_trees defs)
   pub acyclic : IsAcyclic defs
-  pub known_converters : All (IsKnownConverter defs) (converter_trees defs)
+  pub known_converters : All (IsKnownConverter k defs) (converter_trees defs)
   pub one_converter : IsDistinct (converted_pairs defs)
 
 -- whether a term has something that makes it: rules, an external constructor or an extractor
@@ -305,28 +306,28 @@ extractor_kind defs names x =
     else option_map (λ e. external_extractor (number names e.function.text) e.infallible e.at) (find (λ e. bytes_eq e.term.text x) (external_trees defs))
 
 -- the entry of a declared term of an id
-abbrev pub decl_as_term : List Definition → List (List ℕ) → DeclTree → ℕ → TermEntry
-decl_as_term defs names d id = record {
+abbrev pub decl_as_term : KnownTypes → List Definition → List (List ℕ) → DeclTree → ℕ → TermEntry
+decl_as_term k defs names d id = record {
   id = id;
   at = d.at;
   name = number names d.term.text;
-  arg_tys = map (type_or_first defs) d.arg_tys;
-  ret_ty = type_or_first defs d.ret_ty;
+  arg_tys = map (known_type k) d.arg_tys;
+  ret_ty = known_type k d.ret_ty;
   kind = declared_term (decl_flags d) (constructor_kind defs names d.term.text) (extractor_kind defs names d.term.text);
 }
 
 -- all terms of a valid list, when their ids are known: the declared ones, then, types ascending, each variant and struct
-abbrev pub terms_in_order : List Definition → List (ℕ → TermEntry)
-terms_in_order defs = map (decl_as_term defs (term_names_met defs)) (decl_trees defs) ++ flat_map terms_made (type_table defs)
+abbrev pub terms_in_order : KnownTypes → List Definition → List (ℕ → TermEntry)
+terms_in_order k defs = map (decl_as_term k defs (term_names_met k defs)) (decl_trees defs) ++ flat_map terms_made k.types
 
 -- the terms of a valid list, each at its id
-abbrev pub term_table : List Definition → List TermEntry
-term_table defs = map (λ p. p.1 p.0) (enumerate_from 0 (terms_in_order defs))
+abbrev pub term_table : KnownTypes → List Definition → List TermEntry
+term_table k defs = map (λ p. p.1 p.0) (enumerate_from 0 (terms_in_order k defs))
 
--- the id of a known term
-abbrev pub term_or_first : List Definition → Name → ℕ
-term_or_first defs n = unwrap_or (term_id defs n.text) 0
+-- the id of a known term: 0 where it isn't known, which no valid list has
+abbrev pub known_term : KnownTypes → List Definition → Name → ℕ
+known_term k defs n = unwrap_or (term_named k defs n.text) 0
 
 -- the term that converts a type into another one, by inner and outer type
-abbrev pub converters : List Definition → List ((ℕ × ℕ) × ℕ)
-converters defs = map (λ c. ((type_or_first defs c.inner_ty, type_or_first defs c.outer_ty), term_or_first defs c.term)) (converter_trees defs)
+abbrev pub converters : KnownTypes → List Definition → List ((ℕ × ℕ) × ℕ)
+converters k defs = map (λ c. ((known_type k c.inner_ty, known_type k c.outer_ty), known_term k defs c.term)) (converter_trees defs)

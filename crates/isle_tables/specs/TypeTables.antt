@@ -4,7 +4,7 @@ use Rattle.std.specs.List.{flat_map, enumerate_from}
 use Rattle.isle_model.specs.Syntax.{Name, FieldTree, TupleFieldTree, FieldTrees, unit_fields, struct_fields, tuple_fields, VariantTree, TypeTree, TypeValueTree, primitive_value, enum_value, struct_value, Definition, extern_definition, extern_const}
 use Rattle.isle_model.specs.Names.{number, has_name, with_names, IsDistinct}
 use Rattle.isle_model.specs.Tables.{FieldEntry, TupleFieldEntry, FieldEntries, unit_entries, struct_entries, tuple_entries, VariantEntry, TypeEntry, primitive_type, enum_type, struct_type}
-use Rattle.isle_model.specs.TypeTable.{builtin_names, type_trees, type_names, type_id, builtin_from}
+use Rattle.isle_model.specs.TypeTable.{builtin_names, type_trees, type_names, place_from, builtin_from}
 use Rattle.isle_model.specs.TermTable.{type_or_first}
 
 -- a named constant: its name and the name of its type
@@ -78,9 +78,13 @@ is_primitive (primitive_value name at) = true
 is_primitive (enum_value variants at) = false
 is_primitive (struct_value fields at) = false
 
--- a name is that of a type
-abbrev pub IsKnownType : List Definition → Name → Type 0
-IsKnownType defs n = IsTrue (is_some (type_id defs n.text))
+-- the names of all types, each at its id
+abbrev pub all_type_names : List Definition → List (List ℕ)
+all_type_names defs = builtin_names ++ type_names defs
+
+-- a name is one of these names of types
+abbrev pub IsKnownType : List (List ℕ) → Name → Type 0
+IsKnownType types n = IsTrue (is_some (place_from 0 n.text types))
 
 -- a type is marked neither extern nor nodebug
 abbrev pub IsUnmarked : TypeTree → Type 0
@@ -104,17 +108,17 @@ HasDistinctFields fields = IsDistinct (field_names fields)
 
 -- the types of all fields of a list are known
 abbrev pub HasKnownTypes : List Definition → FieldTrees → Type 0
-HasKnownTypes defs fields = All (IsKnownType defs) (field_type_names fields)
+HasKnownTypes defs fields = All (IsKnownType (all_type_names defs)) (field_type_names fields)
 
 -- the type of a constant is known
 abbrev pub IsOfKnownType : List Definition → ConstantTree → Type 0
-IsOfKnownType defs c = IsKnownType defs c.ty
+IsOfKnownType defs c = IsKnownType (all_type_names defs) c.ty
 
 -- what a list of definitions must meet to have a type table: no two types have one name, the built-in ones included; a
 -- primitive type is neither extern nor nodebug, and another type not both; the names of an enum's variants are
 -- distinct, and those of the fields of a list; the type of each field and of each constant is known
 pub record IsValidTypes (defs : List Definition) : Type 0 where
-  pub distinct : IsDistinct (builtin_names ++ type_names defs)
+  pub distinct : IsDistinct (all_type_names defs)
   pub primitives : All IsUnmarkedIfPrimitive (type_trees defs)
   pub marks : All HasAtMostOneMark (type_trees defs)
   pub variants : All HasDistinctVariants (type_trees defs)

@@ -4,7 +4,7 @@
 #![tactic(auto)]
 
 ghost use Rattle.isle_tables.specs.Agreement.{TermsAgree, TypesAgree};
-ghost use Rattle.isle_tables.specs.Laws.{ConvertersStandOnce, LastDefinitionCounts, NamesStandOnce, NumbersStay, TermsHaveNames, TermsStandAtIds, TypesStandAtIds};
+ghost use Rattle.isle_tables.specs.Laws.{ConvertersStandOnce, LastDefinitionCounts, NamesStandOnce, NumbersStay, OwnTypesAreWellFormed, TermsAreFound, TermsHaveNames, TermsStandAtIds, TypesAreFound, TypesMakeTerms, TypesStandAtIds};
 ghost use Rattle.isle_tables.specs.WorkedTerms.{Alone, ByFunction, Chained, Converted, Doubled, Effects, RefusedTerms, Structs, Templates};
 ghost use Rattle.isle_tables.specs.WorkedTypes.{Constants, RefusedTypes, ThreeTypes, TwoTypes};
 
@@ -84,12 +84,17 @@ pub fn terms_agree()
     ensures { TermsAgree }
 {}
 
-/// A name has one number.
+/// The types of a list with valid types are well formed.
+pub fn own_types_are_well_formed()
+    ensures { OwnTypesAreWellFormed }
+{}
+
+/// A name has one number, in the type table and in the term table.
 pub fn names_stand_once()
     ensures { NamesStandOnce }
 {}
 
-/// A name of the type table keeps its number in the term table.
+/// A name that was met before keeps its number in the term table.
 pub fn numbers_stay()
     ensures { NumbersStay }
 {}
@@ -97,6 +102,11 @@ pub fn numbers_stay()
 /// The i-th type, from 0, stands at 13 + i, which in a valid list is the id of its name.
 pub fn types_stand_at_ids()
     ensures { TypesStandAtIds }
+{}
+
+/// The id of the name of a well-formed type is the type's.
+pub fn types_are_found()
+    ensures { TypesAreFound }
 {}
 
 /// Of the definitions of a constant the last one counts.
@@ -112,6 +122,16 @@ pub fn terms_stand_at_ids()
 /// Each term has the number of its name, variants and structs too.
 pub fn terms_have_names()
     ensures { TermsHaveNames }
+{}
+
+/// In a valid list, the id of the name of a term is the term's.
+pub fn terms_are_found()
+    ensures { TermsAreFound }
+{}
+
+/// The terms of a list that is read with its own types: the declared ones, then those that its types make.
+pub fn types_make_terms()
+    ensures { TypesMakeTerms }
 {}
 
 /// In a valid list no two converters have one pair of types.

@@ -1,4 +1,4 @@
-use Rattle.isle_tables.proofs.TypeLaws.{names_stand_once_lem}
+use Rattle.isle_tables.proofs.TermLaws.{names_stand_once_lem}
 use Rattle.isle_tables.proofs.names_stand_once.Goals as goal
 
 pub returns : goal.returns

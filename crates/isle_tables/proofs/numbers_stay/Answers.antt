@@ -1,4 +1,4 @@
-use Rattle.isle_tables.proofs.TypeLaws.{numbers_stay_lem}
+use Rattle.isle_tables.proofs.TermLaws.{numbers_stay_lem}
 use Rattle.isle_tables.proofs.numbers_stay.Goals as goal
 
 pub returns : goal.returns
