@@ -1,3 +1,11 @@
 pub mod Lists
+pub mod Acyclic
 pub mod WorkedTypes
 pub mod WorkedTerms
+pub mod Carried
+pub mod CarriedTerms
+pub mod Names
+pub mod TypeLaws
+pub mod WellFormed
+pub mod TermLaws
+pub mod Converters

@@ -1,5 +1,8 @@
 pub mod TypeTables
+pub mod KnownTypes
 pub mod TermTables
+pub mod Laws
 pub mod Written
 pub mod WorkedTypes
 pub mod WorkedTerms
+pub mod Agreement

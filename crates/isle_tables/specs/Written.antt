@@ -1,6 +1,6 @@
 -- Forms of definitions, written short: every place inside a definition is the same offset of the first file.
 use Rattle.std.specs.Prelude.{ℕ, pos, false, List, [], ◌∷◌, None, map}
-use Rattle.isle_model.specs.Syntax.{Position, Name, PatternTree, term_pattern, PatternTrees, no_pattern, pattern_and, int_expr, FieldTree, TupleFieldTree, FieldTrees, struct_fields, VariantTree, TypeTree, primitive_value, enum_value, struct_value, DeclTree, ExtractorTree, Definition, type_definition, declaration, extractor_definition, converter_definition, rule_definition, extern_definition, extern_constructor, extern_extractor, extern_const}
+use Rattle.isle_model.specs.Syntax.{Position, Name, PatternTree, term_pattern, PatternTrees, no_pattern, pattern_and, int_expr, FieldTree, TupleFieldTree, FieldTrees, struct_fields, VariantTree, TypeTree, primitive_value, enum_value, struct_value, DeclTree, ExtractorTree, Definition, declaration, extractor_definition, converter_definition, rule_definition, extern_definition, extern_constructor, extern_extractor, extern_const}
 
 abbrev pub at : ℕ → Position
 at n = record { file = 0; offset = n }
@@ -27,9 +27,6 @@ enum n t variants = record { name = name n t; is_extern = false; is_nodebug = fa
 
 abbrev pub struct : ℕ → List ℕ → FieldTrees → TypeTree
 struct n t fields = record { name = name n t; is_extern = false; is_nodebug = false; value = struct_value fields (at n); at = at n }
-
-abbrev pub type_of : TypeTree → Definition
-type_of t = type_definition t
 
 abbrev pub constant : ℕ → List ℕ → List ℕ → Definition
 constant n c ty = extern_definition (extern_const (name n c) (name n ty) (at n))
