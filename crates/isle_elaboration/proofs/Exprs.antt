@@ -9,7 +9,8 @@ use Rattle.isle_elaboration.specs.Expansions.{wrapped_expr}
 use Rattle.isle_elaboration.specs.Typings.{Typing, plain, made_into, followed, counted}
 use Rattle.isle_elaboration.specs.Elaborated.{typed_let, bound_let, before_rest, elaborated_expr, expr_with, args_with, lets_with, deeper_expr}
 use Rattle.isle_elaboration.specs.Elaborates.{ElaboratesExpr, ElaboratesArgs, ElaboratesLets, a_call, converted_call, a_variable, converted_variable, truth_expr, integer_expr, constant_expr, let_in, no_arg, an_arg, no_def, a_def}
-use Rattle.isle_elaboration.proofs.Typings.{typing, ne-eqb, then_gives, made_gives, scoped_gives, counted_gives, followed_gives, if_gives, expected_itself, expected_gives}
+use Rattle.isle_elaboration.specs.Agreement.{typing}
+use Rattle.isle_elaboration.proofs.Typings.{ne-eqb, then_gives, made_gives, scoped_gives, counted_gives, followed_gives, if_gives, expected_itself, expected_gives}
 
 bound_gives : (x : List ℕ) (ty : ℕ) (o : Option (Typing TypedExpr)) {r : Typing (TypedLets → TypedLets)}
     → bound_let x ty o ≡ Some r → (a : Typing TypedExpr) × (o ≡ Some a) × (typing (typed_let_and (length a.scope.vars) ty a.made) (bound a.scope x ty) a.expansions ≡ r)

@@ -1,3 +1,4 @@
 mod Typings
 mod Patterns
 mod Exprs
+mod Rules

@@ -7,7 +7,8 @@ use Rattle.isle_model.specs.Syntax.{PatternTree, var_pattern, bind_pattern, bool
 use Rattle.isle_model.specs.Typed.{TypedPattern, match_bind, TypedPatterns}
 use Rattle.isle_elaboration.specs.Setting.{Setting, Scope, bound, var_of, term_of, constant_type, is_matchable, template_in, pattern_converter}
 use Rattle.isle_elaboration.specs.Expansions.{expanded, wrapped_pattern}
-use Rattle.isle_elaboration.proofs.Typings.{typing, ne-eqb, eqb-ne, then_gives, made_gives, counted_gives, followed_gives, cond_gives, if_gives, template_gives}
+use Rattle.isle_elaboration.specs.Agreement.{typing}
+use Rattle.isle_elaboration.proofs.Typings.{ne-eqb, eqb-ne, then_gives, made_gives, counted_gives, followed_gives, cond_gives, if_gives, template_gives}
 use Rattle.isle_elaboration.specs.Typings.{Typing}
 use Rattle.isle_elaboration.specs.Elaborated.{var_pattern_at, bound_after, by_template, or_expanded, elaborated_pattern, elaborated_parts, pattern_with, parts_with, each_with, deeper_pattern}
 use Rattle.isle_elaboration.specs.Elaborates.{ElaboratesPattern, ElaboratesParts, ElaboratesEach, new_name, bound_name, binding, a_truth, an_integer, a_constant, a_term, a_template, a_conversion, anything, all_of, no_part, part, no_more, one_more}

@@ -3,3 +3,4 @@ pub mod Expansions
 pub mod Typings
 pub mod Elaborated
 pub mod Elaborates
+pub mod Agreement
