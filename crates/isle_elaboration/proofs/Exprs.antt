@@ -1,13 +1,13 @@
 -- Expressions: the rules of typing and the function say the same.
-use Rattle.std.proofs.Common.{◌≡◌, ℕ, zero, suc, ◌+◌, Bool, true, false, cond, eqb, List, [], ◌∷◌, length, Option, Some, None, slice_get, subst, ⊎_elim, refl, sym, ap, ◌∙◌, arith}
+use Rattle.std.proofs.Common.{◌≡◌, ℕ, zero, suc, ◌+◌, List, [], ◌∷◌, length, Option, Some, None, subst, ⊎_elim, refl, sym, ap, ◌∙◌, arith}
 use Rattle.std.proofs.lemmas.Option.{same_Some}
 use Rattle.isle_model.specs.Syntax.{ExprTree, term_expr, var_expr, bool_expr, int_expr, prim_expr, let_expr, ExprTrees, no_expr, expr_and, LetTrees, no_let, let_and}
-use Rattle.isle_model.specs.Tables.{Flags, TermEntry}
+use Rattle.isle_model.specs.Tables.{Flags}
 use Rattle.isle_model.specs.Typed.{TypedExpr, make_var, TypedExprs, TypedLets, typed_let_and}
-use Rattle.isle_elaboration.specs.Setting.{Setting, Scope, met, bound, closed, var_of, term_of, type_of_name, constant_type, bool_type, is_expected, is_callable, expr_converter}
+use Rattle.isle_elaboration.specs.Setting.{Setting, Scope, met, bound, closed, var_of, term_of, type_of_name, constant_type, bool_type, is_expected, is_callable}
 use Rattle.isle_elaboration.specs.Expansions.{wrapped_expr}
-use Rattle.isle_elaboration.specs.Typings.{Typing, plain, made_into, followed, counted}
-use Rattle.isle_elaboration.specs.Elaborated.{typed_let, bound_let, before_rest, elaborated_expr, expr_with, args_with, lets_with, deeper_expr}
+use Rattle.isle_elaboration.specs.Typings.{Typing, plain, followed, counted}
+use Rattle.isle_elaboration.specs.Elaborated.{typed_let, bound_let, elaborated_expr, args_with, lets_with, deeper_expr}
 use Rattle.isle_elaboration.specs.Elaborates.{ElaboratesExpr, ElaboratesArgs, ElaboratesLets, a_call, converted_call, a_variable, converted_variable, truth_expr, integer_expr, constant_expr, let_in, no_arg, an_arg, no_def, a_def}
 use Rattle.isle_elaboration.specs.Agreement.{typing}
 use Rattle.isle_elaboration.proofs.Typings.{ne-eqb, then_gives, made_gives, scoped_gives, counted_gives, followed_gives, if_gives, expected_itself, expected_gives}

@@ -1,14 +1,14 @@
 -- If-lets and rules: the rules of typing and the function say the same.
-use Rattle.std.proofs.Common.{◌≡◌, ℕ, zero, suc, ◌+◌, ◌-◌, ◌≤◌, Bool, true, false, cond, List, [], ◌∷◌, Option, Some, None, subst, refl, sym, ap, ◌∙◌, arith, nat_le}
+use Rattle.std.proofs.Common.{◌≡◌, ℕ, zero, suc, ◌+◌, ◌-◌, ◌≤◌, List, [], ◌∷◌, Option, Some, None, subst, refl, sym, ap, ◌∙◌, arith, nat_le}
 use Rattle.std.proofs.lemmas.Option.{same_Some}
 use Rattle.std.proofs.lemmas.Bool.{le-leb, leb-true}
-use Rattle.isle_model.specs.Syntax.{Name, IfLetTree, RuleTree}
+use Rattle.isle_model.specs.Syntax.{IfLetTree, RuleTree}
 use Rattle.isle_model.specs.Tables.{Flags, TermEntry}
 use Rattle.isle_model.specs.Typed.{TypedIfLet, TypedRule}
 use Rattle.isle_model.specs.TermTable.{root_name}
 use Rattle.isle_elaboration.specs.Setting.{Setting, Scope, opened, term_of, declared_flags, on_lhs, expr_type}
 use Rattle.isle_elaboration.specs.Typings.{Typing, followed}
-use Rattle.isle_elaboration.specs.Elaborated.{elaborated_pattern, elaborated_parts, elaborated_expr, elaborated_iflet, elaborated_iflets, elaborated_sides, elaborated_rule, rule_of_term, Sides, sides_of, last_sides, typed_iflet, root_parts, finished, rule_of_sides, with_own_name, may_have_priority, few_enough, typed_rule, most_nested, most_expansions}
+use Rattle.isle_elaboration.specs.Elaborated.{elaborated_pattern, elaborated_parts, elaborated_expr, elaborated_iflet, elaborated_iflets, elaborated_sides, elaborated_rule, rule_of_term, Sides, sides_of, last_sides, typed_iflet, root_parts, finished, rule_of_sides, with_own_name, may_have_priority, few_enough, most_nested, most_expansions}
 use Rattle.isle_elaboration.specs.Elaborates.{ElaboratesIfLets, no_iflet, an_iflet, ElaboratesRule, a_rule}
 use Rattle.isle_elaboration.specs.Agreement.{PatternsAgree, ExprsAgree, RulesAgree, TypedWithinLimits, MoreMayNest, PatternsOneWay, ExprsOneWay, RulesOneWay, typing}
 use Rattle.isle_elaboration.proofs.Typings.{then_gives, followed_gives, if_gives}

@@ -4,3 +4,6 @@ pub mod Typings
 pub mod Elaborated
 pub mod Elaborates
 pub mod Agreement
+pub mod Samples
+pub mod Rows
+pub mod Refused
