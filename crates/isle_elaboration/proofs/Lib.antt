@@ -2,3 +2,5 @@ mod Typings
 mod Patterns
 mod Exprs
 mod Rules
+mod Names
+mod Carried

@@ -7,3 +7,4 @@ pub mod Agreement
 pub mod Samples
 pub mod Rows
 pub mod Refused
+pub mod Carried

@@ -5,6 +5,7 @@
 
 ghost use Rattle.isle_elaboration.specs.Agreement.{PatternsAgree, ExprsAgree, RulesAgree, TypedWithinLimits, MoreMayNest, PatternsOneWay, ExprsOneWay, RulesOneWay};
 ghost use Rattle.isle_elaboration.specs.Rows.{ConstEqBecomes, FallBecomes, EqualBecomes, VariantEqBecomes, CycleBecomes, ConflictBecomes, ExtractBecomes, PartialBecomes, EffectsBecomes, MultiBecomes};
+ghost use Rattle.isle_elaboration.specs.Carried.{CarriedRulesAgree};
 ghost use Rattle.isle_elaboration.specs.Refused.{IfLetHasNone, IfLetBecomes, PartialHasNone, BoundTwiceHasNone, LiteralHasNone, MultiPriorityHasNone, MacroArgHasNone, MultiExtractorsStand, LetShadows, LetNamesAreMet, ConvertedBecomes, ConverterHasNone, EndlessHasNone, EndlessBecomes, ExpansionsDouble, ManyMayNest, TemplateVariablesAreTheRules};
 
 /// A pattern becomes by the rules of typing what the function gives, and nothing where it gives nothing.
@@ -45,6 +46,11 @@ pub fn exprs_one_way()
 /// A rule becomes one typed rule at most.
 pub fn rules_one_way()
     ensures { RulesOneWay }
+{}
+
+/// The rules that the model's first elaboration carries become the same typed rules, without an expansion.
+pub fn carried_rules_agree()
+    ensures { CarriedRulesAgree }
 {}
 
 /// A constant, and the same name in two arguments.
