@@ -4,3 +4,4 @@ mod Exprs
 mod Rules
 mod Names
 mod Carried
+mod Doubling

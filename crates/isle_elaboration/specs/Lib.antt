@@ -8,3 +8,4 @@ pub mod Samples
 pub mod Rows
 pub mod Refused
 pub mod Carried
+pub mod Doubling

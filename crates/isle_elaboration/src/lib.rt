@@ -6,6 +6,7 @@
 ghost use Rattle.isle_elaboration.specs.Agreement.{PatternsAgree, ExprsAgree, RulesAgree, TypedWithinLimits, MoreMayNest, PatternsOneWay, ExprsOneWay, RulesOneWay};
 ghost use Rattle.isle_elaboration.specs.Rows.{ConstEqBecomes, FallBecomes, EqualBecomes, VariantEqBecomes, CycleBecomes, ConflictBecomes, ExtractBecomes, PartialBecomes, EffectsBecomes, MultiBecomes};
 ghost use Rattle.isle_elaboration.specs.Carried.{CarriedRulesAgree};
+ghost use Rattle.isle_elaboration.specs.Doubling.{NestedUsesDouble, LimitIsMet};
 ghost use Rattle.isle_elaboration.specs.Refused.{IfLetHasNone, IfLetBecomes, PartialHasNone, BoundTwiceHasNone, LiteralHasNone, MultiPriorityHasNone, MacroArgHasNone, MultiExtractorsStand, LetShadows, LetNamesAreMet, ConvertedBecomes, ConverterHasNone, EndlessHasNone, EndlessBecomes, ExpansionsDouble, ManyMayNest, TemplateVariablesAreTheRules};
 
 /// A pattern becomes by the rules of typing what the function gives, and nothing where it gives nothing.
@@ -186,4 +187,15 @@ pub fn many_may_nest()
 /// A variable of a template that is no argument is one of the rule.
 pub fn template_variables_are_the_rules()
     ensures { TemplateVariablesAreTheRules }
+{}
+
+/// Nested uses of a template that uses its argument twice take 2 to their number, less 1: 16 uses are within the limit
+/// on expansions, 17 aren't.
+pub fn nested_uses_double()
+    ensures { NestedUsesDouble }
+{}
+
+/// 65,536 expansions may stand in a rule, and no more.
+pub fn limit_is_met()
+    ensures { LimitIsMet }
 {}
