@@ -1,14 +1,12 @@
 -- How many expansions nested uses of a template take that uses its argument twice.
-use Rattle.std.proofs.Common.{◌≡◌, ℕ, zero, suc, ◌+◌, ◌-◌, ◌<◌, ◌≤◌, true, false, List, [], ◌∷◌, Option, Some, None, option_map, pos, codes, nat_le, refl, sym, ap, subst, ◌∙◌, arith}
+use Rattle.std.proofs.Common.{◌≡◌, ℕ, zero, suc, ◌+◌, ◌-◌, ◌<◌, ◌≤◌, false, [], ◌∷◌, Some, None, pos, codes, refl, ap, subst, ◌∙◌, arith}
 use Rattle.std.proofs.lemmas.Bool.{le-leb, lt-leb}
-use Rattle.isle_model.specs.Syntax.{PatternTree, and_pattern, PatternTrees, no_pattern, pattern_and}
-use Rattle.isle_model.specs.Typed.{TypedPattern, TypedRule, TypedVar}
-use Rattle.isle_elaboration.specs.Setting.{Setting, Scope, opened, bound, var_of, term_of}
-use Rattle.isle_elaboration.specs.Typings.{Typing}
-use Rattle.isle_elaboration.specs.Elaborated.{elaborated_rule, few_enough, typed_rule, most_nested, most_expansions}
-use Rattle.isle_elaboration.specs.Elaborates.{ElaboratesPattern, new_name, bound_name, a_template, anything, all_of, no_part, part, no_more, one_more, ElaboratesRule, a_rule, integer_expr, no_iflet}
-use Rattle.isle_elaboration.specs.Samples.{p_var, p_term, p_any, x_int, rule, names_with, u8, var}
-use Rattle.isle_elaboration.specs.Refused.{inside}
+use Rattle.isle_model.specs.Syntax.{PatternTree}
+use Rattle.isle_model.specs.Typed.{TypedPattern, TypedRule}
+use Rattle.isle_elaboration.specs.Setting.{Scope, opened, bound}
+use Rattle.isle_elaboration.specs.Elaborated.{elaborated_rule}
+use Rattle.isle_elaboration.specs.Elaborates.{ElaboratesPattern, new_name, bound_name, a_template, anything, all_of, no_part, part, no_more, one_more, a_rule, integer_expr, no_iflet}
+use Rattle.isle_elaboration.specs.Samples.{p_term, p_any, x_int, rule, names_with, u8, var}
 use Rattle.isle_elaboration.specs.Agreement.{typing}
 use Rattle.isle_elaboration.specs.Doubling.{doubled, twice_in_three, expansions_of, nested, once_more, NestedUsesDouble, LimitIsMet}
 use Rattle.isle_elaboration.proofs.Patterns.{raised}

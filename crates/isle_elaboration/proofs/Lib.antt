@@ -5,3 +5,4 @@ mod Rules
 mod Names
 mod Carried
 mod Doubling
+mod Results

@@ -1,5 +1,5 @@
 -- A template that uses its argument twice, and how many expansions nested uses of it take.
-use Rattle.std.specs.Prelude.{◌≡◌, ℕ, zero, suc, pos, ◌+◌, ◌≤◌, List, [], ◌∷◌, Option, Some, None, codes, option_map}
+use Rattle.std.specs.Prelude.{◌≡◌, ℕ, zero, suc, pos, ◌+◌, ◌≤◌, [], ◌∷◌, Option, Some, None, codes, option_map}
 use Rattle.isle_model.specs.Syntax.{PatternTree}
 use Rattle.isle_elaboration.specs.Setting.{Setting}
 use Rattle.isle_elaboration.specs.Elaborated.{typed_rule}

@@ -9,3 +9,4 @@ pub mod Rows
 pub mod Refused
 pub mod Carried
 pub mod Doubling
+pub mod Results

@@ -1,9 +1,9 @@
 -- Samples that have no typed rules, and samples of scope, conversion and expansion.
 use Rattle.std.specs.Prelude.{◌≡◌, ℕ, pos, zero, suc, Bool, true, false, List, [], ◌∷◌, Option, Some, None, codes, option_map}
-use Rattle.isle_model.specs.Syntax.{PatternTree, let_expr, no_let, let_and, RuleTree}
+use Rattle.isle_model.specs.Syntax.{bool_pattern, prim_pattern, PatternTree, let_expr, no_let, let_and, RuleTree}
 use Rattle.isle_model.specs.Tables.{primitive_type}
 use Rattle.isle_model.specs.Typed.{match_bind, match_term, match_any, match_and, make_term, make_var, make_int, make_let, no_typed_let, typed_let_and}
-use Rattle.isle_elaboration.specs.Setting.{Setting}
+use Rattle.isle_elaboration.specs.Setting.{Setting, bool_type}
 use Rattle.isle_elaboration.specs.Elaborated.{TypedRules, names_of_rule, typed_rule}
 use Rattle.isle_elaboration.specs.Samples.{at, name, p_var, p_bind, p_int, p_term, p_any, p_and, p_arg, x_var, x_int, x_term, rule, rule_first, iflet, flags, no_flags, entry, by_rules, by_constructor, by_extractor, by_pattern, tables, names_with, u8, q_list, e_list, var, typed}
 use Rattle.isle_elaboration.specs.Rows.{Become, of_f}
@@ -205,3 +205,19 @@ TemplateVariablesAreTheRules =
       names = names_with (codes "d" ∷ codes "f" ∷ codes "x" ∷ codes "z" ∷ []);
     }))
     × (names_of_rule (of_template with_own) own_rule (names_with (codes "d" ∷ codes "f" ∷ [])) ≡ Some (codes "x" ∷ codes "z" ∷ []))
+
+-- (extern const $X u16), (decl f (u8 bool) u8), (decl w (u8) u8), (extern extractor w w_fn), with w as the converter between
+-- any two of these types, and (rule (f $X true) 1), (rule (f true true) 1), (rule (f 1 1) 1): neither is converted
+abbrev pub one_rule : PatternTree → PatternTree → List RuleTree
+one_rule p q = rule 4 (p_term (codes "f") (p ∷ q ∷ [])) (x_int (pos 1)) ∷ []
+
+abbrev pub of_constant : Setting
+of_constant =
+    record (tables [] [] (entry 0 14 (u8 ∷ bool_type ∷ []) u8 (by_rules no_flags) ∷ entry 1 15 (u8 ∷ []) u8 (by_extractor no_flags 16) ∷ []))
+    { constants = (13, 2) ∷ []; converters = ((2, u8), 1) ∷ ((bool_type, u8), 1) ∷ ((u8, bool_type), 1) ∷ [] }
+
+abbrev pub LiteralsAreNotConverted : Type 0
+LiteralsAreNotConverted =
+    Become of_constant (codes "X" ∷ codes "f" ∷ codes "w" ∷ codes "w_fn" ∷ []) (one_rule (prim_pattern (name (codes "X")) (at 0)) (bool_pattern true (at 0))) None
+    × Become of_constant (codes "X" ∷ codes "f" ∷ codes "w" ∷ codes "w_fn" ∷ []) (one_rule (bool_pattern true (at 0)) (bool_pattern true (at 0))) None
+    × Become of_constant (codes "X" ∷ codes "f" ∷ codes "w" ∷ codes "w_fn" ∷ []) (one_rule (p_int (pos 1)) (p_int (pos 1))) None

@@ -1,11 +1,11 @@
 -- Samples, and the typed rules that their trees become.
 use Rattle.std.specs.Prelude.{◌≡◌, ℕ, pos, true, false, List, [], ◌∷◌, ◌++◌, Option, Some, None, codes}
-use Rattle.isle_model.specs.Syntax.{RuleTree}
+use Rattle.isle_model.specs.Syntax.{bool_pattern, prim_pattern, prim_expr, RuleTree}
 use Rattle.isle_model.specs.Tables.{enum_type, struct_entries, unit_entries, variant_term}
-use Rattle.isle_model.specs.Typed.{match_bind, match_var, match_int, match_term, match_any, match_and, make_term, make_var, make_int}
-use Rattle.isle_elaboration.specs.Setting.{Setting}
+use Rattle.isle_model.specs.Typed.{match_bool, match_prim, make_prim, match_bind, match_var, match_int, match_term, match_any, match_and, make_term, make_var, make_int}
+use Rattle.isle_elaboration.specs.Setting.{Setting, bool_type}
 use Rattle.isle_elaboration.specs.Elaborated.{TypedRules, elaborated_rules}
-use Rattle.isle_elaboration.specs.Samples.{at, p_var, p_bind, p_int, p_term, p_any, p_and, x_var, x_int, x_term, rule, rule_first, flags, no_flags, entry, by_rules, by_constructor, by_extractor, tables, names_with, u8, q_list, e_list, var, typed}
+use Rattle.isle_elaboration.specs.Samples.{at, name, p_var, p_bind, p_int, p_term, p_any, p_and, x_var, x_int, x_term, rule, rule_first, flags, no_flags, entry, by_rules, by_constructor, by_extractor, tables, names_with, u8, q_list, e_list, var, typed}
 
 -- what a sample's rules become
 abbrev pub Become : Setting → List (List ℕ) → List RuleTree → Option TypedRules → Type 0
@@ -161,4 +161,14 @@ MultiBecomes =
           typed 0 3 1 (pos 0) None (var 0 16 u8 ∷ []) (match_bind u8 0 (match_any u8) ∷ []) (make_term u8 0 (e_list (make_var u8 0 ∷ [])))
           ∷ typed 1 4 1 (pos 0) None [] (match_int u8 (pos 1) ∷ []) (make_int u8 (pos 9)) ∷ [];
       names = names_with (codes "m" ∷ codes "f" ∷ codes "m_fn" ∷ codes "x" ∷ []);
+    }))
+
+-- (extern const $X u8), (decl f (u8 bool) u8), (rule (f $X true) $X)
+abbrev pub ConstantsBecome : Type 0
+ConstantsBecome =
+    Become (record (tables [] [] (entry 0 14 (u8 ∷ bool_type ∷ []) u8 (by_rules no_flags) ∷ [])) { constants = (13, u8) ∷ [] }) (codes "X" ∷ codes "f" ∷ [])
+    (rule 2 (p_term (codes "f") (prim_pattern (name (codes "X")) (at 0) ∷ bool_pattern true (at 0) ∷ [])) (prim_expr (name (codes "X")) (at 0)) ∷ [])
+    (Some (record {
+      rules = typed 0 2 0 (pos 0) (Some 14) [] (match_prim u8 13 ∷ match_bool bool_type true ∷ []) (make_prim u8 13) ∷ [];
+      names = names_with (codes "X" ∷ codes "f" ∷ []);
     }))

@@ -4,10 +4,11 @@
 #![tactic(auto)]
 
 ghost use Rattle.isle_elaboration.specs.Agreement.{PatternsAgree, ExprsAgree, RulesAgree, TypedWithinLimits, MoreMayNest, PatternsOneWay, ExprsOneWay, RulesOneWay};
-ghost use Rattle.isle_elaboration.specs.Rows.{ConstEqBecomes, FallBecomes, EqualBecomes, VariantEqBecomes, CycleBecomes, ConflictBecomes, ExtractBecomes, PartialBecomes, EffectsBecomes, MultiBecomes};
+ghost use Rattle.isle_elaboration.specs.Rows.{ConstEqBecomes, FallBecomes, EqualBecomes, VariantEqBecomes, CycleBecomes, ConflictBecomes, ExtractBecomes, PartialBecomes, EffectsBecomes, MultiBecomes, ConstantsBecome};
 ghost use Rattle.isle_elaboration.specs.Carried.{CarriedRulesAgree};
 ghost use Rattle.isle_elaboration.specs.Doubling.{NestedUsesDouble, LimitIsMet};
-ghost use Rattle.isle_elaboration.specs.Refused.{IfLetHasNone, IfLetBecomes, PartialHasNone, BoundTwiceHasNone, LiteralHasNone, MultiPriorityHasNone, MacroArgHasNone, MultiExtractorsStand, LetShadows, LetNamesAreMet, ConvertedBecomes, ConverterHasNone, EndlessHasNone, EndlessBecomes, ExpansionsDouble, ManyMayNest, TemplateVariablesAreTheRules};
+ghost use Rattle.isle_elaboration.specs.Results.{TypesAreExpected, VariablesAtPlaces, NamesStay};
+ghost use Rattle.isle_elaboration.specs.Refused.{IfLetHasNone, IfLetBecomes, PartialHasNone, BoundTwiceHasNone, LiteralHasNone, MultiPriorityHasNone, MacroArgHasNone, MultiExtractorsStand, LetShadows, LetNamesAreMet, ConvertedBecomes, ConverterHasNone, EndlessHasNone, EndlessBecomes, ExpansionsDouble, ManyMayNest, TemplateVariablesAreTheRules, LiteralsAreNotConverted};
 
 /// A pattern becomes by the rules of typing what the function gives, and nothing where it gives nothing.
 pub fn patterns_agree()
@@ -47,6 +48,21 @@ pub fn exprs_one_way()
 /// A rule becomes one typed rule at most.
 pub fn rules_one_way()
     ensures { RulesOneWay }
+{}
+
+/// A pattern is made at the type asked for, an expression at the type expected.
+pub fn types_are_expected()
+    ensures { TypesAreExpected }
+{}
+
+/// The variables of a rule stand at their numbers.
+pub fn variables_at_places()
+    ensures { VariablesAtPlaces }
+{}
+
+/// Names keep their numbers, and stay distinct.
+pub fn names_stay()
+    ensures { NamesStay }
 {}
 
 /// The rules that the model's first elaboration carries become the same typed rules, without an expansion.
@@ -198,4 +214,14 @@ pub fn nested_uses_double()
 /// 65,536 expansions may stand in a rule, and no more.
 pub fn limit_is_met()
     ensures { LimitIsMet }
+{}
+
+/// Constants, and a boolean literal.
+pub fn constants_become()
+    ensures { ConstantsBecome }
+{}
+
+/// Literals and constants stand at their own types alone, whatever converters there are.
+pub fn literals_are_not_converted()
+    ensures { LiteralsAreNotConverted }
 {}
