@@ -6,3 +6,4 @@ mod Names
 mod Carried
 mod Doubling
 mod Results
+mod Formed

@@ -50,7 +50,7 @@ module _ (e : Setting) (multi : Bool) where
     each_reaches no_more = stays
     each_reaches (one_more g h) = on (pattern_reaches g) (each_reaches h)
 
-  pattern_at_type : {d ty n : ℕ} {p : PatternTree} {s t : Scope} {q : TypedPattern} → ElaboratesPattern e multi d p ty s q t n → pattern_type q ≡ ty
+  pub pattern_at_type : {d ty n : ℕ} {p : PatternTree} {s t : Scope} {q : TypedPattern} → ElaboratesPattern e multi d p ty s q t n → pattern_type q ≡ ty
   pattern_at_type (new_name h) = refl
   pattern_at_type (bound_name h i) = refl
   pattern_at_type (binding g h) = refl
@@ -84,7 +84,7 @@ module _ (e : Setting) (flags : Flags) where
     lets_reach (a_def {own = own} {name = name} h g i) = on (then_bound name.text own (on (then_met name.text stays) (expr_reaches g))) (lets_reach i)
 
   -- where a type is expected, the expression has it
-  expr_at_type : {d ty n : ℕ} {o : Option ℕ} {x : ExprTree} {s t : Scope} {q : TypedExpr} → o ≡ Some ty → ElaboratesExpr e flags d x o s q t n → expr_type q ≡ ty
+  pub expr_at_type : {d ty n : ℕ} {o : Option ℕ} {x : ExprTree} {s t : Scope} {q : TypedExpr} → o ≡ Some ty → ElaboratesExpr e flags d x o s q t n → expr_type q ≡ ty
   expr_at_type {ty = ty} o (a_call {entry = entry} h i j g) = (Decides-eqb entry.ret_ty ty).0 (sym (ap (λ v. is_expected v entry.ret_ty) o) ∙ i)
   expr_at_type o (converted_call h i j g) = expr_at_type o g
   expr_at_type {ty = ty} o (a_variable {v = v} h i) = (Decides-eqb v.ty ty).0 (sym (ap (λ w. is_expected w v.ty) o) ∙ i)

@@ -10,3 +10,4 @@ pub mod Refused
 pub mod Carried
 pub mod Doubling
 pub mod Results
+pub mod Formed

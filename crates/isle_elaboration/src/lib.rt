@@ -8,6 +8,7 @@ ghost use Rattle.isle_elaboration.specs.Rows.{ConstEqBecomes, FallBecomes, Equal
 ghost use Rattle.isle_elaboration.specs.Carried.{CarriedRulesAgree};
 ghost use Rattle.isle_elaboration.specs.Doubling.{NestedUsesDouble, LimitIsMet};
 ghost use Rattle.isle_elaboration.specs.Results.{TypesAreExpected, VariablesAtPlaces, NamesStay};
+ghost use Rattle.isle_elaboration.specs.Formed.{RulesAreFormed};
 ghost use Rattle.isle_elaboration.specs.Refused.{IfLetHasNone, IfLetBecomes, PartialHasNone, BoundTwiceHasNone, LiteralHasNone, MultiPriorityHasNone, MacroArgHasNone, MultiExtractorsStand, LetShadows, LetNamesAreMet, ConvertedBecomes, ConverterHasNone, EndlessHasNone, EndlessBecomes, ExpansionsDouble, ManyMayNest, TemplateVariablesAreTheRules, LiteralsAreNotConverted};
 
 /// A pattern becomes by the rules of typing what the function gives, and nothing where it gives nothing.
@@ -63,6 +64,12 @@ pub fn variables_at_places()
 /// Names keep their numbers, and stay distinct.
 pub fn names_stay()
     ensures { NamesStay }
+{}
+
+/// A rule that elaborates hangs together: its terms have as many parts as arguments, all at their types, and each
+/// variable is bound once, before it is used.
+pub fn rules_are_formed()
+    ensures { RulesAreFormed }
 {}
 
 /// The rules that the model's first elaboration carries become the same typed rules, without an expansion.
