@@ -1,22 +1,20 @@
 -- Rules that elaborate hang together.
-use Rattle.std.proofs.Common.{◌≡◌, ℕ, zero, suc, ◌+◌, ◌<◌, ◌≤◌, Bool, true, false, cond, eqb, List, [], ◌∷◌, ◌++◌, length, map, Option, Some, None, slice_get, refl, sym, ap, subst, ◌∙◌, arith}
+use Rattle.std.proofs.Common.{◌≡◌, ℕ, zero, suc, ◌+◌, ◌<◌, ◌≤◌, Bool, true, false, cond, eqb, List, [], ◌∷◌, ◌++◌, length, map, Option, Some, None, slice_get, refl, sym, subst, ◌∙◌, arith}
 use Rattle.std.proofs.lemmas.Bool.{and_parts, eq-eqb}
-use Rattle.std.proofs.lemmas.Bool.Decides.{Decides-eqb}
 use Rattle.std.proofs.lemmas.List.{length_push}
 use Rattle.std.proofs.lemmas.Option.{same_Some, none-some}
 use Rattle.isle_model.specs.Syntax.{PatternTree, PatternTrees, ExprTree, ExprTrees, LetTrees, IfLetTree}
 use Rattle.isle_model.specs.Outcome.{then_option}
 use Rattle.isle_model.specs.Tables.{Flags, TermEntry, TermKindEntry, variant_term, struct_term, declared_term}
-use Rattle.isle_model.specs.Meaning.{look}
 use Rattle.isle_model.specs.Program.{Program}
 use Rattle.isle_model.specs.Typed.{TypedPattern, TypedPatterns, no_typed_pattern, typed_pattern_and, TypedExpr, TypedExprs, TypedLets, TypedVar, TypedIfLet, TypedRule}
 use Rattle.isle_model.specs.Elaboration.{new_var, var_named}
 use Rattle.isle_model.specs.Names.{number, with_name}
 use Rattle.isle_elaboration.specs.Setting.{Setting, Scope, bound, entry_named, bool_type, expr_type, has_constructor, has_extractor, is_callable, is_matchable, on_lhs}
 use Rattle.isle_elaboration.specs.Elaborated.{typed_list}
-use Rattle.isle_elaboration.specs.Elaborates.{ElaboratesPattern, ElaboratesParts, ElaboratesEach, new_name, bound_name, binding, a_truth, an_integer, a_constant, a_term, a_template, a_conversion, anything, all_of, no_part, part, no_more, one_more, ElaboratesExpr, ElaboratesArgs, ElaboratesLets, a_call, converted_call, a_variable, converted_variable, truth_expr, integer_expr, constant_expr, let_in, no_arg, an_arg, no_def, a_def, ElaboratesIfLets, no_iflet, an_iflet, ElaboratesRule, a_rule}
+use Rattle.isle_elaboration.specs.Elaborates.{ElaboratesPattern, ElaboratesParts, ElaboratesEach, new_name, bound_name, binding, a_truth, an_integer, a_constant, a_term, a_template, a_conversion, anything, all_of, no_part, part, no_more, one_more, ElaboratesExpr, ElaboratesArgs, ElaboratesLets, a_call, converted_call, a_variable, converted_variable, truth_expr, integer_expr, constant_expr, let_in, no_arg, an_arg, no_def, a_def, ElaboratesIfLets, no_iflet, an_iflet, a_rule}
 use Rattle.isle_elaboration.specs.Results.{pattern_type}
-use Rattle.isle_elaboration.specs.Formed.{var_type, with_new, formed_pattern, formed_parts, formed_each, is_formed_expr, are_formed_args, formed_lets, formed_list, formed_iflets, is_formed_rule, program_in, RulesAreFormed}
+use Rattle.isle_elaboration.specs.Formed.{var_type, formed_pattern, formed_parts, formed_each, is_formed_expr, are_formed_args, formed_lets, formed_list, formed_iflets, program_in, RulesAreFormed}
 use Rattle.isle_elaboration.proofs.Typings.{ne-eqb}
 use Rattle.isle_elaboration.proofs.Results.{pattern_at_type, expr_at_type}
 

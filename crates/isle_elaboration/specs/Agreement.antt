@@ -5,8 +5,8 @@ use Rattle.isle_model.specs.Tables.{Flags}
 use Rattle.isle_model.specs.Typed.{TypedPattern, TypedExpr, TypedRule}
 use Rattle.isle_elaboration.specs.Setting.{Setting, Scope}
 use Rattle.isle_elaboration.specs.Typings.{Typing}
-use Rattle.isle_elaboration.specs.Elaborated.{elaborated_pattern, elaborated_expr, elaborated_rule, typed_rule, most_nested, most_expansions}
-use Rattle.isle_elaboration.specs.Elaborates.{ElaboratesPattern, ElaboratesExpr, ElaboratesRule}
+use Rattle.isle_elaboration.specs.Elaborated.{elaborated_pattern, elaborated_expr, elaborated_rule, typed_rule, typed_rules, most_nested, most_expansions}
+use Rattle.isle_elaboration.specs.Elaborates.{ElaboratesPattern, ElaboratesExpr, ElaboratesRule, ElaboratesRules}
 
 abbrev pub typing : {X : Type 0} → X → Scope → ℕ → Typing X
 typing q t n = record { made = q; scope = t; expansions = n }
@@ -54,3 +54,9 @@ abbrev pub RulesOneWay : Type 0
 RulesOneWay =
     (e : Setting) (c d id : ℕ) (r : RuleTree) (names : List (List ℕ)) (p q : TypedRule) (t u : Scope) (n m : ℕ)
     → ElaboratesRule e c id r names p t n → ElaboratesRule e d id r names q u m → (p ≡ q) × (t ≡ u) × (n ≡ m)
+
+-- the rules of a list have typed rules exactly where each has a derivation within the limits
+abbrev pub ListsAgree : Type 0
+ListsAgree =
+    (e : Setting) (id : ℕ) (rs : List RuleTree) (names : List (List ℕ)) (qs : List TypedRule) (after : List (List ℕ))
+    → ElaboratesRules e id rs names qs after ↔ (typed_rules e id rs names ≡ Some (record { rules = qs; names = after }))

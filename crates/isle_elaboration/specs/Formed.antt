@@ -1,6 +1,6 @@
 -- Typed rules that hang together: terms have the extractor or constructor that is used and as many parts as arguments,
 -- all at their types, and each variable is bound once, before it is used.
-use Rattle.std.specs.Prelude.{◌≡◌, ℕ, Bool, true, false, ◌&&◌, List, [], ◌∷◌, Option, Some, None, is_none, slice_get, if◌then◌else◌}
+use Rattle.std.specs.Prelude.{◌≡◌, ℕ, pos, Bool, true, false, ◌&&◌, List, [], ◌∷◌, Option, Some, None, is_none, slice_get, if◌then◌else◌}
 use Rattle.std.specs.Bool.{◌==◌}
 use Rattle.isle_model.specs.Syntax.{RuleTree}
 use Rattle.isle_model.specs.Outcome.{then_option}
@@ -13,6 +13,8 @@ use Rattle.isle_model.specs.Typed.{TypedPattern, match_bind, match_var, match_bo
 use Rattle.isle_elaboration.specs.Setting.{Setting, Scope, bool_type, expr_type, has_constructor, has_extractor}
 use Rattle.isle_elaboration.specs.Elaborates.{ElaboratesRule}
 use Rattle.isle_elaboration.specs.Results.{pattern_type}
+use Rattle.isle_elaboration.specs.Rows.{of_f}
+use Rattle.isle_elaboration.specs.Samples.{u8, typed, q_list, e_list}
 
 -- the type of a variable among those that can be used
 abbrev pub var_type : List (ℕ × ℕ) → ℕ → Option ℕ
@@ -106,3 +108,23 @@ RulesAreFormed =
     (e : Setting) (rules : List TypedRule) → ((k : ℕ) (t : TermEntry) → slice_get e.terms k ≡ Some t → t.id ≡ k)
     → (d id : ℕ) (r : RuleTree) (names : List (List ℕ)) (q : TypedRule) (t : Scope) (n : ℕ)
     → ElaboratesRule e d id r names q t n → is_formed_rule (program_in e rules) q ≡ true
+
+-- (decl f (u8 u8) u8): rules that don't hang together
+abbrev pub of_two : Program
+of_two = program_in (of_f (u8 ∷ u8 ∷ [])) []
+
+abbrev pub with_sides : List TypedPattern → TypedExpr → TypedRule
+with_sides args rhs = typed 0 1 0 (pos 0) None [] args rhs
+
+-- a variable that is used before it is bound, or bound twice, or used at another type, or not bound at all; a pattern
+-- for one of two arguments; a term without an extractor in a pattern; a right side of another type
+abbrev pub OthersAreNotFormed : Type 0
+OthersAreNotFormed =
+    (is_formed_rule of_two (with_sides (match_var u8 0 ∷ match_bind u8 0 (match_any u8) ∷ []) (make_int u8 (pos 1))) ≡ false)
+    × (is_formed_rule of_two (with_sides (match_bind u8 0 (match_any u8) ∷ match_bind u8 0 (match_any u8) ∷ []) (make_int u8 (pos 1))) ≡ false)
+    × (is_formed_rule of_two (with_sides (match_bind u8 0 (match_any u8) ∷ match_any u8 ∷ []) (make_var 2 0)) ≡ false)
+    × (is_formed_rule of_two (with_sides (match_any u8 ∷ match_any u8 ∷ []) (make_var u8 0)) ≡ false)
+    × (is_formed_rule of_two (with_sides (match_any u8 ∷ []) (make_int u8 (pos 1))) ≡ false)
+    × (is_formed_rule of_two (with_sides (match_term u8 0 (q_list (match_any u8 ∷ match_any u8 ∷ [])) ∷ match_any u8 ∷ []) (make_int u8 (pos 1))) ≡ false)
+    × (is_formed_rule of_two (with_sides (match_any u8 ∷ match_any u8 ∷ []) (make_int 2 (pos 1))) ≡ false)
+    × (is_formed_rule of_two (with_sides (match_bind u8 0 (match_any u8) ∷ match_var u8 0 ∷ []) (make_term u8 0 (e_list (make_var u8 0 ∷ make_int u8 (pos 1) ∷ [])))) ≡ true)

@@ -3,12 +3,12 @@
 //! A function here has an empty body: its clause is a law, and its proof stands in `proofs/`.
 #![tactic(auto)]
 
-ghost use Rattle.isle_elaboration.specs.Agreement.{PatternsAgree, ExprsAgree, RulesAgree, TypedWithinLimits, MoreMayNest, PatternsOneWay, ExprsOneWay, RulesOneWay};
+ghost use Rattle.isle_elaboration.specs.Agreement.{PatternsAgree, ExprsAgree, RulesAgree, TypedWithinLimits, MoreMayNest, PatternsOneWay, ExprsOneWay, RulesOneWay, ListsAgree};
 ghost use Rattle.isle_elaboration.specs.Rows.{ConstEqBecomes, FallBecomes, EqualBecomes, VariantEqBecomes, CycleBecomes, ConflictBecomes, ExtractBecomes, PartialBecomes, EffectsBecomes, MultiBecomes, ConstantsBecome};
 ghost use Rattle.isle_elaboration.specs.Carried.{CarriedRulesAgree};
 ghost use Rattle.isle_elaboration.specs.Doubling.{NestedUsesDouble, LimitIsMet};
 ghost use Rattle.isle_elaboration.specs.Results.{TypesAreExpected, VariablesAtPlaces, NamesStay};
-ghost use Rattle.isle_elaboration.specs.Formed.{RulesAreFormed};
+ghost use Rattle.isle_elaboration.specs.Formed.{RulesAreFormed, OthersAreNotFormed};
 ghost use Rattle.isle_elaboration.specs.Refused.{IfLetHasNone, IfLetBecomes, PartialHasNone, BoundTwiceHasNone, LiteralHasNone, MultiPriorityHasNone, MacroArgHasNone, MultiExtractorsStand, LetShadows, LetNamesAreMet, ConvertedBecomes, ConverterHasNone, EndlessHasNone, EndlessBecomes, ExpansionsDouble, ManyMayNest, TemplateVariablesAreTheRules, LiteralsAreNotConverted};
 
 /// A pattern becomes by the rules of typing what the function gives, and nothing where it gives nothing.
@@ -29,6 +29,11 @@ pub fn rules_agree()
 /// Within the limits on expansions too.
 pub fn typed_within_limits()
     ensures { TypedWithinLimits }
+{}
+
+/// A list of rules becomes by the rules of typing what the function gives, names included.
+pub fn lists_agree()
+    ensures { ListsAgree }
 {}
 
 /// A rule that elaborates within some nested expansions elaborates alike within more.
@@ -70,6 +75,11 @@ pub fn names_stay()
 /// variable is bound once, before it is used.
 pub fn rules_are_formed()
     ensures { RulesAreFormed }
+{}
+
+/// Rules that don't hang together are told apart.
+pub fn others_are_not_formed()
+    ensures { OthersAreNotFormed }
 {}
 
 /// The rules that the model's first elaboration carries become the same typed rules, without an expansion.
