@@ -4,14 +4,14 @@ use Rattle.std.specs.Str.{bytes_eq}
 use Rattle.std.proofs.lemmas.Bool.{false≢true}
 use Rattle.std.proofs.lemmas.Bool.Decides.{Decides-eqb}
 use Rattle.std.proofs.lemmas.Option.{same_Some, none-some}
-use Rattle.isle_model.specs.Syntax.{Name, PatternTree, PatternTrees, ExprTree, ExprTrees, LetTrees, IfLetTree}
+use Rattle.isle_model.specs.Syntax.{RuleTree, Name, PatternTree, PatternTrees, ExprTree, ExprTrees, LetTrees, IfLetTree}
 use Rattle.isle_model.specs.Names.{has_name, with_name, IsDistinct}
 use Rattle.isle_model.specs.Tables.{Flags}
-use Rattle.isle_model.specs.Typed.{TypedPattern, TypedPatterns, TypedExpr, TypedExprs, TypedLets, TypedVar, TypedIfLet}
+use Rattle.isle_model.specs.Typed.{TypedRule, TypedPattern, TypedPatterns, TypedExpr, TypedExprs, TypedLets, TypedVar, TypedIfLet}
 use Rattle.isle_elaboration.specs.Setting.{Setting, Scope, met, bound, closed, expr_type, on_lhs, is_expected, bool_type}
-use Rattle.isle_elaboration.specs.Elaborated.{with_own_name}
-use Rattle.isle_elaboration.specs.Elaborates.{ElaboratesPattern, ElaboratesParts, ElaboratesEach, new_name, bound_name, binding, a_truth, an_integer, a_constant, a_term, a_template, a_conversion, anything, all_of, no_part, part, no_more, one_more, ElaboratesExpr, ElaboratesArgs, ElaboratesLets, a_call, converted_call, a_variable, converted_variable, truth_expr, integer_expr, constant_expr, let_in, no_arg, an_arg, no_def, a_def, ElaboratesIfLets, no_iflet, an_iflet, a_rule}
-use Rattle.isle_elaboration.specs.Results.{pattern_type, TypesAreExpected, VariablesAtPlaces, NamesStay}
+use Rattle.isle_elaboration.specs.Elaborated.{most_nested, with_own_name}
+use Rattle.isle_elaboration.specs.Elaborates.{ElaboratesRules, no_rule, one_rule, ElaboratesPattern, ElaboratesParts, ElaboratesEach, new_name, bound_name, binding, a_truth, an_integer, a_constant, a_term, a_template, a_conversion, anything, all_of, no_part, part, no_more, one_more, ElaboratesExpr, ElaboratesArgs, ElaboratesLets, a_call, converted_call, a_variable, converted_variable, truth_expr, integer_expr, constant_expr, let_in, no_arg, an_arg, no_def, a_def, ElaboratesIfLets, no_iflet, an_iflet, a_rule}
+use Rattle.isle_elaboration.specs.Results.{pattern_type, TypesAreExpected, VariablesAtPlaces, NamesStay, NamesStayInLists}
 use Rattle.isle_elaboration.proofs.Names.{same_self}
 
 -- what may happen to a scope: names are met and bound, and lets are closed
@@ -172,3 +172,11 @@ variables_at_places e d id r names q t n (a_rule {flags = flags} h i j k f g x) 
 pub names_stay : NamesStay
 names_stay e d id r names q t n (a_rule {flags = flags} h i j k f g x) =
     names_follow (own_reaches r.name (on (parts_reach e flags.multi f) (on (iflets_reach e flags g) (expr_reaches e flags x))))
+
+lists_follow : (e : Setting) {id : ℕ} {rs : List RuleTree} {names after : List (List ℕ)} {qs : List TypedRule} → ElaboratesRules e id rs names qs after → Follows names after
+lists_follow e (no_rule {names = names}) = (([], append_none names), λ d. d)
+lists_follow e (one_rule {id = id} {n = n} {r = r} {names = names} {after = after} {q = q} {t = t} g h i) =
+    both_follow names t.names after (names_stay e most_nested id r names q t n g) (lists_follow e i)
+
+pub names_stay_in_lists : NamesStayInLists
+names_stay_in_lists e id rs names qs after g = lists_follow e g

@@ -80,8 +80,8 @@ module _ (e : Setting) where
       let p = if_gives (may_have_priority f.0 r) _ f.2 in
       let l = finished_gives id r n.0 (elaborated_sides e f.0 d r n.0 (opened names)) p.1 in
       let a = followed_gives sides_of (elaborated_parts e f.0.multi d (root_parts r.pattern) n.0.arg_tys (opened names))
-      (λ a. followed last_sides (elaborated_iflets e f.0 d r.iflets a.scope) (λ b. elaborated_expr e f.0 d r.expr (Some n.0.ret_ty) b.scope)) l.1 in
-      let b = followed_gives last_sides (elaborated_iflets e f.0 d r.iflets a.0.scope) (λ b. elaborated_expr e f.0 d r.expr (Some n.0.ret_ty) b.scope) a.3 in
+      (λ a. followed last_sides (elaborated_iflets e f.0 d r.iflets a.scope) (λ b. elaborated_expr e f.0 d r.expr (Some n.0.ret_ty) b.scope)) {r = l.0} l.1 in
+      let b = followed_gives last_sides (elaborated_iflets e f.0 d r.iflets a.0.scope) (λ b. elaborated_expr e f.0 d r.expr (Some n.0.ret_ty) b.scope) {r = a.1} a.3 in
       rule_from d id r names m.0 n.0 f.0 m.1 n.1 f.1 p.0 a.0 b.0 b.1 a.1 l.0 q b.4 a.4 l.2
       (patterns.parts_sound e f.0.multi d (root_parts r.pattern) n.0.arg_tys (opened names) a.0 a.2) (sound_iflets e f.0 d r.iflets a.0.scope b.0 b.2)
       (exprs.sound e f.0 d r.expr (Some n.0.ret_ty) b.0.scope b.1 b.3)

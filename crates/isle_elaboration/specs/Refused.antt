@@ -1,10 +1,10 @@
 -- Samples that have no typed rules, and samples of scope, conversion and expansion.
 use Rattle.std.specs.Prelude.{◌≡◌, ℕ, pos, zero, suc, Bool, true, false, List, [], ◌∷◌, Option, Some, None, codes, option_map}
-use Rattle.isle_model.specs.Syntax.{bool_pattern, prim_pattern, PatternTree, let_expr, no_let, let_and, RuleTree}
+use Rattle.isle_model.specs.Syntax.{ExprTree, bool_pattern, prim_pattern, PatternTree, let_expr, no_let, let_and, RuleTree}
 use Rattle.isle_model.specs.Tables.{primitive_type}
-use Rattle.isle_model.specs.Typed.{match_bind, match_term, match_any, match_and, make_term, make_var, make_int, make_let, no_typed_let, typed_let_and}
+use Rattle.isle_model.specs.Typed.{TypedExpr, match_bind, match_term, match_any, match_and, make_term, make_var, make_int, make_let, no_typed_let, typed_let_and}
 use Rattle.isle_elaboration.specs.Setting.{Setting, bool_type}
-use Rattle.isle_elaboration.specs.Elaborated.{TypedRules, names_of_rule, typed_rule}
+use Rattle.isle_elaboration.specs.Elaborated.{elaborated_rule, TypedRules, names_of_rule, typed_rule}
 use Rattle.isle_elaboration.specs.Samples.{at, name, p_var, p_bind, p_int, p_term, p_any, p_and, p_arg, x_var, x_int, x_term, rule, rule_first, iflet, flags, no_flags, entry, by_rules, by_constructor, by_extractor, by_pattern, tables, names_with, u8, q_list, e_list, var, typed}
 use Rattle.isle_elaboration.specs.Rows.{Become, of_f}
 
@@ -221,3 +221,29 @@ LiteralsAreNotConverted =
     Become of_constant (codes "X" ∷ codes "f" ∷ codes "w" ∷ codes "w_fn" ∷ []) (one_rule (prim_pattern (name (codes "X")) (at 0)) (bool_pattern true (at 0))) None
     × Become of_constant (codes "X" ∷ codes "f" ∷ codes "w" ∷ codes "w_fn" ∷ []) (one_rule (bool_pattern true (at 0)) (bool_pattern true (at 0))) None
     × Become of_constant (codes "X" ∷ codes "f" ∷ codes "w" ∷ codes "w_fn" ∷ []) (one_rule (p_int (pos 1)) (p_int (pos 1))) None
+
+-- (type V (primitive V)), (decl w (u16) V), (decl wide (u8) u16), (decl g (u8) u8), each with an external constructor, w and
+-- wide as converters, (decl f (u8) V), (rule (f x) x), (rule (f x) (g x)): a conversion inside a conversion
+abbrev pub chained : Setting
+chained =
+    record (tables (primitive_type 13 13 (at 0) ∷ []) (13 ∷ [])
+    (entry 0 14 (2 ∷ []) 13 (by_constructor no_flags 18) ∷ entry 1 15 (u8 ∷ []) 2 (by_constructor no_flags 19) ∷ entry 2 16 (u8 ∷ []) u8 (by_constructor no_flags 20)
+    ∷ entry 3 17 (u8 ∷ []) 13 (by_rules no_flags) ∷ []))
+    { converters = ((u8, 13), 0) ∷ ((u8, 2), 1) ∷ [] }
+
+abbrev pub chained_names : List (List ℕ)
+chained_names = codes "V" ∷ codes "w" ∷ codes "wide" ∷ codes "g" ∷ codes "f" ∷ codes "w_fn" ∷ codes "wide_fn" ∷ codes "g_fn" ∷ []
+
+abbrev pub chained_rule : ExprTree → RuleTree
+chained_rule x = rule 9 (p_term (codes "f") (p_var (codes "x") ∷ [])) x
+
+abbrev pub right_and_count : ℕ → ExprTree → Option (TypedExpr × ℕ)
+right_and_count d x = option_map (λ a. (a.made.rhs, a.expansions)) (elaborated_rule chained d 0 (chained_rule x) (names_with chained_names))
+
+-- both are made where two may nest, and neither where one may
+abbrev pub ConversionsNest : Type 0
+ConversionsNest =
+    (right_and_count 2 (x_var (codes "x")) ≡ Some (make_term 13 0 (e_list (make_term 2 1 (e_list (make_var u8 0 ∷ [])) ∷ [])), 2))
+    × (right_and_count 2 (x_term (codes "g") (x_var (codes "x") ∷ [])) ≡ Some (make_term 13 0 (e_list (make_term 2 1 (e_list (make_term u8 2 (e_list (make_var u8 0 ∷ [])) ∷ [])) ∷ [])), 2))
+    × (right_and_count 1 (x_var (codes "x")) ≡ None)
+    × (right_and_count 1 (x_term (codes "g") (x_var (codes "x") ∷ [])) ≡ None)

@@ -5,7 +5,7 @@ use Rattle.isle_model.specs.Names.{IsDistinct}
 use Rattle.isle_model.specs.Tables.{Flags}
 use Rattle.isle_model.specs.Typed.{TypedPattern, match_bind, match_var, match_bool, match_int, match_prim, match_term, match_any, match_and, TypedExpr, TypedVar, TypedRule}
 use Rattle.isle_elaboration.specs.Setting.{Setting, Scope, expr_type}
-use Rattle.isle_elaboration.specs.Elaborates.{ElaboratesPattern, ElaboratesExpr, ElaboratesRule}
+use Rattle.isle_elaboration.specs.Elaborates.{ElaboratesPattern, ElaboratesExpr, ElaboratesRule, ElaboratesRules}
 
 -- the type that a pattern matches
 abbrev pub pattern_type : TypedPattern → ℕ
@@ -35,3 +35,9 @@ abbrev pub NamesStay : Type 0
 NamesStay =
     (e : Setting) (d id : ℕ) (r : RuleTree) (names : List (List ℕ)) (q : TypedRule) (t : Scope) (n : ℕ)
     → ElaboratesRule e d id r names q t n → ((more : List (List ℕ)) × (t.names ≡ names ++ more)) × (IsDistinct names → IsDistinct t.names)
+
+-- so do the names met before a list of rules
+abbrev pub NamesStayInLists : Type 0
+NamesStayInLists =
+    (e : Setting) (id : ℕ) (rs : List RuleTree) (names : List (List ℕ)) (qs : List TypedRule) (after : List (List ℕ))
+    → ElaboratesRules e id rs names qs after → ((more : List (List ℕ)) × (after ≡ names ++ more)) × (IsDistinct names → IsDistinct after)

@@ -7,9 +7,9 @@ ghost use Rattle.isle_elaboration.specs.Agreement.{PatternsAgree, ExprsAgree, Ru
 ghost use Rattle.isle_elaboration.specs.Rows.{ConstEqBecomes, FallBecomes, EqualBecomes, VariantEqBecomes, CycleBecomes, ConflictBecomes, ExtractBecomes, PartialBecomes, EffectsBecomes, MultiBecomes, ConstantsBecome};
 ghost use Rattle.isle_elaboration.specs.Carried.{CarriedRulesAgree};
 ghost use Rattle.isle_elaboration.specs.Doubling.{NestedUsesDouble, LimitIsMet};
-ghost use Rattle.isle_elaboration.specs.Results.{TypesAreExpected, VariablesAtPlaces, NamesStay};
+ghost use Rattle.isle_elaboration.specs.Results.{TypesAreExpected, VariablesAtPlaces, NamesStay, NamesStayInLists};
 ghost use Rattle.isle_elaboration.specs.Formed.{RulesAreFormed, OthersAreNotFormed};
-ghost use Rattle.isle_elaboration.specs.Refused.{IfLetHasNone, IfLetBecomes, PartialHasNone, BoundTwiceHasNone, LiteralHasNone, MultiPriorityHasNone, MacroArgHasNone, MultiExtractorsStand, LetShadows, LetNamesAreMet, ConvertedBecomes, ConverterHasNone, EndlessHasNone, EndlessBecomes, ExpansionsDouble, ManyMayNest, TemplateVariablesAreTheRules, LiteralsAreNotConverted};
+ghost use Rattle.isle_elaboration.specs.Refused.{IfLetHasNone, IfLetBecomes, PartialHasNone, BoundTwiceHasNone, LiteralHasNone, MultiPriorityHasNone, MacroArgHasNone, MultiExtractorsStand, LetShadows, LetNamesAreMet, ConvertedBecomes, ConverterHasNone, EndlessHasNone, EndlessBecomes, ExpansionsDouble, ManyMayNest, TemplateVariablesAreTheRules, LiteralsAreNotConverted, ConversionsNest};
 
 /// A pattern becomes by the rules of typing what the function gives, and nothing where it gives nothing.
 pub fn patterns_agree()
@@ -69,6 +69,11 @@ pub fn variables_at_places()
 /// Names keep their numbers, and stay distinct.
 pub fn names_stay()
     ensures { NamesStay }
+{}
+
+/// So they do over a list of rules.
+pub fn names_stay_in_lists()
+    ensures { NamesStayInLists }
 {}
 
 /// A rule that elaborates hangs together: its terms have as many parts as arguments, all at their types, and each
@@ -241,4 +246,9 @@ pub fn constants_become()
 /// Literals and constants stand at their own types alone, whatever converters there are.
 pub fn literals_are_not_converted()
     ensures { LiteralsAreNotConverted }
+{}
+
+/// A conversion inside another one is nested in it.
+pub fn conversions_nest()
+    ensures { ConversionsNest }
 {}
