@@ -1,14 +1,15 @@
 -- What a rule's tree becomes: typed patterns, expressions and rules, by recursion on the tree, and on how deep
 -- expansions may still nest.
-use Rattle.std.specs.Prelude.{ℕ, zero, suc, pos, Bool, not, ◌&&◌, List, [], ◌∷◌, length, Option, Some, None, option_map, is_some, unwrap_or, slice_get, nat_le, drop, if◌then◌else◌}
+use Rattle.std.specs.Prelude.{◌≡◌, ℕ, zero, suc, pos, Bool, not, ◌&&◌, List, [], ◌∷◌, length, Option, Some, None, option_map, is_some, unwrap_or, slice_get, nat_le, drop, if◌then◌else◌}
 use Rattle.std.specs.Bool.{◌==◌}
 use Rattle.isle_model.specs.Syntax.{Name, PatternTree, var_pattern, bind_pattern, bool_pattern, int_pattern, prim_pattern, term_pattern, wildcard_pattern, and_pattern, macro_arg, PatternTrees, no_pattern, pattern_and, ExprTree, term_expr, var_expr, bool_expr, int_expr, prim_expr, let_expr, ExprTrees, no_expr, expr_and, LetTrees, no_let, let_and, IfLetTree, RuleTree}
-use Rattle.isle_model.specs.Names.{number}
+use Rattle.isle_model.specs.Names.{number, IsDistinct}
 use Rattle.isle_model.specs.Outcome.{then_option}
 use Rattle.isle_model.specs.Tables.{Flags, TermEntry}
 use Rattle.isle_model.specs.Values.{is_atom_type}
 use Rattle.isle_model.specs.Typed.{TypedPattern, match_bind, match_var, match_bool, match_int, match_prim, match_term, match_any, match_and, TypedPatterns, no_typed_pattern, typed_pattern_and, TypedExpr, make_term, make_var, make_bool, make_int, make_prim, make_let, TypedExprs, no_typed_expr, typed_expr_and, TypedLets, no_typed_let, typed_let_and, TypedVar, TypedIfLet, TypedRule}
 use Rattle.isle_model.specs.TermTable.{root_name}
+use Rattle.isle_model.specs.Elaboration.{named_rules, rule_names}
 use Rattle.isle_elaboration.specs.Setting.{Setting, Scope, opened, met, bound, closed, var_of, term_of, type_of_name, constant_type, bool_type, expr_type, is_expected, declared_flags, on_lhs, is_callable, is_matchable, template_in, pattern_converter, expr_converter}
 use Rattle.isle_elaboration.specs.Expansions.{expanded, wrapped_pattern, wrapped_expr}
 use Rattle.isle_elaboration.specs.Typings.{Typing, plain, made_into, scoped, followed, counted}
@@ -248,3 +249,15 @@ with_typed q (Some l) = Some (record { rules = q ∷ l.rules; names = l.names })
 abbrev pub typed_rules : Setting → ℕ → List RuleTree → List (List ℕ) → Option TypedRules
 typed_rules e id [] names = Some (record { rules = []; names = names })
 typed_rules e id (r ∷ rs) names = then_option (typed_rule e id r names) (λ a. with_typed a.made (typed_rules e (suc id) rs a.scope.names))
+
+-- an unnamed rule that is the only one of its term has the term's name
+abbrev pub named : Setting → TypedRules → TypedRules
+named e l = record { rules = named_rules e.terms l.rules; names = l.names }
+
+abbrev pub elaborated_rules : Setting → List RuleTree → List (List ℕ) → Option TypedRules
+elaborated_rules e trees names = option_map (named e) (typed_rules e 0 trees names)
+
+-- all rules of a list have typed rules, and no two of these have one name
+pub record RulesElaborate (e : Setting) (trees : List RuleTree) (before : List (List ℕ)) (l : TypedRules) : Type 0 where
+  pub typed : elaborated_rules e trees before ≡ Some l
+  pub distinct : IsDistinct (rule_names l.rules)
