@@ -14,7 +14,7 @@ use Rattle.isle_model.specs.Collects.{Collects, CollectsAsChosen, IsCollectedSet
 use Rattle.isle_model.specs.SetRuns.{IsTestedSet, ServesTests, ChoosesFrom}
 use Rattle.isle_model.specs.Overlap.{built_rules, BuiltOverlapWrongly, IsShadowed, RuleReport, build_reports, check_reports}
 use Rattle.isle_elaboration.specs.Elaborated.{TypedRules}
-use Rattle.isle_statements.specs.Environments.{IsElaborated, program_of}
+use Rattle.isle_statements.specs.Environments.{IsRead, types_read, program_of}
 use Rattle.isle_statements.specs.RuleSets.{IsBuilt}
 
 -- building gives each term with rules, ascending, with its built set, also where every rule is left out; and what there
@@ -95,10 +95,14 @@ abbrev mutual
 abbrev pub BindsBeforeUse : SiteSet → Bool → Tree → Type 0
 BindsBeforeUse set multi tree = IsTrue (binds_before_use set.sites multi [] [] tree)
 
+-- the program of a list of definitions, by its own types
+abbrev pub own_program : List Definition → TypedRules → Program
+own_program defs rules = program_of (types_read defs) defs rules.rules
+
 -- accepted definitions: they have types, terms and typed rules, and their rules can be told apart
 pub record IsAccepted (defs : List Definition) (expand : Bool) (rules : TypedRules) : Type 0 where
-  pub elaborated : IsElaborated defs expand rules
-  pub checkable : IsCheckable (program_of defs rules.rules)
+  pub read : IsRead defs expand rules
+  pub checkable : IsCheckable (own_program defs rules)
 
 -- a term with rules: its built set and its tree
 pub record Lowered : Type 0 where
@@ -132,5 +136,5 @@ pub record AreLowered (p : Program) (terms : List Lowered) : Type 0 where
 abbrev pub BestTreesKeepTheHeadline : Type 0
 BestTreesKeepTheHeadline =
     (defs : List Definition) (expand : Bool) (rules : TypedRules) (l : Lowered)
-    → IsAccepted defs expand rules → IsBuilt (program_of defs rules.rules) l.term l.set → IsBestTree l.set l.tree
-    → IsLoweredTerm (program_of defs rules.rules) l
+    → IsAccepted defs expand rules → IsBuilt (own_program defs rules) l.term l.set → IsBestTree l.set l.tree
+    → IsLoweredTerm (own_program defs rules) l
