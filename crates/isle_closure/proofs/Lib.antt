@@ -11,3 +11,4 @@ pub mod LimitsPassed
 pub mod Whole
 pub mod WholeClosing
 pub mod Reports
+pub mod Agreements

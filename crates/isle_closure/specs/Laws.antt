@@ -1,14 +1,15 @@
 -- What theory proves of the closure of demands, of limits, and of overlap.
-use Rattle.std.specs.Prelude.{◌≡◌, ◌≢◌, ℕ, true, List, [], Some, None, slice_get, Contains, ◌↔◌}
+use Rattle.std.specs.Prelude.{◌≡◌, length, ◌≢◌, ℕ, true, List, [], Some, None, slice_get, Contains, ◌↔◌}
 use Rattle.std.specs.Bool.{Decides}
 use Rattle.isle_model.specs.Typed.{TypedRule}
-use Rattle.isle_model.specs.Program.{Program}
+use Rattle.isle_model.specs.Program.{Program, arg_types}
 use Rattle.isle_model.specs.Sites.{Constraint, SiteTerm}
 use Rattle.isle_model.specs.Demands.{Demands, demands_of, with_sites}
 use Rattle.isle_model.specs.Built.{may_overlap}
 use Rattle.isle_model.specs.Closure.{field_terms, Joined, HasConstraint, IsClosedConstraint, IsClosedEquality, IsUnreachable, is_unreachable, reported, same_class, class_names, spoken_of, with_constraints, Closed, next_constrained, closing, opening, most_steps, closed}
-use Rattle.isle_model.specs.Limits.{RuleLimit, first_limit, PassesLimit}
-use Rattle.isle_model.specs.Overlap.{Overlaps, overlaps, IsSubsetPair, is_subset_pair, BuiltRule, is_built, clash}
+use Rattle.isle_model.specs.Limits.{RuleLimit, first_limit, PassesLimit, PassesArguments, sites_with}
+use Rattle.isle_model.specs.Accepted.{PassesArguments as PassesArgumentsOfProgram}
+use Rattle.isle_model.specs.Overlap.{Overlaps, overlaps, IsSubsetPair, is_subset_pair, BuiltRule, is_built, clash, Shadows, shadows}
 
 -- a relation between sites is an equivalence
 pub record IsEquivalence (R : SiteTerm → SiteTerm → Type 0) : Type 0 where
@@ -85,6 +86,20 @@ OverlapIsExact = (a b : Closed) → OverlapTestsAreExact a b
 
 abbrev pub ClashIsExact : Type 0
 ClashIsExact = (a b : BuiltRule) → Decides (clash a b) ((a.rule.prio ≡ b.rule.prio) × Overlaps a.demands b.demands)
+
+abbrev pub ShadowsAreExact : Type 0
+ShadowsAreExact = (a b : BuiltRule) → Decides (shadows a b) (Shadows a b)
+
+-- where each rule has as many arguments as its term, a program has a term of too many exactly where a rule does
+abbrev pub EarlyArgumentsAgree : Type 0
+EarlyArgumentsAgree =
+    (p : Program) → ((r : TypedRule) → Contains p.rules r → length r.args ≡ length (arg_types p r.root_term))
+    → PassesArgumentsOfProgram p ↔ ((r : TypedRule) × Contains p.rules r × PassesArguments r)
+
+-- a rule without equalities adds the sites of its visit alone
+abbrev pub EarlySitesAgree : Type 0
+EarlySitesAgree =
+    (p : Program) (before : List SiteTerm) (r : TypedRule) → (demands_of p r).equalities ≡ [] → sites_with p before r ≡ with_sites before (demands_of p r).made
 
 -- a reported limit is passed, and where one is passed one is reported
 abbrev pub FirstLimitIsPassed : Type 0

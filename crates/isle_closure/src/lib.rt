@@ -3,7 +3,7 @@
 //! The definitions are in `isle_model`, the samples in `specs/`. A function here has an empty body: its clause is a law.
 #![tactic(auto)]
 
-ghost use Rattle.isle_closure.specs.Laws.{ReportsAreExact, ClosingIsWhole, FirstLimitIsPassed, PassedLimitIsMet, ClashIsExact, ClassesBoundJoined, ClosingAddsNothing, ClosingIsSound, ConstraintsAreKept, EarlyOverlapAgrees, JoinedIsEquivalence, NamesAreExact, OverlapIsExact, OverlapIsSymmetric, VerdictIsExact};
+ghost use Rattle.isle_closure.specs.Laws.{EarlyArgumentsAgree, EarlySitesAgree, ShadowsAreExact, ReportsAreExact, ClosingIsWhole, FirstLimitIsPassed, PassedLimitIsMet, ClashIsExact, ClassesBoundJoined, ClosingAddsNothing, ClosingIsSound, ConstraintsAreKept, EarlyOverlapAgrees, JoinedIsEquivalence, NamesAreExact, OverlapIsExact, OverlapIsSymmetric, VerdictIsExact};
 ghost use Rattle.isle_closure.specs.Worked.{ClosingsEnd, LimitsMet, Overlapping, Shadowing, SamplesAreReachable, SamplesAreUnreachable, TwoReports, ConflictReported, ConstEqClosed, ConstEqDemands, CyclesReported, EffectsDemands, ExtractDemands, FallDemands, MultiDemands, NearMisses, NestedClosed, NotReported, NothingReported, OverlapReported, PartialDemands, ShadowReported, UnreachableReported, UnreachableSamples, VariantEqClosed, VariantEqDemands};
 
 /// A literal and a repeated variable: one constraint, one equality.
@@ -214,4 +214,19 @@ pub fn limits_met()
 /// Something is reported of demands exactly where they can't be met.
 pub fn reports_are_exact()
     ensures { ReportsAreExact }
+{}
+
+/// The test of shadows is exact.
+pub fn shadows_are_exact()
+    ensures { ShadowsAreExact }
+{}
+
+/// A program has a term of too many arguments exactly where one of its rules does.
+pub fn early_arguments_agree()
+    ensures { EarlyArgumentsAgree }
+{}
+
+/// A rule without equalities adds the sites of its visit, and no others.
+pub fn early_sites_agree()
+    ensures { EarlySitesAgree }
 {}
