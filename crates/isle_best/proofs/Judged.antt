@@ -5,9 +5,9 @@ use Rattle.isle_model.specs.Sites.{SiteSet}
 use Rattle.isle_model.specs.Trees.{Tree}
 use Rattle.isle_model.specs.Best.{IsBestTree}
 use Rattle.isle_model.specs.Judge.{is_best_tree, returns_apart}
-use Rattle.isle_best.specs.MoreSamples.{const_eq, const_eq_tree, wrap, wrap_tree, used, used_tree, multi_ext, multi_ext_tree, shared, shared_tree}
+use Rattle.isle_best.specs.MoreSamples.{const_eq, const_eq_tree, wrap, wrap_tree, used, used_tree, multi_ext, multi_ext_tree, shared, shared_tree, emitted_first, emitted_first_tree, between, between_tree}
 use Rattle.isle_best.specs.Samples.{fall, fall_tree, prio, prio_tree, equal, equal_tree, below, below_tree, variant_eq, variant_eq_tree, extract, extract_tree, partial, partial_tree, effects, effects_tree, multi, multi_tree, surplus, surplus_tree, ties, ties_tree}
-use Rattle.isle_best.specs.NearMisses.{prio_exchanged, prio_leaves_out, prio_takes_in, prio_arms_exchanged, prio_other_arm, fall_empty_arm, fall_twice, fall_missing, fall_other_result, fall_returns_first, fall_untested, equal_exchanged, equal_tested, variant_eq_wrong_field, variant_eq_no_field, variant_eq_untested, extract_alone, extract_two_arms, extract_unbound, effects_reordered, multi_no_iterator, multi_no_loop, surplus_unbound, ties_exchanged}
+use Rattle.isle_best.specs.NearMisses.{prio_exchanged, prio_leaves_out, prio_takes_in, prio_arms_exchanged, prio_other_arm, fall_empty_arm, fall_twice, fall_missing, fall_other_result, fall_returns_first, fall_untested, equal_exchanged, equal_tested, variant_eq_wrong_field, variant_eq_no_field, variant_eq_untested, extract_alone, extract_two_arms, extract_unbound, effects_reordered, multi_no_iterator, multi_no_loop, surplus_unbound, ties_exchanged, prio_alone, between_holds_more, equal_not_closed, emitted_last}
 use Rattle.isle_best.specs.Judged.{PrintedTreesAreBest}
 use Rattle.isle_best.specs.Refused.{NearMissesAreNotBest}
 use Rattle.isle_best.proofs.Marking.{tree_judge_is_exact_lem}
@@ -36,6 +36,8 @@ printed_trees_are_best_lem = (
   passed used used_tree refl refl,
   passed multi_ext multi_ext_tree refl refl,
   passed shared shared_tree refl refl,
+  passed emitted_first emitted_first_tree refl refl,
+  passed between between_tree refl refl,
 )
 
 pub near_misses_are_not_best_lem : NearMissesAreNotBest
@@ -64,4 +66,8 @@ near_misses_are_not_best_lem = (
   refused multi multi_no_loop refl refl,
   refused surplus surplus_unbound refl refl,
   refused ties ties_exchanged refl refl,
+  refused prio prio_alone refl refl,
+  refused between between_holds_more refl refl,
+  refused equal equal_not_closed refl refl,
+  refused emitted_first emitted_last refl refl,
 )

@@ -18,3 +18,4 @@ pub mod Once
 pub mod Few
 pub mod WellBuilt
 pub mod WellBuiltSamples
+pub mod Shares

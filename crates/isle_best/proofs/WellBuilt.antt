@@ -1,18 +1,18 @@
 -- A test of sets by computing: those that pass are well built.
 use Rattle.std.proofs.Common.{◌≡◌, ℕ, ℤ, pos, negsuc, zero, suc, ◌<◌, ◌==◌, Bool, true, false, not, ◌&&◌, ◌||◌, nat_lt, List, [], ◌∷◌, ◌++◌, map, length, Option, Some, None, slice_get, Contains, bytes_eq, refl, sym, ap, ◌∙◌, subst, inl, inr, arith, eqb-true, eq-eqb, ltb-true}
-use Rattle.std.specs.List.{list_all, list_any}
+use Rattle.std.specs.List.{list_all}
 use Rattle.std.proofs.lemmas.Bool.{cases_Bool, cond-true, cond-false, and_parts, or_cases, false≢true}
 use Rattle.std.proofs.lemmas.Option.{none-some, same_Some}
 use Rattle.std.proofs.lemmas.Slice.Eq.{bytes_eq-Decides}
 use Rattle.std.proofs.lemmas.List.Elements.{Contains-append_left, Contains-append_right}
 use Rattle.isle_model.specs.Names.{IsDistinct}
-use Rattle.isle_model.specs.Sites.{Site, bool_site, int_site, prim_site, argument_site, extractor_site, constructor_site, iterator_site, make_variant_site, match_variant_site, make_struct_site, extract_struct_site, make_some_site, match_some_site, match_tuple_site, Constraint, is_variant, is_struct, is_present, SetRule, SiteSet, sources_of, sources_at}
+use Rattle.isle_model.specs.Sites.{Site, bool_site, int_site, prim_site, argument_site, extractor_site, constructor_site, iterator_site, make_variant_site, match_variant_site, make_struct_site, extract_struct_site, make_some_site, match_some_site, match_tuple_site, Constraint, SetRule, SiteSet, sources_of, sources_at}
 use Rattle.isle_model.specs.Places.{is_in, constraint_at, below}
 use Rattle.isle_model.specs.Sound.{as_number}
 use Rattle.isle_model.specs.Tests.{match_test, equal_test, loop_test, needs, up_to}
 use Rattle.isle_model.specs.Best.{are_distinct}
 use Rattle.isle_model.specs.WellBuilt.{tests_site, gate_demanded, IsWellBuiltRule, IsWellBuilt}
-use Rattle.isle_trees.proofs.Lists.{nothing_in, in_head, in_tail, in_cases, constraint_in, member_from_get}
+use Rattle.isle_trees.proofs.Lists.{nothing_in, in_cases, constraint_in, member_from_get}
 use Rattle.isle_best.proofs.Lists.{each_passes, in_map, member_found, member_is_in, in_up_to}
 use Rattle.isle_best.proofs.Exact.{not_exact}
 use Rattle.isle_best.proofs.Few.{members, joined_member}

@@ -10,7 +10,7 @@ use Rattle.isle_model.specs.Sound.{IsSound}
 use Rattle.isle_model.specs.Judge.{is_best_tree, returns_apart}
 use Rattle.isle_model.specs.WellBuilt.{HasOnePriority}
 use Rattle.isle_trees.proofs.Lists.{member_from_get}
-use Rattle.isle_best.specs.MoreSamples.{const_eq, const_eq_tree, wrap, wrap_tree, used, used_tree, multi_ext, multi_ext_tree, shared, shared_tree}
+use Rattle.isle_best.specs.MoreSamples.{const_eq, const_eq_tree, wrap, wrap_tree, used, used_tree, multi_ext, multi_ext_tree, shared, shared_tree, emitted_first, emitted_first_tree, between, between_tree}
 use Rattle.isle_best.specs.Samples.{fall, fall_tree, prio, prio_tree, equal, equal_tree, below, below_tree, variant_eq, variant_eq_tree, extract, extract_tree, partial, partial_tree, effects, effects_tree, multi, multi_tree, surplus, surplus_tree, ties, ties_tree}
 use Rattle.isle_best.specs.WellBuiltSamples.{SamplesAreWellBuilt, PrintedTreesAreSound}
 use Rattle.isle_best.proofs.Lists.{each_passes}
@@ -47,6 +47,8 @@ samples_are_well_built_lem = (
   passes_well_built used refl,
   passes_well_built multi_ext refl,
   passes_well_built shared refl,
+  passes_well_built emitted_first refl,
+  passes_well_built between refl,
 )
 
 pub printed_trees_are_sound_lem : PrintedTreesAreSound
@@ -67,4 +69,6 @@ printed_trees_are_sound_lem = (
   sound used used_tree refl refl refl,
   sound multi_ext multi_ext_tree refl refl refl,
   sound_multi shared shared_tree refl refl refl refl,
+  sound emitted_first emitted_first_tree refl refl refl,
+  sound between between_tree refl refl refl,
 )

@@ -2,7 +2,7 @@
 use Rattle.std.specs.Prelude.{true, false}
 use Rattle.isle_model.specs.Sound.{IsSound}
 use Rattle.isle_model.specs.WellBuilt.{IsWellBuilt}
-use Rattle.isle_best.specs.MoreSamples.{const_eq, const_eq_tree, wrap, wrap_tree, used, used_tree, multi_ext, multi_ext_tree, shared, shared_tree}
+use Rattle.isle_best.specs.MoreSamples.{const_eq, const_eq_tree, wrap, wrap_tree, used, used_tree, multi_ext, multi_ext_tree, shared, shared_tree, emitted_first, emitted_first_tree, between, between_tree}
 use Rattle.isle_best.specs.Samples.{fall, fall_tree, prio, prio_tree, equal, equal_tree, below, below_tree, variant_eq, variant_eq_tree, extract, extract_tree, partial, partial_tree, effects, effects_tree, multi, multi_tree, surplus, surplus_tree, ties, ties_tree}
 
 abbrev pub SamplesAreWellBuilt : Type 0
@@ -23,6 +23,8 @@ SamplesAreWellBuilt =
     × IsWellBuilt used
     × IsWellBuilt multi_ext
     × IsWellBuilt shared
+    × IsWellBuilt emitted_first
+    × IsWellBuilt between
 
 -- in a term that is multi, or that isn't, as the sample says
 abbrev pub PrintedTreesAreSound : Type 0
@@ -43,3 +45,5 @@ PrintedTreesAreSound =
     × IsSound used false used_tree
     × IsSound multi_ext false multi_ext_tree
     × IsSound shared true shared_tree
+    × IsSound emitted_first false emitted_first_tree
+    × IsSound between false between_tree

@@ -4,7 +4,7 @@
 #![tactic(auto)]
 
 ghost use Rattle.isle_best.specs.Judged.{PrintedTreesAreBest, PrintedTreesPass};
-ghost use Rattle.isle_best.specs.Laws.{JudgeIsExact, OpenTestsAreListed, SitesAreTestedOnce, StepsAreFew, StepsMakeBestTrees, TreeJudgeIsExact};
+ghost use Rattle.isle_best.specs.Laws.{BestTreesShareMost, JudgeIsExact, OpenTestsAreListed, SitesAreTestedOnce, StepsAreFew, StepsMakeBestTrees, TreeJudgeIsExact};
 ghost use Rattle.isle_best.specs.Refused.{NearMissesAreNotBest, NearMissesFail};
 ghost use Rattle.isle_best.specs.Scores.{OneTestIsGreatest, ScoresAreOrdered};
 ghost use Rattle.isle_best.specs.WellBuiltSamples.{PrintedTreesAreSound, SamplesAreWellBuilt};
@@ -25,7 +25,12 @@ pub fn one_test_is_greatest()
     ensures { OneTestIsGreatest }
 {}
 
-/// Where the greatest tests are made, no site is tested twice around a return.
+/// Where the greatest tests are made, nowhere would an open test cover more rules than the test made.
+pub fn best_trees_share_most()
+    ensures { BestTreesShareMost }
+{}
+
+/// And no site is tested twice around a return.
 pub fn sites_are_tested_once()
     ensures { SitesAreTestedOnce }
 {}
@@ -65,7 +70,7 @@ pub fn printed_trees_are_best()
     ensures { PrintedTreesAreBest }
 {}
 
-/// The judge refuses trees that miss being best by one thing each.
+/// The judge refuses the near misses.
 pub fn near_misses_fail()
     ensures { NearMissesFail }
 {}

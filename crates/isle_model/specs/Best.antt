@@ -19,10 +19,11 @@ pub record IsMade (set : SiteSet) (ar : Around) (held later : List ℕ) (t : Tes
   pub rules : cover set.rules (held ++ later) t ≡ held
   pub some_rule : held ≢ []
 
--- by descending priority, then rule order
+-- of two rules, i stands first: it has the greater priority, or one priority and the smaller number
 abbrev pub comes_first : List SetRule → ℕ → ℕ → Bool
 comes_first rules i j = or_later (is_lower rules j i) (int_eq (priority (slice_get rules j)) (priority (slice_get rules i))) (nat_lt i j)
 
+-- by descending priority, then rule order
 abbrev pub descend : List SetRule → List ℕ → Bool
 descend rules [] = true
 descend rules (i ∷ is) = list_all (comes_first rules i) is && descend rules is
@@ -64,6 +65,7 @@ abbrev mutual
       × BestSteps set (in_arm set ar source constraint fields) false body
       × BestArms set ar source (Some constraint) rest
 
+-- no number stands twice
 abbrev pub are_distinct : List ℕ → Bool
 are_distinct [] = true
 are_distinct (x ∷ xs) = not (is_in x xs) && are_distinct xs
@@ -90,6 +92,7 @@ abbrev mutual
   no_site_twice_among matched joined no_arm = true
   no_site_twice_among matched joined (arm constraint fields body rest) = no_site_twice matched joined body && no_site_twice_among matched joined rest
 
+-- the same of a whole tree
 abbrev pub NoSiteTwice : Tree → Type 0
 NoSiteTwice tree = IsTrue (no_site_twice [] [] tree)
 
@@ -117,10 +120,12 @@ total_constraints r = length r.constraints + sum_by length r.classes
 abbrev pub most_steps : SetRule → ℕ
 most_steps r = suc (total_constraints r + length r.iterators)
 
+-- all blocks together hold at most so many steps as all rules may take
 abbrev pub HasFewSteps : SiteSet → Tree → Type 0
 HasFewSteps set tree = steps_of tree ≤ sum_by most_steps set.rules
 
--- a best tree of a set
+-- a best tree of a set: its returns are the set's rules, each once; each test is the greatest of its place, for exactly
+-- the rules that it covers; and what follows from that
 pub record IsBestTree (set : SiteSet) (tree : Tree) : Type 0 where
   pub marked : Marked
   pub returns : ReturnsEach set tree marked

@@ -7,6 +7,7 @@ use Rattle.isle_model.specs.Sites.{SetRule, SiteSet}
 use Rattle.isle_model.specs.Places.{Around, is_in, joins, joins_in, constraint_at, available}
 use Rattle.isle_model.specs.Sound.{or_later, as_number}
 
+-- what a step can test: the form of a site, that two sites are equal, or each answer of a call
 pub data Test : Type 0 where
   match_test : (s : ℕ) → Test
   equal_test : (a b : ℕ) → Test
@@ -19,10 +20,12 @@ needs (match_test s) r = is_some (constraint_at r.constraints s)
 needs (equal_test a b) r = joins_in r.classes a b
 needs (loop_test s) r = is_in s r.iterators
 
+-- whether the rule, if there is one, needs the test
 abbrev pub is_needed : Test → Option SetRule → Bool
 is_needed t None = false
 is_needed t (Some r) = needs t r
 
+-- the rule's priority, and 0 where there is none
 abbrev pub priority : Option SetRule → ℤ
 priority None = pos 0
 priority (Some r) = r.prio
@@ -59,12 +62,13 @@ is_open_site set ar s = is_at_hand set ar s && not (is_in s (sources_around ar))
 abbrev pub is_open_pair : SiteSet → Around → ℕ → ℕ → Bool
 is_open_pair set ar a b = nat_lt a b && is_at_hand set ar a && is_at_hand set ar b && not (joins ar.joined a b)
 
+-- whether a test could be made: of sites that are open, or of a pair that is
 abbrev pub is_open : SiteSet → Around → Test → Bool
 is_open set ar (match_test s) = is_open_site set ar s
 is_open set ar (equal_test a b) = is_open_pair set ar a b
 is_open set ar (loop_test s) = is_open_site set ar s
 
--- the test could be made at the place
+-- the test is open at the place
 abbrev pub IsOpen : SiteSet → Around → Test → Type 0
 IsOpen set ar t = IsTrue (is_open set ar t)
 
@@ -73,9 +77,11 @@ abbrev pub up_to : ℕ → List ℕ
 up_to zero = []
 up_to (suc n) = up_to n ++ n ∷ []
 
+-- the open sites, ascending
 abbrev pub open_sites : SiteSet → Around → List ℕ
 open_sites set ar = filter (is_open_site set ar) (up_to (length set.sites))
 
+-- the open pairs of which b is the greater
 abbrev pub open_pairs_at : SiteSet → Around → ℕ → List Test
 open_pairs_at set ar b = map (λ a. equal_test a b) (filter (λ a. is_open_pair set ar a b) (up_to b))
 
@@ -93,6 +99,7 @@ pub record Score : Type 0 where
   pub site : ℕ
   pub other : ℕ
 
+-- the score of a test at a place with these rules
 abbrev pub score : SiteSet → Around → List ℕ → Test → Score
 score set ar here (match_test s) = record { count = length (cover set.rules here (match_test s)); emitted = as_number (is_in s ar.emitted); form = 0; site = s; other = 0 }
 score set ar here (equal_test a b) = record { count = length (cover set.rules here (equal_test a b)); emitted = as_number (is_in a ar.emitted && is_in b ar.emitted); form = 1; site = a; other = b }

@@ -14,15 +14,17 @@ use Rattle.isle_model.specs.Best.{IsBestTree}
 abbrev pub tests_site : SetRule → ℕ → Bool
 tests_site r s = needs (match_test s) r || needs (equal_test s s) r || needs (loop_test s) r
 
--- the constraint brings that field of the site, or what an unwrap of it gives
+-- whether a constraint asks the site to be that variant, with more than so many fields
 abbrev pub asks_variant : ℕ → ℕ → ℕ → ℕ × Constraint → Bool
 asks_variant source variant field (s, is_variant ty v fields) = (s == source) && (v == variant) && nat_lt field fields
 asks_variant source variant field _ = false
 
+-- whether it asks the site to be a struct with more than so many fields
 abbrev pub asks_struct : ℕ → ℕ → ℕ × Constraint → Bool
 asks_struct source field (s, is_struct ty fields) = (s == source) && nat_lt field fields
 asks_struct source field _ = false
 
+-- whether it asks the call of that site to answer
 abbrev pub asks_answer : ℕ → ℕ × Constraint → Bool
 asks_answer source (s, is_present) = s == source
 asks_answer source _ = false
