@@ -1,5 +1,5 @@
 -- The types of a list of definitions with valid types are well formed.
-use Rattle.std.proofs.Common.{◌≡◌, ℕ, zero, suc, ◌+◌, ◌<◌, ◌||◌, true, false, cond, List, [], ◌∷◌, ◌++◌, length, map, Option, Some, None, unwrap_or, slice_get, refl, sym, ap, ◌∙◌, subst, arith}
+use Rattle.std.proofs.Common.{◌≡◌, ℕ, zero, suc, ◌+◌, ◌<◌, ◌||◌, true, false, cond, List, [], ◌∷◌, ◌++◌, length, map, Some, None, unwrap_or, slice_get, refl, sym, ap, ◌∙◌, subst, arith}
 use Rattle.std.specs.List.{enumerate_from, flat_map, AllByRecursion}
 use Rattle.std.specs.Str.{bytes_eq}
 use Rattle.std.proofs.lemmas.List.{length-append, length-map}
@@ -8,16 +8,16 @@ use Rattle.std.proofs.lemmas.List.Elements.{All-from_recursion}
 use Rattle.std.proofs.lemmas.List.FromFn.{length-enumerate_from}
 use Rattle.std.proofs.lemmas.Option.{same_Some}
 use Rattle.isle_model.specs.Syntax.{Name, FieldTree, TupleFieldTree, FieldTrees, unit_fields, struct_fields, tuple_fields, VariantTree, TypeTree, TypeValueTree, primitive_value, enum_value, struct_value, Definition}
-use Rattle.isle_model.specs.Names.{number, has_name}
+use Rattle.isle_model.specs.Names.{has_name}
 use Rattle.isle_model.specs.Values.{field_types}
 use Rattle.isle_model.specs.Tables.{TypeEntry}
 use Rattle.isle_model.specs.TypeTable.{builtin_names, builtin_from, place_from, type_id, type_trees, type_names}
 use Rattle.isle_model.specs.TermTable.{type_or_first}
 use Rattle.isle_tables.specs.TypeTables.{full_name, field_names, variant_names, names_inside, all_type_names, type_names_met, field_entry, tuple_field_entry, field_entries, variant_entry, entry_at, type_entry, type_table}
-use Rattle.isle_tables.specs.KnownTypes.{types_of, entry_id, types_inside, field_numbers, variant_numbers, entry_numbers, StandAtIds, IsWellFormed}
+use Rattle.isle_tables.specs.KnownTypes.{entry_id, types_inside, field_numbers, variant_numbers, entry_numbers}
 use Rattle.isle_tables.specs.Laws.{OwnTypesAreWellFormed, TypesAreFound}
 use Rattle.isle_tables.proofs.Lists.{all_joined, all_left, all_right}
-use Rattle.isle_tables.proofs.Names.{same_self, has_kept, has_left, has_right, number_below}
+use Rattle.isle_tables.proofs.Names.{same_self, has_kept, has_right, number_below}
 use Rattle.isle_tables.proofs.TypeLaws.{names_later, type_names_distinct, place_at, types_met, inside_met}
 
 pub types_are_found_lem : TypesAreFound

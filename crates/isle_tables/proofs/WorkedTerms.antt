@@ -4,13 +4,14 @@ use Rattle.std.specs.Str.{bytes_eq}
 use Rattle.std.proofs.lemmas.Bool.{false≢true}
 use Rattle.std.proofs.lemmas.List.Elements.{All-from_recursion, All-nil}
 use Rattle.isle_model.specs.Syntax.{Name, ExtractorTree, ConverterTree, DeclTree, RuleTree, Definition, int_expr}
+use Rattle.isle_model.specs.TypeTable.{type_trees}
 use Rattle.isle_model.specs.TermTable.{decl_trees, rule_trees}
-use Rattle.isle_tables.specs.TypeTables.{all_type_names, IsKnownType}
+use Rattle.isle_tables.specs.TypeTables.{field_lists, all_type_names, IsKnownType, IsUnmarkedIfPrimitive, HasAtMostOneMark, HasDistinctVariants, HasDistinctFields, HasKnownTypes, IsOfKnownType, IsValidTypes}
 use Rattle.isle_tables.specs.KnownTypes.{types_of}
 use Rattle.isle_tables.specs.TermTables.{ConstructorTree, ExternalTree, constructor_trees, external_trees, extractor_trees, converter_trees, term_names, terms_in, argument_count, IsDeclaredTerm, IsKnownTerm, Uses, directly, through, HasKnownArguments, HasKnownResult, IsNotBothMultiAndPartial, HasDeclaredRoot, IsWithoutRules, IsOfPlainTerm, NamesKnownTerms, HoldsNoMacroArg, UsesDeclaredArguments, IsKnownConverter, IsDefined, AllDefined}
 use Rattle.isle_tables.specs.Written.{at, name, decl, term, by_template}
 use Rattle.isle_tables.specs.WorkedTypes.{three_types}
-use Rattle.isle_tables.specs.WorkedTerms.{HasTerms, var, any, both, by_function, ByFunction, converted, Converted, doubled, Doubled, chained, Chained, effects, Effects, Structs, alone, Alone, recursive, itself, RefusedTerms}
+use Rattle.isle_tables.specs.WorkedTerms.{HasTerms, var, any, both, by_function, ByFunction, converted, Converted, doubled, Doubled, chained, Chained, effects, Effects, infallible, Infallible, early, Early, one_full_name, OneFullName, Structs, alone, Alone, recursive, itself, RefusedTerms}
 use Rattle.isle_tables.proofs.Acyclic.{acyclic_by, plain_acyclic}
 use Rattle.isle_tables.proofs.Lists.{distinct_if, distinct_nil, distinct_one, nothing_in, in_alone, in_cases}
 
@@ -164,7 +165,7 @@ chained_defined : AllDefined chained
 chained_defined = All-from_recursion (IsDefined chained) (decl_trees chained) (refl, (refl, tt))
 
 pub chained_lem : Chained
-chained_lem = (chained_valid, chained_defined)
+chained_lem = (refl, chained_valid, chained_defined)
 
 effects_valid : HasTerms effects
 effects_valid = record {
@@ -193,6 +194,76 @@ effects_defined = All-from_recursion (IsDefined effects) (decl_trees effects) (r
 
 pub effects_lem : Effects
 effects_lem = (refl, refl, effects_valid, effects_defined)
+
+infallible_valid : HasTerms infallible
+infallible_valid = record {
+  distinct = distinct_one (codes "e");
+  types_of_arguments = All-from_recursion (HasKnownArguments (types_of infallible)) (decl_trees infallible) (known_one infallible (name 0 (codes "u8")) refl, tt);
+  types_of_results = All-from_recursion (HasKnownResult (types_of infallible)) (decl_trees infallible) (refl, tt);
+  marks = All-from_recursion IsNotBothMultiAndPartial (decl_trees infallible) (refl, tt);
+  roots = All-nil (HasDeclaredRoot infallible);
+  terms_of_extractors = All-nil (λ e. IsDeclaredTerm infallible e.term);
+  terms_of_externals = All-from_recursion (λ e. IsDeclaredTerm infallible e.term) (external_trees infallible) (refl, tt);
+  terms_of_constructors = All-nil (λ c. IsDeclaredTerm infallible c.term);
+  rules_or_function = All-nil (IsWithoutRules infallible);
+  one_constructor = distinct_nil;
+  one_extractor = distinct_one (codes "e");
+  plain_terms = All-nil (IsOfPlainTerm infallible);
+  known_terms = All-nil (NamesKnownTerms (types_of infallible) infallible);
+  no_macro_args = All-nil HoldsNoMacroArg;
+  declared_arguments = All-nil (UsesDeclaredArguments infallible);
+  acyclic = plain_acyclic infallible refl;
+  known_converters = All-nil (IsKnownConverter (types_of infallible) infallible);
+  one_converter = distinct_nil;
+}
+
+infallible_defined : AllDefined infallible
+infallible_defined = All-from_recursion (IsDefined infallible) (decl_trees infallible) (refl, tt)
+
+pub infallible_lem : Infallible
+infallible_lem = (refl, infallible_valid, infallible_defined)
+
+early_valid : HasTerms early
+early_valid = record {
+  distinct = distinct_one (codes "f");
+  types_of_arguments = All-from_recursion (HasKnownArguments (types_of early)) (decl_trees early) (known_one early (name 1 (codes "u8")) refl, tt);
+  types_of_results = All-from_recursion (HasKnownResult (types_of early)) (decl_trees early) (refl, tt);
+  marks = All-from_recursion IsNotBothMultiAndPartial (decl_trees early) (refl, tt);
+  roots = All-nil (HasDeclaredRoot early);
+  terms_of_extractors = All-nil (λ e. IsDeclaredTerm early e.term);
+  terms_of_externals = All-nil (λ e. IsDeclaredTerm early e.term);
+  terms_of_constructors = All-from_recursion (λ c. IsDeclaredTerm early c.term) (constructor_trees early) (refl, tt);
+  rules_or_function = All-from_recursion (IsWithoutRules early) (constructor_trees early) (refl, tt);
+  one_constructor = distinct_one (codes "f");
+  one_extractor = distinct_nil;
+  plain_terms = All-nil (IsOfPlainTerm early);
+  known_terms = All-nil (NamesKnownTerms (types_of early) early);
+  no_macro_args = All-nil HoldsNoMacroArg;
+  declared_arguments = All-nil (UsesDeclaredArguments early);
+  acyclic = plain_acyclic early refl;
+  known_converters = All-nil (IsKnownConverter (types_of early) early);
+  one_converter = distinct_nil;
+}
+
+early_defined : AllDefined early
+early_defined = All-from_recursion (IsDefined early) (decl_trees early) (refl, tt)
+
+pub early_lem : Early
+early_lem = (refl, refl, early_valid, early_defined)
+
+one_full_name_types : IsValidTypes one_full_name
+one_full_name_types = record {
+  distinct = distinct_if (all_type_names one_full_name) refl;
+  primitives = All-from_recursion IsUnmarkedIfPrimitive (type_trees one_full_name) ((λ n. absurd (false≢true n)), ((λ n. absurd (false≢true n)), tt));
+  marks = All-from_recursion HasAtMostOneMark (type_trees one_full_name) (refl, (refl, tt));
+  variants = All-from_recursion HasDistinctVariants (type_trees one_full_name) (distinct_one (codes "B.C"), (distinct_one (codes "C"), tt));
+  fields = All-from_recursion HasDistinctFields (field_lists one_full_name) (distinct_nil, (distinct_nil, tt));
+  types_of_fields = All-from_recursion (HasKnownTypes one_full_name) (field_lists one_full_name) (All-nil (IsKnownType (all_type_names one_full_name)), (All-nil (IsKnownType (all_type_names one_full_name)), tt));
+  types_of_constants = All-nil (IsOfKnownType one_full_name);
+}
+
+pub one_full_name_lem : OneFullName
+one_full_name_lem = (one_full_name_types, refl, refl, (λ v. (let e = v.distinct 0 1 (codes "A.B.C") refl refl in omega arith)))
 
 three_types_valid : HasTerms three_types
 three_types_valid = record {
@@ -305,6 +376,10 @@ refused_terms_lem = record {
   constructor_of_none = λ v. false≢true (v.terms_of_constructors 0 any_constructor (omega arith));
   function_of_variant = λ v. false≢true (v.terms_of_externals 0 any_external (omega arith));
   constructor_of_struct = λ v. false≢true (v.terms_of_constructors 0 any_constructor (omega arith));
+  struct_root = λ v. false≢true (v.roots 0 any_rule (omega arith));
+  extractor_of_struct = λ v. false≢true (v.terms_of_extractors 0 any_extractor (omega arith));
+  function_of_struct = λ v. false≢true (v.terms_of_externals 0 any_external (omega arith));
+  constructor_of_variant = λ v. false≢true (v.terms_of_constructors 0 any_constructor (omega arith));
   rules_and_function = λ v. false≢true (v.rules_or_function 0 any_constructor (omega arith));
   constructor_twice = λ v. (let e = v.one_constructor 0 1 (codes "f") refl refl in omega arith);
   extractor_twice = λ v. (let e = v.one_extractor 0 1 (codes "d") refl refl in omega arith);

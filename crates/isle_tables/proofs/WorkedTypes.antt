@@ -79,4 +79,6 @@ refused_types_lem = record {
   unknown_field_type = λ v. false≢true (v.types_of_fields 0 unit_fields (omega arith) 0 (name 0 []) (omega arith));
   unknown_part_type = λ v. false≢true (v.types_of_fields 0 unit_fields (omega arith) 0 (name 0 []) (omega arith));
   unknown_constant_type = λ v. false≢true (v.types_of_constants 0 any_constant (omega arith));
+  unknown_before_known = λ v. false≢true (v.types_of_constants 0 any_constant (omega arith));
+  unknown_after_known = λ v. false≢true (v.types_of_constants 1 any_constant (omega arith));
 }

@@ -1,5 +1,5 @@
 -- Forms of definitions, written short: every place inside a definition is the same offset of the first file.
-use Rattle.std.specs.Prelude.{ℕ, pos, false, List, [], ◌∷◌, None, map}
+use Rattle.std.specs.Prelude.{ℕ, pos, true, false, List, [], ◌∷◌, None, map}
 use Rattle.isle_model.specs.Syntax.{Position, Name, PatternTree, term_pattern, PatternTrees, no_pattern, pattern_and, int_expr, FieldTree, TupleFieldTree, FieldTrees, struct_fields, VariantTree, TypeTree, primitive_value, enum_value, struct_value, DeclTree, ExtractorTree, Definition, declaration, extractor_definition, converter_definition, rule_definition, extern_definition, extern_constructor, extern_extractor, extern_const}
 
 abbrev pub at : ℕ → Position
@@ -46,7 +46,7 @@ patterns (p ∷ ps) = pattern_and p (patterns ps)
 abbrev pub term : ℕ → List ℕ → List PatternTree → PatternTree
 term n t args = term_pattern (name n t) (patterns args) (at n)
 
--- an extractor by a template, a converter, external functions, a rule that answers 1
+-- an extractor by a template, a converter, external functions
 abbrev pub by_template : ℕ → List ℕ → List (List ℕ) → PatternTree → ExtractorTree
 by_template n t args p = record { term = name n t; args = map (name n) args; template = p; at = at n }
 
@@ -62,5 +62,10 @@ constructor_by n t function = extern_definition (extern_constructor (name n t) (
 abbrev pub extractor_by : ℕ → List ℕ → List ℕ → Definition
 extractor_by n t function = extern_definition (extern_extractor (name n t) (name n function) (at n) false)
 
+-- an external extractor that always answers
+abbrev pub infallible_extractor_by : ℕ → List ℕ → List ℕ → Definition
+infallible_extractor_by n t function = extern_definition (extern_extractor (name n t) (name n function) (at n) true)
+
+-- a rule that answers 1
 abbrev pub rule : ℕ → PatternTree → Definition
 rule n p = rule_definition (record { pattern = p; iflets = []; expr = int_expr (pos 1) (at n); at = at n; prio = None; name = None })

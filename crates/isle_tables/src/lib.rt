@@ -5,7 +5,7 @@
 
 ghost use Rattle.isle_tables.specs.Agreement.{TermsAgree, TypesAgree};
 ghost use Rattle.isle_tables.specs.Laws.{ConvertersStandOnce, LastDefinitionCounts, NamesStandOnce, NumbersStay, OwnTypesAreWellFormed, TermsAreFound, TermsHaveNames, TermsStandAtIds, TypesAreFound, TypesMakeTerms, TypesStandAtIds};
-ghost use Rattle.isle_tables.specs.WorkedTerms.{Alone, ByFunction, Chained, Converted, Doubled, Effects, RefusedTerms, Structs, Templates};
+ghost use Rattle.isle_tables.specs.WorkedTerms.{Alone, ByFunction, Chained, Converted, Doubled, Early, Effects, Infallible, OneFullName, RefusedTerms, Structs, Templates};
 ghost use Rattle.isle_tables.specs.WorkedTypes.{Constants, RefusedTypes, ThreeTypes, TwoTypes};
 
 /// The table and the names of a primitive type and an extern enum, which are valid.
@@ -51,6 +51,21 @@ pub fn chained()
 /// The table of external constructors and, after the declared terms, of a variant.
 pub fn effects()
     ensures { Effects }
+{}
+
+/// The table of an external extractor that always answers.
+pub fn infallible()
+    ensures { Infallible }
+{}
+
+/// An external constructor may stand before its declaration.
+pub fn early()
+    ensures { Early }
+{}
+
+/// Two variants of one full name: the types are valid, but there is no term table.
+pub fn one_full_name()
+    ensures { OneFullName }
 {}
 
 /// The table of structs.
