@@ -5,10 +5,11 @@ use Rattle.isle_model.specs.Syntax.{Definition}
 use Rattle.isle_model.specs.Names.{IsDistinct}
 use Rattle.isle_model.specs.Program.{Program, is_multi, rules_of}
 use Rattle.isle_model.specs.Sites.{Site, SiteSet, sources_at}
-use Rattle.isle_model.specs.Trees.{Tree, no_step, step, Check, match_at, equal_at, loop_at, return_at, Arms, no_arm, arm}
+use Rattle.isle_model.specs.Trees.{Marked, Tree, no_step, step, Check, match_at, equal_at, loop_at, return_at, Arms, no_arm, arm}
 use Rattle.isle_model.specs.Run.{World, run}
-use Rattle.isle_model.specs.Places.{is_in, is_in_place, field_sites}
-use Rattle.isle_model.specs.Best.{IsBestTree}
+use Rattle.isle_model.specs.Places.{nothing_around, is_in, is_in_place, field_sites}
+use Rattle.isle_model.specs.Sound.{ReturnsEach}
+use Rattle.isle_model.specs.Best.{IsBestTree, SharesMost}
 use Rattle.isle_model.specs.Built.{RunsAsChosen, terms_with_rules}
 use Rattle.isle_model.specs.Collects.{Collects, CollectsAsChosen, IsCollectedSet, ServesSet, set_bag}
 use Rattle.isle_model.specs.SetRuns.{IsTestedSet, ServesTests, ChoosesFrom}
@@ -110,18 +111,25 @@ pub record Lowered : Type 0 where
   pub set : SiteSet
   pub tree : Tree
 
+-- nowhere would an open test cover more rules than the test made
+pub record TestsAreShared (set : SiteSet) (tree : Tree) : Type 0 where
+  pub marked : Marked
+  pub returns : ReturnsEach set tree marked
+  pub most : SharesMost set nothing_around false marked
+
 -- the headline. In a term that isn't multi and uses no multi extractor, on all well-typed arguments and under every
 -- meaning of the called terms that tells constants apart, the tree's run gives the result or failure and the impure calls
 -- of the one matching source rule of highest priority, or neither where none matches; and nowhere would an open test
 -- cover more rules than the test made
 pub record ChoosesAndShares (p : Program) (l : Lowered) : Type 0 where
   pub runs : RunsAsChosen p l.term l.set.sites l.tree
-  pub shares : IsBestTree l.set l.tree
+  pub shares : TestsAreShared l.set l.tree
 
 -- the tree of a term: of its built set, with the headline; sites are bound before they are used; in a multi term whose
 -- rules make no impure call and need each multi call of an if-let, the run collects the bag of their results
 pub record IsLoweredTerm (p : Program) (l : Lowered) : Type 0 where
   pub built : IsBuilt p l.term l.set
+  pub best : IsBestTree l.set l.tree
   pub headline : ChoosesAndShares p l
   pub collects : CollectsAsChosen p l.term l.set.sites l.tree
   pub binds : BindsBeforeUse l.set (is_multi p l.term) l.tree
