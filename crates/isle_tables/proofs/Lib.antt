@@ -7,5 +7,6 @@ pub mod CarriedTerms
 pub mod Names
 pub mod TypeLaws
 pub mod WellFormed
+pub mod WorkedKnown
 pub mod TermLaws
 pub mod Converters

@@ -5,6 +5,7 @@
 
 ghost use Rattle.isle_tables.specs.Agreement.{TermsAgree, TypesAgree};
 ghost use Rattle.isle_tables.specs.Laws.{ConvertersStandOnce, LastDefinitionCounts, NamesStandOnce, NumbersStay, OwnTypesAreWellFormed, TermsAreFound, TermsHaveNames, TermsStandAtIds, TypesAreFound, TypesMakeTerms, TypesStandAtIds};
+ghost use Rattle.isle_tables.specs.WorkedKnown.{IllFormed, NamesGoOn, OwnTypesDoNotCount, TypesHandedIn};
 ghost use Rattle.isle_tables.specs.WorkedTerms.{Alone, ByFunction, Chained, Converted, Doubled, Early, Effects, Infallible, OneFullName, RefusedTerms, Structs, Templates};
 ghost use Rattle.isle_tables.specs.WorkedTypes.{Constants, RefusedTypes, ThreeTypes, TwoTypes};
 
@@ -86,6 +87,26 @@ pub fn alone()
 /// Lists that break one demand on terms each have no term table.
 pub fn refused_terms()
     ensures { RefusedTerms }
+{}
+
+/// A list may name a type that is handed in.
+pub fn types_handed_in()
+    ensures { TypesHandedIn }
+{}
+
+/// A type that a list defines isn't known to its terms unless it is handed in.
+pub fn own_types_do_not_count()
+    ensures { OwnTypesDoNotCount }
+{}
+
+/// The names of terms go on after all names that were met before.
+pub fn names_go_on()
+    ensures { NamesGoOn }
+{}
+
+/// Types that break one demand each are not well formed.
+pub fn ill_formed()
+    ensures { IllFormed }
 {}
 
 /// On lists of primitive types, the type table is that of the definitions for carried forms, and lists are valid alike.
