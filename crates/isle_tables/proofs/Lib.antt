@@ -9,4 +9,5 @@ pub mod TypeLaws
 pub mod WellFormed
 pub mod WorkedKnown
 pub mod TermLaws
+pub mod TermTypes
 pub mod Converters

@@ -4,7 +4,7 @@
 #![tactic(auto)]
 
 ghost use Rattle.isle_tables.specs.Agreement.{TermsAgree, TypesAgree};
-ghost use Rattle.isle_tables.specs.Laws.{ConvertersStandOnce, LastDefinitionCounts, NamesStandOnce, NumbersStay, OwnTypesAreWellFormed, TermsAreFound, TermsHaveNames, TermsStandAtIds, TypesAreFound, TypesMakeTerms, TypesStandAtIds};
+ghost use Rattle.isle_tables.specs.Laws.{ConvertersStandOnce, LastDefinitionCounts, NamesStandOnce, NumbersStay, OwnTypesAreWellFormed, TermsAreFound, TermsAreOfTypes, TermsHaveNames, TermsStandAtIds, TypesAreFound, TypesMakeTerms, TypesStandAtIds};
 ghost use Rattle.isle_tables.specs.WorkedKnown.{IllFormed, NamesGoOn, OwnTypesDoNotCount, TypesHandedIn};
 ghost use Rattle.isle_tables.specs.WorkedTerms.{Alone, ByFunction, Chained, Converted, Doubled, Early, Effects, Infallible, OneFullName, RefusedTerms, Structs, Templates};
 ghost use Rattle.isle_tables.specs.WorkedTypes.{Constants, RefusedTypes, ThreeTypes, TwoTypes};
@@ -153,6 +153,11 @@ pub fn last_definition_counts()
 /// Each term stands at its id.
 pub fn terms_stand_at_ids()
     ensures { TermsStandAtIds }
+{}
+
+/// The types of the arguments and of the result of each term are types.
+pub fn terms_are_of_types()
+    ensures { TermsAreOfTypes }
 {}
 
 /// Each term has the number of its name, variants and structs too.
