@@ -7,5 +7,7 @@ pub mod CarriedTerms
 pub mod Names
 pub mod TypeLaws
 pub mod WellFormed
+pub mod WorkedKnown
 pub mod TermLaws
+pub mod TermTypes
 pub mod Converters

@@ -14,7 +14,7 @@ use Rattle.isle_model.specs.Tables.{TypeEntry}
 use Rattle.isle_model.specs.TypeTable.{builtin_names, builtin_from, place_from, type_id, type_trees, type_names}
 use Rattle.isle_model.specs.TermTable.{type_or_first}
 use Rattle.isle_tables.specs.TypeTables.{full_name, field_names, variant_names, names_inside, all_type_names, type_names_met, field_entry, tuple_field_entry, field_entries, variant_entry, entry_at, type_entry, type_table}
-use Rattle.isle_tables.specs.KnownTypes.{entry_id, types_inside, field_numbers, variant_numbers, entry_numbers}
+use Rattle.isle_tables.specs.KnownTypes.{entry_id, types_inside, field_numbers, variant_numbers, entry_numbers, StandAtIds}
 use Rattle.isle_tables.specs.Laws.{OwnTypesAreWellFormed, TypesAreFound}
 use Rattle.isle_tables.proofs.Lists.{all_joined, all_left, all_right}
 use Rattle.isle_tables.proofs.Names.{same_self, has_kept, has_right, number_below}
@@ -53,7 +53,7 @@ entries_count defs ns n (t ∷ ts) =
     (own_id defs ns n t t.value, (let e : n + 1 ≡ suc n = omega arith in subst (λ m. CountUp m (map (λ p. type_entry defs ns p.0 p.1) (enumerate_from (n + 1) ts))) e (entries_count defs ns (n + 1) ts)))
 
 -- a place among names is below their count
-place_below : (xs : List (List ℕ)) (n : ℕ) (x : List ℕ) (k : ℕ) → place_from n x xs ≡ Some k → k < n + length xs
+pub place_below : (xs : List (List ℕ)) (n : ℕ) (x : List ℕ) (k : ℕ) → place_from n x xs ≡ Some k → k < n + length xs
 place_below [] n x k p = absurd (cc)
 place_below (y ∷ ys) n x k p =
     elim (bytes_eq y x) as (λ b. cond b (Some n) (place_from (suc n) x ys) ≡ Some k → k < n + suc (length ys)) [
@@ -72,7 +72,7 @@ module _ (defs : List Definition) where
   builtins_met = every_name (λ x. has_name (type_names_met defs) x ≡ true) builtin_names (λ x h. has_kept builtin_names (names_later defs) x h)
 
   -- there are as many names of types as types
-  as_many : length (all_type_names defs) ≡ length (type_table defs)
+  pub as_many : length (all_type_names defs) ≡ length (type_table defs)
   as_many =
       length-append builtin_names (type_names defs)
       ∙ ap (λ n. 13 + n) (length-map (type_trees defs) (λ t. t.name.text) ∙ sym (length-map (enumerate_from 13 (type_trees defs)) (λ p. type_entry defs (type_names_met defs) p.0 p.1) ∙ length-enumerate_from 13 (type_trees defs)))
@@ -166,16 +166,20 @@ module _ (defs : List Definition) where
       subst (AllByRecursion IsBelow) (sym (flat_map-append entry_numbers (builtin_from 0 builtin_names) (map (λ p. type_entry defs (type_names_met defs) p.0 p.1) (enumerate_from 13 (type_trees defs)))))
       (types_below 13 (type_trees defs) names_of_types_met names_inside_met)
 
-  fields_are_types : AllByRecursion IsOneOfTypes (flat_map types_inside (type_table defs))
+  pub fields_are_types : AllByRecursion IsOneOfTypes (flat_map types_inside (type_table defs))
   fields_are_types =
       subst (AllByRecursion IsOneOfTypes) (sym (flat_map-append types_inside (builtin_from 0 builtin_names) (map (λ p. type_entry defs (type_names_met defs) p.0 p.1) (enumerate_from 13 (type_trees defs)))))
       (types_fields (type_names_met defs) 13 (type_trees defs))
+
+pub own_ids : (defs : List Definition) → StandAtIds (type_table defs)
+own_ids defs i t h =
+    ids_counted 0 i i (type_table defs) t (builtins_count 0 builtin_names (map (λ p. type_entry defs (type_names_met defs) p.0 p.1) (enumerate_from 13 (type_trees defs))) (entries_count defs (type_names_met defs) 13 (type_trees defs))) (omega arith) h
 
 pub own_types_are_well_formed_lem : OwnTypesAreWellFormed
 own_types_are_well_formed_lem defs v = record {
   names_distinct = type_names_distinct defs;
   builtins = refl;
-  ids = λ i t h. ids_counted 0 i i (type_table defs) t (builtins_count 0 builtin_names (map (λ p. type_entry defs (type_names_met defs) p.0 p.1) (enumerate_from 13 (type_trees defs))) (entries_count defs (type_names_met defs) 13 (type_trees defs))) (omega arith) h;
+  ids = own_ids defs;
   type_names_distinct = v.distinct;
   as_many_names = as_many defs;
   names_of_types_met = All-from_recursion (λ x. has_name (type_names_met defs) x ≡ true) (all_type_names defs) (all_joined (λ x. has_name (type_names_met defs) x ≡ true) builtin_names (type_names defs) (builtins_met defs) (names_of_types_met defs));

@@ -1,5 +1,5 @@
 -- What holds of the tables of all lists of definitions.
-use Rattle.std.specs.Prelude.{◌≡◌, ℕ, ◌+◌, List, [], ◌∷◌, ◌++◌, reverse, map, option_map, Some, slice_get}
+use Rattle.std.specs.Prelude.{◌≡◌, ℕ, ◌+◌, ◌<◌, List, [], ◌∷◌, ◌++◌, length, reverse, map, All, option_map, Some, slice_get}
 use Rattle.std.specs.Bool.{◌==◌}
 use Rattle.std.specs.List.{find, flat_map}
 use Rattle.std.specs.Str.{bytes_eq}
@@ -57,6 +57,13 @@ HaveNumbersOfNames k defs = map (λ e. e.name) (term_table k defs) ≡ map (numb
 
 abbrev pub TermsHaveNames : Type 0
 TermsHaveNames = HoldsOfTerms HaveNumbersOfNames
+
+-- the types of the arguments and of the result of each term are types
+abbrev pub AreOfTypes : KnownTypes → List Definition → Type 0
+AreOfTypes k defs = All (λ ty. ty < length k.types) (flat_map (λ e. e.ret_ty ∷ e.arg_tys) (term_table k defs))
+
+abbrev pub TermsAreOfTypes : Type 0
+TermsAreOfTypes = HoldsOfTerms AreOfTypes
 
 -- the names of the terms that a type of this name makes: the full name of each variant, or the struct's name
 abbrev pub names_made : List ℕ → TypeValueTree → List (List ℕ)

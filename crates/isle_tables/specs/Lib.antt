@@ -5,4 +5,5 @@ pub mod Laws
 pub mod Written
 pub mod WorkedTypes
 pub mod WorkedTerms
+pub mod WorkedKnown
 pub mod Agreement

@@ -1,4 +1,5 @@
--- Which lists of definitions have a term table, and the table: the terms, the names and the converters.
+-- Which lists of definitions have a term table when they are read with known types, and the table: the terms, the names
+-- and the converters.
 use Rattle.std.specs.Prelude.{ℕ, ◌<◌, Bool, false, not, ◌&&◌, ◌||◌, ◌≡◌, List, [], ◌∷◌, ◌++◌, length, Option, Some, None, option_map, unwrap_or, All, Contains, IsTrue, map, is_some, slice_get, if◌then◌else◌}
 use Rattle.std.specs.List.{flat_map, filter_map, enumerate_from, list_any, find, position_from}
 use Rattle.std.specs.Str.{bytes_eq}

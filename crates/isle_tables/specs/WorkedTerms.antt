@@ -13,22 +13,27 @@ use Rattle.isle_tables.specs.WorkedTypes.{three_types}
 abbrev pub HasTerms : List Definition → Type 0
 HasTerms defs = IsValidTerms (types_of defs) defs
 
+-- a term that is neither pure, multi, partial nor rec
 abbrev pub no_flags : Flags
 no_flags = record { pure = false; multi = false; partial = false; rec = false }
 
+-- a variable in a pattern
 abbrev pub var : ℕ → List ℕ → PatternTree
 var n x = var_pattern (name n x) (at n)
 
+-- a wildcard
 abbrev pub any : ℕ → PatternTree
 any n = wildcard_pattern (at n)
 
+-- patterns that all must match
 abbrev pub both : ℕ → List PatternTree → PatternTree
 both n ps = and_pattern (patterns ps) (at n)
 
--- a term from numbers to numbers
+-- the declaration of a term from u8 to u8
 abbrev pub numbers : ℕ → List ℕ → DeclTree
 numbers n t = decl n t (codes "u8" ∷ []) (codes "u8")
 
+-- its entry: the id, where it stands, the number of its name, what it is
 abbrev pub number_term : ℕ → ℕ → ℕ → TermKindEntry → TermEntry
 number_term id n t kind = record { id = id; at = at n; name = t; arg_tys = 1 ∷ []; ret_ty = 1; kind = kind }
 

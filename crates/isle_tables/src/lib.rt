@@ -4,7 +4,8 @@
 #![tactic(auto)]
 
 ghost use Rattle.isle_tables.specs.Agreement.{TermsAgree, TypesAgree};
-ghost use Rattle.isle_tables.specs.Laws.{ConvertersStandOnce, LastDefinitionCounts, NamesStandOnce, NumbersStay, OwnTypesAreWellFormed, TermsAreFound, TermsHaveNames, TermsStandAtIds, TypesAreFound, TypesMakeTerms, TypesStandAtIds};
+ghost use Rattle.isle_tables.specs.Laws.{ConvertersStandOnce, LastDefinitionCounts, NamesStandOnce, NumbersStay, OwnTypesAreWellFormed, TermsAreFound, TermsAreOfTypes, TermsHaveNames, TermsStandAtIds, TypesAreFound, TypesMakeTerms, TypesStandAtIds};
+ghost use Rattle.isle_tables.specs.WorkedKnown.{IllFormed, NamesGoOn, OwnTypesDoNotCount, TypesHandedIn};
 ghost use Rattle.isle_tables.specs.WorkedTerms.{Alone, ByFunction, Chained, Converted, Doubled, Early, Effects, Infallible, OneFullName, RefusedTerms, Structs, Templates};
 ghost use Rattle.isle_tables.specs.WorkedTypes.{Constants, RefusedTypes, ThreeTypes, TwoTypes};
 
@@ -88,6 +89,26 @@ pub fn refused_terms()
     ensures { RefusedTerms }
 {}
 
+/// A list may name a type that is handed in.
+pub fn types_handed_in()
+    ensures { TypesHandedIn }
+{}
+
+/// A type that a list defines isn't known to its terms unless it is handed in.
+pub fn own_types_do_not_count()
+    ensures { OwnTypesDoNotCount }
+{}
+
+/// The names of terms go on after all names that were met before.
+pub fn names_go_on()
+    ensures { NamesGoOn }
+{}
+
+/// Types that break one demand each are not well formed.
+pub fn ill_formed()
+    ensures { IllFormed }
+{}
+
 /// On lists of primitive types, the type table is that of the definitions for carried forms, and lists are valid alike.
 pub fn types_agree()
     ensures { TypesAgree }
@@ -132,6 +153,11 @@ pub fn last_definition_counts()
 /// Each term stands at its id.
 pub fn terms_stand_at_ids()
     ensures { TermsStandAtIds }
+{}
+
+/// The types of the arguments and of the result of each term are types.
+pub fn terms_are_of_types()
+    ensures { TermsAreOfTypes }
 {}
 
 /// Each term has the number of its name, variants and structs too.
