@@ -8,6 +8,7 @@ use Rattle.isle_elaboration.specs.Typings.{Typing}
 use Rattle.isle_elaboration.specs.Elaborated.{elaborated_pattern, elaborated_expr, elaborated_rule, typed_rule, typed_rules, most_nested, most_expansions}
 use Rattle.isle_elaboration.specs.Elaborates.{ElaboratesPattern, ElaboratesExpr, ElaboratesRule, ElaboratesRules}
 
+-- what was made, the scope after it, and the number of expansions
 abbrev pub typing : {X : Type 0} → X → Scope → ℕ → Typing X
 typing q t n = record { made = q; scope = t; expansions = n }
 
@@ -17,11 +18,13 @@ PatternsAgree =
     (e : Setting) (multi : Bool) (d : ℕ) (p : PatternTree) (ty : ℕ) (s : Scope) (q : TypedPattern) (t : Scope) (n : ℕ)
     → ElaboratesPattern e multi d p ty s q t n ↔ (elaborated_pattern e multi d p ty s ≡ Some (typing q t n))
 
+-- likewise an expression
 abbrev pub ExprsAgree : Type 0
 ExprsAgree =
     (e : Setting) (flags : Flags) (d : ℕ) (x : ExprTree) (ty : Option ℕ) (s : Scope) (q : TypedExpr) (t : Scope) (n : ℕ)
     → ElaboratesExpr e flags d x ty s q t n ↔ (elaborated_expr e flags d x ty s ≡ Some (typing q t n))
 
+-- likewise a rule
 abbrev pub RulesAgree : Type 0
 RulesAgree =
     (e : Setting) (d id : ℕ) (r : RuleTree) (names : List (List ℕ)) (q : TypedRule) (t : Scope) (n : ℕ)
@@ -45,11 +48,13 @@ PatternsOneWay =
     (e : Setting) (multi : Bool) (c d : ℕ) (p : PatternTree) (ty : ℕ) (s : Scope) (q r : TypedPattern) (t u : Scope) (n m : ℕ)
     → ElaboratesPattern e multi c p ty s q t n → ElaboratesPattern e multi d p ty s r u m → (q ≡ r) × (t ≡ u) × (n ≡ m)
 
+-- likewise of an expression
 abbrev pub ExprsOneWay : Type 0
 ExprsOneWay =
     (e : Setting) (flags : Flags) (c d : ℕ) (x : ExprTree) (ty : Option ℕ) (s : Scope) (q r : TypedExpr) (t u : Scope) (n m : ℕ)
     → ElaboratesExpr e flags c x ty s q t n → ElaboratesExpr e flags d x ty s r u m → (q ≡ r) × (t ≡ u) × (n ≡ m)
 
+-- likewise of a rule
 abbrev pub RulesOneWay : Type 0
 RulesOneWay =
     (e : Setting) (c d id : ℕ) (r : RuleTree) (names : List (List ℕ)) (p q : TypedRule) (t u : Scope) (n m : ℕ)

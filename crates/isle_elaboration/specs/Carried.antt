@@ -22,9 +22,11 @@ setting_of defs expand anywhere = record {
   multi_anywhere = anywhere;
 }
 
+-- the typed rule and its number of expansions
 abbrev pub rule_and_count : Typing TypedRule → TypedRule × ℕ
 rule_and_count a = (a.made, a.expansions)
 
+-- a typed rule that took none
 abbrev pub without_expansion : TypedRule → TypedRule × ℕ
 without_expansion q = (q, 0)
 

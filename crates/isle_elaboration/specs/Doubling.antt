@@ -27,6 +27,7 @@ expansions_of p q r = option_map (λ a. a.expansions) (typed_rule twice_in_three
 abbrev pub nested : ℕ → PatternTree
 nested n = inside n (p_var (codes "x"))
 
+-- one use of d
 abbrev pub once_more : PatternTree
 once_more = p_term (codes "d") (p_any ∷ [])
 

@@ -13,13 +13,14 @@ use Rattle.isle_model.specs.Typed.{TypedPattern, match_bind, match_var, match_bo
 use Rattle.isle_elaboration.specs.Setting.{Setting, Scope, bool_type, expr_type, has_constructor, has_extractor}
 use Rattle.isle_elaboration.specs.Elaborates.{ElaboratesRule}
 use Rattle.isle_elaboration.specs.Results.{pattern_type}
-use Rattle.isle_elaboration.specs.Rows.{of_f}
+use Rattle.isle_elaboration.specs.SampleRules.{of_f}
 use Rattle.isle_elaboration.specs.Samples.{u8, typed, q_list, e_list}
 
 -- the type of a variable among those that can be used
 abbrev pub var_type : List (ℕ × ℕ) → ℕ → Option ℕ
 var_type vars x = look (λ y. y == x) vars
 
+-- whether there is a type and it is this one
 abbrev pub is_type : Option ℕ → ℕ → Bool
 is_type None ty = false
 is_type (Some t) ty = t == ty
@@ -28,10 +29,12 @@ is_type (Some t) ty = t == ty
 abbrev pub with_new : ℕ → ℕ → List (ℕ × ℕ) → Option (List (ℕ × ℕ))
 with_new x ty vars = if is_none (var_type vars x) then Some ((x, ty) ∷ vars) else None
 
+-- what holds of an entry, where there is one
 abbrev pub of_entry : Option TermEntry → (TermEntry → Bool) → Bool
 of_entry None f = false
 of_entry (Some t) f = f t
 
+-- what holds with these variables, where there are some
 abbrev pub with_vars : Option (List (ℕ × ℕ)) → (List (ℕ × ℕ) → Bool) → Bool
 with_vars None f = false
 with_vars (Some vars) f = f vars
@@ -83,11 +86,13 @@ abbrev mutual
   formed_lets p (typed_let_and x ty value rest) vars =
       if (expr_type value == ty) && is_formed_expr p value vars then then_option (with_new x ty vars) (λ more. formed_lets p rest more) else None
 
+-- the arguments of a rule, each at its type
 abbrev pub formed_list : Program → List TypedPattern → List ℕ → List (ℕ × ℕ) → Option (List (ℕ × ℕ))
 formed_list p [] [] vars = Some vars
 formed_list p (q ∷ qs) (ty ∷ tys) vars = if pattern_type q == ty then then_option (formed_pattern p q vars) (λ more. formed_list p qs tys more) else None
 formed_list p _ _ vars = None
 
+-- if-lets in order, each pattern at its expression's type
 abbrev pub formed_iflets : Program → List TypedIfLet → List (ℕ × ℕ) → Option (List (ℕ × ℕ))
 formed_iflets p [] vars = Some vars
 formed_iflets p (i ∷ is) vars =
@@ -99,6 +104,7 @@ is_formed_rule p r =
     of_entry (slice_get p.terms r.root_term) (λ t.
     with_vars (then_option (formed_list p r.args t.arg_tys []) (formed_iflets p r.iflets)) (λ vars. (expr_type r.rhs == t.ret_ty) && is_formed_expr p r.rhs vars))
 
+-- the program of a setting and typed rules
 abbrev pub program_in : Setting → List TypedRule → Program
 program_in e rules = record { types = e.types; constants = e.constants; terms = e.terms; rules = rules }
 
@@ -113,6 +119,7 @@ RulesAreFormed =
 abbrev pub of_two : Program
 of_two = program_in (of_f (u8 ∷ u8 ∷ [])) []
 
+-- a rule of that term
 abbrev pub with_sides : List TypedPattern → TypedExpr → TypedRule
 with_sides args rhs = typed 0 1 0 (pos 0) None [] args rhs
 

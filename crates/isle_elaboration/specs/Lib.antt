@@ -5,7 +5,7 @@ pub mod Elaborated
 pub mod Elaborates
 pub mod Agreement
 pub mod Samples
-pub mod Rows
+pub mod SampleRules
 pub mod Refused
 pub mod Carried
 pub mod Doubling

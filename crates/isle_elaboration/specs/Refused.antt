@@ -6,7 +6,7 @@ use Rattle.isle_model.specs.Typed.{TypedExpr, match_bind, match_term, match_any,
 use Rattle.isle_elaboration.specs.Setting.{Setting, bool_type}
 use Rattle.isle_elaboration.specs.Elaborated.{elaborated_rule, TypedRules, names_of_rule, typed_rule}
 use Rattle.isle_elaboration.specs.Samples.{at, name, p_var, p_bind, p_int, p_term, p_any, p_and, p_arg, x_var, x_int, x_term, rule, rule_first, iflet, flags, no_flags, entry, by_rules, by_constructor, by_extractor, by_pattern, tables, names_with, u8, q_list, e_list, var, typed}
-use Rattle.isle_elaboration.specs.Rows.{Become, of_f}
+use Rattle.isle_elaboration.specs.SampleRules.{Become, of_f}
 
 -- (decl pure e (u8) u8), (extern extractor e e_fn), (decl f (u8) u8), (rule (f x) (if-let y (e x)) y): e has no constructor
 abbrev pub IfLetHasNone : Type 0
@@ -65,9 +65,11 @@ abbrev pub multi_extractor : Bool → Bool → Setting
 multi_extractor anywhere multi =
     record (tables [] [] (entry 0 13 (u8 ∷ []) u8 (by_extractor (flags false true false) 15) ∷ entry 1 14 (u8 ∷ []) u8 (by_rules (flags false multi false)) ∷ [])) { multi_anywhere = anywhere }
 
+-- its rule
 abbrev pub multi_ext : List RuleTree
 multi_ext = rule 3 (p_term (codes "f") (p_term (codes "me") (p_var (codes "x") ∷ []) ∷ [])) (x_var (codes "x")) ∷ []
 
+-- what it becomes where it may
 abbrev pub multi_ext_rules : TypedRules
 multi_ext_rules = record {
   rules = typed 0 3 1 (pos 0) (Some 14) (var 0 16 u8 ∷ []) (match_term u8 0 (q_list (match_bind u8 0 (match_any u8) ∷ [])) ∷ []) (make_var u8 0) ∷ [];
@@ -116,6 +118,7 @@ converted =
     record (tables (primitive_type 13 13 (at 0) ∷ []) (13 ∷ []) (entry 0 14 (u8 ∷ []) 13 (by_constructor no_flags 16) ∷ entry 1 15 (u8 ∷ []) 13 (by_rules no_flags) ∷ []))
     { converters = ((u8, 13), 0) ∷ [] }
 
+-- the right side becomes a use of w
 abbrev pub ConvertedBecomes : Type 0
 ConvertedBecomes =
     Become converted (codes "V" ∷ codes "w" ∷ codes "f" ∷ codes "w_fn" ∷ []) (rule 5 (p_term (codes "f") (p_var (codes "x") ∷ [])) (x_var (codes "x")) ∷ [])
@@ -141,9 +144,11 @@ endless expand =
     (entry 0 15 (13 ∷ []) 13 (by_extractor no_flags 18) ∷ entry 1 16 (13 ∷ []) 14 (by_pattern (p_term (codes "k") (p_arg 0 ∷ []))) ∷ entry 2 17 (14 ∷ []) u8 (by_rules no_flags) ∷ []))
     { converters = ((13, 14), 1) ∷ []; expand = expand }
 
+-- its names
 abbrev pub endless_names : List (List ℕ)
 endless_names = codes "A" ∷ codes "B" ∷ codes "k" ∷ codes "conv" ∷ codes "f" ∷ codes "k_fn" ∷ []
 
+-- its rule
 abbrev pub endless_rule : RuleTree
 endless_rule = rule 8 (p_term (codes "f") (p_term (codes "k") (p_any ∷ []) ∷ [])) (x_int (pos 1))
 
@@ -170,6 +175,7 @@ abbrev pub inside : ℕ → PatternTree → PatternTree
 inside zero p = p
 inside (suc n) p = p_term (codes "d") (inside n p ∷ [])
 
+-- the expansions that (rule (f p) 1) takes
 abbrev pub expansions_in : PatternTree → PatternTree → Option ℕ
 expansions_in template p = option_map (λ a. a.expansions) (typed_rule (of_template template) 0 (rule 3 (p_term (codes "f") (p ∷ [])) (x_int (pos 1))) (names_with (codes "d" ∷ codes "f" ∷ [])))
 
@@ -177,6 +183,7 @@ expansions_in template p = option_map (λ a. a.expansions) (typed_rule (of_templ
 abbrev pub twice : PatternTree
 twice = p_and (p_arg 0 ∷ p_arg 0 ∷ [])
 
+-- one, two and three uses
 abbrev pub ExpansionsDouble : Type 0
 ExpansionsDouble =
     (expansions_in twice (inside 1 (p_var (codes "x"))) ≡ Some 1) × (expansions_in twice (inside 2 (p_var (codes "x"))) ≡ Some 3) × (expansions_in twice (inside 3 (p_var (codes "x"))) ≡ Some 7)
@@ -185,6 +192,7 @@ ExpansionsDouble =
 abbrev pub once : PatternTree
 once = p_and (p_arg 0 ∷ [])
 
+-- at the limit, and past it
 abbrev pub ManyMayNest : Type 0
 ManyMayNest = (expansions_in once (inside 256 p_any) ≡ Some 256) × (expansions_in once (inside 257 p_any) ≡ None)
 
@@ -192,9 +200,11 @@ ManyMayNest = (expansions_in once (inside 256 p_any) ≡ Some 256) × (expansion
 abbrev pub with_own : PatternTree
 with_own = p_and (p_arg 0 ∷ p_var (codes "z") ∷ [])
 
+-- the rule (f (d x)) to z
 abbrev pub own_rule : RuleTree
 own_rule = rule 3 (p_term (codes "f") (p_term (codes "d") (p_var (codes "x") ∷ []) ∷ [])) (x_var (codes "z"))
 
+-- the argument first, then the variable of the template
 abbrev pub TemplateVariablesAreTheRules : Type 0
 TemplateVariablesAreTheRules =
     Become (of_template with_own) (codes "d" ∷ codes "f" ∷ []) (own_rule ∷ [])
@@ -211,11 +221,13 @@ TemplateVariablesAreTheRules =
 abbrev pub one_rule : PatternTree → PatternTree → List RuleTree
 one_rule p q = rule 4 (p_term (codes "f") (p ∷ q ∷ [])) (x_int (pos 1)) ∷ []
 
+-- its tables
 abbrev pub of_constant : Setting
 of_constant =
     record (tables [] [] (entry 0 14 (u8 ∷ bool_type ∷ []) u8 (by_rules no_flags) ∷ entry 1 15 (u8 ∷ []) u8 (by_extractor no_flags 16) ∷ []))
     { constants = (13, 2) ∷ []; converters = ((2, u8), 1) ∷ ((bool_type, u8), 1) ∷ ((u8, bool_type), 1) ∷ [] }
 
+-- a constant, a boolean and an integer, each at another type
 abbrev pub LiteralsAreNotConverted : Type 0
 LiteralsAreNotConverted =
     Become of_constant (codes "X" ∷ codes "f" ∷ codes "w" ∷ codes "w_fn" ∷ []) (one_rule (prim_pattern (name (codes "X")) (at 0)) (bool_pattern true (at 0))) None
@@ -231,12 +243,15 @@ chained =
     ∷ entry 3 17 (u8 ∷ []) 13 (by_rules no_flags) ∷ []))
     { converters = ((u8, 13), 0) ∷ ((u8, 2), 1) ∷ [] }
 
+-- its names
 abbrev pub chained_names : List (List ℕ)
 chained_names = codes "V" ∷ codes "w" ∷ codes "wide" ∷ codes "g" ∷ codes "f" ∷ codes "w_fn" ∷ codes "wide_fn" ∷ codes "g_fn" ∷ []
 
+-- its rule, with this right side
 abbrev pub chained_rule : ExprTree → RuleTree
 chained_rule x = rule 9 (p_term (codes "f") (p_var (codes "x") ∷ [])) x
 
+-- the right side, and the number of expansions
 abbrev pub right_and_count : ℕ → ExprTree → Option (TypedExpr × ℕ)
 right_and_count d x = option_map (λ a. (a.made.rhs, a.expansions)) (elaborated_rule chained d 0 (chained_rule x) (names_with chained_names))
 

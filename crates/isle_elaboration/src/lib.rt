@@ -4,7 +4,7 @@
 #![tactic(auto)]
 
 ghost use Rattle.isle_elaboration.specs.Agreement.{PatternsAgree, ExprsAgree, RulesAgree, TypedWithinLimits, MoreMayNest, PatternsOneWay, ExprsOneWay, RulesOneWay, ListsAgree};
-ghost use Rattle.isle_elaboration.specs.Rows.{ConstEqBecomes, FallBecomes, EqualBecomes, VariantEqBecomes, CycleBecomes, ConflictBecomes, ExtractBecomes, PartialBecomes, EffectsBecomes, MultiBecomes, ConstantsBecome};
+ghost use Rattle.isle_elaboration.specs.SampleRules.{ConstEqBecomes, FallBecomes, EqualBecomes, VariantEqBecomes, CycleBecomes, ConflictBecomes, ExtractBecomes, PartialBecomes, EffectsBecomes, MultiBecomes, ConstantsBecome};
 ghost use Rattle.isle_elaboration.specs.Carried.{CarriedRulesAgree};
 ghost use Rattle.isle_elaboration.specs.Doubling.{NestedUsesDouble, LimitIsMet};
 ghost use Rattle.isle_elaboration.specs.Results.{TypesAreExpected, VariablesAtPlaces, NamesStay, NamesStayInLists};

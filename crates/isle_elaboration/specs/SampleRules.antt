@@ -56,6 +56,7 @@ variant_eq =
     tables (enum_type 13 13 false false (record { name = 15; full_name = 14; id = 0; fields = struct_entries (record { name = 16; id = 0; ty = u8 } ∷ []); at = at 0 } ∷ []) (at 0) ∷ [])
     (13 ∷ []) (entry 0 17 (13 ∷ 13 ∷ []) 13 (by_rules no_flags) ∷ entry 1 14 (u8 ∷ []) 13 (variant_term 0) ∷ [])
 
+-- the name over the variant is the variable of both arguments
 abbrev pub VariantEqBecomes : Type 0
 VariantEqBecomes =
     Become variant_eq (codes "T" ∷ codes "T.A" ∷ codes "A" ∷ codes "v" ∷ codes "g" ∷ [])
@@ -75,6 +76,7 @@ cycle =
     (at 0) ∷ [])
     (13 ∷ []) (entry 0 19 (13 ∷ []) u8 (by_rules no_flags) ∷ entry 1 14 (13 ∷ []) 13 (variant_term 0) ∷ entry 2 17 [] 13 (variant_term 1) ∷ [])
 
+-- the variable is used inside what it names
 abbrev pub CycleBecomes : Type 0
 CycleBecomes =
     Become cycle (codes "T" ∷ codes "T.A" ∷ codes "A" ∷ codes "v" ∷ codes "T.Z" ∷ codes "Z" ∷ codes "f" ∷ [])
@@ -136,9 +138,11 @@ effects =
     (entry 0 18 (u8 ∷ []) u8 (by_constructor (flags true false true) 21) ∷ entry 1 19 (u8 ∷ []) u8 (by_constructor no_flags 22)
     ∷ entry 2 20 (u8 ∷ []) 13 (by_rules (flags false false true)) ∷ entry 3 14 (u8 ∷ u8 ∷ []) 13 (variant_term 0) ∷ [])
 
+-- its names
 abbrev pub effects_names : List (List ℕ)
 effects_names = codes "T" ∷ codes "T.P" ∷ codes "P" ∷ codes "a" ∷ codes "b" ∷ codes "pp" ∷ codes "im" ∷ codes "f" ∷ codes "pp_fn" ∷ codes "im_fn" ∷ []
 
+-- the pure and the impure call stand inside the variant
 abbrev pub EffectsBecomes : Type 0
 EffectsBecomes =
     Become effects effects_names
