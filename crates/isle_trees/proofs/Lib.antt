@@ -6,3 +6,7 @@ pub mod Classes
 pub mod Taking
 pub mod SoundRuns
 pub mod FallSound
+pub mod Members
+pub mod Contents
+pub mod Binding
+pub mod BindOrders
