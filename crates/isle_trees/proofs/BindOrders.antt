@@ -13,35 +13,13 @@ use Rattle.isle_model.specs.SetRuns.{IsPureAt}
 use Rattle.isle_trees.proofs.Lists.{nothing_in, in_head, in_tail, in_cases, in_alone}
 use Rattle.isle_trees.proofs.Members.{each_passes, all_members, in_flat_map, from_flat_map, member_found, member_is_in}
 use Rattle.isle_trees.proofs.Contents.{SourcesBefore}
+use Rattle.isle_trees.proofs.Flat.{to_bind, bind_last}
 use Rattle.isle_trees.proofs.Binding.{content, content_of, Held, held_as, binds_now, keeps_bound, keeps_in_place}
 
 -- each site without impure calls that waits for nothing and whose sources have contents has one
 abbrev pub Finds : World → Type 0
 Finds w = (s : ℕ) → IsPureAt w.sites s → waits (slice_get w.sites s) ≡ false
     → All (λ a. IsTrue (is_some (content w a))) (sources_at w.sites s) → IsTrue (is_some (content w s))
-
-after_bound : (w : World) (ss ts : List ℕ) (b : Bound) (go : Env → List Call → Bound)
-    → ((env : Env) (calls : List Call) → go env calls ≡ then_bind (bind_all w env calls ss) (λ env' calls'. bind_all w env' calls' ts))
-    → then_bind b go ≡ then_bind (then_bind b (λ env calls. bind_all w env calls ss)) (λ env' calls'. bind_all w env' calls' ts)
-after_bound w ss ts (all_bound env calls) go h = h env calls
-after_bound w ss ts (unwrap_failed calls) go h = refl
-after_bound w ss ts (no_content_there calls) go h = refl
-
-bind_append : (w : World) (ss ts : List ℕ) (env : Env) (calls : List Call) → bind_all w env calls (ss ++ ts) ≡ then_bind (bind_all w env calls ss) (λ env' calls'. bind_all w env' calls' ts)
-bind_append w [] ts env calls = refl
-bind_append w (s ∷ ss) ts env calls =
-    after_bound w ss ts (bind_site w env calls s (slice_get w.sites s)) (λ env' calls'. bind_all w env' calls' (ss ++ ts)) (λ env' calls'. bind_append w ss ts env' calls')
-
-abbrev to_bind : List Site → List ℕ → List ℕ
-to_bind sites ss = filter (λ s. not (is_in_place (slice_get sites s))) ss
-
-bind_last : (w : World) (env env' env'' : Env) (done : List ℕ) (s : ℕ) → bind_all w env [] (to_bind w.sites done) ≡ all_bound env' [] → bind_all w env' [] (to_bind w.sites (s ∷ [])) ≡ all_bound env'' []
-    → bind_all w env [] (to_bind w.sites (done ++ s ∷ [])) ≡ all_bound env'' []
-bind_last w env env' env'' done s h k =
-    ap (bind_all w env []) (filter-append (λ t. not (is_in_place (slice_get w.sites t))) done (s ∷ []))
-    ∙ bind_append w (to_bind w.sites done) (to_bind w.sites (s ∷ [])) env []
-    ∙ ap (λ b. then_bind b (λ e calls. bind_all w e calls (to_bind w.sites (s ∷ [])))) h
-    ∙ k
 
 module _ (w : World) (before : SourcesBefore w.sites) (finds : Finds w) (brought emitted : List ℕ) (more : (s : ℕ) → IsTrue (is_in s brought) → IsTrue (is_in s emitted)) (env : Env)
     (Fine : ℕ → Type 0) (pure : (s : ℕ) → Fine s → IsPureAt w.sites s) where

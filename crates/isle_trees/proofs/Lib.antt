@@ -10,3 +10,4 @@ pub mod Members
 pub mod Contents
 pub mod Binding
 pub mod BindOrders
+pub mod Fields
