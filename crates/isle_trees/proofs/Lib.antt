@@ -11,3 +11,5 @@ pub mod Contents
 pub mod Binding
 pub mod BindOrders
 pub mod Fields
+pub mod Finding
+pub mod Demanded
