@@ -13,3 +13,4 @@ pub mod BindOrders
 pub mod Fields
 pub mod Finding
 pub mod Demanded
+pub mod Standing
