@@ -14,3 +14,4 @@ pub mod Fields
 pub mod Finding
 pub mod Demanded
 pub mod Standing
+pub mod SoundChoice

@@ -4,6 +4,7 @@
 #![tactic(auto)]
 
 ghost use Rattle.isle_model.specs.Runs.{SoundTreesRun};
+ghost use Rattle.isle_model.specs.SetRuns.{SoundTreesChoose};
 ghost use Rattle.isle_model.specs.Values.{Value, value_eq};
 ghost use Rattle.isle_trees.specs.Fall.{ExchangedIsNotSound, FallIsServed, FallIsSound, FallRuns};
 ghost use Rattle.std.specs.Prelude.{◌≡◌, Decides};
@@ -16,6 +17,11 @@ pub fn value_eq_is_exact()
 /// The run of a sound tree of a set over arguments and constants is a choice by priority.
 pub fn sound_tree_runs()
     ensures { SoundTreesRun }
+{}
+
+/// The run of a sound tree of any set whose rules go over no calls is a choice by priority.
+pub fn sound_trees_choose()
+    ensures { SoundTreesChoose }
 {}
 
 /// The sample's tree answers 10 at 1, and 2 at 2: what no arm meets falls through to the return.
