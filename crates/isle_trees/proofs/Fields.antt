@@ -179,7 +179,7 @@ struct_met m ty n (one (of_struct t vs)) cs e =
 struct_met m ty n (one _) cs e = absurd (none-some cs e)
 struct_met m ty n _ cs e = absurd (none-some cs e)
 
-present_met : (m : Meaning) (x : Content) (cs : List Content) → content_fields m is_present x ≡ Some cs → (c : Content) × (x ≡ just c) × (cs ≡ c ∷ [])
+pub present_met : (m : Meaning) (x : Content) (cs : List Content) → content_fields m is_present x ≡ Some cs → (c : Content) × (x ≡ just c) × (cs ≡ c ∷ [])
 present_met m (just c) cs e = (c, refl, same_Some cs (c ∷ []) (sym e))
 present_met m (one v) cs e = absurd (none-some cs e)
 present_met m _ cs e = absurd (none-some cs e)

@@ -15,3 +15,4 @@ pub mod Finding
 pub mod Demanded
 pub mod Standing
 pub mod SoundChoice
+pub mod ExtractServed

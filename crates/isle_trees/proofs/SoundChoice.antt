@@ -8,9 +8,9 @@ use Rattle.isle_model.specs.Values.{Value, value_eq}
 use Rattle.isle_model.specs.Meaning.{Content, one}
 use Rattle.isle_model.specs.Outcome.{Outcome, ran_through, then_option}
 use Rattle.isle_model.specs.Sites.{Constraint, SetRule, SiteSet}
-use Rattle.isle_model.specs.Trees.{Tree, step, match_at, equal_at, arm, Marked, m_no_step, m_step, m_match, m_equal, m_loop, m_return, MarkedArms, m_no_arm, m_arm, marks, marks_arms, plain, plain_arms, return_of}
+use Rattle.isle_model.specs.Trees.{Tree, step, match_at, equal_at, Arms, arm, Marked, m_no_step, m_step, m_match, m_equal, m_loop, m_return, MarkedArms, m_no_arm, m_arm, marks, marks_arms, plain, plain_arms, return_of}
 use Rattle.isle_model.specs.Places.{Around, nothing_around, is_in, joins_in, available, below, all_below, constraint_at, fields_of, field_sites, bind_order, return_uses, in_arm, in_equal, after_step}
-use Rattle.isle_model.specs.Run.{World, Env, as_value, at_start, bind_all, all_bound, content_fields, bind_fields, on_met, on_equal, with_env, with_content, ending_at, or_next, run_tree, run_arms, run}
+use Rattle.isle_model.specs.Run.{World, Env, used, as_value, at_start, bind_all, all_bound, content_fields, bind_fields, on_met, on_equal, with_env, with_content, ending_at, or_next, run_tree, run_arms, run}
 use Rattle.isle_model.specs.Sound.{comes_before, NoneHigher, AllAsk, AllJoin, AllGoOver, SoundSteps, SoundArms, ReturnsEach, IsSound}
 use Rattle.isle_model.specs.Collects.{meets, value_at, demands_hold}
 use Rattle.isle_model.specs.SetRuns.{IsPureAt, IsTestedSet, ServesTests, IsTaken, ChoosesFrom, SoundTreesChoose}
@@ -51,11 +51,11 @@ module _ (w : World) (rules : List SetRule) (built : IsTestedSet (record { rules
   abbrev Holds : SetRule → Type 0
   Holds r = demands_hold w [] r ≡ true
 
-  abbrev Finds_ : List ℕ → Outcome → Type 0
-  Finds_ = Found rules Holds (IsTaken w)
+  abbrev FoundHere : List ℕ → Outcome → Type 0
+  FoundHere = Found rules Holds (IsTaken w)
 
-  abbrev None_ : List ℕ → Type 0
-  None_ = NoneHolds rules Holds (IsTaken w)
+  abbrev NoneHere : List ℕ → Type 0
+  NoneHere = NoneHolds rules Holds (IsTaken w)
 
   known_left : (here later : List ℕ) → Known (here ++ later) → Known here
   known_left here later known i k = known i (Contains-append_left here later i k)
@@ -98,14 +98,14 @@ module _ (w : World) (rules : List SetRule) (built : IsTestedSet (record { rules
       ]
 
   none_after : (arms : MarkedArms) (ar : Around) (s : ℕ) (c : Constraint) (i : ℕ) (r : SetRule) → slice_get rules i ≡ Some r → Contains r.constraints (s, c)
-      → meets w.meaning c (content w s) ≡ true → SoundArms set false ar true s (Some c) arms → None_ (marks_arms arms)
+      → meets w.meaning c (content w s) ≡ true → SoundArms set false ar true s (Some c) arms → NoneHere (marks_arms arms)
   none_after arms ar s c i r get k met sound j q l at holds =
       let later = arms_after arms ar s c sound j q l at in
       let m = constraint_in q.constraints s later.0 later.1 in
       let same = served.apart r q s c later.0 (member_from_get rules i r get) (member_from_get rules j q at) k m met (demand_met w q s later.0 holds m) in
       before_itself c (subst (λ d. IsTrue (comes_before c d)) (sym same) later.2)
 
-  none_asking : (ids : List ℕ) (s : ℕ) (c : Constraint) → meets w.meaning c (content w s) ≡ false → AllAsk rules ids s c → None_ ids
+  none_asking : (ids : List ℕ) (s : ℕ) (c : Constraint) → meets w.meaning c (content w s) ≡ false → AllAsk rules ids s c → NoneHere ids
   none_asking ids s c unmet ask j q l at holds =
       false≢true (sym unmet ∙ demand_met w q s c holds (constraint_in q.constraints s c (ask j q l at)))
 
@@ -114,7 +114,7 @@ module _ (w : World) (rules : List SetRule) (built : IsTestedSet (record { rules
   Kept emitted t = IsTrue (is_in t emitted)
 
   -- with more emitted
-  wider : (ar : Around) (ss : List ℕ) → Around
+  abbrev wider : (ar : Around) (ss : List ℕ) → Around
   wider ar ss = record { tested = ar.tested; joined = ar.joined; looped = ar.looped; brought = ar.brought; emitted = all_below w.sites ss ++ ar.emitted }
 
   at_wider : (ar : Around) (ss : List ℕ) (env env' : Env) → At w ar env → Held w env' (Kept (all_below w.sites ss ++ ar.emitted)) → At w (wider ar ss) env'
@@ -173,7 +173,7 @@ module _ (w : World) (rules : List SetRule) (built : IsTestedSet (record { rules
       (λ u c. let r = from_flat_map (λ x. below (suc x) w.sites x) ss u c in pure r.0 r.1 u r.2)
 
   -- 4. an arm that is met runs its body with the fields bound
-  arm_met : (s : ℕ) (c : Constraint) (fields : List (Option ℕ)) (body : Tree) (rest : _) (x : Content) (cs : List Content) (env env' : Env) → content_fields w.meaning c x ≡ Some cs → bind_fields fields cs env ≡ Some env'
+  arm_met : (s : ℕ) (c : Constraint) (fields : List (Option ℕ)) (body : Tree) (rest : Arms) (x : Content) (cs : List Content) (env env' : Env) → content_fields w.meaning c x ≡ Some cs → bind_fields fields cs env ≡ Some env'
       → run_arms (arm c fields body rest) w x env at_start ≡ run_tree body w env' at_start
   arm_met s c fields body rest x cs env env' met bound =
       ap (λ o. on_met o fields env at_start (λ e. run_tree body w e at_start) (run_arms rest w x env at_start)) met
@@ -185,15 +185,27 @@ module _ (w : World) (rules : List SetRule) (built : IsTestedSet (record { rules
       fields_bound w built.sources s fields cs env (Kept (all_below w.sites (s ∷ []) ++ ar.emitted)) at.held (used_kept ar (s ∷ []) s (in_head s []))
       (subst (λ l. FieldsHold w built.sources s l cs) (sym same) hold)
 
-  arm_unmet : (c : Constraint) (fields : List (Option ℕ)) (body : Tree) (rest : _) (x : Content) (env : Env) → content_fields w.meaning c x ≡ None
+  arm_unmet : (c : Constraint) (fields : List (Option ℕ)) (body : Tree) (rest : Arms) (x : Content) (env : Env) → content_fields w.meaning c x ≡ None
       → run_arms (arm c fields body rest) w x env at_start ≡ run_arms rest w x env at_start
   arm_unmet c fields body rest x env unmet =
       ap (λ o. on_met o fields env at_start (λ e. run_tree body w e at_start) (run_arms rest w x env at_start)) unmet
 
-  equal_found : (u v : Value) (body : Outcome) (here : List ℕ) → (u ≡ v → Finds_ here body) → ((u ≡ v → ⊥) → None_ here) → Finds_ here (on_equal (Some u) (Some v) at_start body)
+  match_runs : (binds order : List ℕ) (source : ℕ) (arms : Arms) (rest : Tree) (env env' : Env) (x : Content) → binds ≡ order → bind_all w env [] order ≡ all_bound env' [] → used w env' source ≡ Some x
+      → run_tree (step binds (match_at source arms) rest) w env at_start ≡ or_next (run_arms arms w x env' at_start) (run_tree rest w env')
+  match_runs binds order source arms rest env env' x same bound read =
+      step_runs w binds (match_at source arms) rest env env' (ap (bind_all w env []) same ∙ bound)
+      ∙ ap (λ o. or_next (with_content o at_start (λ c. run_arms arms w c env' at_start)) (run_tree rest w env')) read
+
+  equal_runs : (binds order : List ℕ) (a b : ℕ) (body rest : Tree) (env env' : Env) (u v : Value) → binds ≡ order → bind_all w env [] order ≡ all_bound env' [] → used w env' a ≡ Some (one u) → used w env' b ≡ Some (one v)
+      → run_tree (step binds (equal_at a b body) rest) w env at_start ≡ or_next (on_equal (Some u) (Some v) at_start (run_tree body w env' at_start)) (run_tree rest w env')
+  equal_runs binds order a b body rest env env' u v same bound read_a read_b =
+      step_runs w binds (equal_at a b body) rest env env' (ap (bind_all w env []) same ∙ bound)
+      ∙ ap₂ (λ s t. or_next (on_equal (then_option s as_value) (then_option t as_value) at_start (run_tree body w env' at_start)) (run_tree rest w env')) read_a read_b
+
+  equal_found : (u v : Value) (body : Outcome) (here : List ℕ) → (u ≡ v → FoundHere here body) → ((u ≡ v → ⊥) → NoneHere here) → FoundHere here (on_equal (Some u) (Some v) at_start body)
   equal_found u v body here same other =
       elim (cases_Bool (value_eq u v)) [
-        | inl t ↦ subst (Finds_ here) (sym (cond-true (value_eq u v) body (ending_at ran_through at_start) t)) (same (eq_means u v t))
+        | inl t ↦ subst (FoundHere here) (sym (cond-true (value_eq u v) body (ending_at ran_through at_start) t)) (same (eq_means u v t))
         | inr n ↦
             inr (other (λ e. both_ways (value_eq u v) n (ap (value_eq u) (sym e) ∙ eq_same u)), cond-false (value_eq u v) body (ending_at ran_through at_start) n)
       ]
@@ -204,7 +216,7 @@ module _ (w : World) (rules : List SetRule) (built : IsTestedSet (record { rules
 
   -- 5. the run
   mutual
-    steps_run : (m : Marked) (ar : Around) (env : Env) → Known (marks m) → SoundSteps set false ar true m → At w ar env → Finds_ (marks m) (run_tree (plain rules m) w env at_start)
+    steps_run : (m : Marked) (ar : Around) (env : Env) → Known (marks m) → SoundSteps set false ar true m → At w ar env → FoundHere (marks m) (run_tree (plain rules m) w env at_start)
     steps_run m_no_step ar env known sound at = inr (λ j q k get holds. nothing_in j k, refl)
     steps_run (m_step binds (m_match source arms) rest) ar env known sound at =
         let inside = sound.1 in
@@ -214,11 +226,8 @@ module _ (w : World) (rules : List SetRule) (built : IsTestedSet (record { rules
         let b = binds_here ar env at (source ∷ []) (λ s c. subst (λ t. IsTrue (available w.sites ar t)) (in_alone source s c) (inside.0 refl)) (λ s c. subst (λ t. (u : ℕ) → Contains (below (suc t) w.sites t) u → IsPureAt w.sites u) (in_alone source s c) pure) in
         let now = at_wider ar (source ∷ []) env b.0 at b.2 in
         let read = reads w built.sources b.0 (Kept (all_below w.sites (source ∷ []) ++ ar.emitted)) b.2 source (used_kept ar (source ∷ []) source (in_head source [])) in
-        let path =
-        ap (λ l. run_tree (step l (match_at source (plain_arms rules arms)) (plain rules rest)) w env at_start) (sound.0 refl)
-        ∙ step_runs w (bind_order w.sites ar (source ∷ [])) (match_at source (plain_arms rules arms)) (plain rules rest) env b.0 b.1
-        ∙ ap (λ o. or_next (with_content o at_start (λ c. run_arms (plain_arms rules arms) w c b.0 at_start)) (run_tree (plain rules rest) w b.0)) (read ∙ x.1) in
-        subst (Finds_ (marks_arms arms ++ marks rest)) (sym path)
+        let path = match_runs binds (bind_order w.sites ar (source ∷ [])) source (plain_arms rules arms) (plain rules rest) env b.0 x.0 (sound.0 refl) b.1 (read ∙ x.1) in
+        subst (FoundHere (marks_arms arms ++ marks rest)) (sym path)
         (next_found rules Holds (IsTaken w) (taken_ends w single) (marks_arms arms) (marks rest) (run_arms (plain_arms rules arms) w x.0 b.0 at_start) (run_tree (plain rules rest) w b.0)
         (arms_run arms ar b.0 source None x.0 here inside.2 x.1 now)
         sound.2
@@ -238,18 +247,14 @@ module _ (w : World) (rules : List SetRule) (built : IsTestedSet (record { rules
         let v = served.values r.1 b a y.0 member (joined_back r.1.classes a b join) y.1 in
         let at_a = x.1 ∙ ap Some u.1 in
         let at_b = y.1 ∙ ap Some v.1 in
-        let uses = a ∷ (b ∷ []) in
         let m = binds_here ar env at (a ∷ (b ∷ []))
         (λ s c. elim (in_cases a s (b ∷ []) c) [ inl e ↦ subst (λ t. IsTrue (available w.sites ar t)) e (inside.0 refl).0 | inr d ↦ subst (λ t. IsTrue (available w.sites ar t)) (in_alone b s d) (inside.0 refl).1 ])
         (λ s c. elim (in_cases a s (b ∷ []) c) [ inl e ↦ subst (λ t. (z : ℕ) → Contains (below (suc t) w.sites t) z → IsPureAt w.sites z) e pure_a | inr d ↦ subst (λ t. (z : ℕ) → Contains (below (suc t) w.sites t) z → IsPureAt w.sites z) (in_alone b s d) pure_b ]) in
         let now = at_wider ar (a ∷ (b ∷ [])) env m.0 at m.2 in
         let read_a = reads w built.sources m.0 (Kept (all_below w.sites (a ∷ (b ∷ [])) ++ ar.emitted)) m.2 a (used_kept ar (a ∷ (b ∷ [])) a (in_head a (b ∷ []))) in
         let read_b = reads w built.sources m.0 (Kept (all_below w.sites (a ∷ (b ∷ [])) ++ ar.emitted)) m.2 b (used_kept ar (a ∷ (b ∷ [])) b (in_tail a b (b ∷ []) (in_head b []))) in
-        let path =
-        ap (λ l. run_tree (step l (equal_at a b (plain rules body)) (plain rules rest)) w env at_start) (sound.0 refl)
-        ∙ step_runs w (bind_order w.sites ar (a ∷ (b ∷ []))) (equal_at a b (plain rules body)) (plain rules rest) env m.0 m.1
-        ∙ ap₂ (λ s t. or_next (on_equal (then_option s as_value) (then_option t as_value) at_start (run_tree (plain rules body) w m.0 at_start)) (run_tree (plain rules rest) w m.0)) (read_a ∙ at_a) (read_b ∙ at_b) in
-        subst (Finds_ (marks body ++ marks rest)) (sym path)
+        let path = equal_runs binds (bind_order w.sites ar (a ∷ (b ∷ []))) a b (plain rules body) (plain rules rest) env m.0 u.0 v.0 (sound.0 refl) m.1 (read_a ∙ at_a) (read_b ∙ at_b) in
+        subst (FoundHere (marks body ++ marks rest)) (sym path)
         (next_found rules Holds (IsTaken w) (taken_ends w single) (marks body) (marks rest) (on_equal (Some u.0) (Some v.0) at_start (run_tree (plain rules body) w m.0 at_start)) (run_tree (plain rules rest) w m.0)
         (equal_found u.0 v.0 (run_tree (plain rules body) w m.0 at_start) (marks body)
         (λ same. steps_run body (in_equal set ar a b) m.0 here inside.3 (at_equal ar a b m.0 now (at_a ∙ ap (λ z. Some (one z)) same ∙ sym at_b)))
@@ -267,14 +272,14 @@ module _ (w : World) (rules : List SetRule) (built : IsTestedSet (record { rules
         let path =
         ap (λ l. run_tree (step l (return_of (slice_get rules rule)) (plain rules rest)) w env at_start) (sound.0 refl)
         ∙ ap (λ o. run_tree (step (bind_order w.sites ar (return_uses o)) (return_of o) (plain rules rest)) w env at_start) r.1 in
-        subst (Finds_ (rule ∷ marks rest)) (sym path)
+        subst (FoundHere (rule ∷ marks rest)) (sym path)
         (return_found rules Holds (IsTaken w) rule r.0 (marks rest) _ r.1
         (holds_here w rules built served ar env at r.0 good member all)
         (taken_here w rules built served ar env at r.0 good member all single (plain rules rest))
         sound.2)
 
     arms_run : (arms : MarkedArms) (ar : Around) (env : Env) (s : ℕ) (before : Option Constraint) (x : Content) → Known (marks_arms arms) → SoundArms set false ar true s before arms
-        → content w s ≡ Some x → At w (wider ar (s ∷ [])) env → Finds_ (marks_arms arms) (run_arms (plain_arms rules arms) w x env at_start)
+        → content w s ≡ Some x → At w (wider ar (s ∷ [])) env → FoundHere (marks_arms arms) (run_arms (plain_arms rules arms) w x env at_start)
     arms_run m_no_arm ar env s before x known sound e at = inr (λ j q k get holds. nothing_in j k, refl)
     arms_run (m_arm c fields body rest) ar env s before x known sound e at =
         let here = known_left (marks body) (marks_arms rest) known in
@@ -285,12 +290,12 @@ module _ (w : World) (rules : List SetRule) (built : IsTestedSet (record { rules
               let member = member_from_get rules ask.0 ask.1 ask.2 in
               let passes : meets w.meaning c (content w s) ≡ true = ap (meets w.meaning c) e ∙ ap is_some met.1 in
               let b = arm_binds ar s c fields met.0 env at sound.3 (fields_hold w built.sources s c x met.0 e met.1 (served.fields ask.1 s c x met.0 member ask.3 e met.1)) in
-              subst (Finds_ (marks body ++ marks_arms rest)) (sym (arm_met s c fields (plain rules body) (plain_arms rules rest) x met.0 env b.0 met.1 b.1))
+              subst (FoundHere (marks body ++ marks_arms rest)) (sym (arm_met s c fields (plain rules body) (plain_arms rules rest) x met.0 env b.0 met.1 b.1))
               (found_left rules Holds (IsTaken w) (marks body) (marks_arms rest) (run_tree (plain rules body) w b.0 at_start)
               (steps_run body (in_arm set ar s c fields) b.0 here sound.4 (at_arm ar s c fields env b.0 at sound.3 passes b.2))
               (none_after rest ar s c ask.0 ask.1 ask.2 ask.3 passes sound.5))
           | inr unmet ↦
-              subst (Finds_ (marks body ++ marks_arms rest)) (sym (arm_unmet c fields (plain rules body) (plain_arms rules rest) x env unmet))
+              subst (FoundHere (marks body ++ marks_arms rest)) (sym (arm_unmet c fields (plain rules body) (plain_arms rules rest) x env unmet))
               (found_right rules Holds (IsTaken w) (marks body) (marks_arms rest) (run_arms (plain_arms rules rest) w x env at_start)
               (none_asking (marks body) s c (ap (meets w.meaning c) e ∙ ap is_some unmet) sound.2)
               (arms_run rest ar env s (Some c) x later sound.5 e at))
@@ -300,7 +305,7 @@ module _ (w : World) (rules : List SetRule) (built : IsTestedSet (record { rules
   chooses tree sound =
       let m = sound.marked in
       let known : Known (marks m) = λ i k. All-contains (λ j. j < length rules) (marks m) i sound.returns.known k in
-      choice_of m tree sound.returns (subst (λ t. Finds_ (marks m) (run t w)) sound.returns.same (steps_run m nothing_around [] known sound.steps at_root))
+      choice_of m tree sound.returns (subst (λ t. FoundHere (marks m) (run t w)) sound.returns.same (steps_run m nothing_around [] known sound.steps at_root))
     where
       at_root : At w nothing_around []
       at_root = record {
@@ -321,7 +326,7 @@ module _ (w : World) (rules : List SetRule) (built : IsTestedSet (record { rules
           let g = get_from_member rules q c in
           (g.0, member_counted g.0 (marks m) (returns.once g.0 (slice_get_within rules g.0 q g.1)), g.1)
 
-      choice_of : (m : Marked) (tree : Tree) → ReturnsEach set tree m → Finds_ (marks m) (run tree w) → ChoosesFrom set w (run tree w)
+      choice_of : (m : Marked) (tree : Tree) → ReturnsEach set tree m → FoundHere (marks m) (run tree w) → ChoosesFrom set w (run tree w)
       choice_of m tree returns (inl (i, r, k, get, holds, most, taken)) =
           inl (r, member_from_get rules i r get, holds, λ q c at. let g = placed m tree returns q c in most g.0 q g.1 g.2 at, taken)
       choice_of m tree returns (inr (none, e)) =
