@@ -1,14 +1,12 @@
 -- Binding a bind order of available sites keeps them and all below them.
-use Rattle.std.proofs.Common.{◌≡◌, ◌⊎◌, ℕ, zero, suc, ◌==◌, Bool, true, false, not, ◌&&◌, ◌||◌, cond, List, [], ◌∷◌, ◌++◌, Option, Some, is_some, slice_get, Contains, All, IsTrue, filter, flat_map, refl, sym, ap, ◌∙◌, subst, inl, inr}
+use Rattle.std.proofs.Common.{◌≡◌, ◌⊎◌, ℕ, zero, suc, ◌==◌, Bool, true, false, not, ◌&&◌, ◌||◌, cond, List, [], ◌∷◌, ◌++◌, is_some, slice_get, Contains, All, IsTrue, flat_map, refl, sym, ap, ◌∙◌, subst, inl, inr}
 use Rattle.std.specs.List.{list_all}
 use Rattle.std.proofs.lemmas.Bool.{cases_Bool, cond-true, cond-false, and_parts, or_cases, or_left, or_right, false≢true}
-use Rattle.std.proofs.lemmas.List.Elements.{Contains-append_left, Contains-append_right, Contains-append_cases, filter-append}
+use Rattle.std.proofs.lemmas.List.Elements.{Contains-append_left, Contains-append_right, Contains-append_cases}
 use Rattle.std.proofs.lemmas.List.Folds.{list_any-append}
-use Rattle.isle_model.specs.Meaning.{Content}
-use Rattle.isle_model.specs.Outcome.{Call}
-use Rattle.isle_model.specs.Sites.{Site, sources_at}
+use Rattle.isle_model.specs.Sites.{sources_at}
 use Rattle.isle_model.specs.Places.{Around, is_in, waits, is_available, available, is_in_place, below, all_below, each_after, listed_below, bind_order}
-use Rattle.isle_model.specs.Run.{World, Env, Bound, all_bound, unwrap_failed, no_content_there, bind_site, then_bind, bind_all}
+use Rattle.isle_model.specs.Run.{World, Env, all_bound, then_bind, bind_all}
 use Rattle.isle_model.specs.SetRuns.{IsPureAt}
 use Rattle.isle_trees.proofs.Lists.{nothing_in, in_head, in_tail, in_cases, in_alone}
 use Rattle.isle_trees.proofs.Members.{each_passes, all_members, in_flat_map, from_flat_map, member_found, member_is_in}
@@ -104,15 +102,15 @@ module _ (w : World) (before : SourcesBefore w.sites) (finds : Finds w) (brought
         | inr f ↦
             subst (λ l. More done l (λ t. s ≡ t)) (sym (cond-false (is_in s emitted || is_in s done) done (each_after (listed_below n w.sites emitted) done (sources_at w.sites s) ++ s ∷ []) f))
             (
-              let rest = not (waits (slice_get w.sites s)) && list_all (is_available n w.sites brought) (sources_at w.sites s) in
-              let p : rest ≡ true = elim (or_cases (is_in s brought) rest a) [ inl i ↦ absurd (not_emitted done s f i) | inr r ↦ r ] in
-              let q = and_parts (not (waits (slice_get w.sites s))) (list_all (is_available n w.sites brought) (sources_at w.sites s)) p in
-              let r = each (listed_below n w.sites emitted) (sources_at w.sites s)
-              (λ x c. one n x (each_passes (is_available n w.sites brought) (sources_at w.sites s) q.1 x c) (λ u k. fine u (in_tail s u (flat_map (below n w.sites) (sources_at w.sites s)) (in_flat_map (below n w.sites) (sources_at w.sites s) x u c k))))
-              done env' b in
-              let listed = each_after (listed_below n w.sites emitted) done (sources_at w.sites s) in
-              let o = put listed r.0 r.1 s (fine s (in_head s (flat_map (below n w.sites) (sources_at w.sites s)))) (not_false (waits (slice_get w.sites s)) q.0) r.3 in
-              (o.0, o.1, λ t i. last_in listed s t (inl (r.2 t i)), λ t e. last_in listed s t (inr e))
+            let rest = not (waits (slice_get w.sites s)) && list_all (is_available n w.sites brought) (sources_at w.sites s) in
+            let p : rest ≡ true = elim (or_cases (is_in s brought) rest a) [ inl i ↦ absurd (not_emitted done s f i) | inr r ↦ r ] in
+            let q = and_parts (not (waits (slice_get w.sites s))) (list_all (is_available n w.sites brought) (sources_at w.sites s)) p in
+            let r = each (listed_below n w.sites emitted) (sources_at w.sites s)
+            (λ x c. one n x (each_passes (is_available n w.sites brought) (sources_at w.sites s) q.1 x c) (λ u k. fine u (in_tail s u (flat_map (below n w.sites) (sources_at w.sites s)) (in_flat_map (below n w.sites) (sources_at w.sites s) x u c k))))
+            done env' b in
+            let listed = each_after (listed_below n w.sites emitted) done (sources_at w.sites s) in
+            let o = put listed r.0 r.1 s (fine s (in_head s (flat_map (below n w.sites) (sources_at w.sites s)))) (not_false (waits (slice_get w.sites s)) q.0) r.3 in
+            (o.0, o.1, λ t i. last_in listed s t (inl (r.2 t i)), λ t e. last_in listed s t (inr e))
             )
       ]
 

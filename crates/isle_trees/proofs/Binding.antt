@@ -1,21 +1,17 @@
 -- What a run has bound holds its content, and a bind order of available sites binds them all.
-use Rattle.std.proofs.Common.{◌≡◌, ◌⊎◌, ℕ, zero, suc, ◌<◌, ◌==◌, Bool, true, false, not, ◌&&◌, ◌||◌, cond, List, [], ◌∷◌, ◌++◌, Option, Some, None, is_some, slice_get, Contains, All, IsTrue, filter, flat_map, refl, sym, ap, ◌∙◌, subst, inl, inr, eqb-true, eq-eqb}
-use Rattle.std.specs.List.{list_all}
-use Rattle.std.proofs.lemmas.Bool.{cases_Bool, cond-true, cond-false, and_parts, or_cases, or_left, or_right, false≢true}
+use Rattle.std.proofs.Common.{◌≡◌, ◌⊎◌, ℕ, zero, suc, ◌==◌, true, false, List, [], ◌∷◌, Option, Some, None, is_some, slice_get, Contains, IsTrue, refl, sym, ap, ◌∙◌, subst, inl, inr, eqb-true, eq-eqb}
+use Rattle.std.proofs.lemmas.Bool.{cases_Bool, cond-true, cond-false, false≢true}
 use Rattle.std.proofs.lemmas.Option.{none-some, same_Some}
-use Rattle.std.proofs.lemmas.List.Elements.{Contains-append_left, Contains-append_right, Contains-append_cases, filter-append}
-use Rattle.std.proofs.lemmas.List.Folds.{list_any-append}
-use Rattle.isle_model.specs.Values.{Value, Values, no_value, value_and, of_variant, of_struct}
-use Rattle.isle_model.specs.Meaning.{Content, one, parts, just, bool_literal, literal_value, extractor_answer, pure_answer}
+use Rattle.isle_model.specs.Values.{Value, Values, value_and, of_variant, of_struct}
+use Rattle.isle_model.specs.Meaning.{Content, one, parts, just, extractor_answer}
 use Rattle.isle_model.specs.Outcome.{Call, then_option}
-use Rattle.isle_model.specs.Sites.{Site, bool_site, int_site, prim_site, argument_site, extractor_site, constructor_site, iterator_site, make_variant_site, match_variant_site, make_struct_site, extract_struct_site, make_some_site, match_some_site, match_tuple_site, each_term, unfold_site, sources_of, sources_at}
-use Rattle.isle_model.specs.Places.{Around, is_in, waits, is_available, available, is_in_place, below, all_below, each_after, listed_below, bind_order}
-use Rattle.isle_model.specs.Run.{World, Env, bound_to, as_value, from_value, part_at, in_place, or_else, used, used_value, used_values, Bound, all_bound, unwrap_failed, no_content_there, now_bound, constructed, bind_site, then_bind, bind_all}
+use Rattle.isle_model.specs.Sites.{Site, bool_site, int_site, prim_site, argument_site, extractor_site, constructor_site, make_variant_site, make_struct_site, make_some_site, match_tuple_site, each_term, unfold_site, sources_at}
+use Rattle.isle_model.specs.Places.{waits, is_in_place}
+use Rattle.isle_model.specs.Run.{World, Env, bound_to, as_value, from_value, part_at, in_place, or_else, used, used_values, all_bound, now_bound, constructed, bind_site}
 use Rattle.isle_model.specs.Picks.{site_values, call_answer}
 use Rattle.isle_model.specs.Collects.{content_at, IsPureSite}
 use Rattle.isle_model.specs.SetRuns.{IsPureAt}
-use Rattle.isle_trees.proofs.Lists.{nothing_in, in_head, in_tail, in_cases, in_alone}
-use Rattle.isle_trees.proofs.Members.{each_passes, in_flat_map, from_flat_map, member_found, member_is_in}
+use Rattle.isle_trees.proofs.Lists.{in_head, in_tail}
 use Rattle.isle_trees.proofs.Contents.{SourcesBefore, sources_in, content_layer}
 
 abbrev pub content : World → ℕ → Option Content

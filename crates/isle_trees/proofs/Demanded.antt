@@ -1,13 +1,13 @@
 -- What it takes that a rule's demands hold.
-use Rattle.std.proofs.Common.{◌≡◌, ℕ, ◌==◌, Bool, true, false, ◌&&◌, List, [], ◌∷◌, Option, Some, None, is_some, Contains, IsTrue, refl, sym, ap, ◌∙◌, subst, inl, inr}
-use Rattle.std.specs.List.{list_all, list_any}
+use Rattle.std.proofs.Common.{◌≡◌, ℕ, true, ◌&&◌, List, [], ◌∷◌, Option, Some, None, Contains, refl, sym, ap, ◌∙◌, inl, inr}
+use Rattle.std.specs.List.{list_all}
 use Rattle.std.proofs.lemmas.Bool.{and_parts, and_from, false≢true}
-use Rattle.isle_model.specs.Values.{Value, value_eq}
+use Rattle.isle_model.specs.Values.{Value}
 use Rattle.isle_model.specs.Meaning.{Content, one}
 use Rattle.isle_model.specs.Outcome.{then_option}
 use Rattle.isle_model.specs.Sites.{Constraint, SetRule}
 use Rattle.isle_model.specs.Places.{is_in, joins_in}
-use Rattle.isle_model.specs.Run.{World, as_value, content_fields}
+use Rattle.isle_model.specs.Run.{World, as_value}
 use Rattle.isle_model.specs.Collects.{meets, same_value, value_at, all_same, demands_hold}
 use Rattle.isle_trees.proofs.ValuesEqual.{eq_means, eq_same}
 use Rattle.isle_trees.proofs.Lists.{nothing_in, in_head, in_tail, in_cases}

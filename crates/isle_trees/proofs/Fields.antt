@@ -1,5 +1,5 @@
 -- The sites of fields: which they are, what they hold where a content meets a constraint, and that an arm binds them.
-use Rattle.std.proofs.Common.{◌≡◌, ◌⊎◌, ℕ, zero, suc, ◌+◌, ◌<◌, ◌≤◌, ◌==◌, Bool, true, false, ◌&&◌, cond, List, [], ◌∷◌, length, Option, Some, None, slice_get, Contains, IsTrue, nat_lt, ltb-true, refl, sym, ap, ◌∙◌, subst, inl, inr, arith, eqb-true, eq-eqb}
+use Rattle.std.proofs.Common.{◌≡◌, ◌⊎◌, ℕ, zero, suc, ◌+◌, ◌<◌, ◌≤◌, ◌==◌, Bool, true, ◌&&◌, List, [], ◌∷◌, length, Option, Some, None, slice_get, Contains, IsTrue, nat_lt, ltb-true, refl, sym, ap, ◌∙◌, subst, inl, inr, arith, eqb-true, eq-eqb}
 use Rattle.std.proofs.lemmas.Bool.{cases_Bool, cond-true, cond-false, and_parts, and_from, false≢true, cases_lt}
 use Rattle.std.proofs.lemmas.Option.{none-some, same_Some}
 use Rattle.isle_model.specs.Values.{Value, Values, of_variant, of_struct, listed}
@@ -218,29 +218,29 @@ module _ (w : World) (before : SourcesBefore w.sites) where
       let m = variant_met w.meaning ty v n x cs met in
       subst (FieldsHold s (fields_of w.sites s (is_variant ty v n))) (sym m.3)
       (each_holds s (is_variant_field s v) (listed m.1) 0 n (ap length (sym m.3) ∙ l) (λ k j y q at.
-        let r = site_passes (is_variant_field s v j) w.sites y at in
-        let b = ap Some (variant_field_same s v j r.0 r.2) in
-        let here = r.1 ∙ b in
-        let same : j ≡ k = (let z = q in omega arith) in (
-          content_layer w before y (match_variant_site s v j) here
-          ∙ ap (λ o. then_option (then_option o as_value) (field_of_variant v j)) (e ∙ ap Some m.2)
-          ∙ cond-true (v == v) (from_value (slice_get (listed m.1) j)) None (eq-eqb v v refl)
-          ∙ ap (λ i. from_value (slice_get (listed m.1) i)) same,
-          site_is s y (match_variant_site s v j) here refl,
-        )))
+      let r = site_passes (is_variant_field s v j) w.sites y at in
+      let b = ap Some (variant_field_same s v j r.0 r.2) in
+      let here = r.1 ∙ b in
+      let same : j ≡ k = (let z = q in omega arith) in (
+        content_layer w before y (match_variant_site s v j) here
+            ∙ ap (λ o. then_option (then_option o as_value) (field_of_variant v j)) (e ∙ ap Some m.2)
+            ∙ cond-true (v == v) (from_value (slice_get (listed m.1) j)) None (eq-eqb v v refl)
+            ∙ ap (λ i. from_value (slice_get (listed m.1) i)) same,
+        site_is s y (match_variant_site s v j) here refl,
+      )))
   fields_hold s (is_struct ty n) x cs e met l =
       let m = struct_met w.meaning ty n x cs met in
       subst (FieldsHold s (fields_of w.sites s (is_struct ty n))) (sym m.3)
       (each_holds s (is_struct_field s) (listed m.1) 0 n (ap length (sym m.3) ∙ l) (λ k j y q at.
-        let r = site_passes (is_struct_field s j) w.sites y at in
-        let b = ap Some (struct_field_same s j r.0 r.2) in
-        let here = r.1 ∙ b in
-        let same : j ≡ k = (let z = q in omega arith) in (
-          content_layer w before y (extract_struct_site s j) here
-          ∙ ap (λ o. then_option (then_option o as_value) (field_of_struct j)) (e ∙ ap Some m.2)
-          ∙ ap (λ i. from_value (slice_get (listed m.1) i)) same,
-          site_is s y (extract_struct_site s j) here refl,
-        )))
+      let r = site_passes (is_struct_field s j) w.sites y at in
+      let b = ap Some (struct_field_same s j r.0 r.2) in
+      let here = r.1 ∙ b in
+      let same : j ≡ k = (let z = q in omega arith) in (
+        content_layer w before y (extract_struct_site s j) here
+            ∙ ap (λ o. then_option (then_option o as_value) (field_of_struct j)) (e ∙ ap Some m.2)
+            ∙ ap (λ i. from_value (slice_get (listed m.1) i)) same,
+        site_is s y (extract_struct_site s j) here refl,
+      )))
   fields_hold s is_present x cs e met l =
       let m = present_met w.meaning x cs met in
       subst (FieldsHold s (site_from 0 (is_part_of s) w.sites ∷ [])) (sym m.2) (by m.0 m.1 (site_from 0 (is_part_of s) w.sites) refl)

@@ -1,5 +1,5 @@
 -- The run of a sound tree of a set of rules that go over no calls chooses by priority.
-use Rattle.std.proofs.Common.{◌≡◌, ◌≢◌, ◌⊎◌, ℕ, suc, ◌<◌, ◌==◌, true, false, ◌||◌, List, [], ◌∷◌, ◌++◌, length, Option, Some, None, is_some, slice_get, Contains, All, IsTrue, refl, sym, ap, ap₂, ◌∙◌, subst, inl, inr, append_assoc}
+use Rattle.std.proofs.Common.{◌≡◌, ◌≢◌, ◌⊎◌, ℕ, suc, ◌<◌, ◌==◌, true, false, List, [], ◌∷◌, ◌++◌, length, Option, Some, None, is_some, slice_get, Contains, IsTrue, refl, sym, ap, ap₂, ◌∙◌, subst, inl, inr, append_assoc}
 use Rattle.std.proofs.lemmas.Bool.{cases_Bool, cond-true, cond-false, or_cases, or_left, or_right, both_ways, false≢true}
 use Rattle.std.proofs.lemmas.Option.{none-some, same_Some, slice_get_within}
 use Rattle.std.proofs.lemmas.List.Elements.{Contains-append_left, Contains-append_right, Contains-append_cases, All-contains}
@@ -9,18 +9,17 @@ use Rattle.isle_model.specs.Meaning.{Content, one}
 use Rattle.isle_model.specs.Outcome.{Outcome, ran_through, then_option}
 use Rattle.isle_model.specs.Sites.{Constraint, SetRule, SiteSet}
 use Rattle.isle_model.specs.Trees.{Tree, step, match_at, equal_at, Arms, arm, Marked, m_no_step, m_step, m_match, m_equal, m_loop, m_return, MarkedArms, m_no_arm, m_arm, marks, marks_arms, plain, plain_arms, return_of}
-use Rattle.isle_model.specs.Places.{Around, nothing_around, is_in, joins_in, available, below, all_below, constraint_at, fields_of, field_sites, bind_order, return_uses, in_arm, in_equal, after_step}
+use Rattle.isle_model.specs.Places.{Around, nothing_around, is_in, available, below, all_below, constraint_at, fields_of, field_sites, bind_order, return_uses, in_arm, in_equal, after_step}
 use Rattle.isle_model.specs.Run.{World, Env, used, as_value, at_start, bind_all, all_bound, content_fields, bind_fields, on_met, on_equal, with_env, with_content, ending_at, or_next, run_tree, run_arms, run}
-use Rattle.isle_model.specs.Sound.{comes_before, NoneHigher, AllAsk, AllJoin, AllGoOver, SoundSteps, SoundArms, ReturnsEach, IsSound}
-use Rattle.isle_model.specs.Collects.{meets, value_at, demands_hold}
+use Rattle.isle_model.specs.Sound.{comes_before, AllAsk, AllGoOver, SoundSteps, SoundArms, ReturnsEach, IsSound}
+use Rattle.isle_model.specs.Collects.{meets, demands_hold}
 use Rattle.isle_model.specs.SetRuns.{IsPureAt, IsTestedSet, ServesTests, IsTaken, ChoosesFrom, SoundTreesChoose}
 use Rattle.isle_trees.proofs.ValuesEqual.{eq_means, eq_same}
 use Rattle.isle_trees.proofs.Order.{before_chain, before_itself}
 use Rattle.isle_trees.proofs.Lists.{nothing_in, in_head, in_tail, in_cases, in_alone, some_member, member_from_get, get_from_member, get_within, member_counted, constraint_in}
 use Rattle.isle_trees.proofs.Members.{in_flat_map, from_flat_map, member_is_in, member_found}
-use Rattle.isle_trees.proofs.Classes.{SameAtPairs}
 use Rattle.isle_trees.proofs.Taking.{step_runs}
-use Rattle.isle_trees.proofs.Binding.{content, content_of, Held, held_as, reads}
+use Rattle.isle_trees.proofs.Binding.{content, Held, held_as, reads}
 use Rattle.isle_trees.proofs.BindOrders.{BindsTo, binds_order}
 use Rattle.isle_trees.proofs.Fields.{FieldsHold, fields_hold, fields_bound}
 use Rattle.isle_trees.proofs.Demanded.{joined_back, demand_met, demand_equal}

@@ -1,21 +1,19 @@
 -- Where a run of a sound tree stands: what it keeps on its path, and what a rule that returns there comes to.
-use Rattle.std.proofs.Common.{◌≡◌, ◌⊎◌, ℕ, zero, suc, ◌<◌, ◌≤◌, ◌==◌, Bool, true, false, ◌||◌, List, [], ◌∷◌, ◌++◌, map, length, Option, Some, None, is_some, slice_get, Contains, All, IsTrue, flat_map, refl, sym, ap, ◌∙◌, subst, inl, inr, arith}
-use Rattle.std.proofs.lemmas.Bool.{cases_Bool, or_cases, or_left, or_right, false≢true}
+use Rattle.std.proofs.Common.{◌≡◌, ◌⊎◌, ℕ, zero, suc, ◌<◌, ◌≤◌, true, false, List, [], ◌++◌, map, length, Option, Some, None, is_some, slice_get, Contains, IsTrue, flat_map, refl, sym, ap, ◌∙◌, subst, inl, inr, arith}
+use Rattle.std.proofs.lemmas.Bool.{cases_Bool}
 use Rattle.std.proofs.lemmas.Option.{slice_get_within, get_or_from_slice_get}
-use Rattle.std.proofs.lemmas.List.Elements.{Contains-append_left, Contains-append_right, Contains-append_cases, All-contains}
-use Rattle.std.proofs.lemmas.List.Folds.{list_any-append}
-use Rattle.isle_model.specs.Values.{Value}
-use Rattle.isle_model.specs.Meaning.{Content, one}
+use Rattle.std.proofs.lemmas.List.Elements.{Contains-append_left, Contains-append_right, All-contains}
+use Rattle.isle_model.specs.Meaning.{Content}
 use Rattle.isle_model.specs.Outcome.{Outcome}
-use Rattle.isle_model.specs.Sites.{Site, match_some_site, Constraint, SetRule, SiteSet, sources_at}
+use Rattle.isle_model.specs.Sites.{Site, match_some_site, Constraint, SetRule, sources_at}
 use Rattle.isle_model.specs.Trees.{Tree, no_step, step, return_at}
 use Rattle.isle_model.specs.Places.{Around, is_in, joins_in, waits, available, below, all_below, fields_of, field_sites, bind_order, return_uses}
 use Rattle.isle_model.specs.Run.{World, Env, used, Bound, all_bound, unwrap_failed, no_content_there, bind_all, Trace, at_start, with_bound, or_next, with_content, returned, run_tree, run_check}
 use Rattle.isle_model.specs.Sound.{IsTested}
 use Rattle.isle_model.specs.Collects.{meets, demands_hold, gate_demanded}
 use Rattle.isle_model.specs.SetRuns.{tested_sites, IsPureAt, is_unwrap, IsTestedRule, IsTestedSet, ServesTests, IsReached, IsTaken}
-use Rattle.isle_trees.proofs.Lists.{nothing_in, in_head, in_tail, in_cases, member_from_get, get_within}
-use Rattle.isle_trees.proofs.Members.{all_members, in_map, in_flat_map, from_flat_map, member_found, member_is_in}
+use Rattle.isle_trees.proofs.Lists.{nothing_in, in_head, in_tail, in_cases, get_within}
+use Rattle.isle_trees.proofs.Members.{all_members, in_map, in_flat_map, from_flat_map, member_is_in}
 use Rattle.isle_trees.proofs.Classes.{SameAtPairs, joined_same}
 use Rattle.isle_trees.proofs.Binding.{content, content_of, Held, reads}
 use Rattle.isle_trees.proofs.BindOrders.{Finds, available_found}
@@ -138,10 +136,10 @@ module _ (w : World) (rules : List SetRule) (built : IsTestedSet (record { rules
       holds_here =
           demands_from w r (λ s c k. at.tested s c (all.constraints s c k))
           (λ a b j.
-            let c = tested_content a (class_tested r a b j) in
-            let v = served.values r a b c.0 known j c.1 in
-            let here = c.1 ∙ ap Some v.1 in
-            (v.0, here, sym (joined_same (content w) ar.joined at.joined a b (all.equalities a b j)) ∙ here))
+          let c = tested_content a (class_tested r a b j) in
+          let v = served.values r a b c.0 known j c.1 in
+          let here = c.1 ∙ ap Some v.1 in
+          (v.0, here, sym (joined_same (content w) ar.joined at.joined a b (all.equalities a b j)) ∙ here))
 
       result_site : (s : ℕ) → Contains (all_below w.sites (return_uses (Some r))) s → s < length w.sites
       result_site s c =

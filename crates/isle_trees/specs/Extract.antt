@@ -1,9 +1,9 @@
 -- A sample with a call that may answer nothing: (rule 1 (f (e 1)) 10) (rule (f (e x)) x), e an extractor.
-use Rattle.std.specs.Prelude.{◌≡◌, ℕ, ℤ, pos, false, List, [], ◌∷◌, Some, None}
+use Rattle.std.specs.Prelude.{◌≡◌, ℤ, pos, false, List, [], ◌∷◌, Some, None}
 use Rattle.isle_model.specs.Values.{Value, atom}
 use Rattle.isle_model.specs.Meaning.{Content, one, just, nothing, Meaning, int_literal}
 use Rattle.isle_model.specs.Outcome.{no_rule}
-use Rattle.isle_model.specs.Sites.{Site, argument_site, extractor_site, match_some_site, int_site, Constraint, is_int, is_present, SetRule, SiteSet}
+use Rattle.isle_model.specs.Sites.{Site, argument_site, extractor_site, match_some_site, int_site, is_int, is_present, SetRule, SiteSet}
 use Rattle.isle_model.specs.Trees.{Tree, no_step, step, match_at, return_at, no_arm, arm}
 use Rattle.isle_model.specs.Run.{World, run}
 use Rattle.isle_model.specs.SetRuns.{IsTestedSet, ServesTests}
