@@ -168,7 +168,7 @@ listed_one sites flat emitted listed s =
 abbrev More : World → Env → List ℕ → Env → ℕ → Type 0
 More w env listed env' s = (env'' : Env) × Binds w env listed env'' × Reads w env'' s × ((t : ℕ) → Reads w env' t → Reads w env'' t)
 
-bind_last : (w : World) (env env' env'' : Env) (listed : List ℕ) (s : ℕ) → bind_all w env [] (to_bind w.sites listed) ≡ all_bound env' [] → bind_all w env' [] (to_bind w.sites (s ∷ [])) ≡ all_bound env'' []
+pub bind_last : (w : World) (env env' env'' : Env) (listed : List ℕ) (s : ℕ) → bind_all w env [] (to_bind w.sites listed) ≡ all_bound env' [] → bind_all w env' [] (to_bind w.sites (s ∷ [])) ≡ all_bound env'' []
     → bind_all w env [] (to_bind w.sites (listed ++ s ∷ [])) ≡ all_bound env'' []
 bind_last w env env' env'' listed s h k =
     ap (bind_all w env []) (filter-append (λ t. not (is_in_place (slice_get w.sites t))) listed (s ∷ []))

@@ -6,3 +6,13 @@ pub mod Classes
 pub mod Taking
 pub mod SoundRuns
 pub mod FallSound
+pub mod Members
+pub mod Contents
+pub mod Binding
+pub mod BindOrders
+pub mod Fields
+pub mod Finding
+pub mod Demanded
+pub mod Standing
+pub mod SoundChoice
+pub mod ExtractServed

@@ -48,8 +48,7 @@ module _ (w : World) (rules : List SetRule) (fits : Fits w rules) where
         | inl a ↦ (d, sound.2 j q a at, sound.0)
         | inr b ↦
             let later = arms_after rest ar s d here.5 (λ i l. known i (Contains-append_right (marks body) (marks_arms rest) i l)) sound.5 j q b at in
-            let const' = ((fits.each j q at).constants s later.0 (constraint_in q.constraints s later.0 later.1)).1 in
-            (later.0, later.1, before_chain c d later.0 const here.5 const' sound.0 later.2)
+            (later.0, later.1, before_chain c d later.0 sound.0 later.2)
       ]
 
   -- where the value meets a constraint, no rule of a later arm has its demands hold
@@ -58,7 +57,7 @@ module _ (w : World) (rules : List SetRule) (fits : Fits w rules) where
   none_after arms ar s c v i r get k const e met known sound j q l at meets =
       let later = arms_after arms ar s c const known sound j q l at in
       let same = fits.apart i j r q s c later.0 v get at k (constraint_in q.constraints s later.0 later.1) met (meets_at w rules fits q s later.0 v later.1 meets e) in
-      before_itself c const (subst (λ d. IsTrue (comes_before c d)) (sym same) later.2)
+      before_itself c (subst (λ d. IsTrue (comes_before c d)) (sym same) later.2)
 
   -- where it doesn't, no rule of its arm has
   none_asking : (ids : List ℕ) (s : ℕ) (c : Constraint) (v : Value) → content_at w s ≡ Some (one v) → content_fields w.meaning c (one v) ≡ None → AllAsk rules ids s c → NoneHolds w rules ids

@@ -1,1 +1,2 @@
 pub mod Fall
+pub mod Extract

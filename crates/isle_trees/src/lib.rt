@@ -4,7 +4,9 @@
 #![tactic(auto)]
 
 ghost use Rattle.isle_model.specs.Runs.{SoundTreesRun};
+ghost use Rattle.isle_model.specs.SetRuns.{SoundTreesChoose};
 ghost use Rattle.isle_model.specs.Values.{Value, value_eq};
+ghost use Rattle.isle_trees.specs.Extract.{ExtractIsServed, ExtractRuns};
 ghost use Rattle.isle_trees.specs.Fall.{ExchangedIsNotSound, FallIsServed, FallIsSound, FallRuns};
 ghost use Rattle.std.specs.Prelude.{◌≡◌, Decides};
 
@@ -16,6 +18,11 @@ pub fn value_eq_is_exact()
 /// The run of a sound tree of a set over arguments and constants is a choice by priority.
 pub fn sound_tree_runs()
     ensures { SoundTreesRun }
+{}
+
+/// The run of a sound tree of any set whose rules go over no calls is a choice by priority.
+pub fn sound_trees_choose()
+    ensures { SoundTreesChoose }
 {}
 
 /// The sample's tree answers 10 at 1, and 2 at 2: what no arm meets falls through to the return.
@@ -36,4 +43,14 @@ pub fn fall_is_sound()
 /// With its two steps exchanged it is not: the lower rule would answer where the higher one holds.
 pub fn exchanged_is_not_sound()
     ensures { ExchangedIsNotSound }
+{}
+
+/// The sample with an extractor answers 10 where the call answers 1, what it answers otherwise, and nothing where it answers nothing.
+pub fn extract_runs()
+    ensures { ExtractRuns }
+{}
+
+/// Its rules go over no calls, and a world in which the call has an answer serves them, whatever the answer.
+pub fn extract_is_served()
+    ensures { ExtractIsServed }
 {}
