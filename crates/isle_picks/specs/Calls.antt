@@ -6,7 +6,7 @@ use Rattle.isle_model.specs.Meaning.{Content, one, nothing, just, many, Meaning}
 use Rattle.isle_model.specs.Program.{Program}
 use Rattle.isle_model.specs.Typed.{TypedPattern, match_bind, match_any, match_term, match_and, no_typed_pattern, typed_pattern_and, TypedExpr, make_term, make_var, make_let, no_typed_expr, typed_expr_and, no_typed_let, typed_let_and, TypedIfLet, TypedRule}
 use Rattle.isle_model.specs.Picks.{bag}
-use Rattle.isle_model.specs.Collects.{DemandsEveryGate}
+use Rattle.isle_model.specs.Collects.{LeavesNoCallUnused}
 use Rattle.isle_picks.specs.Samples.{at, builtins, term, multi, v, given, alone, each, all_of, x_matched, x_used}
 
 -- the flags of the constructors
@@ -103,9 +103,6 @@ meaning = record {
 abbrev pub Gives : TypedRule → ℤ → List ℤ → Type 0
 Gives r z results = bag program meaning (r ∷ []) (given z) ≡ each results
 
--- some multi call of an if-let is unused, or all are used
-abbrev pub LeavesAGate : TypedRule → Type 0
-LeavesAGate r = DemandsEveryGate program r → ⊥
-
-abbrev pub DemandsAll : TypedRule → Type 0
-DemandsAll r = DemandsEveryGate program r
+-- some if-let leaves a multi call of its expression unused
+abbrev pub LeavesACallUnused : TypedRule → Type 0
+LeavesACallUnused r = LeavesNoCallUnused program r → ⊥

@@ -16,7 +16,7 @@ use Rattle.isle_model.specs.Run.{World, run}
 use Rattle.isle_model.specs.Sound.{IsSound}
 use Rattle.isle_model.specs.Built.{world_of}
 use Rattle.isle_model.specs.Picks.{bag}
-use Rattle.isle_model.specs.Collects.{Collects, IsCollected, set_bag, IsCollectedSet, ServesSet}
+use Rattle.isle_model.specs.Collects.{Collects, HasCollectedResults, set_bag, IsCollectedSet, ServesSet}
 
 -- 1. what the samples share: type 1 has 8 bits
 abbrev pub at : ℕ → Position
@@ -330,10 +330,10 @@ MultiIsNot results = Collects (record { calls = []; results = each results; endi
 abbrev pub MultiIsServed : Type 0
 MultiIsServed = Serves multi_program multi_meaning (given (pos 1)) multi_rules × TellsConstantsApart multi_program multi_meaning multi_rules
 
--- the typed rules make no impure call and demand every gate; the set's rules too, its sites stand in order, and the
--- world serves it; and its tree is sound
+-- the typed rules make no impure call and leave none unused; the set's rules make none and demand every gate, its sites
+-- stand in order, and the world serves it
 abbrev pub MultiIsCollected : Type 0
-MultiIsCollected = All (IsCollected multi_program) multi_rules × IsCollectedSet multi_set × ServesSet multi_set (multi_world (pos 1))
+MultiIsCollected = All (HasCollectedResults multi_program) multi_rules × IsCollectedSet multi_set × ServesSet multi_set (multi_world (pos 1))
 
 -- the tree is sound in a multi term
 abbrev pub MultiIsSound : Type 0

@@ -6,7 +6,8 @@
 ghost use Rattle.std.specs.Prelude.{[], ◌∷◌, pos};
 ghost use Rattle.isle_model.specs.Meaning.{one, just, nothing};
 ghost use Rattle.isle_model.specs.Outcome.{failed, ended, no_rule};
-ghost use Rattle.isle_picks.specs.Calls.{DemandsAll, Gives, LeavesAGate, condition, extracted_twice, nested, twice, twice_impure, unused, unused_condition};
+ghost use Rattle.isle_model.specs.Collects.{LeavesNoCallUnused};
+ghost use Rattle.isle_picks.specs.Calls.{Gives, LeavesACallUnused, condition, extracted_twice, nested, program, twice, twice_impure, unused, unused_condition};
 ghost use Rattle.isle_picks.specs.Exact.{ContentsAreHeld, PicksAreExact};
 ghost use Rattle.isle_picks.specs.Samples.{DoesNotServe, EffectsEnds, ExtractEnds, ExtractIsServed, MultiCollects, MultiGives, MultiIsCollected, MultiIsNot, MultiIsServed, MultiIsSound, PartialEnds, PartialIsServed, blank, ends_with, extract_mute, extract_program, g_of_one, im_of_one, multi_mute, multi_program, pair_of, partial_mute, partial_program, v};
 ghost use Rattle.isle_picks.specs.WithoutMulti.{BagAsPlain, EndsAsPlain, MatchesAsPlain};
@@ -204,14 +205,14 @@ pub fn calls_with_lists_give_all()
     ensures { Gives condition (pos 1) (pos 8 ∷ []) }
 {}
 
-/// A condition whose value takes the call's answer demands every gate.
-pub fn used_condition_demands_all()
-    ensures { DemandsAll condition }
+/// A condition whose value takes the call's answer leaves no call unused.
+pub fn used_condition_leaves_none()
+    ensures { LeavesNoCallUnused program condition }
 {}
 
-/// One that leaves its multi call unused does not.
-pub fn unused_condition_leaves_a_gate()
-    ensures { LeavesAGate unused_condition }
+/// One whose value does not take the answer of its multi call leaves it unused.
+pub fn unused_condition_leaves_a_call()
+    ensures { LeavesACallUnused unused_condition }
 {}
 
 /// The multi sample's rules and set are such as a run collects, and the world serves the set.
