@@ -7,3 +7,4 @@ pub mod Enumerated
 pub mod MultiSound
 pub mod OnePick
 pub mod Held
+pub mod LeftOver

@@ -2,3 +2,4 @@ pub mod WithoutMulti
 pub mod Samples
 pub mod Calls
 pub mod Exact
+pub mod LeftOver

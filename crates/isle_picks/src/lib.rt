@@ -9,6 +9,7 @@ ghost use Rattle.isle_model.specs.Outcome.{failed, ended, no_rule};
 ghost use Rattle.isle_model.specs.Collects.{LeavesNoCallUnused};
 ghost use Rattle.isle_picks.specs.Calls.{Gives, LeavesACallUnused, condition, extracted_twice, nested, program, twice, twice_impure, unused, unused_condition};
 ghost use Rattle.isle_picks.specs.Exact.{ContentsAreHeld, PicksAreExact};
+ghost use Rattle.isle_picks.specs.LeftOver.{DemandsGatesThough, LeftOverCollects, LeftOverIsCollected};
 ghost use Rattle.isle_picks.specs.Samples.{DoesNotServe, EffectsEnds, ExtractEnds, ExtractIsServed, MultiCollects, MultiGives, MultiIsCollected, MultiIsNot, MultiIsServed, MultiIsSound, PartialEnds, PartialIsServed, blank, ends_with, extract_mute, extract_program, g_of_one, im_of_one, multi_mute, multi_program, pair_of, partial_mute, partial_program, v};
 ghost use Rattle.isle_picks.specs.WithoutMulti.{BagAsPlain, EndsAsPlain, MatchesAsPlain};
 
@@ -223,4 +224,23 @@ pub fn multi_is_collected()
 /// Its tree is sound.
 pub fn multi_is_sound()
     ensures { MultiIsSound }
+{}
+
+/// A set with an impure site that none of its rules uses is such as a run collects, and a world where that call answers
+/// nothing serves it.
+#[tactic(auto, using(crate::proofs::LeftOver::left_over_is_collected_lem))]
+pub fn left_over_sites_are_harmless()
+    ensures { LeftOverIsCollected }
+{}
+
+/// The run of its tree collects the set's bag.
+#[tactic(auto, using(crate::proofs::LeftOver::left_over_collects_lem))]
+pub fn left_over_sites_are_not_run()
+    ensures { LeftOverCollects }
+{}
+
+/// A rule may demand every gate though an if-let of it leaves a multi call unused.
+#[tactic(auto, using(crate::proofs::LeftOver::demands_gates_though_lem))]
+pub fn unused_calls_may_demand_gates()
+    ensures { DemandsGatesThough }
 {}
