@@ -1,5 +1,5 @@
 -- Sets with sites that no rule of them uses, and with calls that an if-let leaves unused.
-use Rattle.std.proofs.Common.{◌≡◌, ◌==◌, ℕ, zero, suc, pos, ◌<◌, true, false, List, [], ◌∷◌, Some, slice_get, get_or, Contains, All, IsTrue, is_some, count_by, refl, sym, ap, ◌∙◌, subst, arith}
+use Rattle.std.proofs.Common.{◌≡◌, ◌==◌, ℕ, zero, suc, pos, ◌<◌, true, List, [], ◌∷◌, Some, slice_get, get_or, Contains, IsTrue, is_some, count_by, refl, sym, ap, ◌∙◌, subst, arith}
 use Rattle.std.proofs.lemmas.Bool.{false≢true}
 use Rattle.std.proofs.lemmas.Option.{none-some, same_Some}
 use Rattle.std.proofs.lemmas.List.Elements.{All-nil, All-cons}

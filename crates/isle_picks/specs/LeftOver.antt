@@ -1,7 +1,7 @@
 -- Samples of sets: one with an impure site left over from a rule that is not in it, and one whose rule demands every gate
 -- though its if-let leaves a multi call unused.
-use Rattle.std.specs.Prelude.{◌≡◌, pos, true, List, [], ◌∷◌, Some, None, map}
-use Rattle.isle_model.specs.Typed.{match_any, TypedIfLet, TypedRule, make_int, make_let, typed_let_and, no_typed_let}
+use Rattle.std.specs.Prelude.{◌≡◌, pos, true, [], ◌∷◌, Some, None, map}
+use Rattle.isle_model.specs.Typed.{match_any, TypedRule, make_int, make_let, typed_let_and, no_typed_let}
 use Rattle.isle_model.specs.Sites.{int_site, argument_site, constructor_site, iterator_site, SetRule, SiteSet, unfold_site}
 use Rattle.isle_model.specs.Demands.{demands_of, result_of}
 use Rattle.isle_model.specs.Trees.{Tree, no_step, step, return_at}
@@ -9,7 +9,7 @@ use Rattle.isle_model.specs.Run.{World, run}
 use Rattle.isle_model.specs.Sound.{IsSound}
 use Rattle.isle_model.specs.Collects.{Collects, set_bag, LeavesNoCallUnused, IsCollectedRule, IsCollectedSet, ServesSet}
 use Rattle.isle_picks.specs.Samples.{at, given, each, literal, mute, x_matched, x_used}
-use Rattle.isle_picks.specs.Calls.{program, call_of, rule_of}
+use Rattle.isle_picks.specs.Calls.{program, call_of, rule_of, vars_xz}
 
 -- 1. (f (and 1 2)) is (im 1), (f x) is x: f is multi, and im is impure. The first rule never matches and is left out of
 -- the set; its sites stay
@@ -39,7 +39,7 @@ LeftOverCollects =
 -- 2. (f x) is 7, if anything is (let ((z u8 (m x))) x)
 abbrev pub unused_gate : TypedRule
 unused_gate =
-    rule_of x_matched (record { lhs = match_any 1; rhs = make_let 1 (typed_let_and 1 1 (call_of 1 x_used) no_typed_let) x_used } ∷ []) (make_int 1 (pos 7))
+    rule_of vars_xz x_matched (record { lhs = match_any 1; rhs = make_let 1 (typed_let_and 1 1 (call_of 1 x_used) no_typed_let) x_used } ∷ []) (make_int 1 (pos 7))
 
 -- on numbered sites: it goes over the call, and returns 7
 abbrev pub unused_gate_rule : SetRule

@@ -41,7 +41,7 @@ partial = record { pure = false; multi = false; partial = true; rec = false }
 abbrev pub multi : Flags
 multi = record { pure = false; multi = true; partial = false; rec = false }
 
--- a rule of one argument
+-- one of several rules of one argument, without a name
 abbrev pub rule : ℕ → ℕ → ℕ → ℤ → TypedPattern → TypedExpr → List TypedVar → TypedRule
 rule id offset root_term prio arg rhs vars =
     record { id = id; root_term = root_term; args = arg ∷ []; iflets = []; rhs = rhs; vars = vars; prio = prio; at = at offset; name = None }
@@ -187,7 +187,7 @@ PartialEnds answer z o =
 abbrev pub PartialIsServed : Type 0
 PartialIsServed = Serves partial_program (partial_meaning nothing) (given (pos 1)) partial_rules × TellsConstantsApart partial_program (partial_meaning nothing) partial_rules
 
--- 4. (f x) is (T.P (pp x) (im x)): pp is pure and partial, im is impure
+-- 4. (f x) is (T.P (pp x) (im x)): pp is pure and partial, im is impure. The rule is the only one of f, and has its name
 abbrev pub pair_type : TypeEntry
 pair_type =
     enum_type 13 13 false false
@@ -195,9 +195,17 @@ pair_type =
 
 abbrev pub effects_rules : List TypedRule
 effects_rules =
-    rule 0 6 2 (pos 0) x_matched
-    (make_term 13 3 (typed_expr_and (make_term 1 0 (typed_expr_and x_used no_typed_expr)) (typed_expr_and (make_term 1 1 (typed_expr_and x_used no_typed_expr)) no_typed_expr)))
-    (variable 23)
+    record {
+      id = 0;
+      root_term = 2;
+      args = x_matched ∷ [];
+      iflets = [];
+      rhs = make_term 13 3 (typed_expr_and (make_term 1 0 (typed_expr_and x_used no_typed_expr)) (typed_expr_and (make_term 1 1 (typed_expr_and x_used no_typed_expr)) no_typed_expr));
+      vars = variable 23;
+      prio = pos 0;
+      at = at 6;
+      name = Some 20;
+    }
     ∷ []
 
 -- types and then the pair's
