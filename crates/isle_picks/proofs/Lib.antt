@@ -8,3 +8,4 @@ pub mod MultiSound
 pub mod OnePick
 pub mod Held
 pub mod LeftOver
+pub mod SamePlaces

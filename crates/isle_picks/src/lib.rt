@@ -8,7 +8,7 @@ ghost use Rattle.isle_model.specs.Meaning.{one, just, nothing};
 ghost use Rattle.isle_model.specs.Outcome.{failed, ended, no_rule};
 ghost use Rattle.isle_model.specs.Collects.{LeavesNoCallUnused};
 ghost use Rattle.isle_picks.specs.Calls.{Gives, LeavesACallUnused, condition, extracted_twice, nested, program, twice, twice_impure, unused, unused_condition};
-ghost use Rattle.isle_picks.specs.Exact.{ContentsAreHeld, PicksAreExact};
+ghost use Rattle.isle_picks.specs.Exact.{ContentsAreHeld, OnlyPlacesMatter, PicksAreExact};
 ghost use Rattle.isle_picks.specs.LeftOver.{DemandsGatesThough, LeftOverCollects, LeftOverIsCollected};
 ghost use Rattle.isle_picks.specs.Samples.{DoesNotServe, EffectsEnds, ExtractEnds, ExtractIsServed, MultiCollects, MultiGives, MultiIsCollected, MultiIsNot, MultiIsServed, MultiIsSound, PartialEnds, PartialIsServed, blank, ends_with, extract_mute, extract_program, g_of_one, im_of_one, multi_mute, multi_program, pair_of, partial_mute, partial_program, v};
 ghost use Rattle.isle_picks.specs.WithoutMulti.{BagAsPlain, EndsAsPlain, MatchesAsPlain};
@@ -33,6 +33,11 @@ pub fn bag_as_plain()
 /// The list of a rule's picks has its picks and no others, each once.
 pub fn picks_are_exact()
     ensures { PicksAreExact }
+{}
+
+/// Of a pick only the places of its calls matter: two picks with the same places act alike, whatever their order.
+pub fn only_places_matter()
+    ensures { OnlyPlacesMatter }
 {}
 
 /// What a site has under a pick, it can hold.
