@@ -9,3 +9,4 @@ pub mod OnePick
 pub mod Held
 pub mod LeftOver
 pub mod SamePlaces
+pub mod NoIterators

@@ -11,7 +11,12 @@ ghost use Rattle.isle_picks.specs.Calls.{Gives, LeavesACallUnused, condition, ex
 ghost use Rattle.isle_picks.specs.Exact.{ContentsAreHeld, OnlyPlacesMatter, PicksAreExact};
 ghost use Rattle.isle_picks.specs.LeftOver.{DemandsGatesThough, LeftOverCollects, LeftOverIsCollected};
 ghost use Rattle.isle_picks.specs.Samples.{DoesNotServe, EffectsEnds, ExtractEnds, ExtractIsServed, MultiCollects, MultiGives, MultiIsCollected, MultiIsNot, MultiIsServed, MultiIsSound, PartialEnds, PartialIsServed, blank, ends_with, extract_mute, extract_program, g_of_one, im_of_one, multi_mute, multi_program, pair_of, partial_mute, partial_program, v};
-ghost use Rattle.isle_picks.specs.WithoutMulti.{BagAsPlain, EndsAsPlain, MatchesAsPlain};
+ghost use Rattle.isle_picks.specs.WithoutMulti.{BagAsPlain, EndsAsPlain, MatchesAsPlain, NoMultiIsNoIterators};
+
+/// A rule is without multi calls exactly where its demands go over no call.
+pub fn no_multi_is_no_iterators()
+    ensures { NoMultiIsNoIterators }
+{}
 
 /// A rule without multi calls matches under every pick as it does without one.
 #[tactic(auto, using(crate::proofs::Plain::matches_as_plain_lem))]
