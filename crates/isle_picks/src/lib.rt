@@ -8,7 +8,7 @@ ghost use Rattle.isle_model.specs.Meaning.{one, just, nothing};
 ghost use Rattle.isle_model.specs.Outcome.{failed, ended, no_rule};
 ghost use Rattle.isle_model.specs.Collects.{LeavesNoCallUnused};
 ghost use Rattle.isle_picks.specs.Calls.{Gives, LeavesACallUnused, condition, extracted_twice, nested, program, twice, twice_impure, unused, unused_condition};
-ghost use Rattle.isle_picks.specs.Exact.{ContentsAreHeld, OnlyPlacesMatter, PicksAreExact};
+ghost use Rattle.isle_picks.specs.Exact.{ContentsAreHeld, HeldAreContents, OnlyPlacesMatter, PicksAreExact};
 ghost use Rattle.isle_picks.specs.LeftOver.{DemandsGatesThough, LeftOverCollects, LeftOverIsCollected};
 ghost use Rattle.isle_picks.specs.Samples.{DoesNotServe, EffectsEnds, ExtractEnds, ExtractIsServed, MultiCollects, MultiGives, MultiIsCollected, MultiIsNot, MultiIsServed, MultiIsSound, PartialEnds, PartialIsServed, blank, ends_with, extract_mute, extract_program, g_of_one, im_of_one, multi_mute, multi_program, pair_of, partial_mute, partial_program, v};
 ghost use Rattle.isle_picks.specs.WithoutMulti.{BagAsPlain, EndsAsPlain, MatchesAsPlain, NoMultiIsNoIterators};
@@ -48,6 +48,11 @@ pub fn only_places_matter()
 /// What a site has under a pick, it can hold.
 pub fn contents_are_held()
     ensures { ContentsAreHeld }
+{}
+
+/// What a site can hold, it has under every pick, where it takes no answers of multi calls.
+pub fn held_are_contents()
+    ensures { HeldAreContents }
 {}
 
 /// Where the extractor answers 1, the higher rule gives 10.
