@@ -5,11 +5,11 @@ use Rattle.isle_model.specs.Meaning.{Content, one, parts, nothing, just, many, c
 use Rattle.isle_model.specs.Outcome.{Call, then_option}
 use Rattle.isle_model.specs.Program.{Program, Kind, a_variant, a_struct, a_call, unknown, kind, is_partial}
 use Rattle.isle_model.specs.Matching.{single}
-use Rattle.isle_model.specs.RightSide.{Eval, gives, EvalAll, gives_all, ends_all, or_end, then_rest, outcome_of}
+use Rattle.isle_model.specs.RightSide.{gives, EvalAll, gives_all, ends_all, or_end, then_rest, outcome_of}
 use Rattle.isle_model.specs.Run.{as_value, part_at}
 use Rattle.isle_model.specs.Sites.{SiteTerm, bool_term, int_term, prim_term, argument, extractor_call, constructor_call, pick_of, variant_made, variant_field, struct_made, struct_field, some_made, some_part, tuple_part, no_site, SiteTerms, no_site_term, site_term_and}
-use Rattle.isle_model.specs.Picks.{Pick, picked, taken_answer, field_of_variant, field_of_struct, part_of_some, call_answer, site_content, site_values, sited, SitedVars, expr_site, expr_sites, input_sites, parts_under, holds_under, each_holds_under, all_hold_under, term_under, value_under, values_under, lets_under, args_hold_under, iflets_hold_under, matches_under, impure_under, applied_under, apply_under, SitedLets, then_sited_lets, then_sited_body, eval_under, eval_all_under, eval_lets_under}
-use Rattle.isle_model.specs.Typed.{TypedPattern, match_bind, match_var, match_bool, match_int, match_prim, match_term, match_any, match_and, TypedPatterns, no_typed_pattern, typed_pattern_and, TypedExpr, make_term, make_var, make_bool, make_int, make_prim, make_let, TypedExprs, no_typed_expr, typed_expr_and, TypedLets, no_typed_let, typed_let_and, TypedIfLet, TypedRule}
+use Rattle.isle_model.specs.Picks.{Pick, picked, taken_answer, field_of_variant, field_of_struct, part_of_some, call_answer, site_content, site_values, sited, SitedVars, expr_site, expr_sites, input_sites, parts_under, holds_under, each_holds_under, all_hold_under, term_under, value_under, values_under, lets_under, args_hold_under, iflets_hold_under, impure_under, apply_under, then_sited_lets, then_sited_body, eval_under, eval_all_under, eval_lets_under}
+use Rattle.isle_model.specs.Typed.{TypedPattern, match_bind, match_var, match_bool, match_int, match_prim, match_term, match_any, match_and, TypedPatterns, no_typed_pattern, typed_pattern_and, TypedExpr, make_term, make_var, make_bool, make_int, make_prim, make_let, TypedExprs, no_typed_expr, typed_expr_and, TypedLets, no_typed_let, typed_let_and, TypedIfLet}
 use Rattle.isle_picks.specs.Exact.{GiveSamePlaces, OnlyPlacesMatter}
 
 module _ (p : Program) (m : Meaning) (k l : Pick) (g : GiveSamePlaces k l) where

@@ -338,8 +338,8 @@ MultiIsNot results = Collects (record { calls = []; results = each results; endi
 abbrev pub MultiIsServed : Type 0
 MultiIsServed = Serves multi_program multi_meaning (given (pos 1)) multi_rules × TellsConstantsApart multi_program multi_meaning multi_rules
 
--- the typed rules make no impure call and leave none unused; the set's rules make none and demand every gate, its sites
--- stand in order, and the world serves it
+-- the typed rules make no impure call, and their if-lets leave no multi call unused; the set's rules make none and demand
+-- every gate, its sites stand in order, and the world serves it
 abbrev pub MultiIsCollected : Type 0
 MultiIsCollected = All (HasCollectedResults multi_program) multi_rules × IsCollectedSet multi_set × ServesSet multi_set (multi_world (pos 1))
 
