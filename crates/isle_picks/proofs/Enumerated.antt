@@ -18,9 +18,10 @@ use Rattle.isle_trees.proofs.Lists.{nothing_in, in_head, in_tail, in_cases, in_a
 use Rattle.isle_picks.specs.Exact.{PicksAreExact}
 use Rattle.isle_picks.proofs.SameSites.{term_same}
 use Rattle.isle_picks.proofs.Plain.{then_same}
-use Rattle.isle_picks.proofs.Ordered.{Within, Covered, OrderedFrom, calls_ordered}
+use Rattle.isle_picks.specs.Orders.{Within, Covered, OrderedFrom}
+use Rattle.isle_picks.proofs.Ordered.{calls_ordered}
 
-abbrev keys : Pick → List SiteTerm
+abbrev pub keys : Pick → List SiteTerm
 keys k = map (λ e. e.0) k
 
 -- 1. a site's content under a longer pick
@@ -47,7 +48,7 @@ picked_kept k rest s (just c) h = refl
 
 module _ (m : Meaning) (args : List Value) (k rest : Pick) where
   mutual
-    content_kept : (u : SiteTerm) → Covered (keys k) u → site_content m args (k ++ rest) u ≡ site_content m args k u
+    pub content_kept : (u : SiteTerm) → Covered (keys k) u → site_content m args (k ++ rest) u ≡ site_content m args k u
     content_kept (bool_term b ty) h = refl
     content_kept (int_term z ty) h = refl
     content_kept (prim_term name) h = refl

@@ -10,3 +10,4 @@ pub mod Held
 pub mod LeftOver
 pub mod SamePlaces
 pub mod NoIterators
+pub mod FirstCall

@@ -12,7 +12,7 @@ use Rattle.isle_model.specs.Picks.{Pick, picked, taken_answer, field_of_variant,
 use Rattle.isle_model.specs.Typed.{TypedPattern, match_bind, match_var, match_bool, match_int, match_prim, match_term, match_any, match_and, TypedPatterns, no_typed_pattern, typed_pattern_and, TypedExpr, make_term, make_var, make_bool, make_int, make_prim, make_let, TypedExprs, no_typed_expr, typed_expr_and, TypedLets, no_typed_let, typed_let_and, TypedIfLet}
 use Rattle.isle_picks.specs.Exact.{GiveSamePlaces, OnlyPlacesMatter}
 
-module _ (p : Program) (m : Meaning) (k l : Pick) (g : GiveSamePlaces k l) where
+module _ (m : Meaning) (k l : Pick) (g : GiveSamePlaces k l) where
   -- 1. answers
   picked_same : (call : SiteTerm) (c : Content) → picked k call c ≡ picked l call c
   picked_same call (many cs) = ap (λ o. then_option o (slice_get (contents cs))) (g call)
@@ -28,7 +28,7 @@ module _ (p : Program) (m : Meaning) (k l : Pick) (g : GiveSamePlaces k l) where
   -- 2. sites
   module _ (args : List Value) where
     mutual
-      content_same : (s : SiteTerm) → site_content m args k s ≡ site_content m args l s
+      pub content_same : (s : SiteTerm) → site_content m args k s ≡ site_content m args l s
       content_same (bool_term b ty) = refl
       content_same (int_term z ty) = refl
       content_same (prim_term name) = refl
@@ -52,11 +52,12 @@ module _ (p : Program) (m : Meaning) (k l : Pick) (g : GiveSamePlaces k l) where
           let f = all_content_same ss in
           λ j. then_option (then_option (h j) as_value) (λ v. then_option (f j) (λ vs. Some (value_and v vs)))
 
+module _ (p : Program) (m : Meaning) (k l : Pick) (g : GiveSamePlaces k l) where
   -- 3. patterns
   parts_same : (kd : Kind) (t : ℕ) (s : SiteTerm) (v : Value) → parts_under kd m k t s v ≡ parts_under kd m l t s v
   parts_same (a_variant ty variant) t s v = refl
   parts_same (a_struct ty) t s v = refl
-  parts_same (a_call flags infallible) t s v = λ j. then_option (then_option (extractor_answer m t v) (λ c. taken_same flags.multi (extractor_call t s) c j)) answered
+  parts_same (a_call flags infallible) t s v = λ j. then_option (then_option (extractor_answer m t v) (λ c. taken_same m k l g flags.multi (extractor_call t s) c j)) answered
   parts_same unknown t s v = refl
 
   mutual
@@ -86,7 +87,7 @@ module _ (p : Program) (m : Meaning) (k l : Pick) (g : GiveSamePlaces k l) where
   term_same : (kd : Kind) (t : ℕ) (ss : SiteTerms) (vs : Values) → term_under kd m k t ss vs ≡ term_under kd m l t ss vs
   term_same (a_variant ty variant) t ss vs = refl
   term_same (a_struct ty) t ss vs = refl
-  term_same (a_call flags infallible) t ss vs = λ j. then_option (then_option (pure_answer m t vs) (λ c. taken_same flags.multi (constructor_call t ss 0) c j)) single
+  term_same (a_call flags infallible) t ss vs = λ j. then_option (then_option (pure_answer m t vs) (λ c. taken_same m k l g flags.multi (constructor_call t ss 0) c j)) single
   term_same unknown t ss vs = refl
 
   mutual
@@ -127,7 +128,7 @@ module _ (p : Program) (m : Meaning) (k l : Pick) (g : GiveSamePlaces k l) where
   impure_same : (multi : Bool) (t : ℕ) (ss : SiteTerms) (vs : Option Values) (calls : List Call) → impure_under multi m k t ss vs calls ≡ impure_under multi m l t ss vs calls
   impure_same multi t ss None calls = refl
   impure_same multi t ss (Some vs) calls =
-      λ j. or_end (then_option (then_option (impure_answer m t (length calls)) (λ c. taken_same multi (constructor_call t ss (suc (length calls))) c j)) single) (calls ++ record { term = t; args = vs } ∷ [])
+      λ j. or_end (then_option (then_option (impure_answer m t (length calls)) (λ c. taken_same m k l g multi (constructor_call t ss (suc (length calls))) c j)) single) (calls ++ record { term = t; args = vs } ∷ [])
 
   apply_same : (kd : Kind) (t : ℕ) (ss : SiteTerms) (a : EvalAll) → apply_under kd m k t ss a ≡ apply_under kd m l t ss a
   apply_same kd t ss (ends_all calls) = refl
@@ -159,7 +160,7 @@ module _ (p : Program) (m : Meaning) (k l : Pick) (g : GiveSamePlaces k l) where
 
 pub only_places_matter_lem : OnlyPlacesMatter
 only_places_matter_lem p m args r k l g = record {
-  contents = content_same p m k l g args;
+  contents = content_same m k l g args;
   matching = λ j. then_option (args_same p m k l g 0 r.args args [] j) (λ e. iflets_same p m k l g r.iflets e j);
   ends = λ e. ap (outcome_of (is_partial p r.root_term)) (eval_same p m k l g r.rhs e []);
 }

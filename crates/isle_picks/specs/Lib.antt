@@ -3,3 +3,4 @@ pub mod Samples
 pub mod Calls
 pub mod Exact
 pub mod LeftOver
+pub mod Orders

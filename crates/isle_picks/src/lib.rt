@@ -10,6 +10,7 @@ ghost use Rattle.isle_model.specs.Collects.{LeavesNoCallUnused};
 ghost use Rattle.isle_picks.specs.Calls.{Gives, LeavesACallUnused, condition, extracted_twice, nested, program, twice, twice_impure, unused, unused_condition};
 ghost use Rattle.isle_picks.specs.Exact.{ContentsAreHeld, HeldAreContents, OnlyPlacesMatter, PicksAreExact};
 ghost use Rattle.isle_picks.specs.LeftOver.{DemandsGatesThough, LeftOverCollects, LeftOverIsCollected};
+ghost use Rattle.isle_picks.specs.Orders.{CallsCanComeFirst};
 ghost use Rattle.isle_picks.specs.Samples.{DoesNotServe, EffectsEnds, ExtractEnds, ExtractIsServed, MultiCollects, MultiGives, MultiIsCollected, MultiIsNot, MultiIsServed, MultiIsSound, PartialEnds, PartialIsServed, blank, ends_with, extract_mute, extract_program, g_of_one, im_of_one, multi_mute, multi_program, pair_of, partial_mute, partial_program, v};
 ghost use Rattle.isle_picks.specs.WithoutMulti.{BagAsPlain, EndsAsPlain, MatchesAsPlain, NoMultiIsNoIterators};
 
@@ -43,6 +44,12 @@ pub fn picks_are_exact()
 /// Of a pick only the places of its calls matter: two picks with the same places act alike, whatever their order.
 pub fn only_places_matter()
     ensures { OnlyPlacesMatter }
+{}
+
+/// A call that takes answers of calls with a place alone can be gone over before others: what is made of the picks is one
+/// bag.
+pub fn calls_can_come_first()
+    ensures { CallsCanComeFirst }
 {}
 
 /// What a site has under a pick, it can hold.
