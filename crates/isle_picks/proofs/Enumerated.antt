@@ -24,6 +24,9 @@ use Rattle.isle_picks.proofs.Ordered.{calls_ordered}
 abbrev pub keys : Pick → List SiteTerm
 keys k = map (λ e. e.0) k
 
+pub keys_push : (k : Pick) (e : SiteTerm × ℕ) → keys k ++ e.0 ∷ [] ≡ keys (k ++ e ∷ [])
+keys_push k e = sym (map-append (λ x. x.0) k (e ∷ []))
+
 -- 1. a site's content under a longer pick
 place_kept : (k rest : Pick) (c : SiteTerm) → Contains (keys k) c → place_of (k ++ rest) c ≡ place_of k c
 place_kept [] rest c h = absurd (nothing_in c h)
@@ -192,9 +195,6 @@ module _ (m : Meaning) (args : List Value) where
   -- 5. under the whole pick
   abbrev Valid : Pick → Pick → Type 0
   Valid k es = (call : SiteTerm) (n : ℕ) → Contains es (call, n) → Answers (site_content m args k call) n
-
-  keys_push : (k : Pick) (e : SiteTerm × ℕ) → keys k ++ e.0 ∷ [] ≡ keys (k ++ e ∷ [])
-  keys_push k e = sym (map-append (λ x. x.0) k (e ∷ []))
 
   whole : (k es : Pick) → OrderedFrom (keys k) (keys es) → Follow k es → Valid (k ++ es) es
   whole k [] o f call n h = absurd (nothing_in (call, n) h)

@@ -1,22 +1,27 @@
--- A call that is ready can be gone over before others.
+-- A call that is ready can be gone over before others, and results are of places alone.
 use Rattle.std.proofs.Common.{◌≡◌, ℕ, Bool, true, false, cond, List, [], ◌∷◌, ◌++◌, Option, Some, None, Contains, flat_map, refl, sym, ap, ◌∙◌, subst, subst₂}
-use Rattle.std.specs.Prelude.{IsPermutation}
-use Rattle.std.proofs.lemmas.List.{append_assoc, map-append}
+use Rattle.std.specs.Prelude.{IsPermutation, ◌&&◌}
+use Rattle.std.specs.List.{list_all}
+use Rattle.std.proofs.lemmas.List.{append_assoc}
 use Rattle.std.proofs.lemmas.List.Elements.{Contains-append_left}
 use Rattle.std.proofs.lemmas.List.Sorted.{IsPermutation-refl, IsPermutation-trans, IsPermutation-append, IsPermutation-append_left, IsPermutation-append_right, IsPermutation-append_comm}
 use Rattle.std.proofs.lemmas.Grind.{flat_map-append}
 use Rattle.isle_model.specs.Values.{Value}
 use Rattle.isle_model.specs.Meaning.{Content, Meaning}
-use Rattle.isle_model.specs.Run.{or_else}
-use Rattle.isle_model.specs.Sites.{SiteTerm}
+use Rattle.isle_model.specs.Run.{World, as_value, or_else}
+use Rattle.isle_model.specs.Sites.{SiteTerm, SetRule, unfold_site}
 use Rattle.isle_model.specs.Demands.{site_term_eq}
-use Rattle.isle_model.specs.Picks.{Pick, place_of, site_content, places_in, picks_over}
+use Rattle.isle_model.specs.Picks.{Pick, place_of, site_content, places_in, picks_over, SitedVars, matches_under, results_with, results_under}
+use Rattle.isle_model.specs.Collects.{content_at, meets, same_value, all_same, demands_hold, as_list, result_in}
+use Rattle.isle_model.specs.Outcome.{then_option}
+use Rattle.isle_model.specs.Program.{Program}
+use Rattle.isle_model.specs.Typed.{TypedRule}
 use Rattle.isle_trees.proofs.Lists.{in_head, in_tail}
 use Rattle.isle_picks.specs.Exact.{GiveSamePlaces}
-use Rattle.isle_picks.specs.Orders.{Covered, OrderedFrom, IsOfPlaces, CallsCanComeFirst}
+use Rattle.isle_picks.specs.Orders.{Covered, OrderedFrom, IsOfPlaces, CallsCanComeFirst, ResultsAreOfPlaces}
 use Rattle.isle_picks.proofs.SameSites.{term_means}
-use Rattle.isle_picks.proofs.SamePlaces.{content_same}
-use Rattle.isle_picks.proofs.Enumerated.{keys, content_kept}
+use Rattle.isle_picks.proofs.SamePlaces.{content_same, only_places_matter_lem}
+use Rattle.isle_picks.proofs.Enumerated.{keys, keys_push, content_kept}
 
 -- 1. lists that lists make
 module _ {X Y Z : Type 0} where
@@ -104,10 +109,6 @@ module _ (m : Meaning) (args : List Value) (f : Pick → List Content) (g : IsOf
       made_each (k ++ (a, n) ∷ []) b calls
       ∙ ap (λ o. flat_map (λ i. made ((k ++ (a, n) ∷ []) ++ (b, i) ∷ []) calls) (places_in o)) (content_kept m args k ((a, n) ∷ []) b h)
 
-  keys_after : (k : Pick) (c : SiteTerm) (n : ℕ) → keys k ++ c ∷ [] ≡ keys (k ++ (c, n) ∷ [])
-  keys_after [] c n = refl
-  keys_after (e ∷ k) c n = ap (λ l. e.0 ∷ l) (keys_after k c n)
-
   first : (before after : List SiteTerm) (k : Pick) (c : SiteTerm) → OrderedFrom (keys k) before → Covered (keys k) c → (Contains before c → ⊥)
       → IsPermutation (made k (before ++ c ∷ after)) (made k (c ∷ (before ++ after)))
   first [] after k c o v d = IsPermutation-refl _
@@ -116,16 +117,16 @@ module _ (m : Meaning) (args : List Value) (f : Pick → List Content) (g : IsOf
       let here = places_in (site_content m args k x) in
       let there = places_in (site_content m args k c) in
       let moved : IsPermutation (flat_map (λ n. made (k ++ (x, n) ∷ []) (before ++ c ∷ after)) here) (flat_map (λ n. made (k ++ (x, n) ∷ []) (c ∷ rest)) here)
-              = flat_moved _ _ here (λ n.
-                  first before after (k ++ (x, n) ∷ []) c
-                  (subst (λ l. OrderedFrom l before) (keys_after k x n) o.1)
-                  (subst (λ l. Covered l c) (keys_after k x n) (λ a h. Contains-append_left (keys k) (x ∷ []) a (v a h)))
-                  (λ h. d (in_tail x c before h))) in
+      = flat_moved _ _ here (λ n.
+      first before after (k ++ (x, n) ∷ []) c
+      (subst (λ l. OrderedFrom l before) (keys_push k (x, n)) o.1)
+      (subst (λ l. Covered l c) (keys_push k (x, n)) (λ a h. Contains-append_left (keys k) (x ∷ []) a (v a h)))
+      (λ h. d (in_tail x c before h))) in
       let left : flat_map (λ n. made (k ++ (x, n) ∷ []) (c ∷ rest)) here ≡ flat_map (λ n. flat_map (λ i. made ((k ++ (x, n) ∷ []) ++ (c, i) ∷ []) rest) there) here
-              = λ j. flat_map (λ n. made_two k x c n rest v j) here in
+      = λ j. flat_map (λ n. made_two k x c n rest v j) here in
       let right : flat_map (λ i. flat_map (λ n. made ((k ++ (x, n) ∷ []) ++ (c, i) ∷ []) rest) here) there ≡ flat_map (λ i. made (k ++ (c, i) ∷ []) (x ∷ rest)) there
-              = (λ j. flat_map (λ i. flat_map (λ n. made_same rest ((k ++ (x, n) ∷ []) ++ (c, i) ∷ []) ((k ++ (c, i) ∷ []) ++ (x, n) ∷ []) (two_same k x c n i (λ e. d (subst (Contains (x ∷ before)) e (in_head x before)))) j) here) there)
-                ∙ (λ j. flat_map (λ i. sym (made_two k c x i rest o.0) j) there) in
+      = (λ j. flat_map (λ i. flat_map (λ n. made_same rest ((k ++ (x, n) ∷ []) ++ (c, i) ∷ []) ((k ++ (c, i) ∷ []) ++ (x, n) ∷ []) (two_same k x c n i (λ e. d (subst (Contains (x ∷ before)) e (in_head x before)))) j) here) there)
+      ∙ (λ j. flat_map (λ i. sym (made_two k c x i rest o.0) j) there) in
       subst₂ IsPermutation (sym (made_each k x (before ++ c ∷ after))) (right ∙ sym (made_each k c (x ∷ rest)))
       (IsPermutation-trans _ _ _ moved
       (subst (λ l. IsPermutation l (flat_map (λ i. flat_map (λ n. made ((k ++ (x, n) ∷ []) ++ (c, i) ∷ []) rest) here) there)) (sym left)
@@ -133,3 +134,29 @@ module _ (m : Meaning) (args : List Value) (f : Pick → List Content) (g : IsOf
 
 pub calls_can_come_first_lem : CallsCanComeFirst
 calls_can_come_first_lem m args f k before after call g o v d = first m args f g before after k call o v d
+
+-- 4. results
+module _ (p : Program) (m : Meaning) (args : List Value) (r : TypedRule) (k l : Pick) (g : GiveSamePlaces k l) where
+  with_same : (o : Option SitedVars) → results_with p m k r o ≡ results_with p m l r o
+  with_same None = refl
+  with_same (Some e) = ap (λ o. o.results) ((only_places_matter_lem p m args r k l g).ends e)
+
+  rule_same : results_under p m args r k ≡ results_under p m args r l
+  rule_same = ap (results_with p m k r) (only_places_matter_lem p m args r k l g).matching ∙ with_same (matches_under p m l r args)
+
+module _ (w : World) (r : SetRule) (k l : Pick) (g : GiveSamePlaces k l) where
+  at_same : (s : ℕ) → content_at w k s ≡ content_at w l s
+  at_same s = content_same w.meaning k l g w.args (unfold_site w.sites s)
+
+  class_same : (c : List ℕ) → all_same w k c ≡ all_same w l c
+  class_same [] = refl
+  class_same (s ∷ rest) = λ j. list_all (λ t. same_value (then_option (at_same s j) as_value) (then_option (at_same t j) as_value)) rest
+
+  demands_same : demands_hold w k r ≡ demands_hold w l r
+  demands_same = λ j. list_all (λ d. meets w.meaning d.1 (at_same d.0 j)) r.constraints && list_all (λ c. class_same c j) r.classes
+
+  result_same : result_in w r k ≡ result_in w r l
+  result_same = λ j. cond (demands_same j) (as_list (at_same r.result j)) []
+
+pub results_are_of_places_lem : ResultsAreOfPlaces
+results_are_of_places_lem = (λ p m args r k l g. rule_same p m args r k l g, λ w r k l g. result_same w r k l g)

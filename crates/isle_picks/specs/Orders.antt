@@ -3,9 +3,12 @@ use Rattle.std.specs.Prelude.{List, [], ◌∷◌, ◌++◌, ◌≡◌, Contains
 use Rattle.std.specs.List.{flat_map}
 use Rattle.isle_model.specs.Values.{Value}
 use Rattle.isle_model.specs.Meaning.{Content, Meaning}
-use Rattle.isle_model.specs.Sites.{SiteTerm}
-use Rattle.isle_model.specs.Picks.{Pick, picks_over}
-use Rattle.isle_model.specs.Collects.{calls_in}
+use Rattle.isle_model.specs.Sites.{SiteTerm, SetRule}
+use Rattle.isle_model.specs.Picks.{Pick, picks_over, results_under}
+use Rattle.isle_model.specs.Collects.{calls_in, result_in}
+use Rattle.isle_model.specs.Program.{Program}
+use Rattle.isle_model.specs.Typed.{TypedRule}
+use Rattle.isle_model.specs.Run.{World}
 use Rattle.isle_picks.specs.Exact.{GiveSamePlaces}
 
 -- calls that stand in a list
@@ -24,6 +27,12 @@ OrderedFrom ls (c ∷ cs) = Covered ls c × OrderedFrom (ls ++ c ∷ []) cs
 -- what is made of a pick is made of its places alone
 abbrev pub IsOfPlaces : (Pick → List Content) → Type 0
 IsOfPlaces f = (k l : Pick) → GiveSamePlaces k l → f k ≡ f l
+
+-- so are the results of a rule, and those of a set's rule
+abbrev pub ResultsAreOfPlaces : Type 0
+ResultsAreOfPlaces =
+    ((p : Program) (m : Meaning) (args : List Value) (r : TypedRule) → IsOfPlaces (results_under p m args r))
+    × ((w : World) (r : SetRule) → IsOfPlaces (result_in w r))
 
 -- a call that takes answers of calls with a place alone can be gone over before others: what is made of all the picks is
 -- the same bag

@@ -10,7 +10,7 @@ ghost use Rattle.isle_model.specs.Collects.{LeavesNoCallUnused};
 ghost use Rattle.isle_picks.specs.Calls.{Gives, LeavesACallUnused, condition, extracted_twice, nested, program, twice, twice_impure, unused, unused_condition};
 ghost use Rattle.isle_picks.specs.Exact.{ContentsAreHeld, HeldAreContents, OnlyPlacesMatter, PicksAreExact};
 ghost use Rattle.isle_picks.specs.LeftOver.{DemandsGatesThough, LeftOverCollects, LeftOverIsCollected};
-ghost use Rattle.isle_picks.specs.Orders.{CallsCanComeFirst};
+ghost use Rattle.isle_picks.specs.Orders.{CallsCanComeFirst, ResultsAreOfPlaces};
 ghost use Rattle.isle_picks.specs.Samples.{DoesNotServe, EffectsEnds, ExtractEnds, ExtractIsServed, MultiCollects, MultiGives, MultiIsCollected, MultiIsNot, MultiIsServed, MultiIsSound, PartialEnds, PartialIsServed, blank, ends_with, extract_mute, extract_program, g_of_one, im_of_one, multi_mute, multi_program, pair_of, partial_mute, partial_program, v};
 ghost use Rattle.isle_picks.specs.WithoutMulti.{BagAsPlain, EndsAsPlain, MatchesAsPlain, NoMultiIsNoIterators};
 
@@ -50,6 +50,11 @@ pub fn only_places_matter()
 /// bag.
 pub fn calls_can_come_first()
     ensures { CallsCanComeFirst }
+{}
+
+/// The results of a rule under a pick are of the pick's places alone, and so are those of a set's rule.
+pub fn results_are_of_places()
+    ensures { ResultsAreOfPlaces }
 {}
 
 /// What a site has under a pick, it can hold.
