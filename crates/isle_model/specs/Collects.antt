@@ -18,7 +18,7 @@ use Rattle.isle_model.specs.Built.{numbers_from, world_of}
 use Rattle.isle_model.specs.Picks.{Pick, site_content, picks_over, bag}
 use Rattle.isle_model.specs.Typed.{TypedIfLet, TypedRule}
 
--- a run went through without calls, and its results are this bag, in whatever order
+-- a run went through without impure calls, and its results are this bag, in whatever order
 pub record Collects (o : Outcome) (expected : List Content) : Type 0 where
   pub calls : o.calls ≡ []
   pub ending : o.ending ≡ ran_through
@@ -54,21 +54,21 @@ iflets_need_calls p (i ∷ rest) v =
     let a = visit_expr p i.rhs (afresh v) in
     list_all (has_site (calls_in a.site)) a.visit.demands.iterators && iflets_need_calls p rest (visit_pattern p i.lhs a.site a.visit)
 
--- no if-let leaves a multi call of its expression unused: so the rule demands each gate that its sites stand behind
-abbrev pub DemandsEveryGate : Program → TypedRule → Type 0
-DemandsEveryGate p r = IsTrue (iflets_need_calls p r.iflets (visit_args p 0 r.args visit_start))
+-- the value of each if-let of a rule takes an answer of each multi call that the if-let's expression makes
+abbrev pub LeavesNoCallUnused : Program → TypedRule → Type 0
+LeavesNoCallUnused p r = IsTrue (iflets_need_calls p r.iflets (visit_args p 0 r.args visit_start))
 
--- a rule whose results the run of a tree collects: it makes no impure call and demands every gate
-pub record IsCollected (p : Program) (r : TypedRule) : Type 0 where
+-- a typed rule whose results a run collects: it makes no impure call, and no if-let leaves a multi call unused
+pub record HasCollectedResults (p : Program) (r : TypedRule) : Type 0 where
   pub no_calls : (demands_of p r).impure ≡ []
-  pub gates : DemandsEveryGate p r
+  pub no_call_unused : LeavesNoCallUnused p r
 
--- for a multi term whose rules make no impure call and demand every gate: on all well-typed arguments, and under every
--- meaning that serves the term's rules and tells constants apart, the tree's run goes through without calls, and its
--- results are the bag of the rules' results
-abbrev pub CollectsAsChosen : Program → ℕ → List Site → Tree → Type 0
-CollectsAsChosen p t sites tree =
-    is_multi p t ≡ true → All (IsCollected p) (rules_of p t) → (m : Meaning) (args : List Value)
+-- for a multi term whose rules make no impure call and leave no multi call of an if-let unused: on all well-typed
+-- arguments, and under every meaning that serves the term's rules and tells constants apart, the tree's run goes through
+-- without impure calls, and its results are the bag of the rules' results
+abbrev pub CollectsTheBag : Program → ℕ → List Site → Tree → Type 0
+CollectsTheBag p t sites tree =
+    is_multi p t ≡ true → All (HasCollectedResults p) (rules_of p t) → (m : Meaning) (args : List Value)
     → IsTrue (args_well_typed p.types (arg_types p t) args) → Serves p m args (rules_of p t) → TellsConstantsApart p m (rules_of p t)
     → Collects (run tree (world_of p t sites m args)) (bag p m (rules_of p t) args)
 
@@ -133,22 +133,29 @@ asks_answer s (a, is_present) = a == s
 asks_answer s _ = false
 
 -- whether a rule demands what a site waits for: the form of a field's source, that an unwrapped call answers, that a
--- call whose answers are picked is gone over
+-- call whose answers are picked is gone over. No rule demands what a number that is no site would wait for
 abbrev pub gate_demanded : SetRule → Option Site → Bool
 gate_demanded r (Some (match_variant_site source variant field)) = list_any (asks_variant source variant field) r.constraints
 gate_demanded r (Some (extract_struct_site source field)) = list_any (asks_struct source field) r.constraints
 gate_demanded r (Some (match_some_site source)) = list_any (asks_answer source) r.constraints
 gate_demanded r (Some (iterator_site source)) = is_in source r.iterators
-gate_demanded r _ = true
+gate_demanded r None = false
+gate_demanded r (Some _) = true
 
 -- the sites that a rule tests, goes over and returns
 abbrev pub sites_of_rule : SetRule → List ℕ
 sites_of_rule r = map (λ d. d.0) r.constraints ++ flat_map (λ c. c) r.classes ++ r.iterators ++ r.result ∷ []
 
--- a rule of a set without impure calls that demands each gate below its sites
+-- whether binding a site makes no impure call
+abbrev pub calls_nothing : Option Site → Bool
+calls_nothing (Some (constructor_site term sources (suc before))) = false
+calls_nothing _ = true
+
+-- a rule of a set whose results a run collects: below its sites stand no impure calls, and only gates that it demands
 pub record IsCollectedRule (sites : List Site) (r : SetRule) : Type 0 where
   pub known : All (λ s. s < length sites) (sites_of_rule r)
   pub no_calls : r.impure ≡ []
+  pub pure : All (λ s. IsTrue (calls_nothing (slice_get sites s))) (all_below sites (sites_of_rule r))
   pub gates : All (λ s. IsTrue (gate_demanded r (slice_get sites s))) (all_below sites (sites_of_rule r))
 
 -- a site that isn't an impure call
@@ -156,19 +163,19 @@ abbrev pub IsPureSite : Site → Type 0
 IsPureSite (constructor_site term sources (suc before)) = ⊥
 IsPureSite _ = Unit {0}
 
--- a set whose sites stand once, after their sources, and make no impure call, with such rules
+-- a set whose sites stand once, after their sources, with such rules. Sites that none of its rules uses may be anything:
+-- a rule that was left out leaves its sites behind
 pub record IsCollectedSet (set : SiteSet) : Type 0 where
   pub once : IsDistinct set.sites
   pub sources : (s a : ℕ) → Contains (sources_at set.sites s) a → a < s
-  pub pure : All IsPureSite set.sites
   pub rules : All (IsCollectedRule set.sites) set.rules
 
--- under every pick, the world has a content for each site that waits for nothing and whose sources have one; a call
--- that is gone over answers a list, equal sites have values, and a content that meets a constraint has its number of
--- fields and meets no other constraint that rules ask of the site
+-- under every pick, the world has a content for each site that is no impure call, waits for nothing and whose sources
+-- have one; a call that is gone over answers a list, equal sites have values, and a content that meets a constraint has
+-- its number of fields and meets no other constraint that rules ask of the site
 pub record ServesSet (set : SiteSet) (w : World) : Type 0 where
   pub sites : w.sites ≡ set.sites
-  pub found : (k : Pick) (s : ℕ) → s < length set.sites → waits (slice_get set.sites s) ≡ false
+  pub found : (k : Pick) (s : ℕ) → s < length set.sites → waits (slice_get set.sites s) ≡ false → IsTrue (calls_nothing (slice_get set.sites s))
       → All (λ a. IsTrue (is_some (content_at w k a))) (sources_at set.sites s) → IsTrue (is_some (content_at w k s))
   pub lists : (k : Pick) (r : SetRule) (s : ℕ) (c : Content) → Contains set.rules r → Contains r.iterators s → content_at w k s ≡ Some c → (cs : Contents) × (c ≡ many cs)
   pub values : (k : Pick) (r : SetRule) (a b : ℕ) (c : Content) → Contains set.rules r → IsTrue (joins_in r.classes a b) → content_at w k a ≡ Some c → (v : Value) × (c ≡ one v)

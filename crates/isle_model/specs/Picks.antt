@@ -81,22 +81,23 @@ abbrev mutual
 abbrev pub multi_calls : Program → TypedRule → List SiteTerm
 multi_calls p r = with_sites [] (demands_of p r).iterators
 
--- a pick of a rule: each of its different multi calls, in the order met, with one place in the list that it answers
--- under this pick. Where a call answers no list, since an argument of it has no value, there is no place, and the rule
--- has no pick
+-- a pick of a rule: each of its different multi calls, in the order in which the rule's own visit first meets them, with
+-- one place in the list that it answers under this pick. The order makes each pick one list; nothing that is done under a
+-- pick depends on it, but on the places alone. A set's rule may go over the same calls in another order. Where a call
+-- answers no list, since an argument of it has no value, there is no place, and the rule has no pick
 pub record IsPick (p : Program) (m : Meaning) (args : List Value) (r : TypedRule) (k : Pick) : Type 0 where
   pub calls : map (λ e. e.0) k ≡ multi_calls p r
   pub places : (call : SiteTerm) (n : ℕ) → Contains k (call, n) → (cs : Contents) × (site_content m args k call ≡ Some (many cs)) × (n < length (contents cs))
 
 -- the places of the list that a call answers
-abbrev pub places : Option Content → List ℕ
-places (Some (many cs)) = numbers_from 0 (contents cs)
-places _ = []
+abbrev pub places_in : Option Content → List ℕ
+places_in (Some (many cs)) = numbers_from 0 (contents cs)
+places_in _ = []
 
 -- a pick and all places of further calls: each call answers under the places taken before it
 abbrev pub picks_over : Meaning → List Value → Pick → List SiteTerm → List Pick
 picks_over m args k [] = k ∷ []
-picks_over m args k (call ∷ calls) = flat_map (λ n. picks_over m args (k ++ (call, n) ∷ []) calls) (places (site_content m args k call))
+picks_over m args k (call ∷ calls) = flat_map (λ n. picks_over m args (k ++ (call, n) ∷ []) calls) (places_in (site_content m args k call))
 
 -- all picks of a rule, each once
 abbrev pub picks : Program → Meaning → List Value → TypedRule → List Pick

@@ -13,15 +13,19 @@ use Rattle.isle_model.specs.Sites.{SiteTerm, bool_term, int_term, prim_term, arg
 use Rattle.isle_model.specs.Demands.{site_term_eq}
 use Rattle.isle_model.specs.Built.{numbers_from}
 use Rattle.isle_model.specs.Collects.{calls_in, calls_in_all}
-use Rattle.isle_model.specs.Picks.{Pick, place_of, picked, field_of_variant, field_of_struct, part_of_some, call_answer, site_content, site_values, multi_calls, IsPick, places, picks_over}
+use Rattle.isle_model.specs.Picks.{Pick, place_of, picked, field_of_variant, field_of_struct, part_of_some, call_answer, site_content, site_values, multi_calls, IsPick, places_in, picks_over}
 use Rattle.isle_trees.proofs.Lists.{nothing_in, in_head, in_tail, in_cases, in_alone, member_from_get, get_from_member}
 use Rattle.isle_picks.specs.Exact.{PicksAreExact}
 use Rattle.isle_picks.proofs.SameSites.{term_same}
 use Rattle.isle_picks.proofs.Plain.{then_same}
-use Rattle.isle_picks.proofs.Ordered.{Within, Covered, OrderedFrom, calls_ordered}
+use Rattle.isle_picks.specs.Orders.{Within, Covered, OrderedFrom}
+use Rattle.isle_picks.proofs.Ordered.{calls_ordered}
 
-abbrev keys : Pick → List SiteTerm
+abbrev pub keys : Pick → List SiteTerm
 keys k = map (λ e. e.0) k
+
+pub keys_push : (k : Pick) (e : SiteTerm × ℕ) → keys k ++ e.0 ∷ [] ≡ keys (k ++ e ∷ [])
+keys_push k e = sym (map-append (λ x. x.0) k (e ∷ []))
 
 -- 1. a site's content under a longer pick
 place_kept : (k rest : Pick) (c : SiteTerm) → Contains (keys k) c → place_of (k ++ rest) c ≡ place_of k c
@@ -47,7 +51,7 @@ picked_kept k rest s (just c) h = refl
 
 module _ (m : Meaning) (args : List Value) (k rest : Pick) where
   mutual
-    content_kept : (u : SiteTerm) → Covered (keys k) u → site_content m args (k ++ rest) u ≡ site_content m args k u
+    pub content_kept : (u : SiteTerm) → Covered (keys k) u → site_content m args (k ++ rest) u ≡ site_content m args k u
     content_kept (bool_term b ty) h = refl
     content_kept (int_term z ty) h = refl
     content_kept (prim_term name) h = refl
@@ -106,7 +110,7 @@ numbers_all i (x ∷ xs) (suc n) h = subst (Contains (numbers_from i (x ∷ xs))
 abbrev Answers : Option Content → ℕ → Type 0
 Answers o n = (cs : Contents) × (o ≡ Some (many cs)) × (n < length (contents cs))
 
-from_places : (o : Option Content) (n : ℕ) → Contains (places o) n → Answers o n
+from_places : (o : Option Content) (n : ℕ) → Contains (places_in o) n → Answers o n
 from_places (Some (many cs)) n h = let b = numbers_below 0 (contents cs) n h in (cs, refl, omega (arith, b.1))
 from_places (Some (one w)) n h = absurd (nothing_in n h)
 from_places (Some (parts vs)) n h = absurd (nothing_in n h)
@@ -114,8 +118,8 @@ from_places (Some nothing) n h = absurd (nothing_in n h)
 from_places (Some (just c)) n h = absurd (nothing_in n h)
 from_places None n h = absurd (nothing_in n h)
 
-to_places : (o : Option Content) (n : ℕ) → Answers o n → Contains (places o) n
-to_places o n a = subst (λ q. Contains (places q) n) (sym a.1) (subst (Contains (numbers_from 0 (contents a.0))) (omega arith) (numbers_all 0 (contents a.0) n a.2))
+to_places : (o : Option Content) (n : ℕ) → Answers o n → Contains (places_in o) n
+to_places o n a = subst (λ q. Contains (places_in q) n) (sym a.1) (subst (Contains (numbers_from 0 (contents a.0))) (omega arith) (numbers_all 0 (contents a.0) n a.2))
 
 -- 3. lists whose elements stand once
 module _ {X : Type 0} where
@@ -153,7 +157,7 @@ numbers_distinct i [] = distinct_none
 numbers_distinct i (x ∷ xs) =
     distinct_cons i (numbers_from (suc i) xs) (λ h. let b = numbers_below (suc i) xs i h in omega (arith, b.0)) (numbers_distinct (suc i) xs)
 
-places_distinct : (o : Option Content) → IsDistinct (places o)
+places_distinct : (o : Option Content) → IsDistinct (places_in o)
 places_distinct (Some (many cs)) = numbers_distinct 0 (contents cs)
 places_distinct (Some (one w)) = distinct_none
 places_distinct (Some (parts vs)) = distinct_none
@@ -177,23 +181,20 @@ module _ (m : Meaning) (args : List Value) where
   from_over : (k : Pick) (calls : List SiteTerm) (l : Pick) → Contains (picks_over m args k calls) l → Listed k calls l
   from_over k [] l h = ([], sym (in_alone k l h) ∙ sym (append-nil k), refl, tt)
   from_over k (call ∷ calls) l h =
-      let a = from_flat (λ n. picks_over m args (k ++ (call, n) ∷ []) calls) (places (site_content m args k call)) l h in
+      let a = from_flat (λ n. picks_over m args (k ++ (call, n) ∷ []) calls) (places_in (site_content m args k call)) l h in
       let b = from_over (k ++ (call, a.0) ∷ []) calls l a.2 in
       ((call, a.0) ∷ b.0, b.1 ∙ append_assoc k ((call, a.0) ∷ []) b.0, ap (λ cs. call ∷ cs) b.2, (from_places (site_content m args k call) a.0 a.1, b.3))
 
   to_over : (k es : Pick) → Follow k es → Contains (picks_over m args k (keys es)) (k ++ es)
   to_over k [] h = subst (Contains (k ∷ [])) (sym (append-nil k)) (in_head k [])
   to_over k (e ∷ es) h =
-      to_flat (λ n. picks_over m args (k ++ (e.0, n) ∷ []) (keys es)) (places (site_content m args k e.0)) e.1 (k ++ e ∷ es)
+      to_flat (λ n. picks_over m args (k ++ (e.0, n) ∷ []) (keys es)) (places_in (site_content m args k e.0)) e.1 (k ++ e ∷ es)
       (to_places (site_content m args k e.0) e.1 h.0)
       (subst (Contains (picks_over m args (k ++ e ∷ []) (keys es))) (append_assoc k (e ∷ []) es) (to_over (k ++ e ∷ []) es h.1))
 
   -- 5. under the whole pick
   abbrev Valid : Pick → Pick → Type 0
   Valid k es = (call : SiteTerm) (n : ℕ) → Contains es (call, n) → Answers (site_content m args k call) n
-
-  keys_push : (k : Pick) (e : SiteTerm × ℕ) → keys k ++ e.0 ∷ [] ≡ keys (k ++ e ∷ [])
-  keys_push k e = sym (map-append (λ x. x.0) k (e ∷ []))
 
   whole : (k es : Pick) → OrderedFrom (keys k) (keys es) → Follow k es → Valid (k ++ es) es
   whole k [] o f call n h = absurd (nothing_in (call, n) h)
@@ -219,7 +220,7 @@ module _ (m : Meaning) (args : List Value) where
   over_distinct : (k : Pick) (calls : List SiteTerm) → IsDistinct (picks_over m args k calls)
   over_distinct k [] = distinct_cons k [] (nothing_in k) distinct_none
   over_distinct k (call ∷ calls) =
-      distinct_flat (λ n. picks_over m args (k ++ (call, n) ∷ []) calls) (places (site_content m args k call)) (places_distinct (site_content m args k call))
+      distinct_flat (λ n. picks_over m args (k ++ (call, n) ∷ []) calls) (places_in (site_content m args k call)) (places_distinct (site_content m args k call))
       (λ n. over_distinct (k ++ (call, n) ∷ []) calls)
       (λ n j l a b.
       let c = from_over (k ++ (call, n) ∷ []) calls l a in

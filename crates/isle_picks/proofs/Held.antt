@@ -1,8 +1,8 @@
--- What a site has under a pick, it can hold.
-use Rattle.std.proofs.Common.{◌≡◌, ◌==◌, ℕ, zero, suc, List, Option, Some, None, slice_get, Contains, refl, sym, ap, ◌∙◌, subst, inl, inr}
+-- What a site has under a pick, it can hold; and the other way round, where it takes no answers.
+use Rattle.std.proofs.Common.{◌≡◌, ◌==◌, ℕ, zero, suc, List, [], ◌∷◌, ◌++◌, Option, Some, None, slice_get, Contains, refl, sym, ap, ◌∙◌, subst, inl, inr}
 use Rattle.std.proofs.lemmas.Bool.{cases_Bool, cond-true, cond-false}
 use Rattle.std.proofs.lemmas.Option.{none-some, same_Some}
-use Rattle.std.proofs.Common.{eqb-true}
+use Rattle.std.proofs.Common.{eqb-true, eq-eqb}
 use Rattle.isle_model.specs.Values.{Value, truth, atom, of_variant, of_struct, Values, no_value, value_and, listed}
 use Rattle.isle_model.specs.Meaning.{Content, one, parts, nothing, just, many, Contents, contents, Meaning, bool_literal, int_literal, literal_value, constant_value, extractor_answer}
 use Rattle.isle_model.specs.Outcome.{then_option}
@@ -10,8 +10,9 @@ use Rattle.isle_model.specs.Run.{as_value, from_value, part_at}
 use Rattle.isle_model.specs.Sites.{SiteTerm, bool_term, int_term, prim_term, argument, extractor_call, constructor_call, pick_of, variant_made, variant_field, struct_made, struct_field, some_made, some_part, tuple_part, no_site, SiteTerms, no_site_term, site_term_and}
 use Rattle.isle_model.specs.Serves.{Holds, holds_bool, holds_int, holds_prim, holds_argument, holds_extractor, holds_pure, holds_impure, holds_pick, holds_variant, holds_variant_field, holds_struct, holds_struct_field, holds_some, holds_part, holds_tuple_part, HoldsAll, holds_none, holds_and}
 use Rattle.isle_model.specs.Picks.{Pick, place_of, picked, field_of_variant, field_of_struct, part_of_some, call_answer, site_content, site_values}
+use Rattle.isle_model.specs.Collects.{calls_in, calls_in_all}
 use Rattle.isle_trees.proofs.Lists.{member_from_get}
-use Rattle.isle_picks.specs.Exact.{ContentsAreHeld}
+use Rattle.isle_picks.specs.Exact.{ContentsAreHeld, HeldAreContents}
 
 -- 1. where one after another gives something
 then_some : {X Y : Type 0} (o : Option X) (f : X → Option Y) (y : Y) → then_option o f ≡ Some y → (x : X) × (o ≡ Some x) × (f x ≡ Some y)
@@ -128,3 +129,49 @@ module _ (m : Meaning) (args : List Value) (k : Pick) where
 
 pub contents_are_held_lem : ContentsAreHeld
 contents_are_held_lem m args k s c e = held m args k s c e
+
+-- 3. sites that take no answers
+both_empty : (xs ys : List SiteTerm) → xs ++ ys ≡ [] → (xs ≡ []) × (ys ≡ [])
+both_empty [] ys e = (refl, e)
+both_empty (x ∷ xs) ys e = absurd (none_left e)
+  where
+    none_left : x ∷ (xs ++ ys) ≡ [] → ⊥
+    none_left f = cc
+
+module _ (m : Meaning) (args : List Value) (k : Pick) where
+  mutual
+    had : (s : SiteTerm) (c : Content) → calls_in s ≡ [] → Holds m args s c → site_content m args k s ≡ Some c
+    had (bool_term b ty) _ n (holds_bool e) = ap from_value e
+    had (int_term z ty) _ n (holds_int e) = ap from_value e
+    had (prim_term name) _ n (holds_prim e) = ap from_value e
+    had (argument i) _ n (holds_argument e) = ap from_value e
+    had (extractor_call t s) c n (holds_extractor {v = w} h e) = ap (λ o. then_option (then_option o as_value) (extractor_answer m t)) (had s (one w) n h) ∙ e
+    had (constructor_call t ss zero) c n (holds_pure {vs = vs} h e) = ap (λ o. then_option o (call_answer m t 0)) (all_had ss vs n h) ∙ e
+    had (constructor_call t ss (suc before)) c n (holds_impure {vs = vs} h e) = ap (λ o. then_option o (call_answer m t (suc before))) (all_had ss vs n h) ∙ e
+    had (pick_of s) c n h = absurd (not_none n)
+      where
+        not_none : s ∷ calls_in s ≡ [] → ⊥
+        not_none e = cc
+    had (variant_made ty variant ss) _ n (holds_variant {vs = vs} h) = ap (λ o. then_option o (λ ws. Some (one (of_variant ty variant ws)))) (all_had ss vs n h)
+    had (variant_field s variant i) _ n (holds_variant_field {ty = ty} {vs = vs} {v = w} h e) =
+        ap (λ o. then_option (then_option o as_value) (field_of_variant variant i)) (had s (one (of_variant ty variant vs)) n h)
+        ∙ cond-true (variant == variant) (from_value (slice_get (listed vs) i)) None (eq-eqb variant variant refl)
+        ∙ ap from_value e
+    had (struct_made ty ss) _ n (holds_struct {vs = vs} h) = ap (λ o. then_option o (λ ws. Some (one (of_struct ty ws)))) (all_had ss vs n h)
+    had (struct_field s i) _ n (holds_struct_field {ty = ty} {vs = vs} h e) =
+        ap (λ o. then_option (then_option o as_value) (field_of_struct i)) (had s (one (of_struct ty vs)) n h) ∙ ap from_value e
+    had (some_made s) _ n (holds_some {c = d} h) = ap (λ o. then_option o (λ u. Some (just u))) (had s d n h)
+    had (some_part s) c n (holds_part h) = ap (λ o. then_option o part_of_some) (had s (just c) n h)
+    had (tuple_part s i) _ n (holds_tuple_part {vs = vs} h e) = ap (λ o. then_option o (λ d. part_at d i)) (had s (parts vs) n h) ∙ ap from_value e
+    had no_site c n h = elim h [ ]
+
+    all_had : (ss : SiteTerms) (vs : Values) → calls_in_all ss ≡ [] → HoldsAll m args ss vs → site_values m args k ss ≡ Some vs
+    all_had no_site_term _ n holds_none = refl
+    all_had (site_term_and s ss) _ n (holds_and {v = w} {vs = ws} h g) =
+        let b = both_empty (calls_in s) (calls_in_all ss) n in
+        let e = had s (one w) b.0 h in
+        let f = all_had ss ws b.1 g in
+        λ j. then_option (then_option (e j) as_value) (λ u. then_option (f j) (λ us. Some (value_and u us)))
+
+pub held_are_contents_lem : HeldAreContents
+held_are_contents_lem m args k s c n h = had m args k s c n h

@@ -7,3 +7,7 @@ pub mod Enumerated
 pub mod MultiSound
 pub mod OnePick
 pub mod Held
+pub mod LeftOver
+pub mod SamePlaces
+pub mod NoIterators
+pub mod FirstCall

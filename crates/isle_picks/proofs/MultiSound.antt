@@ -12,15 +12,15 @@ use Rattle.isle_model.specs.Places.{Around, joins_in, constraint_at, nothing_aro
 use Rattle.isle_model.specs.Run.{content_fields}
 use Rattle.isle_model.specs.Sound.{IsTested, SoundSteps, NoneHigher, AllAsk, AllGoOver}
 use Rattle.isle_model.specs.Picks.{Pick}
-use Rattle.isle_model.specs.Collects.{IsCollected, content_at, gate_demanded, sites_of_rule, IsCollectedRule, IsPureSite, IsCollectedSet, ServesSet}
+use Rattle.isle_model.specs.Collects.{HasCollectedResults, content_at, gate_demanded, sites_of_rule, calls_nothing, IsCollectedRule, IsCollectedSet, ServesSet}
 use Rattle.isle_trees.proofs.Lists.{nothing_in, in_alone, in_cases}
 use Rattle.isle_picks.specs.Samples.{v, each_m, nine, each_of_m, nine_for_one, multi_set, multi_rules, multi_program, multi_meaning, multi_world, MultiIsCollected, MultiIsSound}
 
 -- 1. collected
-rules_collected : All (IsCollected multi_program) multi_rules
+rules_collected : All (HasCollectedResults multi_program) multi_rules
 rules_collected =
-    All-cons (IsCollected multi_program) each_m (nine ∷ []) (record { no_calls = refl; gates = refl })
-    (All-cons (IsCollected multi_program) nine [] (record { no_calls = refl; gates = refl }) (All-nil (IsCollected multi_program)))
+    All-cons (HasCollectedResults multi_program) each_m (nine ∷ []) (record { no_calls = refl; no_call_unused = refl })
+    (All-cons (HasCollectedResults multi_program) nine [] (record { no_calls = refl; no_call_unused = refl }) (All-nil (HasCollectedResults multi_program)))
 
 place : Site → ℕ
 place (constructor_site term sources instance) = 1
@@ -46,13 +46,6 @@ sources_before (suc (suc zero)) a h = let e = in_alone 1 a h in omega (arith, e)
 sources_before (suc (suc (suc zero))) a h = absurd (nothing_in a h)
 sources_before (suc (suc (suc (suc s)))) a h = absurd (nothing_in a h)
 
-sites_pure : (k : ℕ) (d : Site) → k < 4 → IsPureSite (get_or multi_set.sites k d)
-sites_pure zero d l = tt
-sites_pure (suc zero) d l = tt
-sites_pure (suc (suc zero)) d l = tt
-sites_pure (suc (suc (suc zero))) d l = tt
-sites_pure (suc (suc (suc (suc k)))) d l = absurd (omega (arith, l))
-
 abbrev Known : ℕ → Type 0
 Known s = s < 4
 
@@ -60,6 +53,7 @@ m_collected : IsCollectedRule multi_set.sites each_of_m
 m_collected = record {
   known = All-cons Known 1 (2 ∷ []) (omega arith) (All-cons Known 2 [] (omega arith) (All-nil Known));
   no_calls = refl;
+  pure = AllPass-from_list_all (λ s. calls_nothing (slice_get multi_set.sites s)) (all_below multi_set.sites (sites_of_rule each_of_m)) refl;
   gates = AllPass-from_list_all (λ s. gate_demanded each_of_m (slice_get multi_set.sites s)) (all_below multi_set.sites (sites_of_rule each_of_m)) refl;
 }
 
@@ -67,6 +61,7 @@ nine_collected : IsCollectedRule multi_set.sites nine_for_one
 nine_collected = record {
   known = All-cons Known 0 (3 ∷ []) (omega arith) (All-cons Known 3 [] (omega arith) (All-nil Known));
   no_calls = refl;
+  pure = AllPass-from_list_all (λ s. calls_nothing (slice_get multi_set.sites s)) (all_below multi_set.sites (sites_of_rule nine_for_one)) refl;
   gates = AllPass-from_list_all (λ s. gate_demanded nine_for_one (slice_get multi_set.sites s)) (all_below multi_set.sites (sites_of_rule nine_for_one)) refl;
 }
 
@@ -74,7 +69,6 @@ set_collected : IsCollectedSet multi_set
 set_collected = record {
   once = once;
   sources = sources_before;
-  pure = sites_pure;
   rules = All-cons (IsCollectedRule multi_set.sites) each_of_m (nine_for_one ∷ []) m_collected
       (All-cons (IsCollectedRule multi_set.sites) nine_for_one [] nine_collected (All-nil (IsCollectedRule multi_set.sites)));
 }
@@ -116,7 +110,7 @@ fields_as_many k c cs x e =
 set_served : ServesSet multi_set (multi_world (pos 1))
 set_served = record {
   sites = refl;
-  found = λ k s l w h. found k s l w;
+  found = λ k s l w n h. found k s l w;
   lists = λ k r s c hr hs e. (_, sym (same_Some _ c (subst (λ n. content_at (multi_world (pos 1)) k n ≡ Some c) (sym (only_iterator r s hr hs)) e)));
   values = λ k r a b c hr j e. absurd (false≢true (subst (λ l. IsTrue (joins_in l a b)) (no_joins r hr) j));
   fields = λ k r s d c cs hr hd e f. fields_as_many k c cs (s, d) (only_constraint r s d hr hd) e f;

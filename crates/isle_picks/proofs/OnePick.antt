@@ -6,10 +6,10 @@ use Rattle.isle_model.specs.Meaning.{Meaning}
 use Rattle.isle_model.specs.Program.{Program, Kind, a_variant, a_struct, a_call, unknown, flags_of, kind, is_partial}
 use Rattle.isle_model.specs.Choice.{with_vars}
 use Rattle.isle_model.specs.Sites.{is_present, SiteTerm, argument, extractor_call, constructor_call, SiteTerms}
-use Rattle.isle_model.specs.Demands.{site_term_eq, Visit, visit_start, making, asking, iterating, binding, var_site, Opened, open_call, open_term, visit_pattern, visit_each, visit_all, Valued, ValuedAll, call_sites, visit_call, visit_term, visit_expr, visit_exprs, visit_lets, unwraps, asking_all, visit_args, visit_iflets, finished, with_sites}
+use Rattle.isle_model.specs.Demands.{site_term_eq, Visit, visit_start, making, asking, iterating, binding, var_site, Opened, open_call, open_term, visit_pattern, visit_each, visit_all, Valued, ValuedAll, call_sites, visit_call, visit_term, visit_expr, visit_exprs, visit_lets, unwraps, asking_all, visit_args, visit_iflets, finished, demands_of, with_sites}
 use Rattle.isle_model.specs.Picks.{multi_calls, picks_over, picks, SitedVars, matches_under, results_with, results_under}
 use Rattle.isle_model.specs.Typed.{TypedPattern, match_bind, match_var, match_bool, match_int, match_prim, match_term, match_any, match_and, TypedPatterns, no_typed_pattern, typed_pattern_and, TypedExpr, make_term, make_var, make_bool, make_int, make_prim, make_let, TypedExprs, no_typed_expr, typed_expr_and, TypedLets, no_typed_let, typed_let_and, TypedIfLet, TypedRule}
-use Rattle.isle_picks.specs.WithoutMulti.{PatternCallsNoMulti, PatternsCallNoMulti, ExprCallsNoMulti, ExprsCallNoMulti, LetsCallNoMulti, ArgsCallNoMulti, IfLetsCallNoMulti, CallsNoMulti, without_sites, BagAsPlain}
+use Rattle.isle_picks.specs.WithoutMulti.{WhereKnown, PatternCallsNoMulti, PatternsCallNoMulti, ExprCallsNoMulti, ExprsCallNoMulti, LetsCallNoMulti, ArgsCallNoMulti, IfLetsCallNoMulti, CallsNoMulti, without_sites, BagAsPlain}
 use Rattle.isle_picks.proofs.Ordered.{met, either}
 use Rattle.isle_picks.proofs.Plain.{matches_as_plain_lem, ends_as_plain_lem}
 
@@ -40,12 +40,24 @@ term_visited (a_struct ty) t a e = refl
 term_visited (a_call flags infallible) t a e = call_visited flags t a.sites a.visit e
 term_visited unknown t a e = refl
 
-asking_met : (ss : List SiteTerm) (v : Visit) → met (asking_all ss v) ≡ met v
+pub asking_met : (ss : List SiteTerm) (v : Visit) → met (asking_all ss v) ≡ met v
 asking_met [] v = refl
 asking_met (s ∷ ss) v = asking_met ss (asking s is_present v)
 
 -- 2. visits
 module _ (p : Program) where
+  no_parts : (args : TypedPatterns) (v : Visit) → met (visit_each p args [] v) ≡ met v
+  no_parts no_typed_pattern v = refl
+  no_parts (typed_pattern_and q qs) v = refl
+
+  parts_met : (kd : Kind) (t : ℕ) (s : SiteTerm) (args : TypedPatterns) (v : Visit) → WhereKnown kd (PatternsCallNoMulti p args)
+      → ((ss : List SiteTerm) (w : Visit) → PatternsCallNoMulti p args → met (visit_each p args ss w) ≡ met w)
+      → met (visit_each p args (open_term kd t s args v).inputs (open_term kd t s args v).visit) ≡ met (open_term kd t s args v).visit
+  parts_met (a_variant ty variant) t s args v h ih = ih _ _ h
+  parts_met (a_struct ty) t s args v h ih = ih _ _ h
+  parts_met (a_call flags infallible) t s args v h ih = ih _ _ h
+  parts_met unknown t s args v h ih = no_parts args v
+
   mutual
     pattern_met : (q : TypedPattern) (s : SiteTerm) (v : Visit) → PatternCallsNoMulti p q → met (visit_pattern p q s v) ≡ met v
     pattern_met (match_bind ty x sub) s v h = pattern_met sub s (binding x s v) h
@@ -54,7 +66,7 @@ module _ (p : Program) where
     pattern_met (match_int ty z) s v h = refl
     pattern_met (match_prim ty name) s v h = refl
     pattern_met (match_term ty t args) s v h =
-        let w = open_term (kind p t) t s args v in each_met args w.inputs w.visit h.1 ∙ term_opened (kind p t) t s args v h.0
+        parts_met (kind p t) t s args v h.1 (λ ss w g. each_met args ss w g) ∙ term_opened (kind p t) t s args v h.0
     pattern_met (match_any ty) s v h = refl
     pattern_met (match_and ty subs) s v h = all_met subs s v h
 
@@ -99,16 +111,18 @@ module _ (p : Program) where
       ∙ asking_met (unwraps w.site) w.visit
       ∙ expr_met i.rhs v h.1
 
-  finished_met : (b : Bool) (a : Valued) → met (finished b a).visit ≡ met a.visit
+  pub finished_met : (b : Bool) (a : Valued) → met (finished b a).visit ≡ met a.visit
   finished_met true a = refl
   finished_met false a = refl
 
-  no_calls : (r : TypedRule) → CallsNoMulti p r → multi_calls p r ≡ []
-  no_calls r h =
+  pub no_iterators : (r : TypedRule) → CallsNoMulti p r → (demands_of p r).iterators ≡ []
+  no_iterators r h =
       let v = visit_args p 0 r.args visit_start in
       let w = visit_iflets p r.iflets v in
-      ap (with_sites [])
-      (finished_met (is_partial p r.root_term) (visit_expr p r.rhs w) ∙ expr_met r.rhs w h.right ∙ iflets_met r.iflets v h.conditions ∙ args_met 0 r.args visit_start h.patterns)
+      finished_met (is_partial p r.root_term) (visit_expr p r.rhs w) ∙ expr_met r.rhs w h.right ∙ iflets_met r.iflets v h.conditions ∙ args_met 0 r.args visit_start h.patterns
+
+  no_calls : (r : TypedRule) → CallsNoMulti p r → multi_calls p r ≡ []
+  no_calls r h = ap (with_sites []) (no_iterators r h)
 
 -- 3. the bag
 results_plain : (p : Program) (m : Meaning) (r : TypedRule) (o : Option SitedVars) → CallsNoMulti p r → results_with p m [] r o ≡ (with_vars p m r (without_sites o)).results

@@ -12,19 +12,10 @@ use Rattle.isle_model.specs.Collects.{calls_in, calls_in_all}
 use Rattle.isle_model.specs.Picks.{multi_calls}
 use Rattle.isle_model.specs.Typed.{TypedPattern, match_bind, match_var, match_bool, match_int, match_prim, match_term, match_any, match_and, TypedPatterns, no_typed_pattern, typed_pattern_and, TypedExpr, make_term, make_var, make_bool, make_int, make_prim, make_let, TypedExprs, no_typed_expr, typed_expr_and, TypedLets, no_typed_let, typed_let_and, TypedIfLet, TypedRule}
 use Rattle.isle_trees.proofs.Lists.{nothing_in, in_head, in_tail, in_cases, in_alone}
+use Rattle.isle_picks.specs.Orders.{Within, Covered, OrderedFrom}
 use Rattle.isle_picks.proofs.SameSites.{term_means}
 
 -- 1. calls that stand in a list
-abbrev pub Within : List SiteTerm → List SiteTerm → Type 0
-Within ls ms = (c : SiteTerm) → Contains ls c → Contains ms c
-
-abbrev pub Covered : List SiteTerm → SiteTerm → Type 0
-Covered ls s = Within (calls_in s) ls
-
-abbrev pub OrderedFrom : List SiteTerm → List SiteTerm → Type 0
-OrderedFrom ls [] = Unit {0}
-OrderedFrom ls (c ∷ cs) = Covered ls c × OrderedFrom (ls ++ c ∷ []) cs
-
 none_within : (ls : List SiteTerm) → Within [] ls
 none_within ls c h = absurd (nothing_in c h)
 

@@ -1,12 +1,12 @@
 -- Samples of rules with multi calls: which calls are one, which are two, and what a call without a list comes to.
-use Rattle.std.specs.Prelude.{◌≡◌, ℕ, ℤ, pos, true, false, List, [], ◌∷◌, Some, None}
+use Rattle.std.specs.Prelude.{◌≡◌, ℕ, ℤ, suc, pos, true, false, List, [], ◌∷◌, Some, None}
 use Rattle.isle_model.specs.Tables.{Flags, declared_term, internal_constructor, external_constructor, external_extractor}
 use Rattle.isle_model.specs.Values.{Values, value_and}
 use Rattle.isle_model.specs.Meaning.{Content, one, nothing, just, many, Meaning}
 use Rattle.isle_model.specs.Program.{Program}
-use Rattle.isle_model.specs.Typed.{TypedPattern, match_bind, match_any, match_term, match_and, no_typed_pattern, typed_pattern_and, TypedExpr, make_term, make_var, make_let, no_typed_expr, typed_expr_and, no_typed_let, typed_let_and, TypedIfLet, TypedRule}
+use Rattle.isle_model.specs.Typed.{TypedPattern, match_bind, match_any, match_term, match_and, no_typed_pattern, typed_pattern_and, TypedExpr, make_term, make_var, make_let, no_typed_expr, typed_expr_and, no_typed_let, typed_let_and, TypedVar, TypedIfLet, TypedRule}
 use Rattle.isle_model.specs.Picks.{bag}
-use Rattle.isle_model.specs.Collects.{DemandsEveryGate}
+use Rattle.isle_model.specs.Collects.{LeavesNoCallUnused}
 use Rattle.isle_picks.specs.Samples.{at, builtins, term, multi, v, given, alone, each, all_of, x_matched, x_used}
 
 -- the flags of the constructors
@@ -34,9 +34,27 @@ program = record {
   rules = [];
 }
 
--- a rule of f
-abbrev pub rule_of : TypedPattern → List TypedIfLet → TypedExpr → TypedRule
-rule_of arg iflets rhs = record { id = 0; root_term = 0; args = arg ∷ []; iflets = iflets; rhs = rhs; vars = []; prio = pos 0; at = at 6; name = None }
+-- the only rule of f, which has its name
+abbrev pub rule_of : List TypedVar → TypedPattern → List TypedIfLet → TypedExpr → TypedRule
+rule_of vars arg iflets rhs = record { id = 0; root_term = 0; args = arg ∷ []; iflets = iflets; rhs = rhs; vars = vars; prio = pos 0; at = at 6; name = Some 13 }
+
+-- variables of these names, in order
+abbrev pub variables : ℕ → List ℕ → List TypedVar
+variables i [] = []
+variables i (name ∷ names) = record { id = i; name = name; ty = 1 } ∷ variables (suc i) names
+
+-- x alone, x and y, x and z; x, z and y
+abbrev pub vars_x : List TypedVar
+vars_x = variables 0 (24 ∷ [])
+
+abbrev pub vars_xy : List TypedVar
+vars_xy = variables 0 (24 ∷ (25 ∷ []))
+
+abbrev pub vars_xz : List TypedVar
+vars_xz = variables 0 (24 ∷ (26 ∷ []))
+
+abbrev pub vars_xzy : List TypedVar
+vars_xzy = variables 0 (24 ∷ (26 ∷ (25 ∷ [])))
 
 -- a call of a term on one argument, and of pr on two
 abbrev pub call_of : ℕ → TypedExpr → TypedExpr
@@ -47,15 +65,15 @@ pair_made x y = make_term 1 2 (typed_expr_and x (typed_expr_and y no_typed_expr)
 
 -- (f x) is (pr (m x) (m x))
 abbrev pub twice : TypedRule
-twice = rule_of x_matched [] (pair_made (call_of 1 x_used) (call_of 1 x_used))
+twice = rule_of vars_x x_matched [] (pair_made (call_of 1 x_used) (call_of 1 x_used))
 
 -- (f x) is (pr (w x) (w x))
 abbrev pub twice_impure : TypedRule
-twice_impure = rule_of x_matched [] (pair_made (call_of 4 x_used) (call_of 4 x_used))
+twice_impure = rule_of vars_x x_matched [] (pair_made (call_of 4 x_used) (call_of 4 x_used))
 
 -- (f x) is (m (m x))
 abbrev pub nested : TypedRule
-nested = rule_of x_matched [] (call_of 1 (call_of 1 x_used))
+nested = rule_of vars_x x_matched [] (call_of 1 (call_of 1 x_used))
 
 -- a pattern (e x)
 abbrev pub extracted : ℕ → TypedPattern
@@ -63,20 +81,20 @@ extracted x = match_term 1 5 (typed_pattern_and (match_bind 1 x (match_any 1)) n
 
 -- (f (and (e x) (e y))) is (pr x y)
 abbrev pub extracted_twice : TypedRule
-extracted_twice = rule_of (match_and 1 (typed_pattern_and (extracted 0) (typed_pattern_and (extracted 1) no_typed_pattern))) [] (pair_made x_used (make_var 1 1))
+extracted_twice = rule_of vars_xy (match_and 1 (typed_pattern_and (extracted 0) (typed_pattern_and (extracted 1) no_typed_pattern))) [] (pair_made x_used (make_var 1 1))
 
 -- (f x) is (let ((z u8 (m x))) x)
 abbrev pub unused : TypedRule
-unused = rule_of x_matched [] (make_let 1 (typed_let_and 1 1 (call_of 1 x_used) no_typed_let) x_used)
+unused = rule_of vars_xz x_matched [] (make_let 1 (typed_let_and 1 1 (call_of 1 x_used) no_typed_let) x_used)
 
 -- (f x) is y, if y is (let ((z u8 (m (pp x)))) x)
 abbrev pub unused_condition : TypedRule
 unused_condition =
-    rule_of x_matched (record { lhs = match_bind 1 1 (match_any 1); rhs = make_let 1 (typed_let_and 2 1 (call_of 1 (call_of 3 x_used)) no_typed_let) x_used } ∷ []) (make_var 1 1)
+    rule_of vars_xzy x_matched (record { lhs = match_bind 1 2 (match_any 1); rhs = make_let 1 (typed_let_and 1 1 (call_of 1 (call_of 3 x_used)) no_typed_let) x_used } ∷ []) (make_var 1 2)
 
 -- (f x) is y, if y is (m (pp x))
 abbrev pub condition : TypedRule
-condition = rule_of x_matched (record { lhs = match_bind 1 1 (match_any 1); rhs = call_of 1 (call_of 3 x_used) } ∷ []) (make_var 1 1)
+condition = rule_of vars_xy x_matched (record { lhs = match_bind 1 1 (match_any 1); rhs = call_of 1 (call_of 3 x_used) } ∷ []) (make_var 1 1)
 
 -- pr answers c on a and b
 abbrev pub paired : ℤ → ℤ → ℤ → (ℕ × Values) × Content
@@ -103,9 +121,6 @@ meaning = record {
 abbrev pub Gives : TypedRule → ℤ → List ℤ → Type 0
 Gives r z results = bag program meaning (r ∷ []) (given z) ≡ each results
 
--- some multi call of an if-let is unused, or all are used
-abbrev pub LeavesAGate : TypedRule → Type 0
-LeavesAGate r = DemandsEveryGate program r → ⊥
-
-abbrev pub DemandsAll : TypedRule → Type 0
-DemandsAll r = DemandsEveryGate program r
+-- some if-let leaves a multi call of its expression unused
+abbrev pub LeavesACallUnused : TypedRule → Type 0
+LeavesACallUnused r = LeavesNoCallUnused program r → ⊥

@@ -16,7 +16,7 @@ use Rattle.isle_model.specs.Run.{World, run}
 use Rattle.isle_model.specs.Sound.{IsSound}
 use Rattle.isle_model.specs.Built.{world_of}
 use Rattle.isle_model.specs.Picks.{bag}
-use Rattle.isle_model.specs.Collects.{Collects, IsCollected, set_bag, IsCollectedSet, ServesSet}
+use Rattle.isle_model.specs.Collects.{Collects, HasCollectedResults, set_bag, IsCollectedSet, ServesSet}
 
 -- 1. what the samples share: type 1 has 8 bits
 abbrev pub at : ℕ → Position
@@ -41,7 +41,7 @@ partial = record { pure = false; multi = false; partial = true; rec = false }
 abbrev pub multi : Flags
 multi = record { pure = false; multi = true; partial = false; rec = false }
 
--- a rule of one argument
+-- one of several rules of one argument, without a name
 abbrev pub rule : ℕ → ℕ → ℕ → ℤ → TypedPattern → TypedExpr → List TypedVar → TypedRule
 rule id offset root_term prio arg rhs vars =
     record { id = id; root_term = root_term; args = arg ∷ []; iflets = []; rhs = rhs; vars = vars; prio = prio; at = at offset; name = None }
@@ -187,7 +187,7 @@ PartialEnds answer z o =
 abbrev pub PartialIsServed : Type 0
 PartialIsServed = Serves partial_program (partial_meaning nothing) (given (pos 1)) partial_rules × TellsConstantsApart partial_program (partial_meaning nothing) partial_rules
 
--- 4. (f x) is (T.P (pp x) (im x)): pp is pure and partial, im is impure
+-- 4. (f x) is (T.P (pp x) (im x)): pp is pure and partial, im is impure. The rule is the only one of f, and has its name
 abbrev pub pair_type : TypeEntry
 pair_type =
     enum_type 13 13 false false
@@ -195,9 +195,17 @@ pair_type =
 
 abbrev pub effects_rules : List TypedRule
 effects_rules =
-    rule 0 6 2 (pos 0) x_matched
-    (make_term 13 3 (typed_expr_and (make_term 1 0 (typed_expr_and x_used no_typed_expr)) (typed_expr_and (make_term 1 1 (typed_expr_and x_used no_typed_expr)) no_typed_expr)))
-    (variable 23)
+    record {
+      id = 0;
+      root_term = 2;
+      args = x_matched ∷ [];
+      iflets = [];
+      rhs = make_term 13 3 (typed_expr_and (make_term 1 0 (typed_expr_and x_used no_typed_expr)) (typed_expr_and (make_term 1 1 (typed_expr_and x_used no_typed_expr)) no_typed_expr));
+      vars = variable 23;
+      prio = pos 0;
+      at = at 6;
+      name = Some 20;
+    }
     ∷ []
 
 -- types and then the pair's
@@ -330,10 +338,10 @@ MultiIsNot results = Collects (record { calls = []; results = each results; endi
 abbrev pub MultiIsServed : Type 0
 MultiIsServed = Serves multi_program multi_meaning (given (pos 1)) multi_rules × TellsConstantsApart multi_program multi_meaning multi_rules
 
--- the typed rules make no impure call and demand every gate; the set's rules too, its sites stand in order, and the
--- world serves it; and its tree is sound
+-- the typed rules make no impure call, and their if-lets leave no multi call unused; the set's rules make none and demand
+-- every gate, its sites stand in order, and the world serves it
 abbrev pub MultiIsCollected : Type 0
-MultiIsCollected = All (IsCollected multi_program) multi_rules × IsCollectedSet multi_set × ServesSet multi_set (multi_world (pos 1))
+MultiIsCollected = All (HasCollectedResults multi_program) multi_rules × IsCollectedSet multi_set × ServesSet multi_set (multi_world (pos 1))
 
 -- the tree is sound in a multi term
 abbrev pub MultiIsSound : Type 0

@@ -6,10 +6,18 @@
 ghost use Rattle.std.specs.Prelude.{[], ◌∷◌, pos};
 ghost use Rattle.isle_model.specs.Meaning.{one, just, nothing};
 ghost use Rattle.isle_model.specs.Outcome.{failed, ended, no_rule};
-ghost use Rattle.isle_picks.specs.Calls.{DemandsAll, Gives, LeavesAGate, condition, extracted_twice, nested, twice, twice_impure, unused, unused_condition};
-ghost use Rattle.isle_picks.specs.Exact.{ContentsAreHeld, PicksAreExact};
+ghost use Rattle.isle_model.specs.Collects.{LeavesNoCallUnused};
+ghost use Rattle.isle_picks.specs.Calls.{Gives, LeavesACallUnused, condition, extracted_twice, nested, program, twice, twice_impure, unused, unused_condition};
+ghost use Rattle.isle_picks.specs.Exact.{ContentsAreHeld, HeldAreContents, OnlyPlacesMatter, PicksAreExact};
+ghost use Rattle.isle_picks.specs.LeftOver.{DemandsGatesThough, LeftOverCollects, LeftOverIsCollected};
+ghost use Rattle.isle_picks.specs.Orders.{CallsCanComeFirst, ResultsAreOfPlaces};
 ghost use Rattle.isle_picks.specs.Samples.{DoesNotServe, EffectsEnds, ExtractEnds, ExtractIsServed, MultiCollects, MultiGives, MultiIsCollected, MultiIsNot, MultiIsServed, MultiIsSound, PartialEnds, PartialIsServed, blank, ends_with, extract_mute, extract_program, g_of_one, im_of_one, multi_mute, multi_program, pair_of, partial_mute, partial_program, v};
-ghost use Rattle.isle_picks.specs.WithoutMulti.{BagAsPlain, EndsAsPlain, MatchesAsPlain};
+ghost use Rattle.isle_picks.specs.WithoutMulti.{BagAsPlain, EndsAsPlain, MatchesAsPlain, NoMultiIsNoIterators};
+
+/// A rule is without multi calls exactly where its demands go over no call.
+pub fn no_multi_is_no_iterators()
+    ensures { NoMultiIsNoIterators }
+{}
 
 /// A rule without multi calls matches under every pick as it does without one.
 #[tactic(auto, using(crate::proofs::Plain::matches_as_plain_lem))]
@@ -33,9 +41,30 @@ pub fn picks_are_exact()
     ensures { PicksAreExact }
 {}
 
+/// Of a pick only the places of its calls matter: two picks with the same places act alike, whatever their order.
+pub fn only_places_matter()
+    ensures { OnlyPlacesMatter }
+{}
+
+/// A call that takes answers of calls with a place alone can be gone over before others: what is made of the picks is one
+/// bag.
+pub fn calls_can_come_first()
+    ensures { CallsCanComeFirst }
+{}
+
+/// The results of a rule under a pick are of the pick's places alone, and so are those of a set's rule.
+pub fn results_are_of_places()
+    ensures { ResultsAreOfPlaces }
+{}
+
 /// What a site has under a pick, it can hold.
 pub fn contents_are_held()
     ensures { ContentsAreHeld }
+{}
+
+/// What a site can hold, it has under every pick, where it takes no answers of multi calls.
+pub fn held_are_contents()
+    ensures { HeldAreContents }
 {}
 
 /// Where the extractor answers 1, the higher rule gives 10.
@@ -204,14 +233,14 @@ pub fn calls_with_lists_give_all()
     ensures { Gives condition (pos 1) (pos 8 ∷ []) }
 {}
 
-/// A condition whose value takes the call's answer demands every gate.
-pub fn used_condition_demands_all()
-    ensures { DemandsAll condition }
+/// A condition whose value takes the call's answer leaves no call unused.
+pub fn used_condition_leaves_none()
+    ensures { LeavesNoCallUnused program condition }
 {}
 
-/// One that leaves its multi call unused does not.
-pub fn unused_condition_leaves_a_gate()
-    ensures { LeavesAGate unused_condition }
+/// One whose value does not take the answer of its multi call leaves it unused.
+pub fn unused_condition_leaves_a_call()
+    ensures { LeavesACallUnused unused_condition }
 {}
 
 /// The multi sample's rules and set are such as a run collects, and the world serves the set.
@@ -222,4 +251,23 @@ pub fn multi_is_collected()
 /// Its tree is sound.
 pub fn multi_is_sound()
     ensures { MultiIsSound }
+{}
+
+/// A set with an impure site that none of its rules uses is such as a run collects, and a world where that call answers
+/// nothing serves it.
+#[tactic(auto, using(crate::proofs::LeftOver::left_over_is_collected_lem))]
+pub fn left_over_sites_are_harmless()
+    ensures { LeftOverIsCollected }
+{}
+
+/// The run of its tree collects the set's bag.
+#[tactic(auto, using(crate::proofs::LeftOver::left_over_collects_lem))]
+pub fn left_over_sites_are_not_run()
+    ensures { LeftOverCollects }
+{}
+
+/// A rule may demand every gate though an if-let of it leaves a multi call unused.
+#[tactic(auto, using(crate::proofs::LeftOver::demands_gates_though_lem))]
+pub fn unused_calls_may_demand_gates()
+    ensures { DemandsGatesThough }
 {}
