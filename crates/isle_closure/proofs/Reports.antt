@@ -194,7 +194,7 @@ module _ (order : List SiteTerm) (d : Demands) where
             let a = in_any (λ x. list_any (differs_in_class (class_names d) x) d.constraints) d.constraints t in
             let b = in_any (differs_in_class (class_names d) a.0) d.constraints a.2 in
             let in_order : (x : SiteTerm × Constraint) → In d.constraints x → In sorted x =
-                λ x i. in_ordered order d.constraints x (in_from_contains order x.0 (there x.0 x.1 (contains_from_in d.constraints x i))) (each_first [] d.constraints p.0 x i) in
+            λ x i. in_ordered order d.constraints x (in_from_contains order x.0 (there x.0 x.1 (contains_from_in d.constraints x i))) (each_first [] d.constraints p.0 x i) in
             false≢true (sym (differs_none (class_names d) a.0 sorted (first_none (class_names d) sorted sorted q.0 a.0 (in_order a.0 a.1)) b.0 (in_order b.0 b.1)) ∙ b.2)
       ]
 

@@ -1,9 +1,9 @@
 -- What theory proves of the closure of demands, of limits, and of overlap.
-use Rattle.std.specs.Prelude.{◌≡◌, length, ◌≢◌, ℕ, true, List, [], Some, None, slice_get, Contains, ◌↔◌}
+use Rattle.std.specs.Prelude.{◌≡◌, ◌⊎◌, length, ◌≢◌, ℕ, true, List, [], Some, None, slice_get, Contains, ◌↔◌}
 use Rattle.std.specs.Bool.{Decides}
 use Rattle.isle_model.specs.Typed.{TypedRule}
 use Rattle.isle_model.specs.Program.{Program, arg_types}
-use Rattle.isle_model.specs.Sites.{Constraint, SiteTerm}
+use Rattle.isle_model.specs.Sites.{Constraint, SiteTerm, no_site}
 use Rattle.isle_model.specs.Demands.{Demands, demands_of, with_sites}
 use Rattle.isle_model.specs.Built.{may_overlap}
 use Rattle.isle_model.specs.Closure.{field_terms, Joined, HasConstraint, IsClosedConstraint, IsClosedEquality, IsUnreachable, is_unreachable, reported, same_class, class_names, spoken_of, with_constraints, Closed, next_constrained, closing, opening, most_steps, closed}
@@ -133,6 +133,8 @@ ClosingIsWhole =
 abbrev pub ClosingEnds : Type 0
 ClosingEnds = (p : Program) (before : List SiteTerm) (r : TypedRule) → is_built p before r ≡ true → HasEnded (closing most_steps (opening before (demands_of p r)))
 
--- not proved here: the sites that a rule's demands equate are made by its visit
+-- the sites that a rule's demands equate are made by its visit, but for variables that nothing binds
 abbrev pub VisitsMakeEqualSites : Type 0
-VisitsMakeEqualSites = (p : Program) (r : TypedRule) → EqualSitesAreMade (demands_of p r)
+VisitsMakeEqualSites =
+    (p : Program) (r : TypedRule) (a b : SiteTerm) → Contains (demands_of p r).equalities (a, b)
+    → (Contains (demands_of p r).made a ⊎ (a ≡ no_site)) × (Contains (demands_of p r).made b ⊎ (b ≡ no_site))
