@@ -303,9 +303,9 @@ in_order k = record {
   made = k.made;
 }
 
--- more steps than a rule that passes no limit can take. The equalities that steps consume come from demanded ones, each
--- carried to fields of opened sites: a site, with the part of it at which an equality was demanded, answers for one
--- at most. So there are no more steps than pairs of made sites, and more than 65,536 sites are past the limit
+-- more steps than a rule that passes no limit can take. Each time a site is taken it answers for itself or for one of the
+-- sites whose field it is, at any depth, and never twice for the same. So there are no more steps than pairs of made
+-- sites, and more than 65,536 sites are past the limit: 65,537 times 65,537
 abbrev pub most_steps : ℕ
 most_steps = 4295098369
 
@@ -325,7 +325,8 @@ pub record AreEqual (m : Meaning) (args : List Value) (a b : SiteTerm) : Type 0 
   pub first : Holds m args a (one value)
   pub second : Holds m args b (one value)
 
--- a rule's demands hold under a meaning, on arguments
+-- a rule's demands hold under a meaning, on arguments; of rules that go over no multi call, where each site has at most
+-- one content
 pub record DemandsHold (m : Meaning) (args : List Value) (d : Demands) : Type 0 where
   pub constraints : (s : SiteTerm) (c : Constraint) → Contains d.constraints (s, c) → IsMet m args s c
   pub equalities : (a b : SiteTerm) → Contains d.equalities (a, b) → AreEqual m args a b
