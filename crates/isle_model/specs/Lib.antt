@@ -27,3 +27,5 @@ pub mod Statements
 pub mod Closure
 pub mod Limits
 pub mod Overlap
+pub mod Picks
+pub mod Collects

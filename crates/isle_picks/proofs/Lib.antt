@@ -1,0 +1,10 @@
+pub mod Plain
+pub mod MultiCollected
+pub mod SamplesServed
+pub mod SameSites
+pub mod Ordered
+pub mod Enumerated
+pub mod MultiSound
+pub mod OnePick
+pub mod Held
+pub mod LeftOver

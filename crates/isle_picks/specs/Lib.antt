@@ -1,0 +1,5 @@
+pub mod WithoutMulti
+pub mod Samples
+pub mod Calls
+pub mod Exact
+pub mod LeftOver
