@@ -7,7 +7,7 @@ use Rattle.isle_model.specs.Program.{Program, arg_types}
 use Rattle.isle_model.specs.Sites.{SiteTerm}
 use Rattle.isle_model.specs.Demands.{demands_of, with_sites}
 use Rattle.isle_model.specs.Closure.{is_unreachable, Closed, closed}
-use Rattle.isle_model.specs.Limits.{PassesArguments, sites_with}
+use Rattle.isle_model.specs.Limits.{PassesArguments, sites_wanted}
 use Rattle.isle_model.specs.Overlap.{is_subset_pair, total_constraints, BuiltRule, Shadows, shadows}
 use Rattle.isle_model.specs.Accepted.{PassesArguments as PassesArgumentsOfProgram}
 use Rattle.isle_closure.proofs.Closing.{closing_adds_nothing_lem}
@@ -50,7 +50,7 @@ early_arguments_lem p f = (
   λ h. record { rule = h.0; there = h.1; many = let e = f h.0 h.1 in let m : 256 < length h.0.args = h.2 in omega (arith, e, m) },
 )
 
-pub early_sites_lem : (p : Program) (before : List SiteTerm) (r : TypedRule) → (demands_of p r).equalities ≡ [] → sites_with p before r ≡ with_sites before (demands_of p r).made
+pub early_sites_lem : (p : Program) (before : List SiteTerm) (r : TypedRule) → (demands_of p r).equalities ≡ [] → sites_wanted p before r ≡ with_sites before (demands_of p r).made
 early_sites_lem p before r e =
     elim (cases_Bool (is_unreachable (demands_of p r))) [
       | inl t ↦ cond-true (is_unreachable (demands_of p r)) (with_sites before (demands_of p r).made) (closed before (demands_of p r)).made t
