@@ -7,7 +7,7 @@ use Rattle.isle_model.specs.Program.{Program, arg_types}
 use Rattle.isle_model.specs.Sites.{SiteTerm}
 use Rattle.isle_model.specs.Demands.{demands_of, with_sites}
 use Rattle.isle_model.specs.Closure.{is_unreachable, Closed, closed}
-use Rattle.isle_model.specs.Limits.{PassesArguments, sites_with}
+use Rattle.isle_model.specs.Limits.{PassesArguments, sites_wanted}
 use Rattle.isle_model.specs.Overlap.{is_subset_pair, total_constraints, BuiltRule, Shadows, shadows}
 use Rattle.isle_model.specs.Accepted.{PassesArguments as PassesArgumentsOfProgram}
 use Rattle.isle_closure.proofs.Closing.{closing_adds_nothing_lem}
@@ -28,27 +28,29 @@ above_from : (a b : ℤ) → a <ℤ b → int_lt a b ≡ true
 above_from a b h = true_from (int_lt a b) h.lt
 
 pub shadows_decides : (a b : BuiltRule) → Decides (shadows a b) (Shadows a b)
-shadows_decides a b =
-    (λ h.
-       let p = and_parts (int_lt b.rule.prio a.rule.prio && is_subset_pair a.demands b.demands) (nat_le (total_constraints a.demands) (total_constraints b.demands)) h in
-       let q = and_parts (int_lt b.rule.prio a.rule.prio) (is_subset_pair a.demands b.demands) p.0 in
-       record {
-         above = above_means b.rule.prio a.rule.prio q.0;
-         subset = (subset_pair_decides a.demands b.demands).0 q.1;
-         no_more = leb-true (total_constraints a.demands) (total_constraints b.demands) p.1;
-       },
-     λ s.
-       and_from (int_lt b.rule.prio a.rule.prio && is_subset_pair a.demands b.demands) (nat_le (total_constraints a.demands) (total_constraints b.demands))
-       (and_from (int_lt b.rule.prio a.rule.prio) (is_subset_pair a.demands b.demands) (above_from b.rule.prio a.rule.prio s.above) ((subset_pair_decides a.demands b.demands).1 s.subset))
-       (le-leb (total_constraints a.demands) (total_constraints b.demands) s.no_more))
+shadows_decides a b = (
+  λ h.
+      let p = and_parts (int_lt b.rule.prio a.rule.prio && is_subset_pair a.demands b.demands) (nat_le (total_constraints a.demands) (total_constraints b.demands)) h in
+      let q = and_parts (int_lt b.rule.prio a.rule.prio) (is_subset_pair a.demands b.demands) p.0 in
+      record {
+        above = above_means b.rule.prio a.rule.prio q.0;
+        subset = (subset_pair_decides a.demands b.demands).0 q.1;
+        no_more = leb-true (total_constraints a.demands) (total_constraints b.demands) p.1;
+      },
+  λ s.
+      and_from (int_lt b.rule.prio a.rule.prio && is_subset_pair a.demands b.demands) (nat_le (total_constraints a.demands) (total_constraints b.demands))
+      (and_from (int_lt b.rule.prio a.rule.prio) (is_subset_pair a.demands b.demands) (above_from b.rule.prio a.rule.prio s.above) ((subset_pair_decides a.demands b.demands).1 s.subset))
+      (le-leb (total_constraints a.demands) (total_constraints b.demands) s.no_more),
+)
 
 pub early_arguments_lem : (p : Program) → ((r : TypedRule) → Contains p.rules r → length r.args ≡ length (arg_types p r.root_term))
     → PassesArgumentsOfProgram p ↔ ((r : TypedRule) × Contains p.rules r × PassesArguments r)
-early_arguments_lem p f =
-    (λ h. (h.rule, h.there, (let e = f h.rule h.there in let m = h.many in omega (arith, e, m))),
-     λ h. record { rule = h.0; there = h.1; many = let e = f h.0 h.1 in let m : 256 < length h.0.args = h.2 in omega (arith, e, m) })
+early_arguments_lem p f = (
+  λ h. (h.rule, h.there, (let e = f h.rule h.there in let m = h.many in omega (arith, e, m))),
+  λ h. record { rule = h.0; there = h.1; many = let e = f h.0 h.1 in let m : 256 < length h.0.args = h.2 in omega (arith, e, m) },
+)
 
-pub early_sites_lem : (p : Program) (before : List SiteTerm) (r : TypedRule) → (demands_of p r).equalities ≡ [] → sites_with p before r ≡ with_sites before (demands_of p r).made
+pub early_sites_lem : (p : Program) (before : List SiteTerm) (r : TypedRule) → (demands_of p r).equalities ≡ [] → sites_wanted p before r ≡ with_sites before (demands_of p r).made
 early_sites_lem p before r e =
     elim (cases_Bool (is_unreachable (demands_of p r))) [
       | inl t ↦ cond-true (is_unreachable (demands_of p r)) (with_sites before (demands_of p r).made) (closed before (demands_of p r)).made t

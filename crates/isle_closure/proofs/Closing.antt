@@ -7,7 +7,7 @@ use Rattle.isle_model.specs.Typed.{TypedRule}
 use Rattle.isle_model.specs.Sites.{Constraint, SiteTerm}
 use Rattle.isle_model.specs.Demands.{Demands, demands_of, site_term_eq, has_site, with_sites}
 use Rattle.isle_model.specs.Built.{differ, may_overlap}
-use Rattle.isle_model.specs.Closure.{Joined, given, itself, turned, chained, at_field, field_terms, HasConstraint, IsUnreachable, two_at_a_site, constraint_of, Closed, class_at, without_class_of, merged, merged_all, with_constraint, with_constraints, ascending, is_in_class, next_constrained, field_equalities, taken, closing, opening, begins_with, in_order, most_steps, closed}
+use Rattle.isle_model.specs.Closure.{Joined, given, itself, turned, chained, at_field, field_terms, HasConstraint, IsUnreachable, two_at_a_site, constraint_of, Closed, class_at, without_class_of, merged, merged_all, with_constraint, with_constraints, ascending, is_in_class, next_constrained, field_equalities, taken, closing, before_closing, begins_with, in_order, most_steps, closed}
 use Rattle.isle_model.specs.Overlap.{overlaps}
 use Rattle.isle_closure.specs.Laws.{ClosedFollows}
 use Rattle.isle_closure.proofs.Elements.{In, in_from_contains, contains_from_in, some_is, none_some, in_left, in_right, in_either, in_map, from_flat_map, in_zip, in_filter, passed_filter}
@@ -42,7 +42,7 @@ closing_adds_nothing_lem before d e =
     ∙ closing_ends most_steps (record { constraints = with_constraints [] d.constraints; classes = []; made = with_sites before d.made }) (nothing_next (with_constraints [] d.constraints) (with_sites before d.made)))
     ∙ (λ i. record { constraints = with_constraints [] d.constraints; classes = no_classes (with_sites before d.made) (with_sites before d.made) i; made = with_sites before d.made })
   where
-    opened : opening before d ≡ record { constraints = with_constraints [] d.constraints; classes = []; made = with_sites before d.made }
+    opened : before_closing before d ≡ record { constraints = with_constraints [] d.constraints; classes = []; made = with_sites before d.made }
     opened = λ i. record { constraints = with_constraints [] d.constraints; classes = merged_all [] (e i); made = with_sites before d.made }
 
 pub found_constraint : (cs : List (SiteTerm × Constraint)) (s : SiteTerm) (c : Constraint) → constraint_of cs s ≡ Some c → In cs (s, c)
@@ -257,8 +257,8 @@ module _ (d : Demands) where
       go_on None e later = f
       go_on (Some c) e later = later (taken k c (ascending k.made (class_at k.classes c.0))) (taken_follows k f c (next_asked k.classes k.constraints k.made c e))
 
-  pub opening_follows : (before : List SiteTerm) → FollowsSoFar (opening before d)
-  opening_follows before = record {
+  pub before_closing_follows : (before : List SiteTerm) → FollowsSoFar (before_closing before d)
+  before_closing_follows before = record {
     constraints = λ x i. record { source = x.0; joined = itself; asked = contains_from_in d.constraints x (from_constraints d.constraints x i) };
     classes = all_merged_joined d.equalities [] (λ k a b n. absurd n) (λ e i. given (contains_from_in d.equalities e i));
   }
@@ -273,7 +273,7 @@ module _ (d : Demands) where
   }
 
   pub closed_follows : (before : List SiteTerm) → FollowsSoFar (closed before d)
-  closed_follows before = in_order_follows (closing most_steps (opening before d)) (closing_follows most_steps (opening before d) (opening_follows before))
+  closed_follows before = in_order_follows (closing most_steps (before_closing before d)) (closing_follows most_steps (before_closing before d) (before_closing_follows before))
 
 pub closing_is_sound_lem : (before : List SiteTerm) (d : Demands) → ClosedFollows d (closed before d)
 closing_is_sound_lem before d =

@@ -12,3 +12,5 @@ pub mod Whole
 pub mod WholeClosing
 pub mod Reports
 pub mod Agreements
+pub mod Visited
+pub mod VisitedRules

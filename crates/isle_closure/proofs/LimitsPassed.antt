@@ -1,10 +1,10 @@
 -- The limit that is met first is passed, and where a limit is passed one is met.
-use Rattle.std.proofs.Common.{◌≡◌, ◌⊎◌, ◌+◌, ℕ, suc, ◌<◌, ◌≤◌, Bool, true, false, nat_lt, if◌then◌else◌, List, [], ◌∷◌, length, Some, flat_map, refl, sym, ◌∙◌, subst, inl, inr, arith, ltb-true, lt-ltb, ltb-false}
+use Rattle.std.proofs.Common.{◌≡◌, ◌⊎◌, ◌+◌, ℕ, suc, ◌<◌, ◌≤◌, Bool, true, false, nat_lt, if◌then◌else◌, List, [], ◌∷◌, slice_get, length, Some, flat_map, refl, sym, ◌∙◌, subst, inl, inr, arith, ltb-true, lt-ltb, ltb-false}
 use Rattle.std.proofs.lemmas.Bool.{cases_Bool, cond-true, cond-false, false≢true}
 use Rattle.isle_model.specs.Typed.{TypedPattern, TypedIfLet, TypedRule}
 use Rattle.isle_model.specs.Program.{Program}
 use Rattle.isle_model.specs.Sites.{SiteTerm}
-use Rattle.isle_model.specs.Limits.{most_fields, most_outputs, most_arguments, most_sites, RuleLimit, fields_limit, outputs_limit, arguments_limit, sites_limit, Width, fields_matched, outputs_taken, widths, widths_of_rule, PassesLimit, limit_of_width, limits_in, limits_in_args, limits_of_shape, sites_reached, first_in, first_limit}
+use Rattle.isle_model.specs.Limits.{most_fields, most_outputs, most_arguments, most_sites, RuleLimit, fields_limit, outputs_limit, arguments_limit, sites_limit, Width, fields_matched, outputs_taken, widths, widths_of_rule, PassesLimit, limit_of_width, limits_in, limits_in_args, limits_of_shape, sites_reached, first_limit}
 use Rattle.isle_closure.proofs.Elements.{In, in_from_contains, contains_from_in, some_is, none_some, in_left, in_right, in_either, from_flat_map, in_flat_map}
 
 -- a limit that a term's pattern passes
@@ -80,7 +80,7 @@ shape_passed p before r l n =
           of_width p before r l w.0 (in_right (flat_map (widths p) r.args) (flat_map (λ i. widths p i.lhs) r.iflets) w.0 w.1) w.2
     ]
 
-first_there : (ls : List RuleLimit) (l : RuleLimit) → first_in ls ≡ Some l → In ls l
+first_there : (ls : List RuleLimit) (l : RuleLimit) → slice_get ls 0 ≡ Some l → In ls l
 first_there [] l e = absurd (none_some l e)
 first_there (m ∷ ls) l e = inl (some_is m l e)
 
@@ -88,25 +88,25 @@ pub first_limit_is_passed_lem : (p : Program) (before : List SiteTerm) (r : Type
 first_limit_is_passed_lem p before r l e =
     elim (cases_Bool (nat_lt most_sites (length (sites_reached p before r)))) [
       | inl t ↦
-          let same = some_is sites_limit l (sym (cond-true (nat_lt most_sites (length (sites_reached p before r))) (Some sites_limit) (first_in (limits_of_shape p r)) t) ∙ e) in
+          let same = some_is sites_limit l (sym (cond-true (nat_lt most_sites (length (sites_reached p before r))) (Some sites_limit) (slice_get (limits_of_shape p r) 0) t) ∙ e) in
           subst (PassesLimit p before r) same (ltb-true most_sites (length (sites_reached p before r)) t)
       | inr f ↦
           shape_passed p before r l
-          (first_there (limits_of_shape p r) l (sym (cond-false (nat_lt most_sites (length (sites_reached p before r))) (Some sites_limit) (first_in (limits_of_shape p r)) f) ∙ e))
+          (first_there (limits_of_shape p r) l (sym (cond-false (nat_lt most_sites (length (sites_reached p before r))) (Some sites_limit) (slice_get (limits_of_shape p r) 0) f) ∙ e))
     ]
 
 -- the limits of a rule's shape are there where they are passed
-some_first : (ls : List RuleLimit) (l : RuleLimit) → In ls l → (m : RuleLimit) × (first_in ls ≡ Some m)
+some_first : (ls : List RuleLimit) (l : RuleLimit) → In ls l → (m : RuleLimit) × (slice_get ls 0 ≡ Some m)
 some_first [] l i = absurd i
 some_first (m ∷ ls) l i = (m, refl)
 
 met : (p : Program) (before : List SiteTerm) (r : TypedRule) (l : RuleLimit) → In (limits_of_shape p r) l → (m : RuleLimit) × (first_limit p before r ≡ Some m)
 met p before r l i =
     elim (cases_Bool (nat_lt most_sites (length (sites_reached p before r)))) [
-      | inl t ↦ (sites_limit, cond-true (nat_lt most_sites (length (sites_reached p before r))) (Some sites_limit) (first_in (limits_of_shape p r)) t)
+      | inl t ↦ (sites_limit, cond-true (nat_lt most_sites (length (sites_reached p before r))) (Some sites_limit) (slice_get (limits_of_shape p r) 0) t)
       | inr f ↦
           let s = some_first (limits_of_shape p r) l i in
-          (s.0, cond-false (nat_lt most_sites (length (sites_reached p before r))) (Some sites_limit) (first_in (limits_of_shape p r)) f ∙ s.1)
+          (s.0, cond-false (nat_lt most_sites (length (sites_reached p before r))) (Some sites_limit) (slice_get (limits_of_shape p r) 0) f ∙ s.1)
     ]
 
 in_if : (b : Bool) (xs ys : List RuleLimit) (l : RuleLimit) → ((b ≡ true) → In xs l) → ((b ≡ false) → In ys l) → In (if b then xs else ys) l
@@ -175,4 +175,4 @@ passed_limit_is_met_lem p before r arguments_limit h =
     met p before r arguments_limit
     (in_left (limits_in_args p 0 r.args) (flat_map (λ i. limits_in p i.lhs) r.iflets) arguments_limit (past_arguments p 0 r.args (omega arith) (omega (arith, h))))
 passed_limit_is_met_lem p before r sites_limit h =
-    (sites_limit, cond-true (nat_lt most_sites (length (sites_reached p before r))) (Some sites_limit) (first_in (limits_of_shape p r)) (lt-ltb most_sites (length (sites_reached p before r)) h))
+    (sites_limit, cond-true (nat_lt most_sites (length (sites_reached p before r))) (Some sites_limit) (slice_get (limits_of_shape p r) 0) (lt-ltb most_sites (length (sites_reached p before r)) h))

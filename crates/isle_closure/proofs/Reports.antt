@@ -1,29 +1,29 @@
 -- Something is reported of demands exactly where they can't be met.
-use Rattle.std.proofs.Common.{◌≡◌, ◌⊎◌, ◌↔◌, false, not, if◌then◌else◌, List, [], ◌∷◌, ◌++◌, Option, Some, None, Contains, refl, sym, ap, ◌∙◌, subst, inl, inr}
+use Rattle.std.proofs.Common.{◌≡◌, ◌⊎◌, ◌↔◌, false, not, if◌then◌else◌, List, [], ◌∷◌, ◌++◌, map, Option, Some, None, refl, sym, ap, ◌∙◌, subst, inl, inr}
 use Rattle.std.proofs.lemmas.Bool.{cases_Bool, cond-true, cond-false, and_parts, false≢true}
 use Rattle.std.specs.List.{list_any}
 use Rattle.isle_model.specs.Sites.{Constraint, SiteTerm}
 use Rattle.isle_model.specs.Demands.{Demands, site_term_eq}
 use Rattle.isle_model.specs.Built.{constraint_eq}
-use Rattle.isle_model.specs.Closure.{IsUnreachable, same_class, class_names, differs_in_class, has_conflict, has_cycle, Unreachability, conflict, cycle, constraint_of, conflict_with, conflicts_met, constraint_at_site, in_site_order, first_differing, first_conflict, first_of_each, reported}
-use Rattle.isle_closure.proofs.Elements.{In, in_from_contains, contains_from_in, some_is, none_some, in_any, or_split, from_flat_map, in_flat_map}
+use Rattle.isle_model.specs.Closure.{IsUnreachable, same_class, class_names, differs_in_class, has_conflict, has_cycle, Unreachability, conflict, cycle, constraint_of, conflict_with, conflicts_met, constraint_at_site, in_site_order, first_differing, first_conflict, first_filled, with_constrained, reported}
+use Rattle.isle_closure.proofs.Elements.{In, some_is, none_some, in_any, or_split, from_flat_map, in_flat_map, map_in}
 use Rattle.isle_closure.proofs.SameSites.{same_term, constraint_means, same_constraint}
 use Rattle.isle_closure.proofs.Names.{same_name}
-use Rattle.isle_closure.proofs.Classes.{HasNoConflict, no_conflict}
+use Rattle.isle_closure.proofs.Classes.{HasNoConflict, no_conflict, in_with_sites}
 use Rattle.isle_closure.proofs.Closing.{OneEach, found_constraint, one_each}
 use Rattle.isle_closure.proofs.Verdict.{conflict_is, cycle_is, unreachable_is}
 use Rattle.isle_closure.proofs.Settled.{names_settled}
 
 -- nothing is first where neither list has anything
-both_empty : (us vs : List Unreachability) → first_of_each us vs ≡ [] → (us ≡ []) × (vs ≡ [])
+both_empty : (us vs : List Unreachability) → first_filled us vs ≡ [] → (us ≡ []) × (vs ≡ [])
 both_empty [] vs e = (refl, e)
 both_empty (u ∷ us) vs e = absurd (filled u us e)
   where
     filled : (x : Unreachability) (xs : List Unreachability) → (x ∷ xs) ≡ [] → ⊥
     filled x xs q = cc
 
-empty_first : (us vs : List Unreachability) → us ≡ [] → vs ≡ [] → first_of_each us vs ≡ []
-empty_first us vs e f = ap (λ xs. first_of_each xs vs) e ∙ f
+empty_first : (us vs : List Unreachability) → us ≡ [] → vs ≡ [] → first_filled us vs ≡ []
+empty_first us vs e f = ap (λ xs. first_filled xs vs) e ∙ f
 
 not_empty : (u : Unreachability) (us : List Unreachability) → (u ∷ us) ≡ [] → ⊥
 not_empty u us q = cc
@@ -153,27 +153,27 @@ first_none rs all (c ∷ list) e a (inr i) = first_none rs all list (found_none 
 
 module _ (order : List SiteTerm) (d : Demands) where
   abbrev sorted : List (SiteTerm × Constraint)
-  sorted = in_site_order order d.constraints
+  sorted = in_site_order (with_constrained order d) d.constraints
 
   abbrev last : List Unreachability
   last = if has_cycle (class_names d) d.constraints then cycle ∷ [] else []
 
   nothing_reported : (IsUnreachable d → ⊥) → reported order d ≡ []
   nothing_reported n =
-      empty_first (conflicts_met [] d.constraints) (first_of_each (first_conflict (class_names d) sorted sorted) last)
+      empty_first (conflicts_met [] d.constraints) (first_filled (first_conflict (class_names d) sorted sorted) last)
       (none_met d.constraints (one_each d n) [] d.constraints (λ x i. absurd i) (λ x i. i))
       (empty_first (first_conflict (class_names d) sorted sorted) last (no_first (class_names d) sorted sorted (λ a i. none_differs (class_names d) a sorted (λ b j. agree a b i j))) without_cycle)
     where
       agreed : HasNoConflict (class_names d) d
       agreed = elim (cases_Bool (has_conflict (class_names d) d.constraints)) [ inl t ↦ absurd (n (conflict_is d t)) | inr f ↦ no_conflict (class_names d) d f ]
 
-      agree : (a b : SiteTerm × Constraint) → In (in_site_order order d.constraints) a → In (in_site_order order d.constraints) b → differs_in_class (class_names d) a b ≡ false
+      agree : (a b : SiteTerm × Constraint) → In (in_site_order (with_constrained order d) d.constraints) a → In (in_site_order (with_constrained order d) d.constraints) b → differs_in_class (class_names d) a b ≡ false
       agree a b i j =
           elim (cases_Bool (differs_in_class (class_names d) a b)) [
             | inr f ↦ f
             | inl t ↦
                 let p = and_parts (same_class (class_names d) a.0 b.0) (not (constraint_eq a.1 b.1)) t in
-                let e = agreed a b (ordered_in order d.constraints a i) (ordered_in order d.constraints b j) (same_name (class_names d) a.0 b.0 p.0) in
+                let e = agreed a b (ordered_in (with_constrained order d) d.constraints a i) (ordered_in (with_constrained order d) d.constraints b j) (same_name (class_names d) a.0 b.0 p.0) in
                 absurd (false≢true (ap not (sym (same_constraint a.1 b.1 e)) ∙ p.1))
           ]
 
@@ -184,9 +184,9 @@ module _ (order : List SiteTerm) (d : Demands) where
             | inr f ↦ cond-false (has_cycle (class_names d) d.constraints) (cycle ∷ []) [] f
           ]
 
-  silent_reachable : ((s : SiteTerm) (c : Constraint) → Contains d.constraints (s, c) → Contains order s) → reported order d ≡ [] → IsUnreachable d → ⊥
-  silent_reachable there e u =
-      let p = both_empty (conflicts_met [] d.constraints) (first_of_each (first_conflict (class_names d) sorted sorted) last) e in
+  silent_reachable : reported order d ≡ [] → IsUnreachable d → ⊥
+  silent_reachable e u =
+      let p = both_empty (conflicts_met [] d.constraints) (first_filled (first_conflict (class_names d) sorted sorted) last) e in
       let q = both_empty (first_conflict (class_names d) sorted sorted) last p.1 in
       elim (or_split (has_conflict (class_names d) d.constraints) (has_cycle (class_names d) d.constraints) (unreachable_is d (names_settled d) u)) [
         | inr t ↦ not_empty cycle [] (sym (cond-true (has_cycle (class_names d) d.constraints) (cycle ∷ []) [] t) ∙ q.1)
@@ -194,9 +194,9 @@ module _ (order : List SiteTerm) (d : Demands) where
             let a = in_any (λ x. list_any (differs_in_class (class_names d) x) d.constraints) d.constraints t in
             let b = in_any (differs_in_class (class_names d) a.0) d.constraints a.2 in
             let in_order : (x : SiteTerm × Constraint) → In d.constraints x → In sorted x =
-                λ x i. in_ordered order d.constraints x (in_from_contains order x.0 (there x.0 x.1 (contains_from_in d.constraints x i))) (each_first [] d.constraints p.0 x i) in
+            λ x i. in_ordered (with_constrained order d) d.constraints x (in_with_sites order (map (λ c. c.0) d.constraints) x.0 (inr (map_in (λ (c : SiteTerm × Constraint). c.0) d.constraints x i))) (each_first [] d.constraints p.0 x i) in
             false≢true (sym (differs_none (class_names d) a.0 sorted (first_none (class_names d) sorted sorted q.0 a.0 (in_order a.0 a.1)) b.0 (in_order b.0 b.1)) ∙ b.2)
       ]
 
-pub reports_are_exact_lem : (order : List SiteTerm) (d : Demands) → ((s : SiteTerm) (c : Constraint) → Contains d.constraints (s, c) → Contains order s) → (reported order d ≡ []) ↔ (IsUnreachable d → ⊥)
-reports_are_exact_lem order d there = (silent_reachable order d there, nothing_reported order d)
+pub reports_are_exact_lem : (order : List SiteTerm) (d : Demands) → (reported order d ≡ []) ↔ (IsUnreachable d → ⊥)
+reports_are_exact_lem order d = (silent_reachable order d, nothing_reported order d)

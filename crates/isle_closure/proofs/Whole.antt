@@ -63,9 +63,10 @@ lacks true h = absurd (false≢true h)
 lacks false h = refl
 
 pub without_in : (ks : List (List SiteTerm)) (s : SiteTerm) (l : List SiteTerm) → In (without_class_of ks s) l → In ks l × (In l s → ⊥)
-without_in ks s l i =
-    (in_filter (λ k. not (has_site k s)) ks l i,
-     λ m. false≢true (sym (lacks (has_site l s) (passed_filter (λ k. not (has_site k s)) ks l i)) ∙ in_has l s m))
+without_in ks s l i = (
+  in_filter (λ k. not (has_site k s)) ks l i,
+  λ m. false≢true (sym (lacks (has_site l s) (passed_filter (λ k. not (has_site k s)) ks l i)) ∙ in_has l s m),
+)
 
 pub in_without : (ks : List (List SiteTerm)) (s : SiteTerm) (l : List SiteTerm) → In ks l → has_site l s ≡ false → In (without_class_of ks s) l
 in_without ks s l i f = filter_from (λ k. not (has_site k s)) ks l i (ap not f)
@@ -304,12 +305,14 @@ pair_members c [] a b i = absurd i
 pair_members c (least ∷ rest) a b i =
     let m = in_map (λ (u : SiteTerm). (least, u)) rest (a, b) i in
     let first : least ≡ a = ap (λ (w : SiteTerm × SiteTerm). w.0) m.2 in
-    let second : m.0 ≡ b = ap (λ (w : SiteTerm × SiteTerm). w.1) m.2 in
-    (inl first, inr (subst (In rest) second m.1),
-     λ i x y e f.
-       in_flat_map (λ u. zip (field_terms c least) (field_terms c u)) rest m.0 (x, y) m.1
-       (zip_in (field_terms c least) (field_terms c m.0) i x y
-       (subst (λ u. slice_get (field_terms c u) i ≡ Some x) (sym first) e) (subst (λ u. slice_get (field_terms c u) i ≡ Some y) (sym second) f)))
+    let second : m.0 ≡ b = ap (λ (w : SiteTerm × SiteTerm). w.1) m.2 in (
+      inl first,
+      inr (subst (In rest) second m.1),
+      λ i x y e f.
+          in_flat_map (λ u. zip (field_terms c least) (field_terms c u)) rest m.0 (x, y) m.1
+          (zip_in (field_terms c least) (field_terms c m.0) i x y
+          (subst (λ u. slice_get (field_terms c u) i ≡ Some x) (sym first) e) (subst (λ u. slice_get (field_terms c u) i ≡ Some y) (sym second) f)),
+    )
 
 -- an equality of fields is of fields of members
 pub equality_members : (c : Constraint) (members : List SiteTerm) (e : SiteTerm × SiteTerm) → In (field_equalities c members) e

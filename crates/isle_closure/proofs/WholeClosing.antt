@@ -3,13 +3,13 @@ use Rattle.std.proofs.Common.{◌≡◌, ◌≢◌, ℕ, zero, suc, true, List, 
 use Rattle.std.proofs.lemmas.Bool.{cases_Bool, false≢true}
 use Rattle.isle_model.specs.Sites.{Constraint, SiteTerm}
 use Rattle.isle_model.specs.Demands.{Demands, has_site, with_sites}
-use Rattle.isle_model.specs.Closure.{Joined, given, itself, turned, chained, at_field, field_terms, HasConstraint, IsUnreachable, two_in_a_class, IsFree, IsDemanded, asked_of, left_of, right_of, field_of, Closed, class_at, without_class_of, merged_all, ascending, next_constrained, field_equalities, taken, closing, opening, begins_with, in_order, most_steps, closed}
+use Rattle.isle_model.specs.Closure.{Joined, given, itself, turned, chained, at_field, field_terms, HasConstraint, IsUnreachable, two_in_a_class, IsFree, Closed, class_at, without_class_of, merged_all, ascending, next_constrained, field_equalities, taken, closing, before_closing, begins_with, in_order, most_steps, closed}
 use Rattle.isle_closure.specs.Laws.{EqualSitesAreMade, HasEnded, ClosedIsWhole}
 use Rattle.isle_closure.proofs.Elements.{In, in_from_contains, contains_from_in, some_is, in_right, in_either, any_in, in_map, map_in, from_flat_map, in_flat_map, in_filter, filter_from, passed_filter}
 use Rattle.isle_closure.proofs.SameSites.{term_same, constraint_cases}
 use Rattle.isle_closure.proofs.Classes.{in_has, has_in, in_with_sites, fields_at, moved}
-use Rattle.isle_closure.proofs.Closing.{FollowsSoFar, in_class_joined, constraint_carried, next_asked, taken_follows, opening_follows, constraints_kept, constraints_in, one_each, from_constraints}
-use Rattle.isle_closure.proofs.Whole.{IsApart, InOne, class_is, without_in, in_without, AllIn, each_apart, each_keeps_one, each_joins_one, each_all_in, class_all, Chain, one_class, one_take, alike, back, then_on, chain_carried, joined_chain_cases, FieldsChained, IsTaken, keeps_all, gets_constraint, pairs_of, members_chained, pair_members, equality_members, none_constrained}
+use Rattle.isle_closure.proofs.Closing.{FollowsSoFar, in_class_joined, constraint_carried, next_asked, taken_follows, before_closing_follows, constraints_kept, one_each}
+use Rattle.isle_closure.proofs.Whole.{IsApart, InOne, class_is, without_in, in_without, AllIn, each_apart, each_keeps_one, each_joins_one, each_all_in, Chain, one_class, one_take, alike, back, then_on, chain_carried, joined_chain_cases, FieldsChained, IsTaken, keeps_all, gets_constraint, pairs_of, members_chained, pair_members, equality_members, none_constrained}
 
 module _ (d : Demands) (reachable : IsUnreachable d → ⊥) where
   -- a site must meet one constraint at most
@@ -24,8 +24,6 @@ module _ (d : Demands) (reachable : IsUnreachable d → ⊥) where
     within : AllIn (In k.made) k.classes
     equal : (a b : SiteTerm) → In d.equalities (a, b) → Chain k.classes h a b
     history : (a b : SiteTerm) → In h (a, b) → IsTaken k.constraints k.classes h a b
-    asked : (x : SiteTerm × Constraint) → In k.constraints x → IsDemanded d x.0
-    classed : AllIn (IsDemanded d) k.classes
 
   module _ (k : Closed) (h : List (SiteTerm × SiteTerm)) (w : Stands k h) (c : SiteTerm × Constraint) (m : In k.constraints c) where
     abbrev members : List SiteTerm
@@ -48,9 +46,6 @@ module _ (d : Demands) (reachable : IsUnreachable d → ⊥) where
 
     member_has : (s : SiteTerm) → In members s → HasConstraint d s c.1
     member_has s i = constraint_carried d c.0 s c.1 (member_joined s i) (w.follows.constraints c m)
-
-    member_demanded : (s : SiteTerm) → In members s → IsDemanded d s
-    member_demanded s i = class_all (IsDemanded d) k.classes w.classed c.0 (w.asked c m) s (member_class s i)
 
     left_apart : IsApart (without_class_of k.classes c.0)
     left_apart l n s i j x y = w.apart l n s (without_in k.classes c.0 l i).0 (without_in k.classes c.0 n j).0 x y
@@ -109,32 +104,16 @@ module _ (d : Demands) (reachable : IsUnreachable d → ⊥) where
     made_field : (s x : SiteTerm) → In members s → In (field_terms c.1 s) x → In after.made x
     made_field s x i j = in_with_sites k.made (flat_map (field_terms c.1) members) x (inr (in_flat_map (field_terms c.1) members s x i j))
 
-    demanded_field : (s x : SiteTerm) → In members s → In (field_terms c.1 s) x → IsDemanded d x
-    demanded_field s x i j = field_of (member_demanded s i) (member_has s i) (contains_from_in (field_terms c.1 s) x j)
-
-    demanded_after : (x : SiteTerm × Constraint) → In after.constraints x → IsDemanded d x.0
-    demanded_after x i =
-        elim (constraints_in k.constraints (map (λ u. (u, c.1)) members) x i) [
-          | inl j ↦ w.asked x j
-          | inr j ↦
-              let f = in_map (λ (u : SiteTerm). (u, c.1)) members x j in
-              subst (λ (y : SiteTerm × Constraint). IsDemanded d y.0) f.2 (member_demanded f.0 f.1)
-        ]
-
     stands_after : Stands after history_after
     stands_after = record {
       follows = after_follows;
       kept = λ x i. keeps_all k.constraints (map (λ u. (u, c.1)) members) x (w.kept x i);
       apart = each_apart (field_equalities c.1 members) (without_class_of k.classes c.0) left_apart;
       within = each_all_in (In after.made) (field_equalities c.1 members) (without_class_of k.classes c.0)
-        (λ l s i j. in_with_sites k.made (flat_map (field_terms c.1) members) s (inl (w.within l s (without_in k.classes c.0 l i).0 j)))
-        (λ e i. let q = equality_members c.1 members e i in (made_field q.0 e.0 q.2 q.4, made_field q.1 e.1 q.3 q.5));
+          (λ l s i j. in_with_sites k.made (flat_map (field_terms c.1) members) s (inl (w.within l s (without_in k.classes c.0 l i).0 j)))
+          (λ e i. let q = equality_members c.1 members e i in (made_field q.0 e.0 q.2 q.4, made_field q.1 e.1 q.3 q.5));
       equal = λ a b i. carried a b (w.equal a b i);
       history = λ a b i. elim (in_either (pairs_of members) h (a, b) i) [ inl j ↦ new_taken a b j | inr j ↦ old_taken a b j ];
-      asked = demanded_after;
-      classed = each_all_in (IsDemanded d) (field_equalities c.1 members) (without_class_of k.classes c.0)
-        (λ l s i j. w.classed l s (without_in k.classes c.0 l i).0 j)
-        (λ e i. let q = equality_members c.1 members e i in (demanded_field q.0 e.0 q.2 q.4, demanded_field q.1 e.1 q.3 q.5));
     }
 
   abbrev Standing : Closed → Type 0
@@ -151,21 +130,21 @@ module _ (d : Demands) (reachable : IsUnreachable d → ⊥) where
           let m = next_asked d k.classes k.constraints k.made c e in
           later (taken k c (ascending k.made (class_at k.classes c.0))) (pairs_of (ascending k.made (class_at k.classes c.0)) ++ s.0, stands_after k s.0 s.1 c m)
 
-  opening_stands : (before : List SiteTerm) → EqualSitesAreMade d → Standing (opening before d)
-  opening_stands before made = ([], record {
-    follows = opening_follows d before;
-    kept = λ x i. constraints_kept d.constraints (one_each d reachable) x i;
-    apart = each_apart d.equalities [] (λ l m s i. absurd i);
-    within = each_all_in (In (with_sites before d.made)) d.equalities [] (λ l s i. absurd i)
-      (λ e i.
-        let p = made e.0 e.1 (contains_from_in d.equalities e i) in
-        (in_with_sites before d.made e.0 (inr (in_from_contains d.made e.0 p.0)), in_with_sites before d.made e.1 (inr (in_from_contains d.made e.1 p.1))));
-    equal = λ a b i. joined_chain_cases (merged_all [] d.equalities) [] a b (each_joins_one d.equalities [] (λ l m s j. absurd j) a b i);
-    history = λ a b i. absurd i;
-    asked = λ x i. asked_of (contains_from_in d.constraints x (from_constraints d.constraints x i));
-    classed = each_all_in (IsDemanded d) d.equalities [] (λ l s i. absurd i)
-      (λ e i. let j = contains_from_in d.equalities e i in (left_of j, right_of j));
-  })
+  before_closing_stands : (before : List SiteTerm) → EqualSitesAreMade d → Standing (before_closing before d)
+  before_closing_stands before made = (
+    [],
+    record {
+      follows = before_closing_follows d before;
+      kept = λ x i. constraints_kept d.constraints (one_each d reachable) x i;
+      apart = each_apart d.equalities [] (λ l m s i. absurd i);
+      within = each_all_in (In (with_sites before d.made)) d.equalities [] (λ l s i. absurd i)
+          (λ e i.
+          let p = made e.0 e.1 (contains_from_in d.equalities e i) in
+          (in_with_sites before d.made e.0 (inr (in_from_contains d.made e.0 p.0)), in_with_sites before d.made e.1 (inr (in_from_contains d.made e.1 p.1))));
+      equal = λ a b i. joined_chain_cases (merged_all [] d.equalities) [] a b (each_joins_one d.equalities [] (λ l m s j. absurd j) a b i);
+      history = λ a b i. absurd i;
+    },
+  )
 
   -- at the end
   module _ (k : Closed) (h : List (SiteTerm × SiteTerm)) (w : Stands k h) (ended : HasEnded k) where
@@ -188,13 +167,18 @@ module _ (d : Demands) (reachable : IsUnreachable d → ⊥) where
     along a b (one_class o) =
         (record { there = λ c i. absurd (class_free o.class a c o.there o.first i) }, record { there = λ c i. absurd (class_free o.class b c o.there o.second i) })
     along a b (one_take i) =
-        let t = w.history a b i in
-        (record { there = λ c j.
-           let e = once a t.constraint c t.first j in
-           (subst (λ q. In k.constraints (b, q)) e t.second, subst (λ q. FieldsChained k.classes h q a b) e t.fields) },
-         record { there = λ c j.
-           let e = once b t.constraint c t.second j in
-           (subst (λ q. In k.constraints (a, q)) e t.first, λ n x y f g. back (subst (λ q. FieldsChained k.classes h q a b) e t.fields n y x g f)) })
+        let t = w.history a b i in (
+          record {
+            there = λ c j.
+                let e = once a t.constraint c t.first j in
+                (subst (λ q. In k.constraints (b, q)) e t.second, subst (λ q. FieldsChained k.classes h q a b) e t.fields);
+          },
+          record {
+            there = λ c j.
+                let e = once b t.constraint c t.second j in
+                (subst (λ q. In k.constraints (a, q)) e t.first, λ n x y f g. back (subst (λ q. FieldsChained k.classes h q a b) e t.fields n y x g f));
+          },
+        )
     along a b alike = (record { there = λ c i. (i, same_fields c a) }, record { there = λ c i. (i, same_fields c a) })
     along a b (back j) = let r = along b a j in (r.1, r.0)
     along a b (then_on {b = m} i j) =
@@ -203,10 +187,12 @@ module _ (d : Demands) (reachable : IsUnreachable d → ⊥) where
         (both a m b p.0 q.0, both b m a q.1 p.1)
       where
         both : (x y z : SiteTerm) → Along x y → Along y z → Along x z
-        both x y z r s = record { there = λ c n.
-          let u = r.there c n in
-          let v = s.there c u.0 in
-          (v.0, λ i f g e l. let middle = fields_at c x y i f e in then_on (u.1 i f (moved y f) e middle) (v.1 i (moved y f) g middle l)) }
+        both x y z r s = record {
+          there = λ c n.
+              let u = r.there c n in
+              let v = s.there c u.0 in
+              (v.0, λ i f g e l. let middle = fields_at c x y i f e in then_on (u.1 i f (moved y f) e middle) (v.1 i (moved y f) g middle l));
+        }
 
     joined_chain : (a b : SiteTerm) → Joined d a b → Chain k.classes h a b
     joined_chain a b (given i) = w.equal a b (in_from_contains d.equalities (a, b) i)
@@ -273,7 +259,7 @@ module _ (d : Demands) (reachable : IsUnreachable d → ⊥) where
         record {
           class = ascending k.made o.class;
           there = in_flat_map (λ s. filter (begins_with s) (map (ascending k.made) k.classes)) k.made f.0 (ascending k.made o.class) made
-            (filter_from (begins_with f.0) (map (ascending k.made) k.classes) (ascending k.made o.class) (map_in (ascending k.made) k.classes o.class o.there) f.2);
+              (filter_from (begins_with f.0) (map (ascending k.made) k.classes) (ascending k.made o.class) (map_in (ascending k.made) k.classes o.class o.there) f.2);
           first = i;
           second = j;
         }
@@ -291,32 +277,31 @@ module _ (d : Demands) (reachable : IsUnreachable d → ⊥) where
 
     whole : ClosedIsWhole d (in_order k)
     whole = record {
-      constraints = λ s c.
-        (λ i.
-           let m = in_from_contains k.constraints (s, c) i in
-           record { site = w.asked (s, c) m; constraint = w.follows.constraints (s, c) m },
-         λ q. contains_from_in k.constraints (s, c) (constraint_asked s c q.constraint));
-      equalities = λ a b.
-        (λ e.
-           let o = from_ordered a b (record {
-             class = e.1.0;
-             there = in_from_contains ordered e.1.0 e.1.1;
-             first = in_from_contains e.1.0 a e.1.2;
-             second = in_from_contains e.1.0 b e.1.3;
-           }) in
-           record {
-             first = w.classed o.class a o.there o.first;
-             second = w.classed o.class b o.there o.second;
-             different = e.0;
-             joined = w.follows.classes o.class a b o.there o.first o.second;
-             free = λ c q. class_free o.class a c o.there o.first (constraint_asked a c q);
-           },
-         λ q.
-           let o = in_ordered a b (free_class a b q.different q.free (chain_ends a b (joined_chain a b q.joined))) in
-           (q.different, (o.class, contains_from_in ordered o.class o.there, contains_from_in o.class a o.first, contains_from_in o.class b o.second)));
+      constraints = λ s c. (
+        λ i.
+            w.follows.constraints (s, c) (in_from_contains k.constraints (s, c) i),
+        λ q. contains_from_in k.constraints (s, c) (constraint_asked s c q),
+      );
+      equalities = λ a b. (
+        λ e.
+            let o = from_ordered a b (record {
+              class = e.1.0;
+              there = in_from_contains ordered e.1.0 e.1.1;
+              first = in_from_contains e.1.0 a e.1.2;
+              second = in_from_contains e.1.0 b e.1.3;
+            }) in
+            record {
+              different = e.0;
+              joined = w.follows.classes o.class a b o.there o.first o.second;
+              free = λ c q. class_free o.class a c o.there o.first (constraint_asked a c q);
+            },
+        λ q.
+            let o = in_ordered a b (free_class a b q.different q.free (chain_ends a b (joined_chain a b q.joined))) in
+            (q.different, (o.class, contains_from_in ordered o.class o.there, contains_from_in o.class a o.first, contains_from_in o.class b o.second)),
+      );
     }
 
-pub closing_is_whole_lem : (before : List SiteTerm) (d : Demands) → EqualSitesAreMade d → (IsUnreachable d → ⊥) → HasEnded (closing most_steps (opening before d)) → ClosedIsWhole d (closed before d)
+pub closing_is_whole_lem : (before : List SiteTerm) (d : Demands) → EqualSitesAreMade d → (IsUnreachable d → ⊥) → HasEnded (closing most_steps (before_closing before d)) → ClosedIsWhole d (closed before d)
 closing_is_whole_lem before d made reachable ended =
-    let s = closing_stands d reachable most_steps (opening before d) (opening_stands d reachable before made) in
-    whole d reachable (closing most_steps (opening before d)) s.0 s.1 ended
+    let s = closing_stands d reachable most_steps (before_closing before d) (before_closing_stands d reachable before made) in
+    whole d reachable (closing most_steps (before_closing before d)) s.0 s.1 ended

@@ -1,13 +1,13 @@
 -- What theory proves of the closure of demands, of limits, and of overlap.
-use Rattle.std.specs.Prelude.{◌≡◌, length, ◌≢◌, ℕ, true, List, [], Some, None, slice_get, Contains, ◌↔◌}
+use Rattle.std.specs.Prelude.{◌≡◌, ◌⊎◌, length, ◌≢◌, ℕ, true, List, [], Some, None, slice_get, Contains, ◌↔◌}
 use Rattle.std.specs.Bool.{Decides}
 use Rattle.isle_model.specs.Typed.{TypedRule}
 use Rattle.isle_model.specs.Program.{Program, arg_types}
-use Rattle.isle_model.specs.Sites.{Constraint, SiteTerm}
+use Rattle.isle_model.specs.Sites.{Constraint, SiteTerm, no_site}
 use Rattle.isle_model.specs.Demands.{Demands, demands_of, with_sites}
 use Rattle.isle_model.specs.Built.{may_overlap}
-use Rattle.isle_model.specs.Closure.{field_terms, Joined, HasConstraint, IsClosedConstraint, IsClosedEquality, IsUnreachable, is_unreachable, reported, same_class, class_names, spoken_of, with_constraints, Closed, next_constrained, closing, opening, most_steps, closed}
-use Rattle.isle_model.specs.Limits.{RuleLimit, first_limit, PassesLimit, PassesArguments, sites_with}
+use Rattle.isle_model.specs.Closure.{field_terms, Joined, HasConstraint, IsClosedEquality, IsUnreachable, is_unreachable, reported, same_class, class_names, spoken_of, with_constraints, Closed, next_constrained, closing, before_closing, most_steps, closed}
+use Rattle.isle_model.specs.Limits.{RuleLimit, first_limit, PassesLimit, PassesArguments, sites_wanted}
 use Rattle.isle_model.specs.Accepted.{PassesArguments as PassesArgumentsOfProgram}
 use Rattle.isle_model.specs.Overlap.{Overlaps, overlaps, IsSubsetPair, is_subset_pair, BuiltRule, is_built, clash, Shadows, shadows}
 
@@ -34,11 +34,9 @@ ClassesBoundJoined = (d : Demands) (class : SiteTerm → ℕ) → RespectsDemand
 abbrev pub VerdictIsExact : Type 0
 VerdictIsExact = (d : Demands) → (is_unreachable d ≡ true) ↔ IsUnreachable d
 
--- where the constrained sites are among the sites made, nothing is reported of demands exactly where they can be met
+-- nothing is reported of demands exactly where they can be met
 abbrev pub ReportsAreExact : Type 0
-ReportsAreExact =
-    (order : List SiteTerm) (d : Demands) → ((s : SiteTerm) (c : Constraint) → Contains d.constraints (s, c) → Contains order s)
-    → (reported order d ≡ []) ↔ (IsUnreachable d → ⊥)
+ReportsAreExact = (order : List SiteTerm) (d : Demands) → (reported order d ≡ []) ↔ (IsUnreachable d → ⊥)
 
 -- of demands that can be met, sites that are spoken of have one name exactly where they must be equal
 abbrev pub NamesAreExact : Type 0
@@ -99,7 +97,7 @@ EarlyArgumentsAgree =
 -- a rule without equalities adds the sites of its visit alone
 abbrev pub EarlySitesAgree : Type 0
 EarlySitesAgree =
-    (p : Program) (before : List SiteTerm) (r : TypedRule) → (demands_of p r).equalities ≡ [] → sites_with p before r ≡ with_sites before (demands_of p r).made
+    (p : Program) (before : List SiteTerm) (r : TypedRule) → (demands_of p r).equalities ≡ [] → sites_wanted p before r ≡ with_sites before (demands_of p r).made
 
 -- a reported limit is passed, and where one is passed one is reported
 abbrev pub FirstLimitIsPassed : Type 0
@@ -118,21 +116,23 @@ EqualSitesAreMade d = (a b : SiteTerm) → Contains d.equalities (a, b) → Cont
 abbrev pub HasEnded : Closed → Type 0
 HasEnded k = next_constrained k.classes k.constraints k.made ≡ None
 
--- closed demands are all that follows: the constraints of demanded sites, and the equalities of those that have none
+-- closed demands are all that follows: the constraints that sites must meet, and the equalities of those that have none
 pub record ClosedIsWhole (d : Demands) (k : Closed) : Type 0 where
-  pub constraints : (s : SiteTerm) (c : Constraint) → Contains k.constraints (s, c) ↔ IsClosedConstraint d s c
+  pub constraints : (s : SiteTerm) (c : Constraint) → Contains k.constraints (s, c) ↔ HasConstraint d s c
   pub equalities : (a b : SiteTerm) → (a ≢ b) × ((class : List SiteTerm) × Contains k.classes class × Contains class a × Contains class b) ↔ IsClosedEquality d a b
 
 -- where demands can be met and their closing ended, the closed demands are whole
 abbrev pub ClosingIsWhole : Type 0
 ClosingIsWhole =
-    (before : List SiteTerm) (d : Demands) → EqualSitesAreMade d → (IsUnreachable d → ⊥) → HasEnded (closing most_steps (opening before d))
+    (before : List SiteTerm) (d : Demands) → EqualSitesAreMade d → (IsUnreachable d → ⊥) → HasEnded (closing most_steps (before_closing before d))
     → ClosedIsWhole d (closed before d)
 
 -- not proved here: the closing of a rule that is built ends
 abbrev pub ClosingEnds : Type 0
-ClosingEnds = (p : Program) (before : List SiteTerm) (r : TypedRule) → is_built p before r ≡ true → HasEnded (closing most_steps (opening before (demands_of p r)))
+ClosingEnds = (p : Program) (before : List SiteTerm) (r : TypedRule) → is_built p before r ≡ true → HasEnded (closing most_steps (before_closing before (demands_of p r)))
 
--- not proved here: the sites that a rule's demands equate are made by its visit
+-- the sites that a rule's demands equate are made by its visit, but for variables that nothing binds
 abbrev pub VisitsMakeEqualSites : Type 0
-VisitsMakeEqualSites = (p : Program) (r : TypedRule) → EqualSitesAreMade (demands_of p r)
+VisitsMakeEqualSites =
+    (p : Program) (r : TypedRule) (a b : SiteTerm) → Contains (demands_of p r).equalities (a, b)
+    → (Contains (demands_of p r).made a ⊎ (a ≡ no_site)) × (Contains (demands_of p r).made b ⊎ (b ≡ no_site))

@@ -4,7 +4,7 @@ use Rattle.isle_model.specs.Program.{Program}
 use Rattle.isle_model.specs.Typed.{TypedRule, TypedPattern, match_any, make_int}
 use Rattle.isle_model.specs.Sites.{Constraint, is_variant, is_int, is_present, SiteTerm, int_term, argument, extractor_call, constructor_call, pick_of, variant_made, variant_field, some_made, some_part, no_site_term, site_term_and}
 use Rattle.isle_model.specs.Demands.{Demands, demands_of}
-use Rattle.isle_model.specs.Closure.{IsUnreachable, is_unreachable, Unreachability, conflict, cycle, reported, closed, closing, opening, most_steps}
+use Rattle.isle_model.specs.Closure.{IsUnreachable, is_unreachable, Unreachability, conflict, cycle, reported, closed, closing, before_closing, most_steps}
 use Rattle.isle_model.specs.Limits.{arguments_limit, first_limit, limits_of_shape, walked_rule}
 use Rattle.isle_model.specs.Overlap.{overlaps, BuiltRule, built_rule, clash, shadows, wrong_overlaps, not_reached, rules_overlap, rule_shadows, check_reports}
 use Rattle.isle_closure.specs.Laws.{HasEnded}
@@ -260,7 +260,7 @@ NearMisses =
 
 -- nothing is left to be taken
 abbrev pub Ends : Program → TypedRule → Type 0
-Ends p r = HasEnded (closing most_steps (opening [] (demands_of p r)))
+Ends p r = HasEnded (closing most_steps (before_closing [] (demands_of p r)))
 
 abbrev pub ClosingsEnd : Type 0
 ClosingsEnd =

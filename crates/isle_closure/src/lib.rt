@@ -3,7 +3,7 @@
 //! The definitions are in `isle_model`, the samples in `specs/`. A function here has an empty body: its clause is a law.
 #![tactic(auto)]
 
-ghost use Rattle.isle_closure.specs.Laws.{EarlyArgumentsAgree, EarlySitesAgree, ShadowsAreExact, ReportsAreExact, ClosingIsWhole, FirstLimitIsPassed, PassedLimitIsMet, ClashIsExact, ClassesBoundJoined, ClosingAddsNothing, ClosingIsSound, ConstraintsAreKept, EarlyOverlapAgrees, JoinedIsEquivalence, NamesAreExact, OverlapIsExact, OverlapIsSymmetric, VerdictIsExact};
+ghost use Rattle.isle_closure.specs.Laws.{VisitsMakeEqualSites, EarlyArgumentsAgree, EarlySitesAgree, ShadowsAreExact, ReportsAreExact, ClosingIsWhole, FirstLimitIsPassed, PassedLimitIsMet, ClashIsExact, ClassesBoundJoined, ClosingAddsNothing, ClosingIsSound, ConstraintsAreKept, EarlyOverlapAgrees, JoinedIsEquivalence, NamesAreExact, OverlapIsExact, OverlapIsSymmetric, VerdictIsExact};
 ghost use Rattle.isle_closure.specs.Worked.{ClosingsEnd, LimitsMet, Overlapping, Shadowing, SamplesAreReachable, SamplesAreUnreachable, TwoReports, ConflictReported, ConstEqClosed, ConstEqDemands, CyclesReported, EffectsDemands, ExtractDemands, FallDemands, MultiDemands, NearMisses, NestedClosed, NotReported, NothingReported, OverlapReported, PartialDemands, ShadowReported, UnreachableReported, UnreachableSamples, VariantEqClosed, VariantEqDemands};
 
 /// A literal and a repeated variable: one constraint, one equality.
@@ -229,4 +229,9 @@ pub fn early_arguments_agree()
 /// A rule without equalities adds the sites of its visit, and no others.
 pub fn early_sites_agree()
     ensures { EarlySitesAgree }
+{}
+
+/// The sites that a visit equates are made by it, but for variables that nothing binds.
+pub fn visits_make_equal_sites()
+    ensures { VisitsMakeEqualSites }
 {}
