@@ -2,7 +2,6 @@
 use Rattle.std.specs.Prelude.{◌≡◌, ℕ, Bool, true, false, not, ◌&&◌, ◌||◌, List, [], ◌∷◌, ◌++◌, map, slice_get, All, IsTrue, if◌then◌else◌}
 use Rattle.std.specs.List.{list_all}
 use Rattle.isle_model.specs.Syntax.{Definition}
-use Rattle.isle_model.specs.Names.{IsDistinct}
 use Rattle.isle_model.specs.Program.{Program, is_multi, rules_of}
 use Rattle.isle_model.specs.Sites.{Site, SiteSet, sources_at}
 use Rattle.isle_model.specs.Trees.{Marked, Tree, no_step, step, Check, match_at, equal_at, loop_at, return_at, Arms, no_arm, arm}
@@ -11,9 +10,9 @@ use Rattle.isle_model.specs.Places.{nothing_around, is_in, is_in_place, field_si
 use Rattle.isle_model.specs.Sound.{ReturnsEach}
 use Rattle.isle_model.specs.Best.{IsBestTree, SharesMost}
 use Rattle.isle_model.specs.Built.{RunsAsChosen, terms_with_rules}
-use Rattle.isle_model.specs.Collects.{Collects, CollectsAsChosen, IsCollectedSet, ServesSet, set_bag}
+use Rattle.isle_model.specs.Collects.{Collects, CollectsTheBag, IsCollectedSet, ServesSet, set_bag}
 use Rattle.isle_model.specs.SetRuns.{IsTestedSet, ServesTests, ChoosesFrom}
-use Rattle.isle_model.specs.Overlap.{built_rules, BuiltOverlapWrongly, IsShadowed, RuleReport, build_reports, check_reports}
+use Rattle.isle_model.specs.Overlap.{built_rules, OverlapsWrongly, HasDistinctPositions, IsShadowed, RuleReport, build_reports, check_reports}
 use Rattle.isle_elaboration.specs.Elaborated.{TypedRules}
 use Rattle.isle_statements.specs.Environments.{IsRead, types_read, program_of}
 use Rattle.isle_statements.specs.RuleSets.{IsBuilt}
@@ -32,12 +31,12 @@ pub record BuildAnswers (p : Program) (sets : List (ℕ × SiteSet)) (reports : 
 -- overlap wrongly, and none is shadowed. Checking then gives what building gives
 pub record IsCheckable (p : Program) : Type 0 where
   pub built : (t : ℕ) → map (λ b. b.rule) (built_rules p t) ≡ rules_of p t
-  pub overlaps : (t i j : ℕ) → BuiltOverlapWrongly p t i j → ⊥
+  pub overlaps : (t i j : ℕ) → OverlapsWrongly p t i j → ⊥
   pub shadows : (t i : ℕ) → IsShadowed p t i → ⊥
 
 -- what is reported where they can't, if no two rules stand at one position
 abbrev pub CheckReports : Program → List RuleReport → Type 0
-CheckReports p reports = IsDistinct (map (λ r. r.at) p.rules) → reports ≡ check_reports p
+CheckReports p reports = HasDistinctPositions p → reports ≡ check_reports p
 
 -- the run of a tree means what its set does. In a term that isn't multi, where the rules go over no calls, it takes a rule
 -- of greatest priority among those whose demands hold; in a multi term whose rules make no impure call and demand every
@@ -131,7 +130,7 @@ pub record IsLoweredTerm (p : Program) (l : Lowered) : Type 0 where
   pub built : IsBuilt p l.term l.set
   pub best : IsBestTree l.set l.tree
   pub headline : ChoosesAndShares p l
-  pub collects : CollectsAsChosen p l.term l.set.sites l.tree
+  pub collects : CollectsTheBag p l.term l.set.sites l.tree
   pub binds : BindsBeforeUse l.set (is_multi p l.term) l.tree
 
 -- what lowering accepted definitions gives: each term with rules once, ascending
