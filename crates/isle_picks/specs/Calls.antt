@@ -7,7 +7,7 @@ use Rattle.isle_model.specs.Program.{Program}
 use Rattle.isle_model.specs.Typed.{TypedPattern, match_bind, match_any, match_term, match_and, no_typed_pattern, typed_pattern_and, TypedExpr, make_term, make_var, make_let, no_typed_expr, typed_expr_and, no_typed_let, typed_let_and, TypedVar, TypedIfLet, TypedRule}
 use Rattle.isle_model.specs.Picks.{bag}
 use Rattle.isle_model.specs.Collects.{LeavesNoCallUnused}
-use Rattle.isle_picks.specs.Samples.{at, builtins, term, multi, v, given, alone, each, all_of, x_matched, x_used}
+use Rattle.isle_picks.specs.Samples.{at, builtins, term, multi, literal, v, given, alone, each, all_of, x_matched, x_used}
 
 -- the flags of the constructors
 abbrev pub pure_multi : Flags
@@ -100,11 +100,11 @@ condition = rule_of vars_xy x_matched (record { lhs = match_bind 1 1 (match_any 
 abbrev pub paired : ℤ → ℤ → ℤ → (ℕ × Values) × Content
 paired a b c = ((2, value_and (v a) (alone b)), one (v c))
 
--- m answers 4 and 5 at 1, 6 and 7 at 4, and 8 at 5; e answers 4 and 5 at 1; pr sets two digits side by side; pp answers
+-- the literal 7 is 7; m answers 4 and 5 at 1, 6 and 7 at 4, and 8 at 5; e answers 4 and 5 at 1; pr sets two digits side by side; pp answers
 -- 5 at 1 and nothing at 2; w answers 4 and 5, then 6 and 7
 abbrev pub meaning : Meaning
 meaning = record {
-  literals = [];
+  literals = literal (pos 7) ∷ [];
   constants = [];
   extractor_calls = ((5, v (pos 1)), many (all_of (pos 4 ∷ (pos 5 ∷ [])))) ∷ [];
   pure_calls =

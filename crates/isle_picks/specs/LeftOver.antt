@@ -9,7 +9,7 @@ use Rattle.isle_model.specs.Run.{World, run}
 use Rattle.isle_model.specs.Sound.{IsSound}
 use Rattle.isle_model.specs.Collects.{Collects, set_bag, LeavesNoCallUnused, IsCollectedRule, IsCollectedSet, ServesSet}
 use Rattle.isle_picks.specs.Samples.{at, given, each, literal, mute, x_matched, x_used}
-use Rattle.isle_picks.specs.Calls.{program, call_of, rule_of, vars_xz}
+use Rattle.isle_picks.specs.Calls.{program, meaning, Gives, call_of, rule_of, vars_xz}
 
 -- 1. (f (and 1 2)) is (im 1), (f x) is x: f is multi, and im is impure. The first rule never matches and is left out of
 -- the set; its sites stay
@@ -60,3 +60,11 @@ GoesOverTheCall r =
 -- the if-let leaves the call unused, yet the rule of the set demands every gate
 abbrev pub DemandsGatesThough : Type 0
 DemandsGatesThough = (LeavesNoCallUnused program unused_gate → ⊥) × GoesOverTheCall unused_gate_rule × IsCollectedRule unused_gate_set.sites unused_gate_rule
+
+-- the world on 1, where the call answers 4 and 5
+abbrev pub unused_gate_world : World
+unused_gate_world = record { sites = unused_gate_set.sites; args = given (pos 1); meaning = meaning; multi = true }
+
+-- the bag of the typed rule, and that of the set, have a 7 for each answer
+abbrev pub UnusedGateGives : Type 0
+UnusedGateGives = Gives unused_gate (pos 1) (pos 7 ∷ (pos 7 ∷ [])) × (set_bag unused_gate_set unused_gate_world ≡ each (pos 7 ∷ (pos 7 ∷ [])))

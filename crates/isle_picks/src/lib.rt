@@ -9,7 +9,7 @@ ghost use Rattle.isle_model.specs.Outcome.{failed, ended, no_rule};
 ghost use Rattle.isle_model.specs.Collects.{LeavesNoCallUnused};
 ghost use Rattle.isle_picks.specs.Calls.{Gives, LeavesACallUnused, condition, extracted_twice, nested, program, twice, twice_impure, unused, unused_condition};
 ghost use Rattle.isle_picks.specs.Exact.{ContentsAreHeld, HeldAreContents, OnlyPlacesMatter, PicksAreExact};
-ghost use Rattle.isle_picks.specs.LeftOver.{DemandsGatesThough, LeftOverCollects, LeftOverIsCollected};
+ghost use Rattle.isle_picks.specs.LeftOver.{DemandsGatesThough, LeftOverCollects, LeftOverIsCollected, UnusedGateGives};
 ghost use Rattle.isle_picks.specs.Orders.{CallsCanComeFirst, ResultsAreOfPlaces};
 ghost use Rattle.isle_picks.specs.Samples.{DoesNotServe, EffectsEnds, ExtractEnds, ExtractIsServed, MultiCollects, MultiGives, MultiIsCollected, MultiIsNot, MultiIsServed, MultiIsSound, PartialEnds, PartialIsServed, blank, ends_with, extract_mute, extract_program, g_of_one, im_of_one, multi_mute, multi_program, pair_of, partial_mute, partial_program, v};
 ghost use Rattle.isle_picks.specs.WithoutMulti.{BagAsPlain, EndsAsPlain, MatchesAsPlain, NoMultiIsNoIterators};
@@ -270,4 +270,9 @@ pub fn left_over_sites_are_not_run()
 #[tactic(auto, using(crate::proofs::LeftOver::demands_gates_though_lem))]
 pub fn unused_calls_may_demand_gates()
     ensures { DemandsGatesThough }
+{}
+
+/// Its bag and the bag of its set have a result for each answer of the unused call.
+pub fn unused_calls_of_conditions_count()
+    ensures { UnusedGateGives }
 {}
