@@ -74,12 +74,12 @@ fall_marked =
     m_step [] (m_match 0 (m_arm (is_int (pos 1) 1) [] (m_step [] (m_return 0) m_no_step) m_no_arm))
     (m_step [] (m_return 1) m_no_step)
 
-each_once : (i : ℕ) → i < 2 → count_by (λ j. j == i) (0 ∷ (1 ∷ [])) ≡ 1
+pub each_once : (i : ℕ) → i < 2 → count_by (λ j. j == i) (0 ∷ (1 ∷ [])) ≡ 1
 each_once zero l = refl
 each_once (suc zero) l = refl
 each_once (suc (suc i)) l = absurd (omega arith)
 
-each_known : (k d : ℕ) → k < 2 → get_or (0 ∷ (1 ∷ [])) k d < 2
+pub each_known : (k d : ℕ) → k < 2 → get_or (0 ∷ (1 ∷ [])) k d < 2
 each_known zero d l = omega arith
 each_known (suc zero) d l = omega arith
 each_known (suc (suc k)) d l = absurd (omega arith)
@@ -114,7 +114,7 @@ second_tested ar r e = subst (IsTested ar) e (record {
   iterators = λ s k. absurd (nothing_in s k);
 })
 
-some_mark : (i : ℕ) → ◌≡◌ {A = List ℕ} (i ∷ []) [] → ⊥
+pub some_mark : (i : ℕ) → ◌≡◌ {A = List ℕ} (i ∷ []) [] → ⊥
 some_mark i e = cc
 
 fall_steps : SoundSteps fall false nothing_around true fall_marked

@@ -39,16 +39,16 @@ module _ (rules : List SetRule) (Holds : SetRule → Type 0) (Takes : SetRule �
       inr (λ j q l at m. elim (Contains-append_cases here later j l) [ inl a ↦ none j q a at m | inr b ↦ n j q b at m ], e)
 
   -- a step, then the steps after it, where a rule that was taken ended the run
-  pub next_found : ((r : SetRule) (o : Outcome) (go : Trace → Outcome) → Takes r o → or_next o go ≡ o)
-      → (here later : List ℕ) (o : Outcome) (go : Trace → Outcome) → Found here o → NoneHigher rules here later → Found later (go at_start) → Found (here ++ later) (or_next o go)
-  next_found ends here later o go (inl t) higher g =
-      let stay : or_next o go ≡ o = ends t.1 o go t.6 in
+  pub next_found : (here later : List ℕ) (o : Outcome) (go : Trace → Outcome) → ((i : ℕ) (r : SetRule) → slice_get rules i ≡ Some r → Takes r o → or_next o go ≡ o)
+      → Found here o → NoneHigher rules here later → Found later (go at_start) → Found (here ++ later) (or_next o go)
+  next_found here later o go ends (inl t) higher g =
+      let stay : or_next o go ≡ o = ends t.0 t.1 t.3 t.6 in
       inl (subst (Chooses (here ++ later)) (sym stay) (first_stays here later o t (λ j q l at m. higher t.0 j t.1 q t.2 l t.3 at)))
-  next_found ends here later o go (inr (n, e)) higher g =
+  next_found here later o go ends (inr (n, e)) higher g =
       subst (Found (here ++ later)) (sym (ap (λ x. or_next x go) e)) (found_right here later (go at_start) n g)
 
   -- a rule that is returned
-  pub return_found : (i : ℕ) (r : SetRule) (later : List ℕ) (o : Outcome) → slice_get rules i ≡ Some r → Holds r → Takes r o → NoneHigher rules (i ∷ []) later → Found (i ∷ later) o
-  return_found i r later o get holds takes higher =
+  pub rule_found : (i : ℕ) (r : SetRule) (later : List ℕ) (o : Outcome) → slice_get rules i ≡ Some r → Holds r → Takes r o → NoneHigher rules (i ∷ []) later → Found (i ∷ later) o
+  rule_found i r later o get holds takes higher =
       let most : AtMost (i ∷ []) r = λ j q l at m. subst (λ x. x.prio ≤ℤ r.prio) (same_Some r q (sym get ∙ ap (slice_get rules) (in_alone i j l) ∙ at)) (≤ℤ_refl r.prio) in
       inl (first_stays (i ∷ []) later o (i, r, in_head i [], get, holds, most, takes) (λ j q l at m. higher i j r q (in_head i []) l get at))

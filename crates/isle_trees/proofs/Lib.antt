@@ -16,3 +16,4 @@ pub mod Demanded
 pub mod Standing
 pub mod SoundChoice
 pub mod ExtractServed
+pub mod ExtractSound

@@ -23,7 +23,7 @@ use Rattle.isle_trees.proofs.Binding.{content, Held, held_as, reads}
 use Rattle.isle_trees.proofs.BindOrders.{BindsTo, binds_order}
 use Rattle.isle_trees.proofs.Fields.{FieldsHold, fields_hold, fields_bound}
 use Rattle.isle_trees.proofs.Demanded.{joined_back, demand_met, demand_equal}
-use Rattle.isle_trees.proofs.Finding.{Found, NoneHolds, found_left, found_right, next_found, return_found}
+use Rattle.isle_trees.proofs.Finding.{Found, NoneHolds, found_left, found_right, next_found, rule_found}
 use Rattle.isle_trees.proofs.Standing.{At, taken_ends, rule_at, finds, constraint_tested, class_tested, tested_pure, found_at, holds_here, taken_here}
 
 -- in one list or the other
@@ -227,7 +227,8 @@ module _ (w : World) (rules : List SetRule) (built : IsTestedSet (record { rules
         let read = reads w built.sources b.0 (Kept (all_below w.sites (source ∷ []) ++ ar.emitted)) b.2 source (used_kept ar (source ∷ []) source (in_head source [])) in
         let path = match_runs binds (bind_order w.sites ar (source ∷ [])) source (plain_arms rules arms) (plain rules rest) env b.0 x.0 (sound.0 refl) b.1 (read ∙ x.1) in
         subst (FoundHere (marks_arms arms ++ marks rest)) (sym path)
-        (next_found rules Holds (IsTaken w) (taken_ends w single) (marks_arms arms) (marks rest) (run_arms (plain_arms rules arms) w x.0 b.0 at_start) (run_tree (plain rules rest) w b.0)
+        (next_found rules Holds (IsTaken w) (marks_arms arms) (marks rest) (run_arms (plain_arms rules arms) w x.0 b.0 at_start) (run_tree (plain rules rest) w b.0)
+        (λ i r get. taken_ends w single r (run_arms (plain_arms rules arms) w x.0 b.0 at_start) (run_tree (plain rules rest) w b.0))
         (arms_run arms ar b.0 source None x.0 here inside.2 x.1 now)
         sound.2
         (steps_run rest (after_step set ar (m_match source arms)) b.0 (known_right (marks_arms arms) (marks rest) known) sound.3 (at_after_match ar source arms b.0 now)))
@@ -254,7 +255,8 @@ module _ (w : World) (rules : List SetRule) (built : IsTestedSet (record { rules
         let read_b = reads w built.sources m.0 (Kept (all_below w.sites (a ∷ (b ∷ [])) ++ ar.emitted)) m.2 b (used_kept ar (a ∷ (b ∷ [])) b (in_tail a b (b ∷ []) (in_head b []))) in
         let path = equal_runs binds (bind_order w.sites ar (a ∷ (b ∷ []))) a b (plain rules body) (plain rules rest) env m.0 u.0 v.0 (sound.0 refl) m.1 (read_a ∙ at_a) (read_b ∙ at_b) in
         subst (FoundHere (marks body ++ marks rest)) (sym path)
-        (next_found rules Holds (IsTaken w) (taken_ends w single) (marks body) (marks rest) (on_equal (Some u.0) (Some v.0) at_start (run_tree (plain rules body) w m.0 at_start)) (run_tree (plain rules rest) w m.0)
+        (next_found rules Holds (IsTaken w) (marks body) (marks rest) (on_equal (Some u.0) (Some v.0) at_start (run_tree (plain rules body) w m.0 at_start)) (run_tree (plain rules rest) w m.0)
+        (λ i r get. taken_ends w single r (on_equal (Some u.0) (Some v.0) at_start (run_tree (plain rules body) w m.0 at_start)) (run_tree (plain rules rest) w m.0))
         (equal_found u.0 v.0 (run_tree (plain rules body) w m.0 at_start) (marks body)
         (λ same. steps_run body (in_equal set ar a b) m.0 here inside.3 (at_equal ar a b m.0 now (at_a ∙ ap (λ z. Some (one z)) same ∙ sym at_b)))
         (λ differ j q k get holds. differ (same_one u.0 v.0 (sym (ap (λ o. then_option o as_value) at_a) ∙ demand_equal w q a b holds (inside.2 j q k get) ∙ ap (λ o. then_option o as_value) at_b))))
@@ -272,7 +274,7 @@ module _ (w : World) (rules : List SetRule) (built : IsTestedSet (record { rules
         ap (λ l. run_tree (step l (return_of (slice_get rules rule)) (plain rules rest)) w env at_start) (sound.0 refl)
         ∙ ap (λ o. run_tree (step (bind_order w.sites ar (return_uses o)) (return_of o) (plain rules rest)) w env at_start) r.1 in
         subst (FoundHere (rule ∷ marks rest)) (sym path)
-        (return_found rules Holds (IsTaken w) rule r.0 (marks rest) _ r.1
+        (rule_found rules Holds (IsTaken w) rule r.0 (marks rest) _ r.1
         (holds_here w rules built served ar env at r.0 good member all)
         (taken_here w rules built served ar env at r.0 good member all single (plain rules rest))
         sound.2)

@@ -10,11 +10,12 @@ use Rattle.isle_model.specs.Trees.{Tree, step, match_at, equal_at, arm, Marked, 
 use Rattle.isle_model.specs.Places.{Around, nothing_around, all_below, bind_order, return_uses, field_sites, constraint_at, in_arm, in_equal, after_step}
 use Rattle.isle_model.specs.Run.{World, Env, at_start, run_tree, run_arms, run, content_fields, on_met, bind_fields, with_env}
 use Rattle.isle_model.specs.Sound.{comes_before, AllAsk, AllJoin, AllGoOver, SoundSteps, SoundArms, ReturnsEach, IsSound}
-use Rattle.isle_model.specs.Runs.{IsChoiceOf, IsConstant, IsFlatRule, IsFlatSite, IsFlat, IsServed, SoundTreesRun}
+use Rattle.isle_model.specs.Runs.{MeetsDemands, IsChoiceOf, IsConstant, IsFlatRule, IsFlatSite, IsFlat, IsServed, SoundTreesRun}
 use Rattle.isle_trees.proofs.Order.{before_chain, before_itself}
 use Rattle.isle_trees.proofs.Lists.{nothing_in, in_head, in_cases, some_member, member_from_get, get_from_member, get_within, member_counted, constraint_in}
 use Rattle.isle_trees.proofs.Flat.{IsFlatAt, AreFlat, content_at, ReadsAll, reads_all_at_start}
-use Rattle.isle_trees.proofs.Taking.{Fits, IsMet, Passed, NoneHolds, Found, constant_fields, constant_met, value_here, meets_at, equal_at_both, return_found, found_left, found_right, match_found, equal_found}
+use Rattle.isle_trees.proofs.Taking.{Fits, IsMet, Passed, TakenAs, NoneHoldsIn, FoundIn, constant_fields, constant_met, value_here, meets_at, equal_at_both, return_found, match_found, equal_found}
+use Rattle.isle_trees.proofs.Finding.{found_left, found_right}
 
 module _ (w : World) (rules : List SetRule) (fits : Fits w rules) where
   abbrev set : SiteSet
@@ -53,14 +54,14 @@ module _ (w : World) (rules : List SetRule) (fits : Fits w rules) where
 
   -- where the value meets a constraint, no rule of a later arm has its demands hold
   none_after : (arms : MarkedArms) (ar : Around) (s : ℕ) (c : Constraint) (v : Value) (i : ℕ) (r : SetRule) → slice_get rules i ≡ Some r → Contains r.constraints (s, c) → IsConstant c
-      → content_at w s ≡ Some (one v) → IsTrue (is_some (content_fields w.meaning c (one v))) → Known (marks_arms arms) → SoundArms set false ar true s (Some c) arms → NoneHolds w rules (marks_arms arms)
+      → content_at w s ≡ Some (one v) → IsTrue (is_some (content_fields w.meaning c (one v))) → Known (marks_arms arms) → SoundArms set false ar true s (Some c) arms → NoneHoldsIn w rules (marks_arms arms)
   none_after arms ar s c v i r get k const e met known sound j q l at meets =
       let later = arms_after arms ar s c const known sound j q l at in
       let same = fits.apart i j r q s c later.0 v get at k (constraint_in q.constraints s later.0 later.1) met (meets_at w rules fits q s later.0 v later.1 meets e) in
       before_itself c (subst (λ d. IsTrue (comes_before c d)) (sym same) later.2)
 
   -- where it doesn't, no rule of its arm has
-  none_asking : (ids : List ℕ) (s : ℕ) (c : Constraint) (v : Value) → content_at w s ≡ Some (one v) → content_fields w.meaning c (one v) ≡ None → AllAsk rules ids s c → NoneHolds w rules ids
+  none_asking : (ids : List ℕ) (s : ℕ) (c : Constraint) (v : Value) → content_at w s ≡ Some (one v) → content_fields w.meaning c (one v) ≡ None → AllAsk rules ids s c → NoneHoldsIn w rules ids
   none_asking ids s c v e unmet ask j q l at meets =
       false≢true (sym (ap is_some unmet) ∙ meets_at w rules fits q s c v (ask j q l at) meets e)
 
@@ -106,13 +107,13 @@ module _ (w : World) (rules : List SetRule) (fits : Fits w rules) where
 
   mutual
     steps_run : (m : Marked) (ar : Around) (env : Env) → Known (marks m) → SoundSteps set false ar true m → ReadsAll w env ar.emitted → Passed w ar
-        → Found w rules (marks m) (run_tree (plain rules m) w env at_start)
+        → FoundIn w rules (marks m) (run_tree (plain rules m) w env at_start)
     steps_run m_no_step ar env known sound all p = inr (λ j q k at meets. nothing_in j k, refl)
     steps_run (m_step binds (m_match source arms) rest) ar env known sound all p =
         let inside = sound.1 in
         let here = known_left (marks_arms arms) (marks rest) known in
         let v = value_here w rules fits source (asked_at arms ar source None inside.1 here inside.2) in
-        subst (λ b. Found w rules (marks_arms arms ++ marks rest) (run_tree (step b (match_at source (plain_arms rules arms)) (plain rules rest)) w env at_start)) (sym (sound.0 refl))
+        subst (λ b. FoundIn w rules (marks_arms arms ++ marks rest) (run_tree (step b (match_at source (plain_arms rules arms)) (plain rules rest)) w env at_start)) (sym (sound.0 refl))
         (match_found w rules fits ar env source v.0 (plain_arms rules arms) (plain rules rest) (marks_arms arms) (marks rest) v.2 all sound.2
         (λ env' reads. arms_run arms ar env' source None v.0 here inside.2 v.2 reads p)
         (λ env' reads. steps_run rest (after_step set ar (m_match source arms)) env' (known_right (marks_arms arms) (marks rest) known) sound.3 reads (record { tested = p.tested; joined = p.joined })))
@@ -122,7 +123,7 @@ module _ (w : World) (rules : List SetRule) (fits : Fits w rules) where
         let l = joined_at (marks body) a b inside.1 here inside.2 in
         let u = value_here w rules fits a l.0 in
         let v = value_here w rules fits b l.1 in
-        subst (λ x. Found w rules (marks body ++ marks rest) (run_tree (step x (equal_at a b (plain rules body)) (plain rules rest)) w env at_start)) (sym (sound.0 refl))
+        subst (λ x. FoundIn w rules (marks body ++ marks rest) (run_tree (step x (equal_at a b (plain rules body)) (plain rules rest)) w env at_start)) (sym (sound.0 refl))
         (equal_found w rules fits ar env a b u.0 v.0 (plain rules body) (plain rules rest) (marks body) (marks rest) u.2 v.2 all sound.2
         (λ same env' reads. steps_run body (in_equal set ar a b) env' here inside.3 reads (record { tested = p.tested; joined = (u.2 ∙ ap (λ x. Some (one x)) same ∙ sym v.2, p.joined) }))
         (λ differ j q k at meets. differ (equal_at_both w rules fits q a b u.0 v.0 (inside.2 j q k at) meets u.2 v.2))
@@ -132,13 +133,13 @@ module _ (w : World) (rules : List SetRule) (fits : Fits w rules) where
         absurd (no_loop (marks body) inside.0.0 inside.1 (known_left (marks body) (marks rest) known) inside.0.2)
     steps_run (m_step binds (m_return rule) rest) ar env known sound all p =
         let r = get_within rules rule (known rule (in_head rule (marks rest))) in
-        subst (λ b. Found w rules (rule ∷ marks rest) (run_tree (step b (return_of (slice_get rules rule)) (plain rules rest)) w env at_start)) (sym (sound.0 refl))
-        (subst (λ o. Found w rules (rule ∷ marks rest) (run_tree (step (bind_order w.sites ar (return_uses o)) (return_of o) (plain rules rest)) w env at_start)) (sym r.1)
+        subst (λ b. FoundIn w rules (rule ∷ marks rest) (run_tree (step b (return_of (slice_get rules rule)) (plain rules rest)) w env at_start)) (sym (sound.0 refl))
+        (subst (λ o. FoundIn w rules (rule ∷ marks rest) (run_tree (step (bind_order w.sites ar (return_uses o)) (return_of o) (plain rules rest)) w env at_start)) (sym r.1)
         (return_found w rules fits ar env (plain rules rest) rule r.0 (marks rest) r.1 all p (sound.1 refl r.0 r.1) sound.2))
 
     arms_run : (arms : MarkedArms) (ar : Around) (env : Env) (s : ℕ) (before : Option Constraint) (v : Value) → Known (marks_arms arms) → SoundArms set false ar true s before arms
         → content_at w s ≡ Some (one v) → ReadsAll w env (all_below w.sites (s ∷ []) ++ ar.emitted) → Passed w ar
-        → Found w rules (marks_arms arms) (run_arms (plain_arms rules arms) w (one v) env at_start)
+        → FoundIn w rules (marks_arms arms) (run_arms (plain_arms rules arms) w (one v) env at_start)
     arms_run m_no_arm ar env s before v known sound e all p = inr (λ j q k at meets. nothing_in j k, refl)
     arms_run (m_arm c fields body rest) ar env s before v known sound e all p =
         let here = known_left (marks body) (marks_arms rest) known in
@@ -149,13 +150,13 @@ module _ (w : World) (rules : List SetRule) (fits : Fits w rules) where
               let passes : IsTrue (is_some (content_fields w.meaning c (one v))) = ap is_some met in
               let none : fields ≡ [] = sound.3 ∙ constant_fields w.sites s c ask.5 in
               let reads = subst (λ f. ReadsAll w env (field_sites f ++ all_below w.sites (s ∷ []) ++ ar.emitted)) (sym none) all in
-              subst (Found w rules (marks body ++ marks_arms rest)) (sym (arm_met c fields (plain rules body) (plain_arms rules rest) v env met none))
-              (found_left w rules fits (marks body) (marks_arms rest) (run_tree (plain rules body) w env at_start)
+              subst (FoundIn w rules (marks body ++ marks_arms rest)) (sym (arm_met c fields (plain rules body) (plain_arms rules rest) v env met none))
+              (found_left rules (MeetsDemands w) (TakenAs w) (marks body) (marks_arms rest) (run_tree (plain rules body) w env at_start)
               (steps_run body (in_arm set ar s c fields) env here sound.4 reads (passed_arm ar s c fields v e passes p))
               (none_after rest ar s c v ask.0 ask.1 ask.2 ask.3 ask.5 e passes later sound.5))
           | inr unmet ↦
-              subst (Found w rules (marks body ++ marks_arms rest)) (sym (arm_unmet c fields (plain rules body) (plain_arms rules rest) v env unmet))
-              (found_right w rules fits (marks body) (marks_arms rest) (run_arms (plain_arms rules rest) w (one v) env at_start)
+              subst (FoundIn w rules (marks body ++ marks_arms rest)) (sym (arm_unmet c fields (plain rules body) (plain_arms rules rest) v env unmet))
+              (found_right rules (MeetsDemands w) (TakenAs w) (marks body) (marks_arms rest) (run_arms (plain_arms rules rest) w (one v) env at_start)
               (none_asking (marks body) s c v e unmet sound.2)
               (arms_run rest ar env s (Some c) v later sound.5 e all p))
         ]
@@ -165,7 +166,7 @@ module _ (w : World) (rules : List SetRule) (fits : Fits w rules) where
       let m = sound.marked in
       let known : Known (marks m) = λ i k. All-contains (λ j. j < length rules) (marks m) i sound.returns.known k in
       let nothing : Passed w nothing_around = record { tested = λ s c k. absurd (nothing_in (s, c) k); joined = tt } in
-      let found = subst (λ t. Found w rules (marks m) (run t w)) sound.returns.same (steps_run m nothing_around [] known sound.steps (reads_all_at_start w fits.sites) nothing) in
+      let found = subst (λ t. FoundIn w rules (marks m) (run t w)) sound.returns.same (steps_run m nothing_around [] known sound.steps (reads_all_at_start w fits.sites) nothing) in
       choice_of m tree sound.returns found
     where
       placed : (m : Marked) (tree : Tree) → ReturnsEach set tree m → (q : SetRule) → Contains rules q → (i : ℕ) × Contains (marks m) i × (slice_get rules i ≡ Some q)
@@ -173,7 +174,7 @@ module _ (w : World) (rules : List SetRule) (fits : Fits w rules) where
           let g = get_from_member rules q c in
           (g.0, member_counted g.0 (marks m) (returns.once g.0 (slice_get_within rules g.0 q g.1)), g.1)
 
-      choice_of : (m : Marked) (tree : Tree) → ReturnsEach set tree m → Found w rules (marks m) (run tree w) → IsChoiceOf set w (run tree w)
+      choice_of : (m : Marked) (tree : Tree) → ReturnsEach set tree m → FoundIn w rules (marks m) (run tree w) → IsChoiceOf set w (run tree w)
       choice_of m tree returns (inl (i, r, k, get, meets, most, e)) =
           inl (r, member_from_get rules i r get, meets, λ q c at. let g = placed m tree returns q c in most g.0 q g.1 g.2 at, e)
       choice_of m tree returns (inr (none, e)) =

@@ -17,6 +17,7 @@ use Rattle.isle_trees.proofs.ValuesEqual.{eq_means, eq_same}
 use Rattle.isle_trees.proofs.Lists.{constraint_in, in_alone, in_head}
 use Rattle.isle_trees.proofs.Flat.{AreFlat, content_at, held, all_below_same, ReadsAll, bind_one, bind_two, reads_one, reads_two, reads_all_at_start}
 use Rattle.isle_trees.proofs.Classes.{SameAtPairs, joined_same}
+use Rattle.isle_trees.proofs.Finding.{Found, NoneHolds, next_found, rule_found}
 
 -- a world and rules that fit each other: flat sites, each with a value, and constraints that tell values apart
 pub record Fits (w : World) (rules : List SetRule) : Type 0 where
@@ -37,17 +38,15 @@ pub record Passed (w : World) (ar : Around) : Type 0 where
   pub tested : (s : ℕ) (c : Constraint) → Contains ar.tested (s, c) → IsMet w s c
   pub joined : SameAtPairs (content_at w) ar.joined
 
-abbrev pub AtMost : World → List SetRule → List ℕ → SetRule → Type 0
-AtMost w rules ids r = (j : ℕ) (q : SetRule) → Contains ids j → slice_get rules j ≡ Some q → MeetsDemands w q → q.prio ≤ℤ r.prio
+-- a rule is taken as its impure calls and its result say
+abbrev pub TakenAs : World → SetRule → Outcome → Type 0
+TakenAs w r o = o ≡ taken w r
 
-abbrev pub NoneHolds : World → List SetRule → List ℕ → Type 0
-NoneHolds w rules ids = (j : ℕ) (q : SetRule) → Contains ids j → slice_get rules j ≡ Some q → MeetsDemands w q → ⊥
+abbrev pub NoneHoldsIn : World → List SetRule → List ℕ → Type 0
+NoneHoldsIn w rules = NoneHolds rules (MeetsDemands w) (TakenAs w)
 
-abbrev pub Takes : World → List SetRule → List ℕ → Outcome → Type 0
-Takes w rules ids o = (i : ℕ) × (r : SetRule) × Contains ids i × (slice_get rules i ≡ Some r) × MeetsDemands w r × AtMost w rules ids r × (o ≡ taken w r)
-
-abbrev pub Found : World → List SetRule → List ℕ → Outcome → Type 0
-Found w rules ids o = Takes w rules ids o ⊎ (NoneHolds w rules ids × (o ≡ no_rule))
+abbrev pub FoundIn : World → List SetRule → List ℕ → Outcome → Type 0
+FoundIn w rules = Found rules (MeetsDemands w) (TakenAs w)
 
 abbrev pub result_of : Value → Outcome
 result_of v = record { calls = []; results = one v ∷ []; ending = ended }
@@ -133,73 +132,55 @@ module _ (w : World) (rules : List SetRule) (fits : Fits w rules) where
   stays : (r : SetRule) → IsFlatRule w.sites r → (go : Trace → Outcome) → or_next (taken w r) go ≡ taken w r
   stays r rule go = ap (λ o. or_next o go) (taken_is r rule) ∙ sym (taken_is r rule)
 
-  -- a rule of the first list stays the choice where no later rule whose demands hold is higher
-  takes_first : (here later : List ℕ) (o : Outcome) (t : Takes w rules here o) → AtMost w rules later t.1 → Takes w rules (here ++ later) o
-  takes_first here later o (i, r, k, get, meets, most, e) below =
-      (i, r, Contains-append_left here later i k, get, meets, λ j q l at m. elim (Contains-append_cases here later j l) [ inl a ↦ most j q a at m | inr b ↦ below j q b at m ], e)
-
-  pub found_left : (here later : List ℕ) (o : Outcome) → Found w rules here o → NoneHolds w rules later → Found w rules (here ++ later) o
-  found_left here later o (inl t) none = inl (takes_first here later o t (λ j q l at m. absurd (none j q l at m)))
-  found_left here later o (inr (n, e)) none =
-      inr (λ j q l at m. elim (Contains-append_cases here later j l) [ inl a ↦ n j q a at m | inr b ↦ none j q b at m ], e)
-
-  pub found_right : (here later : List ℕ) (o : Outcome) → NoneHolds w rules here → Found w rules later o → Found w rules (here ++ later) o
-  found_right here later o none (inl (i, r, k, get, meets, most, e)) =
-      inl (i, r, Contains-append_right here later i k, get, meets, λ j q l at m. elim (Contains-append_cases here later j l) [ inl a ↦ absurd (none j q a at m) | inr b ↦ most j q b at m ], e)
-  found_right here later o none (inr (n, e)) =
-      inr (λ j q l at m. elim (Contains-append_cases here later j l) [ inl a ↦ none j q a at m | inr b ↦ n j q b at m ], e)
-
-  pub next_found : (here later : List ℕ) (o : Outcome) (go : Trace → Outcome) → Found w rules here o → NoneHigher rules here later → Found w rules later (go at_start) → Found w rules (here ++ later) (or_next o go)
-  next_found here later o go (inl t) higher g =
-      let stay : or_next o go ≡ o = ap (λ x. or_next x go) t.6 ∙ stays t.1 (fits.each t.0 t.1 t.3) go ∙ sym t.6 in
-      inl (subst (Takes w rules (here ++ later)) (sym stay) (takes_first here later o t (λ j q l at m. higher t.0 j t.1 q t.2 l t.3 at)))
-  next_found here later o go (inr (n, e)) higher g =
-      subst (Found w rules (here ++ later)) (sym (ap (λ x. or_next x go) e)) (found_right here later (go at_start) n g)
+  pub next_in : (here later : List ℕ) (o : Outcome) (go : Trace → Outcome) → FoundIn w rules here o → NoneHigher rules here later → FoundIn w rules later (go at_start) → FoundIn w rules (here ++ later) (or_next o go)
+  next_in here later o go found higher next =
+      next_found rules (MeetsDemands w) (TakenAs w) here later o go
+      (λ i r get e. ap (λ x. or_next x go) e ∙ stays r (fits.each i r get) go ∙ sym e)
+      found higher next
 
   -- 4. a rule that returns where all its demands were tested
   pub return_found : (ar : Around) (env : Env) (rest : Tree) (i : ℕ) (r : SetRule) (later : List ℕ) → slice_get rules i ≡ Some r → ReadsAll w env ar.emitted → Passed w ar → IsTested ar r → NoneHigher rules (i ∷ []) later
-      → Found w rules (i ∷ later) (run_tree (step (bind_order w.sites ar (return_uses (Some r))) (return_at r.at r.result) rest) w env at_start)
+      → FoundIn w rules (i ∷ later) (run_tree (step (bind_order w.sites ar (return_uses (Some r))) (return_at r.at r.result) rest) w env at_start)
   return_found ar env rest i r later get all p t higher =
       let rule = fits.each i r get in
       let same = return_runs ar env rest r rule all ∙ sym (taken_is r rule) in
-      let most : AtMost w rules (i ∷ []) r = λ j q l at m. subst (λ x. x.prio ≤ℤ r.prio) (same_Some r q (sym get ∙ ap (slice_get rules) (in_alone i j l) ∙ at)) (≤ℤ_refl r.prio) in
-      inl (takes_first (i ∷ []) later _ (i, r, in_head i [], get, meets_tested ar r rule p t, most, same) (λ j q l at m. higher i j r q (in_head i []) l get at))
+      rule_found rules (MeetsDemands w) (TakenAs w) i r later _ get (meets_tested ar r rule p t) same higher
 
   -- 5. a match and an equality that the run comes to
   abbrev pub Leads : Env → List ℕ → (Env → Outcome) → List ℕ → Type 0
-  Leads env emitted run ids = (env' : Env) → ReadsAll w env' emitted → Found w rules ids (run env')
+  Leads env emitted run ids = (env' : Env) → ReadsAll w env' emitted → FoundIn w rules ids (run env')
 
   pub match_found : (ar : Around) (env : Env) (source : ℕ) (v : Value) (arms : Arms) (rest : Tree) (here later : List ℕ) → content_at w source ≡ Some (one v) → ReadsAll w env ar.emitted → NoneHigher rules here later
       → Leads env (all_below w.sites (source ∷ []) ++ ar.emitted) (λ env'. run_arms arms w (one v) env' at_start) here
       → Leads env (all_below w.sites (source ∷ []) ++ ar.emitted) (λ env'. run_tree rest w env' at_start) later
-      → Found w rules (here ++ later) (run_tree (step (bind_order w.sites ar (source ∷ [])) (match_at source arms) rest) w env at_start)
+      → FoundIn w rules (here ++ later) (run_tree (step (bind_order w.sites ar (source ∷ [])) (match_at source arms) rest) w env at_start)
   match_found ar env source v arms rest here later e all higher first next =
       let b = bind_one w fits.sites ar env all source (one v) e in
       let reads = subst (λ l. ReadsAll w b.0 (l ++ ar.emitted)) (sym (all_below_same w.sites fits.sites (source ∷ []))) (reads_one w env b.0 ar.emitted source all b.1.1 b.2) in
       let path =
       step_runs w (bind_order w.sites ar (source ∷ [])) (match_at source arms) rest env b.0 b.1.0
       ∙ ap (λ c. or_next (with_content c at_start (λ c'. run_arms arms w c' b.0 at_start)) (run_tree rest w b.0)) (b.2 ∙ e) in
-      subst (Found w rules (here ++ later)) (sym path)
-      (next_found here later (run_arms arms w (one v) b.0 at_start) (run_tree rest w b.0) (first b.0 reads) higher (next b.0 reads))
+      subst (FoundIn w rules (here ++ later)) (sym path)
+      (next_in here later (run_arms arms w (one v) b.0 at_start) (run_tree rest w b.0) (first b.0 reads) higher (next b.0 reads))
 
-  on_equal_found : (u v : Value) (body : Outcome) (here : List ℕ) → (u ≡ v → Found w rules here body) → ((u ≡ v → ⊥) → NoneHolds w rules here) → Found w rules here (on_equal (Some u) (Some v) at_start body)
+  on_equal_found : (u v : Value) (body : Outcome) (here : List ℕ) → (u ≡ v → FoundIn w rules here body) → ((u ≡ v → ⊥) → NoneHoldsIn w rules here) → FoundIn w rules here (on_equal (Some u) (Some v) at_start body)
   on_equal_found u v body here same other =
       elim (cases_Bool (value_eq u v)) [
-        | inl t ↦ subst (Found w rules here) (sym (cond-true (value_eq u v) body (ending_at ran_through at_start) t)) (same (eq_means u v t))
+        | inl t ↦ subst (FoundIn w rules here) (sym (cond-true (value_eq u v) body (ending_at ran_through at_start) t)) (same (eq_means u v t))
         | inr n ↦
             inr (other (λ e. both_ways (value_eq u v) n (ap (value_eq u) (sym e) ∙ eq_same u)), cond-false (value_eq u v) body (ending_at ran_through at_start) n)
       ]
 
   pub equal_found : (ar : Around) (env : Env) (a b : ℕ) (u v : Value) (body rest : Tree) (here later : List ℕ) → content_at w a ≡ Some (one u) → content_at w b ≡ Some (one v) → ReadsAll w env ar.emitted → NoneHigher rules here later
       → (u ≡ v → Leads env (all_below w.sites (a ∷ (b ∷ [])) ++ ar.emitted) (λ env'. run_tree body w env' at_start) here)
-      → ((u ≡ v → ⊥) → NoneHolds w rules here)
+      → ((u ≡ v → ⊥) → NoneHoldsIn w rules here)
       → Leads env (all_below w.sites (a ∷ (b ∷ [])) ++ ar.emitted) (λ env'. run_tree rest w env' at_start) later
-      → Found w rules (here ++ later) (run_tree (step (bind_order w.sites ar (a ∷ (b ∷ []))) (equal_at a b body) rest) w env at_start)
+      → FoundIn w rules (here ++ later) (run_tree (step (bind_order w.sites ar (a ∷ (b ∷ []))) (equal_at a b body) rest) w env at_start)
   equal_found ar env a b u v body rest here later e f all higher same other next =
       let m = bind_two w fits.sites ar env all a b (one u) (one v) e f in
       let reads = subst (λ l. ReadsAll w m.0 (l ++ ar.emitted)) (sym (all_below_same w.sites fits.sites (a ∷ (b ∷ [])))) (reads_two w env m.0 ar.emitted a b all m.1.1 m.2 m.3) in
       let path =
       step_runs w (bind_order w.sites ar (a ∷ (b ∷ []))) (equal_at a b body) rest env m.0 m.1.0
       ∙ ap₂ (λ x y. or_next (on_equal (then_option x as_value) (then_option y as_value) at_start (run_tree body w m.0 at_start)) (run_tree rest w m.0)) (m.2 ∙ e) (m.3 ∙ f) in
-      subst (Found w rules (here ++ later)) (sym path)
-      (next_found here later (on_equal (Some u) (Some v) at_start (run_tree body w m.0 at_start)) (run_tree rest w m.0) (on_equal_found u v (run_tree body w m.0 at_start) here (λ s. same s m.0 reads) other) higher (next m.0 reads))
+      subst (FoundIn w rules (here ++ later)) (sym path)
+      (next_in here later (on_equal (Some u) (Some v) at_start (run_tree body w m.0 at_start)) (run_tree rest w m.0) (on_equal_found u v (run_tree body w m.0 at_start) here (λ s. same s m.0 reads) other) higher (next m.0 reads))

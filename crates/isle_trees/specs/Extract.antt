@@ -6,6 +6,7 @@ use Rattle.isle_model.specs.Outcome.{no_rule}
 use Rattle.isle_model.specs.Sites.{Site, argument_site, extractor_site, match_some_site, int_site, is_int, is_present, SetRule, SiteSet}
 use Rattle.isle_model.specs.Trees.{Tree, no_step, step, match_at, return_at, no_arm, arm}
 use Rattle.isle_model.specs.Run.{World, run}
+use Rattle.isle_model.specs.Sound.{IsSound}
 use Rattle.isle_model.specs.SetRuns.{IsTestedSet, ServesTests}
 use Rattle.isle_trees.specs.Fall.{at, answers}
 
@@ -58,3 +59,6 @@ ExtractRuns =
 
 abbrev pub ExtractIsServed : Type 0
 ExtractIsServed = IsTestedSet extract × ((c : Content) → ServesTests extract (answering c))
+
+abbrev pub ExtractIsSound : Type 0
+ExtractIsSound = IsSound extract false extract_tree

@@ -6,7 +6,7 @@
 ghost use Rattle.isle_model.specs.Runs.{SoundTreesRun};
 ghost use Rattle.isle_model.specs.SetRuns.{SoundTreesChoose};
 ghost use Rattle.isle_model.specs.Values.{Value, value_eq};
-ghost use Rattle.isle_trees.specs.Extract.{ExtractIsServed, ExtractRuns};
+ghost use Rattle.isle_trees.specs.Extract.{ExtractIsServed, ExtractIsSound, ExtractRuns};
 ghost use Rattle.isle_trees.specs.Fall.{ExchangedIsNotSound, FallIsServed, FallIsSound, FallRuns};
 ghost use Rattle.std.specs.Prelude.{◌≡◌, Decides};
 
@@ -53,4 +53,9 @@ pub fn extract_runs()
 /// Its rules go over no calls, and a world in which the call has an answer serves them, whatever the answer.
 pub fn extract_is_served()
     ensures { ExtractIsServed }
+{}
+
+/// Its tree is sound.
+pub fn extract_is_sound()
+    ensures { ExtractIsSound }
 {}
