@@ -5,10 +5,11 @@ use Rattle.std.proofs.lemmas.Bool.{cases_Bool, cond-true, cond-false, and_parts,
 use Rattle.std.proofs.lemmas.Option.{none-some, same_Some, slice_get_within}
 use Rattle.isle_model.specs.Sites.{Site, iterator_site, match_variant_site, extract_struct_site, match_some_site, Constraint, is_variant, is_struct, is_present, SetRule, SiteSet, sources_of, sources_at}
 use Rattle.isle_model.specs.Places.{Around, is_in, waits, is_available, available, below, is_variant_field, is_struct_field, is_part_of, site_from, each_field, fields_of, field_sites}
-use Rattle.isle_model.specs.WellBuilt.{gate_demanded, IsWellBuilt}
+use Rattle.isle_model.specs.WellBuilt.{IsWellBuilt}
 use Rattle.isle_trees.proofs.Lists.{nothing_in, in_head, in_tail, in_cases}
 use Rattle.isle_best.proofs.Gates.{variant_gate, struct_gate, answer_gate}
 use Rattle.isle_best.proofs.Lists.{member_found, each_passes, all_pass, in_flat_map, from_flat_map, member_is_in}
+use Rattle.isle_model.specs.Gates.{gate_demanded}
 
 -- 1. more layers change nothing
 module _ (sites : List Site) (brought : List ℕ) where

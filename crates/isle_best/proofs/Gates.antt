@@ -3,8 +3,8 @@ use Rattle.std.proofs.Common.{◌≡◌, ℕ, ◌<◌, ◌==◌, Bool, true, ◌
 use Rattle.std.specs.List.{list_any}
 use Rattle.std.proofs.lemmas.Bool.{and_parts, or_cases, false≢true}
 use Rattle.isle_model.specs.Sites.{Constraint, is_variant, is_struct, is_present}
-use Rattle.isle_model.specs.WellBuilt.{asks_variant, asks_struct, asks_answer}
 use Rattle.isle_trees.proofs.Lists.{in_head, in_tail}
+use Rattle.isle_model.specs.Gates.{asks_answer, asks_struct, asks_variant}
 
 some_passes : {X : Type 0} (p : X → Bool) (xs : List X) → list_any p xs ≡ true → (x : X) × Contains xs x × (p x ≡ true)
 some_passes p [] h = absurd (false≢true h)

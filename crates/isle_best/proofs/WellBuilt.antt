@@ -11,11 +11,12 @@ use Rattle.isle_model.specs.Places.{is_in, constraint_at, below}
 use Rattle.isle_model.specs.Sound.{as_number}
 use Rattle.isle_model.specs.Tests.{match_test, equal_test, loop_test, needs, up_to}
 use Rattle.isle_model.specs.Best.{are_distinct}
-use Rattle.isle_model.specs.WellBuilt.{tests_site, gate_demanded, IsWellBuiltRule, IsWellBuilt}
+use Rattle.isle_model.specs.WellBuilt.{tests_site, IsWellBuiltRule, IsWellBuilt}
 use Rattle.isle_trees.proofs.Lists.{nothing_in, in_cases, constraint_in, member_from_get}
 use Rattle.isle_best.proofs.Lists.{each_passes, in_map, member_found, member_is_in, in_up_to}
 use Rattle.isle_best.proofs.Exact.{not_exact}
 use Rattle.isle_best.proofs.Few.{members, joined_member}
+use Rattle.isle_model.specs.Gates.{gate_demanded}
 
 -- 1. sites by their parts
 abbrev pub integer_parts : ℤ → List ℕ

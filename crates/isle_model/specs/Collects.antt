@@ -1,13 +1,12 @@
 -- The results of a multi term: what the run of its tree collects, and what theory is to prove of sound trees.
-use Rattle.std.specs.Prelude.{◌≡◌, ℕ, suc, ◌<◌, Bool, true, false, ◌&&◌, List, [], ◌∷◌, ◌++◌, length, map, Option, Some, None, if◌then◌else◌, slice_get, is_some, All, Contains, IsTrue, IsPermutation, nat_lt}
-use Rattle.std.specs.Bool.{◌==◌}
-use Rattle.std.specs.List.{filter, flat_map, list_all, list_any}
+use Rattle.std.specs.Prelude.{◌≡◌, ℕ, suc, ◌<◌, Bool, true, false, ◌&&◌, List, [], ◌∷◌, ◌++◌, length, map, Option, Some, None, if◌then◌else◌, slice_get, is_some, All, Contains, IsTrue, IsPermutation}
+use Rattle.std.specs.List.{filter, flat_map, list_all}
 use Rattle.isle_model.specs.Values.{Value, value_eq, args_well_typed}
 use Rattle.isle_model.specs.Meaning.{Content, one, many, Contents, Meaning}
 use Rattle.isle_model.specs.Outcome.{Outcome, ran_through, then_option}
 use Rattle.isle_model.specs.Program.{Program, is_multi, arg_types, rules_of}
 use Rattle.isle_model.specs.Names.{IsDistinct}
-use Rattle.isle_model.specs.Sites.{Site, constructor_site, iterator_site, match_variant_site, extract_struct_site, match_some_site, Constraint, is_variant, is_struct, is_present, SetRule, SiteSet, sources_at, SiteTerm, extractor_call, constructor_call, pick_of, variant_made, variant_field, struct_made, struct_field, some_made, some_part, tuple_part, SiteTerms, no_site_term, site_term_and, unfold_site}
+use Rattle.isle_model.specs.Sites.{Site, constructor_site, Constraint, SetRule, SiteSet, sources_at, SiteTerm, extractor_call, constructor_call, pick_of, variant_made, variant_field, struct_made, struct_field, some_made, some_part, tuple_part, SiteTerms, no_site_term, site_term_and, unfold_site}
 use Rattle.isle_model.specs.Demands.{Visit, visit_start, with_demands, visit_args, visit_pattern, visit_expr, has_site, demands_of}
 use Rattle.isle_model.specs.Serves.{Serves, TellsConstantsApart}
 use Rattle.isle_model.specs.Trees.{Tree}
@@ -17,6 +16,7 @@ use Rattle.isle_model.specs.Sound.{IsSound}
 use Rattle.isle_model.specs.Built.{numbers_from, world_of}
 use Rattle.isle_model.specs.Picks.{Pick, site_content, picks_over, bag}
 use Rattle.isle_model.specs.Typed.{TypedIfLet, TypedRule}
+use Rattle.isle_model.specs.Gates.{gate_demanded}
 
 -- a run went through without impure calls, and its results are this bag, in whatever order
 pub record Collects (o : Outcome) (expected : List Content) : Type 0 where
@@ -116,31 +116,6 @@ result_in w r k = if demands_hold w k r then as_list (content_at w k r.result) e
 -- one result for each rule of a set and each pick of the calls that it goes over under which its demands hold
 abbrev pub set_bag : SiteSet → World → List Content
 set_bag set w = flat_map (λ r. flat_map (result_in w r) (picks_over w.meaning w.args [] (calls_gone_over set r))) set.rules
-
--- whether a demand asks the site s to be that variant, with more than i fields
-abbrev pub asks_variant : ℕ → ℕ → ℕ → ℕ × Constraint → Bool
-asks_variant s variant i (a, is_variant ty v fields) = (a == s) && (v == variant) && nat_lt i fields
-asks_variant s variant i _ = false
-
--- whether it asks the site to be a struct with more than i fields
-abbrev pub asks_struct : ℕ → ℕ → ℕ × Constraint → Bool
-asks_struct s i (a, is_struct ty fields) = (a == s) && nat_lt i fields
-asks_struct s i _ = false
-
--- whether it asks the call of that site to answer
-abbrev pub asks_answer : ℕ → ℕ × Constraint → Bool
-asks_answer s (a, is_present) = a == s
-asks_answer s _ = false
-
--- whether a rule demands what a site waits for: the form of a field's source, that an unwrapped call answers, that a
--- call whose answers are picked is gone over. No rule demands what a number that is no site would wait for
-abbrev pub gate_demanded : SetRule → Option Site → Bool
-gate_demanded r (Some (match_variant_site source variant field)) = list_any (asks_variant source variant field) r.constraints
-gate_demanded r (Some (extract_struct_site source field)) = list_any (asks_struct source field) r.constraints
-gate_demanded r (Some (match_some_site source)) = list_any (asks_answer source) r.constraints
-gate_demanded r (Some (iterator_site source)) = is_in source r.iterators
-gate_demanded r None = false
-gate_demanded r (Some _) = true
 
 -- the sites that a rule tests, goes over and returns
 abbrev pub sites_of_rule : SetRule → List ℕ

@@ -34,3 +34,4 @@ pub mod Overlap
 pub mod Picks
 pub mod Collects
 pub mod SetRuns
+pub mod Gates

@@ -11,10 +11,11 @@ use Rattle.isle_model.specs.Trees.{Marked, m_no_step, m_step, m_return}
 use Rattle.isle_model.specs.Places.{nothing_around, joins_in, all_below}
 use Rattle.isle_model.specs.Sound.{IsTested, IsSound, SoundSteps}
 use Rattle.isle_model.specs.Picks.{Pick}
-use Rattle.isle_model.specs.Collects.{content_at, gate_demanded, sites_of_rule, calls_nothing, IsCollectedRule, IsCollectedSet, ServesSet}
+use Rattle.isle_model.specs.Collects.{content_at, sites_of_rule, calls_nothing, IsCollectedRule, IsCollectedSet, ServesSet}
 use Rattle.isle_trees.proofs.Lists.{nothing_in, in_alone}
 use Rattle.isle_picks.specs.Samples.{each}
 use Rattle.isle_picks.specs.LeftOver.{kept_rule, left_over_set, left_over_tree, left_over_world, LeftOverIsCollected, LeftOverCollects, unused_gate_set, unused_gate_rule, DemandsGatesThough}
+use Rattle.isle_model.specs.Gates.{gate_demanded}
 
 -- 1. the set with a left-over site
 place : Site → ℕ

@@ -12,9 +12,10 @@ use Rattle.isle_model.specs.Places.{Around, joins_in, constraint_at, nothing_aro
 use Rattle.isle_model.specs.Run.{content_fields}
 use Rattle.isle_model.specs.Sound.{IsTested, SoundSteps, NoneHigher, AllAsk, AllGoOver}
 use Rattle.isle_model.specs.Picks.{Pick}
-use Rattle.isle_model.specs.Collects.{HasCollectedResults, content_at, gate_demanded, sites_of_rule, calls_nothing, IsCollectedRule, IsCollectedSet, ServesSet}
+use Rattle.isle_model.specs.Collects.{HasCollectedResults, content_at, sites_of_rule, calls_nothing, IsCollectedRule, IsCollectedSet, ServesSet}
 use Rattle.isle_trees.proofs.Lists.{nothing_in, in_alone, in_cases}
 use Rattle.isle_picks.specs.Samples.{v, each_m, nine, each_of_m, nine_for_one, multi_set, multi_rules, multi_program, multi_meaning, multi_world, MultiIsCollected, MultiIsSound}
+use Rattle.isle_model.specs.Gates.{gate_demanded}
 
 -- 1. collected
 rules_collected : All (HasCollectedResults multi_program) multi_rules
