@@ -1,3 +1,4 @@
 pub mod Environments
 pub mod RuleSets
+pub mod SetMeanings
 pub mod Layers
