@@ -14,3 +14,6 @@ pub mod Reports
 pub mod Agreements
 pub mod Visited
 pub mod VisitedRules
+pub mod Reported
+pub mod Checked
+pub mod Listed

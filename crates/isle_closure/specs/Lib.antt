@@ -1,3 +1,4 @@
 pub mod Samples
 pub mod Worked
 pub mod Laws
+pub mod Reported

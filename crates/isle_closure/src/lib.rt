@@ -4,6 +4,7 @@
 #![tactic(auto)]
 
 ghost use Rattle.isle_closure.specs.Laws.{VisitsMakeEqualSites, EarlyArgumentsAgree, EarlySitesAgree, ShadowsAreExact, ReportsAreExact, ClosingIsWhole, FirstLimitIsPassed, PassedLimitIsMet, ClashIsExact, ClassesBoundJoined, ClosingAddsNothing, ClosingIsSound, ConstraintsAreKept, EarlyOverlapAgrees, JoinedIsEquivalence, NamesAreExact, OverlapIsExact, OverlapIsSymmetric, VerdictIsExact};
+ghost use Rattle.isle_closure.specs.Reported.{CheckIsExact, ListedRulesOverlap, OverlapsAreListedOnce};
 ghost use Rattle.isle_closure.specs.Worked.{ClosingsEnd, LimitsMet, Overlapping, Shadowing, SamplesAreReachable, SamplesAreUnreachable, TwoReports, ConflictReported, ConstEqClosed, ConstEqDemands, CyclesReported, EffectsDemands, ExtractDemands, FallDemands, MultiDemands, NearMisses, NestedClosed, NotReported, NothingReported, OverlapReported, PartialDemands, ShadowReported, UnreachableReported, UnreachableSamples, VariantEqClosed, VariantEqDemands};
 
 /// A literal and a repeated variable: one constraint, one equality.
@@ -234,4 +235,19 @@ pub fn early_sites_agree()
 /// The sites that a visit equates are made by it, but for variables that nothing binds.
 pub fn visits_make_equal_sites()
     ensures { VisitsMakeEqualSites }
+{}
+
+/// Nothing is reported of a program exactly where all its rules are built, none overlap wrongly, and none is shadowed.
+pub fn check_is_exact()
+    ensures { CheckIsExact }
+{}
+
+/// Each two rules that overlap wrongly stand in exactly one report that lists one of them first.
+pub fn overlaps_are_listed_once()
+    ensures { OverlapsAreListedOnce }
+{}
+
+/// Each further rule of a report overlaps wrongly with its first.
+pub fn listed_rules_overlap()
+    ensures { ListedRulesOverlap }
 {}
