@@ -17,3 +17,4 @@ pub mod VisitedRules
 pub mod Reported
 pub mod Checked
 pub mod Listed
+pub mod Masks

@@ -4,7 +4,7 @@
 #![tactic(auto)]
 
 ghost use Rattle.isle_closure.specs.Laws.{VisitsMakeEqualSites, EarlyArgumentsAgree, EarlySitesAgree, ShadowsAreExact, ReportsAreExact, ClosingIsWhole, FirstLimitIsPassed, PassedLimitIsMet, ClashIsExact, ClassesBoundJoined, ClosingAddsNothing, ClosingIsSound, ConstraintsAreKept, EarlyOverlapAgrees, JoinedIsEquivalence, NamesAreExact, OverlapIsExact, OverlapIsSymmetric, VerdictIsExact};
-ghost use Rattle.isle_closure.specs.Reported.{CheckIsExact, ListedRulesOverlap, OverlapsAreListedOnce};
+ghost use Rattle.isle_closure.specs.Reported.{CheckIsExact, ListedRulesOverlap, MasksAreReportedOnce, OverlapsAreListedOnce, ReportedMasksShadow};
 ghost use Rattle.isle_closure.specs.Worked.{ClosingsEnd, LimitsMet, Overlapping, Shadowing, SamplesAreReachable, SamplesAreUnreachable, TwoReports, ConflictReported, ConstEqClosed, ConstEqDemands, CyclesReported, EffectsDemands, ExtractDemands, FallDemands, MultiDemands, NearMisses, NestedClosed, NotReported, NothingReported, OverlapReported, PartialDemands, ShadowReported, UnreachableReported, UnreachableSamples, VariantEqClosed, VariantEqDemands};
 
 /// A literal and a repeated variable: one constraint, one equality.
@@ -250,4 +250,14 @@ pub fn overlaps_are_listed_once()
 /// Each further rule of a report overlaps wrongly with its first.
 pub fn listed_rules_overlap()
     ensures { ListedRulesOverlap }
+{}
+
+/// Where rules stand at distinct positions, each built rule that shadows others is the mask of one report, which lists these.
+pub fn masks_are_reported_once()
+    ensures { MasksAreReportedOnce }
+{}
+
+/// Each shadow report is of such a rule.
+pub fn reported_masks_shadow()
+    ensures { ReportedMasksShadow }
 {}
