@@ -18,3 +18,4 @@ pub mod Reported
 pub mod Checked
 pub mod Listed
 pub mod Masks
+pub mod Picked

@@ -4,6 +4,7 @@
 #![tactic(auto)]
 
 ghost use Rattle.isle_closure.specs.Laws.{VisitsMakeEqualSites, EarlyArgumentsAgree, EarlySitesAgree, ShadowsAreExact, ReportsAreExact, ClosingIsWhole, FirstLimitIsPassed, PassedLimitIsMet, ClashIsExact, ClassesBoundJoined, ClosingAddsNothing, ClosingIsSound, ConstraintsAreKept, EarlyOverlapAgrees, JoinedIsEquivalence, NamesAreExact, OverlapIsExact, OverlapIsSymmetric, VerdictIsExact};
+ghost use Rattle.isle_closure.specs.Picked.{HoldUnderNoPick, HoldUnderOnePick};
 ghost use Rattle.isle_closure.specs.Reported.{CheckIsExact, ListedRulesOverlap, MasksAreReportedOnce, OverlapsAreListedOnce, ReportedMasksShadow};
 ghost use Rattle.isle_closure.specs.Worked.{ClosingsEnd, LimitsMet, Overlapping, Shadowing, SamplesAreReachable, SamplesAreUnreachable, TwoReports, ConflictReported, ConstEqClosed, ConstEqDemands, CyclesReported, EffectsDemands, ExtractDemands, FallDemands, MultiDemands, NearMisses, NestedClosed, NotReported, NothingReported, OverlapReported, PartialDemands, ShadowReported, UnreachableReported, UnreachableSamples, VariantEqClosed, VariantEqDemands};
 
@@ -260,4 +261,14 @@ pub fn masks_are_reported_once()
 /// Each shadow report is of such a rule.
 pub fn reported_masks_shadow()
     ensures { ReportedMasksShadow }
+{}
+
+/// Demands that two answers of a multi call meet in part hold under no pick.
+pub fn hold_under_no_pick()
+    ensures { HoldUnderNoPick }
+{}
+
+/// Demands that one answer meets hold under its pick.
+pub fn hold_under_one_pick()
+    ensures { HoldUnderOnePick }
 {}
