@@ -85,7 +85,7 @@ module _ (p : Program) where
 
   -- nothing is reported of a rule exactly where it is built
   abbrev reports_by : List SiteTerm → TypedRule → Option RuleLimit → List RuleReport
-  reports_by before r o = elim o [ | Some l ↦ limit_passed l r.at ∷ [] | None ↦ map (λ why. not_reached why r.at) (reported (sites_wanted p before r) (demands_of p r)) ]
+  reports_by before r o = elim o [ Some l ↦ limit_passed l r.at ∷ [] | None ↦ map (λ why. not_reached why r.at) (reported (sites_wanted p before r) (demands_of p r)) ]
 
   silent : (before : List SiteTerm) (r : TypedRule) (o : Option RuleLimit) → reports_by before r o ≡ [] → (is_none o && not (is_unreachable (demands_of p r))) ≡ true
   silent before r (Some l) e = absurd (cons_empty (limit_passed l r.at) [] e)
@@ -185,17 +185,17 @@ module _ (p : Program) where
   unreported f =
       let wrong = nothing_in (wrong_overlaps p) (λ e i. let w = wrong_means p e i in f.overlaps w.term w.earlier w.later w.overlap) in
       let masks = nothing_in (shadow_reports p)
-          (λ s i.
-          let w = masked_means p s i in
-          let k = slice_in (built_rules p w.term) w.shadowed w.other in
-          f.shadowed w.term k.0 (record {
-            mask = w.mask;
-            shadowed = w.shadowed;
-            one_result = w.one_result;
-            other = contains_from_in (built_rules p w.term) w.mask w.masking;
-            here = k.1;
-            shadows = w.hides;
-          })) in
+      (λ s i.
+      let w = masked_means p s i in
+      let k = slice_in (built_rules p w.term) w.shadowed w.other in
+      f.shadowed w.term k.0 (record {
+        mask = w.mask;
+        shadowed = w.shadowed;
+        one_result = w.one_result;
+        other = contains_from_in (built_rules p w.term) w.mask w.masking;
+        here = k.1;
+        shadows = w.hides;
+      })) in
       both_empty (build_reports p) (overlap_and_shadow_reports p)
       (none_reported [] p.rules (λ t. kept_all [] (rules_of p t) (f.built t)))
       (ap (λ w. by_position (map rules_overlap (overlap_reports w) ++ map rule_shadows (shadow_reports p))) wrong ∙ ap (λ s. by_position (map rule_shadows s)) masks)

@@ -157,7 +157,7 @@ pub masks_are_reported_once_lem : (p : Program) → RulesHaveTerms p → HasDist
 masks_are_reported_once_lem p terms distinct t m r one i j h =
     let report : ShadowReport = record { mask = m.rule.at; shadowed = map (λ s. s.rule.at) (filter (shadows m) (built_rules p t)) } in
     let k = slice_in (shadow_reports p) (record { mask = m.rule.at; shadowed = map (λ s. s.rule.at) (filter (shadows m) (built_rules p t)) })
-        (masked_there p terms t m r one (in_from_contains (built_rules p t) m i) (in_from_contains (built_rules p t) r j) h) in
+    (masked_there p terms t m r one (in_from_contains (built_rules p t) m i) (in_from_contains (built_rules p t) r j) h) in
     record {
       place = k.0;
       here = k.1;
