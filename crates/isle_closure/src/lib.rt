@@ -3,7 +3,7 @@
 //! The definitions are in `isle_model`, the samples in `specs/`. A function here has an empty body: its clause is a law.
 #![tactic(auto)]
 
-ghost use Rattle.isle_closure.specs.Laws.{VisitsMakeEqualSites, EarlyArgumentsAgree, EarlySitesAgree, ShadowsAreExact, ReportsAreExact, ClosingIsWhole, FirstLimitIsPassed, PassedLimitIsMet, ClashIsExact, ClassesBoundJoined, ClosingAddsNothing, ClosingIsSound, ConstraintsAreKept, EarlyOverlapAgrees, JoinedIsEquivalence, NamesAreExact, OverlapIsExact, OverlapIsSymmetric, VerdictIsExact};
+ghost use Rattle.isle_closure.specs.Laws.{VisitsMakeEqualSites, EarlyArgumentsAgree, EarlySitesAgree, ShadowsAreExact, ReportsAreExact, ClosingIsWhole, FirstLimitIsPassed, PassedLimitIsMet, ClashIsExact, ClassesBoundJoined, ClosingAddsNothing, ClosingIsSound, ConstraintsAreKept, EarlyOverlapAgrees, JoinedIsEquivalence, NamesAreExact, OverlapIsExact, OverlapIsSymmetric, PlainClosingEnds, VerdictIsExact};
 ghost use Rattle.isle_closure.specs.Picked.{HoldUnderNoPick, HoldUnderOnePick};
 ghost use Rattle.isle_closure.specs.Reported.{CheckIsExact, ListedRulesOverlap, MasksAreReportedOnce, OverlapsAreListedOnce, ReportedMasksShadow};
 ghost use Rattle.isle_closure.specs.Worked.{ClosingsEnd, LimitsMet, Overlapping, Shadowing, SamplesAreReachable, SamplesAreUnreachable, TwoReports, ConflictReported, ConstEqClosed, ConstEqDemands, CyclesReported, EffectsDemands, ExtractDemands, FallDemands, MultiDemands, NearMisses, NestedClosed, NotReported, NothingReported, OverlapReported, PartialDemands, ShadowReported, UnreachableReported, UnreachableSamples, VariantEqClosed, VariantEqDemands};
@@ -271,4 +271,9 @@ pub fn hold_under_no_pick()
 /// Demands that one answer meets hold under its pick.
 pub fn hold_under_one_pick()
     ensures { HoldUnderOnePick }
+{}
+
+/// The closing of demands without equalities ends.
+pub fn plain_closing_ends()
+    ensures { PlainClosingEnds }
 {}
