@@ -1,8 +1,8 @@
 -- The tree of the sample with an extractor is sound.
-use Rattle.std.proofs.Common.{◌≡◌, ℕ, true, false, List, [], ◌∷◌, Some, slice_get, Contains, ◌≤ℤ◌, pos, refl, sym, ap, ◌∙◌, subst, subst₂, inl, inr}
+use Rattle.std.proofs.Common.{◌≡◌, ℕ, true, false, List, [], ◌∷◌, Some, slice_get, Contains, ◌≤ℤ◌, pos, refl, sym, subst, subst₂, inl, inr}
 use Rattle.std.proofs.lemmas.Bool.{false≢true}
 use Rattle.std.proofs.lemmas.Option.{same_Some}
-use Rattle.isle_model.specs.Sites.{Constraint, is_int, is_present, SetRule}
+use Rattle.isle_model.specs.Sites.{is_int, is_present, SetRule}
 use Rattle.isle_model.specs.Trees.{Marked, m_no_step, m_step, MarkedArms, m_match, m_return, m_no_arm, m_arm}
 use Rattle.isle_model.specs.Places.{Around, constraint_at, nothing_around, in_arm, after_step}
 use Rattle.isle_model.specs.Sound.{IsTested, SoundSteps, NoneHigher, AllAsk}

@@ -1,5 +1,6 @@
 pub mod ValuesEqual
 pub mod Order
+pub mod Arms
 pub mod Lists
 pub mod Flat
 pub mod Classes

@@ -2,20 +2,21 @@
 use Rattle.std.proofs.Common.{◌≡◌, ◌≢◌, ◌⊎◌, ℕ, suc, ◌<◌, ◌==◌, true, false, List, [], ◌∷◌, ◌++◌, length, Option, Some, None, is_some, slice_get, Contains, IsTrue, refl, sym, ap, ap₂, ◌∙◌, subst, inl, inr, append_assoc}
 use Rattle.std.proofs.lemmas.Bool.{cases_Bool, cond-true, cond-false, or_cases, or_left, or_right, both_ways, false≢true}
 use Rattle.std.proofs.lemmas.Option.{none-some, same_Some, slice_get_within}
-use Rattle.std.proofs.lemmas.List.Elements.{Contains-append_left, Contains-append_right, Contains-append_cases, All-contains}
+use Rattle.std.proofs.lemmas.List.Elements.{Contains-append_left, Contains-append_right, All-contains}
 use Rattle.std.proofs.lemmas.List.Folds.{list_any-append}
 use Rattle.isle_model.specs.Values.{Value, value_eq}
 use Rattle.isle_model.specs.Meaning.{Content, one}
 use Rattle.isle_model.specs.Outcome.{Outcome, ran_through, then_option}
 use Rattle.isle_model.specs.Sites.{Constraint, SetRule, SiteSet}
 use Rattle.isle_model.specs.Trees.{Tree, step, match_at, equal_at, Arms, arm, Marked, m_no_step, m_step, m_match, m_equal, m_loop, m_return, MarkedArms, m_no_arm, m_arm, marks, marks_arms, plain, plain_arms, return_of}
-use Rattle.isle_model.specs.Places.{Around, nothing_around, is_in, available, below, all_below, constraint_at, fields_of, field_sites, bind_order, return_uses, in_arm, in_equal, after_step}
+use Rattle.isle_model.specs.Places.{Around, nothing_around, is_in, available, below, all_below, fields_of, field_sites, bind_order, return_uses, in_arm, in_equal, after_step}
 use Rattle.isle_model.specs.Run.{World, Env, used, as_value, at_start, bind_all, all_bound, content_fields, bind_fields, on_met, on_equal, with_env, with_content, ending_at, or_next, run_tree, run_arms, run}
 use Rattle.isle_model.specs.Sound.{comes_before, AllAsk, AllGoOver, SoundSteps, SoundArms, ReturnsEach, IsSound}
 use Rattle.isle_model.specs.Collects.{meets, demands_hold}
 use Rattle.isle_model.specs.SetRuns.{IsPureAt, IsTestedSet, ServesTests, IsTaken, ChoosesFrom, SoundTreesChoose}
 use Rattle.isle_trees.proofs.ValuesEqual.{eq_means, eq_same}
-use Rattle.isle_trees.proofs.Order.{before_chain, before_itself}
+use Rattle.isle_trees.proofs.Order.{before_itself}
+use Rattle.isle_trees.proofs.Arms.{arms_after}
 use Rattle.isle_trees.proofs.Lists.{nothing_in, in_head, in_tail, in_cases, in_alone, some_member, member_from_get, get_from_member, get_within, member_counted, constraint_in}
 use Rattle.isle_trees.proofs.Members.{in_flat_map, from_flat_map, member_is_in, member_found}
 use Rattle.isle_trees.proofs.Taking.{step_runs}
@@ -86,20 +87,11 @@ module _ (w : World) (rules : List SetRule) (built : IsTestedSet (record { rules
       let m = some_rule ids some known in
       nothing_in s (subst (λ l. Contains l s) (rule_at w rules built served m.0 m.1 m.3).no_iterators (over m.0 m.1 m.2 m.3))
 
-  -- 2. the rules of later arms ask for later constraints, so none holds where an arm is met
-  arms_after : (arms : MarkedArms) (ar : Around) (s : ℕ) (c : Constraint) → SoundArms set false ar true s (Some c) arms
-      → (j : ℕ) (q : SetRule) → Contains (marks_arms arms) j → slice_get rules j ≡ Some q → (d : Constraint) × (constraint_at q.constraints s ≡ Some d) × IsTrue (comes_before c d)
-  arms_after m_no_arm ar s c sound j q k at = absurd (nothing_in j k)
-  arms_after (m_arm d fields body rest) ar s c sound j q k at =
-      elim (Contains-append_cases (marks body) (marks_arms rest) j k) [
-        | inl a ↦ (d, sound.2 j q a at, sound.0)
-        | inr b ↦ let later = arms_after rest ar s d sound.5 j q b at in (later.0, later.1, before_chain c d later.0 sound.0 later.2)
-      ]
-
+  -- 2. where an arm is met, no rule of a later arm holds
   none_after : (arms : MarkedArms) (ar : Around) (s : ℕ) (c : Constraint) (i : ℕ) (r : SetRule) → slice_get rules i ≡ Some r → Contains r.constraints (s, c)
       → meets w.meaning c (content w s) ≡ true → SoundArms set false ar true s (Some c) arms → NoneHere (marks_arms arms)
   none_after arms ar s c i r get k met sound j q l at holds =
-      let later = arms_after arms ar s c sound j q l at in
+      let later = arms_after set false arms ar true s c sound j q l at in
       let m = constraint_in q.constraints s later.0 later.1 in
       let same = served.apart r q s c later.0 (member_from_get rules i r get) (member_from_get rules j q at) k m met (demand_met w q s later.0 holds m) in
       before_itself c (subst (λ d. IsTrue (comes_before c d)) (sym same) later.2)

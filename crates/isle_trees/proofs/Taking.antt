@@ -1,12 +1,10 @@
 -- What a run of tests comes to: a rule of greatest priority among some is taken, or none of them has its demands hold.
-use Rattle.std.proofs.Common.{◌≡◌, ◌⊎◌, ℕ, ◌<◌, false, List, [], ◌∷◌, ◌++◌, length, Option, Some, None, slice_get, IsTrue, Contains, is_some, ◌≤ℤ◌, refl, sym, ap, ap₂, ◌∙◌, subst, inl, inr}
+use Rattle.std.proofs.Common.{◌≡◌, ◌⊎◌, ℕ, ◌<◌, false, List, [], ◌∷◌, ◌++◌, length, Option, Some, None, slice_get, IsTrue, Contains, is_some, refl, sym, ap, ap₂, ◌∙◌, subst, inl, inr}
 use Rattle.std.proofs.lemmas.Bool.{cases_Bool, cond-true, cond-false, both_ways}
 use Rattle.std.proofs.lemmas.Option.{same_Some}
-use Rattle.std.proofs.lemmas.List.Elements.{Contains-append_left, Contains-append_right, Contains-append_cases}
-use Rattle.std.specs.Int.Signed.{≤ℤ_refl}
 use Rattle.isle_model.specs.Values.{Value, value_eq}
 use Rattle.isle_model.specs.Meaning.{Content, one, Meaning, bool_literal, int_literal, literal_value, constant_value}
-use Rattle.isle_model.specs.Outcome.{Outcome, ended, ran_through, no_rule, then_option}
+use Rattle.isle_model.specs.Outcome.{Outcome, ended, ran_through, then_option}
 use Rattle.isle_model.specs.Sites.{Site, Constraint, is_bool, is_int, is_prim, SetRule}
 use Rattle.isle_model.specs.Trees.{Tree, no_step, step, Check, match_at, equal_at, return_at, Arms}
 use Rattle.isle_model.specs.Places.{Around, nothing_around, all_below, bind_order, return_uses, fields_of, joins_in, constraint_at}
@@ -14,7 +12,7 @@ use Rattle.isle_model.specs.Run.{World, Env, all_bound, bind_all, with_bound, Tr
 use Rattle.isle_model.specs.Sound.{NoneHigher, IsTested}
 use Rattle.isle_model.specs.Runs.{SiteHolds, MeetsDemands, taken, IsConstant, IsFlatRule}
 use Rattle.isle_trees.proofs.ValuesEqual.{eq_means, eq_same}
-use Rattle.isle_trees.proofs.Lists.{constraint_in, in_alone, in_head}
+use Rattle.isle_trees.proofs.Lists.{constraint_in}
 use Rattle.isle_trees.proofs.Flat.{AreFlat, content_at, held, all_below_same, ReadsAll, bind_one, bind_two, reads_one, reads_two, reads_all_at_start}
 use Rattle.isle_trees.proofs.Classes.{SameAtPairs, joined_same}
 use Rattle.isle_trees.proofs.Finding.{Found, NoneHolds, next_found, rule_found}
