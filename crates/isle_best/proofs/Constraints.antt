@@ -1,5 +1,5 @@
 -- The tests of constraints and of lists of fields are exact.
-use Rattle.std.proofs.Common.{◌≡◌, ℕ, ◌==◌, Bool, true, false, ◌&&◌, List, [], ◌∷◌, Option, Some, None, slice_get, Contains, Decides, int_eq, refl, sym, ap, ◌∙◌, subst, inl, inr, eqb-true, eq-eqb}
+use Rattle.std.proofs.Common.{◌≡◌, ℕ, ◌==◌, true, ◌&&◌, List, [], ◌∷◌, Option, Some, None, slice_get, Decides, int_eq, refl, ap, subst, eqb-true, eq-eqb}
 use Rattle.std.proofs.Math.Bool.{beq}
 use Rattle.std.specs.Cmp.{booleans_Decides}
 use Rattle.std.specs.List.{list_all}
@@ -60,14 +60,16 @@ that_exact (Some d) c = (λ h. ap Some (same d c h), λ e. (constraint_exact d c
 
 asks_for_exact : (s : ℕ) (c : Constraint) (o : Option SetRule) → Decides (asks_for s c o) ((r : SetRule) → o ≡ Some r → constraint_at r.constraints s ≡ Some c)
 asks_for_exact s c None = (λ h r e. absurd (none-some r e), λ h. refl)
-asks_for_exact s c (Some q) =
-    (λ h r e. subst (λ (x : SetRule). constraint_at x.constraints s ≡ Some c) (same_Some q r e) ((that_exact (constraint_at q.constraints s) c).0 h),
-    λ h. (that_exact (constraint_at q.constraints s) c).1 (h q refl))
+asks_for_exact s c (Some q) = (
+  λ h r e. subst (λ (x : SetRule). constraint_at x.constraints s ≡ Some c) (same_Some q r e) ((that_exact (constraint_at q.constraints s) c).0 h),
+  λ h. (that_exact (constraint_at q.constraints s) c).1 (h q refl),
+)
 
 pub all_ask_exact : (rules : List SetRule) (here : List ℕ) (s : ℕ) (c : Constraint) → Decides (list_all (asks_at rules s c) here) (AllAsk rules here s c)
-all_ask_exact rules here s c =
-    (λ h i r k e. (asks_for_exact s c (slice_get rules i)).0 (each_passes (asks_at rules s c) here h i k) r e,
-    λ h. all_pass (asks_at rules s c) here (λ i k. (asks_for_exact s c (slice_get rules i)).1 (λ r e. h i r k e)))
+all_ask_exact rules here s c = (
+  λ h i r k e. (asks_for_exact s c (slice_get rules i)).0 (each_passes (asks_at rules s c) here h i k) r e,
+  λ h. all_pass (asks_at rules s c) here (λ i k. (asks_for_exact s c (slice_get rules i)).1 (λ r e. h i r k e)),
+)
 
 site_itself : (o : Option ℕ) → site_eq o o ≡ true
 site_itself None = refl

@@ -1,11 +1,11 @@
 -- A tree's marks are found again from its returns, where no two rules return at one position with one result.
-use Rattle.std.proofs.Common.{◌≡◌, ℕ, zero, suc, ◌<◌, ◌==◌, Bool, true, false, not, ◌&&◌, List, [], ◌∷◌, ◌++◌, length, Option, Some, None, slice_get, All, Contains, Decides, IsTrue, refl, sym, ap, ◌∙◌, subst, inl, inr, arith, eqb-true, eq-eqb}
+use Rattle.std.proofs.Common.{◌≡◌, ℕ, zero, suc, ◌<◌, ◌==◌, true, not, ◌&&◌, List, [], ◌∷◌, ◌++◌, length, Some, slice_get, Contains, refl, sym, ap, ◌∙◌, subst, inl, inr, arith, eqb-true, eq-eqb}
 use Rattle.std.specs.List.{list_all}
-use Rattle.std.proofs.lemmas.Bool.{cases_Bool, cond-true, cond-false, and_parts, and_from, false≢true}
+use Rattle.std.proofs.lemmas.Bool.{cases_Bool, cond-true, cond-false, and_parts, and_from}
 use Rattle.std.proofs.lemmas.Option.{none-some, same_Some}
 use Rattle.std.proofs.lemmas.List.Elements.{All-contains, Contains-append_left, Contains-append_right}
 use Rattle.isle_model.specs.Syntax.{Position}
-use Rattle.isle_model.specs.Sites.{SetRule, SiteSet}
+use Rattle.isle_model.specs.Sites.{SetRule}
 use Rattle.isle_model.specs.Trees.{Tree, no_step, step, Check, match_at, equal_at, loop_at, return_at, Arms, no_arm, arm, Marked, m_no_step, m_step, MarkedCheck, m_match, m_equal, m_loop, m_return, MarkedArms, m_no_arm, m_arm, marks, marks_check, marks_arms, return_of, plain, plain_check, plain_arms}
 use Rattle.isle_model.specs.Best.{NoSiteTwice, HasFewSteps, IsBestTree}
 use Rattle.isle_model.specs.Judge.{returns_as, rule_of, marking, marking_check, marking_arms, is_best, returns_apart}
@@ -109,20 +109,21 @@ module _ (rules : List SetRule) where
           λ j. m_arm constraint fields (a j) (b j)
 
 pub tree_judge_is_exact_lem : TreeJudgeIsExact
-tree_judge_is_exact_lem set tree apart =
-    (λ h.
-        let m = marking set.rules tree in
-        let b = (judge_exact set m).0 h in
-        let e = plain_marking set.rules tree (λ i c. All-contains (λ j. j < length set.rules) (marks m) i b.returns.known c) in
-        subst (IsBestTree set) e (record { marked = m; returns = b.returns; steps = b.steps; no_site_twice = b.no_site_twice; few_steps = b.few_steps }),
-    λ b.
-        let m = b.marked in
-        let e = marking_plain set.rules apart m (λ i c. All-contains (λ j. j < length set.rules) (marks m) i b.returns.known c) in
-        let same = b.returns.same in
-        let marked : IsBestMarked set m = record {
-          returns = record { same = refl; once = b.returns.once; known = b.returns.known };
-          steps = b.steps;
-          no_site_twice = subst NoSiteTwice (sym same) b.no_site_twice;
-          few_steps = subst (HasFewSteps set) (sym same) b.few_steps;
-        } in
-        subst (λ x. is_best set x ≡ true) (sym e ∙ ap (marking set.rules) same) ((judge_exact set m).1 marked))
+tree_judge_is_exact_lem set tree apart = (
+  λ h.
+      let m = marking set.rules tree in
+      let b = (judge_exact set m).0 h in
+      let e = plain_marking set.rules tree (λ i c. All-contains (λ j. j < length set.rules) (marks m) i b.returns.known c) in
+      subst (IsBestTree set) e (record { marked = m; returns = b.returns; steps = b.steps; no_site_twice = b.no_site_twice; few_steps = b.few_steps }),
+  λ b.
+      let m = b.marked in
+      let e = marking_plain set.rules apart m (λ i c. All-contains (λ j. j < length set.rules) (marks m) i b.returns.known c) in
+      let same = b.returns.same in
+      let marked : IsBestMarked set m = record {
+        returns = record { same = refl; once = b.returns.once; known = b.returns.known };
+        steps = b.steps;
+        no_site_twice = subst NoSiteTwice (sym same) b.no_site_twice;
+        few_steps = subst (HasFewSteps set) (sym same) b.few_steps;
+      } in
+      subst (λ x. is_best set x ≡ true) (sym e ∙ ap (marking set.rules) same) ((judge_exact set m).1 marked),
+)

@@ -5,7 +5,7 @@ use Rattle.isle_model.specs.Trees.{Tree, Marked, plain}
 use Rattle.isle_model.specs.Places.{Around, nothing_around}
 use Rattle.isle_model.specs.Sound.{ReturnsEach}
 use Rattle.isle_model.specs.Tests.{Test, is_open, open_tests}
-use Rattle.isle_model.specs.Best.{BestSteps, NoSiteTwice, HasFewSteps, IsBestTree}
+use Rattle.isle_model.specs.Best.{SharesMost, BestSteps, NoSiteTwice, HasFewSteps, IsBestTree}
 use Rattle.isle_model.specs.Judge.{is_best, is_best_tree, returns_apart}
 
 -- the list of a place's open tests holds exactly these
@@ -26,3 +26,18 @@ JudgeIsExact = (set : SiteSet) (m : Marked) → Decides (is_best set m) (IsBestM
 -- where no two rules return at one position with one result, so does the judge of a tree
 abbrev pub TreeJudgeIsExact : Type 0
 TreeJudgeIsExact = (set : SiteSet) (tree : Tree) → IsTrue (returns_apart set.rules) → Decides (is_best_tree set tree) (IsBestTree set tree)
+
+-- where the greatest tests are made, nowhere would an open test cover more rules
+abbrev pub BestTreesShareMost : Type 0
+BestTreesShareMost = (set : SiteSet) (m : Marked) → BestSteps set nothing_around false m → SharesMost set nothing_around false m
+
+-- two facts of best trees follow from the others
+abbrev pub SitesAreTestedOnce : Type 0
+SitesAreTestedOnce = (set : SiteSet) (m : Marked) → BestSteps set nothing_around false m → NoSiteTwice (plain set.rules m)
+
+abbrev pub StepsAreFew : Type 0
+StepsAreFew = (set : SiteSet) (m : Marked) → ReturnsEach set (plain set.rules m) m → BestSteps set nothing_around false m → HasFewSteps set (plain set.rules m)
+
+-- so the facts of its steps are enough
+abbrev pub StepsMakeBestTrees : Type 0
+StepsMakeBestTrees = (set : SiteSet) (tree : Tree) (m : Marked) → ReturnsEach set tree m → BestSteps set nothing_around false m → IsBestTree set tree

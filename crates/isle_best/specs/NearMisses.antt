@@ -1,7 +1,7 @@
--- Trees that miss being best by one thing each.
-use Rattle.std.specs.Prelude.{ℕ, List, [], ◌∷◌, Some, None}
+-- Trees that are no best trees.
+use Rattle.std.specs.Prelude.{[], ◌∷◌, Some, None}
 use Rattle.isle_model.specs.Sites.{is_variant, is_present}
-use Rattle.isle_model.specs.Trees.{Tree, no_step, step, match_at, equal_at, loop_at, no_arm, arm}
+use Rattle.isle_model.specs.Trees.{Tree, no_step, step, match_at, equal_at, loop_at, arm}
 use Rattle.isle_best.specs.Samples.{is_byte, returning, one_arm}
 
 -- of `prio`: the test of the first argument goes first, though it covers one rule and the other one two
@@ -126,3 +126,27 @@ ties_exchanged =
     step [] (equal_at 2 3 (returning [] 1 5 no_step))
     (step [] (equal_at 0 1 (returning [] 3 7 no_step))
     (step [] (equal_at 2 4 (returning [] 2 6 no_step)) no_step))
+
+-- of `prio`: each rule alone, by descending priority; only the first test isn't the greatest
+abbrev pub prio_alone : Tree
+prio_alone =
+    step [] (match_at 0 (one_arm (is_byte 1) [] (step [] (match_at 1 (one_arm (is_byte 5) [] (returning [] 1 2 no_step))) no_step)))
+    (step [] (match_at 1 (one_arm (is_byte 2) [] (returning [] 2 3 no_step)))
+    (step [] (match_at 0 (one_arm (is_byte 1) [] (returning [] 3 4 no_step))) no_step))
+
+-- of `between`: the first step holds a rule that needs its test, and that its cover leaves out for its priority
+abbrev pub between_holds_more : Tree
+between_holds_more =
+    step [] (match_at 0 (one_arm (is_byte 1) [] (step [] (match_at 1 (arm (is_byte 5) [] (returning [] 1 3 no_step) (one_arm (is_byte 6) [] (returning [] 3 5 no_step)))) no_step)))
+    (step [] (match_at 2 (one_arm (is_byte 2) [] (returning [] 2 4 no_step))) no_step)
+
+-- of `equal`: a test follows the return of its block
+abbrev pub equal_not_closed : Tree
+equal_not_closed = returning [] 1 0 (step [] (equal_at 0 1 (returning [] 2 2 no_step)) no_step)
+
+-- of `emitted_first`: the pair of smaller numbers goes first, though its sites aren't both emitted
+abbrev pub emitted_last : Tree
+emitted_last =
+    step [] (equal_at 1 2 (returning [] 1 4 no_step))
+    (step [] (match_at 3 (one_arm (is_byte 5) [] (returning [] 2 5 no_step)))
+    (step [] (equal_at 0 1 (step [] (equal_at 0 2 (returning [] 3 6 no_step)) no_step)) no_step))

@@ -14,9 +14,9 @@ is_byte n = is_int (pos n) 1
 abbrev pub byte : ℕ → Site
 byte n = int_site (pos n) 1
 
--- a rule by its definition's number, its priority, its demands and what it returns
-abbrev pub a_rule : ℕ → ℤ → List (ℕ × Constraint) → List (List ℕ) → ℕ → SetRule
-a_rule d prio constraints classes result = record { id = d; at = at d; prio = prio; name = None; constraints = constraints; classes = classes; iterators = []; impure = []; result = result }
+-- a rule by its number, its definition's, its priority, its demands and what it returns
+abbrev pub a_rule : ℕ → ℕ → ℤ → List (ℕ × Constraint) → List (List ℕ) → ℕ → SetRule
+a_rule i d prio constraints classes result = record { id = i; at = at d; prio = prio; name = None; constraints = constraints; classes = classes; iterators = []; impure = []; result = result }
 
 -- a tree that returns, and one arm
 abbrev pub returning : List ℕ → ℕ → ℕ → Tree → Tree
@@ -28,7 +28,7 @@ one_arm c fields body = arm c fields body no_arm
 -- (rule 1 (f 1) 10) (rule (f x) x)
 abbrev pub fall : SiteSet
 fall = record {
-  rules = a_rule 1 (pos 1) ((0, is_byte 1) ∷ []) [] 1 ∷ (a_rule 2 (pos 0) [] [] 0 ∷ []);
+  rules = a_rule 0 1 (pos 1) ((0, is_byte 1) ∷ []) [] 1 ∷ (a_rule 1 2 (pos 0) [] [] 0 ∷ []);
   sites = argument_site 0 ∷ (byte 10 ∷ []);
 }
 
@@ -39,9 +39,9 @@ fall_tree = step [] (match_at 0 (one_arm (is_byte 1) [] (returning [] 1 1 no_ste
 abbrev pub prio : SiteSet
 prio = record {
   rules =
-      a_rule 1 (pos 2) ((0, is_byte 1) ∷ ((1, is_byte 5) ∷ [])) [] 2
-      ∷ (a_rule 2 (pos 1) ((1, is_byte 2) ∷ []) [] 3
-      ∷ (a_rule 3 (pos 0) ((0, is_byte 1) ∷ []) [] 4 ∷ []));
+      a_rule 0 1 (pos 2) ((0, is_byte 1) ∷ ((1, is_byte 5) ∷ [])) [] 2
+      ∷ (a_rule 1 2 (pos 1) ((1, is_byte 2) ∷ []) [] 3
+      ∷ (a_rule 2 3 (pos 0) ((0, is_byte 1) ∷ []) [] 4 ∷ []));
   sites = argument_site 0 ∷ (argument_site 1 ∷ (byte 12 ∷ (byte 11 ∷ (byte 10 ∷ []))));
 }
 
@@ -53,7 +53,7 @@ prio_tree =
 -- (rule 1 (f x y) x) (rule (f x x) 7)
 abbrev pub equal : SiteSet
 equal = record {
-  rules = a_rule 1 (pos 1) [] [] 0 ∷ (a_rule 2 (pos 0) [] ((0 ∷ (1 ∷ [])) ∷ []) 2 ∷ []);
+  rules = a_rule 0 1 (pos 1) [] [] 0 ∷ (a_rule 1 2 (pos 0) [] ((0 ∷ (1 ∷ [])) ∷ []) 2 ∷ []);
   sites = argument_site 0 ∷ (argument_site 1 ∷ (byte 7 ∷ []));
 }
 
@@ -63,7 +63,7 @@ equal_tree = returning [] 1 0 (returning [] 2 2 no_step)
 -- (rule 1 (f _ _ _) 1) (rule (f 1 x x) 2)
 abbrev pub below : SiteSet
 below = record {
-  rules = a_rule 1 (pos 1) [] [] 3 ∷ (a_rule 2 (pos 0) ((0, is_byte 1) ∷ []) ((1 ∷ (2 ∷ [])) ∷ []) 4 ∷ []);
+  rules = a_rule 0 1 (pos 1) [] [] 3 ∷ (a_rule 1 2 (pos 0) ((0, is_byte 1) ∷ []) ((1 ∷ (2 ∷ [])) ∷ []) 4 ∷ []);
   sites = argument_site 0 ∷ (argument_site 1 ∷ (argument_site 2 ∷ (byte 1 ∷ (byte 2 ∷ []))));
 }
 
@@ -73,7 +73,7 @@ below_tree = returning [] 1 3 (returning [] 2 4 no_step)
 -- (rule (g x @ (T.A _) x) x)
 abbrev pub variant_eq : SiteSet
 variant_eq = record {
-  rules = a_rule 2 (pos 0) ((0, is_variant 13 0 1) ∷ ((2, is_variant 13 0 1) ∷ [])) ((1 ∷ (3 ∷ [])) ∷ []) 0 ∷ [];
+  rules = record { id = 0; at = at 2; prio = pos 0; name = Some 17; constraints = (0, is_variant 13 0 1) ∷ ((2, is_variant 13 0 1) ∷ []); classes = (1 ∷ (3 ∷ [])) ∷ []; iterators = []; impure = []; result = 0 } ∷ [];
   sites = argument_site 0 ∷ (match_variant_site 0 0 0 ∷ (argument_site 1 ∷ (match_variant_site 2 0 0 ∷ [])));
 }
 
@@ -86,7 +86,7 @@ variant_eq_tree =
 -- (rule 1 (f (e 1)) 10) (rule (f (e x)) x)
 abbrev pub extract : SiteSet
 extract = record {
-  rules = a_rule 3 (pos 1) ((1, is_present) ∷ ((2, is_byte 1) ∷ [])) [] 3 ∷ (a_rule 4 (pos 0) ((1, is_present) ∷ []) [] 2 ∷ []);
+  rules = a_rule 0 3 (pos 1) ((1, is_present) ∷ ((2, is_byte 1) ∷ [])) [] 3 ∷ (a_rule 1 4 (pos 0) ((1, is_present) ∷ []) [] 2 ∷ []);
   sites = argument_site 0 ∷ (extractor_site 0 0 ∷ (match_some_site 1 ∷ (byte 10 ∷ [])));
 }
 
@@ -100,8 +100,8 @@ extract_tree =
 abbrev pub partial : SiteSet
 partial = record {
   rules =
-      record { id = 3; at = at 3; prio = pos 1; name = None; constraints = (0, is_byte 1) ∷ []; classes = []; iterators = []; impure = 3 ∷ []; result = 4 }
-      ∷ (a_rule 4 (pos 0) [] [] 6 ∷ []);
+      record { id = 0; at = at 3; prio = pos 1; name = None; constraints = (0, is_byte 1) ∷ []; classes = []; iterators = []; impure = 3 ∷ []; result = 4 }
+      ∷ (a_rule 1 4 (pos 0) [] [] 6 ∷ []);
   sites = argument_site 0 ∷ (byte 1 ∷ (constructor_site 0 (1 ∷ []) 1 ∷ (match_some_site 2 ∷ (make_some_site 3 ∷ (byte 7 ∷ (make_some_site 5 ∷ []))))));
 }
 
@@ -113,7 +113,7 @@ partial_tree =
 -- (rule (f x) (T.P (pp x) (im x))), f and pp partial, pp pure
 abbrev pub effects : SiteSet
 effects = record {
-  rules = record { id = 6; at = at 6; prio = pos 0; name = None; constraints = []; classes = []; iterators = []; impure = 3 ∷ []; result = 5 } ∷ [];
+  rules = record { id = 0; at = at 6; prio = pos 0; name = Some 20; constraints = []; classes = []; iterators = []; impure = 3 ∷ []; result = 5 } ∷ [];
   sites = argument_site 0 ∷ (constructor_site 0 (0 ∷ []) 0 ∷ (match_some_site 1 ∷ (constructor_site 1 (0 ∷ []) 1 ∷ (make_variant_site 13 0 (2 ∷ (3 ∷ [])) ∷ (make_some_site 4 ∷ [])))));
 }
 
@@ -124,8 +124,8 @@ effects_tree = returning (3 ∷ (1 ∷ (2 ∷ (4 ∷ (5 ∷ []))))) 6 5 no_step
 abbrev pub multi : SiteSet
 multi = record {
   rules =
-      record { id = 3; at = at 3; prio = pos 0; name = None; constraints = []; classes = []; iterators = 1 ∷ []; impure = []; result = 2 }
-      ∷ (a_rule 4 (pos 0) ((0, is_byte 1) ∷ []) [] 3 ∷ []);
+      record { id = 0; at = at 3; prio = pos 0; name = None; constraints = []; classes = []; iterators = 1 ∷ []; impure = []; result = 2 }
+      ∷ (a_rule 1 4 (pos 0) ((0, is_byte 1) ∷ []) [] 3 ∷ []);
   sites = argument_site 0 ∷ (constructor_site 0 (0 ∷ []) 0 ∷ (iterator_site 1 ∷ (byte 9 ∷ [])));
 }
 
@@ -137,7 +137,7 @@ multi_tree =
 -- (rule 1 (g _ _) 1) (rule (g x @ (T.A v) x) v)
 abbrev pub surplus : SiteSet
 surplus = record {
-  rules = a_rule 2 (pos 1) [] [] 2 ∷ (a_rule 3 (pos 0) ((0, is_variant 13 0 1) ∷ ((1, is_variant 13 0 1) ∷ [])) ((3 ∷ (4 ∷ [])) ∷ []) 3 ∷ []);
+  rules = a_rule 0 2 (pos 1) [] [] 2 ∷ (a_rule 1 3 (pos 0) ((0, is_variant 13 0 1) ∷ ((1, is_variant 13 0 1) ∷ [])) ((3 ∷ (4 ∷ [])) ∷ []) 3 ∷ []);
   sites = argument_site 0 ∷ (argument_site 1 ∷ (byte 1 ∷ (match_variant_site 0 0 0 ∷ (match_variant_site 1 0 0 ∷ []))));
 }
 
@@ -148,9 +148,9 @@ surplus_tree = returning [] 2 2 (returning (3 ∷ []) 3 3 no_step)
 abbrev pub ties : SiteSet
 ties = record {
   rules =
-      a_rule 1 (pos 0) [] ((2 ∷ (3 ∷ [])) ∷ []) 5
-      ∷ (a_rule 2 (pos 0) [] ((2 ∷ (4 ∷ [])) ∷ []) 6
-      ∷ (a_rule 3 (pos 0) [] ((0 ∷ (1 ∷ [])) ∷ []) 7 ∷ []));
+      a_rule 0 1 (pos 0) [] ((2 ∷ (3 ∷ [])) ∷ []) 5
+      ∷ (a_rule 1 2 (pos 0) [] ((2 ∷ (4 ∷ [])) ∷ []) 6
+      ∷ (a_rule 2 3 (pos 0) [] ((0 ∷ (1 ∷ [])) ∷ []) 7 ∷ []));
   sites = argument_site 0 ∷ (argument_site 1 ∷ (argument_site 2 ∷ (argument_site 3 ∷ (argument_site 4 ∷ (byte 1 ∷ (byte 2 ∷ (byte 3 ∷ [])))))));
 }
 

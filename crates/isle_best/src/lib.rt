@@ -3,15 +3,89 @@
 //! A function here has an empty body: its clause is a law, and its proof stands in `proofs/`.
 #![tactic(auto)]
 
-ghost use Rattle.isle_best.specs.Judged.{PrintedTreesPass};
-ghost use Rattle.isle_best.specs.Refused.{NearMissesFail};
+ghost use Rattle.isle_best.specs.Judged.{PrintedTreesAreBest, PrintedTreesPass};
+ghost use Rattle.isle_best.specs.Laws.{BestTreesShareMost, JudgeIsExact, OpenTestsAreListed, SitesAreTestedOnce, StepsAreFew, StepsMakeBestTrees, TreeJudgeIsExact};
+ghost use Rattle.isle_best.specs.Refused.{NearMissesAreNotBest, NearMissesFail};
+ghost use Rattle.isle_best.specs.Scores.{OneTestIsGreatest, ScoresAreOrdered};
+ghost use Rattle.isle_best.specs.WellBuiltSamples.{PrintedTreesAreSound, SamplesAreWellBuilt};
+ghost use Rattle.isle_model.specs.WellBuilt.{BestTreesAreSound};
+
+/// The list of a place's open tests holds exactly the tests that are open there.
+pub fn open_tests_are_listed()
+    ensures { OpenTestsAreListed }
+{}
+
+/// The order of scores is strict, and tells any two tests of a place apart.
+pub fn scores_are_ordered()
+    ensures { ScoresAreOrdered }
+{}
+
+/// Where a test is open, one and only one is the greatest.
+pub fn one_test_is_greatest()
+    ensures { OneTestIsGreatest }
+{}
+
+/// Where the greatest tests are made, nowhere would an open test cover more rules than the test made.
+pub fn best_trees_share_most()
+    ensures { BestTreesShareMost }
+{}
+
+/// And no site is tested twice around a return.
+pub fn sites_are_tested_once()
+    ensures { SitesAreTestedOnce }
+{}
+
+/// And all blocks together hold at most a step for each demand of a rule, and its return.
+pub fn steps_are_few()
+    ensures { StepsAreFew }
+{}
+
+/// So the facts of a tree's steps are enough.
+pub fn steps_make_best_trees()
+    ensures { StepsMakeBestTrees }
+{}
+
+/// The judge of a marked tree passes it exactly where it is a best tree.
+pub fn judge_is_exact()
+    ensures { JudgeIsExact }
+{}
+
+/// The judge of a tree passes it exactly where it is a best tree, if the set's returns can be told apart.
+pub fn tree_judge_is_exact()
+    ensures { TreeJudgeIsExact }
+{}
+
+/// A best tree of a well built set is sound.
+pub fn best_trees_are_sound()
+    ensures { BestTreesAreSound }
+{}
 
 /// The judge passes the trees that are printed for the samples.
 pub fn printed_trees_pass()
     ensures { PrintedTreesPass }
 {}
 
-/// It refuses trees that miss being best by one thing each.
+/// They are best trees.
+pub fn printed_trees_are_best()
+    ensures { PrintedTreesAreBest }
+{}
+
+/// The judge refuses the near misses.
 pub fn near_misses_fail()
     ensures { NearMissesFail }
+{}
+
+/// However their returns are marked, they are no best trees.
+pub fn near_misses_are_not_best()
+    ensures { NearMissesAreNotBest }
+{}
+
+/// The samples' sets are well built.
+pub fn samples_are_well_built()
+    ensures { SamplesAreWellBuilt }
+{}
+
+/// So the trees that are printed for them are sound.
+pub fn printed_trees_are_sound()
+    ensures { PrintedTreesAreSound }
 {}

@@ -1,0 +1,16 @@
+pub mod Elements
+pub mod SameSites
+pub mod Names
+pub mod Classes
+pub mod Verdict
+pub mod Settled
+pub mod Overlaps
+pub mod Closing
+pub mod SamplesReached
+pub mod LimitsPassed
+pub mod Whole
+pub mod WholeClosing
+pub mod Reports
+pub mod Agreements
+pub mod Visited
+pub mod VisitedRules

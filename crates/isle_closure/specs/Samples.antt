@@ -1,8 +1,8 @@
 -- Samples as they are after their names, types and terms are known: typed rules, written by hand. The rule of
 -- definition d stands at offset d.
-use Rattle.std.specs.Prelude.{ℕ, ℤ, pos, Bool, true, false, List, [], ◌∷◌, ◌++◌, Option, Some, None}
+use Rattle.std.specs.Prelude.{ℕ, ℤ, pos, true, false, List, [], ◌∷◌, ◌++◌, Option, Some, None}
 use Rattle.isle_model.specs.Syntax.{Position}
-use Rattle.isle_model.specs.Tables.{FieldEntries, unit_entries, struct_entries, VariantEntry, TypeEntry, enum_type, Flags, ConstructorEntry, internal_constructor, external_constructor, ExtractorEntry, external_extractor, variant_term, declared_term, TermEntry}
+use Rattle.isle_model.specs.Tables.{FieldEntries, unit_entries, struct_entries, TypeEntry, enum_type, Flags, ConstructorEntry, internal_constructor, external_constructor, ExtractorEntry, external_extractor, variant_term, declared_term, TermEntry}
 use Rattle.isle_model.specs.TypeTable.{builtin_names, builtin_from}
 use Rattle.isle_model.specs.Program.{Program}
 use Rattle.isle_model.specs.Typed.{TypedPattern, match_bind, match_var, match_int, match_term, match_any, match_and, TypedPatterns, no_typed_pattern, typed_pattern_and, TypedExpr, make_term, make_var, make_int, TypedExprs, no_typed_expr, typed_expr_and, TypedVar, TypedRule}
@@ -96,11 +96,17 @@ abbrev pub fall : Program
 fall = of_one (u8 ∷ []) (fall_one ∷ (fall_any ∷ []))
 
 -- (decl f (u8 u8) u8), (rule 2 (f 1 5) 12), (rule 1 (f _ 2) 11), (rule (f 1 _) 10)
+abbrev pub one_and_five : TypedRule
+one_and_five = rule 0 1 (pos 2) 0 (match_int u8 (pos 1) ∷ (match_int u8 (pos 5) ∷ [])) (make_int u8 (pos 12)) []
+
+abbrev pub any_and_two : TypedRule
+any_and_two = rule 1 2 (pos 1) 0 (match_any u8 ∷ (match_int u8 (pos 2) ∷ [])) (make_int u8 (pos 11)) []
+
+abbrev pub one_and_any : TypedRule
+one_and_any = rule 2 3 (pos 0) 0 (match_int u8 (pos 1) ∷ (match_any u8 ∷ [])) (make_int u8 (pos 10)) []
+
 abbrev pub prio_rules : List TypedRule
-prio_rules =
-    rule 0 1 (pos 2) 0 (match_int u8 (pos 1) ∷ (match_int u8 (pos 5) ∷ [])) (make_int u8 (pos 12)) []
-    ∷ (rule 1 2 (pos 1) 0 (match_any u8 ∷ (match_int u8 (pos 2) ∷ [])) (make_int u8 (pos 11)) []
-    ∷ (rule 2 3 (pos 0) 0 (match_int u8 (pos 1) ∷ (match_any u8 ∷ [])) (make_int u8 (pos 10)) [] ∷ []))
+prio_rules = one_and_five ∷ (any_and_two ∷ (one_and_any ∷ []))
 
 abbrev pub prio : Program
 prio = of_one (u8 ∷ (u8 ∷ [])) prio_rules
@@ -304,3 +310,11 @@ nested =
     program nested_types
     (with_rules 0 2 21 (own ∷ (14 ∷ (14 ∷ []))) u8 ∷ (variant_of 1 0 15 (u8 ∷ []) own 0 ∷ (variant_of 2 1 18 (own ∷ []) 14 0 ∷ [])))
     (nested_rule ∷ [])
+
+-- (decl f (u8 u8) u8), (rule (f 1 _) 10), (rule (f _ 2) 11), (rule (f 1 2) 12)
+abbrev pub three_overlap : Program
+three_overlap =
+    of_one (u8 ∷ (u8 ∷ []))
+    (rule 0 1 (pos 0) 0 (match_int u8 (pos 1) ∷ (match_any u8 ∷ [])) (make_int u8 (pos 10)) []
+    ∷ (rule 1 2 (pos 0) 0 (match_any u8 ∷ (match_int u8 (pos 2) ∷ [])) (make_int u8 (pos 11)) []
+    ∷ (rule 2 3 (pos 0) 0 (match_int u8 (pos 1) ∷ (match_int u8 (pos 2) ∷ [])) (make_int u8 (pos 12)) [] ∷ [])))

@@ -1,13 +1,13 @@
 -- What the samples' rules demand, their closed demands, and what is reported of them.
-use Rattle.std.specs.Prelude.{◌≡◌, ℕ, pos, Bool, true, false, List, [], ◌∷◌, Some, None}
-use Rattle.isle_model.specs.Syntax.{Position}
-use Rattle.isle_model.specs.Program.{Program, rules_of}
-use Rattle.isle_model.specs.Typed.{TypedRule}
+use Rattle.std.specs.Prelude.{◌≡◌, ℕ, zero, suc, length, pos, true, false, List, [], ◌∷◌, None}
+use Rattle.isle_model.specs.Program.{Program}
+use Rattle.isle_model.specs.Typed.{TypedRule, TypedPattern, match_any, make_int}
 use Rattle.isle_model.specs.Sites.{Constraint, is_variant, is_int, is_present, SiteTerm, int_term, argument, extractor_call, constructor_call, pick_of, variant_made, variant_field, some_made, some_part, no_site_term, site_term_and}
 use Rattle.isle_model.specs.Demands.{Demands, demands_of}
-use Rattle.isle_model.specs.Closure.{IsUnreachable, is_settled, is_unreachable, Unreachability, conflict, cycle, reported, Closed, closed}
-use Rattle.isle_model.specs.Limits.{first_limit}
-use Rattle.isle_model.specs.Overlap.{overlaps, BuiltRule, built_rules, built_rule, clash, shadows, is_subset_pair, OverlapReport, ShadowReport, wrong_overlaps, overlap_reports, shadow_reports, RuleReport, not_reached, rules_overlap, rule_shadows, check_reports}
+use Rattle.isle_model.specs.Closure.{IsUnreachable, is_unreachable, Unreachability, conflict, cycle, reported, closed, closing, before_closing, most_steps}
+use Rattle.isle_model.specs.Limits.{arguments_limit, first_limit, limits_of_shape, walked_rule}
+use Rattle.isle_model.specs.Overlap.{overlaps, BuiltRule, built_rule, clash, shadows, wrong_overlaps, not_reached, rules_overlap, rule_shadows, check_reports}
+use Rattle.isle_closure.specs.Laws.{HasEnded}
 use Rattle.isle_closure.specs.Samples as sample
 
 abbrev pub a0 : SiteTerm
@@ -204,8 +204,85 @@ NotReported =
     × (check_reports sample.multi ≡ [])
     × (check_reports sample.nested ≡ [])
 
+-- three rules of which each two overlap: the last by position comes first with both others, then the other two
+abbrev pub TwoReports : Type 0
+TwoReports =
+    check_reports sample.three_overlap ≡
+    rules_overlap (record { first = sample.at 2; others = sample.at 1 ∷ [] })
+    ∷ (rules_overlap (record { first = sample.at 3; others = sample.at 1 ∷ (sample.at 2 ∷ []) }) ∷ [])
+
+-- the relation holds of no values that meet these demands, and of the others it doesn't
+abbrev pub SamplesAreUnreachable : Type 0
+SamplesAreUnreachable =
+    IsUnreachable (demands_of sample.cycle sample.cycle_rule)
+    × IsUnreachable (demands_of sample.cycle2 sample.cycle2_rule)
+    × IsUnreachable (demands_of sample.conflict sample.conflict_rule)
+
+abbrev pub SamplesAreReachable : Type 0
+SamplesAreReachable =
+    (IsUnreachable (demands_of sample.const_eq sample.const_eq_rule) → ⊥)
+    × (IsUnreachable (demands_of sample.fall sample.fall_one) → ⊥)
+    × (IsUnreachable (demands_of sample.fall sample.fall_any) → ⊥)
+    × (IsUnreachable (demands_of sample.variant_eq sample.variant_eq_rule) → ⊥)
+    × (IsUnreachable (demands_of sample.extract sample.extract_one) → ⊥)
+    × (IsUnreachable (demands_of sample.extract sample.extract_any) → ⊥)
+    × (IsUnreachable (demands_of sample.nested sample.nested_rule) → ⊥)
+
+-- a rule of a program, as it is built alone
+abbrev pub alone : Program → TypedRule → BuiltRule
+alone p r = built_rule p [] r
+
+-- one wrong overlap; with another priority none, and different constants tell rules apart
+abbrev pub Overlapping : Type 0
+Overlapping =
+    (clash (alone sample.overlap (sample.overlap_one (pos 0))) (alone sample.overlap sample.overlap_any) ≡ true)
+    × (clash (alone sample.overlap (sample.overlap_one (pos 1))) (alone sample.overlap sample.overlap_any) ≡ false)
+    × (overlaps (alone sample.fall sample.fall_one).demands (alone sample.overlap (sample.overlap_one (pos 0))).demands ≡ true)
+    × (overlaps (alone sample.prio sample.one_and_five).demands (alone sample.prio sample.any_and_two).demands ≡ false)
+    × (wrong_overlaps sample.overlap ≡ (sample.at 1, sample.at 2) ∷ [])
+    × (wrong_overlaps (sample.overlap_at (pos 1)) ≡ [])
+
+-- a mask of more constraints, or equalities, don't shadow
+abbrev pub Shadowing : Type 0
+Shadowing =
+    (shadows (alone sample.shadow (sample.shadow_any (pos 1))) (alone sample.shadow sample.shadow_one) ≡ true)
+    × (shadows (alone sample.shadow (sample.shadow_any (pos 0))) (alone sample.shadow sample.shadow_one) ≡ false)
+    × (shadows (alone sample.fall sample.fall_one) (alone sample.fall sample.fall_any) ≡ false)
+    × (shadows (alone sample.equal sample.equal_any) (alone sample.equal sample.equal_same) ≡ false)
+    × (shadows (alone sample.below sample.below_any) (alone sample.below sample.below_same) ≡ false)
+    × (overlaps (alone sample.equal sample.equal_any).demands (alone sample.equal sample.equal_same).demands ≡ true)
+
 -- near misses: a priority of its own, equal priorities in place of a shadow, and different constants
 abbrev pub NearMisses : Type 0
 NearMisses =
     (check_reports (sample.overlap_at (pos 1)) ≡ [])
     × (check_reports (sample.shadow_at (pos 0)) ≡ rules_overlap (record { first = sample.at 2; others = sample.at 1 ∷ [] }) ∷ [])
+
+-- nothing is left to be taken
+abbrev pub Ends : Program → TypedRule → Type 0
+Ends p r = HasEnded (closing most_steps (before_closing [] (demands_of p r)))
+
+abbrev pub ClosingsEnd : Type 0
+ClosingsEnd =
+    Ends sample.const_eq sample.const_eq_rule
+    × Ends sample.fall sample.fall_one
+    × Ends sample.equal sample.equal_same
+    × Ends sample.below sample.below_same
+    × Ends sample.variant_eq sample.variant_eq_rule
+    × Ends sample.nested sample.nested_rule
+
+-- n wildcards
+abbrev pub wildcards : ℕ → List TypedPattern
+wildcards zero = []
+wildcards (suc n) = match_any sample.u8 ∷ wildcards n
+
+abbrev pub wide_rule : ℕ → TypedRule
+wide_rule n = sample.rule 0 1 (pos 0) 0 (wildcards n) (make_int sample.u8 (pos 1)) []
+
+abbrev pub LimitsMet : Type 0
+LimitsMet =
+    (first_limit sample.variant_eq [] sample.variant_eq_rule ≡ None)
+    × (first_limit sample.extract [] sample.extract_one ≡ None)
+    × (limits_of_shape (sample.of_one [] []) (wide_rule 256) ≡ [])
+    × (limits_of_shape (sample.of_one [] []) (wide_rule 257) ≡ arguments_limit ∷ [])
+    × (length (walked_rule (sample.of_one [] []) (wide_rule 257)).args ≡ 256)

@@ -1,15 +1,16 @@
 -- Expressions: the rules of typing and the function say the same.
-use Rattle.std.proofs.Common.{◌≡◌, ℕ, zero, suc, ◌+◌, Bool, true, false, cond, eqb, List, [], ◌∷◌, length, Option, Some, None, slice_get, subst, ⊎_elim, refl, sym, ap, ◌∙◌, arith}
+use Rattle.std.proofs.Common.{◌≡◌, ℕ, zero, suc, ◌+◌, List, [], ◌∷◌, length, Option, Some, None, subst, ⊎_elim, refl, sym, ap, ◌∙◌, arith}
 use Rattle.std.proofs.lemmas.Option.{same_Some}
-use Rattle.isle_model.specs.Syntax.{ExprTree, term_expr, var_expr, bool_expr, int_expr, prim_expr, let_expr, ExprTrees, no_expr, expr_and, LetTrees, no_let, let_and}
-use Rattle.isle_model.specs.Tables.{Flags, TermEntry}
+use Rattle.isle_model.specs.Syntax.{Position, Name, ExprTree, term_expr, var_expr, bool_expr, int_expr, prim_expr, let_expr, ExprTrees, no_expr, expr_and, LetTrees, no_let, let_and}
+use Rattle.isle_model.specs.Tables.{Flags}
 use Rattle.isle_model.specs.Typed.{TypedExpr, make_var, TypedExprs, TypedLets, typed_let_and}
-use Rattle.isle_elaboration.specs.Setting.{Setting, Scope, met, bound, closed, var_of, term_of, type_of_name, constant_type, bool_type, is_expected, is_callable, expr_converter}
+use Rattle.isle_elaboration.specs.Setting.{Setting, Scope, met, bound, closed, var_of, term_of, type_of_name, constant_type, bool_type, is_expected, is_callable}
 use Rattle.isle_elaboration.specs.Expansions.{wrapped_expr}
-use Rattle.isle_elaboration.specs.Typings.{Typing, plain, made_into, followed, counted}
-use Rattle.isle_elaboration.specs.Elaborated.{typed_let, bound_let, before_rest, elaborated_expr, expr_with, args_with, lets_with, deeper_expr}
+use Rattle.isle_elaboration.specs.Typings.{Typing, plain, followed, counted}
+use Rattle.isle_elaboration.specs.Elaborated.{before_rest, typed_let, bound_let, elaborated_expr, args_with, lets_with, deeper_expr}
 use Rattle.isle_elaboration.specs.Elaborates.{ElaboratesExpr, ElaboratesArgs, ElaboratesLets, a_call, converted_call, a_variable, converted_variable, truth_expr, integer_expr, constant_expr, let_in, no_arg, an_arg, no_def, a_def}
-use Rattle.isle_elaboration.proofs.Typings.{typing, ne-eqb, then_gives, made_gives, scoped_gives, counted_gives, followed_gives, if_gives, expected_itself, expected_gives}
+use Rattle.isle_elaboration.specs.Agreement.{typing}
+use Rattle.isle_elaboration.proofs.Typings.{ne-eqb, then_gives, made_gives, scoped_gives, counted_gives, followed_gives, if_gives, expected_itself, expected_gives}
 
 bound_gives : (x : List ℕ) (ty : ℕ) (o : Option (Typing TypedExpr)) {r : Typing (TypedLets → TypedLets)}
     → bound_let x ty o ≡ Some r → (a : Typing TypedExpr) × (o ≡ Some a) × (typing (typed_let_and (length a.scope.vars) ty a.made) (bound a.scope x ty) a.expansions ≡ r)
@@ -40,6 +41,19 @@ module _ (e : Setting) (flags : Flags) where
   IsDeeper d = (x : ExprTree) (ty : Option ℕ) (s : Scope) (r : Typing TypedExpr) → deeper_expr e flags d x ty s ≡ Some r → (c : ℕ) × (suc c ≡ d) × ElaboratesExpr e flags c x ty s r.made r.scope r.expansions
 
   module _ (d : ℕ) (deeper : IsDeeper d) where
+    -- a definition of a let, then the others
+    def_before : (name ty : Name) (value : ExprTree) (at : Position) (rest : LetTrees) (s : Scope) (own : ℕ) → type_of_name e s ty.text ≡ Some own
+        → (a : Typing TypedExpr) (b : Typing (TypedLets → TypedLets)) (c r : Typing TypedLets)
+        → typing (typed_let_and (length a.scope.vars) own a.made) (bound a.scope name.text own) a.expansions ≡ b
+        → typing (before_rest b.made c.made) c.scope (b.expansions + c.expansions) ≡ r
+        → ElaboratesExpr e flags d value (Some own) (met s name.text) a.made a.scope a.expansions
+        → ElaboratesLets e flags d rest b.scope c.made c.scope c.expansions
+        → ElaboratesLets e flags d (let_and name ty value at rest) s r.made r.scope r.expansions
+    def_before name ty value at rest s own h a b c r i j g l =
+        subst (λ (v : Typing TypedLets). ElaboratesLets e flags d (let_and name ty value at rest) s v.made v.scope v.expansions) j
+        (subst (λ (v : Typing (TypedLets → TypedLets)). ElaboratesLets e flags d (let_and name ty value at rest) s (v.made c.made) c.scope (v.expansions + c.expansions)) i
+        (a_def h g (subst (λ (v : Typing (TypedLets → TypedLets)). ElaboratesLets e flags d rest v.scope c.made c.scope c.expansions) (sym i) l)))
+
     mutual
       sound_with : (x : ExprTree) (ty : Option ℕ) (s : Scope) (r : Typing TypedExpr) → elaborated_expr e flags d x ty s ≡ Some r → ElaboratesExpr e flags d x ty s r.made r.scope r.expansions
       sound_with (term_expr name args at) ty s r h =
@@ -103,10 +117,7 @@ module _ (e : Setting) (flags : Flags) where
           let m = then_gives (type_of_name e s ty.text) _ h in
           let f = followed_gives _ (bound_let name.text m.0 (elaborated_expr e flags d value (Some m.0) (met s name.text))) (λ a. lets_with e flags (deeper_expr e flags d) rest a.scope) m.2 in
           let b = bound_gives name.text m.0 (elaborated_expr e flags d value (Some m.0) (met s name.text)) f.2 in
-          subst (λ (v : Typing TypedLets). ElaboratesLets e flags d (let_and name ty value at rest) s v.made v.scope v.expansions) f.4
-          (subst (λ (v : Typing (TypedLets → TypedLets)). ElaboratesLets e flags d (let_and name ty value at rest) s (v.made f.1.made) f.1.scope (v.expansions + f.1.expansions)) b.2
-          (a_def m.1 (sound_with value (Some m.0) (met s name.text) b.0 b.1)
-          (subst (λ (v : Typing (TypedLets → TypedLets)). ElaboratesLets e flags d rest v.scope f.1.made f.1.scope f.1.expansions) (sym b.2) (sound_lets rest f.0.scope f.1 f.3))))
+          def_before name ty value at rest s m.0 m.1 b.0 f.0 f.1 r b.2 f.4 (sound_with value (Some m.0) (met s name.text) b.0 b.1) (sound_lets rest f.0.scope f.1 f.3)
 
   is_deeper : (d : ℕ) → IsDeeper d
   is_deeper zero x ty s r h = absurd (cc)

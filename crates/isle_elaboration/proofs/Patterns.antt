@@ -1,15 +1,16 @@
 -- Patterns: the rules of typing and the function say the same.
-use Rattle.std.proofs.Common.{◌≡◌, ℕ, zero, suc, ◌+◌, ◌<◌, ◌≤◌, Bool, true, false, cond, eqb, List, [], ◌∷◌, ◌++◌, length, Option, Some, None, option_map, is_some, slice_get, subst, ⊎_elim, refl, sym, ap, ◌∙◌, arith}
+use Rattle.std.proofs.Common.{◌≡◌, ℕ, zero, suc, ◌+◌, Bool, cond, eqb, List, [], ◌∷◌, length, Some, None, is_some, subst, ⊎_elim, refl, sym, ap, ◌∙◌, arith}
 use Rattle.std.proofs.lemmas.Bool.{eq-eqb}
 use Rattle.std.proofs.lemmas.Bool.Decides.{Decides-eqb}
-use Rattle.std.proofs.lemmas.Option.{same_Some, cond_some, none-some}
+use Rattle.std.proofs.lemmas.Option.{same_Some}
 use Rattle.isle_model.specs.Syntax.{PatternTree, var_pattern, bind_pattern, bool_pattern, int_pattern, prim_pattern, term_pattern, wildcard_pattern, and_pattern, macro_arg, PatternTrees, no_pattern, pattern_and}
 use Rattle.isle_model.specs.Typed.{TypedPattern, match_bind, TypedPatterns}
 use Rattle.isle_elaboration.specs.Setting.{Setting, Scope, bound, var_of, term_of, constant_type, is_matchable, template_in, pattern_converter}
 use Rattle.isle_elaboration.specs.Expansions.{expanded, wrapped_pattern}
-use Rattle.isle_elaboration.proofs.Typings.{typing, ne-eqb, eqb-ne, then_gives, made_gives, counted_gives, followed_gives, cond_gives, if_gives, template_gives}
+use Rattle.isle_elaboration.specs.Agreement.{typing}
+use Rattle.isle_elaboration.proofs.Typings.{ne-eqb, eqb-ne, then_gives, made_gives, counted_gives, followed_gives, cond_gives, if_gives, template_gives}
 use Rattle.isle_elaboration.specs.Typings.{Typing}
-use Rattle.isle_elaboration.specs.Elaborated.{var_pattern_at, bound_after, by_template, or_expanded, elaborated_pattern, elaborated_parts, pattern_with, parts_with, each_with, deeper_pattern}
+use Rattle.isle_elaboration.specs.Elaborated.{var_pattern_at, bound_after, by_template, elaborated_pattern, elaborated_parts, each_with, deeper_pattern}
 use Rattle.isle_elaboration.specs.Elaborates.{ElaboratesPattern, ElaboratesParts, ElaboratesEach, new_name, bound_name, binding, a_truth, an_integer, a_constant, a_term, a_template, a_conversion, anything, all_of, no_part, part, no_more, one_more}
 
 module _ (e : Setting) (multi : Bool) where

@@ -8,9 +8,7 @@ use Rattle.isle_model.specs.Syntax.{PatternTree}
 use Rattle.isle_elaboration.specs.Setting.{Setting, Scope, is_expected, expr_converter}
 use Rattle.isle_elaboration.specs.Typings.{Typing, made_into, scoped, joined, followed, counted}
 use Rattle.isle_elaboration.specs.Elaborated.{or_expanded, as_expected}
-
-abbrev pub typing : {X : Type 0} → X → Scope → ℕ → Typing X
-typing q t n = record { made = q; scope = t; expansions = n }
+use Rattle.isle_elaboration.specs.Agreement.{typing}
 
 pub ne-eqb : (a b : ℕ) → (a ≡ b → ⊥) → eqb a b ≡ false
 ne-eqb a b h = elim (eqb a b) as (λ v. eqb a b ≡ v → v ≡ false) [ true ↦ λ k. absurd (h ((Decides-eqb a b).0 k)) | false ↦ λ k. refl ] refl

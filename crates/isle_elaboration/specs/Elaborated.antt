@@ -1,14 +1,15 @@
 -- What a rule's tree becomes: typed patterns, expressions and rules, by recursion on the tree, and on how deep
 -- expansions may still nest.
-use Rattle.std.specs.Prelude.{ℕ, zero, suc, pos, Bool, not, ◌&&◌, List, [], ◌∷◌, length, Option, Some, None, option_map, is_some, unwrap_or, slice_get, nat_le, drop, if◌then◌else◌}
+use Rattle.std.specs.Prelude.{◌≡◌, ℕ, zero, suc, pos, Bool, not, ◌&&◌, List, [], ◌∷◌, length, Option, Some, None, option_map, is_some, unwrap_or, slice_get, nat_le, drop, if◌then◌else◌}
 use Rattle.std.specs.Bool.{◌==◌}
 use Rattle.isle_model.specs.Syntax.{Name, PatternTree, var_pattern, bind_pattern, bool_pattern, int_pattern, prim_pattern, term_pattern, wildcard_pattern, and_pattern, macro_arg, PatternTrees, no_pattern, pattern_and, ExprTree, term_expr, var_expr, bool_expr, int_expr, prim_expr, let_expr, ExprTrees, no_expr, expr_and, LetTrees, no_let, let_and, IfLetTree, RuleTree}
-use Rattle.isle_model.specs.Names.{number}
+use Rattle.isle_model.specs.Names.{number, IsDistinct}
 use Rattle.isle_model.specs.Outcome.{then_option}
 use Rattle.isle_model.specs.Tables.{Flags, TermEntry}
 use Rattle.isle_model.specs.Values.{is_atom_type}
 use Rattle.isle_model.specs.Typed.{TypedPattern, match_bind, match_var, match_bool, match_int, match_prim, match_term, match_any, match_and, TypedPatterns, no_typed_pattern, typed_pattern_and, TypedExpr, make_term, make_var, make_bool, make_int, make_prim, make_let, TypedExprs, no_typed_expr, typed_expr_and, TypedLets, no_typed_let, typed_let_and, TypedVar, TypedIfLet, TypedRule}
 use Rattle.isle_model.specs.TermTable.{root_name}
+use Rattle.isle_model.specs.Elaboration.{named_rules, rule_names}
 use Rattle.isle_elaboration.specs.Setting.{Setting, Scope, opened, met, bound, closed, var_of, term_of, type_of_name, constant_type, bool_type, expr_type, is_expected, declared_flags, on_lhs, is_callable, is_matchable, template_in, pattern_converter, expr_converter}
 use Rattle.isle_elaboration.specs.Expansions.{expanded, wrapped_pattern, wrapped_expr}
 use Rattle.isle_elaboration.specs.Typings.{Typing, plain, made_into, scoped, followed, counted}
@@ -85,6 +86,7 @@ deeper_pattern e multi (suc d) p ty s = pattern_with e multi (deeper_pattern e m
 abbrev pub elaborated_pattern : Setting → Bool → ℕ → PatternReading
 elaborated_pattern e multi d = pattern_with e multi (deeper_pattern e multi d)
 
+-- patterns for arguments, likewise
 abbrev pub elaborated_parts : Setting → Bool → ℕ → PatternTrees → List ℕ → Scope → Option (Typing TypedPatterns)
 elaborated_parts e multi d = parts_with e multi (deeper_pattern e multi d)
 
@@ -97,6 +99,7 @@ abbrev pub bound_let : List ℕ → ℕ → Option (Typing TypedExpr) → Option
 bound_let x ty None = None
 bound_let x ty (Some a) = Some (record { made = typed_let_and (length a.scope.vars) ty a.made; scope = bound a.scope x ty; expansions = a.expansions })
 
+-- a definition before the others
 abbrev pub before_rest : (TypedLets → TypedLets) → TypedLets → TypedLets
 before_rest def rest = def rest
 
@@ -131,6 +134,7 @@ abbrev mutual
       then_option (type_of_name e s ty.text) (λ own.
       followed before_rest (bound_let name.text own (expr_with e flags deeper value (Some own) (met s name.text))) (λ a. lets_with e flags deeper rest a.scope))
 
+-- what expansions of expressions make, where so many may nest
 abbrev pub deeper_expr : Setting → Flags → ℕ → ExprReading
 deeper_expr e flags zero x ty s = None
 deeper_expr e flags (suc d) x ty s = expr_with e flags (deeper_expr e flags d) x ty s
@@ -139,6 +143,7 @@ deeper_expr e flags (suc d) x ty s = expr_with e flags (deeper_expr e flags d) x
 abbrev pub elaborated_expr : Setting → Flags → ℕ → ExprReading
 elaborated_expr e flags d = expr_with e flags (deeper_expr e flags d)
 
+-- the typed if-let of an expression and a pattern
 abbrev pub typed_iflet : TypedExpr → TypedPattern → TypedIfLet
 typed_iflet x q = record { lhs = q; rhs = x }
 
@@ -147,6 +152,7 @@ abbrev pub elaborated_iflet : Setting → Flags → ℕ → IfLetTree → Scope 
 elaborated_iflet e flags d i s =
     followed typed_iflet (elaborated_expr e (on_lhs flags) d i.expr None s) (λ a. elaborated_pattern e flags.multi d i.pattern (expr_type a.made) a.scope)
 
+-- if-lets in order
 abbrev pub elaborated_iflets : Setting → Flags → ℕ → List IfLetTree → Scope → Option (Typing (List TypedIfLet))
 elaborated_iflets e flags d [] s = Some (plain [] s)
 elaborated_iflets e flags d (i ∷ is) s = followed ◌∷◌ (elaborated_iflet e flags d i s) (λ a. elaborated_iflets e flags d is a.scope)
@@ -155,9 +161,11 @@ elaborated_iflets e flags d (i ∷ is) s = followed ◌∷◌ (elaborated_iflet 
 abbrev pub Sides : Type 0
 Sides = TypedPatterns × (List TypedIfLet × TypedExpr)
 
+-- arguments before the rest
 abbrev pub sides_of : TypedPatterns → List TypedIfLet × TypedExpr → Sides
 sides_of args rest = (args, rest)
 
+-- if-lets before the right side
 abbrev pub last_sides : List TypedIfLet → TypedExpr → List TypedIfLet × TypedExpr
 last_sides iflets rhs = (iflets, rhs)
 
@@ -173,6 +181,7 @@ elaborated_sides e flags d r t s =
     followed last_sides (elaborated_iflets e flags d r.iflets a.scope) (λ b.
     elaborated_expr e flags d r.expr (Some t.ret_ty) b.scope))
 
+-- the patterns, as a list
 abbrev pub typed_list : TypedPatterns → List TypedPattern
 typed_list no_typed_pattern = []
 typed_list (typed_pattern_and q rest) = q ∷ typed_list rest
@@ -182,6 +191,7 @@ abbrev pub with_own_name : Option Name → Scope → Scope
 with_own_name None s = s
 with_own_name (Some n) s = met s n.text
 
+-- the number of the own name, where there is one
 abbrev pub own_number : Scope → Option Name → Option ℕ
 own_number s name = option_map (λ n. number (with_own_name name s).names n.text) name
 
@@ -199,6 +209,7 @@ rule_of_sides id r t sides s = record {
   name = own_number s r.name;
 }
 
+-- the typed rule of the sides, where they have been made
 abbrev pub finished : ℕ → RuleTree → TermEntry → Option (Typing Sides) → Option (Typing TypedRule)
 finished id r t None = None
 finished id r t (Some a) = Some (record { made = rule_of_sides id r t a.made a.scope; scope = with_own_name r.name a.scope; expansions = a.expansions })
@@ -207,6 +218,7 @@ finished id r t (Some a) = Some (record { made = rule_of_sides id r t a.made a.s
 abbrev pub may_have_priority : Flags → RuleTree → Bool
 may_have_priority flags r = not (flags.multi && is_some r.prio)
 
+-- a rule of an entry of the term table, under that term's flags
 abbrev pub rule_of_term : Setting → ℕ → ℕ → RuleTree → Scope → TermEntry → Option (Typing TypedRule)
 rule_of_term e d id r s t =
     then_option (declared_flags t.kind) (λ flags. if may_have_priority flags r then finished id r t (elaborated_sides e flags d r t s) else None)
@@ -216,13 +228,15 @@ abbrev pub elaborated_rule : Setting → ℕ → ℕ → RuleTree → List (List
 elaborated_rule e d id r names =
     then_option (root_name r.pattern) (λ n. then_option (term_of e (opened names) n.text) (λ t. rule_of_term e d id r (opened names) t))
 
--- how many expansions may nest, and how many one rule may take
+-- how many expansions may nest in one another
 abbrev pub most_nested : ℕ
 most_nested = 256
 
+-- how many expansions one rule may take
 abbrev pub most_expansions : ℕ
 most_expansions = 65536
 
+-- what took no more expansions than that
 abbrev pub few_enough : {X : Type 0} → Option (Typing X) → Option (Typing X)
 few_enough None = None
 few_enough (Some a) = if nat_le a.expansions most_expansions then Some a else None
@@ -241,10 +255,25 @@ pub record TypedRules : Type 0 where
   pub rules : List TypedRule
   pub names : List (List ℕ)
 
+-- a typed rule before the others
 abbrev pub with_typed : TypedRule → Option TypedRules → Option TypedRules
 with_typed q None = None
 with_typed q (Some l) = Some (record { rules = q ∷ l.rules; names = l.names })
 
+-- the rules of a list in order, the first of which has this id
 abbrev pub typed_rules : Setting → ℕ → List RuleTree → List (List ℕ) → Option TypedRules
 typed_rules e id [] names = Some (record { rules = []; names = names })
 typed_rules e id (r ∷ rs) names = then_option (typed_rule e id r names) (λ a. with_typed a.made (typed_rules e (suc id) rs a.scope.names))
+
+-- an unnamed rule that is the only one of its term has the term's name
+abbrev pub named : Setting → TypedRules → TypedRules
+named e l = record { rules = named_rules e.terms l.rules; names = l.names }
+
+-- the typed rules of a list, with those names
+abbrev pub elaborated_rules : Setting → List RuleTree → List (List ℕ) → Option TypedRules
+elaborated_rules e trees names = option_map (named e) (typed_rules e 0 trees names)
+
+-- all rules of a list have typed rules, and no two of these have one name
+pub record RulesElaborate (e : Setting) (trees : List RuleTree) (before : List (List ℕ)) (l : TypedRules) : Type 0 where
+  pub typed : elaborated_rules e trees before ≡ Some l
+  pub distinct : IsDistinct (rule_names l.rules)

@@ -1,6 +1,6 @@
 -- The rules of typing: when a tree becomes a typed pattern, expression or rule. One case for each form, and one for each
 -- kind of expansion.
-use Rattle.std.specs.Prelude.{◌≡◌, ℕ, suc, ◌+◌, ℤ, Bool, true, List, [], ◌∷◌, length, Option, Some, None, slice_get}
+use Rattle.std.specs.Prelude.{◌≡◌, ℕ, suc, ◌+◌, ◌≤◌, ℤ, Bool, true, List, [], ◌∷◌, length, Option, Some, None, slice_get}
 use Rattle.isle_model.specs.Syntax.{Position, Name, PatternTree, var_pattern, bind_pattern, bool_pattern, int_pattern, prim_pattern, term_pattern, wildcard_pattern, and_pattern, PatternTrees, no_pattern, pattern_and, ExprTree, term_expr, var_expr, bool_expr, int_expr, prim_expr, let_expr, ExprTrees, no_expr, expr_and, LetTrees, no_let, let_and, IfLetTree, RuleTree}
 use Rattle.isle_model.specs.Names.{number}
 use Rattle.isle_model.specs.Tables.{Flags, TermEntry}
@@ -9,7 +9,7 @@ use Rattle.isle_model.specs.Typed.{TypedPattern, match_bind, match_var, match_bo
 use Rattle.isle_model.specs.TermTable.{root_name}
 use Rattle.isle_elaboration.specs.Setting.{Setting, Scope, opened, met, bound, closed, var_of, term_of, type_of_name, constant_type, bool_type, expr_type, is_expected, declared_flags, on_lhs, is_callable, is_matchable, template_in, pattern_converter, expr_converter}
 use Rattle.isle_elaboration.specs.Expansions.{expanded, wrapped_pattern, wrapped_expr}
-use Rattle.isle_elaboration.specs.Elaborated.{typed_let, root_parts, with_own_name, rule_of_sides, may_have_priority}
+use Rattle.isle_elaboration.specs.Elaborated.{typed_let, root_parts, with_own_name, rule_of_sides, may_have_priority, most_nested, most_expansions}
 
 -- by the tables, in a rule whose term is multi or not, and within d expansions nested in one another: pattern p at type
 -- ty in scope s becomes typed pattern q with scope t, by n expansions
@@ -142,3 +142,10 @@ pub data ElaboratesRule (e : Setting) (d id : ℕ) (r : RuleTree) (names : List 
       → ElaboratesIfLets e flags d r.iflets s iflets t m
       → ElaboratesExpr e flags d r.expr (Some entry.ret_ty) t rhs u k
       → ElaboratesRule e d id r names (rule_of_sides id r entry (args, (iflets, rhs)) u) (with_own_name r.name u) (n + (m + k))
+
+-- the rules of a list in order, each within the limits and from the names met before it
+pub data ElaboratesRules (e : Setting) : ℕ → List RuleTree → List (List ℕ) → List TypedRule → List (List ℕ) → Type 0 where
+  no_rule : {id : ℕ} {names : List (List ℕ)} → ElaboratesRules e id [] names [] names
+  one_rule : {id n : ℕ} {r : RuleTree} {rest : List RuleTree} {names after : List (List ℕ)} {q : TypedRule} {qs : List TypedRule} {t : Scope}
+      → ElaboratesRule e most_nested id r names q t n → n ≤ most_expansions → ElaboratesRules e (suc id) rest t.names qs after
+      → ElaboratesRules e id (r ∷ rest) names (q ∷ qs) after

@@ -37,9 +37,10 @@ expanded t args template = if length (pattern_list args) == length t.arg_tys the
 abbrev pub term_name_at : Scope → TermEntry → Position → Name
 term_name_at s t at = record { text = unwrap_or (slice_get s.names t.name) []; at = at }
 
--- a pattern and an expression inside a use of a converter
+-- a pattern inside a use of a converter
 abbrev pub wrapped_pattern : Scope → TermEntry → Position → PatternTree → PatternTree
 wrapped_pattern s t at p = term_pattern (term_name_at s t at) (pattern_and p no_pattern) at
 
+-- an expression inside a use of a converter
 abbrev pub wrapped_expr : Scope → TermEntry → Position → ExprTree → ExprTree
 wrapped_expr s t at e = term_expr (term_name_at s t at) (expr_and e no_expr) at

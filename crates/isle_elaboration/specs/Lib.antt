@@ -3,3 +3,11 @@ pub mod Expansions
 pub mod Typings
 pub mod Elaborated
 pub mod Elaborates
+pub mod Agreement
+pub mod Samples
+pub mod SampleRules
+pub mod Refused
+pub mod Carried
+pub mod Doubling
+pub mod Results
+pub mod Formed

@@ -10,9 +10,9 @@ use Rattle.isle_model.specs.Meaning.{look}
 use Rattle.isle_model.specs.Typed.{TypedExpr, make_term, make_var, make_bool, make_int, make_prim, make_let, TypedVar}
 use Rattle.isle_model.specs.Elaboration.{new_var, var_named}
 
--- types by id, and the numbers of their names; the types of named constants by the number of the name; terms by id;
--- converters by inner and outer type; whether internal extractors are expanded; whether the rules of a term without
--- multi may use multi extractors
+-- types by id, and the numbers of the names that their definitions give them; the types of named constants by the number
+-- of the name; terms by id; converters by inner and outer type; whether internal extractors are expanded; whether the
+-- rules of a term without multi may use multi extractors
 pub record Setting : Type 0 where
   pub types : List TypeEntry
   pub type_names : List ℕ
@@ -58,6 +58,7 @@ abbrev pub entry_named : ℕ → List TermEntry → Option TermEntry
 entry_named name [] = None
 entry_named name (t ∷ ts) = if t.name == name then Some t else entry_named name ts
 
+-- the term of a name
 abbrev pub term_of : Setting → Scope → List ℕ → Option TermEntry
 term_of e s x = entry_named (number s.names x) e.terms
 
@@ -92,6 +93,7 @@ abbrev pub has_constructor : TermKindEntry → Bool
 has_constructor (declared_term flags constructor_kind extractor_kind) = is_some constructor_kind
 has_constructor _ = true
 
+-- likewise for patterns
 abbrev pub has_extractor : TermKindEntry → Bool
 has_extractor (declared_term flags constructor_kind extractor_kind) = is_some extractor_kind
 has_extractor _ = true
@@ -126,6 +128,7 @@ extractor_template None = None
 extractor_template (Some (internal_extractor template)) = Some template
 extractor_template (Some (external_extractor name infallible at)) = None
 
+-- the template of a term that has one
 abbrev pub kind_template : TermKindEntry → Option PatternTree
 kind_template (declared_term flags constructor_kind extractor_kind) = extractor_template extractor_kind
 kind_template _ = None
@@ -138,12 +141,15 @@ template_in e kind = if e.expand then kind_template kind else None
 abbrev pub converter : Setting → ℕ → ℕ → Option TermEntry
 converter e inner outer = then_option (look (λ k. (k.0 == inner) && (k.1 == outer)) e.converters) (slice_get e.terms)
 
+-- a term that passes a test
 abbrev pub that : (TermEntry → Bool) → Option TermEntry → Option TermEntry
 that p None = None
 that p (Some t) = if p t then Some t else None
 
+-- the converter between two types, if it converts patterns
 abbrev pub pattern_converter : Setting → ℕ → ℕ → Option TermEntry
 pattern_converter e inner outer = that (λ t. has_extractor t.kind) (converter e inner outer)
 
+-- the converter between two types, if it converts expressions
 abbrev pub expr_converter : Setting → ℕ → ℕ → Option TermEntry
 expr_converter e inner outer = that (λ t. has_constructor t.kind) (converter e inner outer)

@@ -2,6 +2,7 @@
 use Rattle.std.specs.Prelude.{ℕ, suc, ◌+◌, Option, Some, None}
 use Rattle.isle_elaboration.specs.Setting.{Scope}
 
+-- what was made, the scope after it, and the number of expansions
 pub record Typing (X : Type 0) : Type 0 where
   pub made : X
   pub scope : Scope
@@ -16,6 +17,7 @@ abbrev pub made_into : {X Y : Type 0} → (X → Y) → Option (Typing X) → Op
 made_into f None = None
 made_into f (Some a) = Some (record { made = f a.made; scope = a.scope; expansions = a.expansions })
 
+-- the same of what was made, in another scope
 abbrev pub scoped : {X : Type 0} → (Scope → Scope) → Option (Typing X) → Option (Typing X)
 scoped f None = None
 scoped f (Some a) = Some (record { made = a.made; scope = f a.scope; expansions = a.expansions })
@@ -25,6 +27,7 @@ abbrev pub joined : {X Y Z : Type 0} → (X → Y → Z) → Typing X → Option
 joined f a None = None
 joined f a (Some b) = Some (record { made = f a.made b.made; scope = b.scope; expansions = a.expansions + b.expansions })
 
+-- one tree, then the next, from what the first gave
 abbrev pub followed : {X Y Z : Type 0} → (X → Y → Z) → Option (Typing X) → (Typing X → Option (Typing Y)) → Option (Typing Z)
 followed f None next = None
 followed f (Some a) next = joined f a (next a)

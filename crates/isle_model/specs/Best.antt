@@ -10,19 +10,20 @@ use Rattle.isle_model.specs.Tests.{Test, match_test, equal_test, loop_test, prio
 
 -- the test is open, and no open test has a greater score
 pub record IsGreatest (set : SiteSet) (ar : Around) (here : List ℕ) (t : Test) : Type 0 where
-  pub at_hand : IsOpen set ar t
+  pub open_here : IsOpen set ar t
   pub greatest : (u : Test) → IsOpen set ar u → is_greater (score set ar here u) (score set ar here t) ≡ false
 
--- the greatest test of a place is made, for exactly the rules that it covers; these are some
-pub record IsMade (set : SiteSet) (ar : Around) (covered later : List ℕ) (t : Test) : Type 0 where
-  pub test : IsGreatest set ar (covered ++ later) t
-  pub rules : cover set.rules (covered ++ later) t ≡ covered
-  pub some_rule : covered ≢ []
+-- the greatest test of a place is made, and its step holds exactly the rules that it covers; these are some
+pub record IsMade (set : SiteSet) (ar : Around) (held later : List ℕ) (t : Test) : Type 0 where
+  pub test : IsGreatest set ar (held ++ later) t
+  pub rules : cover set.rules (held ++ later) t ≡ held
+  pub some_rule : held ≢ []
 
--- by descending priority, then rule order
+-- of two rules, i stands first: it has the greater priority, or one priority and the smaller number
 abbrev pub comes_first : List SetRule → ℕ → ℕ → Bool
 comes_first rules i j = or_later (is_lower rules j i) (int_eq (priority (slice_get rules j)) (priority (slice_get rules i))) (nat_lt i j)
 
+-- by descending priority, then rule order
 abbrev pub descend : List SetRule → List ℕ → Bool
 descend rules [] = true
 descend rules (i ∷ is) = list_all (comes_first rules i) is && descend rules is
@@ -64,6 +65,7 @@ abbrev mutual
       × BestSteps set (in_arm set ar source constraint fields) false body
       × BestArms set ar source (Some constraint) rest
 
+-- no number stands twice
 abbrev pub are_distinct : List ℕ → Bool
 are_distinct [] = true
 are_distinct (x ∷ xs) = not (is_in x xs) && are_distinct xs
@@ -90,6 +92,7 @@ abbrev mutual
   no_site_twice_among matched joined no_arm = true
   no_site_twice_among matched joined (arm constraint fields body rest) = no_site_twice matched joined body && no_site_twice_among matched joined rest
 
+-- the same of a whole tree
 abbrev pub NoSiteTwice : Tree → Type 0
 NoSiteTwice tree = IsTrue (no_site_twice [] [] tree)
 
@@ -117,13 +120,36 @@ total_constraints r = length r.constraints + sum_by length r.classes
 abbrev pub most_steps : SetRule → ℕ
 most_steps r = suc (total_constraints r + length r.iterators)
 
+-- all blocks together hold at most so many steps as all rules may take
 abbrev pub HasFewSteps : SiteSet → Tree → Type 0
 HasFewSteps set tree = steps_of tree ≤ sum_by most_steps set.rules
 
--- a best tree of a set
+-- a best tree of a set: its returns are the set's rules, each once; each test is the greatest of its place, for exactly
+-- the rules that it covers; and what follows from that
 pub record IsBestTree (set : SiteSet) (tree : Tree) : Type 0 where
   pub marked : Marked
   pub returns : ReturnsEach set tree marked
   pub steps : BestSteps set nothing_around false marked
   pub no_site_twice : NoSiteTwice tree
   pub few_steps : HasFewSteps set tree
+
+-- no open test of a place covers more rules than the step there holds
+abbrev pub NoneCoversMore : SiteSet → Around → List ℕ → List ℕ → Type 0
+NoneCoversMore set ar held later = (u : Test) → IsOpen set ar u → length (cover set.rules (held ++ later) u) ≤ length held
+
+-- nowhere would an open test cover more rules than the test made: not at a test, and at the end of a block, where none
+-- is made, it would cover none
+abbrev mutual
+  pub SharesMost : SiteSet → Around → Bool → Marked → Type 0
+  SharesMost set ar closing m_no_step = Unit {0}
+  SharesMost set ar closing (m_step binds check rest) = SharesMostIn set ar closing (marks rest) check × SharesMost set (after_step set ar check) (is_return check) rest
+
+  pub SharesMostIn : SiteSet → Around → Bool → List ℕ → MarkedCheck → Type 0
+  SharesMostIn set ar closing later (m_match source arms) = NoneCoversMore set ar (marks_arms arms) later × SharesMostAmong set ar source arms
+  SharesMostIn set ar closing later (m_equal a b body) = NoneCoversMore set ar (marks body) later × SharesMost set (in_equal set ar a b) false body
+  SharesMostIn set ar closing later (m_loop result body) = NoneCoversMore set ar (marks body) later × SharesMost set (in_loop set ar result) false body
+  SharesMostIn set ar closing later (m_return rule) = closing ≡ false → NoneCoversMore set ar [] (rule ∷ later)
+
+  pub SharesMostAmong : SiteSet → Around → ℕ → MarkedArms → Type 0
+  SharesMostAmong set ar source m_no_arm = Unit {0}
+  SharesMostAmong set ar source (m_arm constraint fields body rest) = SharesMost set (in_arm set ar source constraint fields) false body × SharesMostAmong set ar source rest

@@ -1,13 +1,12 @@
 -- The results of a multi term: what the run of its tree collects, and what theory is to prove of sound trees.
-use Rattle.std.specs.Prelude.{◌≡◌, ℕ, suc, ◌<◌, Bool, true, false, ◌&&◌, List, [], ◌∷◌, ◌++◌, length, map, Option, Some, None, if◌then◌else◌, slice_get, is_some, All, Contains, IsTrue, IsPermutation, nat_lt}
-use Rattle.std.specs.Bool.{◌==◌}
-use Rattle.std.specs.List.{filter, flat_map, list_all, list_any}
+use Rattle.std.specs.Prelude.{◌≡◌, ℕ, suc, ◌<◌, Bool, true, false, ◌&&◌, List, [], ◌∷◌, ◌++◌, length, map, Option, Some, None, if◌then◌else◌, slice_get, is_some, All, Contains, IsTrue, IsPermutation}
+use Rattle.std.specs.List.{filter, flat_map, list_all}
 use Rattle.isle_model.specs.Values.{Value, value_eq, args_well_typed}
 use Rattle.isle_model.specs.Meaning.{Content, one, many, Contents, Meaning}
 use Rattle.isle_model.specs.Outcome.{Outcome, ran_through, then_option}
 use Rattle.isle_model.specs.Program.{Program, is_multi, arg_types, rules_of}
 use Rattle.isle_model.specs.Names.{IsDistinct}
-use Rattle.isle_model.specs.Sites.{Site, constructor_site, iterator_site, match_variant_site, extract_struct_site, match_some_site, Constraint, is_variant, is_struct, is_present, SetRule, SiteSet, sources_at, SiteTerm, extractor_call, constructor_call, pick_of, variant_made, variant_field, struct_made, struct_field, some_made, some_part, tuple_part, SiteTerms, no_site_term, site_term_and, unfold_site}
+use Rattle.isle_model.specs.Sites.{Site, constructor_site, Constraint, SetRule, SiteSet, sources_at, SiteTerm, extractor_call, constructor_call, pick_of, variant_made, variant_field, struct_made, struct_field, some_made, some_part, tuple_part, SiteTerms, no_site_term, site_term_and, unfold_site}
 use Rattle.isle_model.specs.Demands.{Visit, visit_start, with_demands, visit_args, visit_pattern, visit_expr, has_site, demands_of}
 use Rattle.isle_model.specs.Serves.{Serves, TellsConstantsApart}
 use Rattle.isle_model.specs.Trees.{Tree}
@@ -17,8 +16,9 @@ use Rattle.isle_model.specs.Sound.{IsSound}
 use Rattle.isle_model.specs.Built.{numbers_from, world_of}
 use Rattle.isle_model.specs.Picks.{Pick, site_content, picks_over, bag}
 use Rattle.isle_model.specs.Typed.{TypedIfLet, TypedRule}
+use Rattle.isle_model.specs.Gates.{gate_demanded}
 
--- a run went through without calls, and its results are this bag, in whatever order
+-- a run went through without impure calls, and its results are this bag, in whatever order
 pub record Collects (o : Outcome) (expected : List Content) : Type 0 where
   pub calls : o.calls ≡ []
   pub ending : o.ending ≡ ran_through
@@ -54,21 +54,21 @@ iflets_need_calls p (i ∷ rest) v =
     let a = visit_expr p i.rhs (afresh v) in
     list_all (has_site (calls_in a.site)) a.visit.demands.iterators && iflets_need_calls p rest (visit_pattern p i.lhs a.site a.visit)
 
--- no if-let leaves a multi call of its expression unused: so the rule demands each gate that its sites stand behind
-abbrev pub DemandsEveryGate : Program → TypedRule → Type 0
-DemandsEveryGate p r = IsTrue (iflets_need_calls p r.iflets (visit_args p 0 r.args visit_start))
+-- the value of each if-let of a rule takes an answer of each multi call that the if-let's expression makes
+abbrev pub LeavesNoCallUnused : Program → TypedRule → Type 0
+LeavesNoCallUnused p r = IsTrue (iflets_need_calls p r.iflets (visit_args p 0 r.args visit_start))
 
--- a rule whose results the run of a tree collects: it makes no impure call and demands every gate
-pub record IsCollected (p : Program) (r : TypedRule) : Type 0 where
+-- a typed rule whose results a run collects: it makes no impure call, and no if-let leaves a multi call unused
+pub record HasCollectedResults (p : Program) (r : TypedRule) : Type 0 where
   pub no_calls : (demands_of p r).impure ≡ []
-  pub gates : DemandsEveryGate p r
+  pub no_call_unused : LeavesNoCallUnused p r
 
--- for a multi term whose rules make no impure call and demand every gate: on all well-typed arguments, and under every
--- meaning that serves the term's rules and tells constants apart, the tree's run goes through without calls, and its
--- results are the bag of the rules' results
-abbrev pub CollectsAsChosen : Program → ℕ → List Site → Tree → Type 0
-CollectsAsChosen p t sites tree =
-    is_multi p t ≡ true → All (IsCollected p) (rules_of p t) → (m : Meaning) (args : List Value)
+-- for a multi term whose rules make no impure call and leave no multi call of an if-let unused: on all well-typed
+-- arguments, and under every meaning that serves the term's rules and tells constants apart, the tree's run goes through
+-- without impure calls, and its results are the bag of the rules' results
+abbrev pub CollectsTheBag : Program → ℕ → List Site → Tree → Type 0
+CollectsTheBag p t sites tree =
+    is_multi p t ≡ true → All (HasCollectedResults p) (rules_of p t) → (m : Meaning) (args : List Value)
     → IsTrue (args_well_typed p.types (arg_types p t) args) → Serves p m args (rules_of p t) → TellsConstantsApart p m (rules_of p t)
     → Collects (run tree (world_of p t sites m args)) (bag p m (rules_of p t) args)
 
@@ -81,18 +81,21 @@ calls_gone_over set r = map (unfold_site set.sites) (filter (λ s. is_in s r.ite
 abbrev pub content_at : World → Pick → ℕ → Option Content
 content_at w k s = site_content w.meaning w.args k (unfold_site w.sites s)
 
--- whether a content is there and meets the constraint, whether two are there and are one value
+-- whether a content is there and meets the constraint
 abbrev pub meets : Meaning → Constraint → Option Content → Bool
 meets m c None = false
 meets m c (Some x) = is_some (content_fields m c x)
 
+-- whether both are there and are one value
 abbrev pub same_value : Option Value → Option Value → Bool
 same_value (Some v) (Some w) = value_eq v w
 same_value _ _ = false
 
+-- the value of a site's number under a pick, where its content is one value
 abbrev pub value_at : World → Pick → ℕ → Option Value
 value_at w k s = then_option (content_at w k s) as_value
 
+-- whether all sites of a class have one value, the first one's
 abbrev pub all_same : World → Pick → List ℕ → Bool
 all_same w k [] = true
 all_same w k (s ∷ rest) = list_all (λ t. same_value (value_at w k s) (value_at w k t)) rest
@@ -101,10 +104,12 @@ all_same w k (s ∷ rest) = list_all (λ t. same_value (value_at w k s) (value_a
 abbrev pub demands_hold : World → Pick → SetRule → Bool
 demands_hold w k r = list_all (λ d. meets w.meaning d.1 (content_at w k d.0)) r.constraints && list_all (all_same w k) r.classes
 
+-- one element, or none
 abbrev pub as_list : {X : Type 0} → Option X → List X
 as_list None = []
 as_list (Some x) = x ∷ []
 
+-- the result of a set's rule under a pick, where its demands hold
 abbrev pub result_in : World → SetRule → Pick → List Content
 result_in w r k = if demands_hold w k r then as_list (content_at w k r.result) else []
 
@@ -112,55 +117,40 @@ result_in w r k = if demands_hold w k r then as_list (content_at w k r.result) e
 abbrev pub set_bag : SiteSet → World → List Content
 set_bag set w = flat_map (λ r. flat_map (result_in w r) (picks_over w.meaning w.args [] (calls_gone_over set r))) set.rules
 
--- whether a rule asks a site to be that variant, or to be a struct, with more than i fields
-abbrev pub asks_variant : ℕ → ℕ → ℕ → ℕ × Constraint → Bool
-asks_variant s variant i (a, is_variant ty v fields) = (a == s) && (v == variant) && nat_lt i fields
-asks_variant s variant i _ = false
-
-abbrev pub asks_struct : ℕ → ℕ → ℕ × Constraint → Bool
-asks_struct s i (a, is_struct ty fields) = (a == s) && nat_lt i fields
-asks_struct s i _ = false
-
-abbrev pub asks_answer : ℕ → ℕ × Constraint → Bool
-asks_answer s (a, is_present) = a == s
-asks_answer s _ = false
-
--- whether a rule demands what a site waits for: the form of a field's source, that an unwrapped call answers, that a
--- call whose answers are picked is gone over
-abbrev pub gate_demanded : SetRule → Option Site → Bool
-gate_demanded r (Some (match_variant_site source variant field)) = list_any (asks_variant source variant field) r.constraints
-gate_demanded r (Some (extract_struct_site source field)) = list_any (asks_struct source field) r.constraints
-gate_demanded r (Some (match_some_site source)) = list_any (asks_answer source) r.constraints
-gate_demanded r (Some (iterator_site source)) = is_in source r.iterators
-gate_demanded r _ = true
-
 -- the sites that a rule tests, goes over and returns
 abbrev pub sites_of_rule : SetRule → List ℕ
 sites_of_rule r = map (λ d. d.0) r.constraints ++ flat_map (λ c. c) r.classes ++ r.iterators ++ r.result ∷ []
 
--- a rule of a set without impure calls that demands each gate below its sites
+-- whether binding a site makes no impure call
+abbrev pub calls_nothing : Option Site → Bool
+calls_nothing (Some (constructor_site term sources (suc before))) = false
+calls_nothing _ = true
+
+-- a rule of a set whose results a run collects: below its sites stand no impure calls, and only gates that it demands
 pub record IsCollectedRule (sites : List Site) (r : SetRule) : Type 0 where
   pub known : All (λ s. s < length sites) (sites_of_rule r)
   pub no_calls : r.impure ≡ []
+  pub pure : All (λ s. IsTrue (calls_nothing (slice_get sites s))) (all_below sites (sites_of_rule r))
   pub gates : All (λ s. IsTrue (gate_demanded r (slice_get sites s))) (all_below sites (sites_of_rule r))
 
+-- a site that isn't an impure call
 abbrev pub IsPureSite : Site → Type 0
 IsPureSite (constructor_site term sources (suc before)) = ⊥
 IsPureSite _ = Unit {0}
 
--- a set whose sites stand once, after their sources, and make no impure call, with such rules
+-- a set whose sites stand once, after their sources, with such rules. Sites that none of its rules uses may be anything:
+-- a rule that was left out leaves its sites behind
 pub record IsCollectedSet (set : SiteSet) : Type 0 where
   pub once : IsDistinct set.sites
   pub sources : (s a : ℕ) → Contains (sources_at set.sites s) a → a < s
-  pub pure : All IsPureSite set.sites
   pub rules : All (IsCollectedRule set.sites) set.rules
 
--- under every pick, the world has a content for each site that waits for nothing and whose sources have one; a call
--- that is gone over answers a list, equal sites have values, and a content that meets a constraint has its number of
--- fields and meets no other constraint that rules ask of the site
+-- under every pick, the world has a content for each site that is no impure call, waits for nothing and whose sources
+-- have one; a call that is gone over answers a list, equal sites have values, and a content that meets a constraint has
+-- its number of fields and meets no other constraint that rules ask of the site
 pub record ServesSet (set : SiteSet) (w : World) : Type 0 where
   pub sites : w.sites ≡ set.sites
-  pub found : (k : Pick) (s : ℕ) → s < length set.sites → waits (slice_get set.sites s) ≡ false
+  pub found : (k : Pick) (s : ℕ) → s < length set.sites → waits (slice_get set.sites s) ≡ false → IsTrue (calls_nothing (slice_get set.sites s))
       → All (λ a. IsTrue (is_some (content_at w k a))) (sources_at set.sites s) → IsTrue (is_some (content_at w k s))
   pub lists : (k : Pick) (r : SetRule) (s : ℕ) (c : Content) → Contains set.rules r → Contains r.iterators s → content_at w k s ≡ Some c → (cs : Contents) × (c ≡ many cs)
   pub values : (k : Pick) (r : SetRule) (a b : ℕ) (c : Content) → Contains set.rules r → IsTrue (joins_in r.classes a b) → content_at w k a ≡ Some c → (v : Value) × (c ≡ one v)

@@ -19,6 +19,7 @@ pub mod Sound
 pub mod Tests
 pub mod Best
 pub mod Judge
+pub mod WellBuilt
 pub mod Runs
 pub mod Simple
 pub mod Built
@@ -33,3 +34,4 @@ pub mod Overlap
 pub mod Picks
 pub mod Collects
 pub mod SetRuns
+pub mod Gates

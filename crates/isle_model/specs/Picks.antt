@@ -20,6 +20,7 @@ use Rattle.isle_model.specs.Typed.{TypedPattern, match_bind, match_var, match_bo
 abbrev pub Pick : Type 0
 Pick = List (SiteTerm × ℕ)
 
+-- the place that a pick gives a call, where it names it
 abbrev pub place_of : Pick → SiteTerm → Option ℕ
 place_of k call = look (λ s. site_term_eq s call) k
 
@@ -33,15 +34,17 @@ abbrev pub taken_answer : Bool → Pick → SiteTerm → Content → Option Cont
 taken_answer true k call c = picked k call c
 taken_answer false k call c = Some c
 
--- the field of a value of that variant, of a struct
+-- the field of a value of that variant
 abbrev pub field_of_variant : ℕ → ℕ → Value → Option Content
 field_of_variant variant i (of_variant ty j vs) = if j == variant then from_value (slice_get (listed vs) i) else None
 field_of_variant variant i _ = None
 
+-- the field of a struct's value
 abbrev pub field_of_struct : ℕ → Value → Option Content
 field_of_struct i (of_struct ty vs) = from_value (slice_get (listed vs) i)
 field_of_struct i _ = None
 
+-- what an answer has, where it isn't nothing
 abbrev pub part_of_some : Content → Option Content
 part_of_some (just c) = Some c
 part_of_some _ = None
@@ -78,22 +81,23 @@ abbrev mutual
 abbrev pub multi_calls : Program → TypedRule → List SiteTerm
 multi_calls p r = with_sites [] (demands_of p r).iterators
 
--- a pick of a rule: each of its different multi calls, in the order met, with one place in the list that it answers
--- under this pick. Where a call answers no list, since an argument of it has no value, there is no place, and the rule
--- has no pick
+-- a pick of a rule: each of its different multi calls, in the order in which the rule's own visit first meets them, with
+-- one place in the list that it answers under this pick. The order makes each pick one list; nothing that is done under a
+-- pick depends on it, but on the places alone. A set's rule may go over the same calls in another order. Where a call
+-- answers no list, since an argument of it has no value, there is no place, and the rule has no pick
 pub record IsPick (p : Program) (m : Meaning) (args : List Value) (r : TypedRule) (k : Pick) : Type 0 where
   pub calls : map (λ e. e.0) k ≡ multi_calls p r
   pub places : (call : SiteTerm) (n : ℕ) → Contains k (call, n) → (cs : Contents) × (site_content m args k call ≡ Some (many cs)) × (n < length (contents cs))
 
 -- the places of the list that a call answers
-abbrev pub places : Option Content → List ℕ
-places (Some (many cs)) = numbers_from 0 (contents cs)
-places _ = []
+abbrev pub places_in : Option Content → List ℕ
+places_in (Some (many cs)) = numbers_from 0 (contents cs)
+places_in _ = []
 
 -- a pick and all places of further calls: each call answers under the places taken before it
 abbrev pub picks_over : Meaning → List Value → Pick → List SiteTerm → List Pick
 picks_over m args k [] = k ∷ []
-picks_over m args k (call ∷ calls) = flat_map (λ n. picks_over m args (k ++ (call, n) ∷ []) calls) (places (site_content m args k call))
+picks_over m args k (call ∷ calls) = flat_map (λ n. picks_over m args (k ++ (call, n) ∷ []) calls) (places_in (site_content m args k call))
 
 -- all picks of a rule, each once
 abbrev pub picks : Program → Meaning → List Value → TypedRule → List Pick
@@ -104,6 +108,7 @@ pub record Sited : Type 0 where
   pub site : SiteTerm
   pub value : Option Value
 
+-- a site with a value, or with none
 abbrev pub sited : SiteTerm → Option Value → Sited
 sited s o = record { site = s; value = o }
 
@@ -111,14 +116,16 @@ sited s o = record { site = s; value = o }
 abbrev pub SitedVars : Type 0
 SitedVars = List (ℕ × Sited)
 
+-- a variable's value, where it was bound and didn't fail
 abbrev pub sited_value : SitedVars → ℕ → Option Value
 sited_value e x = then_option (look (λ k. k == x) e) (λ s. s.value)
 
--- the variables without their values, and without their sites
+-- the variables without their values
 abbrev pub sites_in : SitedVars → List (ℕ × SiteTerm)
 sites_in [] = []
 sites_in (b ∷ e) = (b.0, b.1.site) ∷ sites_in e
 
+-- the variables without their sites
 abbrev pub values_in : SitedVars → List (ℕ × Option Value)
 values_in [] = []
 values_in (b ∷ e) = (b.0, b.1.value) ∷ values_in e
@@ -127,10 +134,11 @@ values_in (b ∷ e) = (b.0, b.1.value) ∷ values_in e
 abbrev pub visit_at : SitedVars → ℕ → Visit
 visit_at e n = record { vars = sites_in e; impure_calls = n; demands = visit_start.demands }
 
--- the sites that demands name an expression and a term's arguments by
+-- the site that demands name an expression by, after n impure calls
 abbrev pub expr_site : Program → TypedExpr → SitedVars → ℕ → SiteTerm
 expr_site p x e n = (visit_expr p x (visit_at e n)).site
 
+-- the sites that demands name the arguments of an expression's term by
 abbrev pub expr_sites : Program → TypedExprs → SitedVars → ℕ → SiteTerms
 expr_sites p xs e n = (visit_exprs p xs (visit_at e n)).sites
 
@@ -231,6 +239,7 @@ applied_under (a_variant ty variant) m k t ss vs calls = applied (a_variant ty v
 applied_under (a_struct ty) m k t ss vs calls = applied (a_struct ty) m t vs calls
 applied_under unknown m k t ss vs calls = applied unknown m t vs calls
 
+-- a term with its arguments' sites, after its arguments: one that ended all ends it too
 abbrev pub apply_under : Kind → Meaning → Pick → ℕ → SiteTerms → EvalAll → Eval
 apply_under kd m k t ss (ends_all calls) = ends calls
 apply_under kd m k t ss (gives_all vs calls) = applied_under kd m k t ss vs calls
@@ -240,10 +249,12 @@ pub data SitedLets : Type 0 where
   gives_sited : (vars : SitedVars) (calls : List Call) → SitedLets
   ends_sited : (calls : List Call) → SitedLets
 
+-- further definitions, after one's value
 abbrev pub then_sited_lets : Eval → (Option Value → List Call → SitedLets) → SitedLets
 then_sited_lets (ends calls) go = ends_sited calls
 then_sited_lets (gives o calls) go = go o calls
 
+-- the body, after the definitions
 abbrev pub then_sited_body : SitedLets → (SitedVars → List Call → Eval) → Eval
 then_sited_body (ends_sited calls) go = ends calls
 then_sited_body (gives_sited e calls) go = go e calls
@@ -276,6 +287,7 @@ abbrev pub results_with : Program → Meaning → Pick → TypedRule → Option 
 results_with p m k r None = []
 results_with p m k r (Some e) = (right_side_under p m k r e).results
 
+-- the result of a rule on these arguments under a pick
 abbrev pub results_under : Program → Meaning → List Value → TypedRule → Pick → List Content
 results_under p m args r k = results_with p m k r (matches_under p m k r args)
 

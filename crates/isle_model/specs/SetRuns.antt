@@ -10,7 +10,8 @@ use Rattle.isle_model.specs.Trees.{Tree, no_step, step, return_at}
 use Rattle.isle_model.specs.Run.{World, Env, bound_to, used, content_fields, at_start, run_tree, run}
 use Rattle.isle_model.specs.Places.{Around, is_in, joins_in, waits, all_below, fields_of, bind_order, return_uses}
 use Rattle.isle_model.specs.Sound.{IsSound}
-use Rattle.isle_model.specs.Collects.{content_at, meets, demands_hold, gate_demanded, IsPureSite}
+use Rattle.isle_model.specs.Collects.{content_at, meets, demands_hold, IsPureSite}
+use Rattle.isle_model.specs.Gates.{gate_demanded}
 
 -- the sites that a rule tests
 abbrev pub tested_sites : SetRule → List ℕ

@@ -1,5 +1,5 @@
 -- Tests at a place of a tree: which rules need one, which are open, what each covers, and its score.
-use Rattle.std.specs.Prelude.{ℕ, zero, suc, ℤ, pos, Bool, true, false, not, ◌&&◌, ◌||◌, nat_lt, List, [], ◌∷◌, ◌++◌, length, map, Option, Some, None, is_some, slice_get, IsTrue}
+use Rattle.std.specs.Prelude.{ℕ, zero, suc, ℤ, pos, Bool, false, not, ◌&&◌, ◌||◌, nat_lt, List, [], ◌∷◌, ◌++◌, length, map, Option, Some, None, is_some, slice_get, IsTrue}
 use Rattle.std.specs.Bool.{◌==◌}
 use Rattle.std.specs.Ordering.{int_cmp, is_lt}
 use Rattle.std.specs.List.{filter, list_all, flat_map}
@@ -7,6 +7,7 @@ use Rattle.isle_model.specs.Sites.{SetRule, SiteSet}
 use Rattle.isle_model.specs.Places.{Around, is_in, joins, joins_in, constraint_at, available}
 use Rattle.isle_model.specs.Sound.{or_later, as_number}
 
+-- what a step can test: the form of a site, that two sites are equal, or each answer of a call
 pub data Test : Type 0 where
   match_test : (s : ℕ) → Test
   equal_test : (a b : ℕ) → Test
@@ -19,10 +20,12 @@ needs (match_test s) r = is_some (constraint_at r.constraints s)
 needs (equal_test a b) r = joins_in r.classes a b
 needs (loop_test s) r = is_in s r.iterators
 
+-- whether the rule, if there is one, needs the test
 abbrev pub is_needed : Test → Option SetRule → Bool
 is_needed t None = false
 is_needed t (Some r) = needs t r
 
+-- the rule's priority, and 0 where there is none
 abbrev pub priority : Option SetRule → ℤ
 priority None = pos 0
 priority (Some r) = r.prio
@@ -35,7 +38,7 @@ needs_at rules t i = is_needed t (slice_get rules i)
 abbrev pub is_lower : List SetRule → ℕ → ℕ → Bool
 is_lower rules i j = is_lt (int_cmp (priority (slice_get rules i)) (priority (slice_get rules j)))
 
--- each rule here needs the test, or has at most the priority of the rule at i
+-- the rule at i needs the test, and each rule here needs it too or has at most its priority
 abbrev pub is_covered : List SetRule → List ℕ → Test → ℕ → Bool
 is_covered rules here t i = needs_at rules t i && list_all (λ j. needs_at rules t j || not (is_lower rules i j)) here
 
@@ -51,7 +54,7 @@ sources_around ar = map (λ d. d.0) ar.tested ++ ar.looped
 abbrev pub is_at_hand : SiteSet → Around → ℕ → Bool
 is_at_hand set ar s = nat_lt s (length set.sites) && available set.sites ar s
 
--- and the source of no arm or loop around
+-- an available site that is the source of no arm or loop around
 abbrev pub is_open_site : SiteSet → Around → ℕ → Bool
 is_open_site set ar s = is_at_hand set ar s && not (is_in s (sources_around ar))
 
@@ -59,12 +62,13 @@ is_open_site set ar s = is_at_hand set ar s && not (is_in s (sources_around ar))
 abbrev pub is_open_pair : SiteSet → Around → ℕ → ℕ → Bool
 is_open_pair set ar a b = nat_lt a b && is_at_hand set ar a && is_at_hand set ar b && not (joins ar.joined a b)
 
+-- whether a test could be made: of sites that are open, or of a pair that is
 abbrev pub is_open : SiteSet → Around → Test → Bool
 is_open set ar (match_test s) = is_open_site set ar s
 is_open set ar (equal_test a b) = is_open_pair set ar a b
 is_open set ar (loop_test s) = is_open_site set ar s
 
--- the test could be made at the place
+-- the test is open at the place
 abbrev pub IsOpen : SiteSet → Around → Test → Type 0
 IsOpen set ar t = IsTrue (is_open set ar t)
 
@@ -73,9 +77,11 @@ abbrev pub up_to : ℕ → List ℕ
 up_to zero = []
 up_to (suc n) = up_to n ++ n ∷ []
 
+-- the open sites, ascending
 abbrev pub open_sites : SiteSet → Around → List ℕ
 open_sites set ar = filter (is_open_site set ar) (up_to (length set.sites))
 
+-- the open pairs of which b is the greater
 abbrev pub open_pairs_at : SiteSet → Around → ℕ → List Test
 open_pairs_at set ar b = map (λ a. equal_test a b) (filter (λ a. is_open_pair set ar a b) (up_to b))
 
@@ -93,6 +99,7 @@ pub record Score : Type 0 where
   pub site : ℕ
   pub other : ℕ
 
+-- the score of a test at a place with these rules
 abbrev pub score : SiteSet → Around → List ℕ → Test → Score
 score set ar here (match_test s) = record { count = length (cover set.rules here (match_test s)); emitted = as_number (is_in s ar.emitted); form = 0; site = s; other = 0 }
 score set ar here (equal_test a b) = record { count = length (cover set.rules here (equal_test a b)); emitted = as_number (is_in a ar.emitted && is_in b ar.emitted); form = 1; site = a; other = b }

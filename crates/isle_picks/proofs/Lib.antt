@@ -1,2 +1,13 @@
 pub mod Plain
 pub mod MultiCollected
+pub mod SamplesServed
+pub mod SameSites
+pub mod Ordered
+pub mod Enumerated
+pub mod MultiSound
+pub mod OnePick
+pub mod Held
+pub mod LeftOver
+pub mod SamePlaces
+pub mod NoIterators
+pub mod FirstCall

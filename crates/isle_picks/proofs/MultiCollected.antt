@@ -1,8 +1,10 @@
 -- The run of the multi sample's tree collects the bag.
-use Rattle.std.proofs.Common.{pos, [], ◌∷◌, refl, arith}
+use Rattle.std.proofs.Common.{ℕ, pos, [], ◌∷◌, refl, arith}
 use Rattle.std.specs.Prelude.{IsPermutation}
-use Rattle.std.proofs.lemmas.List.Sorted.{IsPermutation-refl}
-use Rattle.isle_picks.specs.Samples.{each, MultiCollects}
+use Rattle.std.proofs.lemmas.List.Sorted.{IsPermutation-refl, length_permutation, sum_by-IsPermutation}
+use Rattle.isle_model.specs.Values.{atom}
+use Rattle.isle_model.specs.Meaning.{Content, one}
+use Rattle.isle_picks.specs.Samples.{each, MultiCollects, MultiIsNot}
 
 -- 9 stands last in the bag, and first in the run
 nine_first : IsPermutation (each (pos 4 ∷ (pos 4 ∷ (pos 9 ∷ [])))) (each (pos 9 ∷ (pos 4 ∷ (pos 4 ∷ []))))
@@ -16,3 +18,15 @@ on_two = record { calls = refl; ending = refl; same = IsPermutation-refl (each (
 
 pub on_three : MultiCollects (pos 3)
 on_three = record { calls = refl; ending = refl; same = IsPermutation-refl (each []) }
+
+-- one answer of the two, and 9 twice: fewer results, and a greater sum
+pub stopped : MultiIsNot (pos 9 ∷ (pos 4 ∷ []))
+stopped c = let n = length_permutation (each (pos 4 ∷ (pos 4 ∷ (pos 9 ∷ [])))) (each (pos 9 ∷ (pos 4 ∷ []))) c.same in omega (arith, n)
+
+abbrev size : Content → ℕ
+size (one (atom ty (pos n))) = n
+size _ = 0
+
+pub exchanged : MultiIsNot (pos 9 ∷ (pos 9 ∷ (pos 4 ∷ [])))
+exchanged c =
+    let n = sum_by-IsPermutation size (each (pos 4 ∷ (pos 4 ∷ (pos 9 ∷ [])))) (each (pos 9 ∷ (pos 9 ∷ (pos 4 ∷ [])))) c.same in omega (arith, n)

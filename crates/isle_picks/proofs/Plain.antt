@@ -10,10 +10,10 @@ use Rattle.isle_model.specs.Sites.{SiteTerm, argument, extractor_call, construct
 use Rattle.isle_model.specs.Demands.{from_to, pattern_count, Opened, output_sites}
 use Rattle.isle_model.specs.Picks.{Pick, taken_answer, Sited, sited, SitedVars, sited_value, values_in, expr_site, expr_sites, input_sites, where_same, parts_under, holds_under, each_holds_under, all_hold_under, term_under, value_under, values_under, lets_under, args_hold_under, iflets_hold_under, apply_under, SitedLets, gives_sited, ends_sited, then_sited_lets, then_sited_body, eval_under, eval_all_under, eval_lets_under}
 use Rattle.isle_model.specs.Typed.{TypedPattern, match_bind, match_var, match_bool, match_int, match_prim, match_term, match_any, match_and, TypedPatterns, no_typed_pattern, typed_pattern_and, TypedExpr, make_term, make_var, make_bool, make_int, make_prim, make_let, TypedExprs, no_typed_expr, typed_expr_and, TypedLets, no_typed_let, typed_let_and, TypedIfLet}
-use Rattle.isle_picks.specs.WithoutMulti.{PatternCallsNoMulti, PatternsCallNoMulti, ExprCallsNoMulti, ExprsCallNoMulti, LetsCallNoMulti, ArgsCallNoMulti, IfLetsCallNoMulti, without_sites, MatchesAsPlain, EndsAsPlain}
+use Rattle.isle_picks.specs.WithoutMulti.{WhereKnown, PatternCallsNoMulti, PatternsCallNoMulti, ExprCallsNoMulti, ExprsCallNoMulti, LetsCallNoMulti, ArgsCallNoMulti, IfLetsCallNoMulti, without_sites, MatchesAsPlain, EndsAsPlain}
 
 -- 1. one after another
-then_same : {X Y : Type 0} (o q : Option X) (f g : X → Option Y) → o ≡ q → ((x : X) → f x ≡ g x) → then_option o f ≡ then_option q g
+pub then_same : {X Y : Type 0} (o q : Option X) (f g : X → Option Y) → o ≡ q → ((x : X) → f x ≡ g x) → then_option o f ≡ then_option q g
 then_same o q f g e h = ap (λ u. then_option u f) e ∙ each q
   where
     each : (u : Option _) → then_option u f ≡ then_option u g
@@ -50,16 +50,16 @@ same_same None v e = refl
 same_same (Some w) v e = kept_same (value_eq w v) e
 
 -- 3. the sites of a pattern's parts are as many as the parts
-from_to_count : (f : ℕ → SiteTerm) (i : ℕ) (qs : TypedPatterns) → length (from_to f i qs) ≡ pattern_count qs
+pub from_to_count : (f : ℕ → SiteTerm) (i : ℕ) (qs : TypedPatterns) → length (from_to f i qs) ≡ pattern_count qs
 from_to_count f i no_typed_pattern = refl
 from_to_count f i (typed_pattern_and q qs) = ap suc (from_to_count f (suc i) qs)
 
-output_count : (s : SiteTerm) (qs : TypedPatterns) → length (output_sites s qs) ≡ pattern_count qs
+pub output_count : (s : SiteTerm) (qs : TypedPatterns) → length (output_sites s qs) ≡ pattern_count qs
 output_count s no_typed_pattern = refl
 output_count s (typed_pattern_and q no_typed_pattern) = refl
 output_count s (typed_pattern_and q (typed_pattern_and r rs)) = from_to_count _ 0 (typed_pattern_and q (typed_pattern_and r rs))
 
-either_count : (b : Bool) (x y : Opened) (n : ℕ) → length x.inputs ≡ n → length y.inputs ≡ n → length (cond b x y).inputs ≡ n
+pub either_count : (b : Bool) (x y : Opened) (n : ℕ) → length x.inputs ≡ n → length y.inputs ≡ n → length (cond b x y).inputs ≡ n
 either_count true x y n g h = g
 either_count false x y n g h = h
 
@@ -69,6 +69,15 @@ input_count (a_struct ty) t s qs v m vs h = from_to_count _ 0 qs
 input_count (a_call flags infallible) t s qs v m vs h =
     either_count flags.multi _ _ (pattern_count qs) (output_count _ qs) (either_count infallible _ _ (pattern_count qs) (output_count _ qs) (output_count _ qs))
 input_count unknown t s qs v m vs h = absurd (none_some h)
+  where
+    none_some : None ≡ Some vs → ⊥
+    none_some e = cc
+
+where_seen : (kd : Kind) (P : Type 0) (t : ℕ) (v : Value) (m : Meaning) (vs : Values) → WhereKnown kd P → parts_seen kd m t v ≡ Some vs → P
+where_seen (a_variant ty variant) P t v m vs c h = c
+where_seen (a_struct ty) P t v m vs c h = c
+where_seen (a_call flags infallible) P t v m vs c h = c
+where_seen unknown P t v m vs c h = absurd (none_some h)
   where
     none_some : None ≡ Some vs → ⊥
     none_some e = cc
@@ -101,15 +110,16 @@ lets_without_sites (ends_sited calls) = ends_lets calls
 module _ (p : Program) (m : Meaning) (k : Pick) where
   -- 5. patterns
   pattern_term_same : (kd : Kind) (t : ℕ) (s : SiteTerm) (v : Value) (args : TypedPatterns) (e : SitedVars) → (flags_of kd).multi ≡ false
-      → ((ss : List SiteTerm) (vs : Values) → length ss ≡ pattern_count args → without_sites (each_holds_under p m k args ss vs e) ≡ each_holds p m args vs (values_in e))
+      → WhereKnown kd (PatternsCallNoMulti p args)
+      → ((ss : List SiteTerm) (vs : Values) → PatternsCallNoMulti p args → length ss ≡ pattern_count args → without_sites (each_holds_under p m k args ss vs e) ≡ each_holds p m args vs (values_in e))
       → without_sites (then_option (parts_under kd m k t s v) (λ vs. each_holds_under p m k args (input_sites kd t s args) vs e)) ≡ then_option (parts_seen kd m t v) (λ vs. each_holds p m args vs (values_in e))
-  pattern_term_same kd t s v args e h ih =
-      ap (λ o. without_sites (then_option o (λ vs. each_holds_under p m k args (input_sites kd t s args) vs e))) (parts_same kd m k t s v h) ∙ seen (parts_seen kd m t v) (λ vs g. input_count kd t s args v m vs g)
+  pattern_term_same kd t s v args e h c ih =
+      ap (λ o. without_sites (then_option o (λ vs. each_holds_under p m k args (input_sites kd t s args) vs e))) (parts_same kd m k t s v h) ∙ seen (parts_seen kd m t v) (λ vs g. (where_seen kd (PatternsCallNoMulti p args) t v m vs c g, input_count kd t s args v m vs g))
     where
-      seen : (o : Option Values) → ((vs : Values) → o ≡ Some vs → length (input_sites kd t s args) ≡ pattern_count args)
+      seen : (o : Option Values) → ((vs : Values) → o ≡ Some vs → PatternsCallNoMulti p args × (length (input_sites kd t s args) ≡ pattern_count args))
           → without_sites (then_option o (λ vs. each_holds_under p m k args (input_sites kd t s args) vs e)) ≡ then_option o (λ vs. each_holds p m args vs (values_in e))
       seen None g = refl
-      seen (Some vs) g = ih (input_sites kd t s args) vs (g vs refl)
+      seen (Some vs) g = let a = g vs refl in ih (input_sites kd t s args) vs a.0 a.1
 
   mutual
     holds_same : (q : TypedPattern) (s : SiteTerm) (v : Value) (e : SitedVars) → PatternCallsNoMulti p q → without_sites (holds_under p m k q s v e) ≡ holds p m q v (values_in e)
@@ -118,7 +128,7 @@ module _ (p : Program) (m : Meaning) (k : Pick) where
     holds_same (match_bool ty b) s v e h = same_same (literal_value m (bool_literal b ty)) v e
     holds_same (match_int ty z) s v e h = same_same (literal_value m (int_literal z ty)) v e
     holds_same (match_prim ty name) s v e h = same_same (constant_value m name) v e
-    holds_same (match_term ty t args) s v e h = pattern_term_same (kind p t) t s v args e h.0 (λ ss vs n. each_same args ss vs e h.1 n)
+    holds_same (match_term ty t args) s v e h = pattern_term_same (kind p t) t s v args e h.0 h.1 (λ ss vs c n. each_same args ss vs e c n)
     holds_same (match_any ty) s v e h = refl
     holds_same (match_and ty subs) s v e h = all_same subs s v e h
 

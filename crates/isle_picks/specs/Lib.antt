@@ -1,2 +1,6 @@
 pub mod WithoutMulti
 pub mod Samples
+pub mod Calls
+pub mod Exact
+pub mod LeftOver
+pub mod Orders

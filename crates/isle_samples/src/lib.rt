@@ -1,9 +1,10 @@
 //! Lists of definitions, written out: the samples that the program lowers, and what tests start from.
 #![tactic(auto)]
 
-ghost use Rattle.std.specs.Prelude.{◌≡◌, ◌∷◌, ◌++◌, [], IfOk, OnOk, OnErr, map, is_some, length};
-ghost use Rattle.isle_base.specs.SyntaxViews.{definition_views, name_view, pattern_view, pattern_views, position};
-ghost use Rattle.isle_samples.specs.Written.{is_sample};
+ghost use Rattle.std.specs.Prelude.{◌≡◌, ◌∷◌, ◌++◌, [], IfOk, OnOk, OnErr, map, length};
+ghost use Rattle.isle_base.specs.SyntaxViews.{decl_view, definition_view, definition_views, expr_view, name_view, pattern_view, pattern_views, position, rule_view};
+ghost use Rattle.isle_model.specs.Syntax.{declaration, int_expr, int_pattern, rule_definition, wildcard_pattern};
+ghost use Rattle.isle_samples.specs.Written.{at, decl_at, name_at, primitive_at, rule_at, use_at, var_at, written};
 
 mod samples;
 
@@ -21,7 +22,9 @@ pub struct Definitions {
 
 impl Definitions {
     /// No definitions.
-    pub fn new(alloc: Global) -> Definitions {
+    pub fn new(alloc: Global) -> Definitions
+        ensures { written result ≡ [] }
+    {
         Definitions {
             alloc,
             defs: Vec::new(alloc),
@@ -29,12 +32,16 @@ impl Definitions {
     }
 
     /// The definitions written so far.
-    pub fn into_vec(self) -> Vec<Def> {
+    pub fn into_vec(self) -> Vec<Def>
+        ensures { definition_views result.items ≡ written self }
+    {
         self.defs
     }
 
     /// The position of the definition that is written next.
-    pub fn pos(&self) -> Pos {
+    pub fn pos(&self) -> Pos
+        ensures { position result ≡ at (length (written self.now)) }
+    {
         Pos {
             file: 0,
             offset: self.defs.len(),
@@ -42,18 +49,37 @@ impl Definitions {
     }
 
     /// A name at that position.
-    pub fn ident(&self, name: &str) -> Result<Ident, AllocError> {
+    pub fn ident(&self, name: &str) -> Result<Ident, AllocError>
+        ensures { IfOk result (λ i. name_view i ≡ name_at (length (written self.now)) name.now) }
+    {
         Ok(Ident(String::from_str(self.alloc, name)?, self.pos()))
     }
 
+    // Names at that position.
+    fn idents(&self, names: &[&str]) -> Result<Vec<Ident>, AllocError>
+        ensures { IfOk result (λ ns. map name_view ns.items ≡ map (λ n. name_at (length (written self.now)) n.now) names.now) }
+    {
+        let mut idents = Vec::new(self.alloc);
+        for name in names {
+            idents.push(self.ident(*name)?)?;
+        }
+        Ok(idents)
+    }
+
     /// Adds a definition.
-    pub fn push(&mut self, def: Def) -> Result<(), AllocError> {
+    pub fn push(&mut self, def: Def) -> Result<(), AllocError>
+        ensures added { OnOk result (written self.new ≡ written self.old ++ definition_view def ∷ []) }
+        ensures err { OnErr result (written self.new ≡ written self.old) }
+    {
         self.defs.push(def)?;
         Ok(())
     }
 
     /// Adds `(type NAME (primitive INNER))`.
-    pub fn primitive(&mut self, name: &str, inner: &str) -> Result<(), AllocError> {
+    pub fn primitive(&mut self, name: &str, inner: &str) -> Result<(), AllocError>
+        ensures added { OnOk result (written self.new ≡ written self.old ++ primitive_at (length (written self.old)) name.now inner.now ∷ []) }
+        ensures err { OnErr result (written self.new ≡ written self.old) }
+    {
         let pos = self.pos();
         let name = self.ident(name)?;
         let ty = TypeValue::Primitive(self.ident(inner)?, pos);
@@ -67,14 +93,12 @@ impl Definitions {
     }
 
     /// `(decl NAME (ARGS ..) RET)`, not pure, multi, partial or recursive.
-    pub fn decl(&self, name: &str, args: &[&str], ret: &str) -> Result<Decl, AllocError> {
-        let mut arg_tys = Vec::new(self.alloc);
-        for arg in args {
-            arg_tys.push(self.ident(*arg)?)?;
-        }
+    pub fn decl(&self, name: &str, args: &[&str], ret: &str) -> Result<Decl, AllocError>
+        ensures { IfOk result (λ d. decl_view d ≡ decl_at (length (written self.now)) name.now (map (λ a. a.now) args.now) ret.now) }
+    {
         Ok(Decl {
             term: self.ident(name)?,
-            arg_tys,
+            arg_tys: self.idents(args)?,
             ret_ty: self.ident(ret)?,
             pure: false,
             multi: false,
@@ -85,7 +109,10 @@ impl Definitions {
     }
 
     /// Adds `(decl NAME (ARGS ..) RET)`.
-    pub fn declare(&mut self, name: &str, args: &[&str], ret: &str) -> Result<(), AllocError> {
+    pub fn declare(&mut self, name: &str, args: &[&str], ret: &str) -> Result<(), AllocError>
+        ensures added { OnOk result (written self.new ≡ written self.old ++ declaration (decl_at (length (written self.old)) name.now (map (λ a. a.now) args.now) ret.now) ∷ []) }
+        ensures err { OnErr result (written self.new ≡ written self.old) }
+    {
         let decl = self.decl(name, args, ret)?;
         self.push(Def::Decl(decl))
     }
@@ -97,7 +124,9 @@ impl Definitions {
         term: &str,
         args: Vec<Pattern>,
         expr: Expr,
-    ) -> Result<Rule, AllocError> {
+    ) -> Result<Rule, AllocError>
+        ensures { IfOk result (λ r. rule_view r ≡ rule_at (length (written self.now)) prio term.now (pattern_views args.items) (expr_view expr)) }
+    {
         let pos = self.pos();
         let pattern = Pattern::Term {
             sym: self.ident(term)?,
@@ -121,13 +150,18 @@ impl Definitions {
         term: &str,
         args: Vec<Pattern>,
         expr: Expr,
-    ) -> Result<(), AllocError> {
+    ) -> Result<(), AllocError>
+        ensures added { OnOk result (written self.new ≡ written self.old ++ rule_definition (rule_at (length (written self.old)) prio term.now (pattern_views args.items) (expr_view expr)) ∷ []) }
+        ensures err { OnErr result (written self.new ≡ written self.old) }
+    {
         let rule = self.rule_of(prio, term, args, expr)?;
         self.push(Def::Rule(rule))
     }
 
     /// A variable as a pattern.
-    pub fn var(&self, name: &str) -> Result<Pattern, AllocError> {
+    pub fn var(&self, name: &str) -> Result<Pattern, AllocError>
+        ensures { IfOk result (λ q. pattern_view q ≡ var_at (length (written self.now)) name.now) }
+    {
         Ok(Pattern::Var {
             var: self.ident(name)?,
             pos: self.pos(),
@@ -135,7 +169,9 @@ impl Definitions {
     }
 
     /// An integer literal as a pattern.
-    pub fn int(&self, val: i128) -> Pattern {
+    pub fn int(&self, val: i128) -> Pattern
+        ensures { pattern_view result ≡ int_pattern val (at (length (written self.now))) }
+    {
         Pattern::ConstInt {
             val,
             pos: self.pos(),
@@ -143,12 +179,16 @@ impl Definitions {
     }
 
     /// A wildcard.
-    pub fn wildcard(&self) -> Pattern {
+    pub fn wildcard(&self) -> Pattern
+        ensures { pattern_view result ≡ wildcard_pattern (at (length (written self.now))) }
+    {
         Pattern::Wildcard { pos: self.pos() }
     }
 
     /// A variable as an expression.
-    pub fn use_of(&self, name: &str) -> Result<Expr, AllocError> {
+    pub fn use_of(&self, name: &str) -> Result<Expr, AllocError>
+        ensures { IfOk result (λ e. expr_view e ≡ use_at (length (written self.now)) name.now) }
+    {
         Ok(Expr::Var {
             name: self.ident(name)?,
             pos: self.pos(),
@@ -156,7 +196,9 @@ impl Definitions {
     }
 
     /// An integer literal as an expression.
-    pub fn literal(&self, val: i128) -> Expr {
+    pub fn literal(&self, val: i128) -> Expr
+        ensures { expr_view result ≡ int_expr val (at (length (written self.now))) }
+    {
         Expr::ConstInt {
             val,
             pos: self.pos(),

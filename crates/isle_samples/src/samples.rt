@@ -1,7 +1,8 @@
 //! The samples, by name.
 
-ghost use Rattle.std.specs.Prelude.{◌≡◌, IfOk, is_some};
-ghost use Rattle.isle_samples.specs.Written.{is_sample};
+ghost use Rattle.std.specs.Prelude.{◌≡◌, IfOk, option_map};
+ghost use Rattle.isle_base.specs.SyntaxViews.{definition_views};
+ghost use Rattle.isle_samples.specs.Written.{fall_definitions, sample_definitions};
 
 use crate::Definitions;
 use isle_base::syntax::Def;
@@ -9,7 +10,7 @@ use std::alloc::{AllocError, Global};
 
 /// The definitions of the sample with this name, or None where there is no such sample.
 pub fn sample(alloc: Global, name: &str) -> Result<Option<Vec<Def>>, AllocError>
-    ensures { IfOk result (λ defs. is_some defs ≡ is_sample name.now) }
+    ensures { IfOk result (λ defs. option_map (λ d. definition_views d.items) defs ≡ sample_definitions name.now) }
 {
     match name {
         "empty" => Ok(Some(Vec::new(alloc))),
@@ -19,7 +20,9 @@ pub fn sample(alloc: Global, name: &str) -> Result<Option<Vec<Def>>, AllocError>
 }
 
 // (decl f (u8) u8) (rule 1 (f 1) 10) (rule (f x) x)
-fn fall(alloc: Global) -> Result<Vec<Def>, AllocError> {
+fn fall(alloc: Global) -> Result<Vec<Def>, AllocError>
+    ensures { IfOk result (λ defs. definition_views defs.items ≡ fall_definitions) }
+{
     let mut defs = Definitions::new(alloc);
     defs.declare("f", &["u8"], "u8")?;
     defs.rule(Some(1), "f", vec![in alloc; defs.int(1)]?, defs.literal(10))?;

@@ -2,19 +2,19 @@
 use Rattle.std.specs.Prelude.{◌≡◌, ℕ, Bool, true, false, not, ◌&&◌, ◌||◌, List, [], ◌∷◌, ◌++◌, map, slice_get, All, IsTrue, if◌then◌else◌}
 use Rattle.std.specs.List.{list_all}
 use Rattle.isle_model.specs.Syntax.{Definition}
-use Rattle.isle_model.specs.Names.{IsDistinct}
 use Rattle.isle_model.specs.Program.{Program, is_multi, rules_of}
 use Rattle.isle_model.specs.Sites.{Site, SiteSet, sources_at}
-use Rattle.isle_model.specs.Trees.{Tree, no_step, step, Check, match_at, equal_at, loop_at, return_at, Arms, no_arm, arm}
+use Rattle.isle_model.specs.Trees.{Marked, Tree, no_step, step, Check, match_at, equal_at, loop_at, return_at, Arms, no_arm, arm}
 use Rattle.isle_model.specs.Run.{World, run}
-use Rattle.isle_model.specs.Places.{is_in, is_in_place, field_sites}
-use Rattle.isle_model.specs.Best.{IsBestTree}
+use Rattle.isle_model.specs.Places.{nothing_around, is_in, is_in_place, field_sites}
+use Rattle.isle_model.specs.Sound.{ReturnsEach}
+use Rattle.isle_model.specs.Best.{IsBestTree, SharesMost}
 use Rattle.isle_model.specs.Built.{RunsAsChosen, terms_with_rules}
-use Rattle.isle_model.specs.Collects.{Collects, CollectsAsChosen, IsCollectedSet, ServesSet, set_bag}
+use Rattle.isle_model.specs.Collects.{Collects, CollectsTheBag, IsCollectedSet, ServesSet, set_bag}
 use Rattle.isle_model.specs.SetRuns.{IsTestedSet, ServesTests, ChoosesFrom}
-use Rattle.isle_model.specs.Overlap.{built_rules, BuiltOverlapWrongly, IsShadowed, RuleReport, build_reports, check_reports}
+use Rattle.isle_model.specs.Overlap.{built_rules, OverlapsWrongly, HasDistinctPositions, IsShadowed, RuleReport, build_reports, check_reports}
 use Rattle.isle_elaboration.specs.Elaborated.{TypedRules}
-use Rattle.isle_statements.specs.Environments.{IsElaborated, program_of}
+use Rattle.isle_statements.specs.Environments.{IsRead, types_read, program_of}
 use Rattle.isle_statements.specs.RuleSets.{IsBuilt}
 
 -- building gives each term with rules, ascending, with its built set, also where every rule is left out; and what there
@@ -31,12 +31,12 @@ pub record BuildAnswers (p : Program) (sets : List (ℕ × SiteSet)) (reports : 
 -- overlap wrongly, and none is shadowed. Checking then gives what building gives
 pub record IsCheckable (p : Program) : Type 0 where
   pub built : (t : ℕ) → map (λ b. b.rule) (built_rules p t) ≡ rules_of p t
-  pub overlaps : (t i j : ℕ) → BuiltOverlapWrongly p t i j → ⊥
+  pub overlaps : (t i j : ℕ) → OverlapsWrongly p t i j → ⊥
   pub shadows : (t i : ℕ) → IsShadowed p t i → ⊥
 
 -- what is reported where they can't, if no two rules stand at one position
 abbrev pub CheckReports : Program → List RuleReport → Type 0
-CheckReports p reports = IsDistinct (map (λ r. r.at) p.rules) → reports ≡ check_reports p
+CheckReports p reports = HasDistinctPositions p → reports ≡ check_reports p
 
 -- the run of a tree means what its set does. In a term that isn't multi, where the rules go over no calls, it takes a rule
 -- of greatest priority among those whose demands hold; in a multi term whose rules make no impure call and demand every
@@ -95,10 +95,14 @@ abbrev mutual
 abbrev pub BindsBeforeUse : SiteSet → Bool → Tree → Type 0
 BindsBeforeUse set multi tree = IsTrue (binds_before_use set.sites multi [] [] tree)
 
+-- the program of a list of definitions, by its own types
+abbrev pub own_program : List Definition → TypedRules → Program
+own_program defs rules = program_of (types_read defs) defs rules.rules
+
 -- accepted definitions: they have types, terms and typed rules, and their rules can be told apart
 pub record IsAccepted (defs : List Definition) (expand : Bool) (rules : TypedRules) : Type 0 where
-  pub elaborated : IsElaborated defs expand rules
-  pub checkable : IsCheckable (program_of defs rules.rules)
+  pub read : IsRead defs expand rules
+  pub checkable : IsCheckable (own_program defs rules)
 
 -- a term with rules: its built set and its tree
 pub record Lowered : Type 0 where
@@ -106,20 +110,27 @@ pub record Lowered : Type 0 where
   pub set : SiteSet
   pub tree : Tree
 
+-- nowhere would an open test cover more rules than the test made
+pub record TestsAreShared (set : SiteSet) (tree : Tree) : Type 0 where
+  pub marked : Marked
+  pub returns : ReturnsEach set tree marked
+  pub most : SharesMost set nothing_around false marked
+
 -- the headline. In a term that isn't multi and uses no multi extractor, on all well-typed arguments and under every
 -- meaning of the called terms that tells constants apart, the tree's run gives the result or failure and the impure calls
 -- of the one matching source rule of highest priority, or neither where none matches; and nowhere would an open test
 -- cover more rules than the test made
 pub record ChoosesAndShares (p : Program) (l : Lowered) : Type 0 where
   pub runs : RunsAsChosen p l.term l.set.sites l.tree
-  pub shares : IsBestTree l.set l.tree
+  pub shares : TestsAreShared l.set l.tree
 
 -- the tree of a term: of its built set, with the headline; sites are bound before they are used; in a multi term whose
 -- rules make no impure call and need each multi call of an if-let, the run collects the bag of their results
 pub record IsLoweredTerm (p : Program) (l : Lowered) : Type 0 where
   pub built : IsBuilt p l.term l.set
+  pub best : IsBestTree l.set l.tree
   pub headline : ChoosesAndShares p l
-  pub collects : CollectsAsChosen p l.term l.set.sites l.tree
+  pub collects : CollectsTheBag p l.term l.set.sites l.tree
   pub binds : BindsBeforeUse l.set (is_multi p l.term) l.tree
 
 -- what lowering accepted definitions gives: each term with rules once, ascending
@@ -132,5 +143,5 @@ pub record AreLowered (p : Program) (terms : List Lowered) : Type 0 where
 abbrev pub BestTreesKeepTheHeadline : Type 0
 BestTreesKeepTheHeadline =
     (defs : List Definition) (expand : Bool) (rules : TypedRules) (l : Lowered)
-    → IsAccepted defs expand rules → IsBuilt (program_of defs rules.rules) l.term l.set → IsBestTree l.set l.tree
-    → IsLoweredTerm (program_of defs rules.rules) l
+    → IsAccepted defs expand rules → IsBuilt (own_program defs rules) l.term l.set → IsBestTree l.set l.tree
+    → IsLoweredTerm (own_program defs rules) l

@@ -6,11 +6,12 @@ use Rattle.isle_model.specs.Program.{Program, rules_of}
 use Rattle.isle_model.specs.Sites.{Site, Constraint, SetRule, SiteSet, sources_at, SiteTerm, unfold_site}
 use Rattle.isle_model.specs.Demands.{demands_of, result_of}
 use Rattle.isle_model.specs.Places.{joins_in, all_below}
-use Rattle.isle_model.specs.Collects.{gate_demanded, DemandsEveryGate}
+use Rattle.isle_model.specs.Collects.{LeavesNoCallUnused}
 use Rattle.isle_model.specs.SetRuns.{tested_sites}
 use Rattle.isle_model.specs.Closure.{Closed}
 use Rattle.isle_model.specs.Limits.{most_sites, sites_after_rules}
 use Rattle.isle_model.specs.Overlap.{BuiltRule, built_rules}
+use Rattle.isle_model.specs.Gates.{gate_demanded}
 
 -- the constraints of a rule of a set are these, each at the number of its site, once
 pub record AsksFor (sites : List Site) (closed : Closed) (constraints : List (ℕ × Constraint)) : Type 0 where
@@ -86,7 +87,7 @@ pub record HasFacts (p : Program) (t : ℕ) (set : SiteSet) : Type 0 where
   pub apart : All ConstrainsOrEquates set.rules
   pub gates : All (DemandsItsGates set.sites) set.rules
   pub gates_of_calls : (i : ℕ) (b : BuiltRule) (r : SetRule) → slice_get (built_rules p t) i ≡ Some b → slice_get set.rules i ≡ Some r
-      → DemandsEveryGate p b.rule → DemandsGatesOfCalls set.sites r
+      → LeavesNoCallUnused p b.rule → DemandsGatesOfCalls set.sites r
 
 -- a built set has these facts
 abbrev pub BuiltSetsHaveFacts : Type 0

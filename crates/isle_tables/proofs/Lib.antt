@@ -1,3 +1,13 @@
 pub mod Lists
+pub mod Acyclic
 pub mod WorkedTypes
 pub mod WorkedTerms
+pub mod Carried
+pub mod CarriedTerms
+pub mod Names
+pub mod TypeLaws
+pub mod WellFormed
+pub mod WorkedKnown
+pub mod TermLaws
+pub mod TermTypes
+pub mod Converters

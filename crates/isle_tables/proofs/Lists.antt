@@ -1,5 +1,6 @@
 -- Lists in which nothing stands twice, and members of lists.
-use Rattle.std.proofs.Common.{◌≡◌, ◌⊎◌, ℕ, zero, suc, ◌<◌, not, ◌&&◌, ◌||◌, true, false, List, [], ◌∷◌, length, get_or, Some, slice_get, IsTrue, Contains, refl, sym, ap, ◌∙◌, inl, inr, arith}
+use Rattle.std.proofs.Common.{◌≡◌, ◌⊎◌, ℕ, zero, suc, ◌<◌, not, ◌&&◌, ◌||◌, true, false, List, [], ◌∷◌, ◌++◌, length, get_or, Some, slice_get, IsTrue, Contains, refl, sym, ap, ◌∙◌, inl, inr, arith}
+use Rattle.std.specs.List.{AllByRecursion}
 use Rattle.std.specs.Str.{bytes_eq}
 use Rattle.std.proofs.lemmas.Bool.{false≢true}
 use Rattle.std.proofs.lemmas.Slice.Eq.{bytes_eq-Decides}
@@ -7,7 +8,7 @@ use Rattle.isle_model.specs.Names.{has_name, IsDistinct}
 use Rattle.isle_model.specs.Elaboration.{all_different}
 
 -- a name that isn't among names stands nowhere
-absent : (names : List (List ℕ)) (x : List ℕ) → has_name names x ≡ false → (k : ℕ) → slice_get names k ≡ Some x → ⊥
+pub absent : (names : List (List ℕ)) (x : List ℕ) → has_name names x ≡ false → (k : ℕ) → slice_get names k ≡ Some x → ⊥
 absent [] x e k h = cc
 absent (y ∷ ys) x e zero h =
     elim (bytes_eq y x) as (λ b. bytes_eq y x ≡ b → b || has_name ys x ≡ false → ⊥) [
@@ -63,3 +64,17 @@ module _ {X : Type 0} where
 
   pub in_alone : (y x : X) → Contains (y ∷ []) x → y ≡ x
   in_alone y x c = elim (in_cases y x [] c) [ inl e ↦ e | inr n ↦ absurd (nothing_in x n) ]
+
+module _ {X : Type 0} (P : X → Type 0) where
+  -- what holds of two lists holds of both together, and the other way
+  pub all_joined : (xs ys : List X) → AllByRecursion P xs → AllByRecursion P ys → AllByRecursion P (xs ++ ys)
+  all_joined [] ys a b = b
+  all_joined (x ∷ xs) ys a b = (a.0, all_joined xs ys a.1 b)
+
+  pub all_left : (xs ys : List X) → AllByRecursion P (xs ++ ys) → AllByRecursion P xs
+  all_left [] ys a = tt
+  all_left (x ∷ xs) ys a = (a.0, all_left xs ys a.1)
+
+  pub all_right : (xs ys : List X) → AllByRecursion P (xs ++ ys) → AllByRecursion P ys
+  all_right [] ys a = a
+  all_right (x ∷ xs) ys a = all_right xs ys a.1

@@ -4,40 +4,28 @@ use Rattle.std.specs.Str.{bytes_eq}
 use Rattle.std.proofs.lemmas.Bool.{false≢true}
 use Rattle.std.proofs.lemmas.List.Elements.{All-from_recursion, All-nil}
 use Rattle.isle_model.specs.Syntax.{Name, ExtractorTree, ConverterTree, DeclTree, RuleTree, Definition, int_expr}
+use Rattle.isle_model.specs.TypeTable.{type_trees}
 use Rattle.isle_model.specs.TermTable.{decl_trees, rule_trees}
-use Rattle.isle_tables.specs.TypeTables.{IsKnownType}
-use Rattle.isle_tables.specs.TermTables.{ConstructorTree, ExternalTree, constructor_trees, external_trees, extractor_trees, converter_trees, term_names, terms_in, argument_count, IsDeclaredTerm, IsKnownTerm, Uses, Reaches, directly, through, IsAcyclic, HasKnownArguments, HasKnownResult, IsMultiOrPartial, HasDeclaredRoot, IsWithoutRules, IsOfPlainTerm, NamesKnownTerms, HoldsNoNumber, UsesDeclaredArguments, IsKnownConverter, IsDefined, IsValidTerms, AllDefined}
+use Rattle.isle_tables.specs.TypeTables.{field_lists, all_type_names, IsKnownType, IsUnmarkedIfPrimitive, HasAtMostOneMark, HasDistinctVariants, HasDistinctFields, HasKnownTypes, IsOfKnownType, IsValidTypes}
+use Rattle.isle_tables.specs.KnownTypes.{types_of}
+use Rattle.isle_tables.specs.TermTables.{ConstructorTree, ExternalTree, constructor_trees, external_trees, extractor_trees, converter_trees, term_names, terms_in, argument_count, IsDeclaredTerm, IsKnownTerm, Uses, directly, through, HasKnownArguments, HasKnownResult, IsNotBothMultiAndPartial, HasDeclaredRoot, IsWithoutRules, IsOfPlainTerm, NamesKnownTerms, HoldsNoMacroArg, UsesDeclaredArguments, IsKnownConverter, IsDefined, AllDefined}
 use Rattle.isle_tables.specs.Written.{at, name, decl, term, by_template}
 use Rattle.isle_tables.specs.WorkedTypes.{three_types}
-use Rattle.isle_tables.specs.WorkedTerms.{var, any, both, by_function, ByFunction, converted, Converted, doubled, Doubled, chained, Chained, effects, Effects, Structs, alone, Alone, recursive, itself, RefusedTerms}
+use Rattle.isle_tables.specs.WorkedTerms.{HasTerms, var, any, both, by_function, ByFunction, converted, Converted, doubled, Doubled, chained, Chained, effects, Effects, infallible, Infallible, early, Early, one_full_name, OneFullName, Structs, alone, Alone, recursive, itself, RefusedTerms}
+use Rattle.isle_tables.proofs.Acyclic.{acyclic_by, plain_acyclic}
 use Rattle.isle_tables.proofs.Lists.{distinct_if, distinct_nil, distinct_one, nothing_in, in_alone, in_cases}
 
--- templates whose terms have falling ranks don't come back
-reaches_below : (defs : List Definition) (rank : List ℕ → ℕ) → ((t u : List ℕ) → Uses defs t u → rank u < rank t) → (t u : List ℕ) → Reaches defs t u → rank u < rank t
-reaches_below defs rank falls t u (directly x) = falls t u x
-reaches_below defs rank falls t v (through {u = u} x r) = (let a = falls t u x in let b = reaches_below defs rank falls u v r in omega arith)
-
-pub acyclic_by : (defs : List Definition) (rank : List ℕ → ℕ) → ((t u : List ℕ) → Uses defs t u → rank u < rank t) → IsAcyclic defs
-acyclic_by defs rank falls t r = (let l = reaches_below defs rank falls t t r in omega arith)
-
 -- a list of one type that is known
-known_one : (defs : List Definition) (n : Name) → IsKnownType defs n → All (IsKnownType defs) (n ∷ [])
-known_one defs n h = All-from_recursion (IsKnownType defs) (n ∷ []) (h, tt)
-
-module _ (defs : List Definition) where
-  nothing_uses : extractor_trees defs ≡ [] → (t u : List ℕ) → Uses defs t u → ⊥
-  nothing_uses e t u x = nothing_in x.definition (subst (λ es. Contains es x.definition) e x.there)
-
-  pub plain_acyclic : extractor_trees defs ≡ [] → IsAcyclic defs
-  plain_acyclic e = acyclic_by defs (λ _. 0) (λ t u x. absurd (nothing_uses e t u x))
+known_one : (defs : List Definition) (n : Name) → IsKnownType (all_type_names defs) n → All (IsKnownType (all_type_names defs)) (n ∷ [])
+known_one defs n h = All-from_recursion (IsKnownType (all_type_names defs)) (n ∷ []) (h, tt)
 
 -- valid
-by_function_valid : IsValidTerms by_function
+by_function_valid : HasTerms by_function
 by_function_valid = record {
-  distinct = distinct_if (term_names by_function) refl;
-  types_of_arguments = All-from_recursion (HasKnownArguments by_function) (decl_trees by_function) (known_one by_function (name 0 (codes "u8")) refl, (known_one by_function (name 2 (codes "u8")) refl, tt));
-  types_of_results = All-from_recursion (HasKnownResult by_function) (decl_trees by_function) (refl, (refl, tt));
-  marks = All-from_recursion IsMultiOrPartial (decl_trees by_function) (refl, (refl, tt));
+  distinct = distinct_if (term_names (types_of by_function) by_function) refl;
+  types_of_arguments = All-from_recursion (HasKnownArguments (types_of by_function)) (decl_trees by_function) (known_one by_function (name 0 (codes "u8")) refl, (known_one by_function (name 2 (codes "u8")) refl, tt));
+  types_of_results = All-from_recursion (HasKnownResult (types_of by_function)) (decl_trees by_function) (refl, (refl, tt));
+  marks = All-from_recursion IsNotBothMultiAndPartial (decl_trees by_function) (refl, (refl, tt));
   roots = All-from_recursion (HasDeclaredRoot by_function) (rule_trees by_function) (refl, (refl, tt));
   terms_of_extractors = All-nil (λ e. IsDeclaredTerm by_function e.term);
   terms_of_externals = All-from_recursion (λ e. IsDeclaredTerm by_function e.term) (external_trees by_function) (refl, tt);
@@ -46,11 +34,11 @@ by_function_valid = record {
   one_constructor = distinct_nil;
   one_extractor = distinct_one (codes "e");
   plain_terms = All-nil (IsOfPlainTerm by_function);
-  known_terms = All-nil (NamesKnownTerms by_function);
-  no_numbers = All-nil HoldsNoNumber;
+  known_terms = All-nil (NamesKnownTerms (types_of by_function) by_function);
+  no_macro_args = All-nil HoldsNoMacroArg;
   declared_arguments = All-nil (UsesDeclaredArguments by_function);
   acyclic = plain_acyclic by_function refl;
-  converters = All-nil (IsKnownConverter by_function);
+  known_converters = All-nil (IsKnownConverter (types_of by_function) by_function);
   one_converter = distinct_nil;
 }
 
@@ -61,20 +49,23 @@ pub by_function_lem : ByFunction
 by_function_lem = (refl, refl, refl, by_function_valid, by_function_defined)
 
 -- the one template calls an external extractor
-converted_falls : (t u : List ℕ) → Uses converted t u → 0 < 0
+converted_rank : List ℕ → ℕ
+converted_rank t = cond (bytes_eq t (codes "conv")) 1 0
+
+converted_falls : (t u : List ℕ) → Uses converted t u → converted_rank u < converted_rank t
+unfolding converted_rank
 converted_falls t u x =
-    let own = in_alone (codes "conv") u x.internal in
     let definition = in_alone (by_template 5 (codes "conv") (codes "x" ∷ []) (term 5 (codes "k") (var 5 (codes "x") ∷ []))) x.definition x.there in
     let called = in_alone (codes "k") u (subst (λ e. Contains (map (λ n. n.text) (terms_in e.template)) u) (sym definition) x.calls) in
-    let same : codes "conv" ≡ codes "k" = own ∙ sym called in
-    absurd (false≢true (ap (bytes_eq (codes "k")) same))
+    let own : codes "conv" ≡ t = ap (λ e. e.term.text) definition ∙ x.of_term in
+    subst₂ (λ p q. cond (bytes_eq p (codes "conv")) 1 0 < cond (bytes_eq q (codes "conv")) 1 0) called own (omega arith)
 
-converted_valid : IsValidTerms converted
+converted_valid : HasTerms converted
 converted_valid = record {
-  distinct = distinct_if (term_names converted) refl;
-  types_of_arguments = All-from_recursion (HasKnownArguments converted) (decl_trees converted) (known_one converted (name 2 (codes "A")) refl, (known_one converted (name 4 (codes "A")) refl, (known_one converted (name 7 (codes "B")) refl, tt)));
-  types_of_results = All-from_recursion (HasKnownResult converted) (decl_trees converted) (refl, (refl, (refl, tt)));
-  marks = All-from_recursion IsMultiOrPartial (decl_trees converted) (refl, (refl, (refl, tt)));
+  distinct = distinct_if (term_names (types_of converted) converted) refl;
+  types_of_arguments = All-from_recursion (HasKnownArguments (types_of converted)) (decl_trees converted) (known_one converted (name 2 (codes "A")) refl, (known_one converted (name 4 (codes "A")) refl, (known_one converted (name 7 (codes "B")) refl, tt)));
+  types_of_results = All-from_recursion (HasKnownResult (types_of converted)) (decl_trees converted) (refl, (refl, (refl, tt)));
+  marks = All-from_recursion IsNotBothMultiAndPartial (decl_trees converted) (refl, (refl, (refl, tt)));
   roots = All-from_recursion (HasDeclaredRoot converted) (rule_trees converted) (refl, tt);
   terms_of_extractors = All-from_recursion (λ e. IsDeclaredTerm converted e.term) (extractor_trees converted) (refl, tt);
   terms_of_externals = All-from_recursion (λ e. IsDeclaredTerm converted e.term) (external_trees converted) (refl, tt);
@@ -83,11 +74,11 @@ converted_valid = record {
   one_constructor = distinct_nil;
   one_extractor = distinct_if (codes "conv" ∷ (codes "k" ∷ [])) refl;
   plain_terms = All-from_recursion (IsOfPlainTerm converted) (extractor_trees converted) (refl, tt);
-  known_terms = All-from_recursion (NamesKnownTerms converted) (extractor_trees converted) (All-from_recursion (IsKnownTerm converted) (name 5 (codes "k") ∷ []) (refl, tt), tt);
-  no_numbers = All-from_recursion HoldsNoNumber (extractor_trees converted) (refl, tt);
+  known_terms = All-from_recursion (NamesKnownTerms (types_of converted) converted) (extractor_trees converted) (All-from_recursion (IsKnownTerm (types_of converted) converted) (name 5 (codes "k") ∷ []) (refl, tt), tt);
+  no_macro_args = All-from_recursion HoldsNoMacroArg (extractor_trees converted) (refl, tt);
   declared_arguments = All-from_recursion (UsesDeclaredArguments converted) (extractor_trees converted) (All-from_recursion (λ i. i < argument_count converted (codes "conv")) (0 ∷ []) (omega arith, tt), tt);
-  acyclic = acyclic_by converted (λ _. 0) converted_falls;
-  converters = All-from_recursion (IsKnownConverter converted) (converter_trees converted) ((refl, refl, refl), tt);
+  acyclic = acyclic_by converted converted_rank converted_falls;
+  known_converters = All-from_recursion (IsKnownConverter (types_of converted) converted) (converter_trees converted) ((refl, refl, refl), tt);
   one_converter = distinct_one (codes "A", codes "B");
 }
 
@@ -103,12 +94,12 @@ doubled_falls t u x =
     let definition = in_alone (by_template 1 (codes "d") (codes "a" ∷ []) (both 1 (var 1 (codes "a") ∷ (var 1 (codes "a") ∷ [])))) x.definition x.there in
     absurd (nothing_in u (subst (λ e. Contains (map (λ n. n.text) (terms_in e.template)) u) (sym definition) x.calls))
 
-doubled_valid : IsValidTerms doubled
+doubled_valid : HasTerms doubled
 doubled_valid = record {
-  distinct = distinct_if (term_names doubled) refl;
-  types_of_arguments = All-from_recursion (HasKnownArguments doubled) (decl_trees doubled) (known_one doubled (name 0 (codes "u8")) refl, (known_one doubled (name 2 (codes "u8")) refl, tt));
-  types_of_results = All-from_recursion (HasKnownResult doubled) (decl_trees doubled) (refl, (refl, tt));
-  marks = All-from_recursion IsMultiOrPartial (decl_trees doubled) (refl, (refl, tt));
+  distinct = distinct_if (term_names (types_of doubled) doubled) refl;
+  types_of_arguments = All-from_recursion (HasKnownArguments (types_of doubled)) (decl_trees doubled) (known_one doubled (name 0 (codes "u8")) refl, (known_one doubled (name 2 (codes "u8")) refl, tt));
+  types_of_results = All-from_recursion (HasKnownResult (types_of doubled)) (decl_trees doubled) (refl, (refl, tt));
+  marks = All-from_recursion IsNotBothMultiAndPartial (decl_trees doubled) (refl, (refl, tt));
   roots = All-from_recursion (HasDeclaredRoot doubled) (rule_trees doubled) (refl, tt);
   terms_of_extractors = All-from_recursion (λ e. IsDeclaredTerm doubled e.term) (extractor_trees doubled) (refl, tt);
   terms_of_externals = All-nil (λ e. IsDeclaredTerm doubled e.term);
@@ -117,11 +108,11 @@ doubled_valid = record {
   one_constructor = distinct_nil;
   one_extractor = distinct_one (codes "d");
   plain_terms = All-from_recursion (IsOfPlainTerm doubled) (extractor_trees doubled) (refl, tt);
-  known_terms = All-from_recursion (NamesKnownTerms doubled) (extractor_trees doubled) (All-nil (IsKnownTerm doubled), tt);
-  no_numbers = All-from_recursion HoldsNoNumber (extractor_trees doubled) (refl, tt);
+  known_terms = All-from_recursion (NamesKnownTerms (types_of doubled) doubled) (extractor_trees doubled) (All-nil (IsKnownTerm (types_of doubled) doubled), tt);
+  no_macro_args = All-from_recursion HoldsNoMacroArg (extractor_trees doubled) (refl, tt);
   declared_arguments = All-from_recursion (UsesDeclaredArguments doubled) (extractor_trees doubled) (All-from_recursion (λ i. i < argument_count doubled (codes "d")) (0 ∷ (0 ∷ [])) (omega arith, (omega arith, tt)), tt);
   acyclic = acyclic_by doubled (λ _. 0) doubled_falls;
-  converters = All-nil (IsKnownConverter doubled);
+  known_converters = All-nil (IsKnownConverter (types_of doubled) doubled);
   one_converter = distinct_nil;
 }
 
@@ -148,12 +139,12 @@ chained_falls t u x =
           absurd (nothing_in u (subst (λ e. Contains (map (λ n. n.text) (terms_in e.template)) u) (sym second) x.calls))
     ]
 
-chained_valid : IsValidTerms chained
+chained_valid : HasTerms chained
 chained_valid = record {
-  distinct = distinct_if (term_names chained) refl;
-  types_of_arguments = All-from_recursion (HasKnownArguments chained) (decl_trees chained) (known_one chained (name 0 (codes "u8")) refl, (known_one chained (name 1 (codes "u8")) refl, tt));
-  types_of_results = All-from_recursion (HasKnownResult chained) (decl_trees chained) (refl, (refl, tt));
-  marks = All-from_recursion IsMultiOrPartial (decl_trees chained) (refl, (refl, tt));
+  distinct = distinct_if (term_names (types_of chained) chained) refl;
+  types_of_arguments = All-from_recursion (HasKnownArguments (types_of chained)) (decl_trees chained) (known_one chained (name 0 (codes "u8")) refl, (known_one chained (name 1 (codes "u8")) refl, tt));
+  types_of_results = All-from_recursion (HasKnownResult (types_of chained)) (decl_trees chained) (refl, (refl, tt));
+  marks = All-from_recursion IsNotBothMultiAndPartial (decl_trees chained) (refl, (refl, tt));
   roots = All-nil (HasDeclaredRoot chained);
   terms_of_extractors = All-from_recursion (λ e. IsDeclaredTerm chained e.term) (extractor_trees chained) (refl, (refl, tt));
   terms_of_externals = All-nil (λ e. IsDeclaredTerm chained e.term);
@@ -162,11 +153,11 @@ chained_valid = record {
   one_constructor = distinct_nil;
   one_extractor = distinct_if (codes "a" ∷ (codes "b" ∷ [])) refl;
   plain_terms = All-from_recursion (IsOfPlainTerm chained) (extractor_trees chained) (refl, (refl, tt));
-  known_terms = All-from_recursion (NamesKnownTerms chained) (extractor_trees chained) (All-from_recursion (IsKnownTerm chained) (name 2 (codes "b") ∷ []) (refl, tt), (All-nil (IsKnownTerm chained), tt));
-  no_numbers = All-from_recursion HoldsNoNumber (extractor_trees chained) (refl, (refl, tt));
+  known_terms = All-from_recursion (NamesKnownTerms (types_of chained) chained) (extractor_trees chained) (All-from_recursion (IsKnownTerm (types_of chained) chained) (name 2 (codes "b") ∷ []) (refl, tt), (All-nil (IsKnownTerm (types_of chained) chained), tt));
+  no_macro_args = All-from_recursion HoldsNoMacroArg (extractor_trees chained) (refl, (refl, tt));
   declared_arguments = All-from_recursion (UsesDeclaredArguments chained) (extractor_trees chained) (All-from_recursion (λ i. i < argument_count chained (codes "a")) (0 ∷ []) (omega arith, tt), (All-from_recursion (λ i. i < argument_count chained (codes "b")) (0 ∷ []) (omega arith, tt), tt));
   acyclic = acyclic_by chained chained_rank chained_falls;
-  converters = All-nil (IsKnownConverter chained);
+  known_converters = All-nil (IsKnownConverter (types_of chained) chained);
   one_converter = distinct_nil;
 }
 
@@ -174,14 +165,14 @@ chained_defined : AllDefined chained
 chained_defined = All-from_recursion (IsDefined chained) (decl_trees chained) (refl, (refl, tt))
 
 pub chained_lem : Chained
-chained_lem = (chained_valid, chained_defined)
+chained_lem = (refl, chained_valid, chained_defined)
 
-effects_valid : IsValidTerms effects
+effects_valid : HasTerms effects
 effects_valid = record {
-  distinct = distinct_if (term_names effects) refl;
-  types_of_arguments = All-from_recursion (HasKnownArguments effects) (decl_trees effects) (known_one effects (name 1 (codes "u8")) refl, (known_one effects (name 3 (codes "u8")) refl, (known_one effects (name 5 (codes "u8")) refl, tt)));
-  types_of_results = All-from_recursion (HasKnownResult effects) (decl_trees effects) (refl, (refl, (refl, tt)));
-  marks = All-from_recursion IsMultiOrPartial (decl_trees effects) (refl, (refl, (refl, tt)));
+  distinct = distinct_if (term_names (types_of effects) effects) refl;
+  types_of_arguments = All-from_recursion (HasKnownArguments (types_of effects)) (decl_trees effects) (known_one effects (name 1 (codes "u8")) refl, (known_one effects (name 3 (codes "u8")) refl, (known_one effects (name 5 (codes "u8")) refl, tt)));
+  types_of_results = All-from_recursion (HasKnownResult (types_of effects)) (decl_trees effects) (refl, (refl, (refl, tt)));
+  marks = All-from_recursion IsNotBothMultiAndPartial (decl_trees effects) (refl, (refl, (refl, tt)));
   roots = All-from_recursion (HasDeclaredRoot effects) (rule_trees effects) (refl, tt);
   terms_of_extractors = All-nil (λ e. IsDeclaredTerm effects e.term);
   terms_of_externals = All-nil (λ e. IsDeclaredTerm effects e.term);
@@ -190,11 +181,11 @@ effects_valid = record {
   one_constructor = distinct_if (codes "pp" ∷ (codes "im" ∷ [])) refl;
   one_extractor = distinct_nil;
   plain_terms = All-nil (IsOfPlainTerm effects);
-  known_terms = All-nil (NamesKnownTerms effects);
-  no_numbers = All-nil HoldsNoNumber;
+  known_terms = All-nil (NamesKnownTerms (types_of effects) effects);
+  no_macro_args = All-nil HoldsNoMacroArg;
   declared_arguments = All-nil (UsesDeclaredArguments effects);
   acyclic = plain_acyclic effects refl;
-  converters = All-nil (IsKnownConverter effects);
+  known_converters = All-nil (IsKnownConverter (types_of effects) effects);
   one_converter = distinct_nil;
 }
 
@@ -204,12 +195,82 @@ effects_defined = All-from_recursion (IsDefined effects) (decl_trees effects) (r
 pub effects_lem : Effects
 effects_lem = (refl, refl, effects_valid, effects_defined)
 
-three_types_valid : IsValidTerms three_types
+infallible_valid : HasTerms infallible
+infallible_valid = record {
+  distinct = distinct_one (codes "e");
+  types_of_arguments = All-from_recursion (HasKnownArguments (types_of infallible)) (decl_trees infallible) (known_one infallible (name 0 (codes "u8")) refl, tt);
+  types_of_results = All-from_recursion (HasKnownResult (types_of infallible)) (decl_trees infallible) (refl, tt);
+  marks = All-from_recursion IsNotBothMultiAndPartial (decl_trees infallible) (refl, tt);
+  roots = All-nil (HasDeclaredRoot infallible);
+  terms_of_extractors = All-nil (λ e. IsDeclaredTerm infallible e.term);
+  terms_of_externals = All-from_recursion (λ e. IsDeclaredTerm infallible e.term) (external_trees infallible) (refl, tt);
+  terms_of_constructors = All-nil (λ c. IsDeclaredTerm infallible c.term);
+  rules_or_function = All-nil (IsWithoutRules infallible);
+  one_constructor = distinct_nil;
+  one_extractor = distinct_one (codes "e");
+  plain_terms = All-nil (IsOfPlainTerm infallible);
+  known_terms = All-nil (NamesKnownTerms (types_of infallible) infallible);
+  no_macro_args = All-nil HoldsNoMacroArg;
+  declared_arguments = All-nil (UsesDeclaredArguments infallible);
+  acyclic = plain_acyclic infallible refl;
+  known_converters = All-nil (IsKnownConverter (types_of infallible) infallible);
+  one_converter = distinct_nil;
+}
+
+infallible_defined : AllDefined infallible
+infallible_defined = All-from_recursion (IsDefined infallible) (decl_trees infallible) (refl, tt)
+
+pub infallible_lem : Infallible
+infallible_lem = (refl, infallible_valid, infallible_defined)
+
+early_valid : HasTerms early
+early_valid = record {
+  distinct = distinct_one (codes "f");
+  types_of_arguments = All-from_recursion (HasKnownArguments (types_of early)) (decl_trees early) (known_one early (name 1 (codes "u8")) refl, tt);
+  types_of_results = All-from_recursion (HasKnownResult (types_of early)) (decl_trees early) (refl, tt);
+  marks = All-from_recursion IsNotBothMultiAndPartial (decl_trees early) (refl, tt);
+  roots = All-nil (HasDeclaredRoot early);
+  terms_of_extractors = All-nil (λ e. IsDeclaredTerm early e.term);
+  terms_of_externals = All-nil (λ e. IsDeclaredTerm early e.term);
+  terms_of_constructors = All-from_recursion (λ c. IsDeclaredTerm early c.term) (constructor_trees early) (refl, tt);
+  rules_or_function = All-from_recursion (IsWithoutRules early) (constructor_trees early) (refl, tt);
+  one_constructor = distinct_one (codes "f");
+  one_extractor = distinct_nil;
+  plain_terms = All-nil (IsOfPlainTerm early);
+  known_terms = All-nil (NamesKnownTerms (types_of early) early);
+  no_macro_args = All-nil HoldsNoMacroArg;
+  declared_arguments = All-nil (UsesDeclaredArguments early);
+  acyclic = plain_acyclic early refl;
+  known_converters = All-nil (IsKnownConverter (types_of early) early);
+  one_converter = distinct_nil;
+}
+
+early_defined : AllDefined early
+early_defined = All-from_recursion (IsDefined early) (decl_trees early) (refl, tt)
+
+pub early_lem : Early
+early_lem = (refl, refl, early_valid, early_defined)
+
+one_full_name_types : IsValidTypes one_full_name
+one_full_name_types = record {
+  distinct = distinct_if (all_type_names one_full_name) refl;
+  primitives = All-from_recursion IsUnmarkedIfPrimitive (type_trees one_full_name) ((λ n. absurd (false≢true n)), ((λ n. absurd (false≢true n)), tt));
+  marks = All-from_recursion HasAtMostOneMark (type_trees one_full_name) (refl, (refl, tt));
+  variants = All-from_recursion HasDistinctVariants (type_trees one_full_name) (distinct_one (codes "B.C"), (distinct_one (codes "C"), tt));
+  fields = All-from_recursion HasDistinctFields (field_lists one_full_name) (distinct_nil, (distinct_nil, tt));
+  types_of_fields = All-from_recursion (HasKnownTypes one_full_name) (field_lists one_full_name) (All-nil (IsKnownType (all_type_names one_full_name)), (All-nil (IsKnownType (all_type_names one_full_name)), tt));
+  types_of_constants = All-nil (IsOfKnownType one_full_name);
+}
+
+pub one_full_name_lem : OneFullName
+one_full_name_lem = (one_full_name_types, refl, refl, (λ v. (let e = v.distinct 0 1 (codes "A.B.C") refl refl in omega arith)))
+
+three_types_valid : HasTerms three_types
 three_types_valid = record {
-  distinct = distinct_if (term_names three_types) refl;
-  types_of_arguments = All-nil (HasKnownArguments three_types);
-  types_of_results = All-nil (HasKnownResult three_types);
-  marks = All-nil IsMultiOrPartial;
+  distinct = distinct_if (term_names (types_of three_types) three_types) refl;
+  types_of_arguments = All-nil (HasKnownArguments (types_of three_types));
+  types_of_results = All-nil (HasKnownResult (types_of three_types));
+  marks = All-nil IsNotBothMultiAndPartial;
   roots = All-nil (HasDeclaredRoot three_types);
   terms_of_extractors = All-nil (λ e. IsDeclaredTerm three_types e.term);
   terms_of_externals = All-nil (λ e. IsDeclaredTerm three_types e.term);
@@ -218,23 +279,23 @@ three_types_valid = record {
   one_constructor = distinct_nil;
   one_extractor = distinct_nil;
   plain_terms = All-nil (IsOfPlainTerm three_types);
-  known_terms = All-nil (NamesKnownTerms three_types);
-  no_numbers = All-nil HoldsNoNumber;
+  known_terms = All-nil (NamesKnownTerms (types_of three_types) three_types);
+  no_macro_args = All-nil HoldsNoMacroArg;
   declared_arguments = All-nil (UsesDeclaredArguments three_types);
   acyclic = plain_acyclic three_types refl;
-  converters = All-nil (IsKnownConverter three_types);
+  known_converters = All-nil (IsKnownConverter (types_of three_types) three_types);
   one_converter = distinct_nil;
 }
 
 pub structs_lem : Structs
 structs_lem = (refl, three_types_valid)
 
-alone_valid : IsValidTerms alone
+alone_valid : HasTerms alone
 alone_valid = record {
-  distinct = distinct_if (term_names alone) refl;
-  types_of_arguments = All-from_recursion (HasKnownArguments alone) (decl_trees alone) (known_one alone (name 0 (codes "u8")) refl, tt);
-  types_of_results = All-from_recursion (HasKnownResult alone) (decl_trees alone) (refl, tt);
-  marks = All-from_recursion IsMultiOrPartial (decl_trees alone) (refl, tt);
+  distinct = distinct_if (term_names (types_of alone) alone) refl;
+  types_of_arguments = All-from_recursion (HasKnownArguments (types_of alone)) (decl_trees alone) (known_one alone (name 0 (codes "u8")) refl, tt);
+  types_of_results = All-from_recursion (HasKnownResult (types_of alone)) (decl_trees alone) (refl, tt);
+  marks = All-from_recursion IsNotBothMultiAndPartial (decl_trees alone) (refl, tt);
   roots = All-nil (HasDeclaredRoot alone);
   terms_of_extractors = All-nil (λ e. IsDeclaredTerm alone e.term);
   terms_of_externals = All-nil (λ e. IsDeclaredTerm alone e.term);
@@ -243,11 +304,11 @@ alone_valid = record {
   one_constructor = distinct_nil;
   one_extractor = distinct_nil;
   plain_terms = All-nil (IsOfPlainTerm alone);
-  known_terms = All-nil (NamesKnownTerms alone);
-  no_numbers = All-nil HoldsNoNumber;
+  known_terms = All-nil (NamesKnownTerms (types_of alone) alone);
+  no_macro_args = All-nil HoldsNoMacroArg;
   declared_arguments = All-nil (UsesDeclaredArguments alone);
   acyclic = plain_acyclic alone refl;
-  converters = All-nil (IsKnownConverter alone);
+  known_converters = All-nil (IsKnownConverter (types_of alone) alone);
   one_converter = distinct_nil;
 }
 
@@ -280,7 +341,6 @@ recursive_first = record {
   there = (0, omega arith, refl);
   of_term = refl;
   calls = (0, omega arith, refl);
-  internal = (1, omega arith, refl);
 }
 
 recursive_second : Uses recursive (codes "b") (codes "a")
@@ -289,7 +349,6 @@ recursive_second = record {
   there = (1, omega arith, refl);
   of_term = refl;
   calls = (0, omega arith, refl);
-  internal = (0, omega arith, refl);
 }
 
 itself_uses : Uses itself (codes "a") (codes "a")
@@ -298,7 +357,6 @@ itself_uses = record {
   there = (0, omega arith, refl);
   of_term = refl;
   calls = (0, omega arith, refl);
-  internal = (0, omega arith, refl);
 }
 
 pub refused_terms_lem : RefusedTerms
@@ -316,6 +374,12 @@ refused_terms_lem = record {
   extractor_of_variant = λ v. false≢true (v.terms_of_extractors 0 any_extractor (omega arith));
   function_of_none = λ v. false≢true (v.terms_of_externals 0 any_external (omega arith));
   constructor_of_none = λ v. false≢true (v.terms_of_constructors 0 any_constructor (omega arith));
+  function_of_variant = λ v. false≢true (v.terms_of_externals 0 any_external (omega arith));
+  constructor_of_struct = λ v. false≢true (v.terms_of_constructors 0 any_constructor (omega arith));
+  struct_root = λ v. false≢true (v.roots 0 any_rule (omega arith));
+  extractor_of_struct = λ v. false≢true (v.terms_of_extractors 0 any_extractor (omega arith));
+  function_of_struct = λ v. false≢true (v.terms_of_externals 0 any_external (omega arith));
+  constructor_of_variant = λ v. false≢true (v.terms_of_constructors 0 any_constructor (omega arith));
   rules_and_function = λ v. false≢true (v.rules_or_function 0 any_constructor (omega arith));
   constructor_twice = λ v. (let e = v.one_constructor 0 1 (codes "f") refl refl in omega arith);
   extractor_twice = λ v. (let e = v.one_extractor 0 1 (codes "d") refl refl in omega arith);
@@ -323,12 +387,12 @@ refused_terms_lem = record {
   both_extractors = λ v. (let e = v.one_extractor 0 1 (codes "d") refl refl in omega arith);
   multi_by_template = λ v. false≢true (v.plain_terms 0 any_extractor (omega arith));
   unknown_in_template = λ v. false≢true (v.known_terms 0 any_extractor (omega arith) 0 (name 0 []) (omega arith));
-  number_in_template = λ v. (let e = v.no_numbers 0 any_extractor (omega arith) in cc);
+  macro_arg_in_template = λ v. (let e = v.no_macro_args 0 any_extractor (omega arith) in cc);
   argument_past = λ v. (let l = v.declared_arguments 0 any_extractor (omega arith) 1 0 (omega arith) in omega arith);
   recursive = λ v. v.acyclic (codes "a") (through recursive_first (directly recursive_second));
   itself = λ v. v.acyclic (codes "a") (directly itself_uses);
-  unknown_inner_type = λ v. false≢true (v.converters 0 any_converter (omega arith)).1;
-  unknown_outer_type = λ v. false≢true (v.converters 0 any_converter (omega arith)).2;
-  unknown_converter = λ v. false≢true (v.converters 0 any_converter (omega arith)).0;
+  unknown_inner_type = λ v. false≢true (v.known_converters 0 any_converter (omega arith)).1;
+  unknown_outer_type = λ v. false≢true (v.known_converters 0 any_converter (omega arith)).2;
+  unknown_converter = λ v. false≢true (v.known_converters 0 any_converter (omega arith)).0;
   converter_twice = λ v. (let e = v.one_converter 0 1 (codes "u8", codes "u16") refl refl in omega arith);
 }

@@ -4,7 +4,7 @@ use Rattle.std.proofs.lemmas.Bool.{false≢true}
 use Rattle.std.proofs.lemmas.List.Elements.{All-from_recursion, All-nil}
 use Rattle.isle_model.specs.Syntax.{TypeTree, unit_fields}
 use Rattle.isle_model.specs.TypeTable.{builtin_names, type_names, type_trees}
-use Rattle.isle_tables.specs.TypeTables.{ConstantTree, field_lists, constant_trees, IsKnownType, IsUnmarkedPrimitive, HasOneMark, HasDistinctVariants, HasDistinctFields, HasKnownTypes, IsOfKnownType, IsValidTypes}
+use Rattle.isle_tables.specs.TypeTables.{ConstantTree, field_lists, constant_trees, all_type_names, IsKnownType, IsUnmarkedIfPrimitive, HasAtMostOneMark, HasDistinctVariants, HasDistinctFields, HasKnownTypes, IsOfKnownType, IsValidTypes}
 use Rattle.isle_tables.specs.Written.{name, primitive}
 use Rattle.isle_tables.specs.WorkedTypes.{two_types, TwoTypes, three_types, ThreeTypes, constants, Constants, RefusedTypes}
 use Rattle.isle_tables.proofs.Lists.{distinct_if, distinct_nil, distinct_one}
@@ -13,13 +13,13 @@ use Rattle.isle_tables.proofs.Lists.{distinct_if, distinct_nil, distinct_one}
 two_valid : IsValidTypes two_types
 two_valid = record {
   distinct = distinct_if (builtin_names ++ type_names two_types) refl;
-  primitives = All-from_recursion IsUnmarkedPrimitive (type_trees two_types) ((λ _. (refl, refl)), ((λ n. absurd (false≢true n)), tt));
-  marks = All-from_recursion HasOneMark (type_trees two_types) (refl, (refl, tt));
+  primitives = All-from_recursion IsUnmarkedIfPrimitive (type_trees two_types) ((λ _. (refl, refl)), ((λ n. absurd (false≢true n)), tt));
+  marks = All-from_recursion HasAtMostOneMark (type_trees two_types) (refl, (refl, tt));
   variants = All-from_recursion HasDistinctVariants (type_trees two_types) (distinct_nil, (distinct_if (codes "B" ∷ (codes "C" ∷ [])) refl, tt));
   fields = All-from_recursion HasDistinctFields (field_lists two_types) (distinct_if (codes "f1" ∷ (codes "f2" ∷ [])) refl, (distinct_one (codes "f1"), tt));
   types_of_fields = All-from_recursion (HasKnownTypes two_types) (field_lists two_types) (
-    All-from_recursion (IsKnownType two_types) (name 77 (codes "u32") ∷ (name 77 (codes "u32") ∷ [])) (refl, (refl, tt)),
-    (All-from_recursion (IsKnownType two_types) (name 99 (codes "u32") ∷ []) (refl, tt), tt),
+    All-from_recursion (IsKnownType (all_type_names two_types)) (name 77 (codes "u32") ∷ (name 77 (codes "u32") ∷ [])) (refl, (refl, tt)),
+    (All-from_recursion (IsKnownType (all_type_names two_types)) (name 99 (codes "u32") ∷ []) (refl, tt), tt),
   );
   types_of_constants = All-nil (IsOfKnownType two_types);
 }
@@ -30,13 +30,13 @@ two_types_lem = (refl, refl, two_valid)
 three_valid : IsValidTypes three_types
 three_valid = record {
   distinct = distinct_if (builtin_names ++ type_names three_types) refl;
-  primitives = All-from_recursion IsUnmarkedPrimitive (type_trees three_types) ((λ _. (refl, refl)), ((λ _. (refl, refl)), ((λ _. (refl, refl)), tt)));
-  marks = All-from_recursion HasOneMark (type_trees three_types) (refl, (refl, (refl, tt)));
+  primitives = All-from_recursion IsUnmarkedIfPrimitive (type_trees three_types) ((λ _. (refl, refl)), ((λ _. (refl, refl)), ((λ _. (refl, refl)), tt)));
+  marks = All-from_recursion HasAtMostOneMark (type_trees three_types) (refl, (refl, (refl, tt)));
   variants = All-from_recursion HasDistinctVariants (type_trees three_types) (distinct_nil, (distinct_nil, (distinct_nil, tt)));
   fields = All-from_recursion HasDistinctFields (field_lists three_types) (distinct_one (codes "a"), (distinct_nil, tt));
   types_of_fields = All-from_recursion (HasKnownTypes three_types) (field_lists three_types) (
-    All-from_recursion (IsKnownType three_types) (name 0 (codes "P") ∷ []) (refl, tt),
-    (All-from_recursion (IsKnownType three_types) (name 2 (codes "S") ∷ (name 2 (codes "bool") ∷ [])) (refl, (refl, tt)), tt),
+    All-from_recursion (IsKnownType (all_type_names three_types)) (name 0 (codes "P") ∷ []) (refl, tt),
+    (All-from_recursion (IsKnownType (all_type_names three_types)) (name 2 (codes "S") ∷ (name 2 (codes "bool") ∷ [])) (refl, (refl, tt)), tt),
   );
   types_of_constants = All-nil (IsOfKnownType three_types);
 }
@@ -47,8 +47,8 @@ three_types_lem = (refl, refl, three_valid)
 constants_valid : IsValidTypes constants
 constants_valid = record {
   distinct = distinct_if builtin_names refl;
-  primitives = All-nil IsUnmarkedPrimitive;
-  marks = All-nil HasOneMark;
+  primitives = All-nil IsUnmarkedIfPrimitive;
+  marks = All-nil HasAtMostOneMark;
   variants = All-nil HasDistinctVariants;
   fields = All-nil HasDistinctFields;
   types_of_fields = All-nil (HasKnownTypes constants);
@@ -79,4 +79,6 @@ refused_types_lem = record {
   unknown_field_type = λ v. false≢true (v.types_of_fields 0 unit_fields (omega arith) 0 (name 0 []) (omega arith));
   unknown_part_type = λ v. false≢true (v.types_of_fields 0 unit_fields (omega arith) 0 (name 0 []) (omega arith));
   unknown_constant_type = λ v. false≢true (v.types_of_constants 0 any_constant (omega arith));
+  unknown_before_known = λ v. false≢true (v.types_of_constants 0 any_constant (omega arith));
+  unknown_after_known = λ v. false≢true (v.types_of_constants 1 any_constant (omega arith));
 }

@@ -4,7 +4,7 @@ use Rattle.std.specs.List.{flat_map, enumerate_from}
 use Rattle.isle_model.specs.Syntax.{Name, FieldTree, TupleFieldTree, FieldTrees, unit_fields, struct_fields, tuple_fields, VariantTree, TypeTree, TypeValueTree, primitive_value, enum_value, struct_value, Definition, extern_definition, extern_const}
 use Rattle.isle_model.specs.Names.{number, has_name, with_names, IsDistinct}
 use Rattle.isle_model.specs.Tables.{FieldEntry, TupleFieldEntry, FieldEntries, unit_entries, struct_entries, tuple_entries, VariantEntry, TypeEntry, primitive_type, enum_type, struct_type}
-use Rattle.isle_model.specs.TypeTable.{builtin_names, type_trees, type_names, type_id, builtin_from}
+use Rattle.isle_model.specs.TypeTable.{builtin_names, type_trees, type_names, place_from, builtin_from}
 use Rattle.isle_model.specs.TermTable.{type_or_first}
 
 -- a named constant: its name and the name of its type
@@ -23,7 +23,7 @@ constant_trees defs = flat_map constant_of defs
 
 -- the full name of a variant: its type's name, a point, its own name
 abbrev pub full_name : List ℕ → List ℕ → List ℕ
-full_name ty variant = ty ++ codes "." ++ variant
+full_name ty variant = ty ++ (codes "." ++ variant)
 
 -- the names of a list of fields, in order; those of a tuple have none
 abbrev pub field_names : FieldTrees → List (List ℕ)
@@ -32,10 +32,10 @@ field_names (struct_fields fields) = map (λ f. f.name.text) fields
 field_names (tuple_fields fields) = []
 
 -- the names of the types of a list of fields, in order
-abbrev pub field_types : FieldTrees → List Name
-field_types unit_fields = []
-field_types (struct_fields fields) = map (λ f. f.ty) fields
-field_types (tuple_fields fields) = map (λ f. f.ty) fields
+abbrev pub field_type_names : FieldTrees → List Name
+field_type_names unit_fields = []
+field_type_names (struct_fields fields) = map (λ f. f.ty) fields
+field_type_names (tuple_fields fields) = map (λ f. f.ty) fields
 
 -- the names that a variant of a type brings: its full name, its name, its fields
 abbrev pub variant_names : List ℕ → VariantTree → List (List ℕ)
@@ -72,47 +72,55 @@ field_lists_of (struct_value fields at) = fields ∷ []
 abbrev pub field_lists : List Definition → List FieldTrees
 field_lists defs = flat_map (λ t. field_lists_of t.value) (type_trees defs)
 
+-- a type is a primitive one
 abbrev pub is_primitive : TypeValueTree → Bool
 is_primitive (primitive_value name at) = true
 is_primitive (enum_value variants at) = false
 is_primitive (struct_value fields at) = false
 
--- a name is that of a type
-abbrev pub IsKnownType : List Definition → Name → Type 0
-IsKnownType defs n = IsTrue (is_some (type_id defs n.text))
+-- the names of all types, each at its id
+abbrev pub all_type_names : List Definition → List (List ℕ)
+all_type_names defs = builtin_names ++ type_names defs
+
+-- a name is one of these names of types
+abbrev pub IsKnownType : List (List ℕ) → Name → Type 0
+IsKnownType types n = IsTrue (is_some (place_from 0 n.text types))
 
 -- a type is marked neither extern nor nodebug
 abbrev pub IsUnmarked : TypeTree → Type 0
 IsUnmarked t = (t.is_extern ≡ false) × (t.is_nodebug ≡ false)
 
--- a primitive type has no mark, and no type has both
-abbrev pub IsUnmarkedPrimitive : TypeTree → Type 0
-IsUnmarkedPrimitive t = IsTrue (is_primitive t.value) → IsUnmarked t
+-- a type is unmarked if it is primitive
+abbrev pub IsUnmarkedIfPrimitive : TypeTree → Type 0
+IsUnmarkedIfPrimitive t = IsTrue (is_primitive t.value) → IsUnmarked t
 
-abbrev pub HasOneMark : TypeTree → Type 0
-HasOneMark t = IsTrue (not (t.is_extern && t.is_nodebug))
+-- a type is not extern and nodebug at once; it may be neither
+abbrev pub HasAtMostOneMark : TypeTree → Type 0
+HasAtMostOneMark t = IsTrue (not (t.is_extern && t.is_nodebug))
 
--- no two variants of a type have one name, no two fields of a list have one
+-- no two variants of a type have one name
 abbrev pub HasDistinctVariants : TypeTree → Type 0
 HasDistinctVariants t = IsDistinct (variants_of t.value)
 
+-- no two fields of a list have one name
 abbrev pub HasDistinctFields : FieldTrees → Type 0
 HasDistinctFields fields = IsDistinct (field_names fields)
 
--- the types of all fields of a list are known, the type of a constant is
+-- the types of all fields of a list are known
 abbrev pub HasKnownTypes : List Definition → FieldTrees → Type 0
-HasKnownTypes defs fields = All (IsKnownType defs) (field_types fields)
+HasKnownTypes defs fields = All (IsKnownType (all_type_names defs)) (field_type_names fields)
 
+-- the type of a constant is known
 abbrev pub IsOfKnownType : List Definition → ConstantTree → Type 0
-IsOfKnownType defs c = IsKnownType defs c.ty
+IsOfKnownType defs c = IsKnownType (all_type_names defs) c.ty
 
 -- what a list of definitions must meet to have a type table: no two types have one name, the built-in ones included; a
 -- primitive type is neither extern nor nodebug, and another type not both; the names of an enum's variants are
 -- distinct, and those of the fields of a list; the type of each field and of each constant is known
 pub record IsValidTypes (defs : List Definition) : Type 0 where
-  pub distinct : IsDistinct (builtin_names ++ type_names defs)
-  pub primitives : All IsUnmarkedPrimitive (type_trees defs)
-  pub marks : All HasOneMark (type_trees defs)
+  pub distinct : IsDistinct (all_type_names defs)
+  pub primitives : All IsUnmarkedIfPrimitive (type_trees defs)
+  pub marks : All HasAtMostOneMark (type_trees defs)
   pub variants : All HasDistinctVariants (type_trees defs)
   pub fields : All HasDistinctFields (field_lists defs)
   pub types_of_fields : All (HasKnownTypes defs) (field_lists defs)
@@ -122,6 +130,7 @@ pub record IsValidTypes (defs : List Definition) : Type 0 where
 abbrev pub field_entry : List Definition → List (List ℕ) → ℕ → FieldTree → FieldEntry
 field_entry defs names id f = record { name = number names f.name.text; id = id; ty = type_or_first defs f.ty }
 
+-- a tuple field's entry: its id is its place
 abbrev pub tuple_field_entry : List Definition → ℕ → TupleFieldTree → TupleFieldEntry
 tuple_field_entry defs id f = record { id = id; ty = type_or_first defs f.ty }
 
@@ -141,13 +150,14 @@ variant_entry defs names ty id v = record {
   at = v.at;
 }
 
--- what a type becomes: the name of a primitive type is the inner one
+-- what a type with this value becomes: the name of a primitive type is the inner one
 abbrev pub entry_at : List Definition → List (List ℕ) → ℕ → TypeTree → TypeValueTree → TypeEntry
 entry_at defs names id t (primitive_value name at) = primitive_type id (number names name.text) t.at
 entry_at defs names id t (enum_value variants at) =
     enum_type (number names t.name.text) id t.is_extern t.is_nodebug (map (λ p. variant_entry defs names t.name.text p.0 p.1) (enumerate_from 0 variants)) t.at
 entry_at defs names id t (struct_value fields at) = struct_type (number names t.name.text) id t.is_extern t.is_nodebug (field_entries defs names fields) t.at
 
+-- what a type becomes
 abbrev pub type_entry : List Definition → List (List ℕ) → ℕ → TypeTree → TypeEntry
 type_entry defs names id t = entry_at defs names id t t.value
 

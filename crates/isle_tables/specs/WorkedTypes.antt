@@ -53,47 +53,67 @@ Constants =
     × (look (λ k. k == 14) (constant_types constants) ≡ Some 7)
     × IsValidTypes constants
 
--- lists that each break one demand
+-- (type A (primitive X)) (type A (primitive Y))
 abbrev pub type_twice : List Definition
 type_twice = type_definition (primitive 0 (codes "A") (codes "X")) ∷ (type_definition (primitive 1 (codes "A") (codes "Y")) ∷ [])
 
+-- (type u8 (primitive X))
 abbrev pub builtin_again : List Definition
 builtin_again = type_definition (primitive 0 (codes "u8") (codes "X")) ∷ []
 
+-- (type A extern (primitive X))
 abbrev pub extern_primitive : List Definition
 extern_primitive = type_definition (record (primitive 0 (codes "A") (codes "X")) { is_extern = true }) ∷ []
 
+-- (type A nodebug (primitive X))
 abbrev pub nodebug_primitive : List Definition
 nodebug_primitive = type_definition (record (primitive 0 (codes "A") (codes "X")) { is_nodebug = true }) ∷ []
 
+-- a type, marked extern and nodebug
 abbrev pub both_marks : TypeTree → Definition
 both_marks t = type_definition (record t { is_extern = true; is_nodebug = true })
 
+-- an enum with both marks
 abbrev pub enum_with_both : List Definition
 enum_with_both = both_marks (enum 0 (codes "A") []) ∷ []
 
+-- a struct with both marks
 abbrev pub struct_with_both : List Definition
 struct_with_both = both_marks (struct 0 (codes "A") (struct_fields [])) ∷ []
 
+-- (type T (enum (A) (A)))
 abbrev pub variant_twice : List Definition
 variant_twice = type_definition (enum 0 (codes "T") (variant 0 (codes "A") [] ∷ (variant 0 (codes "A") [] ∷ []))) ∷ []
 
+-- (type T (enum (A (a u8) (a u16))))
 abbrev pub field_twice : List Definition
 field_twice = type_definition (enum 0 (codes "T") (variant 0 (codes "A") (field 0 (codes "a") (codes "u8") ∷ (field 0 (codes "a") (codes "u16") ∷ [])) ∷ [])) ∷ []
 
+-- a struct with two fields a
 abbrev pub struct_field_twice : List Definition
 struct_field_twice = type_definition (struct 0 (codes "T") (struct_fields (field 0 (codes "a") (codes "u8") ∷ (field 0 (codes "a") (codes "u16") ∷ [])))) ∷ []
 
+-- a struct with a field of type nope
 abbrev pub unknown_field_type : List Definition
 unknown_field_type = type_definition (struct 0 (codes "T") (struct_fields (field 0 (codes "a") (codes "nope") ∷ []))) ∷ []
 
+-- a tuple with a part of type nope
 abbrev pub unknown_part_type : List Definition
 unknown_part_type = type_definition (struct 0 (codes "T") (tuple_fields (part 0 0 (codes "nope") ∷ []))) ∷ []
 
+-- (extern const $X nope)
 abbrev pub unknown_constant_type : List Definition
 unknown_constant_type = constant 0 (codes "X") (codes "nope") ∷ []
 
--- none of them is valid
+-- each definition counts: (extern const $X nope) (extern const $X u8)
+abbrev pub unknown_before_known : List Definition
+unknown_before_known = constant 0 (codes "X") (codes "nope") ∷ (constant 1 (codes "X") (codes "u8") ∷ [])
+
+-- (extern const $X u8) (extern const $X nope)
+abbrev pub unknown_after_known : List Definition
+unknown_after_known = constant 0 (codes "X") (codes "u8") ∷ (constant 1 (codes "X") (codes "nope") ∷ [])
+
+-- none of these lists has a type table: each breaks one demand
 pub record RefusedTypes : Type 0 where
   pub type_twice : IsValidTypes type_twice → ⊥
   pub builtin_again : IsValidTypes builtin_again → ⊥
@@ -107,3 +127,5 @@ pub record RefusedTypes : Type 0 where
   pub unknown_field_type : IsValidTypes unknown_field_type → ⊥
   pub unknown_part_type : IsValidTypes unknown_part_type → ⊥
   pub unknown_constant_type : IsValidTypes unknown_constant_type → ⊥
+  pub unknown_before_known : IsValidTypes unknown_before_known → ⊥
+  pub unknown_after_known : IsValidTypes unknown_after_known → ⊥

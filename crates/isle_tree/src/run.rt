@@ -1,8 +1,11 @@
 //! What the program does with its words: it lowers the sample that they name, and writes the trees or
 //! what is wrong.
 
-ghost use Rattle.std.specs.Prelude.{◌≡◌, ◌≢◌, ◌≤◌, true, false, IfOk, is_some, map, string_bytes};
-ghost use Rattle.isle_tree.specs.Words.{names_sample};
+ghost use Rattle.std.specs.Prelude.{◌≡◌, ◌≢◌, ◌≤◌, true, false, IfOk, List, Some, map, option_map, string_bytes};
+ghost use Rattle.isle_base.specs.SyntaxViews.{definition_views};
+ghost use Rattle.isle_model.specs.Syntax.{Definition};
+ghost use Rattle.isle_tree.specs.Statuses.{IsStatusOf, IsTextOf};
+ghost use Rattle.isle_tree.specs.Words.{named_definitions, names_sample};
 
 use crate::errors::error_lines;
 use crate::print::trees;
@@ -26,6 +29,9 @@ pub fn run<O: Write, E: Write>(alloc: Global, words: &[String], out: &mut O, err
     ensures named { names_sample (map string_bytes words.now) ≡ true → result ≢ 2 }
     // other words lower nothing: wrong use, unless memory is refused before
     ensures unnamed { names_sample (map string_bytes words.now) ≡ false → result ≢ 2 → result ≡ 3 }
+
+    // of a sample, the status says whether its definitions are accepted
+    ensures lowered { (defs : List Definition) → named_definitions (map string_bytes words.now) ≡ Some defs → IsStatusOf defs result }
 {
     match sample_of(alloc, words) {
         Ok(Some(defs)) => print_trees(alloc, &defs, out, err),
@@ -43,7 +49,7 @@ pub fn no_memory<E: Write>(err: &mut E) -> u8
 
 // The sample that the words name, or None where they don't name one.
 fn sample_of(alloc: Global, words: &[String]) -> Result<Option<Vec<Def>>, AllocError>
-    ensures { IfOk result (λ defs. is_some defs ≡ names_sample (map string_bytes words.now)) }
+    ensures { IfOk result (λ defs. option_map (λ d. definition_views d.items) defs ≡ named_definitions (map string_bytes words.now)) }
 {
     if words.len() != 1 {
         return Ok(None);
@@ -62,6 +68,7 @@ enum Text {
 fn print_trees<O: Write, E: Write>(alloc: Global, defs: &[Def], out: &mut O, err: &mut E) -> u8
     ensures known { result ≤ 4 }
     ensures used { result ≢ 2 }
+    ensures lowered { IsStatusOf (definition_views defs.now) result }
 {
     match text_of(alloc, defs) {
         Ok(Text::Trees(text)) => match write_whole(out, text.as_str()) {
@@ -74,7 +81,9 @@ fn print_trees<O: Write, E: Write>(alloc: Global, defs: &[Def], out: &mut O, err
 }
 
 // What came of lowering definitions, as text.
-fn text_of(alloc: Global, defs: &[Def]) -> Result<Text, AllocError> {
+fn text_of(alloc: Global, defs: &[Def]) -> Result<Text, AllocError>
+    ensures { IfOk result (λ t. IsTextOf (definition_views defs.now) t) }
+{
     match lower(alloc, defs, true) {
         Ok(lowered) => Ok(Text::Trees(trees(alloc, &lowered)?)),
         Err(Fault::Errors(errors)) => Ok(Text::Errors(error_lines(alloc, &errors)?)),

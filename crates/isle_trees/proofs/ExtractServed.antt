@@ -10,12 +10,13 @@ use Rattle.isle_model.specs.Names.{IsDistinct}
 use Rattle.isle_model.specs.Sites.{Site, int_site, argument_site, extractor_site, match_some_site, Constraint, is_int, is_present, SetRule, sources_at}
 use Rattle.isle_model.specs.Places.{joins_in, waits, all_below, fields_of, return_uses}
 use Rattle.isle_model.specs.Run.{content_fields, where_constant}
-use Rattle.isle_model.specs.Collects.{content_at, gate_demanded}
+use Rattle.isle_model.specs.Collects.{content_at}
 use Rattle.isle_model.specs.SetRuns.{tested_sites, IsPureAt, is_unwrap, IsTestedRule, IsTestedSet, ServesTests}
 use Rattle.isle_trees.specs.Extract.{ten_for_answer_one, answer_itself, extract_sites, extract, answering, extract_meaning, ExtractIsServed}
 use Rattle.isle_trees.proofs.Lists.{nothing_in, in_alone, in_cases}
 use Rattle.isle_trees.proofs.Members.{each_passes, all_members}
 use Rattle.isle_trees.proofs.Fields.{present_met}
+use Rattle.isle_model.specs.Gates.{gate_demanded}
 
 -- 1. the set
 place : Site → ℕ

@@ -10,11 +10,11 @@ use Rattle.isle_model.specs.Sites.{Site, iterator_site, match_variant_site, extr
 use Rattle.isle_model.specs.Places.{is_in, waits, is_variant_field, is_struct_field, is_part_of, site_from, each_field, fields_of, field_sites}
 use Rattle.isle_model.specs.Run.{World, Env, as_value, from_value, all_one, content_fields, bind_fields}
 use Rattle.isle_model.specs.Picks.{field_of_variant, field_of_struct, part_of_some}
-use Rattle.isle_model.specs.Collects.{asks_variant, asks_struct, asks_answer, gate_demanded}
 use Rattle.isle_trees.proofs.Lists.{nothing_in, in_head, in_tail, in_cases}
 use Rattle.isle_trees.proofs.Members.{one_passes}
 use Rattle.isle_trees.proofs.Contents.{SourcesBefore, sources_in, content_layer}
 use Rattle.isle_trees.proofs.Binding.{content, Held, held_as, keeps_bound}
+use Rattle.isle_model.specs.Gates.{asks_answer, asks_struct, asks_variant, gate_demanded}
 
 -- 1. the first site that passes
 plus_zero : (n : ℕ) → n ≡ n + 0

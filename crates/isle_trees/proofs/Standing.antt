@@ -10,7 +10,7 @@ use Rattle.isle_model.specs.Trees.{Tree, no_step, step, return_at}
 use Rattle.isle_model.specs.Places.{Around, is_in, joins_in, waits, available, below, all_below, fields_of, field_sites, bind_order, return_uses}
 use Rattle.isle_model.specs.Run.{World, Env, used, Bound, all_bound, unwrap_failed, no_content_there, bind_all, Trace, at_start, with_bound, or_next, with_content, returned, run_tree, run_check}
 use Rattle.isle_model.specs.Sound.{IsTested}
-use Rattle.isle_model.specs.Collects.{meets, demands_hold, gate_demanded}
+use Rattle.isle_model.specs.Collects.{meets, demands_hold}
 use Rattle.isle_model.specs.SetRuns.{tested_sites, IsPureAt, is_unwrap, IsTestedRule, IsTestedSet, ServesTests, IsReached, IsTaken}
 use Rattle.isle_trees.proofs.Lists.{nothing_in, in_head, in_tail, in_cases, get_within}
 use Rattle.isle_trees.proofs.Members.{all_members, in_map, in_flat_map, from_flat_map, member_is_in}
@@ -19,6 +19,7 @@ use Rattle.isle_trees.proofs.Binding.{content, content_of, Held, reads}
 use Rattle.isle_trees.proofs.BindOrders.{Finds, available_found}
 use Rattle.isle_trees.proofs.Fields.{gate_brought}
 use Rattle.isle_trees.proofs.Demanded.{joined_in, demands_from}
+use Rattle.isle_model.specs.Gates.{gate_demanded}
 
 -- on the path to a place: what is emitted is kept, brought sites are among it, and the tests around have passed
 pub record At (w : World) (ar : Around) (env : Env) : Type 0 where

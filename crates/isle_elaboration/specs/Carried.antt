@@ -1,0 +1,38 @@
+-- The rules that the model's first elaboration carries: here they become the same typed rules, without an expansion.
+use Rattle.std.specs.Prelude.{◌≡◌, ℕ, Bool, true, List, [], ◌++◌, Some, map, option_map, slice_get}
+use Rattle.isle_model.specs.Syntax.{RuleTree, Definition}
+use Rattle.isle_model.specs.Names.{number}
+use Rattle.isle_model.specs.Typed.{TypedRule}
+use Rattle.isle_model.specs.TypeTable.{builtin_names, type_names, type_entries}
+use Rattle.isle_model.specs.TermTable.{IsValidTerms, term_entries, rule_trees}
+use Rattle.isle_model.specs.Elaboration.{is_carried_rule, all_names, elaborate_rule}
+use Rattle.isle_elaboration.specs.Setting.{Setting}
+use Rattle.isle_elaboration.specs.Typings.{Typing}
+use Rattle.isle_elaboration.specs.Elaborated.{elaborated_rule}
+
+-- the tables of the model's first definitions
+abbrev pub setting_of : List Definition → Bool → Bool → Setting
+setting_of defs expand anywhere = record {
+  types = type_entries defs;
+  type_names = map (number (all_names defs)) (builtin_names ++ type_names defs);
+  constants = [];
+  terms = term_entries defs;
+  converters = [];
+  expand = expand;
+  multi_anywhere = anywhere;
+}
+
+-- the typed rule and its number of expansions
+abbrev pub rule_and_count : Typing TypedRule → TypedRule × ℕ
+rule_and_count a = (a.made, a.expansions)
+
+-- a typed rule that took none
+abbrev pub without_expansion : TypedRule → TypedRule × ℕ
+without_expansion q = (q, 0)
+
+-- a carried rule becomes by either the same typed rule, or none
+abbrev pub CarriedRulesAgree : Type 0
+CarriedRulesAgree =
+    (defs : List Definition) (expand anywhere : Bool) (d id : ℕ) (r : RuleTree)
+    → IsValidTerms defs → slice_get (rule_trees defs) id ≡ Some r → is_carried_rule r ≡ true
+    → option_map rule_and_count (elaborated_rule (setting_of defs expand anywhere) d id r (all_names defs)) ≡ option_map without_expansion (elaborate_rule defs id r)

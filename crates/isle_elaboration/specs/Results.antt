@@ -1,0 +1,43 @@
+-- What is known of all that elaboration makes: types, variables and names.
+use Rattle.std.specs.Prelude.{◌≡◌, ℕ, Bool, List, ◌++◌, Some, slice_get}
+use Rattle.isle_model.specs.Syntax.{PatternTree, ExprTree, RuleTree}
+use Rattle.isle_model.specs.Names.{IsDistinct}
+use Rattle.isle_model.specs.Tables.{Flags}
+use Rattle.isle_model.specs.Typed.{TypedPattern, match_bind, match_var, match_bool, match_int, match_prim, match_term, match_any, match_and, TypedExpr, TypedVar, TypedRule}
+use Rattle.isle_elaboration.specs.Setting.{Setting, Scope, expr_type}
+use Rattle.isle_elaboration.specs.Elaborates.{ElaboratesPattern, ElaboratesExpr, ElaboratesRule, ElaboratesRules}
+
+-- the type that a pattern matches
+abbrev pub pattern_type : TypedPattern → ℕ
+pattern_type (match_bind ty x of) = ty
+pattern_type (match_var ty x) = ty
+pattern_type (match_bool ty b) = ty
+pattern_type (match_int ty z) = ty
+pattern_type (match_prim ty name) = ty
+pattern_type (match_term ty term args) = ty
+pattern_type (match_any ty) = ty
+pattern_type (match_and ty parts) = ty
+
+-- a pattern is made at the type asked for, an expression at the type expected
+abbrev pub TypesAreExpected : Type 0
+TypesAreExpected =
+    ((e : Setting) (multi : Bool) (d : ℕ) (p : PatternTree) (ty : ℕ) (s : Scope) (q : TypedPattern) (t : Scope) (n : ℕ) → ElaboratesPattern e multi d p ty s q t n → pattern_type q ≡ ty)
+    × ((e : Setting) (flags : Flags) (d : ℕ) (x : ExprTree) (ty : ℕ) (s : Scope) (q : TypedExpr) (t : Scope) (n : ℕ) → ElaboratesExpr e flags d x (Some ty) s q t n → expr_type q ≡ ty)
+
+-- a rule's variables stand at their numbers
+abbrev pub VariablesAtPlaces : Type 0
+VariablesAtPlaces =
+    (e : Setting) (d id : ℕ) (r : RuleTree) (names : List (List ℕ)) (q : TypedRule) (t : Scope) (n : ℕ)
+    → ElaboratesRule e d id r names q t n → (k : ℕ) (v : TypedVar) → slice_get q.vars k ≡ Some v → v.id ≡ k
+
+-- the names met before a rule stay at their numbers, and where they were distinct they are so with those that it meets
+abbrev pub NamesStay : Type 0
+NamesStay =
+    (e : Setting) (d id : ℕ) (r : RuleTree) (names : List (List ℕ)) (q : TypedRule) (t : Scope) (n : ℕ)
+    → ElaboratesRule e d id r names q t n → ((more : List (List ℕ)) × (t.names ≡ names ++ more)) × (IsDistinct names → IsDistinct t.names)
+
+-- so do the names met before a list of rules
+abbrev pub NamesStayInLists : Type 0
+NamesStayInLists =
+    (e : Setting) (id : ℕ) (rs : List RuleTree) (names : List (List ℕ)) (qs : List TypedRule) (after : List (List ℕ))
+    → ElaboratesRules e id rs names qs after → ((more : List (List ℕ)) × (after ≡ names ++ more)) × (IsDistinct names → IsDistinct after)
