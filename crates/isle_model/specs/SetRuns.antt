@@ -53,9 +53,11 @@ pub record ServesTests (set : SiteSet) (w : World) : Type 0 where
   pub apart : (r q : SetRule) (s : ℕ) (d f : Constraint) → Contains set.rules r → Contains set.rules q → Contains r.constraints (s, d) → Contains q.constraints (s, f)
       → IsTrue (meets w.meaning d (content_at w [] s)) → IsTrue (meets w.meaning f (content_at w [] s)) → d ≡ f
 
--- a place that a run reached: what is emitted there can be used, and what is bound is emitted and holds its content
+-- a place that a run reached: what is emitted there can be used and makes no impure call, so none was made before, and what
+-- is bound is emitted and holds its content
 pub record IsReached (w : World) (ar : Around) (env : Env) : Type 0 where
   pub emitted : (s : ℕ) → IsTrue (is_in s ar.emitted) → IsTrue (is_some (content_at w [] s)) × (used w env s ≡ content_at w [] s)
+  pub pure : (s : ℕ) → IsTrue (is_in s ar.emitted) → IsPureAt w.sites s
   pub bound : (s : ℕ) (c : Content) → bound_to env s ≡ Some c → IsTrue (is_in s ar.emitted) × (content_at w [] s ≡ Some c)
 
 -- a rule is taken: from some place where the gates that it demands are emitted, its impure calls are bound in order,

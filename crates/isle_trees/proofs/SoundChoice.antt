@@ -22,7 +22,7 @@ use Rattle.isle_trees.proofs.Members.{in_flat_map, from_flat_map, member_is_in, 
 use Rattle.isle_trees.proofs.Taking.{step_runs}
 use Rattle.isle_trees.proofs.Binding.{content, Held, held_as, reads}
 use Rattle.isle_trees.proofs.BindOrders.{BindsTo, binds_order}
-use Rattle.isle_trees.proofs.Fields.{FieldsHold, fields_hold, fields_bound}
+use Rattle.isle_trees.proofs.Fields.{FieldsHold, fields_hold, fields_bound, fields_pure}
 use Rattle.isle_trees.proofs.Demanded.{joined_back, demand_met, demand_equal}
 use Rattle.isle_trees.proofs.Finding.{Found, NoneHolds, found_left, found_right, next_found, rule_found}
 use Rattle.isle_trees.proofs.Standing.{At, taken_ends, rule_at, finds, constraint_tested, class_tested, tested_pure, found_at, holds_here, taken_here}
@@ -111,9 +111,13 @@ module _ (w : World) (rules : List SetRule) (built : IsTestedSet (record { rules
   abbrev wider : (ar : Around) (ss : List ℕ) → Around
   wider ar ss = record { tested = ar.tested; joined = ar.joined; looped = ar.looped; brought = ar.brought; emitted = all_below w.sites ss ++ ar.emitted }
 
-  at_wider : (ar : Around) (ss : List ℕ) (env env' : Env) → At w ar env → Held w env' (Kept (all_below w.sites ss ++ ar.emitted)) → At w (wider ar ss) env'
-  at_wider ar ss env env' at held = record {
+  at_wider : (ar : Around) (ss : List ℕ) (env env' : Env) → At w ar env → ((s : ℕ) → Contains ss s → Pure s) → Held w env' (Kept (all_below w.sites ss ++ ar.emitted)) → At w (wider ar ss) env'
+  at_wider ar ss env env' at fine held = record {
     held = held;
+    pure = λ s i. elim (in_either s (all_below w.sites ss) ar.emitted i) [
+      | inl c ↦ let r = from_flat_map (λ x. below (suc x) w.sites x) ss s c in fine r.0 r.1 s r.2
+      | inr e ↦ at.pure s e
+    ];
     brought = λ s i. in_second s (all_below w.sites ss) ar.emitted (at.brought s i);
     brings = at.brings;
     tested = at.tested;
@@ -121,7 +125,7 @@ module _ (w : World) (rules : List SetRule) (built : IsTestedSet (record { rules
   }
 
   at_equal : (ar : Around) (a b : ℕ) (env : Env) → At w (wider ar (a ∷ (b ∷ []))) env → content w a ≡ content w b → At w (in_equal set ar a b) env
-  at_equal ar a b env at same = record { held = at.held; brought = at.brought; brings = at.brings; tested = at.tested; joined = (same, at.joined) }
+  at_equal ar a b env at same = record { held = at.held; pure = at.pure; brought = at.brought; brings = at.brings; tested = at.tested; joined = (same, at.joined) }
 
   at_after_match : (ar : Around) (s : ℕ) (arms : MarkedArms) (env : Env) → At w (wider ar (s ∷ [])) env → At w (after_step set ar (m_match s arms)) env
   at_after_match ar s arms env at = at
@@ -130,9 +134,11 @@ module _ (w : World) (rules : List SetRule) (built : IsTestedSet (record { rules
   at_after_equal ar a b body env at = at
 
   at_arm : (ar : Around) (s : ℕ) (c : Constraint) (fields : List (Option ℕ)) (env env' : Env) → At w (wider ar (s ∷ [])) env → fields ≡ fields_of w.sites s c → meets w.meaning c (content w s) ≡ true
+      → ((t : ℕ) → Contains (field_sites fields) t → IsPureAt w.sites t)
       → Held w env' (λ t. Kept (all_below w.sites (s ∷ []) ++ ar.emitted) t ⊎ Contains (field_sites fields) t) → At w (in_arm set ar s c fields) env'
-  at_arm ar s c fields env env' at same met held = record {
+  at_arm ar s c fields env env' at same met fine held = record {
     held = held_as w env' (λ t. Kept (all_below w.sites (s ∷ []) ++ ar.emitted) t ⊎ Contains (field_sites fields) t) (Kept (field_sites fields ++ all_below w.sites (s ∷ []) ++ ar.emitted)) to from held;
+    pure = λ t i. elim (from t i) [ inl a ↦ at.pure t a | inr m ↦ fine t m ];
     brought = λ t i. elim (in_either t (field_sites fields) ar.brought i) [ inl a ↦ to t (inr a) | inr b ↦ to t (inl (at.brought t b)) ];
     brings = λ t d x k m. elim (in_cases (s, c) (t, d) ar.tested k) [
       | inl e ↦ Contains-append_left (field_sites fields) ar.brought x (subst (λ l. Contains (field_sites l) x) (sym same) (subst (λ (y : ℕ × Constraint). Contains (field_sites (fields_of w.sites y.0 y.1)) x) (sym e) m))
@@ -222,7 +228,7 @@ module _ (w : World) (rules : List SetRule) (built : IsTestedSet (record { rules
       by : (x : Content) → content w source ≡ Some x → (env' : Env) → bind_all w env [] (bind_order w.sites ar (source ∷ [])) ≡ all_bound env' [] → Held w env' (Kept (all_below w.sites (source ∷ []) ++ ar.emitted))
           → FoundHere (here ++ later) (run_tree (step binds (match_at source arms) rest) w env at_start)
       by x e env' bound held =
-          let now = at_wider ar (source ∷ []) env env' at held in
+          let now = at_wider ar (source ∷ []) env env' at (λ s c. subst Pure (in_alone source s c) pure) held in
           let read = reads w built.sources env' (Kept (all_below w.sites (source ∷ []) ++ ar.emitted)) held source (used_kept ar (source ∷ []) source (in_head source [])) in
           then_found here later (run_arms arms w x env' at_start) (run_tree rest w env')
           (match_runs binds (bind_order w.sites ar (source ∷ [])) source arms rest env env' x same bound (read ∙ e))
@@ -247,7 +253,7 @@ module _ (w : World) (rules : List SetRule) (built : IsTestedSet (record { rules
       by : (u v : Value) → content w a ≡ Some (one u) → content w b ≡ Some (one v) → (env' : Env) → bind_all w env [] (bind_order w.sites ar (a ∷ (b ∷ []))) ≡ all_bound env' [] → Held w env' (Kept (all_below w.sites (a ∷ (b ∷ [])) ++ ar.emitted))
           → FoundHere (here ++ later) (run_tree (step binds (equal_at a b body) rest) w env at_start)
       by u v e f env' bound held =
-          let now = at_wider ar (a ∷ (b ∷ [])) env env' at held in
+          let now = at_wider ar (a ∷ (b ∷ [])) env env' at (λ s c. elim (in_cases a s (b ∷ []) c) [ inl q ↦ subst Pure q pure_a | inr d ↦ subst Pure (in_alone b s d) pure_b ]) held in
           let read_a = reads w built.sources env' (Kept (all_below w.sites (a ∷ (b ∷ [])) ++ ar.emitted)) held a (used_kept ar (a ∷ (b ∷ [])) a (in_head a (b ∷ []))) in
           let read_b = reads w built.sources env' (Kept (all_below w.sites (a ∷ (b ∷ [])) ++ ar.emitted)) held b (used_kept ar (a ∷ (b ∷ [])) b (in_tail a b (b ∷ []) (in_head b []))) in
           then_found here later (on_equal (Some u) (Some v) at_start (run_tree body w env' at_start)) (run_tree rest w env')
@@ -311,10 +317,12 @@ module _ (w : World) (rules : List SetRule) (built : IsTestedSet (record { rules
           | inl met ↦
               let member = member_from_get rules ask.0 ask.1 ask.2 in
               let passes : meets w.meaning c (content w s) ≡ true = ap (meets w.meaning c) e ∙ ap is_some met.1 in
-              let b = arm_binds ar s c fields met.0 env at sound.3 (fields_hold w built.sources s c x met.0 e met.1 (served.fields ask.1 s c x met.0 member ask.3 e met.1)) in
+              let hold = fields_hold w built.sources s c x met.0 e met.1 (served.fields ask.1 s c x met.0 member ask.3 e met.1) in
+              let b = arm_binds ar s c fields met.0 env at sound.3 hold in
+              let fine = subst (λ l. (t : ℕ) → Contains (field_sites l) t → IsPureAt w.sites t) (sym sound.3) (fields_pure w built.sources s (fields_of w.sites s c) met.0 hold) in
               subst (FoundHere (marks body ++ marks_arms rest)) (sym (arm_met s c fields (plain rules body) (plain_arms rules rest) x met.0 env b.0 met.1 b.1))
               (found_left rules Holds (IsTaken w) (marks body) (marks_arms rest) (run_tree (plain rules body) w b.0 at_start)
-              (steps_run body (in_arm set ar s c fields) b.0 here sound.4 (at_arm ar s c fields env b.0 at sound.3 passes b.2))
+              (steps_run body (in_arm set ar s c fields) b.0 here sound.4 (at_arm ar s c fields env b.0 at sound.3 passes fine b.2))
               (none_after rest ar s c ask.0 ask.1 ask.2 ask.3 passes sound.5))
           | inr unmet ↦
               subst (FoundHere (marks body ++ marks_arms rest)) (sym (arm_unmet c fields (plain rules body) (plain_arms rules rest) x env unmet))
@@ -337,6 +345,7 @@ module _ (w : World) (rules : List SetRule) (built : IsTestedSet (record { rules
           right = λ t c e. absurd (none-some c e);
           closed = λ t u k c. absurd (false≢true k);
         };
+        pure = λ s k. absurd (false≢true k);
         brought = λ s k. absurd (false≢true k);
         brings = λ s c x k l. absurd (nothing_in (s, c) k);
         tested = λ s c k. absurd (nothing_in (s, c) k);

@@ -21,9 +21,10 @@ use Rattle.isle_trees.proofs.Fields.{gate_brought}
 use Rattle.isle_trees.proofs.Demanded.{joined_in, demands_from}
 use Rattle.isle_model.specs.Gates.{gate_demanded}
 
--- on the path to a place: what is emitted is kept, brought sites are among it, and the tests around have passed
+-- on the path to a place: what is emitted is kept and pure, brought sites are among it, and the tests around have passed
 pub record At (w : World) (ar : Around) (env : Env) : Type 0 where
   pub held : Held w env (λ t. IsTrue (is_in t ar.emitted))
+  pub pure : (s : ℕ) → IsTrue (is_in s ar.emitted) → IsPureAt w.sites s
   pub brought : (s : ℕ) → IsTrue (is_in s ar.brought) → IsTrue (is_in s ar.emitted)
   pub brings : (s : ℕ) (c : Constraint) (x : ℕ) → Contains ar.tested (s, c) → Contains (field_sites (fields_of w.sites s c)) x → Contains ar.brought x
   pub tested : (s : ℕ) (c : Constraint) → Contains ar.tested (s, c) → meets w.meaning c (content w s) ≡ true
@@ -102,6 +103,7 @@ module _ (w : World) (rules : List SetRule) (built : IsTestedSet (record { rules
     pub reached_at : IsReached w ar env
     reached_at = record {
       emitted = λ s i. let h = at.held.there s i in (ap is_some h.1, reads w built.sources env (λ t. IsTrue (is_in t ar.emitted)) at.held s i);
+      pure = at.pure;
       bound = λ s c b. at.held.right s c b;
     }
 
