@@ -111,11 +111,15 @@ module _ (w : World) (rules : List SetRule) (built : IsTestedSet (record { rules
   abbrev wider : (ar : Around) (ss : List ℕ) → Around
   wider ar ss = record { tested = ar.tested; joined = ar.joined; looped = ar.looped; brought = ar.brought; emitted = all_below w.sites ss ++ ar.emitted }
 
+  -- what is below pure sites
+  pure_below : (ss : List ℕ) → ((s : ℕ) → Contains ss s → Pure s) → (u : ℕ) → Contains (all_below w.sites ss) u → IsPureAt w.sites u
+  pure_below ss pure u c = (let r = from_flat_map (λ x. below (suc x) w.sites x) ss u c in pure r.0 r.1 u r.2)
+
   at_wider : (ar : Around) (ss : List ℕ) (env env' : Env) → At w ar env → ((s : ℕ) → Contains ss s → Pure s) → Held w env' (Kept (all_below w.sites ss ++ ar.emitted)) → At w (wider ar ss) env'
   at_wider ar ss env env' at fine held = record {
     held = held;
     pure = λ s i. elim (in_either s (all_below w.sites ss) ar.emitted i) [
-      | inl c ↦ let r = from_flat_map (λ x. below (suc x) w.sites x) ss s c in fine r.0 r.1 s r.2
+      | inl c ↦ pure_below ss fine s c
       | inr e ↦ at.pure s e
     ];
     brought = λ s i. in_second s (all_below w.sites ss) ar.emitted (at.brought s i);
@@ -166,11 +170,10 @@ module _ (w : World) (rules : List SetRule) (built : IsTestedSet (record { rules
   used_kept ar ss s c =
       in_first s (all_below w.sites ss) ar.emitted (in_flat_map (λ x. below (suc x) w.sites x) ss s s c (in_head s _))
 
-  binds_here : (ar : Around) (env : Env) → At w ar env → (ss : List ℕ) → ((s : ℕ) → Contains ss s → IsTrue (available w.sites ar s)) → ((s : ℕ) → Contains ss s → (u : ℕ) → Contains (below (suc s) w.sites s) u → IsPureAt w.sites u)
+  binds_here : (ar : Around) (env : Env) → At w ar env → (ss : List ℕ) → ((s : ℕ) → Contains ss s → IsTrue (available w.sites ar s)) → ((s : ℕ) → Contains ss s → Pure s)
       → BindsTo w env ar.emitted ss (bind_order w.sites ar ss)
   binds_here ar env at ss avail pure =
-      binds_order w built.sources (finds w rules built served) ar at.brought env at.held ss avail
-      (λ u c. let r = from_flat_map (λ x. below (suc x) w.sites x) ss u c in pure r.0 r.1 u r.2)
+      binds_order w built.sources (finds w rules built served) ar at.brought env at.held ss avail (pure_below ss pure)
 
   -- 4. an arm that is met runs its body with the fields bound
   arm_met : (s : ℕ) (c : Constraint) (fields : List (Option ℕ)) (body : Tree) (rest : Arms) (x : Content) (cs : List Content) (env env' : Env) → content_fields w.meaning c x ≡ Some cs → bind_fields fields cs env ≡ Some env'
