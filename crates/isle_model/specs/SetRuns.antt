@@ -84,3 +84,10 @@ abbrev pub SoundTreesChoose : Type 0
 SoundTreesChoose =
     (set : SiteSet) (tree : Tree) (w : World) → IsTestedSet set → ServesTests set w → w.multi ≡ false → IsSound set false tree
     → ChoosesFrom set w (run tree w)
+
+-- taking a rule comes to one outcome, whatever the place that it is taken from: what is emitted there and all below it is
+-- pure and holds its content, so binding more or fewer of these sites makes no other calls and gives no other result
+abbrev pub TakenOnce : Type 0
+TakenOnce =
+    (set : SiteSet) (w : World) (r : SetRule) (o p : Outcome) → IsTestedSet set → ServesTests set w → Contains set.rules r
+    → IsTaken w r o → IsTaken w r p → o ≡ p
