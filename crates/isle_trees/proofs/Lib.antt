@@ -18,3 +18,4 @@ pub mod Standing
 pub mod SoundChoice
 pub mod ExtractServed
 pub mod ExtractSound
+pub mod ImpureCalled
