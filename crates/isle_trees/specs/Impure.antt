@@ -25,6 +25,8 @@ abbrev pub after_call : Value → Option Content → Outcome
 after_call v None = record { calls = the_call v; results = []; ending = stuck }
 after_call v (Some c) = record { calls = the_call v; results = c ∷ []; ending = ended }
 
--- from whatever place the rule is taken, the call is made
+-- the rule can be taken, and from whatever place it is, the call is made
 abbrev pub ImpureIsCalled : Type 0
-ImpureIsCalled = (m : Meaning) (v : Value) (o : Outcome) → IsTaken (calling m v) call_on_argument o → o ≡ after_call v (impure_answer m 0 0)
+ImpureIsCalled =
+    (m : Meaning) (v : Value) → IsTaken (calling m v) call_on_argument (after_call v (impure_answer m 0 0))
+    × ((o : Outcome) → IsTaken (calling m v) call_on_argument o → o ≡ after_call v (impure_answer m 0 0))

@@ -61,7 +61,7 @@ pub fn extract_is_sound()
     ensures { ExtractIsSound }
 {}
 
-/// The sample with an impure call makes it, from whatever place its rule is taken.
+/// The rule of the sample with an impure call can be taken, and makes the call from whatever place it is taken.
 pub fn impure_is_called()
     ensures { ImpureIsCalled }
 {}
