@@ -1,3 +1,5 @@
 pub mod Environments
 pub mod RuleSets
 pub mod Layers
+pub mod SampleLists
+pub mod BuiltSamples

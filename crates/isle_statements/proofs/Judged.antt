@@ -1,0 +1,85 @@
+-- Rules of sets that name the sites in the order in which they are demanded: what must be computed of them.
+use Rattle.std.proofs.Common.{◌≡◌, ℕ, zero, suc, ◌+◌, ◌<◌, ◌≤◌, Bool, true, false, not, ◌&&◌, nat_lt, List, [], ◌∷◌, length, map, Option, Some, None, slice_get, All, Contains, IsTrue, refl, sym, ap, ◌∙◌, subst, inl, inr, arith, ltb-true}
+use Rattle.std.specs.List.{flat_map, list_all, list_any}
+use Rattle.std.proofs.lemmas.Bool.{cases_Bool, and_parts, false≢true}
+use Rattle.std.proofs.lemmas.Option.{none-some, same_Some}
+use Rattle.std.proofs.lemmas.List.Elements.{All-nil, All-from_recursion}
+use Rattle.isle_model.specs.Built.{numbers_from}
+use Rattle.isle_model.specs.Names.{IsDistinct}
+use Rattle.isle_model.specs.Program.{Program, rules_of}
+use Rattle.isle_model.specs.Sites.{Site, Constraint, SetRule, SiteSet, SiteTerm, sources_at, unfold_site}
+use Rattle.isle_model.specs.Demands.{demands_of, result_of}
+use Rattle.isle_model.specs.Limits.{most_sites, sites_after_rules}
+use Rattle.isle_model.specs.Overlap.{BuiltRule, built_rules}
+use Rattle.isle_model.specs.Closure.{Closed}
+use Rattle.isle_model.specs.WellBuilt.{IsWellBuilt}
+use Rattle.isle_trees.proofs.Lists.{nothing_in, in_cases, member_from_get}
+use Rattle.isle_best.proofs.Lists.{each_passes, in_map, from_map}
+use Rattle.isle_best.proofs.WellBuilt.{set_passes, passes_well_built}
+use Rattle.isle_statements.specs.RuleSets.{AsksFor, Equates, GoesOver, IsRuleOf, StandFor, IsBuilt}
+
+-- a rule's demands, calls and classes read back as sites
+abbrev pub unfolded_demand : List Site → ℕ × Constraint → SiteTerm × Constraint
+unfolded_demand sites d = (unfold_site sites d.0, d.1)
+
+-- numbers of sites of a list
+abbrev pub are_below : ℕ → List ℕ → Bool
+are_below n ss = list_all (λ s. nat_lt s n) ss
+
+below_all : (n : ℕ) (ss : List ℕ) → are_below n ss ≡ true → (s : ℕ) → Contains ss s → s < n
+below_all n ss h s c = ltb-true s n (each_passes (λ t. nat_lt t n) ss h s c)
+
+pub asks : (sites : List Site) (k : Closed) (cs : List (ℕ × Constraint)) → are_below (length sites) (map (λ d. d.0) cs) ≡ true
+    → map (unfolded_demand sites) cs ≡ k.constraints → IsDistinct (map (λ d. d.0) cs) → AsksFor sites k cs
+asks sites k cs below same once = record {
+  asked = λ s c i. (
+    below_all (length sites) (map (λ d. d.0) cs) below s (in_map (λ d. d.0) cs (s, c) i),
+    subst (λ ds. Contains ds (unfold_site sites s, c)) same (in_map (unfolded_demand sites) cs (s, c) i),
+  );
+  all_asked = λ u c i. (
+    let d = from_map (unfolded_demand sites) cs (u, c) (subst (λ ds. Contains ds (u, c)) (sym same) i) in
+    (d.0.0, subst (λ x. Contains cs (d.0.0, x)) (ap (λ x. x.1) d.2) d.1, ap (λ x. x.0) d.2)
+  );
+  once = once;
+}
+
+pub equates_nothing : (sites : List Site) (k : Closed) → k.classes ≡ [] → Equates sites k []
+equates_nothing sites k none = record {
+  joined = λ a b t. absurd (false≢true t);
+  all_joined = λ class u v i j l. absurd (nothing_in class (subst (λ cs. Contains cs class) none i));
+  once = λ j k x p q. absurd (none-some x p);
+  many = All-nil (λ c. 2 ≤ length c);
+}
+
+pub goes_over : (sites : List Site) (calls : List SiteTerm) (its : List ℕ) → are_below (length sites) its ≡ true → map (unfold_site sites) its ≡ calls → IsDistinct its
+    → GoesOver sites calls its
+goes_over sites calls its below same once = record {
+  gone_over = λ s i. (below_all (length sites) its below s i, subst (λ cs. Contains cs (unfold_site sites s)) same (in_map (unfold_site sites) its s i));
+  all_gone_over = λ u i. from_map (unfold_site sites) its u (subst (λ cs. Contains cs u) (sym same) i);
+  once = once;
+}
+
+-- the numbers of a list's elements, each at its place
+numbered : {X : Type 0} (f : ℕ → SiteTerm) (n : ℕ) (xs : List X) (s : ℕ) → s < length xs → slice_get (map f (numbers_from n xs)) s ≡ Some (f (n + s))
+numbered f n [] s l = absurd (omega arith)
+numbered f n (x ∷ xs) zero l = ap (λ k. Some (f k)) (omega arith)
+numbered f n (x ∷ xs) (suc s) l = numbered f (suc n) xs s (omega arith) ∙ ap (λ k. Some (f k)) (omega arith)
+
+as_many : {X : Type 0} (f : ℕ → SiteTerm) (n : ℕ) (xs : List X) → length xs ≡ length (map f (numbers_from n xs))
+as_many f n [] = refl
+as_many f n (x ∷ xs) = ap suc (as_many f (suc n) xs)
+
+pub stand : (sites : List Site) (terms : List SiteTerm) → map (unfold_site sites) (numbers_from 0 sites) ≡ terms → StandFor sites terms
+stand sites terms same = record {
+  exact = λ s l. subst (λ ts. slice_get ts s ≡ Some (unfold_site sites s)) same (numbered (unfold_site sites) 0 sites s l ∙ ap (λ k. Some (unfold_site sites k)) (omega arith));
+  count = subst (λ ts. length sites ≡ length ts) same (as_many (unfold_site sites) 0 sites);
+}
+
+pub two_apart : (a b : ℕ) → a < b → IsDistinct (a ∷ (b ∷ []))
+two_apart a b l zero zero x p q = refl
+two_apart a b l zero (suc zero) x p q = (let e = same_Some a x p in let f = same_Some b x q in omega arith)
+two_apart a b l zero (suc (suc k)) x p q = absurd (none-some x q)
+two_apart a b l (suc zero) zero x p q = (let e = same_Some b x p in let f = same_Some a x q in omega arith)
+two_apart a b l (suc zero) (suc zero) x p q = refl
+two_apart a b l (suc zero) (suc (suc k)) x p q = absurd (none-some x q)
+two_apart a b l (suc (suc j)) k x p q = absurd (none-some x p)

@@ -1,0 +1,36 @@
+-- The built sets of the samples, and sets that are not built.
+use Rattle.std.specs.Prelude.{ℕ, pos, List, [], ◌∷◌, ◌++◌}
+use Rattle.isle_model.specs.Program.{Program}
+use Rattle.isle_model.specs.Sites.{is_present, SiteSet}
+use Rattle.isle_best.specs.Samples as set
+use Rattle.isle_statements.specs.Layers.{own_program}
+use Rattle.isle_statements.specs.RuleSets.{IsBuilt, HasFacts}
+use Rattle.isle_statements.specs.SampleLists.{extract, extract_rules, partial, partial_rules, multi, multi_rules}
+
+-- each sample's set is built of the rules of its term f, and has the facts of built sets
+abbrev pub ExtractIsBuilt : Type 0
+ExtractIsBuilt = IsBuilt (own_program extract extract_rules) 1 set.extract × HasFacts (own_program extract extract_rules) 1 set.extract
+
+abbrev pub PartialIsBuilt : Type 0
+PartialIsBuilt = IsBuilt (own_program partial partial_rules) 1 set.partial × HasFacts (own_program partial partial_rules) 1 set.partial
+
+abbrev pub MultiIsBuilt : Type 0
+MultiIsBuilt = IsBuilt (own_program multi multi_rules) 1 set.multi × HasFacts (own_program multi multi_rules) 1 set.multi
+
+-- the set of the extractor's sample with a constraint left out
+abbrev pub less_asked : SiteSet
+less_asked = record set.extract { rules = set.a_rule 0 3 (pos 1) ((1, is_present) ∷ []) [] 3 ∷ (set.a_rule 1 4 (pos 0) ((1, is_present) ∷ []) [] 2 ∷ []) }
+
+-- with a rule left out
+abbrev pub less_rules : SiteSet
+less_rules = record set.extract { rules = set.a_rule 0 3 (pos 1) ((1, is_present) ∷ ((2, set.is_byte 1) ∷ [])) [] 3 ∷ [] }
+
+-- with one site too many
+abbrev pub more_sites : SiteSet
+more_sites = record set.extract { sites = set.extract.sites ++ set.byte 11 ∷ [] }
+
+abbrev pub NearSetsAreNotBuilt : Type 0
+NearSetsAreNotBuilt =
+    (IsBuilt (own_program extract extract_rules) 1 less_asked → ⊥)
+    × (IsBuilt (own_program extract extract_rules) 1 less_rules → ⊥)
+    × (IsBuilt (own_program extract extract_rules) 1 more_sites → ⊥)

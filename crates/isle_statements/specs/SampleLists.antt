@@ -1,0 +1,70 @@
+-- Three lists of definitions and what they become: one with an extractor, one with an impure call, one with a multi
+-- call. Every place inside definition d is offset d of the first file.
+use Rattle.std.specs.Prelude.{ℕ, ℤ, pos, Bool, true, false, List, [], ◌∷◌, ◌++◌, Option, Some, None, codes}
+use Rattle.isle_model.specs.Syntax.{PatternTree, int_pattern, ExprTree, var_expr, int_expr, term_expr, no_expr, expr_and, Definition, declaration, rule_definition}
+use Rattle.isle_model.specs.TypeTable.{builtin_names}
+use Rattle.isle_model.specs.Typed.{TypedRule}
+use Rattle.isle_tables.specs.Written.{at, name, term, constructor_by, extractor_by}
+use Rattle.isle_tables.specs.WorkedTerms.{numbers, var, any}
+use Rattle.isle_elaboration.specs.Elaborated.{TypedRules}
+use Rattle.isle_closure.specs.Samples as typed
+
+-- a rule of the term f of one argument, with a priority or without one
+abbrev pub rule_of_f : ℕ → Option ℤ → PatternTree → ExprTree → Definition
+rule_of_f n prio p x = rule_definition (record { pattern = term n (codes "f") (p ∷ []); iflets = []; expr = x; at = at n; prio = prio; name = None })
+
+-- an integer in a pattern, and in an expression
+abbrev pub number_pattern : ℕ → ℕ → PatternTree
+number_pattern n z = int_pattern (pos z) (at n)
+
+abbrev pub number_expr : ℕ → ℕ → ExprTree
+number_expr n z = int_expr (pos z) (at n)
+
+-- a variable, and a call of one argument
+abbrev pub variable : ℕ → List ℕ → ExprTree
+variable n x = var_expr (name n x) (at n)
+
+abbrev pub call : ℕ → List ℕ → ExprTree → ExprTree
+call n t x = term_expr (name n t) (expr_and x no_expr) (at n)
+
+-- typed rules, and the names that were met
+abbrev pub rules_and_names : List TypedRule → List (List ℕ) → TypedRules
+rules_and_names rules more = record { rules = rules; names = builtin_names ++ more }
+
+-- (decl e (u8) u8), (extern extractor e e_fn), (decl f (u8) u8), (rule 1 (f (e 1)) 10), (rule (f (e x)) x)
+abbrev pub extract : List Definition
+extract =
+    declaration (numbers 0 (codes "e")) ∷ (extractor_by 1 (codes "e") (codes "e_fn") ∷ (declaration (numbers 2 (codes "f"))
+    ∷ (rule_of_f 3 (Some (pos 1)) (term 3 (codes "e") (number_pattern 3 1 ∷ [])) (number_expr 3 10)
+    ∷ (rule_of_f 4 None (term 4 (codes "e") (var 4 (codes "x") ∷ [])) (variable 4 (codes "x")) ∷ []))))
+
+abbrev pub extract_rules : TypedRules
+extract_rules = rules_and_names (typed.extract_one ∷ (typed.extract_any ∷ [])) (codes "e" ∷ (codes "f" ∷ (codes "e_fn" ∷ (codes "x" ∷ []))))
+
+-- (decl partial g (u8) u8), (extern constructor g g_fn), (decl partial f (u8) u8), (rule 1 (f 1) (g 1)), (rule (f _) 7)
+abbrev pub partial : List Definition
+partial =
+    declaration (record (numbers 0 (codes "g")) { partial = true }) ∷ (constructor_by 1 (codes "g") (codes "g_fn")
+    ∷ (declaration (record (numbers 2 (codes "f")) { partial = true })
+    ∷ (rule_of_f 3 (Some (pos 1)) (number_pattern 3 1) (call 3 (codes "g") (number_expr 3 1)) ∷ (rule_of_f 4 None (any 4) (number_expr 4 7) ∷ []))))
+
+abbrev pub partial_rules : TypedRules
+partial_rules = rules_and_names (typed.partial_call ∷ (typed.partial_any ∷ [])) (codes "g" ∷ (codes "f" ∷ (codes "g_fn" ∷ [])))
+
+-- (decl pure multi m (u8) u8), (extern constructor m m_fn), (decl multi f (u8) u8), (rule (f x) (m x)), (rule (f 1) 9)
+abbrev pub multi : List Definition
+multi =
+    declaration (record (numbers 0 (codes "m")) { pure = true; multi = true }) ∷ (constructor_by 1 (codes "m") (codes "m_fn")
+    ∷ (declaration (record (numbers 2 (codes "f")) { multi = true })
+    ∷ (rule_of_f 3 None (var 3 (codes "x")) (call 3 (codes "m") (variable 3 (codes "x"))) ∷ (rule_of_f 4 None (number_pattern 4 1) (number_expr 4 9) ∷ []))))
+
+abbrev pub multi_rules : TypedRules
+multi_rules = rules_and_names (typed.multi_call ∷ (typed.multi_one ∷ [])) (codes "m" ∷ (codes "f" ∷ (codes "m_fn" ∷ (codes "x" ∷ []))))
+
+-- (decl f (u8) u8), (rule (f 1) 10), (rule (f x) x): two rules that overlap wrongly
+abbrev pub overlap : List Definition
+overlap =
+    declaration (numbers 0 (codes "f")) ∷ (rule_of_f 1 None (number_pattern 1 1) (number_expr 1 10) ∷ (rule_of_f 2 None (var 2 (codes "x")) (variable 2 (codes "x")) ∷ []))
+
+abbrev pub overlap_rules : TypedRules
+overlap_rules = rules_and_names (typed.overlap_one (pos 0) ∷ (typed.overlap_any ∷ [])) (codes "f" ∷ (codes "x" ∷ []))
