@@ -2,20 +2,19 @@
 use Rattle.std.proofs.Common.{◌≡◌, ℕ, zero, suc, ◌<◌, ◌≤◌, List, [], ◌∷◌, length, map, Some, slice_get, All, Contains, refl, sym, ap, subst, arith}
 use Rattle.std.proofs.lemmas.List.Elements.{All-nil, All-from_recursion}
 use Rattle.isle_model.specs.Program.{Program}
-use Rattle.isle_model.specs.Sites.{unfold_site}
+use Rattle.isle_model.specs.Sites.{Constraint, is_present, unfold_site}
 use Rattle.isle_model.specs.Demands.{demands_of}
 use Rattle.isle_model.specs.Overlap.{BuiltRule, built_rules}
-use Rattle.isle_tables.proofs.Lists.{distinct_nil, distinct_one}
+use Rattle.isle_tables.proofs.Lists.{distinct_nil, distinct_one, in_alone}
 use Rattle.isle_best.specs.Samples as set
 use Rattle.isle_best.proofs.WellBuilt.{passes_well_built}
 use Rattle.isle_statements.specs.Layers.{own_program}
 use Rattle.isle_statements.specs.RuleSets.{IsRuleOf, IsBuilt, HasFacts}
 use Rattle.isle_statements.specs.SampleLists.{extract, extract_rules, partial, partial_rules, multi, multi_rules}
-use Rattle.isle_statements.specs.BuiltSamples.{ExtractIsBuilt, PartialIsBuilt, MultiIsBuilt, NearSetsAreNotBuilt}
-use Rattle.isle_statements.proofs.Judged.{asks, equates_nothing, goes_over, stand, two_apart}
+use Rattle.isle_statements.specs.BuiltSamples.{ExtractIsBuilt, PartialIsBuilt, MultiIsBuilt, less_asked, less_rules, more_sites, NearSetsAreNotBuilt}
+use Rattle.isle_statements.proofs.Judged.{asks, equates_nothing, goes_over, stand, two_apart, has_facts}
 
 
--- the rest of an extractor's rule
 extract_built : IsBuilt (own_program extract extract_rules) 1 set.extract
 extract_built = record {
   rules = (
@@ -48,3 +47,29 @@ multi_built = record {
   few = omega arith;
   sources = (passes_well_built set.multi refl).sources;
 }
+
+pub extract_is_built_lem : ExtractIsBuilt
+extract_is_built_lem = (extract_built, has_facts (own_program extract extract_rules) 1 set.extract refl refl refl refl)
+
+pub partial_is_built_lem : PartialIsBuilt
+partial_is_built_lem = (partial_built, has_facts (own_program partial partial_rules) 1 set.partial refl refl refl refl)
+
+pub multi_is_built_lem : MultiIsBuilt
+multi_is_built_lem = (multi_built, has_facts (own_program multi multi_rules) 1 set.multi refl refl refl refl)
+
+-- whether a constraint asks for an answer
+asks_answer : Constraint → ℕ
+asks_answer is_present = 0
+asks_answer _ = 1
+
+-- the constraint that is left out is asked of a site that no constraint names
+unasked : IsBuilt (own_program extract extract_rules) 1 less_asked → ⊥
+unfolding asks_answer
+unasked b =
+    let found = b.rules.0.constraints.all_asked (unfold_site set.extract.sites 2) (set.is_byte 1) (1, omega arith, refl) in
+    let one = in_alone (1, is_present) (found.0, set.is_byte 1) found.1 in
+    let other : 0 ≡ 1 = ap (λ x. asks_answer x.1) one in
+    omega (arith, other)
+
+pub near_sets_are_not_built_lem : NearSetsAreNotBuilt
+near_sets_are_not_built_lem = (unasked, (λ b. b.rules.1), (λ b. (let e = b.sites.count in omega (arith, e))))

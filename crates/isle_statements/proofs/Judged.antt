@@ -1,6 +1,6 @@
 -- Rules of sets that name the sites in the order in which they are demanded: what must be computed of them.
 use Rattle.std.proofs.Common.{◌≡◌, ℕ, zero, suc, ◌+◌, ◌<◌, ◌≤◌, Bool, true, false, not, ◌&&◌, nat_lt, List, [], ◌∷◌, length, map, Option, Some, None, slice_get, All, Contains, IsTrue, refl, sym, ap, ◌∙◌, subst, inl, inr, arith, ltb-true}
-use Rattle.std.specs.List.{flat_map, list_all, list_any}
+use Rattle.std.specs.List.{AllByRecursion, list_all}
 use Rattle.std.proofs.lemmas.Bool.{cases_Bool, and_parts, false≢true}
 use Rattle.std.proofs.lemmas.Option.{none-some, same_Some}
 use Rattle.std.proofs.lemmas.List.Elements.{All-nil, All-from_recursion}
@@ -13,10 +13,13 @@ use Rattle.isle_model.specs.Limits.{most_sites, sites_after_rules}
 use Rattle.isle_model.specs.Overlap.{BuiltRule, built_rules}
 use Rattle.isle_model.specs.Closure.{Closed}
 use Rattle.isle_model.specs.WellBuilt.{IsWellBuilt}
-use Rattle.isle_trees.proofs.Lists.{nothing_in, in_cases, member_from_get}
+use Rattle.isle_trees.proofs.Lists.{nothing_in, in_head, in_tail, member_from_get}
 use Rattle.isle_best.proofs.Lists.{each_passes, in_map, from_map}
 use Rattle.isle_best.proofs.WellBuilt.{set_passes, passes_well_built}
-use Rattle.isle_statements.specs.RuleSets.{AsksFor, Equates, GoesOver, IsRuleOf, StandFor, IsBuilt}
+use Rattle.isle_model.specs.Places.{all_below, joins_in}
+use Rattle.isle_model.specs.SetRuns.{tested_sites}
+use Rattle.isle_model.specs.Gates.{gate_demanded}
+use Rattle.isle_statements.specs.RuleSets.{AsksFor, Equates, GoesOver, StandFor, ConstrainsOrEquates, DemandsItsGates, DemandsGatesOfCalls, HasFacts}
 
 -- a rule's demands, calls and classes read back as sites
 abbrev pub unfolded_demand : List Site → ℕ × Constraint → SiteTerm × Constraint
@@ -83,3 +86,39 @@ two_apart a b l (suc zero) zero x p q = (let e = same_Some b x p in let f = same
 two_apart a b l (suc zero) (suc zero) x p q = refl
 two_apart a b l (suc zero) (suc (suc k)) x p q = absurd (none-some x q)
 two_apart a b l (suc (suc j)) k x p q = absurd (none-some x p)
+
+-- what holds of each member
+each_member : {X : Type 0} (P : X → Type 0) (xs : List X) → ((x : X) → Contains xs x → P x) → AllByRecursion P xs
+each_member P [] h = tt
+each_member P (x ∷ xs) h = (h x (in_head x xs), each_member P xs (λ y c. h y (in_tail x y xs c)))
+
+pub each_of : {X : Type 0} (P : X → Type 0) (xs : List X) → ((x : X) → Contains xs x → P x) → All P xs
+each_of P xs h = All-from_recursion P xs (each_member P xs h)
+
+-- a rule has no equalities, and demands the gates below its tested sites and below the calls that it goes over
+abbrev pub no_classes : SetRule → Bool
+no_classes r = elim r.classes [ [] ↦ true | c ∷ cs ↦ false ]
+
+abbrev pub gates_hold : List Site → SetRule → List ℕ → Bool
+gates_hold sites r ss = list_all (λ s. gate_demanded r (slice_get sites s)) (all_below sites ss)
+
+apart_without : (classes : List (List ℕ)) → elim classes as (λ _. Bool) [ [] ↦ true | c ∷ cs ↦ false ] ≡ true → classes ≡ []
+apart_without [] h = refl
+apart_without (c ∷ cs) h = absurd (false≢true h)
+
+pub has_facts : (p : Program) (t : ℕ) (set : SiteSet) → set_passes set ≡ true → list_all no_classes set.rules ≡ true
+    → list_all (λ (r : SetRule). gates_hold set.sites r (tested_sites r)) set.rules ≡ true → list_all (λ (r : SetRule). gates_hold set.sites r r.iterators) set.rules ≡ true
+    → HasFacts p t set
+has_facts p t set h none tested calls = record {
+  once = (passes_well_built set h).sites_once;
+  sources = (passes_well_built set h).sources;
+  apart = each_of ConstrainsOrEquates set.rules (λ r i s a c k l.
+      false≢true (subst (λ cs. IsTrue (joins_in cs s a)) (apart_without r.classes (each_passes no_classes set.rules none r i)) l));
+  gates = each_of (DemandsItsGates set.sites) set.rules (λ r i.
+      each_of (λ s. IsTrue (gate_demanded r (slice_get set.sites s))) (all_below set.sites (tested_sites r))
+      (each_passes (λ s. gate_demanded r (slice_get set.sites s)) (all_below set.sites (tested_sites r)) (each_passes (λ (q : SetRule). gates_hold set.sites q (tested_sites q)) set.rules tested r i)));
+  gates_of_calls = λ i b r e f n.
+      each_of (λ s. IsTrue (gate_demanded r (slice_get set.sites s))) (all_below set.sites r.iterators)
+      (each_passes (λ s. gate_demanded r (slice_get set.sites s)) (all_below set.sites r.iterators)
+      (each_passes (λ (q : SetRule). gates_hold set.sites q q.iterators) set.rules calls r (member_from_get set.rules i r f)));
+}

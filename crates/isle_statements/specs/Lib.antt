@@ -3,3 +3,4 @@ pub mod RuleSets
 pub mod Layers
 pub mod SampleLists
 pub mod BuiltSamples
+pub mod ReadSamples

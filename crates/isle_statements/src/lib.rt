@@ -2,3 +2,51 @@
 //!
 //! The statements are in `specs/`. A function here has an empty body: its clause is a law.
 #![tactic(auto)]
+
+ghost use Rattle.isle_statements.specs.BuiltSamples.{ExtractIsBuilt, MultiIsBuilt, NearSetsAreNotBuilt, PartialIsBuilt};
+ghost use Rattle.isle_statements.specs.ReadSamples.{ExtractIsRead, MultiIsRead, OverlapIsRead, PartialIsRead, RefusedAreNotRead};
+
+/// Definitions with an extractor have these typed rules.
+pub fn extract_is_read()
+    ensures { ExtractIsRead }
+{}
+
+/// Definitions with an impure call have these typed rules.
+pub fn partial_is_read()
+    ensures { PartialIsRead }
+{}
+
+/// Definitions with a multi call have these typed rules.
+pub fn multi_is_read()
+    ensures { MultiIsRead }
+{}
+
+/// Definitions whose rules overlap wrongly have typed rules too.
+pub fn overlap_is_read()
+    ensures { OverlapIsRead }
+{}
+
+/// Definitions with a term that is declared twice have no typed rules, nor have those with a variable that nothing binds.
+pub fn refused_are_not_read()
+    ensures { RefusedAreNotRead }
+{}
+
+/// A set is built of rules that test what an extractor answers.
+pub fn extract_is_built()
+    ensures { ExtractIsBuilt }
+{}
+
+/// A set is built of rules with an impure call.
+pub fn partial_is_built()
+    ensures { PartialIsBuilt }
+{}
+
+/// A set is built of rules that go over a multi call.
+pub fn multi_is_built()
+    ensures { MultiIsBuilt }
+{}
+
+/// A set isn't built where a constraint or a rule is left out, or where it has one site more.
+pub fn near_sets_are_not_built()
+    ensures { NearSetsAreNotBuilt }
+{}

@@ -1,0 +1,206 @@
+-- The samples' lists are valid, and their rules elaborate.
+use Rattle.std.proofs.Common.{◌≡◌, ℕ, zero, suc, Bool, true, false, List, [], ◌∷◌, Some, None, codes, All, refl, sym, ap, ◌∙◌, arith}
+use Rattle.std.proofs.lemmas.Option.{none-some}
+use Rattle.std.proofs.lemmas.List.Elements.{All-nil, All-from_recursion}
+use Rattle.isle_model.specs.TypeTable.{builtin_names}
+use Rattle.isle_model.specs.TermTable.{decl_trees, rule_trees}
+use Rattle.isle_tables.specs.TypeTables.{all_type_names, IsKnownType, IsUnmarkedIfPrimitive, HasAtMostOneMark, HasDistinctVariants, HasDistinctFields, HasKnownTypes, IsOfKnownType, IsValidTypes}
+use Rattle.isle_tables.specs.KnownTypes.{types_of}
+use Rattle.isle_tables.specs.TermTables.{constructor_trees, external_trees, term_names, term_names_met, IsDeclaredTerm, HasKnownArguments, HasKnownResult, IsNotBothMultiAndPartial, HasDeclaredRoot, IsWithoutRules, IsOfPlainTerm, NamesKnownTerms, HoldsNoMacroArg, UsesDeclaredArguments, IsKnownConverter, IsValidTerms, IsDefined}
+use Rattle.isle_tables.specs.Written.{name}
+use Rattle.isle_tables.proofs.Acyclic.{plain_acyclic}
+use Rattle.isle_tables.proofs.Lists.{distinct_if, distinct_nil, distinct_one}
+use Rattle.isle_elaboration.specs.Elaborated.{elaborated_rules}
+use Rattle.isle_statements.specs.Environments.{types_read, setting_of, IsRead}
+use Rattle.isle_statements.specs.SampleLists.{extract, extract_rules, partial, partial_rules, multi, multi_rules, overlap, overlap_rules}
+use Rattle.isle_statements.specs.ReadSamples.{ExtractIsRead, PartialIsRead, MultiIsRead, OverlapIsRead, declared_twice, unbound, RefusedAreNotRead}
+
+extract_types : IsValidTypes extract
+extract_types = record {
+  distinct = distinct_if builtin_names refl;
+  primitives = All-nil IsUnmarkedIfPrimitive;
+  marks = All-nil HasAtMostOneMark;
+  variants = All-nil HasDistinctVariants;
+  fields = All-nil HasDistinctFields;
+  types_of_fields = All-nil (HasKnownTypes extract);
+  types_of_constants = All-nil (IsOfKnownType extract);
+}
+
+extract_terms : IsValidTerms (types_of extract) extract
+extract_terms = record {
+  distinct = distinct_if (term_names (types_of extract) extract) refl;
+  types_of_arguments = All-from_recursion (HasKnownArguments (types_of extract)) (decl_trees extract) (All-from_recursion (IsKnownType (all_type_names extract)) (name 0 (codes "u8") ∷ []) (refl, tt), (All-from_recursion (IsKnownType (all_type_names extract)) (name 2 (codes "u8") ∷ []) (refl, tt), tt));
+  types_of_results = All-from_recursion (HasKnownResult (types_of extract)) (decl_trees extract) (refl, (refl, tt));
+  marks = All-from_recursion IsNotBothMultiAndPartial (decl_trees extract) (refl, (refl, tt));
+  roots = All-from_recursion (HasDeclaredRoot extract) (rule_trees extract) (refl, (refl, tt));
+  terms_of_extractors = All-nil (λ e. IsDeclaredTerm extract e.term);
+  terms_of_externals = All-from_recursion (λ e. IsDeclaredTerm extract e.term) (external_trees extract) (refl, tt);
+  terms_of_constructors = All-nil (λ c. IsDeclaredTerm extract c.term);
+  rules_or_function = All-nil (IsWithoutRules extract);
+  one_constructor = distinct_nil;
+  one_extractor = distinct_one (codes "e");
+  plain_terms = All-nil (IsOfPlainTerm extract);
+  known_terms = All-nil (NamesKnownTerms (types_of extract) extract);
+  no_macro_args = All-nil HoldsNoMacroArg;
+  declared_arguments = All-nil (UsesDeclaredArguments extract);
+  acyclic = plain_acyclic extract refl;
+  known_converters = All-nil (IsKnownConverter (types_of extract) extract);
+  one_converter = distinct_nil;
+}
+
+extract_elaborates : (expand : Bool) → elaborated_rules (setting_of (types_read extract) extract expand) (rule_trees extract) (term_names_met (types_of extract) extract) ≡ Some extract_rules → IsRead extract expand extract_rules
+extract_elaborates expand typed = record {
+  types = extract_types;
+  elaborated = record {
+    terms = extract_terms;
+    defined = All-from_recursion (IsDefined extract) (decl_trees extract) (refl, (refl, tt));
+    elaborate = record { typed = typed; distinct = distinct_nil };
+  };
+}
+
+pub extract_is_read_lem : ExtractIsRead
+extract_is_read_lem = (extract_elaborates true refl, extract_elaborates false refl)
+
+partial_types : IsValidTypes partial
+partial_types = record {
+  distinct = distinct_if builtin_names refl;
+  primitives = All-nil IsUnmarkedIfPrimitive;
+  marks = All-nil HasAtMostOneMark;
+  variants = All-nil HasDistinctVariants;
+  fields = All-nil HasDistinctFields;
+  types_of_fields = All-nil (HasKnownTypes partial);
+  types_of_constants = All-nil (IsOfKnownType partial);
+}
+
+partial_terms : IsValidTerms (types_of partial) partial
+partial_terms = record {
+  distinct = distinct_if (term_names (types_of partial) partial) refl;
+  types_of_arguments = All-from_recursion (HasKnownArguments (types_of partial)) (decl_trees partial) (All-from_recursion (IsKnownType (all_type_names partial)) (name 0 (codes "u8") ∷ []) (refl, tt), (All-from_recursion (IsKnownType (all_type_names partial)) (name 2 (codes "u8") ∷ []) (refl, tt), tt));
+  types_of_results = All-from_recursion (HasKnownResult (types_of partial)) (decl_trees partial) (refl, (refl, tt));
+  marks = All-from_recursion IsNotBothMultiAndPartial (decl_trees partial) (refl, (refl, tt));
+  roots = All-from_recursion (HasDeclaredRoot partial) (rule_trees partial) (refl, (refl, tt));
+  terms_of_extractors = All-nil (λ e. IsDeclaredTerm partial e.term);
+  terms_of_externals = All-nil (λ e. IsDeclaredTerm partial e.term);
+  terms_of_constructors = All-from_recursion (λ c. IsDeclaredTerm partial c.term) (constructor_trees partial) (refl, tt);
+  rules_or_function = All-from_recursion (IsWithoutRules partial) (constructor_trees partial) (refl, tt);
+  one_constructor = distinct_one (codes "g");
+  one_extractor = distinct_nil;
+  plain_terms = All-nil (IsOfPlainTerm partial);
+  known_terms = All-nil (NamesKnownTerms (types_of partial) partial);
+  no_macro_args = All-nil HoldsNoMacroArg;
+  declared_arguments = All-nil (UsesDeclaredArguments partial);
+  acyclic = plain_acyclic partial refl;
+  known_converters = All-nil (IsKnownConverter (types_of partial) partial);
+  one_converter = distinct_nil;
+}
+
+partial_elaborates : (expand : Bool) → elaborated_rules (setting_of (types_read partial) partial expand) (rule_trees partial) (term_names_met (types_of partial) partial) ≡ Some partial_rules → IsRead partial expand partial_rules
+partial_elaborates expand typed = record {
+  types = partial_types;
+  elaborated = record {
+    terms = partial_terms;
+    defined = All-from_recursion (IsDefined partial) (decl_trees partial) (refl, (refl, tt));
+    elaborate = record { typed = typed; distinct = distinct_nil };
+  };
+}
+
+pub partial_is_read_lem : PartialIsRead
+partial_is_read_lem = (partial_elaborates true refl, partial_elaborates false refl)
+
+multi_types : IsValidTypes multi
+multi_types = record {
+  distinct = distinct_if builtin_names refl;
+  primitives = All-nil IsUnmarkedIfPrimitive;
+  marks = All-nil HasAtMostOneMark;
+  variants = All-nil HasDistinctVariants;
+  fields = All-nil HasDistinctFields;
+  types_of_fields = All-nil (HasKnownTypes multi);
+  types_of_constants = All-nil (IsOfKnownType multi);
+}
+
+multi_terms : IsValidTerms (types_of multi) multi
+multi_terms = record {
+  distinct = distinct_if (term_names (types_of multi) multi) refl;
+  types_of_arguments = All-from_recursion (HasKnownArguments (types_of multi)) (decl_trees multi) (All-from_recursion (IsKnownType (all_type_names multi)) (name 0 (codes "u8") ∷ []) (refl, tt), (All-from_recursion (IsKnownType (all_type_names multi)) (name 2 (codes "u8") ∷ []) (refl, tt), tt));
+  types_of_results = All-from_recursion (HasKnownResult (types_of multi)) (decl_trees multi) (refl, (refl, tt));
+  marks = All-from_recursion IsNotBothMultiAndPartial (decl_trees multi) (refl, (refl, tt));
+  roots = All-from_recursion (HasDeclaredRoot multi) (rule_trees multi) (refl, (refl, tt));
+  terms_of_extractors = All-nil (λ e. IsDeclaredTerm multi e.term);
+  terms_of_externals = All-nil (λ e. IsDeclaredTerm multi e.term);
+  terms_of_constructors = All-from_recursion (λ c. IsDeclaredTerm multi c.term) (constructor_trees multi) (refl, tt);
+  rules_or_function = All-from_recursion (IsWithoutRules multi) (constructor_trees multi) (refl, tt);
+  one_constructor = distinct_one (codes "m");
+  one_extractor = distinct_nil;
+  plain_terms = All-nil (IsOfPlainTerm multi);
+  known_terms = All-nil (NamesKnownTerms (types_of multi) multi);
+  no_macro_args = All-nil HoldsNoMacroArg;
+  declared_arguments = All-nil (UsesDeclaredArguments multi);
+  acyclic = plain_acyclic multi refl;
+  known_converters = All-nil (IsKnownConverter (types_of multi) multi);
+  one_converter = distinct_nil;
+}
+
+multi_elaborates : (expand : Bool) → elaborated_rules (setting_of (types_read multi) multi expand) (rule_trees multi) (term_names_met (types_of multi) multi) ≡ Some multi_rules → IsRead multi expand multi_rules
+multi_elaborates expand typed = record {
+  types = multi_types;
+  elaborated = record {
+    terms = multi_terms;
+    defined = All-from_recursion (IsDefined multi) (decl_trees multi) (refl, (refl, tt));
+    elaborate = record { typed = typed; distinct = distinct_nil };
+  };
+}
+
+pub multi_is_read_lem : MultiIsRead
+multi_is_read_lem = (multi_elaborates true refl, multi_elaborates false refl)
+
+overlap_types : IsValidTypes overlap
+overlap_types = record {
+  distinct = distinct_if builtin_names refl;
+  primitives = All-nil IsUnmarkedIfPrimitive;
+  marks = All-nil HasAtMostOneMark;
+  variants = All-nil HasDistinctVariants;
+  fields = All-nil HasDistinctFields;
+  types_of_fields = All-nil (HasKnownTypes overlap);
+  types_of_constants = All-nil (IsOfKnownType overlap);
+}
+
+overlap_terms : IsValidTerms (types_of overlap) overlap
+overlap_terms = record {
+  distinct = distinct_if (term_names (types_of overlap) overlap) refl;
+  types_of_arguments = All-from_recursion (HasKnownArguments (types_of overlap)) (decl_trees overlap) (All-from_recursion (IsKnownType (all_type_names overlap)) (name 0 (codes "u8") ∷ []) (refl, tt), tt);
+  types_of_results = All-from_recursion (HasKnownResult (types_of overlap)) (decl_trees overlap) (refl, tt);
+  marks = All-from_recursion IsNotBothMultiAndPartial (decl_trees overlap) (refl, tt);
+  roots = All-from_recursion (HasDeclaredRoot overlap) (rule_trees overlap) (refl, (refl, tt));
+  terms_of_extractors = All-nil (λ e. IsDeclaredTerm overlap e.term);
+  terms_of_externals = All-nil (λ e. IsDeclaredTerm overlap e.term);
+  terms_of_constructors = All-nil (λ c. IsDeclaredTerm overlap c.term);
+  rules_or_function = All-nil (IsWithoutRules overlap);
+  one_constructor = distinct_nil;
+  one_extractor = distinct_nil;
+  plain_terms = All-nil (IsOfPlainTerm overlap);
+  known_terms = All-nil (NamesKnownTerms (types_of overlap) overlap);
+  no_macro_args = All-nil HoldsNoMacroArg;
+  declared_arguments = All-nil (UsesDeclaredArguments overlap);
+  acyclic = plain_acyclic overlap refl;
+  known_converters = All-nil (IsKnownConverter (types_of overlap) overlap);
+  one_converter = distinct_nil;
+}
+
+overlap_elaborates : (expand : Bool) → elaborated_rules (setting_of (types_read overlap) overlap expand) (rule_trees overlap) (term_names_met (types_of overlap) overlap) ≡ Some overlap_rules → IsRead overlap expand overlap_rules
+overlap_elaborates expand typed = record {
+  types = overlap_types;
+  elaborated = record {
+    terms = overlap_terms;
+    defined = All-from_recursion (IsDefined overlap) (decl_trees overlap) (refl, tt);
+    elaborate = record { typed = typed; distinct = distinct_nil };
+  };
+}
+
+pub overlap_is_read_lem : OverlapIsRead
+overlap_is_read_lem = (overlap_elaborates true refl, overlap_elaborates false refl)
+
+pub refused_are_not_read_lem : RefusedAreNotRead
+refused_are_not_read_lem = (
+  (λ rules r. (let e = r.elaborated.terms.distinct 0 1 (codes "f") refl refl in omega (arith, e))),
+  (λ rules r. none-some rules r.elaborated.elaborate.typed),
+)
