@@ -1,3 +1,4 @@
 pub mod Judged
 pub mod BuiltSamples
 pub mod ReadSamples
+pub mod AcceptedSamples

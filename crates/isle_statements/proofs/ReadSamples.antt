@@ -10,7 +10,7 @@ use Rattle.isle_tables.specs.TermTables.{constructor_trees, external_trees, term
 use Rattle.isle_tables.specs.Written.{name}
 use Rattle.isle_tables.proofs.Acyclic.{plain_acyclic}
 use Rattle.isle_tables.proofs.Lists.{distinct_if, distinct_nil, distinct_one}
-use Rattle.isle_elaboration.specs.Elaborated.{elaborated_rules}
+use Rattle.isle_elaboration.specs.Elaborated.{TypedRules, elaborated_rules}
 use Rattle.isle_statements.specs.Environments.{types_read, setting_of, IsRead}
 use Rattle.isle_statements.specs.SampleLists.{extract, extract_rules, partial, partial_rules, multi, multi_rules, overlap, overlap_rules}
 use Rattle.isle_statements.specs.ReadSamples.{ExtractIsRead, PartialIsRead, MultiIsRead, OverlapIsRead, declared_twice, unbound, RefusedAreNotRead}
@@ -199,8 +199,12 @@ overlap_elaborates expand typed = record {
 pub overlap_is_read_lem : OverlapIsRead
 overlap_is_read_lem = (overlap_elaborates true refl, overlap_elaborates false refl)
 
+unbound_refused : (expand : Bool) (rules : TypedRules) → IsRead unbound expand rules → ⊥
+unbound_refused true rules r = none-some rules r.elaborated.elaborate.typed
+unbound_refused false rules r = none-some rules r.elaborated.elaborate.typed
+
 pub refused_are_not_read_lem : RefusedAreNotRead
 refused_are_not_read_lem = (
-  (λ rules r. (let e = r.elaborated.terms.distinct 0 1 (codes "f") refl refl in omega (arith, e))),
-  (λ rules r. none-some rules r.elaborated.elaborate.typed),
+  (λ expand rules r. (let e = r.elaborated.terms.distinct 0 1 (codes "f") refl refl in omega (arith, e))),
+  unbound_refused,
 )

@@ -4,3 +4,4 @@ pub mod Layers
 pub mod SampleLists
 pub mod BuiltSamples
 pub mod ReadSamples
+pub mod AcceptedSamples

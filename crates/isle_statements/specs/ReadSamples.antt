@@ -1,5 +1,5 @@
 -- The samples are read: each list of definitions and its typed rules. And lists that aren't.
-use Rattle.std.specs.Prelude.{true, List, [], ◌∷◌, None, codes, false}
+use Rattle.std.specs.Prelude.{Bool, true, false, List, [], ◌∷◌, None, codes}
 use Rattle.isle_model.specs.Syntax.{Definition, declaration}
 use Rattle.isle_tables.specs.WorkedTerms.{numbers}
 use Rattle.isle_elaboration.specs.Elaborated.{TypedRules}
@@ -33,5 +33,5 @@ unbound = declaration (numbers 0 (codes "f")) ∷ (rule_of_f 1 None (number_patt
 
 abbrev pub RefusedAreNotRead : Type 0
 RefusedAreNotRead =
-    ((rules : TypedRules) → IsRead declared_twice true rules → ⊥)
-    × ((rules : TypedRules) → IsRead unbound true rules → ⊥)
+    ((expand : Bool) (rules : TypedRules) → IsRead declared_twice expand rules → ⊥)
+    × ((expand : Bool) (rules : TypedRules) → IsRead unbound expand rules → ⊥)

@@ -3,6 +3,7 @@
 //! The statements are in `specs/`. A function here has an empty body: its clause is a law.
 #![tactic(auto)]
 
+ghost use Rattle.isle_statements.specs.AcceptedSamples.{OverlapIsNotAccepted, SamplesAreAccepted};
 ghost use Rattle.isle_statements.specs.BuiltSamples.{ExtractIsBuilt, MultiIsBuilt, NearSetsAreNotBuilt, PartialIsBuilt};
 ghost use Rattle.isle_statements.specs.ReadSamples.{ExtractIsRead, MultiIsRead, OverlapIsRead, PartialIsRead, RefusedAreNotRead};
 
@@ -49,4 +50,14 @@ pub fn multi_is_built()
 /// A set isn't built where a constraint or a rule is left out, or where it has one site more.
 pub fn near_sets_are_not_built()
     ensures { NearSetsAreNotBuilt }
+{}
+
+/// Definitions are accepted whose rules can be told apart.
+pub fn samples_are_accepted()
+    ensures { SamplesAreAccepted }
+{}
+
+/// Definitions are not accepted where two rules of one priority overlap.
+pub fn overlap_is_not_accepted()
+    ensures { OverlapIsNotAccepted }
 {}
