@@ -10,9 +10,9 @@ use Rattle.isle_best.specs.Samples as set
 use Rattle.isle_best.proofs.WellBuilt.{passes_well_built}
 use Rattle.isle_statements.specs.Layers.{own_program}
 use Rattle.isle_statements.specs.RuleSets.{IsRuleOf, IsBuilt, HasFacts}
-use Rattle.isle_statements.specs.SampleLists.{extract, extract_rules, partial, partial_rules, multi, multi_rules}
-use Rattle.isle_statements.specs.BuiltSamples.{ExtractIsBuilt, PartialIsBuilt, MultiIsBuilt, less_asked, less_rules, more_sites, NearSetsAreNotBuilt}
-use Rattle.isle_statements.proofs.Judged.{asks, equates_nothing, goes_over, stand, two_apart, has_facts}
+use Rattle.isle_statements.specs.SampleLists.{extract, extract_rules, partial, partial_rules, multi, multi_rules, equal, equal_rules}
+use Rattle.isle_statements.specs.BuiltSamples.{ExtractIsBuilt, PartialIsBuilt, MultiIsBuilt, EqualIsBuilt, less_asked, less_rules, more_sites, NearSetsAreNotBuilt}
+use Rattle.isle_statements.proofs.Judged.{asks, equates_nothing, equates, goes_over, stand, two_apart, has_facts}
 
 
 extract_built : IsBuilt (own_program extract extract_rules) 1 set.extract
@@ -73,3 +73,14 @@ unasked b =
 
 pub near_sets_are_not_built_lem : NearSetsAreNotBuilt
 near_sets_are_not_built_lem = (unasked, (λ b. b.rules.1), (λ b. (let e = b.sites.count in omega (arith, e))))
+
+pub equal_is_built_lem : EqualIsBuilt
+equal_is_built_lem = record {
+  rules = (
+    record { id = refl; at = refl; prio = refl; name = refl; constraints = asks _ _ _ refl refl distinct_nil; classes = equates_nothing _ _ refl; iterators = goes_over _ _ _ refl refl distinct_nil; impure = (All-nil _, refl); result = (omega arith, refl) },
+    (record { id = refl; at = refl; prio = refl; name = refl; constraints = asks _ _ _ refl refl distinct_nil; classes = equates _ _ _ refl refl (two_apart 0 1 (omega arith)) (All-from_recursion (λ c. 2 ≤ length c) ((0 ∷ (1 ∷ [])) ∷ []) (omega arith, tt)); iterators = goes_over _ _ _ refl refl distinct_nil; impure = (All-nil _, refl); result = (omega arith, refl) },
+    tt));
+  sites = stand _ _ refl;
+  few = omega arith;
+  sources = (passes_well_built set.equal refl).sources;
+}

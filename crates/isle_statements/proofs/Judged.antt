@@ -1,7 +1,7 @@
 -- Rules of sets that name the sites in the order in which they are demanded: what must be computed of them.
 use Rattle.std.proofs.Common.{◌≡◌, ℕ, zero, suc, ◌+◌, ◌<◌, ◌≤◌, Bool, true, false, not, ◌&&◌, nat_lt, List, [], ◌∷◌, length, map, Option, Some, None, slice_get, All, Contains, IsTrue, refl, sym, ap, ◌∙◌, subst, inl, inr, arith, ltb-true}
-use Rattle.std.specs.List.{AllByRecursion, list_all}
-use Rattle.std.proofs.lemmas.Bool.{cases_Bool, and_parts, false≢true}
+use Rattle.std.specs.List.{AllByRecursion, flat_map, list_all}
+use Rattle.std.proofs.lemmas.Bool.{and_parts, and_from, false≢true}
 use Rattle.std.proofs.lemmas.Option.{none-some, same_Some}
 use Rattle.std.proofs.lemmas.List.Elements.{All-nil, All-from_recursion}
 use Rattle.isle_model.specs.Built.{numbers_from}
@@ -14,11 +14,12 @@ use Rattle.isle_model.specs.Overlap.{BuiltRule, built_rules}
 use Rattle.isle_model.specs.Closure.{Closed}
 use Rattle.isle_model.specs.WellBuilt.{IsWellBuilt}
 use Rattle.isle_trees.proofs.Lists.{nothing_in, in_head, in_tail, member_from_get}
-use Rattle.isle_best.proofs.Lists.{each_passes, in_map, from_map}
+use Rattle.isle_best.proofs.Lists.{each_passes, in_map, from_map, member_found, member_is_in}
 use Rattle.isle_best.proofs.WellBuilt.{set_passes, passes_well_built}
-use Rattle.isle_model.specs.Places.{all_below, joins_in}
+use Rattle.isle_model.specs.Places.{all_below, is_in, joins_in}
 use Rattle.isle_model.specs.SetRuns.{tested_sites}
 use Rattle.isle_model.specs.Gates.{gate_demanded}
+use Rattle.isle_closure.proofs.Elements.{in_from_contains, contains_from_in, any_in, in_any}
 use Rattle.isle_statements.specs.RuleSets.{AsksFor, Equates, GoesOver, StandFor, ConstrainsOrEquates, DemandsItsGates, DemandsGatesOfCalls, HasFacts}
 
 -- a rule's demands, calls and classes read back as sites
@@ -121,4 +122,39 @@ has_facts p t set h none tested calls = record {
       each_of (λ s. IsTrue (gate_demanded r (slice_get set.sites s))) (all_below set.sites r.iterators)
       (each_passes (λ s. gate_demanded r (slice_get set.sites s)) (all_below set.sites r.iterators)
       (each_passes (λ (q : SetRule). gates_hold set.sites q q.iterators) set.rules calls r (member_from_get set.rules i r f)));
+}
+
+-- classes that name the sites in the order of the closed ones
+pub equates : (sites : List Site) (k : Closed) (classes : List (List ℕ)) → list_all (are_below (length sites)) classes ≡ true
+    → map (map (unfold_site sites)) classes ≡ k.classes → IsDistinct (flat_map (λ c. c) classes) → All (λ c. 2 ≤ length c) classes → Equates sites k classes
+equates sites k classes below same once many = record {
+  joined = λ a b t.
+      let c = in_any (λ c. is_in a c && is_in b c) classes t in
+      let both = and_parts (is_in a c.0) (is_in b c.0) c.2 in
+      let here = contains_from_in classes c.0 c.1 in
+      let within = below_all (length sites) c.0 (each_passes (are_below (length sites)) classes below c.0 here) in
+      let first = member_found a c.0 both.0 in
+      let second = member_found b c.0 both.1 in
+      (
+        within a first,
+        within b second,
+        map (unfold_site sites) c.0,
+        subst (λ cs. Contains cs (map (unfold_site sites) c.0)) same (in_map (map (unfold_site sites)) classes c.0 here),
+        in_map (unfold_site sites) c.0 a first,
+        in_map (unfold_site sites) c.0 b second,
+      );
+  all_joined = λ class u v i m n.
+      let c = from_map (map (unfold_site sites)) classes class (subst (λ cs. Contains cs class) (sym same) i) in
+      let a = from_map (unfold_site sites) c.0 u (subst (λ x. Contains x u) (sym c.2) m) in
+      let b = from_map (unfold_site sites) c.0 v (subst (λ x. Contains x v) (sym c.2) n) in
+      (
+        a.0,
+        b.0,
+        any_in (λ d. is_in a.0 d && is_in b.0 d) classes c.0 (in_from_contains classes c.0 c.1)
+        (and_from (is_in a.0 c.0) (is_in b.0 c.0) (member_is_in a.0 c.0 a.1) (member_is_in b.0 c.0 b.1)),
+        a.2,
+        b.2,
+      );
+  once = once;
+  many = many;
 }

@@ -5,7 +5,7 @@ use Rattle.isle_model.specs.Sites.{is_present, SiteSet}
 use Rattle.isle_best.specs.Samples as set
 use Rattle.isle_statements.specs.Layers.{own_program}
 use Rattle.isle_statements.specs.RuleSets.{IsBuilt, HasFacts}
-use Rattle.isle_statements.specs.SampleLists.{extract, extract_rules, partial, partial_rules, multi, multi_rules}
+use Rattle.isle_statements.specs.SampleLists.{extract, extract_rules, partial, partial_rules, multi, multi_rules, equal, equal_rules}
 
 -- each sample's set is built of the rules of its term f, and has the facts of built sets
 abbrev pub ExtractIsBuilt : Type 0
@@ -16,6 +16,10 @@ PartialIsBuilt = IsBuilt (own_program partial partial_rules) 1 set.partial × Ha
 
 abbrev pub MultiIsBuilt : Type 0
 MultiIsBuilt = IsBuilt (own_program multi multi_rules) 1 set.multi × HasFacts (own_program multi multi_rules) 1 set.multi
+
+-- so is the set of a rule that demands an equality
+abbrev pub EqualIsBuilt : Type 0
+EqualIsBuilt = IsBuilt (own_program equal equal_rules) 0 set.equal
 
 -- the set of the extractor's sample with a constraint left out
 abbrev pub less_asked : SiteSet

@@ -4,7 +4,7 @@ use Rattle.std.specs.Prelude.{ℕ, ℤ, pos, Bool, true, false, List, [], ◌∷
 use Rattle.isle_model.specs.Syntax.{PatternTree, int_pattern, ExprTree, var_expr, int_expr, term_expr, no_expr, expr_and, Definition, declaration, rule_definition}
 use Rattle.isle_model.specs.TypeTable.{builtin_names}
 use Rattle.isle_model.specs.Typed.{TypedRule}
-use Rattle.isle_tables.specs.Written.{at, name, term, constructor_by, extractor_by}
+use Rattle.isle_tables.specs.Written.{at, name, declared, term, constructor_by, extractor_by}
 use Rattle.isle_tables.specs.WorkedTerms.{numbers, var, any}
 use Rattle.isle_elaboration.specs.Elaborated.{TypedRules}
 use Rattle.isle_closure.specs.Samples as typed
@@ -68,3 +68,15 @@ overlap =
 
 abbrev pub overlap_rules : TypedRules
 overlap_rules = rules_and_names (typed.overlap_one (pos 0) ∷ (typed.overlap_any ∷ [])) (codes "f" ∷ (codes "x" ∷ []))
+
+-- (decl f (u8 u8) u8), (rule 1 (f x y) x), (rule (f x x) 7): two arguments that must be equal
+abbrev pub rule_of_two : ℕ → Option ℤ → PatternTree → PatternTree → ExprTree → Definition
+rule_of_two n prio p q x = rule_definition (record { pattern = term n (codes "f") (p ∷ (q ∷ [])); iflets = []; expr = x; at = at n; prio = prio; name = None })
+
+abbrev pub equal : List Definition
+equal =
+    declared 0 (codes "f") (codes "u8" ∷ (codes "u8" ∷ [])) (codes "u8") ∷ (rule_of_two 1 (Some (pos 1)) (var 1 (codes "x")) (var 1 (codes "y")) (variable 1 (codes "x"))
+    ∷ (rule_of_two 2 None (var 2 (codes "x")) (var 2 (codes "x")) (number_expr 2 7) ∷ []))
+
+abbrev pub equal_rules : TypedRules
+equal_rules = rules_and_names (typed.equal_any ∷ (typed.equal_same ∷ [])) (codes "f" ∷ (codes "x" ∷ (codes "y" ∷ [])))

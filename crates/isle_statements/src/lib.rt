@@ -4,7 +4,7 @@
 #![tactic(auto)]
 
 ghost use Rattle.isle_statements.specs.AcceptedSamples.{OverlapIsNotAccepted, SamplesAreAccepted};
-ghost use Rattle.isle_statements.specs.BuiltSamples.{ExtractIsBuilt, MultiIsBuilt, NearSetsAreNotBuilt, PartialIsBuilt};
+ghost use Rattle.isle_statements.specs.BuiltSamples.{EqualIsBuilt, ExtractIsBuilt, MultiIsBuilt, NearSetsAreNotBuilt, PartialIsBuilt};
 ghost use Rattle.isle_statements.specs.ReadSamples.{ExtractIsRead, MultiIsRead, OverlapIsRead, PartialIsRead, RefusedAreNotRead};
 
 /// Definitions with an extractor have these typed rules.
@@ -45,6 +45,11 @@ pub fn partial_is_built()
 /// A set is built of rules that go over a multi call.
 pub fn multi_is_built()
     ensures { MultiIsBuilt }
+{}
+
+/// A set is built of a rule that demands that two arguments are equal.
+pub fn equal_is_built()
+    ensures { EqualIsBuilt }
 {}
 
 /// A set isn't built where a constraint or a rule is left out, or where it has one site more.
