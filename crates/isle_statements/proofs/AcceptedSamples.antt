@@ -1,5 +1,5 @@
 -- The samples' rules can be told apart, by the tests of overlaps and shadows.
-use Rattle.std.proofs.Common.{◌≡◌, ℕ, pos, zero, suc, ◌<◌, ◌==◌, Bool, true, false, not, ◌&&◌, List, [], ◌∷◌, ◌++◌, map, Some, slice_get, Contains, refl, sym, ap, ◌∙◌, subst, inl, inr, arith, eqb-true}
+use Rattle.std.proofs.Common.{◌≡◌, ℕ, pos, zero, suc, ◌<◌, ◌==◌, Bool, true, false, not, List, [], ◌∷◌, map, Some, slice_get, Contains, refl, sym, ap, ◌∙◌, subst, inl, inr, arith, eqb-true}
 use Rattle.std.specs.List.{filter, list_all}
 use Rattle.std.proofs.lemmas.Bool.{cases_Bool, cond-false, false≢true}
 use Rattle.std.proofs.lemmas.Option.{none-some, same_Some}
@@ -7,8 +7,8 @@ use Rattle.std.proofs.lemmas.List.Elements.{Contains-append_left, Contains-appen
 use Rattle.isle_model.specs.Typed.{TypedRule}
 use Rattle.isle_model.specs.Program.{Program, is_multi, rules_of}
 use Rattle.isle_model.specs.Limits.{sites_after_rule}
-use Rattle.isle_model.specs.Overlap.{BuiltRule, built_rule, built_from, built_rules, clash, shadows, each_two, OverlapsWrongly, IsShadowed}
-use Rattle.isle_trees.proofs.Lists.{nothing_in, in_head, in_tail, member_from_get}
+use Rattle.isle_model.specs.Overlap.{BuiltRule, built_rule, built_from, built_rules, clash, shadows, each_two}
+use Rattle.isle_trees.proofs.Lists.{in_head, in_tail, member_from_get}
 use Rattle.isle_best.proofs.Lists.{each_passes, in_map}
 use Rattle.isle_best.proofs.Exact.{not_exact}
 use Rattle.isle_closure.proofs.Overlaps.{overlaps_decides, clash_decides}

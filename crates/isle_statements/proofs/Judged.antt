@@ -1,18 +1,14 @@
 -- Rules of sets that name the sites in the order in which they are demanded: what must be computed of them.
-use Rattle.std.proofs.Common.{◌≡◌, ℕ, zero, suc, ◌+◌, ◌<◌, ◌≤◌, Bool, true, false, not, ◌&&◌, nat_lt, List, [], ◌∷◌, length, map, Option, Some, None, slice_get, All, Contains, IsTrue, refl, sym, ap, ◌∙◌, subst, inl, inr, arith, ltb-true}
+use Rattle.std.proofs.Common.{◌≡◌, ℕ, zero, suc, ◌+◌, ◌<◌, ◌≤◌, Bool, true, false, ◌&&◌, nat_lt, List, [], ◌∷◌, length, map, Some, slice_get, All, Contains, IsTrue, refl, sym, ap, ◌∙◌, subst, arith, ltb-true}
 use Rattle.std.specs.List.{AllByRecursion, flat_map, list_all}
 use Rattle.std.proofs.lemmas.Bool.{and_parts, and_from, false≢true}
 use Rattle.std.proofs.lemmas.Option.{none-some, same_Some}
 use Rattle.std.proofs.lemmas.List.Elements.{All-nil, All-from_recursion}
 use Rattle.isle_model.specs.Built.{numbers_from}
 use Rattle.isle_model.specs.Names.{IsDistinct}
-use Rattle.isle_model.specs.Program.{Program, rules_of}
-use Rattle.isle_model.specs.Sites.{Site, Constraint, SetRule, SiteSet, SiteTerm, sources_at, unfold_site}
-use Rattle.isle_model.specs.Demands.{demands_of, result_of}
-use Rattle.isle_model.specs.Limits.{most_sites, sites_after_rules}
-use Rattle.isle_model.specs.Overlap.{BuiltRule, built_rules}
+use Rattle.isle_model.specs.Program.{Program}
+use Rattle.isle_model.specs.Sites.{Site, Constraint, SetRule, SiteSet, SiteTerm, unfold_site}
 use Rattle.isle_model.specs.Closure.{Closed}
-use Rattle.isle_model.specs.WellBuilt.{IsWellBuilt}
 use Rattle.isle_trees.proofs.Lists.{nothing_in, in_head, in_tail, member_from_get}
 use Rattle.isle_best.proofs.Lists.{each_passes, in_map, from_map, member_found, member_is_in}
 use Rattle.isle_best.proofs.WellBuilt.{set_passes, passes_well_built}
@@ -20,7 +16,7 @@ use Rattle.isle_model.specs.Places.{all_below, is_in, joins_in}
 use Rattle.isle_model.specs.SetRuns.{tested_sites}
 use Rattle.isle_model.specs.Gates.{gate_demanded}
 use Rattle.isle_closure.proofs.Elements.{in_from_contains, contains_from_in, any_in, in_any}
-use Rattle.isle_statements.specs.RuleSets.{AsksFor, Equates, GoesOver, StandFor, ConstrainsOrEquates, DemandsItsGates, DemandsGatesOfCalls, HasFacts}
+use Rattle.isle_statements.specs.RuleSets.{AsksFor, Equates, GoesOver, StandFor, ConstrainsOrEquates, DemandsItsGates, HasFacts}
 
 -- a rule's demands, calls and classes read back as sites
 abbrev pub unfolded_demand : List Site → ℕ × Constraint → SiteTerm × Constraint
@@ -41,9 +37,9 @@ asks sites k cs below same once = record {
     subst (λ ds. Contains ds (unfold_site sites s, c)) same (in_map (unfolded_demand sites) cs (s, c) i),
   );
   all_asked = λ u c i. (
-    let d = from_map (unfolded_demand sites) cs (u, c) (subst (λ ds. Contains ds (u, c)) (sym same) i) in
-    (d.0.0, subst (λ x. Contains cs (d.0.0, x)) (ap (λ x. x.1) d.2) d.1, ap (λ x. x.0) d.2)
-  );
+      let d = from_map (unfolded_demand sites) cs (u, c) (subst (λ ds. Contains ds (u, c)) (sym same) i) in
+      (d.0.0, subst (λ x. Contains cs (d.0.0, x)) (ap (λ x. x.1) d.2) d.1, ap (λ x. x.0) d.2)
+      );
   once = once;
 }
 
@@ -134,8 +130,7 @@ equates sites k classes below same once many = record {
       let here = contains_from_in classes c.0 c.1 in
       let within = below_all (length sites) c.0 (each_passes (are_below (length sites)) classes below c.0 here) in
       let first = member_found a c.0 both.0 in
-      let second = member_found b c.0 both.1 in
-      (
+      let second = member_found b c.0 both.1 in (
         within a first,
         within b second,
         map (unfold_site sites) c.0,
@@ -146,12 +141,11 @@ equates sites k classes below same once many = record {
   all_joined = λ class u v i m n.
       let c = from_map (map (unfold_site sites)) classes class (subst (λ cs. Contains cs class) (sym same) i) in
       let a = from_map (unfold_site sites) c.0 u (subst (λ x. Contains x u) (sym c.2) m) in
-      let b = from_map (unfold_site sites) c.0 v (subst (λ x. Contains x v) (sym c.2) n) in
-      (
+      let b = from_map (unfold_site sites) c.0 v (subst (λ x. Contains x v) (sym c.2) n) in (
         a.0,
         b.0,
         any_in (λ d. is_in a.0 d && is_in b.0 d) classes c.0 (in_from_contains classes c.0 c.1)
-        (and_from (is_in a.0 c.0) (is_in b.0 c.0) (member_is_in a.0 c.0 a.1) (member_is_in b.0 c.0 b.1)),
+            (and_from (is_in a.0 c.0) (is_in b.0 c.0) (member_is_in a.0 c.0 a.1) (member_is_in b.0 c.0 b.1)),
         a.2,
         b.2,
       );

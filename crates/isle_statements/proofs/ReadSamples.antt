@@ -1,5 +1,5 @@
 -- The samples' lists are valid, and their rules elaborate.
-use Rattle.std.proofs.Common.{◌≡◌, ℕ, zero, suc, Bool, true, false, List, [], ◌∷◌, Some, None, codes, All, refl, sym, ap, ◌∙◌, arith}
+use Rattle.std.proofs.Common.{◌≡◌, Bool, true, false, [], ◌∷◌, Some, codes, refl, arith}
 use Rattle.std.proofs.lemmas.Option.{none-some}
 use Rattle.std.proofs.lemmas.List.Elements.{All-nil, All-from_recursion}
 use Rattle.isle_model.specs.TypeTable.{builtin_names}
@@ -13,7 +13,7 @@ use Rattle.isle_tables.proofs.Lists.{distinct_if, distinct_nil, distinct_one}
 use Rattle.isle_elaboration.specs.Elaborated.{TypedRules, elaborated_rules}
 use Rattle.isle_statements.specs.Environments.{types_read, setting_of, IsRead}
 use Rattle.isle_statements.specs.SampleLists.{extract, extract_rules, partial, partial_rules, multi, multi_rules, overlap, overlap_rules}
-use Rattle.isle_statements.specs.ReadSamples.{ExtractIsRead, PartialIsRead, MultiIsRead, OverlapIsRead, declared_twice, unbound, RefusedAreNotRead}
+use Rattle.isle_statements.specs.ReadSamples.{ExtractIsRead, PartialIsRead, MultiIsRead, OverlapIsRead, unbound, RefusedAreNotRead}
 
 extract_types : IsValidTypes extract
 extract_types = record {

@@ -1,6 +1,5 @@
 -- The built sets of the samples, and sets that are not built.
-use Rattle.std.specs.Prelude.{ℕ, pos, List, [], ◌∷◌, ◌++◌}
-use Rattle.isle_model.specs.Program.{Program}
+use Rattle.std.specs.Prelude.{pos, [], ◌∷◌, ◌++◌}
 use Rattle.isle_model.specs.Sites.{is_present, SiteSet}
 use Rattle.isle_best.specs.Samples as set
 use Rattle.isle_statements.specs.Layers.{own_program}

@@ -4,7 +4,6 @@ use Rattle.isle_model.specs.Syntax.{Definition, declaration}
 use Rattle.isle_tables.specs.WorkedTerms.{numbers}
 use Rattle.isle_elaboration.specs.Elaborated.{TypedRules}
 use Rattle.isle_statements.specs.Environments.{IsRead}
-use Rattle.isle_statements.specs.Layers.{IsAccepted}
 use Rattle.isle_statements.specs.SampleLists.{number_pattern, variable, rule_of_f, extract, extract_rules, partial, partial_rules, multi, multi_rules, overlap, overlap_rules}
 
 -- whether internal extractors are expanded or not
