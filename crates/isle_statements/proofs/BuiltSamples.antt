@@ -2,14 +2,14 @@
 use Rattle.std.proofs.Common.{◌≡◌, ℕ, ◌<◌, ◌≤◌, [], ◌∷◌, length, refl, ap, arith}
 use Rattle.std.proofs.lemmas.List.Elements.{All-nil, All-from_recursion}
 use Rattle.isle_model.specs.Sites.{Constraint, is_present, unfold_site}
-use Rattle.isle_tables.proofs.Lists.{distinct_nil, distinct_one, in_alone}
+use Rattle.isle_tables.proofs.Lists.{distinct_nil, distinct_one, nothing_in, in_alone}
 use Rattle.isle_best.specs.Samples as set
 use Rattle.isle_best.proofs.WellBuilt.{passes_well_built}
 use Rattle.isle_statements.specs.Layers.{own_program}
-use Rattle.isle_statements.specs.RuleSets.{IsBuilt}
-use Rattle.isle_statements.specs.SampleLists.{extract, extract_rules, partial, partial_rules, multi, multi_rules}
+use Rattle.isle_statements.specs.RuleSets.{ConstrainsOrEquates, IsBuilt}
+use Rattle.isle_statements.specs.SampleLists.{extract, extract_rules, partial, partial_rules, multi, multi_rules, equal, equal_rules}
 use Rattle.isle_statements.specs.BuiltSamples.{ExtractIsBuilt, PartialIsBuilt, MultiIsBuilt, EqualIsBuilt, less_asked, NearSetsAreNotBuilt}
-use Rattle.isle_statements.proofs.Judged.{asks, equates_nothing, equates, goes_over, stand, two_apart, has_facts}
+use Rattle.isle_statements.proofs.Judged.{asks, equates_nothing, equates, goes_over, stand, two_apart, apart_without_classes, has_facts}
 
 extract_built : IsBuilt (own_program extract extract_rules) 1 set.extract
 extract_built = record {
@@ -54,13 +54,13 @@ multi_built = record {
 }
 
 pub extract_is_built_lem : ExtractIsBuilt
-extract_is_built_lem = (extract_built, has_facts (own_program extract extract_rules) 1 set.extract refl refl refl refl)
+extract_is_built_lem = (extract_built, has_facts (own_program extract extract_rules) 1 set.extract refl (apart_without_classes set.extract.rules refl) refl refl)
 
 pub partial_is_built_lem : PartialIsBuilt
-partial_is_built_lem = (partial_built, has_facts (own_program partial partial_rules) 1 set.partial refl refl refl refl)
+partial_is_built_lem = (partial_built, has_facts (own_program partial partial_rules) 1 set.partial refl (apart_without_classes set.partial.rules refl) refl refl)
 
 pub multi_is_built_lem : MultiIsBuilt
-multi_is_built_lem = (multi_built, has_facts (own_program multi multi_rules) 1 set.multi refl refl refl refl)
+multi_is_built_lem = (multi_built, has_facts (own_program multi multi_rules) 1 set.multi refl (apart_without_classes set.multi.rules refl) refl refl)
 
 -- whether a constraint asks for an answer
 asks_answer : Constraint → ℕ
@@ -79,8 +79,8 @@ unasked b =
 pub near_sets_are_not_built_lem : NearSetsAreNotBuilt
 near_sets_are_not_built_lem = (unasked, (λ b. b.rules.1), (λ b. (let e = b.sites.count in omega (arith, e))))
 
-pub equal_is_built_lem : EqualIsBuilt
-equal_is_built_lem = record {
+equal_built : IsBuilt (own_program equal equal_rules) 0 set.equal
+equal_built = record {
   rules = (
     record { id = refl; at = refl; prio = refl; name = refl; constraints = asks _ _ _ refl refl distinct_nil; classes = equates_nothing _ _ refl; iterators = goes_over _ _ _ refl refl distinct_nil; impure = (All-nil _, refl); result = (omega arith, refl) },
     (
@@ -92,3 +92,10 @@ equal_is_built_lem = record {
   few = omega arith;
   sources = (passes_well_built set.equal refl).sources;
 }
+
+pub equal_is_built_lem : EqualIsBuilt
+equal_is_built_lem = (
+  equal_built,
+  has_facts (own_program equal equal_rules) 0 set.equal refl
+      (All-from_recursion ConstrainsOrEquates set.equal.rules ((λ s a c k l. nothing_in (s, c) k), ((λ s a c k l. nothing_in (s, c) k), tt))) refl refl,
+)

@@ -103,14 +103,18 @@ apart_without : (classes : List (List ℕ)) → elim classes as (λ _. Bool) [ [
 apart_without [] h = refl
 apart_without (c ∷ cs) h = absurd (false≢true h)
 
-pub has_facts : (p : Program) (t : ℕ) (set : SiteSet) → set_passes set ≡ true → list_all no_classes set.rules ≡ true
+pub apart_without_classes : (rules : List SetRule) → list_all no_classes rules ≡ true → All ConstrainsOrEquates rules
+apart_without_classes rules none =
+    each_of ConstrainsOrEquates rules
+    (λ r i s a c k l. false≢true (subst (λ cs. IsTrue (joins_in cs s a)) (apart_without r.classes (each_passes no_classes rules none r i)) l))
+
+pub has_facts : (p : Program) (t : ℕ) (set : SiteSet) → set_passes set ≡ true → All ConstrainsOrEquates set.rules
     → list_all (λ (r : SetRule). gates_hold set.sites r (tested_sites r)) set.rules ≡ true → list_all (λ (r : SetRule). gates_hold set.sites r r.iterators) set.rules ≡ true
     → HasFacts p t set
-has_facts p t set h none tested calls = record {
+has_facts p t set h apart tested calls = record {
   once = (passes_well_built set h).sites_once;
   sources = (passes_well_built set h).sources;
-  apart = each_of ConstrainsOrEquates set.rules (λ r i s a c k l.
-      false≢true (subst (λ cs. IsTrue (joins_in cs s a)) (apart_without r.classes (each_passes no_classes set.rules none r i)) l));
+  apart = apart;
   gates = each_of (DemandsItsGates set.sites) set.rules (λ r i.
       each_of (λ s. IsTrue (gate_demanded r (slice_get set.sites s))) (all_below set.sites (tested_sites r))
       (each_passes (λ s. gate_demanded r (slice_get set.sites s)) (all_below set.sites (tested_sites r)) (each_passes (λ (q : SetRule). gates_hold set.sites q (tested_sites q)) set.rules tested r i)));

@@ -12,8 +12,8 @@ use Rattle.isle_tables.proofs.Acyclic.{plain_acyclic}
 use Rattle.isle_tables.proofs.Lists.{distinct_if, distinct_nil, distinct_one}
 use Rattle.isle_elaboration.specs.Elaborated.{TypedRules, elaborated_rules}
 use Rattle.isle_statements.specs.Environments.{types_read, setting_of, IsRead}
-use Rattle.isle_statements.specs.SampleLists.{extract, extract_rules, partial, partial_rules, multi, multi_rules, overlap, overlap_rules}
-use Rattle.isle_statements.specs.ReadSamples.{ExtractIsRead, PartialIsRead, MultiIsRead, OverlapIsRead, unbound, RefusedAreNotRead}
+use Rattle.isle_statements.specs.SampleLists.{extract, extract_rules, partial, partial_rules, multi, multi_rules, overlap, overlap_rules, equal, equal_rules}
+use Rattle.isle_statements.specs.ReadSamples.{EqualIsRead, ExtractIsRead, PartialIsRead, MultiIsRead, OverlapIsRead, unbound, RefusedAreNotRead}
 
 extract_types : IsValidTypes extract
 extract_types = record {
@@ -198,6 +198,52 @@ overlap_elaborates expand typed = record {
 
 pub overlap_is_read_lem : OverlapIsRead
 overlap_is_read_lem = (overlap_elaborates true refl, overlap_elaborates false refl)
+
+equal_types : IsValidTypes equal
+equal_types = record {
+  distinct = distinct_if builtin_names refl;
+  primitives = All-nil IsUnmarkedIfPrimitive;
+  marks = All-nil HasAtMostOneMark;
+  variants = All-nil HasDistinctVariants;
+  fields = All-nil HasDistinctFields;
+  types_of_fields = All-nil (HasKnownTypes equal);
+  types_of_constants = All-nil (IsOfKnownType equal);
+}
+
+equal_terms : IsValidTerms (types_of equal) equal
+equal_terms = record {
+  distinct = distinct_if (term_names (types_of equal) equal) refl;
+  types_of_arguments = All-from_recursion (HasKnownArguments (types_of equal)) (decl_trees equal) (All-from_recursion (IsKnownType (all_type_names equal)) (name 0 (codes "u8") ∷ (name 0 (codes "u8") ∷ [])) (refl, (refl, tt)), tt);
+  types_of_results = All-from_recursion (HasKnownResult (types_of equal)) (decl_trees equal) (refl, tt);
+  marks = All-from_recursion IsNotBothMultiAndPartial (decl_trees equal) (refl, tt);
+  roots = All-from_recursion (HasDeclaredRoot equal) (rule_trees equal) (refl, (refl, tt));
+  terms_of_extractors = All-nil (λ e. IsDeclaredTerm equal e.term);
+  terms_of_externals = All-nil (λ e. IsDeclaredTerm equal e.term);
+  terms_of_constructors = All-nil (λ c. IsDeclaredTerm equal c.term);
+  rules_or_function = All-nil (IsWithoutRules equal);
+  one_constructor = distinct_nil;
+  one_extractor = distinct_nil;
+  plain_terms = All-nil (IsOfPlainTerm equal);
+  known_terms = All-nil (NamesKnownTerms (types_of equal) equal);
+  no_macro_args = All-nil HoldsNoMacroArg;
+  declared_arguments = All-nil (UsesDeclaredArguments equal);
+  acyclic = plain_acyclic equal refl;
+  known_converters = All-nil (IsKnownConverter (types_of equal) equal);
+  one_converter = distinct_nil;
+}
+
+equal_elaborates : (expand : Bool) → elaborated_rules (setting_of (types_read equal) equal expand) (rule_trees equal) (term_names_met (types_of equal) equal) ≡ Some equal_rules → IsRead equal expand equal_rules
+equal_elaborates expand typed = record {
+  types = equal_types;
+  elaborated = record {
+    terms = equal_terms;
+    defined = All-from_recursion (IsDefined equal) (decl_trees equal) (refl, tt);
+    elaborate = record { typed = typed; distinct = distinct_nil };
+  };
+}
+
+pub equal_is_read_lem : EqualIsRead
+equal_is_read_lem = (equal_elaborates true refl, equal_elaborates false refl)
 
 unbound_refused : (expand : Bool) (rules : TypedRules) → IsRead unbound expand rules → ⊥
 unbound_refused true rules r = none-some rules r.elaborated.elaborate.typed

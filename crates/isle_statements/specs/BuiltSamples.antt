@@ -18,7 +18,7 @@ MultiIsBuilt = IsBuilt (own_program multi multi_rules) 1 set.multi × HasFacts (
 
 -- so is the set of a rule that demands an equality
 abbrev pub EqualIsBuilt : Type 0
-EqualIsBuilt = IsBuilt (own_program equal equal_rules) 0 set.equal
+EqualIsBuilt = IsBuilt (own_program equal equal_rules) 0 set.equal × HasFacts (own_program equal equal_rules) 0 set.equal
 
 -- the set of the extractor's sample with a constraint left out
 abbrev pub less_asked : SiteSet

@@ -1,5 +1,5 @@
--- Three lists of definitions and what they become: one with an extractor, one with an impure call, one with a multi
--- call. Every place inside definition d is offset d of the first file.
+-- Lists of definitions and what their rules become: with an extractor, an impure call, a multi call, a wrong overlap, an
+-- equality. Every place inside definition d is offset d of the first file.
 use Rattle.std.specs.Prelude.{ℕ, ℤ, pos, true, List, [], ◌∷◌, ◌++◌, Option, Some, None, codes}
 use Rattle.isle_model.specs.Syntax.{PatternTree, int_pattern, ExprTree, var_expr, int_expr, term_expr, no_expr, expr_and, Definition, declaration, rule_definition}
 use Rattle.isle_model.specs.TypeTable.{builtin_names}

@@ -5,7 +5,7 @@
 
 ghost use Rattle.isle_statements.specs.AcceptedSamples.{OverlapIsNotAccepted, SamplesAreAccepted};
 ghost use Rattle.isle_statements.specs.BuiltSamples.{EqualIsBuilt, ExtractIsBuilt, MultiIsBuilt, NearSetsAreNotBuilt, PartialIsBuilt};
-ghost use Rattle.isle_statements.specs.ReadSamples.{ExtractIsRead, MultiIsRead, OverlapIsRead, PartialIsRead, RefusedAreNotRead};
+ghost use Rattle.isle_statements.specs.ReadSamples.{EqualIsRead, ExtractIsRead, MultiIsRead, OverlapIsRead, PartialIsRead, RefusedAreNotRead};
 
 /// Definitions with an extractor have these typed rules.
 pub fn extract_is_read()
@@ -25,6 +25,11 @@ pub fn multi_is_read()
 /// Definitions whose rules overlap wrongly have typed rules too.
 pub fn overlap_is_read()
     ensures { OverlapIsRead }
+{}
+
+/// Definitions with a rule that demands that two arguments are equal have these typed rules.
+pub fn equal_is_read()
+    ensures { EqualIsRead }
 {}
 
 /// Definitions with a term that is declared twice have no typed rules, nor have those with a variable that nothing binds.
