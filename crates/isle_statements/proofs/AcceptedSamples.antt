@@ -17,8 +17,8 @@ use Rattle.isle_closure.specs.Samples as typed
 use Rattle.isle_elaboration.specs.Elaborated.{TypedRules}
 use Rattle.isle_statements.specs.Environments.{IsRead}
 use Rattle.isle_statements.specs.Layers.{own_program, IsCheckable}
-use Rattle.isle_statements.specs.SampleLists.{extract, extract_rules, partial, partial_rules, multi, multi_rules, overlap, overlap_rules, equal, equal_rules}
-use Rattle.isle_statements.specs.AcceptedSamples.{SamplesAreAccepted, OverlapIsNotAccepted}
+use Rattle.isle_statements.specs.SampleLists.{extract, extract_rules, partial, partial_rules, multi, multi_rules, overlap, overlap_rules, equal, equal_rules, shadow, shadow_rules}
+use Rattle.isle_statements.specs.AcceptedSamples.{SamplesAreAccepted, OverlapIsNotAccepted, ShadowIsNotCheckable}
 use Rattle.isle_statements.proofs.ReadSamples.{extract_is_read_lem, partial_is_read_lem, multi_is_read_lem, equal_is_read_lem}
 
 keeps_none : {X : Type 0} (f : X → Bool) (xs : List X) → ((x : X) → Contains xs x → f x ≡ false) → filter f xs ≡ []
@@ -128,3 +128,17 @@ overlap_is_not_accepted_lem = (
   not_checkable,
   λ expand rules a. not_checkable (subst (λ rs. IsCheckable (own_program overlap rs)) (sym (own_rules expand rules a.read)) a.checkable),
 )
+
+pub shadow_is_not_checkable_lem : ShadowIsNotCheckable
+shadow_is_not_checkable_lem c =
+    let p = own_program shadow shadow_rules in
+    let mask = built_rule p [] (typed.shadow_any (pos 1)) in
+    let shadowed = built_rule p (sites_after_rule p [] (typed.shadow_any (pos 1))) typed.shadow_one in
+    c.shadows 0 1 (record {
+      mask = mask;
+      shadowed = shadowed;
+      one_result = refl;
+      other = (0, omega arith, refl);
+      here = refl;
+      shadows = (shadows_decides mask shadowed).0 refl;
+    })

@@ -80,3 +80,11 @@ equal =
 
 abbrev pub equal_rules : TypedRules
 equal_rules = rules_and_names (typed.equal_any ∷ (typed.equal_same ∷ [])) (codes "f" ∷ (codes "x" ∷ (codes "y" ∷ [])))
+
+-- (decl f (u8) u8), (rule 1 (f x) x), (rule (f 1) 10): the first rule shadows the second one
+abbrev pub shadow : List Definition
+shadow =
+    declaration (numbers 0 (codes "f")) ∷ (rule_of_f 1 (Some (pos 1)) (var 1 (codes "x")) (variable 1 (codes "x")) ∷ (rule_of_f 2 None (number_pattern 2 1) (number_expr 2 10) ∷ []))
+
+abbrev pub shadow_rules : TypedRules
+shadow_rules = rules_and_names (typed.shadow_any (pos 1) ∷ (typed.shadow_one ∷ [])) (codes "f" ∷ (codes "x" ∷ []))

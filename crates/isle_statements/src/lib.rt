@@ -3,7 +3,7 @@
 //! The statements are in `specs/`. A function here has an empty body: its clause is a law.
 #![tactic(auto)]
 
-ghost use Rattle.isle_statements.specs.AcceptedSamples.{OverlapIsNotAccepted, SamplesAreAccepted};
+ghost use Rattle.isle_statements.specs.AcceptedSamples.{OverlapIsNotAccepted, SamplesAreAccepted, ShadowIsNotCheckable};
 ghost use Rattle.isle_statements.specs.BuiltSamples.{EqualIsBuilt, ExtractIsBuilt, MultiIsBuilt, NearSetsAreNotBuilt, PartialIsBuilt};
 ghost use Rattle.isle_statements.specs.ReadSamples.{EqualIsRead, ExtractIsRead, MultiIsRead, OverlapIsRead, PartialIsRead, RefusedAreNotRead};
 
@@ -70,4 +70,9 @@ pub fn samples_are_accepted()
 /// Definitions are not accepted where two rules of one priority overlap.
 pub fn overlap_is_not_accepted()
     ensures { OverlapIsNotAccepted }
+{}
+
+/// Rules can't be told apart where one shadows another.
+pub fn shadow_is_not_checkable()
+    ensures { ShadowIsNotCheckable }
 {}
