@@ -9,7 +9,7 @@ use Rattle.isle_model.specs.Demands.{Demands, demands_of, site_term_eq, has_site
 use Rattle.isle_model.specs.Built.{differ, may_overlap}
 use Rattle.isle_model.specs.Closure.{Joined, given, itself, turned, chained, at_field, field_terms, HasConstraint, IsUnreachable, two_at_a_site, constraint_of, Closed, class_at, without_class_of, merged, merged_all, with_constraint, with_constraints, ascending, is_in_class, next_constrained, field_equalities, taken, closing, before_closing, begins_with, in_order, most_steps, closed}
 use Rattle.isle_model.specs.Overlap.{overlaps}
-use Rattle.isle_closure.specs.Laws.{ClosedFollows}
+use Rattle.isle_closure.specs.Laws.{ClosedFollows, HasEnded}
 use Rattle.isle_closure.proofs.Elements.{In, in_from_contains, contains_from_in, some_is, none_some, in_left, in_right, in_either, in_map, from_flat_map, in_zip, in_filter, passed_filter}
 use Rattle.isle_closure.proofs.SameSites.{term_means, constraint_cases}
 use Rattle.isle_closure.proofs.Classes.{has_in}
@@ -34,16 +34,24 @@ no_classes : (order made : List SiteTerm) → flat_map (λ s. filter (begins_wit
 no_classes [] made = refl
 no_classes (s ∷ ss) made = no_classes ss made
 
-pub closing_adds_nothing_lem : (before : List SiteTerm) (d : Demands) → d.equalities ≡ []
-    → closed before d ≡ record { constraints = with_constraints [] d.constraints; classes = []; made = with_sites before d.made }
-closing_adds_nothing_lem before d e =
-    ap in_order
-    (ap (closing most_steps) opened
-    ∙ closing_ends most_steps (record { constraints = with_constraints [] d.constraints; classes = []; made = with_sites before d.made }) (nothing_next (with_constraints [] d.constraints) (with_sites before d.made)))
-    ∙ (λ i. record { constraints = with_constraints [] d.constraints; classes = no_classes (with_sites before d.made) (with_sites before d.made) i; made = with_sites before d.made })
+-- demands without equalities are closed before the closing
+abbrev unclosed : List SiteTerm → Demands → Closed
+unclosed before d = record { constraints = with_constraints [] d.constraints; classes = []; made = with_sites before d.made }
+
+stays : (before : List SiteTerm) (d : Demands) → d.equalities ≡ [] → closing most_steps (before_closing before d) ≡ unclosed before d
+stays before d e = ap (closing most_steps) opened ∙ closing_ends most_steps (unclosed before d) (nothing_next (with_constraints [] d.constraints) (with_sites before d.made))
   where
     opened : before_closing before d ≡ record { constraints = with_constraints [] d.constraints; classes = []; made = with_sites before d.made }
     opened = λ i. record { constraints = with_constraints [] d.constraints; classes = merged_all [] (e i); made = with_sites before d.made }
+
+pub closing_adds_nothing_lem : (before : List SiteTerm) (d : Demands) → d.equalities ≡ []
+    → closed before d ≡ record { constraints = with_constraints [] d.constraints; classes = []; made = with_sites before d.made }
+closing_adds_nothing_lem before d e =
+    ap in_order (stays before d e)
+    ∙ (λ i. record { constraints = with_constraints [] d.constraints; classes = no_classes (with_sites before d.made) (with_sites before d.made) i; made = with_sites before d.made })
+
+pub plain_closing_ends_lem : (before : List SiteTerm) (d : Demands) → d.equalities ≡ [] → HasEnded (closing most_steps (before_closing before d))
+plain_closing_ends_lem before d e = subst HasEnded (sym (stays before d e)) (nothing_next (with_constraints [] d.constraints) (with_sites before d.made))
 
 pub found_constraint : (cs : List (SiteTerm × Constraint)) (s : SiteTerm) (c : Constraint) → constraint_of cs s ≡ Some c → In cs (s, c)
 found_constraint [] s c e = absurd (none_some c e)

@@ -14,3 +14,8 @@ pub mod Reports
 pub mod Agreements
 pub mod Visited
 pub mod VisitedRules
+pub mod Reported
+pub mod Checked
+pub mod Listed
+pub mod Masks
+pub mod Picked

@@ -127,6 +127,10 @@ ClosingIsWhole =
     (before : List SiteTerm) (d : Demands) → EqualSitesAreMade d → (IsUnreachable d → ⊥) → HasEnded (closing most_steps (before_closing before d))
     → ClosedIsWhole d (closed before d)
 
+-- the closing of demands without equalities ends
+abbrev pub PlainClosingEnds : Type 0
+PlainClosingEnds = (before : List SiteTerm) (d : Demands) → d.equalities ≡ [] → HasEnded (closing most_steps (before_closing before d))
+
 -- not proved here: the closing of a rule that is built ends
 abbrev pub ClosingEnds : Type 0
 ClosingEnds = (p : Program) (before : List SiteTerm) (r : TypedRule) → is_built p before r ≡ true → HasEnded (closing most_steps (before_closing before (demands_of p r)))

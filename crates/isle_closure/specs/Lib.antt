@@ -1,3 +1,5 @@
 pub mod Samples
 pub mod Worked
 pub mod Laws
+pub mod Reported
+pub mod Picked

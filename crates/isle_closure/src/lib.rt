@@ -3,7 +3,9 @@
 //! The definitions are in `isle_model`, the samples in `specs/`. A function here has an empty body: its clause is a law.
 #![tactic(auto)]
 
-ghost use Rattle.isle_closure.specs.Laws.{VisitsMakeEqualSites, EarlyArgumentsAgree, EarlySitesAgree, ShadowsAreExact, ReportsAreExact, ClosingIsWhole, FirstLimitIsPassed, PassedLimitIsMet, ClashIsExact, ClassesBoundJoined, ClosingAddsNothing, ClosingIsSound, ConstraintsAreKept, EarlyOverlapAgrees, JoinedIsEquivalence, NamesAreExact, OverlapIsExact, OverlapIsSymmetric, VerdictIsExact};
+ghost use Rattle.isle_closure.specs.Laws.{VisitsMakeEqualSites, EarlyArgumentsAgree, EarlySitesAgree, ShadowsAreExact, ReportsAreExact, ClosingIsWhole, FirstLimitIsPassed, PassedLimitIsMet, ClashIsExact, ClassesBoundJoined, ClosingAddsNothing, ClosingIsSound, ConstraintsAreKept, EarlyOverlapAgrees, JoinedIsEquivalence, NamesAreExact, OverlapIsExact, OverlapIsSymmetric, PlainClosingEnds, VerdictIsExact};
+ghost use Rattle.isle_closure.specs.Picked.{HoldUnderNoPick, HoldUnderOnePick};
+ghost use Rattle.isle_closure.specs.Reported.{CheckIsExact, ListedRulesOverlap, MasksAreReportedOnce, OverlapsAreListedOnce, ReportedMasksShadow};
 ghost use Rattle.isle_closure.specs.Worked.{ClosingsEnd, LimitsMet, Overlapping, Shadowing, SamplesAreReachable, SamplesAreUnreachable, TwoReports, ConflictReported, ConstEqClosed, ConstEqDemands, CyclesReported, EffectsDemands, ExtractDemands, FallDemands, MultiDemands, NearMisses, NestedClosed, NotReported, NothingReported, OverlapReported, PartialDemands, ShadowReported, UnreachableReported, UnreachableSamples, VariantEqClosed, VariantEqDemands};
 
 /// A literal and a repeated variable: one constraint, one equality.
@@ -234,4 +236,44 @@ pub fn early_sites_agree()
 /// The sites that a visit equates are made by it, but for variables that nothing binds.
 pub fn visits_make_equal_sites()
     ensures { VisitsMakeEqualSites }
+{}
+
+/// Nothing is reported of a program exactly where all its rules are built, none overlap wrongly, and none is shadowed.
+pub fn check_is_exact()
+    ensures { CheckIsExact }
+{}
+
+/// Each two rules that overlap wrongly stand in exactly one report that lists one of them first.
+pub fn overlaps_are_listed_once()
+    ensures { OverlapsAreListedOnce }
+{}
+
+/// Each further rule of a report overlaps wrongly with its first.
+pub fn listed_rules_overlap()
+    ensures { ListedRulesOverlap }
+{}
+
+/// Where rules stand at distinct positions, each built rule that shadows others is the mask of one report, which lists these.
+pub fn masks_are_reported_once()
+    ensures { MasksAreReportedOnce }
+{}
+
+/// Each shadow report is of such a rule.
+pub fn reported_masks_shadow()
+    ensures { ReportedMasksShadow }
+{}
+
+/// Demands that two answers of a multi call meet in part hold under no pick.
+pub fn hold_under_no_pick()
+    ensures { HoldUnderNoPick }
+{}
+
+/// Demands that one answer meets hold under its pick.
+pub fn hold_under_one_pick()
+    ensures { HoldUnderOnePick }
+{}
+
+/// The closing of demands without equalities ends.
+pub fn plain_closing_ends()
+    ensures { PlainClosingEnds }
 {}

@@ -81,7 +81,7 @@ abbrev pub world_of : Program → ℕ → List Site → Meaning → List Value �
 world_of p t sites m args = record { sites = sites; args = args; meaning = m; multi = is_multi p t }
 
 -- on all well-typed arguments, and under every meaning that serves the term's rules and tells constants apart, the
--- tree's run has the outcome of the matching source rule of greatest priority, or no rule and no calls; and no
+-- tree's run has the outcome of the matching source rule of greatest priority, or no rule and no impure calls; and no
 -- second rule of that priority matches
 abbrev pub RunsAsChosen : Program → ℕ → List Site → Tree → Type 0
 RunsAsChosen p t sites tree =

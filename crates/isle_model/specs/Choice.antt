@@ -27,7 +27,7 @@ abbrev pub outcome_of_rule : Program → Meaning → List Value → Option Typed
 outcome_of_rule p m args None = no_rule
 outcome_of_rule p m args (Some r) = with_vars p m r (matches p m r args)
 
--- the outcome of the matching rule of greatest priority, or no rule with no calls
+-- the outcome of the matching rule of greatest priority, or no rule with no impure calls
 abbrev pub choice : Program → Meaning → List TypedRule → List Value → Outcome
 choice p m rs args = outcome_of_rule p m args (chosen p m rs args)
 

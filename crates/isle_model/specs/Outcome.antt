@@ -21,7 +21,7 @@ pub record Outcome : Type 0 where
   pub results : List Content
   pub ending : Ending
 
--- no rule matches: nothing is called, and there is no result
+-- no rule matches: no impure call is made, and there is no result
 abbrev pub no_rule : Outcome
 no_rule = record { calls = []; results = []; ending = ran_through }
 

@@ -25,7 +25,7 @@ pub record MeetsDemands (w : World) (r : SetRule) : Type 0 where
 abbrev pub taken : World → SetRule → Outcome
 taken w r = run (step (bind_order w.sites nothing_around (return_uses (Some r))) (return_at r.at r.result) no_step) w
 
--- a rule of greatest priority among those whose demands hold is taken; or there is none, and nothing is called
+-- a rule of greatest priority among those whose demands hold is taken; or there is none, and no impure call is made
 abbrev pub IsChoiceOf : SiteSet → World → Outcome → Type 0
 IsChoiceOf set w o =
     ((r : SetRule) × Contains set.rules r × MeetsDemands w r

@@ -1,5 +1,6 @@
 pub mod Environments
 pub mod RuleSets
+pub mod SetMeanings
 pub mod Layers
 pub mod SampleLists
 pub mod BuiltSamples

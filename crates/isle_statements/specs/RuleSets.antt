@@ -1,17 +1,14 @@
--- Built sets: what a set of rules must be to be built of a term's typed rules, and the facts that follow of it.
+-- Built sets: what a set of rules must be to be built of a term's typed rules.
 use Rattle.std.specs.Prelude.{◌≡◌, ℕ, ◌<◌, ◌≤◌, List, [], ◌∷◌, length, Some, map, slice_get, All, Contains, IsTrue}
 use Rattle.std.specs.List.{flat_map}
 use Rattle.isle_model.specs.Names.{IsDistinct}
 use Rattle.isle_model.specs.Program.{Program, rules_of}
 use Rattle.isle_model.specs.Sites.{Site, Constraint, SetRule, SiteSet, sources_at, SiteTerm, unfold_site}
 use Rattle.isle_model.specs.Demands.{demands_of, result_of}
-use Rattle.isle_model.specs.Places.{joins_in, all_below}
-use Rattle.isle_model.specs.Collects.{LeavesNoCallUnused}
-use Rattle.isle_model.specs.SetRuns.{tested_sites}
+use Rattle.isle_model.specs.Places.{joins_in}
 use Rattle.isle_model.specs.Closure.{Closed}
 use Rattle.isle_model.specs.Limits.{most_sites, sites_after_rules}
 use Rattle.isle_model.specs.Overlap.{BuiltRule, built_rules}
-use Rattle.isle_model.specs.Gates.{gate_demanded}
 
 -- the constraints of a rule of a set are these, each at the number of its site, once
 pub record AsksFor (sites : List Site) (closed : Closed) (constraints : List (ℕ × Constraint)) : Type 0 where
@@ -66,29 +63,3 @@ pub record IsBuilt (p : Program) (t : ℕ) (set : SiteSet) : Type 0 where
   pub sites : StandFor set.sites (sites_after_rules p [] (rules_of p t))
   pub few : length set.sites ≤ most_sites
   pub sources : (s a : ℕ) → Contains (sources_at set.sites s) a → a < s
-
--- a constrained site of a rule is in no class of it
-abbrev pub ConstrainsOrEquates : SetRule → Type 0
-ConstrainsOrEquates r = (s a : ℕ) (c : Constraint) → Contains r.constraints (s, c) → IsTrue (joins_in r.classes s a) → ⊥
-
--- the gates below the tested sites of a rule are demanded by it, where it goes over each call that it picks from
-abbrev pub DemandsItsGates : List Site → SetRule → Type 0
-DemandsItsGates sites r = All (λ s. IsTrue (gate_demanded r (slice_get sites s))) (all_below sites (tested_sites r))
-
--- those below the calls that it goes over, likewise
-abbrev pub DemandsGatesOfCalls : List Site → SetRule → Type 0
-DemandsGatesOfCalls sites r = All (λ s. IsTrue (gate_demanded r (slice_get sites s))) (all_below sites r.iterators)
-
--- the facts of a built set that those who use it rest on. A rule that leaves a multi call of an if-let unused need not
--- demand the gates below that call
-pub record HasFacts (p : Program) (t : ℕ) (set : SiteSet) : Type 0 where
-  pub once : IsDistinct set.sites
-  pub sources : (s a : ℕ) → Contains (sources_at set.sites s) a → a < s
-  pub apart : All ConstrainsOrEquates set.rules
-  pub gates : All (DemandsItsGates set.sites) set.rules
-  pub gates_of_calls : (i : ℕ) (b : BuiltRule) (r : SetRule) → slice_get (built_rules p t) i ≡ Some b → slice_get set.rules i ≡ Some r
-      → LeavesNoCallUnused p b.rule → DemandsGatesOfCalls set.sites r
-
--- a built set has these facts
-abbrev pub BuiltSetsHaveFacts : Type 0
-BuiltSetsHaveFacts = (p : Program) (t : ℕ) (set : SiteSet) → IsBuilt p t set → HasFacts p t set

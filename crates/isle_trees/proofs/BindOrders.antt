@@ -12,7 +12,7 @@ use Rattle.isle_trees.proofs.Lists.{nothing_in, in_head, in_tail, in_cases, in_a
 use Rattle.isle_trees.proofs.Members.{each_passes, all_members, in_flat_map, from_flat_map, member_found, member_is_in}
 use Rattle.isle_trees.proofs.Contents.{SourcesBefore}
 use Rattle.isle_trees.proofs.Flat.{to_bind, bind_last}
-use Rattle.isle_trees.proofs.Binding.{content, content_of, Held, held_as, binds_now, keeps_bound, keeps_in_place}
+use Rattle.isle_trees.proofs.Binding.{content, content_of, Held, held_as, kept_below, binds_now, keeps_bound, keeps_in_place}
 
 -- each site without impure calls that waits for nothing and whose sources have contents has one
 abbrev pub Finds : World → Type 0
@@ -121,15 +121,6 @@ module _ (w : World) (before : SourcesBefore w.sites) (finds : Finds w) (brought
     fine = λ t c. absurd (nothing_in t c);
   }
 
-  -- what is below a site that is kept
-  kept_below : (done : List ℕ) (env' : Env) → Held w env' (In done) → (n s t : ℕ) → In done s → Contains (below n w.sites s) t → In done t
-  kept_below done env' h zero s t k c = absurd (nothing_in t c)
-  kept_below done env' h (suc n) s t k c =
-      elim (in_cases s t (flat_map (below n w.sites) (sources_at w.sites s)) c) [
-        | inl e ↦ subst (In done) e k
-        | inr d ↦ let r = from_flat_map (below n w.sites) (sources_at w.sites s) t d in kept_below done env' h n r.0 t (h.closed s r.0 k r.1) r.2
-      ]
-
 -- all sites below these are pure, and each of these is available
 abbrev pub BindsTo : World → Env → List ℕ → List ℕ → List ℕ → Type 0
 BindsTo w env emitted ss order = (env' : Env) × (bind_all w env [] order ≡ all_bound env' []) × Held w env' (λ t. IsTrue (is_in t (all_below w.sites ss ++ emitted)))
@@ -169,7 +160,7 @@ module _ (w : World) (before : SourcesBefore w.sites) (finds : Finds w) (ar : Ar
       elim (or_cases (is_in t (all_below w.sites ss)) (is_in t ar.emitted) (sym (list_any-append (λ y. y == t) (all_below w.sites ss) ar.emitted) ∙ i)) [
         | inl a ↦
             let r = from_flat_map (λ x. below (suc x) w.sites x) ss t (member_found t (all_below w.sites ss) a) in
-            kept_below w before finds ar.brought ar.emitted more env Fine fine_pure listed m.0 m.1.held (suc r.0) r.0 t (m.3 r.0 r.1) r.2
+            kept_below w m.0 (Now listed) m.1.held (suc r.0) r.0 t (m.3 r.0 r.1) r.2
         | inr b ↦ inl b
       ]
 

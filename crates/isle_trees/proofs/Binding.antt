@@ -1,17 +1,18 @@
 -- What a run has bound holds its content, and a bind order of available sites binds them all.
-use Rattle.std.proofs.Common.{◌≡◌, ◌⊎◌, ℕ, zero, suc, ◌==◌, true, false, List, [], ◌∷◌, Option, Some, None, is_some, slice_get, Contains, IsTrue, refl, sym, ap, ◌∙◌, subst, inl, inr, eqb-true, eq-eqb}
+use Rattle.std.proofs.Common.{◌≡◌, ◌⊎◌, ℕ, zero, suc, ◌==◌, true, false, List, [], ◌∷◌, Option, Some, None, is_some, slice_get, Contains, IsTrue, flat_map, refl, sym, ap, ◌∙◌, subst, inl, inr, eqb-true, eq-eqb}
 use Rattle.std.proofs.lemmas.Bool.{cases_Bool, cond-true, cond-false, false≢true}
 use Rattle.std.proofs.lemmas.Option.{none-some, same_Some}
 use Rattle.isle_model.specs.Values.{Value, Values, value_and, of_variant, of_struct}
 use Rattle.isle_model.specs.Meaning.{Content, one, parts, just, extractor_answer}
 use Rattle.isle_model.specs.Outcome.{Call, then_option}
 use Rattle.isle_model.specs.Sites.{Site, bool_site, int_site, prim_site, argument_site, extractor_site, constructor_site, make_variant_site, make_struct_site, make_some_site, match_tuple_site, each_term, unfold_site, sources_at}
-use Rattle.isle_model.specs.Places.{waits, is_in_place}
+use Rattle.isle_model.specs.Places.{waits, is_in_place, below}
 use Rattle.isle_model.specs.Run.{World, Env, bound_to, as_value, from_value, part_at, in_place, or_else, used, used_values, all_bound, now_bound, constructed, bind_site}
 use Rattle.isle_model.specs.Picks.{site_values, call_answer}
 use Rattle.isle_model.specs.Collects.{content_at, IsPureSite}
 use Rattle.isle_model.specs.SetRuns.{IsPureAt}
-use Rattle.isle_trees.proofs.Lists.{in_head, in_tail}
+use Rattle.isle_trees.proofs.Lists.{nothing_in, in_head, in_tail, in_cases}
+use Rattle.isle_trees.proofs.Members.{from_flat_map}
 use Rattle.isle_trees.proofs.Contents.{SourcesBefore, sources_in, content_layer}
 
 abbrev pub content : World → ℕ → Option Content
@@ -31,6 +32,15 @@ held_as w env P Q there back h = record {
   right = λ t c e. let r = h.right t c e in (there t r.0, r.1);
   closed = λ t u k c. there u (h.closed t u (back t k) c);
 }
+
+-- what is below a site of the kind
+pub kept_below : (w : World) (env : Env) (Kept : ℕ → Type 0) → Held w env Kept → (n s t : ℕ) → Kept s → Contains (below n w.sites s) t → Kept t
+kept_below w env Kept h zero s t k c = absurd (nothing_in t c)
+kept_below w env Kept h (suc n) s t k c =
+    elim (in_cases s t (flat_map (below n w.sites) (sources_at w.sites s)) c) [
+      | inl e ↦ subst Kept e k
+      | inr d ↦ let r = from_flat_map (below n w.sites) (sources_at w.sites s) t d in kept_below w env Kept h n r.0 t (h.closed s r.0 k r.1) r.2
+    ]
 
 pub content_of : (o : Option Content) → IsTrue (is_some o) → (c : Content) × (o ≡ Some c)
 content_of None h = absurd (false≢true h)

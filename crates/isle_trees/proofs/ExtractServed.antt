@@ -11,7 +11,7 @@ use Rattle.isle_model.specs.Sites.{Site, int_site, argument_site, extractor_site
 use Rattle.isle_model.specs.Places.{joins_in, waits, all_below, fields_of, return_uses}
 use Rattle.isle_model.specs.Run.{content_fields, where_constant}
 use Rattle.isle_model.specs.Collects.{content_at}
-use Rattle.isle_model.specs.SetRuns.{tested_sites, IsPureAt, is_unwrap, IsTestedRule, IsTestedSet, ServesTests}
+use Rattle.isle_model.specs.SetRuns.{tested_sites, IsPureAt, IsUnwrap, IsTestedRule, IsTestedSet, ServesTests}
 use Rattle.isle_trees.specs.Extract.{ten_for_answer_one, answer_itself, extract_sites, extract, answering, extract_meaning, ExtractIsServed}
 use Rattle.isle_trees.proofs.Lists.{nothing_in, in_alone, in_cases}
 use Rattle.isle_trees.proofs.Members.{each_passes, all_members}
@@ -66,7 +66,7 @@ tested_rule r known none pure gates results = record {
   no_iterators = none;
   pure = all_members (IsPureAt extract_sites) (all_below extract_sites (tested_sites r)) (λ s c. pure_at s (small (all_below extract_sites (tested_sites r)) pure s c));
   gates = all_members (λ s. IsTrue (gate_demanded r (slice_get extract_sites s))) (all_below extract_sites (tested_sites r)) (demanded r (all_below extract_sites (tested_sites r)) gates);
-  gates_of_result = all_members (λ s. IsTrue (gate_demanded r (slice_get extract_sites s)) ⊎ is_unwrap (slice_get extract_sites s)) (all_below extract_sites (return_uses (Some r)))
+  gates_of_result = all_members (λ s. IsTrue (gate_demanded r (slice_get extract_sites s)) ⊎ IsUnwrap (slice_get extract_sites s)) (all_below extract_sites (return_uses (Some r)))
       (λ s c. inl (demanded r (all_below extract_sites (return_uses (Some r))) results s c));
 }
 

@@ -10,6 +10,7 @@ use Rattle.isle_model.specs.Sites.{Site, iterator_site, match_variant_site, extr
 use Rattle.isle_model.specs.Places.{is_in, waits, is_variant_field, is_struct_field, is_part_of, site_from, each_field, fields_of, field_sites}
 use Rattle.isle_model.specs.Run.{World, Env, as_value, from_value, all_one, content_fields, bind_fields}
 use Rattle.isle_model.specs.Picks.{field_of_variant, field_of_struct, part_of_some}
+use Rattle.isle_model.specs.SetRuns.{IsPureAt}
 use Rattle.isle_trees.proofs.Lists.{nothing_in, in_head, in_tail, in_cases}
 use Rattle.isle_trees.proofs.Members.{one_passes}
 use Rattle.isle_trees.proofs.Contents.{SourcesBefore, sources_in, content_layer}
@@ -189,11 +190,11 @@ module _ (w : World) (before : SourcesBefore w.sites) where
   abbrev pub FieldsHold : ℕ → List (Option ℕ) → List Content → Type 0
   FieldsHold s [] [] = Unit {0}
   FieldsHold s (None ∷ rest) (c ∷ cs) = FieldsHold s rest cs
-  FieldsHold s (Some x ∷ rest) (c ∷ cs) = (content w x ≡ Some c) × (sources_at w.sites x ≡ s ∷ []) × FieldsHold s rest cs
+  FieldsHold s (Some x ∷ rest) (c ∷ cs) = (content w x ≡ Some c) × (sources_at w.sites x ≡ s ∷ []) × IsPureAt w.sites x × FieldsHold s rest cs
   FieldsHold s _ _ = ⊥
 
   abbrev FieldIs : ℕ → ℕ → Option Content → Type 0
-  FieldIs s x o = (content w x ≡ o) × (sources_at w.sites x ≡ s ∷ [])
+  FieldIs s x o = (content w x ≡ o) × (sources_at w.sites x ≡ s ∷ []) × IsPureAt w.sites x
 
   each_holds : (s : ℕ) (p : ℕ → Site → Bool) (vs : List Value) (i n : ℕ) → length (all_one vs) ≡ length (each_field p w.sites i n)
       → ((k j x : ℕ) → j ≡ i + k → site_from 0 (p j) w.sites ≡ Some x → FieldIs s x (from_value (slice_get vs k))) → FieldsHold s (each_field p w.sites i n) (all_one vs)
@@ -204,7 +205,7 @@ module _ (w : World) (before : SourcesBefore w.sites) where
     where
       by : (o : Option ℕ) → site_from 0 (p i) w.sites ≡ o → FieldsHold s (each_field p w.sites (suc i) n) (all_one vs) → FieldsHold s (o ∷ each_field p w.sites (suc i) n) (one v ∷ all_one vs)
       by None e rest = rest
-      by (Some x) e rest = (let g = h 0 i x (plus_zero i) e in (g.0, g.1, rest))
+      by (Some x) e rest = (let g = h 0 i x (plus_zero i) e in (g.0, g.1, g.2, rest))
 
   site_is : (s x : ℕ) (b : Site) → slice_get w.sites x ≡ Some b → sources_in (Some b) ≡ s ∷ [] → sources_at w.sites x ≡ s ∷ []
   site_is s x b e q = ap sources_in e ∙ q
@@ -227,6 +228,7 @@ module _ (w : World) (before : SourcesBefore w.sites) where
             ∙ cond-true (v == v) (from_value (slice_get (listed m.1) j)) None (eq-eqb v v refl)
             ∙ ap (λ i. from_value (slice_get (listed m.1) i)) same,
         site_is s y (match_variant_site s v j) here refl,
+        (match_variant_site s v j, here, tt),
       )))
   fields_hold s (is_struct ty n) x cs e met l =
       let m = struct_met w.meaning ty n x cs met in
@@ -240,6 +242,7 @@ module _ (w : World) (before : SourcesBefore w.sites) where
             ∙ ap (λ o. then_option (then_option o as_value) (field_of_struct j)) (e ∙ ap Some m.2)
             ∙ ap (λ i. from_value (slice_get (listed m.1) i)) same,
         site_is s y (extract_struct_site s j) here refl,
+        (extract_struct_site s j, here, tt),
       )))
   fields_hold s is_present x cs e met l =
       let m = present_met w.meaning x cs met in
@@ -252,6 +255,7 @@ module _ (w : World) (before : SourcesBefore w.sites) where
           let here = r.1 ∙ ap Some (part_same s r.0 r.2) in (
             content_layer w before y (match_some_site s) here ∙ ap (λ o. then_option o part_of_some) (e ∙ ap Some q),
             site_is s y (match_some_site s) here refl,
+            (match_some_site s, here, tt),
             tt,
           )
   fields_hold s (is_bool b ty) x cs e met l = no_fields s cs l
@@ -266,7 +270,7 @@ module _ (w : World) (before : SourcesBefore w.sites) where
   fields_bound s (None ∷ rest) (c ∷ cs) env Kept held k h = fields_bound s rest cs env Kept held k h
   fields_bound s (Some x ∷ rest) (c ∷ cs) env Kept held k h =
       let now = keeps_bound w before env Kept held x c h.0 (λ u m. elim (in_cases s u [] (subst (λ l. Contains l u) h.1 m)) [ inl e ↦ subst Kept e k | inr n ↦ absurd (nothing_in u n) ]) in
-      let r = fields_bound s rest cs ((x, c) ∷ env) (λ t. Kept t ⊎ (x ≡ t)) now (inl k) h.2 in
+      let r = fields_bound s rest cs ((x, c) ∷ env) (λ t. Kept t ⊎ (x ≡ t)) now (inl k) h.3 in
       (r.0, r.1, held_as w r.0 (λ t. (Kept t ⊎ (x ≡ t)) ⊎ Contains (field_sites rest) t) (λ t. Kept t ⊎ Contains (x ∷ field_sites rest) t) to from r.2)
     where
       to : (t : ℕ) → (Kept t ⊎ (x ≡ t)) ⊎ Contains (field_sites rest) t → Kept t ⊎ Contains (x ∷ field_sites rest) t
@@ -283,3 +287,12 @@ module _ (w : World) (before : SourcesBefore w.sites) where
       none_hold : (o : Option ℕ) (rest : List (Option ℕ)) → FieldsHold s (o ∷ rest) [] → ⊥
       none_hold None rest h = h
       none_hold (Some x) rest h = h
+
+  -- and make no impure call
+  pub fields_pure : (s : ℕ) (fields : List (Option ℕ)) (cs : List Content) → FieldsHold s fields cs → (t : ℕ) → Contains (field_sites fields) t → IsPureAt w.sites t
+  fields_pure s [] cs h t m = absurd (nothing_in t m)
+  fields_pure s (None ∷ rest) (c ∷ cs) h t m = fields_pure s rest cs h t m
+  fields_pure s (Some x ∷ rest) (c ∷ cs) h t m =
+      elim (in_cases x t (field_sites rest) m) [ inl e ↦ subst (IsPureAt w.sites) e h.2 | inr d ↦ fields_pure s rest cs h.3 t d ]
+  fields_pure s (None ∷ rest) [] h t m = absurd h
+  fields_pure s (Some x ∷ rest) [] h t m = absurd h

@@ -1,5 +1,6 @@
 pub mod ValuesEqual
 pub mod Order
+pub mod Arms
 pub mod Lists
 pub mod Flat
 pub mod Classes
@@ -17,3 +18,4 @@ pub mod Standing
 pub mod SoundChoice
 pub mod ExtractServed
 pub mod ExtractSound
+pub mod ImpureCalled

@@ -2,26 +2,27 @@
 use Rattle.std.proofs.Common.{◌≡◌, ◌≢◌, ◌⊎◌, ℕ, suc, ◌<◌, ◌==◌, true, false, List, [], ◌∷◌, ◌++◌, length, Option, Some, None, is_some, slice_get, Contains, IsTrue, refl, sym, ap, ap₂, ◌∙◌, subst, inl, inr, append_assoc}
 use Rattle.std.proofs.lemmas.Bool.{cases_Bool, cond-true, cond-false, or_cases, or_left, or_right, both_ways, false≢true}
 use Rattle.std.proofs.lemmas.Option.{none-some, same_Some, slice_get_within}
-use Rattle.std.proofs.lemmas.List.Elements.{Contains-append_left, Contains-append_right, Contains-append_cases, All-contains}
+use Rattle.std.proofs.lemmas.List.Elements.{Contains-append_left, Contains-append_right, All-contains}
 use Rattle.std.proofs.lemmas.List.Folds.{list_any-append}
 use Rattle.isle_model.specs.Values.{Value, value_eq}
 use Rattle.isle_model.specs.Meaning.{Content, one}
 use Rattle.isle_model.specs.Outcome.{Outcome, ran_through, then_option}
 use Rattle.isle_model.specs.Sites.{Constraint, SetRule, SiteSet}
 use Rattle.isle_model.specs.Trees.{Tree, step, match_at, equal_at, Arms, arm, Marked, m_no_step, m_step, m_match, m_equal, m_loop, m_return, MarkedArms, m_no_arm, m_arm, marks, marks_arms, plain, plain_arms, return_of}
-use Rattle.isle_model.specs.Places.{Around, nothing_around, is_in, available, below, all_below, constraint_at, fields_of, field_sites, bind_order, return_uses, in_arm, in_equal, after_step}
-use Rattle.isle_model.specs.Run.{World, Env, used, as_value, at_start, bind_all, all_bound, content_fields, bind_fields, on_met, on_equal, with_env, with_content, ending_at, or_next, run_tree, run_arms, run}
-use Rattle.isle_model.specs.Sound.{comes_before, AllAsk, AllGoOver, SoundSteps, SoundArms, ReturnsEach, IsSound}
-use Rattle.isle_model.specs.Collects.{meets, demands_hold}
+use Rattle.isle_model.specs.Places.{joins_in, Around, nothing_around, is_in, available, below, all_below, fields_of, field_sites, bind_order, return_uses, in_arm, in_equal, after_step}
+use Rattle.isle_model.specs.Run.{World, Env, used, as_value, at_start, bind_all, all_bound, Trace, content_fields, bind_fields, on_met, on_equal, with_env, with_content, ending_at, or_next, run_tree, run_arms, run}
+use Rattle.isle_model.specs.Sound.{NoneHigher, comes_before, AllAsk, AllGoOver, SoundSteps, SoundArms, ReturnsEach, IsSound}
+use Rattle.isle_model.specs.Collects.{value_at, meets, demands_hold}
 use Rattle.isle_model.specs.SetRuns.{IsPureAt, IsTestedSet, ServesTests, IsTaken, ChoosesFrom, SoundTreesChoose}
 use Rattle.isle_trees.proofs.ValuesEqual.{eq_means, eq_same}
-use Rattle.isle_trees.proofs.Order.{before_chain, before_itself}
+use Rattle.isle_trees.proofs.Order.{before_itself}
+use Rattle.isle_trees.proofs.Arms.{arms_after}
 use Rattle.isle_trees.proofs.Lists.{nothing_in, in_head, in_tail, in_cases, in_alone, some_member, member_from_get, get_from_member, get_within, member_counted, constraint_in}
 use Rattle.isle_trees.proofs.Members.{in_flat_map, from_flat_map, member_is_in, member_found}
 use Rattle.isle_trees.proofs.Taking.{step_runs}
 use Rattle.isle_trees.proofs.Binding.{content, Held, held_as, reads}
 use Rattle.isle_trees.proofs.BindOrders.{BindsTo, binds_order}
-use Rattle.isle_trees.proofs.Fields.{FieldsHold, fields_hold, fields_bound}
+use Rattle.isle_trees.proofs.Fields.{FieldsHold, fields_hold, fields_bound, fields_pure}
 use Rattle.isle_trees.proofs.Demanded.{joined_back, demand_met, demand_equal}
 use Rattle.isle_trees.proofs.Finding.{Found, NoneHolds, found_left, found_right, next_found, rule_found}
 use Rattle.isle_trees.proofs.Standing.{At, taken_ends, rule_at, finds, constraint_tested, class_tested, tested_pure, found_at, holds_here, taken_here}
@@ -56,6 +57,9 @@ module _ (w : World) (rules : List SetRule) (built : IsTestedSet (record { rules
   abbrev NoneHere : List ℕ → Type 0
   NoneHere = NoneHolds rules Holds (IsTaken w)
 
+  abbrev Pure : ℕ → Type 0
+  Pure s = (u : ℕ) → Contains (below (suc s) w.sites s) u → IsPureAt w.sites u
+
   known_left : (here later : List ℕ) → Known (here ++ later) → Known here
   known_left here later known i k = known i (Contains-append_left here later i k)
 
@@ -86,20 +90,11 @@ module _ (w : World) (rules : List SetRule) (built : IsTestedSet (record { rules
       let m = some_rule ids some known in
       nothing_in s (subst (λ l. Contains l s) (rule_at w rules built served m.0 m.1 m.3).no_iterators (over m.0 m.1 m.2 m.3))
 
-  -- 2. the rules of later arms ask for later constraints, so none holds where an arm is met
-  arms_after : (arms : MarkedArms) (ar : Around) (s : ℕ) (c : Constraint) → SoundArms set false ar true s (Some c) arms
-      → (j : ℕ) (q : SetRule) → Contains (marks_arms arms) j → slice_get rules j ≡ Some q → (d : Constraint) × (constraint_at q.constraints s ≡ Some d) × IsTrue (comes_before c d)
-  arms_after m_no_arm ar s c sound j q k at = absurd (nothing_in j k)
-  arms_after (m_arm d fields body rest) ar s c sound j q k at =
-      elim (Contains-append_cases (marks body) (marks_arms rest) j k) [
-        | inl a ↦ (d, sound.2 j q a at, sound.0)
-        | inr b ↦ let later = arms_after rest ar s d sound.5 j q b at in (later.0, later.1, before_chain c d later.0 sound.0 later.2)
-      ]
-
+  -- 2. where an arm is met, no rule of a later arm holds
   none_after : (arms : MarkedArms) (ar : Around) (s : ℕ) (c : Constraint) (i : ℕ) (r : SetRule) → slice_get rules i ≡ Some r → Contains r.constraints (s, c)
       → meets w.meaning c (content w s) ≡ true → SoundArms set false ar true s (Some c) arms → NoneHere (marks_arms arms)
   none_after arms ar s c i r get k met sound j q l at holds =
-      let later = arms_after arms ar s c sound j q l at in
+      let later = arms_after set false arms ar true s c sound j q l at in
       let m = constraint_in q.constraints s later.0 later.1 in
       let same = served.apart r q s c later.0 (member_from_get rules i r get) (member_from_get rules j q at) k m met (demand_met w q s later.0 holds m) in
       before_itself c (subst (λ d. IsTrue (comes_before c d)) (sym same) later.2)
@@ -116,9 +111,17 @@ module _ (w : World) (rules : List SetRule) (built : IsTestedSet (record { rules
   abbrev wider : (ar : Around) (ss : List ℕ) → Around
   wider ar ss = record { tested = ar.tested; joined = ar.joined; looped = ar.looped; brought = ar.brought; emitted = all_below w.sites ss ++ ar.emitted }
 
-  at_wider : (ar : Around) (ss : List ℕ) (env env' : Env) → At w ar env → Held w env' (Kept (all_below w.sites ss ++ ar.emitted)) → At w (wider ar ss) env'
-  at_wider ar ss env env' at held = record {
+  -- what is below pure sites
+  pure_below : (ss : List ℕ) → ((s : ℕ) → Contains ss s → Pure s) → (u : ℕ) → Contains (all_below w.sites ss) u → IsPureAt w.sites u
+  pure_below ss pure u c = (let r = from_flat_map (λ x. below (suc x) w.sites x) ss u c in pure r.0 r.1 u r.2)
+
+  at_wider : (ar : Around) (ss : List ℕ) (env env' : Env) → At w ar env → ((s : ℕ) → Contains ss s → Pure s) → Held w env' (Kept (all_below w.sites ss ++ ar.emitted)) → At w (wider ar ss) env'
+  at_wider ar ss env env' at fine held = record {
     held = held;
+    pure = λ s i. elim (in_either s (all_below w.sites ss) ar.emitted i) [
+      | inl c ↦ pure_below ss fine s c
+      | inr e ↦ at.pure s e
+    ];
     brought = λ s i. in_second s (all_below w.sites ss) ar.emitted (at.brought s i);
     brings = at.brings;
     tested = at.tested;
@@ -126,7 +129,7 @@ module _ (w : World) (rules : List SetRule) (built : IsTestedSet (record { rules
   }
 
   at_equal : (ar : Around) (a b : ℕ) (env : Env) → At w (wider ar (a ∷ (b ∷ []))) env → content w a ≡ content w b → At w (in_equal set ar a b) env
-  at_equal ar a b env at same = record { held = at.held; brought = at.brought; brings = at.brings; tested = at.tested; joined = (same, at.joined) }
+  at_equal ar a b env at same = record { held = at.held; pure = at.pure; brought = at.brought; brings = at.brings; tested = at.tested; joined = (same, at.joined) }
 
   at_after_match : (ar : Around) (s : ℕ) (arms : MarkedArms) (env : Env) → At w (wider ar (s ∷ [])) env → At w (after_step set ar (m_match s arms)) env
   at_after_match ar s arms env at = at
@@ -135,9 +138,11 @@ module _ (w : World) (rules : List SetRule) (built : IsTestedSet (record { rules
   at_after_equal ar a b body env at = at
 
   at_arm : (ar : Around) (s : ℕ) (c : Constraint) (fields : List (Option ℕ)) (env env' : Env) → At w (wider ar (s ∷ [])) env → fields ≡ fields_of w.sites s c → meets w.meaning c (content w s) ≡ true
+      → ((t : ℕ) → Contains (field_sites fields) t → IsPureAt w.sites t)
       → Held w env' (λ t. Kept (all_below w.sites (s ∷ []) ++ ar.emitted) t ⊎ Contains (field_sites fields) t) → At w (in_arm set ar s c fields) env'
-  at_arm ar s c fields env env' at same met held = record {
+  at_arm ar s c fields env env' at same met fine held = record {
     held = held_as w env' (λ t. Kept (all_below w.sites (s ∷ []) ++ ar.emitted) t ⊎ Contains (field_sites fields) t) (Kept (field_sites fields ++ all_below w.sites (s ∷ []) ++ ar.emitted)) to from held;
+    pure = λ t i. elim (from t i) [ inl a ↦ at.pure t a | inr m ↦ fine t m ];
     brought = λ t i. elim (in_either t (field_sites fields) ar.brought i) [ inl a ↦ to t (inr a) | inr b ↦ to t (inl (at.brought t b)) ];
     brings = λ t d x k m. elim (in_cases (s, c) (t, d) ar.tested k) [
       | inl e ↦ Contains-append_left (field_sites fields) ar.brought x (subst (λ l. Contains (field_sites l) x) (sym same) (subst (λ (y : ℕ × Constraint). Contains (field_sites (fields_of w.sites y.0 y.1)) x) (sym e) m))
@@ -165,11 +170,10 @@ module _ (w : World) (rules : List SetRule) (built : IsTestedSet (record { rules
   used_kept ar ss s c =
       in_first s (all_below w.sites ss) ar.emitted (in_flat_map (λ x. below (suc x) w.sites x) ss s s c (in_head s _))
 
-  binds_here : (ar : Around) (env : Env) → At w ar env → (ss : List ℕ) → ((s : ℕ) → Contains ss s → IsTrue (available w.sites ar s)) → ((s : ℕ) → Contains ss s → (u : ℕ) → Contains (below (suc s) w.sites s) u → IsPureAt w.sites u)
+  binds_here : (ar : Around) (env : Env) → At w ar env → (ss : List ℕ) → ((s : ℕ) → Contains ss s → IsTrue (available w.sites ar s)) → ((s : ℕ) → Contains ss s → Pure s)
       → BindsTo w env ar.emitted ss (bind_order w.sites ar ss)
   binds_here ar env at ss avail pure =
-      binds_order w built.sources (finds w rules built served) ar at.brought env at.held ss avail
-      (λ u c. let r = from_flat_map (λ x. below (suc x) w.sites x) ss u c in pure r.0 r.1 u r.2)
+      binds_order w built.sources (finds w rules built served) ar at.brought env at.held ss avail (pure_below ss pure)
 
   -- 4. an arm that is met runs its body with the fields bound
   arm_met : (s : ℕ) (c : Constraint) (fields : List (Option ℕ)) (body : Tree) (rest : Arms) (x : Content) (cs : List Content) (env env' : Env) → content_fields w.meaning c x ≡ Some cs → bind_fields fields cs env ≡ Some env'
@@ -209,6 +213,58 @@ module _ (w : World) (rules : List SetRule) (built : IsTestedSet (record { rules
             inr (other (λ e. both_ways (value_eq u v) n (ap (value_eq u) (sym e) ∙ eq_same u)), cond-false (value_eq u v) body (ending_at ran_through at_start) n)
       ]
 
+  then_found : (here later : List ℕ) {run : Outcome} (o : Outcome) (go : Trace → Outcome) → run ≡ or_next o go → FoundHere here o → NoneHigher rules here later → FoundHere later (go at_start) → FoundHere (here ++ later) run
+  then_found here later o go path found higher next =
+      subst (FoundHere (here ++ later)) (sym path) (next_found rules Holds (IsTaken w) here later o go (λ i r get. taken_ends w single r o go) found higher next)
+
+  -- what a run comes to after a match, and after an equality, of available sites
+  match_found : (ar : Around) (env : Env) → At w ar env → (binds : List ℕ) (source : ℕ) (arms : Arms) (rest : Tree) (here later : List ℕ)
+      → binds ≡ bind_order w.sites ar (source ∷ []) → IsTrue (available w.sites ar source) → Pure source → NoneHigher rules here later
+      → ((x : Content) (env' : Env) → content w source ≡ Some x → At w (wider ar (source ∷ [])) env' → FoundHere here (run_arms arms w x env' at_start))
+      → ((env' : Env) → At w (wider ar (source ∷ [])) env' → FoundHere later (run_tree rest w env' at_start))
+      → FoundHere (here ++ later) (run_tree (step binds (match_at source arms) rest) w env at_start)
+  match_found ar env at binds source arms rest here later same avail pure higher first next =
+      let x = found_at w rules built served ar env at source avail pure in
+      let b = binds_here ar env at (source ∷ []) (λ s c. subst (λ t. IsTrue (available w.sites ar t)) (in_alone source s c) avail) (λ s c. subst Pure (in_alone source s c) pure) in
+      by x.0 x.1 b.0 b.1 b.2
+    where
+      by : (x : Content) → content w source ≡ Some x → (env' : Env) → bind_all w env [] (bind_order w.sites ar (source ∷ [])) ≡ all_bound env' [] → Held w env' (Kept (all_below w.sites (source ∷ []) ++ ar.emitted))
+          → FoundHere (here ++ later) (run_tree (step binds (match_at source arms) rest) w env at_start)
+      by x e env' bound held =
+          let now = at_wider ar (source ∷ []) env env' at (λ s c. subst Pure (in_alone source s c) pure) held in
+          let read = reads w built.sources env' (Kept (all_below w.sites (source ∷ []) ++ ar.emitted)) held source (used_kept ar (source ∷ []) source (in_head source [])) in
+          then_found here later (run_arms arms w x env' at_start) (run_tree rest w env')
+          (match_runs binds (bind_order w.sites ar (source ∷ [])) source arms rest env env' x same bound (read ∙ e))
+          (first x env' e now) higher (next env' now)
+
+  equality_found : (ar : Around) (env : Env) → At w ar env → (binds : List ℕ) (a b : ℕ) (body rest : Tree) (here later : List ℕ) (r : SetRule) → Contains rules r → IsTrue (joins_in r.classes a b)
+      → binds ≡ bind_order w.sites ar (a ∷ (b ∷ [])) → IsTrue (available w.sites ar a) → Pure a → IsTrue (available w.sites ar b) → Pure b → NoneHigher rules here later
+      → ((env' : Env) → content w a ≡ content w b → At w (wider ar (a ∷ (b ∷ []))) env' → FoundHere here (run_tree body w env' at_start))
+      → ((value_at w [] a ≡ value_at w [] b → ⊥) → NoneHere here)
+      → ((env' : Env) → At w (wider ar (a ∷ (b ∷ []))) env' → FoundHere later (run_tree rest w env' at_start))
+      → FoundHere (here ++ later) (run_tree (step binds (equal_at a b body) rest) w env at_start)
+  equality_found ar env at binds a b body rest here later r known join same avail_a pure_a avail_b pure_b higher first other next =
+      let x = found_at w rules built served ar env at a avail_a pure_a in
+      let y = found_at w rules built served ar env at b avail_b pure_b in
+      let u = served.values r a b x.0 known join x.1 in
+      let v = served.values r b a y.0 known (joined_back r.classes a b join) y.1 in
+      let m = binds_here ar env at (a ∷ (b ∷ []))
+      (λ s c. elim (in_cases a s (b ∷ []) c) [ inl e ↦ subst (λ t. IsTrue (available w.sites ar t)) e avail_a | inr d ↦ subst (λ t. IsTrue (available w.sites ar t)) (in_alone b s d) avail_b ])
+      (λ s c. elim (in_cases a s (b ∷ []) c) [ inl e ↦ subst Pure e pure_a | inr d ↦ subst Pure (in_alone b s d) pure_b ]) in
+      by u.0 v.0 (x.1 ∙ ap Some u.1) (y.1 ∙ ap Some v.1) m.0 m.1 m.2
+    where
+      by : (u v : Value) → content w a ≡ Some (one u) → content w b ≡ Some (one v) → (env' : Env) → bind_all w env [] (bind_order w.sites ar (a ∷ (b ∷ []))) ≡ all_bound env' [] → Held w env' (Kept (all_below w.sites (a ∷ (b ∷ [])) ++ ar.emitted))
+          → FoundHere (here ++ later) (run_tree (step binds (equal_at a b body) rest) w env at_start)
+      by u v e f env' bound held =
+          let now = at_wider ar (a ∷ (b ∷ [])) env env' at (λ s c. elim (in_cases a s (b ∷ []) c) [ inl q ↦ subst Pure q pure_a | inr d ↦ subst Pure (in_alone b s d) pure_b ]) held in
+          let read_a = reads w built.sources env' (Kept (all_below w.sites (a ∷ (b ∷ [])) ++ ar.emitted)) held a (used_kept ar (a ∷ (b ∷ [])) a (in_head a (b ∷ []))) in
+          let read_b = reads w built.sources env' (Kept (all_below w.sites (a ∷ (b ∷ [])) ++ ar.emitted)) held b (used_kept ar (a ∷ (b ∷ [])) b (in_tail a b (b ∷ []) (in_head b []))) in
+          then_found here later (on_equal (Some u) (Some v) at_start (run_tree body w env' at_start)) (run_tree rest w env')
+          (equal_runs binds (bind_order w.sites ar (a ∷ (b ∷ []))) a b body rest env env' u v same bound (read_a ∙ e) (read_b ∙ f))
+          (equal_found u v (run_tree body w env' at_start) here (λ q. first env' (e ∙ ap (λ z. Some (one z)) q ∙ sym f) now)
+          (λ differ. other (λ q. differ (same_one u v (sym (ap (λ o. then_option o as_value) e) ∙ q ∙ ap (λ o. then_option o as_value) f)))))
+          higher (next env' now)
+
   fields_cases : (o : Option (List Content)) → ((cs : List Content) × (o ≡ Some cs)) ⊎ (o ≡ None)
   fields_cases None = inr refl
   fields_cases (Some cs) = inl (cs, refl)
@@ -220,48 +276,22 @@ module _ (w : World) (rules : List SetRule) (built : IsTestedSet (record { rules
     steps_run (m_step binds (m_match source arms) rest) ar env known sound at =
         let inside = sound.1 in
         let here = known_left (marks_arms arms) (marks rest) known in
-        let pure = asked_pure arms ar source None inside.1 here inside.2 in
-        let x = found_at w rules built served ar env at source (inside.0 refl) pure in
-        let b = binds_here ar env at (source ∷ []) (λ s c. subst (λ t. IsTrue (available w.sites ar t)) (in_alone source s c) (inside.0 refl)) (λ s c. subst (λ t. (u : ℕ) → Contains (below (suc t) w.sites t) u → IsPureAt w.sites u) (in_alone source s c) pure) in
-        let now = at_wider ar (source ∷ []) env b.0 at b.2 in
-        let read = reads w built.sources b.0 (Kept (all_below w.sites (source ∷ []) ++ ar.emitted)) b.2 source (used_kept ar (source ∷ []) source (in_head source [])) in
-        let path = match_runs binds (bind_order w.sites ar (source ∷ [])) source (plain_arms rules arms) (plain rules rest) env b.0 x.0 (sound.0 refl) b.1 (read ∙ x.1) in
-        subst (FoundHere (marks_arms arms ++ marks rest)) (sym path)
-        (next_found rules Holds (IsTaken w) (marks_arms arms) (marks rest) (run_arms (plain_arms rules arms) w x.0 b.0 at_start) (run_tree (plain rules rest) w b.0)
-        (λ i r get. taken_ends w single r (run_arms (plain_arms rules arms) w x.0 b.0 at_start) (run_tree (plain rules rest) w b.0))
-        (arms_run arms ar b.0 source None x.0 here inside.2 x.1 now)
-        sound.2
-        (steps_run rest (after_step set ar (m_match source arms)) b.0 (known_right (marks_arms arms) (marks rest) known) sound.3 (at_after_match ar source arms b.0 now)))
+        match_found ar env at binds source (plain_arms rules arms) (plain rules rest) (marks_arms arms) (marks rest) (sound.0 refl) (inside.0 refl) (asked_pure arms ar source None inside.1 here inside.2) sound.2
+        (λ x env' e now. arms_run arms ar env' source None x here inside.2 e now)
+        (λ env' now. steps_run rest (after_step set ar (m_match source arms)) env' (known_right (marks_arms arms) (marks rest) known) sound.3 (at_after_match ar source arms env' now))
     steps_run (m_step binds (m_equal a b body) rest) ar env known sound at =
         let inside = sound.1 in
         let here = known_left (marks body) (marks rest) known in
         let r = some_rule (marks body) inside.1 here in
         let rule = rule_at w rules built served r.0 r.1 r.3 in
-        let member = member_from_get rules r.0 r.1 r.3 in
         let join = inside.2 r.0 r.1 r.2 r.3 in
-        let pure_a = tested_pure w rules built served r.1 rule a (class_tested w rules built served r.1 a b join) in
-        let pure_b = tested_pure w rules built served r.1 rule b (class_tested w rules built served r.1 b a (joined_back r.1.classes a b join)) in
-        let x = found_at w rules built served ar env at a (inside.0 refl).0 pure_a in
-        let y = found_at w rules built served ar env at b (inside.0 refl).1 pure_b in
-        let u = served.values r.1 a b x.0 member join x.1 in
-        let v = served.values r.1 b a y.0 member (joined_back r.1.classes a b join) y.1 in
-        let at_a = x.1 ∙ ap Some u.1 in
-        let at_b = y.1 ∙ ap Some v.1 in
-        let m = binds_here ar env at (a ∷ (b ∷ []))
-        (λ s c. elim (in_cases a s (b ∷ []) c) [ inl e ↦ subst (λ t. IsTrue (available w.sites ar t)) e (inside.0 refl).0 | inr d ↦ subst (λ t. IsTrue (available w.sites ar t)) (in_alone b s d) (inside.0 refl).1 ])
-        (λ s c. elim (in_cases a s (b ∷ []) c) [ inl e ↦ subst (λ t. (z : ℕ) → Contains (below (suc t) w.sites t) z → IsPureAt w.sites z) e pure_a | inr d ↦ subst (λ t. (z : ℕ) → Contains (below (suc t) w.sites t) z → IsPureAt w.sites z) (in_alone b s d) pure_b ]) in
-        let now = at_wider ar (a ∷ (b ∷ [])) env m.0 at m.2 in
-        let read_a = reads w built.sources m.0 (Kept (all_below w.sites (a ∷ (b ∷ [])) ++ ar.emitted)) m.2 a (used_kept ar (a ∷ (b ∷ [])) a (in_head a (b ∷ []))) in
-        let read_b = reads w built.sources m.0 (Kept (all_below w.sites (a ∷ (b ∷ [])) ++ ar.emitted)) m.2 b (used_kept ar (a ∷ (b ∷ [])) b (in_tail a b (b ∷ []) (in_head b []))) in
-        let path = equal_runs binds (bind_order w.sites ar (a ∷ (b ∷ []))) a b (plain rules body) (plain rules rest) env m.0 u.0 v.0 (sound.0 refl) m.1 (read_a ∙ at_a) (read_b ∙ at_b) in
-        subst (FoundHere (marks body ++ marks rest)) (sym path)
-        (next_found rules Holds (IsTaken w) (marks body) (marks rest) (on_equal (Some u.0) (Some v.0) at_start (run_tree (plain rules body) w m.0 at_start)) (run_tree (plain rules rest) w m.0)
-        (λ i r get. taken_ends w single r (on_equal (Some u.0) (Some v.0) at_start (run_tree (plain rules body) w m.0 at_start)) (run_tree (plain rules rest) w m.0))
-        (equal_found u.0 v.0 (run_tree (plain rules body) w m.0 at_start) (marks body)
-        (λ same. steps_run body (in_equal set ar a b) m.0 here inside.3 (at_equal ar a b m.0 now (at_a ∙ ap (λ z. Some (one z)) same ∙ sym at_b)))
-        (λ differ j q k get holds. differ (same_one u.0 v.0 (sym (ap (λ o. then_option o as_value) at_a) ∙ demand_equal w q a b holds (inside.2 j q k get) ∙ ap (λ o. then_option o as_value) at_b))))
+        equality_found ar env at binds a b (plain rules body) (plain rules rest) (marks body) (marks rest) r.1 (member_from_get rules r.0 r.1 r.3) join (sound.0 refl)
+        (inside.0 refl).0 (tested_pure w rules built served r.1 rule a (class_tested w rules built served r.1 a b join))
+        (inside.0 refl).1 (tested_pure w rules built served r.1 rule b (class_tested w rules built served r.1 b a (joined_back r.1.classes a b join)))
         sound.2
-        (steps_run rest (after_step set ar (m_equal a b body)) m.0 (known_right (marks body) (marks rest) known) sound.3 (at_after_equal ar a b body m.0 now)))
+        (λ env' same now. steps_run body (in_equal set ar a b) env' here inside.3 (at_equal ar a b env' now same))
+        (λ differ j q k get holds. differ (demand_equal w q a b holds (inside.2 j q k get)))
+        (λ env' now. steps_run rest (after_step set ar (m_equal a b body)) env' (known_right (marks body) (marks rest) known) sound.3 (at_after_equal ar a b body env' now))
     steps_run (m_step binds (m_loop result body) rest) ar env known sound at =
         let inside = sound.1 in
         absurd (no_loop (marks body) inside.0.0 inside.1 (known_left (marks body) (marks rest) known) inside.0.2)
@@ -290,10 +320,12 @@ module _ (w : World) (rules : List SetRule) (built : IsTestedSet (record { rules
           | inl met ↦
               let member = member_from_get rules ask.0 ask.1 ask.2 in
               let passes : meets w.meaning c (content w s) ≡ true = ap (meets w.meaning c) e ∙ ap is_some met.1 in
-              let b = arm_binds ar s c fields met.0 env at sound.3 (fields_hold w built.sources s c x met.0 e met.1 (served.fields ask.1 s c x met.0 member ask.3 e met.1)) in
+              let hold = fields_hold w built.sources s c x met.0 e met.1 (served.fields ask.1 s c x met.0 member ask.3 e met.1) in
+              let b = arm_binds ar s c fields met.0 env at sound.3 hold in
+              let fine = subst (λ l. (t : ℕ) → Contains (field_sites l) t → IsPureAt w.sites t) (sym sound.3) (fields_pure w built.sources s (fields_of w.sites s c) met.0 hold) in
               subst (FoundHere (marks body ++ marks_arms rest)) (sym (arm_met s c fields (plain rules body) (plain_arms rules rest) x met.0 env b.0 met.1 b.1))
               (found_left rules Holds (IsTaken w) (marks body) (marks_arms rest) (run_tree (plain rules body) w b.0 at_start)
-              (steps_run body (in_arm set ar s c fields) b.0 here sound.4 (at_arm ar s c fields env b.0 at sound.3 passes b.2))
+              (steps_run body (in_arm set ar s c fields) b.0 here sound.4 (at_arm ar s c fields env b.0 at sound.3 passes fine b.2))
               (none_after rest ar s c ask.0 ask.1 ask.2 ask.3 passes sound.5))
           | inr unmet ↦
               subst (FoundHere (marks body ++ marks_arms rest)) (sym (arm_unmet c fields (plain rules body) (plain_arms rules rest) x env unmet))
@@ -316,6 +348,7 @@ module _ (w : World) (rules : List SetRule) (built : IsTestedSet (record { rules
           right = λ t c e. absurd (none-some c e);
           closed = λ t u k c. absurd (false≢true k);
         };
+        pure = λ s k. absurd (false≢true k);
         brought = λ s k. absurd (false≢true k);
         brings = λ s c x k l. absurd (nothing_in (s, c) k);
         tested = λ s c k. absurd (nothing_in (s, c) k);

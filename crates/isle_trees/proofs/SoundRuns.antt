@@ -2,16 +2,17 @@
 use Rattle.std.proofs.Common.{◌≡◌, ◌≢◌, ℕ, ◌<◌, true, false, List, [], ◌∷◌, ◌++◌, length, Option, Some, None, slice_get, IsTrue, Contains, All, is_some, refl, sym, ap, ◌∙◌, subst, inl, inr}
 use Rattle.std.proofs.lemmas.Bool.{false≢true}
 use Rattle.std.proofs.lemmas.Option.{slice_get_within, get_or_from_slice_get}
-use Rattle.std.proofs.lemmas.List.Elements.{Contains-append_left, Contains-append_right, Contains-append_cases, All-contains}
+use Rattle.std.proofs.lemmas.List.Elements.{Contains-append_left, Contains-append_right, All-contains}
 use Rattle.isle_model.specs.Values.{Value}
 use Rattle.isle_model.specs.Meaning.{one}
 use Rattle.isle_model.specs.Sites.{Site, Constraint, SetRule, SiteSet}
 use Rattle.isle_model.specs.Trees.{Tree, step, match_at, equal_at, arm, Marked, m_no_step, m_step, m_match, m_equal, m_loop, m_return, MarkedArms, m_no_arm, m_arm, marks, marks_arms, plain, plain_arms, return_of}
-use Rattle.isle_model.specs.Places.{Around, nothing_around, all_below, bind_order, return_uses, field_sites, constraint_at, in_arm, in_equal, after_step}
+use Rattle.isle_model.specs.Places.{Around, nothing_around, all_below, bind_order, return_uses, field_sites, in_arm, in_equal, after_step}
 use Rattle.isle_model.specs.Run.{World, Env, at_start, run_tree, run_arms, run, content_fields, on_met, bind_fields, with_env}
 use Rattle.isle_model.specs.Sound.{comes_before, AllAsk, AllJoin, AllGoOver, SoundSteps, SoundArms, ReturnsEach, IsSound}
 use Rattle.isle_model.specs.Runs.{MeetsDemands, IsChoiceOf, IsConstant, IsFlatRule, IsFlatSite, IsFlat, IsServed, SoundTreesRun}
-use Rattle.isle_trees.proofs.Order.{before_chain, before_itself}
+use Rattle.isle_trees.proofs.Order.{before_itself}
+use Rattle.isle_trees.proofs.Arms.{arms_after}
 use Rattle.isle_trees.proofs.Lists.{nothing_in, in_head, in_cases, some_member, member_from_get, get_from_member, get_within, member_counted, constraint_in}
 use Rattle.isle_trees.proofs.Flat.{IsFlatAt, AreFlat, content_at, ReadsAll, reads_all_at_start}
 use Rattle.isle_trees.proofs.Taking.{Fits, IsMet, Passed, TakenAs, NoneHoldsIn, FoundIn, constant_fields, constant_met, value_here, meets_at, equal_at_both, return_found, match_found, equal_found}
@@ -39,24 +40,11 @@ module _ (w : World) (rules : List SetRule) (fits : Fits w rules) where
   asked_at (m_arm c fields body rest) ar s before some known sound =
       (asker (marks body) s c sound.1 (λ i k. known i (Contains-append_left (marks body) (marks_arms rest) i k)) sound.2).4
 
-  -- the rules of later arms ask for later constraints
-  arms_after : (arms : MarkedArms) (ar : Around) (s : ℕ) (c : Constraint) → IsConstant c → Known (marks_arms arms) → SoundArms set false ar true s (Some c) arms
-      → (j : ℕ) (q : SetRule) → Contains (marks_arms arms) j → slice_get rules j ≡ Some q → (d : Constraint) × (constraint_at q.constraints s ≡ Some d) × IsTrue (comes_before c d)
-  arms_after m_no_arm ar s c const known sound j q k at = absurd (nothing_in j k)
-  arms_after (m_arm d fields body rest) ar s c const known sound j q k at =
-      let here = asker (marks body) s d sound.1 (λ i l. known i (Contains-append_left (marks body) (marks_arms rest) i l)) sound.2 in
-      elim (Contains-append_cases (marks body) (marks_arms rest) j k) [
-        | inl a ↦ (d, sound.2 j q a at, sound.0)
-        | inr b ↦
-            let later = arms_after rest ar s d here.5 (λ i l. known i (Contains-append_right (marks body) (marks_arms rest) i l)) sound.5 j q b at in
-            (later.0, later.1, before_chain c d later.0 sound.0 later.2)
-      ]
-
   -- where the value meets a constraint, no rule of a later arm has its demands hold
-  none_after : (arms : MarkedArms) (ar : Around) (s : ℕ) (c : Constraint) (v : Value) (i : ℕ) (r : SetRule) → slice_get rules i ≡ Some r → Contains r.constraints (s, c) → IsConstant c
-      → content_at w s ≡ Some (one v) → IsTrue (is_some (content_fields w.meaning c (one v))) → Known (marks_arms arms) → SoundArms set false ar true s (Some c) arms → NoneHoldsIn w rules (marks_arms arms)
-  none_after arms ar s c v i r get k const e met known sound j q l at meets =
-      let later = arms_after arms ar s c const known sound j q l at in
+  none_after : (arms : MarkedArms) (ar : Around) (s : ℕ) (c : Constraint) (v : Value) (i : ℕ) (r : SetRule) → slice_get rules i ≡ Some r → Contains r.constraints (s, c)
+      → content_at w s ≡ Some (one v) → IsTrue (is_some (content_fields w.meaning c (one v))) → SoundArms set false ar true s (Some c) arms → NoneHoldsIn w rules (marks_arms arms)
+  none_after arms ar s c v i r get k e met sound j q l at meets =
+      let later = arms_after set false arms ar true s c sound j q l at in
       let same = fits.apart i j r q s c later.0 v get at k (constraint_in q.constraints s later.0 later.1) met (meets_at w rules fits q s later.0 v later.1 meets e) in
       before_itself c (subst (λ d. IsTrue (comes_before c d)) (sym same) later.2)
 
@@ -153,7 +141,7 @@ module _ (w : World) (rules : List SetRule) (fits : Fits w rules) where
               subst (FoundIn w rules (marks body ++ marks_arms rest)) (sym (arm_met c fields (plain rules body) (plain_arms rules rest) v env met none))
               (found_left rules (MeetsDemands w) (TakenAs w) (marks body) (marks_arms rest) (run_tree (plain rules body) w env at_start)
               (steps_run body (in_arm set ar s c fields) env here sound.4 reads (passed_arm ar s c fields v e passes p))
-              (none_after rest ar s c v ask.0 ask.1 ask.2 ask.3 ask.5 e passes later sound.5))
+              (none_after rest ar s c v ask.0 ask.1 ask.2 ask.3 e passes sound.5))
           | inr unmet ↦
               subst (FoundIn w rules (marks body ++ marks_arms rest)) (sym (arm_unmet c fields (plain rules body) (plain_arms rules rest) v env unmet))
               (found_right rules (MeetsDemands w) (TakenAs w) (marks body) (marks_arms rest) (run_arms (plain_arms rules rest) w (one v) env at_start)

@@ -1,5 +1,5 @@
 -- Where a run of a sound tree stands: what it keeps on its path, and what a rule that returns there comes to.
-use Rattle.std.proofs.Common.{◌≡◌, ◌⊎◌, ℕ, zero, suc, ◌<◌, ◌≤◌, true, false, List, [], ◌++◌, map, length, Option, Some, None, is_some, slice_get, Contains, IsTrue, flat_map, refl, sym, ap, ◌∙◌, subst, inl, inr, arith}
+use Rattle.std.proofs.Common.{◌≡◌, ◌⊎◌, ℕ, zero, suc, ◌<◌, ◌≤◌, true, false, List, [], ◌∷◌, ◌++◌, map, length, Option, Some, None, is_some, slice_get, Contains, IsTrue, flat_map, refl, sym, ap, ◌∙◌, subst, inl, inr, arith}
 use Rattle.std.proofs.lemmas.Bool.{cases_Bool}
 use Rattle.std.proofs.lemmas.Option.{slice_get_within, get_or_from_slice_get}
 use Rattle.std.proofs.lemmas.List.Elements.{Contains-append_left, Contains-append_right, All-contains}
@@ -11,19 +11,20 @@ use Rattle.isle_model.specs.Places.{Around, is_in, joins_in, waits, available, b
 use Rattle.isle_model.specs.Run.{World, Env, used, Bound, all_bound, unwrap_failed, no_content_there, bind_all, Trace, at_start, with_bound, or_next, with_content, returned, run_tree, run_check}
 use Rattle.isle_model.specs.Sound.{IsTested}
 use Rattle.isle_model.specs.Collects.{meets, demands_hold}
-use Rattle.isle_model.specs.SetRuns.{tested_sites, IsPureAt, is_unwrap, IsTestedRule, IsTestedSet, ServesTests, IsReached, IsTaken}
-use Rattle.isle_trees.proofs.Lists.{nothing_in, in_head, in_tail, in_cases, get_within}
+use Rattle.isle_model.specs.SetRuns.{tested_sites, IsPureAt, IsUnwrap, IsTestedRule, IsTestedSet, ServesTests, IsReached, IsTaken}
+use Rattle.isle_trees.proofs.Lists.{nothing_in, in_head, in_tail, in_cases, in_alone, get_within}
 use Rattle.isle_trees.proofs.Members.{all_members, in_map, in_flat_map, from_flat_map, member_is_in}
 use Rattle.isle_trees.proofs.Classes.{SameAtPairs, joined_same}
-use Rattle.isle_trees.proofs.Binding.{content, content_of, Held, reads}
+use Rattle.isle_trees.proofs.Binding.{content, content_of, Held, kept_below, reads}
 use Rattle.isle_trees.proofs.BindOrders.{Finds, available_found}
 use Rattle.isle_trees.proofs.Fields.{gate_brought}
 use Rattle.isle_trees.proofs.Demanded.{joined_in, demands_from}
 use Rattle.isle_model.specs.Gates.{gate_demanded}
 
--- on the path to a place: what is emitted is kept, brought sites are among it, and the tests around have passed
+-- on the path to a place: what is emitted is kept and makes no impure call, brought sites are among it, and the tests around have passed
 pub record At (w : World) (ar : Around) (env : Env) : Type 0 where
   pub held : Held w env (λ t. IsTrue (is_in t ar.emitted))
+  pub pure : (s : ℕ) → IsTrue (is_in s ar.emitted) → IsPureAt w.sites s
   pub brought : (s : ℕ) → IsTrue (is_in s ar.brought) → IsTrue (is_in s ar.emitted)
   pub brings : (s : ℕ) (c : Constraint) (x : ℕ) → Contains ar.tested (s, c) → Contains (field_sites (fields_of w.sites s c)) x → Contains ar.brought x
   pub tested : (s : ℕ) (c : Constraint) → Contains ar.tested (s, c) → meets w.meaning c (content w s) ≡ true
@@ -102,6 +103,10 @@ module _ (w : World) (rules : List SetRule) (built : IsTestedSet (record { rules
     pub reached_at : IsReached w ar env
     reached_at = record {
       emitted = λ s i. let h = at.held.there s i in (ap is_some h.1, reads w built.sources env (λ t. IsTrue (is_in t ar.emitted)) at.held s i);
+      pure = λ s i. all_members (IsPureAt w.sites) (all_below w.sites (s ∷ []))
+          (λ u c.
+          let r = from_flat_map (λ x. below (suc x) w.sites x) (s ∷ []) u c in
+          at.pure u (kept_below w env (λ t. IsTrue (is_in t ar.emitted)) at.held (suc r.0) r.0 u (subst (λ x. IsTrue (is_in x ar.emitted)) (in_alone s r.0 r.1) i) r.2));
       bound = λ s c b. at.held.right s c b;
     }
 
@@ -149,10 +154,10 @@ module _ (w : World) (rules : List SetRule) (built : IsTestedSet (record { rules
           let k = below_within (suc m.0) m.0 s m.2 in
           omega arith
 
-      gates_here : (s : ℕ) → Contains (all_below w.sites (return_uses (Some r))) s → (waits (slice_get w.sites s) ≡ false) ⊎ (is_unwrap (slice_get w.sites s) ⊎ IsTrue (is_in s ar.emitted))
+      gates_here : (s : ℕ) → Contains (all_below w.sites (return_uses (Some r))) s → (waits (slice_get w.sites s) ≡ false) ⊎ (IsUnwrap (slice_get w.sites s) ⊎ IsTrue (is_in s ar.emitted))
       gates_here s c =
           let b = get_within w.sites s (result_site s c) in
-          let g = All-contains (λ x. IsTrue (gate_demanded r (slice_get w.sites x)) ⊎ is_unwrap (slice_get w.sites x)) (all_below w.sites (return_uses (Some r))) s rule.gates_of_result c in
+          let g = All-contains (λ x. IsTrue (gate_demanded r (slice_get w.sites x)) ⊎ IsUnwrap (slice_get w.sites x)) (all_below w.sites (return_uses (Some r))) s rule.gates_of_result c in
           elim (cases_Bool (waits (slice_get w.sites s))) [
             | inl t ↦ elim g [
               | inl d ↦ inr (inr (gate_kept s b.0 b.1 (sym (ap waits b.1) ∙ t) (sym (ap (gate_demanded r) b.1) ∙ d)))

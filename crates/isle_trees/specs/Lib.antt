@@ -1,2 +1,3 @@
 pub mod Fall
 pub mod Extract
+pub mod Impure

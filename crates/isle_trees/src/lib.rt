@@ -8,6 +8,7 @@ ghost use Rattle.isle_model.specs.SetRuns.{SoundTreesChoose};
 ghost use Rattle.isle_model.specs.Values.{Value, value_eq};
 ghost use Rattle.isle_trees.specs.Extract.{ExtractIsServed, ExtractIsSound, ExtractRuns};
 ghost use Rattle.isle_trees.specs.Fall.{ExchangedIsNotSound, FallIsServed, FallIsSound, FallRuns};
+ghost use Rattle.isle_trees.specs.Impure.{ImpureIsCalled};
 ghost use Rattle.std.specs.Prelude.{◌≡◌, Decides};
 
 /// The test of values is exact.
@@ -58,4 +59,9 @@ pub fn extract_is_served()
 /// Its tree is sound.
 pub fn extract_is_sound()
     ensures { ExtractIsSound }
+{}
+
+/// The rule of the sample with an impure call can be taken, and makes the call from whatever place it is taken.
+pub fn impure_is_called()
+    ensures { ImpureIsCalled }
 {}
