@@ -1,12 +1,13 @@
 -- Rules of sets that name the sites in the order in which they are demanded: what must be computed of them.
-use Rattle.std.proofs.Common.{◌≡◌, ℕ, zero, suc, ◌+◌, ◌<◌, ◌≤◌, Bool, true, false, ◌&&◌, nat_lt, List, [], ◌∷◌, length, map, Some, slice_get, All, Contains, IsTrue, refl, sym, ap, ◌∙◌, subst, arith, ltb-true}
+use Rattle.std.proofs.Common.{◌≡◌, ℕ, pos, zero, suc, ◌+◌, ◌<◌, ◌≤◌, Bool, true, false, ◌&&◌, nat_lt, List, [], ◌∷◌, length, map, Some, slice_get, All, Contains, IsTrue, refl, sym, ap, ◌∙◌, subst, inr, int_eq, arith, ltb-true}
 use Rattle.std.specs.List.{AllByRecursion, flat_map, list_all}
 use Rattle.std.proofs.lemmas.Bool.{and_parts, and_from, false≢true}
+use Rattle.std.proofs.lemmas.Bool.Decides.{Decides-int_eq}
 use Rattle.std.proofs.lemmas.Option.{none-some, same_Some}
 use Rattle.std.proofs.lemmas.List.Elements.{All-nil, All-from_recursion}
 use Rattle.isle_model.specs.Built.{numbers_from}
 use Rattle.isle_model.specs.Names.{IsDistinct}
-use Rattle.isle_model.specs.Program.{Program}
+use Rattle.isle_model.specs.Program.{Program, is_multi}
 use Rattle.isle_model.specs.Sites.{Site, Constraint, SetRule, SiteSet, SiteTerm, unfold_site}
 use Rattle.isle_model.specs.Closure.{Closed}
 use Rattle.isle_trees.proofs.Lists.{nothing_in, in_head, in_tail, member_from_get}
@@ -15,8 +16,10 @@ use Rattle.isle_best.proofs.WellBuilt.{set_passes, passes_well_built}
 use Rattle.isle_model.specs.Places.{all_below, is_in, joins_in}
 use Rattle.isle_model.specs.SetRuns.{tested_sites}
 use Rattle.isle_model.specs.Gates.{gate_demanded}
+use Rattle.isle_model.specs.WellBuilt.{HasOnePriority}
 use Rattle.isle_closure.proofs.Elements.{in_from_contains, contains_from_in, any_in, in_any}
-use Rattle.isle_statements.specs.RuleSets.{AsksFor, Equates, GoesOver, StandFor, ConstrainsOrEquates, DemandsItsGates, HasFacts}
+use Rattle.isle_statements.specs.RuleSets.{AsksFor, Equates, GoesOver, StandFor}
+use Rattle.isle_statements.specs.SetMeanings.{ConstrainsOrEquates, DemandsItsGates, DemandsGatesOfCall, CanBeServed}
 
 -- a rule's demands, calls and classes read back as sites
 abbrev pub unfolded_demand : List Site → ℕ × Constraint → SiteTerm × Constraint
@@ -108,21 +111,44 @@ apart_without_classes rules none =
     each_of ConstrainsOrEquates rules
     (λ r i s a c k l. false≢true (subst (λ cs. IsTrue (joins_in cs s a)) (apart_without r.classes (each_passes no_classes rules none r i)) l))
 
-pub has_facts : (p : Program) (t : ℕ) (set : SiteSet) → set_passes set ≡ true → All ConstrainsOrEquates set.rules
-    → list_all (λ (r : SetRule). gates_hold set.sites r (tested_sites r)) set.rules ≡ true → list_all (λ (r : SetRule). gates_hold set.sites r r.iterators) set.rules ≡ true
-    → HasFacts p t set
-has_facts p t set h apart tested calls = record {
+-- the rules have the priority of the number 0
+no_priorities : (rules : List SetRule) → list_all (λ (r : SetRule). int_eq r.prio (pos 0)) rules ≡ true → HasOnePriority rules
+no_priorities rules h i j r q e f =
+    let zero-at : (k : ℕ) (x : SetRule) → slice_get rules k ≡ Some x → x.prio ≡ pos 0 = λ k x g. (Decides-int_eq x.prio (pos 0)).0 (each_passes (λ (y : SetRule). int_eq y.prio (pos 0)) rules h x (member_from_get rules k x g)) in
+    zero-at i r e ∙ sym (zero-at j q f)
+
+-- the gates below each call that a rule goes over are demanded
+abbrev pub calls_hold : List Site → SetRule → Bool
+calls_hold sites r = list_all (λ s. gates_hold sites r (s ∷ [])) r.iterators
+
+served_by : (p : Program) (t : ℕ) (set : SiteSet) → set_passes set ≡ true → All ConstrainsOrEquates set.rules
+    → list_all (λ (r : SetRule). gates_hold set.sites r (tested_sites r)) set.rules ≡ true → list_all (calls_hold set.sites) set.rules ≡ true
+    → (is_multi p t ≡ true → HasOnePriority set.rules) → CanBeServed p t set
+served_by p t set h apart tested calls one = record {
   once = (passes_well_built set h).sites_once;
   sources = (passes_well_built set h).sources;
   apart = apart;
   gates = each_of (DemandsItsGates set.sites) set.rules (λ r i.
       each_of (λ s. IsTrue (gate_demanded r (slice_get set.sites s))) (all_below set.sites (tested_sites r))
       (each_passes (λ s. gate_demanded r (slice_get set.sites s)) (all_below set.sites (tested_sites r)) (each_passes (λ (q : SetRule). gates_hold set.sites q (tested_sites q)) set.rules tested r i)));
-  gates_of_calls = λ i b r e f n.
-      each_of (λ s. IsTrue (gate_demanded r (slice_get set.sites s))) (all_below set.sites r.iterators)
-      (each_passes (λ s. gate_demanded r (slice_get set.sites s)) (all_below set.sites r.iterators)
-      (each_passes (λ (q : SetRule). gates_hold set.sites q q.iterators) set.rules calls r (member_from_get set.rules i r f)));
+  gates_of_calls = λ b r o.
+      each_of (DemandsGatesOfCall p set.sites b r) r.iterators (λ s i.
+      inr
+      (each_of (λ u. IsTrue (gate_demanded r (slice_get set.sites u))) (all_below set.sites (s ∷ []))
+      (each_passes (λ u. gate_demanded r (slice_get set.sites u)) (all_below set.sites (s ∷ []))
+      (each_passes (λ u. gates_hold set.sites r (u ∷ [])) r.iterators (each_passes (calls_hold set.sites) set.rules calls r (member_from_get set.rules o.place r o.built)) s i))));
+  one_priority = one;
 }
+
+-- a set of a term that isn't multi can be served, and one of a multi term
+pub can_be_served : (p : Program) (t : ℕ) (set : SiteSet) → is_multi p t ≡ false → set_passes set ≡ true → All ConstrainsOrEquates set.rules
+    → list_all (λ (r : SetRule). gates_hold set.sites r (tested_sites r)) set.rules ≡ true → list_all (calls_hold set.sites) set.rules ≡ true → CanBeServed p t set
+can_be_served p t set m h apart tested calls = served_by p t set h apart tested calls (λ e. absurd (false≢true (sym m ∙ e)))
+
+pub multi_can_be_served : (p : Program) (t : ℕ) (set : SiteSet) → set_passes set ≡ true → All ConstrainsOrEquates set.rules
+    → list_all (λ (r : SetRule). gates_hold set.sites r (tested_sites r)) set.rules ≡ true → list_all (calls_hold set.sites) set.rules ≡ true
+    → list_all (λ (r : SetRule). int_eq r.prio (pos 0)) set.rules ≡ true → CanBeServed p t set
+multi_can_be_served p t set h apart tested calls none = served_by p t set h apart tested calls (λ e. no_priorities set.rules none)
 
 -- classes that name the sites in the order of the closed ones
 pub equates : (sites : List Site) (k : Closed) (classes : List (List ℕ)) → list_all (are_below (length sites)) classes ≡ true

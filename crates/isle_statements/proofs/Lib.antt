@@ -1,4 +1,5 @@
 pub mod Judged
+pub mod OwnTypes
 pub mod BuiltSamples
 pub mod ReadSamples
 pub mod AcceptedSamples

@@ -14,6 +14,7 @@ use Rattle.isle_elaboration.specs.Elaborated.{TypedRules, elaborated_rules}
 use Rattle.isle_statements.specs.Environments.{types_read, setting_of, IsRead}
 use Rattle.isle_statements.specs.SampleLists.{extract, extract_rules, partial, partial_rules, multi, multi_rules, overlap, overlap_rules, equal, equal_rules}
 use Rattle.isle_statements.specs.ReadSamples.{EqualIsRead, ExtractIsRead, PartialIsRead, MultiIsRead, OverlapIsRead, unbound, RefusedAreNotRead}
+use Rattle.isle_statements.proofs.OwnTypes.{own_types_are_readable_lem}
 
 extract_types : IsValidTypes extract
 extract_types = record {
@@ -52,6 +53,7 @@ extract_elaborates : (expand : Bool) → elaborated_rules (setting_of (types_rea
 extract_elaborates expand typed = record {
   types = extract_types;
   elaborated = record {
+    readable = own_types_are_readable_lem extract extract_types;
     terms = extract_terms;
     defined = All-from_recursion (IsDefined extract) (decl_trees extract) (refl, (refl, tt));
     elaborate = record { typed = typed; distinct = distinct_nil };
@@ -98,6 +100,7 @@ partial_elaborates : (expand : Bool) → elaborated_rules (setting_of (types_rea
 partial_elaborates expand typed = record {
   types = partial_types;
   elaborated = record {
+    readable = own_types_are_readable_lem partial partial_types;
     terms = partial_terms;
     defined = All-from_recursion (IsDefined partial) (decl_trees partial) (refl, (refl, tt));
     elaborate = record { typed = typed; distinct = distinct_nil };
@@ -144,6 +147,7 @@ multi_elaborates : (expand : Bool) → elaborated_rules (setting_of (types_read 
 multi_elaborates expand typed = record {
   types = multi_types;
   elaborated = record {
+    readable = own_types_are_readable_lem multi multi_types;
     terms = multi_terms;
     defined = All-from_recursion (IsDefined multi) (decl_trees multi) (refl, (refl, tt));
     elaborate = record { typed = typed; distinct = distinct_nil };
@@ -190,6 +194,7 @@ overlap_elaborates : (expand : Bool) → elaborated_rules (setting_of (types_rea
 overlap_elaborates expand typed = record {
   types = overlap_types;
   elaborated = record {
+    readable = own_types_are_readable_lem overlap overlap_types;
     terms = overlap_terms;
     defined = All-from_recursion (IsDefined overlap) (decl_trees overlap) (refl, tt);
     elaborate = record { typed = typed; distinct = distinct_nil };
@@ -236,6 +241,7 @@ equal_elaborates : (expand : Bool) → elaborated_rules (setting_of (types_read 
 equal_elaborates expand typed = record {
   types = equal_types;
   elaborated = record {
+    readable = own_types_are_readable_lem equal equal_types;
     terms = equal_terms;
     defined = All-from_recursion (IsDefined equal) (decl_trees equal) (refl, tt);
     elaborate = record { typed = typed; distinct = distinct_nil };

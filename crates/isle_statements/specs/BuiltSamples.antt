@@ -3,22 +3,23 @@ use Rattle.std.specs.Prelude.{pos, [], ◌∷◌, ◌++◌}
 use Rattle.isle_model.specs.Sites.{is_present, SiteSet}
 use Rattle.isle_best.specs.Samples as set
 use Rattle.isle_statements.specs.Layers.{own_program}
-use Rattle.isle_statements.specs.RuleSets.{IsBuilt, HasFacts}
+use Rattle.isle_statements.specs.RuleSets.{IsBuilt}
+use Rattle.isle_statements.specs.SetMeanings.{CanBeServed}
 use Rattle.isle_statements.specs.SampleLists.{extract, extract_rules, partial, partial_rules, multi, multi_rules, equal, equal_rules}
 
--- each sample's set is built of the rules of its term f, and has the facts of built sets
+-- each sample's set is built of the rules of its term f, and can be served
 abbrev pub ExtractIsBuilt : Type 0
-ExtractIsBuilt = IsBuilt (own_program extract extract_rules) 1 set.extract × HasFacts (own_program extract extract_rules) 1 set.extract
+ExtractIsBuilt = IsBuilt (own_program extract extract_rules) 1 set.extract × CanBeServed (own_program extract extract_rules) 1 set.extract
 
 abbrev pub PartialIsBuilt : Type 0
-PartialIsBuilt = IsBuilt (own_program partial partial_rules) 1 set.partial × HasFacts (own_program partial partial_rules) 1 set.partial
+PartialIsBuilt = IsBuilt (own_program partial partial_rules) 1 set.partial × CanBeServed (own_program partial partial_rules) 1 set.partial
 
 abbrev pub MultiIsBuilt : Type 0
-MultiIsBuilt = IsBuilt (own_program multi multi_rules) 1 set.multi × HasFacts (own_program multi multi_rules) 1 set.multi
+MultiIsBuilt = IsBuilt (own_program multi multi_rules) 1 set.multi × CanBeServed (own_program multi multi_rules) 1 set.multi
 
 -- so is the set of a rule that demands an equality
 abbrev pub EqualIsBuilt : Type 0
-EqualIsBuilt = IsBuilt (own_program equal equal_rules) 0 set.equal × HasFacts (own_program equal equal_rules) 0 set.equal
+EqualIsBuilt = IsBuilt (own_program equal equal_rules) 0 set.equal × CanBeServed (own_program equal equal_rules) 0 set.equal
 
 -- the set of the extractor's sample with a constraint left out
 abbrev pub less_asked : SiteSet

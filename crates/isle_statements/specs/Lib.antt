@@ -2,6 +2,7 @@ pub mod Environments
 pub mod RuleSets
 pub mod SetMeanings
 pub mod Layers
+pub mod OwnTypes
 pub mod SampleLists
 pub mod BuiltSamples
 pub mod ReadSamples

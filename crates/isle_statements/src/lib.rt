@@ -5,7 +5,13 @@
 
 ghost use Rattle.isle_statements.specs.AcceptedSamples.{OverlapIsNotAccepted, SamplesAreAccepted, ShadowIsNotCheckable};
 ghost use Rattle.isle_statements.specs.BuiltSamples.{EqualIsBuilt, ExtractIsBuilt, MultiIsBuilt, NearSetsAreNotBuilt, PartialIsBuilt};
+ghost use Rattle.isle_statements.specs.OwnTypes.{OwnTypesAreReadable};
 ghost use Rattle.isle_statements.specs.ReadSamples.{EqualIsRead, ExtractIsRead, MultiIsRead, OverlapIsRead, PartialIsRead, RefusedAreNotRead};
+
+/// Terms and rules can be read with the types of a list, if these are valid.
+pub fn own_types_are_readable()
+    ensures { OwnTypesAreReadable }
+{}
 
 /// Definitions with an extractor have these typed rules.
 pub fn extract_is_read()
