@@ -2,15 +2,14 @@
 use Rattle.std.proofs.Common.{◌≡◌, ℕ, ◌<◌, ◌≤◌, [], ◌∷◌, length, refl, ap, arith}
 use Rattle.std.proofs.lemmas.List.Elements.{All-nil, All-from_recursion}
 use Rattle.isle_model.specs.Sites.{Constraint, is_present, unfold_site}
-use Rattle.isle_tables.proofs.Lists.{distinct_nil, distinct_one, nothing_in, in_alone}
+use Rattle.isle_tables.proofs.Lists.{distinct_nil, distinct_one, in_alone}
 use Rattle.isle_best.specs.Samples as set
 use Rattle.isle_best.proofs.WellBuilt.{passes_well_built}
 use Rattle.isle_statements.specs.Layers.{own_program}
 use Rattle.isle_statements.specs.RuleSets.{IsBuilt}
-use Rattle.isle_statements.specs.SetMeanings.{ConstrainsOrEquates}
-use Rattle.isle_statements.specs.SampleLists.{extract, extract_rules, partial, partial_rules, multi, multi_rules, equal, equal_rules}
-use Rattle.isle_statements.specs.BuiltSamples.{ExtractIsBuilt, PartialIsBuilt, MultiIsBuilt, EqualIsBuilt, less_asked, NearSetsAreNotBuilt}
-use Rattle.isle_statements.proofs.Judged.{asks, equates_nothing, equates, goes_over, stand, two_apart, apart_without_classes, can_be_served, multi_can_be_served}
+use Rattle.isle_statements.specs.SampleLists.{extract, extract_rules, partial, partial_rules, multi, multi_rules, equal, equal_rules, variant_eq, variant_eq_rules}
+use Rattle.isle_statements.specs.BuiltSamples.{ExtractIsBuilt, PartialIsBuilt, MultiIsBuilt, EqualIsBuilt, VariantIsBuilt, less_asked, NearSetsAreNotBuilt}
+use Rattle.isle_statements.proofs.Judged.{asks, equates_nothing, equates, goes_over, stand, two_apart, can_be_served, multi_can_be_served}
 
 extract_built : IsBuilt (own_program extract extract_rules) 1 set.extract
 extract_built = record {
@@ -55,13 +54,13 @@ multi_built = record {
 }
 
 pub extract_is_built_lem : ExtractIsBuilt
-extract_is_built_lem = (extract_built, can_be_served (own_program extract extract_rules) 1 set.extract refl refl (apart_without_classes set.extract.rules refl) refl refl)
+extract_is_built_lem = (extract_built, can_be_served (own_program extract extract_rules) 1 set.extract refl refl refl)
 
 pub partial_is_built_lem : PartialIsBuilt
-partial_is_built_lem = (partial_built, can_be_served (own_program partial partial_rules) 1 set.partial refl refl (apart_without_classes set.partial.rules refl) refl refl)
+partial_is_built_lem = (partial_built, can_be_served (own_program partial partial_rules) 1 set.partial refl refl refl)
 
 pub multi_is_built_lem : MultiIsBuilt
-multi_is_built_lem = (multi_built, multi_can_be_served (own_program multi multi_rules) 1 set.multi refl (apart_without_classes set.multi.rules refl) refl refl refl)
+multi_is_built_lem = (multi_built, multi_can_be_served (own_program multi multi_rules) 1 set.multi refl refl refl)
 
 -- whether a constraint asks for an answer
 asks_answer : Constraint → ℕ
@@ -95,8 +94,18 @@ equal_built = record {
 }
 
 pub equal_is_built_lem : EqualIsBuilt
-equal_is_built_lem = (
-  equal_built,
-  can_be_served (own_program equal equal_rules) 0 set.equal refl refl
-      (All-from_recursion ConstrainsOrEquates set.equal.rules ((λ s a c k l. nothing_in (s, c) k), ((λ s a c k l. nothing_in (s, c) k), tt))) refl refl,
-)
+equal_is_built_lem = (equal_built, can_be_served (own_program equal equal_rules) 0 set.equal refl refl refl)
+
+variant_built : IsBuilt (own_program variant_eq variant_eq_rules) 0 set.variant_eq
+variant_built = record {
+  rules = (
+    record { id = refl; at = refl; prio = refl; name = refl; constraints = asks _ _ _ refl refl (two_apart 0 2 (omega arith)); classes = equates _ _ _ refl refl (two_apart 1 3 (omega arith)) (All-from_recursion (λ c. 2 ≤ length c) ((1 ∷ (3 ∷ [])) ∷ []) (omega arith, tt)); iterators = goes_over _ _ _ refl refl distinct_nil; impure = (All-nil _, refl); result = (omega arith, refl) },
+    tt,
+  );
+  sites = stand _ _ refl;
+  few = omega arith;
+  sources = (passes_well_built set.variant_eq refl).sources;
+}
+
+pub variant_is_built_lem : VariantIsBuilt
+variant_is_built_lem = (variant_built, can_be_served (own_program variant_eq variant_eq_rules) 0 set.variant_eq refl refl refl)

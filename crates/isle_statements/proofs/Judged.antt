@@ -1,5 +1,5 @@
 -- Rules of sets that name the sites in the order in which they are demanded: what must be computed of them.
-use Rattle.std.proofs.Common.{◌≡◌, ℕ, pos, zero, suc, ◌+◌, ◌<◌, ◌≤◌, Bool, true, false, ◌&&◌, nat_lt, List, [], ◌∷◌, length, map, Some, slice_get, All, Contains, IsTrue, refl, sym, ap, ◌∙◌, subst, inr, int_eq, arith, ltb-true}
+use Rattle.std.proofs.Common.{◌≡◌, ℕ, pos, zero, suc, ◌+◌, ◌<◌, ◌≤◌, Bool, true, false, not, ◌&&◌, nat_lt, List, [], ◌∷◌, length, map, Some, slice_get, All, Contains, IsTrue, refl, sym, ap, ◌∙◌, subst, inr, int_eq, arith, ltb-true}
 use Rattle.std.specs.List.{AllByRecursion, flat_map, list_all}
 use Rattle.std.proofs.lemmas.Bool.{and_parts, and_from, false≢true}
 use Rattle.std.proofs.lemmas.Bool.Decides.{Decides-int_eq}
@@ -13,7 +13,9 @@ use Rattle.isle_model.specs.Closure.{Closed}
 use Rattle.isle_trees.proofs.Lists.{nothing_in, in_head, in_tail, member_from_get}
 use Rattle.isle_best.proofs.Lists.{each_passes, in_map, from_map, member_found, member_is_in}
 use Rattle.isle_best.proofs.WellBuilt.{set_passes, passes_well_built}
-use Rattle.isle_model.specs.Places.{all_below, is_in, joins_in}
+use Rattle.isle_best.proofs.Exact.{not_exact}
+use Rattle.isle_best.proofs.Few.{members, joined_member}
+use Rattle.isle_model.specs.Places.{all_below, is_in}
 use Rattle.isle_model.specs.SetRuns.{tested_sites}
 use Rattle.isle_model.specs.Gates.{gate_demanded}
 use Rattle.isle_model.specs.WellBuilt.{HasOnePriority}
@@ -95,21 +97,21 @@ each_member P (x ∷ xs) h = (h x (in_head x xs), each_member P xs (λ y c. h y 
 pub each_of : {X : Type 0} (P : X → Type 0) (xs : List X) → ((x : X) → Contains xs x → P x) → All P xs
 each_of P xs h = All-from_recursion P xs (each_member P xs h)
 
--- a rule has no equalities, and demands the gates below its tested sites and below the calls that it goes over
-abbrev pub no_classes : SetRule → Bool
-no_classes r = elim r.classes [ [] ↦ true | c ∷ cs ↦ false ]
+-- a constrained site of a rule stands in no class of it
+abbrev pub keeps_apart : SetRule → Bool
+keeps_apart r = list_all (λ (d : ℕ × Constraint). not (is_in d.0 (members r.classes))) r.constraints
 
+kept_apart : (r : SetRule) → keeps_apart r ≡ true → ConstrainsOrEquates r
+kept_apart r h s a c k j =
+    let free = (not_exact (is_in s (members r.classes))).0 (each_passes (λ (d : ℕ × Constraint). not (is_in d.0 (members r.classes))) r.constraints h (s, c) k) in
+    false≢true (sym free ∙ member_is_in s (members r.classes) (joined_member r.classes s a j).0)
+
+-- a rule demands the gates below these sites
 abbrev pub gates_hold : List Site → SetRule → List ℕ → Bool
 gates_hold sites r ss = list_all (λ s. gate_demanded r (slice_get sites s)) (all_below sites ss)
 
-apart_without : (classes : List (List ℕ)) → elim classes as (λ _. Bool) [ [] ↦ true | c ∷ cs ↦ false ] ≡ true → classes ≡ []
-apart_without [] h = refl
-apart_without (c ∷ cs) h = absurd (false≢true h)
-
-pub apart_without_classes : (rules : List SetRule) → list_all no_classes rules ≡ true → All ConstrainsOrEquates rules
-apart_without_classes rules none =
-    each_of ConstrainsOrEquates rules
-    (λ r i s a c k l. false≢true (subst (λ cs. IsTrue (joins_in cs s a)) (apart_without r.classes (each_passes no_classes rules none r i)) l))
+demands_gates : (sites : List Site) (r : SetRule) (ss : List ℕ) → gates_hold sites r ss ≡ true → All (λ s. IsTrue (gate_demanded r (slice_get sites s))) (all_below sites ss)
+demands_gates sites r ss h = each_of (λ s. IsTrue (gate_demanded r (slice_get sites s))) (all_below sites ss) (each_passes (λ s. gate_demanded r (slice_get sites s)) (all_below sites ss) h)
 
 -- the rules have the priority of the number 0
 no_priorities : (rules : List SetRule) → list_all (λ (r : SetRule). int_eq r.prio (pos 0)) rules ≡ true → HasOnePriority rules
@@ -117,38 +119,41 @@ no_priorities rules h i j r q e f =
     let zero-at : (k : ℕ) (x : SetRule) → slice_get rules k ≡ Some x → x.prio ≡ pos 0 = λ k x g. (Decides-int_eq x.prio (pos 0)).0 (each_passes (λ (y : SetRule). int_eq y.prio (pos 0)) rules h x (member_from_get rules k x g)) in
     zero-at i r e ∙ sym (zero-at j q f)
 
--- the gates below each call that a rule goes over are demanded
-abbrev pub calls_hold : List Site → SetRule → Bool
-calls_hold sites r = list_all (λ s. gates_hold sites r (s ∷ [])) r.iterators
+-- what must hold of a rule: it keeps constrained sites from equated ones, and demands the gates below its tested sites
+-- and below each call that it goes over
+abbrev pub serves : List Site → SetRule → Bool
+serves sites r = keeps_apart r && gates_hold sites r (tested_sites r) && list_all (λ s. gates_hold sites r (s ∷ [])) r.iterators
 
-served_by : (p : Program) (t : ℕ) (set : SiteSet) → set_passes set ≡ true → All ConstrainsOrEquates set.rules
-    → list_all (λ (r : SetRule). gates_hold set.sites r (tested_sites r)) set.rules ≡ true → list_all (calls_hold set.sites) set.rules ≡ true
-    → (is_multi p t ≡ true → HasOnePriority set.rules) → CanBeServed p t set
-served_by p t set h apart tested calls one = record {
-  once = (passes_well_built set h).sites_once;
-  sources = (passes_well_built set h).sources;
-  apart = apart;
-  gates = each_of (DemandsItsGates set.sites) set.rules (λ r i.
-      each_of (λ s. IsTrue (gate_demanded r (slice_get set.sites s))) (all_below set.sites (tested_sites r))
-      (each_passes (λ s. gate_demanded r (slice_get set.sites s)) (all_below set.sites (tested_sites r)) (each_passes (λ (q : SetRule). gates_hold set.sites q (tested_sites q)) set.rules tested r i)));
-  gates_of_calls = λ b r o.
-      each_of (DemandsGatesOfCall p set.sites b r) r.iterators (λ s i.
-      inr
-      (each_of (λ u. IsTrue (gate_demanded r (slice_get set.sites u))) (all_below set.sites (s ∷ []))
-      (each_passes (λ u. gate_demanded r (slice_get set.sites u)) (all_below set.sites (s ∷ []))
-      (each_passes (λ u. gates_hold set.sites r (u ∷ [])) r.iterators (each_passes (calls_hold set.sites) set.rules calls r (member_from_get set.rules o.place r o.built)) s i))));
-  one_priority = one;
-}
+abbrev Serving : List Site → SetRule → Type 0
+Serving sites r = ((keeps_apart r ≡ true) × (gates_hold sites r (tested_sites r) ≡ true)) × (list_all (λ s. gates_hold sites r (s ∷ [])) r.iterators ≡ true)
+
+serving : (sites : List Site) (r : SetRule) → serves sites r ≡ true → Serving sites r
+serving sites r h =
+    let all = and_parts (keeps_apart r && gates_hold sites r (tested_sites r)) (list_all (λ s. gates_hold sites r (s ∷ [])) r.iterators) h in
+    (and_parts (keeps_apart r) (gates_hold sites r (tested_sites r)) all.0, all.1)
+
+served_by : (p : Program) (t : ℕ) (set : SiteSet) → set_passes set ≡ true → list_all (serves set.sites) set.rules ≡ true → (is_multi p t ≡ true → HasOnePriority set.rules) → CanBeServed p t set
+served_by p t set h each one =
+    let rule : (r : SetRule) → Contains set.rules r → Serving set.sites r = λ r i. serving set.sites r (each_passes (serves set.sites) set.rules each r i) in
+    record {
+      once = (passes_well_built set h).sites_once;
+      sources = (passes_well_built set h).sources;
+      apart = each_of ConstrainsOrEquates set.rules (λ r i. kept_apart r (rule r i).0.0);
+      gates = each_of (DemandsItsGates set.sites) set.rules (λ r i. demands_gates set.sites r (tested_sites r) (rule r i).0.1);
+      gates_of_calls = λ b r o.
+          each_of (DemandsGatesOfCall p set.sites b r) r.iterators (λ s i.
+          inr (demands_gates set.sites r (s ∷ [])
+          (each_passes (λ u. gates_hold set.sites r (u ∷ [])) r.iterators (rule r (member_from_get set.rules o.place r o.built)).1 s i)));
+      one_priority = one;
+    }
 
 -- a set of a term that isn't multi can be served, and one of a multi term
-pub can_be_served : (p : Program) (t : ℕ) (set : SiteSet) → is_multi p t ≡ false → set_passes set ≡ true → All ConstrainsOrEquates set.rules
-    → list_all (λ (r : SetRule). gates_hold set.sites r (tested_sites r)) set.rules ≡ true → list_all (calls_hold set.sites) set.rules ≡ true → CanBeServed p t set
-can_be_served p t set m h apart tested calls = served_by p t set h apart tested calls (λ e. absurd (false≢true (sym m ∙ e)))
+pub can_be_served : (p : Program) (t : ℕ) (set : SiteSet) → is_multi p t ≡ false → set_passes set ≡ true → list_all (serves set.sites) set.rules ≡ true → CanBeServed p t set
+can_be_served p t set m h each = served_by p t set h each (λ e. absurd (false≢true (sym m ∙ e)))
 
-pub multi_can_be_served : (p : Program) (t : ℕ) (set : SiteSet) → set_passes set ≡ true → All ConstrainsOrEquates set.rules
-    → list_all (λ (r : SetRule). gates_hold set.sites r (tested_sites r)) set.rules ≡ true → list_all (calls_hold set.sites) set.rules ≡ true
+pub multi_can_be_served : (p : Program) (t : ℕ) (set : SiteSet) → set_passes set ≡ true → list_all (serves set.sites) set.rules ≡ true
     → list_all (λ (r : SetRule). int_eq r.prio (pos 0)) set.rules ≡ true → CanBeServed p t set
-multi_can_be_served p t set h apart tested calls none = served_by p t set h apart tested calls (λ e. no_priorities set.rules none)
+multi_can_be_served p t set h each none = served_by p t set h each (λ e. no_priorities set.rules none)
 
 -- classes that name the sites in the order of the closed ones
 pub equates : (sites : List Site) (k : Closed) (classes : List (List ℕ)) → list_all (are_below (length sites)) classes ≡ true

@@ -1,10 +1,11 @@
 -- The samples' lists are valid, and their rules elaborate.
 use Rattle.std.proofs.Common.{◌≡◌, Bool, true, false, [], ◌∷◌, Some, codes, refl, arith}
+use Rattle.std.proofs.lemmas.Bool.{false≢true}
 use Rattle.std.proofs.lemmas.Option.{none-some}
 use Rattle.std.proofs.lemmas.List.Elements.{All-nil, All-from_recursion}
-use Rattle.isle_model.specs.TypeTable.{builtin_names}
+use Rattle.isle_model.specs.TypeTable.{builtin_names, type_trees}
 use Rattle.isle_model.specs.TermTable.{decl_trees, rule_trees}
-use Rattle.isle_tables.specs.TypeTables.{all_type_names, IsKnownType, IsUnmarkedIfPrimitive, HasAtMostOneMark, HasDistinctVariants, HasDistinctFields, HasKnownTypes, IsOfKnownType, IsValidTypes}
+use Rattle.isle_tables.specs.TypeTables.{all_type_names, field_lists, IsKnownType, IsUnmarkedIfPrimitive, HasAtMostOneMark, HasDistinctVariants, HasDistinctFields, HasKnownTypes, IsOfKnownType, IsValidTypes}
 use Rattle.isle_tables.specs.KnownTypes.{types_of}
 use Rattle.isle_tables.specs.TermTables.{constructor_trees, external_trees, term_names, term_names_met, IsDeclaredTerm, HasKnownArguments, HasKnownResult, IsNotBothMultiAndPartial, HasDeclaredRoot, IsWithoutRules, IsOfPlainTerm, NamesKnownTerms, HoldsNoMacroArg, UsesDeclaredArguments, IsKnownConverter, IsValidTerms, IsDefined}
 use Rattle.isle_tables.specs.Written.{name}
@@ -12,8 +13,8 @@ use Rattle.isle_tables.proofs.Acyclic.{plain_acyclic}
 use Rattle.isle_tables.proofs.Lists.{distinct_if, distinct_nil, distinct_one}
 use Rattle.isle_elaboration.specs.Elaborated.{TypedRules, elaborated_rules}
 use Rattle.isle_statements.specs.Environments.{types_read, setting_of, IsRead}
-use Rattle.isle_statements.specs.SampleLists.{extract, extract_rules, partial, partial_rules, multi, multi_rules, overlap, overlap_rules, equal, equal_rules}
-use Rattle.isle_statements.specs.ReadSamples.{EqualIsRead, ExtractIsRead, PartialIsRead, MultiIsRead, OverlapIsRead, unbound, RefusedAreNotRead}
+use Rattle.isle_statements.specs.SampleLists.{extract, extract_rules, partial, partial_rules, multi, multi_rules, overlap, overlap_rules, equal, equal_rules, variant_eq, variant_eq_rules}
+use Rattle.isle_statements.specs.ReadSamples.{EqualIsRead, ExtractIsRead, PartialIsRead, MultiIsRead, OverlapIsRead, VariantIsRead, unbound, RefusedAreNotRead}
 use Rattle.isle_statements.proofs.OwnTypes.{own_types_are_readable_lem}
 
 extract_types : IsValidTypes extract
@@ -250,6 +251,53 @@ equal_elaborates expand typed = record {
 
 pub equal_is_read_lem : EqualIsRead
 equal_is_read_lem = (equal_elaborates true refl, equal_elaborates false refl)
+
+variant_types : IsValidTypes variant_eq
+variant_types = record {
+  distinct = distinct_if (all_type_names variant_eq) refl;
+  primitives = All-from_recursion IsUnmarkedIfPrimitive (type_trees variant_eq) ((λ n. absurd (false≢true n)), tt);
+  marks = All-from_recursion HasAtMostOneMark (type_trees variant_eq) (refl, tt);
+  variants = All-from_recursion HasDistinctVariants (type_trees variant_eq) (distinct_one (codes "A"), tt);
+  fields = All-from_recursion HasDistinctFields (field_lists variant_eq) (distinct_one (codes "v"), tt);
+  types_of_fields = All-from_recursion (HasKnownTypes variant_eq) (field_lists variant_eq) (All-from_recursion (IsKnownType (all_type_names variant_eq)) (name 0 (codes "u8") ∷ []) (refl, tt), tt);
+  types_of_constants = All-nil (IsOfKnownType variant_eq);
+}
+
+variant_terms : IsValidTerms (types_of variant_eq) variant_eq
+variant_terms = record {
+  distinct = distinct_if (term_names (types_of variant_eq) variant_eq) refl;
+  types_of_arguments = All-from_recursion (HasKnownArguments (types_of variant_eq)) (decl_trees variant_eq) (All-from_recursion (IsKnownType (all_type_names variant_eq)) (name 1 (codes "T") ∷ (name 1 (codes "T") ∷ [])) (refl, (refl, tt)), tt);
+  types_of_results = All-from_recursion (HasKnownResult (types_of variant_eq)) (decl_trees variant_eq) (refl, tt);
+  marks = All-from_recursion IsNotBothMultiAndPartial (decl_trees variant_eq) (refl, tt);
+  roots = All-from_recursion (HasDeclaredRoot variant_eq) (rule_trees variant_eq) (refl, tt);
+  terms_of_extractors = All-nil (λ e. IsDeclaredTerm variant_eq e.term);
+  terms_of_externals = All-nil (λ e. IsDeclaredTerm variant_eq e.term);
+  terms_of_constructors = All-nil (λ c. IsDeclaredTerm variant_eq c.term);
+  rules_or_function = All-nil (IsWithoutRules variant_eq);
+  one_constructor = distinct_nil;
+  one_extractor = distinct_nil;
+  plain_terms = All-nil (IsOfPlainTerm variant_eq);
+  known_terms = All-nil (NamesKnownTerms (types_of variant_eq) variant_eq);
+  no_macro_args = All-nil HoldsNoMacroArg;
+  declared_arguments = All-nil (UsesDeclaredArguments variant_eq);
+  acyclic = plain_acyclic variant_eq refl;
+  known_converters = All-nil (IsKnownConverter (types_of variant_eq) variant_eq);
+  one_converter = distinct_nil;
+}
+
+variant_elaborates : (expand : Bool) → elaborated_rules (setting_of (types_read variant_eq) variant_eq expand) (rule_trees variant_eq) (term_names_met (types_of variant_eq) variant_eq) ≡ Some variant_eq_rules → IsRead variant_eq expand variant_eq_rules
+variant_elaborates expand typed = record {
+  types = variant_types;
+  elaborated = record {
+    readable = own_types_are_readable_lem variant_eq variant_types;
+    terms = variant_terms;
+    defined = All-from_recursion (IsDefined variant_eq) (decl_trees variant_eq) (refl, tt);
+    elaborate = record { typed = typed; distinct = distinct_one 17 };
+  };
+}
+
+pub variant_is_read_lem : VariantIsRead
+variant_is_read_lem = (variant_elaborates true refl, variant_elaborates false refl)
 
 unbound_refused : (expand : Bool) (rules : TypedRules) → IsRead unbound expand rules → ⊥
 unbound_refused true rules r = none-some rules r.elaborated.elaborate.typed

@@ -5,9 +5,9 @@ use Rattle.isle_best.specs.Samples as set
 use Rattle.isle_statements.specs.Layers.{own_program}
 use Rattle.isle_statements.specs.RuleSets.{IsBuilt}
 use Rattle.isle_statements.specs.SetMeanings.{CanBeServed}
-use Rattle.isle_statements.specs.SampleLists.{extract, extract_rules, partial, partial_rules, multi, multi_rules, equal, equal_rules}
+use Rattle.isle_statements.specs.SampleLists.{extract, extract_rules, partial, partial_rules, multi, multi_rules, equal, equal_rules, variant_eq, variant_eq_rules}
 
--- each sample's set is built of the rules of its term f, and can be served
+-- each sample's set is built of the rules of its term, and can be served
 abbrev pub ExtractIsBuilt : Type 0
 ExtractIsBuilt = IsBuilt (own_program extract extract_rules) 1 set.extract × CanBeServed (own_program extract extract_rules) 1 set.extract
 
@@ -20,6 +20,10 @@ MultiIsBuilt = IsBuilt (own_program multi multi_rules) 1 set.multi × CanBeServe
 -- so is the set of a rule that demands an equality
 abbrev pub EqualIsBuilt : Type 0
 EqualIsBuilt = IsBuilt (own_program equal equal_rules) 0 set.equal × CanBeServed (own_program equal equal_rules) 0 set.equal
+
+-- and that of a rule that matches a variant, where what stands in its fields must be equal
+abbrev pub VariantIsBuilt : Type 0
+VariantIsBuilt = IsBuilt (own_program variant_eq variant_eq_rules) 0 set.variant_eq × CanBeServed (own_program variant_eq variant_eq_rules) 0 set.variant_eq
 
 -- the set of the extractor's sample with a constraint left out
 abbrev pub less_asked : SiteSet

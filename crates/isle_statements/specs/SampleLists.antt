@@ -1,10 +1,10 @@
 -- Lists of definitions and what their rules become: with an extractor, an impure call, a multi call, a wrong overlap, an
--- equality. Every place inside definition d is offset d of the first file.
+-- equality, a variant. Every place inside definition d is offset d of the first file.
 use Rattle.std.specs.Prelude.{ℕ, ℤ, pos, true, List, [], ◌∷◌, ◌++◌, Option, Some, None, codes}
-use Rattle.isle_model.specs.Syntax.{PatternTree, int_pattern, ExprTree, var_expr, int_expr, term_expr, no_expr, expr_and, Definition, declaration, rule_definition}
+use Rattle.isle_model.specs.Syntax.{PatternTree, bind_pattern, int_pattern, ExprTree, var_expr, int_expr, term_expr, no_expr, expr_and, Definition, type_definition, declaration, rule_definition}
 use Rattle.isle_model.specs.TypeTable.{builtin_names}
 use Rattle.isle_model.specs.Typed.{TypedRule}
-use Rattle.isle_tables.specs.Written.{at, name, declared, term, constructor_by, extractor_by}
+use Rattle.isle_tables.specs.Written.{at, name, field, variant, enum, declared, term, constructor_by, extractor_by}
 use Rattle.isle_tables.specs.WorkedTerms.{numbers, var, any}
 use Rattle.isle_elaboration.specs.Elaborated.{TypedRules}
 use Rattle.isle_closure.specs.Samples as typed
@@ -88,3 +88,23 @@ shadow =
 
 abbrev pub shadow_rules : TypedRules
 shadow_rules = rules_and_names (typed.shadow_any (pos 1) ∷ (typed.shadow_one ∷ [])) (codes "f" ∷ (codes "x" ∷ []))
+
+-- (type T (enum (A (v u8)))), (decl g (T T) T), (rule (g x @ (T.A _) x) x): a variant, whose fields must be equal. The only
+-- rule of a term has the term's name
+abbrev pub variant_eq : List Definition
+variant_eq =
+    type_definition (enum 0 (codes "T") (variant 0 (codes "A") (field 0 (codes "v") (codes "u8") ∷ []) ∷ []))
+    ∷ (declared 1 (codes "g") (codes "T" ∷ (codes "T" ∷ [])) (codes "T")
+    ∷ (rule_definition (record {
+      pattern = term 2 (codes "g") (bind_pattern (name 2 (codes "x")) (term 2 (codes "T.A") (any 2 ∷ [])) (at 2) ∷ (var 2 (codes "x") ∷ []));
+      iflets = [];
+      expr = variable 2 (codes "x");
+      at = at 2;
+      prio = None;
+      name = None;
+    }) ∷ []))
+
+abbrev pub variant_eq_rules : TypedRules
+variant_eq_rules =
+    rules_and_names (record typed.variant_eq_rule { name = Some 17 } ∷ [])
+    (codes "T" ∷ (codes "T.A" ∷ (codes "A" ∷ (codes "v" ∷ (codes "g" ∷ (codes "x" ∷ []))))))
