@@ -17,9 +17,9 @@ use Rattle.isle_closure.specs.Samples as typed
 use Rattle.isle_elaboration.specs.Elaborated.{TypedRules}
 use Rattle.isle_statements.specs.Environments.{IsRead}
 use Rattle.isle_statements.specs.Layers.{own_program, IsCheckable}
-use Rattle.isle_statements.specs.SampleLists.{extract, extract_rules, partial, partial_rules, multi, multi_rules, overlap, overlap_rules, equal, equal_rules, variant_eq, variant_eq_rules, shadow, shadow_rules}
+use Rattle.isle_statements.specs.SampleLists.{extract, extract_rules, partial, partial_rules, multi, multi_rules, overlap, overlap_rules, equal, equal_rules, variant_eq, variant_eq_rules, unused, unused_rules, shadow, shadow_rules}
 use Rattle.isle_statements.specs.AcceptedSamples.{SamplesAreAccepted, OverlapIsNotAccepted, ShadowIsNotCheckable}
-use Rattle.isle_statements.proofs.ReadSamples.{extract_is_read_lem, partial_is_read_lem, multi_is_read_lem, equal_is_read_lem, variant_is_read_lem}
+use Rattle.isle_statements.proofs.ReadSamples.{extract_is_read_lem, partial_is_read_lem, multi_is_read_lem, equal_is_read_lem, variant_is_read_lem, unused_is_read_lem}
 
 keeps_none : {X : Type 0} (f : X → Bool) (xs : List X) → ((x : X) → Contains xs x → f x ≡ false) → filter f xs ≡ []
 keeps_none f [] h = refl
@@ -101,6 +101,7 @@ samples_are_accepted_lem = (
   record { read = multi_is_read_lem.0; checkable = checkable_multi (own_program multi multi_rules) 1 refl refl refl },
   record { read = equal_is_read_lem.0; checkable = checkable (own_program equal equal_rules) 0 refl refl refl refl },
   record { read = variant_is_read_lem.0; checkable = checkable (own_program variant_eq variant_eq_rules) 0 refl refl refl refl },
+  record { read = unused_is_read_lem.0; checkable = checkable_multi (own_program unused unused_rules) 2 refl refl refl },
 )
 
 not_checkable : IsCheckable (own_program overlap overlap_rules) → ⊥

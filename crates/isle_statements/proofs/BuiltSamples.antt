@@ -7,9 +7,9 @@ use Rattle.isle_best.specs.Samples as set
 use Rattle.isle_best.proofs.WellBuilt.{passes_well_built}
 use Rattle.isle_statements.specs.Layers.{own_program}
 use Rattle.isle_statements.specs.RuleSets.{IsBuilt}
-use Rattle.isle_statements.specs.SampleLists.{extract, extract_rules, partial, partial_rules, multi, multi_rules, equal, equal_rules, variant_eq, variant_eq_rules}
-use Rattle.isle_statements.specs.BuiltSamples.{ExtractIsBuilt, PartialIsBuilt, MultiIsBuilt, EqualIsBuilt, VariantIsBuilt, less_asked, NearSetsAreNotBuilt}
-use Rattle.isle_statements.proofs.Judged.{asks, equates_nothing, equates, goes_over, stand, two_apart, can_be_served, multi_can_be_served}
+use Rattle.isle_statements.specs.SampleLists.{extract, extract_rules, partial, partial_rules, multi, multi_rules, equal, equal_rules, variant_eq, variant_eq_rules, unused, unused_rules}
+use Rattle.isle_statements.specs.BuiltSamples.{ExtractIsBuilt, PartialIsBuilt, MultiIsBuilt, EqualIsBuilt, VariantIsBuilt, unused_set, UnusedIsBuilt, less_asked, NearSetsAreNotBuilt}
+use Rattle.isle_statements.proofs.Judged.{asks, equates_nothing, equates, goes_over, stand, two_apart, only_sites, can_be_served, multi_can_be_served}
 
 extract_built : IsBuilt (own_program extract extract_rules) 1 set.extract
 extract_built = record {
@@ -54,13 +54,13 @@ multi_built = record {
 }
 
 pub extract_is_built_lem : ExtractIsBuilt
-extract_is_built_lem = (extract_built, can_be_served (own_program extract extract_rules) 1 set.extract refl refl refl)
+extract_is_built_lem = (extract_built, can_be_served (own_program extract extract_rules) 1 set.extract refl refl refl refl)
 
 pub partial_is_built_lem : PartialIsBuilt
-partial_is_built_lem = (partial_built, can_be_served (own_program partial partial_rules) 1 set.partial refl refl refl)
+partial_is_built_lem = (partial_built, can_be_served (own_program partial partial_rules) 1 set.partial refl refl refl refl)
 
 pub multi_is_built_lem : MultiIsBuilt
-multi_is_built_lem = (multi_built, multi_can_be_served (own_program multi multi_rules) 1 set.multi refl refl refl)
+multi_is_built_lem = (multi_built, multi_can_be_served (own_program multi multi_rules) 1 set.multi refl refl refl refl)
 
 -- whether a constraint asks for an answer
 asks_answer : Constraint → ℕ
@@ -94,7 +94,7 @@ equal_built = record {
 }
 
 pub equal_is_built_lem : EqualIsBuilt
-equal_is_built_lem = (equal_built, can_be_served (own_program equal equal_rules) 0 set.equal refl refl refl)
+equal_is_built_lem = (equal_built, can_be_served (own_program equal equal_rules) 0 set.equal refl refl refl refl)
 
 variant_built : IsBuilt (own_program variant_eq variant_eq_rules) 0 set.variant_eq
 variant_built = record {
@@ -108,4 +108,18 @@ variant_built = record {
 }
 
 pub variant_is_built_lem : VariantIsBuilt
-variant_is_built_lem = (variant_built, can_be_served (own_program variant_eq variant_eq_rules) 0 set.variant_eq refl refl refl)
+variant_is_built_lem = (variant_built, can_be_served (own_program variant_eq variant_eq_rules) 0 set.variant_eq refl refl refl refl)
+
+unused_built : IsBuilt (own_program unused unused_rules) 2 unused_set
+unused_built = record {
+  rules = (
+    record { id = refl; at = refl; prio = refl; name = refl; constraints = asks _ _ _ refl refl distinct_nil; classes = equates_nothing _ _ refl; iterators = goes_over _ _ _ refl refl (distinct_one 3); impure = (All-nil _, refl); result = (omega arith, refl) },
+    tt,
+  );
+  sites = stand _ _ refl;
+  few = omega arith;
+  sources = (passes_well_built (only_sites unused_set) refl).sources;
+}
+
+pub unused_is_built_lem : UnusedIsBuilt
+unused_is_built_lem = (unused_built, multi_can_be_served (own_program unused unused_rules) 2 unused_set refl refl refl refl, refl)

@@ -1,7 +1,7 @@
 -- Rules of sets that name the sites in the order in which they are demanded: what must be computed of them.
-use Rattle.std.proofs.Common.{◌≡◌, ℕ, pos, zero, suc, ◌+◌, ◌<◌, ◌≤◌, Bool, true, false, not, ◌&&◌, nat_lt, List, [], ◌∷◌, length, map, Some, slice_get, All, Contains, IsTrue, refl, sym, ap, ◌∙◌, subst, inr, int_eq, arith, ltb-true}
+use Rattle.std.proofs.Common.{◌≡◌, ℕ, pos, zero, suc, ◌+◌, ◌<◌, ◌≤◌, Bool, true, false, not, ◌&&◌, ◌||◌, nat_lt, List, [], ◌∷◌, length, map, Some, slice_get, All, Contains, IsTrue, refl, sym, ap, ◌∙◌, subst, inl, inr, int_eq, arith, ltb-true}
 use Rattle.std.specs.List.{AllByRecursion, flat_map, list_all}
-use Rattle.std.proofs.lemmas.Bool.{and_parts, and_from, false≢true}
+use Rattle.std.proofs.lemmas.Bool.{and_parts, and_from, or_cases, false≢true}
 use Rattle.std.proofs.lemmas.Bool.Decides.{Decides-int_eq}
 use Rattle.std.proofs.lemmas.Option.{none-some, same_Some}
 use Rattle.std.proofs.lemmas.List.Elements.{All-nil, All-from_recursion}
@@ -9,7 +9,9 @@ use Rattle.isle_model.specs.Built.{numbers_from}
 use Rattle.isle_model.specs.Names.{IsDistinct}
 use Rattle.isle_model.specs.Program.{Program, is_multi}
 use Rattle.isle_model.specs.Sites.{Site, Constraint, SetRule, SiteSet, SiteTerm, unfold_site}
+use Rattle.isle_model.specs.Demands.{has_site}
 use Rattle.isle_model.specs.Closure.{Closed}
+use Rattle.isle_model.specs.Overlap.{BuiltRule, built_rules}
 use Rattle.isle_trees.proofs.Lists.{nothing_in, in_head, in_tail, member_from_get}
 use Rattle.isle_best.proofs.Lists.{each_passes, in_map, from_map, member_found, member_is_in}
 use Rattle.isle_best.proofs.WellBuilt.{set_passes, passes_well_built}
@@ -19,9 +21,10 @@ use Rattle.isle_model.specs.Places.{all_below, is_in}
 use Rattle.isle_model.specs.SetRuns.{tested_sites}
 use Rattle.isle_model.specs.Gates.{gate_demanded}
 use Rattle.isle_model.specs.WellBuilt.{HasOnePriority}
+use Rattle.isle_closure.proofs.Classes.{has_in}
 use Rattle.isle_closure.proofs.Elements.{in_from_contains, contains_from_in, any_in, in_any}
 use Rattle.isle_statements.specs.RuleSets.{AsksFor, Equates, GoesOver, StandFor}
-use Rattle.isle_statements.specs.SetMeanings.{ConstrainsOrEquates, DemandsItsGates, DemandsGatesOfCall, CanBeServed}
+use Rattle.isle_statements.specs.SetMeanings.{ConstrainsOrEquates, DemandsItsGates, calls_left_by, DemandsGatesOfCall, CanBeServed}
 
 -- a rule's demands, calls and classes read back as sites
 abbrev pub unfolded_demand : List Site → ℕ × Constraint → SiteTerm × Constraint
@@ -120,40 +123,67 @@ no_priorities rules h i j r q e f =
     zero-at i r e ∙ sym (zero-at j q f)
 
 -- what must hold of a rule: it keeps constrained sites from equated ones, and demands the gates below its tested sites
--- and below each call that it goes over
 abbrev pub serves : List Site → SetRule → Bool
-serves sites r = keeps_apart r && gates_hold sites r (tested_sites r) && list_all (λ s. gates_hold sites r (s ∷ [])) r.iterators
+serves sites r = keeps_apart r && gates_hold sites r (tested_sites r)
 
-abbrev Serving : List Site → SetRule → Type 0
-Serving sites r = ((keeps_apart r ≡ true) × (gates_hold sites r (tested_sites r) ≡ true)) × (list_all (λ s. gates_hold sites r (s ∷ [])) r.iterators ≡ true)
+serving : (sites : List Site) (r : SetRule) → serves sites r ≡ true → (keeps_apart r ≡ true) × (gates_hold sites r (tested_sites r) ≡ true)
+serving sites r h = and_parts (keeps_apart r) (gates_hold sites r (tested_sites r)) h
 
-serving : (sites : List Site) (r : SetRule) → serves sites r ≡ true → Serving sites r
-serving sites r h =
-    let all = and_parts (keeps_apart r && gates_hold sites r (tested_sites r)) (list_all (λ s. gates_hold sites r (s ∷ [])) r.iterators) h in
-    (and_parts (keeps_apart r) (gates_hold sites r (tested_sites r)) all.0, all.1)
+-- a call that a rule goes over is left unused, or the gates below it are demanded
+abbrev pub call_passes : Program → List Site → BuiltRule → SetRule → ℕ → Bool
+call_passes p sites b r s = has_site (calls_left_by p b.rule) (unfold_site sites s) || gates_hold sites r (s ∷ [])
 
-served_by : (p : Program) (t : ℕ) (set : SiteSet) → set_passes set ≡ true → list_all (serves set.sites) set.rules ≡ true → (is_multi p t ≡ true → HasOnePriority set.rules) → CanBeServed p t set
-served_by p t set h each one =
-    let rule : (r : SetRule) → Contains set.rules r → Serving set.sites r = λ r i. serving set.sites r (each_passes (serves set.sites) set.rules each r i) in
-    record {
-      once = (passes_well_built set h).sites_once;
-      sources = (passes_well_built set h).sources;
-      apart = each_of ConstrainsOrEquates set.rules (λ r i. kept_apart r (rule r i).0.0);
-      gates = each_of (DemandsItsGates set.sites) set.rules (λ r i. demands_gates set.sites r (tested_sites r) (rule r i).0.1);
-      gates_of_calls = λ b r o.
-          each_of (DemandsGatesOfCall p set.sites b r) r.iterators (λ s i.
-          inr (demands_gates set.sites r (s ∷ [])
-          (each_passes (λ u. gates_hold set.sites r (u ∷ [])) r.iterators (rule r (member_from_get set.rules o.place r o.built)).1 s i)));
-      one_priority = one;
-    }
+call_demands : (p : Program) (sites : List Site) (b : BuiltRule) (r : SetRule) (s : ℕ) → call_passes p sites b r s ≡ true → DemandsGatesOfCall p sites b r s
+call_demands p sites b r s h =
+    elim (or_cases (has_site (calls_left_by p b.rule) (unfold_site sites s)) (gates_hold sites r (s ∷ [])) h) [
+      | inl e ↦ inl (contains_from_in (calls_left_by p b.rule) (unfold_site sites s) (has_in (calls_left_by p b.rule) (unfold_site sites s) e))
+      | inr g ↦ inr (demands_gates sites r (s ∷ []) g)
+    ]
+
+-- so is each call of each rule, where the rules of a set are those that it was built of
+abbrev pub calls_pass : Program → List Site → List BuiltRule → List SetRule → Bool
+calls_pass p sites [] rs = true
+calls_pass p sites (b ∷ bs) [] = true
+calls_pass p sites (b ∷ bs) (r ∷ rs) = list_all (call_passes p sites b r) r.iterators && calls_pass p sites bs rs
+
+pass_at : (p : Program) (sites : List Site) (bs : List BuiltRule) (rs : List SetRule) (i : ℕ) (b : BuiltRule) (r : SetRule)
+    → slice_get bs i ≡ Some b → slice_get rs i ≡ Some r → calls_pass p sites bs rs ≡ true → list_all (call_passes p sites b r) r.iterators ≡ true
+pass_at p sites [] rs i b r e f h = absurd (none-some b e)
+pass_at p sites (c ∷ bs) [] i b r e f h = absurd (none-some r f)
+pass_at p sites (c ∷ bs) (q ∷ rs) zero b r e f h =
+    subst (λ x. list_all (call_passes p sites x r) r.iterators ≡ true) (same_Some c b e)
+    (subst (λ x. list_all (call_passes p sites c x) x.iterators ≡ true) (same_Some q r f)
+    (and_parts (list_all (call_passes p sites c q) q.iterators) (calls_pass p sites bs rs) h).0)
+pass_at p sites (c ∷ bs) (q ∷ rs) (suc i) b r e f h =
+    pass_at p sites bs rs i b r e f (and_parts (list_all (call_passes p sites c q) q.iterators) (calls_pass p sites bs rs) h).1
+
+-- the sites of a set, without its rules
+abbrev pub only_sites : SiteSet → SiteSet
+only_sites set = record { rules = []; sites = set.sites }
+
+served_by : (p : Program) (t : ℕ) (set : SiteSet) → set_passes (only_sites set) ≡ true → list_all (serves set.sites) set.rules ≡ true
+    → calls_pass p set.sites (built_rules p t) set.rules ≡ true → (is_multi p t ≡ true → HasOnePriority set.rules) → CanBeServed p t set
+served_by p t set h each calls one = record {
+  once = (passes_well_built (only_sites set) h).sites_once;
+  sources = (passes_well_built (only_sites set) h).sources;
+  apart = each_of ConstrainsOrEquates set.rules (λ r i. kept_apart r (serving set.sites r (each_passes (serves set.sites) set.rules each r i)).0);
+  gates = each_of (DemandsItsGates set.sites) set.rules (λ r i.
+      demands_gates set.sites r (tested_sites r) (serving set.sites r (each_passes (serves set.sites) set.rules each r i)).1);
+  gates_of_calls = λ b r o.
+      each_of (DemandsGatesOfCall p set.sites b r) r.iterators (λ s i.
+      call_demands p set.sites b r s
+      (each_passes (call_passes p set.sites b r) r.iterators (pass_at p set.sites (built_rules p t) set.rules o.place b r o.typed o.built calls) s i));
+  one_priority = one;
+}
 
 -- a set of a term that isn't multi can be served, and one of a multi term
-pub can_be_served : (p : Program) (t : ℕ) (set : SiteSet) → is_multi p t ≡ false → set_passes set ≡ true → list_all (serves set.sites) set.rules ≡ true → CanBeServed p t set
-can_be_served p t set m h each = served_by p t set h each (λ e. absurd (false≢true (sym m ∙ e)))
+pub can_be_served : (p : Program) (t : ℕ) (set : SiteSet) → is_multi p t ≡ false → set_passes (only_sites set) ≡ true → list_all (serves set.sites) set.rules ≡ true
+    → calls_pass p set.sites (built_rules p t) set.rules ≡ true → CanBeServed p t set
+can_be_served p t set m h each calls = served_by p t set h each calls (λ e. absurd (false≢true (sym m ∙ e)))
 
-pub multi_can_be_served : (p : Program) (t : ℕ) (set : SiteSet) → set_passes set ≡ true → list_all (serves set.sites) set.rules ≡ true
-    → list_all (λ (r : SetRule). int_eq r.prio (pos 0)) set.rules ≡ true → CanBeServed p t set
-multi_can_be_served p t set h each none = served_by p t set h each (λ e. no_priorities set.rules none)
+pub multi_can_be_served : (p : Program) (t : ℕ) (set : SiteSet) → set_passes (only_sites set) ≡ true → list_all (serves set.sites) set.rules ≡ true
+    → calls_pass p set.sites (built_rules p t) set.rules ≡ true → list_all (λ (r : SetRule). int_eq r.prio (pos 0)) set.rules ≡ true → CanBeServed p t set
+multi_can_be_served p t set h each calls none = served_by p t set h each calls (λ e. no_priorities set.rules none)
 
 -- classes that name the sites in the order of the closed ones
 pub equates : (sites : List Site) (k : Closed) (classes : List (List ℕ)) → list_all (are_below (length sites)) classes ≡ true

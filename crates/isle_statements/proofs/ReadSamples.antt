@@ -13,8 +13,8 @@ use Rattle.isle_tables.proofs.Acyclic.{plain_acyclic}
 use Rattle.isle_tables.proofs.Lists.{distinct_if, distinct_nil, distinct_one}
 use Rattle.isle_elaboration.specs.Elaborated.{TypedRules, elaborated_rules}
 use Rattle.isle_statements.specs.Environments.{types_read, setting_of, IsRead}
-use Rattle.isle_statements.specs.SampleLists.{extract, extract_rules, partial, partial_rules, multi, multi_rules, overlap, overlap_rules, equal, equal_rules, variant_eq, variant_eq_rules}
-use Rattle.isle_statements.specs.ReadSamples.{EqualIsRead, ExtractIsRead, PartialIsRead, MultiIsRead, OverlapIsRead, VariantIsRead, unbound, RefusedAreNotRead}
+use Rattle.isle_statements.specs.SampleLists.{extract, extract_rules, partial, partial_rules, multi, multi_rules, overlap, overlap_rules, equal, equal_rules, variant_eq, variant_eq_rules, unused, unused_rules}
+use Rattle.isle_statements.specs.ReadSamples.{EqualIsRead, ExtractIsRead, PartialIsRead, MultiIsRead, OverlapIsRead, VariantIsRead, UnusedIsRead, unbound, RefusedAreNotRead}
 use Rattle.isle_statements.proofs.OwnTypes.{own_types_are_readable_lem}
 
 extract_types : IsValidTypes extract
@@ -298,6 +298,53 @@ variant_elaborates expand typed = record {
 
 pub variant_is_read_lem : VariantIsRead
 variant_is_read_lem = (variant_elaborates true refl, variant_elaborates false refl)
+
+unused_types : IsValidTypes unused
+unused_types = record {
+  distinct = distinct_if builtin_names refl;
+  primitives = All-nil IsUnmarkedIfPrimitive;
+  marks = All-nil HasAtMostOneMark;
+  variants = All-nil HasDistinctVariants;
+  fields = All-nil HasDistinctFields;
+  types_of_fields = All-nil (HasKnownTypes unused);
+  types_of_constants = All-nil (IsOfKnownType unused);
+}
+
+unused_terms : IsValidTerms (types_of unused) unused
+unused_terms = record {
+  distinct = distinct_if (term_names (types_of unused) unused) refl;
+  types_of_arguments = All-from_recursion (HasKnownArguments (types_of unused)) (decl_trees unused) (All-from_recursion (IsKnownType (all_type_names unused)) (name 0 (codes "u8") ∷ []) (refl, tt), (All-from_recursion (IsKnownType (all_type_names unused)) (name 2 (codes "u8") ∷ []) (refl, tt), (All-from_recursion (IsKnownType (all_type_names unused)) (name 4 (codes "u8") ∷ []) (refl, tt), tt)));
+  types_of_results = All-from_recursion (HasKnownResult (types_of unused)) (decl_trees unused) (refl, (refl, (refl, tt)));
+  marks = All-from_recursion IsNotBothMultiAndPartial (decl_trees unused) (refl, (refl, (refl, tt)));
+  roots = All-from_recursion (HasDeclaredRoot unused) (rule_trees unused) (refl, tt);
+  terms_of_extractors = All-nil (λ e. IsDeclaredTerm unused e.term);
+  terms_of_externals = All-nil (λ e. IsDeclaredTerm unused e.term);
+  terms_of_constructors = All-from_recursion (λ c. IsDeclaredTerm unused c.term) (constructor_trees unused) (refl, (refl, tt));
+  rules_or_function = All-from_recursion (IsWithoutRules unused) (constructor_trees unused) (refl, (refl, tt));
+  one_constructor = distinct_if (codes "pp" ∷ (codes "m" ∷ [])) refl;
+  one_extractor = distinct_nil;
+  plain_terms = All-nil (IsOfPlainTerm unused);
+  known_terms = All-nil (NamesKnownTerms (types_of unused) unused);
+  no_macro_args = All-nil HoldsNoMacroArg;
+  declared_arguments = All-nil (UsesDeclaredArguments unused);
+  acyclic = plain_acyclic unused refl;
+  known_converters = All-nil (IsKnownConverter (types_of unused) unused);
+  one_converter = distinct_nil;
+}
+
+unused_elaborates : (expand : Bool) → elaborated_rules (setting_of (types_read unused) unused expand) (rule_trees unused) (term_names_met (types_of unused) unused) ≡ Some unused_rules → IsRead unused expand unused_rules
+unused_elaborates expand typed = record {
+  types = unused_types;
+  elaborated = record {
+    readable = own_types_are_readable_lem unused unused_types;
+    terms = unused_terms;
+    defined = All-from_recursion (IsDefined unused) (decl_trees unused) (refl, (refl, (refl, tt)));
+    elaborate = record { typed = typed; distinct = distinct_one 15 };
+  };
+}
+
+pub unused_is_read_lem : UnusedIsRead
+unused_is_read_lem = (unused_elaborates true refl, unused_elaborates false refl)
 
 unbound_refused : (expand : Bool) (rules : TypedRules) → IsRead unbound expand rules → ⊥
 unbound_refused true rules r = none-some rules r.elaborated.elaborate.typed

@@ -2,12 +2,12 @@
 use Rattle.std.specs.Prelude.{Bool, true}
 use Rattle.isle_elaboration.specs.Elaborated.{TypedRules}
 use Rattle.isle_statements.specs.Layers.{own_program, IsCheckable, IsAccepted}
-use Rattle.isle_statements.specs.SampleLists.{extract, extract_rules, partial, partial_rules, multi, multi_rules, overlap, overlap_rules, equal, equal_rules, variant_eq, variant_eq_rules, shadow, shadow_rules}
+use Rattle.isle_statements.specs.SampleLists.{extract, extract_rules, partial, partial_rules, multi, multi_rules, overlap, overlap_rules, equal, equal_rules, variant_eq, variant_eq_rules, unused, unused_rules, shadow, shadow_rules}
 
 abbrev pub SamplesAreAccepted : Type 0
 SamplesAreAccepted =
     IsAccepted extract true extract_rules × IsAccepted partial true partial_rules × IsAccepted multi true multi_rules × IsAccepted equal true equal_rules
-    × IsAccepted variant_eq true variant_eq_rules
+    × IsAccepted variant_eq true variant_eq_rules × IsAccepted unused true unused_rules
 
 -- two rules of one priority that overlap, whatever typed rules are given
 abbrev pub OverlapIsNotAccepted : Type 0

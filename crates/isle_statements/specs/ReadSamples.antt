@@ -4,7 +4,7 @@ use Rattle.isle_model.specs.Syntax.{Definition, declaration}
 use Rattle.isle_tables.specs.WorkedTerms.{numbers}
 use Rattle.isle_elaboration.specs.Elaborated.{TypedRules}
 use Rattle.isle_statements.specs.Environments.{IsRead}
-use Rattle.isle_statements.specs.SampleLists.{number_pattern, variable, rule_of_f, extract, extract_rules, partial, partial_rules, multi, multi_rules, overlap, overlap_rules, equal, equal_rules, variant_eq, variant_eq_rules}
+use Rattle.isle_statements.specs.SampleLists.{number_pattern, variable, rule_of_f, extract, extract_rules, partial, partial_rules, multi, multi_rules, overlap, overlap_rules, equal, equal_rules, variant_eq, variant_eq_rules, unused, unused_rules}
 
 -- whether internal extractors are expanded or not
 abbrev pub IsReadBoth : List Definition → TypedRules → Type 0
@@ -27,6 +27,9 @@ EqualIsRead = IsReadBoth equal equal_rules
 
 abbrev pub VariantIsRead : Type 0
 VariantIsRead = IsReadBoth variant_eq variant_eq_rules
+
+abbrev pub UnusedIsRead : Type 0
+UnusedIsRead = IsReadBoth unused unused_rules
 
 -- (decl f (u8) u8), (decl f (u8) u8): two terms of one name
 abbrev pub declared_twice : List Definition

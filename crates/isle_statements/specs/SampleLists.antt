@@ -1,9 +1,9 @@
 -- Lists of definitions and what their rules become: with an extractor, an impure call, a multi call, a wrong overlap, an
--- equality, a variant. Every place inside definition d is offset d of the first file.
+-- equality, a variant, a call that is left unused. Every place inside definition d is offset d of the first file.
 use Rattle.std.specs.Prelude.{ℕ, ℤ, pos, true, List, [], ◌∷◌, ◌++◌, Option, Some, None, codes}
-use Rattle.isle_model.specs.Syntax.{PatternTree, bind_pattern, int_pattern, ExprTree, var_expr, int_expr, term_expr, no_expr, expr_and, Definition, type_definition, declaration, rule_definition}
+use Rattle.isle_model.specs.Syntax.{PatternTree, bind_pattern, int_pattern, ExprTree, var_expr, int_expr, term_expr, let_expr, no_expr, expr_and, no_let, let_and, Definition, type_definition, declaration, rule_definition}
 use Rattle.isle_model.specs.TypeTable.{builtin_names}
-use Rattle.isle_model.specs.Typed.{TypedRule}
+use Rattle.isle_model.specs.Typed.{TypedRule, match_any, make_term, make_var, make_int, make_let, no_typed_let, typed_let_and}
 use Rattle.isle_tables.specs.Written.{at, name, field, variant, enum, declared, term, constructor_by, extractor_by}
 use Rattle.isle_tables.specs.WorkedTerms.{numbers, var, any}
 use Rattle.isle_elaboration.specs.Elaborated.{TypedRules}
@@ -108,3 +108,44 @@ abbrev pub variant_eq_rules : TypedRules
 variant_eq_rules =
     rules_and_names (record typed.variant_eq_rule { name = Some 17 } ∷ [])
     (codes "T" ∷ (codes "T.A" ∷ (codes "A" ∷ (codes "v" ∷ (codes "g" ∷ (codes "x" ∷ []))))))
+
+-- (decl pure partial pp (u8) u8), (extern constructor pp pp_fn), (decl pure multi m (u8) u8), (extern constructor m m_fn),
+-- (decl multi f (u8) u8), (rule (f x) (if-let _ (let ((y u8 (m (pp x)))) x)) 7): a multi call whose answer nothing uses, so
+-- no answer of pp is demanded
+abbrev pub unused : List Definition
+unused =
+    declaration (record (numbers 0 (codes "pp")) { pure = true; partial = true }) ∷ (constructor_by 1 (codes "pp") (codes "pp_fn")
+    ∷ (declaration (record (numbers 2 (codes "m")) { pure = true; multi = true }) ∷ (constructor_by 3 (codes "m") (codes "m_fn")
+    ∷ (declaration (record (numbers 4 (codes "f")) { multi = true })
+    ∷ (rule_definition (record {
+      pattern = term 5 (codes "f") (var 5 (codes "x") ∷ []);
+      iflets = record {
+        pattern = any 5;
+        expr = let_expr (let_and (name 5 (codes "y")) (name 5 (codes "u8")) (call 5 (codes "m") (call 5 (codes "pp") (variable 5 (codes "x")))) (at 5) no_let) (variable 5 (codes "x")) (at 5);
+        at = at 5;
+      } ∷ [];
+      expr = number_expr 5 7;
+      at = at 5;
+      prio = None;
+      name = None;
+    }) ∷ [])))))
+
+abbrev pub unused_rule : TypedRule
+unused_rule = record {
+  id = 0;
+  root_term = 2;
+  args = typed.bind_var typed.u8 0 ∷ [];
+  iflets = record {
+    lhs = match_any typed.u8;
+    rhs = make_let typed.u8 (typed_let_and 1 typed.u8 (make_term typed.u8 1 (typed.one_expr (make_term typed.u8 0 (typed.one_expr (make_var typed.u8 0))))) no_typed_let) (make_var typed.u8 0);
+  } ∷ [];
+  rhs = make_int typed.u8 (pos 7);
+  vars = record { id = 0; name = 18; ty = typed.u8 } ∷ (record { id = 1; name = 19; ty = typed.u8 } ∷ []);
+  prio = pos 0;
+  at = at 5;
+  name = Some 15;
+}
+
+abbrev pub unused_rules : TypedRules
+unused_rules =
+    rules_and_names (unused_rule ∷ []) (codes "pp" ∷ (codes "m" ∷ (codes "f" ∷ (codes "pp_fn" ∷ (codes "m_fn" ∷ (codes "x" ∷ (codes "y" ∷ [])))))))

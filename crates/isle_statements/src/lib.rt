@@ -4,9 +4,9 @@
 #![tactic(auto)]
 
 ghost use Rattle.isle_statements.specs.AcceptedSamples.{OverlapIsNotAccepted, SamplesAreAccepted, ShadowIsNotCheckable};
-ghost use Rattle.isle_statements.specs.BuiltSamples.{EqualIsBuilt, ExtractIsBuilt, MultiIsBuilt, NearSetsAreNotBuilt, PartialIsBuilt, VariantIsBuilt};
+ghost use Rattle.isle_statements.specs.BuiltSamples.{EqualIsBuilt, ExtractIsBuilt, MultiIsBuilt, NearSetsAreNotBuilt, PartialIsBuilt, UnusedIsBuilt, VariantIsBuilt};
 ghost use Rattle.isle_statements.specs.OwnTypes.{OwnTypesAreReadable};
-ghost use Rattle.isle_statements.specs.ReadSamples.{EqualIsRead, ExtractIsRead, MultiIsRead, OverlapIsRead, PartialIsRead, RefusedAreNotRead, VariantIsRead};
+ghost use Rattle.isle_statements.specs.ReadSamples.{EqualIsRead, ExtractIsRead, MultiIsRead, OverlapIsRead, PartialIsRead, RefusedAreNotRead, UnusedIsRead, VariantIsRead};
 
 /// Terms and rules can be read with the types of a list, if these are valid.
 pub fn own_types_are_readable()
@@ -43,6 +43,11 @@ pub fn variant_is_read()
     ensures { VariantIsRead }
 {}
 
+/// Definitions with a multi call whose answer nothing uses have this typed rule.
+pub fn unused_is_read()
+    ensures { UnusedIsRead }
+{}
+
 /// Definitions with a term that is declared twice have no typed rules, nor have those with a variable that nothing binds.
 pub fn refused_are_not_read()
     ensures { RefusedAreNotRead }
@@ -71,6 +76,11 @@ pub fn equal_is_built()
 /// A set is built of a rule that matches a variant.
 pub fn variant_is_built()
     ensures { VariantIsBuilt }
+{}
+
+/// A set is built of a rule that uses no answer of a call, and doesn't demand what stands below that call.
+pub fn unused_is_built()
+    ensures { UnusedIsBuilt }
 {}
 
 /// A set isn't built where a constraint or a rule is left out, or where it has one site more.
