@@ -3,3 +3,4 @@ pub mod OwnTypes
 pub mod BuiltSamples
 pub mod ReadSamples
 pub mod AcceptedSamples
+pub mod BindingSamples

@@ -7,3 +7,4 @@ pub mod SampleLists
 pub mod BuiltSamples
 pub mod ReadSamples
 pub mod AcceptedSamples
+pub mod BindingSamples

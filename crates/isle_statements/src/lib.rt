@@ -4,6 +4,7 @@
 #![tactic(auto)]
 
 ghost use Rattle.isle_statements.specs.AcceptedSamples.{OverlapIsNotAccepted, SamplesAreAccepted, ShadowIsNotCheckable};
+ghost use Rattle.isle_statements.specs.BindingSamples.{NearTreesDoNotBind, PrintedTreesBind};
 ghost use Rattle.isle_statements.specs.BuiltSamples.{EqualIsBuilt, ExtractIsBuilt, MultiIsBuilt, NearSetsAreNotBuilt, PartialIsBuilt, UnusedIsBuilt, VariantIsBuilt};
 ghost use Rattle.isle_statements.specs.OwnTypes.{OwnTypesAreReadable};
 ghost use Rattle.isle_statements.specs.ReadSamples.{EqualIsRead, ExtractIsRead, MultiIsRead, OverlapIsRead, PartialIsRead, RefusedAreNotRead, UnusedIsRead, VariantIsRead};
@@ -101,4 +102,14 @@ pub fn overlap_is_not_accepted()
 /// Rules can't be told apart where one shadows another.
 pub fn shadow_is_not_checkable()
     ensures { ShadowIsNotCheckable }
+{}
+
+/// The trees that are printed for the samples' sets bind sites before they are used.
+pub fn printed_trees_bind()
+    ensures { PrintedTreesBind }
+{}
+
+/// Trees don't where a site isn't bound, is bound before what it is made of, or again; but a loop's call may be bound again.
+pub fn near_trees_do_not_bind()
+    ensures { NearTreesDoNotBind }
 {}
