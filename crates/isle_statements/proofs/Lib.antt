@@ -4,3 +4,4 @@ pub mod BuiltSamples
 pub mod ReadSamples
 pub mod AcceptedSamples
 pub mod BindingSamples
+pub mod LoweredSamples

@@ -6,6 +6,7 @@
 ghost use Rattle.isle_statements.specs.AcceptedSamples.{OverlapIsNotAccepted, SamplesAreAccepted, ShadowIsNotCheckable};
 ghost use Rattle.isle_statements.specs.BindingSamples.{NearTreesDoNotBind, PrintedTreesBind};
 ghost use Rattle.isle_statements.specs.BuiltSamples.{EqualIsBuilt, ExtractIsBuilt, MultiIsBuilt, NearSetsAreNotBuilt, PartialIsBuilt, UnusedIsBuilt, VariantIsBuilt};
+ghost use Rattle.isle_statements.specs.LoweredSamples.{UnusedIsLowered};
 ghost use Rattle.isle_statements.specs.OwnTypes.{OwnTypesAreReadable};
 ghost use Rattle.isle_statements.specs.ReadSamples.{EqualIsRead, ExtractIsRead, MultiIsRead, OverlapIsRead, PartialIsRead, RefusedAreNotRead, UnusedIsRead, VariantIsRead};
 
@@ -112,4 +113,9 @@ pub fn printed_trees_bind()
 /// Trees don't where a site isn't bound, is bound before what it is made of, or again; but a loop's call may be bound again.
 pub fn near_trees_do_not_bind()
     ensures { NearTreesDoNotBind }
+{}
+
+/// Definitions whose rule leaves a multi call unused are lowered to a tree that doesn't go over the call.
+pub fn unused_is_lowered()
+    ensures { UnusedIsLowered }
 {}
