@@ -11,10 +11,10 @@ use Rattle.isle_tables.specs.TermTables.{constructor_trees, external_trees, term
 use Rattle.isle_tables.specs.Written.{name}
 use Rattle.isle_tables.proofs.Acyclic.{plain_acyclic}
 use Rattle.isle_tables.proofs.Lists.{distinct_if, distinct_nil, distinct_one}
-use Rattle.isle_elaboration.specs.Elaborated.{TypedRules, elaborated_rules}
-use Rattle.isle_statements.specs.Environments.{types_read, setting_of, IsRead}
-use Rattle.isle_statements.specs.SampleLists.{extract, extract_rules, partial, partial_rules, multi, multi_rules, overlap, overlap_rules, equal, equal_rules, variant_eq, variant_eq_rules, unused, unused_rules}
-use Rattle.isle_statements.specs.ReadSamples.{EqualIsRead, ExtractIsRead, PartialIsRead, MultiIsRead, OverlapIsRead, VariantIsRead, UnusedIsRead, unbound, RefusedAreNotRead}
+use Rattle.isle_elaboration.specs.Elaborated.{elaborated_rules}
+use Rattle.isle_statements.specs.Environments.{types_read, setting_of, HasTypedRules, IsRead}
+use Rattle.isle_statements.specs.SampleLists.{extract, extract_rules, partial, partial_rules, multi, multi_rules, overlap, overlap_rules, shadow, shadow_rules, equal, equal_rules, variant_eq, variant_eq_rules, unused, unused_rules}
+use Rattle.isle_statements.specs.ReadSamples.{EqualIsRead, ExtractIsRead, PartialIsRead, MultiIsRead, OverlapIsRead, ShadowIsRead, VariantIsRead, UnusedIsRead, unbound, RefusedAreNotRead}
 use Rattle.isle_statements.proofs.OwnTypes.{own_types_are_readable_lem}
 
 extract_types : IsValidTypes extract
@@ -205,6 +205,53 @@ overlap_elaborates expand typed = record {
 pub overlap_is_read_lem : OverlapIsRead
 overlap_is_read_lem = (overlap_elaborates true refl, overlap_elaborates false refl)
 
+shadow_types : IsValidTypes shadow
+shadow_types = record {
+  distinct = distinct_if builtin_names refl;
+  primitives = All-nil IsUnmarkedIfPrimitive;
+  marks = All-nil HasAtMostOneMark;
+  variants = All-nil HasDistinctVariants;
+  fields = All-nil HasDistinctFields;
+  types_of_fields = All-nil (HasKnownTypes shadow);
+  types_of_constants = All-nil (IsOfKnownType shadow);
+}
+
+shadow_terms : IsValidTerms (types_of shadow) shadow
+shadow_terms = record {
+  distinct = distinct_if (term_names (types_of shadow) shadow) refl;
+  types_of_arguments = All-from_recursion (HasKnownArguments (types_of shadow)) (decl_trees shadow) (All-from_recursion (IsKnownType (all_type_names shadow)) (name 0 (codes "u8") ∷ []) (refl, tt), tt);
+  types_of_results = All-from_recursion (HasKnownResult (types_of shadow)) (decl_trees shadow) (refl, tt);
+  marks = All-from_recursion IsNotBothMultiAndPartial (decl_trees shadow) (refl, tt);
+  roots = All-from_recursion (HasDeclaredRoot shadow) (rule_trees shadow) (refl, (refl, tt));
+  terms_of_extractors = All-nil (λ e. IsDeclaredTerm shadow e.term);
+  terms_of_externals = All-nil (λ e. IsDeclaredTerm shadow e.term);
+  terms_of_constructors = All-nil (λ c. IsDeclaredTerm shadow c.term);
+  rules_or_function = All-nil (IsWithoutRules shadow);
+  one_constructor = distinct_nil;
+  one_extractor = distinct_nil;
+  plain_terms = All-nil (IsOfPlainTerm shadow);
+  known_terms = All-nil (NamesKnownTerms (types_of shadow) shadow);
+  no_macro_args = All-nil HoldsNoMacroArg;
+  declared_arguments = All-nil (UsesDeclaredArguments shadow);
+  acyclic = plain_acyclic shadow refl;
+  known_converters = All-nil (IsKnownConverter (types_of shadow) shadow);
+  one_converter = distinct_nil;
+}
+
+shadow_elaborates : (expand : Bool) → elaborated_rules (setting_of (types_read shadow) shadow expand) (rule_trees shadow) (term_names_met (types_of shadow) shadow) ≡ Some shadow_rules → IsRead shadow expand shadow_rules
+shadow_elaborates expand typed = record {
+  types = shadow_types;
+  elaborated = record {
+    readable = own_types_are_readable_lem shadow shadow_types;
+    terms = shadow_terms;
+    defined = All-from_recursion (IsDefined shadow) (decl_trees shadow) (refl, tt);
+    elaborate = record { typed = typed; distinct = distinct_nil };
+  };
+}
+
+pub shadow_is_read_lem : ShadowIsRead
+shadow_is_read_lem = (shadow_elaborates true refl, shadow_elaborates false refl)
+
 equal_types : IsValidTypes equal
 equal_types = record {
   distinct = distinct_if builtin_names refl;
@@ -346,12 +393,23 @@ unused_elaborates expand typed = record {
 pub unused_is_read_lem : UnusedIsRead
 unused_is_read_lem = (unused_elaborates true refl, unused_elaborates false refl)
 
-unbound_refused : (expand : Bool) (rules : TypedRules) → IsRead unbound expand rules → ⊥
-unbound_refused true rules r = none-some rules r.elaborated.elaborate.typed
-unbound_refused false rules r = none-some rules r.elaborated.elaborate.typed
+pub unbound_types : IsValidTypes unbound
+unbound_types = record {
+  distinct = distinct_if builtin_names refl;
+  primitives = All-nil IsUnmarkedIfPrimitive;
+  marks = All-nil HasAtMostOneMark;
+  variants = All-nil HasDistinctVariants;
+  fields = All-nil HasDistinctFields;
+  types_of_fields = All-nil (HasKnownTypes unbound);
+  types_of_constants = All-nil (IsOfKnownType unbound);
+}
+
+pub unbound_elaborates_not : (expand : Bool) → HasTypedRules (types_read unbound) unbound expand → ⊥
+unbound_elaborates_not true h = none-some h.0 h.1.elaborate.typed
+unbound_elaborates_not false h = none-some h.0 h.1.elaborate.typed
 
 pub refused_are_not_read_lem : RefusedAreNotRead
 refused_are_not_read_lem = (
   (λ expand rules r. (let e = r.elaborated.terms.distinct 0 1 (codes "f") refl refl in omega (arith, e))),
-  unbound_refused,
+  (λ expand rules r. unbound_elaborates_not expand (rules, r.elaborated)),
 )

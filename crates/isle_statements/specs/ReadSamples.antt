@@ -4,7 +4,7 @@ use Rattle.isle_model.specs.Syntax.{Definition, declaration}
 use Rattle.isle_tables.specs.WorkedTerms.{numbers}
 use Rattle.isle_elaboration.specs.Elaborated.{TypedRules}
 use Rattle.isle_statements.specs.Environments.{IsRead}
-use Rattle.isle_statements.specs.SampleLists.{number_pattern, variable, rule_of_f, extract, extract_rules, partial, partial_rules, multi, multi_rules, overlap, overlap_rules, equal, equal_rules, variant_eq, variant_eq_rules, unused, unused_rules}
+use Rattle.isle_statements.specs.SampleLists.{number_pattern, variable, rule_of_f, extract, extract_rules, partial, partial_rules, multi, multi_rules, overlap, overlap_rules, shadow, shadow_rules, equal, equal_rules, variant_eq, variant_eq_rules, unused, unused_rules}
 
 -- whether internal extractors are expanded or not
 abbrev pub IsReadBoth : List Definition → TypedRules → Type 0
@@ -21,6 +21,9 @@ MultiIsRead = IsReadBoth multi multi_rules
 
 abbrev pub OverlapIsRead : Type 0
 OverlapIsRead = IsReadBoth overlap overlap_rules
+
+abbrev pub ShadowIsRead : Type 0
+ShadowIsRead = IsReadBoth shadow shadow_rules
 
 abbrev pub EqualIsRead : Type 0
 EqualIsRead = IsReadBoth equal equal_rules

@@ -6,9 +6,9 @@
 ghost use Rattle.isle_statements.specs.AcceptedSamples.{OverlapIsNotAccepted, SamplesAreAccepted, ShadowIsNotCheckable};
 ghost use Rattle.isle_statements.specs.BindingSamples.{NearTreesDoNotBind, PrintedTreesBind};
 ghost use Rattle.isle_statements.specs.BuiltSamples.{EqualIsBuilt, ExtractIsBuilt, MultiIsBuilt, NearSetsAreNotBuilt, PartialIsBuilt, UnusedIsBuilt, VariantIsBuilt};
-ghost use Rattle.isle_statements.specs.LoweredSamples.{UnusedIsLowered};
+ghost use Rattle.isle_statements.specs.LoweredSamples.{SamplesAreRefused, UnusedIsLowered};
 ghost use Rattle.isle_statements.specs.OwnTypes.{OwnTypesAreReadable};
-ghost use Rattle.isle_statements.specs.ReadSamples.{EqualIsRead, ExtractIsRead, MultiIsRead, OverlapIsRead, PartialIsRead, RefusedAreNotRead, UnusedIsRead, VariantIsRead};
+ghost use Rattle.isle_statements.specs.ReadSamples.{EqualIsRead, ExtractIsRead, MultiIsRead, OverlapIsRead, PartialIsRead, RefusedAreNotRead, ShadowIsRead, UnusedIsRead, VariantIsRead};
 
 /// Terms and rules can be read with the types of a list, if these are valid.
 pub fn own_types_are_readable()
@@ -33,6 +33,11 @@ pub fn multi_is_read()
 /// Definitions whose rules overlap wrongly have typed rules too.
 pub fn overlap_is_read()
     ensures { OverlapIsRead }
+{}
+
+/// Definitions of whose rules one shadows another have typed rules too.
+pub fn shadow_is_read()
+    ensures { ShadowIsRead }
 {}
 
 /// Definitions with a rule that demands that two arguments are equal have these typed rules.
@@ -118,4 +123,9 @@ pub fn near_trees_do_not_bind()
 /// Definitions whose rule leaves a multi call unused are lowered to a tree that doesn't go over the call.
 pub fn unused_is_lowered()
     ensures { UnusedIsLowered }
+{}
+
+/// Lowering is refused by two types of one name, an unbound variable, a wrong overlap, a shadowed rule: with these reports.
+pub fn samples_are_refused()
+    ensures { SamplesAreRefused }
 {}
