@@ -2,3 +2,10 @@ pub mod Environments
 pub mod RuleSets
 pub mod SetMeanings
 pub mod Layers
+pub mod OwnTypes
+pub mod SampleLists
+pub mod BuiltSamples
+pub mod ReadSamples
+pub mod AcceptedSamples
+pub mod BindingSamples
+pub mod LoweredSamples
