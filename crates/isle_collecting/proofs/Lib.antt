@@ -5,3 +5,5 @@ pub mod Demanded
 pub mod Fields
 pub mod Grown
 pub mod Calls
+pub mod Bags
+pub mod Standing
