@@ -154,7 +154,7 @@ pub ordered_prefix : (ls xs ys : List SiteTerm) → OrderedFrom ls (xs ++ ys) �
 ordered_prefix ls [] ys h = tt
 ordered_prefix ls (x ∷ xs) ys h = (h.0, ordered_prefix (ls ++ x ∷ []) xs ys h.1)
 
-abbrev IsEarlier : (ℕ → SiteTerm) → (ℕ → Bool) → List SiteTerm → ℕ → ℕ → SiteTerm → Type 0
+abbrev pub IsEarlier : (ℕ → SiteTerm) → (ℕ → Bool) → List SiteTerm → ℕ → ℕ → SiteTerm → Type 0
 IsEarlier f P ls i s c = Contains ls c ⊎ ((a : ℕ) × (P a ≡ true) × (i ≤ a) × (a < s) × (c ≡ f a))
 
 module _ {X : Type 0} (f : ℕ → SiteTerm) (P : ℕ → Bool) where

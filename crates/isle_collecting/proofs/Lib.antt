@@ -7,3 +7,4 @@ pub mod Grown
 pub mod Calls
 pub mod Bags
 pub mod Standing
+pub mod Collected

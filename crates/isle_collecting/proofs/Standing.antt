@@ -87,7 +87,7 @@ module _ (sites : List Site) (before : SourcesBefore sites) where
       itself zero x l = absurd (omega arith)
       itself (suc n) x l = in_head x (flat_map (below n sites) (sources_at sites x))
 
-  below_within : (n s u : ℕ) → Contains (below n sites s) u → u ≤ s
+  pub below_within : (n s u : ℕ) → Contains (below n sites s) u → u ≤ s
   below_within zero s u c = absurd (nothing_in u c)
   below_within (suc n) s u c =
       elim (in_cases s u (flat_map (below n sites) (sources_at sites s)) c) [
