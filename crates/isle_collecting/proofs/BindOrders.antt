@@ -1,15 +1,14 @@
 -- Binding a bind order of available sites keeps them and all below them.
-use Rattle.std.proofs.Common.{◌≡◌, ◌⊎◌, ℕ, zero, suc, ◌==◌, Bool, true, false, not, ◌&&◌, ◌||◌, cond, List, [], ◌∷◌, ◌++◌, is_some, slice_get, Contains, All, IsTrue, flat_map, refl, sym, ap, ◌∙◌, subst, inl, inr}
+use Rattle.std.proofs.Common.{◌≡◌, ◌⊎◌, ℕ, zero, suc, Bool, true, false, not, ◌&&◌, ◌||◌, cond, List, [], ◌∷◌, ◌++◌, is_some, slice_get, Contains, All, IsTrue, flat_map, refl, sym, ap, ◌∙◌, subst, inl, inr}
 use Rattle.std.specs.List.{list_all}
-use Rattle.std.proofs.lemmas.Bool.{cases_Bool, cond-true, cond-false, and_parts, or_cases, or_left, or_right, false≢true}
+use Rattle.std.proofs.lemmas.Bool.{cases_Bool, cond-true, cond-false, and_parts, or_cases, or_left, false≢true}
 use Rattle.std.proofs.lemmas.List.Elements.{Contains-append_left, Contains-append_right, Contains-append_cases}
-use Rattle.std.proofs.lemmas.List.Folds.{list_any-append}
 use Rattle.isle_model.specs.Sites.{sources_at}
 use Rattle.isle_model.specs.Places.{Around, is_in, waits, is_available, available, is_in_place, below, all_below, each_after, listed_below, bind_order}
 use Rattle.isle_model.specs.Run.{World, Env, all_bound, then_bind, bind_all}
 use Rattle.isle_model.specs.SetRuns.{IsPureAt}
 use Rattle.isle_trees.proofs.Lists.{nothing_in, in_head, in_tail, in_cases, in_alone}
-use Rattle.isle_trees.proofs.Members.{each_passes, all_members, in_flat_map, from_flat_map, member_found, member_is_in}
+use Rattle.isle_trees.proofs.Members.{each_passes, all_members, in_flat_map, from_flat_map, member_found}
 use Rattle.isle_trees.proofs.Contents.{SourcesBefore}
 use Rattle.isle_trees.proofs.Flat.{to_bind, bind_last}
 use Rattle.isle_trees.proofs.Binding.{content_of}

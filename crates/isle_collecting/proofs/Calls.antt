@@ -1,10 +1,10 @@
 -- The calls of a rule by their numbers: different sites unfold to different terms, a site takes answers of the calls below
 -- it, calls in the order of their numbers are in order, and one of them taken out.
 use Rattle.std.proofs.Common.{◌≡◌, ◌⊎◌, ℕ, zero, suc, ◌+◌, ◌<◌, ◌≤◌, Bool, true, false, cond, List, [], ◌∷◌, ◌++◌, length, map, filter, flat_map, Option, Some, None, slice_get, Contains, refl, sym, ap, ap₂, ◌∙◌, subst, inl, inr, arith}
-use Rattle.std.proofs.lemmas.Bool.{cases_Bool, cond-true, cond-false, both_ways, cases_lt, false≢true}
+use Rattle.std.proofs.lemmas.Bool.{cases_Bool, cond-true, cond-false, both_ways, cases_lt}
 use Rattle.std.proofs.lemmas.List.Elements.{Contains-append_left, Contains-append_right, Contains-append_cases}
 use Rattle.isle_model.specs.Names.{IsDistinct}
-use Rattle.isle_model.specs.Sites.{Site, bool_site, int_site, prim_site, argument_site, extractor_site, constructor_site, iterator_site, make_variant_site, match_variant_site, make_struct_site, extract_struct_site, make_some_site, match_some_site, match_tuple_site, SiteTerm, SiteTerms, each_term, layer, layer_at, unfolded, unfold_site, sources_of, sources_at}
+use Rattle.isle_model.specs.Sites.{Site, bool_site, int_site, prim_site, argument_site, extractor_site, constructor_site, iterator_site, make_variant_site, match_variant_site, make_struct_site, extract_struct_site, make_some_site, match_some_site, match_tuple_site, SiteTerm, each_term, layer, layer_at, unfolded, unfold_site, sources_of, sources_at}
 use Rattle.isle_model.specs.Places.{below}
 use Rattle.isle_model.specs.Built.{numbers_from}
 use Rattle.isle_model.specs.Collects.{calls_in, calls_in_all}

@@ -1,7 +1,7 @@
 -- The run of a sound tree of a multi term collects the bag of its rules' results.
 use Rattle.std.proofs.Common.{◌≡◌, ◌≢◌, ◌⊎◌, ℕ, suc, ◌+◌, ◌<◌, ◌≤◌, ◌==◌, Bool, true, false, not, ◌&&◌, ◌||◌, List, [], ◌∷◌, ◌++◌, map, filter, flat_map, length, Option, Some, None, is_some, slice_get, Contains, IsTrue, refl, sym, ap, ap₂, ◌∙◌, subst, inl, inr, arith, eqb-true}
 use Rattle.std.specs.Prelude.{IsPermutation}
-use Rattle.std.proofs.lemmas.Bool.{cases_Bool, cond-true, cond-false, and_parts, and_from, or_left, both_ways, false≢true}
+use Rattle.std.proofs.lemmas.Bool.{cases_Bool, cond-true, cond-false, and_parts, and_from, both_ways, false≢true}
 use Rattle.std.proofs.lemmas.Option.{none-some, same_Some}
 use Rattle.std.proofs.lemmas.List.{append-nil, map-append}
 use Rattle.std.proofs.lemmas.List.Elements.{Contains-append_left, Contains-append_right, All-contains}
@@ -10,9 +10,9 @@ use Rattle.std.proofs.lemmas.Grind.{flat_map-append}
 use Rattle.isle_model.specs.Values.{Value, value_eq}
 use Rattle.isle_model.specs.Meaning.{Content, one, many, Contents, contents}
 use Rattle.isle_model.specs.Outcome.{Outcome, ran_through, then_option}
-use Rattle.isle_model.specs.Sites.{Site, iterator_site, Constraint, SetRule, SiteSet, SiteTerm, sources_at, unfold_site}
+use Rattle.isle_model.specs.Sites.{iterator_site, Constraint, SetRule, SiteSet, SiteTerm, sources_at, unfold_site}
 use Rattle.isle_model.specs.Trees.{Tree, step, Check, match_at, equal_at, loop_at, Arms, arm, Marked, m_no_step, m_step, m_match, m_equal, m_loop, m_return, MarkedArms, m_no_arm, m_arm, marks, marks_arms, plain, plain_arms, return_of}
-use Rattle.isle_model.specs.Places.{joins_in, Around, nothing_around, is_in, available, below, all_below, fields_of, field_sites, bind_order, return_uses, in_loop, after_step}
+use Rattle.isle_model.specs.Places.{joins_in, Around, nothing_around, is_in, available, below, all_below, fields_of, field_sites, bind_order, return_uses, after_step}
 use Rattle.isle_model.specs.Run.{World, Env, used, as_value, bind_all, all_bound, Trace, content_fields, bind_fields, on_met, on_equal, on_many, iterated, returned, with_env, with_content, with_bound, ending_at, or_next, for_each, run_tree, run_check, run_arms, run}
 use Rattle.isle_model.specs.Sound.{comes_before, AllAsk, AllGoOver, IsTested, SoundSteps, SoundArms, ReturnsEach, IsSound}
 use Rattle.isle_model.specs.Built.{numbers_from}
@@ -35,7 +35,7 @@ use Rattle.isle_collecting.proofs.Demanded.{demand_met, demand_equal}
 use Rattle.isle_collecting.proofs.Grown.{content_covered}
 use Rattle.isle_collecting.proofs.Calls.{unfold_once, calls_below, ordered_prefix, IsEarlier, numbers_ordered, filters_same, taken_out}
 use Rattle.isle_collecting.proofs.Bags.{flat_flat, all_nothing, by_places, picks_nothing, trace, Adds, adds_none, adds_then, adds_as, each_adds, as_numbers, of_numbers}
-use Rattle.isle_collecting.proofs.Standing.{below_within, under, Kept, At, grown, meets_grown, rule_at, Pure, site_known, rule_pure, rule_gate, constraint_of, class_of, iterator_of, result_of, found_at, binds_here, ready_here, holds_here, wider, at_wider, equal_around, at_equal, arm_around, at_arm, loop_around, after_loop, at_after_loop, at_loop}
+use Rattle.isle_collecting.proofs.Standing.{in_first, below_within, Kept, At, grown, meets_grown, rule_at, Pure, site_known, rule_pure, rule_gate, constraint_of, class_of, iterator_of, result_of, found_at, binds_here, ready_here, holds_here, wider, at_wider, equal_around, at_equal, arm_around, at_arm, loop_around, after_loop, at_after_loop, at_loop}
 
 and_yes : (b : Bool) → (b && true) ≡ b
 and_yes true = refl
@@ -322,3 +322,192 @@ module _ (w : World) (rules : List SetRule) (built : IsCollectedSet (record { ru
           (at_loop w rules built served ar source pick env env' at held result site cs list inside (free ar pick env at source cs list inside out) j c e) now))
           done))
           (next env' (at_after_loop w rules built served ar source pick env env' at held))
+
+  -- a return of a rule all of whose demands were tested
+  all_gone_over : (ar : Around) (r : SetRule) → IsTested ar r → (t : ℕ) → is_left ar.looped r t ≡ false
+  all_gone_over ar r all t =
+      elim (cases_Bool (is_in t r.iterators)) [
+        | inl i ↦ ap₂ (λ a b. a && not b) i (member_is_in t ar.looped (all.iterators t (member_found t r.iterators i)))
+        | inr f ↦ ap (λ a. a && not (is_in t ar.looped)) f
+      ]
+
+  return_adds : w.multi ≡ true → (ar : Around) (pick : Pick) (env : Env) → At w ar pick env → (binds : List ℕ) (rule : ℕ) (r : SetRule) (rest : Tree) (later : List ℕ) (done : List Content)
+      → slice_get rules rule ≡ Some r → IsTested ar r → binds ≡ bind_order w.sites ar (return_uses (slice_get rules rule))
+      → ((env' : Env) → At w (wider w rules built served ar (return_uses (slice_get rules rule))) pick env' → (now : List Content) → Adds (run_tree rest w env' (trace now)) now (left ar.looped pick later))
+      → Adds (run_tree (step binds (return_of (slice_get rules rule)) rest) w env (trace done)) done (left ar.looped pick (rule ∷ later))
+  return_adds multi ar pick env at binds rule r rest later done get all same next =
+      let good = rule_at w rules built served rule r get in
+      let known = member_from_get rules rule r get in
+      let member = result_of w rules built served r in
+      let avail = ready_here w rules built served ar pick env at r good known all r.result member in
+      let pure = rule_pure w rules built served r good r.result member in
+      let x = found_at w rules built served ar pick env at r.result avail pure in
+      let only = ap return_uses get ∙ ap (λ l. l ++ r.result ∷ []) good.no_calls in
+      let alone : (s : ℕ) → Contains (return_uses (slice_get rules rule)) s → r.result ≡ s = λ s c. in_alone r.result s (subst (λ l. Contains l s) only c) in
+      let b = binds_here w rules built served ar pick env at (return_uses (slice_get rules rule)) (λ s c. subst (λ t. IsTrue (available w.sites ar t)) (alone s c) avail) (λ s c. subst (Pure w rules built served) (alone s c) pure) in
+      by x.0 x.1 (subst (λ l. Contains l r.result) (sym only) (in_head r.result [])) (holds_here w rules built served ar pick env at r good known all) b.0 b.1 b.2
+    where
+      by : (x : Content) → content_at w pick r.result ≡ Some x → Contains (return_uses (slice_get rules rule)) r.result → demands_hold w pick r ≡ true → (env' : Env)
+          → bind_all w env [] (bind_order w.sites ar (return_uses (slice_get rules rule))) ≡ all_bound env' [] → Held w pick env' (Bound ar (return_uses (slice_get rules rule)))
+          → Adds (run_tree (step binds (return_of (slice_get rules rule)) rest) w env (trace done)) done (left ar.looped pick (rule ∷ later))
+      by x e used_here holds env' bound held =
+          let one_left : left ar.looped pick (rule ∷ []) ≡ x ∷ [] =
+          ap (λ o. left_of ar.looped pick o ++ []) get
+          ∙ append-nil (rule_left ar.looped pick r)
+          ∙ ap (λ l. flat_map (result_in w r) (picks_over w.meaning w.args pick (map term_at l))) (none_pass (is_left ar.looped r) 0 w.sites (all_gone_over ar r all))
+          ∙ append-nil (result_in w r pick)
+          ∙ cond-true (demands_hold w pick r) (as_list (content_at w pick r.result)) [] holds
+          ∙ ap as_list e in
+          then_go ar.looped pick (rule ∷ []) later (returned true (trace done) x) (run_tree rest w env') done
+          (step_runs w binds (return_of (slice_get rules rule)) rest env env' done (ap (bind_all w env []) same ∙ bound)
+          ∙ ap (λ o. or_next (run_check (return_of o) w env' (trace done)) (run_tree rest w env')) get
+          ∙ ap (λ o. or_next (with_content o (trace done) (returned w.multi (trace done))) (run_tree rest w env')) (read ar pick (return_uses (slice_get rules rule)) env' held r.result used_here ∙ e)
+          ∙ ap (λ m. or_next (returned m (trace done) x) (run_tree rest w env')) multi)
+          (x ∷ [], refl, subst (λ l. IsPermutation l (x ∷ [])) (sym one_left) (IsPermutation-refl (x ∷ [])))
+          (next env' (at_wider w rules built served ar (return_uses (slice_get rules rule)) pick env env' at held))
+
+  -- 6. an arm
+  fields_cases : (o : Option (List Content)) → ((cs : List Content) × (o ≡ Some cs)) ⊎ (o ≡ None)
+  fields_cases None = inr refl
+  fields_cases (Some cs) = inl (cs, refl)
+
+  arm_binds : (ar : Around) (pick : Pick) (s : ℕ) (c : Constraint) (fields : List (Option ℕ)) (cs : List Content) (env : Env) → At w (wider w rules built served ar (s ∷ [])) pick env → fields ≡ fields_of w.sites s c
+      → FieldsHold w pick built.sources s (fields_of w.sites s c) cs
+      → (env' : Env) × (bind_fields fields cs env ≡ Some env') × Held w pick env' (λ t. Kept (wider w rules built served ar (s ∷ [])) t ⊎ Contains (field_sites fields) t)
+  arm_binds ar pick s c fields cs env at same hold =
+      fields_bound w pick built.sources s fields cs env (Kept (wider w rules built served ar (s ∷ []))) at.held
+      (inl (in_first s (all_below w.sites (s ∷ [])) ar.emitted (in_flat_map (λ x. below (suc x) w.sites x) (s ∷ []) s s (in_head s []) (in_head s _))))
+      (subst (λ l. FieldsHold w pick built.sources s l cs) (sym same) hold)
+
+  arm_met : (c : Constraint) (fields : List (Option ℕ)) (body : Tree) (rest : Arms) (x : Content) (cs : List Content) (env env' : Env) (done : List Content) → content_fields w.meaning c x ≡ Some cs → bind_fields fields cs env ≡ Some env'
+      → run_arms (arm c fields body rest) w x env (trace done) ≡ run_tree body w env' (trace done)
+  arm_met c fields body rest x cs env env' done met bound =
+      ap (λ o. on_met o fields env (trace done) (λ e. run_tree body w e (trace done)) (run_arms rest w x env (trace done))) met
+      ∙ ap (λ o. with_env o (trace done) (λ e. run_tree body w e (trace done))) bound
+
+  arm_unmet : (c : Constraint) (fields : List (Option ℕ)) (body : Tree) (rest : Arms) (x : Content) (env : Env) (done : List Content) → content_fields w.meaning c x ≡ None
+      → run_arms (arm c fields body rest) w x env (trace done) ≡ run_arms rest w x env (trace done)
+  arm_unmet c fields body rest x env done unmet =
+      ap (λ o. on_met o fields env (trace done) (λ e. run_tree body w e (trace done)) (run_arms rest w x env (trace done))) unmet
+
+  first_alone : (looped : List ℕ) (pick : Pick) (here later : List ℕ) → left looped pick later ≡ [] → left looped pick (here ++ later) ≡ left looped pick here
+  first_alone looped pick here later e =
+      flat_map-append (λ i. left_of looped pick (slice_get rules i)) here later ∙ ap (λ l. left looped pick here ++ l) e ∙ append-nil (left looped pick here)
+
+  later_alone : (looped : List ℕ) (pick : Pick) (here later : List ℕ) → left looped pick here ≡ [] → left looped pick (here ++ later) ≡ left looped pick later
+  later_alone looped pick here later e =
+      flat_map-append (λ i. left_of looped pick (slice_get rules i)) here later ∙ ap (λ l. l ++ left looped pick later) e
+
+  -- 7. the run
+  source_alone : (result source : ℕ) → slice_get w.sites result ≡ Some (iterator_site source) → sources_at w.sites result ≡ source ∷ []
+  source_alone result source e = ap sources_in e
+
+  module _ (multi : w.multi ≡ true) where
+    mutual
+      steps_run : (m : Marked) (ar : Around) (pick : Pick) (env : Env) → Known (marks m) → SoundSteps set true ar true m → At w ar pick env → (done : List Content)
+          → Adds (run_tree (plain rules m) w env (trace done)) done (left ar.looped pick (marks m))
+      steps_run m_no_step ar pick env known sound at done = adds_none done
+      steps_run (m_step binds (m_match source arms) rest) ar pick env known sound at done =
+          let inside = sound.1 in
+          let here = known_left (marks_arms arms) (marks rest) known in
+          match_adds ar pick env at binds source (plain_arms rules arms) (plain rules rest) (marks_arms arms) (marks rest) done (sound.0 refl) (inside.0 refl) (asked_pure arms ar source None inside.1 here inside.2)
+          (λ x env' e now. arms_run arms ar pick env' source None x here inside.2 e now done)
+          (λ env' now. steps_run rest (after_step set ar (m_match source arms)) pick env' (known_right (marks_arms arms) (marks rest) known) sound.3 now)
+      steps_run (m_step binds (m_equal a b body) rest) ar pick env known sound at done =
+          let inside = sound.1 in
+          let here = known_left (marks body) (marks rest) known in
+          let r = some_rule (marks body) inside.1 here in
+          let rule = rule_at w rules built served r.0 r.1 r.3 in
+          let join = inside.2 r.0 r.1 r.2 r.3 in
+          equality_adds ar pick env at binds a b (plain rules body) (plain rules rest) (marks body) (marks rest) done r.1 (member_from_get rules r.0 r.1 r.3) join (sound.0 refl)
+          (inside.0 refl).0 (rule_pure w rules built served r.1 rule a (class_of w rules built served r.1 a b join))
+          (inside.0 refl).1 (rule_pure w rules built served r.1 rule b (class_of w rules built served r.1 b a (joined_back r.1.classes a b join)))
+          (λ c env' e f now. steps_run body (equal_around w rules built served ar a b) pick env' here inside.3 (at_equal w rules built served ar a b pick env' c now e f) done)
+          (λ differ j q k get more holds. differ more (demand_equal w (pick ++ more) q a b holds (inside.2 j q k get)))
+          (λ env' now. steps_run rest (after_step set ar (m_equal a b body)) pick env' (known_right (marks body) (marks rest) known) sound.3 now)
+      steps_run (m_step binds (m_loop result body) rest) ar pick env known sound at done =
+          let inside = sound.1 in
+          let over = inside.0 in
+          let here = known_left (marks body) (marks rest) known in
+          let only = source_alone result over.0 over.1 in
+          loop_adds ar pick env at binds result over.0 (plain rules body) (plain rules rest) (marks body) (marks rest) done inside.1 here over.2 over.1 over.3 (sound.0 refl ∙ ap (bind_order w.sites ar) only) (over.4 refl)
+          (λ longer env' now later. steps_run body (loop_around w rules built served ar result (over.0 ∷ [])) longer env' here (subst (λ l. SoundSteps set true (loop_around w rules built served ar result l) true body) only inside.2) now later)
+          (λ env' now. steps_run rest (after_loop w rules built served ar (over.0 ∷ [])) pick env' (known_right (marks body) (marks rest) known) (subst (λ l. SoundSteps set true (after_loop w rules built served ar l) true rest) only sound.3) now)
+      steps_run (m_step binds (m_return rule) rest) ar pick env known sound at done =
+          let r = get_within rules rule (known rule (in_head rule (marks rest))) in
+          return_adds multi ar pick env at binds rule r.0 (plain rules rest) (marks rest) done r.1 (sound.1 refl r.0 r.1) (sound.0 refl)
+          (λ env' now. steps_run rest (after_step set ar (m_return rule)) pick env' (known_right (rule ∷ []) (marks rest) known) sound.3 now)
+
+      arms_run : (arms : MarkedArms) (ar : Around) (pick : Pick) (env : Env) (s : ℕ) (before : Option Constraint) (x : Content) → Known (marks_arms arms) → SoundArms set true ar true s before arms
+          → content_at w pick s ≡ Some x → At w (wider w rules built served ar (s ∷ [])) pick env → (done : List Content) → Adds (run_arms (plain_arms rules arms) w x env (trace done)) done (left ar.looped pick (marks_arms arms))
+      arms_run m_no_arm ar pick env s before x known sound e at done = adds_none done
+      arms_run (m_arm c fields body rest) ar pick env s before x known sound e at done =
+          let here = known_left (marks body) (marks_arms rest) known in
+          let later = known_right (marks body) (marks_arms rest) known in
+          let ask = asker (marks body) s c sound.1 here sound.2 in
+          elim (fields_cases (content_fields w.meaning c x)) [
+            | inl met ↦
+                let member = member_from_get rules ask.0 ask.1 ask.2 in
+                let passes : meets w.meaning c (content_at w pick s) ≡ true = ap (meets w.meaning c) e ∙ ap is_some met.1 in
+                let hold = fields_hold w pick built.sources s c x met.0 e met.1 (served.fields pick ask.1 s c x met.0 member ask.3 e met.1) in
+                let b = arm_binds ar pick s c fields met.0 env at sound.3 hold in
+                let alone = first_alone ar.looped pick (marks body) (marks_arms rest) (left_nothing ar.looped pick (marks_arms rest) (none_after rest ar pick s c ask.0 ask.1 ask.2 ask.3 passes sound.5)) in
+                subst (λ o. Adds o done (left ar.looped pick (marks body ++ marks_arms rest))) (sym (arm_met c fields (plain rules body) (plain_arms rules rest) x met.0 env b.0 done met.1 b.1))
+                (subst (Adds (run_tree (plain rules body) w b.0 (trace done)) done) (sym alone)
+                (steps_run body (arm_around w rules built served ar s c fields) pick b.0 here sound.4 (at_arm w rules built served ar s c fields pick env b.0 at sound.3 passes b.2) done))
+            | inr unmet ↦
+                let alone = later_alone ar.looped pick (marks body) (marks_arms rest) (left_nothing ar.looped pick (marks body) (none_asking (marks body) pick s c x e unmet sound.2)) in
+                subst (λ o. Adds o done (left ar.looped pick (marks body ++ marks_arms rest))) (sym (arm_unmet c fields (plain rules body) (plain_arms rules rest) x env done unmet))
+                (subst (Adds (run_arms (plain_arms rules rest) w x env (trace done)) done) (sym alone)
+                (arms_run rest ar pick env s (Some c) x later sound.5 e at done))
+          ]
+
+    at_root : At w nothing_around [] []
+    at_root = record {
+      held = record {
+        there = λ t k. absurd (none_kept t k);
+        bound = λ t k n. absurd (none_kept t k);
+        right = λ t c e. absurd (none-some c e);
+        closed = λ t u k c. absurd (none_kept t k);
+      };
+      brought = λ s k. absurd (false≢true k);
+      brings = λ s c x k l. absurd (nothing_in (s, c) k);
+      loops = λ source s k e. absurd (nothing_in source k);
+      tested = λ s c k. absurd (nothing_in (s, c) k);
+      joined = tt;
+      named = λ s k. absurd (nothing_in s k);
+      names = λ c k. absurd (nothing_in c k);
+      known = λ s k. absurd (nothing_in s k);
+    }
+      where
+        none_kept : (t : ℕ) → Kept nothing_around t → ⊥
+        none_kept t (inl a) = false≢true a
+        none_kept t (inr l) = nothing_in t l
+
+    -- 8. the returns are the rules, each once
+    whole_bag : (m : Marked) (tree : Tree) → ReturnsEach set tree m → IsPermutation (set_bag set w) (left [] [] (marks m))
+    whole_bag m tree returns =
+        subst (λ l. IsPermutation l (left [] [] (marks m)))
+        (of_numbers (λ i. left_of [] [] (slice_get rules i)) (λ r. flat_map (result_in w r) (picks_over w.meaning w.args [] (calls_gone_over set r))) 0 rules
+        (λ j r e. ap (λ n. left_of [] [] (slice_get rules n)) (zero_plus j) ∙ ap (left_of [] []) e ∙ ap (λ l. flat_map (result_in w r) (picks_over w.meaning w.args [] (map term_at l))) (filters_same (λ s. is_in s r.iterators) (is_left [] r) 0 w.sites (λ t l. and_yes (is_in t r.iterators)))))
+        (as_numbers (λ i. left_of [] [] (slice_get rules i)) 0 rules (marks m) (λ j l u. returns.once j (omega (arith, u)))
+        (λ j c. let k = All-contains (λ i. i < length rules) (marks m) j returns.known c in (omega arith, omega (arith, k))))
+
+    pub collected : (tree : Tree) → IsSound set true tree → Collects (run tree w) (set_bag set w)
+    collected tree sound =
+        let m = sound.marked in
+        let known : Known (marks m) = λ i k. All-contains (λ j. j < length rules) (marks m) i sound.returns.known k in
+        let a = subst (λ t. Adds (run t w) [] (left [] [] (marks m))) sound.returns.same (steps_run m nothing_around [] [] known sound.steps at_root []) in
+        record {
+          calls = ap (λ o. o.calls) a.1;
+          ending = ap (λ o. o.ending) a.1;
+          same = subst (IsPermutation (set_bag set w)) (sym (ap (λ o. o.results) a.1)) (IsPermutation-trans (set_bag set w) (left [] [] (marks m)) a.0 (whole_bag m tree sound.returns) a.2);
+        }
+
+pub sound_trees_collect_lem : SoundTreesCollect
+sound_trees_collect_lem set tree w built served multi sound =
+    subst (λ sites. IsCollectedSet (record { rules = set.rules; sites = sites }) → ServesSet (record { rules = set.rules; sites = sites }) w → IsSound (record { rules = set.rules; sites = sites }) true tree
+    → Collects (run tree w) (set_bag (record { rules = set.rules; sites = sites }) w))
+    served.sites
+    (λ built' served' sound'. collected w set.rules built' served' multi tree sound')
+    built served sound

@@ -1,17 +1,17 @@
 -- What it takes that a rule's demands hold under a pick.
-use Rattle.std.proofs.Common.{◌≡◌, ℕ, true, ◌&&◌, List, [], ◌∷◌, Option, Some, None, Contains, refl, sym, ap, ◌∙◌, inl, inr}
+use Rattle.std.proofs.Common.{◌≡◌, ℕ, true, List, [], ◌∷◌, Option, Some, None, Contains, refl, sym, ap, ◌∙◌, inl, inr}
 use Rattle.std.specs.List.{list_all}
 use Rattle.std.proofs.lemmas.Bool.{and_parts, and_from, false≢true}
 use Rattle.isle_model.specs.Values.{Value}
 use Rattle.isle_model.specs.Meaning.{Content, one}
 use Rattle.isle_model.specs.Outcome.{then_option}
 use Rattle.isle_model.specs.Sites.{Constraint, SetRule}
-use Rattle.isle_model.specs.Places.{is_in, joins_in}
+use Rattle.isle_model.specs.Places.{joins_in}
 use Rattle.isle_model.specs.Run.{World, as_value}
 use Rattle.isle_model.specs.Collects.{content_at, meets, same_value, value_at, all_same, demands_hold}
 use Rattle.isle_trees.proofs.ValuesEqual.{eq_means, eq_same}
 use Rattle.isle_trees.proofs.Lists.{nothing_in, in_head, in_tail, in_cases}
-use Rattle.isle_trees.proofs.Members.{each_passes, all_pass, one_passes, passes_any, member_found, member_is_in}
+use Rattle.isle_trees.proofs.Members.{each_passes, all_pass}
 use Rattle.isle_model.specs.Picks.{Pick}
 use Rattle.isle_trees.proofs.Demanded.{joined_from, joined_in}
 
