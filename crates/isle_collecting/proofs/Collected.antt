@@ -35,7 +35,7 @@ use Rattle.isle_collecting.proofs.Demanded.{demand_met, demand_equal}
 use Rattle.isle_collecting.proofs.Grown.{content_covered}
 use Rattle.isle_collecting.proofs.Calls.{unfold_once, calls_below, ordered_prefix, IsEarlier, numbers_ordered, filters_same, taken_out}
 use Rattle.isle_collecting.proofs.Bags.{flat_flat, all_nothing, by_places, picks_nothing, trace, Adds, adds_none, adds_then, adds_as, each_adds, as_numbers, of_numbers}
-use Rattle.isle_collecting.proofs.Standing.{in_first, below_within, Kept, At, grown, meets_grown, rule_at, Pure, site_known, rule_pure, rule_gate, constraint_of, class_of, iterator_of, result_of, found_at, binds_here, ready_here, holds_here, wider, at_wider, equal_around, at_equal, arm_around, at_arm, loop_around, after_loop, at_after_loop, at_loop}
+use Rattle.isle_collecting.proofs.Standing.{in_first, below_within, Kept, At, grown, meets_grown, rule_at, IsPureBelow, site_known, rule_pure, rule_gate, constraint_of, class_of, iterator_of, result_of, found_at, binds_here, ready_here, holds_here, wider, at_wider, equal_around, at_equal, arm_around, at_arm, loop_around, after_loop, at_after_loop, at_loop}
 
 and_yes : (b : Bool) → (b && true) ≡ b
 and_yes true = refl
@@ -69,12 +69,14 @@ module _ (w : World) (rules : List SetRule) (built : IsCollectedSet (record { ru
   term_at = unfold_site w.sites
 
   -- 1. what is left to collect where loops around go over some calls
+  -- a call that a rule goes over, and no loop around
   abbrev is_left : List ℕ → SetRule → ℕ → Bool
   is_left looped r s = is_in s r.iterators && not (is_in s looped)
 
   abbrev calls_left : List ℕ → SetRule → List SiteTerm
   calls_left looped r = map term_at (filter (is_left looped r) (numbers_from 0 w.sites))
 
+  -- the results of a rule under all picks of the calls left
   abbrev rule_left : List ℕ → Pick → SetRule → List Content
   rule_left looped pick r = flat_map (result_in w r) (picks_over w.meaning w.args pick (calls_left looped r))
 
@@ -82,9 +84,11 @@ module _ (w : World) (rules : List SetRule) (built : IsCollectedSet (record { ru
   left_of looped pick None = []
   left_of looped pick (Some r) = rule_left looped pick r
 
+  -- those of the rules of these places in the set
   abbrev left : List ℕ → Pick → List ℕ → List Content
   left looped pick ids = flat_map (λ i. left_of looped pick (slice_get rules i)) ids
 
+  -- these are places in the set
   abbrev Known : List ℕ → Type 0
   Known ids = (i : ℕ) → Contains ids i → i < length rules
 
@@ -103,6 +107,7 @@ module _ (w : World) (rules : List SetRule) (built : IsCollectedSet (record { ru
         | inr f ↦ cond-false (demands_hold w (pick ++ rest) r) (as_list (content_at w (pick ++ rest) r.result)) [] f
       ])
 
+  -- under no longer pick do the demands of one of these rules hold
   abbrev NoneHolds : Pick → List ℕ → Type 0
   NoneHolds pick ids = (i : ℕ) (q : SetRule) → Contains ids i → slice_get rules i ≡ Some q → (rest : Pick) → demands_hold w (pick ++ rest) q ≡ true → ⊥
 
@@ -129,7 +134,7 @@ module _ (w : World) (rules : List SetRule) (built : IsCollectedSet (record { ru
 
     call_first : (r : SetRule) → IsCollectedRule w.sites r → Contains r.iterators source → IsPermutation (rule_left ar.looped pick r) (flat_map (λ n. rule_left (source ∷ ar.looped) (longer n) r) (numbers_from 0 (contents cs)))
     call_first r rule over =
-        let t = taken_out (is_left ar.looped r) (is_left (source ∷ ar.looped) r) source 0 w.sites (omega arith) (omega (arith, inside)) yes_now not_then others in
+        let t = taken_out (is_left ar.looped r) (is_left (source ∷ ar.looped) r) source 0 w.sites (omega arith) (omega (arith, inside)) left_now gone_then others in
         let first = map term_at t.first in
         let after = map term_at t.after in
         let all : calls_left ar.looped r ≡ first ++ call ∷ after = ap (map term_at) t.all ∙ map-append term_at t.first (source ∷ t.after) in
@@ -148,11 +153,11 @@ module _ (w : World) (rules : List SetRule) (built : IsCollectedSet (record { ru
         subst (λ l. IsPermutation (flat_map (result_in w r) (picks_over w.meaning w.args pick l)) (flat_map (λ n. rule_left (source ∷ ar.looped) (longer n) r) (numbers_from 0 (contents cs)))) (sym all)
         (subst (IsPermutation (flat_map (result_in w r) (picks_over w.meaning w.args pick (first ++ call ∷ after)))) each moved)
       where
-        yes_now : is_left ar.looped r source ≡ true
-        yes_now = and_from (is_in source r.iterators) (not (is_in source ar.looped)) (member_is_in source r.iterators over) (ap not out)
+        left_now : is_left ar.looped r source ≡ true
+        left_now = and_from (is_in source r.iterators) (not (is_in source ar.looped)) (member_is_in source r.iterators over) (ap not out)
 
-        not_then : is_left (source ∷ ar.looped) r source ≡ false
-        not_then = ap₂ (λ a b. a && not b) (member_is_in source r.iterators over) (member_is_in source (source ∷ ar.looped) (in_head source ar.looped))
+        gone_then : is_left (source ∷ ar.looped) r source ≡ false
+        gone_then = ap₂ (λ a b. a && not b) (member_is_in source r.iterators over) (member_is_in source (source ∷ ar.looped) (in_head source ar.looped))
 
         others : (t : ℕ) → (t ≡ source → ⊥) → is_left (source ∷ ar.looped) r t ≡ is_left ar.looped r t
         others t d =
@@ -193,7 +198,7 @@ module _ (w : World) (rules : List SetRule) (built : IsCollectedSet (record { ru
       let m = some_rule ids some known in
       (m.0, m.1, m.3, constraint_in m.1.constraints s c (ask m.0 m.1 m.2 m.3))
 
-  asked_pure : (arms : MarkedArms) (ar : Around) (s : ℕ) (before : Option Constraint) → marks_arms arms ≢ [] → Known (marks_arms arms) → SoundArms set true ar true s before arms → Pure w rules built served s
+  asked_pure : (arms : MarkedArms) (ar : Around) (s : ℕ) (before : Option Constraint) → marks_arms arms ≢ [] → Known (marks_arms arms) → SoundArms set true ar true s before arms → IsPureBelow w.sites s
   asked_pure m_no_arm ar s before some known sound = absurd (some refl)
   asked_pure (m_arm c fields body rest) ar s before some known sound =
       let a = asker (marks body) s c sound.1 (known_left (marks body) (marks_arms rest) known) sound.2 in
@@ -223,24 +228,25 @@ module _ (w : World) (rules : List SetRule) (built : IsCollectedSet (record { ru
   used_kept : (ar : Around) (ss : List ℕ) (s : ℕ) → Contains ss s → Contains (all_below w.sites ss) s ⊎ Kept ar s
   used_kept ar ss s c = inl (in_flat_map (λ x. below (suc x) w.sites x) ss s s c (in_head s _))
 
-  abbrev Bound : Around → List ℕ → ℕ → Type 0
-  Bound ar ss t = Contains (all_below w.sites ss) t ⊎ Kept ar t
+  -- kept once these sites are bound
+  abbrev KeptWith : Around → List ℕ → ℕ → Type 0
+  KeptWith ar ss t = Contains (all_below w.sites ss) t ⊎ Kept ar t
 
-  read : (ar : Around) (pick : Pick) (ss : List ℕ) (env : Env) → Held w pick env (Bound ar ss) → (s : ℕ) → Contains ss s → used w env s ≡ content_at w pick s
-  read ar pick ss env held s c = reads w pick built.sources env (Bound ar ss) held s (used_kept ar ss s c)
+  read : (ar : Around) (pick : Pick) (ss : List ℕ) (env : Env) → Held w pick env (KeptWith ar ss) → (s : ℕ) → Contains ss s → used w env s ≡ content_at w pick s
+  read ar pick ss env held s c = reads w pick built.sources env (KeptWith ar ss) held s (used_kept ar ss s c)
 
   -- a match of an available site
   match_adds : (ar : Around) (pick : Pick) (env : Env) → At w ar pick env → (binds : List ℕ) (source : ℕ) (arms : Arms) (rest : Tree) (here later : List ℕ) (done : List Content)
-      → binds ≡ bind_order w.sites ar (source ∷ []) → IsTrue (available w.sites ar source) → Pure w rules built served source
-      → ((x : Content) (env' : Env) → content_at w pick source ≡ Some x → At w (wider w rules built served ar (source ∷ [])) pick env' → Adds (run_arms arms w x env' (trace done)) done (left ar.looped pick here))
-      → ((env' : Env) → At w (wider w rules built served ar (source ∷ [])) pick env' → (now : List Content) → Adds (run_tree rest w env' (trace now)) now (left ar.looped pick later))
+      → binds ≡ bind_order w.sites ar (source ∷ []) → IsTrue (available w.sites ar source) → IsPureBelow w.sites source
+      → ((x : Content) (env' : Env) → content_at w pick source ≡ Some x → At w (wider w.sites ar (source ∷ [])) pick env' → Adds (run_arms arms w x env' (trace done)) done (left ar.looped pick here))
+      → ((env' : Env) → At w (wider w.sites ar (source ∷ [])) pick env' → (now : List Content) → Adds (run_tree rest w env' (trace now)) now (left ar.looped pick later))
       → Adds (run_tree (step binds (match_at source arms) rest) w env (trace done)) done (left ar.looped pick (here ++ later))
   match_adds ar pick env at binds source arms rest here later done same avail pure first next =
       let x = found_at w rules built served ar pick env at source avail pure in
-      let b = binds_here w rules built served ar pick env at (source ∷ []) (λ s c. subst (λ t. IsTrue (available w.sites ar t)) (in_alone source s c) avail) (λ s c. subst (Pure w rules built served) (in_alone source s c) pure) in
+      let b = binds_here w rules built served ar pick env at (source ∷ []) (λ s c. subst (λ t. IsTrue (available w.sites ar t)) (in_alone source s c) avail) (λ s c. subst (IsPureBelow w.sites) (in_alone source s c) pure) in
       by x.0 x.1 b.0 b.1 b.2
     where
-      by : (x : Content) → content_at w pick source ≡ Some x → (env' : Env) → bind_all w env [] (bind_order w.sites ar (source ∷ [])) ≡ all_bound env' [] → Held w pick env' (Bound ar (source ∷ []))
+      by : (x : Content) → content_at w pick source ≡ Some x → (env' : Env) → bind_all w env [] (bind_order w.sites ar (source ∷ [])) ≡ all_bound env' [] → Held w pick env' (KeptWith ar (source ∷ []))
           → Adds (run_tree (step binds (match_at source arms) rest) w env (trace done)) done (left ar.looped pick (here ++ later))
       by x e env' bound held =
           let now = at_wider w rules built served ar (source ∷ []) pick env env' at held in
@@ -251,10 +257,10 @@ module _ (w : World) (rules : List SetRule) (built : IsCollectedSet (record { ru
 
   -- an equality of available sites
   equality_adds : (ar : Around) (pick : Pick) (env : Env) → At w ar pick env → (binds : List ℕ) (a b : ℕ) (body rest : Tree) (here later : List ℕ) (done : List Content) (r : SetRule) → Contains rules r → IsTrue (joins_in r.classes a b)
-      → binds ≡ bind_order w.sites ar (a ∷ (b ∷ [])) → IsTrue (available w.sites ar a) → Pure w rules built served a → IsTrue (available w.sites ar b) → Pure w rules built served b
-      → ((c : Content) (env' : Env) → content_at w pick a ≡ Some c → content_at w pick b ≡ Some c → At w (wider w rules built served ar (a ∷ (b ∷ []))) pick env' → Adds (run_tree body w env' (trace done)) done (left ar.looped pick here))
+      → binds ≡ bind_order w.sites ar (a ∷ (b ∷ [])) → IsTrue (available w.sites ar a) → IsPureBelow w.sites a → IsTrue (available w.sites ar b) → IsPureBelow w.sites b
+      → ((c : Content) (env' : Env) → content_at w pick a ≡ Some c → content_at w pick b ≡ Some c → At w (wider w.sites ar (a ∷ (b ∷ []))) pick env' → Adds (run_tree body w env' (trace done)) done (left ar.looped pick here))
       → (((rest : Pick) → value_at w (pick ++ rest) a ≡ value_at w (pick ++ rest) b → ⊥) → NoneHolds pick here)
-      → ((env' : Env) → At w (wider w rules built served ar (a ∷ (b ∷ []))) pick env' → (now : List Content) → Adds (run_tree rest w env' (trace now)) now (left ar.looped pick later))
+      → ((env' : Env) → At w (wider w.sites ar (a ∷ (b ∷ []))) pick env' → (now : List Content) → Adds (run_tree rest w env' (trace now)) now (left ar.looped pick later))
       → Adds (run_tree (step binds (equal_at a b body) rest) w env (trace done)) done (left ar.looped pick (here ++ later))
   equality_adds ar pick env at binds a b body rest here later done r known join same avail_a pure_a avail_b pure_b first other next =
       let x = found_at w rules built served ar pick env at a avail_a pure_a in
@@ -263,10 +269,10 @@ module _ (w : World) (rules : List SetRule) (built : IsCollectedSet (record { ru
       let v = served.values pick r b a y.0 known (joined_back r.classes a b join) y.1 in
       let m = binds_here w rules built served ar pick env at (a ∷ (b ∷ []))
       (λ s c. elim (in_cases a s (b ∷ []) c) [ inl e ↦ subst (λ t. IsTrue (available w.sites ar t)) e avail_a | inr d ↦ subst (λ t. IsTrue (available w.sites ar t)) (in_alone b s d) avail_b ])
-      (λ s c. elim (in_cases a s (b ∷ []) c) [ inl e ↦ subst (Pure w rules built served) e pure_a | inr d ↦ subst (Pure w rules built served) (in_alone b s d) pure_b ]) in
+      (λ s c. elim (in_cases a s (b ∷ []) c) [ inl e ↦ subst (IsPureBelow w.sites) e pure_a | inr d ↦ subst (IsPureBelow w.sites) (in_alone b s d) pure_b ]) in
       by u.0 v.0 (x.1 ∙ ap Some u.1) (y.1 ∙ ap Some v.1) m.0 m.1 m.2
     where
-      by : (u v : Value) → content_at w pick a ≡ Some (one u) → content_at w pick b ≡ Some (one v) → (env' : Env) → bind_all w env [] (bind_order w.sites ar (a ∷ (b ∷ []))) ≡ all_bound env' [] → Held w pick env' (Bound ar (a ∷ (b ∷ [])))
+      by : (u v : Value) → content_at w pick a ≡ Some (one u) → content_at w pick b ≡ Some (one v) → (env' : Env) → bind_all w env [] (bind_order w.sites ar (a ∷ (b ∷ []))) ≡ all_bound env' [] → Held w pick env' (KeptWith ar (a ∷ (b ∷ [])))
           → Adds (run_tree (step binds (equal_at a b body) rest) w env (trace done)) done (left ar.looped pick (here ++ later))
       by u v e f env' bound held =
           let now = at_wider w rules built served ar (a ∷ (b ∷ [])) pick env env' at held in
@@ -292,8 +298,8 @@ module _ (w : World) (rules : List SetRule) (built : IsCollectedSet (record { ru
   -- a loop over an available call
   loop_adds : (ar : Around) (pick : Pick) (env : Env) → At w ar pick env → (binds : List ℕ) (result source : ℕ) (body rest : Tree) (here later : List ℕ) (done : List Content) → here ≢ [] → Known here → AllGoOver rules here source
       → slice_get w.sites result ≡ Some (iterator_site source) → is_in source ar.looped ≡ false → binds ≡ bind_order w.sites ar (source ∷ []) → IsTrue (available w.sites ar source)
-      → ((longer : Pick) (env' : Env) → At w (loop_around w rules built served ar result (source ∷ [])) longer env' → (now : List Content) → Adds (run_tree body w env' (trace now)) now (left (source ∷ ar.looped) longer here))
-      → ((env' : Env) → At w (after_loop w rules built served ar (source ∷ [])) pick env' → (now : List Content) → Adds (run_tree rest w env' (trace now)) now (left ar.looped pick later))
+      → ((longer : Pick) (env' : Env) → At w (loop_around w.sites ar result (source ∷ [])) longer env' → (now : List Content) → Adds (run_tree body w env' (trace now)) now (left (source ∷ ar.looped) longer here))
+      → ((env' : Env) → At w (after_loop w.sites ar (source ∷ [])) pick env' → (now : List Content) → Adds (run_tree rest w env' (trace now)) now (left ar.looped pick later))
       → Adds (run_tree (step binds (loop_at result body) rest) w env (trace done)) done (left ar.looped pick (here ++ later))
   loop_adds ar pick env at binds result source body rest here later done some known over site out same avail first next =
       let m = some_rule here some known in
@@ -303,10 +309,10 @@ module _ (w : World) (rules : List SetRule) (built : IsCollectedSet (record { ru
       let pure = rule_pure w rules built served m.1 rule source of_rule in
       let x = found_at w rules built served ar pick env at source avail pure in
       let l = served.lists pick m.1 source x.0 (member_from_get rules m.0 m.1 m.3) iterates x.1 in
-      let b = binds_here w rules built served ar pick env at (source ∷ []) (λ s c. subst (λ t. IsTrue (available w.sites ar t)) (in_alone source s c) avail) (λ s c. subst (Pure w rules built served) (in_alone source s c) pure) in
+      let b = binds_here w rules built served ar pick env at (source ∷ []) (λ s c. subst (λ t. IsTrue (available w.sites ar t)) (in_alone source s c) avail) (λ s c. subst (IsPureBelow w.sites) (in_alone source s c) pure) in
       by l.0 (x.1 ∙ ap Some l.1) (site_known w rules built served m.1 rule source of_rule) b.0 b.1 b.2
     where
-      by : (cs : Contents) → content_at w pick source ≡ Some (many cs) → source < length w.sites → (env' : Env) → bind_all w env [] (bind_order w.sites ar (source ∷ [])) ≡ all_bound env' [] → Held w pick env' (Bound ar (source ∷ []))
+      by : (cs : Contents) → content_at w pick source ≡ Some (many cs) → source < length w.sites → (env' : Env) → bind_all w env [] (bind_order w.sites ar (source ∷ [])) ≡ all_bound env' [] → Held w pick env' (KeptWith ar (source ∷ []))
           → Adds (run_tree (step binds (loop_at result body) rest) w env (trace done)) done (left ar.looped pick (here ++ later))
       by cs list inside env' bound held =
           let go : Content → Trace → Outcome = λ c t. run_tree body w ((result, c) ∷ env') t in
@@ -333,7 +339,7 @@ module _ (w : World) (rules : List SetRule) (built : IsCollectedSet (record { ru
 
   return_adds : w.multi ≡ true → (ar : Around) (pick : Pick) (env : Env) → At w ar pick env → (binds : List ℕ) (rule : ℕ) (r : SetRule) (rest : Tree) (later : List ℕ) (done : List Content)
       → slice_get rules rule ≡ Some r → IsTested ar r → binds ≡ bind_order w.sites ar (return_uses (slice_get rules rule))
-      → ((env' : Env) → At w (wider w rules built served ar (return_uses (slice_get rules rule))) pick env' → (now : List Content) → Adds (run_tree rest w env' (trace now)) now (left ar.looped pick later))
+      → ((env' : Env) → At w (wider w.sites ar (return_uses (slice_get rules rule))) pick env' → (now : List Content) → Adds (run_tree rest w env' (trace now)) now (left ar.looped pick later))
       → Adds (run_tree (step binds (return_of (slice_get rules rule)) rest) w env (trace done)) done (left ar.looped pick (rule ∷ later))
   return_adds multi ar pick env at binds rule r rest later done get all same next =
       let good = rule_at w rules built served rule r get in
@@ -344,11 +350,11 @@ module _ (w : World) (rules : List SetRule) (built : IsCollectedSet (record { ru
       let x = found_at w rules built served ar pick env at r.result avail pure in
       let only = ap return_uses get ∙ ap (λ l. l ++ r.result ∷ []) good.no_calls in
       let alone : (s : ℕ) → Contains (return_uses (slice_get rules rule)) s → r.result ≡ s = λ s c. in_alone r.result s (subst (λ l. Contains l s) only c) in
-      let b = binds_here w rules built served ar pick env at (return_uses (slice_get rules rule)) (λ s c. subst (λ t. IsTrue (available w.sites ar t)) (alone s c) avail) (λ s c. subst (Pure w rules built served) (alone s c) pure) in
+      let b = binds_here w rules built served ar pick env at (return_uses (slice_get rules rule)) (λ s c. subst (λ t. IsTrue (available w.sites ar t)) (alone s c) avail) (λ s c. subst (IsPureBelow w.sites) (alone s c) pure) in
       by x.0 x.1 (subst (λ l. Contains l r.result) (sym only) (in_head r.result [])) (holds_here w rules built served ar pick env at r good known all) b.0 b.1 b.2
     where
       by : (x : Content) → content_at w pick r.result ≡ Some x → Contains (return_uses (slice_get rules rule)) r.result → demands_hold w pick r ≡ true → (env' : Env)
-          → bind_all w env [] (bind_order w.sites ar (return_uses (slice_get rules rule))) ≡ all_bound env' [] → Held w pick env' (Bound ar (return_uses (slice_get rules rule)))
+          → bind_all w env [] (bind_order w.sites ar (return_uses (slice_get rules rule))) ≡ all_bound env' [] → Held w pick env' (KeptWith ar (return_uses (slice_get rules rule)))
           → Adds (run_tree (step binds (return_of (slice_get rules rule)) rest) w env (trace done)) done (left ar.looped pick (rule ∷ later))
       by x e used_here holds env' bound held =
           let one_left : left ar.looped pick (rule ∷ []) ≡ x ∷ [] =
@@ -371,11 +377,11 @@ module _ (w : World) (rules : List SetRule) (built : IsCollectedSet (record { ru
   fields_cases None = inr refl
   fields_cases (Some cs) = inl (cs, refl)
 
-  arm_binds : (ar : Around) (pick : Pick) (s : ℕ) (c : Constraint) (fields : List (Option ℕ)) (cs : List Content) (env : Env) → At w (wider w rules built served ar (s ∷ [])) pick env → fields ≡ fields_of w.sites s c
+  arm_binds : (ar : Around) (pick : Pick) (s : ℕ) (c : Constraint) (fields : List (Option ℕ)) (cs : List Content) (env : Env) → At w (wider w.sites ar (s ∷ [])) pick env → fields ≡ fields_of w.sites s c
       → FieldsHold w pick built.sources s (fields_of w.sites s c) cs
-      → (env' : Env) × (bind_fields fields cs env ≡ Some env') × Held w pick env' (λ t. Kept (wider w rules built served ar (s ∷ [])) t ⊎ Contains (field_sites fields) t)
+      → (env' : Env) × (bind_fields fields cs env ≡ Some env') × Held w pick env' (λ t. Kept (wider w.sites ar (s ∷ [])) t ⊎ Contains (field_sites fields) t)
   arm_binds ar pick s c fields cs env at same hold =
-      fields_bound w pick built.sources s fields cs env (Kept (wider w rules built served ar (s ∷ []))) at.held
+      fields_bound w pick built.sources s fields cs env (Kept (wider w.sites ar (s ∷ []))) at.held
       (inl (in_first s (all_below w.sites (s ∷ [])) ar.emitted (in_flat_map (λ x. below (suc x) w.sites x) (s ∷ []) s s (in_head s []) (in_head s _))))
       (subst (λ l. FieldsHold w pick built.sources s l cs) (sym same) hold)
 
@@ -422,7 +428,7 @@ module _ (w : World) (rules : List SetRule) (built : IsCollectedSet (record { ru
           equality_adds ar pick env at binds a b (plain rules body) (plain rules rest) (marks body) (marks rest) done r.1 (member_from_get rules r.0 r.1 r.3) join (sound.0 refl)
           (inside.0 refl).0 (rule_pure w rules built served r.1 rule a (class_of w rules built served r.1 a b join))
           (inside.0 refl).1 (rule_pure w rules built served r.1 rule b (class_of w rules built served r.1 b a (joined_back r.1.classes a b join)))
-          (λ c env' e f now. steps_run body (equal_around w rules built served ar a b) pick env' here inside.3 (at_equal w rules built served ar a b pick env' c now e f) done)
+          (λ c env' e f now. steps_run body (equal_around w.sites ar a b) pick env' here inside.3 (at_equal w rules built served ar a b pick env' c now e f) done)
           (λ differ j q k get more holds. differ more (demand_equal w (pick ++ more) q a b holds (inside.2 j q k get)))
           (λ env' now. steps_run rest (after_step set ar (m_equal a b body)) pick env' (known_right (marks body) (marks rest) known) sound.3 now)
       steps_run (m_step binds (m_loop result body) rest) ar pick env known sound at done =
@@ -431,15 +437,15 @@ module _ (w : World) (rules : List SetRule) (built : IsCollectedSet (record { ru
           let here = known_left (marks body) (marks rest) known in
           let only = source_alone result over.0 over.1 in
           loop_adds ar pick env at binds result over.0 (plain rules body) (plain rules rest) (marks body) (marks rest) done inside.1 here over.2 over.1 over.3 (sound.0 refl ∙ ap (bind_order w.sites ar) only) (over.4 refl)
-          (λ longer env' now later. steps_run body (loop_around w rules built served ar result (over.0 ∷ [])) longer env' here (subst (λ l. SoundSteps set true (loop_around w rules built served ar result l) true body) only inside.2) now later)
-          (λ env' now. steps_run rest (after_loop w rules built served ar (over.0 ∷ [])) pick env' (known_right (marks body) (marks rest) known) (subst (λ l. SoundSteps set true (after_loop w rules built served ar l) true rest) only sound.3) now)
+          (λ longer env' now later. steps_run body (loop_around w.sites ar result (over.0 ∷ [])) longer env' here (subst (λ l. SoundSteps set true (loop_around w.sites ar result l) true body) only inside.2) now later)
+          (λ env' now. steps_run rest (after_loop w.sites ar (over.0 ∷ [])) pick env' (known_right (marks body) (marks rest) known) (subst (λ l. SoundSteps set true (after_loop w.sites ar l) true rest) only sound.3) now)
       steps_run (m_step binds (m_return rule) rest) ar pick env known sound at done =
           let r = get_within rules rule (known rule (in_head rule (marks rest))) in
           return_adds multi ar pick env at binds rule r.0 (plain rules rest) (marks rest) done r.1 (sound.1 refl r.0 r.1) (sound.0 refl)
           (λ env' now. steps_run rest (after_step set ar (m_return rule)) pick env' (known_right (rule ∷ []) (marks rest) known) sound.3 now)
 
       arms_run : (arms : MarkedArms) (ar : Around) (pick : Pick) (env : Env) (s : ℕ) (before : Option Constraint) (x : Content) → Known (marks_arms arms) → SoundArms set true ar true s before arms
-          → content_at w pick s ≡ Some x → At w (wider w rules built served ar (s ∷ [])) pick env → (done : List Content) → Adds (run_arms (plain_arms rules arms) w x env (trace done)) done (left ar.looped pick (marks_arms arms))
+          → content_at w pick s ≡ Some x → At w (wider w.sites ar (s ∷ [])) pick env → (done : List Content) → Adds (run_arms (plain_arms rules arms) w x env (trace done)) done (left ar.looped pick (marks_arms arms))
       arms_run m_no_arm ar pick env s before x known sound e at done = adds_none done
       arms_run (m_arm c fields body rest) ar pick env s before x known sound e at done =
           let here = known_left (marks body) (marks_arms rest) known in
@@ -454,7 +460,7 @@ module _ (w : World) (rules : List SetRule) (built : IsCollectedSet (record { ru
                 let alone = first_alone ar.looped pick (marks body) (marks_arms rest) (left_nothing ar.looped pick (marks_arms rest) (none_after rest ar pick s c ask.0 ask.1 ask.2 ask.3 passes sound.5)) in
                 subst (λ o. Adds o done (left ar.looped pick (marks body ++ marks_arms rest))) (sym (arm_met c fields (plain rules body) (plain_arms rules rest) x met.0 env b.0 done met.1 b.1))
                 (subst (Adds (run_tree (plain rules body) w b.0 (trace done)) done) (sym alone)
-                (steps_run body (arm_around w rules built served ar s c fields) pick b.0 here sound.4 (at_arm w rules built served ar s c fields pick env b.0 at sound.3 passes b.2) done))
+                (steps_run body (arm_around w.sites ar s c fields) pick b.0 here sound.4 (at_arm w rules built served ar s c fields pick env b.0 at sound.3 passes b.2) done))
             | inr unmet ↦
                 let alone = later_alone ar.looped pick (marks body) (marks_arms rest) (left_nothing ar.looped pick (marks body) (none_asking (marks body) pick s c x e unmet sound.2)) in
                 subst (λ o. Adds o done (left ar.looped pick (marks body ++ marks_arms rest))) (sym (arm_unmet c fields (plain rules body) (plain_arms rules rest) x env done unmet))

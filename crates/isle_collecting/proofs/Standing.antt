@@ -1,7 +1,7 @@
 -- Where a run of a sound tree stands under a pick: what it keeps on its path, and how it goes on.
 use Rattle.std.proofs.Common.{◌≡◌, ◌⊎◌, ℕ, zero, suc, ◌<◌, ◌≤◌, ◌==◌, true, not, ◌&&◌, List, [], ◌∷◌, ◌++◌, map, length, Option, Some, None, is_some, slice_get, Contains, IsTrue, flat_map, refl, sym, ap, ◌∙◌, subst, inl, inr, arith, eqb-true, eq-eqb, append_assoc}
 use Rattle.std.specs.List.{list_all}
-use Rattle.std.proofs.lemmas.Bool.{cases_Bool, or_cases, or_left, or_right, and_from, false≢true}
+use Rattle.std.proofs.lemmas.Bool.{cases_Bool, cases_lt, or_cases, or_left, or_right, and_from, false≢true}
 use Rattle.std.proofs.lemmas.Option.{slice_get_within, get_or_from_slice_get}
 use Rattle.std.proofs.lemmas.List.Elements.{Contains-append_left, Contains-append_right, Contains-append_cases, All-contains}
 use Rattle.std.proofs.lemmas.List.Folds.{list_any-append}
@@ -48,6 +48,14 @@ flat_same f g (x ∷ xs) h =
     λ j. e j ++ r j
 
 -- 2. what is below a site
+-- what is below calls that a loop goes over, without the calls
+abbrev pub under : List Site → List ℕ → List ℕ
+under sites calls = flat_map (λ s. all_below sites (sources_at sites s)) calls
+
+-- a site and all below it make no impure call
+abbrev pub IsPureBelow : List Site → ℕ → Type 0
+IsPureBelow sites s = (u : ℕ) → Contains (below (suc s) sites s) u → IsPureAt sites u
+
 module _ (sites : List Site) (before : SourcesBefore sites) where
   below_more : (n u : ℕ) → u < n → below (suc n) sites u ≡ below n sites u
   below_more zero u l = absurd (omega arith)
@@ -55,18 +63,11 @@ module _ (sites : List Site) (before : SourcesBefore sites) where
 
   below_enough : (n u : ℕ) → u < n → below n sites u ≡ below (suc u) sites u
   below_enough zero u l = absurd (omega arith)
-  below_enough (suc n) u l = flat
-    where
-      flat : below (suc n) sites u ≡ below (suc u) sites u
-      flat = ap (λ xs. u ∷ xs) (flat_same (below n sites) (below u sites) (sources_at sites u) (λ x c. let m = before u x c in both n x (omega arith) ∙ sym (both u x m)))
-        where
-          both : (n x : ℕ) → x < n → below n sites x ≡ below (suc x) sites x
-          both zero x l = absurd (omega arith)
-          both (suc n) x l =
-              elim (cases_Bool (n == x)) [
-                | inl t ↦ ap (λ k. below (suc k) sites x) (eqb-true n x t)
-                | inr f ↦ let d : (n ≡ x → ⊥) = λ q. false≢true (sym f ∙ eq-eqb n x q) in let m : x < n = omega (arith, l, d) in below_more n x m ∙ both n x m
-              ]
+  below_enough (suc n) u l =
+      elim (cases_lt u n) [
+        | inl m ↦ below_more n u m ∙ below_enough n u m
+        | inr m ↦ let e : n ≡ u = omega (arith, l, m) in ap (λ k. below (suc k) sites u) e
+      ]
 
   below_closed : (n s t x : ℕ) → s < n → Contains (below n sites s) t → Contains (sources_at sites t) x → Contains (below n sites s) x
   below_closed zero s t x l c d = absurd (omega arith)
@@ -99,17 +100,13 @@ module _ (sites : List Site) (before : SourcesBefore sites) where
             omega (arith, l, m)
       ]
 
-  -- what is below a call that a loop goes over, without the call
-  abbrev pub under : List ℕ → List ℕ
-  under sources = flat_map (λ s. all_below sites (sources_at sites s)) sources
-
-  under_closed : (source t x : ℕ) → Contains (under (source ∷ [])) t → Contains (sources_at sites t) x → Contains (under (source ∷ [])) x
+  under_closed : (source t x : ℕ) → Contains (under sites (source ∷ [])) t → Contains (sources_at sites t) x → Contains (under sites (source ∷ [])) x
   under_closed source t x c d =
       let a = from_flat_map (λ s. all_below sites (sources_at sites s)) (source ∷ []) t c in
       let b = from_flat_map (λ u. below (suc u) sites u) (sources_at sites a.0) t a.2 in
       in_flat_map (λ s. all_below sites (sources_at sites s)) (source ∷ []) a.0 x a.1 (in_flat_map (λ u. below (suc u) sites u) (sources_at sites a.0) b.0 x b.1 (below_closed (suc b.0) b.0 t x (omega arith) b.2 d))
 
-  call_or_under : (source t : ℕ) → Contains (all_below sites (source ∷ [])) t → (source ≡ t) ⊎ Contains (under (source ∷ [])) t
+  call_or_under : (source t : ℕ) → Contains (all_below sites (source ∷ [])) t → (source ≡ t) ⊎ Contains (under sites (source ∷ [])) t
   call_or_under source t c =
       let a = from_flat_map (λ s. below (suc s) sites s) (source ∷ []) t c in
       let k : Contains (below (suc source) sites source) t = subst (λ s. Contains (below (suc s) sites s) t) (sym (in_alone source a.0 a.1)) a.2 in
@@ -125,7 +122,7 @@ module _ (sites : List Site) (before : SourcesBefore sites) where
   call_below : (source : ℕ) → Contains (all_below sites (source ∷ [])) source
   call_below source = in_flat_map (λ s. below (suc s) sites s) (source ∷ []) source source (in_head source []) (in_head source (flat_map (below source sites) (sources_at sites source)))
 
-  under_below : (source t : ℕ) → Contains (under (source ∷ [])) t → Contains (all_below sites (source ∷ [])) t
+  under_below : (source t : ℕ) → Contains (under sites (source ∷ [])) t → Contains (all_below sites (source ∷ [])) t
   under_below source t c =
       let a = from_flat_map (λ s. all_below sites (sources_at sites s)) (source ∷ []) t c in
       let b = from_flat_map (λ u. below (suc u) sites u) (sources_at sites a.0) t a.2 in
@@ -135,7 +132,26 @@ module _ (sites : List Site) (before : SourcesBefore sites) where
       in_flat_map (λ s. below (suc s) sites s) (source ∷ []) source t (in_head source [])
       (in_tail source t (flat_map (below source sites) (sources_at sites source)) (in_flat_map (below source sites) (sources_at sites source) b.0 t k (subst (λ xs. Contains xs t) (sym (below_enough source b.0 l)) b.2)))
 
--- 3. a place on the path of a run
+-- 3. what is around places further on
+-- with these sites and all below them emitted
+abbrev pub wider : List Site → Around → List ℕ → Around
+wider sites ar ss = record { tested = ar.tested; joined = ar.joined; looped = ar.looped; brought = ar.brought; emitted = all_below sites ss ++ ar.emitted }
+
+-- in the body of an equality, and in that of an arm
+abbrev pub equal_around : List Site → Around → ℕ → ℕ → Around
+equal_around sites ar a b = record { tested = ar.tested; joined = (a, b) ∷ ar.joined; looped = ar.looped; brought = ar.brought; emitted = all_below sites (a ∷ (b ∷ [])) ++ ar.emitted }
+
+abbrev pub arm_around : List Site → Around → ℕ → Constraint → List (Option ℕ) → Around
+arm_around sites ar s c fields = record { tested = (s, c) ∷ ar.tested; joined = ar.joined; looped = ar.looped; brought = field_sites fields ++ ar.brought; emitted = field_sites fields ++ all_below sites (s ∷ []) ++ ar.emitted }
+
+-- in the body of a loop over calls, and after it
+abbrev pub loop_around : List Site → Around → ℕ → List ℕ → Around
+loop_around sites ar result calls = record { tested = ar.tested; joined = ar.joined; looped = calls ++ ar.looped; brought = result ∷ ar.brought; emitted = result ∷ (under sites calls ++ ar.emitted) }
+
+abbrev pub after_loop : List Site → Around → List ℕ → Around
+after_loop sites ar calls = record { tested = ar.tested; joined = ar.joined; looped = ar.looped; brought = ar.brought; emitted = under sites calls ++ ar.emitted }
+
+-- 4. a place on the path of a run
 -- emitted, or gone over by a loop around
 abbrev pub Kept : Around → ℕ → Type 0
 Kept ar t = IsTrue (is_in t ar.emitted) ⊎ Contains ar.looped t
@@ -162,7 +178,7 @@ pub record At (w : World) (ar : Around) (pick : Pick) (env : Env) : Type 0 where
   pub names : (c : SiteTerm) → Contains (keys pick) c → (s : ℕ) × Contains ar.looped s × (c ≡ unfold_site w.sites s)
   pub known : (s : ℕ) → Contains ar.looped s → s < length w.sites
 
--- 4. a longer pick
+-- 5. a longer pick
 module _ (w : World) (pick rest : Pick) where
   pub grown : (s : ℕ) (c : Content) → content_at w pick s ≡ Some c → content_at w (pick ++ rest) s ≡ Some c
   grown s c e = content_grown w.meaning w.args pick rest (unfold_site w.sites s) c e
@@ -186,7 +202,7 @@ module _ (w : World) (pick rest : Pick) where
       by None e h = absurd (false≢true h)
       by (Some x) e h = ap (meets w.meaning c) (grown s x e) ∙ h
 
--- 5. pure sites
+-- 6. pure sites
 pure_site : (b : Site) → calls_nothing (Some b) ≡ true → IsPureSite b
 pure_site (constructor_site term sources zero) h = tt
 pure_site (constructor_site term sources (suc instance)) h = absurd (false≢true h)
@@ -222,13 +238,10 @@ module _ (w : World) (rules : List SetRule) (built : IsCollectedSet (record { ru
   pub result_of : (r : SetRule) → Contains (sites_of_rule r) r.result
   result_of r = Contains-append_right (tested_sites r ++ r.iterators) (r.result ∷ []) r.result (in_head r.result [])
 
-  abbrev pub Pure : ℕ → Type 0
-  Pure s = (u : ℕ) → Contains (below (suc s) w.sites s) u → IsPureAt w.sites u
-
   pub site_known : (r : SetRule) → IsCollectedRule w.sites r → (s : ℕ) → Contains (sites_of_rule r) s → s < length w.sites
   site_known r rule s c = All-contains (λ x. x < length w.sites) (sites_of_rule r) s rule.known c
 
-  pub rule_pure : (r : SetRule) → IsCollectedRule w.sites r → (s : ℕ) → Contains (sites_of_rule r) s → Pure s
+  pub rule_pure : (r : SetRule) → IsCollectedRule w.sites r → (s : ℕ) → Contains (sites_of_rule r) s → IsPureBelow w.sites s
   rule_pure r rule s c u k =
       let l = site_known r rule s c in
       let m = below_within w.sites built.sources (suc s) s u k in
@@ -244,15 +257,15 @@ module _ (w : World) (rules : List SetRule) (built : IsCollectedSet (record { ru
     brought_found : (s : ℕ) → IsTrue (is_in s ar.brought) → IsTrue (is_some (content_at w pick s))
     brought_found s i = (let h = at.held.there s (inl (at.brought s i)) in ap is_some h.1)
 
-    pub found_at : (s : ℕ) → IsTrue (available w.sites ar s) → Pure s → (c : Content) × (content_at w pick s ≡ Some c)
+    pub found_at : (s : ℕ) → IsTrue (available w.sites ar s) → IsPureBelow w.sites s → (c : Content) × (content_at w pick s ≡ Some c)
     found_at s a pure = content_of (content_at w pick s) (available_found w pick (finds pick) ar brought_found (suc s) s a pure)
 
-    pub binds_here : (ss : List ℕ) → ((s : ℕ) → Contains ss s → IsTrue (available w.sites ar s)) → ((s : ℕ) → Contains ss s → Pure s) → BindsTo w pick env (Kept ar) ss (bind_order w.sites ar ss)
+    pub binds_here : (ss : List ℕ) → ((s : ℕ) → Contains ss s → IsTrue (available w.sites ar s)) → ((s : ℕ) → Contains ss s → IsPureBelow w.sites s) → BindsTo w pick env (Kept ar) ss (bind_order w.sites ar ss)
     binds_here ss avail pure =
         binds_order w pick built.sources (finds pick) ar at.brought (Kept ar) (λ s i. inl i) env at.held ss avail
         (λ u c. let r = from_flat_map (λ x. below (suc x) w.sites x) ss u c in pure r.0 r.1 u r.2)
 
-    -- 6. where all that a rule demands was tested
+    -- 7. where all that a rule demands was tested
     module _ (r : SetRule) (rule : IsCollectedRule w.sites r) (known : Contains rules r) (all : IsTested ar r) where
       abbrev loopless : SetRule
       loopless = record { id = r.id; at = r.at; prio = r.prio; name = r.name; constraints = r.constraints; classes = r.classes; iterators = []; impure = r.impure; result = r.result }
@@ -294,13 +307,10 @@ module _ (w : World) (rules : List SetRule) (built : IsCollectedSet (record { ru
           let here = c.1 ∙ ap Some v.1 in
           (v.0, here, sym (joined_same (content_at w pick) ar.joined (joined_at w pick ar.joined at.joined) a b (all.equalities a b j)) ∙ here))
 
-  -- 7. places further on
-  abbrev pub wider : Around → List ℕ → Around
-  wider ar ss = record { tested = ar.tested; joined = ar.joined; looped = ar.looped; brought = ar.brought; emitted = all_below w.sites ss ++ ar.emitted }
-
-  pub at_wider : (ar : Around) (ss : List ℕ) (pick : Pick) (env env' : Env) → At w ar pick env → Held w pick env' (λ t. Contains (all_below w.sites ss) t ⊎ Kept ar t) → At w (wider ar ss) pick env'
+  -- 8. places further on
+  pub at_wider : (ar : Around) (ss : List ℕ) (pick : Pick) (env env' : Env) → At w ar pick env → Held w pick env' (λ t. Contains (all_below w.sites ss) t ⊎ Kept ar t) → At w (wider w.sites ar ss) pick env'
   at_wider ar ss pick env env' at held = record {
-    held = held_as w pick env' (λ t. Contains (all_below w.sites ss) t ⊎ Kept ar t) (Kept (wider ar ss)) to from held;
+    held = held_as w pick env' (λ t. Contains (all_below w.sites ss) t ⊎ Kept ar t) (Kept (wider w.sites ar ss)) to from held;
     brought = λ s i. in_second s (all_below w.sites ss) ar.emitted (at.brought s i);
     brings = at.brings;
     loops = at.loops;
@@ -311,28 +321,22 @@ module _ (w : World) (rules : List SetRule) (built : IsCollectedSet (record { ru
     known = at.known;
   }
     where
-      to : (t : ℕ) → Contains (all_below w.sites ss) t ⊎ Kept ar t → Kept (wider ar ss) t
+      to : (t : ℕ) → Contains (all_below w.sites ss) t ⊎ Kept ar t → Kept (wider w.sites ar ss) t
       to t (inl c) = inl (in_first t (all_below w.sites ss) ar.emitted c)
       to t (inr (inl e)) = inl (in_second t (all_below w.sites ss) ar.emitted e)
       to t (inr (inr l)) = inr l
 
-      from : (t : ℕ) → Kept (wider ar ss) t → Contains (all_below w.sites ss) t ⊎ Kept ar t
+      from : (t : ℕ) → Kept (wider w.sites ar ss) t → Contains (all_below w.sites ss) t ⊎ Kept ar t
       from t (inl i) = elim (in_either t (all_below w.sites ss) ar.emitted i) [ inl c ↦ inl c | inr e ↦ inr (inl e) ]
       from t (inr l) = inr (inr l)
 
-  abbrev pub equal_around : Around → ℕ → ℕ → Around
-  equal_around ar a b = record { tested = ar.tested; joined = (a, b) ∷ ar.joined; looped = ar.looped; brought = ar.brought; emitted = all_below w.sites (a ∷ (b ∷ [])) ++ ar.emitted }
-
-  pub at_equal : (ar : Around) (a b : ℕ) (pick : Pick) (env : Env) (c : Content) → At w (wider ar (a ∷ (b ∷ []))) pick env → content_at w pick a ≡ Some c → content_at w pick b ≡ Some c → At w (equal_around ar a b) pick env
+  pub at_equal : (ar : Around) (a b : ℕ) (pick : Pick) (env : Env) (c : Content) → At w (wider w.sites ar (a ∷ (b ∷ []))) pick env → content_at w pick a ≡ Some c → content_at w pick b ≡ Some c → At w (equal_around w.sites ar a b) pick env
   at_equal ar a b pick env c at x y = record { held = at.held; brought = at.brought; brings = at.brings; loops = at.loops; tested = at.tested; joined = ((c, x, y), at.joined); named = at.named; names = at.names; known = at.known }
 
-  abbrev pub arm_around : Around → ℕ → Constraint → List (Option ℕ) → Around
-  arm_around ar s c fields = record { tested = (s, c) ∷ ar.tested; joined = ar.joined; looped = ar.looped; brought = field_sites fields ++ ar.brought; emitted = field_sites fields ++ all_below w.sites (s ∷ []) ++ ar.emitted }
-
-  pub at_arm : (ar : Around) (s : ℕ) (c : Constraint) (fields : List (Option ℕ)) (pick : Pick) (env env' : Env) → At w (wider ar (s ∷ [])) pick env → fields ≡ fields_of w.sites s c → meets w.meaning c (content_at w pick s) ≡ true
-      → Held w pick env' (λ t. Kept (wider ar (s ∷ [])) t ⊎ Contains (field_sites fields) t) → At w (arm_around ar s c fields) pick env'
+  pub at_arm : (ar : Around) (s : ℕ) (c : Constraint) (fields : List (Option ℕ)) (pick : Pick) (env env' : Env) → At w (wider w.sites ar (s ∷ [])) pick env → fields ≡ fields_of w.sites s c → meets w.meaning c (content_at w pick s) ≡ true
+      → Held w pick env' (λ t. Kept (wider w.sites ar (s ∷ [])) t ⊎ Contains (field_sites fields) t) → At w (arm_around w.sites ar s c fields) pick env'
   at_arm ar s c fields pick env env' at same met held = record {
-    held = held_as w pick env' (λ t. Kept (wider ar (s ∷ [])) t ⊎ Contains (field_sites fields) t) (Kept (arm_around ar s c fields)) to from held;
+    held = held_as w pick env' (λ t. Kept (wider w.sites ar (s ∷ [])) t ⊎ Contains (field_sites fields) t) (Kept (arm_around w.sites ar s c fields)) to from held;
     brought = λ t i. elim (in_either t (field_sites fields) ar.brought i) [ inl a ↦ emit t (inr a) | inr b ↦ emit t (inl (at.brought t b)) ];
     brings = λ t d x k m. elim (in_cases (s, c) (t, d) ar.tested k) [
       | inl e ↦ Contains-append_left (field_sites fields) ar.brought x (subst (λ l. Contains (field_sites l) x) (sym same) (subst (λ (y : ℕ × Constraint). Contains (field_sites (fields_of w.sites y.0 y.1)) x) (sym e) m))
@@ -356,30 +360,23 @@ module _ (w : World) (rules : List SetRule) (built : IsCollectedSet (record { ru
       emit t (inl a) = three t ∙ in_second t (field_sites fields) (all_below w.sites (s ∷ []) ++ ar.emitted) a
       emit t (inr c) = three t ∙ in_first t (field_sites fields) (all_below w.sites (s ∷ []) ++ ar.emitted) c
 
-      to : (t : ℕ) → Kept (wider ar (s ∷ [])) t ⊎ Contains (field_sites fields) t → Kept (arm_around ar s c fields) t
+      to : (t : ℕ) → Kept (wider w.sites ar (s ∷ [])) t ⊎ Contains (field_sites fields) t → Kept (arm_around w.sites ar s c fields) t
       to t (inl (inl a)) = inl (emit t (inl a))
       to t (inl (inr l)) = inr l
       to t (inr c) = inl (emit t (inr c))
 
-      from : (t : ℕ) → Kept (arm_around ar s c fields) t → Kept (wider ar (s ∷ [])) t ⊎ Contains (field_sites fields) t
+      from : (t : ℕ) → Kept (arm_around w.sites ar s c fields) t → Kept (wider w.sites ar (s ∷ [])) t ⊎ Contains (field_sites fields) t
       from t (inl i) = elim (in_either t (field_sites fields) (all_below w.sites (s ∷ []) ++ ar.emitted) (sym (three t) ∙ i)) [ inl a ↦ inr a | inr b ↦ inl (inl b) ]
       from t (inr l) = inl (inr l)
 
-  -- around the body of a loop over a call, and after it
-  abbrev pub loop_around : Around → ℕ → List ℕ → Around
-  loop_around ar result sources = record { tested = ar.tested; joined = ar.joined; looped = sources ++ ar.looped; brought = result ∷ ar.brought; emitted = result ∷ (under w.sites built.sources sources ++ ar.emitted) }
-
-  abbrev pub after_loop : Around → List ℕ → Around
-  after_loop ar sources = record { tested = ar.tested; joined = ar.joined; looped = ar.looped; brought = ar.brought; emitted = under w.sites built.sources sources ++ ar.emitted }
-
   module _ (ar : Around) (source : ℕ) (pick : Pick) (env env' : Env) (at : At w ar pick env) (held : Held w pick env' (λ t. Contains (all_below w.sites (source ∷ [])) t ⊎ Kept ar t)) where
     abbrev beneath : List ℕ
-    beneath = under w.sites built.sources (source ∷ [])
+    beneath = under w.sites (source ∷ [])
 
     abbrev WithCall : ℕ → Type 0
     WithCall t = Contains (all_below w.sites (source ∷ [])) t ⊎ Kept ar t
 
-    pub at_after_loop : At w (after_loop ar (source ∷ [])) pick env'
+    pub at_after_loop : At w (after_loop w.sites ar (source ∷ [])) pick env'
     at_after_loop = record {
       held = record {
         there = λ t k. held.there t (wide t k);
@@ -397,15 +394,15 @@ module _ (w : World) (rules : List SetRule) (built : IsCollectedSet (record { ru
       known = at.known;
     }
       where
-        wide : (t : ℕ) → Kept (after_loop ar (source ∷ [])) t → WithCall t
+        wide : (t : ℕ) → Kept (after_loop w.sites ar (source ∷ [])) t → WithCall t
         wide t (inl i) = elim (in_either t beneath ar.emitted i) [ inl u ↦ inl (under_below w.sites built.sources source t u) | inr e ↦ inr (inl e) ]
         wide t (inr l) = inr (inr l)
 
-        later : (t : ℕ) → Kept ar t → Kept (after_loop ar (source ∷ [])) t
+        later : (t : ℕ) → Kept ar t → Kept (after_loop w.sites ar (source ∷ [])) t
         later t (inl e) = inl (in_second t beneath ar.emitted e)
         later t (inr l) = inr l
 
-        closed : (t u : ℕ) → Kept (after_loop ar (source ∷ [])) t → Contains (sources_at w.sites t) u → Kept (after_loop ar (source ∷ [])) u
+        closed : (t u : ℕ) → Kept (after_loop w.sites ar (source ∷ [])) t → Contains (sources_at w.sites t) u → Kept (after_loop w.sites ar (source ∷ [])) u
         closed t u (inl i) c = elim (in_either t beneath ar.emitted i) [ inl x ↦ inl (in_first u beneath ar.emitted (under_closed w.sites built.sources source t u x c)) | inr e ↦ later u (at.held.closed t u (inl e) c) ]
         closed t u (inr l) c = later u (at.held.closed t u (inr l) c)
 
@@ -443,7 +440,7 @@ module _ (w : World) (rules : List SetRule) (built : IsCollectedSet (record { ru
           ]
 
       abbrev Body : Around
-      Body = loop_around ar result (source ∷ [])
+      Body = loop_around w.sites ar result (source ∷ [])
 
       to : (t : ℕ) → WithCall t ⊎ (result ≡ t) → Kept Body t
       to t (inl (inl a)) =
