@@ -8,3 +8,4 @@ pub mod Calls
 pub mod Bags
 pub mod Standing
 pub mod Collected
+pub mod SampleCollected
