@@ -1,0 +1,11 @@
+pub mod Unfolded
+pub mod Binding
+pub mod BindOrders
+pub mod Demanded
+pub mod Fields
+pub mod Grown
+pub mod Calls
+pub mod Bags
+pub mod Standing
+pub mod Collected
+pub mod SampleCollected
