@@ -1,0 +1,3 @@
+pub mod Unfolding
+pub mod Once
+pub mod Gates
