@@ -1,3 +1,6 @@
 pub mod Unfolding
 pub mod Once
 pub mod Gates
+pub mod Visited
+pub mod Patterns
+pub mod Exprs
