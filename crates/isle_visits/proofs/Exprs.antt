@@ -78,11 +78,11 @@ term_valued pure (a_struct ty) t a h g = record { later = later_making (struct_m
 term_valued pure (a_call flags infallible) t a h g = call_valued pure flags.pure flags.multi flags.partial flags.rec t a.sites a.visit h g
 term_valued pure unknown t a h g = record { later = now a.visit; binds = refl; site = tt }
 
-from_entry : (o : Option TermEntry) (f : TermEntry → Bool) → of_entry o f ≡ true → (t : TermEntry) × (f t ≡ true)
+pub from_entry : (o : Option TermEntry) (f : TermEntry → Bool) → of_entry o f ≡ true → (t : TermEntry) × (f t ≡ true)
 from_entry None f h = absurd (false≢true h)
 from_entry (Some t) f h = (t, h)
 
-from_vars : (o : Option (List (ℕ × ℕ))) (f : List (ℕ × ℕ) → Bool) → with_vars o f ≡ true → (vars : List (ℕ × ℕ)) × (o ≡ Some vars) × (f vars ≡ true)
+pub from_vars : (o : Option (List (ℕ × ℕ))) (f : List (ℕ × ℕ) → Bool) → with_vars o f ≡ true → (vars : List (ℕ × ℕ)) × (o ≡ Some vars) × (f vars ≡ true)
 from_vars None f h = absurd (false≢true h)
 from_vars (Some vars) f h = (vars, refl, h)
 

@@ -4,3 +4,5 @@ pub mod Gates
 pub mod Visited
 pub mod Patterns
 pub mod Exprs
+pub mod Rules
+pub mod Closing

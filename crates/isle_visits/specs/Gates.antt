@@ -1,8 +1,10 @@
 -- The gates of sites, on trees: what demands must ask for so that a site can be reached.
-use Rattle.std.specs.Prelude.{ℕ, zero, suc, ◌<◌, Bool, true, false, List, Contains, IsTrue}
+use Rattle.std.specs.Prelude.{ℕ, zero, suc, ◌<◌, Bool, true, false, List, [], ◌∷◌, Contains, IsTrue}
 use Rattle.isle_model.specs.Program.{Program, is_pure}
-use Rattle.isle_model.specs.Typed.{TypedExpr, make_term, make_var, make_bool, make_int, make_prim, make_let, TypedExprs, no_typed_expr, typed_expr_and, TypedLets, no_typed_let, typed_let_and}
+use Rattle.isle_model.specs.Typed.{TypedExpr, make_term, make_var, make_bool, make_int, make_prim, make_let, TypedExprs, no_typed_expr, typed_expr_and, TypedLets, no_typed_let, typed_let_and, TypedIfLet, TypedRule}
 use Rattle.isle_model.specs.Sites.{Constraint, is_variant, is_struct, is_present, SiteTerm, bool_term, int_term, prim_term, argument, extractor_call, constructor_call, pick_of, variant_made, variant_field, struct_made, struct_field, some_made, some_part, tuple_part, no_site, SiteTerms, no_site_term, site_term_and}
+use Rattle.isle_model.specs.Demands.{Demands, demands_of, result_of}
+use Rattle.isle_model.specs.Closure.{Closed}
 
 -- a site is asked to be that variant, with more than i fields
 pub record AsksVariant (cs : List (SiteTerm × Constraint)) (s : SiteTerm) (variant i : ℕ) : Type 0 where
@@ -71,3 +73,27 @@ abbrev mutual
   pub ArePureLets : Program → TypedLets → Type 0
   ArePureLets p no_typed_let = Unit {0}
   ArePureLets p (typed_let_and x ty value rest) = IsPureExpr p value × ArePureLets p rest
+
+-- the expressions of if-lets do
+abbrev pub ArePureIfLets : Program → List TypedIfLet → Type 0
+ArePureIfLets p [] = Unit {0}
+ArePureIfLets p (i ∷ is) = IsPureExpr p i.rhs × ArePureIfLets p is
+
+-- what demands constrain or equate may be tested: the gates at or below it are demanded, the calls that it unwraps are
+-- asked to answer, and it makes no impure call
+pub record CanBeTested (d : Demands) : Type 0 where
+  pub asked : (u : SiteTerm) (c : Constraint) → Contains d.constraints (u, c) → GatesDemanded true true d.constraints d.iterators u
+  pub equal : (u w : SiteTerm) → Contains d.equalities (u, w)
+      → GatesDemanded true true d.constraints d.iterators u × GatesDemanded true true d.constraints d.iterators w
+
+-- likewise of closed demands, by going over these calls
+pub record ClosedCanBeTested (calls : List SiteTerm) (k : Closed) : Type 0 where
+  pub asked : (u : SiteTerm) (c : Constraint) → Contains k.constraints (u, c) → GatesDemanded true true k.constraints calls u
+  pub equal : (class : List SiteTerm) (u : SiteTerm) → Contains k.classes class → Contains class u → GatesDemanded true true k.constraints calls u
+
+-- what a rule demands may be tested, and the gates below what it returns, and below its impure calls, are demanded, but
+-- for answers of calls that are unwrapped
+pub record DemandsGates (p : Program) (r : TypedRule) : Type 0 where
+  pub tested : CanBeTested (demands_of p r)
+  pub impure : (u : SiteTerm) → Contains (demands_of p r).impure u → GatesDemanded false false (demands_of p r).constraints (demands_of p r).iterators u
+  pub result : GatesDemanded false false (demands_of p r).constraints (demands_of p r).iterators (result_of p r)
