@@ -6,3 +6,6 @@ pub mod Patterns
 pub mod Exprs
 pub mod Rules
 pub mod Closing
+pub mod Elaborated
+pub mod Built
+pub mod Sets

@@ -1,12 +1,19 @@
 -- What visits demand, and so what built sets are.
-use Rattle.std.specs.Prelude.{◌≡◌, ℕ, true, List, Contains}
+use Rattle.std.specs.Prelude.{◌≡◌, ℕ, Bool, true, List, [], All, Contains}
 use Rattle.isle_model.specs.Names.{IsDistinct}
+use Rattle.isle_model.specs.Syntax.{Definition}
 use Rattle.isle_model.specs.Program.{Program}
 use Rattle.isle_model.specs.Typed.{TypedRule}
 use Rattle.isle_model.specs.Sites.{Constraint, SiteTerm, SiteSet}
 use Rattle.isle_model.specs.Demands.{Demands}
 use Rattle.isle_model.specs.Closure.{IsUnreachable, closed}
+use Rattle.isle_model.specs.Trees.{Tree}
+use Rattle.isle_model.specs.Sound.{IsSound}
+use Rattle.isle_model.specs.Best.{IsBestTree}
+use Rattle.isle_model.specs.WellBuilt.{IsWellBuilt, HasOnePriority}
 use Rattle.isle_elaboration.specs.Formed.{is_formed_rule}
+use Rattle.isle_elaboration.specs.Elaborated.{TypedRules}
+use Rattle.isle_statements.specs.Environments.{TypesRead, IsElaborated, program_of}
 use Rattle.isle_statements.specs.RuleSets.{IsBuilt}
 use Rattle.isle_visits.specs.Gates.{ArePureIfLets, CanBeTested, ClosedCanBeTested, DemandsGates}
 
@@ -23,3 +30,22 @@ abbrev pub ClosingKeepsGates : Type 0
 ClosingKeepsGates =
     (before : List SiteTerm) (d : Demands) → (IsUnreachable d → ⊥) → CanBeTested d
     → ((u : SiteTerm) (c : Constraint) → Contains d.constraints (u, c) → Contains (closed before d).constraints (u, c)) × ClosedCanBeTested d.iterators (closed before d)
+
+-- rules that elaborate demand their gates
+abbrev pub ElaboratedRulesDemandGates : Type 0
+ElaboratedRulesDemandGates =
+    (e : TypesRead) (defs : List Definition) (expand : Bool) (rules : TypedRules) → IsElaborated e defs expand rules
+    → (r : TypedRule) → Contains rules.rules r → DemandsGates (program_of e defs rules.rules) r
+
+-- a set that is built of elaborated rules, none of which goes over calls, is well built
+abbrev pub BuiltSetsAreWellBuilt : Type 0
+BuiltSetsAreWellBuilt =
+    (e : TypesRead) (defs : List Definition) (expand : Bool) (rules : TypedRules) (t : ℕ) (set : SiteSet)
+    → IsElaborated e defs expand rules → IsBuilt (program_of e defs rules.rules) t set → All (λ r. r.iterators ≡ []) set.rules → IsWellBuilt set
+
+-- so its best trees are sound
+abbrev pub BestTreesOfBuiltSetsAreSound : Type 0
+BestTreesOfBuiltSetsAreSound =
+    (e : TypesRead) (defs : List Definition) (expand : Bool) (rules : TypedRules) (t : ℕ) (set : SiteSet) (multi : Bool) (tree : Tree)
+    → IsElaborated e defs expand rules → IsBuilt (program_of e defs rules.rules) t set → All (λ r. r.iterators ≡ []) set.rules
+    → (multi ≡ true → HasOnePriority set.rules) → IsBestTree set tree → IsSound set multi tree

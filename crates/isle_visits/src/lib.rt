@@ -3,7 +3,10 @@
 //! A function here has an empty body: its clause is a law, and its proof stands in `proofs/`.
 #![tactic(auto)]
 
-ghost use Rattle.isle_visits.specs.Laws.{ClosingKeepsGates, FormedRulesDemandGates, SitesStandOnce};
+use isle_elaboration::{lists_agree, rules_are_formed};
+
+ghost use Rattle.isle_statements.specs.SetMeanings.{BuiltSetsAreTested};
+ghost use Rattle.isle_visits.specs.Laws.{BestTreesOfBuiltSetsAreSound, BuiltSetsAreWellBuilt, ClosingKeepsGates, ElaboratedRulesDemandGates, FormedRulesDemandGates, SitesStandOnce};
 
 /// In a built set no site stands twice.
 pub fn sites_stand_once()
@@ -19,3 +22,32 @@ pub fn formed_rules_demand_gates()
 pub fn closing_keeps_gates()
     ensures { ClosingKeepsGates }
 {}
+
+/// So do rules that elaborate.
+pub fn elaborated_rules_demand_gates()
+    ensures { ElaboratedRulesDemandGates }
+{
+    rules_are_formed();
+    lists_agree();
+}
+
+/// A set that is built of elaborated rules, none of which goes over calls, is well built.
+pub fn built_sets_are_well_built()
+    ensures { BuiltSetsAreWellBuilt }
+{
+    elaborated_rules_demand_gates();
+}
+
+/// So its best trees are sound.
+pub fn best_trees_of_built_sets_are_sound()
+    ensures { BestTreesOfBuiltSetsAreSound }
+{
+    built_sets_are_well_built();
+}
+
+/// And in a term that isn't multi it meets what choosing from it asks.
+pub fn built_sets_are_tested()
+    ensures { BuiltSetsAreTested }
+{
+    elaborated_rules_demand_gates();
+}
