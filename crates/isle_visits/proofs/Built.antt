@@ -1,20 +1,19 @@
 -- Rules of a built set demand the gates of the sites that they test and return.
-use Rattle.std.proofs.Common.{◌≡◌, ◌⊎◌, ℕ, zero, suc, ◌==◌, ◌<◌, Bool, true, false, not, ◌&&◌, if◌then◌else◌, nat_lt, List, [], ◌∷◌, ◌++◌, length, map, get_or, Option, Some, None, is_none, slice_get, Contains, IsTrue, All, filter, flat_map, refl, sym, ap, ◌∙◌, subst, inl, inr, arith, eq-eqb, lt-ltb}
-use Rattle.std.proofs.lemmas.Bool.{cases_Bool, cond-true, cond-false, and_parts, and_from, false≢true}
-use Rattle.std.proofs.lemmas.Option.{slice_get-get_or}
+use Rattle.std.proofs.Common.{◌≡◌, ◌⊎◌, ℕ, zero, suc, ◌==◌, ◌<◌, Bool, true, false, not, ◌&&◌, if◌then◌else◌, nat_lt, List, [], ◌∷◌, length, Option, Some, None, is_none, slice_get, Contains, IsTrue, flat_map, refl, sym, ap, ◌∙◌, subst, inl, inr, arith, eq-eqb, lt-ltb}
+use Rattle.std.proofs.lemmas.Bool.{and_parts, and_from, false≢true}
 use Rattle.isle_model.specs.Typed.{TypedRule}
 use Rattle.isle_model.specs.Program.{Program, rules_of}
 use Rattle.isle_model.specs.Sites.{Site, bool_site, int_site, prim_site, argument_site, extractor_site, constructor_site, iterator_site, make_variant_site, match_variant_site, make_struct_site, extract_struct_site, make_some_site, match_some_site, match_tuple_site, Constraint, is_variant, is_struct, is_present, SetRule, SiteSet, sources_of, sources_at, SiteTerm, each_term, layer, layer_at, unfold_site}
 use Rattle.isle_model.specs.Demands.{demands_of, result_of}
-use Rattle.isle_model.specs.Places.{is_in, below, return_uses}
+use Rattle.isle_model.specs.Places.{is_in, below}
 use Rattle.isle_model.specs.Gates.{asks_variant, asks_struct, asks_answer, gate_demanded}
 use Rattle.isle_model.specs.Collects.{IsPureSite}
-use Rattle.isle_model.specs.SetRuns.{IsPureAt, IsUnwrap}
-use Rattle.isle_model.specs.Closure.{IsUnreachable, is_unreachable, Closed, closed}
+use Rattle.isle_model.specs.SetRuns.{IsUnwrap}
+use Rattle.isle_model.specs.Closure.{IsUnreachable, is_unreachable, closed}
 use Rattle.isle_model.specs.Limits.{first_limit, sites_after_rule}
 use Rattle.isle_model.specs.Overlap.{BuiltRule, is_built, built_rule, built_from, built_rules}
 use Rattle.isle_statements.specs.RuleSets.{IsRuleOf, AreRulesOfSet, IsBuilt}
-use Rattle.isle_closure.proofs.Elements.{In, in_from_contains, contains_from_in, in_either, in_slice, any_in, from_flat_map, in_filter}
+use Rattle.isle_closure.proofs.Elements.{In, in_from_contains, contains_from_in, in_either, any_in, from_flat_map, in_filter}
 use Rattle.isle_closure.proofs.Settled.{verdict_is_exact_lem}
 use Rattle.isle_visits.specs.Gates.{AsksAnswer, IsPureCall, GatesDemanded, AllGatesDemanded, ClosedCanBeTested, DemandsGates}
 use Rattle.isle_visits.proofs.Unfolding.{unfolds}

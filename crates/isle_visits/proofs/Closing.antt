@@ -1,16 +1,16 @@
 -- What closing asks may be tested.
-use Rattle.std.proofs.Common.{◌≡◌, ◌⊎◌, ℕ, zero, suc, ◌+◌, ◌<◌, Bool, true, false, not, if◌then◌else◌, List, [], ◌∷◌, ◌++◌, map, Option, Some, None, is_some, Contains, filter, flat_map, refl, sym, ap, ◌∙◌, subst, inl, inr, arith}
+use Rattle.std.proofs.Common.{◌≡◌, ℕ, zero, suc, ◌+◌, ◌<◌, true, not, List, [], ◌∷◌, ◌++◌, map, Option, Some, None, is_some, Contains, filter, refl, sym, subst, inl, inr, arith}
 use Rattle.std.proofs.lemmas.Bool.{cases_Bool, cond-true, cond-false}
 use Rattle.std.specs.List.{zip}
 use Rattle.isle_model.specs.Sites.{Constraint, is_variant, is_struct, is_bool, is_int, is_prim, is_present, SiteTerm, variant_field, struct_field}
-use Rattle.isle_model.specs.Demands.{Demands, has_site, with_sites}
-use Rattle.isle_model.specs.Closure.{fields_from, field_terms, Joined, HasConstraint, IsUnreachable, two_in_a_class, constraint_of, Closed, class_at, without_class_of, merged, merged_all, with_constraint, with_constraints, ascending, next_constrained, field_equalities, taken, closing, before_closing, begins_with, in_order, most_steps, closed}
+use Rattle.isle_model.specs.Demands.{Demands, has_site}
+use Rattle.isle_model.specs.Closure.{fields_from, field_terms, HasConstraint, IsUnreachable, two_in_a_class, constraint_of, Closed, class_at, without_class_of, merged, merged_all, with_constraint, with_constraints, ascending, next_constrained, field_equalities, taken, closing, before_closing, begins_with, in_order, most_steps, closed}
 use Rattle.isle_closure.proofs.Elements.{In, in_from_contains, contains_from_in, in_left, in_right, in_either, in_slice, in_map, map_in, from_flat_map, in_zip, in_filter, passed_filter}
 use Rattle.isle_closure.proofs.SameSites.{constraint_cases}
 use Rattle.isle_closure.proofs.Classes.{has_in}
 use Rattle.isle_closure.proofs.Closing.{OneEach, constraints_in, in_constraints, constraints_kept, one_each, FollowsSoFar, in_class_joined, constraint_carried, next_asked, taken_follows, before_closing_follows, in_order_follows, from_constraints}
 use Rattle.isle_visits.specs.Gates.{GatesDemanded, CanBeTested, ClosedCanBeTested}
-use Rattle.isle_visits.proofs.Gates.{AllIn, gates_stay}
+use Rattle.isle_visits.proofs.Gates.{gates_stay}
 
 -- 1. members of classes
 module _ (P : SiteTerm → Type 0) where
@@ -195,8 +195,10 @@ module _ (d : Demands) (reachable : IsUnreachable d → ⊥) (tested : CanBeTest
 pub closing_keeps_gates_lem : (before : List SiteTerm) (d : Demands) → (IsUnreachable d → ⊥) → CanBeTested d
     → ((u : SiteTerm) (c : Constraint) → Contains d.constraints (u, c) → Contains (closed before d).constraints (u, c)) × ClosedCanBeTested d.iterators (closed before d)
 closing_keeps_gates_lem before d n t =
-    let f = closed_tested d n t before in
-    (λ u c i. contains_from_in (closed before d).constraints (u, c) (f.kept (u, c) (in_from_contains d.constraints (u, c) i)), record {
-      asked = λ u c i. f.asked (u, c) (in_from_contains (closed before d).constraints (u, c) i);
-      equal = λ k u i m. f.equal k u (in_from_contains (closed before d).classes k i) (in_from_contains k u m);
-    })
+    let f = closed_tested d n t before in (
+      λ u c i. contains_from_in (closed before d).constraints (u, c) (f.kept (u, c) (in_from_contains d.constraints (u, c) i)),
+      record {
+        asked = λ u c i. f.asked (u, c) (in_from_contains (closed before d).constraints (u, c) i);
+        equal = λ k u i m. f.equal k u (in_from_contains (closed before d).classes k i) (in_from_contains k u m);
+      },
+    )

@@ -1,14 +1,14 @@
 -- Rules that elaborate demand their gates: they hang together, and their if-lets call pure terms alone.
-use Rattle.std.proofs.Common.{◌≡◌, ◌⊎◌, ℕ, zero, suc, Bool, true, false, not, ◌&&◌, ◌||◌, cond, eqb, List, [], ◌∷◌, map, Option, Some, None, option_map, is_some, slice_get, Contains, refl, sym, ap, subst, inl, inr, ◌∙◌}
+use Rattle.std.proofs.Common.{◌≡◌, ℕ, zero, suc, Bool, true, false, not, ◌&&◌, ◌||◌, cond, eqb, List, [], ◌∷◌, map, Option, Some, None, option_map, is_some, slice_get, Contains, refl, sym, ap, subst, inl, inr, ◌∙◌}
 use Rattle.std.proofs.lemmas.Bool.{and_parts}
 use Rattle.std.proofs.lemmas.Option.{none-some, same_Some}
 use Rattle.isle_model.specs.Syntax.{Definition, ExprTree, ExprTrees, LetTrees, IfLetTree, RuleTree}
 use Rattle.isle_model.specs.Tables.{Flags, TermEntry, TermKindEntry, variant_term, struct_term, declared_term}
 use Rattle.isle_model.specs.Elaboration.{named_rule}
-use Rattle.isle_model.specs.Program.{Program, Kind, a_variant, a_struct, a_call, unknown, kind_of, kind, always_answers, flags_of, is_pure}
+use Rattle.isle_model.specs.Program.{Program, Kind, a_variant, a_struct, a_call, unknown, kind_of, always_answers, flags_of, is_pure}
 use Rattle.isle_model.specs.Typed.{TypedExpr, TypedExprs, TypedLets, TypedIfLet, TypedRule}
 use Rattle.isle_elaboration.specs.Setting.{Setting, Scope, entry_named, is_callable, on_lhs, allow}
-use Rattle.isle_elaboration.specs.Elaborated.{TypedRules, typed_rules, named, elaborated_rules}
+use Rattle.isle_elaboration.specs.Elaborated.{TypedRules, typed_rules, named}
 use Rattle.isle_elaboration.specs.Elaborates.{ElaboratesExpr, ElaboratesArgs, ElaboratesLets, a_call, converted_call, a_variable, converted_variable, truth_expr, integer_expr, constant_expr, let_in, no_arg, an_arg, no_def, a_def, ElaboratesIfLets, no_iflet, an_iflet, ElaboratesRule, a_rule, ElaboratesRules, no_rule, one_rule}
 use Rattle.isle_elaboration.specs.Agreement.{ListsAgree}
 use Rattle.isle_elaboration.specs.Formed.{is_formed_rule, program_in, RulesAreFormed}
@@ -101,5 +101,5 @@ pub elaborated_rules_demand_gates_lem : RulesAreFormed → ListsAgree → (e : T
 elaborated_rules_demand_gates_lem formed agree e defs expand rules h r c =
     let s = setting_of e defs expand in
     let g = all_hang s rules.rules (terms_stand_at_ids_lem e.known defs) formed agree (rule_trees defs) (term_names_met e.known defs)
-        (typed_rules s 0 (rule_trees defs) (term_names_met e.known defs)) rules refl h.elaborate.typed r (in_from_contains rules.rules r c) in
+    (typed_rules s 0 (rule_trees defs) (term_names_met e.known defs)) rules refl h.elaborate.typed r (in_from_contains rules.rules r c) in
     formed_rules_demand_gates_lem (program_of e defs rules.rules) r g.0 g.1

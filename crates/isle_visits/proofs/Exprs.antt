@@ -1,18 +1,18 @@
 -- What expressions make: the gates of a value are demanded, but for answers of partial calls.
-use Rattle.std.proofs.Common.{◌≡◌, ◌⊎◌, ℕ, zero, suc, ◌==◌, Bool, true, false, ◌&&◌, if◌then◌else◌, List, [], ◌∷◌, ◌++◌, Option, Some, None, is_some, slice_get, Contains, refl, sym, ap, subst, inl, inr, ◌∙◌}
+use Rattle.std.proofs.Common.{◌≡◌, ℕ, suc, ◌==◌, Bool, true, false, ◌&&◌, List, [], ◌∷◌, Option, Some, None, is_some, slice_get, refl, ap, subst, inl, inr, ◌∙◌}
 use Rattle.std.proofs.lemmas.Bool.{and_parts, cases_Bool, cond-true, cond-false, false≢true}
 use Rattle.isle_model.specs.Meaning.{look}
 use Rattle.isle_model.specs.Outcome.{then_option}
-use Rattle.isle_model.specs.Tables.{Flags, TermEntry}
-use Rattle.isle_model.specs.Program.{Program, Kind, a_variant, a_struct, a_call, unknown, kind, flags_of, is_pure}
-use Rattle.isle_model.specs.Sites.{SiteTerm, bool_term, int_term, prim_term, constructor_call, pick_of, variant_made, struct_made, some_part, no_site, SiteTerms, no_site_term, site_term_and}
+use Rattle.isle_model.specs.Tables.{TermEntry}
+use Rattle.isle_model.specs.Program.{Program, Kind, a_variant, a_struct, a_call, unknown, kind, flags_of}
+use Rattle.isle_model.specs.Sites.{SiteTerm, bool_term, int_term, prim_term, constructor_call, pick_of, variant_made, struct_made, some_part, SiteTerms}
 use Rattle.isle_model.specs.Typed.{TypedExpr, make_term, make_var, make_bool, make_int, make_prim, make_let, TypedExprs, no_typed_expr, typed_expr_and, TypedLets, no_typed_let, typed_let_and}
-use Rattle.isle_model.specs.Demands.{Visit, making, iterating, calling, binding, or_no_site, var_site, Valued, ValuedAll, valued, call_result, call_sites, where_multi, visit_call, visit_term, visit_expr, visit_exprs, visit_lets}
+use Rattle.isle_model.specs.Demands.{Visit, making, iterating, calling, binding, or_no_site, Valued, ValuedAll, valued, call_result, call_sites, where_multi, visit_call, visit_term, visit_expr, visit_exprs, visit_lets}
 use Rattle.isle_elaboration.specs.Setting.{expr_type, has_constructor}
-use Rattle.isle_elaboration.specs.Formed.{var_type, is_type, with_new, of_entry, with_vars, is_formed_expr, are_formed_args, formed_lets}
-use Rattle.isle_closure.proofs.Elements.{some_is, none_some}
-use Rattle.isle_visits.specs.Gates.{IsPureCall, GatesDemanded, AllGatesDemanded, IsPureExpr, ArePureExprs, ArePureLets}
-use Rattle.isle_visits.proofs.Gates.{gates_stay, all_stay}
+use Rattle.isle_elaboration.specs.Formed.{var_type, with_new, of_entry, with_vars, is_formed_expr, are_formed_args, formed_lets}
+use Rattle.isle_closure.proofs.Elements.{some_is}
+use Rattle.isle_visits.specs.Gates.{IsPureCall, AllGatesDemanded, IsPureExpr, ArePureExprs, ArePureLets}
+use Rattle.isle_visits.proofs.Gates.{all_stay}
 use Rattle.isle_visits.proofs.Visited.{Good, Later, good_stays, now, then_later, later_making, later_calling, later_binding, later_iterating, at_right, AreGood, Same, bound_good, good_and, good_later, then_same, same_binding}
 use Rattle.isle_visits.proofs.Patterns.{from_if, from_then, from_new, is_there}
 

@@ -1,8 +1,8 @@
 -- Gates stay demanded where more is demanded, and the calls that a value unwraps make the difference.
-use Rattle.std.proofs.Common.{◌≡◌, ◌⊎◌, ℕ, zero, suc, Bool, true, false, List, [], ◌∷◌, ◌++◌, Contains, refl, subst, inl, inr}
+use Rattle.std.proofs.Common.{ℕ, Bool, true, false, List, Contains, refl, subst, inl, inr}
 use Rattle.isle_model.specs.Sites.{Constraint, is_variant, is_struct, is_present, SiteTerm, bool_term, int_term, prim_term, argument, extractor_call, constructor_call, pick_of, variant_made, variant_field, struct_made, struct_field, some_made, some_part, tuple_part, no_site, SiteTerms, no_site_term, site_term_and}
 use Rattle.isle_model.specs.Demands.{unwraps, unwraps_all}
-use Rattle.isle_visits.specs.Gates.{AsksVariant, AsksStruct, AsksAnswer, IsPureCall, GatesDemanded, AllGatesDemanded}
+use Rattle.isle_visits.specs.Gates.{AsksAnswer, IsPureCall, GatesDemanded, AllGatesDemanded}
 use Rattle.isle_closure.proofs.Elements.{In, in_left, in_right, in_either}
 
 -- all of a list is in another one

@@ -1,15 +1,15 @@
 -- The sites of a term stand once among those made, and so the sites of a built set.
-use Rattle.std.proofs.Common.{◌≡◌, ◌⊎◌, ℕ, zero, suc, ◌<◌, Bool, true, false, if◌then◌else◌, List, [], ◌∷◌, ◌++◌, length, take, flat_map, Option, Some, None, slice_get, refl, sym, ap, subst, inl, inr, ◌∙◌, arith}
+use Rattle.std.proofs.Common.{◌≡◌, ◌⊎◌, ℕ, zero, suc, ◌<◌, Bool, true, false, if◌then◌else◌, List, [], ◌∷◌, ◌++◌, length, take, flat_map, Option, Some, None, slice_get, refl, sym, ap, subst, inl, inr, ◌∙◌}
 use Rattle.std.proofs.lemmas.Bool.{cases_Bool, cond-true, cond-false, false≢true}
 use Rattle.std.proofs.lemmas.Option.{slice_get_within}
 use Rattle.isle_model.specs.Names.{IsDistinct}
 use Rattle.isle_model.specs.Program.{Program, rules_of}
 use Rattle.isle_model.specs.Typed.{TypedRule}
-use Rattle.isle_model.specs.Sites.{Site, Constraint, SiteSet, SiteTerm, unfold_site}
+use Rattle.isle_model.specs.Sites.{Constraint, SiteSet, SiteTerm, unfold_site}
 use Rattle.isle_model.specs.Demands.{Demands, demands_of, has_site, with_sites}
 use Rattle.isle_model.specs.Closure.{is_unreachable, field_terms, Closed, class_at, ascending, next_constrained, taken, closing, before_closing, most_steps, closed}
 use Rattle.isle_model.specs.Limits.{most_sites, walked_rule, made_walking, sites_wanted, sites_reached, sites_after_rule, sites_after_rules}
-use Rattle.isle_statements.specs.RuleSets.{StandFor, IsBuilt}
+use Rattle.isle_statements.specs.RuleSets.{IsBuilt}
 use Rattle.isle_closure.proofs.Elements.{In, some_is, none_some, in_slice}
 use Rattle.isle_closure.proofs.Classes.{in_has}
 use Rattle.isle_visits.proofs.Unfolding.{one_site}

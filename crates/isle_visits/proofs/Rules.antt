@@ -1,17 +1,17 @@
 -- A rule that hangs together demands its gates.
-use Rattle.std.proofs.Common.{◌≡◌, ◌⊎◌, ℕ, suc, ◌==◌, Bool, true, false, ◌&&◌, List, [], ◌∷◌, Option, Some, None, is_some, slice_get, Contains, refl, sym, ap, subst, ◌∙◌}
+use Rattle.std.proofs.Common.{◌≡◌, ℕ, suc, ◌==◌, Bool, true, false, ◌&&◌, List, [], ◌∷◌, Some, slice_get, sym, ap, subst, ◌∙◌}
 use Rattle.std.proofs.lemmas.Bool.{and_parts, false≢true}
 use Rattle.isle_model.specs.Meaning.{look}
 use Rattle.isle_model.specs.Outcome.{then_option}
 use Rattle.isle_model.specs.Tables.{TermEntry}
 use Rattle.isle_model.specs.Program.{Program, is_partial}
-use Rattle.isle_model.specs.Sites.{Constraint, SiteTerm, argument, some_made}
+use Rattle.isle_model.specs.Sites.{SiteTerm, argument, some_made}
 use Rattle.isle_model.specs.Typed.{TypedPattern, TypedIfLet, TypedRule}
 use Rattle.isle_model.specs.Demands.{demands_of, Visit, visit_start, making, or_no_site, var_site, visit_pattern, Valued, visit_expr, unwraps, asking_all, visit_args, visit_iflets, finished, visit_rule}
 use Rattle.isle_elaboration.specs.Setting.{expr_type}
 use Rattle.isle_elaboration.specs.Results.{pattern_type}
 use Rattle.isle_elaboration.specs.Formed.{with_vars, formed_pattern, is_formed_expr, formed_list, formed_iflets, is_formed_rule}
-use Rattle.isle_closure.proofs.Elements.{In, in_from_contains, some_is, none_some}
+use Rattle.isle_closure.proofs.Elements.{in_from_contains, some_is, none_some}
 use Rattle.isle_visits.specs.Gates.{IsPureExpr, ArePureIfLets, DemandsGates}
 use Rattle.isle_visits.proofs.Gates.{gates_stay, weaker, stronger, unwrapped}
 use Rattle.isle_visits.proofs.Visited.{Good, MayTest, IsSound, Later, good_stays, now, then_later, later_making, asked_binds, asked_more, asked_calls, all_asked, later_asked, AreGood}

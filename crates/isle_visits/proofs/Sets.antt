@@ -1,11 +1,11 @@
 -- Built sets are well built, and meet what choosing from them asks.
-use Rattle.std.proofs.Common.{◌≡◌, ◌⊎◌, ℕ, zero, suc, ◌==◌, ◌<◌, Bool, true, false, ◌&&◌, ◌||◌, List, [], ◌∷◌, ◌++◌, length, map, get_or, Option, Some, None, is_some, slice_get, Contains, IsTrue, All, flat_map, refl, sym, ap, ◌∙◌, subst, inl, inr, arith, eq-eqb, eqb-true}
+use Rattle.std.proofs.Common.{◌≡◌, ◌⊎◌, ℕ, suc, ◌==◌, ◌<◌, Bool, true, false, ◌&&◌, ◌||◌, List, [], ◌∷◌, ◌++◌, length, map, get_or, Option, Some, None, is_some, slice_get, IsTrue, All, flat_map, refl, sym, ap, ◌∙◌, subst, inl, inr, arith, eq-eqb, eqb-true}
 use Rattle.std.proofs.lemmas.Bool.{cases_Bool, cond-true, cond-false, and_from, false≢true}
 use Rattle.std.proofs.lemmas.Option.{slice_get-get_or}
 use Rattle.isle_model.specs.Syntax.{Definition}
 use Rattle.isle_model.specs.Names.{IsDistinct}
-use Rattle.isle_model.specs.Program.{Program, is_multi}
-use Rattle.isle_model.specs.Sites.{Site, Constraint, SetRule, SiteSet, SiteTerm, unfold_site}
+use Rattle.isle_model.specs.Program.{Program}
+use Rattle.isle_model.specs.Sites.{Constraint, SetRule, SiteSet, unfold_site}
 use Rattle.isle_model.specs.Demands.{demands_of}
 use Rattle.isle_model.specs.Places.{is_in, joins_in, constraint_at, below, all_below, return_uses}
 use Rattle.isle_model.specs.Tests.{match_test, equal_test, loop_test, needs}
@@ -18,10 +18,9 @@ use Rattle.isle_statements.specs.Environments.{TypesRead, IsElaborated, program_
 use Rattle.isle_statements.specs.RuleSets.{IsRuleOf, IsBuilt}
 use Rattle.isle_statements.specs.SetMeanings.{BuiltSetsAreTested}
 use Rattle.isle_closure.proofs.Elements.{In, in_from_contains, contains_from_in, none_some, some_is, in_either, in_slice, slice_in, any_in, in_any, in_map, map_in, from_flat_map, or_split}
-use Rattle.isle_visits.specs.Gates.{GatesDemanded, DemandsGates}
+use Rattle.isle_visits.specs.Gates.{GatesDemanded}
 use Rattle.isle_visits.specs.Laws.{ElaboratedRulesDemandGates, BuiltSetsAreWellBuilt}
 use Rattle.isle_visits.proofs.Once.{sites_stand_once_lem}
-use Rattle.isle_visits.proofs.Gates.{gates_stay}
 use Rattle.isle_visits.proofs.Built.{rule_at, BuiltGates, built_gates, IsGood, below_good}
 
 -- 1. lists

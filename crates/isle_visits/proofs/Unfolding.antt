@@ -1,6 +1,6 @@
 -- What a site's number stands for, layer by layer, where sources have smaller numbers.
-use Rattle.std.proofs.Common.{◌≡◌, ℕ, zero, suc, ◌+◌, ◌<◌, List, [], ◌∷◌, Option, Some, None, slice_get, Contains, ◌⊎◌, inl, inr, refl, sym, ap, ap₂, ◌∙◌, arith}
-use Rattle.isle_model.specs.Sites.{Site, bool_site, int_site, prim_site, argument_site, extractor_site, constructor_site, iterator_site, make_variant_site, match_variant_site, make_struct_site, extract_struct_site, make_some_site, match_some_site, match_tuple_site, sources_of, sources_at, SiteTerm, bool_term, int_term, prim_term, argument, extractor_call, constructor_call, pick_of, variant_made, variant_field, struct_made, struct_field, some_made, some_part, tuple_part, no_site, SiteTerms, no_site_term, site_term_and, each_term, layer, layer_at, unfolded, unfold_site}
+use Rattle.std.proofs.Common.{◌≡◌, ℕ, zero, suc, ◌<◌, List, [], ◌∷◌, Option, Some, None, slice_get, Contains, inl, inr, refl, sym, ap, ap₂, ◌∙◌, arith}
+use Rattle.isle_model.specs.Sites.{Site, bool_site, int_site, prim_site, argument_site, extractor_site, constructor_site, iterator_site, make_variant_site, match_variant_site, make_struct_site, extract_struct_site, make_some_site, match_some_site, match_tuple_site, sources_of, sources_at, SiteTerm, extractor_call, constructor_call, pick_of, variant_made, variant_field, struct_made, struct_field, some_made, some_part, tuple_part, site_term_and, each_term, layer, layer_at, unfolded, unfold_site}
 use Rattle.isle_closure.proofs.Elements.{In, contains_from_in}
 
 -- sources have smaller numbers

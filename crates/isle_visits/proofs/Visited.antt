@@ -1,13 +1,13 @@
 -- What a visit asks of sites whose gates are demanded.
-use Rattle.std.proofs.Common.{◌≡◌, ◌⊎◌, ℕ, ◌==◌, Bool, true, false, List, [], ◌∷◌, ◌++◌, Option, Some, None, is_some, Contains, refl, sym, ap, subst, inl, inr, ◌∙◌, eqb-true, eq-eqb}
+use Rattle.std.proofs.Common.{◌≡◌, ◌⊎◌, ℕ, ◌==◌, Bool, true, false, List, [], ◌∷◌, ◌++◌, Some, is_some, Contains, refl, sym, ap, subst, inl, inr, ◌∙◌, eqb-true, eq-eqb}
 use Rattle.std.proofs.lemmas.Bool.{cases_Bool, cond-true, cond-false, false≢true}
 use Rattle.isle_model.specs.Meaning.{look}
-use Rattle.isle_model.specs.Sites.{Constraint, is_present, SiteTerm, no_site}
+use Rattle.isle_model.specs.Sites.{Constraint, is_present, SiteTerm}
 use Rattle.isle_model.specs.Demands.{site_term_eq, Visit, making, asking, equating, iterating, calling, binding, or_no_site, var_site, asking_all}
 use Rattle.isle_elaboration.specs.Formed.{var_type}
 use Rattle.isle_closure.proofs.Elements.{In, in_from_contains, contains_from_in, in_left, in_right, in_either}
-use Rattle.isle_visits.specs.Gates.{GatesDemanded, AllGatesDemanded}
-use Rattle.isle_visits.proofs.Gates.{AllIn, gates_stay, all_stay}
+use Rattle.isle_visits.specs.Gates.{GatesDemanded}
+use Rattle.isle_visits.proofs.Gates.{AllIn, gates_stay}
 
 -- the gates of a site are demanded by a visit so far
 abbrev pub Good : Bool → Bool → Visit → SiteTerm → Type 0

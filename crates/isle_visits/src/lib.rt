@@ -3,10 +3,10 @@
 //! A function here has an empty body: its clause is a law, and its proof stands in `proofs/`.
 #![tactic(auto)]
 
-use isle_elaboration::{lists_agree, rules_are_formed};
-
 ghost use Rattle.isle_statements.specs.SetMeanings.{BuiltSetsAreTested};
 ghost use Rattle.isle_visits.specs.Laws.{BestTreesOfBuiltSetsAreSound, BuiltSetsAreWellBuilt, ClosingKeepsGates, ElaboratedRulesDemandGates, FormedRulesDemandGates, SitesStandOnce};
+
+use isle_elaboration::{lists_agree, rules_are_formed};
 
 /// In a built set no site stands twice.
 pub fn sites_stand_once()
