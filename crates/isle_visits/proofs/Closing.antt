@@ -61,7 +61,7 @@ each_stays cs [] x i = i
 each_stays cs (d ∷ ds) x i = each_stays (with_constraint cs d) ds x (one_stays cs d x i)
 
 -- 3. fields
-in_fields : (f : ℕ → SiteTerm) (i n : ℕ) (u : SiteTerm) → In (fields_from f i n) u → (j : ℕ) × (j < i + n) × (f j ≡ u)
+pub in_fields : (f : ℕ → SiteTerm) (i n : ℕ) (u : SiteTerm) → In (fields_from f i n) u → (j : ℕ) × (j < i + n) × (f j ≡ u)
 in_fields f i zero u k = absurd k
 in_fields f i (suc n) u (inl e) = (i, omega arith, e)
 in_fields f i (suc n) u (inr k) = let r = in_fields f (suc i) n u k in (r.0, let l : r.0 < suc i + n = r.1 in omega arith, r.2)

@@ -9,3 +9,4 @@ pub mod Closing
 pub mod Elaborated
 pub mod Built
 pub mod Sets
+pub mod Apart

@@ -56,7 +56,7 @@ record IsOpened (v : Visit) (o : Opened) (args : TypedPatterns) : Type 0 where
   count : AsMany o.inputs args
 
 -- one of n numbers from i
-in_numbers : (f : ℕ → SiteTerm) (i : ℕ) (args : TypedPatterns) (u : SiteTerm) → In (from_to f i args) u → (j : ℕ) × (j < i + pattern_count args) × (f j ≡ u)
+pub in_numbers : (f : ℕ → SiteTerm) (i : ℕ) (args : TypedPatterns) (u : SiteTerm) → In (from_to f i args) u → (j : ℕ) × (j < i + pattern_count args) × (f j ≡ u)
 in_numbers f i no_typed_pattern u k = absurd k
 in_numbers f i (typed_pattern_and q qs) u (inl e) = (i, omega arith, e)
 in_numbers f i (typed_pattern_and q qs) u (inr k) = let r = in_numbers f (suc i) qs u k in (r.0, let l : r.0 < suc i + pattern_count qs = r.1 in omega arith, r.2)

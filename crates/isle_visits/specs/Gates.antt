@@ -1,6 +1,6 @@
 -- The gates of sites, on trees: what demands must ask for so that a site can be reached.
-use Rattle.std.specs.Prelude.{ℕ, zero, suc, ◌<◌, Bool, true, false, List, [], ◌∷◌, Contains, IsTrue}
-use Rattle.isle_model.specs.Program.{Program, is_pure}
+use Rattle.std.specs.Prelude.{◌≡◌, ℕ, zero, suc, ◌<◌, Bool, true, false, List, [], ◌∷◌, Contains, IsTrue}
+use Rattle.isle_model.specs.Program.{Program, is_multi, is_partial, is_pure}
 use Rattle.isle_model.specs.Typed.{TypedExpr, make_term, make_var, make_bool, make_int, make_prim, make_let, TypedExprs, no_typed_expr, typed_expr_and, TypedLets, no_typed_let, typed_let_and, TypedIfLet, TypedRule}
 use Rattle.isle_model.specs.Sites.{Constraint, is_variant, is_struct, is_present, SiteTerm, bool_term, int_term, prim_term, argument, extractor_call, constructor_call, pick_of, variant_made, variant_field, struct_made, struct_field, some_made, some_part, tuple_part, no_site, SiteTerms, no_site_term, site_term_and}
 use Rattle.isle_model.specs.Demands.{Demands, demands_of, result_of}
@@ -97,3 +97,13 @@ pub record DemandsGates (p : Program) (r : TypedRule) : Type 0 where
   pub tested : CanBeTested (demands_of p r)
   pub impure : (u : SiteTerm) → Contains (demands_of p r).impure u → GatesDemanded false false (demands_of p r).constraints (demands_of p r).iterators u
   pub result : GatesDemanded false false (demands_of p r).constraints (demands_of p r).iterators (result_of p r)
+
+-- a call of a multi term
+abbrev pub IsMultiCall : Program → SiteTerm → Type 0
+IsMultiCall p (extractor_call t a) = is_multi p t ≡ true
+IsMultiCall p (constructor_call t args i) = is_multi p t ≡ true
+IsMultiCall p _ = ⊥
+
+-- no term is multi and partial at once
+abbrev pub HasNoPartialMulti : Program → Type 0
+HasNoPartialMulti p = (t : ℕ) → is_multi p t ≡ true → is_partial p t ≡ true → ⊥

@@ -5,7 +5,7 @@ use Rattle.isle_model.specs.Syntax.{Definition}
 use Rattle.isle_model.specs.Program.{Program}
 use Rattle.isle_model.specs.Typed.{TypedRule}
 use Rattle.isle_model.specs.Sites.{Constraint, SiteTerm, SiteSet}
-use Rattle.isle_model.specs.Demands.{Demands}
+use Rattle.isle_model.specs.Demands.{Demands, demands_of}
 use Rattle.isle_model.specs.Closure.{IsUnreachable, closed}
 use Rattle.isle_model.specs.Trees.{Tree}
 use Rattle.isle_model.specs.Sound.{IsSound}
@@ -15,7 +15,7 @@ use Rattle.isle_elaboration.specs.Formed.{is_formed_rule}
 use Rattle.isle_elaboration.specs.Elaborated.{TypedRules}
 use Rattle.isle_statements.specs.Environments.{TypesRead, IsElaborated, program_of}
 use Rattle.isle_statements.specs.RuleSets.{IsBuilt}
-use Rattle.isle_visits.specs.Gates.{ArePureIfLets, CanBeTested, ClosedCanBeTested, DemandsGates}
+use Rattle.isle_visits.specs.Gates.{ArePureIfLets, CanBeTested, ClosedCanBeTested, DemandsGates, HasNoPartialMulti}
 
 -- no site of a built set stands twice
 abbrev pub SitesStandOnce : Type 0
@@ -49,3 +49,9 @@ BestTreesOfBuiltSetsAreSound =
     (e : TypesRead) (defs : List Definition) (expand : Bool) (rules : TypedRules) (t : ℕ) (set : SiteSet) (multi : Bool) (tree : Tree)
     → IsElaborated e defs expand rules → IsBuilt (program_of e defs rules.rules) t set → All (λ r. r.iterators ≡ []) set.rules
     → (multi ≡ true → HasOnePriority set.rules) → IsBestTree set tree → IsSound set multi tree
+
+-- where no term is multi and partial at once, no rule goes over a call that its closed demands constrain
+abbrev pub NoneAskedAndGoneOver : Type 0
+NoneAskedAndGoneOver =
+    (p : Program) (r : TypedRule) (before : List SiteTerm) → HasNoPartialMulti p
+    → (u : SiteTerm) (c : Constraint) → Contains (closed before (demands_of p r)).constraints (u, c) → Contains (demands_of p r).iterators u → ⊥

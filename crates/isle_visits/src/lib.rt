@@ -4,7 +4,7 @@
 #![tactic(auto)]
 
 ghost use Rattle.isle_statements.specs.SetMeanings.{BuiltSetsAreTested};
-ghost use Rattle.isle_visits.specs.Laws.{BestTreesOfBuiltSetsAreSound, BuiltSetsAreWellBuilt, ClosingKeepsGates, ElaboratedRulesDemandGates, FormedRulesDemandGates, SitesStandOnce};
+ghost use Rattle.isle_visits.specs.Laws.{BestTreesOfBuiltSetsAreSound, BuiltSetsAreWellBuilt, ClosingKeepsGates, ElaboratedRulesDemandGates, FormedRulesDemandGates, NoneAskedAndGoneOver, SitesStandOnce};
 
 use isle_elaboration::{lists_agree, rules_are_formed};
 
@@ -51,3 +51,8 @@ pub fn built_sets_are_tested()
 {
     elaborated_rules_demand_gates();
 }
+
+/// Where no term is multi and partial at once, no call that a rule goes over is constrained.
+pub fn none_asked_and_gone_over()
+    ensures { NoneAskedAndGoneOver }
+{}
