@@ -1,16 +1,16 @@
 -- A visit goes over calls of multi terms, and constrains no such call, nor does the closing of its demands.
-use Rattle.std.proofs.Common.{◌≡◌, ◌⊎◌, ℕ, suc, ◌==◌, Bool, true, false, List, [], ◌∷◌, ◌++◌, Some, Contains, refl, sym, ap, subst, inl, inr, ◌∙◌}
+use Rattle.std.proofs.Common.{◌≡◌, ℕ, suc, ◌==◌, Bool, true, false, List, [], ◌∷◌, ◌++◌, Some, Contains, refl, sym, ap, subst, inl, inr, ◌∙◌}
 use Rattle.std.proofs.lemmas.Bool.{cases_Bool, cond-true, cond-false, false≢true}
 use Rattle.isle_model.specs.Meaning.{look}
 use Rattle.isle_model.specs.Tables.{Flags}
 use Rattle.isle_model.specs.Program.{Program, Kind, a_variant, a_struct, a_call, unknown, kind, flags_of, is_multi, is_partial}
-use Rattle.isle_model.specs.Sites.{Constraint, is_variant, is_struct, is_bool, is_int, is_prim, is_present, SiteTerm, bool_term, int_term, prim_term, argument, extractor_call, constructor_call, pick_of, variant_made, variant_field, struct_made, struct_field, some_made, some_part, tuple_part, no_site, SiteTerms, no_site_term, site_term_and}
+use Rattle.isle_model.specs.Sites.{Constraint, is_variant, is_struct, is_bool, is_int, is_prim, is_present, SiteTerm, bool_term, int_term, prim_term, argument, extractor_call, constructor_call, pick_of, variant_made, variant_field, struct_made, struct_field, some_made, some_part, tuple_part, no_site, SiteTerms}
 use Rattle.isle_model.specs.Typed.{TypedPattern, match_bind, match_var, match_bool, match_int, match_prim, match_term, match_any, match_and, TypedPatterns, no_typed_pattern, typed_pattern_and, TypedExpr, make_term, make_var, make_bool, make_int, make_prim, make_let, TypedExprs, no_typed_expr, typed_expr_and, TypedLets, no_typed_let, typed_let_and, TypedIfLet, TypedRule}
 use Rattle.isle_model.specs.Demands.{demands_of, site_term_eq, Visit, visit_start, making, asking, equating, iterating, calling, binding, or_no_site, var_site, from_to, pattern_count, Opened, opened, output_sites, part_sites, open_call, open_term, visit_pattern, visit_each, visit_all, Valued, ValuedAll, valued, call_result, call_sites, where_multi, visit_call, visit_term, visit_expr, visit_exprs, visit_lets, unwraps, unwraps_all, asking_all, visit_args, visit_iflets, finished, visit_rule}
 use Rattle.isle_model.specs.Closure.{field_terms, Joined, given, itself, turned, chained, at_field, closed}
-use Rattle.isle_closure.proofs.Elements.{In, in_from_contains, in_left, in_right, in_either, in_slice}
+use Rattle.isle_closure.proofs.Elements.{In, in_from_contains, in_either, in_slice}
 use Rattle.isle_closure.proofs.Closing.{closing_is_sound_lem}
-use Rattle.isle_visits.specs.Gates.{IsMultiCall, HasNoPartialMulti}
+use Rattle.isle_visits.specs.Gates.{IsMultiCall, HasNoPartialMulti, GoesOverMultiCalls}
 use Rattle.isle_visits.proofs.Patterns.{in_numbers}
 use Rattle.isle_visits.proofs.Closing.{in_fields}
 
@@ -179,7 +179,7 @@ module _ (p : Program) (neither : HasNoPartialMulti p) where
 
   call_given : (pure multi partial rec : Bool) (t i : ℕ) (args : SiteTerms) (v : Visit) → is_multi p t ≡ multi → is_partial p t ≡ partial → IsApart v → AreUnwrapped args
       → IsValued (valued (call_result (record { pure = pure; multi = multi; partial = partial; rec = rec }) (constructor_call t args i))
-          (where_multi (record { pure = pure; multi = multi; partial = partial; rec = rec }) (constructor_call t args i) (making (call_sites (record { pure = pure; multi = multi; partial = partial; rec = rec }) (constructor_call t args i)) v)))
+      (where_multi (record { pure = pure; multi = multi; partial = partial; rec = rec }) (constructor_call t args i) (making (call_sites (record { pure = pure; multi = multi; partial = partial; rec = rec }) (constructor_call t args i)) v)))
   call_given pure true true rec t i args v e f h o = absurd (neither t e f)
   call_given pure true false rec t i args v e f h o =
       let call = constructor_call t args i in
@@ -277,3 +277,10 @@ none_asked_and_gone_over_lem p r before n u c i j =
     let h = (closing_is_sound_lem before (demands_of p r)).constraints u c i in
     let a = (rule_apart p n r).asked (h.source, c) (in_from_contains (demands_of p r).constraints (h.source, c) h.asked) in
     (joined_other p n r h.joined).0 a ((rule_apart p n r).calls u (in_from_contains (demands_of p r).iterators u j))
+
+pub multi_calls_are_gone_over_lem : (p : Program) (r : TypedRule) → HasNoPartialMulti p → GoesOverMultiCalls p (demands_of p r)
+multi_calls_are_gone_over_lem p r n = record {
+  calls = λ u i. (rule_apart p n r).calls u (in_from_contains (demands_of p r).iterators u i);
+  asked = λ u c i. (rule_apart p n r).asked (u, c) (in_from_contains (demands_of p r).constraints (u, c) i);
+  equal = λ u w i. (rule_apart p n r).equal (u, w) (in_from_contains (demands_of p r).equalities (u, w) i);
+}

@@ -107,3 +107,9 @@ IsMultiCall p _ = ⊥
 -- no term is multi and partial at once
 abbrev pub HasNoPartialMulti : Program → Type 0
 HasNoPartialMulti p = (t : ℕ) → is_multi p t ≡ true → is_partial p t ≡ true → ⊥
+
+-- demands go over multi calls alone, and constrain and equate none
+pub record GoesOverMultiCalls (p : Program) (d : Demands) : Type 0 where
+  pub calls : (u : SiteTerm) → Contains d.iterators u → IsMultiCall p u
+  pub asked : (u : SiteTerm) (c : Constraint) → Contains d.constraints (u, c) → IsMultiCall p u → ⊥
+  pub equal : (u w : SiteTerm) → Contains d.equalities (u, w) → (IsMultiCall p u → ⊥) × (IsMultiCall p w → ⊥)

@@ -15,7 +15,7 @@ use Rattle.isle_elaboration.specs.Formed.{is_formed_rule}
 use Rattle.isle_elaboration.specs.Elaborated.{TypedRules}
 use Rattle.isle_statements.specs.Environments.{TypesRead, IsElaborated, program_of}
 use Rattle.isle_statements.specs.RuleSets.{IsBuilt}
-use Rattle.isle_visits.specs.Gates.{ArePureIfLets, CanBeTested, ClosedCanBeTested, DemandsGates, HasNoPartialMulti}
+use Rattle.isle_visits.specs.Gates.{ArePureIfLets, CanBeTested, ClosedCanBeTested, DemandsGates, HasNoPartialMulti, GoesOverMultiCalls}
 
 -- no site of a built set stands twice
 abbrev pub SitesStandOnce : Type 0
@@ -50,7 +50,11 @@ BestTreesOfBuiltSetsAreSound =
     → IsElaborated e defs expand rules → IsBuilt (program_of e defs rules.rules) t set → All (λ r. r.iterators ≡ []) set.rules
     → (multi ≡ true → HasOnePriority set.rules) → IsBestTree set tree → IsSound set multi tree
 
--- where no term is multi and partial at once, no rule goes over a call that its closed demands constrain
+-- where no term is multi and partial at once, a rule goes over multi calls, and tests none
+abbrev pub MultiCallsAreGoneOver : Type 0
+MultiCallsAreGoneOver = (p : Program) (r : TypedRule) → HasNoPartialMulti p → GoesOverMultiCalls p (demands_of p r)
+
+-- so no rule goes over a call that its closed demands constrain
 abbrev pub NoneAskedAndGoneOver : Type 0
 NoneAskedAndGoneOver =
     (p : Program) (r : TypedRule) (before : List SiteTerm) → HasNoPartialMulti p

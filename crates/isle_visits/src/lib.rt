@@ -1,10 +1,12 @@
 //! What visits of typed rules demand, and so what built sets are.
 //!
-//! A function here has an empty body: its clause is a law, and its proof stands in `proofs/`.
+//! A function here has no code, or calls the laws that its proof rests on: its clause is a law, and its proof stands in
+//! `proofs/`.
 #![tactic(auto)]
 
 ghost use Rattle.isle_statements.specs.SetMeanings.{BuiltSetsAreTested};
-ghost use Rattle.isle_visits.specs.Laws.{BestTreesOfBuiltSetsAreSound, BuiltSetsAreWellBuilt, ClosingKeepsGates, ElaboratedRulesDemandGates, FormedRulesDemandGates, NoneAskedAndGoneOver, SitesStandOnce};
+ghost use Rattle.isle_visits.specs.Samples.{FormedRulesMayTestImpureCalls, ResultsMayUnwrap};
+ghost use Rattle.isle_visits.specs.Laws.{BestTreesOfBuiltSetsAreSound, BuiltSetsAreWellBuilt, ClosingKeepsGates, ElaboratedRulesDemandGates, FormedRulesDemandGates, MultiCallsAreGoneOver, NoneAskedAndGoneOver, SitesStandOnce};
 
 use isle_elaboration::{lists_agree, rules_are_formed};
 
@@ -55,4 +57,19 @@ pub fn built_sets_are_tested()
 /// Where no term is multi and partial at once, no call that a rule goes over is constrained.
 pub fn none_asked_and_gone_over()
     ensures { NoneAskedAndGoneOver }
+{}
+
+/// What a rule goes over are multi calls, and it tests none, where no term is multi and partial at once.
+pub fn multi_calls_are_gone_over()
+    ensures { MultiCallsAreGoneOver }
+{}
+
+/// A rule that hangs together may test an impure call, if its if-let isn't pure.
+pub fn formed_rules_may_test_impure_calls()
+    ensures { FormedRulesMayTestImpureCalls }
+{}
+
+/// What a rule returns may unwrap a call that nothing asks to answer.
+pub fn results_may_unwrap()
+    ensures { ResultsMayUnwrap }
 {}
