@@ -30,14 +30,14 @@ rule_at p sites (b ∷ bs) (q ∷ rs) h r (inl e) = (b, inl refl, subst (IsRuleO
 rule_at p sites (b ∷ bs) (q ∷ rs) h r (inr i) = let k = rule_at p sites bs rs h.1 r i in (k.0, inr k.1, k.2)
 
 -- a built rule is one of these, after some sites
-record WasBuilt (p : Program) (rs : List TypedRule) (b : BuiltRule) : Type 0 where
-  rule : TypedRule
-  before : List SiteTerm
-  listed : In rs rule
-  built : is_built p before rule ≡ true
-  same : built_rule p before rule ≡ b
+pub record WasBuilt (p : Program) (rs : List TypedRule) (b : BuiltRule) : Type 0 where
+  pub rule : TypedRule
+  pub before : List SiteTerm
+  pub listed : In rs rule
+  pub built : is_built p before rule ≡ true
+  pub same : built_rule p before rule ≡ b
 
-was_built : (p : Program) (before : List SiteTerm) (rs : List TypedRule) (b : BuiltRule) → In (built_from p before rs) b → WasBuilt p rs b
+pub was_built : (p : Program) (before : List SiteTerm) (rs : List TypedRule) (b : BuiltRule) → In (built_from p before rs) b → WasBuilt p rs b
 was_built p before [] b i = absurd i
 was_built p before (r ∷ rs) b i =
     elim (in_either (if is_built p before r then built_rule p before r ∷ [] else []) (built_from p (sites_after_rule p before r) rs) b i) [

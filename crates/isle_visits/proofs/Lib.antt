@@ -10,3 +10,4 @@ pub mod Elaborated
 pub mod Built
 pub mod Sets
 pub mod Apart
+pub mod Declared

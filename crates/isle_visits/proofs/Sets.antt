@@ -27,7 +27,7 @@ use Rattle.isle_visits.proofs.Built.{rule_at, BuiltGates, built_gates, IsGood, b
 all_from_in : {X : Type 0} (P : X → Type 0) (xs : List X) → ((x : X) → In xs x → P x) → All P xs
 all_from_in P xs f k d l = f (get_or xs k d) (in_slice xs k (get_or xs k d) (slice_get-get_or xs k d l))
 
-in_from_all : {X : Type 0} (P : X → Type 0) (xs : List X) → All P xs → (x : X) → In xs x → P x
+pub in_from_all : {X : Type 0} (P : X → Type 0) (xs : List X) → All P xs → (x : X) → In xs x → P x
 in_from_all P xs h x i = let c = contains_from_in xs x i in subst P c.2 (h c.0 x c.1)
 
 later_distinct : {X : Type 0} (x : X) (xs : List X) → IsDistinct (x ∷ xs) → IsDistinct xs

@@ -4,7 +4,7 @@ use Rattle.isle_model.specs.Names.{IsDistinct}
 use Rattle.isle_model.specs.Syntax.{Definition}
 use Rattle.isle_model.specs.Program.{Program}
 use Rattle.isle_model.specs.Typed.{TypedRule}
-use Rattle.isle_model.specs.Sites.{Constraint, SiteTerm, SiteSet}
+use Rattle.isle_model.specs.Sites.{Constraint, SetRule, SiteTerm, SiteSet}
 use Rattle.isle_model.specs.Demands.{Demands, demands_of}
 use Rattle.isle_model.specs.Closure.{IsUnreachable, closed}
 use Rattle.isle_model.specs.Trees.{Tree}
@@ -59,3 +59,10 @@ abbrev pub NoneAskedAndGoneOver : Type 0
 NoneAskedAndGoneOver =
     (p : Program) (r : TypedRule) (before : List SiteTerm) → HasNoPartialMulti p
     → (u : SiteTerm) (c : Constraint) → Contains (closed before (demands_of p r)).constraints (u, c) → Contains (demands_of p r).iterators u → ⊥
+
+-- so no rule of a set that is built of elaborated rules goes over a call that it constrains
+abbrev pub NoRuleAsksAndGoesOver : Type 0
+NoRuleAsksAndGoesOver =
+    (e : TypesRead) (defs : List Definition) (expand : Bool) (rules : TypedRules) (t : ℕ) (set : SiteSet)
+    → IsElaborated e defs expand rules → IsBuilt (program_of e defs rules.rules) t set
+    → (r : SetRule) → Contains set.rules r → (s : ℕ) (c : Constraint) → Contains r.constraints (s, c) → Contains r.iterators s → ⊥

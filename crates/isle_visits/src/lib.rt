@@ -6,7 +6,7 @@
 
 ghost use Rattle.isle_statements.specs.SetMeanings.{BuiltSetsAreTested};
 ghost use Rattle.isle_visits.specs.Samples.{FormedRulesMayTestImpureCalls, ResultsMayUnwrap};
-ghost use Rattle.isle_visits.specs.Laws.{BestTreesOfBuiltSetsAreSound, BuiltSetsAreWellBuilt, ClosingKeepsGates, ElaboratedRulesDemandGates, FormedRulesDemandGates, MultiCallsAreGoneOver, NoneAskedAndGoneOver, SitesStandOnce};
+ghost use Rattle.isle_visits.specs.Laws.{BestTreesOfBuiltSetsAreSound, BuiltSetsAreWellBuilt, ClosingKeepsGates, ElaboratedRulesDemandGates, FormedRulesDemandGates, MultiCallsAreGoneOver, NoRuleAsksAndGoesOver, NoneAskedAndGoneOver, SitesStandOnce};
 
 use isle_elaboration::{lists_agree, rules_are_formed};
 
@@ -72,4 +72,9 @@ pub fn formed_rules_may_test_impure_calls()
 /// What a rule returns may unwrap a call that nothing asks to answer.
 pub fn results_may_unwrap()
     ensures { ResultsMayUnwrap }
+{}
+
+/// So no rule of a built set goes over a call that it constrains.
+pub fn no_rule_asks_and_goes_over()
+    ensures { NoRuleAsksAndGoesOver }
 {}
