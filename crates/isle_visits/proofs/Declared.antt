@@ -1,24 +1,23 @@
 -- No term of a valid list is multi and partial at once, so no rule of a built set goes over what it constrains.
-use Rattle.std.proofs.Common.{◌≡◌, ◌⊎◌, ℕ, suc, ◌+◌, Bool, true, false, not, ◌&&◌, List, [], ◌∷◌, ◌++◌, map, Option, Some, None, slice_get, Contains, flat_map, refl, sym, ap, subst, inl, inr, ◌∙◌}
+use Rattle.std.proofs.Common.{◌≡◌, ℕ, ◌+◌, Bool, true, not, List, [], ◌∷◌, map, Option, Some, None, slice_get, flat_map, refl, sym, ap, subst, inl, inr, ◌∙◌}
 use Rattle.std.proofs.lemmas.Bool.{and_from, false≢true}
 use Rattle.std.specs.List.{enumerate_from}
 use Rattle.isle_model.specs.Syntax.{Definition, DeclTree}
 use Rattle.isle_model.specs.Tables.{TypeEntry, builtin_type, primitive_type, enum_type, struct_type, TermEntry}
 use Rattle.isle_model.specs.TermTable.{decl_trees}
-use Rattle.isle_model.specs.Program.{Program, Kind, unknown, kind_of, flags_of, is_multi, is_partial, rules_of}
-use Rattle.isle_model.specs.Sites.{Constraint, SetRule, SiteSet, SiteTerm, unfold_site}
-use Rattle.isle_model.specs.Demands.{demands_of}
+use Rattle.isle_model.specs.Program.{Kind, unknown, kind_of, flags_of, rules_of}
+use Rattle.isle_model.specs.Sites.{unfold_site}
 use Rattle.isle_model.specs.Overlap.{BuiltRule, built_rule, built_rules}
 use Rattle.isle_tables.specs.KnownTypes.{KnownTypes}
-use Rattle.isle_tables.specs.TermTables.{IsValidTerms, term_names_met, IsNotBothMultiAndPartial, variant_as_term, struct_as_term, terms_made, decl_as_term, terms_in_order, term_table}
+use Rattle.isle_tables.specs.TermTables.{IsValidTerms, term_names_met, IsNotBothMultiAndPartial, variant_as_term, terms_made, decl_as_term, terms_in_order, term_table}
 use Rattle.isle_elaboration.specs.Elaborated.{TypedRules}
 use Rattle.isle_statements.specs.Environments.{TypesRead, IsElaborated, program_of}
-use Rattle.isle_statements.specs.RuleSets.{IsRuleOf, IsBuilt}
+use Rattle.isle_statements.specs.RuleSets.{IsRuleOf}
 use Rattle.isle_closure.proofs.Elements.{In, in_from_contains, in_either, in_slice, in_map, from_flat_map}
 use Rattle.isle_visits.specs.Gates.{HasNoPartialMulti}
 use Rattle.isle_visits.specs.Laws.{NoRuleAsksAndGoesOver}
 use Rattle.isle_visits.proofs.Apart.{none_asked_and_gone_over_lem}
-use Rattle.isle_visits.proofs.Built.{rule_at, WasBuilt, was_built}
+use Rattle.isle_visits.proofs.Built.{rule_at, was_built}
 use Rattle.isle_visits.proofs.Sets.{in_from_all}
 
 -- a term isn't multi and partial at once

@@ -16,10 +16,10 @@ use Rattle.isle_model.specs.Overlap.{BuiltRule, built_rules}
 use Rattle.isle_elaboration.specs.Elaborated.{TypedRules}
 use Rattle.isle_statements.specs.Environments.{TypesRead, IsElaborated, program_of}
 use Rattle.isle_statements.specs.RuleSets.{IsRuleOf, IsBuilt}
-use Rattle.isle_statements.specs.SetMeanings.{BuiltSetsAreTested}
+use Rattle.isle_statements.specs.SetMeanings.{DemandsItsGates, BuiltSetsAreTested}
 use Rattle.isle_closure.proofs.Elements.{In, in_from_contains, contains_from_in, none_some, some_is, in_either, in_slice, slice_in, any_in, in_any, in_map, map_in, from_flat_map, or_split}
 use Rattle.isle_visits.specs.Gates.{GatesDemanded}
-use Rattle.isle_visits.specs.Laws.{ElaboratedRulesDemandGates, BuiltSetsAreWellBuilt}
+use Rattle.isle_visits.specs.Laws.{ElaboratedRulesDemandGates, BuiltRulesDemandGates, BuiltSetsAreWellBuilt}
 use Rattle.isle_visits.proofs.Once.{sites_stand_once_lem}
 use Rattle.isle_visits.proofs.Built.{rule_at, BuiltGates, built_gates, IsGood, below_good}
 
@@ -68,7 +68,7 @@ nothing_in : {X : Type 0} (xs : List X) → xs ≡ [] → (x : X) → In xs x �
 nothing_in xs e x i = subst (λ l. In l x) e i
 
 -- 2. rules
-module _ (p : Program) (t : ℕ) (set : SiteSet) (h : IsBuilt p t set) (b : BuiltRule) (r : SetRule) (q : IsRuleOf p set.sites b r) (g : BuiltGates p b) (none : r.iterators ≡ []) where
+module _ (p : Program) (t : ℕ) (set : SiteSet) (h : IsBuilt p t set) (b : BuiltRule) (r : SetRule) (q : IsRuleOf p set.sites b r) (g : BuiltGates p b) where
   -- a site that may be tested
   record IsTested (s : ℕ) : Type 0 where
     known : s < length set.sites
@@ -88,8 +88,8 @@ module _ (p : Program) (t : ℕ) (set : SiteSet) (h : IsBuilt p t set) (b : Buil
   gate_of : (u : ℕ) → IsGood true true set.sites r u → IsTrue (gate_demanded r (slice_get set.sites u))
   gate_of u k = subst (λ o. IsTrue (gate_demanded r o)) (sym k.there) k.gate
 
-  needed_tested : (s : ℕ) → tests_site r s ≡ true → IsTested s
-  needed_tested s k =
+  needed_tested : r.iterators ≡ [] → (s : ℕ) → tests_site r s ≡ true → IsTested s
+  needed_tested none s k =
       elim (or_split (needs (match_test s) r || needs (equal_test s s) r) (needs (loop_test s) r) k) [
         | inl a ↦
             elim (or_split (needs (match_test s) r) (needs (equal_test s s) r) a) [
@@ -99,11 +99,11 @@ module _ (p : Program) (t : ℕ) (set : SiteSet) (h : IsBuilt p t set) (b : Buil
         | inr a ↦ let x = in_any (λ y. y == s) r.iterators a in absurd (nothing_in r.iterators none x.0 x.1)
       ]
 
-  well_built : IsWellBuiltRule set.sites r
-  well_built = record {
+  well_built : r.iterators ≡ [] → IsWellBuiltRule set.sites r
+  well_built none = record {
     asks_once = λ s c i. first_constraint r.constraints q.constraints.once s c (in_from_contains r.constraints (s, c) i);
     asks_or_goes_over = λ s c i j. nothing_in r.iterators none s (in_from_contains r.iterators s j);
-    gates = λ s u k i. gate_of u (tested_good s u (needed_tested s k) (in_from_contains (below (suc s) set.sites s) u i));
+    gates = λ s u k i. gate_of u (tested_good s u (needed_tested none s k) (in_from_contains (below (suc s) set.sites s) u i));
   }
 
   -- the sites that a rule tests
@@ -148,13 +148,16 @@ module _ (p : Program) (t : ℕ) (set : SiteSet) (h : IsBuilt p t set) (b : Buil
       let k = each_returned m.0 m.1 in
       below_good p t set h b r q false false (suc m.0) m.0 k.known k.good u m.2
 
-  is_tested : IsTestedRule set.sites r
-  is_tested = record {
+  demands_gates : DemandsItsGates set.sites r
+  demands_gates = all_from_in (λ s. IsTrue (gate_demanded r (slice_get set.sites s))) (all_below set.sites (tested_sites r)) (λ u i. gate_of u (below_tested u i))
+
+  is_tested : r.iterators ≡ [] → IsTestedRule set.sites r
+  is_tested none = record {
     known = all_from_in (λ s. s < length set.sites) (tested_sites r ++ return_uses (Some r))
         (λ s i. elim (in_either (tested_sites r) (return_uses (Some r)) s i) [ inl a ↦ (each_tested s a).known | inr a ↦ (each_returned s a).known ]);
     no_iterators = none;
     pure = all_from_in (IsPureAt set.sites) (all_below set.sites (tested_sites r)) (λ u i. let k = below_tested u i in (k.site, k.there, k.pure_site));
-    gates = all_from_in (λ s. IsTrue (gate_demanded r (slice_get set.sites s))) (all_below set.sites (tested_sites r)) (λ u i. gate_of u (below_tested u i));
+    gates = demands_gates;
     gates_of_result = all_from_in (λ s. IsTrue (gate_demanded r (slice_get set.sites s)) ⊎ IsUnwrap (slice_get set.sites s)) (all_below set.sites (return_uses (Some r)))
         (λ u i.
         let k = below_returned u i in
@@ -191,3 +194,11 @@ built_sets_are_well_built_lem d e defs expand rules t set h b none = well_built_
 
 pub built_sets_are_tested_lem : ElaboratedRulesDemandGates → BuiltSetsAreTested
 built_sets_are_tested_lem d e defs expand rules t set h b single none = tested_set d e defs expand rules t set h b none
+
+pub built_rules_demand_gates_lem : ElaboratedRulesDemandGates → BuiltRulesDemandGates
+built_rules_demand_gates_lem d e defs expand rules t set h b =
+    let p = program_of e defs rules.rules in
+    all_from_in (DemandsItsGates set.sites) set.rules
+    (λ r i.
+    let a = rule_at p set.sites (built_rules p t) set.rules b.rules r i in
+    demands_gates p t set b a.0 r a.2 (built_gates p t (d e defs expand rules h) a.0 a.1))

@@ -15,6 +15,7 @@ use Rattle.isle_elaboration.specs.Formed.{is_formed_rule}
 use Rattle.isle_elaboration.specs.Elaborated.{TypedRules}
 use Rattle.isle_statements.specs.Environments.{TypesRead, IsElaborated, program_of}
 use Rattle.isle_statements.specs.RuleSets.{IsBuilt}
+use Rattle.isle_statements.specs.SetMeanings.{DemandsItsGates}
 use Rattle.isle_visits.specs.Gates.{ArePureIfLets, CanBeTested, ClosedCanBeTested, DemandsGates, HasNoPartialMulti, GoesOverMultiCalls}
 
 -- no site of a built set stands twice
@@ -36,6 +37,12 @@ abbrev pub ElaboratedRulesDemandGates : Type 0
 ElaboratedRulesDemandGates =
     (e : TypesRead) (defs : List Definition) (expand : Bool) (rules : TypedRules) → IsElaborated e defs expand rules
     → (r : TypedRule) → Contains rules.rules r → DemandsGates (program_of e defs rules.rules) r
+
+-- in a set that is built of elaborated rules, each rule demands the gates at and below the sites that it tests
+abbrev pub BuiltRulesDemandGates : Type 0
+BuiltRulesDemandGates =
+    (e : TypesRead) (defs : List Definition) (expand : Bool) (rules : TypedRules) (t : ℕ) (set : SiteSet)
+    → IsElaborated e defs expand rules → IsBuilt (program_of e defs rules.rules) t set → All (DemandsItsGates set.sites) set.rules
 
 -- a set that is built of elaborated rules, none of which goes over calls, is well built
 abbrev pub BuiltSetsAreWellBuilt : Type 0

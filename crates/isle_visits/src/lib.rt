@@ -6,7 +6,7 @@
 
 ghost use Rattle.isle_statements.specs.SetMeanings.{BuiltSetsAreTested};
 ghost use Rattle.isle_visits.specs.Samples.{FormedRulesMayTestImpureCalls, ResultsMayUnwrap};
-ghost use Rattle.isle_visits.specs.Laws.{BestTreesOfBuiltSetsAreSound, BuiltSetsAreWellBuilt, ClosingKeepsGates, ElaboratedRulesDemandGates, FormedRulesDemandGates, MultiCallsAreGoneOver, NoRuleAsksAndGoesOver, NoneAskedAndGoneOver, SitesStandOnce};
+ghost use Rattle.isle_visits.specs.Laws.{BestTreesOfBuiltSetsAreSound, BuiltRulesDemandGates, BuiltSetsAreWellBuilt, ClosingKeepsGates, ElaboratedRulesDemandGates, FormedRulesDemandGates, MultiCallsAreGoneOver, NoRuleAsksAndGoesOver, NoneAskedAndGoneOver, SitesStandOnce};
 
 use isle_elaboration::{lists_agree, rules_are_formed};
 
@@ -31,6 +31,13 @@ pub fn elaborated_rules_demand_gates()
 {
     rules_are_formed();
     lists_agree();
+}
+
+/// In a built set each rule demands the gates of the sites that it tests.
+pub fn built_rules_demand_gates()
+    ensures { BuiltRulesDemandGates }
+{
+    elaborated_rules_demand_gates();
 }
 
 /// A set that is built of elaborated rules, none of which goes over calls, is well built.
