@@ -11,3 +11,4 @@ pub mod Built
 pub mod Sets
 pub mod Apart
 pub mod Declared
+pub mod Priorities

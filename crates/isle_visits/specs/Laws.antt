@@ -2,7 +2,7 @@
 use Rattle.std.specs.Prelude.{◌≡◌, ℕ, Bool, true, List, [], All, Contains}
 use Rattle.isle_model.specs.Names.{IsDistinct}
 use Rattle.isle_model.specs.Syntax.{Definition}
-use Rattle.isle_model.specs.Program.{Program}
+use Rattle.isle_model.specs.Program.{Program, is_multi}
 use Rattle.isle_model.specs.Typed.{TypedRule}
 use Rattle.isle_model.specs.Sites.{Constraint, SetRule, SiteTerm, SiteSet}
 use Rattle.isle_model.specs.Demands.{Demands, demands_of}
@@ -73,3 +73,9 @@ NoRuleAsksAndGoesOver =
     (e : TypesRead) (defs : List Definition) (expand : Bool) (rules : TypedRules) (t : ℕ) (set : SiteSet)
     → IsElaborated e defs expand rules → IsBuilt (program_of e defs rules.rules) t set
     → (r : SetRule) → Contains set.rules r → (s : ℕ) (c : Constraint) → Contains r.constraints (s, c) → Contains r.iterators s → ⊥
+
+-- the rules of a multi term have one priority in such a set
+abbrev pub MultiTermsHaveOnePriority : Type 0
+MultiTermsHaveOnePriority =
+    (e : TypesRead) (defs : List Definition) (expand : Bool) (rules : TypedRules) (t : ℕ) (set : SiteSet)
+    → IsElaborated e defs expand rules → IsBuilt (program_of e defs rules.rules) t set → is_multi (program_of e defs rules.rules) t ≡ true → HasOnePriority set.rules

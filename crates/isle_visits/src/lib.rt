@@ -6,7 +6,7 @@
 
 ghost use Rattle.isle_statements.specs.SetMeanings.{BuiltSetsAreTested};
 ghost use Rattle.isle_visits.specs.Samples.{FormedRulesMayTestImpureCalls, ResultsMayUnwrap};
-ghost use Rattle.isle_visits.specs.Laws.{BestTreesOfBuiltSetsAreSound, BuiltRulesDemandGates, BuiltSetsAreWellBuilt, ClosingKeepsGates, ElaboratedRulesDemandGates, FormedRulesDemandGates, MultiCallsAreGoneOver, NoRuleAsksAndGoesOver, NoneAskedAndGoneOver, SitesStandOnce};
+ghost use Rattle.isle_visits.specs.Laws.{BestTreesOfBuiltSetsAreSound, BuiltRulesDemandGates, BuiltSetsAreWellBuilt, ClosingKeepsGates, ElaboratedRulesDemandGates, FormedRulesDemandGates, MultiCallsAreGoneOver, MultiTermsHaveOnePriority, NoRuleAsksAndGoesOver, NoneAskedAndGoneOver, SitesStandOnce};
 
 use isle_elaboration::{lists_agree, rules_are_formed};
 
@@ -85,3 +85,11 @@ pub fn results_may_unwrap()
 pub fn no_rule_asks_and_goes_over()
     ensures { NoRuleAsksAndGoesOver }
 {}
+
+/// The rules of a multi term have one priority in a built set.
+pub fn multi_terms_have_one_priority()
+    ensures { MultiTermsHaveOnePriority }
+{
+    rules_are_formed();
+    lists_agree();
+}
