@@ -1,0 +1,14 @@
+pub mod Unfolding
+pub mod Once
+pub mod Gates
+pub mod Visited
+pub mod Patterns
+pub mod Exprs
+pub mod Rules
+pub mod Closing
+pub mod Elaborated
+pub mod Built
+pub mod Sets
+pub mod Apart
+pub mod Declared
+pub mod Priorities
