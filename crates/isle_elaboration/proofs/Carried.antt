@@ -12,7 +12,7 @@ use Rattle.isle_model.specs.Outcome.{then_option}
 use Rattle.isle_model.specs.Tables.{Flags, TermEntry}
 use Rattle.isle_model.specs.Values.{is_atom_type}
 use Rattle.isle_model.specs.Typed.{TypedPattern, match_bind, match_int, match_any, TypedPatterns, no_typed_pattern, typed_pattern_and, TypedExpr, make_var, make_int, TypedVar, TypedRule}
-use Rattle.isle_model.specs.TypeTable.{place_from, type_entries, type_table_names}
+use Rattle.isle_model.specs.TypeTable.{place_from, type_table, type_names_met}
 use Rattle.isle_model.specs.TermTable.{decl_trees, decl_names, rule_trees, term_table_names, term_id, root_name, is_carried_term, decl_flags, decl_entry, decl_entries, term_entries}
 use Rattle.isle_model.specs.Elaboration.{pattern_list, root_args, bound_names, is_carried_pattern, is_carried_expr, all_different, has_no_iflet, is_carried_rule, names_of_rule, own_name, var_of_expr, all_names, Elaborated, new_var, ElaboratedArgs, with_first, elaborate_args, var_named, var_at_type, elaborate_expr, rule_with, elaborate_at}
 use Rattle.isle_elaboration.specs.Setting.{Setting, Scope, bound, opened, entry_named, term_of, declared_flags}
@@ -68,7 +68,7 @@ entries_agree defs x k (d ∷ ds) h =
     ])
 
 term_agrees : (defs : List Definition) (x : List ℕ) → entry_named (number (all_names defs) x) (term_entries defs) ≡ then_option (term_id defs x) (slice_get (term_entries defs))
-term_agrees defs x = entries_agree defs x 0 (decl_trees defs) (all_in (term_table_names defs) (decl_names defs) (λ y h. has_among (type_table_names defs) (decl_names defs) y h))
+term_agrees defs x = entries_agree defs x 0 (decl_trees defs) (all_in (term_table_names defs) (decl_names defs) (λ y h. has_among (type_names_met defs) (decl_names defs) y h))
 
 entry_at : (defs : List Definition) (k j : ℕ) (ds : List DeclTree) (t : TermEntry) → slice_get (decl_entries defs k ds) j ≡ Some t → (d : DeclTree) × (slice_get ds j ≡ Some d) × (t ≡ decl_entry defs (k + j) d)
 entry_at defs k j [] t h = absurd (cc)
@@ -206,9 +206,9 @@ module _ (names : List (List ℕ)) (e : Setting) (multi : Bool) (deeper : Patter
 -- 5. the right side
 same_expr : (defs : List Definition) (expand anywhere : Bool) (flags : Flags) (d : ℕ) (x : ExprTree) (ty : ℕ) (visible vars : List TypedVar) → LookedUpAlike visible vars → is_carried_expr x ≡ true
     → elaborated_expr (setting_of defs expand anywhere) flags d x (Some ty) (record { names = all_names defs; visible = visible; vars = vars })
-    ≡ option_map (λ q. typing q (record { names = all_names defs; visible = visible; vars = vars }) 0) (elaborate_expr (all_names defs) (type_entries defs) x ty vars)
+    ≡ option_map (λ q. typing q (record { names = all_names defs; visible = visible; vars = vars }) 0) (elaborate_expr (all_names defs) (type_table defs) x ty vars)
 same_expr defs expand anywhere flags d (int_expr z at) ty visible vars a c =
-    elim (is_atom_type (slice_get (type_entries defs) ty)) as (λ b. cond b (Some (typing (make_int ty z) (record { names = all_names defs; visible = visible; vars = vars }) 0)) None
+    elim (is_atom_type (slice_get (type_table defs) ty)) as (λ b. cond b (Some (typing (make_int ty z) (record { names = all_names defs; visible = visible; vars = vars }) 0)) None
     ≡ option_map (λ q. typing q (record { names = all_names defs; visible = visible; vars = vars }) 0) (cond b (Some (make_int ty z)) None)) [ true ↦ refl | false ↦ refl ]
 same_expr defs expand anywhere flags d (var_expr name at) ty visible vars a c =
     let s : Scope = record { names = all_names defs; visible = visible; vars = vars } in
@@ -264,13 +264,13 @@ module _ (defs : List Definition) (expand anywhere : Bool) (flags : Flags) (d id
       (finished id r t
       (followed sides_of a (λ a. followed last_sides (elaborated_iflets tables flags d r.iflets a.scope) (λ b. elaborated_expr tables flags d r.expr (Some t.ret_ty) b.scope))))
       ≡ option_map without_expansion
-      (then_option b (λ b. option_map (rule_with (all_names defs) r id t.id b) (elaborate_expr (all_names defs) (type_entries defs) r.expr t.ret_ty b.vars)))
+      (then_option b (λ b. option_map (rule_with (all_names defs) r id t.id b) (elaborate_expr (all_names defs) (type_table defs) r.expr t.ret_ty b.vars)))
   same_sides None None h c i = refl
   same_sides None (Some b) h c i = absurd h
   same_sides (Some a) None h c i = absurd h
   same_sides (Some a) (Some b) h c i =
       rw (h.2, i, same_expr defs expand anywhere flags d r.expr t.ret_ty h.0 b.vars h.4 c)
-      (elim (elaborate_expr (all_names defs) (type_entries defs) r.expr t.ret_ty b.vars) as (λ o.
+      (elim (elaborate_expr (all_names defs) (type_table defs) r.expr t.ret_ty b.vars) as (λ o.
       option_map rule_and_count
       (finished id r t
       (joined sides_of (typing h.1 (record { names = all_names defs; visible = h.0; vars = b.vars }) 0)
@@ -286,7 +286,7 @@ module _ (defs : List Definition) (expand anywhere : Bool) (flags : Flags) (d id
       list_all is_carried_pattern ps ≡ true → all_different (bound_names ps) ≡ true → ((x : List ℕ) → has_name (bound_names ps) x ≡ true → has_name (all_names defs) x ≡ true)
       → SameParts (all_names defs) tables flags.multi (deeper_pattern tables flags.multi d)
       (elaborated_parts tables flags.multi d (root_parts r.pattern) t.arg_tys (opened (all_names defs)))
-      (elaborate_args (all_names defs) (type_entries defs) ps t.arg_tys [])
+      (elaborate_args (all_names defs) (type_table defs) ps t.arg_tys [])
 
   root_agrees : CarriedParts (root_args r.pattern)
   root_agrees =
@@ -295,7 +295,7 @@ module _ (defs : List Definition) (expand anywhere : Bool) (flags : Flags) (d id
       (record { known = known; free = λ x h. refl; apart = apart }) c)
 
   term_rule_agrees : (k : ℕ) → declared_flags t.kind ≡ Some flags → flags.multi ≡ false → t.id ≡ k → slice_get (rule_trees defs) id ≡ Some r → is_carried_rule r ≡ true
-      → option_map rule_and_count (rule_of_term tables d id r (opened (all_names defs)) t) ≡ option_map without_expansion (elaborate_at (all_names defs) (type_entries defs) r id k t)
+      → option_map rule_and_count (rule_of_term tables d id r (opened (all_names defs)) t) ≡ option_map without_expansion (elaborate_at (all_names defs) (type_table defs) r id k t)
   term_rule_agrees k h multi same there carried =
       let args = list_all is_carried_pattern (root_args r.pattern) in
       let apart = all_different (bound_names (root_args r.pattern)) in
@@ -304,18 +304,18 @@ module _ (defs : List Definition) (expand anywhere : Bool) (flags : Flags) (d id
       let a = and_parts args apart b.0 in
       let may : may_have_priority flags r ≡ true = ap (λ v. not (v && is_some r.prio)) multi in
       let parts = root_agrees a.0 a.1 (λ x i. bound_is_met defs id r x there i) in
-      subst (λ k. option_map rule_and_count (rule_of_term tables d id r (opened (all_names defs)) t) ≡ option_map without_expansion (elaborate_at (all_names defs) (type_entries defs) r id k t)) same
+      subst (λ k. option_map rule_and_count (rule_of_term tables d id r (opened (all_names defs)) t) ≡ option_map without_expansion (elaborate_at (all_names defs) (type_table defs) r id k t)) same
       (rw (h, may)
       (same_sides
       (elaborated_parts tables flags.multi d (root_parts r.pattern) t.arg_tys (opened (all_names defs)))
-      (elaborate_args (all_names defs) (type_entries defs) (root_args r.pattern) t.arg_tys []) parts c.1 (no_iflets r.iflets b.1)))
+      (elaborate_args (all_names defs) (type_table defs) (root_args r.pattern) t.arg_tys []) parts c.1 (no_iflets r.iflets b.1)))
 
 pub carried_rules_agree : CarriedRulesAgree
 carried_rules_agree defs expand anywhere d id r valid there carried =
     let e = setting_of defs expand anywhere in
     let names = all_names defs in
     let whole : TermEntry → Option (Typing TypedRule) = λ t. rule_of_term e d id r (opened names) t in
-    let early : ℕ → TermEntry → Option TypedRule = λ root t. elaborate_at names (type_entries defs) r id root t in
+    let early : ℕ → TermEntry → Option TypedRule = λ root t. elaborate_at names (type_table defs) r id root t in
     elim (root_name r.pattern) as (λ o.
     option_map rule_and_count (then_option o (λ n. then_option (term_of e (opened names) n.text) whole))
     ≡ option_map without_expansion (then_option (then_option o (λ n. term_id defs n.text)) (λ root. then_option (slice_get (term_entries defs) root) (early root)))) [

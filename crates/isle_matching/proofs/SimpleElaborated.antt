@@ -12,7 +12,7 @@ use Rattle.isle_model.specs.Values.{is_atom_type}
 use Rattle.isle_model.specs.Typed.{TypedPattern, match_bind, match_int, match_any, TypedExpr, TypedVar, TypedRule}
 use Rattle.isle_model.specs.Program.{Program, unknown, kind_of, flags_of, is_multi, arg_types}
 use Rattle.isle_model.specs.Simple.{IsSimplePattern, simple_int, simple_any, simple_var, AreSimplePatterns, binds_var, var_place, IsSimpleExpr, simple_literal, simple_use, BindsOnce, IsSimpleRule}
-use Rattle.isle_model.specs.TypeTable.{type_entries}
+use Rattle.isle_model.specs.TypeTable.{type_table}
 use Rattle.isle_model.specs.TermTable.{decl_of, decl_trees, is_carried_term, IsValidTerms, term_entries, rule_trees}
 use Rattle.isle_model.specs.Elaboration.{root_args, Elaborated, new_var, elaborate_pattern, ElaboratedArgs, with_first, elaborate_args, elaborate_expr, rule_with, elaborate_at, all_names, root_id, elaborate_rule, elaborate_rules, named_rule, named_rules, AreElaborated, program_of}
 use Rattle.isle_model.specs.Outcome.{then_option}
@@ -142,9 +142,9 @@ module _ (defs : List Definition) (rules : List TypedRule) (valid : IsValidTerms
 
   rule_of_term : (id : ℕ) (r : RuleTree) (q : TypedRule) → elaborate_rule defs id r ≡ Some q → IsOfTerm (program_of defs rules) q
   rule_of_term id r q h =
-      let a = then_some (root_id defs r) (λ root. then_option (slice_get (term_entries defs) root) (λ term. elaborate_at (all_names defs) (type_entries defs) r id root term)) q h in
-      let b = then_some (slice_get (term_entries defs) a.0) (λ term. elaborate_at (all_names defs) (type_entries defs) r id a.0 term) q a.2 in
-      of_term (program_of defs rules) (all_names defs) (type_entries defs) r id a.0 b.0 q b.1 b.2
+      let a = then_some (root_id defs r) (λ root. then_option (slice_get (term_entries defs) root) (λ term. elaborate_at (all_names defs) (type_table defs) r id root term)) q h in
+      let b = then_some (slice_get (term_entries defs) a.0) (λ term. elaborate_at (all_names defs) (type_table defs) r id a.0 term) q a.2 in
+      of_term (program_of defs rules) (all_names defs) (type_table defs) r id a.0 b.0 q b.1 b.2
 
   list_of_terms : (id : ℕ) (rs : List RuleTree) (qs : List TypedRule) (q : TypedRule) → elaborate_rules defs id rs ≡ Some qs → In qs q → IsOfTerm (program_of defs rules) q
   list_of_terms id [] qs q h i = absurd (subst (λ l. In l q) (sym (some_is [] qs h)) i)

@@ -9,7 +9,7 @@ use Rattle.isle_model.specs.Tables.{TypeEntry, TermEntry}
 use Rattle.isle_model.specs.Values.{is_atom_type}
 use Rattle.isle_model.specs.Typed.{TypedPattern, TypedExpr, make_var, make_int, TypedVar, TypedRule}
 use Rattle.isle_model.specs.Program.{Program, unknown, kind_of, flags_of, is_partial, rules_of}
-use Rattle.isle_model.specs.TypeTable.{type_entries}
+use Rattle.isle_model.specs.TypeTable.{type_table}
 use Rattle.isle_model.specs.TermTable.{decl_of, decl_trees, is_carried_term, IsValidTerms, decl_entry, decl_entries, term_entries, rule_trees}
 use Rattle.isle_model.specs.Elaboration.{root_args, Elaborated, new_var, elaborate_pattern, ElaboratedArgs, with_first, elaborate_args, var_named, var_at_type, elaborate_expr, rule_with, elaborate_at, all_names, root_id, elaborate_rule, with_rule, elaborate_rules, named_rule, named_rules, AreElaborated, program_of}
 use Rattle.isle_matching.proofs.Elements.{In, some_is, in_either, in_filter, in_map, contains_from_in, from_flat_map}
@@ -174,9 +174,9 @@ module _ (defs : List Definition) (rules : List TypedRule) (valid : IsValidTerms
   -- 7. all rules
   simple_rule : (id : ℕ) (r : RuleTree) (q : TypedRule) → elaborate_rule defs id r ≡ Some q → IsSimple (program_of defs rules) q
   simple_rule id r q h =
-      let a = then_some (root_id defs r) (λ root. then_option (slice_get (term_entries defs) root) (λ term. elaborate_at (all_names defs) (type_entries defs) r id root term)) q h in
-      let b = then_some (slice_get (term_entries defs) a.0) (λ term. elaborate_at (all_names defs) (type_entries defs) r id a.0 term) q a.2 in
-      (simple_at (program_of defs rules) (all_names defs) (type_entries defs) r id a.0 b.0 q b.1 (all_whole a.0) b.2).0
+      let a = then_some (root_id defs r) (λ root. then_option (slice_get (term_entries defs) root) (λ term. elaborate_at (all_names defs) (type_table defs) r id root term)) q h in
+      let b = then_some (slice_get (term_entries defs) a.0) (λ term. elaborate_at (all_names defs) (type_table defs) r id a.0 term) q a.2 in
+      (simple_at (program_of defs rules) (all_names defs) (type_table defs) r id a.0 b.0 q b.1 (all_whole a.0) b.2).0
 
   pub with_both : (o : Option TypedRule) (rest : Option (List TypedRule)) (qs : List TypedRule) → with_rule o rest ≡ Some qs → (q : TypedRule) × (ps : List TypedRule) × (o ≡ Some q) × (rest ≡ Some ps) × (qs ≡ q ∷ ps)
   with_both None rest qs h = absurd (none_some qs h)

@@ -10,7 +10,7 @@ use Rattle.isle_model.specs.Tables.{TypeEntry, TermEntry}
 use Rattle.isle_model.specs.Values.{is_atom_type}
 use Rattle.isle_model.specs.Typed.{TypedPattern, match_bind, match_int, match_any, TypedExpr, make_var, make_int, TypedVar, TypedRule}
 use Rattle.isle_model.specs.Program.{Program}
-use Rattle.isle_model.specs.TypeTable.{type_entries, IsValidTypes}
+use Rattle.isle_model.specs.TypeTable.{type_table, constant_types, IsValidTypes}
 use Rattle.isle_model.specs.TermTable.{IsValidTerms, AllDefined, term_table_names, term_id, term_entries, rule_trees, root_name}
 
 -- the patterns of a rule's arguments
@@ -140,7 +140,7 @@ root_id defs r = then_option (root_name r.pattern) (λ n. term_id defs n.text)
 
 abbrev pub elaborate_rule : List Definition → ℕ → RuleTree → Option TypedRule
 elaborate_rule defs id r =
-    then_option (root_id defs r) (λ root. then_option (slice_get (term_entries defs) root) (λ term. elaborate_at (all_names defs) (type_entries defs) r id root term))
+    then_option (root_id defs r) (λ root. then_option (slice_get (term_entries defs) root) (λ term. elaborate_at (all_names defs) (type_table defs) r id root term))
 
 abbrev pub with_rule : Option TypedRule → Option (List TypedRule) → Option (List TypedRule)
 with_rule None rest = None
@@ -187,4 +187,4 @@ pub record IsElaborated (defs : List Definition) (rules : List TypedRule) : Type
 
 -- the program that a list of definitions makes, with these rules
 abbrev pub program_of : List Definition → List TypedRule → Program
-program_of defs rules = record { types = type_entries defs; constants = []; terms = term_entries defs; rules = rules }
+program_of defs rules = record { types = type_table defs; constants = constant_types defs; terms = term_entries defs; rules = rules }

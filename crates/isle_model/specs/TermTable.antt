@@ -7,7 +7,7 @@ use Rattle.isle_model.specs.Syntax.{Name, PatternTree, term_pattern, DeclTree, R
 use Rattle.isle_model.specs.Names.{number, with_names, IsDistinct}
 use Rattle.isle_model.specs.Outcome.{then_option}
 use Rattle.isle_model.specs.Tables.{Flags, ConstructorEntry, internal_constructor, declared_term, TermEntry}
-use Rattle.isle_model.specs.TypeTable.{type_table_names, type_id, place_from}
+use Rattle.isle_model.specs.TypeTable.{type_names_met, type_id, type_or_first, place_from}
 
 abbrev pub decl_of : Definition → List DeclTree
 decl_of (declaration d) = d ∷ []
@@ -29,7 +29,7 @@ decl_names defs = map (λ d. d.term.text) (decl_trees defs)
 
 -- the names of the type table, then the declared terms
 abbrev pub term_table_names : List Definition → List (List ℕ)
-term_table_names defs = with_names (type_table_names defs) (decl_names defs)
+term_table_names defs = with_names (type_names_met defs) (decl_names defs)
 
 -- the id of the term of a name
 abbrev pub term_id : List Definition → List ℕ → Option ℕ
@@ -83,9 +83,6 @@ constructor_of defs x = if list_any (is_rule_of x) (rule_trees defs) then Some i
 
 abbrev pub decl_flags : DeclTree → Flags
 decl_flags d = record { pure = d.pure; multi = d.multi; partial = d.partial; rec = d.rec }
-
-abbrev pub type_or_first : List Definition → Name → ℕ
-type_or_first defs n = unwrap_or (type_id defs n.text) 0
 
 abbrev pub decl_entry : List Definition → ℕ → DeclTree → TermEntry
 decl_entry defs id d = record {

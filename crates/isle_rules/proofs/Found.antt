@@ -5,7 +5,7 @@ use Rattle.isle_base.specs.Stable.{look_up}
 use Rattle.isle_model.specs.Syntax.{Name, RuleTree, Definition}
 use Rattle.isle_model.specs.Names.{number, has_name, with_names}
 use Rattle.isle_model.specs.Outcome.{then_option}
-use Rattle.isle_model.specs.TypeTable.{builtin_names, type_names, type_trees, inner_names, type_table_names, type_id}
+use Rattle.isle_model.specs.TypeTable.{builtin_names, type_names, type_trees, inner_names, type_names_met, type_id}
 use Rattle.isle_model.specs.TermTable.{decl_names, term_table_names, term_id, term_entries, root_name, rule_trees}
 use Rattle.isle_model.specs.Elaboration.{all_names, names_of_rule, elaborate_at, root_id, elaborate_rule}
 use Rattle.isle_types.specs.declared.type_env.TypeEnv.{TypeEnv}
@@ -21,7 +21,7 @@ use Rattle.isle_rules.specs.Numbering.{Meets}
 use Rattle.isle_rules.proofs.Texts.{then_withs, missing_before, missing_among, missing_first, missing_both, place_absent, found, looked_up}
 
 -- a text that is no name is no type's
-no_type : (defs : List Definition) (x : List ℕ) → has_name (type_table_names defs) x ≡ false → type_id defs x ≡ None
+no_type : (defs : List Definition) (x : List ℕ) → has_name (type_names_met defs) x ≡ false → type_id defs x ≡ None
 no_type defs x e =
     let inside : List (List ℕ) = flat_map (λ t. inner_names t.value) (type_trees defs) in
     let a : has_name builtin_names x ≡ false = missing_before builtin_names (type_names defs ++ inside) x e in
@@ -30,7 +30,7 @@ no_type defs x e =
 
 -- nor a term's
 no_term : (defs : List Definition) (x : List ℕ) → has_name (term_table_names defs) x ≡ false → term_id defs x ≡ None
-no_term defs x e = place_absent 0 (decl_names defs) x (missing_among (type_table_names defs) (decl_names defs) x e)
+no_term defs x e = place_absent 0 (decl_names defs) x (missing_among (type_names_met defs) (decl_names defs) x e)
 
 abbrev pub rule_texts : List Definition → List (List ℕ)
 rule_texts defs = flat_map names_of_rule (rule_trees defs)
@@ -43,7 +43,7 @@ sees_more defs old new s m =
       inverse = subst (λ ns. IsInverse ns (symbol_of new)) names m.inverse;
       types = ap (λ v. type_views v.items) m.types ∙ s.types;
       ids = λ k. ap (λ t. option_map (λ i. i.0) (look_up same_symbol t (symbol k))) m.type_map ∙ s.ids k
-          ∙ sym (then_withs (term_table_names defs) (rule_texts defs) (type_id defs) (λ x e. no_type defs x (missing_before (type_table_names defs) (decl_names defs) x e)) k);
+          ∙ sym (then_withs (term_table_names defs) (rule_texts defs) (type_id defs) (λ x e. no_type defs x (missing_before (type_names_met defs) (decl_names defs) x e)) k);
       constants = λ k. ap (λ t. option_map (λ i. i.0) (look_up same_symbol t (symbol k))) m.const_types ∙ s.constants k;
       errors = ap (λ v. v.items) m.errors ∙ s.errors;
     }

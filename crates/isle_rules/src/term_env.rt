@@ -3,7 +3,7 @@
 ghost use Rattle.isle_base.specs.Answers.{Answers, NoLimit};
 ghost use Rattle.isle_base.specs.SyntaxViews.{definition_views};
 ghost use Rattle.isle_model.specs.Typed.{TypedRule};
-ghost use Rattle.isle_model.specs.TypeTable.{IsValidTypes, type_table_names};
+ghost use Rattle.isle_model.specs.TypeTable.{IsValidTypes, type_names_met};
 ghost use Rattle.isle_model.specs.Elaboration.{IsElaborated, all_names};
 ghost use Rattle.isle_types.specs.TypeTables.{SeesTypes};
 ghost use Rattle.isle_rules.specs.TermEnvs.{SeesRules};
@@ -55,7 +55,7 @@ impl TermEnv {
         defs: &[Def],
         expand_internal_extractors: bool,
     ) -> Result<TermEnv, Fault>
-        requires typed { SeesTypes tyenv.old (definition_views defs.now) (type_table_names (definition_views defs.now)) }
+        requires typed { SeesTypes tyenv.old (definition_views defs.now) (type_names_met (definition_views defs.now)) }
         requires valid { IsValidTypes (definition_views defs.now) }
         ensures answers { Answers result ((rules : List TypedRule) × IsElaborated (definition_views defs.now) rules)
             (λ env. (rules : List TypedRule) × IsElaborated (definition_views defs.now) rules

@@ -6,9 +6,7 @@ use Rattle.std.proofs.lemmas.Option.{none-some, same_Some}
 use Rattle.isle_model.specs.Syntax.{Name, VariantTree, TypeTree, TypeValueTree, primitive_value, enum_value, struct_value, Definition}
 use Rattle.isle_model.specs.Names.{has_name}
 use Rattle.isle_model.specs.Tables.{VariantEntry}
-use Rattle.isle_model.specs.TypeTable.{builtin_names, builtin_from, type_id, type_trees, type_names}
-use Rattle.isle_model.specs.TermTable.{type_or_first}
-use Rattle.isle_tables.specs.TypeTables.{ConstantTree, constant_trees, names_inside, all_type_names, type_names_met, name_number, variant_entry, entry_at, type_entry, type_table, last_definitions, constant_types}
+use Rattle.isle_model.specs.TypeTable.{builtin_names, builtin_from, type_id, type_trees, type_names, ConstantTree, constant_trees, names_inside, all_type_names, type_names_met, name_number, variant_entry, entry_at, type_entry, type_table, last_definitions, constant_types, type_or_first}
 use Rattle.isle_tables.proofs.Lists.{all_joined}
 use Rattle.isle_tables.proofs.Names.{number_below, has_at, has_met, has_right}
 use Rattle.isle_tables.proofs.TypeLaws.{names_later}

@@ -10,7 +10,7 @@ use Rattle.isle_model.specs.Tables.{VariantEntry, TypeEntry, builtin_type, primi
 use Rattle.isle_model.specs.Typed.{TypedRule}
 use Rattle.isle_model.specs.Program.{Program}
 use Rattle.isle_model.specs.TermTable.{rule_trees}
-use Rattle.isle_tables.specs.TypeTables.{IsValidTypes, all_type_names, type_table, type_names_met, constant_types}
+use Rattle.isle_model.specs.TypeTable.{IsValidTypes, all_type_names, type_table, type_names_met, constant_types}
 use Rattle.isle_tables.specs.KnownTypes.{KnownTypes, types_of, IsWellFormed}
 use Rattle.isle_tables.specs.TermTables.{IsValidTerms, AllDefined, term_table, term_names_met, converters}
 use Rattle.isle_elaboration.specs.Setting.{Setting}

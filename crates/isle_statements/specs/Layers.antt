@@ -15,7 +15,7 @@ use Rattle.isle_model.specs.Built.{RunsAsChosen, terms_with_rules}
 use Rattle.isle_model.specs.Collects.{Collects, CollectsTheBag, IsCollectedSet, ServesSet, set_bag}
 use Rattle.isle_model.specs.SetRuns.{IsTestedSet, ServesTests, ChoosesFrom}
 use Rattle.isle_model.specs.Overlap.{built_rules, OverlapsWrongly, IsShadowed, HasDistinctPositions, RuleReport, limit_passed, not_reached, rules_overlap, rule_shadows, build_reports, overlap_and_shadow_reports}
-use Rattle.isle_tables.specs.TypeTables.{IsValidTypes, type_table, constant_types}
+use Rattle.isle_model.specs.TypeTable.{IsValidTypes, type_table, constant_types}
 use Rattle.isle_elaboration.specs.Elaborated.{TypedRules}
 use Rattle.isle_statements.specs.Environments.{types_read, HasTypedRules, IsRead, program_of, AnswerAlike, AreRulesOf}
 use Rattle.isle_statements.specs.RuleSets.{IsBuilt}

@@ -3,7 +3,7 @@ use Rattle.std.specs.Prelude.{Bool, true, List, [], ◌∷◌, codes}
 use Rattle.isle_model.specs.Syntax.{Definition, type_definition}
 use Rattle.isle_model.specs.Trees.{Tree, no_step}
 use Rattle.isle_model.specs.Overlap.{rules_overlap, rule_shadows}
-use Rattle.isle_tables.specs.TypeTables.{type_table}
+use Rattle.isle_model.specs.TypeTable.{type_table}
 use Rattle.isle_tables.specs.TermTables.{term_table}
 use Rattle.isle_tables.specs.KnownTypes.{types_of}
 use Rattle.isle_tables.specs.Written.{at, field, variant, enum}

@@ -1,7 +1,7 @@
 -- The types that a list of definitions makes are such that terms and rules can be read with them.
 use Rattle.std.specs.Prelude.{List}
 use Rattle.isle_model.specs.Syntax.{Definition}
-use Rattle.isle_tables.specs.TypeTables.{IsValidTypes}
+use Rattle.isle_model.specs.TypeTable.{IsValidTypes}
 use Rattle.isle_statements.specs.Environments.{types_read, AreReadable}
 
 -- the types and constants of a list with valid types can be read

@@ -6,9 +6,7 @@ use Rattle.std.proofs.lemmas.List.{append-nil}
 use Rattle.std.proofs.lemmas.List.Elements.{All-from_recursion, recursion_from_All, All-nil, All-weaker}
 use Rattle.isle_model.specs.Syntax.{TypeTree, TypeValueTree, primitive_value, enum_value, struct_value, Definition, type_definition, extern_definition, extern_const}
 use Rattle.isle_model.specs.Names.{with_names}
-use Rattle.isle_model.specs.TypeTable.{builtin_names, type_of, type_trees, type_names, inner_names, type_table_names, is_carried_value, is_carried_type, builtin_from, entry_value, entries_from, type_entries, IsValidTypes as IsValidCarriedTypes}
-use Rattle.isle_model.specs.TermTable.{type_or_first}
-use Rattle.isle_tables.specs.TypeTables.{constant_of, constant_trees, names_inside, type_names_met, name_number, field_lists_of, field_lists, is_primitive, HasDistinctVariants, HasDistinctFields, HasKnownTypes, IsOfKnownType, IsValidTypes, entry_at, type_entry, type_table, last_definitions}
+use Rattle.isle_model.specs.TypeTable.{builtin_names, type_of, type_trees, type_names, inner_names, type_names_met, is_carried_value, is_carried_type, builtin_from, entry_value, entries_from, type_table, IsValidTypes as IsValidCarriedTypes, constant_of, constant_trees, names_inside, name_number, field_lists_of, field_lists, is_primitive, HasDistinctVariants, HasDistinctFields, HasKnownTypes, IsOfKnownType, IsValidTypes, entry_at, type_entry, last_definitions, type_or_first}
 use Rattle.isle_tables.specs.Agreement.{AreCarriedTypes, SameTypes, TypesAgree}
 use Rattle.isle_tables.proofs.Lists.{distinct_nil, all_joined}
 
@@ -91,13 +89,13 @@ module _ (defs : List Definition) (carried : AreCarriedTypes defs) where
   no_fields : field_lists defs ≡ []
   no_fields = none_of (λ t. field_lists_of t.value) IsCarriedTree (λ t h. no_lists t.value h) (type_trees defs) carried_trees
 
-  pub names_same : type_table_names defs ≡ type_names_met defs
+  pub names_same : type_names_met defs ≡ type_names_met defs
   names_same =
       ap (λ l. with_names builtin_names (type_names defs ++ l)) (all_inside (type_trees defs) carried_trees)
       ∙ ap (with_names builtin_names) (sym (append-nil (type_names defs ++ flat_map (λ t. names_inside t.name.text t.value) (type_trees defs))))
       ∙ ap (λ cs. with_names builtin_names (type_names defs ++ flat_map (λ t. names_inside t.name.text t.value) (type_trees defs) ++ map (λ c. c.name.text) cs)) (sym no_constants)
 
-  pub types_same : type_entries defs ≡ type_table defs
+  pub types_same : type_table defs ≡ type_table defs
   types_same =
       ap (λ ns. builtin_from 0 builtin_names ++ entries_from ns 13 (type_trees defs)) names_same
       ∙ ap (λ l. builtin_from 0 builtin_names ++ l) (entries_same defs (type_names_met defs) 13 (type_trees defs) carried_trees)

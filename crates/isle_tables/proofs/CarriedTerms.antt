@@ -9,9 +9,8 @@ use Rattle.std.proofs.lemmas.List.Elements.{All-from_recursion, recursion_from_A
 use Rattle.isle_model.specs.Syntax.{TypeTree, TypeValueTree, primitive_value, enum_value, struct_value, DeclTree, Definition, declaration, extractor_definition, converter_definition, extern_definition, extern_constructor, extern_extractor}
 use Rattle.isle_model.specs.Names.{number, has_name, with_names, IsDistinct}
 use Rattle.isle_model.specs.Tables.{ConstructorEntry, internal_constructor, external_constructor, ExtractorEntry, internal_extractor, external_extractor, declared_term, TermEntry}
-use Rattle.isle_model.specs.TypeTable.{builtin_names, type_trees, builtin_from, is_carried_value, place_from}
-use Rattle.isle_model.specs.TermTable.{decl_of, decl_trees, decl_names, term_table_names, is_carried_term, decl_flags, type_or_first, decl_entry, decl_entries, term_entries, IsValidTerms as IsValidCarriedTerms}
-use Rattle.isle_tables.specs.TypeTables.{type_names_met, type_entry, type_table}
+use Rattle.isle_model.specs.TypeTable.{builtin_names, type_trees, builtin_from, is_carried_value, place_from, type_names_met, type_entry, type_table, type_or_first}
+use Rattle.isle_model.specs.TermTable.{decl_of, decl_trees, decl_names, term_table_names, is_carried_term, decl_flags, decl_entry, decl_entries, term_entries, IsValidTerms as IsValidCarriedTerms}
 use Rattle.isle_tables.specs.KnownTypes.{types_of, known_type}
 use Rattle.isle_tables.specs.TermTables.{external_constructor_of, external_extractor_of, extractor_of, converter_of, function_of, constructor_trees, external_trees, extractor_trees, converter_trees, term_names, term_names_met, known_term, has_rules, is_defined, internal_extractors, external_extractors, external_constructors, extractor_template, IsDeclaredTerm, IsNotBothMultiAndPartial, IsWithoutRules, IsOfPlainTerm, NamesKnownTerms, HoldsNoMacroArg, UsesDeclaredArguments, IsKnownConverter, IsDefined, IsValidTerms, terms_made, constructor_kind, extractor_kind, decl_as_term, term_table}
 use Rattle.isle_tables.specs.Agreement.{AreCarriedTypes, AreCarriedTerms, SameTerms, TermsAgree}

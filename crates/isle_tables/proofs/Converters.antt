@@ -6,8 +6,7 @@ use Rattle.std.proofs.lemmas.List.Elements.{All-contains}
 use Rattle.std.proofs.lemmas.Option.{same_Some, slice_get_within, get_or_from_slice_get}
 use Rattle.isle_model.specs.Syntax.{Name, ConverterTree}
 use Rattle.isle_model.specs.Names.{IsDistinct}
-use Rattle.isle_model.specs.TypeTable.{place_from}
-use Rattle.isle_tables.specs.TypeTables.{IsKnownType}
+use Rattle.isle_model.specs.TypeTable.{place_from, IsKnownType}
 use Rattle.isle_tables.specs.KnownTypes.{KnownTypes, type_named, known_type}
 use Rattle.isle_tables.specs.TermTables.{converter_trees, known_term, IsKnownConverter}
 use Rattle.isle_tables.specs.Laws.{ConvertersStandOnce}

@@ -7,9 +7,8 @@ use Rattle.std.proofs.lemmas.Option.{same_Some, slice_get-get_or}
 use Rattle.isle_model.specs.Syntax.{VariantTree, TypeTree, TypeValueTree, primitive_value, enum_value, struct_value, DeclTree, Definition}
 use Rattle.isle_model.specs.Names.{number, has_name, with_names, IsDistinct}
 use Rattle.isle_model.specs.Tables.{VariantEntry, TypeEntry, builtin_type, primitive_type, enum_type, struct_type, TermEntry}
-use Rattle.isle_model.specs.TypeTable.{builtin_names, builtin_from, type_trees}
+use Rattle.isle_model.specs.TypeTable.{builtin_names, builtin_from, type_trees, full_name, field_names, variant_names, names_inside, type_names_met, entry_at, type_entry, type_table, variant_entry}
 use Rattle.isle_model.specs.TermTable.{decl_trees, decl_names}
-use Rattle.isle_tables.specs.TypeTables.{full_name, field_names, variant_names, names_inside, type_names_met, entry_at, type_entry, type_table, variant_entry}
 use Rattle.isle_tables.specs.KnownTypes.{KnownTypes, types_of, field_numbers, variant_numbers, entry_numbers}
 use Rattle.isle_tables.specs.TermTables.{function_of, made_by, term_names, term_names_met, variant_as_term, terms_made, decl_as_term, terms_in_order}
 use Rattle.isle_tables.specs.Laws.{NamesStandOnce, NumbersStay, TermsAreFound, TermsStandAtIds, HaveNumbersOfNames, TermsHaveNames, names_made, TypesMakeTerms}

@@ -10,9 +10,7 @@ use Rattle.std.proofs.lemmas.Option.{same_Some, slice_get-map}
 use Rattle.isle_model.specs.Syntax.{Definition}
 use Rattle.isle_model.specs.Names.{number, has_name, IsDistinct}
 use Rattle.isle_model.specs.Meaning.{look}
-use Rattle.isle_model.specs.TypeTable.{builtin_names, builtin_from, type_trees, type_names, place_from}
-use Rattle.isle_model.specs.TermTable.{type_or_first}
-use Rattle.isle_tables.specs.TypeTables.{ConstantTree, constant_trees, names_inside, type_names_met, type_entry, last_definitions}
+use Rattle.isle_model.specs.TypeTable.{builtin_names, builtin_from, type_trees, type_names, place_from, ConstantTree, constant_trees, names_inside, type_names_met, type_entry, last_definitions, type_or_first}
 use Rattle.isle_tables.specs.Laws.{TypesStandAtIds, LastDefinitionCounts}
 use Rattle.isle_tables.proofs.Lists.{distinct_if}
 use Rattle.isle_tables.proofs.Names.{same_bytes, same_self, same_test, has_met, has_left, has_right, distinct_names}

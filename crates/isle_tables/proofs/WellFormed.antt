@@ -11,9 +11,7 @@ use Rattle.isle_model.specs.Syntax.{Name, FieldTree, TupleFieldTree, FieldTrees,
 use Rattle.isle_model.specs.Names.{has_name}
 use Rattle.isle_model.specs.Values.{field_types}
 use Rattle.isle_model.specs.Tables.{TypeEntry}
-use Rattle.isle_model.specs.TypeTable.{builtin_names, builtin_from, place_from, type_id, type_trees, type_names}
-use Rattle.isle_model.specs.TermTable.{type_or_first}
-use Rattle.isle_tables.specs.TypeTables.{full_name, field_names, variant_names, names_inside, all_type_names, type_names_met, field_entry, tuple_field_entry, field_entries, variant_entry, entry_at, type_entry, type_table}
+use Rattle.isle_model.specs.TypeTable.{builtin_names, builtin_from, place_from, type_id, type_trees, type_names, full_name, field_names, variant_names, names_inside, all_type_names, type_names_met, field_entry, tuple_field_entry, field_entries, variant_entry, entry_at, type_entry, type_table, type_or_first}
 use Rattle.isle_tables.specs.KnownTypes.{entry_id, types_inside, field_numbers, variant_numbers, entry_numbers, StandAtIds}
 use Rattle.isle_tables.specs.Laws.{OwnTypesAreWellFormed, TypesAreFound}
 use Rattle.isle_tables.proofs.Lists.{all_joined, all_left, all_right}

@@ -5,9 +5,8 @@ use Rattle.std.proofs.lemmas.List.Elements.{All-from_recursion, All-nil}
 use Rattle.isle_model.specs.Names.{has_name}
 use Rattle.isle_model.specs.Syntax.{Definition}
 use Rattle.isle_model.specs.Tables.{primitive_type}
-use Rattle.isle_model.specs.TypeTable.{builtin_names, type_trees}
+use Rattle.isle_model.specs.TypeTable.{builtin_names, type_trees, all_type_names, IsKnownType, IsUnmarkedIfPrimitive, HasAtMostOneMark, HasDistinctVariants, HasDistinctFields, HasKnownTypes, IsOfKnownType, IsValidTypes}
 use Rattle.isle_model.specs.TermTable.{decl_trees, rule_trees}
-use Rattle.isle_tables.specs.TypeTables.{all_type_names, IsKnownType, IsUnmarkedIfPrimitive, HasAtMostOneMark, HasDistinctVariants, HasDistinctFields, HasKnownTypes, IsOfKnownType, IsValidTypes}
 use Rattle.isle_tables.specs.KnownTypes.{types_of, IsWellFormed}
 use Rattle.isle_tables.specs.TermTables.{IsDeclaredTerm, HasKnownArguments, HasKnownResult, IsNotBothMultiAndPartial, HasDeclaredRoot, IsWithoutRules, IsOfPlainTerm, NamesKnownTerms, HoldsNoMacroArg, UsesDeclaredArguments, IsKnownConverter, IsDefined, IsValidTerms, AllDefined}
 use Rattle.isle_tables.specs.Written.{at, name, decl}

@@ -4,9 +4,8 @@ use Rattle.std.specs.Str.{bytes_eq}
 use Rattle.std.proofs.lemmas.Bool.{false≢true}
 use Rattle.std.proofs.lemmas.List.Elements.{All-from_recursion, All-nil}
 use Rattle.isle_model.specs.Syntax.{Name, ExtractorTree, ConverterTree, DeclTree, RuleTree, Definition, int_expr}
-use Rattle.isle_model.specs.TypeTable.{type_trees}
+use Rattle.isle_model.specs.TypeTable.{type_trees, field_lists, all_type_names, IsKnownType, IsUnmarkedIfPrimitive, HasAtMostOneMark, HasDistinctVariants, HasDistinctFields, HasKnownTypes, IsOfKnownType, IsValidTypes}
 use Rattle.isle_model.specs.TermTable.{decl_trees, rule_trees}
-use Rattle.isle_tables.specs.TypeTables.{field_lists, all_type_names, IsKnownType, IsUnmarkedIfPrimitive, HasAtMostOneMark, HasDistinctVariants, HasDistinctFields, HasKnownTypes, IsOfKnownType, IsValidTypes}
 use Rattle.isle_tables.specs.KnownTypes.{types_of}
 use Rattle.isle_tables.specs.TermTables.{ConstructorTree, ExternalTree, constructor_trees, external_trees, extractor_trees, converter_trees, term_names, terms_in, argument_count, IsDeclaredTerm, IsKnownTerm, Uses, directly, through, HasKnownArguments, HasKnownResult, IsNotBothMultiAndPartial, HasDeclaredRoot, IsWithoutRules, IsOfPlainTerm, NamesKnownTerms, HoldsNoMacroArg, UsesDeclaredArguments, IsKnownConverter, IsDefined, AllDefined}
 use Rattle.isle_tables.specs.Written.{at, name, decl, term, by_template}

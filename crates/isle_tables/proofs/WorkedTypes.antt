@@ -3,8 +3,7 @@ use Rattle.std.proofs.Common.{[], ◌∷◌, ◌++◌, codes, refl, sym, arith}
 use Rattle.std.proofs.lemmas.Bool.{false≢true}
 use Rattle.std.proofs.lemmas.List.Elements.{All-from_recursion, All-nil}
 use Rattle.isle_model.specs.Syntax.{TypeTree, unit_fields}
-use Rattle.isle_model.specs.TypeTable.{builtin_names, type_names, type_trees}
-use Rattle.isle_tables.specs.TypeTables.{ConstantTree, field_lists, constant_trees, all_type_names, IsKnownType, IsUnmarkedIfPrimitive, HasAtMostOneMark, HasDistinctVariants, HasDistinctFields, HasKnownTypes, IsOfKnownType, IsValidTypes}
+use Rattle.isle_model.specs.TypeTable.{builtin_names, type_names, type_trees, ConstantTree, field_lists, constant_trees, all_type_names, IsKnownType, IsUnmarkedIfPrimitive, HasAtMostOneMark, HasDistinctVariants, HasDistinctFields, HasKnownTypes, IsOfKnownType, IsValidTypes}
 use Rattle.isle_tables.specs.Written.{name, primitive}
 use Rattle.isle_tables.specs.WorkedTypes.{two_types, TwoTypes, three_types, ThreeTypes, constants, Constants, RefusedTypes}
 use Rattle.isle_tables.proofs.Lists.{distinct_if, distinct_nil, distinct_one}

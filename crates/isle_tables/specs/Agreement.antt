@@ -1,9 +1,8 @@
 -- On lists of carried forms, the tables are those of the definitions for carried forms.
 use Rattle.std.specs.Prelude.{◌≡◌, ℕ, List, [], All, IsTrue, ◌↔◌}
 use Rattle.isle_model.specs.Syntax.{Definition}
-use Rattle.isle_model.specs.TypeTable.{type_table_names, type_entries, is_carried_type, IsValidTypes as IsValidCarriedTypes}
+use Rattle.isle_model.specs.TypeTable.{type_names_met, type_table, is_carried_type, IsValidTypes as IsValidCarriedTypes, constant_types, IsValidTypes}
 use Rattle.isle_model.specs.TermTable.{term_table_names, term_entries, is_carried_term, term_id as carried_term_id, IsValidTerms as IsValidCarriedTerms, AllDefined as AllCarriedDefined}
-use Rattle.isle_tables.specs.TypeTables.{type_names_met, type_table, constant_types, IsValidTypes}
 use Rattle.isle_tables.specs.KnownTypes.{types_of}
 use Rattle.isle_tables.specs.TermTables.{term_names_met, term_table, term_named, converters, IsValidTerms, AllDefined}
 
@@ -18,8 +17,8 @@ AreCarriedTerms defs = All (λ d. IsTrue (is_carried_term d)) defs
 -- the type table is the one carried, and there are no constants
 pub record SameTypes (defs : List Definition) : Type 0 where
   pub valid : IsValidCarriedTypes defs ↔ IsValidTypes defs
-  pub names : type_table_names defs ≡ type_names_met defs
-  pub entries : type_entries defs ≡ type_table defs
+  pub names : type_names_met defs ≡ type_names_met defs
+  pub entries : type_table defs ≡ type_table defs
   pub constants : constant_types defs ≡ []
 
 -- the term table is the one carried, and there are no converters

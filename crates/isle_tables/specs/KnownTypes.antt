@@ -5,8 +5,7 @@ use Rattle.isle_model.specs.Syntax.{Name, Definition}
 use Rattle.isle_model.specs.Names.{has_name, IsDistinct}
 use Rattle.isle_model.specs.Values.{field_types}
 use Rattle.isle_model.specs.Tables.{FieldEntries, unit_entries, struct_entries, tuple_entries, VariantEntry, TypeEntry, builtin_type, primitive_type, enum_type, struct_type}
-use Rattle.isle_model.specs.TypeTable.{builtin_names, place_from, builtin_from}
-use Rattle.isle_tables.specs.TypeTables.{all_type_names, type_names_met, type_table}
+use Rattle.isle_model.specs.TypeTable.{builtin_names, place_from, builtin_from, all_type_names, type_names_met, type_table}
 
 -- the names met before, the types by id, and the names of the types by id
 pub record KnownTypes : Type 0 where

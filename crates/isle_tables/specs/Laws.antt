@@ -7,9 +7,8 @@ use Rattle.isle_model.specs.Syntax.{TypeTree, TypeValueTree, primitive_value, en
 use Rattle.isle_model.specs.Names.{number, IsDistinct}
 use Rattle.isle_model.specs.Meaning.{look}
 use Rattle.isle_model.specs.Tables.{TermEntry}
-use Rattle.isle_model.specs.TypeTable.{type_trees, type_id}
-use Rattle.isle_model.specs.TermTable.{decl_names, type_or_first}
-use Rattle.isle_tables.specs.TypeTables.{full_name, constant_trees, type_names_met, name_number, IsValidTypes, type_entry, type_table, constant_types}
+use Rattle.isle_model.specs.TypeTable.{type_trees, type_id, full_name, constant_trees, type_names_met, name_number, IsValidTypes, type_entry, type_table, constant_types, type_or_first}
+use Rattle.isle_model.specs.TermTable.{decl_names}
 use Rattle.isle_tables.specs.KnownTypes.{KnownTypes, types_of, type_named, IsWellFormed}
 use Rattle.isle_tables.specs.TermTables.{term_names, term_names_met, term_named, IsValidTerms, term_table, converters}
 

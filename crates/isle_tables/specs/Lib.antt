@@ -1,4 +1,3 @@
-pub mod TypeTables
 pub mod KnownTypes
 pub mod TermTables
 pub mod Laws

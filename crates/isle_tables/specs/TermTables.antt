@@ -8,9 +8,8 @@ use Rattle.isle_model.specs.Names.{number, has_name, with_names, IsDistinct}
 use Rattle.isle_model.specs.Outcome.{then_option}
 use Rattle.isle_model.specs.Values.{field_types}
 use Rattle.isle_model.specs.Tables.{FieldEntries, VariantEntry, TypeEntry, builtin_type, primitive_type, enum_type, struct_type, ConstructorEntry, internal_constructor, external_constructor, ExtractorEntry, internal_extractor, external_extractor, variant_term, struct_term, declared_term, TermEntry}
-use Rattle.isle_model.specs.TypeTable.{place_from}
+use Rattle.isle_model.specs.TypeTable.{place_from, IsKnownType}
 use Rattle.isle_model.specs.TermTable.{decl_trees, rule_trees, decl_names, root_name, is_rule_of, is_declared, decl_flags}
-use Rattle.isle_tables.specs.TypeTables.{IsKnownType}
 use Rattle.isle_tables.specs.KnownTypes.{KnownTypes, known_type}
 
 -- an external constructor: its term and its function

@@ -2,8 +2,7 @@
 use Rattle.std.specs.Prelude.{◌≡◌, ℕ, pos, true, false, List, [], ◌∷◌, ◌++◌, Some, None, codes}
 use Rattle.isle_model.specs.Syntax.{PatternTree, var_pattern, bind_pattern, int_pattern, wildcard_pattern, and_pattern, macro_arg, unit_fields, DeclTree, Definition, type_definition, declaration}
 use Rattle.isle_model.specs.Tables.{Flags, internal_constructor, external_constructor, internal_extractor, external_extractor, TermKindEntry, variant_term, struct_term, declared_term, TermEntry}
-use Rattle.isle_model.specs.TypeTable.{builtin_names}
-use Rattle.isle_tables.specs.TypeTables.{type_names_met, IsValidTypes}
+use Rattle.isle_model.specs.TypeTable.{builtin_names, type_names_met, IsValidTypes}
 use Rattle.isle_tables.specs.KnownTypes.{types_of}
 use Rattle.isle_tables.specs.TermTables.{template, term_names, term_names_met, term_table, converters, IsValidTerms, AllDefined}
 use Rattle.isle_tables.specs.Written.{at, name, field, variant, primitive, enum, struct, decl, declared, patterns, term, extractor, converter, constructor_by, extractor_by, infallible_extractor_by, rule}

@@ -4,8 +4,7 @@ use Rattle.std.specs.Bool.{◌==◌}
 use Rattle.isle_model.specs.Syntax.{tuple_fields, struct_fields, TypeTree, Definition, type_definition}
 use Rattle.isle_model.specs.Meaning.{look}
 use Rattle.isle_model.specs.Tables.{struct_entries, tuple_entries, primitive_type, enum_type, struct_type}
-use Rattle.isle_model.specs.TypeTable.{builtin_names, builtin_from}
-use Rattle.isle_tables.specs.TypeTables.{type_names_met, type_table, constant_types, IsValidTypes}
+use Rattle.isle_model.specs.TypeTable.{builtin_names, builtin_from, type_names_met, type_table, constant_types, IsValidTypes}
 use Rattle.isle_tables.specs.Written.{at, field, part, variant, primitive, enum, struct, constant}
 
 -- a primitive type, and an extern enum of two variants

@@ -12,8 +12,8 @@ use Rattle.isle_model.specs.Syntax.{Name, PatternTree, var_pattern, bind_pattern
 use Rattle.isle_model.specs.Names.{number, has_name, IsDistinct}
 use Rattle.isle_model.specs.Outcome.{then_option}
 use Rattle.isle_model.specs.Tables.{ConstructorEntry, internal_constructor, TermEntry, declared_term}
-use Rattle.isle_model.specs.TypeTable.{place_from}
-use Rattle.isle_model.specs.TermTable.{decl_trees, rule_trees, decl_names, term_table_names, term_id, root_name, has_root, is_rule_of, is_declared, IsValidTerms, decl_entry, decl_entries, type_or_first, decl_flags}
+use Rattle.isle_model.specs.TypeTable.{place_from, type_or_first}
+use Rattle.isle_model.specs.TermTable.{decl_trees, rule_trees, decl_names, term_table_names, term_id, root_name, has_root, is_rule_of, is_declared, IsValidTerms, decl_entry, decl_entries, decl_flags}
 use Rattle.isle_base.specs.declared.syntax.Def.{Def}
 use Rattle.isle_base.specs.declared.syntax.Error.{Error}
 use Rattle.isle_base.specs.Patterns.{root_term_of}

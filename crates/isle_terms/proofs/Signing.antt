@@ -7,7 +7,7 @@ use Rattle.isle_model.specs.Syntax.{DeclTree, Definition, type_definition, decla
 use Rattle.isle_model.specs.Names.{number, with_name, with_names}
 use Rattle.isle_model.specs.Outcome.{then_option}
 use Rattle.isle_model.specs.Tables.{TermEntry}
-use Rattle.isle_model.specs.TypeTable.{type_table_names}
+use Rattle.isle_model.specs.TypeTable.{type_names_met}
 use Rattle.isle_model.specs.TermTable.{decl_trees, decl_names, term_table_names, is_carried_term, IsValidTerms}
 use Rattle.isle_base.specs.declared.syntax.Def.{Def}
 use Rattle.isle_base.specs.declared.syntax.Error.{Error}
@@ -179,7 +179,7 @@ next_sign defs k d within at old new table table' es es' i w s a =
     step_sign (definition_views defs) (definition_views (drop (k + 1) defs)) (definition_view d) old new table table' es es' i w (subst (λ ds. ReadsSignatures (definition_views defs) ds old table es) left s) a
 
 -- before the first definition
-pub first_sign : (defs : List Definition) (env : TypeEnv) (table : TermTable) (es : List Error) → SeesTypes env defs (type_table_names defs) → table.terms.items ≡ [] → ((k : ℕ) → term_at table k ≡ None) → HasNoConverter table → es ≡ [] → ReadsSignatures defs defs env table es
+pub first_sign : (defs : List Definition) (env : TypeEnv) (table : TermTable) (es : List Error) → SeesTypes env defs (type_names_met defs) → table.terms.items ≡ [] → ((k : ℕ) → term_at table k ≡ None) → HasNoConverter table → es ≡ [] → ReadsSignatures defs defs env table es
 first_sign defs env table es s terms ids converters none = record {
   inverse = (types_start defs env s).sees.inverse;
   within = λ k n h. let a = ids k in absurd (cc);

@@ -5,8 +5,8 @@ use Rattle.isle_model.specs.Syntax.{Name, DeclTree, RuleTree, Definition}
 use Rattle.isle_model.specs.Names.{number, has_name, with_names, IsDistinct}
 use Rattle.isle_model.specs.Outcome.{then_option}
 use Rattle.isle_model.specs.Tables.{ConstructorEntry, internal_constructor, declared_term, TermEntry}
-use Rattle.isle_model.specs.TypeTable.{type_id, place_from}
-use Rattle.isle_model.specs.TermTable.{decl_trees, rule_trees, decl_names, term_table_names, term_id, root_name, is_rule_of, is_carried_term, is_declared, IsValidTerms, decl_flags, type_or_first}
+use Rattle.isle_model.specs.TypeTable.{type_id, place_from, type_or_first}
+use Rattle.isle_model.specs.TermTable.{decl_trees, rule_trees, decl_names, term_table_names, term_id, root_name, is_rule_of, is_carried_term, is_declared, IsValidTerms, decl_flags}
 use Rattle.isle_base.specs.declared.syntax.Error.{Error}
 use Rattle.isle_base.specs.Stable.{look_up}
 use Rattle.isle_types.specs.declared.ids.TypeId.{TypeId}

@@ -3,7 +3,7 @@
 ghost use Rattle.isle_base.specs.Answers.{Answers, NoLimit};
 ghost use Rattle.isle_base.specs.SyntaxViews.{definition_views};
 ghost use Rattle.isle_model.specs.TermTable.{IsValidTerms, term_table_names};
-ghost use Rattle.isle_model.specs.TypeTable.{type_table_names};
+ghost use Rattle.isle_model.specs.TypeTable.{type_names_met};
 ghost use Rattle.isle_types.specs.TypeTables.{SeesTypes};
 ghost use Rattle.isle_terms.specs.TermTables.{SeesTerms};
 
@@ -37,7 +37,7 @@ impl TermTable {
     /// `not carried yet`, each other form; and then a rule whose left side is no declared term.
     /// `Memory` where memory is refused.
     pub fn from_ast(alloc: Global, tyenv: &mut TypeEnv, defs: &[Def]) -> Result<TermTable, Fault>
-        requires typed { SeesTypes tyenv.old (definition_views defs.now) (type_table_names (definition_views defs.now)) }
+        requires typed { SeesTypes tyenv.old (definition_views defs.now) (type_names_met (definition_views defs.now)) }
         ensures answers { Answers result (IsValidTerms (definition_views defs.now))
             (λ table. SeesTypes tyenv.new (definition_views defs.now) (term_table_names (definition_views defs.now))
             × SeesTerms table (definition_views defs.now) (term_table_names (definition_views defs.now))) }

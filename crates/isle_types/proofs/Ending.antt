@@ -5,7 +5,7 @@ use Rattle.std.proofs.lemmas.List.{append-nil, at_drop_more}
 use Rattle.std.proofs.lemmas.List.Elements.{All-nil, All-cons, All-head, All-tail, All-weaker}
 use Rattle.isle_model.specs.Syntax.{Definition, type_definition, declaration, extractor_definition, converter_definition, rule_definition, extern_definition, extern_constructor, extern_extractor, extern_const, other_definition}
 use Rattle.isle_model.specs.Outcome.{then_option}
-use Rattle.isle_model.specs.TypeTable.{builtin_names, type_trees, type_names, type_table_names, place_from, IsValidTypes}
+use Rattle.isle_model.specs.TypeTable.{builtin_names, type_trees, type_names, type_names_met, place_from, IsValidTypes}
 use Rattle.isle_base.specs.declared.syntax.Def.{Def}
 use Rattle.isle_base.specs.declared.syntax.Error.{Error}
 use Rattle.isle_base.specs.SyntaxViews.{definition_view, definition_views}
@@ -83,7 +83,7 @@ module _ (defs : List Definition) (env : TypeEnv) where
     flags = n.flags (All-nil IsPlainType);
   }
 
-  sees_of : Filling defs [] env → IsInverse (names_of env) (symbol_of env) → SeesTypes env defs (type_table_names defs)
+  sees_of : Filling defs [] env → IsInverse (names_of env) (symbol_of env) → SeesTypes env defs (type_names_met defs)
   sees_of n i = record {
     names = n.names;
     inverse = subst (λ ns. IsInverse ns (symbol_of env)) n.names i;
@@ -97,7 +97,7 @@ module _ (defs : List Definition) (env : TypeEnv) where
     right_so_far : es ≡ [] → Filling defs [] env
     right_so_far none = ⊎_elim (λ right. right.1) (λ wrong. absurd (wrong.0 none)) f.so_far
 
-    pub at_ok : es' ≡ [] → IsValidTypes defs × SeesTypes env defs (type_table_names defs)
+    pub at_ok : es' ≡ [] → IsValidTypes defs × SeesTypes env defs (type_names_met defs)
     at_ok none =
         ⊎_elim
         (λ right.

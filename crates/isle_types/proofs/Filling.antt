@@ -7,7 +7,7 @@ use Rattle.std.proofs.lemmas.List.Elements.{All-cons, All-head, All-tail}
 use Rattle.isle_model.specs.Syntax.{Position, TypeTree, TypeValueTree, Definition, type_definition, declaration, extractor_definition, converter_definition, rule_definition, extern_definition, other_definition}
 use Rattle.isle_model.specs.Names.{number, with_name, with_names, IsDistinct}
 use Rattle.isle_model.specs.Tables.{TypeEntry, primitive_type}
-use Rattle.isle_model.specs.TypeTable.{builtin_names, type_trees, type_names, type_table_names, inner_names, entry_value, entries_from, type_entries, is_carried_value, IsValidTypes}
+use Rattle.isle_model.specs.TypeTable.{builtin_names, type_trees, type_names, type_names_met, inner_names, entry_value, entries_from, type_table, is_carried_value, IsValidTypes}
 use Rattle.isle_base.specs.declared.syntax.Def.{Def}
 use Rattle.isle_base.specs.declared.syntax.Error.{Error}
 use Rattle.isle_base.specs.SyntaxViews.{definition_view, definition_views}
@@ -28,13 +28,13 @@ push_entry es es' p q G whole more same is =
 
 module _ (defs rest : List Definition) (t : TypeTree) (old : TypeEnv) (n : Filling defs (type_definition t ∷ rest) old) where
   module _ (new : TypeEnv) (f : FillsType t old new) where
-    names_left : with_names (with_name (names_of old) f.name.text) (names_inside rest) ≡ type_table_names defs
+    names_left : with_names (with_name (names_of old) f.name.text) (names_inside rest) ≡ type_names_met defs
     names_left = sym (ap (λ v. with_names (names_of old) (inner_names v ++ names_inside rest)) f.value) ∙ n.names
 
-    same_number : number (names_of old) f.name.text ≡ number (type_table_names defs) f.name.text
+    same_number : number (names_of old) f.name.text ≡ number (type_names_met defs) f.name.text
     same_number = sym (ap (λ ns. number ns f.name.text) (sym names_left) ∙ number_stays (names_of old) (names_inside rest) f.name.text)
 
-    same_entry : primitive_type (length old.types.items) (number (names_of old) f.name.text) t.at ≡ primitive_type (length (type_views old.types.items)) (number (type_table_names defs) f.name.text) t.at
+    same_entry : primitive_type (length old.types.items) (number (names_of old) f.name.text) t.at ≡ primitive_type (length (type_views old.types.items)) (number (type_names_met defs) f.name.text) t.at
     same_entry =
         ap (λ k. primitive_type k (number (names_of old) f.name.text) t.at) (sym (length-map old.types.items type_view))
         ∙ ap (λ k. primitive_type (length (type_views old.types.items)) k t.at) same_number
@@ -44,8 +44,8 @@ module _ (defs rest : List Definition) (t : TypeTree) (old : TypeEnv) (n : Filli
       sees = sees_name old (builtin_names ++ type_names defs) n.sees new f.name.text f.names f.type_map f.const_types f.errors;
       distinct = n.distinct;
       names = ap (λ ns. with_names ns (names_inside rest)) f.names ∙ names_left;
-      types = push_entry (type_views old.types.items) (type_views new.types.items) _ _ (λ k. entries_from (type_table_names defs) k (type_trees rest)) (type_entries defs) f.types same_entry
-          (ap (λ v. type_views old.types.items ++ (entry_value (type_table_names defs) (length (type_views old.types.items)) t.at v ++ entries_from (type_table_names defs) (suc (length (type_views old.types.items))) (type_trees rest))) (sym f.value) ∙ n.types);
+      types = push_entry (type_views old.types.items) (type_views new.types.items) _ _ (λ k. entries_from (type_names_met defs) k (type_trees rest)) (type_table defs) f.types same_entry
+          (ap (λ v. type_views old.types.items ++ (entry_value (type_names_met defs) (length (type_views old.types.items)) t.at v ++ entries_from (type_names_met defs) (suc (length (type_views old.types.items))) (type_trees rest))) (sym f.value) ∙ n.types);
       flags = λ h. n.flags (All-cons IsPlainType t (type_trees rest) (f.is_extern, f.is_nodebug) h);
       carried = λ h. n.carried (All-cons IsCarriedTree t (type_trees rest) (rw f.value refl) h);
       valid_flags = λ v. All-tail IsPlainType t (type_trees rest) (n.valid_flags v);
@@ -86,7 +86,7 @@ step_other defs rest d old new es es' same s a =
               sees = right.1.sees;
               distinct = right.1.distinct;
               names = ap (λ ts. with_names (names_of old) (flat_map (λ t. inner_names t.value) ts)) (sym same) ∙ right.1.names;
-              types = ap (λ ts. type_views old.types.items ++ entries_from (type_table_names defs) (length (type_views old.types.items)) ts) (sym same) ∙ right.1.types;
+              types = ap (λ ts. type_views old.types.items ++ entries_from (type_names_met defs) (length (type_views old.types.items)) ts) (sym same) ∙ right.1.types;
               flags = λ h. right.1.flags (subst (All IsPlainType) (sym same) h);
               carried = λ h. right.1.carried (subst (All IsCarriedTree) (sym same) h);
               valid_flags = λ v. subst (All IsPlainType) same (right.1.valid_flags v);
@@ -119,7 +119,7 @@ start defs env n =
       sees = subst (Sees env) all n.sees;
       distinct = subst IsDistinct all n.distinct;
       names = ap (λ ns. with_names ns (names_inside defs)) n.names ∙ sym (with_names_append builtin_names (type_names defs) (names_inside defs));
-      types = ap (λ es. es ++ entries_from (type_table_names defs) (length es) (type_trees defs)) n.types;
+      types = ap (λ es. es ++ entries_from (type_names_met defs) (length es) (type_trees defs)) n.types;
       flags = λ h. h;
       carried = λ h. h;
       valid_flags = λ v. v;

@@ -5,7 +5,7 @@ use Rattle.isle_model.specs.Syntax.{TypeTree, Definition}
 use Rattle.isle_model.specs.Names.{has_name, with_names, IsDistinct}
 use Rattle.isle_model.specs.Outcome.{then_option}
 use Rattle.isle_model.specs.Tables.{builtin_type}
-use Rattle.isle_model.specs.TypeTable.{builtin_names, type_trees, type_names, inner_names, type_table_names, place_from, is_carried_value, is_carried_type, IsValidTypes, builtin_from, entries_from, type_entries}
+use Rattle.isle_model.specs.TypeTable.{builtin_names, type_trees, type_names, inner_names, type_names_met, place_from, is_carried_value, is_carried_type, IsValidTypes, builtin_from, entries_from, type_table}
 use Rattle.isle_base.specs.declared.syntax.Error.{Error}
 use Rattle.isle_base.specs.Answers.{limit_of}
 use Rattle.isle_base.specs.Stable.{entry_count}
@@ -75,8 +75,8 @@ names_inside defs = flat_map (λ t. inner_names t.value) (type_trees defs)
 pub record Filling (defs rest : List Definition) (env : TypeEnv) : Type 0 where
   pub sees : Sees env (builtin_names ++ type_names defs)
   pub distinct : IsDistinct (builtin_names ++ type_names defs)
-  pub names : with_names (names_of env) (names_inside rest) ≡ type_table_names defs
-  pub types : type_views env.types.items ++ entries_from (type_table_names defs) (length (type_views env.types.items)) (type_trees rest) ≡ type_entries defs
+  pub names : with_names (names_of env) (names_inside rest) ≡ type_names_met defs
+  pub types : type_views env.types.items ++ entries_from (type_names_met defs) (length (type_views env.types.items)) (type_trees rest) ≡ type_table defs
   pub flags : All IsPlainType (type_trees rest) → All IsPlainType (type_trees defs)
   pub carried : All IsCarriedTree (type_trees rest) → All IsCarriedTree (type_trees defs)
   pub valid_flags : All IsPlainType (type_trees defs) → All IsPlainType (type_trees rest)

@@ -1,7 +1,7 @@
 -- What a type environment is: the type table of a list of definitions.
 use Rattle.std.specs.Prelude.{◌≡◌, ℕ, List, [], None}
 use Rattle.isle_model.specs.Syntax.{Definition}
-use Rattle.isle_model.specs.TypeTable.{type_entries, type_of_number}
+use Rattle.isle_model.specs.TypeTable.{type_table, type_of_number}
 use Rattle.isle_types.specs.declared.type_env.TypeEnv.{TypeEnv}
 use Rattle.isle_types.specs.Envs.{names_of, symbol_of, type_at, constant_at}
 use Rattle.isle_types.specs.Names.{IsInverse}
@@ -11,7 +11,7 @@ use Rattle.isle_types.specs.TypeViews.{type_views}
 pub record SeesTypes (env : TypeEnv) (defs : List Definition) (texts : List (List ℕ)) : Type 0 where
   pub names : names_of env ≡ texts
   pub inverse : IsInverse texts (symbol_of env)
-  pub types : type_views env.types.items ≡ type_entries defs
+  pub types : type_views env.types.items ≡ type_table defs
   pub ids : (k : ℕ) → type_at env k ≡ type_of_number defs texts k
   pub constants : (k : ℕ) → constant_at env k ≡ None
   pub errors : env.errors.items ≡ []

@@ -3,7 +3,7 @@
 
 ghost use Rattle.std.specs.Prelude.{◌≡◌, ◌⊎◌, [], IfOk, OnOk, MatchOption, Some};
 ghost use Rattle.isle_model.specs.Names.{number};
-ghost use Rattle.isle_model.specs.TypeTable.{IsValidTypes, builtin_names, type_table_names};
+ghost use Rattle.isle_model.specs.TypeTable.{IsValidTypes, builtin_names, type_names_met};
 ghost use Rattle.isle_base.specs.Answers.{Answers, NoLimit};
 ghost use Rattle.isle_base.specs.Stable.{entry_count};
 ghost use Rattle.isle_base.specs.SyntaxViews.{definition_view, definition_views, type_view};
@@ -45,7 +45,7 @@ impl TypeEnv {
     /// memory is refused.
     pub fn from_ast(alloc: Global, defs: &[Def]) -> Result<TypeEnv, Fault>
         ensures answers { Answers result (IsValidTypes (definition_views defs.now))
-            (λ env. SeesTypes env (definition_views defs.now) (type_table_names (definition_views defs.now))) }
+            (λ env. SeesTypes env (definition_views defs.now) (type_names_met (definition_views defs.now))) }
         ensures no_limit { NoLimit result }
     {
         let mut env = TypeEnv::try_default(alloc)?;
