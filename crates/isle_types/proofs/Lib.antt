@@ -5,7 +5,5 @@ pub mod Texts
 pub mod Seen
 pub mod Booting
 pub mod Naming
-pub mod Filling
-pub mod Ending
 pub mod Reports
 pub mod TypeMaps

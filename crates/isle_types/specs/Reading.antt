@@ -1,17 +1,19 @@
 -- What reading one definition does to a type environment and to the errors found so far.
-use Rattle.std.specs.Prelude.{◌≡◌, ◌≢◌, ℕ, ◌+◌, Bool, true, false, nat_eq, List, [], ◌∷◌, ◌++◌, ◌⊎◌, length, if◌then◌else◌, Some, None, All}
-use Rattle.isle_model.specs.Syntax.{Position, Name, TypeTree, primitive_value, Definition, type_definition, extern_definition, extern_const}
-use Rattle.isle_model.specs.Names.{number, with_name}
-use Rattle.isle_model.specs.Tables.{builtin_type, primitive_type}
-use Rattle.isle_model.specs.TypeTable.{is_carried_value}
+use Rattle.std.specs.Prelude.{◌≡◌, ◌≢◌, ℕ, ◌+◌, nat_eq, List, [], ◌∷◌, ◌++◌, ◌⊎◌, if◌then◌else◌, Option, Some, None, All}
+use Rattle.isle_model.specs.Syntax.{FieldTrees, TypeTree, Definition, type_definition}
+use Rattle.isle_model.specs.Names.{number, with_name, with_names}
+use Rattle.isle_model.specs.Tables.{builtin_type}
+use Rattle.isle_model.specs.TypeTable.{field_names, names_inside, field_lists_of, IsUnmarkedIfPrimitive, HasAtMostOneMark, HasDistinctVariants, HasDistinctFields, HasKnownTypes, field_entries, type_entry}
 use Rattle.isle_base.specs.declared.syntax.Error.{Error}
 use Rattle.isle_base.specs.Answers.{limit_of}
 use Rattle.isle_base.specs.Stable.{entry_count}
 use Rattle.isle_types.specs.Builtin.{builtin_name, builtin_place}
 use Rattle.isle_types.specs.declared.builtin.BuiltinType.{BuiltinType}
 use Rattle.isle_types.specs.declared.type_env.TypeEnv.{TypeEnv}
+use Rattle.isle_types.specs.declared.types.Fields.{Fields}
+use Rattle.isle_types.specs.declared.types.Type as T
 use Rattle.isle_types.specs.Envs.{names_of, type_at}
-use Rattle.isle_types.specs.TypeViews.{type_views}
+use Rattle.isle_types.specs.TypeViews.{fields_view, type_view, type_views}
 
 -- there are errors now, and no new one says that a limit was passed
 pub record Reports (old new : List Error) : Type 0 where
@@ -42,32 +44,32 @@ abbrev pub AddsBuiltin : BuiltinType → TypeEnv → TypeEnv → Type 0
 AddsBuiltin b old new =
     (NamesType (builtin_name b) old new × (type_views new.types.items ≡ type_views old.types.items ++ builtin_type (builtin_place b) ∷ [])) ⊎ IsTaken (builtin_name b) old
 
--- a primitive type becomes an entry of the table
-pub record FillsType (t : TypeTree) (old new : TypeEnv) : Type 0 where
-  pub name : Name
-  pub place : Position
-  pub value : t.value ≡ primitive_value name place
-  pub is_extern : t.is_extern ≡ false
-  pub is_nodebug : t.is_nodebug ≡ false
-  pub names : names_of new ≡ with_name (names_of old) name.text
-  pub types : type_views new.types.items ≡ type_views old.types.items ++ primitive_type (length old.types.items) (number (names_of old) name.text) t.at ∷ []
+-- these names are met in this order, and nothing else changes
+pub record MeetsNames (met : List (List ℕ)) (old new : TypeEnv) : Type 0 where
+  pub names : names_of new ≡ with_names (names_of old) met
+  pub types : new.types ≡ old.types
   pub type_map : new.type_map ≡ old.type_map
   pub const_types : new.const_types ≡ old.const_types
   pub errors : new.errors ≡ old.errors
 
--- a definition of a type that isn't right, or not carried
-abbrev pub IsWrong : TypeTree → Type 0
-IsWrong t = (is_carried_value t.value ≡ false) ⊎ ((t.is_extern ≡ true) ⊎ (t.is_nodebug ≡ true))
+-- no two fields of a list have one name, and their types are known
+pub record AreRightFields (defs : List Definition) (fields : FieldTrees) : Type 0 where
+  pub distinct : HasDistinctFields fields
+  pub known : HasKnownTypes defs fields
 
--- a type's definition is read
-abbrev pub FillsDefinition : Definition → TypeEnv → List Error → TypeEnv → List Error → Type 0
-FillsDefinition (type_definition t) old es new es' = ((es' ≡ es) × FillsType t old new) ⊎ (Reports es es' × IsWrong t)
-FillsDefinition _ old es new es' = (es' ≡ es) × (new ≡ old)
+-- a list of fields becomes its entries, or it isn't right
+abbrev pub ReadsFields : List Definition → FieldTrees → Option Fields → TypeEnv → List Error → TypeEnv → List Error → Type 0
+ReadsFields defs fields (Some read) old es new es' = (es' ≡ es) × AreRightFields defs fields × MeetsNames (field_names fields) old new × (fields_view read ≡ field_entries defs (names_of new) fields)
+ReadsFields defs fields None old es new es' = Reports es es' × (AreRightFields defs fields → ⊥)
 
--- whether a definition is a named constant's
-abbrev pub is_constant : Definition → Bool
-is_constant (extern_definition (extern_const name ty at)) = true
-is_constant _ = false
+-- what a type must meet by itself
+pub record IsRightType (defs : List Definition) (t : TypeTree) : Type 0 where
+  pub unmarked : IsUnmarkedIfPrimitive t
+  pub marks : HasAtMostOneMark t
+  pub variants : HasDistinctVariants t
+  pub fields : All (AreRightFields defs) (field_lists_of t.value)
 
-abbrev pub ChecksDefinition : Definition → List Error → List Error → Type 0
-ChecksDefinition d es es' = ((es' ≡ es) × (is_constant d ≡ false)) ⊎ (Reports es es' × (is_constant d ≡ true))
+-- a type becomes its entry, or it isn't right
+abbrev pub ReadsType : List Definition → ℕ → TypeTree → Option T.Type → TypeEnv → List Error → TypeEnv → List Error → Type 0
+ReadsType defs id t (Some read) old es new es' = (es' ≡ es) × IsRightType defs t × MeetsNames (names_inside t.name.text t.value) old new × (type_view read ≡ type_entry defs (names_of new) id t)
+ReadsType defs id t None old es new es' = Reports es es' × (IsRightType defs t → ⊥)

@@ -1,11 +1,11 @@
 -- How far the reading of a list of definitions is.
 use Rattle.std.specs.Prelude.{◌≡◌, ◌≢◌, ℕ, false, List, [], ◌++◌, ◌⊎◌, length, map, None, slice_get, All, IsTrue}
-use Rattle.std.specs.List.{flat_map}
+use Rattle.std.specs.List.{flat_map, enumerate_from}
 use Rattle.isle_model.specs.Syntax.{TypeTree, Definition}
 use Rattle.isle_model.specs.Names.{has_name, with_names, IsDistinct}
 use Rattle.isle_model.specs.Outcome.{then_option}
-use Rattle.isle_model.specs.Tables.{builtin_type}
-use Rattle.isle_model.specs.TypeTable.{builtin_names, type_trees, type_names, inner_names, type_names_met, place_from, is_carried_value, is_carried_type, IsValidTypes, builtin_from, entries_from, type_table}
+use Rattle.isle_model.specs.Tables.{TypeEntry, builtin_type}
+use Rattle.isle_model.specs.TypeTable.{builtin_names, type_trees, type_names, all_type_names, names_inside, constant_trees, type_names_met, type_id, type_of_number, place_from, IsValidTypes, builtin_from, type_entry, type_table}
 use Rattle.isle_base.specs.declared.syntax.Error.{Error}
 use Rattle.isle_base.specs.Answers.{limit_of}
 use Rattle.isle_base.specs.Stable.{entry_count}
@@ -14,10 +14,10 @@ use Rattle.isle_types.specs.declared.type_env.TypeEnv.{TypeEnv}
 use Rattle.isle_types.specs.Builtin.{builtin_name, builtin_place}
 use Rattle.isle_types.specs.Envs.{names_of, symbol_of, type_at, constant_at}
 use Rattle.isle_types.specs.Names.{IsInverse}
-use Rattle.isle_types.specs.Reading.{Reports, is_constant}
+use Rattle.isle_types.specs.Reading.{IsRightType}
 use Rattle.isle_types.specs.TypeViews.{type_views}
 
--- the types have these names, in the order of their numbers
+-- the types have these names, in the order of their numbers, and no constant was read
 pub record Sees (env : TypeEnv) (types : List (List ℕ)) : Type 0 where
   pub ids : (k : ℕ) → type_at env k ≡ then_option (slice_get (names_of env) k) (λ x. place_from 0 x types)
   pub known : (x : List ℕ) → has_name (names_of env) x ≡ false → place_from 0 x types ≡ None
@@ -54,40 +54,48 @@ pub record NamesTypes (defs rest : List Definition) (env : TypeEnv) (es : List E
   pub plain : ArePlain es
   pub so_far : SoFar defs es (Naming defs rest env)
 
--- a type is neither declared outside nor declared without `Debug`
-abbrev pub IsPlainType : TypeTree → Type 0
-IsPlainType t = (t.is_extern ≡ false) × (t.is_nodebug ≡ false)
+-- the names inside these types, in order
+abbrev pub names_in_types : List Definition → List (List ℕ)
+names_in_types defs = flat_map (λ t. names_inside t.name.text t.value) (type_trees defs)
 
-abbrev pub IsCarriedTree : TypeTree → Type 0
-IsCarriedTree t = IsTrue (is_carried_value t.value)
+-- the names of the constants, in order
+abbrev pub constant_names : List Definition → List (List ℕ)
+constant_names defs = map (λ c. c.name.text) (constant_trees defs)
 
-abbrev pub IsCarried : Definition → Type 0
-IsCarried d = IsTrue (is_carried_type d)
+-- the entries of these types, the first of this id
+abbrev pub entries_from : List Definition → ℕ → List TypeTree → List TypeEntry
+entries_from defs id ts = map (λ p. type_entry defs (type_names_met defs) p.0 p.1) (enumerate_from id ts)
 
-abbrev pub IsNoConstant : Definition → Type 0
-IsNoConstant d = is_constant d ≡ false
-
--- the names inside the types, in order
-abbrev pub names_inside : List Definition → List (List ℕ)
-names_inside defs = flat_map (λ t. inner_names t.value) (type_trees defs)
+-- each of these names was met
+abbrev pub AreMet : TypeEnv → List (List ℕ) → Type 0
+AreMet env xs = All (λ x. IsTrue (has_name (names_of env) x)) xs
 
 -- the types of these definitions are left to be read
 pub record Filling (defs rest : List Definition) (env : TypeEnv) : Type 0 where
-  pub sees : Sees env (builtin_names ++ type_names defs)
-  pub distinct : IsDistinct (builtin_names ++ type_names defs)
-  pub names : with_names (names_of env) (names_inside rest) ≡ type_names_met defs
-  pub types : type_views env.types.items ++ entries_from (type_names_met defs) (length (type_views env.types.items)) (type_trees rest) ≡ type_table defs
-  pub flags : All IsPlainType (type_trees rest) → All IsPlainType (type_trees defs)
-  pub carried : All IsCarriedTree (type_trees rest) → All IsCarriedTree (type_trees defs)
-  pub valid_flags : All IsPlainType (type_trees defs) → All IsPlainType (type_trees rest)
-  pub valid_carried : All IsCarried defs → All IsCarried rest
+  pub sees : Sees env (all_type_names defs)
+  pub distinct : IsDistinct (all_type_names defs)
+  pub met : AreMet env (all_type_names defs)
+  pub names : with_names (names_of env) (names_in_types rest ++ constant_names defs) ≡ type_names_met defs
+  pub types : type_views env.types.items ++ entries_from defs (length (type_views env.types.items)) (type_trees rest) ≡ type_table defs
+  pub right : All (IsRightType defs) (type_trees rest) → All (IsRightType defs) (type_trees defs)
+  pub left : All (IsRightType defs) (type_trees defs) → All (IsRightType defs) (type_trees rest)
 
 pub record FillsTypes (defs rest : List Definition) (env : TypeEnv) (es : List Error) : Type 0 where
   pub inverse : IsInverse (names_of env) (symbol_of env)
   pub plain : ArePlain es
   pub so_far : SoFar defs es (Filling defs rest env)
 
--- these definitions are left to be looked at for constants, between these errors and those
-pub record ChecksConstants (defs rest : List Definition) (old new : List Error) : Type 0 where
-  pub valid : All IsNoConstant defs → All IsNoConstant rest
-  pub so_far : ((new ≡ old) × (All IsNoConstant rest → All IsNoConstant defs)) ⊎ (Reports old new × (All IsNoConstant defs → ⊥))
+-- the constants of these definitions are left to be read
+pub record Constants (defs rest : List Definition) (env : TypeEnv) : Type 0 where
+  pub ids : (k : ℕ) → type_at env k ≡ type_of_number defs (names_of env) k
+  pub known : (x : List ℕ) → has_name (names_of env) x ≡ false → type_id defs x ≡ None
+  pub errors : env.errors.items ≡ []
+  pub distinct : IsDistinct (all_type_names defs)
+  pub names : with_names (names_of env) (constant_names rest) ≡ type_names_met defs
+  pub types : type_views env.types.items ≡ type_table defs
+  pub right : All (IsRightType defs) (type_trees defs)
+
+pub record ReadsConstants (defs rest : List Definition) (env : TypeEnv) (es : List Error) : Type 0 where
+  pub inverse : IsInverse (names_of env) (symbol_of env)
+  pub plain : ArePlain es
+  pub so_far : SoFar defs es (Constants defs rest env)

@@ -1,17 +1,20 @@
 -- What a type environment is: the type table of a list of definitions.
-use Rattle.std.specs.Prelude.{◌≡◌, ℕ, List, [], None}
+use Rattle.std.specs.Prelude.{◌≡◌, ℕ, List, []}
+use Rattle.std.specs.Bool.{◌==◌}
 use Rattle.isle_model.specs.Syntax.{Definition}
-use Rattle.isle_model.specs.TypeTable.{type_table, type_of_number}
+use Rattle.isle_model.specs.Meaning.{look}
+use Rattle.isle_model.specs.TypeTable.{type_table, type_of_number, constant_types}
 use Rattle.isle_types.specs.declared.type_env.TypeEnv.{TypeEnv}
 use Rattle.isle_types.specs.Envs.{names_of, symbol_of, type_at, constant_at}
 use Rattle.isle_types.specs.Names.{IsInverse}
 use Rattle.isle_types.specs.TypeViews.{type_views}
 
--- the types are those of the definitions, and the names are these, which may go on after those of the type table
+-- the types and the constants are those of the definitions, and the names are these, which may go on after those of the
+-- type table
 pub record SeesTypes (env : TypeEnv) (defs : List Definition) (texts : List (List ℕ)) : Type 0 where
   pub names : names_of env ≡ texts
   pub inverse : IsInverse texts (symbol_of env)
   pub types : type_views env.types.items ≡ type_table defs
   pub ids : (k : ℕ) → type_at env k ≡ type_of_number defs texts k
-  pub constants : (k : ℕ) → constant_at env k ≡ None
+  pub constants : (k : ℕ) → constant_at env k ≡ look (λ j. j == k) (constant_types defs)
   pub errors : env.errors.items ≡ []

@@ -2,6 +2,9 @@
 #![tactic(auto)]
 
 mod builtin;
+mod constants;
+mod contents;
+mod fields;
 mod ids;
 mod reading;
 mod type_env;

@@ -9,8 +9,8 @@ ghost use Rattle.isle_base.specs.Stable.{entry_count};
 ghost use Rattle.isle_base.specs.SyntaxViews.{definition_view, definition_views, type_view};
 ghost use Rattle.isle_types.specs.Envs.{names_of, symbol_of, type_at};
 ghost use Rattle.isle_types.specs.Names.{IsInverse};
-ghost use Rattle.isle_types.specs.Reading.{Reports, AddsBuiltin, NamesType, NamesDefinition, FillsType, IsWrong, FillsDefinition, ChecksDefinition};
-ghost use Rattle.isle_types.specs.Stages.{Booting, ChecksConstants, NamesTypes, FillsTypes};
+ghost use Rattle.isle_types.specs.Reading.{Reports, AddsBuiltin, NamesType, NamesDefinition};
+ghost use Rattle.isle_types.specs.Stages.{Booting, NamesTypes};
 ghost use Rattle.isle_types.specs.TypeTables.{SeesTypes};
 
 use crate::builtin::BuiltinType;
@@ -35,14 +35,16 @@ impl TypeEnv {
         Ok(env)
     }
 
-    /// The type table of a list of definitions. The built-in types come first; the types that are
-    /// defined follow in order. Names are numbered by first meeting: those of the built-in types, those
-    /// of the types that are defined, and those inside them.
+    /// The type table of a list of definitions, upstream's `TypeEnv::from_ast`. The built-in types come
+    /// first; the types that are defined follow in order. Names are numbered by first meeting: those of
+    /// the built-in types, those of the types that are defined, then in each type the name inside a
+    /// primitive one, or each variant's full name, name and fields, or the struct's fields, and last those
+    /// of constants. A constant has the type of its last definition.
     ///
-    /// Of the forms, primitive types are carried now. `Errors` has all that is wrong, each with the
-    /// place of its definition: a type whose name is another type's, a primitive type that is marked
-    /// `extern` or `nodebug`, and, as `not carried yet`, each enum, struct and constant. `Memory` where
-    /// memory is refused.
+    /// `Errors` has what is wrong, each with its place: all types are looked at, and the first error ends
+    /// the work on one type. A type whose name is another type's, a primitive type that is marked `extern`
+    /// or `nodebug`, another type that is marked both, two variants of an enum or two fields of a list with
+    /// one name, a field or a constant of an unknown type. `Memory` where memory is refused.
     pub fn from_ast(alloc: Global, defs: &[Def]) -> Result<TypeEnv, Fault>
         ensures answers { Answers result (IsValidTypes (definition_views defs.now))
             (λ env. SeesTypes env (definition_views defs.now) (type_names_met (definition_views defs.now))) }
@@ -52,7 +54,7 @@ impl TypeEnv {
         let mut errors = Vec::new(alloc);
         env.name_types(&mut errors, defs)?;
         env.fill_types(&mut errors, defs)?;
-        check_constants(&mut errors, defs)?;
+        env.read_constants(&mut errors, defs)?;
         if errors.is_empty() {
             Ok(env)
         } else {
@@ -138,75 +140,10 @@ impl TypeEnv {
         }
         Ok(())
     }
-
-    // Reads what the type is that a definition is of.
-    fn fill_type(&mut self, errors: &mut Vec<Error>, ty: &syntax::Type) -> Result<(), AllocError>
-        requires { IsInverse (names_of self.old) (symbol_of self.old) }
-        ensures inverse { IsInverse (names_of self.new) (symbol_of self.new) }
-        ensures fills { OnOk result (((errors.new.items ≡ errors.old.items) × FillsType (type_view ty.now) self.old self.new)
-            ⊎ (Reports errors.old.items errors.new.items × IsWrong (type_view ty.now))) }
-    {
-        let TypeValue::Primitive(name, _) = &ty.ty else {
-            return report(errors, ty.pos, "not carried yet");
-        };
-        if ty.is_nodebug {
-            return report(errors, ty.pos, "primitive types cannot be marked `nodebug`");
-        }
-        if ty.is_extern {
-            return report(errors, ty.pos, "primitive types cannot be marked `extern`");
-        }
-        let id = TypeId(self.types.len());
-        let sym = self.intern_mut(name)?;
-        self.types.push(Type::Primitive(id, sym, ty.pos))?;
-        Ok(())
-    }
-
-    // Reads a definition after all names of types are known.
-    fn fill_definition(&mut self, errors: &mut Vec<Error>, def: &Def) -> Result<(), AllocError>
-        requires { IsInverse (names_of self.old) (symbol_of self.old) }
-        ensures inverse { IsInverse (names_of self.new) (symbol_of self.new) }
-        ensures fills { OnOk result (FillsDefinition (definition_view def.now) self.old errors.old.items self.new errors.new.items) }
-    {
-        let Def::TypeDef(ty) = def else {
-            return Ok(());
-        };
-        self.fill_type(errors, ty)
-    }
-
-    // Reads what all types are.
-    fn fill_types(&mut self, errors: &mut Vec<Error>, defs: &[Def]) -> Result<(), AllocError>
-        requires { NamesTypes (definition_views defs.now) [] self.old errors.old.items }
-        ensures { OnOk result (FillsTypes (definition_views defs.now) [] self.new errors.new.items) }
-    {
-        for def in defs {
-            self.fill_definition(errors, def)?;
-        }
-        Ok(())
-    }
-}
-
-// Notes each constant with a name.
-fn check_constants(errors: &mut Vec<Error>, defs: &[Def]) -> Result<(), AllocError>
-    ensures { OnOk result (ChecksConstants (definition_views defs.now) [] errors.old.items errors.new.items) }
-{
-    for def in defs {
-        check_definition(errors, def)?;
-    }
-    Ok(())
-}
-
-// Notes that a constant with a name isn't carried.
-fn check_definition(errors: &mut Vec<Error>, def: &Def) -> Result<(), AllocError>
-    ensures { OnOk result (ChecksDefinition (definition_view def.now) errors.old.items errors.new.items) }
-{
-    let Def::Extern(Extern::Const { pos, .. }) = def else {
-        return Ok(());
-    };
-    report(errors, *pos, "not carried yet")
 }
 
 // Notes an error in the definition at a place.
-fn report(errors: &mut Vec<Error>, pos: Pos, msg: &str) -> Result<(), AllocError>
+pub(crate) fn report(errors: &mut Vec<Error>, pos: Pos, msg: &str) -> Result<(), AllocError>
     ensures { OnOk result (Reports errors.old.items errors.new.items) }
 {
     let msg = String::from_str(*errors.allocator(), msg)?;
