@@ -1,11 +1,11 @@
 -- The tables by all names, and what a rule becomes by them.
-use Rattle.std.proofs.Common.{◌≡◌, ℕ, true, false, cond, List, [], ◌++◌, Option, Some, None, option_map, option_and_then, slice_get, refl, sym, ap, subst, ◌∙◌}
+use Rattle.std.proofs.Common.{◌≡◌, ℕ, true, false, cond, List, [], ◌++◌, map, Option, Some, None, option_map, option_and_then, slice_get, refl, sym, ap, subst, ◌∙◌}
 use Rattle.std.specs.List.{flat_map}
 use Rattle.isle_base.specs.Stable.{look_up}
 use Rattle.isle_model.specs.Syntax.{Name, RuleTree, Definition}
 use Rattle.isle_model.specs.Names.{number, has_name, with_names}
 use Rattle.isle_model.specs.Outcome.{then_option}
-use Rattle.isle_model.specs.TypeTable.{builtin_names, type_names, type_trees, inner_names, type_names_met, type_id}
+use Rattle.isle_model.specs.TypeTable.{builtin_names, type_names, type_trees, names_inside, constant_trees, type_names_met, type_id}
 use Rattle.isle_model.specs.TermTable.{decl_names, term_table_names, term_id, term_entries, root_name, rule_trees}
 use Rattle.isle_model.specs.Elaboration.{all_names, names_of_rule, elaborate_at, root_id, elaborate_rule}
 use Rattle.isle_types.specs.declared.type_env.TypeEnv.{TypeEnv}
@@ -23,7 +23,7 @@ use Rattle.isle_rules.proofs.Texts.{then_withs, missing_before, missing_among, m
 -- a text that is no name is no type's
 no_type : (defs : List Definition) (x : List ℕ) → has_name (type_names_met defs) x ≡ false → type_id defs x ≡ None
 no_type defs x e =
-    let inside : List (List ℕ) = flat_map (λ t. inner_names t.value) (type_trees defs) in
+    let inside : List (List ℕ) = flat_map (λ t. names_inside t.name.text t.value) (type_trees defs) ++ map (λ c. c.name.text) (constant_trees defs) in
     let a : has_name builtin_names x ≡ false = missing_before builtin_names (type_names defs ++ inside) x e in
     let b : has_name (type_names defs ++ inside) x ≡ false = missing_among builtin_names (type_names defs ++ inside) x e in
     place_absent 0 (builtin_names ++ type_names defs) x (missing_both builtin_names (type_names defs) x a (missing_first (type_names defs) inside x b))

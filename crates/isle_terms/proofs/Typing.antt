@@ -6,7 +6,7 @@ use Rattle.std.specs.List.{flat_map}
 use Rattle.std.specs.Str.{bytes_eq}
 use Rattle.isle_model.specs.Syntax.{Name, Definition, DeclTree}
 use Rattle.isle_model.specs.Names.{has_name, with_name, with_names}
-use Rattle.isle_model.specs.TypeTable.{builtin_names, type_trees, type_names, inner_names, type_names_met, type_id, type_or_first}
+use Rattle.isle_model.specs.TypeTable.{builtin_names, type_trees, type_names, names_inside, constant_trees, type_names_met, type_id, type_or_first}
 use Rattle.isle_base.specs.Stable.{look_up}
 use Rattle.isle_types.specs.declared.type_env.TypeEnv.{TypeEnv}
 use Rattle.isle_types.specs.Envs.{names_of, symbol_of, type_at, same_symbol, symbol}
@@ -44,8 +44,9 @@ missing_both (x ∷ xs) ys y e h =
 -- no type has a name that isn't in the type table
 no_type : (defs : List Definition) (x : List ℕ) → has_name (type_names_met defs) x ≡ false → type_id defs x ≡ None
 no_type defs x e =
-    let r = missing_all builtin_names (type_names defs ++ flat_map (λ t. inner_names t.value) (type_trees defs)) x e in
-    place_absent 0 (builtin_names ++ type_names defs) x (missing_both builtin_names (type_names defs) x r.0 (missing_front (type_names defs) (flat_map (λ t. inner_names t.value) (type_trees defs)) x r.1))
+    let inside : List (List ℕ) = flat_map (λ t. names_inside t.name.text t.value) (type_trees defs) ++ map (λ c. c.name.text) (constant_trees defs) in
+    let r = missing_all builtin_names (type_names defs ++ inside) x e in
+    place_absent 0 (builtin_names ++ type_names defs) x (missing_both builtin_names (type_names defs) x r.0 (missing_front (type_names defs) inside x r.1))
 
 pub types_start : (defs : List Definition) (env : TypeEnv) → SeesTypes env defs (type_names_met defs) → HasTypes defs env
 types_start defs env s = record {
