@@ -82,9 +82,8 @@ impl<T: Eq + Hash + Clone> StableSet<T> {
         ensures len { IfOk result (λ copy. member_count copy ≡ member_count self.now) }
         ensures same { IfOk result (λ copy. ClonesAreSame T.is_clone → copy ≡ self.now) }
     {
-        Ok(StableSet {
-            items: self.items.clone()?,
-        })
+        let items = self.items.clone()?;
+        Ok(StableSet { items })
     }
 }
 
@@ -131,9 +130,11 @@ impl<K: Eq + Hash, V> StableMap<K, V> {
         requires { IsFiniteIterable I.into_iter_gives I.IntoIter.can_next I.IntoIter.remaining pairs }
         ensures { IfOk result (λ m. (it : I.IntoIter) × (xs : List (K × V)) × I.into_iter_gives pairs it × Drains I.IntoIter.next_gives it xs × IsMadeOf K.eq xs m) }
     {
-        Ok(StableMap {
-            entries: HashMap::from_iter(alloc, pairs)?,
-        })
+        let mut entries = HashMap::new(alloc);
+        for (key, value) in pairs {
+            entries.insert(key, value)?;
+        }
+        Ok(StableMap { entries })
     }
 
     /// Gives the key a value, and answers the one that it had.
@@ -189,9 +190,8 @@ impl<K: Eq + Hash + Clone, V: Clone> StableMap<K, V> {
         ensures len { IfOk result (λ copy. entry_count copy ≡ entry_count self.now) }
         ensures same { IfOk result (λ copy. ClonesAreSame K.is_clone → ClonesAreSame V.is_clone → copy ≡ self.now) }
     {
-        Ok(StableMap {
-            entries: self.entries.clone()?,
-        })
+        let entries = self.entries.clone()?;
+        Ok(StableMap { entries })
     }
 }
 

@@ -197,7 +197,7 @@ fn same_maps(one: &StableMap<usize, usize>, other: &StableMap<usize, usize>) -> 
 }
 
 // The tests below pass as they stand. `rt try --test --fail-alloc N -- refus` refuses the Nth request for memory of each: run
-// it for N from 1 on, until N is past the last request (at 60). A refused call leaves what the copy has that was made before
+// it for N from 1 on, until N is past the last request (at 41). A refused call leaves what the copy has that was made before
 // it, and the same call with memory then succeeds.
 #[test]
 fn refusals_leave_a_set(rt: HostRuntime) -> Result<(), Fail> {

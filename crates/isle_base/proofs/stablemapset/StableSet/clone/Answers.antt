@@ -6,12 +6,12 @@ use Rattle.isle_base.proofs.stablemapset.StableSet.clone.Goals as goal
 
 pub returns-clause-has : goal.returns-clause-has
 returns-clause-has g c x =
-    rw (← c.self.view_is) (list_any-clones g.met.T.Eq.laws c.requires x c.self.inside.items.keys c.in_ok-clone.field-0.keys c.in_ok-clone.ensures.cases)
+    rw (← c.self.view_is) (list_any-clones g.met.T.Eq.laws c.requires x c.self.inside.items.keys c.in_ok-items.items.keys c.in_ok-items.ensures.cases)
 
 pub returns-clause-len : goal.returns-clause-len
 returns-clause-len g c =
-    rw (← c.self.view_is) (sym (length_all_zip g.T.Clone.is_clone c.self.inside.items.keys c.in_ok-clone.field-0.keys c.in_ok-clone.ensures.cases))
+    rw (← c.self.view_is) (sym (length_all_zip g.T.Clone.is_clone c.self.inside.items.keys c.in_ok-items.items.keys c.in_ok-items.ensures.cases))
 
 pub returns-clause-same : goal.returns-clause-same
 returns-clause-same g c same =
-    rw (← c.self.view_is) (ap set_of (same_from_all_zip g.T.Clone.is_clone c.self.inside.items.keys c.in_ok-clone.field-0.keys c.in_ok-clone.ensures.cases same))
+    rw (← c.self.view_is) (ap set_of (same_from_all_zip g.T.Clone.is_clone c.self.inside.items.keys c.in_ok-items.items.keys c.in_ok-items.ensures.cases same))
