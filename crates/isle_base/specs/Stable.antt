@@ -1,8 +1,9 @@
 -- What a map and a set have. The list that carries them is no part of what can be named, so no clause sees an order.
-use Rattle.std.specs.Prelude.{ℕ, Bool, List, length, Option, refl}
+use Rattle.std.specs.Prelude.{◌≡◌, ℕ, Bool, true, List, length, reverse, Option, None, MatchOption, IsSomeAnd, refl}
 use Rattle.std.specs.Coded.{Coded, code_by, coded×, coded_list}
 use Rattle.std.specs.List.{list_any}
-use Rattle.std.specs.Map.{lookup}
+use Rattle.std.specs.Map.{lookup, keys_of}
+use Rattle.std.specs.Set.{distinct_count}
 
 -- a set of values
 pub record Members (T : Type 0) : Type 0 where
@@ -40,3 +41,24 @@ member_count s = length s.listed
 -- how many keys
 abbrev pub entry_count : {K V : Type 0} → Entries K V → ℕ
 entry_count m = length m.listed
+
+-- equal values are in each set together or not at all
+abbrev pub EqualValuesAreOne : {T : Type 0} → (T → T → Bool) → Type 0
+EqualValuesAreOne {T} eq = (s : Members T) (x y : T) → eq x y ≡ true → contains eq s y ≡ contains eq s x
+
+-- each map has the same at equal keys
+abbrev pub EqualKeysAreOne : {K : Type 0} (V : Type 0) → (K → K → Bool) → Type 0
+EqualKeysAreOne {K} V eq = (m : Entries K V) (j k : K) → eq j k ≡ true → look_up eq m k ≡ look_up eq m j
+
+-- the map that the pairs make: each key has the value of the last pair with a key equal to it, and each key among the
+-- pairs counts once, as the last of those that are equal to it
+abbrev pub IsMadeOf : {K V : Type 0} → (K → K → Bool) → List (K × V) → Entries K V → Type 0
+IsMadeOf {K} eq pairs m = ((k : K) → look_up eq m k ≡ lookup (eq k) (reverse pairs)) × (entry_count m ≡ distinct_count eq (keys_of pairs))
+
+-- a clone is its source
+abbrev pub ClonesAreSame : {T : Type 0} → (T → T → Type 0) → Type 0
+ClonesAreSame {T} clones = (x y : T) → clones x y → y ≡ x
+
+-- the copy has a clone of what the map has at each key, and nothing where the map has nothing
+abbrev pub HasClones : {K V : Type 0} → (K → K → Bool) → (V → V → Type 0) → Entries K V → Entries K V → Type 0
+HasClones {K} eq clones m copy = (k : K) → MatchOption (look_up eq m k) (look_up eq copy k ≡ None) (λ v. IsSomeAnd (look_up eq copy k) (λ w. clones v w))

@@ -1,13 +1,17 @@
-//! A map and a set over std's hash collections whose order nothing can see: no call walks through one.
-ghost use Rattle.std.specs.Prelude.{◌≡◌, ◌+◌, ℕ, Bool, true, false, None, Some, not, is_some, option_copied, if◌then◌else◌, IfOk, OnOk, OnErr};
-ghost use Rattle.isle_base.specs.Stable.{contains, entry_count, look_up, member_count};
+//! A map and a set over std's hash collections whose order no call shows. Values, and keys, are told apart by `==` alone.
+ghost use Rattle.std.specs.Prelude.{◌≡◌, ◌+◌, ℕ, Bool, List, true, false, None, Some, not, is_some, IsSome, option_copied, if◌then◌else◌, IfOk, OnOk, OnErr};
+ghost use Rattle.isle_base.specs.Stable.{contains, entry_count, look_up, member_count, ClonesAreSame, EqualKeysAreOne, EqualValuesAreOne, HasClones, IsMadeOf};
+ghost use Rattle.std.specs.HashMap.{get, hash_map_len};
+ghost use Rattle.std.specs.Iterator.{Drains, IsFiniteIterable};
+ghost use Rattle.std.specs.Set.{ClonesAreEqual};
 
 use std::alloc::{AllocError, Global};
 use std::collections::{HashMap, HashSet};
 use std::hash::Hash;
 use std::marker::Model;
+use std::ops::Index;
 
-/// A set of values.
+/// A set of values, in no order. Upstream's `StableSet`.
 #[derive(Debug, Drop)]
 pub struct StableSet<T: Eq + Hash> {
     items: HashSet<T>,
@@ -24,7 +28,7 @@ impl<T: Eq + Hash> Model for StableSet<T> {
 }
 
 impl<T: Eq + Hash> StableSet<T> {
-    /// The empty set.
+    /// The empty set. Takes no memory.
     pub fn new(alloc: Global) -> StableSet<T>
         ensures none { (x : T) → contains T.eq result x ≡ false }
         ensures len { member_count result ≡ 0 }
@@ -34,7 +38,11 @@ impl<T: Eq + Hash> StableSet<T> {
         }
     }
 
-    /// Adds a value, and says whether it is new. A refusal changes nothing.
+    /// Adds a value, and answers whether it is new: whether the set had none that is equal to it.
+    ///
+    /// # Errors
+    ///
+    /// Where memory is refused. The set then has what it had.
     pub fn insert(&mut self, val: T) -> Result<bool, AllocError>
     where
         T: Drop,
@@ -46,14 +54,14 @@ impl<T: Eq + Hash> StableSet<T> {
         Ok(self.items.insert(val)?)
     }
 
-    /// Whether the set has a value.
+    /// Whether the set has a value that is equal to this one.
     pub fn contains(&self, val: &T) -> bool
         ensures { result ≡ contains T.eq self.now val.now }
     {
         self.items.contains(val)
     }
 
-    /// How many values the set has.
+    /// How many values the set has, those that are equal counted once.
     pub fn len(&self) -> usize
         ensures { result ≡ member_count self.now }
     {
@@ -61,7 +69,25 @@ impl<T: Eq + Hash> StableSet<T> {
     }
 }
 
-/// A map from keys to values.
+impl<T: Eq + Hash + Clone> StableSet<T> {
+    /// Another set with the same values, where each value's clone is equal to it. Stands for upstream's `Clone`, since
+    /// memory can be refused.
+    ///
+    /// # Errors
+    ///
+    /// Where memory is refused.
+    pub fn clone(&self) -> Result<StableSet<T>, AllocError>
+        requires { ClonesAreEqual T.eq T.is_clone }
+        ensures has { IfOk result (λ copy. (x : T) → contains T.eq copy x ≡ contains T.eq self.now x) }
+        ensures len { IfOk result (λ copy. member_count copy ≡ member_count self.now) }
+        ensures same { IfOk result (λ copy. ClonesAreSame T.is_clone → copy ≡ self.now) }
+    {
+        let items = self.items.clone()?;
+        Ok(StableSet { items })
+    }
+}
+
+/// A map from keys to values, in no order. Upstream's `StableMap`.
 #[derive(Debug, Drop)]
 pub struct StableMap<K: Eq + Hash, V> {
     entries: HashMap<K, V>,
@@ -78,7 +104,7 @@ impl<K: Eq + Hash, V> Model for StableMap<K, V> {
 }
 
 impl<K: Eq + Hash, V> StableMap<K, V> {
-    /// The empty map.
+    /// The empty map. Takes no memory.
     pub fn new(alloc: Global) -> StableMap<K, V>
         ensures none { (k : K) → look_up K.eq result k ≡ None }
         ensures len { entry_count result ≡ 0 }
@@ -88,7 +114,34 @@ impl<K: Eq + Hash, V> StableMap<K, V> {
         }
     }
 
-    /// Gives the key a value, and answers the one that it had. A refusal changes nothing.
+    /// The map that pairs of a key and a value make, a later pair over an earlier one with an equal key. Stands for
+    /// upstream's `FromIterator`, since memory can be refused.
+    ///
+    /// # Errors
+    ///
+    /// Where memory is refused.
+    pub fn from_iter<I: IntoIterator<Item = (K, V)>>(
+        alloc: Global,
+        pairs: I,
+    ) -> Result<StableMap<K, V>, AllocError>
+    where
+        K: Drop,
+        V: Drop,
+        requires { IsFiniteIterable I.into_iter_gives I.IntoIter.can_next I.IntoIter.remaining pairs }
+        ensures { IfOk result (λ m. (it : I.IntoIter) × (xs : List (K × V)) × I.into_iter_gives pairs it × Drains I.IntoIter.next_gives it xs × IsMadeOf K.eq xs m) }
+    {
+        let mut entries = HashMap::new(alloc);
+        for (key, value) in pairs {
+            entries.insert(key, value)?;
+        }
+        Ok(StableMap { entries })
+    }
+
+    /// Gives the key a value, and answers the one that it had.
+    ///
+    /// # Errors
+    ///
+    /// Where memory is refused. The map then has what it had.
     pub fn insert(&mut self, k: K, v: V) -> Result<Option<V>, AllocError>
     where
         K: Drop,
@@ -101,21 +154,21 @@ impl<K: Eq + Hash, V> StableMap<K, V> {
         Ok(self.entries.insert(k, v)?)
     }
 
-    /// The key's value.
+    /// The value of the key that is equal to this one, if there is one.
     pub fn get(&self, k: &K) -> Option<&V>
         ensures { option_copied result ≡ look_up K.eq self.now k.now }
     {
         self.entries.get(k)
     }
 
-    /// Whether the key has a value.
+    /// Whether a key that is equal to this one has a value.
     pub fn contains_key(&self, k: &K) -> bool
         ensures { result ≡ is_some (look_up K.eq self.now k.now) }
     {
         self.entries.contains_key(k)
     }
 
-    /// How many keys have a value.
+    /// How many keys have a value, those that are equal counted once.
     pub fn len(&self) -> usize
         ensures { result ≡ entry_count self.now }
     {
@@ -123,31 +176,56 @@ impl<K: Eq + Hash, V> StableMap<K, V> {
     }
 }
 
-#[cfg(test)]
-mod tests {
-    use super::*;
-    use std::test::Fail;
-
-    #[test]
-    fn keeps_values(rt: HostRuntime) -> Result<(), Fail> {
-        let mut set = StableSet::new(rt.alloc());
-        for (val, new) in [(7, true), (4, true), (7, false)] {
-            assert_eq!(rt; set.insert(val)?, new);
-        }
-        assert!(rt; set.contains(&4) && !set.contains(&5));
-        assert_eq!(rt; set.len(), 2);
-        Ok(())
-    }
-
-    #[test]
-    fn keeps_entries(rt: HostRuntime) -> Result<(), Fail> {
-        let mut map = StableMap::new(rt.alloc());
-        for (key, value, old) in [(7, 'a', None), (4, 'b', None), (7, 'c', Some('a'))] {
-            assert_eq!(rt; map.insert(key, value)?, old);
-        }
-        assert_eq!(rt; map.get(&7).copied(), Some('c'));
-        assert!(rt; map.contains_key(&4) && !map.contains_key(&5));
-        assert_eq!(rt; map.len(), 2);
-        Ok(())
+impl<K: Eq + Hash + Clone, V: Clone> StableMap<K, V> {
+    /// Another map with the same keys, where each key's clone is equal to it, and at each of them a clone of its value.
+    /// Stands for upstream's `Clone`, since memory can be refused.
+    ///
+    /// # Errors
+    ///
+    /// Where memory is refused.
+    pub fn clone(&self) -> Result<StableMap<K, V>, AllocError>
+        requires { ClonesAreEqual K.eq K.is_clone }
+        ensures has { IfOk result (HasClones K.eq V.is_clone self.now) }
+        ensures values { IfOk result (λ copy. ClonesAreSame V.is_clone → (k : K) → look_up K.eq copy k ≡ look_up K.eq self.now k) }
+        ensures len { IfOk result (λ copy. entry_count copy ≡ entry_count self.now) }
+        ensures same { IfOk result (λ copy. ClonesAreSame K.is_clone → ClonesAreSame V.is_clone → copy ≡ self.now) }
+    {
+        let entries = self.entries.clone()?;
+        Ok(StableMap { entries })
     }
 }
+
+impl<'a, K: Eq + Hash, V> Index<&'a K> for StableMap<K, V> {
+    type Output = V;
+
+    ghost can_index = { λ m k. IsSome (look_up K.eq m k.now) };
+
+    ghost index_gives = { λ m k v. look_up K.eq m k.now ≡ Some v };
+
+    /// The value of the key that is equal to this one. There has to be one.
+    fn index(&self, k: &K) -> &V {
+        self.entries.index(k)
+    }
+}
+
+impl<K: Eq + Hash, V> From<HashMap<K, V>> for StableMap<K, V> {
+    ghost from_gives = { λ m result. ((k : K) → look_up K.eq result k ≡ get K.eq m k) × (entry_count result ≡ hash_map_len m) };
+
+    /// The map with the same keys and values. Takes no memory.
+    fn from(map: HashMap<K, V>) -> StableMap<K, V> {
+        StableMap { entries: map }
+    }
+}
+
+/// A set that has a value has each that is equal to it.
+pub fn equal_values_are_one<T: Eq + Hash>()
+    ensures { EqualValuesAreOne T.eq }
+{}
+
+/// A map has the same at equal keys.
+pub fn equal_keys_are_one<K: Eq + Hash, V>()
+    ensures { EqualKeysAreOne V K.eq }
+{}
+
+#[cfg(test)]
+mod tests;
