@@ -182,3 +182,96 @@ fn report_unknown_type(
     };
     report(errors, ty.1, msg.as_str())
 }
+
+#[cfg(test)]
+mod tests {
+    use super::*;
+    use isle_base::syntax::Pos;
+    use std::alloc::Global;
+    use std::test::Fail;
+
+    fn ident(alloc: Global, text: &str, offset: usize) -> Result<Ident, AllocError> {
+        Ok(Ident(String::from_str(alloc, text)?, Pos { file: 0, offset }))
+    }
+
+    // A field with a name, at the offset 1, and of a type whose name is at the offset 2.
+    fn field(alloc: Global, name: &str, ty: &str) -> Result<syntax::StructField, AllocError> {
+        Ok(syntax::StructField {
+            name: ident(alloc, name, 0)?,
+            ty: ident(alloc, ty, 2)?,
+            pos: Pos { file: 0, offset: 1 },
+        })
+    }
+
+    fn struct_fields(
+        alloc: Global,
+        first: syntax::StructField,
+        second: syntax::StructField,
+    ) -> Result<syntax::Fields, AllocError> {
+        let fields = Vec::from_array(alloc, [first, second])?;
+        Ok(syntax::Fields::Struct(syntax::StructFields { fields }))
+    }
+
+    fn tuple_field(alloc: Global, index: usize, ty: &str) -> Result<syntax::Fields, AllocError> {
+        let ty = ident(alloc, ty, 3)?;
+        let pos = Pos { file: 0, offset: 1 };
+        let fields = Vec::from_array(alloc, [syntax::TupleField { index, ty, pos }])?;
+        Ok(syntax::Fields::Tuple(syntax::TupleFields { fields }))
+    }
+
+    // The errors of reading fields, each with its offset.
+    fn noted(
+        alloc: Global,
+        fields: &syntax::Fields,
+        variant: Option<&Ident>,
+    ) -> Result<String, AllocError> {
+        let mut env = TypeEnv::try_default(alloc)?;
+        let mut errors = Vec::new(alloc);
+        let _read = env.read_fields(&mut errors, fields, variant)?;
+        let mut text = String::new(alloc);
+        for error in &errors {
+            if let Error::TypeError { msg, span } = error {
+                text = format!(in alloc; "{text}{} {msg};", span.from.offset)?;
+            }
+        }
+        Ok(text)
+    }
+
+    #[test]
+    fn a_name_of_two_fields(rt: HostRuntime) -> Result<(), Fail> {
+        let alloc = rt.alloc();
+        let twice = struct_fields(alloc, field(alloc, "a", "u8")?, field(alloc, "a", "u16")?)?;
+        let text = noted(alloc, &twice, None)?;
+        assert_eq!(rt; text.as_str(), "1 Duplicate field name 'a';");
+        let variant = ident(alloc, "V", 0)?;
+        let text = noted(alloc, &twice, Some(&variant))?;
+        assert_eq!(rt;
+            text.as_str(),
+            "1 Duplicate field name 'a' in variant 'V' of type;"
+        );
+        Ok(())
+    }
+
+    #[test]
+    fn a_field_of_an_unknown_type(rt: HostRuntime) -> Result<(), Fail> {
+        let alloc = rt.alloc();
+        let named = struct_fields(alloc, field(alloc, "a", "u8")?, field(alloc, "b", "W")?)?;
+        let text = noted(alloc, &named, None)?;
+        assert_eq!(rt; text.as_str(), "2 Unknown type 'W' for field 'b';");
+        let variant = ident(alloc, "V", 0)?;
+        let text = noted(alloc, &named, Some(&variant))?;
+        assert_eq!(rt;
+            text.as_str(),
+            "2 Unknown type 'W' for field 'b' in variant 'V';"
+        );
+        let unnamed = tuple_field(alloc, 10, "W")?;
+        let text = noted(alloc, &unnamed, None)?;
+        assert_eq!(rt; text.as_str(), "3 Unknown type 'W' for tuple field '10';");
+        let text = noted(alloc, &unnamed, Some(&variant))?;
+        assert_eq!(rt;
+            text.as_str(),
+            "3 Unknown type 'W' for tuple field '10' in variant 'V';"
+        );
+        Ok(())
+    }
+}
