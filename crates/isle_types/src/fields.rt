@@ -1,17 +1,21 @@
 //! How the fields of a struct or of a variant are read: their names are met in order, and the first thing
 //! that is wrong is noted and ends the reading.
 
-ghost use Rattle.std.specs.Prelude.{◌≡◌, List, IfOk};
-ghost use Rattle.isle_model.specs.Syntax.{Definition};
+ghost use Rattle.std.specs.Prelude.{◌≡◌, List, [], ◌∷◌, map, option_map, IfOk, OnOk};
+ghost use Rattle.isle_model.specs.Syntax.{Definition, struct_fields, tuple_fields};
 ghost use Rattle.isle_model.specs.TypeTable.{all_type_names};
-ghost use Rattle.isle_base.specs.SyntaxViews.{fields_view};
+ghost use Rattle.isle_base.specs.SyntaxViews.{fields_view, field_view, tuple_field_view};
 ghost use Rattle.isle_types.specs.Envs.{names_of, symbol_of};
+ghost use Rattle.isle_types.specs.FieldReading.{ReadsField, ReadsTupleField};
 ghost use Rattle.isle_types.specs.Names.{IsInverse};
-ghost use Rattle.isle_types.specs.Reading.{ReadsFields};
+ghost use Rattle.isle_types.specs.Reading.{MeetsNames, ReadsFields, Reports};
 ghost use Rattle.isle_types.specs.Stages.{Sees};
 
+use crate::ids::{FieldId, Sym};
+use crate::reading::report;
 use crate::type_env::TypeEnv;
-use crate::types::Fields;
+use crate::types::{Fields, StructField, StructFields, TupleField, TupleFields};
+use isle_base::stablemapset::StableSet;
 use isle_base::syntax;
 use isle_base::syntax::{Error, Ident};
 use std::alloc::AllocError;
@@ -29,6 +33,245 @@ impl TypeEnv {
         ensures inverse { IsInverse (names_of self.new) (symbol_of self.new) }
         ensures reads { IfOk result (λ o. (defs : List Definition) → Sees self.old (all_type_names defs) → ReadsFields defs (fields_view fields.now) o self.old errors.old.items self.new errors.new.items) }
     {
-        Ok(None)
+        match fields {
+            syntax::Fields::Unit => Ok(Some(Fields::Unit)),
+            syntax::Fields::Struct(fields) => {
+                let read = self.read_struct_fields(errors, &fields.fields, variant)?;
+                Ok(read.map(Fields::Struct))
+            }
+            syntax::Fields::Tuple(fields) => {
+                let read = self.read_tuple_fields(errors, &fields.fields, variant)?;
+                Ok(read.map(Fields::Tuple))
+            }
+        }
+    }
+
+    // The fields with names, in order.
+    fn read_struct_fields(
+        &mut self,
+        errors: &mut Vec<Error>,
+        fields: &[syntax::StructField],
+        variant: Option<&Ident>,
+    ) -> Result<Option<StructFields>, AllocError>
+        requires { IsInverse (names_of self.old) (symbol_of self.old) }
+        ensures inverse { IsInverse (names_of self.new) (symbol_of self.new) }
+        ensures reads { IfOk result (λ o. (defs : List Definition) → Sees self.old (all_type_names defs) → ReadsFields defs (struct_fields (map field_view fields.now)) (option_map Fields.Struct o) self.old errors.old.items self.new errors.new.items) }
+    {
+        let alloc = *self.syms.allocator();
+        let mut read = Vec::new(alloc);
+        let mut seen = StableSet::new(alloc);
+        for field in fields {
+            let id = FieldId(read.len());
+            let Some(field) = self.read_struct_field(errors, &mut seen, id, field, variant)? else {
+                return Ok(None);
+            };
+            read.push(field)?;
+        }
+        Ok(Some(StructFields { fields: read }))
+    }
+
+    // The field of this number, where the numbers of the names before it were seen.
+    fn read_struct_field(
+        &mut self,
+        errors: &mut Vec<Error>,
+        seen: &mut StableSet<Sym>,
+        id: FieldId,
+        field: &syntax::StructField,
+        variant: Option<&Ident>,
+    ) -> Result<Option<StructField>, AllocError>
+        requires { IsInverse (names_of self.old) (symbol_of self.old) }
+        ensures inverse { IsInverse (names_of self.new) (symbol_of self.new) }
+        ensures meets { OnOk result (MeetsNames ((field_view field.now).name.text ∷ []) self.old self.new) }
+        ensures reads { IfOk result (λ o. ReadsField (field_view field.now) id.0 o self.old errors.old.items seen.old self.new errors.new.items seen.new) }
+    {
+        let name = self.intern_mut(&field.name)?;
+        if !seen.insert(name)? {
+            report_duplicate_field(errors, field, variant)?;
+            return Ok(None);
+        }
+        let Some(ty) = self.get_type_by_name(&field.ty) else {
+            let alloc = *self.syms.allocator();
+            let text = format!(in alloc; "field '{}'", field.name.0)?;
+            report_unknown_type(errors, &field.ty, text.as_str(), variant)?;
+            return Ok(None);
+        };
+        Ok(Some(StructField { name, id, ty }))
+    }
+
+    // The fields without names, in order.
+    fn read_tuple_fields(
+        &self,
+        errors: &mut Vec<Error>,
+        fields: &[syntax::TupleField],
+        variant: Option<&Ident>,
+    ) -> Result<Option<TupleFields>, AllocError>
+        requires { IsInverse (names_of self.now) (symbol_of self.now) }
+        ensures { IfOk result (λ o. (defs : List Definition) → Sees self.now (all_type_names defs) → ReadsFields defs (tuple_fields (map tuple_field_view fields.now)) (option_map Fields.Tuple o) self.now errors.old.items self.now errors.new.items) }
+    {
+        let mut read = Vec::new(*self.syms.allocator());
+        for field in fields {
+            let id = FieldId(read.len());
+            let Some(field) = self.read_tuple_field(errors, id, field, variant)? else {
+                return Ok(None);
+            };
+            read.push(field)?;
+        }
+        Ok(Some(TupleFields { fields: read }))
+    }
+
+    // The field of this number.
+    fn read_tuple_field(
+        &self,
+        errors: &mut Vec<Error>,
+        id: FieldId,
+        field: &syntax::TupleField,
+        variant: Option<&Ident>,
+    ) -> Result<Option<TupleField>, AllocError>
+        ensures { IfOk result (λ o. ReadsTupleField (tuple_field_view field.now) id.0 o self.now errors.old.items errors.new.items) }
+    {
+        let Some(ty) = self.get_type_by_name(&field.ty) else {
+            let alloc = *self.syms.allocator();
+            let text = format!(in alloc; "tuple field '{}'", field.index)?;
+            report_unknown_type(errors, &field.ty, text.as_str(), variant)?;
+            return Ok(None);
+        };
+        Ok(Some(TupleField { id, ty }))
+    }
+}
+
+// Notes that two fields have one name.
+fn report_duplicate_field(
+    errors: &mut Vec<Error>,
+    field: &syntax::StructField,
+    variant: Option<&Ident>,
+) -> Result<(), AllocError>
+    ensures { OnOk result (Reports errors.old.items errors.new.items) }
+{
+    let alloc = *errors.allocator();
+    let name = &field.name.0;
+    let msg = match variant {
+        Some(variant) => {
+            format!(in alloc;
+                "Duplicate field name '{name}' in variant '{}' of type",
+                variant.0
+            )?
+        }
+        None => format!(in alloc; "Duplicate field name '{name}'")?,
+    };
+    report(errors, field.pos, msg.as_str())
+}
+
+// Notes that a name isn't a type's, where this field has it for its type.
+fn report_unknown_type(
+    errors: &mut Vec<Error>,
+    ty: &Ident,
+    field: &str,
+    variant: Option<&Ident>,
+) -> Result<(), AllocError>
+    ensures { OnOk result (Reports errors.old.items errors.new.items) }
+{
+    let alloc = *errors.allocator();
+    let msg = match variant {
+        Some(variant) => {
+            format!(in alloc;
+                "Unknown type '{}' for {field} in variant '{}'",
+                ty.0, variant.0
+            )?
+        }
+        None => format!(in alloc; "Unknown type '{}' for {field}", ty.0)?,
+    };
+    report(errors, ty.1, msg.as_str())
+}
+
+#[cfg(test)]
+mod tests {
+    use super::*;
+    use isle_base::syntax::Pos;
+    use std::alloc::Global;
+    use std::test::Fail;
+
+    fn ident(alloc: Global, text: &str, offset: usize) -> Result<Ident, AllocError> {
+        Ok(Ident(String::from_str(alloc, text)?, Pos { file: 0, offset }))
+    }
+
+    // A field with a name, at the offset 1, and of a type whose name is at the offset 2.
+    fn field(alloc: Global, name: &str, ty: &str) -> Result<syntax::StructField, AllocError> {
+        Ok(syntax::StructField {
+            name: ident(alloc, name, 0)?,
+            ty: ident(alloc, ty, 2)?,
+            pos: Pos { file: 0, offset: 1 },
+        })
+    }
+
+    fn struct_fields(
+        alloc: Global,
+        first: syntax::StructField,
+        second: syntax::StructField,
+    ) -> Result<syntax::Fields, AllocError> {
+        let fields = Vec::from_array(alloc, [first, second])?;
+        Ok(syntax::Fields::Struct(syntax::StructFields { fields }))
+    }
+
+    fn tuple_field(alloc: Global, index: usize, ty: &str) -> Result<syntax::Fields, AllocError> {
+        let ty = ident(alloc, ty, 3)?;
+        let pos = Pos { file: 0, offset: 1 };
+        let fields = Vec::from_array(alloc, [syntax::TupleField { index, ty, pos }])?;
+        Ok(syntax::Fields::Tuple(syntax::TupleFields { fields }))
+    }
+
+    // The errors of reading fields, each with its offset.
+    fn noted(
+        alloc: Global,
+        fields: &syntax::Fields,
+        variant: Option<&Ident>,
+    ) -> Result<String, AllocError> {
+        let mut env = TypeEnv::try_default(alloc)?;
+        let mut errors = Vec::new(alloc);
+        let _read = env.read_fields(&mut errors, fields, variant)?;
+        let mut text = String::new(alloc);
+        for error in &errors {
+            if let Error::TypeError { msg, span } = error {
+                text = format!(in alloc; "{text}{} {msg};", span.from.offset)?;
+            }
+        }
+        Ok(text)
+    }
+
+    #[test]
+    fn a_name_of_two_fields(rt: HostRuntime) -> Result<(), Fail> {
+        let alloc = rt.alloc();
+        let twice = struct_fields(alloc, field(alloc, "a", "u8")?, field(alloc, "a", "u16")?)?;
+        let text = noted(alloc, &twice, None)?;
+        assert_eq!(rt; text.as_str(), "1 Duplicate field name 'a';");
+        let variant = ident(alloc, "V", 0)?;
+        let text = noted(alloc, &twice, Some(&variant))?;
+        assert_eq!(rt;
+            text.as_str(),
+            "1 Duplicate field name 'a' in variant 'V' of type;"
+        );
+        Ok(())
+    }
+
+    #[test]
+    fn a_field_of_an_unknown_type(rt: HostRuntime) -> Result<(), Fail> {
+        let alloc = rt.alloc();
+        let named = struct_fields(alloc, field(alloc, "a", "u8")?, field(alloc, "b", "W")?)?;
+        let text = noted(alloc, &named, None)?;
+        assert_eq!(rt; text.as_str(), "2 Unknown type 'W' for field 'b';");
+        let variant = ident(alloc, "V", 0)?;
+        let text = noted(alloc, &named, Some(&variant))?;
+        assert_eq!(rt;
+            text.as_str(),
+            "2 Unknown type 'W' for field 'b' in variant 'V';"
+        );
+        let unnamed = tuple_field(alloc, 10, "W")?;
+        let text = noted(alloc, &unnamed, None)?;
+        assert_eq!(rt; text.as_str(), "3 Unknown type 'W' for tuple field '10';");
+        let text = noted(alloc, &unnamed, Some(&variant))?;
+        assert_eq!(rt;
+            text.as_str(),
+            "3 Unknown type 'W' for tuple field '10' in variant 'V';"
+        );
+        Ok(())
     }
 }

@@ -1,0 +1,21 @@
+use Rattle.std.proofs.Common.{◌≡◌, true, false, refl, sym, inl, rules}
+use Rattle.isle_types.specs.FieldReading.{was_seen}
+use Rattle.isle_types.proofs.type_env.TypeEnv.read_struct_field.Goals as goal
+
+pub returns-then-not-branch-clause-reads : goal.returns-then-not-branch-clause-reads
+returns-then-not-branch-clause-reads c =
+    let before : was_seen c.args.seen.now c.in_ok-name.name.0 ≡ true = search rules in
+    (c.in_ok-report_duplicate_field.ensures, inl (rw (← c.in_ok-name.ensures.number) before))
+
+pub returns-clause-reads : goal.returns-clause-reads
+returns-clause-reads c =
+    let new : was_seen c.args.seen.now c.in_ok-name.name.0 ≡ false = search rules in (
+      refl,
+      record {
+        name = c.in_ok-name.ensures.number;
+        id_is = refl;
+        ty = sym c.in-Some.ensures;
+        fresh = rw (← c.in_ok-name.ensures.number) new;
+        more = λ k. rw (← c.in_ok-name.ensures.number) (c.in_ok-insert.ensures.has (record { 0 = k }));
+      },
+    )
