@@ -3,19 +3,19 @@ use Rattle.std.specs.Prelude.{◌≡◌, ℕ, Bool, true, List, [], ◌++◌, So
 use Rattle.isle_model.specs.Syntax.{RuleTree, Definition}
 use Rattle.isle_model.specs.Names.{number}
 use Rattle.isle_model.specs.Typed.{TypedRule}
-use Rattle.isle_model.specs.TypeTable.{builtin_names, type_names, type_table}
+use Rattle.isle_model.specs.TypeTable.{builtin_names, type_names, type_table, constant_types}
 use Rattle.isle_model.specs.TermTable.{IsValidTerms, term_entries, rule_trees}
 use Rattle.isle_model.specs.Elaboration.{is_carried_rule, all_names, elaborate_rule}
 use Rattle.isle_elaboration.specs.Setting.{Setting}
 use Rattle.isle_elaboration.specs.Typings.{Typing}
 use Rattle.isle_elaboration.specs.Elaborated.{elaborated_rule}
 
--- the tables of the model's first definitions
+-- the type table, and the term table of the model's first definitions
 abbrev pub setting_of : List Definition → Bool → Bool → Setting
 setting_of defs expand anywhere = record {
   types = type_table defs;
   type_names = map (number (all_names defs)) (builtin_names ++ type_names defs);
-  constants = [];
+  constants = constant_types defs;
   terms = term_entries defs;
   converters = [];
   expand = expand;

@@ -1,22 +1,21 @@
 -- The typed rules of an accepted list are simple, and of known terms.
-use Rattle.std.proofs.Common.{◌≡◌, ◌==◌, ℕ, zero, suc, ◌+◌, ◌<◌, ◌≤◌, Bool, true, false, not, List, [], ◌∷◌, ◌++◌, length, Option, Some, None, slice_get, IsTrue, All, refl, sym, ap, ◌∙◌, subst, inl, inr, arith, eqb-true, eq-eqb}
+use Rattle.std.proofs.Common.{◌≡◌, ◌==◌, ℕ, zero, suc, ◌+◌, ◌<◌, ◌≤◌, Bool, true, false, not, List, [], ◌∷◌, ◌++◌, length, Option, Some, None, slice_get, IsTrue, All, refl, sym, ap, ◌∙◌, subst, inl, inr, arith, eqb-true, eq-eqb, option_map}
 use Rattle.std.specs.Prelude.{is_some, slice_index_or}
 use Rattle.std.proofs.lemmas.Bool.{cases_Bool, cond-true, cond-false, and_parts, false≢true}
 use Rattle.std.proofs.lemmas.List.{length_push}
 use Rattle.std.proofs.lemmas.List.Elements.{All-contains}
-use Rattle.std.proofs.lemmas.Option.{slice_get-get_or, slice_get_within, same_Some}
+use Rattle.std.proofs.lemmas.Option.{slice_get-get_or, slice_get_within}
 use Rattle.isle_model.specs.Syntax.{PatternTree, var_pattern, int_pattern, wildcard_pattern, RuleTree, DeclTree, Definition, declaration}
 use Rattle.isle_model.specs.Names.{number as number_of}
 use Rattle.isle_model.specs.Tables.{TypeEntry, TermEntry}
 use Rattle.isle_model.specs.Values.{is_atom_type}
-use Rattle.isle_model.specs.Typed.{TypedPattern, match_bind, match_int, match_any, TypedExpr, TypedVar, TypedRule}
+use Rattle.isle_model.specs.Typed.{TypedPattern, match_bind, match_int, match_any, TypedVar, TypedRule}
 use Rattle.isle_model.specs.Program.{Program, unknown, kind_of, flags_of, is_multi, arg_types}
-use Rattle.isle_model.specs.Simple.{IsSimplePattern, simple_int, simple_any, simple_var, AreSimplePatterns, binds_var, var_place, IsSimpleExpr, simple_literal, simple_use, BindsOnce, IsSimpleRule}
+use Rattle.isle_model.specs.Simple.{simple_int, simple_any, simple_var, AreSimplePatterns, binds_var, var_place, IsSimpleExpr, simple_literal, simple_use, BindsOnce, IsSimpleRule}
 use Rattle.isle_model.specs.TypeTable.{type_table}
 use Rattle.isle_model.specs.TermTable.{decl_of, decl_trees, is_carried_term, IsValidTerms, term_entries, rule_trees}
 use Rattle.isle_model.specs.Elaboration.{root_args, Elaborated, new_var, elaborate_pattern, ElaboratedArgs, with_first, elaborate_args, elaborate_expr, rule_with, elaborate_at, all_names, root_id, elaborate_rule, elaborate_rules, named_rule, named_rules, AreElaborated, program_of}
 use Rattle.isle_model.specs.Outcome.{then_option}
-use Rattle.std.proofs.Common.{option_map}
 use Rattle.isle_matching.proofs.Elements.{In, some_is, in_map, in_from_slice, contains_from_in, from_flat_map}
 use Rattle.isle_matching.proofs.Simple.{Arg, literal, anything, variable, Right, number, named, patterns, types_of, expr_of, IsBoundIn, IsKnown, IsSimple}
 use Rattle.isle_matching.proofs.SimpleRules.{none_some, then_some, map_some, if_some, first_of_all, entry_at, with_both, simple_rules}

@@ -1,8 +1,7 @@
 -- What a site has under a pick, it can hold; and the other way round, where it takes no answers.
-use Rattle.std.proofs.Common.{◌≡◌, ◌==◌, ℕ, zero, suc, List, [], ◌∷◌, ◌++◌, Option, Some, None, slice_get, Contains, refl, sym, ap, ◌∙◌, subst, inl, inr}
+use Rattle.std.proofs.Common.{◌≡◌, ◌==◌, ℕ, zero, suc, List, [], ◌∷◌, ◌++◌, Option, Some, None, slice_get, Contains, refl, sym, ap, ◌∙◌, subst, inl, inr, eqb-true, eq-eqb}
 use Rattle.std.proofs.lemmas.Bool.{cases_Bool, cond-true, cond-false}
 use Rattle.std.proofs.lemmas.Option.{none-some, same_Some}
-use Rattle.std.proofs.Common.{eqb-true, eq-eqb}
 use Rattle.isle_model.specs.Values.{Value, truth, atom, of_variant, of_struct, Values, no_value, value_and, listed}
 use Rattle.isle_model.specs.Meaning.{Content, one, parts, nothing, just, many, Contents, contents, Meaning, bool_literal, int_literal, literal_value, constant_value, extractor_answer}
 use Rattle.isle_model.specs.Outcome.{then_option}

@@ -1,4 +1,4 @@
--- Lists of carried forms: that their term tables agree.
+-- Lists of carried terms whose types make no terms: that their term tables agree.
 use Rattle.std.proofs.Common.{◌≡◌, ℕ, suc, ◌+◌, Bool, true, false, not, ◌&&◌, ◌||◌, cond, List, [], ◌∷◌, ◌++◌, map, Option, Some, None, option_map, All, IsTrue, refl, sym, ap, subst, ◌∙◌, add-one}
 use Rattle.std.specs.List.{flat_map, enumerate_from, find, AllByRecursion}
 use Rattle.std.specs.Str.{bytes_eq}
@@ -9,15 +9,15 @@ use Rattle.std.proofs.lemmas.List.Elements.{All-from_recursion, recursion_from_A
 use Rattle.isle_model.specs.Syntax.{TypeTree, TypeValueTree, primitive_value, enum_value, struct_value, DeclTree, Definition, declaration, extractor_definition, converter_definition, extern_definition, extern_constructor, extern_extractor}
 use Rattle.isle_model.specs.Names.{number, has_name, with_names, IsDistinct}
 use Rattle.isle_model.specs.Tables.{ConstructorEntry, internal_constructor, external_constructor, ExtractorEntry, internal_extractor, external_extractor, declared_term, TermEntry}
-use Rattle.isle_model.specs.TypeTable.{builtin_names, type_trees, builtin_from, is_carried_value, place_from, type_names_met, type_entry, type_table, type_or_first}
+use Rattle.isle_model.specs.TypeTable.{builtin_names, type_trees, builtin_from, is_primitive, place_from, type_names_met, type_entry, type_table, type_or_first}
 use Rattle.isle_model.specs.TermTable.{decl_of, decl_trees, decl_names, term_table_names, is_carried_term, decl_flags, decl_entry, decl_entries, term_entries, IsValidTerms as IsValidCarriedTerms}
 use Rattle.isle_tables.specs.KnownTypes.{types_of, known_type}
 use Rattle.isle_tables.specs.TermTables.{external_constructor_of, external_extractor_of, extractor_of, converter_of, function_of, constructor_trees, external_trees, extractor_trees, converter_trees, term_names, term_names_met, known_term, has_rules, is_defined, internal_extractors, external_extractors, external_constructors, extractor_template, IsDeclaredTerm, IsNotBothMultiAndPartial, IsWithoutRules, IsOfPlainTerm, NamesKnownTerms, HoldsNoMacroArg, UsesDeclaredArguments, IsKnownConverter, IsDefined, IsValidTerms, terms_made, constructor_kind, extractor_kind, decl_as_term, term_table}
-use Rattle.isle_tables.specs.Agreement.{AreCarriedTypes, AreCarriedTerms, SameTerms, TermsAgree}
+use Rattle.isle_tables.specs.Agreement.{MakeNoTerms, AreCarriedTerms, SameTerms, TermsAgree}
 use Rattle.isle_tables.specs.Laws.{names_made}
 use Rattle.isle_tables.proofs.Lists.{distinct_nil}
 use Rattle.isle_tables.proofs.Acyclic.{plain_acyclic}
-use Rattle.isle_tables.proofs.Carried.{none_of, each_of, IsCarriedTree, carried_trees, names_same}
+use Rattle.isle_tables.proofs.NoTerms.{none_of, each_of, IsPrimitiveTree, primitive_trees}
 use Rattle.isle_tables.proofs.TermLaws.{types_make_terms_lem}
 
 abbrev IsCarriedTerm : Definition → Type 0
@@ -52,23 +52,23 @@ carried_decl : (d : Definition) → IsCarriedTerm d → AllByRecursion IsNotBoth
 carried_decl (declaration d) h = (not_both d.multi d.partial h, tt)
 carried_decl _ h = tt
 
-makes_none : (ty : List ℕ) (v : TypeValueTree) → IsTrue (is_carried_value v) → names_made ty v ≡ []
+makes_none : (ty : List ℕ) (v : TypeValueTree) → IsTrue (is_primitive v) → names_made ty v ≡ []
 makes_none ty (primitive_value name at) h = refl
 makes_none ty (enum_value variants at) h = absurd (false≢true h)
 makes_none ty (struct_value fields at) h = absurd (false≢true h)
 
-entry_makes_none : (defs : List Definition) (names : List (List ℕ)) (id : ℕ) (t : TypeTree) (v : TypeValueTree) → IsTrue (is_carried_value v) → terms_made (type_entry defs names id (record t { value = v })) ≡ []
+entry_makes_none : (defs : List Definition) (names : List (List ℕ)) (id : ℕ) (t : TypeTree) (v : TypeValueTree) → IsTrue (is_primitive v) → terms_made (type_entry defs names id (record t { value = v })) ≡ []
 entry_makes_none defs names id t (primitive_value name at) h = refl
 entry_makes_none defs names id t (enum_value variants at) h = absurd (false≢true h)
 entry_makes_none defs names id t (struct_value fields at) h = absurd (false≢true h)
 
-entries_make_none : (defs : List Definition) (names : List (List ℕ)) (id : ℕ) (ts : List TypeTree) → AllByRecursion IsCarriedTree ts → flat_map terms_made (map (λ p. type_entry defs names p.0 p.1) (enumerate_from id ts)) ≡ []
+entries_make_none : (defs : List Definition) (names : List (List ℕ)) (id : ℕ) (ts : List TypeTree) → AllByRecursion IsPrimitiveTree ts → flat_map terms_made (map (λ p. type_entry defs names p.0 p.1) (enumerate_from id ts)) ≡ []
 entries_make_none defs names id [] a = refl
 entries_make_none defs names id (t ∷ ts) a =
     ap (λ l. l ++ flat_map terms_made (map (λ p. type_entry defs names p.0 p.1) (enumerate_from (id + 1) ts))) (entry_makes_none defs names id t t.value a.0)
     ∙ entries_make_none defs names (id + 1) ts a.1
 
-module _ (defs : List Definition) (types : AreCarriedTypes defs) (terms : AreCarriedTerms defs) where
+module _ (defs : List Definition) (types : MakeNoTerms defs) (terms : AreCarriedTerms defs) where
   each_carried : AllByRecursion IsCarriedTerm defs
   each_carried = recursion_from_All IsCarriedTerm defs terms
 
@@ -91,12 +91,12 @@ module _ (defs : List Definition) (types : AreCarriedTypes defs) (terms : AreCar
   all_plain = All-from_recursion IsNotBothMultiAndPartial (decl_trees defs) (each_of decl_of IsCarriedTerm IsNotBothMultiAndPartial carried_decl defs each_carried)
 
   none_made : flat_map (λ t. names_made t.name.text t.value) (type_trees defs) ≡ []
-  none_made = none_of (λ t. names_made t.name.text t.value) IsCarriedTree (λ t h. makes_none t.name.text t.value h) (type_trees defs) (carried_trees defs types)
+  none_made = none_of (λ t. names_made t.name.text t.value) IsPrimitiveTree (λ t h. makes_none t.name.text t.value h) (type_trees defs) (primitive_trees defs types)
 
   no_terms_made : flat_map terms_made (type_table defs) ≡ []
   no_terms_made =
       flat_map-append terms_made (builtin_from 0 builtin_names) (map (λ p. type_entry defs (type_names_met defs) p.0 p.1) (enumerate_from 13 (type_trees defs)))
-      ∙ entries_make_none defs (type_names_met defs) 13 (type_trees defs) (carried_trees defs types)
+      ∙ entries_make_none defs (type_names_met defs) 13 (type_trees defs) (primitive_trees defs types)
 
   term_names_same : decl_names defs ≡ term_names (types_of defs) defs
   term_names_same = sym (append-nil (decl_names defs)) ∙ ap (λ l. decl_names defs ++ l) (sym none_made) ∙ sym (types_make_terms_lem defs)
@@ -106,8 +106,7 @@ module _ (defs : List Definition) (types : AreCarriedTypes defs) (terms : AreCar
 
   met_same : term_table_names defs ≡ own_met
   met_same =
-      ap (λ ns. with_names ns (decl_names defs)) (names_same defs types)
-      ∙ ap (with_names (type_names_met defs)) (sym (append-nil (decl_names defs)) ∙ ap (λ l. decl_names defs ++ l) (sym no_functions))
+      ap (with_names (type_names_met defs)) (sym (append-nil (decl_names defs)) ∙ ap (λ l. decl_names defs ++ l) (sym no_functions))
 
   -- what makes a term and what takes it apart
   constructor_same : (names : List (List ℕ)) (x : List ℕ) → cond (has_rules defs x) (Some internal_constructor) None ≡ constructor_kind defs names x

@@ -2,7 +2,7 @@ pub mod Lists
 pub mod Acyclic
 pub mod WorkedTypes
 pub mod WorkedTerms
-pub mod Carried
+pub mod NoTerms
 pub mod CarriedTerms
 pub mod Names
 pub mod TypeLaws

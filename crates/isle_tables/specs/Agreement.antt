@@ -1,25 +1,23 @@
--- On lists of carried forms, the tables are those of the definitions for carried forms.
-use Rattle.std.specs.Prelude.{◌≡◌, ℕ, List, [], All, IsTrue, ◌↔◌}
-use Rattle.isle_model.specs.Syntax.{Definition}
-use Rattle.isle_model.specs.TypeTable.{type_names_met, type_table, is_carried_type, IsValidTypes as IsValidCarriedTypes, constant_types, IsValidTypes}
+-- On lists of carried terms whose types make no terms, the term table is that of the definitions for carried forms.
+use Rattle.std.specs.Prelude.{◌≡◌, ℕ, Bool, true, List, [], All, IsTrue, ◌↔◌}
+use Rattle.isle_model.specs.Syntax.{Definition, type_definition}
+use Rattle.isle_model.specs.TypeTable.{is_primitive}
 use Rattle.isle_model.specs.TermTable.{term_table_names, term_entries, is_carried_term, term_id as carried_term_id, IsValidTerms as IsValidCarriedTerms, AllDefined as AllCarriedDefined}
 use Rattle.isle_tables.specs.KnownTypes.{types_of}
 use Rattle.isle_tables.specs.TermTables.{term_names_met, term_table, term_named, converters, IsValidTerms, AllDefined}
 
--- each definition is of a form that the definitions for carried forms have a type table of
-abbrev pub AreCarriedTypes : List Definition → Type 0
-AreCarriedTypes defs = All (λ d. IsTrue (is_carried_type d)) defs
+-- whether a definition makes no term by a type: a type that it defines is primitive, no enum and no struct
+abbrev pub makes_no_term : Definition → Bool
+makes_no_term (type_definition t) = is_primitive t.value
+makes_no_term _ = true
 
--- each definition is of a form that they have a term table of
+-- no definition makes a term by a type
+abbrev pub MakeNoTerms : List Definition → Type 0
+MakeNoTerms defs = All (λ d. IsTrue (makes_no_term d)) defs
+
+-- each definition is of a form that the definitions for carried forms have a term table of
 abbrev pub AreCarriedTerms : List Definition → Type 0
 AreCarriedTerms defs = All (λ d. IsTrue (is_carried_term d)) defs
-
--- the type table is the one carried, and there are no constants
-pub record SameTypes (defs : List Definition) : Type 0 where
-  pub valid : IsValidCarriedTypes defs ↔ IsValidTypes defs
-  pub names : type_names_met defs ≡ type_names_met defs
-  pub entries : type_table defs ≡ type_table defs
-  pub constants : constant_types defs ≡ []
 
 -- the term table is the one carried, and there are no converters
 pub record SameTerms (defs : List Definition) : Type 0 where
@@ -30,10 +28,6 @@ pub record SameTerms (defs : List Definition) : Type 0 where
   pub ids : (x : List ℕ) → carried_term_id defs x ≡ term_named (types_of defs) defs x
   pub converters : converters (types_of defs) defs ≡ []
 
--- on lists of carried types, the type tables agree
-abbrev pub TypesAgree : Type 0
-TypesAgree = (defs : List Definition) → AreCarriedTypes defs → SameTypes defs
-
--- on lists of carried types and terms, the term tables agree
+-- on lists of carried terms whose types make no terms, the term tables agree
 abbrev pub TermsAgree : Type 0
-TermsAgree = (defs : List Definition) → AreCarriedTypes defs → AreCarriedTerms defs → SameTerms defs
+TermsAgree = (defs : List Definition) → MakeNoTerms defs → AreCarriedTerms defs → SameTerms defs

@@ -1,9 +1,10 @@
 //! The type table and the term table of a list of definitions, for all forms of definitions.
 //!
-//! The definitions are in `specs/`, the proofs in `proofs/`. A function here has an empty body: its clause is a law.
+//! The definitions are in `specs/`, those of the type table in `isle_model`, the proofs in `proofs/`. A function here has
+//! an empty body: its clause is a law.
 #![tactic(auto)]
 
-ghost use Rattle.isle_tables.specs.Agreement.{TermsAgree, TypesAgree};
+ghost use Rattle.isle_tables.specs.Agreement.{TermsAgree};
 ghost use Rattle.isle_tables.specs.Laws.{ConvertersStandOnce, LastDefinitionCounts, NamesStandOnce, NumbersStay, OwnTypesAreWellFormed, TermsAreFound, TermsAreOfTypes, TermsHaveNames, TermsStandAtIds, TypesAreFound, TypesMakeTerms, TypesStandAtIds};
 ghost use Rattle.isle_tables.specs.WorkedKnown.{IllFormed, NamesGoOn, OwnTypesDoNotCount, TypesHandedIn};
 ghost use Rattle.isle_tables.specs.WorkedTerms.{Alone, ByFunction, Chained, Converted, Doubled, Early, Effects, Infallible, OneFullName, RefusedTerms, Structs, Templates};
@@ -109,13 +110,8 @@ pub fn ill_formed()
     ensures { IllFormed }
 {}
 
-/// On lists of primitive types, the type table is that of the definitions for carried forms, and lists are valid alike.
-pub fn types_agree()
-    ensures { TypesAgree }
-{}
-
-/// On lists of declarations that are neither partial nor multi, the term table is that of the definitions for carried
-/// forms, and lists are valid and defined alike.
+/// On lists of declarations that are neither partial nor multi, with no types but primitive ones, the term table is that
+/// of the definitions for carried forms, and lists are valid and defined alike.
 pub fn terms_agree()
     ensures { TermsAgree }
 {}
