@@ -7,3 +7,6 @@ pub mod Booting
 pub mod Naming
 pub mod Reports
 pub mod TypeMaps
+pub mod LastTypes
+pub mod TypingConstants
+pub mod RightTypes

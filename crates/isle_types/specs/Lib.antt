@@ -6,3 +6,4 @@ pub mod Envs
 pub mod TypeTables
 pub mod Reading
 pub mod Stages
+pub mod ConstantReading

@@ -1,11 +1,15 @@
 //! How the types of constants are read, after all types are.
 
 ghost use Rattle.std.specs.Prelude.{[], OnOk};
-ghost use Rattle.isle_base.specs.SyntaxViews.{definition_views};
+ghost use Rattle.isle_base.specs.SyntaxViews.{definition_view, definition_views, name_view};
+ghost use Rattle.isle_types.specs.ConstantReading.{ReadsConstant, ReadsDefinition};
+ghost use Rattle.isle_types.specs.Envs.{names_of, symbol_of};
+ghost use Rattle.isle_types.specs.Names.{IsInverse};
 ghost use Rattle.isle_types.specs.Stages.{FillsTypes, ReadsConstants};
 
+use crate::reading::report;
 use crate::type_env::TypeEnv;
-use isle_base::syntax::{Def, Error};
+use isle_base::syntax::{Def, Error, Extern, Ident, Pos};
 use std::alloc::AllocError;
 
 impl TypeEnv {
@@ -18,6 +22,41 @@ impl TypeEnv {
         requires { FillsTypes (definition_views defs.now) [] self.old errors.old.items }
         ensures { OnOk result (ReadsConstants (definition_views defs.now) [] self.new errors.new.items) }
     {
+        for def in defs {
+            self.read_definition(errors, def)?;
+        }
+        Ok(())
+    }
+
+    // Reads the constant that a definition makes, if it makes one.
+    fn read_definition(&mut self, errors: &mut Vec<Error>, def: &Def) -> Result<(), AllocError>
+        requires { IsInverse (names_of self.old) (symbol_of self.old) }
+        ensures inverse { IsInverse (names_of self.new) (symbol_of self.new) }
+        ensures reads { OnOk result (ReadsDefinition (definition_view def.now) self.old errors.old.items self.new errors.new.items) }
+    {
+        let Def::Extern(Extern::Const { name, ty, pos }) = def else {
+            return Ok(());
+        };
+        self.read_constant(errors, name, ty, *pos)
+    }
+
+    // Reads a constant: a later one of the same name takes the place of an earlier one.
+    fn read_constant(
+        &mut self,
+        errors: &mut Vec<Error>,
+        name: &Ident,
+        ty: &Ident,
+        pos: Pos,
+    ) -> Result<(), AllocError>
+        requires { IsInverse (names_of self.old) (symbol_of self.old) }
+        ensures inverse { IsInverse (names_of self.new) (symbol_of self.new) }
+        ensures reads { OnOk result (ReadsConstant (name_view name.now) (name_view ty.now) self.old errors.old.items self.new errors.new.items) }
+    {
+        let Some(id) = self.get_type_by_name(ty) else {
+            return report(errors, pos, "Unknown type for constant");
+        };
+        let sym = self.intern_mut(name)?;
+        self.const_types.insert(sym, id)?;
         Ok(())
     }
 }
