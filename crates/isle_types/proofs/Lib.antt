@@ -10,3 +10,5 @@ pub mod TypeMaps
 pub mod LastTypes
 pub mod TypingConstants
 pub mod RightTypes
+pub mod Ending
+pub mod WellFormedEnvs

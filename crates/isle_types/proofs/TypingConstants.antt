@@ -1,5 +1,5 @@
 -- Reading the constants, one definition after another.
-use Rattle.std.proofs.Common.{◌≡◌, ℕ, ◌+◌, ◌<◌, length, drop, get_or, List, [], ◌∷◌, ◌++◌, true, false, cond, Option, Some, None, is_some, option_map, option_and_then, slice_get, map, All, refl, sym, ap, subst, ◌∙◌, inl, inr, ◌⊎◌, ⊎_elim}
+use Rattle.std.proofs.Common.{◌≡◌, ℕ, ◌+◌, ◌<◌, length, drop, get_or, List, [], ◌∷◌, ◌++◌, true, false, cond, Some, None, is_some, option_map, option_and_then, slice_get, map, All, refl, sym, ap, subst, ◌∙◌, inl, inr, ◌⊎◌, ⊎_elim}
 use Rattle.std.proofs.lemmas.Bool.{false≢true}
 use Rattle.std.proofs.lemmas.List.{append_assoc, append-nil, at_drop_more}
 use Rattle.std.proofs.lemmas.List.Elements.{All-nil, All-cons, All-head, All-tail}
@@ -15,8 +15,8 @@ use Rattle.isle_tables.proofs.TypeLaws.{type_names_distinct}
 use Rattle.isle_types.specs.declared.type_env.TypeEnv.{TypeEnv}
 use Rattle.isle_types.specs.ConstantReading.{type_looked_up, TypesConstant, ReadsConstant, ReadsDefinition}
 use Rattle.isle_types.specs.Envs.{names_of, symbol_of, type_at, same_symbol, symbol}
-use Rattle.isle_types.specs.Names.{place_of, IsInverse}
-use Rattle.isle_types.specs.Reading.{Reports, IsRightType}
+use Rattle.isle_types.specs.Names.{IsInverse}
+use Rattle.isle_types.specs.Reading.{IsRightType}
 use Rattle.isle_types.specs.Stages.{constant_names, Filling, FillsTypes, last_type, Constants, ReadsConstants}
 use Rattle.isle_types.specs.TypeViews.{type_views}
 use Rattle.isle_types.proofs.LastTypes.{last_read}

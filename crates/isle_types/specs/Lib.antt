@@ -7,3 +7,4 @@ pub mod TypeTables
 pub mod Reading
 pub mod Stages
 pub mod ConstantReading
+pub mod WellFormed

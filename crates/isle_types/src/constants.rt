@@ -60,3 +60,56 @@ impl TypeEnv {
         Ok(())
     }
 }
+
+#[cfg(test)]
+mod tests {
+    use super::*;
+    use crate::ids::TypeId;
+    use isle_base::syntax::Fault;
+    use std::alloc::Global;
+    use std::test::Fail;
+
+    fn ident(alloc: Global, text: &str) -> Result<Ident, AllocError> {
+        Ok(Ident(String::from_str(alloc, text)?, Pos::default()))
+    }
+
+    fn constant(alloc: Global, ty: &str, offset: usize) -> Result<Def, AllocError> {
+        Ok(Def::Extern(Extern::Const {
+            name: ident(alloc, "$X")?,
+            ty: ident(alloc, ty)?,
+            pos: Pos { file: 0, offset },
+        }))
+    }
+
+    #[test]
+    fn the_last_definition_of_a_constant_counts(rt: HostRuntime) -> Result<(), Fail> {
+        let alloc = rt.alloc();
+        let defs = [constant(alloc, "u8", 0)?, constant(alloc, "u16", 1)?];
+        let env = TypeEnv::from_ast(alloc, &defs)?;
+        let mut ty = None;
+        if let Some(sym) = env.intern(&ident(alloc, "$X")?) {
+            ty = env.const_types.get(&sym).copied();
+        }
+        assert_eq!(rt; ty, Some(TypeId(2)));
+        Ok(())
+    }
+
+    #[test]
+    fn a_constant_of_an_unknown_type(rt: HostRuntime) -> Result<(), Fail> {
+        let alloc = rt.alloc();
+        let defs = [constant(alloc, "nope", 3)?];
+        let mut text = String::new(alloc);
+        if let Err(Fault::Errors(errors)) = TypeEnv::from_ast(alloc, &defs) {
+            for error in &errors {
+                if let Error::TypeError { msg, span } = error {
+                    text = format!(in alloc;
+                        "{text}{}:{} {msg};",
+                        span.from.file, span.from.offset
+                    )?;
+                }
+            }
+        }
+        assert_eq!(rt; text.as_str(), "0:3 Unknown type for constant;");
+        Ok(())
+    }
+}
