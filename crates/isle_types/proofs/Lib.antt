@@ -9,3 +9,8 @@ pub mod Reports
 pub mod TypeMaps
 pub mod SeenNames
 pub mod FieldSteps
+pub mod LastTypes
+pub mod TypingConstants
+pub mod RightTypes
+pub mod Ending
+pub mod WellFormedEnvs

@@ -58,7 +58,7 @@ place_push_other n (z ∷ zs) y x e =
       | false ↦ place_push_other (suc n) zs y x e
     ]
 
-place_there : (n : ℕ) (ts : List (List ℕ)) (x : List ℕ) (k : ℕ) → place_from n x ts ≡ Some k → (j : ℕ) × (j < length ts) × (slice_get ts j ≡ Some x)
+pub place_there : (n : ℕ) (ts : List (List ℕ)) (x : List ℕ) (k : ℕ) → place_from n x ts ≡ Some k → (j : ℕ) × (j < length ts) × (slice_get ts j ≡ Some x)
 place_there n [] x k e = absurd (cc)
 place_there n (y ∷ ys) x k e =
     elim (bytes_eq y x) as (λ b. bytes_eq y x ≡ b → cond b (Some n) (place_from (suc n) x ys) ≡ Some k → (j : ℕ) × (j < suc (length ys)) × (slice_get (y ∷ ys) j ≡ Some x)) [

@@ -7,3 +7,5 @@ pub mod TypeTables
 pub mod Reading
 pub mod FieldReading
 pub mod Stages
+pub mod ConstantReading
+pub mod WellFormed

@@ -1,11 +1,12 @@
 -- How far the reading of a list of definitions is.
-use Rattle.std.specs.Prelude.{◌≡◌, ◌≢◌, ℕ, false, List, [], ◌++◌, ◌⊎◌, length, map, None, slice_get, All, IsTrue}
-use Rattle.std.specs.List.{flat_map, enumerate_from}
+use Rattle.std.specs.Prelude.{◌≡◌, ◌≢◌, ℕ, false, List, [], ◌++◌, ◌⊎◌, length, map, reverse, Option, None, option_map, slice_get, All, IsTrue}
+use Rattle.std.specs.List.{find, flat_map, enumerate_from}
+use Rattle.std.specs.Str.{bytes_eq}
 use Rattle.isle_model.specs.Syntax.{TypeTree, Definition}
 use Rattle.isle_model.specs.Names.{has_name, with_names, IsDistinct}
 use Rattle.isle_model.specs.Outcome.{then_option}
 use Rattle.isle_model.specs.Tables.{TypeEntry, builtin_type}
-use Rattle.isle_model.specs.TypeTable.{builtin_names, type_trees, type_names, all_type_names, names_inside, constant_trees, type_names_met, type_id, type_of_number, place_from, IsValidTypes, builtin_from, type_entry, type_table}
+use Rattle.isle_model.specs.TypeTable.{builtin_names, type_trees, type_names, all_type_names, names_inside, ConstantTree, constant_trees, type_names_met, type_id, type_or_first, type_of_number, place_from, IsOfKnownType, IsValidTypes, builtin_from, type_entry, type_table}
 use Rattle.isle_base.specs.declared.syntax.Error.{Error}
 use Rattle.isle_base.specs.Answers.{limit_of}
 use Rattle.isle_base.specs.Stable.{entry_count}
@@ -85,6 +86,10 @@ pub record FillsTypes (defs rest : List Definition) (env : TypeEnv) (es : List E
   pub plain : ArePlain es
   pub so_far : SoFar defs es (Filling defs rest env)
 
+-- the type of the last of these definitions of a constant
+abbrev pub last_type : List Definition → List ConstantTree → List ℕ → Option ℕ
+last_type defs read x = option_map (λ c. type_or_first defs c.ty) (find (λ c. bytes_eq c.name.text x) (reverse read))
+
 -- the constants of these definitions are left to be read
 pub record Constants (defs rest : List Definition) (env : TypeEnv) : Type 0 where
   pub ids : (k : ℕ) → type_at env k ≡ type_of_number defs (names_of env) k
@@ -94,6 +99,11 @@ pub record Constants (defs rest : List Definition) (env : TypeEnv) : Type 0 wher
   pub names : with_names (names_of env) (constant_names rest) ≡ type_names_met defs
   pub types : type_views env.types.items ≡ type_table defs
   pub right : All (IsRightType defs) (type_trees defs)
+  pub read : List ConstantTree
+  pub whole : read ++ constant_trees rest ≡ constant_trees defs
+  pub constants : (k : ℕ) → constant_at env k ≡ then_option (slice_get (type_names_met defs) k) (last_type defs read)
+  pub of_known : All (IsOfKnownType defs) (constant_trees rest) → All (IsOfKnownType defs) (constant_trees defs)
+  pub left : All (IsOfKnownType defs) (constant_trees defs) → All (IsOfKnownType defs) (constant_trees rest)
 
 pub record ReadsConstants (defs rest : List Definition) (env : TypeEnv) (es : List Error) : Type 0 where
   pub inverse : IsInverse (names_of env) (symbol_of env)

@@ -1,8 +1,9 @@
 -- What a client reads off an entry of the type table.
 use Rattle.std.specs.Prelude.{ℕ, Bool, true, false, List, [], map, Option, Some, None, nat_lt, slice_get}
 use Rattle.isle_model.specs.Syntax.{Position}
+use Rattle.isle_model.specs.Outcome.{then_option}
 use Rattle.isle_model.specs.TypeTable.{builtin_names}
-use Rattle.isle_model.specs.Tables.{FieldEntries, unit_entries, struct_entries, tuple_entries, TypeEntry, builtin_type, primitive_type, enum_type, struct_type}
+use Rattle.isle_model.specs.Tables.{FieldEntries, unit_entries, struct_entries, tuple_entries, VariantEntry, TypeEntry, builtin_type, primitive_type, enum_type, struct_type}
 
 -- the number of a type
 abbrev pub type_id_of : TypeEntry → ℕ
@@ -42,3 +43,14 @@ abbrev pub field_types : FieldEntries → List ℕ
 field_types unit_entries = []
 field_types (struct_entries fields) = map (λ f. f.ty) fields
 field_types (tuple_entries fields) = map (λ f. f.ty) fields
+
+-- the variants of a type, in order
+abbrev pub variants_in : TypeEntry → List VariantEntry
+variants_in (builtin_type place) = []
+variants_in (primitive_type id name at) = []
+variants_in (enum_type name id is_extern is_nodebug variants at) = variants
+variants_in (struct_type name id is_extern is_nodebug fields at) = []
+
+-- the variant of this number of the type of this number
+abbrev pub variant_at : List TypeEntry → ℕ → ℕ → Option VariantEntry
+variant_at types ty variant = then_option (slice_get types ty) (λ t. slice_get (variants_in t) variant)

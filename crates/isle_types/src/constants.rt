@@ -1,11 +1,15 @@
 //! How the types of constants are read, after all types are.
 
 ghost use Rattle.std.specs.Prelude.{[], OnOk};
-ghost use Rattle.isle_base.specs.SyntaxViews.{definition_views};
+ghost use Rattle.isle_base.specs.SyntaxViews.{definition_view, definition_views, name_view};
+ghost use Rattle.isle_types.specs.ConstantReading.{ReadsConstant, ReadsDefinition};
+ghost use Rattle.isle_types.specs.Envs.{names_of, symbol_of};
+ghost use Rattle.isle_types.specs.Names.{IsInverse};
 ghost use Rattle.isle_types.specs.Stages.{FillsTypes, ReadsConstants};
 
+use crate::reading::report;
 use crate::type_env::TypeEnv;
-use isle_base::syntax::{Def, Error};
+use isle_base::syntax::{Def, Error, Extern, Ident, Pos};
 use std::alloc::AllocError;
 
 impl TypeEnv {
@@ -18,6 +22,94 @@ impl TypeEnv {
         requires { FillsTypes (definition_views defs.now) [] self.old errors.old.items }
         ensures { OnOk result (ReadsConstants (definition_views defs.now) [] self.new errors.new.items) }
     {
+        for def in defs {
+            self.read_definition(errors, def)?;
+        }
+        Ok(())
+    }
+
+    // Reads the constant that a definition makes, if it makes one.
+    fn read_definition(&mut self, errors: &mut Vec<Error>, def: &Def) -> Result<(), AllocError>
+        requires { IsInverse (names_of self.old) (symbol_of self.old) }
+        ensures inverse { IsInverse (names_of self.new) (symbol_of self.new) }
+        ensures reads { OnOk result (ReadsDefinition (definition_view def.now) self.old errors.old.items self.new errors.new.items) }
+    {
+        let Def::Extern(Extern::Const { name, ty, pos }) = def else {
+            return Ok(());
+        };
+        self.read_constant(errors, name, ty, *pos)
+    }
+
+    // Reads a constant: a later one of the same name takes the place of an earlier one.
+    fn read_constant(
+        &mut self,
+        errors: &mut Vec<Error>,
+        name: &Ident,
+        ty: &Ident,
+        pos: Pos,
+    ) -> Result<(), AllocError>
+        requires { IsInverse (names_of self.old) (symbol_of self.old) }
+        ensures inverse { IsInverse (names_of self.new) (symbol_of self.new) }
+        ensures reads { OnOk result (ReadsConstant (name_view name.now) (name_view ty.now) self.old errors.old.items self.new errors.new.items) }
+    {
+        let Some(id) = self.get_type_by_name(ty) else {
+            return report(errors, pos, "Unknown type for constant");
+        };
+        let sym = self.intern_mut(name)?;
+        self.const_types.insert(sym, id)?;
+        Ok(())
+    }
+}
+
+#[cfg(test)]
+mod tests {
+    use super::*;
+    use crate::ids::TypeId;
+    use isle_base::syntax::Fault;
+    use std::alloc::Global;
+    use std::test::Fail;
+
+    fn ident(alloc: Global, text: &str) -> Result<Ident, AllocError> {
+        Ok(Ident(String::from_str(alloc, text)?, Pos::default()))
+    }
+
+    fn constant(alloc: Global, ty: &str, offset: usize) -> Result<Def, AllocError> {
+        Ok(Def::Extern(Extern::Const {
+            name: ident(alloc, "$X")?,
+            ty: ident(alloc, ty)?,
+            pos: Pos { file: 0, offset },
+        }))
+    }
+
+    #[test]
+    fn the_last_definition_of_a_constant_counts(rt: HostRuntime) -> Result<(), Fail> {
+        let alloc = rt.alloc();
+        let defs = [constant(alloc, "u8", 0)?, constant(alloc, "u16", 1)?];
+        let env = TypeEnv::from_ast(alloc, &defs)?;
+        let mut ty = None;
+        if let Some(sym) = env.intern(&ident(alloc, "$X")?) {
+            ty = env.const_types.get(&sym).copied();
+        }
+        assert_eq!(rt; ty, Some(TypeId(2)));
+        Ok(())
+    }
+
+    #[test]
+    fn a_constant_of_an_unknown_type(rt: HostRuntime) -> Result<(), Fail> {
+        let alloc = rt.alloc();
+        let defs = [constant(alloc, "nope", 3)?];
+        let mut text = String::new(alloc);
+        if let Err(Fault::Errors(errors)) = TypeEnv::from_ast(alloc, &defs) {
+            for error in &errors {
+                if let Error::TypeError { msg, span } = error {
+                    text = format!(in alloc;
+                        "{text}{}:{} {msg};",
+                        span.from.file, span.from.offset
+                    )?;
+                }
+            }
+        }
+        assert_eq!(rt; text.as_str(), "0:3 Unknown type for constant;");
         Ok(())
     }
 }

@@ -12,6 +12,7 @@ ghost use Rattle.isle_types.specs.Names.{IsInverse};
 ghost use Rattle.isle_types.specs.Reading.{Reports, AddsBuiltin, NamesType, NamesDefinition};
 ghost use Rattle.isle_types.specs.Stages.{Booting, NamesTypes};
 ghost use Rattle.isle_types.specs.TypeTables.{SeesTypes};
+ghost use Rattle.isle_types.specs.WellFormed.{IsWellFormedEnv};
 
 use crate::builtin::BuiltinType;
 use crate::ids::TypeId;
@@ -19,7 +20,7 @@ use crate::type_env::TypeEnv;
 use crate::types::Type;
 use isle_base::stablemapset::StableMap;
 use isle_base::syntax;
-use isle_base::syntax::{Def, Error, Extern, Fault, Pos, Span, TypeValue};
+use isle_base::syntax::{Def, Error, Fault, Pos, Span, TypeValue};
 use std::alloc::{AllocError, Global};
 use std::collections::HashMap;
 
@@ -45,10 +46,13 @@ impl TypeEnv {
     /// the work on one type. A type whose name is another type's, a primitive type that is marked `extern`
     /// or `nodebug`, another type that is marked both, two variants of an enum or two fields of a list with
     /// one name, a field or a constant of an unknown type. `Memory` where memory is refused.
+    ///
+    /// The table that is answered is well formed: terms and rules can be read with it.
     pub fn from_ast(alloc: Global, defs: &[Def]) -> Result<TypeEnv, Fault>
         ensures answers { Answers result (IsValidTypes (definition_views defs.now))
             (λ env. SeesTypes env (definition_views defs.now) (type_names_met (definition_views defs.now))) }
         ensures no_limit { NoLimit result }
+        ensures well_formed { IfOk result IsWellFormedEnv }
     {
         let mut env = TypeEnv::try_default(alloc)?;
         let mut errors = Vec::new(alloc);
@@ -257,13 +261,6 @@ mod tests {
         let with_variants = [type_def(alloc, "E", variants, false, 2)?];
         let text = printed(alloc, TypeEnv::from_ast(alloc, &with_variants))?;
         assert_eq!(rt; text.as_str(), "0:2 not carried yet;");
-        let constant = [Def::Extern(Extern::Const {
-            name: ident(alloc, "c")?,
-            ty: ident(alloc, "u8")?,
-            pos: Pos { file: 0, offset: 3 },
-        })];
-        let text = printed(alloc, TypeEnv::from_ast(alloc, &constant))?;
-        assert_eq!(rt; text.as_str(), "0:3 not carried yet;");
         Ok(())
     }
 

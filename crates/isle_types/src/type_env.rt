@@ -1,13 +1,15 @@
 //! The table of all names and types.
 
-ghost use Rattle.std.specs.Prelude.{◌≡◌, ℕ, List, ◌++◌, ◌∷◌, [], map, option_map, option_and_then, IfOk, OnOk, OnErr, string_bytes, length, Some, slice_get};
+ghost use Rattle.std.specs.Prelude.{◌≡◌, ℕ, List, ◌++◌, ◌∷◌, [], map, option_map, option_and_then, IfOk, OnOk, OnErr, string_bytes, length, Some, IsSome, slice_get};
 ghost use Rattle.std.specs.HashMap.{get_by_text};
 ghost use Rattle.isle_model.specs.Names.{number, with_name};
 ghost use Rattle.isle_types.specs.Names.{place_of, IsInverse};
 ghost use Rattle.isle_types.specs.Envs.{names_of, symbol_of, type_at};
+ghost use Rattle.isle_types.specs.Types.{variant_at};
+ghost use Rattle.isle_types.specs.TypeViews.{type_views, variant_view};
 
-use crate::ids::{Sym, TypeId};
-use crate::types::Type;
+use crate::ids::{Sym, TypeId, VariantId};
+use crate::types::{Type, Variant};
 use isle_base::stablemapset::StableMap;
 use isle_base::syntax::{Error, Ident};
 use std::alloc::AllocError;
@@ -63,6 +65,18 @@ impl TypeEnv {
     {
         let sym = self.intern(ident)?;
         self.type_map.get(&sym).copied()
+    }
+
+    /// The variant of a number of the type of a number. Condition: the type is an enum of this table and
+    /// has that variant.
+    pub fn get_variant(&self, ty: TypeId, variant: VariantId) -> &Variant
+        requires { IsSome (variant_at (type_views self.now.types.items) ty.0 variant.0) }
+        ensures { Some (variant_view result.now) ≡ variant_at (type_views self.now.types.items) ty.0 variant.0 }
+    {
+        let Type::Enum { variants, .. } = &self.types[ty.index()] else {
+            unreachable!()
+        };
+        &variants[variant.index()]
     }
 
     // The number of the name of a text.

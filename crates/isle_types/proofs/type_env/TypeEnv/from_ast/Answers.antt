@@ -1,6 +1,7 @@
 use Rattle.std.proofs.Common.{◌≡◌, [], ap, length, rules}
 use Rattle.isle_types.proofs.Naming.{first_name}
 use Rattle.isle_types.proofs.Ending.{nothing, at_ok, at_err}
+use Rattle.isle_types.proofs.WellFormedEnvs.{well_formed}
 use Rattle.isle_types.proofs.type_env.TypeEnv.from_ast.Goals as goal
 
 pub name_types-requires : goal.name_types-requires
@@ -8,11 +9,17 @@ name_types-requires c = first_name _ _ _ c.in_ok-env.ensures.table c.in_ok-env.e
 
 pub returns-then-is_empty-clause-answers : goal.returns-then-is_empty-clause-answers
 returns-then-is_empty-clause-answers c =
-    let none : length c.check_constants.new.errors.items ≡ 0 = search rules in
-    at_ok _ _ _ _ c.in_ok-fill_types.ensures c.in_ok-check_constants.ensures (nothing _ none)
+    let none : length c.read_constants.new.errors.items ≡ 0 = search rules in
+    at_ok _ _ _ c.in_ok-read_constants.ensures (nothing _ none)
+
+pub returns-then-is_empty-clause-well_formed : goal.returns-then-is_empty-clause-well_formed
+returns-then-is_empty-clause-well_formed c =
+    let none : length c.read_constants.new.errors.items ≡ 0 = search rules in
+    let ok = at_ok _ _ _ c.in_ok-read_constants.ensures (nothing _ none) in
+    well_formed _ _ ok.0 ok.1
 
 pub returns-else-is_empty-clause-answers : goal.returns-else-is_empty-clause-answers
 returns-else-is_empty-clause-answers c =
-    let many : length c.check_constants.new.errors.items ≡ 0 → ⊥ = search rules in
-    let some : c.check_constants.new.errors.items ≡ [] → ⊥ = λ e. many (ap length e) in
-    (some, at_err _ _ _ _ c.in_ok-fill_types.ensures c.in_ok-check_constants.ensures some)
+    let many : length c.read_constants.new.errors.items ≡ 0 → ⊥ = search rules in
+    let some : c.read_constants.new.errors.items ≡ [] → ⊥ = λ e. many (ap length e) in
+    (some, at_err _ _ _ c.in_ok-read_constants.ensures some)

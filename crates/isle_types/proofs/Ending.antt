@@ -1,0 +1,72 @@
+-- What holds when all definitions were read.
+use Rattle.std.proofs.Common.{◌≡◌, ◌≢◌, ℕ, ◌||◌, true, false, cond, ◌==◌, List, [], ◌∷◌, ◌++◌, length, map, Some, None, nat_eq, slice_get, refl, sym, ap, subst, ◌∙◌, arith, eqb-true, ⊎_elim}
+use Rattle.std.proofs.lemmas.List.{append-nil}
+use Rattle.std.proofs.lemmas.List.Elements.{All-nil}
+use Rattle.isle_model.specs.Syntax.{Definition}
+use Rattle.isle_model.specs.Names.{number, has_name}
+use Rattle.isle_model.specs.Meaning.{look}
+use Rattle.isle_model.specs.Outcome.{then_option}
+use Rattle.isle_model.specs.TypeTable.{builtin_names, type_names, ConstantTree, constant_trees, type_names_met, last_definitions, type_of_number, type_or_first, constant_types, IsOfKnownType, IsValidTypes}
+use Rattle.isle_base.specs.declared.syntax.Error.{Error}
+use Rattle.isle_tables.proofs.Names.{same_self, found, has_at, has_met, has_right}
+use Rattle.isle_tables.proofs.TypeLaws.{names_later, type_names_distinct, last_definition_counts_lem}
+use Rattle.isle_types.specs.declared.type_env.TypeEnv.{TypeEnv}
+use Rattle.isle_types.specs.Envs.{names_of, symbol_of}
+use Rattle.isle_types.specs.Names.{IsInverse}
+use Rattle.isle_types.specs.Stages.{names_in_types, constant_names, last_type, Constants, ReadsConstants}
+use Rattle.isle_types.specs.TypeTables.{SeesTypes}
+use Rattle.isle_types.proofs.RightTypes.{types_valid}
+
+pub nothing : (es : List Error) → length es ≡ 0 → es ≡ []
+nothing [] e = refl
+nothing (x ∷ xs) e = absurd (omega arith)
+
+-- no constant has a number past the names
+look_past : (ns : List (List ℕ)) (ty : ConstantTree → ℕ) (k : ℕ) → slice_get ns k ≡ None → (cs : List ConstantTree) → ((x : List ℕ) → has_name (map (λ c. c.name.text) cs) x ≡ true → has_name ns x ≡ true) → look (λ j. j == k) (map (λ c. (number ns c.name.text, ty c)) (last_definitions cs)) ≡ None
+look_past ns ty k past [] met = refl
+look_past ns ty k past (c ∷ cs) met =
+    let texts : List (List ℕ) = map (λ c. c.name.text) cs in
+    let later : look (λ j. j == k) (map (λ c. (number ns c.name.text, ty c)) (last_definitions cs)) ≡ None = look_past ns ty k past cs (λ x h. met x (has_right (c.name.text ∷ []) texts x h)) in
+    elim (has_name texts c.name.text) as (λ b. look (λ j. j == k) (map (λ c. (number ns c.name.text, ty c)) (cond b (last_definitions cs) (c ∷ last_definitions cs))) ≡ None) [
+      | true ↦ later
+      | false ↦ elim (nat_eq (number ns c.name.text) k) as (λ b. nat_eq (number ns c.name.text) k ≡ b → cond b (Some (ty c)) (look (λ j. j == k) (map (λ c. (number ns c.name.text, ty c)) (last_definitions cs))) ≡ None) [
+        | true ↦ λ t.
+            let first : has_name ns c.name.text ≡ true = met c.name.text (ap (λ b. b || has_name texts c.name.text) (same_self c.name.text)) in
+            let here : slice_get ns k ≡ Some c.name.text = subst (λ j. slice_get ns j ≡ Some c.name.text) (eqb-true (number ns c.name.text) k t) (found ns c.name.text first) in
+            absurd (cc)
+        | false ↦ λ _. later
+      ] refl
+    ]
+
+-- the last type of each constant is what the table of constants has
+pub last_types : (defs : List Definition) (k : ℕ) → then_option (slice_get (type_names_met defs) k) (last_type defs (constant_trees defs)) ≡ look (λ j. j == k) (constant_types defs)
+last_types defs k =
+    let all = type_names_met defs in
+    elim (slice_get all k) as (λ o. slice_get all k ≡ o → then_option o (last_type defs (constant_trees defs)) ≡ look (λ j. j == k) (constant_types defs)) [
+      | None ↦ λ past.
+          sym (look_past all (λ c. type_or_first defs c.ty) k past (constant_trees defs) (λ x h. has_met builtin_names (names_later defs) x (has_right (type_names defs ++ names_in_types defs) (constant_names defs) x h)))
+      | Some x ↦ λ here.
+          let same : number all x ≡ k = type_names_distinct defs (number all x) k x (found all x (has_at all k x here)) here in
+          sym (ap (λ m. look (λ j. j == m) (constant_types defs)) (sym same) ∙ last_definition_counts_lem defs x)
+    ] refl
+
+module _ (defs : List Definition) (env : TypeEnv) where
+  valid_of : Constants defs [] env → IsValidTypes defs
+  valid_of n = types_valid defs n.distinct n.right (n.of_known (All-nil (IsOfKnownType defs)))
+
+  sees_of : Constants defs [] env → IsInverse (names_of env) (symbol_of env) → SeesTypes env defs (type_names_met defs)
+  sees_of n i = record {
+    names = n.names;
+    inverse = subst (λ ns. IsInverse ns (symbol_of env)) n.names i;
+    types = n.types;
+    ids = λ k. n.ids k ∙ ap (λ ns. type_of_number defs ns k) n.names;
+    constants = λ k. n.constants k ∙ ap (λ cs. then_option (slice_get (type_names_met defs) k) (last_type defs cs)) (sym (append-nil n.read) ∙ n.whole) ∙ last_types defs k;
+    errors = n.errors;
+  }
+
+  module _ (es : List Error) (s : ReadsConstants defs [] env es) where
+    pub at_ok : es ≡ [] → IsValidTypes defs × SeesTypes env defs (type_names_met defs)
+    at_ok none = ⊎_elim (λ right. (valid_of right.1, sees_of right.1 s.inverse)) (λ wrong. absurd (wrong.0 none)) s.so_far
+
+    pub at_err : es ≢ [] → IsValidTypes defs → ⊥
+    at_err some v = ⊎_elim (λ right. some right.0) (λ wrong. wrong.1 v) s.so_far

@@ -1,0 +1,146 @@
+-- Reading the constants, one definition after another.
+use Rattle.std.proofs.Common.{◌≡◌, ℕ, ◌+◌, ◌<◌, length, drop, get_or, List, [], ◌∷◌, ◌++◌, true, false, cond, Some, None, is_some, option_map, option_and_then, slice_get, map, All, refl, sym, ap, subst, ◌∙◌, inl, inr, ◌⊎◌, ⊎_elim}
+use Rattle.std.proofs.lemmas.Bool.{false≢true}
+use Rattle.std.proofs.lemmas.List.{append_assoc, append-nil, at_drop_more}
+use Rattle.std.proofs.lemmas.List.Elements.{All-nil, All-cons, All-head, All-tail}
+use Rattle.isle_model.specs.Syntax.{Name, Position, Definition, type_definition, declaration, extractor_definition, converter_definition, rule_definition, extern_definition, extern_constructor, extern_extractor, extern_const, other_definition}
+use Rattle.isle_model.specs.Names.{number, has_name, with_names}
+use Rattle.isle_model.specs.Outcome.{then_option}
+use Rattle.isle_model.specs.TypeTable.{ConstantTree, constant_trees, type_id, type_names_met, IsOfKnownType, IsValidTypes}
+use Rattle.isle_base.specs.declared.syntax.Def.{Def}
+use Rattle.isle_base.specs.declared.syntax.Error.{Error}
+use Rattle.isle_base.specs.Stable.{look_up}
+use Rattle.isle_base.specs.SyntaxViews.{definition_view, definition_views}
+use Rattle.isle_tables.proofs.TypeLaws.{type_names_distinct}
+use Rattle.isle_types.specs.declared.type_env.TypeEnv.{TypeEnv}
+use Rattle.isle_types.specs.ConstantReading.{type_looked_up, TypesConstant, ReadsConstant, ReadsDefinition}
+use Rattle.isle_types.specs.Envs.{names_of, symbol_of, type_at, same_symbol, symbol}
+use Rattle.isle_types.specs.Names.{IsInverse}
+use Rattle.isle_types.specs.Reading.{IsRightType}
+use Rattle.isle_types.specs.Stages.{constant_names, Filling, FillsTypes, last_type, Constants, ReadsConstants}
+use Rattle.isle_types.specs.TypeViews.{type_views}
+use Rattle.isle_types.proofs.LastTypes.{last_read}
+use Rattle.isle_types.proofs.Places.{found, looked_up}
+use Rattle.isle_types.proofs.Texts.{then_with, with_missing, number_stays}
+
+module _ (defs rest : List Definition) (name ty : Name) (at : Position) (old : TypeEnv) (i : IsInverse (names_of old) (symbol_of old)) (n : Constants defs (extern_definition (extern_const name ty at) ∷ rest) old) where
+  abbrev constant : ConstantTree
+  constant = record { name = name; ty = ty }
+
+  -- what is looked up is the type of the name
+  type_is : type_looked_up old ty.text ≡ type_id defs ty.text
+  type_is =
+      ap (option_and_then (type_at old)) (looked_up (names_of old) (symbol_of old) i ty.text) ∙ (elim (has_name (names_of old) ty.text) as (λ b. has_name (names_of old) ty.text ≡ b → option_and_then (type_at old) (cond b (Some (number (names_of old) ty.text)) None) ≡ type_id defs ty.text) [
+        | true ↦ λ e. n.ids (number (names_of old) ty.text) ∙ ap (λ o. then_option o (type_id defs)) (found (names_of old) ty.text e)
+        | false ↦ λ e. sym (n.known ty.text e)
+      ] refl)
+
+  pub constant_wrong : type_looked_up old ty.text ≡ None → IsValidTypes defs → ⊥
+  constant_wrong none v =
+      let known : IsOfKnownType defs constant = All-head (IsOfKnownType defs) constant (constant_trees rest) (n.left v.types_of_constants) in
+      false≢true (sym (ap is_some (sym type_is ∙ none)) ∙ known)
+
+  pub constant_right : (new : TypeEnv) → TypesConstant name.text ty.text old new → Constants defs rest new
+  constant_right new t =
+      let known : type_id defs ty.text ≡ Some t.id = sym type_is ∙ t.known in
+      record {
+        ids = λ k. ap (λ m. option_map (λ t. t.0) (look_up same_symbol m (symbol k))) t.type_map ∙ n.ids k
+            ∙ sym (ap (λ ns. then_option (slice_get ns k) (type_id defs)) t.names ∙ then_with (names_of old) name.text (type_id defs) (n.known name.text) k);
+        known = λ y e. n.known y (with_missing (names_of old) name.text y (subst (λ ns. has_name ns y ≡ false) t.names e)).0;
+        errors = ap (λ v. v.items) t.errors ∙ n.errors;
+        distinct = n.distinct;
+        names = ap (λ ns. with_names ns (constant_names rest)) t.names ∙ n.names;
+        types = ap (λ v. type_views v.items) t.types ∙ n.types;
+        right = n.right;
+        read = n.read ++ constant ∷ [];
+        whole = append_assoc n.read (constant ∷ []) (constant_trees rest) ∙ n.whole;
+        constants = λ k. t.constants k ∙ ap (cond _ (Some t.id)) (n.constants k)
+            ∙ last_read defs n.read constant (names_of old) (constant_names rest) t.id (type_names_distinct defs) n.names
+            (ap (λ ns. number ns name.text) (sym n.names) ∙ number_stays (names_of old) (constant_names rest) name.text) known k;
+        of_known = λ h. n.of_known (All-cons (IsOfKnownType defs) constant (constant_trees rest) (ap is_some known) h);
+        left = λ v. All-tail (IsOfKnownType defs) constant (constant_trees rest) (n.left v);
+      }
+
+-- after the definition of a constant
+step_read : (defs rest : List Definition) (name ty : Name) (at : Position) (old new : TypeEnv) (es es' : List Error) → IsInverse (names_of old) (symbol_of old) → IsInverse (names_of new) (symbol_of new) → ReadsConstants defs (extern_definition (extern_const name ty at) ∷ rest) old es → ReadsConstant name ty old es new es' → ReadsConstants defs rest new es'
+step_read defs rest name ty at old new es es' i i' s (inl a) = record {
+  inverse = i';
+  plain = rw a.0 s.plain;
+  so_far = ⊎_elim
+      (λ right. inl (a.0 ∙ right.0, constant_right defs rest name ty at old i right.1 new a.1))
+      (λ wrong. inr (rw a.0 wrong.0, wrong.1)) s.so_far;
+}
+step_read defs rest name ty at old new es es' i i' s (inr a) = record {
+  inverse = i';
+  plain = a.0.plain s.plain;
+  so_far = inr (a.0.some, ⊎_elim (λ right. constant_wrong defs rest name ty at old i right.1 a.1) (λ wrong. wrong.1) s.so_far);
+}
+
+-- after another one
+step_other : (defs rest rest' : List Definition) (old new : TypeEnv) (es es' : List Error) → constant_trees rest' ≡ constant_trees rest → ReadsConstants defs rest old es → (es' ≡ es) × (new ≡ old) → ReadsConstants defs rest' new es'
+step_other defs rest rest' old new es es' same s a =
+    subst (λ env. ReadsConstants defs rest' env es') (sym a.1) (record {
+      inverse = s.inverse;
+      plain = rw a.0 s.plain;
+      so_far = ⊎_elim
+          (λ right. inl (
+            a.0 ∙ right.0,
+            record {
+              ids = right.1.ids;
+              known = right.1.known;
+              errors = right.1.errors;
+              distinct = right.1.distinct;
+              names = ap (λ cs. with_names (names_of old) (map (λ c. c.name.text) cs)) same ∙ right.1.names;
+              types = right.1.types;
+              right = right.1.right;
+              read = right.1.read;
+              whole = ap (λ cs. right.1.read ++ cs) same ∙ right.1.whole;
+              constants = right.1.constants;
+              of_known = λ h. right.1.of_known (subst (All (IsOfKnownType defs)) same h);
+              left = λ v. subst (All (IsOfKnownType defs)) (sym same) (right.1.left v);
+            },
+          ))
+          (λ wrong. inr (rw a.0 wrong.0, wrong.1)) s.so_far;
+    })
+
+step_constant : (defs rest : List Definition) (d : Definition) (old new : TypeEnv) (es es' : List Error) → IsInverse (names_of old) (symbol_of old) → IsInverse (names_of new) (symbol_of new) → ReadsConstants defs (d ∷ rest) old es → ReadsDefinition d old es new es' → ReadsConstants defs rest new es'
+step_constant defs rest (type_definition t) old new es es' i i' s a = step_other defs (type_definition t ∷ rest) rest old new es es' refl s a
+step_constant defs rest (declaration d) old new es es' i i' s a = step_other defs (declaration d ∷ rest) rest old new es es' refl s a
+step_constant defs rest (extractor_definition d) old new es es' i i' s a = step_other defs (extractor_definition d ∷ rest) rest old new es es' refl s a
+step_constant defs rest (converter_definition d) old new es es' i i' s a = step_other defs (converter_definition d ∷ rest) rest old new es es' refl s a
+step_constant defs rest (rule_definition d) old new es es' i i' s a = step_other defs (rule_definition d ∷ rest) rest old new es es' refl s a
+step_constant defs rest (extern_definition (extern_constructor term function at)) old new es es' i i' s a = step_other defs (extern_definition (extern_constructor term function at) ∷ rest) rest old new es es' refl s a
+step_constant defs rest (extern_definition (extern_extractor term function at infallible)) old new es es' i i' s a = step_other defs (extern_definition (extern_extractor term function at infallible) ∷ rest) rest old new es es' refl s a
+step_constant defs rest (extern_definition (extern_const name ty at)) old new es es' i i' s a = step_read defs rest name ty at old new es es' i i' s a
+step_constant defs rest other_definition old new es es' i i' s a = step_other defs (other_definition ∷ rest) rest old new es es' refl s a
+
+-- after the definition at i
+pub next_constant : (defs : List Def) (i : ℕ) (d : Def) → i < length defs → d ≡ get_or defs i d → (old new : TypeEnv) (es es' : List Error) → IsInverse (names_of old) (symbol_of old) → IsInverse (names_of new) (symbol_of new) → ReadsConstants (definition_views defs) (definition_views (drop i defs)) old es → ReadsDefinition (definition_view d) old es new es' → ReadsConstants (definition_views defs) (definition_views (drop (i + 1) defs)) new es'
+next_constant defs i d within at old new es es' inverse inverse' s a =
+    let left : definition_views (drop i defs) ≡ definition_view d ∷ definition_views (drop (i + 1) defs) =
+    at_drop_more definition_views defs i d within ∙ ap (λ x. definition_view x ∷ definition_views (drop (i + 1) defs)) (sym at) in
+    step_constant (definition_views defs) (definition_views (drop (i + 1) defs)) (definition_view d) old new es es' inverse inverse' (subst (λ ds. ReadsConstants (definition_views defs) ds old es) left s) a
+
+start : (defs : List Definition) (env : TypeEnv) → Filling defs [] env → Constants defs defs env
+start defs env n = record {
+  ids = n.sees.ids;
+  known = n.sees.known;
+  errors = n.sees.errors;
+  distinct = n.distinct;
+  names = n.names;
+  types = sym (append-nil (type_views env.types.items)) ∙ n.types;
+  right = n.right (All-nil (IsRightType defs));
+  read = [];
+  whole = refl;
+  constants = λ k. n.sees.constants k ∙ (elim (slice_get (type_names_met defs) k) as (λ o. None ≡ then_option o (last_type defs [])) [ None ↦ refl | Some x ↦ refl ]);
+  of_known = λ h. h;
+  left = λ h. h;
+}
+
+-- before the first definition
+pub first_constant : (defs : List Definition) (env : TypeEnv) (es : List Error) → FillsTypes defs [] env es → ReadsConstants defs defs env es
+first_constant defs env es s = record {
+  inverse = s.inverse;
+  plain = s.plain;
+  so_far = ⊎_elim (λ right. inl (right.0, start defs env right.1)) (λ wrong. inr wrong) s.so_far;
+}
