@@ -7,3 +7,5 @@ pub mod Booting
 pub mod Naming
 pub mod Reports
 pub mod TypeMaps
+pub mod RightTypes
+pub mod EntriesStay

@@ -5,4 +5,5 @@ pub mod Names
 pub mod Envs
 pub mod TypeTables
 pub mod Reading
+pub mod VariantReading
 pub mod Stages

@@ -1,13 +1,13 @@
 //! How the fields of a struct or of a variant are read: their names are met in order, and the first thing
 //! that is wrong is noted and ends the reading.
 
-ghost use Rattle.std.specs.Prelude.{◌≡◌, List, IfOk};
+ghost use Rattle.std.specs.Prelude.{◌≡◌, ◌⊎◌, List, IfOk, OnOk};
 ghost use Rattle.isle_model.specs.Syntax.{Definition};
 ghost use Rattle.isle_model.specs.TypeTable.{all_type_names};
 ghost use Rattle.isle_base.specs.SyntaxViews.{fields_view};
 ghost use Rattle.isle_types.specs.Envs.{names_of, symbol_of};
 ghost use Rattle.isle_types.specs.Names.{IsInverse};
-ghost use Rattle.isle_types.specs.Reading.{ReadsFields};
+ghost use Rattle.isle_types.specs.Reading.{MayReport, ReadsFields};
 ghost use Rattle.isle_types.specs.Stages.{Sees};
 
 use crate::type_env::TypeEnv;
@@ -27,6 +27,7 @@ impl TypeEnv {
     ) -> Result<Option<Fields>, AllocError>
         requires { IsInverse (names_of self.old) (symbol_of self.old) }
         ensures inverse { IsInverse (names_of self.new) (symbol_of self.new) }
+        ensures noted { OnOk result (MayReport errors.old.items errors.new.items) }
         ensures reads { IfOk result (λ o. (defs : List Definition) → Sees self.old (all_type_names defs) → ReadsFields defs (fields_view fields.now) o self.old errors.old.items self.new errors.new.items) }
     {
         Ok(None)
