@@ -14,3 +14,5 @@ pub mod TypingConstants
 pub mod RightTypes
 pub mod Ending
 pub mod WellFormedEnvs
+pub mod RightTypes
+pub mod EntriesStay

@@ -113,7 +113,7 @@ with_name_at ns x =
       | false ↦ λ e. subst (λ k. slice_get (ns ++ x ∷ []) k ≡ Some x) (last ns x e) (get_push_last ns x)
     ] refl
 
-has_push : (ns : List (List ℕ)) (y x : List ℕ) → has_name ns x ≡ true → has_name (ns ++ y ∷ []) x ≡ true
+pub has_push : (ns : List (List ℕ)) (y x : List ℕ) → has_name ns x ≡ true → has_name (ns ++ y ∷ []) x ≡ true
 has_push [] y x e = absurd (false≢true e)
 has_push (z ∷ zs) y x e =
     elim (bytes_eq z x) as (λ b. b || has_name zs x ≡ true → b || has_name (zs ++ y ∷ []) x ≡ true) [
@@ -141,24 +141,24 @@ number_last (y ∷ ys) x =
       | false ↦ ap suc (number_last ys x)
     ]
 
-has_with : (ns : List (List ℕ)) (y x : List ℕ) → has_name ns x ≡ true → has_name (with_name ns y) x ≡ true
+pub has_with : (ns : List (List ℕ)) (y x : List ℕ) → has_name ns x ≡ true → has_name (with_name ns y) x ≡ true
 has_with ns y x h = elim (has_name ns y) as (λ b. has_name (cond b ns (ns ++ y ∷ [])) x ≡ true) [ true ↦ h | false ↦ has_push ns y x h ]
 
-number_with : (ns : List (List ℕ)) (y x : List ℕ) → has_name ns x ≡ true → number (with_name ns y) x ≡ number ns x
+pub number_with : (ns : List (List ℕ)) (y x : List ℕ) → has_name ns x ≡ true → number (with_name ns y) x ≡ number ns x
 number_with ns y x h = elim (has_name ns y) as (λ b. number (cond b ns (ns ++ y ∷ [])) x ≡ number ns x) [ true ↦ refl | false ↦ number_push ns y x h ]
 
-number_kept : (ns ys : List (List ℕ)) (x : List ℕ) → has_name ns x ≡ true → number (with_names ns ys) x ≡ number ns x
+pub number_kept : (ns ys : List (List ℕ)) (x : List ℕ) → has_name ns x ≡ true → number (with_names ns ys) x ≡ number ns x
 number_kept ns [] x h = refl
 number_kept ns (y ∷ ys) x h = number_kept (with_name ns y) ys x (has_with ns y x h) ∙ number_with ns y x h
 
-has_new : (ns : List (List ℕ)) (x : List ℕ) → has_name (with_name ns x) x ≡ true
+pub has_new : (ns : List (List ℕ)) (x : List ℕ) → has_name (with_name ns x) x ≡ true
 has_new ns x =
     elim (has_name ns x) as (λ b. has_name ns x ≡ b → has_name (cond b ns (ns ++ x ∷ [])) x ≡ true) [
       | true ↦ λ e. e
       | false ↦ λ _. has_last ns x
     ] refl
 
-number_new : (ns : List (List ℕ)) (x : List ℕ) → number (with_name ns x) x ≡ number ns x
+pub number_new : (ns : List (List ℕ)) (x : List ℕ) → number (with_name ns x) x ≡ number ns x
 number_new ns x = elim (has_name ns x) as (λ b. number (cond b ns (ns ++ x ∷ [])) x ≡ number ns x) [ true ↦ refl | false ↦ number_last ns x ]
 
 -- a name keeps its number, whatever comes later

@@ -6,6 +6,7 @@ pub mod Envs
 pub mod TypeTables
 pub mod Reading
 pub mod FieldReading
+pub mod VariantReading
 pub mod Stages
 pub mod ConstantReading
 pub mod WellFormed

@@ -20,6 +20,10 @@ pub record Reports (old new : List Error) : Type 0 where
   pub some : new ≢ []
   pub plain : All (λ e. limit_of e ≡ None) old → All (λ e. limit_of e ≡ None) new
 
+-- nothing was noted, or something was
+abbrev pub MayReport : List Error → List Error → Type 0
+MayReport old new = (new ≡ old) ⊎ Reports old new
+
 -- a name that was no type's becomes that of the next type
 pub record NamesType (name : List ℕ) (old new : TypeEnv) : Type 0 where
   pub names : names_of new ≡ with_name (names_of old) name

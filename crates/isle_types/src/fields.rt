@@ -8,7 +8,7 @@ ghost use Rattle.isle_base.specs.SyntaxViews.{fields_view, field_view, tuple_fie
 ghost use Rattle.isle_types.specs.Envs.{names_of, symbol_of};
 ghost use Rattle.isle_types.specs.FieldReading.{ReadsField, ReadsTupleField};
 ghost use Rattle.isle_types.specs.Names.{IsInverse};
-ghost use Rattle.isle_types.specs.Reading.{MeetsNames, ReadsFields, Reports};
+ghost use Rattle.isle_types.specs.Reading.{MayReport, MeetsNames, ReadsFields, Reports};
 ghost use Rattle.isle_types.specs.Stages.{Sees};
 
 use crate::ids::{FieldId, Sym};
@@ -31,6 +31,7 @@ impl TypeEnv {
     ) -> Result<Option<Fields>, AllocError>
         requires { IsInverse (names_of self.old) (symbol_of self.old) }
         ensures inverse { IsInverse (names_of self.new) (symbol_of self.new) }
+        ensures noted { OnOk result (MayReport errors.old.items errors.new.items) }
         ensures reads { IfOk result (λ o. (defs : List Definition) → Sees self.old (all_type_names defs) → ReadsFields defs (fields_view fields.now) o self.old errors.old.items self.new errors.new.items) }
     {
         match fields {
@@ -55,6 +56,7 @@ impl TypeEnv {
     ) -> Result<Option<StructFields>, AllocError>
         requires { IsInverse (names_of self.old) (symbol_of self.old) }
         ensures inverse { IsInverse (names_of self.new) (symbol_of self.new) }
+        ensures noted { OnOk result (MayReport errors.old.items errors.new.items) }
         ensures reads { IfOk result (λ o. (defs : List Definition) → Sees self.old (all_type_names defs) → ReadsFields defs (struct_fields (map field_view fields.now)) (option_map Fields.Struct o) self.old errors.old.items self.new errors.new.items) }
     {
         let alloc = *self.syms.allocator();
@@ -106,7 +108,8 @@ impl TypeEnv {
         variant: Option<&Ident>,
     ) -> Result<Option<TupleFields>, AllocError>
         requires { IsInverse (names_of self.now) (symbol_of self.now) }
-        ensures { IfOk result (λ o. (defs : List Definition) → Sees self.now (all_type_names defs) → ReadsFields defs (tuple_fields (map tuple_field_view fields.now)) (option_map Fields.Tuple o) self.now errors.old.items self.now errors.new.items) }
+        ensures noted { OnOk result (MayReport errors.old.items errors.new.items) }
+        ensures reads { IfOk result (λ o. (defs : List Definition) → Sees self.now (all_type_names defs) → ReadsFields defs (tuple_fields (map tuple_field_view fields.now)) (option_map Fields.Tuple o) self.now errors.old.items self.now errors.new.items) }
     {
         let mut read = Vec::new(*self.syms.allocator());
         for field in fields {
