@@ -1,5 +1,5 @@
 -- Reading the fields of a list, one after another.
-use Rattle.std.proofs.Common.{◌≡◌, ℕ, suc, ◌+◌, ◌<◌, ◌≤◌, true, false, List, [], ◌∷◌, ◌++◌, cond, length, map, drop, get_or, Some, None, All, unwrap_or, option_and_then, refl, sym, ap, subst, ◌∙◌, arith, ⊎_elim}
+use Rattle.std.proofs.Common.{◌≡◌, ℕ, suc, ◌+◌, ◌<◌, ◌≤◌, true, false, List, [], ◌∷◌, ◌++◌, cond, length, map, drop, get_or, Some, None, All, unwrap_or, option_and_then, refl, inr, sym, ap, subst, ◌∙◌, arith, ⊎_elim}
 use Rattle.std.specs.List.{enumerate_from}
 use Rattle.std.specs.Option.{is_some}
 use Rattle.std.proofs.lemmas.Bool.{false≢true}
@@ -21,7 +21,7 @@ use Rattle.isle_types.specs.declared.types.TupleField.{TupleField}
 use Rattle.isle_types.specs.Envs.{names_of, symbol_of, type_at}
 use Rattle.isle_types.specs.FieldReading.{type_named, was_seen, IsField, ReadsField, IsTupleField, ReadsTupleField}
 use Rattle.isle_types.specs.Names.{IsInverse}
-use Rattle.isle_types.specs.Reading.{Reports, MeetsNames, AreRightFields}
+use Rattle.isle_types.specs.Reading.{MayReport, Reports, MeetsNames, AreRightFields}
 use Rattle.isle_types.specs.Stages.{Sees}
 use Rattle.isle_types.specs.TypeViews.{field_view, tuple_field_view}
 use Rattle.isle_types.proofs.Places.{looked_up}
@@ -300,3 +300,7 @@ module _ (fields : List U.TupleField) (k : ℕ) (d : U.TupleField) (within : k <
   -- at one that is wrong
   pub reads_wrong_tuple : ReadsTupleField (X.tuple_field_view d) id None env now es' → (defs : List Definition) → Sees env (all_type_names defs) → Reports es es' × (AreRightFields defs (tuple_fields (map X.tuple_field_view fields)) → ⊥)
   reads_wrong_tuple a defs sees = (subst (λ es. Reports es es') s.unnoted a.0, wrong_part fields k d within here read env es now es' s i id defs sees a.1)
+
+-- what is noted after nothing was noted
+pub noted_after : (a b c : List Error) → b ≡ a → Reports b c → MayReport a c
+noted_after a b c same r = inr (subst (λ es. Reports es c) same r)

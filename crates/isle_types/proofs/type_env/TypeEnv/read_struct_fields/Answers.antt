@@ -1,6 +1,5 @@
-use Rattle.std.proofs.Common.{◌≡◌, ◌<◌, ◌++◌, ◌∷◌, [], length, subst, inl, inr, ◌∙◌, rules}
-use Rattle.isle_types.specs.Reading.{Reports}
-use Rattle.isle_types.proofs.FieldSteps.{reads_first, reads_next, reads_wrong, reads_last}
+use Rattle.std.proofs.Common.{◌≡◌, ◌<◌, ◌++◌, ◌∷◌, [], length, inl, ◌∙◌, rules}
+use Rattle.isle_types.proofs.FieldSteps.{noted_after, reads_first, reads_next, reads_wrong, reads_last}
 use Rattle.isle_types.proofs.type_env.TypeEnv.read_struct_fields.Goals as goal
 
 pub loop-field-init : goal.loop-field-init
@@ -23,7 +22,7 @@ returns-clause-reads c =
     reads_last c.args.fields.now c.loop-field.field-index c.loop-field-test.false c.loop-field.read.items c.loop-field.seen c.args.self.now c.args.errors.now.items c.loop-field.self _ c.loop-field.invariant
 
 pub returns-in_default-clause-noted : goal.returns-in_default-clause-noted
-returns-in_default-clause-noted c = let r = c.loop-field.invariant.unnoted in let w = rw c.in_default.is at c.in_ok-field.ensures.reads in inr (subst (λ es. Reports es _) r w.0)
+returns-in_default-clause-noted c = let r = c.loop-field.invariant.unnoted in let w = rw c.in_default.is at c.in_ok-field.ensures.reads in noted_after _ _ _ r w.0
 
 pub returns-clause-noted : goal.returns-clause-noted
 returns-clause-noted c = inl c.loop-field.invariant.unnoted

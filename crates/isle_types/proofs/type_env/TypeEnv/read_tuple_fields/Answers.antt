@@ -1,6 +1,5 @@
-use Rattle.std.proofs.Common.{◌≡◌, ◌<◌, ◌++◌, ◌∷◌, [], length, subst, inl, inr, ◌∙◌, rules}
-use Rattle.isle_types.specs.Reading.{Reports}
-use Rattle.isle_types.proofs.FieldSteps.{reads_first_tuple, reads_next_tuple, reads_wrong_tuple, reads_last_tuple}
+use Rattle.std.proofs.Common.{◌≡◌, ◌<◌, ◌++◌, ◌∷◌, [], length, inl, ◌∙◌, rules}
+use Rattle.isle_types.proofs.FieldSteps.{noted_after, reads_first_tuple, reads_next_tuple, reads_wrong_tuple, reads_last_tuple}
 use Rattle.isle_types.proofs.type_env.TypeEnv.read_tuple_fields.Goals as goal
 
 pub loop-field-init : goal.loop-field-init
@@ -22,7 +21,7 @@ returns-clause-reads c =
     reads_last_tuple c.args.fields.now c.loop-field.field-index c.loop-field-test.false c.loop-field.read.items c.args.self.now c.args.errors.now.items _ c.loop-field.invariant
 
 pub returns-in_default-clause-noted : goal.returns-in_default-clause-noted
-returns-in_default-clause-noted c = let r = c.loop-field.invariant.unnoted in let w = rw c.in_default.is at c.in_ok-field.ensures in inr (subst (λ es. Reports es _) r w.0)
+returns-in_default-clause-noted c = let r = c.loop-field.invariant.unnoted in let w = rw c.in_default.is at c.in_ok-field.ensures in noted_after _ _ _ r w.0
 
 pub returns-clause-noted : goal.returns-clause-noted
 returns-clause-noted c = inl c.loop-field.invariant.unnoted
