@@ -164,7 +164,7 @@ pub fn expect_refusal(
 fn refusal(alloc: Global, read: Result<TypeEnv, Fault>) -> Result<String, AllocError> {
     let mut text = String::new(alloc);
     match read {
-        Ok(_) => text.push_str("a type table")?,
+        Ok(_table) => text.push_str("a type table")?,
         Err(Fault::Memory(error)) => return Err(error),
         Err(Fault::Errors(errors)) => {
             for error in &errors {
