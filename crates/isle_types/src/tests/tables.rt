@@ -98,6 +98,24 @@ fn of_a_primitive_type_and_an_enum(rt: HostRuntime) -> Result<(), Fail> {
     Ok(())
 }
 
+#[test]
+fn of_variants(rt: HostRuntime) -> Result<(), Fail> {
+    let alloc = rt.alloc();
+    let env = TypeEnv::from_ast(alloc, &sample(alloc)?)?;
+    assert_eq!(rt; env.types.len(), 15);
+    let Type::Enum { variants, .. } = &env.types[14] else {
+        return Err(Fail::from("no enum"));
+    };
+    assert_eq!(rt; variants.len(), 2);
+    let b = env.get_variant(TypeId(14), VariantId(0));
+    let c = env.get_variant(TypeId(14), VariantId(1));
+    assert_eq!(rt; b.name, Sym(16));
+    assert_eq!(rt; b.pos, at(77));
+    assert_eq!(rt; c.name, Sym(20));
+    assert_eq!(rt; c.pos, at(99));
+    Ok(())
+}
+
 // `(type S (struct (next S) (t T)))`, which names itself and the next one, `(type T (enum (A) (S S u8)))`
 // and `(type U nodebug (struct))`.
 fn knot(alloc: Global) -> Result<[Def; 3], AllocError> {
