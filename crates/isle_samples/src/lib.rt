@@ -2,18 +2,21 @@
 #![tactic(auto)]
 
 ghost use Rattle.std.specs.Prelude.{◌≡◌, ◌∷◌, ◌++◌, [], IfOk, OnOk, OnErr, map, length};
-ghost use Rattle.isle_base.specs.SyntaxViews.{decl_view, definition_view, definition_views, expr_view, name_view, pattern_view, pattern_views, position, rule_view};
-ghost use Rattle.isle_model.specs.Syntax.{declaration, int_expr, int_pattern, rule_definition, wildcard_pattern};
-ghost use Rattle.isle_samples.specs.Written.{at, decl_at, name_at, primitive_at, rule_at, use_at, var_at, written};
+ghost use Rattle.isle_base.specs.SyntaxViews.{decl_view, definition_view, definition_views, expr_view, field_view, fields_view, name_view, pattern_view, pattern_views, position, rule_view, type_value_view, variant_view};
+ghost use Rattle.isle_model.specs.Syntax.{declaration, int_expr, int_pattern, rule_definition, struct_fields, wildcard_pattern};
+ghost use Rattle.isle_samples.specs.Written.{at, decl_at, field_in, name_at, name_in, primitive_at, rule_at, type_in, use_at, var_at, variant_in, written};
 
 mod samples;
 
-use isle_base::syntax::{Decl, Def, Expr, Ident, Pattern, Pos, Rule, Type, TypeValue};
+use isle_base::syntax::{
+    Decl, Def, Expr, Fields, Ident, Pattern, Pos, Rule, StructField, StructFields, Type, TypeValue,
+    Variant,
+};
 pub use samples::sample;
 use std::alloc::{AllocError, Global};
 
 /// A list of definitions that is being written. Every position inside definition number d, counted
-/// from 0, is offset d of file 0.
+/// from 0, is offset d of file 0, where a call isn't given another one.
 #[derive(Drop)]
 pub struct Definitions {
     alloc: Global,
@@ -52,7 +55,14 @@ impl Definitions {
     pub fn ident(&self, name: &str) -> Result<Ident, AllocError>
         ensures { IfOk result (λ i. name_view i ≡ name_at (length (written self.now)) name.now) }
     {
-        Ok(Ident(String::from_str(self.alloc, name)?, self.pos()))
+        self.ident_at(self.pos(), name)
+    }
+
+    /// A name at a position.
+    pub fn ident_at(&self, pos: Pos, name: &str) -> Result<Ident, AllocError>
+        ensures { IfOk result (λ i. name_view i ≡ name_in (position pos) name.now) }
+    {
+        Ok(Ident(String::from_str(self.alloc, name)?, pos))
     }
 
     // Names at that position.
@@ -81,15 +91,72 @@ impl Definitions {
         ensures err { OnErr result (written self.new ≡ written self.old) }
     {
         let pos = self.pos();
-        let name = self.ident(name)?;
         let ty = TypeValue::Primitive(self.ident(inner)?, pos);
+        self.define(pos, name, false, ty)
+    }
+
+    /// Adds `(type NAME VALUE)` at a position, with the mark `extern` or without marks. The name
+    /// stands at that position.
+    pub fn define(
+        &mut self,
+        pos: Pos,
+        name: &str,
+        is_extern: bool,
+        ty: TypeValue,
+    ) -> Result<(), AllocError>
+        ensures added { OnOk result (written self.new ≡ written self.old ++ type_in (position pos) name.now is_extern (type_value_view ty) ∷ []) }
+        ensures err { OnErr result (written self.new ≡ written self.old) }
+    {
+        let name = self.ident_at(pos, name)?;
         self.push(Def::TypeDef(Type {
             name,
-            is_extern: false,
+            is_extern,
             is_nodebug: false,
             ty,
             pos,
         }))
+    }
+
+    /// `(NAME FIELDS ..)`, a variant at a position.
+    pub fn variant(&self, pos: Pos, name: &str, fields: Fields) -> Result<Variant, AllocError>
+        ensures { IfOk result (λ v. variant_view v ≡ variant_in (position pos) name.now (fields_view fields)) }
+    {
+        let name = self.ident_at(pos, name)?;
+        Ok(Variant { name, fields, pos })
+    }
+
+    /// Fields `(NAME TYPE)`, all of their positions being this one.
+    pub fn fields(&self, pos: Pos, fields: &[(&str, &str)]) -> Result<Fields, AllocError>
+        ensures { IfOk result (λ fs. fields_view fs ≡ struct_fields (map (λ f. field_in (position pos) f.0.now f.1.now) fields.now)) }
+    {
+        let fields = self.struct_fields(pos, fields)?;
+        Ok(Fields::Struct(StructFields { fields }))
+    }
+
+    // Those fields, in order.
+    fn struct_fields(
+        &self,
+        pos: Pos,
+        fields: &[(&str, &str)],
+    ) -> Result<Vec<StructField>, AllocError>
+        ensures { IfOk result (λ fs. map field_view fs.items ≡ map (λ f. field_in (position pos) f.0.now f.1.now) fields.now) }
+    {
+        let mut out = Vec::new(self.alloc);
+        for field in fields {
+            out.push(self.field(pos, field.0, field.1)?)?;
+        }
+        Ok(out)
+    }
+
+    // `(NAME TYPE)`, a field at a position.
+    fn field(&self, pos: Pos, name: &str, ty: &str) -> Result<StructField, AllocError>
+        ensures { IfOk result (λ f. field_view f ≡ field_in (position pos) name.now ty.now) }
+    {
+        Ok(StructField {
+            name: self.ident_at(pos, name)?,
+            ty: self.ident_at(pos, ty)?,
+            pos,
+        })
     }
 
     /// `(decl NAME (ARGS ..) RET)`, not pure, multi, partial or recursive.

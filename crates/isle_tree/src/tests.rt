@@ -27,6 +27,10 @@ const FALL: &str = "term f
   return b0
 ";
 
+const BUILTIN: &str = "type error at 0:0: Type with name 'u8' defined more than once
+type error at 0:0: Type with name 'u8' is a built-in type
+";
+
 const USAGE: &str = "usage: isle-tree SAMPLE\n";
 
 // A writer that takes a few bytes at a time and refuses all after some writes, or to be flushed.
@@ -96,6 +100,14 @@ fn prints_samples(rt: HostRuntime) -> Result<(), Fail> {
     let alloc = rt.alloc();
     assert!(rt; answers(alloc, &["empty"], 0, "", "")?);
     assert!(rt; answers(alloc, &["fall"], 0, FALL, "")?);
+    assert!(rt; answers(alloc, &["types"], 0, "", "")?);
+    Ok(())
+}
+
+#[test]
+fn prints_what_is_wrong_with_samples(rt: HostRuntime) -> Result<(), Fail> {
+    let alloc = rt.alloc();
+    assert!(rt; answers(alloc, &["builtin"], 1, "", BUILTIN)?);
     Ok(())
 }
 

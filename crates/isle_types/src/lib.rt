@@ -7,6 +7,8 @@ mod contents;
 mod fields;
 mod ids;
 mod reading;
+#[cfg(test)]
+mod tests;
 mod type_env;
 mod types;
 

@@ -150,6 +150,50 @@ fn overlap(rt: HostRuntime) -> Result<(), Fail> {
     expect_answer(&rt, alloc, &defs, want)
 }
 
+// An integer literal in the place of an argument and of a result of each type that has none.
+#[test]
+fn literals(rt: HostRuntime) -> Result<(), Fail> {
+    let alloc = rt.alloc();
+    for ty in ["T", "S", "bool"] {
+        let want = format!(in alloc;
+            "type error at 0:3: expected non-integer type {ty}, but found integer literal '1'|"
+        )?;
+        for (argument, result, pattern, last) in [(ty, "u8", "1", "2"), ("u8", ty, "2", "1")] {
+            expect_answer(
+                &rt,
+                alloc,
+                &[
+                    ("enum", "T", &["A", "B"], ""),
+                    ("struct", "S", &["x"], "u8"),
+                    ("decl", "f", &[argument], result),
+                    ("rule", "f", &[pattern], last),
+                ],
+                want.as_str(),
+            )?;
+        }
+    }
+    Ok(())
+}
+
+// Constants and variants in the place of an argument.
+#[test]
+fn forms_of_patterns(rt: HostRuntime) -> Result<(), Fail> {
+    let alloc = rt.alloc();
+    let defs = [
+        ("const", "X", [].as_slice(), "u8"),
+        ("decl", "f", ["u8"].as_slice(), "u8"),
+        ("rule", "f", ["$X"].as_slice(), "1"),
+    ];
+    let want = "type error at 0:2: not carried yet|";
+    expect_answer(&rt, alloc, &defs, want)?;
+    let defs = [
+        ("enum", "T", ["A", "B"].as_slice(), ""),
+        ("decl", "f", ["T"].as_slice(), "u8"),
+        ("rule", "f", ["(T.A)"].as_slice(), "1"),
+    ];
+    expect_answer(&rt, alloc, &defs, want)
+}
+
 #[test]
 fn kinds_of_definitions(rt: HostRuntime) -> Result<(), Fail> {
     let alloc = rt.alloc();
@@ -157,9 +201,6 @@ fn kinds_of_definitions(rt: HostRuntime) -> Result<(), Fail> {
     let by_x = ("rule", "f", ["x"].as_slice(), "x");
     let none = [].as_slice();
     for def in [
-        ("enum", "E", none, ""),
-        ("struct", "S", none, ""),
-        ("const", "$X", none, "u8"),
         ("partial", "g", none, "u8"),
         ("multi", "g", none, "u8"),
         ("extractor", "f", none, ""),
@@ -180,21 +221,35 @@ fn kinds_of_definitions(rt: HostRuntime) -> Result<(), Fail> {
         alloc,
         &[f, ("other", "", none, ""), by_x],
         "term 0|1 rules|arg 0|b0 of 0:2|",
-    )?;
+    )
+}
+
+// What is wrong with types and constants ends the work before declarations and rules are read.
+#[test]
+fn types_come_first(rt: HostRuntime) -> Result<(), Fail> {
+    let alloc = rt.alloc();
+    let none = [].as_slice();
+    let convert = ("convert", "f", none, "u8");
     expect_answer(
         &rt,
         alloc,
-        &[("enum", "E", none, ""), ("convert", "f", none, "u8")],
-        "type error at 0:0: not carried yet|",
+        &[convert, ("enum", "T", ["A", "A"].as_slice(), "")],
+        "type error at 0:1: Duplicate variant name in type: 'A'|",
     )?;
     expect_answer(
         &rt,
         alloc,
         &[
-            ("type", "u8", none, "X"),
-            ("enum", "E", none, ""),
-            ("const", "$X", none, "u8"),
+            convert,
+            ("const", "X", none, "nope"),
+            ("struct", "S", ["x"].as_slice(), "nope"),
         ],
-        "type error at 0:0: Type with name 'u8' defined more than once|type error at 0:0: Type with name 'u8' is a built-in type|type error at 0:1: not carried yet|type error at 0:2: not carried yet|",
+        "type error at 0:2: Unknown type 'nope' for field 'x'|type error at 0:1: Unknown type for constant|",
+    )?;
+    expect_answer(
+        &rt,
+        alloc,
+        &[("enum", "T", ["A"].as_slice(), ""), convert],
+        "type error at 0:1: not carried yet|",
     )
 }

@@ -1,6 +1,6 @@
 // Definitions, written as words: the kind, the name, the arguments, and what comes last.
 use isle_base::syntax::{
-    Converter, Def, Expr, Extern, Extractor, Fields, IfLet, Pattern, Type, TypeValue,
+    Converter, Def, Expr, Extern, Extractor, Fields, IfLet, Pattern, Type, TypeValue, Variant,
 };
 use isle_samples::Definitions;
 use std::alloc::{AllocError, Global};
@@ -21,11 +21,12 @@ pub fn written(alloc: Global, rows: &[Words]) -> Result<Vec<Def>, AllocError> {
     Ok(defs.into_vec())
 }
 
+// An enum whose variants have no fields, a struct whose fields have one type, or a primitive type.
 fn ty(alloc: Global, defs: &Definitions, row: &Words) -> Result<Def, AllocError> {
     let pos = defs.pos();
     let ty = match row.0 {
-        "enum" => TypeValue::Enum(Vec::new(alloc), pos),
-        "struct" => TypeValue::Struct(Fields::Unit, pos),
+        "enum" => TypeValue::Enum(variants(alloc, defs, row.2)?, pos),
+        "struct" => TypeValue::Struct(fields(alloc, defs, row)?, pos),
         _ => TypeValue::Primitive(defs.ident(row.3)?, pos),
     };
     Ok(Def::TypeDef(Type {
@@ -35,6 +36,22 @@ fn ty(alloc: Global, defs: &Definitions, row: &Words) -> Result<Def, AllocError>
         ty,
         pos,
     }))
+}
+
+fn variants(alloc: Global, defs: &Definitions, names: &[&str]) -> Result<Vec<Variant>, AllocError> {
+    let mut variants = Vec::new(alloc);
+    for name in names {
+        variants.push(defs.variant(defs.pos(), *name, Fields::Unit)?)?;
+    }
+    Ok(variants)
+}
+
+fn fields(alloc: Global, defs: &Definitions, row: &Words) -> Result<Fields, AllocError> {
+    let mut rows = Vec::new(alloc);
+    for name in row.2 {
+        rows.push((*name, row.3))?;
+    }
+    defs.fields(defs.pos(), &rows)
 }
 
 fn decl(defs: &Definitions, row: &Words) -> Result<Def, AllocError> {
@@ -68,13 +85,14 @@ fn rule(alloc: Global, defs: &Definitions, row: &Words) -> Result<Def, AllocErro
     Ok(Def::Rule(rule))
 }
 
-// `(f)`, a truth value, a wildcard, an integer or a variable.
+// `(f)`, `(T.A)`, the constant `$X`, a truth value, a wildcard, an integer or a variable.
 fn pattern(alloc: Global, defs: &Definitions, word: &str) -> Result<Pattern, AllocError> {
     let pos = defs.pos();
     Ok(match word {
-        "(f)" => Pattern::Term {
-            sym: defs.ident("f")?,
-            args: Vec::new(alloc),
+        "(f)" => term(alloc, defs, "f")?,
+        "(T.A)" => term(alloc, defs, "T.A")?,
+        "$X" => Pattern::ConstPrim {
+            val: defs.ident("X")?,
             pos,
         },
         "true" => Pattern::ConstBool { val: true, pos },
@@ -83,6 +101,15 @@ fn pattern(alloc: Global, defs: &Definitions, word: &str) -> Result<Pattern, All
             Ok(val) => defs.int(val as i128),
             Err(_) => defs.var(word)?,
         },
+    })
+}
+
+// A term without arguments.
+fn term(alloc: Global, defs: &Definitions, name: &str) -> Result<Pattern, AllocError> {
+    Ok(Pattern::Term {
+        sym: defs.ident(name)?,
+        args: Vec::new(alloc),
+        pos: defs.pos(),
     })
 }
 

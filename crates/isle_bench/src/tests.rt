@@ -1,0 +1,33 @@
+// Lists whose counts a reader can add up: the 13 built-in types and their names; in each group 3 types, 1
+// constant and the names Pk, Ik, Ek, Ek.A, Ek.B, Ek.C, Sk and Xk; and in all groups A, B, C, x, y and next.
+use crate::definitions::definitions;
+use crate::{counts, growth};
+use std::test::Fail;
+
+#[test]
+fn counts_what_is_read(rt: HostRuntime) -> Result<(), Fail> {
+    let alloc = rt.alloc();
+    for (size, want) in [
+        (0, "0 definitions: 13 types, 13 names, 0 constants"),
+        (4, "4 definitions: 16 types, 27 names, 1 constants"),
+        (11, "8 definitions: 19 types, 35 names, 2 constants"),
+    ] {
+        let defs = definitions(alloc, size)?;
+        assert_eq!(rt; counts(alloc, &defs)?.as_str(), want);
+    }
+    Ok(())
+}
+
+#[test]
+fn compares_times(rt: HostRuntime) -> Result<(), Fail> {
+    let alloc = rt.alloc();
+    let tenfold = growth(alloc, Some(200), 2059)?;
+    assert_eq!(rt; tenfold.as_str(), ", 10.2 times as long as the size before");
+    let from_nothing = growth(alloc, Some(0), 3)?;
+    assert_eq!(rt;
+        from_nothing.as_str(),
+        ", 3.0 times as long as the size before"
+    );
+    assert!(rt; growth(alloc, None, 5)?.is_empty());
+    Ok(())
+}
