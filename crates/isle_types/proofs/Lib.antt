@@ -9,3 +9,9 @@ pub mod Reports
 pub mod TypeMaps
 pub mod RightTypes
 pub mod EntriesStay
+pub mod NamesMet
+pub mod NumbersSeen
+pub mod VariantSteps
+pub mod VariantRuns
+pub mod RightValues
+pub mod FillingTypes

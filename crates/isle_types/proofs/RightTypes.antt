@@ -1,5 +1,5 @@
 -- The types of a valid list are right one by one, and with the names and the constants nothing else is asked.
-use Rattle.std.proofs.Common.{List, [], ◌∷◌, ◌++◌, All, get_or}
+use Rattle.std.proofs.Common.{List, [], ◌∷◌, ◌++◌, All}
 use Rattle.std.specs.List.{flat_map}
 use Rattle.std.proofs.lemmas.List.Elements.{All-nil, All-cons, All-head, All-tail, All-append, All-weaker}
 use Rattle.isle_model.specs.Syntax.{FieldTrees, TypeTree, Definition}

@@ -30,6 +30,6 @@ impl TypeEnv {
         ensures noted { OnOk result (MayReport errors.old.items errors.new.items) }
         ensures reads { IfOk result (λ o. (defs : List Definition) → Sees self.old (all_type_names defs) → ReadsFields defs (fields_view fields.now) o self.old errors.old.items self.new errors.new.items) }
     {
-        Ok(None)
+        Err(AllocError)
     }
 }
