@@ -16,3 +16,9 @@ pub mod Ending
 pub mod WellFormedEnvs
 pub mod RightTypes
 pub mod EntriesStay
+pub mod NamesMet
+pub mod NumbersSeen
+pub mod VariantSteps
+pub mod VariantRuns
+pub mod RightValues
+pub mod FillingTypes

@@ -1,0 +1,73 @@
+-- Names that are met one after another, and that the types stay seen meanwhile.
+use Rattle.std.proofs.Common.{◌≡◌, ℕ, true, false, cond, List, [], ◌∷◌, ◌++◌, Option, None, option_map, slice_get, refl, sym, ap, subst, ◌∙◌}
+use Rattle.isle_model.specs.Names.{has_name, with_name, with_names, IsDistinct}
+use Rattle.isle_model.specs.Outcome.{then_option}
+use Rattle.isle_model.specs.TypeTable.{place_from}
+use Rattle.isle_base.specs.Stable.{entry_count, look_up}
+use Rattle.isle_types.specs.declared.type_env.TypeEnv.{TypeEnv}
+use Rattle.isle_types.specs.Envs.{names_of, same_symbol, symbol}
+use Rattle.isle_types.specs.Names.{IsInverse}
+use Rattle.isle_types.specs.Reading.{MeetsNames}
+use Rattle.isle_types.specs.Stages.{Sees}
+use Rattle.isle_types.proofs.Texts.{then_with, with_missing, with_names_append}
+
+-- a text that isn't among the names afterwards wasn't before
+pub missing_before : (ns xs : List (List ℕ)) (y : List ℕ) → has_name (with_names ns xs) y ≡ false → has_name ns y ≡ false
+missing_before ns [] y e = e
+missing_before ns (x ∷ xs) y e = (with_missing ns x y (missing_before (with_name ns x) xs y e)).0
+
+-- what is known of each name stays, where the new names have nothing
+pub then_withs : (ns xs : List (List ℕ)) (P : List ℕ → Option ℕ) → ((y : List ℕ) → has_name ns y ≡ false → P y ≡ None) → (k : ℕ) → then_option (slice_get (with_names ns xs) k) P ≡ then_option (slice_get ns k) P
+then_withs ns [] P h k = refl
+then_withs ns (x ∷ xs) P h k =
+    then_withs (with_name ns x) xs P (λ y e. h y (with_missing ns x y e).0) k ∙ then_with ns x P (h x) k
+
+-- a name that was met, met again, changes nothing
+pub known_name : (ns : List (List ℕ)) (x : List ℕ) → has_name ns x ≡ true → with_name ns x ≡ ns
+known_name ns x e = ap (λ b. cond b ns (ns ++ x ∷ [])) e
+
+pub distinct_names : (ns : List (List ℕ)) (look : List ℕ → Option ℕ) → IsInverse ns look → IsDistinct ns
+distinct_names ns look i j k x p q = let first = i.numbered x j p in let second = i.numbered x k q in cc
+
+-- one name is met
+pub meet_one : (x y : List ℕ) (old new : TypeEnv) → x ≡ y → names_of new ≡ with_name (names_of old) x → new.types ≡ old.types → new.type_map ≡ old.type_map → new.const_types ≡ old.const_types → new.errors ≡ old.errors → MeetsNames (y ∷ []) old new
+meet_one x y old new same names types type_map const_types errors = record {
+  names = names ∙ ap (with_name (names_of old)) same;
+  types = types;
+  type_map = type_map;
+  const_types = const_types;
+  errors = errors;
+}
+
+-- a name that was met is met again
+pub meet_known : (x : List ℕ) (old new : TypeEnv) → has_name (names_of old) x ≡ true → names_of new ≡ with_name (names_of old) x → new.types ≡ old.types → new.type_map ≡ old.type_map → new.const_types ≡ old.const_types → new.errors ≡ old.errors → MeetsNames [] old new
+meet_known x old new there names types type_map const_types errors = record {
+  names = names ∙ known_name (names_of old) x there;
+  types = types;
+  type_map = type_map;
+  const_types = const_types;
+  errors = errors;
+}
+
+pub meet_more : (xs ys : List (List ℕ)) (a b c : TypeEnv) → MeetsNames xs a b → MeetsNames ys b c → MeetsNames (xs ++ ys) a c
+meet_more xs ys a b c m n = record {
+  names = n.names ∙ ap (λ ns. with_names ns ys) m.names ∙ sym (with_names_append (names_of a) xs ys);
+  types = n.types ∙ m.types;
+  type_map = n.type_map ∙ m.type_map;
+  const_types = n.const_types ∙ m.const_types;
+  errors = n.errors ∙ m.errors;
+}
+
+-- names are met, and the types stay known by their names
+pub sees_after : (ts xs : List (List ℕ)) (old new : TypeEnv) → names_of new ≡ with_names (names_of old) xs → new.type_map ≡ old.type_map → new.const_types ≡ old.const_types → new.errors ≡ old.errors → Sees old ts → Sees new ts
+sees_after ts xs old new names type_map const_types errors s = record {
+  ids = λ k. ap (λ m. option_map (λ t. t.0) (look_up same_symbol m (symbol k))) type_map ∙ s.ids k
+      ∙ sym (ap (λ ns. then_option (slice_get ns k) (λ y. place_from 0 y ts)) names ∙ then_withs (names_of old) xs (λ y. place_from 0 y ts) s.known k);
+  known = λ y e. s.known y (missing_before (names_of old) xs y (subst (λ ns. has_name ns y ≡ false) names e));
+  count = ap entry_count type_map ∙ s.count;
+  constants = λ k. ap (λ m. option_map (λ t. t.0) (look_up same_symbol m (symbol k))) const_types ∙ s.constants k;
+  errors = ap (λ v. v.items) errors ∙ s.errors;
+}
+
+pub sees_met : (ts xs : List (List ℕ)) (old new : TypeEnv) → MeetsNames xs old new → Sees old ts → Sees new ts
+sees_met ts xs old new m s = sees_after ts xs old new m.names m.type_map m.const_types m.errors s

@@ -1,0 +1,17 @@
+use Rattle.std.proofs.Common.{string_bytes, refl, ap}
+use Rattle.isle_model.specs.Tables.{primitive_type}
+use Rattle.isle_base.specs.SyntaxViews.{name_view, type_view, position}
+use Rattle.isle_types.proofs.NamesMet.{meet_one}
+use Rattle.isle_types.proofs.RightValues.{named_now, primitive_right}
+use Rattle.isle_types.proofs.type_env.TypeEnv.read_primitive.Goals as goal
+
+pub returns-clause-reads : goal.returns-clause-reads
+returns-clause-reads c =
+    let n = c.in_ok-name.ensures in
+    let named = named_now c.in_ok-name.name.0 (string_bytes c.args.inner.now.0) c.args.self.now c.intern_mut.new.self n.names n.number in
+    λ defs at. (
+      refl,
+      primitive_right defs (type_view c.args.ty.now) at (name_view c.args.inner.now) c.if-ty.false c.if-ty-2.false,
+      meet_one _ _ c.args.self.now c.intern_mut.new.self refl n.names n.types n.type_map n.const_types n.errors,
+      ap (λ k. primitive_type c.args.id.0 k (position c.args.ty.now.pos)) named.numbered,
+    )
