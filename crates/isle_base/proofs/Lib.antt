@@ -1,4 +1,7 @@
 pub mod PatternViews
 pub mod ExprViews
 mod Files
+mod Puts
 mod Classes
+mod Togethers
+pub mod Merges

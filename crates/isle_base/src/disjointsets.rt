@@ -1,31 +1,39 @@
 //! Sets of items that are apart from each other, each with one of its members as its name.
-ghost use Rattle.std.specs.Prelude.{◌≡◌, ◌==◌, [], ◌↔◌, sum_by, length, slice_get, IfSome, IsFalse, IsNone, IsTrue};
-ghost use Rattle.isle_base.specs.Partition.{set_of, together};
+ghost use Rattle.std.specs.Prelude.{Vec, Some, None, ◌≡◌, ◌≢◌, ◌==◌, ℕ, ◌+◌, ◌<◌, ◌≤◌, ◌||◌, ◌&&◌, cond, not, [], ◌∷◌, ◌++◌, ◌↔◌, List, sum_by, length, count_by, slice_get, slice_index_or, vec_len, vec_capacity, IfOk, OnOk, OnErr, IfSome, IsSome, is_some, IsFalse, IsNone, IsTrue};
+ghost use Rattle.std.specs.HashMap.{get, hash_map_len, spare, Updates};
+ghost use Rattle.std.specs.List.{IsDistinct};
+ghost use Rattle.std.specs.List.Sorted.{IsStrictlySortedBy};
+ghost use Rattle.isle_base.specs.Partition.{set_of, in_set, together, together_after, added_by};
+ghost use Rattle.isle_base.specs.Numbers.{Fit, IsMerge, IsPut, IsRemoval, same_number, sets_of, Vacant};
 
-use std::alloc::Global;
+use std::alloc::{AllocError, Global};
 use std::collections::HashMap;
 use std::fmt::Debug;
 use std::hash::Hash;
 use std::marker::Model;
+use std::mem;
 
-/// Disjoint sets of items.
+/// Disjoint sets of items. A set has two members or more, and only `merge` makes one.
 #[derive(Debug, Drop)]
 pub struct DisjointSets<T: Eq + Hash> {
     // the place of each item's set in `members`
     classes: HashMap<T, usize>,
+    // the items of each set; a set that is gone leaves an empty place
     members: Vec<Vec<T>>,
+    // the empty places, each to be used again before there is a new one
+    free: Vec<usize>,
 }
 
 impl<T: Eq + Hash> Model for DisjointSets<T> {
-    ghost use Rattle.std.specs.Prelude.{List, map};
-    ghost use Rattle.std.specs.HashMap.{get, hash_map_len};
-    ghost use Rattle.isle_base.specs.Partition.{IsPartition};
+    ghost use Rattle.std.specs.Prelude.{List};
+    ghost use Rattle.isle_base.specs.Partition.{filled};
+    ghost use Rattle.isle_base.specs.Numbers.{Fit, sets_of};
 
     ghost Value = { List (List T) };
 
-    ghost view = { λ a. map (λ v. v.items) a.members.items };
+    ghost view = { λ a. filled (sets_of a.members.items) };
 
-    ghost invariant = { λ a. IsPartition T.eq (get T.eq a.classes) (hash_map_len a.classes) (map (λ v. v.items) a.members.items) };
+    ghost invariant = { λ a. Fit T.eq a.classes a.members.items a.free.items };
 }
 
 impl<T: Copy + Debug + Eq + Hash> DisjointSets<T> {
@@ -36,6 +44,7 @@ impl<T: Copy + Debug + Eq + Hash> DisjointSets<T> {
         DisjointSets {
             classes: HashMap::new(alloc),
             members: Vec::new(alloc),
+            free: Vec::new(alloc),
         }
     }
 
@@ -45,6 +54,9 @@ impl<T: Copy + Debug + Eq + Hash> DisjointSets<T> {
         ensures none { IsNone result ↔ IsFalse (together T.eq self.now x x) }
         ensures member { IfSome result (λ r. IsTrue (together T.eq self.now x r)) }
         ensures same { (y : T) → IsTrue (together T.eq self.now x y) → slice_get (set_of T.eq self.now y) 0 ≡ result }
+
+        // a set has another item
+        ensures another { IsSome result → (y : T) × IsFalse (T.eq x y) × IsTrue (together T.eq self.now x y) }
     {
         let class = *self.classes.get(&x)?;
         let set = &self.members[class];
@@ -74,6 +86,178 @@ impl<T: Copy + Debug + Eq + Hash> DisjointSets<T> {
     {
         self.classes.len()
     }
+}
+
+// Gives the items the class, so far as they have one.
+fn renumber<T: Copy + Debug + Eq + Hash>(classes: &mut HashMap<T, usize>, items: &[T], class: usize)
+    ensures moved { (q : T) → get T.eq classes.new q ≡ cond (in_set T.eq items.now q && is_some (get T.eq classes.old q)) (Some class) (get T.eq classes.old q) }
+    ensures len { hash_map_len classes.new ≡ hash_map_len classes.old }
+{
+    for item in items {
+        if let Some(number) = classes.get_mut(item) {
+            *number = class;
+        }
+    }
+}
+
+// Gives an item that has no class this one, for which there is room.
+fn put<T: Copy + Debug + Eq + Hash>(classes: &mut HashMap<T, usize>, item: T, class: usize)
+    requires room { 0 < spare classes.old }
+    requires outside { get T.eq classes.old item ≡ None }
+    ensures updates { (q : T) → get T.eq classes.new q ≡ cond (T.eq item q) (Some class) (get T.eq classes.old q) }
+    ensures len { hash_map_len classes.new ≡ hash_map_len classes.old + 1 }
+    ensures spare { spare classes.old ≤ spare classes.new + 1 }
+{
+    let _replaced = classes.insert(item, class);
+}
+
+// Appends to a vector that has room.
+fn push_within<X: Drop>(items: &mut Vec<X>, item: X)
+    requires room { vec_len items.old < vec_capacity items.old }
+    ensures { items.new.items ≡ items.old.items ++ item ∷ [] }
+{
+    let _pushed = items.push(item);
+}
+
+// Makes room for a new place, where no place is free.
+fn reserve_place<X>(members: &mut Vec<X>, free: &Vec<usize>) -> Result<(), AllocError>
+    ensures items { members.new.items ≡ members.old.items }
+    ensures room { OnOk result (vec_len free.now ≡ 0 → vec_len members.new < vec_capacity members.new) }
+{
+    if free.is_empty() {
+        members.reserve(1)?;
+    }
+    Ok(())
+}
+
+// Puts the set at a free place, or else at a new one, for which there is room, and answers the place.
+fn place<T: Copy + Debug>(members: &mut Vec<Vec<T>>, free: &mut Vec<usize>, set: Vec<T>) -> usize
+    requires room { vec_len free.old ≡ 0 → vec_len members.old < vec_capacity members.old }
+    requires vacant { Vacant free.old.items (sets_of members.old.items) }
+    requires filled { 0 < vec_len set }
+    ensures put { IsPut (sets_of members.old.items) (sets_of members.new.items) result set.items }
+    ensures before { slice_index_or (sets_of members.old.items) result [] ≡ [] }
+    ensures vacant { Vacant free.new.items (sets_of members.new.items) }
+{
+    match free.pop() {
+        Some(class) => {
+            members[class] = set;
+            class
+        }
+        None => {
+            let class = members.len();
+            push_within(members, set);
+            class
+        }
+    }
+}
+
+// A set of two.
+fn pair<T: Copy + Debug>(alloc: Global, x: T, y: T) -> Result<Vec<T>, AllocError>
+    ensures { IfOk result (λ set. set.items ≡ x ∷ y ∷ []) }
+{
+    let mut set = Vec::with_capacity(alloc, 2)?;
+    set.push(x)?;
+    set.push(y)?;
+    Ok(set)
+}
+
+// Makes a set of two items that are in no set.
+fn begin<T: Copy + Debug + Eq + Hash>(
+    classes: &mut HashMap<T, usize>,
+    members: &mut Vec<Vec<T>>,
+    free: &mut Vec<usize>,
+    x: T,
+    y: T,
+) -> Result<(), AllocError>
+    requires fit { Fit T.eq classes.old members.old.items free.old.items }
+    requires apart { IsFalse (T.eq x y) }
+    requires first { get T.eq classes.old x ≡ None }
+    requires second { get T.eq classes.old y ≡ None }
+    ensures fit { Fit T.eq classes.new members.new.items free.new.items }
+    ensures ok { OnOk result (IsMerge T.eq (get T.eq classes.old) (get T.eq classes.new) x y) }
+    ensures len { OnOk result (hash_map_len classes.new ≡ hash_map_len classes.old + 2) }
+    ensures err { OnErr result (sets_of members.new.items ≡ sets_of members.old.items) }
+{
+    let set = pair(*members.allocator(), x, y)?;
+    reserve_place(members, free)?;
+    classes.reserve(2)?;
+    // from here on no memory is taken
+    let class = place(members, free, set);
+    put(classes, x, class);
+    put(classes, y, class);
+    Ok(())
+}
+
+// Puts an item that is in no set into the set of another.
+fn admit<T: Copy + Debug + Eq + Hash>(
+    classes: &mut HashMap<T, usize>,
+    members: &mut Vec<Vec<T>>,
+    class: usize,
+    item: T,
+) -> Result<(), AllocError>
+    requires outside { get T.eq classes.old item ≡ None }
+    requires within { class < vec_len members.old }
+    ensures put { OnOk result (IsPut (sets_of members.old.items) (sets_of members.new.items) class (slice_index_or (sets_of members.old.items) class [] ++ item ∷ [])) }
+    ensures ok { OnOk result ((q : T) → get T.eq classes.new q ≡ cond (T.eq item q) (Some class) (get T.eq classes.old q)) }
+    ensures len { OnOk result (hash_map_len classes.new ≡ hash_map_len classes.old + 1) }
+    ensures err { OnErr result (sets_of members.new.items ≡ sets_of members.old.items) }
+    ensures numbers { OnErr result ((q : T) → get T.eq classes.new q ≡ get T.eq classes.old q) }
+    ensures count { OnErr result (hash_map_len classes.new ≡ hash_map_len classes.old) }
+{
+    classes.reserve(1)?;
+    members[class].push(item)?;
+    put(classes, item, class);
+    Ok(())
+}
+
+// Moves the members of one set, and its place becomes free. There is room for them.
+fn pour<T: Copy + Debug + Eq + Hash>(
+    classes: &mut HashMap<T, usize>,
+    members: &mut Vec<Vec<T>>,
+    free: &mut Vec<usize>,
+    into: usize,
+    from: usize,
+)
+    requires fit { Fit T.eq classes.old members.old.items free.old.items }
+    requires apart { into ≢ from }
+    requires first { 0 < length (slice_index_or (sets_of members.old.items) into []) }
+    requires second { 0 < length (slice_index_or (sets_of members.old.items) from []) }
+    requires place { vec_len free.old < vec_capacity free.old }
+    requires room { (d : Vec T Global) → vec_len (slice_index_or members.old.items into d) + vec_len (slice_index_or members.old.items from d) ≤ vec_capacity (slice_index_or members.old.items into d) }
+    ensures fit { Fit T.eq classes.new members.new.items free.new.items }
+    ensures ok { (q : T) → get T.eq classes.new q ≡ cond (same_number (Some from) (get T.eq classes.old q)) (Some into) (get T.eq classes.old q) }
+    ensures len { hash_map_len classes.new ≡ hash_map_len classes.old }
+{
+    let alloc = *members.allocator();
+    let mut moved = mem::replace(&mut members[from], Vec::new(alloc));
+    renumber(classes, &moved, into);
+    let _appended = members[into].append(&mut moved);
+    push_within(free, from);
+}
+
+// Makes one set of two, at the place of the longer one.
+fn unite<T: Copy + Debug + Eq + Hash>(
+    classes: &mut HashMap<T, usize>,
+    members: &mut Vec<Vec<T>>,
+    free: &mut Vec<usize>,
+    into: usize,
+    from: usize,
+) -> Result<(), AllocError>
+    requires fit { Fit T.eq classes.old members.old.items free.old.items }
+    requires apart { into ≢ from }
+    requires first { 0 < length (slice_index_or (sets_of members.old.items) into []) }
+    requires second { 0 < length (slice_index_or (sets_of members.old.items) from []) }
+    ensures fit { Fit T.eq classes.new members.new.items free.new.items }
+    ensures ok { OnOk result ((q : T) → get T.eq classes.new q ≡ cond (same_number (Some from) (get T.eq classes.old q)) (Some into) (get T.eq classes.old q)) }
+    ensures len { OnOk result (hash_map_len classes.new ≡ hash_map_len classes.old) }
+    ensures err { OnErr result (sets_of members.new.items ≡ sets_of members.old.items) }
+{
+    free.reserve(1)?;
+    let more = members[from].len();
+    members[into].reserve(more)?;
+    pour(classes, members, free, into, from);
+    Ok(())
 }
 
 #[cfg(test)]

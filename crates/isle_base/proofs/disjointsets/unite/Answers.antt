@@ -1,0 +1,9 @@
+use Rattle.std.proofs.Common.{◌≡◌, ◌<◌, ◌+◌, ◌∷◌, [], length, get_or, ap, sym, ◌∙◌, refl, arith, rules}
+use Rattle.isle_base.specs.Numbers.{sets_of}
+use Rattle.isle_base.proofs.Puts.{same_sets}
+use Rattle.isle_base.proofs.disjointsets.unite.Goals as goal
+
+pub pour-requires-clause-fit : goal.pour-requires-clause-fit
+pour-requires-clause-fit g c =
+    let e = same_sets c.args.members.now.items c.args.into c.reserve-2.new.self c.index_mut.result.now (c.reserve-2.ensures.items ∙ ap (λ v. v.items) c.index_mut.ensures.value) in
+    rw (e, c.reserve.ensures.items) c.requires.fit
