@@ -1,5 +1,5 @@
 -- Sets by their numbers.
-use Rattle.std.proofs.Common.{◌≡◌, ◌≢◌, ℕ, zero, suc, ◌+◌, ◌<◌, ◌≤◌, ◌==◌, Bool, true, false, cond, not, ◌||◌, ◌&&◌, List, [], ◌∷◌, ◌++◌, length, sum_by, get_or, map, Option, Some, None, refl, sym, ap, ◌∙◌, arith, Vec, ◌⊎◌, ◌↔◌, inl, inr, slice_get, IsNone, IsFalse, IsTrue, IsSome, IfSome, eq-eqb, ne_eqb, eqb-true, length-append}
+use Rattle.std.proofs.Common.{◌≡◌, ◌≢◌, ℕ, zero, suc, ◌+◌, ◌<◌, ◌≤◌, ◌==◌, Bool, true, false, cond, not, ◌||◌, ◌&&◌, List, [], ◌∷◌, ◌++◌, length, sum_by, get_or, map, Option, Some, None, refl, sym, ap, ◌∙◌, arith, Vec, ◌⊎◌, ◌↔◌, inl, inr, slice_get, IsNone, IsFalse, IsTrue, IsSome, is_some, IfSome, eq-eqb, ne_eqb, eqb-true, length-append}
 use Rattle.std.specs.declared.alloc.Global.{Global}
 use Rattle.std.specs.Cmp.{IsEquivalence}
 use Rattle.std.specs.List.{IsDistinct, list_any, AllByRecursion}
@@ -89,6 +89,24 @@ none_distinct : {T : Type 0} (eq : T → T → Bool) → IsDistinct eq []
 unfolding IsDistinct
 none_distinct eq = tt
 
+-- the new number of an item, as `renumber` gives it to those of a set
+pub renumbered : (a b : ℕ) (o : Option ℕ) → cond (same_number o (Some b) && is_some o) (Some a) o ≡ cond (same_number (Some b) o) (Some a) o
+renumbered a b None = refl
+renumbered a b (Some j) = rw (same_symm (Some b) (Some j)) (elim (j == b) as (λ t. cond (t && true) (Some a) (Some j) ≡ cond t (Some a) (Some j)) [ true ↦ refl | false ↦ refl ])
+
+pub same_self : (o : Option ℕ) → same_number o o ≡ is_some o
+same_self None = refl
+same_self (Some k) = eq-eqb k k refl
+
+pub no_sets : {T : Type 0} (eq : T → T → Bool) (number : T → Option ℕ) (count : ℕ) (free : List ℕ) → ((x : T) → number x ≡ None) → count ≡ 0 → free ≡ [] → IsNumbered eq number count free []
+no_sets eq number count free e f h = record {
+  numbered = λ x k. rw (e x) refl;
+  counted = f;
+  distinct = λ k. none_distinct eq;
+  plural = λ k n. absurd (omega (arith, n));
+  vacant = λ k. rw h refl;
+}
+
 module _ {T : Type 0} (eq : T → T → Bool) where
   pub nonempty : (s : List T) (x : T) → in_set eq s x ≡ true → 0 < length s
   nonempty [] x e = absurd (false≢true e)
@@ -122,6 +140,16 @@ module _ {T : Type 0} (eq : T → T → Bool) where
 
     pub has_some : (x : T) (k : ℕ) → number x ≡ Some k → 0 < length (get_or sets k [])
     has_some x k e = nonempty (get_or sets k []) x (has x k e)
+
+    -- the same numbers, in another map
+    pub numbered_same : (changed : T → Option ℕ) (count' : ℕ) → ((q : T) → changed q ≡ number q) → count' ≡ count → IsNumbered eq changed count' free sets
+    numbered_same changed count' same same_count = record {
+      numbered = λ q k. p.numbered q k ∙ ap (λ o. same_number o (Some k)) (sym (same q));
+      counted = same_count ∙ p.counted;
+      distinct = p.distinct;
+      plural = p.plural;
+      vacant = p.vacant;
+    }
 
     module _ (changed : T → Option ℕ) (count' : ℕ) (free' : List ℕ) (sets' : List (List T)) where
       -- a set of two new items, at a place that had none

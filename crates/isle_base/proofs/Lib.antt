@@ -4,4 +4,5 @@ mod Files
 mod Puts
 mod Classes
 mod Togethers
-pub mod Merges
+mod Merges
+mod Removals

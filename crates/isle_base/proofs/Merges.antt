@@ -7,7 +7,7 @@ use Rattle.isle_base.specs.Numbers.{same_number, IsNumbered, IsMerge, touches}
 use Rattle.isle_base.proofs.Classes.{same_is, same_at, same_symm, alike}
 use Rattle.isle_base.proofs.Togethers.{by_number}
 
-kept : (t : Bool) → t ≡ (t && true)
+pub kept : (t : Bool) → t ≡ (t && true)
 kept true = refl
 kept false = refl
 

@@ -55,6 +55,9 @@ module _ {T : Type 0} where
       let within : i < length (sets_of vs) = omega (arith, length-map vs (λ w. w.items)) in
       rw (map-set (λ w. w.items) vs i v) (set_put (sets_of vs) i v.items within)
 
+  pub vector_put_as : (vs : List (Vec T Global)) (i : ℕ) (v : Vec T Global) (s : List T) → i < length vs → v.items ≡ s → IsPut (sets_of vs) (sets_of (slice_set vs i v)) i s
+  vector_put_as vs i v s h e = rw (← e) (vector_put vs i v h)
+
   pub vector_pushed : (vs : List (Vec T Global)) (v : Vec T Global) → IsPut (sets_of vs) (sets_of (vs ++ v ∷ [])) (length vs) v.items
   vector_pushed vs v = rw (map-append (λ w. w.items) vs (v ∷ []), ← length-map vs (λ w. w.items)) (push_put (sets_of vs) v.items)
 

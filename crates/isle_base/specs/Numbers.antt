@@ -48,10 +48,6 @@ module _ {T : Type 0} (eq : T → T → Bool) where
     pub moved : (q : T) → changed q ≡ cond (touches number x y q) (Some class) (number q)
     pub own : (q : T) → number q ≡ Some class → touches number x y q ≡ true
 
-  -- the new numbers are the old ones, but that what had the number of x has none
-  abbrev pub IsRemoval : (T → Option ℕ) → (T → Option ℕ) → T → Type 0
-  IsRemoval number changed x = (q : T) → changed q ≡ cond (same_number (number x) (number q)) None (number q)
-
 -- ys has y at the place i, which is one of xs or the next one, and the other lists of xs where they were
 pub record IsPut {T : Type 0} (xs ys : List (List T)) (i : ℕ) (y : List T) : Type 0 where
   pub here : slice_get ys i ≡ Some y

@@ -1,10 +1,10 @@
 //! Sets of items that are apart from each other, each with one of its members as its name.
-ghost use Rattle.std.specs.Prelude.{Vec, Some, None, ◌≡◌, ◌≢◌, ◌==◌, ℕ, ◌+◌, ◌<◌, ◌≤◌, ◌||◌, ◌&&◌, cond, not, [], ◌∷◌, ◌++◌, ◌↔◌, List, sum_by, length, count_by, slice_get, slice_index_or, vec_len, vec_capacity, IfOk, OnOk, OnErr, IfSome, IsSome, is_some, IsFalse, IsNone, IsTrue};
+ghost use Rattle.std.specs.Prelude.{Vec, Some, None, true, false, ◌≡◌, ◌≢◌, ◌==◌, ℕ, ◌+◌, ◌<◌, ◌≤◌, ◌||◌, ◌&&◌, cond, not, [], ◌∷◌, ◌++◌, ◌↔◌, List, sum_by, length, count_by, slice_get, slice_index_or, vec_len, vec_capacity, IfOk, IsOkAnd, OnOk, OnErr, IfSome, IsSome, is_some, IsFalse, IsNone, IsTrue};
 ghost use Rattle.std.specs.HashMap.{get, hash_map_len, spare, Updates};
 ghost use Rattle.std.specs.List.{IsDistinct};
-ghost use Rattle.std.specs.List.Sorted.{IsStrictlySortedBy};
+ghost use Rattle.std.specs.List.Sorted.{IsPermutation, IsSorted, IsStrictlySortedBy};
 ghost use Rattle.isle_base.specs.Partition.{set_of, in_set, together, together_after, added_by};
-ghost use Rattle.isle_base.specs.Numbers.{Fit, IsMerge, IsPut, IsRemoval, same_number, sets_of, Vacant};
+ghost use Rattle.isle_base.specs.Numbers.{Fit, IsMerge, IsPut, same_number, sets_of, Vacant};
 
 use std::alloc::{AllocError, Global};
 use std::collections::HashMap;
@@ -73,16 +73,70 @@ impl<T: Copy + Debug + Eq + Hash> DisjointSets<T> {
         }
     }
 
+    /// What `find` answers. Upstream's changes how its value is kept; here nothing changes.
+    pub fn find_mut(&mut self, x: T) -> Option<T>
+        ensures value { result ≡ slice_get (set_of T.eq self.old x) 0 }
+        ensures none { IsNone result ↔ IsFalse (together T.eq self.old x x) }
+        ensures member { IfSome result (λ r. IsTrue (together T.eq self.old x r)) }
+        ensures same { (y : T) → IsTrue (together T.eq self.old x y) → slice_get (set_of T.eq self.old y) 0 ≡ result }
+        ensures another { IsSome result → (y : T) × IsFalse (T.eq x y) × IsTrue (together T.eq self.old x y) }
+        ensures unchanged { self.new ≡ self.old }
+    {
+        self.find(x)
+    }
+
+    /// Makes one set of the sets of two items that differ, where an item in no set counts as one by itself.
+    /// Only a lack of memory is an error, and it changes nothing.
+    pub fn merge(&mut self, x: T, y: T) -> Result<(), AllocError>
+        requires { T.eq x y ≡ false }
+        ensures ok { OnOk result ((a b : T) → together T.eq self.new a b ≡ together_after T.eq self.old x y a b) }
+        ensures len { OnOk result (sum_by length self.new ≡ sum_by length self.old + added_by T.eq self.old x + added_by T.eq self.old y) }
+        ensures err { OnErr result (self.new ≡ self.old) }
+    {
+        let first = self.classes.get(&x).copied();
+        let second = self.classes.get(&y).copied();
+        match (first, second) {
+            (None, None) => begin(&mut self.classes, &mut self.members, &mut self.free, x, y),
+            (Some(class), None) => admit(&mut self.classes, &mut self.members, class, y),
+            (None, Some(class)) => admit(&mut self.classes, &mut self.members, class, x),
+            (Some(a), Some(b)) => join(&mut self.classes, &mut self.members, &mut self.free, a, b),
+        }
+    }
+
+    /// Takes the set of the item away and answers its members in ascending order, and none where the item is
+    /// in no set. Only a lack of memory is an error, and it changes nothing.
+    pub fn remove_set_of(&mut self, x: T) -> Result<Vec<T>, AllocError>
+    where
+        T: Ord,
+        ensures members { IfOk result (λ set. (y : T) → in_set T.eq set.items y ≡ together T.eq self.old x y) }
+        ensures ascending { IfOk result (λ set. IsStrictlySortedBy T.cmp set.items) }
+
+        // the other sets stay
+        ensures rest { OnOk result ((a b : T) → together T.eq self.new a b ≡ (together T.eq self.old a b && not (together T.eq self.old x a))) }
+        ensures len { IfOk result (λ set. sum_by length self.new + length set.items ≡ sum_by length self.old) }
+        ensures none { IsFalse (together T.eq self.old x x) → IsOkAnd result (λ set. set.items ≡ []) × (self.new ≡ self.old) }
+        ensures err { OnErr result (self.new ≡ self.old) }
+    {
+        match self.classes.get(&x).copied() {
+            None => Ok(Vec::new(*self.members.allocator())),
+            Some(class) => remove(&mut self.classes, &mut self.members, &mut self.free, class),
+        }
+    }
+
     /// Whether no set has an item.
     pub fn is_empty(&self) -> bool
-        ensures { result ≡ (sum_by length self.now == 0) }
+        ensures value { result ≡ (sum_by length self.now == 0) }
+        ensures none { IsTrue result ↔ ((x : T) → IsFalse (together T.eq self.now x x)) }
     {
         self.classes.is_empty()
     }
 
     /// The number of items in all sets.
     pub fn len(&self) -> usize
-        ensures { result ≡ sum_by length self.now }
+        ensures value { result ≡ sum_by length self.now }
+
+        // as many as a list has that has each of them once
+        ensures count { (items : List T) × IsDistinct T.eq items × ((y : T) → in_set T.eq items y ≡ together T.eq self.now y y) × (length items ≡ result) }
     {
         self.classes.len()
     }
@@ -117,6 +171,14 @@ fn push_within<X: Drop>(items: &mut Vec<X>, item: X)
     ensures { items.new.items ≡ items.old.items ++ item ∷ [] }
 {
     let _pushed = items.push(item);
+}
+
+// Moves the elements of another to the end of a vector that has room for them.
+fn append_within<X>(items: &mut Vec<X>, more: &mut Vec<X>)
+    requires room { vec_len items.old + vec_len more.old ≤ vec_capacity items.old }
+    ensures { items.new.items ≡ items.old.items ++ more.old.items }
+{
+    let _appended = items.append(more);
 }
 
 // Makes room for a new place, where no place is free.
@@ -189,7 +251,7 @@ fn begin<T: Copy + Debug + Eq + Hash>(
     Ok(())
 }
 
-// Puts an item that is in no set into the set of another.
+// Puts an item that is in no set into a set that has some.
 fn admit<T: Copy + Debug + Eq + Hash>(
     classes: &mut HashMap<T, usize>,
     members: &mut Vec<Vec<T>>,
@@ -197,13 +259,11 @@ fn admit<T: Copy + Debug + Eq + Hash>(
     item: T,
 ) -> Result<(), AllocError>
     requires outside { get T.eq classes.old item ≡ None }
-    requires within { class < vec_len members.old }
-    ensures put { OnOk result (IsPut (sets_of members.old.items) (sets_of members.new.items) class (slice_index_or (sets_of members.old.items) class [] ++ item ∷ [])) }
+    requires some { 0 < length (slice_index_or (sets_of members.old.items) class []) }
+    ensures fit { (free : List ℕ) → Fit T.eq classes.old members.old.items free → Fit T.eq classes.new members.new.items free }
     ensures ok { OnOk result ((q : T) → get T.eq classes.new q ≡ cond (T.eq item q) (Some class) (get T.eq classes.old q)) }
     ensures len { OnOk result (hash_map_len classes.new ≡ hash_map_len classes.old + 1) }
     ensures err { OnErr result (sets_of members.new.items ≡ sets_of members.old.items) }
-    ensures numbers { OnErr result ((q : T) → get T.eq classes.new q ≡ get T.eq classes.old q) }
-    ensures count { OnErr result (hash_map_len classes.new ≡ hash_map_len classes.old) }
 {
     classes.reserve(1)?;
     members[class].push(item)?;
@@ -232,11 +292,11 @@ fn pour<T: Copy + Debug + Eq + Hash>(
     let alloc = *members.allocator();
     let mut moved = mem::replace(&mut members[from], Vec::new(alloc));
     renumber(classes, &moved, into);
-    let _appended = members[into].append(&mut moved);
+    append_within(&mut members[into], &mut moved);
     push_within(free, from);
 }
 
-// Makes one set of two, at the place of the longer one.
+// Puts the members of the second set into the first.
 fn unite<T: Copy + Debug + Eq + Hash>(
     classes: &mut HashMap<T, usize>,
     members: &mut Vec<Vec<T>>,
@@ -256,8 +316,84 @@ fn unite<T: Copy + Debug + Eq + Hash>(
     free.reserve(1)?;
     let more = members[from].len();
     members[into].reserve(more)?;
+    // from here on no memory is taken
     pour(classes, members, free, into, from);
     Ok(())
+}
+
+// Makes one set of two, and moves the members of the shorter one.
+fn join<T: Copy + Debug + Eq + Hash>(
+    classes: &mut HashMap<T, usize>,
+    members: &mut Vec<Vec<T>>,
+    free: &mut Vec<usize>,
+    a: usize,
+    b: usize,
+) -> Result<(), AllocError>
+    requires fit { Fit T.eq classes.old members.old.items free.old.items }
+    requires first { 0 < length (slice_index_or (sets_of members.old.items) a []) }
+    requires second { 0 < length (slice_index_or (sets_of members.old.items) b []) }
+    ensures fit { Fit T.eq classes.new members.new.items free.new.items }
+    ensures ok { OnOk result ((x y : T) → get T.eq classes.old x ≡ Some a → get T.eq classes.old y ≡ Some b → IsMerge T.eq (get T.eq classes.old) (get T.eq classes.new) x y) }
+    ensures len { OnOk result (hash_map_len classes.new ≡ hash_map_len classes.old) }
+    ensures err { OnErr result (sets_of members.new.items ≡ sets_of members.old.items) }
+{
+    if a == b {
+        return Ok(());
+    }
+    if members[a].len() < members[b].len() {
+        unite(classes, members, free, b, a)
+    } else {
+        unite(classes, members, free, a, b)
+    }
+}
+
+// The items in order, in a vector of their own.
+fn sorted<T: Copy + Debug + Ord>(alloc: Global, items: &[T]) -> Result<Vec<T>, AllocError>
+    ensures same { IfOk result (λ set. IsPermutation items.now set.items) }
+    ensures ascending { IfOk result (λ set. IsSorted T.cmp set.items) }
+{
+    let mut set = Vec::new(alloc);
+    set.extend_from_slice(items)?;
+    set.sort()?;
+    Ok(set)
+}
+
+// Takes the items out, each of which has a class.
+fn forget<T: Copy + Debug + Eq + Hash>(classes: &mut HashMap<T, usize>, items: &[T])
+    requires distinct { IsDistinct T.eq items.now }
+    requires present { (q : T) → in_set T.eq items.now q ≡ true → is_some (get T.eq classes.old q) ≡ true }
+    ensures gone { (q : T) → get T.eq classes.new q ≡ cond (in_set T.eq items.now q) None (get T.eq classes.old q) }
+    ensures len { hash_map_len classes.new + length items.now ≡ hash_map_len classes.old }
+{
+    for item in items {
+        classes.remove(item);
+    }
+}
+
+// Takes a set away and answers its members in ascending order.
+fn remove<T: Copy + Debug + Eq + Hash + Ord>(
+    classes: &mut HashMap<T, usize>,
+    members: &mut Vec<Vec<T>>,
+    free: &mut Vec<usize>,
+    class: usize,
+) -> Result<Vec<T>, AllocError>
+    requires fit { Fit T.eq classes.old members.old.items free.old.items }
+    requires some { 0 < length (slice_index_or (sets_of members.old.items) class []) }
+    ensures fit { Fit T.eq classes.new members.new.items free.new.items }
+    ensures ok { OnOk result ((q : T) → get T.eq classes.new q ≡ cond (same_number (get T.eq classes.old q) (Some class)) None (get T.eq classes.old q)) }
+    ensures members { IfOk result (λ set. (y : T) → in_set T.eq set.items y ≡ same_number (get T.eq classes.old y) (Some class)) }
+    ensures ascending { IfOk result (λ set. IsStrictlySortedBy T.cmp set.items) }
+    ensures len { IfOk result (λ set. hash_map_len classes.new + length set.items ≡ hash_map_len classes.old) }
+    ensures err { OnErr result (sets_of members.new.items ≡ sets_of members.old.items) }
+{
+    let alloc = *members.allocator();
+    let set = sorted(alloc, &members[class])?;
+    free.reserve(1)?;
+    // from here on no memory is taken
+    forget(classes, &set);
+    members[class] = Vec::new(alloc);
+    push_within(free, class);
+    Ok(set)
 }
 
 #[cfg(test)]
