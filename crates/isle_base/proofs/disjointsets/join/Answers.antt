@@ -26,5 +26,5 @@ returns-else-len-clause-ok g c =
     let e = g.T.PartialEq.eq in
     let n = get e c.args.classes.now in
     let respects = alike e g.met.T.Eq.laws n (hash_map_len c.args.classes.now) c.args.free.now.items (sets_of c.args.members.now.items) c.requires.fit in
-    let n' = get e c.unite.new.classes in
-    on_ok_weaker c.unite.result (λ moved x y first second. merge_unite e n n' x y respects c.args.a c.args.b first second moved) c.unite.ensures.ok
+    let n' = get e c.unite-else-len.new.classes in
+    on_ok_weaker c.unite-else-len.result (λ moved x y first second. merge_unite e n n' x y respects c.args.a c.args.b first second moved) c.unite-else-len.ensures.ok
