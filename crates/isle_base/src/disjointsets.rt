@@ -142,6 +142,49 @@ impl<T: Copy + Debug + Eq + Hash> DisjointSets<T> {
     }
 }
 
+impl<T: Copy + Debug + Eq + Hash> Clone for DisjointSets<T> {
+    ghost is_clone = { λ a b. b ≡ a };
+
+    fn clone(&self) -> Result<DisjointSets<T>, AllocError> {
+        let alloc = *self.members.allocator();
+        Ok(DisjointSets {
+            classes: classes_copied(alloc, &self.classes)?,
+            members: members_copied(alloc, &self.members)?,
+            free: copied(alloc, &self.free)?,
+        })
+    }
+}
+
+// The items in a vector of their own.
+fn copied<X: Copy>(alloc: Global, items: &[X]) -> Result<Vec<X>, AllocError>
+    ensures { IfOk result (λ copy. copy.items ≡ items.now) }
+{
+    let mut copy = Vec::new(alloc);
+    copy.extend_from_slice(items)?;
+    Ok(copy)
+}
+
+// The same sets in vectors of their own.
+fn members_copied<T: Copy + Debug>(alloc: Global, members: &[Vec<T>]) -> Result<Vec<Vec<T>>, AllocError>
+    ensures { IfOk result (λ copy. sets_of copy.items ≡ sets_of members.now) }
+{
+    let mut copy = Vec::new(alloc);
+    for set in members {
+        copy.push(copied(alloc, set)?)?;
+    }
+    Ok(copy)
+}
+
+// The same numbers in a map of their own.
+fn classes_copied<T: Copy + Debug + Eq + Hash>(alloc: Global, classes: &HashMap<T, usize>) -> Result<HashMap<T, usize>, AllocError>
+    ensures same { IfOk result (λ copy. (q : T) → get T.eq copy q ≡ get T.eq classes.now q) }
+    ensures len { IfOk result (λ copy. hash_map_len copy ≡ hash_map_len classes.now) }
+{
+    let mut copy = HashMap::new(alloc);
+    copy.extend(classes.iter())?;
+    Ok(copy)
+}
+
 // Gives the items the class, so far as they have one.
 fn renumber<T: Copy + Debug + Eq + Hash>(classes: &mut HashMap<T, usize>, items: &[T], class: usize)
     ensures moved { (q : T) → get T.eq classes.new q ≡ cond (in_set T.eq items.now q && is_some (get T.eq classes.old q)) (Some class) (get T.eq classes.old q) }
@@ -352,8 +395,7 @@ fn sorted<T: Copy + Debug + Ord>(alloc: Global, items: &[T]) -> Result<Vec<T>, A
     ensures same { IfOk result (λ set. IsPermutation items.now set.items) }
     ensures ascending { IfOk result (λ set. IsSorted T.cmp set.items) }
 {
-    let mut set = Vec::new(alloc);
-    set.extend_from_slice(items)?;
+    let mut set = copied(alloc, items)?;
     set.sort()?;
     Ok(set)
 }
@@ -398,7 +440,86 @@ fn remove<T: Copy + Debug + Eq + Hash + Ord>(
 
 #[cfg(test)]
 mod tests {
+    ghost use Rattle.std.specs.Prelude.{nat_eq};
+    ghost use Rattle.std.proofs.Common.{rules};
+    ghost use Rattle.std.specs.Cmp.Rules.{comparing, hashing};
+    ghost use Rattle.std.specs.Hash as fed;
+    ghost use Rattle.std.specs.Ordering.{on};
+
     use super::*;
+    use std::hash::Hasher;
+    use std::test::Fail;
+
+    // A number of which only the last digit counts.
+    #[derive(Clone, Copy, Debug)]
+    struct LastDigit {
+        number: u32,
+    }
+
+    impl PartialEq for LastDigit {
+        ghost eq = { on (λ a. a.number % 10) nat_eq };
+
+        ghost laws = { Prim.search (comparing, rules) };
+
+        fn eq(&self, other: &LastDigit) -> bool {
+            self.number % 10 == other.number % 10
+        }
+    }
+
+    impl Eq for LastDigit {
+        ghost laws = { Prim.search (comparing, rules) };
+    }
+
+    impl Hash for LastDigit {
+        ghost hash_input = { λ a. fed.u32 (a.number % 10) };
+
+        ghost respects_eq = { Prim.search (hashing, rules) };
+
+        fn hash<H: Hasher>(&self, state: &mut H) {
+            (self.number % 10).hash(state);
+        }
+    }
+
+    fn digit(number: u32) -> LastDigit
+        ensures { result.number ≡ number }
+    {
+        LastDigit { number }
+    }
+
+    // Merges two items where they differ.
+    fn joined(sets: &mut DisjointSets<u32>, x: u32, y: u32) -> Result<(), AllocError> {
+        if x != y {
+            sets.merge(x, y)?;
+        }
+        Ok(())
+    }
+
+    fn partition(alloc: Global, pairs: &[(u32, u32)]) -> Result<DisjointSets<u32>, AllocError> {
+        let mut sets = DisjointSets::new(alloc);
+        for (x, y) in pairs {
+            joined(&mut sets, *x, *y)?;
+        }
+        Ok(sets)
+    }
+
+    // Whether two values have the same sets, so far as the numbers below 12 go.
+    fn are_same(a: &DisjointSets<u32>, b: &DisjointSets<u32>) -> bool {
+        for x in 0..12 {
+            if a.find(x) != b.find(x) {
+                return false;
+            }
+            for y in 0..12 {
+                if a.in_same_set(x, y) != b.in_same_set(x, y) {
+                    return false;
+                }
+            }
+        }
+        a.len() == b.len()
+    }
+
+    fn copy_of<C: Clone>(value: &C) -> Result<C, AllocError> {
+        value.clone()
+    }
 
     #[test]
     fn begins_empty(rt: HostRuntime) {
@@ -406,5 +527,155 @@ mod tests {
         assert!(rt; sets.is_empty() && !sets.in_same_set(1, 1));
         assert_eq!(rt; sets.len(), 0);
         assert_eq!(rt; sets.find(1), None);
+    }
+
+    #[test]
+    fn one_set_of_three_merges(rt: HostRuntime) -> Result<(), Fail> {
+        let mut sets: DisjointSets<u32> = DisjointSets::new(rt.alloc());
+        sets.merge(1, 2)?;
+        assert!(rt; !sets.is_empty());
+        sets.merge(1, 3)?;
+        sets.merge(2, 4)?;
+        assert!(rt; sets.find(3).is_some());
+        assert_eq!(rt; sets.find(3), sets.find(4));
+        assert_eq!(rt; sets.find_mut(3), sets.find(4));
+        assert_eq!(rt; sets.find(10), None);
+        assert_eq!(rt; sets.find_mut(10), None);
+        assert_eq!(rt; sets.len(), 4);
+        let set = sets.remove_set_of(4)?;
+        assert!(rt; set.as_slice() == [1, 2, 3, 4]);
+        let none = sets.remove_set_of(1)?;
+        assert!(rt; none.is_empty() && sets.is_empty());
+        Ok(())
+    }
+
+    #[test]
+    fn sets_stay_apart(rt: HostRuntime) -> Result<(), Fail> {
+        let mut sets = partition(rt.alloc(), &[(1, 2)])?;
+        assert_eq!(rt; sets.len(), 2);
+        joined(&mut sets, 3, 4)?;
+        joined(&mut sets, 3, 5)?;
+        assert_eq!(rt; sets.len(), 5);
+        assert!(rt; !sets.in_same_set(2, 3));
+        Ok(())
+    }
+
+    #[test]
+    fn members_of_one_set_are_together(rt: HostRuntime) -> Result<(), Fail> {
+        let sets = partition(rt.alloc(), &[(1, 2), (1, 3), (2, 4), (5, 6)])?;
+        assert!(rt; sets.in_same_set(2, 3) && sets.in_same_set(1, 4) && sets.in_same_set(3, 4));
+        assert!(rt; !sets.in_same_set(4, 5));
+        Ok(())
+    }
+
+    #[test]
+    fn merging_twice_adds_nothing(rt: HostRuntime) -> Result<(), Fail> {
+        let sets = partition(rt.alloc(), &[(1, 2), (1, 2)])?;
+        assert_eq!(rt; sets.len(), 2);
+        Ok(())
+    }
+
+    #[test]
+    fn two_sets_become_one(rt: HostRuntime) -> Result<(), Fail> {
+        let mut sets = partition(rt.alloc(), &[(1, 2), (5, 6), (2, 5)])?;
+        let set = sets.remove_set_of(6)?;
+        assert!(rt; set.as_slice() == [1, 2, 5, 6]);
+        assert_eq!(rt; sets.len(), 0);
+        Ok(())
+    }
+
+    #[test]
+    fn a_set_that_is_gone_takes_its_items(rt: HostRuntime) -> Result<(), Fail> {
+        let mut sets = partition(rt.alloc(), &[(1, 2)])?;
+        let _gone = sets.remove_set_of(1)?;
+        joined(&mut sets, 2, 3)?;
+        assert_eq!(rt; sets.find(1), None);
+        Ok(())
+    }
+
+    #[test]
+    fn equal_items_are_one(rt: HostRuntime) -> Result<(), Fail> {
+        let mut sets = DisjointSets::new(rt.alloc());
+        let (three, fourteen) = (digit(3), digit(14));
+        if three != fourteen {
+            sets.merge(three, fourteen)?;
+        }
+        assert!(rt; sets.find(digit(13)).is_some());
+        assert!(rt; sets.in_same_set(digit(13), digit(4)));
+        assert_eq!(rt; sets.len(), 2);
+        Ok(())
+    }
+
+    #[test]
+    fn a_copy_stays_as_it_was(rt: HostRuntime) -> Result<(), Fail> {
+        let mut sets = partition(rt.alloc(), &[(1, 2), (3, 4), (7, 8), (8, 9)])?;
+        let _gone = sets.remove_set_of(3)?;
+        let copy = copy_of(&sets)?;
+        assert!(rt; are_same(&sets, &copy));
+        joined(&mut sets, 2, 7)?;
+        assert!(rt; sets.in_same_set(1, 9) && !copy.in_same_set(1, 9));
+        assert_eq!(rt; copy.len(), 5);
+        Ok(())
+    }
+
+    #[test]
+    fn prints(rt: HostRuntime) -> Result<(), Fail> {
+        let sets = partition(rt.alloc(), &[(1, 2)])?;
+        let text = format!(in rt.alloc(); "{sets:?}")?;
+        assert!(rt; text.starts_with("DisjointSets"));
+        Ok(())
+    }
+
+    #[test]
+    fn sets_that_come_and_go_leave_no_trace(rt: HostRuntime) -> Result<(), Fail> {
+        let mut sets = DisjointSets::new(rt.alloc());
+        for x in 0..10_000 {
+            joined(&mut sets, x, x + 10_000)?;
+            let set = sets.remove_set_of(x)?;
+            assert_eq!(rt; set.len(), 2);
+        }
+        assert!(rt; sets.is_empty());
+        assert_eq!(rt; sets.members.len(), 1);
+        assert_eq!(rt; sets.free.len(), 1);
+        Ok(())
+    }
+
+    #[test]
+    fn a_long_chain_is_one_set(rt: HostRuntime) -> Result<(), Fail> {
+        let mut sets = DisjointSets::new(rt.alloc());
+        for x in 0..10_000 {
+            joined(&mut sets, x, x + 1)?;
+        }
+        assert_eq!(rt; sets.len(), 10_001);
+        assert!(rt; sets.in_same_set(0, 10_000));
+        let set = sets.remove_set_of(5_000)?;
+        assert_eq!(rt; set.len(), 10_001);
+        Ok(())
+    }
+
+    // Refused memory: `rt try --test --fail-alloc N refused_calls` for N = 1, 2, .. until it says no
+    // more that a call was refused. A call that is refused leaves the sets as their copy has them.
+    #[test]
+    fn refused_calls_change_nothing(rt: HostRuntime) -> Result<(), Fail> {
+        let mut sets = DisjointSets::new(rt.alloc());
+        for (x, y) in [(1, 2), (3, 4), (3, 5), (2, 3), (6, 7), (8, 9), (9, 6)] {
+            let Ok(copy) = sets.clone() else {
+                continue;
+            };
+            if joined(&mut sets, x, y).is_err() {
+                println!(rt; "merge({x}, {y}) was refused")?;
+                assert!(rt; are_same(&sets, &copy));
+            }
+        }
+        for x in [10, 4, 8] {
+            let Ok(copy) = sets.clone() else {
+                continue;
+            };
+            if sets.remove_set_of(x).is_err() {
+                println!(rt; "remove_set_of({x}) was refused")?;
+                assert!(rt; are_same(&sets, &copy));
+            }
+        }
+        Ok(())
     }
 }
