@@ -44,9 +44,9 @@ same_everywhere (Some a) (Some b) h = ap Some (sym (eqb-true b a (sym (h a) ∙ 
 into_first : (a b : ℕ) (o : Option ℕ) → (same_number o (Some a) || same_number o (Some b)) ≡ same_number (cond (same_number (Some b) o) (Some a) o) (Some a)
 into_first a b None = refl
 into_first a b (Some j) = elim (cases_eq b j) [
-    | inl e ↦ rw (eq-eqb b j e, eq-eqb j b (sym e), eq-eqb a a refl) (or_right (j == a) true refl)
-    | inr ne ↦ rw (ne_eqb b j ne, ne_eqb j b (λ e. ne (sym e))) (or_false (j == a))
-  ]
+  | inl e ↦ rw (eq-eqb b j e, eq-eqb j b (sym e), eq-eqb a a refl) (or_right (j == a) true refl)
+  | inr ne ↦ rw (ne_eqb b j ne, ne_eqb j b (λ e. ne (sym e))) (or_false (j == a))
+]
   where
     or_false : (t : Bool) → (t || false) ≡ t
     or_false true = refl
@@ -55,16 +55,16 @@ into_first a b (Some j) = elim (cases_eq b j) [
 out_of_second : (a b : ℕ) → a ≢ b → (o : Option ℕ) → false ≡ same_number (cond (same_number (Some b) o) (Some a) o) (Some b)
 out_of_second a b ne None = refl
 out_of_second a b ne (Some j) = elim (cases_eq b j) [
-    | inl e ↦ rw (eq-eqb b j e) (sym (ne_eqb a b ne))
-    | inr far ↦ rw (ne_eqb b j far) (sym (ne_eqb j b (λ e. far (sym e))))
-  ]
+  | inl e ↦ rw (eq-eqb b j e) (sym (ne_eqb a b ne))
+  | inr far ↦ rw (ne_eqb b j far) (sym (ne_eqb j b (λ e. far (sym e))))
+]
 
 elsewhere : (a b k : ℕ) → k ≢ a → k ≢ b → (o : Option ℕ) → same_number o (Some k) ≡ same_number (cond (same_number (Some b) o) (Some a) o) (Some k)
 elsewhere a b k na nb None = refl
 elsewhere a b k na nb (Some j) = elim (cases_eq b j) [
-    | inl e ↦ rw (eq-eqb b j e) (ne_eqb j k (λ d. nb (sym d ∙ sym e)) ∙ sym (ne_eqb a k (λ d. na (sym d))))
-    | inr far ↦ rw (ne_eqb b j far) refl
-  ]
+  | inl e ↦ rw (eq-eqb b j e) (ne_eqb j k (λ d. nb (sym d ∙ sym e)) ∙ sym (ne_eqb a k (λ d. na (sym d))))
+  | inr far ↦ rw (ne_eqb b j far) refl
+]
 
 not_both : (a b : ℕ) → a ≢ b → (o : Option ℕ) → same_number o (Some a) ≡ true → same_number o (Some b) ≡ false
 not_both a b ne None e = refl
@@ -74,16 +74,16 @@ not_both a b ne (Some j) e = ne_eqb j b (λ d. ne (sym (eqb-true j a e) ∙ d))
 out_of_removed : (c : ℕ) (o : Option ℕ) → false ≡ same_number (cond (same_number o (Some c)) None o) (Some c)
 out_of_removed c None = refl
 out_of_removed c (Some j) = elim (cases_eq j c) [
-    | inl e ↦ rw (eq-eqb j c e) refl
-    | inr ne ↦ rw (ne_eqb j c ne) (sym (ne_eqb j c ne))
-  ]
+  | inl e ↦ rw (eq-eqb j c e) refl
+  | inr ne ↦ rw (ne_eqb j c ne) (sym (ne_eqb j c ne))
+]
 
 not_removed : (c k : ℕ) → k ≢ c → (o : Option ℕ) → same_number o (Some k) ≡ same_number (cond (same_number o (Some c)) None o) (Some k)
 not_removed c k ne None = refl
 not_removed c k ne (Some j) = elim (cases_eq j c) [
-    | inl e ↦ rw (eq-eqb j c e) (ne_eqb j k (λ d. ne (sym d ∙ e)))
-    | inr far ↦ rw (ne_eqb j c far) refl
-  ]
+  | inl e ↦ rw (eq-eqb j c e) (ne_eqb j k (λ d. ne (sym d ∙ e)))
+  | inr far ↦ rw (ne_eqb j c far) refl
+]
 
 none_distinct : {T : Type 0} (eq : T → T → Bool) → IsDistinct eq []
 unfolding IsDistinct
@@ -121,9 +121,10 @@ module _ {T : Type 0} (eq : T → T → Bool) where
   unfolding IsDistinct
   distinct_append same [] t d e apart = e
   distinct_append same (x ∷ s) t d e apart =
-      let first : in_set eq s x ≡ false = none_in x s d.0 in
-      (none_equal x (s ++ t) (list_any-append (eq x) s t ∙ or_from (in_set eq s x) (in_set eq t x) first (apart x (or_left (eq x x) (in_set eq s x) (same x)))),
-       distinct_append same s t d.1 e (λ q m. apart q (or_right (eq q x) (in_set eq s q) m)))
+      let first : in_set eq s x ≡ false = none_in x s d.0 in (
+        none_equal x (s ++ t) (list_any-append (eq x) s t ∙ or_from (in_set eq s x) (in_set eq t x) first (apart x (or_left (eq x x) (in_set eq s x) (same x)))),
+        distinct_append same s t d.1 e (λ q m. apart q (or_right (eq q x) (in_set eq s q) m)),
+      )
     where
       none_in : (x : T) (s : List T) → AllByRecursion (λ y. eq x y ≡ false) s → in_set eq s x ≡ false
       none_in x [] a = refl
@@ -154,9 +155,9 @@ module _ {T : Type 0} (eq : T → T → Bool) where
     module _ (changed : T → Option ℕ) (count' : ℕ) (free' : List ℕ) (sets' : List (List T)) where
       -- a set of two new items, at a place that had none
       pub numbered_begin : (x y : T) (c : ℕ) → IsPut sets sets' c (x ∷ y ∷ []) → get_or sets c [] ≡ [] → Vacant free' sets'
-        → number x ≡ None → number y ≡ None → eq x y ≡ false
-        → ((q : T) → changed q ≡ cond (eq y q) (Some c) (cond (eq x q) (Some c) (number q))) → count' ≡ count + 2
-        → IsNumbered eq changed count' free' sets'
+          → number x ≡ None → number y ≡ None → eq x y ≡ false
+          → ((q : T) → changed q ≡ cond (eq y q) (Some c) (cond (eq x q) (Some c) (number q))) → count' ≡ count + 2
+          → IsNumbered eq changed count' free' sets'
       unfolding IsDistinct
       numbered_begin x y c put before vacant nx ny apart moved more =
           let here = put_here sets sets' c (x ∷ y ∷ []) put in
@@ -165,21 +166,21 @@ module _ {T : Type 0} (eq : T → T → Bool) where
               | inl same ↦
                   let was : false ≡ same_number (number q) (Some c) = ap (λ s. in_set eq s q) (sym before) ∙ p.numbered q c in
                   let at : (a b : Bool) → eq x q ≡ a → eq y q ≡ b → (a || (b || false)) ≡ same_number (cond b (Some c) (cond a (Some c) (number q))) (Some c) =
-                      elim [
-                        | true ↦ elim [ true ↦ λ d e. sym (eq-eqb c c refl) | false ↦ λ d e. sym (eq-eqb c c refl) ]
-                        | false ↦ elim [ true ↦ λ d e. sym (eq-eqb c c refl) | false ↦ λ d e. was ]
-                      ] in
+                  elim [
+                    | true ↦ elim [ true ↦ λ d e. sym (eq-eqb c c refl) | false ↦ λ d e. sym (eq-eqb c c refl) ]
+                    | false ↦ elim [ true ↦ λ d e. sym (eq-eqb c c refl) | false ↦ λ d e. was ]
+                  ] in
                   rw (same, here, moved q, laws.symm q x, laws.symm q y) (at (eq x q) (eq y q) refl refl)
               | inr ne ↦
                   let old : in_set eq (get_or sets k []) q ≡ same_number (number q) (Some k) = p.numbered q k in
                   let far : same_number (Some c) (Some k) ≡ false = same_other c k (λ e. ne (sym e)) in
                   let at : (a b : Bool) → eq x q ≡ a → eq y q ≡ b → same_number (number q) (Some k) ≡ same_number (cond b (Some c) (cond a (Some c) (number q))) (Some k) =
-                      let by_x : eq x q ≡ true → same_number (number q) (Some k) ≡ same_number (Some c) (Some k) = λ d. ap (λ o. same_number o (Some k)) (sym (alike x q d) ∙ nx) ∙ sym far in
-                      let by_y : eq y q ≡ true → same_number (number q) (Some k) ≡ same_number (Some c) (Some k) = λ d. ap (λ o. same_number o (Some k)) (sym (alike y q d) ∙ ny) ∙ sym far in
-                      elim [
-                        | true ↦ elim [ true ↦ λ d e. by_x d | false ↦ λ d e. by_x d ]
-                        | false ↦ elim [ true ↦ λ d e. by_y e | false ↦ λ d e. refl ]
-                      ] in
+                  let by_x : eq x q ≡ true → same_number (number q) (Some k) ≡ same_number (Some c) (Some k) = λ d. ap (λ o. same_number o (Some k)) (sym (alike x q d) ∙ nx) ∙ sym far in
+                  let by_y : eq y q ≡ true → same_number (number q) (Some k) ≡ same_number (Some c) (Some k) = λ d. ap (λ o. same_number o (Some k)) (sym (alike y q d) ∙ ny) ∙ sym far in
+                  elim [
+                    | true ↦ elim [ true ↦ λ d e. by_x d | false ↦ λ d e. by_x d ]
+                    | false ↦ elim [ true ↦ λ d e. by_y e | false ↦ λ d e. refl ]
+                  ] in
                   rw (put_other sets sets' c (x ∷ y ∷ []) put k ne, moved q) (old ∙ at (eq x q) (eq y q) refl refl)
             ];
             counted = let none : length (get_or sets c []) ≡ 0 = ap length before in omega (arith, put.total, none, more, p.counted);
@@ -196,8 +197,8 @@ module _ {T : Type 0} (eq : T → T → Bool) where
 
       -- a new item, into a set that has some
       pub numbered_admit : (y : T) (c : ℕ) → IsPut sets sets' c (get_or sets c [] ++ y ∷ []) → 0 < length (get_or sets c [])
-        → number y ≡ None → ((q : T) → changed q ≡ cond (eq y q) (Some c) (number q)) → count' ≡ count + 1 → free' ≡ free
-        → IsNumbered eq changed count' free' sets'
+          → number y ≡ None → ((q : T) → changed q ≡ cond (eq y q) (Some c) (number q)) → count' ≡ count + 1 → free' ≡ free
+          → IsNumbered eq changed count' free' sets'
       numbered_admit y c put some ny moved more unchanged =
           let s = get_or sets c [] in
           let here = put_here sets sets' c (s ++ y ∷ []) put in
@@ -206,21 +207,21 @@ module _ {T : Type 0} (eq : T → T → Bool) where
             numbered = λ q k. elim (cases_eq k c) [
               | inl same ↦
                   let at : (b : Bool) → eq y q ≡ b → (in_set eq s q || (b || false)) ≡ same_number (cond b (Some c) (number q)) (Some c) =
-                      elim [
-                        | true ↦ λ e. or_right (in_set eq s q) true refl ∙ sym (eq-eqb c c refl)
-                        | false ↦ λ e. elim (in_set eq s q) as (λ a. in_set eq s q ≡ a → (a || false) ≡ same_number (number q) (Some c)) [
-                          | true ↦ λ m. sym m ∙ p.numbered q c
-                          | false ↦ λ m. sym m ∙ p.numbered q c
-                        ] refl
-                      ] in
+                  elim [
+                    | true ↦ λ e. or_right (in_set eq s q) true refl ∙ sym (eq-eqb c c refl)
+                    | false ↦ λ e. elim (in_set eq s q) as (λ a. in_set eq s q ≡ a → (a || false) ≡ same_number (number q) (Some c)) [
+                      | true ↦ λ m. sym m ∙ p.numbered q c
+                      | false ↦ λ m. sym m ∙ p.numbered q c
+                    ] refl
+                  ] in
                   rw (same, here, list_any-append (eq q) s (y ∷ []), moved q, laws.symm q y) (at (eq y q) refl)
               | inr ne ↦
                   let far : same_number (Some c) (Some k) ≡ false = same_other c k (λ e. ne (sym e)) in
                   let at : (b : Bool) → eq y q ≡ b → same_number (number q) (Some k) ≡ same_number (cond b (Some c) (number q)) (Some k) =
-                      elim [
-                        | true ↦ λ d. ap (λ o. same_number o (Some k)) (sym (alike y q d) ∙ ny) ∙ sym far
-                        | false ↦ λ d. refl
-                      ] in
+                  elim [
+                    | true ↦ λ d. ap (λ o. same_number o (Some k)) (sym (alike y q d) ∙ ny) ∙ sym far
+                    | false ↦ λ d. refl
+                  ] in
                   rw (put_other sets sets' c (s ++ y ∷ []) put k ne, moved q) (p.numbered q k ∙ at (eq y q) refl)
             ];
             counted = omega (arith, put.total, long, more, p.counted);
@@ -239,9 +240,9 @@ module _ {T : Type 0} (eq : T → T → Bool) where
 
       -- the members of one set go to the end of another, and its place becomes free
       pub numbered_unite : (middle : List (List T)) (a b : ℕ) → IsPut sets middle b [] → IsPut middle sets' a (get_or sets a [] ++ get_or sets b []) → a ≢ b
-        → 0 < length (get_or sets a []) → 0 < length (get_or sets b [])
-        → ((q : T) → changed q ≡ cond (same_number (Some b) (number q)) (Some a) (number q)) → count' ≡ count → free' ≡ free ++ b ∷ []
-        → IsNumbered eq changed count' free' sets'
+          → 0 < length (get_or sets a []) → 0 < length (get_or sets b [])
+          → ((q : T) → changed q ≡ cond (same_number (Some b) (number q)) (Some a) (number q)) → count' ≡ count → free' ≡ free ++ b ∷ []
+          → IsNumbered eq changed count' free' sets'
       numbered_unite middle a b emptied put ne first second moved same_count more_free =
           let s = get_or sets a [] in
           let t = get_or sets b [] in
@@ -286,8 +287,8 @@ module _ {T : Type 0} (eq : T → T → Bool) where
 
       -- a set goes, and its place becomes free
       pub numbered_remove : (c : ℕ) → IsPut sets sets' c [] → 0 < length (get_or sets c [])
-        → ((q : T) → changed q ≡ cond (in_set eq (get_or sets c []) q) None (number q)) → count' + length (get_or sets c []) ≡ count → free' ≡ free ++ c ∷ []
-        → IsNumbered eq changed count' free' sets'
+          → ((q : T) → changed q ≡ cond (in_set eq (get_or sets c []) q) None (number q)) → count' + length (get_or sets c []) ≡ count → free' ≡ free ++ c ∷ []
+          → IsNumbered eq changed count' free' sets'
       numbered_remove c put some moved fewer more_free =
           let here = put_here sets sets' c [] put in
           record {

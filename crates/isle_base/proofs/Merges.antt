@@ -26,7 +26,7 @@ module _ {T : Type 0} (eq : T → T → Bool) (number : T → Option ℕ) where
         or_swap false false = refl
 
     pub merge_begin : (c : ℕ) → number x ≡ None → number y ≡ None → ((q : T) → same_number (number q) (Some c) ≡ false)
-      → ((q : T) → changed q ≡ cond (eq y q) (Some c) (cond (eq x q) (Some c) (number q))) → IsMerge eq number changed x y
+        → ((q : T) → changed q ≡ cond (eq y q) (Some c) (cond (eq x q) (Some c) (number q))) → IsMerge eq number changed x y
     merge_begin c nx ny unused moved = record {
       class = c;
       moved = λ q. rw (moved q, nx, ny) (at c (number q) (eq x q) (eq y q));
@@ -40,7 +40,7 @@ module _ {T : Type 0} (eq : T → T → Bool) (number : T → Option ℕ) where
         at c o false false = refl
 
     pub merge_admit : IsEquivalence eq → ((a b : T) → eq a b ≡ true → number a ≡ number b) → (c : ℕ) → number x ≡ Some c → number y ≡ None
-      → ((q : T) → changed q ≡ cond (eq y q) (Some c) (number q)) → IsMerge eq number changed x y
+        → ((q : T) → changed q ≡ cond (eq y q) (Some c) (number q)) → IsMerge eq number changed x y
     merge_admit laws respects c nx ny moved = record {
       class = c;
       moved = λ q. rw (moved q, nx, ny) (at c (number q) (eq x q) (eq y q) (λ e. sym (respects x q e) ∙ nx));
@@ -54,7 +54,7 @@ module _ {T : Type 0} (eq : T → T → Bool) (number : T → Option ℕ) where
         at c o false false h = elim (same_number (Some c) o) as (λ t. same_number (Some c) o ≡ t → o ≡ cond (t || false) (Some c) o) [ true ↦ λ e. sym (same_is (Some c) o e) | false ↦ λ e. refl ] refl
 
     pub merge_unite : ((a b : T) → eq a b ≡ true → number a ≡ number b) → (a b : ℕ) → number x ≡ Some a → number y ≡ Some b
-      → ((q : T) → changed q ≡ cond (same_number (Some b) (number q)) (Some a) (number q)) → IsMerge eq number changed x y
+        → ((q : T) → changed q ≡ cond (same_number (Some b) (number q)) (Some a) (number q)) → IsMerge eq number changed x y
     merge_unite respects a b nx ny moved = record {
       class = a;
       moved = λ q. rw (moved q, nx, ny) (at a b (number q) (eq x q) (eq y q) (λ e. sym (respects x q e) ∙ nx) (λ e. sym (respects y q e) ∙ ny));
@@ -62,7 +62,7 @@ module _ {T : Type 0} (eq : T → T → Bool) (number : T → Option ℕ) where
     }
       where
         at : (a b : ℕ) (o : Option ℕ) (s t : Bool) → (s ≡ true → o ≡ Some a) → (t ≡ true → o ≡ Some b)
-          → cond (same_number (Some b) o) (Some a) o ≡ cond ((s || same_number (Some a) o) || (t || same_number (Some b) o)) (Some a) o
+            → cond (same_number (Some b) o) (Some a) o ≡ cond ((s || same_number (Some a) o) || (t || same_number (Some b) o)) (Some a) o
         at a b o s true h k = rw (k refl, eq-eqb b b refl) (last (s || (a == b)) (Some a) (Some b))
           where
             last : (u : Bool) (v w : Option ℕ) → v ≡ cond (u || true) v w
@@ -96,7 +96,7 @@ module _ {T : Type 0} (eq : T → T → Bool) (number : T → Option ℕ) where
       ]
 
   pub merged_numbers : ((a b : T) → eq a b ≡ true → number a ≡ number b) → (changed : T → Option ℕ) (x y : T) → IsMerge eq number changed x y
-    → (a b : T) → same_number (changed a) (changed b) ≡ ((touches eq number x y a && touches eq number x y b) || same_number (number a) (number b))
+      → (a b : T) → same_number (changed a) (changed b) ≡ ((touches eq number x y a && touches eq number x y b) || same_number (number a) (number b))
   merged_numbers respects changed x y m a b =
       rw (m.moved a, m.moved b)
       (elim (touches eq number x y a) as (λ s. touches eq number x y a ≡ s → same_number (cond s (Some m.class) (number a)) (cond (touches eq number x y b) (Some m.class) (number b)) ≡ ((s && touches eq number x y b) || same_number (number a) (number b))) [
@@ -121,7 +121,7 @@ module _ {T : Type 0} (eq : T → T → Bool) (number : T → Option ℕ) where
       never false h = refl
 
   pub removed_numbers : (changed : T → Option ℕ) (x : T) (c : ℕ) → number x ≡ Some c → ((q : T) → changed q ≡ cond (same_number (number q) (Some c)) None (number q))
-    → (a b : T) → same_number (changed a) (changed b) ≡ (same_number (number a) (number b) && not (same_number (number x) (number a)))
+      → (a b : T) → same_number (changed a) (changed b) ≡ (same_number (number a) (number b) && not (same_number (number x) (number a)))
   removed_numbers changed x c nx moved a b = rw (moved a, moved b, nx) (at c (number a) (number b))
     where
       at : (c : ℕ) (o p : Option ℕ) → same_number (cond (same_number o (Some c)) None o) (cond (same_number p (Some c)) None p) ≡ (same_number o p && not (same_number (Some c) o))
@@ -129,24 +129,24 @@ module _ {T : Type 0} (eq : T → T → Bool) (number : T → Option ℕ) where
       at c None (Some k) = refl
       at c (Some j) None = elim (j == c) as (λ s. same_number (cond s None (Some j)) None ≡ false) [ true ↦ refl | false ↦ refl ]
       at c (Some j) (Some k) = elim (cases_eq j c) [
-          | inl e ↦ rw (eq-eqb j c e, eq-eqb c j (sym e)) (sym (and_right (j == k) false refl))
-          | inr ne ↦ elim (cases_eq k c) [
-            | inl e ↦ rw (ne_eqb j c ne, eq-eqb k c e, ne_eqb j k (λ d. ne (d ∙ e))) refl
-            | inr far ↦ rw (ne_eqb j c ne, ne_eqb k c far, ne_eqb c j (λ e. ne (sym e))) (kept (j == k))
-          ]
+        | inl e ↦ rw (eq-eqb j c e, eq-eqb c j (sym e)) (sym (and_right (j == k) false refl))
+        | inr ne ↦ elim (cases_eq k c) [
+          | inl e ↦ rw (ne_eqb j c ne, eq-eqb k c e, ne_eqb j k (λ d. ne (d ∙ e))) refl
+          | inr far ↦ rw (ne_eqb j c ne, ne_eqb k c far, ne_eqb c j (λ e. ne (sym e))) (kept (j == k))
         ]
+      ]
 
 -- ---- as values show it
 module _ {T : Type 0} (eq : T → T → Bool) (laws : IsEquivalence eq)
-  (number : T → Option ℕ) (count : ℕ) (free : List ℕ) (sets : List (List T)) (p : IsNumbered eq number count free sets)
-  (changed : T → Option ℕ) (count' : ℕ) (free' : List ℕ) (sets' : List (List T)) (p' : IsNumbered eq changed count' free' sets') where
+    (number : T → Option ℕ) (count : ℕ) (free : List ℕ) (sets : List (List T)) (p : IsNumbered eq number count free sets)
+    (changed : T → Option ℕ) (count' : ℕ) (free' : List ℕ) (sets' : List (List T)) (p' : IsNumbered eq changed count' free' sets') where
   pub together_merged : (x y : T) → IsMerge eq number changed x y → (a b : T) → together eq (filled sets') a b ≡ together_after eq (filled sets) x y a b
   together_merged x y m a b =
       rw (by_number eq changed count' free' sets' p' a b, by_number eq number count free sets p x a, by_number eq number count free sets p x b, by_number eq number count free sets p y a, by_number eq number count free sets p y b, by_number eq number count free sets p a b)
       (merged_numbers eq number (alike eq laws number count free sets p) changed x y m a b)
 
   pub together_removed : (x : T) (c : ℕ) → number x ≡ Some c → ((q : T) → changed q ≡ cond (same_number (number q) (Some c)) None (number q))
-    → (a b : T) → together eq (filled sets') a b ≡ (together eq (filled sets) a b && not (together eq (filled sets) x a))
+      → (a b : T) → together eq (filled sets') a b ≡ (together eq (filled sets) a b && not (together eq (filled sets) x a))
   together_removed x c nx moved a b =
       rw (by_number eq changed count' free' sets' p' a b, by_number eq number count free sets p x a, by_number eq number count free sets p a b)
       (removed_numbers eq number changed x c nx moved a b)

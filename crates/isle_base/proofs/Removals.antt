@@ -41,11 +41,11 @@ less_from r Greater e l n = e
 
 -- in order and with no two equal: each is below the next
 pub strictly_ascending : {T : Type 0} {R : T → T → Ordering} (o : IsTotalOrder R) (eq : T → T → Bool) → ((x y : T) → eq x y ≡ eq_by_cmp R x y)
-  → (xs : List T) → IsSorted R xs → IsDistinct eq xs → IsStrictlySortedBy R xs
+    → (xs : List T) → IsSorted R xs → IsDistinct eq xs → IsStrictlySortedBy R xs
 unfolding IsStrictlySortedBy
 strictly_ascending o eq ties [] sorted apart = tt
 strictly_ascending {R = R} o eq ties (x ∷ xs) sorted apart =
     sorted_from_all_adjacent o (x ∷ xs) x (λ k h.
-      less_from (R (get_or (x ∷ xs) k x) (get_or (x ∷ xs) (k + 1) x)) (R (get_or (x ∷ xs) (k + 1) x) (get_or (x ∷ xs) k x))
-        (o.antisymm (get_or (x ∷ xs) k x) (get_or (x ∷ xs) (k + 1) x)) (sorted k x (omega arith) h)
-        (sym (ties (get_or (x ∷ xs) k x) (get_or (x ∷ xs) (k + 1) x)) ∙ apart_from_distinct eq (x ∷ xs) k (k + 1) x apart (omega arith) h))
+    less_from (R (get_or (x ∷ xs) k x) (get_or (x ∷ xs) (k + 1) x)) (R (get_or (x ∷ xs) (k + 1) x) (get_or (x ∷ xs) k x))
+    (o.antisymm (get_or (x ∷ xs) k x) (get_or (x ∷ xs) (k + 1) x)) (sorted k x (omega arith) h)
+    (sym (ties (get_or (x ∷ xs) k x) (get_or (x ∷ xs) (k + 1) x)) ∙ apart_from_distinct eq (x ∷ xs) k (k + 1) x apart (omega arith) h))

@@ -116,13 +116,14 @@ module _ {T : Type 0} (eq : T → T → Bool) where
 
   -- no item has a number exactly where there is none in the map
   pub empty_map : IsEquivalence eq → (entries : List (T × ℕ)) (free : List ℕ) (sets : List (List T)) → IsNumbered eq (λ x. lookup (eq x) entries) (length entries) free sets
-    → ((length entries == 0) ≡ true) ↔ ((x : T) → together eq (filled sets) x x ≡ false)
+      → ((length entries == 0) ≡ true) ↔ ((x : T) → together eq (filled sets) x x ≡ false)
   empty_map laws [] free sets p =
       let number : T → Option ℕ = λ x. None in
       (λ e x. by_number number 0 free sets p x x, λ h. refl)
-  empty_map laws (e ∷ es) free sets p =
-      (λ h. absurd (omega (arith, eqb-true (length (e ∷ es)) 0 h)),
-       λ h.
-         let number : T → Option ℕ = λ x. lookup (eq x) (e ∷ es) in
-         let some : number e.0 ≡ Some e.1 = ap (λ b. cond b (Some e.1) (lookup (eq e.0) es)) (laws.refl e.0) in
-         absurd (false≢true (sym (h e.0) ∙ by_number number (length (e ∷ es)) free sets p e.0 e.0 ∙ ap (λ o. same_number o o) some ∙ eq-eqb e.1 e.1 refl)))
+  empty_map laws (e ∷ es) free sets p = (
+    λ h. absurd (omega (arith, eqb-true (length (e ∷ es)) 0 h)),
+    λ h.
+        let number : T → Option ℕ = λ x. lookup (eq x) (e ∷ es) in
+        let some : number e.0 ≡ Some e.1 = ap (λ b. cond b (Some e.1) (lookup (eq e.0) es)) (laws.refl e.0) in
+        absurd (false≢true (sym (h e.0) ∙ by_number number (length (e ∷ es)) free sets p e.0 e.0 ∙ ap (λ o. same_number o o) some ∙ eq-eqb e.1 e.1 refl)),
+  )

@@ -1,5 +1,9 @@
 //! Sets of items that are apart from each other, each with one of its members as its name.
-ghost use Rattle.std.specs.Prelude.{Vec, Some, None, true, false, ◌≡◌, ◌≢◌, ◌==◌, ℕ, ◌+◌, ◌<◌, ◌≤◌, ◌||◌, ◌&&◌, cond, not, [], ◌∷◌, ◌++◌, ◌↔◌, List, sum_by, length, count_by, slice_get, slice_index_or, vec_len, vec_capacity, IfOk, IsOkAnd, OnOk, OnErr, IfSome, IsSome, is_some, IsFalse, IsNone, IsTrue};
+ghost use Rattle.std.specs.Prelude.{nat_eq, ◌%◌, Vec, Some, None, true, false, ◌≡◌, ◌≢◌, ◌==◌, ℕ, ◌+◌, ◌<◌, ◌≤◌, ◌||◌, ◌&&◌, cond, not, [], ◌∷◌, ◌++◌, ◌↔◌, List, sum_by, length, count_by, slice_get, slice_index_or, vec_len, vec_capacity, IfOk, IsOkAnd, OnOk, OnErr, IfSome, IsSome, is_some, IsFalse, IsNone, IsTrue};
+ghost use Rattle.std.proofs.Common.{rules};
+ghost use Rattle.std.specs.Cmp.Rules.{comparing, hashing};
+ghost use Rattle.std.specs.Hash as fed;
+ghost use Rattle.std.specs.Ordering.{on};
 ghost use Rattle.std.specs.HashMap.{get, hash_map_len, spare, Updates};
 ghost use Rattle.std.specs.List.{IsDistinct};
 ghost use Rattle.std.specs.List.Sorted.{IsPermutation, IsSorted, IsStrictlySortedBy};
@@ -165,7 +169,10 @@ fn copied<X: Copy>(alloc: Global, items: &[X]) -> Result<Vec<X>, AllocError>
 }
 
 // The same sets in vectors of their own.
-fn members_copied<T: Copy + Debug>(alloc: Global, members: &[Vec<T>]) -> Result<Vec<Vec<T>>, AllocError>
+fn members_copied<T: Copy + Debug>(
+    alloc: Global,
+    members: &[Vec<T>],
+) -> Result<Vec<Vec<T>>, AllocError>
     ensures { IfOk result (λ copy. sets_of copy.items ≡ sets_of members.now) }
 {
     let mut copy = Vec::new(alloc);
@@ -176,7 +183,10 @@ fn members_copied<T: Copy + Debug>(alloc: Global, members: &[Vec<T>]) -> Result<
 }
 
 // The same numbers in a map of their own.
-fn classes_copied<T: Copy + Debug + Eq + Hash>(alloc: Global, classes: &HashMap<T, usize>) -> Result<HashMap<T, usize>, AllocError>
+fn classes_copied<T: Copy + Debug + Eq + Hash>(
+    alloc: Global,
+    classes: &HashMap<T, usize>,
+) -> Result<HashMap<T, usize>, AllocError>
     ensures same { IfOk result (λ copy. (q : T) → get T.eq copy q ≡ get T.eq classes.now q) }
     ensures len { IfOk result (λ copy. hash_map_len copy ≡ hash_map_len classes.now) }
 {
@@ -440,12 +450,6 @@ fn remove<T: Copy + Debug + Eq + Hash + Ord>(
 
 #[cfg(test)]
 mod tests {
-    ghost use Rattle.std.specs.Prelude.{nat_eq};
-    ghost use Rattle.std.proofs.Common.{rules};
-    ghost use Rattle.std.specs.Cmp.Rules.{comparing, hashing};
-    ghost use Rattle.std.specs.Hash as fed;
-    ghost use Rattle.std.specs.Ordering.{on};
-
     use super::*;
     use std::hash::Hasher;
     use std::test::Fail;
@@ -543,7 +547,7 @@ mod tests {
         assert_eq!(rt; sets.find_mut(10), None);
         assert_eq!(rt; sets.len(), 4);
         let set = sets.remove_set_of(4)?;
-        assert!(rt; set.as_slice() == [1, 2, 3, 4]);
+        assert!(rt; set.as_slice() == [1, 2, 3, 4].as_slice());
         let none = sets.remove_set_of(1)?;
         assert!(rt; none.is_empty() && sets.is_empty());
         Ok(())
@@ -579,7 +583,7 @@ mod tests {
     fn two_sets_become_one(rt: HostRuntime) -> Result<(), Fail> {
         let mut sets = partition(rt.alloc(), &[(1, 2), (5, 6), (2, 5)])?;
         let set = sets.remove_set_of(6)?;
-        assert!(rt; set.as_slice() == [1, 2, 5, 6]);
+        assert!(rt; set.as_slice() == [1, 2, 5, 6].as_slice());
         assert_eq!(rt; sets.len(), 0);
         Ok(())
     }

@@ -33,7 +33,7 @@ returns-clause-fit g c free fit =
     let a = at_view c.args.members.now.items c.args.class c.index_mut.result.now w c.index_mut.ensures.value in
     let put = vector_put_as c.args.members.now.items c.args.class c.push.new.self (get_or (sets_of c.args.members.now.items) c.args.class [] ++ c.args.item ∷ []) w (c.in_ok-push.ensures.items ∙ ap (λ s. s ++ c.args.item ∷ []) (sym a)) in
     numbered_admit e g.met.T.Eq.laws (get e c.args.classes.now) (hash_map_len c.args.classes.now) free (sets_of c.args.members.now.items) fit
-      (get e c.put.new.classes) (hash_map_len c.put.new.classes) free _
-      c.args.item c.args.class put c.requires.some c.requires.outside
-      (λ q. c.put.ensures.updates q ∙ ap (cond (e c.args.item q) (Some c.args.class)) (c.reserve.ensures.entries.2 q))
-      (omega (arith, c.put.ensures.len, c.reserve.ensures.entries.1)) refl
+    (get e c.put.new.classes) (hash_map_len c.put.new.classes) free _
+    c.args.item c.args.class put c.requires.some c.requires.outside
+    (λ q. c.put.ensures.updates q ∙ ap (cond (e c.args.item q) (Some c.args.class)) (c.reserve.ensures.entries.2 q))
+    (omega (arith, c.put.ensures.len, c.reserve.ensures.entries.1)) refl

@@ -20,7 +20,7 @@ loop-item-preserved g c =
     let some : is_some c.remove.result ≡ true = ap is_some (c.remove.ensures.value ∙ c.loop-item.invariant.gone x ∙ ap (λ b. cond b None (old x)) before) ∙ c.requires.present x inside in
     record {
       gone = λ q.
-        let more : in_set e (take (i + 1) xs) q ≡ (in_set e (take i xs) q || e x q) = list_any_more (e q) xs i x lt ∙ ap (λ y. in_set e (take i xs) q || e q y) here ∙ ap (λ b. in_set e (take i xs) q || b) (laws.symm q x) in
-        c.remove.ensures.updates.0 q ∙ ap (cond (e x q) None) (c.loop-item.invariant.gone q) ∙ gone_more (e x q) (in_set e (take i xs) q) (old q) ∙ ap (λ b. cond b None (old q)) (sym more);
+          let more : in_set e (take (i + 1) xs) q ≡ (in_set e (take i xs) q || e x q) = list_any_more (e q) xs i x lt ∙ ap (λ y. in_set e (take i xs) q || e q y) here ∙ ap (λ b. in_set e (take i xs) q || b) (laws.symm q x) in
+          c.remove.ensures.updates.0 q ∙ ap (cond (e x q) None) (c.loop-item.invariant.gone q) ∙ gone_more (e x q) (in_set e (take i xs) q) (old q) ∙ ap (λ b. cond b None (old q)) (sym more);
       len = one_less (is_some c.remove.result) (hash_map_len c.remove.new.self) (hash_map_len c.loop-item.classes) (hash_map_len c.args.classes.now) i c.remove.ensures.len some c.loop-item.invariant.len;
     }

@@ -43,6 +43,6 @@ returns-clause-fit g c =
     let w'' : c.args.into < length middle = omega (arith, w', length-set vs c.args.from c.replace-moved.new.dest) in
     let put = vector_put_as middle c.args.into c.append_within.new.items (get_or (sets_of vs) c.args.into [] ++ get_or (sets_of vs) c.args.from []) w'' all in
     numbered_unite e g.met.T.Eq.laws (get e c.args.classes.now) (hash_map_len c.args.classes.now) c.args.free.now.items (sets_of vs) c.requires.fit
-      (get e c.renumber.new.classes) (hash_map_len c.renumber.new.classes) c.push_within.new.items.items _
-      (sets_of middle) c.args.into c.args.from emptied put c.requires.apart c.requires.first c.requires.second
-      (returns-clause-ok g c) c.renumber.ensures.len c.push_within.ensures
+    (get e c.renumber.new.classes) (hash_map_len c.renumber.new.classes) c.push_within.new.items.items _
+    (sets_of middle) c.args.into c.args.from emptied put c.requires.apart c.requires.first c.requires.second
+    (returns-clause-ok g c) c.renumber.ensures.len c.push_within.ensures

@@ -15,7 +15,9 @@ returns-clause-value g c =
 pub returns-clause-count : goal.returns-clause-count
 returns-clause-count g c =
     let s = c.self.inside in
-    let e = g.T.PartialEq.eq in
-    (keys s.classes, c.len.ensures.unique,
-     λ y. rw (← c.self.view_is, by_number e (get e s.classes) (hash_map_len s.classes) s.free.items (sets_of s.members.items) c.self.invariant y y, same_self (get e s.classes y)) (sym (is_some-lookup (e y) s.classes.entries)),
-     length-map s.classes.entries (λ p. p.0) ∙ sym c.len.ensures.len)
+    let e = g.T.PartialEq.eq in (
+      keys s.classes,
+      c.len.ensures.unique,
+      λ y. rw (← c.self.view_is, by_number e (get e s.classes) (hash_map_len s.classes) s.free.items (sets_of s.members.items) c.self.invariant y y, same_self (get e s.classes y)) (sym (is_some-lookup (e y) s.classes.entries)),
+      length-map s.classes.entries (λ p. p.0) ∙ sym c.len.ensures.len,
+    )

@@ -47,9 +47,9 @@ returns-in-None-None-clause-ok g c =
     let e = g.T.PartialEq.eq in
     let s = c.self.inside in
     rw (← c.self.view_is) (on_ok_weaker c.begin.result (λ merged.
-      together_merged e g.met.T.Eq.laws (get e s.classes) (hash_map_len s.classes) s.free.items (sets_of s.members.items) c.self.invariant
-        (get e c.begin.new.classes) (hash_map_len c.begin.new.classes) c.begin.new.free.items (sets_of c.begin.new.members.items) c.begin.ensures.fit
-        c.args.x c.args.y merged) c.begin.ensures.ok)
+    together_merged e g.met.T.Eq.laws (get e s.classes) (hash_map_len s.classes) s.free.items (sets_of s.members.items) c.self.invariant
+    (get e c.begin.new.classes) (hash_map_len c.begin.new.classes) c.begin.new.free.items (sets_of c.begin.new.members.items) c.begin.ensures.fit
+    c.args.x c.args.y merged) c.begin.ensures.ok)
 
 pub returns-in-None-None-clause-len : goal.returns-in-None-None-clause-len
 returns-in-None-None-clause-len g c =
@@ -71,9 +71,9 @@ returns-in-None-Some-clause-ok g c =
     let ny : get e s.classes c.args.y ≡ Some c.in-None-Some.class = let a = c.get-2.ensures.value in let b = c.copied-second.ensures in let d = c.in-None-Some.is-1 in cc in
     let respects = alike e g.met.T.Eq.laws (get e s.classes) (hash_map_len s.classes) s.free.items (sets_of s.members.items) c.self.invariant in
     rw (← c.self.view_is) (on_ok_weaker c.admit.result (λ merged.
-      together_merged e g.met.T.Eq.laws (get e s.classes) (hash_map_len s.classes) s.free.items (sets_of s.members.items) c.self.invariant
-        (get e c.admit.new.classes) (hash_map_len c.admit.new.classes) s.free.items (sets_of c.admit.new.members.items) (c.admit.ensures.fit s.free.items c.self.invariant)
-        c.args.x c.args.y (merge_flip e (get e s.classes) (get e c.admit.new.classes) c.args.y c.args.x (merge_admit e (get e s.classes) (get e c.admit.new.classes) c.args.y c.args.x g.met.T.Eq.laws respects c.in-None-Some.class ny nx merged))) c.admit.ensures.ok)
+    together_merged e g.met.T.Eq.laws (get e s.classes) (hash_map_len s.classes) s.free.items (sets_of s.members.items) c.self.invariant
+    (get e c.admit.new.classes) (hash_map_len c.admit.new.classes) s.free.items (sets_of c.admit.new.members.items) (c.admit.ensures.fit s.free.items c.self.invariant)
+    c.args.x c.args.y (merge_flip e (get e s.classes) (get e c.admit.new.classes) c.args.y c.args.x (merge_admit e (get e s.classes) (get e c.admit.new.classes) c.args.y c.args.x g.met.T.Eq.laws respects c.in-None-Some.class ny nx merged))) c.admit.ensures.ok)
 
 pub returns-in-None-Some-clause-len : goal.returns-in-None-Some-clause-len
 returns-in-None-Some-clause-len g c =
@@ -95,9 +95,9 @@ returns-in-Some-None-clause-ok g c =
     let ny : get e s.classes c.args.y ≡ None = let a = c.get-2.ensures.value in let b = c.copied-second.ensures in let d = c.in-Some-None.is-1 in cc in
     let respects = alike e g.met.T.Eq.laws (get e s.classes) (hash_map_len s.classes) s.free.items (sets_of s.members.items) c.self.invariant in
     rw (← c.self.view_is) (on_ok_weaker c.admit-in-Some-None.result (λ merged.
-      together_merged e g.met.T.Eq.laws (get e s.classes) (hash_map_len s.classes) s.free.items (sets_of s.members.items) c.self.invariant
-        (get e c.admit-in-Some-None.new.classes) (hash_map_len c.admit-in-Some-None.new.classes) s.free.items (sets_of c.admit-in-Some-None.new.members.items) (c.admit-in-Some-None.ensures.fit s.free.items c.self.invariant)
-        c.args.x c.args.y (merge_admit e (get e s.classes) (get e c.admit-in-Some-None.new.classes) c.args.x c.args.y g.met.T.Eq.laws respects c.in-Some-None.class nx ny merged)) c.admit-in-Some-None.ensures.ok)
+    together_merged e g.met.T.Eq.laws (get e s.classes) (hash_map_len s.classes) s.free.items (sets_of s.members.items) c.self.invariant
+    (get e c.admit-in-Some-None.new.classes) (hash_map_len c.admit-in-Some-None.new.classes) s.free.items (sets_of c.admit-in-Some-None.new.members.items) (c.admit-in-Some-None.ensures.fit s.free.items c.self.invariant)
+    c.args.x c.args.y (merge_admit e (get e s.classes) (get e c.admit-in-Some-None.new.classes) c.args.x c.args.y g.met.T.Eq.laws respects c.in-Some-None.class nx ny merged)) c.admit-in-Some-None.ensures.ok)
 
 pub returns-in-Some-None-clause-len : goal.returns-in-Some-None-clause-len
 returns-in-Some-None-clause-len g c =
@@ -118,9 +118,9 @@ returns-in-Some-Some-clause-ok g c =
     let nx : get e s.classes c.args.x ≡ Some c.in-Some-Some.a = let a = c.get.ensures.value in let b = c.copied-first.ensures in let d = c.in-Some-Some.is-0 in let f = c.in-Some-Some.a-is in cc in
     let ny : get e s.classes c.args.y ≡ Some c.in-Some-Some.b = let a = c.get-2.ensures.value in let b = c.copied-second.ensures in let d = c.in-Some-Some.is-1 in cc in
     rw (← c.self.view_is) (on_ok_weaker c.join.result (λ merged.
-      together_merged e g.met.T.Eq.laws (get e s.classes) (hash_map_len s.classes) s.free.items (sets_of s.members.items) c.self.invariant
-        (get e c.join.new.classes) (hash_map_len c.join.new.classes) c.join.new.free.items (sets_of c.join.new.members.items) c.join.ensures.fit
-        c.args.x c.args.y (merged c.args.x c.args.y nx ny)) c.join.ensures.ok)
+    together_merged e g.met.T.Eq.laws (get e s.classes) (hash_map_len s.classes) s.free.items (sets_of s.members.items) c.self.invariant
+    (get e c.join.new.classes) (hash_map_len c.join.new.classes) c.join.new.free.items (sets_of c.join.new.members.items) c.join.ensures.fit
+    c.args.x c.args.y (merged c.args.x c.args.y nx ny)) c.join.ensures.ok)
 
 pub returns-in-Some-Some-clause-len : goal.returns-in-Some-Some-clause-len
 returns-in-Some-Some-clause-len g c =

@@ -43,8 +43,8 @@ returns-in-Some-clause-members g c =
     let s = c.self.inside in
     let n : get e s.classes c.args.x ≡ Some c.in-Some.class = let a = c.get.ensures.value in let b = c.copied.ensures in let d = c.in-Some.is in cc in
     rw (← c.self.view_is) (IfOk-weaker c.remove.result _ _ (λ set h y.
-      h y ∙ same_symm (get e s.classes y) (Some c.in-Some.class) ∙ ap (λ o. same_number o (get e s.classes y)) (sym n)
-      ∙ sym (by_number e (get e s.classes) (hash_map_len s.classes) s.free.items (sets_of s.members.items) c.self.invariant c.args.x y)) c.remove.ensures.members)
+    h y ∙ same_symm (get e s.classes y) (Some c.in-Some.class) ∙ ap (λ o. same_number o (get e s.classes y)) (sym n)
+    ∙ sym (by_number e (get e s.classes) (hash_map_len s.classes) s.free.items (sets_of s.members.items) c.self.invariant c.args.x y)) c.remove.ensures.members)
 
 pub returns-in-Some-clause-rest : goal.returns-in-Some-clause-rest
 returns-in-Some-clause-rest g c =
@@ -52,9 +52,9 @@ returns-in-Some-clause-rest g c =
     let s = c.self.inside in
     let n : get e s.classes c.args.x ≡ Some c.in-Some.class = let a = c.get.ensures.value in let b = c.copied.ensures in let d = c.in-Some.is in cc in
     rw (← c.self.view_is) (on_ok_weaker c.remove.result (λ moved.
-      together_removed e g.met.T.Eq.laws (get e s.classes) (hash_map_len s.classes) s.free.items (sets_of s.members.items) c.self.invariant
-        (get e c.remove.new.classes) (hash_map_len c.remove.new.classes) c.remove.new.free.items (sets_of c.remove.new.members.items) c.remove.ensures.fit
-        c.args.x c.in-Some.class n moved) c.remove.ensures.ok)
+    together_removed e g.met.T.Eq.laws (get e s.classes) (hash_map_len s.classes) s.free.items (sets_of s.members.items) c.self.invariant
+    (get e c.remove.new.classes) (hash_map_len c.remove.new.classes) c.remove.new.free.items (sets_of c.remove.new.members.items) c.remove.ensures.fit
+    c.args.x c.in-Some.class n moved) c.remove.ensures.ok)
 
 pub returns-in-Some-clause-len : goal.returns-in-Some-clause-len
 returns-in-Some-clause-len g c =
@@ -70,7 +70,7 @@ returns-in-Some-clause-none g c off =
     let s = c.self.inside in
     let n : get e s.classes c.args.x ≡ Some c.in-Some.class = let a = c.get.ensures.value in let b = c.copied.ensures in let d = c.in-Some.is in cc in
     let there : together e (filled (sets_of s.members.items)) c.args.x c.args.x ≡ true =
-        by_number e (get e s.classes) (hash_map_len s.classes) s.free.items (sets_of s.members.items) c.self.invariant c.args.x c.args.x
-        ∙ ap (same_number (get e s.classes c.args.x)) n ∙ same_at (get e s.classes c.args.x) c.in-Some.class n in
+    by_number e (get e s.classes) (hash_map_len s.classes) s.free.items (sets_of s.members.items) c.self.invariant c.args.x c.args.x
+    ∙ ap (same_number (get e s.classes c.args.x)) n ∙ same_at (get e s.classes c.args.x) c.in-Some.class n in
     let there' : together e c.args.self.now c.args.x c.args.x ≡ true = rw c.self.view_is at there in
     absurd (false≢true (sym off ∙ there'))
