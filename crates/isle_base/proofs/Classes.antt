@@ -1,131 +1,309 @@
 -- Sets by their numbers.
-use Rattle.std.proofs.Common.{◌≡◌, ℕ, zero, suc, ◌+◌, ◌<◌, Bool, true, false, cond, List, [], ◌∷◌, length, get_or, map, Option, Some, None, refl, sym, ap, ◌∙◌, arith, nat_eq, Vec, ◌⊎◌, ◌↔◌, inl, inr, slice_get, IsNone, IsFalse, IsTrue, IfSome}
+use Rattle.std.proofs.Common.{◌≡◌, ◌≢◌, ℕ, zero, suc, ◌+◌, ◌<◌, ◌≤◌, ◌==◌, Bool, true, false, cond, not, ◌||◌, ◌&&◌, List, [], ◌∷◌, ◌++◌, length, sum_by, get_or, map, Option, Some, None, refl, sym, ap, ◌∙◌, arith, Vec, ◌⊎◌, ◌↔◌, inl, inr, slice_get, IsNone, IsFalse, IsTrue, IsSome, is_some, IfSome, eq-eqb, ne_eqb, eqb-true, length-append}
 use Rattle.std.specs.declared.alloc.Global.{Global}
+use Rattle.std.specs.Cmp.{IsEquivalence}
+use Rattle.std.specs.List.{IsDistinct, list_any, AllByRecursion}
 use Rattle.std.proofs.lemmas.List.{get_or-map}
-use Rattle.std.proofs.lemmas.Bool.{ne_eqb, false≢true}
-use Rattle.std.proofs.lemmas.Bool.Decides.{nat_tests}
-use Rattle.isle_base.specs.Partition.{in_set, set_of, together, class_from, IsPartition}
-
-module _ {T : Type 0} (eq : T → T → Bool) where
-  -- what is known where an item has a number
-  pub record HasClass (sets : List (List T)) (x : T) (j : ℕ) : Type 0 where
-    pub within : j < length sets
-    pub member : in_set eq (get_or sets j []) x ≡ true
-    pub set : set_of eq sets x ≡ get_or sets j []
-
-  pub class_some : (n : ℕ) (sets : List (List T)) (x : T) (k : ℕ) → class_from eq n sets x ≡ Some k → (j : ℕ) × (k ≡ n + j) × HasClass sets x j
-  unfolding class_from set_of
-  class_some n [] x k e = absurd (cc)
-  class_some n (s ∷ ss) x k e =
-      elim (in_set eq s x) as (λ b. in_set eq s x ≡ b → cond b (Some n) (class_from eq (n + 1) ss x) ≡ Some k → (j : ℕ) × (k ≡ n + j) × HasClass (s ∷ ss) x j) [
-        | true ↦ λ m h. let same : n ≡ k = cc in (0, omega arith, record { within = omega arith; member = m; set = rw m refl })
-        | false ↦ λ m h. let r = class_some (n + 1) ss x k h in (suc r.0, omega (arith, r.1), record { within = omega (arith, r.2.within); member = r.2.member; set = rw m r.2.set })
-      ] refl e
-
-  pub class_none : (n : ℕ) (sets : List (List T)) (x : T) → class_from eq n sets x ≡ None → set_of eq sets x ≡ []
-  unfolding class_from set_of
-  class_none n [] x e = refl
-  class_none n (s ∷ ss) x e =
-      elim (in_set eq s x) as (λ b. cond b (Some n) (class_from eq (n + 1) ss x) ≡ None → cond b s (set_of eq ss x) ≡ []) [
-        | true ↦ λ h. absurd (cc)
-        | false ↦ λ h. class_none (n + 1) ss x h
-      ] e
-
-  none_in : (n : ℕ) (sets : List (List T)) (x : T) → class_from eq n sets x ≡ None → (j : ℕ) → in_set eq (get_or sets j []) x ≡ false
-  unfolding class_from
-  none_in n [] x e j = refl
-  none_in n (s ∷ ss) x e zero =
-      elim (in_set eq s x) as (λ b. cond b (Some n) (class_from eq (n + 1) ss x) ≡ None → b ≡ false) [
-        | true ↦ λ h. absurd (cc)
-        | false ↦ λ h. refl
-      ] e
-  none_in n (s ∷ ss) x e (suc j) =
-      none_in (n + 1) ss x (elim (in_set eq s x) as (λ b. cond b (Some n) (class_from eq (n + 1) ss x) ≡ None → class_from eq (n + 1) ss x ≡ None) [
-        | true ↦ λ h. absurd (cc)
-        | false ↦ λ h. h
-      ] e) j
-
-  -- an item's set is empty or one of them
-  set_cases : (sets : List (List T)) (x : T) → (j : ℕ) × (set_of eq sets x ≡ get_or sets j [])
-  unfolding set_of
-  set_cases [] x = (0, refl)
-  set_cases (s ∷ ss) x =
-      elim (in_set eq s x) as (λ b. (j : ℕ) × (cond b s (set_of eq ss x) ≡ get_or (s ∷ ss) j [])) [
-        | true ↦ (0, refl)
-        | false ↦ let r = set_cases ss x in (suc r.0, r.1)
-      ]
-
-  module _ (sets : List (List T)) (number : T → Option ℕ) (count : ℕ) (p : IsPartition eq number count sets) where
-    pub found : (x : T) (k : ℕ) → number x ≡ Some k → HasClass sets x k
-    found x k e = let r = class_some 0 sets x k (sym (p.numbered x) ∙ e) in let same : k ≡ r.0 = omega (arith, r.1) in rw same r.2
-
-    pub not_found : (x : T) → number x ≡ None → set_of eq sets x ≡ []
-    not_found x e = class_none 0 sets x (sym (p.numbered x) ∙ e)
-
-    pub apart_first : (x y : T) → number x ≡ None → false ≡ together eq sets x y
-    apart_first x y e = rw (not_found x e) refl
-
-    pub apart_second : (x y : T) → number y ≡ None → false ≡ together eq sets x y
-    apart_second x y e = let c = set_cases sets x in rw c.1 (sym (none_in 0 sets y (sym (p.numbered y) ∙ e) c.0))
-
-    pub two_found : (x y : T) (a b : ℕ) → number x ≡ Some a → number y ≡ Some b → nat_eq a b ≡ together eq sets x y
-    two_found x y a b e f =
-        let s = found x a e in
-        let t = found y b f in
-        rw s.set (elim (in_set eq (get_or sets a []) y) as (λ v. in_set eq (get_or sets a []) y ≡ v → nat_eq a b ≡ v) [
-          | true ↦ λ h. let same = p.apart a b y h t.member in grind (arith, nat_tests)
-          | false ↦ λ h. ne_eqb a b (λ same. false≢true (sym h ∙ rw same t.member))
-        ] refl)
-
-  pub nonempty : (s : List T) (x : T) → in_set eq s x ≡ true → 0 < length s
-  nonempty [] x e = absurd (cc)
-  nonempty (y ∷ s) x e = omega arith
-
-  -- an item that has a set is in it
-  has_own : (sets : List (List T)) (x : T) → (set_of eq sets x ≡ []) ⊎ (together eq sets x x ≡ true)
-  unfolding set_of
-  has_own [] x = inl refl
-  has_own (s ∷ ss) x =
-      elim (in_set eq s x) as (λ b. in_set eq s x ≡ b → (cond b s (set_of eq ss x) ≡ []) ⊎ (in_set eq (cond b s (set_of eq ss x)) x ≡ true)) [
-        | true ↦ λ m. inr m
-        | false ↦ λ m. has_own ss x
-      ] refl
-
-  head_none : (s : List T) (x : T) → (s ≡ []) ⊎ (in_set eq s x ≡ true) → IsNone (slice_get s 0) ↔ IsFalse (in_set eq s x)
-  head_none [] x h = (λ e. refl, λ e. refl)
-  head_none (y ∷ s) x (inl e) = absurd (cc)
-  head_none (y ∷ s) x (inr m) = (λ e. absurd (cc), λ e. absurd (false≢true (sym e ∙ m)))
-
-  pub own_none : (sets : List (List T)) (x : T) (r : Option T) → r ≡ slice_get (set_of eq sets x) 0 → IsNone r ↔ IsFalse (together eq sets x x)
-  own_none sets x r e = rw e (head_none (set_of eq sets x) x (has_own sets x))
-
-  head_member : ((x : T) → eq x x ≡ true) → (s : List T) → IfSome (slice_get s 0) (λ y. IsTrue (in_set eq s y))
-  head_member same [] = tt
-  head_member same (y ∷ s) = rw (same y) refl
-
-  pub own_member : ((x : T) → eq x x ≡ true) → (sets : List (List T)) (x : T) (r : Option T) → r ≡ slice_get (set_of eq sets x) 0 → IfSome r (λ y. IsTrue (together eq sets x y))
-  own_member same sets x r e = rw e (head_member same (set_of eq sets x))
-
-  module _ (sets : List (List T)) (number : T → Option ℕ) (count : ℕ) (p : IsPartition eq number count sets) where
-    pub same_set : (x y : T) → together eq sets x y ≡ true → set_of eq sets y ≡ set_of eq sets x
-    same_set x y m =
-        elim (number x) as (λ n. number x ≡ n → set_of eq sets y ≡ set_of eq sets x) [
-          | None ↦ λ h. absurd (false≢true (apart_first sets number count p x y h ∙ m))
-          | Some a ↦ λ h. elim (number y) as (λ n. number y ≡ n → set_of eq sets y ≡ set_of eq sets x) [
-            | None ↦ λ k. absurd (false≢true (apart_second sets number count p x y k ∙ m))
-            | Some b ↦ λ k.
-                let s = found sets number count p x a h in
-                let t = found sets number count p y b k in
-                let there : in_set eq (get_or sets a []) y ≡ true = rw s.set at m in
-                let e : b ≡ a = p.apart b a y t.member there in
-                t.set ∙ ap (λ j. get_or sets j []) e ∙ sym s.set
-          ] refl
-        ] refl
-
-pub no_sets : {T : Type 0} (eq : T → T → Bool) (number : T → Option ℕ) (count : ℕ) → ((x : T) → number x ≡ None) → count ≡ 0 → IsPartition eq number count []
-unfolding class_from
-no_sets eq number count e f = record { numbered = e; apart = λ j k x h. absurd (cc); counted = f }
+use Rattle.std.proofs.lemmas.List.Folds.{list_any-append}
+use Rattle.std.proofs.lemmas.Map.Keys.{IsDistinct-cons, IsDistinct-push, IsDistinct-head, IsDistinct-tail}
+use Rattle.std.proofs.lemmas.Map.Steps.{list_any_congr}
+use Rattle.std.proofs.lemmas.Bool.{cases_eq, cases_Bool, false≢true, or_parts, or_left, or_right, or_from}
+use Rattle.isle_base.specs.Partition.{in_set, set_of, together, filled}
+use Rattle.isle_base.specs.Numbers.{same_number, sets_of, IsNumbered, IsPut, Vacant, IsMerge, touches}
+use Rattle.isle_base.proofs.Puts.{put_here, put_other, vacant_kept, vacant_freed, vacancies_at}
 
 -- a set as the vector that keeps it
-pub at_view : {T : Type 0} (vs : List (Vec T Global)) (k : ℕ) (v : Vec T Global) → k < length vs → v ≡ get_or vs k v → get_or (map (λ w. w.items) vs) k [] ≡ v.items
+pub at_view : {T : Type 0} (vs : List (Vec T Global)) (k : ℕ) (v : Vec T Global) → k < length vs → v ≡ get_or vs k v → get_or (sets_of vs) k [] ≡ v.items
 at_view vs k v h e = get_or-map (λ w. w.items) vs k v [] h ∙ ap (λ w. w.items) (sym e)
+
+-- ---- numbers
+pub same_is : (o p : Option ℕ) → same_number o p ≡ true → o ≡ p
+same_is None p e = absurd (false≢true e)
+same_is (Some a) None e = absurd (false≢true e)
+same_is (Some a) (Some b) e = ap Some (eqb-true a b e)
+
+pub same_at : (o : Option ℕ) (k : ℕ) → o ≡ Some k → same_number o (Some k) ≡ true
+same_at o k e = ap (λ p. same_number p (Some k)) e ∙ eq-eqb k k refl
+
+pub same_symm : (o p : Option ℕ) → same_number o p ≡ same_number p o
+same_symm None None = refl
+same_symm None (Some b) = refl
+same_symm (Some a) None = refl
+same_symm (Some a) (Some b) = elim (cases_eq a b) [ inl e ↦ eq-eqb a b e ∙ sym (eq-eqb b a (sym e)) | inr ne ↦ ne_eqb a b ne ∙ sym (ne_eqb b a (λ e. ne (sym e))) ]
+
+pub same_other : (a b : ℕ) → a ≢ b → same_number (Some a) (Some b) ≡ false
+same_other a b ne = ne_eqb a b ne
+
+same_everywhere : (o p : Option ℕ) → ((k : ℕ) → same_number o (Some k) ≡ same_number p (Some k)) → o ≡ p
+same_everywhere None None h = refl
+same_everywhere None (Some b) h = absurd (false≢true (h b ∙ eq-eqb b b refl))
+same_everywhere (Some a) None h = absurd (false≢true (sym (h a) ∙ eq-eqb a a refl))
+same_everywhere (Some a) (Some b) h = ap Some (sym (eqb-true b a (sym (h a) ∙ eq-eqb a a refl)))
+
+-- ---- the number of one item, when the number b becomes a
+into_first : (a b : ℕ) (o : Option ℕ) → (same_number o (Some a) || same_number o (Some b)) ≡ same_number (cond (same_number (Some b) o) (Some a) o) (Some a)
+into_first a b None = refl
+into_first a b (Some j) = elim (cases_eq b j) [
+  | inl e ↦ rw (eq-eqb b j e, eq-eqb j b (sym e), eq-eqb a a refl) (or_right (j == a) true refl)
+  | inr ne ↦ rw (ne_eqb b j ne, ne_eqb j b (λ e. ne (sym e))) (or_false (j == a))
+]
+  where
+    or_false : (t : Bool) → (t || false) ≡ t
+    or_false true = refl
+    or_false false = refl
+
+out_of_second : (a b : ℕ) → a ≢ b → (o : Option ℕ) → false ≡ same_number (cond (same_number (Some b) o) (Some a) o) (Some b)
+out_of_second a b ne None = refl
+out_of_second a b ne (Some j) = elim (cases_eq b j) [
+  | inl e ↦ rw (eq-eqb b j e) (sym (ne_eqb a b ne))
+  | inr far ↦ rw (ne_eqb b j far) (sym (ne_eqb j b (λ e. far (sym e))))
+]
+
+elsewhere : (a b k : ℕ) → k ≢ a → k ≢ b → (o : Option ℕ) → same_number o (Some k) ≡ same_number (cond (same_number (Some b) o) (Some a) o) (Some k)
+elsewhere a b k na nb None = refl
+elsewhere a b k na nb (Some j) = elim (cases_eq b j) [
+  | inl e ↦ rw (eq-eqb b j e) (ne_eqb j k (λ d. nb (sym d ∙ sym e)) ∙ sym (ne_eqb a k (λ d. na (sym d))))
+  | inr far ↦ rw (ne_eqb b j far) refl
+]
+
+not_both : (a b : ℕ) → a ≢ b → (o : Option ℕ) → same_number o (Some a) ≡ true → same_number o (Some b) ≡ false
+not_both a b ne None e = refl
+not_both a b ne (Some j) e = ne_eqb j b (λ d. ne (sym (eqb-true j a e) ∙ d))
+
+-- ---- and when the number c is no more
+out_of_removed : (c : ℕ) (o : Option ℕ) → false ≡ same_number (cond (same_number o (Some c)) None o) (Some c)
+out_of_removed c None = refl
+out_of_removed c (Some j) = elim (cases_eq j c) [
+  | inl e ↦ rw (eq-eqb j c e) refl
+  | inr ne ↦ rw (ne_eqb j c ne) (sym (ne_eqb j c ne))
+]
+
+not_removed : (c k : ℕ) → k ≢ c → (o : Option ℕ) → same_number o (Some k) ≡ same_number (cond (same_number o (Some c)) None o) (Some k)
+not_removed c k ne None = refl
+not_removed c k ne (Some j) = elim (cases_eq j c) [
+  | inl e ↦ rw (eq-eqb j c e) (ne_eqb j k (λ d. ne (sym d ∙ e)))
+  | inr far ↦ rw (ne_eqb j c far) refl
+]
+
+none_distinct : {T : Type 0} (eq : T → T → Bool) → IsDistinct eq []
+unfolding IsDistinct
+none_distinct eq = tt
+
+-- the new number of an item, as `renumber` gives it to those of a set
+pub renumbered : (a b : ℕ) (o : Option ℕ) → cond (same_number o (Some b) && is_some o) (Some a) o ≡ cond (same_number (Some b) o) (Some a) o
+renumbered a b None = refl
+renumbered a b (Some j) = rw (same_symm (Some b) (Some j)) (elim (j == b) as (λ t. cond (t && true) (Some a) (Some j) ≡ cond t (Some a) (Some j)) [ true ↦ refl | false ↦ refl ])
+
+pub same_self : (o : Option ℕ) → same_number o o ≡ is_some o
+same_self None = refl
+same_self (Some k) = eq-eqb k k refl
+
+pub no_sets : {T : Type 0} (eq : T → T → Bool) (number : T → Option ℕ) (count : ℕ) (free : List ℕ) → ((x : T) → number x ≡ None) → count ≡ 0 → free ≡ [] → IsNumbered eq number count free []
+no_sets eq number count free e f h = record {
+  numbered = λ x k. rw (e x) refl;
+  counted = f;
+  distinct = λ k. none_distinct eq;
+  plural = λ k n. absurd (omega (arith, n));
+  vacant = λ k. rw h refl;
+}
+
+module _ {T : Type 0} (eq : T → T → Bool) where
+  pub nonempty : (s : List T) (x : T) → in_set eq s x ≡ true → 0 < length s
+  nonempty [] x e = absurd (false≢true e)
+  nonempty (y ∷ s) x e = omega arith
+
+  none_equal : (x : T) (s : List T) → in_set eq s x ≡ false → AllByRecursion (λ y. eq x y ≡ false) s
+  none_equal x [] e = tt
+  none_equal x (y ∷ s) e = let p = or_parts (eq x y) (in_set eq s x) e in (p.0, none_equal x s p.1)
+
+  -- two sets that share no item
+  distinct_append : ((x : T) → eq x x ≡ true) → (s t : List T) → IsDistinct eq s → IsDistinct eq t → ((q : T) → in_set eq s q ≡ true → in_set eq t q ≡ false) → IsDistinct eq (s ++ t)
+  unfolding IsDistinct
+  distinct_append same [] t d e apart = e
+  distinct_append same (x ∷ s) t d e apart =
+      let first : in_set eq s x ≡ false = none_in x s d.0 in (
+        none_equal x (s ++ t) (list_any-append (eq x) s t ∙ or_from (in_set eq s x) (in_set eq t x) first (apart x (or_left (eq x x) (in_set eq s x) (same x)))),
+        distinct_append same s t d.1 e (λ q m. apart q (or_right (eq q x) (in_set eq s q) m)),
+      )
+    where
+      none_in : (x : T) (s : List T) → AllByRecursion (λ y. eq x y ≡ false) s → in_set eq s x ≡ false
+      none_in x [] a = refl
+      none_in x (y ∷ s) a = or_from (eq x y) (in_set eq s x) a.0 (none_in x s a.1)
+
+  -- ---- each operation keeps the tables fitting
+  module _ (laws : IsEquivalence eq) (number : T → Option ℕ) (count : ℕ) (free : List ℕ) (sets : List (List T)) (p : IsNumbered eq number count free sets) where
+    -- equal items have one number
+    pub alike : (a b : T) → eq a b ≡ true → number a ≡ number b
+    alike a b e = same_everywhere (number a) (number b) (λ k. sym (p.numbered a k) ∙ list_any_congr laws a b (get_or sets k []) e ∙ p.numbered b k)
+
+    pub has : (x : T) (k : ℕ) → number x ≡ Some k → in_set eq (get_or sets k []) x ≡ true
+    has x k e = p.numbered x k ∙ same_at (number x) k e
+
+    pub has_some : (x : T) (k : ℕ) → number x ≡ Some k → 0 < length (get_or sets k [])
+    has_some x k e = nonempty (get_or sets k []) x (has x k e)
+
+    -- the same numbers, in another map
+    pub numbered_same : (changed : T → Option ℕ) (count' : ℕ) → ((q : T) → changed q ≡ number q) → count' ≡ count → IsNumbered eq changed count' free sets
+    numbered_same changed count' same same_count = record {
+      numbered = λ q k. p.numbered q k ∙ ap (λ o. same_number o (Some k)) (sym (same q));
+      counted = same_count ∙ p.counted;
+      distinct = p.distinct;
+      plural = p.plural;
+      vacant = p.vacant;
+    }
+
+    module _ (changed : T → Option ℕ) (count' : ℕ) (free' : List ℕ) (sets' : List (List T)) where
+      -- a set of two new items, at a place that had none
+      pub numbered_begin : (x y : T) (c : ℕ) → IsPut sets sets' c (x ∷ y ∷ []) → get_or sets c [] ≡ [] → Vacant free' sets'
+          → number x ≡ None → number y ≡ None → eq x y ≡ false
+          → ((q : T) → changed q ≡ cond (eq y q) (Some c) (cond (eq x q) (Some c) (number q))) → count' ≡ count + 2
+          → IsNumbered eq changed count' free' sets'
+      unfolding IsDistinct
+      numbered_begin x y c put before vacant nx ny apart moved more =
+          let here = put_here sets sets' c (x ∷ y ∷ []) put in
+          record {
+            numbered = λ q k. elim (cases_eq k c) [
+              | inl same ↦
+                  let was : false ≡ same_number (number q) (Some c) = ap (λ s. in_set eq s q) (sym before) ∙ p.numbered q c in
+                  let at : (a b : Bool) → eq x q ≡ a → eq y q ≡ b → (a || (b || false)) ≡ same_number (cond b (Some c) (cond a (Some c) (number q))) (Some c) =
+                  elim [
+                    | true ↦ elim [ true ↦ λ d e. sym (eq-eqb c c refl) | false ↦ λ d e. sym (eq-eqb c c refl) ]
+                    | false ↦ elim [ true ↦ λ d e. sym (eq-eqb c c refl) | false ↦ λ d e. was ]
+                  ] in
+                  rw (same, here, moved q, laws.symm q x, laws.symm q y) (at (eq x q) (eq y q) refl refl)
+              | inr ne ↦
+                  let old : in_set eq (get_or sets k []) q ≡ same_number (number q) (Some k) = p.numbered q k in
+                  let far : same_number (Some c) (Some k) ≡ false = same_other c k (λ e. ne (sym e)) in
+                  let at : (a b : Bool) → eq x q ≡ a → eq y q ≡ b → same_number (number q) (Some k) ≡ same_number (cond b (Some c) (cond a (Some c) (number q))) (Some k) =
+                  let by_x : eq x q ≡ true → same_number (number q) (Some k) ≡ same_number (Some c) (Some k) = λ d. ap (λ o. same_number o (Some k)) (sym (alike x q d) ∙ nx) ∙ sym far in
+                  let by_y : eq y q ≡ true → same_number (number q) (Some k) ≡ same_number (Some c) (Some k) = λ d. ap (λ o. same_number o (Some k)) (sym (alike y q d) ∙ ny) ∙ sym far in
+                  elim [
+                    | true ↦ elim [ true ↦ λ d e. by_x d | false ↦ λ d e. by_x d ]
+                    | false ↦ elim [ true ↦ λ d e. by_y e | false ↦ λ d e. refl ]
+                  ] in
+                  rw (put_other sets sets' c (x ∷ y ∷ []) put k ne, moved q) (old ∙ at (eq x q) (eq y q) refl refl)
+            ];
+            counted = let none : length (get_or sets c []) ≡ 0 = ap length before in omega (arith, put.total, none, more, p.counted);
+            distinct = λ k. elim (cases_eq k c) [
+              | inl same ↦ rw (same, here) ((apart, tt), (tt, tt))
+              | inr ne ↦ rw (put_other sets sets' c (x ∷ y ∷ []) put k ne) (p.distinct k)
+            ];
+            plural = λ k. elim (cases_eq k c) [
+              | inl same ↦ rw (same, here) (λ e. absurd (omega arith))
+              | inr ne ↦ rw (put_other sets sets' c (x ∷ y ∷ []) put k ne) (p.plural k)
+            ];
+            vacant = vacant;
+          }
+
+      -- a new item, into a set that has some
+      pub numbered_admit : (y : T) (c : ℕ) → IsPut sets sets' c (get_or sets c [] ++ y ∷ []) → 0 < length (get_or sets c [])
+          → number y ≡ None → ((q : T) → changed q ≡ cond (eq y q) (Some c) (number q)) → count' ≡ count + 1 → free' ≡ free
+          → IsNumbered eq changed count' free' sets'
+      numbered_admit y c put some ny moved more unchanged =
+          let s = get_or sets c [] in
+          let here = put_here sets sets' c (s ++ y ∷ []) put in
+          let long = length-append s (y ∷ []) in
+          record {
+            numbered = λ q k. elim (cases_eq k c) [
+              | inl same ↦
+                  let at : (b : Bool) → eq y q ≡ b → (in_set eq s q || (b || false)) ≡ same_number (cond b (Some c) (number q)) (Some c) =
+                  elim [
+                    | true ↦ λ e. or_right (in_set eq s q) true refl ∙ sym (eq-eqb c c refl)
+                    | false ↦ λ e. elim (in_set eq s q) as (λ a. in_set eq s q ≡ a → (a || false) ≡ same_number (number q) (Some c)) [
+                      | true ↦ λ m. sym m ∙ p.numbered q c
+                      | false ↦ λ m. sym m ∙ p.numbered q c
+                    ] refl
+                  ] in
+                  rw (same, here, list_any-append (eq q) s (y ∷ []), moved q, laws.symm q y) (at (eq y q) refl)
+              | inr ne ↦
+                  let far : same_number (Some c) (Some k) ≡ false = same_other c k (λ e. ne (sym e)) in
+                  let at : (b : Bool) → eq y q ≡ b → same_number (number q) (Some k) ≡ same_number (cond b (Some c) (number q)) (Some k) =
+                  elim [
+                    | true ↦ λ d. ap (λ o. same_number o (Some k)) (sym (alike y q d) ∙ ny) ∙ sym far
+                    | false ↦ λ d. refl
+                  ] in
+                  rw (put_other sets sets' c (s ++ y ∷ []) put k ne, moved q) (p.numbered q k ∙ at (eq y q) refl)
+            ];
+            counted = omega (arith, put.total, long, more, p.counted);
+            distinct = λ k. elim (cases_eq k c) [
+              | inl same ↦
+                  let away : in_set eq s y ≡ false = p.numbered y c ∙ ap (λ o. same_number o (Some c)) ny in
+                  rw (same, here) (IsDistinct-push laws s y (p.distinct c) away)
+              | inr ne ↦ rw (put_other sets sets' c (s ++ y ∷ []) put k ne) (p.distinct k)
+            ];
+            plural = λ k. elim (cases_eq k c) [
+              | inl same ↦ rw (same, here) (λ e. absurd (omega (arith, some, long, e)))
+              | inr ne ↦ rw (put_other sets sets' c (s ++ y ∷ []) put k ne) (p.plural k)
+            ];
+            vacant = rw unchanged (vacant_kept sets sets' c (s ++ y ∷ []) put free (vacancies_at sets c some) (omega (arith, long)) p.vacant);
+          }
+
+      -- the members of one set go to the end of another, and its place becomes free
+      pub numbered_unite : (middle : List (List T)) (a b : ℕ) → IsPut sets middle b [] → IsPut middle sets' a (get_or sets a [] ++ get_or sets b []) → a ≢ b
+          → 0 < length (get_or sets a []) → 0 < length (get_or sets b [])
+          → ((q : T) → changed q ≡ cond (same_number (Some b) (number q)) (Some a) (number q)) → count' ≡ count → free' ≡ free ++ b ∷ []
+          → IsNumbered eq changed count' free' sets'
+      numbered_unite middle a b emptied put ne first second moved same_count more_free =
+          let s = get_or sets a [] in
+          let t = get_or sets b [] in
+          let ne' : b ≢ a = λ e. ne (sym e) in
+          let here = put_here middle sets' a (s ++ t) put in
+          let kept : get_or middle a [] ≡ s = put_other sets middle b [] emptied a ne in
+          let gone : get_or sets' b [] ≡ [] = put_other middle sets' a (s ++ t) put b ne' ∙ put_here sets middle b [] emptied in
+          let other : (k : ℕ) → k ≢ a → k ≢ b → get_or sets' k [] ≡ get_or sets k [] = λ k na nb. put_other middle sets' a (s ++ t) put k na ∙ put_other sets middle b [] emptied k nb in
+          let long = length-append s t in
+          let there : 0 < length (get_or middle a []) = rw kept first in
+          record {
+            numbered = λ q k. elim (cases_eq k a) [
+              | inl same ↦
+                  let at : (o : Option ℕ) → (same_number o (Some a) || same_number o (Some b)) ≡ same_number (cond (same_number (Some b) o) (Some a) o) (Some a) = into_first a b in
+                  rw (same, here, list_any-append (eq q) s t, moved q, p.numbered q a, p.numbered q b) (at (number q))
+              | inr na ↦ elim (cases_eq k b) [
+                | inl same ↦ rw (same, gone, moved q) (out_of_second a b ne (number q))
+                | inr nb ↦ rw (other k na nb, moved q) (p.numbered q k ∙ elsewhere a b k na nb (number q))
+              ]
+            ];
+            counted =
+                let kept_length : length (get_or middle a []) ≡ length s = ap length kept in
+                omega (arith, emptied.total, put.total, kept_length, long, same_count, p.counted);
+            distinct = λ k. elim (cases_eq k a) [
+              | inl same ↦ rw (same, here) (distinct_append laws.refl s t (p.distinct a) (p.distinct b) (λ q m. p.numbered q b ∙ not_both a b ne (number q) (sym (p.numbered q a) ∙ m)))
+              | inr na ↦ elim (cases_eq k b) [
+                | inl same ↦ rw (same, gone) (none_distinct eq)
+                | inr nb ↦ rw (other k na nb) (p.distinct k)
+              ]
+            ];
+            plural = λ k. elim (cases_eq k a) [
+              | inl same ↦ rw (same, here) (λ e. absurd (omega (arith, first, second, long, e)))
+              | inr na ↦ elim (cases_eq k b) [
+                | inl same ↦ rw (same, gone) (λ e. absurd (omega (arith, e)))
+                | inr nb ↦ rw (other k na nb) (p.plural k)
+              ]
+            ];
+            vacant =
+                let freed : Vacant (free ++ b ∷ []) middle = vacant_freed sets middle b [] emptied free refl (vacancies_at sets b second) p.vacant in
+                rw more_free (vacant_kept middle sets' a (s ++ t) put (free ++ b ∷ []) (vacancies_at middle a there) (omega (arith, first, long)) freed);
+          }
+
+      -- a set goes, and its place becomes free
+      pub numbered_remove : (c : ℕ) → IsPut sets sets' c [] → 0 < length (get_or sets c [])
+          → ((q : T) → changed q ≡ cond (in_set eq (get_or sets c []) q) None (number q)) → count' + length (get_or sets c []) ≡ count → free' ≡ free ++ c ∷ []
+          → IsNumbered eq changed count' free' sets'
+      numbered_remove c put some moved fewer more_free =
+          let here = put_here sets sets' c [] put in
+          record {
+            numbered = λ q k. elim (cases_eq k c) [
+              | inl same ↦ rw (same, here, moved q, p.numbered q c) (out_of_removed c (number q))
+              | inr ne ↦ rw (put_other sets sets' c [] put k ne, moved q, p.numbered q c) (p.numbered q k ∙ not_removed c k ne (number q))
+            ];
+            counted = omega (arith, put.total, fewer, p.counted);
+            distinct = λ k. elim (cases_eq k c) [
+              | inl same ↦ rw (same, here) (none_distinct eq)
+              | inr ne ↦ rw (put_other sets sets' c [] put k ne) (p.distinct k)
+            ];
+            plural = λ k. elim (cases_eq k c) [
+              | inl same ↦ rw (same, here) (λ e. absurd (omega (arith, e)))
+              | inr ne ↦ rw (put_other sets sets' c [] put k ne) (p.plural k)
+            ];
+            vacant = rw more_free (vacant_freed sets sets' c [] put free refl (vacancies_at sets c some) p.vacant);
+          }

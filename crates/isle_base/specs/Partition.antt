@@ -1,6 +1,12 @@
 -- Sets of items, where a test says which items are one.
-use Rattle.std.specs.Prelude.{◌≡◌, ℕ, ◌+◌, Bool, true, cond, List, [], ◌∷◌, length, sum_by, Option, Some, None, slice_index_or}
+use Rattle.std.specs.Prelude.{◌≡◌, ℕ, ◌+◌, Bool, true, false, cond, ◌||◌, ◌&&◌, List, [], ◌∷◌}
 use Rattle.std.specs.List.{list_any}
+
+-- the sets that have an item
+unfoldable pub filled : {T : Type 0} → List (List T) → List (List T)
+filled [] = []
+filled ([] ∷ ss) = filled ss
+filled ((x ∷ s) ∷ ss) = (x ∷ s) ∷ filled ss
 
 module _ {T : Type 0} (eq : T → T → Bool) where
   -- the set has the item
@@ -16,13 +22,18 @@ module _ {T : Type 0} (eq : T → T → Bool) where
   abbrev pub together : List (List T) → T → T → Bool
   together sets x y = in_set (set_of sets x) y
 
-  -- the place of the first set that has the item, counted from n
-  unfoldable pub class_from : ℕ → List (List T) → T → Option ℕ
-  class_from n [] x = None
-  class_from n (s ∷ ss) x = cond (in_set s x) (Some n) (class_from (n + 1) ss x)
+  -- a is x, or in the set of x
+  abbrev pub joined : List (List T) → T → T → Bool
+  joined sets x a = eq x a || together sets x a
 
-  -- the sets are disjoint, and each item has the number of its set
-  pub record IsPartition (number : T → Option ℕ) (count : ℕ) (sets : List (List T)) : Type 0 where
-    pub numbered : (x : T) → number x ≡ class_from 0 sets x
-    pub apart : (j k : ℕ) (x : T) → in_set (slice_index_or sets j []) x ≡ true → in_set (slice_index_or sets k []) x ≡ true → j ≡ k
-    pub counted : count ≡ sum_by length sets
+  -- a is in the one set that takes the place of the sets of x and of y
+  abbrev pub merged : List (List T) → T → T → T → Bool
+  merged sets x y a = joined sets x a || joined sets y a
+
+  -- a and b are in one set once the sets of x and of y are one
+  abbrev pub together_after : List (List T) → T → T → T → T → Bool
+  together_after sets x y a b = (merged sets x y a && merged sets x y b) || together sets a b
+
+  -- how many items x adds to the sets: one where it is in none
+  abbrev pub added_by : List (List T) → T → ℕ
+  added_by sets x = cond (together sets x x) 0 1

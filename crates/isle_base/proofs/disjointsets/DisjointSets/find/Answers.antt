@@ -1,36 +1,42 @@
-use Rattle.std.proofs.Common.{◌<◌, map, length, Some, refl, sym, ap, ◌∙◌, slice_get, arith, hash_map_len}
+use Rattle.std.proofs.Common.{◌≡◌, ◌<◌, map, length, Some, refl, sym, ap, ◌∙◌, slice_get, arith, hash_map_len}
 use Rattle.std.proofs.lemmas.List.{length-map}
 use Rattle.std.specs.HashMap.{get}
 use Rattle.std.proofs.lemmas.Option.{slice_get-get_or}
-use Rattle.isle_base.proofs.Classes.{found, not_found, nonempty, at_view, own_none, own_member, same_set}
-use Rattle.isle_base.specs.Partition.{IsPartition}
+use Rattle.isle_base.proofs.Classes.{has_some, at_view}
+use Rattle.isle_base.proofs.Puts.{within_filled}
+use Rattle.isle_base.proofs.Togethers.{found, not_found, own_none, own_member, same_set, another}
+use Rattle.isle_base.specs.Numbers.{sets_of}
 use Rattle.isle_base.proofs.disjointsets.DisjointSets.find.Goals as goal
 
 pub returns-in_err-class-clause-value : goal.returns-in_err-class-clause-value
 returns-in_err-class-clause-value g c =
-    rw (c.from_residual.ensures, ← c.self.view_is, not_found g.T.PartialEq.eq (map (λ v. v.items) c.self.inside.members.items) (get g.T.PartialEq.eq c.self.inside.classes) (hash_map_len c.self.inside.classes) c.self.invariant c.args.x (sym c.in_err-class.ensures.value)) refl
+    let s = c.self.inside in
+    let off = not_found g.T.PartialEq.eq (get g.T.PartialEq.eq s.classes) (hash_map_len s.classes) s.free.items (sets_of s.members.items) c.self.invariant c.args.x (sym c.in_err-class.ensures.value) in
+    rw (c.from_residual.ensures, ← c.self.view_is, off) refl
 
 pub index-set-requires : goal.index-set-requires
 index-set-requires g c =
-    let f = found g.T.PartialEq.eq (map (λ v. v.items) c.self.inside.members.items) (get g.T.PartialEq.eq c.self.inside.classes) (hash_map_len c.self.inside.classes) c.self.invariant c.args.x c.in_ok-class.field-0.now (sym c.in_ok-class.ensures.value) in
-    omega (arith, f.within, length-map c.self.inside.members.items (λ v. v.items), c.self.inside.members.ok.0)
+    let s = c.self.inside in
+    let some = has_some g.T.PartialEq.eq g.met.T.Eq.laws (get g.T.PartialEq.eq s.classes) (hash_map_len s.classes) s.free.items (sets_of s.members.items) c.self.invariant c.args.x c.in_ok-class.field-0.now (sym c.in_ok-class.ensures.value) in
+    omega (arith, within_filled (sets_of s.members.items) c.in_ok-class.field-0.now some, length-map s.members.items (λ v. v.items), s.members.ok.0)
 
 pub index-requires : goal.index-requires
 index-requires g c =
-    let f = found g.T.PartialEq.eq (map (λ v. v.items) c.self.inside.members.items) (get g.T.PartialEq.eq c.self.inside.classes) (hash_map_len c.self.inside.classes) c.self.invariant c.args.x c.in_ok-class.field-0.now (sym c.in_ok-class.ensures.value) in
-    let n = nonempty g.T.PartialEq.eq _ c.args.x f.member in
-    let w : c.in_ok-class.field-0.now < length c.self.inside.members.items = omega (arith, f.within, length-map c.self.inside.members.items (λ v. v.items)) in
-    let a = at_view c.self.inside.members.items c.in_ok-class.field-0.now c.index-set.result.now w c.index-set.ensures in
-    let m = rw a at n in
+    let s = c.self.inside in
+    let some = has_some g.T.PartialEq.eq g.met.T.Eq.laws (get g.T.PartialEq.eq s.classes) (hash_map_len s.classes) s.free.items (sets_of s.members.items) c.self.invariant c.args.x c.in_ok-class.field-0.now (sym c.in_ok-class.ensures.value) in
+    let w : c.in_ok-class.field-0.now < length s.members.items = omega (arith, within_filled (sets_of s.members.items) c.in_ok-class.field-0.now some, length-map s.members.items (λ v. v.items)) in
+    let a = at_view s.members.items c.in_ok-class.field-0.now c.index-set.result.now w c.index-set.ensures in
+    let m = rw a at some in
     omega (arith, m, c.index-set.result.now.ok.0)
 
 pub returns-clause-value : goal.returns-clause-value
 returns-clause-value g c =
-    let f = found g.T.PartialEq.eq (map (λ v. v.items) c.self.inside.members.items) (get g.T.PartialEq.eq c.self.inside.classes) (hash_map_len c.self.inside.classes) c.self.invariant c.args.x c.in_ok-class.field-0.now (sym c.in_ok-class.ensures.value) in
-    let n = nonempty g.T.PartialEq.eq _ c.args.x f.member in
-    let w : c.in_ok-class.field-0.now < length c.self.inside.members.items = omega (arith, f.within, length-map c.self.inside.members.items (λ v. v.items)) in
-    let a = at_view c.self.inside.members.items c.in_ok-class.field-0.now c.index-set.result.now w c.index-set.ensures in
-    rw (← c.self.view_is, f.set, a) (ap Some c.index.ensures ∙ sym (slice_get-get_or c.index-set.result.now.items 0 c.index.result.now (rw a at n)))
+    let s = c.self.inside in
+    let some = has_some g.T.PartialEq.eq g.met.T.Eq.laws (get g.T.PartialEq.eq s.classes) (hash_map_len s.classes) s.free.items (sets_of s.members.items) c.self.invariant c.args.x c.in_ok-class.field-0.now (sym c.in_ok-class.ensures.value) in
+    let at = found g.T.PartialEq.eq (get g.T.PartialEq.eq s.classes) (hash_map_len s.classes) s.free.items (sets_of s.members.items) c.self.invariant c.args.x c.in_ok-class.field-0.now (sym c.in_ok-class.ensures.value) in
+    let w : c.in_ok-class.field-0.now < length s.members.items = omega (arith, within_filled (sets_of s.members.items) c.in_ok-class.field-0.now some, length-map s.members.items (λ v. v.items)) in
+    let a = at_view s.members.items c.in_ok-class.field-0.now c.index-set.result.now w c.index-set.ensures in
+    rw (← c.self.view_is, at, a) (ap Some c.index.ensures ∙ sym (slice_get-get_or c.index-set.result.now.items 0 c.index.result.now (rw a at some)))
 
 pub returns-in_err-class-clause-none : goal.returns-in_err-class-clause-none
 returns-in_err-class-clause-none g c = own_none g.T.PartialEq.eq c.args.self.now c.args.x _ (returns-in_err-class-clause-value g c)
@@ -40,8 +46,10 @@ returns-in_err-class-clause-member g c = own_member g.T.PartialEq.eq g.met.T.Eq.
 
 pub returns-in_err-class-clause-same : goal.returns-in_err-class-clause-same
 returns-in_err-class-clause-same g c y m =
-    let p : IsPartition g.T.PartialEq.eq (get g.T.PartialEq.eq c.self.inside.classes) (hash_map_len c.self.inside.classes) c.args.self.now = rw c.self.view_is at c.self.invariant in
-    ap (λ s. slice_get s 0) (same_set g.T.PartialEq.eq c.args.self.now (get g.T.PartialEq.eq c.self.inside.classes) (hash_map_len c.self.inside.classes) p c.args.x y m) ∙ sym (returns-in_err-class-clause-value g c)
+    let s = c.self.inside in
+    let one = same_set g.T.PartialEq.eq (get g.T.PartialEq.eq s.classes) (hash_map_len s.classes) s.free.items (sets_of s.members.items) c.self.invariant c.args.x y in
+    let all = rw c.self.view_is at one in
+    ap (λ s. slice_get s 0) (all m) ∙ sym (returns-in_err-class-clause-value g c)
 
 pub returns-clause-none : goal.returns-clause-none
 returns-clause-none g c = own_none g.T.PartialEq.eq c.args.self.now c.args.x _ (returns-clause-value g c)
@@ -51,5 +59,13 @@ returns-clause-member g c = own_member g.T.PartialEq.eq g.met.T.Eq.laws.refl c.a
 
 pub returns-clause-same : goal.returns-clause-same
 returns-clause-same g c y m =
-    let p : IsPartition g.T.PartialEq.eq (get g.T.PartialEq.eq c.self.inside.classes) (hash_map_len c.self.inside.classes) c.args.self.now = rw c.self.view_is at c.self.invariant in
-    ap (λ s. slice_get s 0) (same_set g.T.PartialEq.eq c.args.self.now (get g.T.PartialEq.eq c.self.inside.classes) (hash_map_len c.self.inside.classes) p c.args.x y m) ∙ sym (returns-clause-value g c)
+    let s = c.self.inside in
+    let one = same_set g.T.PartialEq.eq (get g.T.PartialEq.eq s.classes) (hash_map_len s.classes) s.free.items (sets_of s.members.items) c.self.invariant c.args.x y in
+    let all = rw c.self.view_is at one in
+    ap (λ s. slice_get s 0) (all m) ∙ sym (returns-clause-value g c)
+
+pub returns-clause-another : goal.returns-clause-another
+returns-clause-another g c some =
+    let s = c.self.inside in
+    let other = another g.T.PartialEq.eq (get g.T.PartialEq.eq s.classes) (hash_map_len s.classes) s.free.items (sets_of s.members.items) c.self.invariant g.met.T.Eq.laws c.args.x c.in_ok-class.field-0.now (sym c.in_ok-class.ensures.value) in
+    rw c.self.view_is at other

@@ -1,8 +1,13 @@
-use Rattle.std.proofs.Common.{rules, hash_map_len}
+use Rattle.std.proofs.Common.{rules, refl, hash_map_len}
 use Rattle.std.specs.HashMap.{get}
+use Rattle.isle_base.specs.Partition.{filled}
 use Rattle.isle_base.proofs.Classes.{no_sets}
 use Rattle.isle_base.proofs.disjointsets.DisjointSets.new.Goals as goal
 
 pub invariant_of-result : goal.invariant_of-result
 invariant_of-result g c =
-    rw c.new-2.ensures.items (no_sets g.T.PartialEq.eq (get g.T.PartialEq.eq c.new.result) (hash_map_len c.new.result) (λ x. search rules) (search rules))
+    rw c.new-2.ensures.items (no_sets g.T.PartialEq.eq (get g.T.PartialEq.eq c.new.result) (hash_map_len c.new.result) c.new-3.result.items (λ x. search rules) (search rules) c.new-3.ensures.items)
+
+pub returns : goal.returns
+unfolding filled
+returns g c = rw c.new-2.ensures.items refl

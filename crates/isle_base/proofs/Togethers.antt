@@ -1,0 +1,129 @@
+-- What is together, by the numbers of sets.
+use Rattle.std.proofs.Common.{◌≡◌, ◌≢◌, ℕ, zero, suc, ◌+◌, ◌<◌, ◌≤◌, ◌==◌, Bool, true, false, cond, not, ◌||◌, ◌&&◌, List, [], ◌∷◌, length, sum_by, get_or, Option, Some, None, refl, sym, ap, ◌∙◌, arith, ◌⊎◌, ◌↔◌, inl, inr, slice_get, IsNone, IsFalse, IsTrue, IsSome, IfSome, eq-eqb, ne_eqb, eqb-true}
+use Rattle.std.specs.Cmp.{IsEquivalence}
+use Rattle.std.specs.List.{IsDistinct, list_any}
+use Rattle.std.specs.Map.{lookup}
+use Rattle.std.proofs.lemmas.List.Sums.{sum_by-cons}
+use Rattle.std.proofs.lemmas.Bool.{false≢true, or_left, or_right}
+use Rattle.isle_base.specs.Partition.{in_set, set_of, together, together_after, merged, joined, added_by, filled}
+use Rattle.isle_base.specs.Numbers.{same_number, IsNumbered, IsMerge, touches}
+use Rattle.isle_base.proofs.Classes.{same_is, same_at, same_symm, nonempty, alike, has}
+
+-- ---- the sets without the empty ones
+module _ {T : Type 0} where
+  pub total_filled : (sets : List (List T)) → sum_by length (filled sets) ≡ sum_by length sets
+  unfolding filled
+  total_filled [] = refl
+  total_filled ([] ∷ ss) = omega (arith, total_filled ss, sum_by-cons length [] ss)
+  total_filled ((x ∷ s) ∷ ss) = omega (arith, total_filled ss, sum_by-cons length (x ∷ s) ss, sum_by-cons length (x ∷ s) (filled ss))
+
+module _ {T : Type 0} (eq : T → T → Bool) where
+  pub set_of_filled : (sets : List (List T)) (x : T) → set_of eq (filled sets) x ≡ set_of eq sets x
+  unfolding filled set_of
+  set_of_filled [] x = refl
+  set_of_filled ([] ∷ ss) x = set_of_filled ss x
+  set_of_filled ((y ∷ s) ∷ ss) x = ap (cond (in_set eq (y ∷ s) x) (y ∷ s)) (set_of_filled ss x)
+
+  set_at : (sets : List (List T)) (x : T) (k : ℕ) → in_set eq (get_or sets k []) x ≡ true → ((j : ℕ) → in_set eq (get_or sets j []) x ≡ true → j ≡ k) → set_of eq sets x ≡ get_or sets k []
+  unfolding set_of
+  set_at [] x k m only = absurd (false≢true m)
+  set_at (s ∷ ss) x zero m only = rw m refl
+  set_at (s ∷ ss) x (suc k) m only =
+      elim (in_set eq s x) as (λ b. in_set eq s x ≡ b → cond b s (set_of eq ss x) ≡ get_or ss k []) [
+        | true ↦ λ h. let e = only 0 h in absurd (omega (arith, e))
+        | false ↦ λ h. set_at ss x k m (λ j n. let e = only (suc j) n in omega (arith, e))
+      ] refl
+
+  set_nowhere : (sets : List (List T)) (x : T) → ((j : ℕ) → in_set eq (get_or sets j []) x ≡ false) → set_of eq sets x ≡ []
+  unfolding set_of
+  set_nowhere [] x away = refl
+  set_nowhere (s ∷ ss) x away = let e : in_set eq s x ≡ false = away 0 in rw e (set_nowhere ss x (λ j. away (suc j)))
+
+  -- two items of a set differ, so each has another beside it
+  another_of : IsEquivalence eq → (s : List T) (x : T) → IsDistinct eq s → length s ≢ 1 → in_set eq s x ≡ true → (y : T) × (eq x y ≡ false) × (in_set eq s y ≡ true)
+  unfolding IsDistinct
+  another_of laws [] x d many m = absurd (false≢true m)
+  another_of laws (a ∷ []) x d many m = absurd (many refl)
+  another_of laws (a ∷ b ∷ s) x d many m =
+      elim (eq x a) as (λ t. eq x a ≡ t → (y : T) × (eq x y ≡ false) × (in_set eq (a ∷ b ∷ s) y ≡ true)) [
+        | true ↦ λ e. (b, laws.congr x a b e ∙ d.0.0, or_right (eq b a) (in_set eq (b ∷ s) b) (or_left (eq b b) (in_set eq s b) (laws.refl b)))
+        | false ↦ λ e. (a, e, or_left (eq a a) (in_set eq (b ∷ s) a) (laws.refl a))
+      ] refl
+
+  -- an item that has a set is in it
+  has_own : (sets : List (List T)) (x : T) → (set_of eq sets x ≡ []) ⊎ (together eq sets x x ≡ true)
+  unfolding set_of
+  has_own [] x = inl refl
+  has_own (s ∷ ss) x =
+      elim (in_set eq s x) as (λ b. in_set eq s x ≡ b → (cond b s (set_of eq ss x) ≡ []) ⊎ (in_set eq (cond b s (set_of eq ss x)) x ≡ true)) [
+        | true ↦ λ m. inr m
+        | false ↦ λ m. has_own ss x
+      ] refl
+
+  head_none : (s : List T) (x : T) → (s ≡ []) ⊎ (in_set eq s x ≡ true) → IsNone (slice_get s 0) ↔ IsFalse (in_set eq s x)
+  head_none [] x h = (λ e. refl, λ e. refl)
+  head_none (y ∷ s) x (inl e) = absurd (cc)
+  head_none (y ∷ s) x (inr m) = (λ e. absurd (cc), λ e. absurd (false≢true (sym e ∙ m)))
+
+  pub own_none : (sets : List (List T)) (x : T) (r : Option T) → r ≡ slice_get (set_of eq sets x) 0 → IsNone r ↔ IsFalse (together eq sets x x)
+  own_none sets x r e = rw e (head_none (set_of eq sets x) x (has_own sets x))
+
+  head_member : ((x : T) → eq x x ≡ true) → (s : List T) → IfSome (slice_get s 0) (λ y. IsTrue (in_set eq s y))
+  head_member same [] = tt
+  head_member same (y ∷ s) = rw (same y) refl
+
+  pub own_member : ((x : T) → eq x x ≡ true) → (sets : List (List T)) (x : T) (r : Option T) → r ≡ slice_get (set_of eq sets x) 0 → IfSome r (λ y. IsTrue (together eq sets x y))
+  own_member same sets x r e = rw e (head_member same (set_of eq sets x))
+
+  -- ---- the sets of tables that fit, as their value shows them
+  module _ (number : T → Option ℕ) (count : ℕ) (free : List ℕ) (sets : List (List T)) (p : IsNumbered eq number count free sets) where
+    pub found : (x : T) (k : ℕ) → number x ≡ Some k → set_of eq (filled sets) x ≡ get_or sets k []
+    found x k e =
+        set_of_filled sets x
+        ∙ set_at sets x k (p.numbered x k ∙ same_at (number x) k e) (λ j m. eqb-true j k (same_symm (Some j) (Some k) ∙ (ap (λ o. same_number o (Some j)) (sym e) ∙ sym (p.numbered x j) ∙ m)))
+
+    pub not_found : (x : T) → number x ≡ None → set_of eq (filled sets) x ≡ []
+    not_found x e = set_of_filled sets x ∙ set_nowhere sets x (λ j. p.numbered x j ∙ ap (λ o. same_number o (Some j)) e)
+
+    pub by_number : (x y : T) → together eq (filled sets) x y ≡ same_number (number x) (number y)
+    by_number x y =
+        elim (number x) as (λ o. number x ≡ o → together eq (filled sets) x y ≡ same_number o (number y)) [
+          | None ↦ λ e. ap (λ s. in_set eq s y) (not_found x e)
+          | Some k ↦ λ e. ap (λ s. in_set eq s y) (found x k e) ∙ p.numbered y k ∙ same_symm (number y) (Some k)
+        ] refl
+
+    pub same_set : (x y : T) → together eq (filled sets) x y ≡ true → set_of eq (filled sets) y ≡ set_of eq (filled sets) x
+    same_set x y m =
+        let e : number x ≡ number y = same_is (number x) (number y) (sym (by_number x y) ∙ m) in
+        elim (number x) as (λ o. number x ≡ o → set_of eq (filled sets) y ≡ set_of eq (filled sets) x) [
+          | None ↦ λ h. not_found y (sym e ∙ h) ∙ sym (not_found x h)
+          | Some k ↦ λ h. found y k (sym e ∙ h) ∙ sym (found x k h)
+        ] refl
+
+    pub another : IsEquivalence eq → (x : T) (k : ℕ) → number x ≡ Some k → (y : T) × IsFalse (eq x y) × IsTrue (together eq (filled sets) x y)
+    another laws x k e =
+        let r = another_of laws (get_or sets k []) x (p.distinct k) (p.plural k) (p.numbered x k ∙ same_at (number x) k e) in
+        (r.0, r.1, ap (λ s. in_set eq s r.0) (found x k e) ∙ r.2)
+
+    pub added_none : (x : T) → number x ≡ None → added_by eq (filled sets) x ≡ 1
+    added_none x e = ap (λ b. cond b 0 1) (by_number x x ∙ ap (λ o. same_number o o) e)
+
+    pub added_some : (x : T) (k : ℕ) → number x ≡ Some k → added_by eq (filled sets) x ≡ 0
+    added_some x k e = ap (λ b. cond b 0 1) (by_number x x ∙ ap (λ o. same_number o o) e ∙ eq-eqb k k refl)
+
+    pub total : sum_by length (filled sets) ≡ count
+    total = total_filled sets ∙ sym p.counted
+
+  -- no item has a number exactly where there is none in the map
+  pub empty_map : IsEquivalence eq → (entries : List (T × ℕ)) (free : List ℕ) (sets : List (List T)) → IsNumbered eq (λ x. lookup (eq x) entries) (length entries) free sets
+      → ((length entries == 0) ≡ true) ↔ ((x : T) → together eq (filled sets) x x ≡ false)
+  empty_map laws [] free sets p =
+      let number : T → Option ℕ = λ x. None in
+      (λ e x. by_number number 0 free sets p x x, λ h. refl)
+  empty_map laws (e ∷ es) free sets p = (
+    λ h. absurd (omega (arith, eqb-true (length (e ∷ es)) 0 h)),
+    λ h.
+        let number : T → Option ℕ = λ x. lookup (eq x) (e ∷ es) in
+        let some : number e.0 ≡ Some e.1 = ap (λ b. cond b (Some e.1) (lookup (eq e.0) es)) (laws.refl e.0) in
+        absurd (false≢true (sym (h e.0) ∙ by_number number (length (e ∷ es)) free sets p e.0 e.0 ∙ ap (λ o. same_number o o) some ∙ eq-eqb e.1 e.1 refl)),
+  )

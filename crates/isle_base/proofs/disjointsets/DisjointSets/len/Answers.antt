@@ -1,0 +1,23 @@
+use Rattle.std.proofs.Common.{◌≡◌, length, sym, ap, ◌∙◌, refl, hash_map_len, is_some}
+use Rattle.std.specs.HashMap.{get, keys}
+use Rattle.std.proofs.lemmas.List.{length-map}
+use Rattle.std.proofs.lemmas.Map.Made.{is_some-lookup}
+use Rattle.isle_base.specs.Numbers.{sets_of}
+use Rattle.isle_base.proofs.Classes.{same_self}
+use Rattle.isle_base.proofs.Togethers.{total, by_number}
+use Rattle.isle_base.proofs.disjointsets.DisjointSets.len.Goals as goal
+
+pub returns-clause-value : goal.returns-clause-value
+returns-clause-value g c =
+    let s = c.self.inside in
+    rw (← c.self.view_is) (c.len.ensures.len ∙ sym (total g.T.PartialEq.eq (get g.T.PartialEq.eq s.classes) (hash_map_len s.classes) s.free.items (sets_of s.members.items) c.self.invariant))
+
+pub returns-clause-count : goal.returns-clause-count
+returns-clause-count g c =
+    let s = c.self.inside in
+    let e = g.T.PartialEq.eq in (
+      keys s.classes,
+      c.len.ensures.unique,
+      λ y. rw (← c.self.view_is, by_number e (get e s.classes) (hash_map_len s.classes) s.free.items (sets_of s.members.items) c.self.invariant y y, same_self (get e s.classes y)) (sym (is_some-lookup (e y) s.classes.entries)),
+      length-map s.classes.entries (λ p. p.0) ∙ sym c.len.ensures.len,
+    )
