@@ -14,7 +14,6 @@ pub mod TypingConstants
 pub mod RightTypes
 pub mod Ending
 pub mod WellFormedEnvs
-pub mod RightTypes
 pub mod EntriesStay
 pub mod NamesMet
 pub mod NumbersSeen
