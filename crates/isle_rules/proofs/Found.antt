@@ -23,10 +23,13 @@ use Rattle.isle_rules.proofs.Texts.{then_withs, missing_before, missing_among, m
 -- a text that is no name is no type's
 no_type : (defs : List Definition) (x : List ℕ) → has_name (type_names_met defs) x ≡ false → type_id defs x ≡ None
 no_type defs x e =
-    let inside : List (List ℕ) = flat_map (λ t. names_inside t.name.text t.value) (type_trees defs) ++ map (λ c. c.name.text) (constant_trees defs) in
-    let a : has_name builtin_names x ≡ false = missing_before builtin_names (type_names defs ++ inside) x e in
-    let b : has_name (type_names defs ++ inside) x ≡ false = missing_among builtin_names (type_names defs ++ inside) x e in
-    place_absent 0 (builtin_names ++ type_names defs) x (missing_both builtin_names (type_names defs) x a (missing_first (type_names defs) inside x b))
+    let inside : List (List ℕ) = flat_map (λ t. names_inside t.name.text t.value) (type_trees defs) in
+    let constants : List (List ℕ) = map (λ c. c.name.text) (constant_trees defs) in
+    let all : List (List ℕ) = type_names defs ++ inside ++ constants in
+    let a : has_name builtin_names x ≡ false = missing_before builtin_names all x e in
+    let b : has_name all x ≡ false = missing_among builtin_names all x e in
+    let types : has_name (type_names defs) x ≡ false = missing_first (type_names defs) inside x (missing_first (type_names defs ++ inside) constants x b) in
+    place_absent 0 (builtin_names ++ type_names defs) x (missing_both builtin_names (type_names defs) x a types)
 
 -- nor a term's
 no_term : (defs : List Definition) (x : List ℕ) → has_name (term_table_names defs) x ≡ false → term_id defs x ≡ None

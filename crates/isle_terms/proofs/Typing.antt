@@ -44,9 +44,11 @@ missing_both (x ∷ xs) ys y e h =
 -- no type has a name that isn't in the type table
 no_type : (defs : List Definition) (x : List ℕ) → has_name (type_names_met defs) x ≡ false → type_id defs x ≡ None
 no_type defs x e =
-    let inside : List (List ℕ) = flat_map (λ t. names_inside t.name.text t.value) (type_trees defs) ++ map (λ c. c.name.text) (constant_trees defs) in
-    let r = missing_all builtin_names (type_names defs ++ inside) x e in
-    place_absent 0 (builtin_names ++ type_names defs) x (missing_both builtin_names (type_names defs) x r.0 (missing_front (type_names defs) inside x r.1))
+    let inside : List (List ℕ) = flat_map (λ t. names_inside t.name.text t.value) (type_trees defs) in
+    let constants : List (List ℕ) = map (λ c. c.name.text) (constant_trees defs) in
+    let r = missing_all builtin_names (type_names defs ++ inside ++ constants) x e in
+    let types = missing_front (type_names defs) inside x (missing_front (type_names defs ++ inside) constants x r.1) in
+    place_absent 0 (builtin_names ++ type_names defs) x (missing_both builtin_names (type_names defs) x r.0 types)
 
 pub types_start : (defs : List Definition) (env : TypeEnv) → SeesTypes env defs (type_names_met defs) → HasTypes defs env
 types_start defs env s = record {
