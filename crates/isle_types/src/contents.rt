@@ -243,3 +243,138 @@ fn report_duplicate_variant(
     let text = format!(in alloc; "Duplicate variant name in type: '{}'", variant.name.0)?;
     report(errors, variant.pos, text.as_str())
 }
+
+#[cfg(test)]
+mod tests {
+    use super::*;
+    use isle_base::syntax::{Fields, Pos};
+    use std::alloc::Global;
+    use std::test::Fail;
+
+    fn ident(alloc: Global, text: &str, offset: usize) -> Result<Ident, AllocError> {
+        Ok(Ident(String::from_str(alloc, text)?, Pos { file: 0, offset }))
+    }
+
+    // The type named `T` at the offset 7.
+    fn named_t(
+        alloc: Global,
+        is_extern: bool,
+        is_nodebug: bool,
+        ty: TypeValue,
+    ) -> Result<syntax::Type, AllocError> {
+        Ok(syntax::Type {
+            name: ident(alloc, "T", 0)?,
+            is_extern,
+            is_nodebug,
+            ty,
+            pos: Pos { file: 0, offset: 7 },
+        })
+    }
+
+    fn primitive(alloc: Global) -> Result<TypeValue, AllocError> {
+        Ok(TypeValue::Primitive(ident(alloc, "X", 0)?, Pos::default()))
+    }
+
+    // An enum of two variants without fields, the second at the offset 9.
+    fn two_variants(alloc: Global, first: &str, second: &str) -> Result<TypeValue, AllocError> {
+        let first = syntax::Variant {
+            name: ident(alloc, first, 0)?,
+            fields: Fields::Unit,
+            pos: Pos { file: 0, offset: 8 },
+        };
+        let second = syntax::Variant {
+            name: ident(alloc, second, 0)?,
+            fields: Fields::Unit,
+            pos: Pos { file: 0, offset: 9 },
+        };
+        let variants = Vec::from_array(alloc, [first, second])?;
+        Ok(TypeValue::Enum(variants, Pos::default()))
+    }
+
+    // The errors of reading a type, each with its offset.
+    fn noted(alloc: Global, ty: &syntax::Type) -> Result<String, AllocError> {
+        let mut env = TypeEnv::try_default(alloc)?;
+        let mut errors = Vec::new(alloc);
+        let _read = env.read_type(&mut errors, TypeId(13), ty)?;
+        let mut text = String::new(alloc);
+        for error in &errors {
+            if let Error::TypeError { msg, span } = error {
+                text = format!(in alloc; "{text}{} {msg};", span.from.offset)?;
+            }
+        }
+        Ok(text)
+    }
+
+    #[test]
+    fn a_primitive_type_that_is_marked(rt: HostRuntime) -> Result<(), Fail> {
+        let alloc = rt.alloc();
+        let nodebug = "7 primitive types cannot be marked `nodebug`;";
+        let text = noted(alloc, &named_t(alloc, false, true, primitive(alloc)?)?)?;
+        assert_eq!(rt; text.as_str(), nodebug);
+        let text = noted(alloc, &named_t(alloc, true, true, primitive(alloc)?)?)?;
+        assert_eq!(rt; text.as_str(), nodebug);
+        let text = noted(alloc, &named_t(alloc, true, false, primitive(alloc)?)?)?;
+        assert_eq!(rt;
+            text.as_str(),
+            "7 primitive types cannot be marked `extern`;"
+        );
+        Ok(())
+    }
+
+    #[test]
+    fn another_type_that_is_marked(rt: HostRuntime) -> Result<(), Fail> {
+        let alloc = rt.alloc();
+        let both = "7 external types cannot be marked `nodebug`;";
+        let with_fields = TypeValue::Struct(Fields::Unit, Pos::default());
+        let text = noted(alloc, &named_t(alloc, true, true, with_fields)?)?;
+        assert_eq!(rt; text.as_str(), both);
+        let text = noted(
+            alloc,
+            &named_t(alloc, true, true, two_variants(alloc, "A", "A")?)?,
+        )?;
+        assert_eq!(rt; text.as_str(), both);
+        let text = noted(
+            alloc,
+            &named_t(alloc, true, false, two_variants(alloc, "A", "B")?)?,
+        )?;
+        assert_eq!(rt; text.as_str(), "");
+        Ok(())
+    }
+
+    #[test]
+    fn a_name_of_two_variants(rt: HostRuntime) -> Result<(), Fail> {
+        let alloc = rt.alloc();
+        let twice = named_t(alloc, false, false, two_variants(alloc, "A", "A")?)?;
+        let text = noted(alloc, &twice)?;
+        assert_eq!(rt; text.as_str(), "9 Duplicate variant name in type: 'A';");
+        Ok(())
+    }
+
+    #[test]
+    fn numbers_of_the_variants_of_an_enum(rt: HostRuntime) -> Result<(), Fail> {
+        let alloc = rt.alloc();
+        let mut env = TypeEnv::try_default(alloc)?;
+        let mut errors = Vec::new(alloc);
+        let ty = named_t(alloc, true, false, two_variants(alloc, "A", "B")?)?;
+        let mut text = String::new(alloc);
+        if let Some(Type::Enum { name, variants, .. }) = env.read_type(
+            &mut errors,
+            TypeId(13),
+            &ty,
+        )? {
+            text = format!(in alloc; "{}", name.index())?;
+            for variant in &variants {
+                text = format!(in alloc;
+                    "{text} {}:{}:{}",
+                    variant.id.index(),
+                    variant.fullname.index(),
+                    variant.name.index()
+                )?;
+            }
+        }
+        assert_eq!(rt; text.as_str(), "13 0:14:15 1:16:17");
+        assert_eq!(rt; env.intern(&ident(alloc, "T.A", 0)?), Some(Sym(14)));
+        assert_eq!(rt; env.intern(&ident(alloc, "B", 0)?), Some(Sym(17)));
+        Ok(())
+    }
+}
