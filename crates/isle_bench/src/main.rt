@@ -33,24 +33,16 @@ fn sizes(rt: &(impl Env + Alloc), alloc: Global) -> io::Result<Vec<usize>> {
     let mut sizes = Vec::new(alloc);
     let mut times = false;
     for word in env::args(rt)?.skip(1) {
-        if word.as_str() == "times" {
-            times = true;
-        } else {
-            sizes.push(size(word.as_str())?)?;
+        match word.parse::<usize>() {
+            Ok(size) => sizes.push(size)?,
+            Err(_) if word.as_str() == "times" => times = true,
+            Err(_) => return Err(io::Error::from(ErrorKind::InvalidInput)),
         }
     }
     if times == sizes.is_empty() {
         Ok(sizes)
     } else {
         Err(io::Error::from(ErrorKind::InvalidInput))
-    }
-}
-
-// The size that a word names.
-fn size(word: &str) -> io::Result<usize> {
-    match word.parse::<usize>() {
-        Ok(size) => Ok(size),
-        Err(_) => Err(io::Error::from(ErrorKind::InvalidInput)),
     }
 }
 

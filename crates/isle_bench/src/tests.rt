@@ -1,7 +1,7 @@
 // Lists whose counts a reader can add up: the 13 built-in types and their names; in each group 3 types, 1
 // constant and the names Pk, Ik, Ek, Ek.A, Ek.B, Ek.C, Sk and Xk; and in all groups A, B, C, x, y and next.
+use crate::counts;
 use crate::definitions::definitions;
-use crate::{counts, growth};
 use std::test::Fail;
 
 #[test]
@@ -15,19 +15,5 @@ fn counts_what_is_read(rt: HostRuntime) -> Result<(), Fail> {
         let defs = definitions(alloc, size)?;
         assert_eq!(rt; counts(alloc, &defs)?.as_str(), want);
     }
-    Ok(())
-}
-
-#[test]
-fn compares_times(rt: HostRuntime) -> Result<(), Fail> {
-    let alloc = rt.alloc();
-    let tenfold = growth(alloc, Some(200), 2059)?;
-    assert_eq!(rt; tenfold.as_str(), ", 10.2 times as long as the size before");
-    let from_nothing = growth(alloc, Some(0), 3)?;
-    assert_eq!(rt;
-        from_nothing.as_str(),
-        ", 3.0 times as long as the size before"
-    );
-    assert!(rt; growth(alloc, None, 5)?.is_empty());
     Ok(())
 }
