@@ -2,4 +2,5 @@
 mod answers;
 mod refused;
 mod trees;
+mod types;
 mod written;

@@ -18,8 +18,8 @@ use Rattle.isle_types.specs.declared.ids.Sym.{Sym}
 use Rattle.isle_types.specs.declared.type_env.TypeEnv.{TypeEnv}
 use Rattle.isle_types.specs.declared.types.StructField.{StructField}
 use Rattle.isle_types.specs.declared.types.TupleField.{TupleField}
-use Rattle.isle_types.specs.Envs.{names_of, symbol_of, type_at}
-use Rattle.isle_types.specs.FieldReading.{type_named, was_seen, IsField, ReadsField, IsTupleField, ReadsTupleField}
+use Rattle.isle_types.specs.Envs.{names_of, symbol_of, type_at, type_named}
+use Rattle.isle_types.specs.FieldReading.{was_seen, IsField, ReadsField, IsTupleField, ReadsTupleField}
 use Rattle.isle_types.specs.Names.{IsInverse}
 use Rattle.isle_types.specs.Reading.{MayReport, Reports, MeetsNames, AreRightFields}
 use Rattle.isle_types.specs.Stages.{Sees}

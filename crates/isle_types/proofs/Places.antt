@@ -83,6 +83,3 @@ module _ (names : List (List ℕ)) (x : List ℕ) where
 
   pub new_number : None ≡ place_of names x → length names ≡ number names x
   new_number h = last names x (new_name h)
-
-  pub new_absent : None ≡ place_of names x → (k : ℕ) → slice_get names k ≡ Some x → ⊥
-  new_absent h = absent names x (new_name h)

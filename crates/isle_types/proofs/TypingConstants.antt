@@ -1,5 +1,5 @@
 -- Reading the constants, one definition after another.
-use Rattle.std.proofs.Common.{◌≡◌, ℕ, ◌+◌, ◌<◌, length, drop, get_or, List, [], ◌∷◌, ◌++◌, true, false, cond, Some, None, is_some, option_map, option_and_then, slice_get, map, All, refl, sym, ap, subst, ◌∙◌, inl, inr, ◌⊎◌, ⊎_elim}
+use Rattle.std.proofs.Common.{◌≡◌, ℕ, ◌+◌, ◌<◌, length, drop, get_or, List, [], ◌∷◌, ◌++◌, true, false, cond, Some, None, is_some, option_map, option_and_then, slice_get, map, All, refl, sym, ap, subst, ◌∙◌, inl, inr, ⊎_elim}
 use Rattle.std.proofs.lemmas.Bool.{false≢true}
 use Rattle.std.proofs.lemmas.List.{append_assoc, append-nil, at_drop_more}
 use Rattle.std.proofs.lemmas.List.Elements.{All-nil, All-cons, All-head, All-tail}
@@ -13,8 +13,8 @@ use Rattle.isle_base.specs.Stable.{look_up}
 use Rattle.isle_base.specs.SyntaxViews.{definition_view, definition_views}
 use Rattle.isle_tables.proofs.TypeLaws.{type_names_distinct}
 use Rattle.isle_types.specs.declared.type_env.TypeEnv.{TypeEnv}
-use Rattle.isle_types.specs.ConstantReading.{type_looked_up, TypesConstant, ReadsConstant, ReadsDefinition}
-use Rattle.isle_types.specs.Envs.{names_of, symbol_of, type_at, same_symbol, symbol}
+use Rattle.isle_types.specs.ConstantReading.{TypesConstant, ReadsConstant, ReadsDefinition}
+use Rattle.isle_types.specs.Envs.{names_of, symbol_of, type_at, same_symbol, symbol, type_named}
 use Rattle.isle_types.specs.Names.{IsInverse}
 use Rattle.isle_types.specs.Reading.{IsRightType}
 use Rattle.isle_types.specs.Stages.{constant_names, Filling, FillsTypes, last_type, Constants, ReadsConstants}
@@ -28,14 +28,14 @@ module _ (defs rest : List Definition) (name ty : Name) (at : Position) (old : T
   constant = record { name = name; ty = ty }
 
   -- what is looked up is the type of the name
-  type_is : type_looked_up old ty.text ≡ type_id defs ty.text
+  type_is : type_named old ty.text ≡ type_id defs ty.text
   type_is =
       ap (option_and_then (type_at old)) (looked_up (names_of old) (symbol_of old) i ty.text) ∙ (elim (has_name (names_of old) ty.text) as (λ b. has_name (names_of old) ty.text ≡ b → option_and_then (type_at old) (cond b (Some (number (names_of old) ty.text)) None) ≡ type_id defs ty.text) [
         | true ↦ λ e. n.ids (number (names_of old) ty.text) ∙ ap (λ o. then_option o (type_id defs)) (found (names_of old) ty.text e)
         | false ↦ λ e. sym (n.known ty.text e)
       ] refl)
 
-  pub constant_wrong : type_looked_up old ty.text ≡ None → IsValidTypes defs → ⊥
+  pub constant_wrong : type_named old ty.text ≡ None → IsValidTypes defs → ⊥
   constant_wrong none v =
       let known : IsOfKnownType defs constant = All-head (IsOfKnownType defs) constant (constant_trees rest) (n.left v.types_of_constants) in
       false≢true (sym (ap is_some (sym type_is ∙ none)) ∙ known)

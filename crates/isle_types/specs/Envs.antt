@@ -1,5 +1,5 @@
 -- What a client sees of a type environment.
-use Rattle.std.specs.Prelude.{ℕ, Bool, nat_eq, List, map, Option, option_map, string_bytes}
+use Rattle.std.specs.Prelude.{ℕ, Bool, nat_eq, List, map, Option, option_map, option_and_then, string_bytes}
 use Rattle.std.specs.HashMap.{get_by_text}
 use Rattle.isle_base.specs.Stable.{look_up}
 use Rattle.isle_types.specs.declared.ids.Sym.{Sym}
@@ -26,3 +26,7 @@ type_at env n = option_map (λ t. t.0) (look_up same_symbol env.type_map (symbol
 -- the type of the constant that has the name of a number
 abbrev pub constant_at : TypeEnv → ℕ → Option ℕ
 constant_at env n = option_map (λ t. t.0) (look_up same_symbol env.const_types (symbol n))
+
+-- the type of a text, where it is a type's name
+abbrev pub type_named : TypeEnv → List ℕ → Option ℕ
+type_named env x = option_and_then (type_at env) (symbol_of env x)

@@ -1,5 +1,5 @@
 -- What reading one field does.
-use Rattle.std.specs.Prelude.{◌≡◌, ℕ, nat_eq, Bool, true, false, if◌then◌else◌, List, ◌⊎◌, Option, Some, None, option_and_then}
+use Rattle.std.specs.Prelude.{◌≡◌, ℕ, nat_eq, Bool, true, false, if◌then◌else◌, List, ◌⊎◌, Option, Some, None}
 use Rattle.isle_model.specs.Syntax.{FieldTree, TupleFieldTree}
 use Rattle.isle_model.specs.Names.{number}
 use Rattle.isle_base.specs.declared.syntax.Error.{Error}
@@ -8,12 +8,8 @@ use Rattle.isle_types.specs.declared.ids.Sym.{Sym}
 use Rattle.isle_types.specs.declared.type_env.TypeEnv.{TypeEnv}
 use Rattle.isle_types.specs.declared.types.StructField.{StructField}
 use Rattle.isle_types.specs.declared.types.TupleField.{TupleField}
-use Rattle.isle_types.specs.Envs.{names_of, symbol_of, same_symbol, symbol, type_at}
+use Rattle.isle_types.specs.Envs.{names_of, same_symbol, symbol, type_named}
 use Rattle.isle_types.specs.Reading.{Reports}
-
--- the type of a name, where the environment has one
-abbrev pub type_named : TypeEnv → List ℕ → Option ℕ
-type_named env x = option_and_then (type_at env) (symbol_of env x)
 
 -- the number of a name is one of those that were seen
 abbrev pub was_seen : Members Sym → ℕ → Bool

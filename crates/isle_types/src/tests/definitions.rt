@@ -62,12 +62,13 @@ pub fn fields(alloc: Global, rows: &[(&str, usize, &str, usize)]) -> Result<Fiel
     Ok(Fields::Struct(StructFields { fields }))
 }
 
-// Fields without names, by the names of their types and the places of these.
+// Fields without names, by the names of their types and the places of these. Their indices are ten more
+// than their places.
 pub fn parts(alloc: Global, rows: &[(&str, usize)]) -> Result<Fields, AllocError> {
     let mut fields = Vec::new(alloc);
     for (index, row) in rows.iter().enumerate() {
         fields.push(TupleField {
-            index,
+            index: index.saturating_add(10),
             ty: Ident(String::from_str(alloc, row.0)?, at(row.1)),
             pos: elsewhere(),
         })?;

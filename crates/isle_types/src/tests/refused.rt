@@ -72,6 +72,28 @@ fn variants(rt: HostRuntime) -> Result<(), Fail> {
     Ok(())
 }
 
+// Of a variant the name is looked at before the fields are, and one variant after another.
+#[test]
+fn variants_in_order(rt: HostRuntime) -> Result<(), Fail> {
+    let alloc = rt.alloc();
+    for (of_first, of_second, want) in [
+        ("u8", "nope", "0:2 Duplicate variant name in type: 'A'|"),
+        (
+            "nope",
+            "u8",
+            "0:6 Unknown type 'nope' for field 'f' in variant 'A'|",
+        ),
+    ] {
+        let variants = vec![in alloc;
+            variant(alloc, 1, "A", fields(alloc, &[("f", 5, of_first, 6)])?)?,
+            variant(alloc, 2, "A", fields(alloc, &[("f", 7, of_second, 8)])?)?,
+        ]?;
+        let defs = [enumeration(alloc, 0, "T", PLAIN, variants)?];
+        expect_refusal(&rt, alloc, &defs, want)?;
+    }
+    Ok(())
+}
+
 // Each list of fields is that of a struct, and then that of the variant V of an enum.
 #[test]
 fn fields_of_types(rt: HostRuntime) -> Result<(), Fail> {
@@ -108,7 +130,7 @@ fn fields_without_names(rt: HostRuntime) -> Result<(), Fail> {
         &rt,
         alloc,
         &defs,
-        "0:3 Unknown type 'nope' for tuple field '1'|",
+        "0:3 Unknown type 'nope' for tuple field '11'|",
     )?;
     let variants = vec![in alloc; variant(alloc, 1, "V", parts(alloc, &rows)?)?]?;
     let defs = [enumeration(alloc, 0, "T", PLAIN, variants)?];
@@ -116,7 +138,7 @@ fn fields_without_names(rt: HostRuntime) -> Result<(), Fail> {
         &rt,
         alloc,
         &defs,
-        "0:3 Unknown type 'nope' for tuple field '1' in variant 'V'|",
+        "0:3 Unknown type 'nope' for tuple field '11' in variant 'V'|",
     )
 }
 

@@ -107,8 +107,7 @@ fn of_variants(rt: HostRuntime) -> Result<(), Fail> {
         return Err(Fail::from("no enum"));
     };
     assert_eq!(rt; variants.len(), 2);
-    let b = env.get_variant(TypeId(14), VariantId(0));
-    let c = env.get_variant(TypeId(14), VariantId(1));
+    let (b, c) = (&variants[0], &variants[1]);
     assert_eq!(rt; b.name, Sym(16));
     assert_eq!(rt; b.pos, at(77));
     assert_eq!(rt; c.name, Sym(20));
