@@ -17,6 +17,10 @@ module _ {T : Type 0} where
   total_filled ([] ∷ ss) = omega (arith, total_filled ss, sum_by-cons length [] ss)
   total_filled ((x ∷ s) ∷ ss) = omega (arith, total_filled ss, sum_by-cons length (x ∷ s) ss, sum_by-cons length (x ∷ s) (filled ss))
 
+none_same : (o p : Option ℕ) → same_number o o ≡ false → same_number o p ≡ false
+none_same None p e = refl
+none_same (Some k) p e = absurd (false≢true (sym e ∙ eq-eqb k k refl))
+
 module _ {T : Type 0} (eq : T → T → Bool) where
   pub set_of_filled : (sets : List (List T)) (x : T) → set_of eq (filled sets) x ≡ set_of eq sets x
   unfolding filled set_of
@@ -91,6 +95,17 @@ module _ {T : Type 0} (eq : T → T → Bool) where
           | None ↦ λ e. ap (λ s. in_set eq s y) (not_found x e)
           | Some k ↦ λ e. ap (λ s. in_set eq s y) (found x k e) ∙ p.numbered y k ∙ same_symm (number y) (Some k)
         ] refl
+
+    -- an item that is in no set is together with none
+    pub first_apart : (x y : T) → together eq (filled sets) x x ≡ false → together eq (filled sets) x y ≡ false
+    first_apart x y off =
+        let no : same_number (number x) (number x) ≡ false = sym (by_number x x) ∙ off in
+        by_number x y ∙ none_same (number x) (number y) no
+
+    pub second_apart : (x y : T) → together eq (filled sets) y y ≡ false → together eq (filled sets) x y ≡ false
+    second_apart x y off =
+        let no : same_number (number y) (number y) ≡ false = sym (by_number y y) ∙ off in
+        by_number x y ∙ same_symm (number x) (number y) ∙ none_same (number y) (number x) no
 
     pub same_set : (x y : T) → together eq (filled sets) x y ≡ true → set_of eq (filled sets) y ≡ set_of eq (filled sets) x
     same_set x y m =

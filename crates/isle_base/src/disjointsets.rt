@@ -69,7 +69,11 @@ impl<T: Copy + Debug + Eq + Hash> DisjointSets<T> {
 
     /// Whether the two are in one set. An item that is in no set isn't together with itself.
     pub fn in_same_set(&self, x: T, y: T) -> bool
-        ensures { result ≡ together T.eq self.now x y }
+        ensures value { result ≡ together T.eq self.now x y }
+
+        // false where either is in no set
+        ensures first { IsFalse (together T.eq self.now x x) → IsFalse result }
+        ensures second { IsFalse (together T.eq self.now y y) → IsFalse result }
     {
         match (self.classes.get(&x), self.classes.get(&y)) {
             (Some(a), Some(b)) => *a == *b,
