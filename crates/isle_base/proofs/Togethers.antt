@@ -1,13 +1,13 @@
 -- What is together, by the numbers of sets.
-use Rattle.std.proofs.Common.{◌≡◌, ◌≢◌, ℕ, zero, suc, ◌+◌, ◌<◌, ◌≤◌, ◌==◌, Bool, true, false, cond, not, ◌||◌, ◌&&◌, List, [], ◌∷◌, length, sum_by, get_or, Option, Some, None, refl, sym, ap, ◌∙◌, arith, ◌⊎◌, ◌↔◌, inl, inr, slice_get, IsNone, IsFalse, IsTrue, IsSome, IfSome, eq-eqb, ne_eqb, eqb-true}
+use Rattle.std.proofs.Common.{◌≡◌, ◌≢◌, ℕ, zero, suc, ◌==◌, Bool, true, false, cond, List, [], ◌∷◌, length, sum_by, get_or, Option, Some, None, refl, sym, ap, ◌∙◌, arith, ◌⊎◌, ◌↔◌, inl, inr, slice_get, IsNone, IsFalse, IsTrue, IfSome, eq-eqb, eqb-true}
 use Rattle.std.specs.Cmp.{IsEquivalence}
-use Rattle.std.specs.List.{IsDistinct, list_any}
+use Rattle.std.specs.List.{IsDistinct}
 use Rattle.std.specs.Map.{lookup}
 use Rattle.std.proofs.lemmas.List.Sums.{sum_by-cons}
 use Rattle.std.proofs.lemmas.Bool.{false≢true, or_left, or_right}
-use Rattle.isle_base.specs.Partition.{in_set, set_of, together, together_after, merged, joined, added_by, filled}
-use Rattle.isle_base.specs.Numbers.{same_number, IsNumbered, IsMerge, touches}
-use Rattle.isle_base.proofs.Classes.{same_is, same_at, same_symm, nonempty, alike, has}
+use Rattle.isle_base.specs.Partition.{in_set, set_of, together, added_by, filled}
+use Rattle.isle_base.specs.Numbers.{same_number, IsNumbered}
+use Rattle.isle_base.proofs.Classes.{same_is, same_at, same_symm}
 
 -- ---- the sets without the empty ones
 module _ {T : Type 0} where

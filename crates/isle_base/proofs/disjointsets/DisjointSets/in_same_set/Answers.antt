@@ -1,6 +1,6 @@
-use Rattle.std.proofs.Common.{sym, ap, ◌∙◌, ◌≡◌, Some, refl, hash_map_len}
+use Rattle.std.proofs.Common.{◌∙◌, refl, hash_map_len}
 use Rattle.std.specs.HashMap.{get}
-use Rattle.isle_base.specs.Numbers.{sets_of, same_number}
+use Rattle.isle_base.specs.Numbers.{sets_of}
 use Rattle.isle_base.proofs.Classes.{same_symm}
 use Rattle.isle_base.proofs.Togethers.{by_number, first_apart, second_apart}
 use Rattle.isle_base.proofs.disjointsets.DisjointSets.in_same_set.Goals as goal
