@@ -1,15 +1,15 @@
 -- Sets by their numbers.
-use Rattle.std.proofs.Common.{◌≡◌, ◌≢◌, ℕ, zero, suc, ◌+◌, ◌<◌, ◌≤◌, ◌==◌, Bool, true, false, cond, not, ◌||◌, ◌&&◌, List, [], ◌∷◌, ◌++◌, length, sum_by, get_or, map, Option, Some, None, refl, sym, ap, ◌∙◌, arith, Vec, ◌⊎◌, ◌↔◌, inl, inr, slice_get, IsNone, IsFalse, IsTrue, IsSome, is_some, IfSome, eq-eqb, ne_eqb, eqb-true, length-append}
+use Rattle.std.proofs.Common.{◌≡◌, ◌≢◌, ℕ, ◌+◌, ◌<◌, ◌==◌, Bool, true, false, cond, ◌||◌, ◌&&◌, List, [], ◌∷◌, ◌++◌, length, get_or, Option, Some, None, refl, sym, ap, ◌∙◌, arith, Vec, inl, inr, is_some, eq-eqb, ne_eqb, eqb-true, length-append}
 use Rattle.std.specs.declared.alloc.Global.{Global}
 use Rattle.std.specs.Cmp.{IsEquivalence}
-use Rattle.std.specs.List.{IsDistinct, list_any, AllByRecursion}
+use Rattle.std.specs.List.{IsDistinct, AllByRecursion}
 use Rattle.std.proofs.lemmas.List.{get_or-map}
 use Rattle.std.proofs.lemmas.List.Folds.{list_any-append}
-use Rattle.std.proofs.lemmas.Map.Keys.{IsDistinct-cons, IsDistinct-push, IsDistinct-head, IsDistinct-tail}
+use Rattle.std.proofs.lemmas.Map.Keys.{IsDistinct-push}
 use Rattle.std.proofs.lemmas.Map.Steps.{list_any_congr}
-use Rattle.std.proofs.lemmas.Bool.{cases_eq, cases_Bool, false≢true, or_parts, or_left, or_right, or_from}
-use Rattle.isle_base.specs.Partition.{in_set, set_of, together, filled}
-use Rattle.isle_base.specs.Numbers.{same_number, sets_of, IsNumbered, IsPut, Vacant, IsMerge, touches}
+use Rattle.std.proofs.lemmas.Bool.{cases_eq, false≢true, or_parts, or_left, or_right, or_from}
+use Rattle.isle_base.specs.Partition.{in_set}
+use Rattle.isle_base.specs.Numbers.{same_number, sets_of, IsNumbered, IsPut, Vacant}
 use Rattle.isle_base.proofs.Puts.{put_here, put_other, vacant_kept, vacant_freed, vacancies_at}
 
 -- a set as the vector that keeps it

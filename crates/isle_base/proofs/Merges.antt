@@ -1,8 +1,8 @@
 -- What is together once two sets are one, or one is gone.
-use Rattle.std.proofs.Common.{◌≡◌, ◌≢◌, ℕ, ◌+◌, ◌<◌, ◌==◌, Bool, true, false, cond, not, ◌||◌, ◌&&◌, List, [], ◌∷◌, length, get_or, Option, Some, None, refl, sym, ap, ◌∙◌, arith, ◌⊎◌, inl, inr, IsTrue, IsFalse, eq-eqb, ne_eqb, eqb-true}
+use Rattle.std.proofs.Common.{◌≡◌, ℕ, ◌==◌, Bool, true, false, cond, not, ◌||◌, ◌&&◌, List, Option, Some, None, refl, sym, ap, ◌∙◌, inl, inr, eq-eqb, ne_eqb}
 use Rattle.std.specs.Cmp.{IsEquivalence}
 use Rattle.std.proofs.lemmas.Bool.{false≢true, or_left, or_right, or_cases, and_right, cases_eq}
-use Rattle.isle_base.specs.Partition.{in_set, set_of, together, together_after, merged, joined, filled}
+use Rattle.isle_base.specs.Partition.{together, together_after, filled}
 use Rattle.isle_base.specs.Numbers.{same_number, IsNumbered, IsMerge, touches}
 use Rattle.isle_base.proofs.Classes.{same_is, same_at, same_symm, alike}
 use Rattle.isle_base.proofs.Togethers.{by_number}

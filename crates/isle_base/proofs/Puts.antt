@@ -1,10 +1,10 @@
 -- A list of sets in which one is written, and the places that are free then.
-use Rattle.std.proofs.Common.{◌≡◌, ◌≢◌, ℕ, zero, suc, ◌+◌, ◌<◌, ◌≤◌, ◌==◌, Bool, true, false, cond, List, [], ◌∷◌, ◌++◌, length, sum_by, count_by, get_or, slice_set, map, Option, Some, None, unwrap_or, refl, sym, ap, ◌∙◌, arith, Vec, ◌⊎◌, inl, inr, slice_get, eq-eqb, ne_eqb, length-append}
+use Rattle.std.proofs.Common.{◌≡◌, ◌≢◌, ℕ, zero, suc, ◌+◌, ◌<◌, ◌≤◌, ◌==◌, Bool, cond, List, [], ◌∷◌, ◌++◌, length, count_by, get_or, slice_set, Option, Some, None, unwrap_or, refl, sym, ap, ◌∙◌, arith, Vec, inl, inr, slice_get, eq-eqb, ne_eqb}
 use Rattle.std.specs.declared.alloc.Global.{Global}
-use Rattle.std.proofs.lemmas.List.{length-map, map-set, get_or-map, map-append}
+use Rattle.std.proofs.lemmas.List.{length-map, map-set, map-append}
 use Rattle.std.proofs.lemmas.List.Sums.{sum_by-set, sum_by_push}
 use Rattle.std.proofs.lemmas.Bool.{cases_eq}
-use Rattle.std.proofs.lemmas.Option.{slice_get-get_or, unwrap_or-slice_get, slice_get_within, slice_get_past, get_or_from_slice_get}
+use Rattle.std.proofs.lemmas.Option.{unwrap_or-slice_get, slice_get_within, slice_get_past, get_or_from_slice_get}
 use Rattle.isle_base.specs.Numbers.{IsPut, Vacant, vacancies, sets_of}
 
 abbrev one_if : Bool → ℕ

@@ -1,13 +1,13 @@
 -- What is together, by the numbers of sets.
-use Rattle.std.proofs.Common.{◌≡◌, ◌≢◌, ℕ, zero, suc, ◌+◌, ◌<◌, ◌≤◌, ◌==◌, Bool, true, false, cond, not, ◌||◌, ◌&&◌, List, [], ◌∷◌, length, sum_by, get_or, Option, Some, None, refl, sym, ap, ◌∙◌, arith, ◌⊎◌, ◌↔◌, inl, inr, slice_get, IsNone, IsFalse, IsTrue, IsSome, IfSome, eq-eqb, ne_eqb, eqb-true}
+use Rattle.std.proofs.Common.{◌≡◌, ◌≢◌, ℕ, zero, suc, ◌==◌, Bool, true, false, cond, List, [], ◌∷◌, length, sum_by, get_or, Option, Some, None, refl, sym, ap, ◌∙◌, arith, ◌⊎◌, ◌↔◌, inl, inr, slice_get, IsNone, IsFalse, IsTrue, IfSome, eq-eqb, eqb-true}
 use Rattle.std.specs.Cmp.{IsEquivalence}
-use Rattle.std.specs.List.{IsDistinct, list_any}
+use Rattle.std.specs.List.{IsDistinct}
 use Rattle.std.specs.Map.{lookup}
 use Rattle.std.proofs.lemmas.List.Sums.{sum_by-cons}
 use Rattle.std.proofs.lemmas.Bool.{false≢true, or_left, or_right}
-use Rattle.isle_base.specs.Partition.{in_set, set_of, together, together_after, merged, joined, added_by, filled}
-use Rattle.isle_base.specs.Numbers.{same_number, IsNumbered, IsMerge, touches}
-use Rattle.isle_base.proofs.Classes.{same_is, same_at, same_symm, nonempty, alike, has}
+use Rattle.isle_base.specs.Partition.{in_set, set_of, together, added_by, filled}
+use Rattle.isle_base.specs.Numbers.{same_number, IsNumbered}
+use Rattle.isle_base.proofs.Classes.{same_is, same_at, same_symm}
 
 -- ---- the sets without the empty ones
 module _ {T : Type 0} where
@@ -16,6 +16,10 @@ module _ {T : Type 0} where
   total_filled [] = refl
   total_filled ([] ∷ ss) = omega (arith, total_filled ss, sum_by-cons length [] ss)
   total_filled ((x ∷ s) ∷ ss) = omega (arith, total_filled ss, sum_by-cons length (x ∷ s) ss, sum_by-cons length (x ∷ s) (filled ss))
+
+none_same : (o p : Option ℕ) → same_number o o ≡ false → same_number o p ≡ false
+none_same None p e = refl
+none_same (Some k) p e = absurd (false≢true (sym e ∙ eq-eqb k k refl))
 
 module _ {T : Type 0} (eq : T → T → Bool) where
   pub set_of_filled : (sets : List (List T)) (x : T) → set_of eq (filled sets) x ≡ set_of eq sets x
@@ -91,6 +95,17 @@ module _ {T : Type 0} (eq : T → T → Bool) where
           | None ↦ λ e. ap (λ s. in_set eq s y) (not_found x e)
           | Some k ↦ λ e. ap (λ s. in_set eq s y) (found x k e) ∙ p.numbered y k ∙ same_symm (number y) (Some k)
         ] refl
+
+    -- an item that is in no set is together with none
+    pub first_apart : (x y : T) → together eq (filled sets) x x ≡ false → together eq (filled sets) x y ≡ false
+    first_apart x y off =
+        let no : same_number (number x) (number x) ≡ false = sym (by_number x x) ∙ off in
+        by_number x y ∙ none_same (number x) (number y) no
+
+    pub second_apart : (x y : T) → together eq (filled sets) y y ≡ false → together eq (filled sets) x y ≡ false
+    second_apart x y off =
+        let no : same_number (number y) (number y) ≡ false = sym (by_number y y) ∙ off in
+        by_number x y ∙ same_symm (number x) (number y) ∙ none_same (number y) (number x) no
 
     pub same_set : (x y : T) → together eq (filled sets) x y ≡ true → set_of eq (filled sets) y ≡ set_of eq (filled sets) x
     same_set x y m =

@@ -1,5 +1,5 @@
 -- Sets of items, where a test says which items are one.
-use Rattle.std.specs.Prelude.{◌≡◌, ℕ, ◌+◌, Bool, true, false, cond, ◌||◌, ◌&&◌, List, [], ◌∷◌}
+use Rattle.std.specs.Prelude.{ℕ, Bool, cond, if◌then◌else◌, ◌||◌, ◌&&◌, List, [], ◌∷◌}
 use Rattle.std.specs.List.{list_any}
 
 -- the sets that have an item
@@ -36,4 +36,4 @@ module _ {T : Type 0} (eq : T → T → Bool) where
 
   -- how many items x adds to the sets: one where it is in none
   abbrev pub added_by : List (List T) → T → ℕ
-  added_by sets x = cond (together sets x x) 0 1
+  added_by sets x = if together sets x x then 0 else 1

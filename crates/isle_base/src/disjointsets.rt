@@ -69,7 +69,11 @@ impl<T: Copy + Debug + Eq + Hash> DisjointSets<T> {
 
     /// Whether the two are in one set. An item that is in no set isn't together with itself.
     pub fn in_same_set(&self, x: T, y: T) -> bool
-        ensures { result ≡ together T.eq self.now x y }
+        ensures value { result ≡ together T.eq self.now x y }
+
+        // false where either is in no set
+        ensures first { IsFalse (together T.eq self.now x x) → IsFalse result }
+        ensures second { IsFalse (together T.eq self.now y y) → IsFalse result }
     {
         match (self.classes.get(&x), self.classes.get(&y)) {
             (Some(a), Some(b)) => *a == *b,
@@ -506,13 +510,13 @@ mod tests {
         Ok(sets)
     }
 
-    // Whether two values have the same sets, so far as the numbers below 12 go.
+    // Whether two values have the same sets, so far as the numbers below 36 go.
     fn are_same(a: &DisjointSets<u32>, b: &DisjointSets<u32>) -> bool {
-        for x in 0..12 {
+        for x in 0..36 {
             if a.find(x) != b.find(x) {
                 return false;
             }
-            for y in 0..12 {
+            for y in 0..36 {
                 if a.in_same_set(x, y) != b.in_same_set(x, y) {
                     return false;
                 }
@@ -657,28 +661,38 @@ mod tests {
         Ok(())
     }
 
-    // Refused memory: `rt try --test --fail-alloc N refused_calls` for N = 1, 2, .. until it says no
-    // more that a call was refused. A call that is refused leaves the sets as their copy has them.
+    // Refused memory: run `rt try --test --fail-alloc N -- refused_calls` for N = 1, 2, .. until it prints
+    // `no call was refused`. What a call refuses leaves the sets as the copy before it has them.
     #[test]
     fn refused_calls_change_nothing(rt: HostRuntime) -> Result<(), Fail> {
+        let mut refused = false;
         let mut sets = DisjointSets::new(rt.alloc());
-        for (x, y) in [(1, 2), (3, 4), (3, 5), (2, 3), (6, 7), (8, 9), (9, 6)] {
+        for (x, y) in [(1, 2), (3, 4), (2, 3), (6, 7), (6, 8)] {
             let Ok(copy) = sets.clone() else {
+                refused = true;
                 continue;
             };
             if joined(&mut sets, x, y).is_err() {
                 println!(rt; "merge({x}, {y}) was refused")?;
                 assert!(rt; are_same(&sets, &copy));
+                refused = true;
             }
         }
-        for x in [10, 4, 8] {
-            let Ok(copy) = sets.clone() else {
-                continue;
-            };
-            if sets.remove_set_of(x).is_err() {
-                println!(rt; "remove_set_of({x}) was refused")?;
+        // a set so long that its sort takes memory
+        for x in 10..34 {
+            refused = joined(&mut sets, x, x + 1).is_err() || refused;
+        }
+        if let Ok(copy) = sets.clone() {
+            if sets.remove_set_of(20).is_err() {
+                println!(rt; "remove_set_of(20) was refused")?;
                 assert!(rt; are_same(&sets, &copy));
+                refused = true;
             }
+        } else {
+            refused = true;
+        }
+        if !refused {
+            println!(rt; "no call was refused")?;
         }
         Ok(())
     }

@@ -1,7 +1,7 @@
-use Rattle.std.proofs.Common.{rules, Vec, ◌≡◌, ◌<◌, ◌++◌, ◌∷◌, [], length, get_or, ap, sym, ◌∙◌, refl, arith, hash_map_len, cond, Some}
+use Rattle.std.proofs.Common.{rules, ◌<◌, ◌++◌, ◌∷◌, [], length, get_or, ap, sym, ◌∙◌, refl, arith, hash_map_len, cond, Some}
 use Rattle.std.specs.HashMap.{get}
 use Rattle.std.proofs.lemmas.List.{length-map}
-use Rattle.isle_base.specs.Numbers.{sets_of, Fit, IsPut}
+use Rattle.isle_base.specs.Numbers.{sets_of}
 use Rattle.isle_base.proofs.Classes.{at_view, numbered_admit, numbered_same}
 use Rattle.isle_base.proofs.Puts.{vector_put_as, same_sets, within_filled}
 use Rattle.isle_base.proofs.disjointsets.admit.Goals as goal

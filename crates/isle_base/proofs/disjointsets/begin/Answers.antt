@@ -1,4 +1,4 @@
-use Rattle.std.proofs.Common.{◌≡◌, ◌+◌, ◌∷◌, [], length, get_or, ap, sym, ◌∙◌, refl, arith, hash_map_len, Some, None, cond}
+use Rattle.std.proofs.Common.{◌≡◌, ◌∷◌, [], get_or, ap, sym, ◌∙◌, arith, hash_map_len, Some, cond}
 use Rattle.std.specs.HashMap.{get}
 use Rattle.isle_base.specs.Partition.{in_set}
 use Rattle.isle_base.specs.Numbers.{sets_of, IsPut}

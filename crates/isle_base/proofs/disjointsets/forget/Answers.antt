@@ -1,4 +1,4 @@
-use Rattle.std.proofs.Common.{◌≡◌, ◌<◌, ◌+◌, ◌||◌, length, get_or, take, true, false, ap, sym, ◌∙◌, refl, arith, hash_map_len, None, cond, is_some}
+use Rattle.std.proofs.Common.{◌≡◌, ◌<◌, ◌+◌, ◌||◌, length, get_or, take, true, false, ap, sym, ◌∙◌, arith, hash_map_len, None, cond, is_some}
 use Rattle.std.specs.HashMap.{get}
 use Rattle.std.proofs.lemmas.List.Folds.{list_any_more, list_any_at}
 use Rattle.isle_base.specs.Partition.{in_set}

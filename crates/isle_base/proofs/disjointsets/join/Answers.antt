@@ -1,4 +1,4 @@
-use Rattle.std.proofs.Common.{◌≡◌, ap, sym, ◌∙◌, refl, hash_map_len, Some}
+use Rattle.std.proofs.Common.{ap, sym, ◌∙◌, refl, hash_map_len, Some}
 use Rattle.std.specs.HashMap.{get}
 use Rattle.std.proofs.lemmas.Result.{on_ok_weaker}
 use Rattle.isle_base.specs.Numbers.{sets_of}

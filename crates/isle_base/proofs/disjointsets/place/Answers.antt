@@ -1,8 +1,8 @@
-use Rattle.std.proofs.Common.{rules, Vec, Some, ◌≡◌, ◌<◌, ◌++◌, ◌∷◌, [], length, get_or, ap, sym, ◌∙◌, refl, arith, slice_get, count_by, List, ℕ, append-nil}
+use Rattle.std.proofs.Common.{◌≡◌, [], length, ◌∙◌, arith, append-nil}
 use Rattle.std.proofs.lemmas.List.{length-map}
 use Rattle.std.proofs.lemmas.Option.{get_or_from_slice_get}
 use Rattle.isle_base.specs.Numbers.{sets_of, Vacant}
-use Rattle.isle_base.proofs.Puts.{free_place, free_within, vector_put, vector_pushed, past_vectors, vacant_popped, vacant_kept, vacancies_past}
+use Rattle.isle_base.proofs.Puts.{free_place, free_within, vector_put, vector_pushed, vacant_popped, vacant_kept, vacancies_past}
 use Rattle.isle_base.proofs.disjointsets.place.Goals as goal
 
 pub index_mut-requires : goal.index_mut-requires

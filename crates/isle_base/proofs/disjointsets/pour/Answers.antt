@@ -1,8 +1,8 @@
-use Rattle.std.proofs.Common.{◌≡◌, ◌<◌, ◌≤◌, ◌+◌, ◌∷◌, ◌++◌, [], length, get_or, ap, sym, ◌∙◌, refl, arith, hash_map_len, Some, None, cond, is_some, ◌&&◌, vec_len, vec_capacity, slice_set, get_or-set_other, length-set}
+use Rattle.std.proofs.Common.{◌≡◌, ◌<◌, ◌++◌, [], length, get_or, ap, sym, ◌∙◌, arith, hash_map_len, Some, cond, is_some, ◌&&◌, slice_set, get_or-set_other, length-set}
 use Rattle.std.specs.HashMap.{get}
 use Rattle.std.proofs.lemmas.List.{length-map, get_or_default}
 use Rattle.isle_base.specs.Partition.{in_set}
-use Rattle.isle_base.specs.Numbers.{sets_of, IsPut, same_number}
+use Rattle.isle_base.specs.Numbers.{sets_of}
 use Rattle.isle_base.proofs.Classes.{at_view, numbered_unite, renumbered}
 use Rattle.isle_base.proofs.Puts.{vector_put_as, within_filled}
 use Rattle.isle_base.proofs.disjointsets.pour.Goals as goal

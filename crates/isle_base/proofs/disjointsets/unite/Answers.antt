@@ -1,5 +1,4 @@
-use Rattle.std.proofs.Common.{◌≡◌, ◌<◌, ◌+◌, ◌∷◌, [], length, get_or, ap, sym, ◌∙◌, refl, arith, rules}
-use Rattle.isle_base.specs.Numbers.{sets_of}
+use Rattle.std.proofs.Common.{ap, ◌∙◌, rules}
 use Rattle.isle_base.proofs.Puts.{same_sets}
 use Rattle.isle_base.proofs.disjointsets.unite.Goals as goal
 

@@ -1,4 +1,4 @@
-use Rattle.std.proofs.Common.{◌≡◌, ◌<◌, map, length, Some, refl, sym, ap, ◌∙◌, slice_get, arith, hash_map_len}
+use Rattle.std.proofs.Common.{◌<◌, length, Some, refl, sym, ap, ◌∙◌, slice_get, arith, hash_map_len}
 use Rattle.std.proofs.lemmas.List.{length-map}
 use Rattle.std.specs.HashMap.{get}
 use Rattle.std.proofs.lemmas.Option.{slice_get-get_or}

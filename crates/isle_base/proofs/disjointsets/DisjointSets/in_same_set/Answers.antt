@@ -1,21 +1,66 @@
-use Rattle.std.proofs.Common.{map, sym, ap, ◌∙◌, ◌≡◌, Some, refl, hash_map_len}
+use Rattle.std.proofs.Common.{◌∙◌, refl, hash_map_len}
 use Rattle.std.specs.HashMap.{get}
-use Rattle.isle_base.specs.Numbers.{sets_of, same_number}
+use Rattle.isle_base.specs.Numbers.{sets_of}
 use Rattle.isle_base.proofs.Classes.{same_symm}
-use Rattle.isle_base.proofs.Togethers.{by_number}
+use Rattle.isle_base.proofs.Togethers.{by_number, first_apart, second_apart}
 use Rattle.isle_base.proofs.disjointsets.DisjointSets.in_same_set.Goals as goal
 
-pub returns-in-Some-Some : goal.returns-in-Some-Some
-returns-in-Some-Some g c =
+pub returns-in-Some-Some-clause-value : goal.returns-in-Some-Some-clause-value
+returns-in-Some-Some-clause-value g c =
+    let e = g.T.PartialEq.eq in
     let s = c.self.inside in
-    rw (← c.self.view_is, by_number g.T.PartialEq.eq (get g.T.PartialEq.eq s.classes) (hash_map_len s.classes) s.free.items (sets_of s.members.items) c.self.invariant c.args.x c.args.y, ← c.in-Some-Some.ensures.value, ← c.in-Some-Some.ensures'.value) refl
+    rw (← c.self.view_is, by_number e (get e s.classes) (hash_map_len s.classes) s.free.items (sets_of s.members.items) c.self.invariant c.args.x c.args.y, ← c.in-Some-Some.ensures.value, ← c.in-Some-Some.ensures'.value) refl
 
-pub returns-in_default : goal.returns-in_default
-returns-in_default g c =
+pub returns-in-Some-Some-clause-first : goal.returns-in-Some-Some-clause-first
+returns-in-Some-Some-clause-first g c off =
+    let e = g.T.PartialEq.eq in
     let s = c.self.inside in
-    rw (← c.self.view_is, by_number g.T.PartialEq.eq (get g.T.PartialEq.eq s.classes) (hash_map_len s.classes) s.free.items (sets_of s.members.items) c.self.invariant c.args.x c.args.y, same_symm, ← c.in_default.ensures'.value) refl
+    let apart = rw c.self.view_is at (first_apart e (get e s.classes) (hash_map_len s.classes) s.free.items (sets_of s.members.items) c.self.invariant c.args.x c.args.y) in
+    returns-in-Some-Some-clause-value g c ∙ apart off
 
-pub returns-in_default-2 : goal.returns-in_default-2
-returns-in_default-2 g c =
+pub returns-in-Some-Some-clause-second : goal.returns-in-Some-Some-clause-second
+returns-in-Some-Some-clause-second g c off =
+    let e = g.T.PartialEq.eq in
     let s = c.self.inside in
-    rw (← c.self.view_is, by_number g.T.PartialEq.eq (get g.T.PartialEq.eq s.classes) (hash_map_len s.classes) s.free.items (sets_of s.members.items) c.self.invariant c.args.x c.args.y, ← c.in_default.ensures.value) refl
+    let apart = rw c.self.view_is at (second_apart e (get e s.classes) (hash_map_len s.classes) s.free.items (sets_of s.members.items) c.self.invariant c.args.x c.args.y) in
+    returns-in-Some-Some-clause-value g c ∙ apart off
+
+pub returns-in_default-clause-value : goal.returns-in_default-clause-value
+returns-in_default-clause-value g c =
+    let e = g.T.PartialEq.eq in
+    let s = c.self.inside in
+    rw (← c.self.view_is, by_number e (get e s.classes) (hash_map_len s.classes) s.free.items (sets_of s.members.items) c.self.invariant c.args.x c.args.y, same_symm, ← c.in_default.ensures'.value) refl
+
+pub returns-in_default-clause-first : goal.returns-in_default-clause-first
+returns-in_default-clause-first g c off =
+    let e = g.T.PartialEq.eq in
+    let s = c.self.inside in
+    let apart = rw c.self.view_is at (first_apart e (get e s.classes) (hash_map_len s.classes) s.free.items (sets_of s.members.items) c.self.invariant c.args.x c.args.y) in
+    returns-in_default-clause-value g c ∙ apart off
+
+pub returns-in_default-clause-second : goal.returns-in_default-clause-second
+returns-in_default-clause-second g c off =
+    let e = g.T.PartialEq.eq in
+    let s = c.self.inside in
+    let apart = rw c.self.view_is at (second_apart e (get e s.classes) (hash_map_len s.classes) s.free.items (sets_of s.members.items) c.self.invariant c.args.x c.args.y) in
+    returns-in_default-clause-value g c ∙ apart off
+
+pub returns-in_default-2-clause-value : goal.returns-in_default-2-clause-value
+returns-in_default-2-clause-value g c =
+    let e = g.T.PartialEq.eq in
+    let s = c.self.inside in
+    rw (← c.self.view_is, by_number e (get e s.classes) (hash_map_len s.classes) s.free.items (sets_of s.members.items) c.self.invariant c.args.x c.args.y, ← c.in_default.ensures.value) refl
+
+pub returns-in_default-2-clause-first : goal.returns-in_default-2-clause-first
+returns-in_default-2-clause-first g c off =
+    let e = g.T.PartialEq.eq in
+    let s = c.self.inside in
+    let apart = rw c.self.view_is at (first_apart e (get e s.classes) (hash_map_len s.classes) s.free.items (sets_of s.members.items) c.self.invariant c.args.x c.args.y) in
+    returns-in_default-2-clause-value g c ∙ apart off
+
+pub returns-in_default-2-clause-second : goal.returns-in_default-2-clause-second
+returns-in_default-2-clause-second g c off =
+    let e = g.T.PartialEq.eq in
+    let s = c.self.inside in
+    let apart = rw c.self.view_is at (second_apart e (get e s.classes) (hash_map_len s.classes) s.free.items (sets_of s.members.items) c.self.invariant c.args.x c.args.y) in
+    returns-in_default-2-clause-value g c ∙ apart off

@@ -1,4 +1,4 @@
-use Rattle.std.proofs.Common.{◌≡◌, ◌==◌, length, sum_by, true, sym, ap, ◌∙◌, refl, hash_map_len, eq-eqb, eqb-true}
+use Rattle.std.proofs.Common.{◌==◌, hash_map_len, eq-eqb, eqb-true}
 use Rattle.std.specs.Cmp.{both_ways}
 use Rattle.std.specs.HashMap.{get}
 use Rattle.isle_base.specs.Numbers.{sets_of}

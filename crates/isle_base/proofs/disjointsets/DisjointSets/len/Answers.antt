@@ -1,4 +1,4 @@
-use Rattle.std.proofs.Common.{◌≡◌, length, sym, ap, ◌∙◌, refl, hash_map_len, is_some}
+use Rattle.std.proofs.Common.{sym, ◌∙◌, hash_map_len}
 use Rattle.std.specs.HashMap.{get, keys}
 use Rattle.std.proofs.lemmas.List.{length-map}
 use Rattle.std.proofs.lemmas.Map.Made.{is_some-lookup}

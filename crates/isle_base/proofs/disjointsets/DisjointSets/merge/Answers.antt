@@ -1,7 +1,6 @@
-use Rattle.std.proofs.Common.{◌≡◌, ◌+◌, ap, sym, ◌∙◌, refl, arith, hash_map_len, Some, None, length, sum_by, []}
+use Rattle.std.proofs.Common.{◌≡◌, arith, hash_map_len, Some, None}
 use Rattle.std.specs.HashMap.{get}
 use Rattle.std.proofs.lemmas.Result.{on_ok_weaker}
-use Rattle.isle_base.specs.Partition.{together, filled, added_by}
 use Rattle.isle_base.specs.Numbers.{sets_of}
 use Rattle.isle_base.proofs.Classes.{alike, has_some}
 use Rattle.isle_base.proofs.Togethers.{total, added_none, added_some}

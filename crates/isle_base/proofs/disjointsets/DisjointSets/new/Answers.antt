@@ -6,7 +6,7 @@ use Rattle.isle_base.proofs.disjointsets.DisjointSets.new.Goals as goal
 
 pub invariant_of-result : goal.invariant_of-result
 invariant_of-result g c =
-    rw c.new-2.ensures.items (no_sets g.T.PartialEq.eq (get g.T.PartialEq.eq c.new.result) (hash_map_len c.new.result) c.new-3.result.items (λ x. search rules) (search rules) c.new-3.ensures.items)
+    rw c.new-2.ensures.items (no_sets g.T.PartialEq.eq (get g.T.PartialEq.eq c.new.result) (hash_map_len c.new.result) _ (λ x. search rules) (search rules) (search rules))
 
 pub returns : goal.returns
 unfolding filled

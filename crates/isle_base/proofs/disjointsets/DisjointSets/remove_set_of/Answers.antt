@@ -1,4 +1,4 @@
-use Rattle.std.proofs.Common.{◌≡◌, ◌+◌, ap, sym, ◌∙◌, refl, arith, hash_map_len, Some, None, true, false, length, sum_by, []}
+use Rattle.std.proofs.Common.{◌≡◌, ap, sym, ◌∙◌, refl, arith, hash_map_len, Some, None, true, false}
 use Rattle.std.specs.HashMap.{get}
 use Rattle.std.specs.List.Sorted.{IsStrictlySortedBy}
 use Rattle.std.proofs.lemmas.Bool.{false≢true}
