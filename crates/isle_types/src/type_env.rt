@@ -15,7 +15,7 @@ use isle_base::syntax::{Error, Ident};
 use std::alloc::AllocError;
 use std::collections::HashMap;
 
-/// The names and the types that definitions speak of.
+/// The names and the types that definitions speak of. Upstream's `TypeEnv`.
 #[derive(Debug, Drop)]
 pub struct TypeEnv {
     /// The names: the place of each is its number. No name stands twice.
@@ -33,7 +33,7 @@ pub struct TypeEnv {
 }
 
 impl TypeEnv {
-    /// The number of a name, or None where it isn't known.
+    /// The number of a name, or None where it isn't known. Takes no memory. Upstream's `TypeEnv::intern`.
     pub fn intern(&self, ident: &Ident) -> Option<Sym>
         ensures looked_up { option_map (λ s. s.0) result ≡ symbol_of self.now (string_bytes ident.now.0) }
         ensures place { IsInverse (names_of self.now) (symbol_of self.now)
@@ -42,8 +42,15 @@ impl TypeEnv {
         self.look_up_text(ident.0.as_str())
     }
 
-    /// The number of a name, which is the next one where the name isn't known yet. An error where
-    /// memory is refused, and then nothing has changed.
+    /// The number of a name, which is the next one where the name isn't known yet. Upstream's private
+    /// `TypeEnv::intern_mut`.
+    ///
+    /// Condition: no name stands twice in `syms`, and `sym_map` has the place of each, as in every
+    /// environment of `from_ast` and `try_default`.
+    ///
+    /// # Errors
+    ///
+    /// Where memory is refused. Nothing has changed then.
     pub fn intern_mut(&mut self, ident: &Ident) -> Result<Sym, AllocError>
         requires { IsInverse (names_of self.old) (symbol_of self.old) }
         ensures names { OnOk result (names_of self.new ≡ with_name (names_of self.old) (string_bytes ident.now.0)) }

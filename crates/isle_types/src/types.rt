@@ -12,7 +12,7 @@ use crate::type_env::TypeEnv;
 use isle_base::syntax::Pos;
 use std::alloc::{AllocError, Global};
 
-/// A type.
+/// A type. Upstream's `Type`.
 #[derive(Clone, Debug, PartialEq, Eq, Drop)]
 pub enum Type {
     /// A built-in type, which no definition makes.
@@ -52,7 +52,7 @@ pub enum Type {
     },
 }
 
-/// A variant of an enum.
+/// A variant of an enum. Upstream's `Variant`.
 #[derive(Clone, Debug, PartialEq, Eq, Drop)]
 pub struct Variant {
     /// The name of the variant.
@@ -67,7 +67,7 @@ pub struct Variant {
     pub pos: Pos,
 }
 
-/// The fields of a struct or of a variant.
+/// The fields of a struct or of a variant. Upstream's `Fields`.
 #[derive(Clone, Debug, PartialEq, Eq, Drop)]
 pub enum Fields {
     /// No fields.
