@@ -19,6 +19,7 @@ use Rattle.isle_types.specs.declared.type_env.TypeEnv.{TypeEnv}
 use Rattle.isle_types.specs.declared.types.StructField.{StructField}
 use Rattle.isle_types.specs.declared.types.TupleField.{TupleField}
 use Rattle.isle_types.specs.Envs.{names_of, symbol_of, type_at, type_named}
+use Rattle.isle_types.specs.VariantReading.{HasSeen}
 use Rattle.isle_types.specs.FieldReading.{was_seen, IsField, ReadsField, IsTupleField, ReadsTupleField}
 use Rattle.isle_types.specs.Names.{IsInverse}
 use Rattle.isle_types.specs.Reading.{MayReport, Reports, MeetsNames, AreRightFields}
@@ -26,7 +27,7 @@ use Rattle.isle_types.specs.Stages.{Sees}
 use Rattle.isle_types.specs.TypeViews.{field_view, tuple_field_view}
 use Rattle.isle_types.proofs.Places.{looked_up}
 use Rattle.isle_types.proofs.Seen.{type_of_text, sees_name}
-use Rattle.isle_types.proofs.SeenNames.{HasSeen, none_seen, not_seen, seen_text, one_seen}
+use Rattle.isle_types.proofs.SeenNames.{none_seen, not_seen, seen_text, one_seen}
 use Rattle.isle_types.proofs.Texts.{number_stays, with_names_append, distinct_push, twice}
 
 -- a fact of all elements is one of an element between the others
