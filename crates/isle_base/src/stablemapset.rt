@@ -122,8 +122,8 @@ impl<K: Eq + Hash, V> StableMap<K, V> {
         }
     }
 
-    /// The map that pairs of a key and a value make, a later pair over an earlier one with an equal key. The pairs have to
-    /// come to an end. Stands for upstream's `FromIterator`, since memory can be refused.
+    /// The map that pairs of a key and a value make, a later pair over an earlier one with an equal key. Condition: the
+    /// pairs come to an end. Stands for upstream's `FromIterator`, since memory can be refused.
     ///
     /// # Errors
     ///
