@@ -1,5 +1,5 @@
 -- What a map and a set have. The list that carries them is no part of what can be named, so no clause sees an order.
-use Rattle.std.specs.Prelude.{◌≡◌, ℕ, Bool, true, List, length, reverse, Option, None, MatchOption, IsSomeAnd, refl}
+use Rattle.std.specs.Prelude.{◌≡◌, ℕ, Bool, List, length, reverse, Option, None, MatchOption, IsSomeAnd, refl}
 use Rattle.std.specs.Coded.{Coded, code_by, coded×, coded_list}
 use Rattle.std.specs.List.{list_any}
 use Rattle.std.specs.Map.{lookup, keys_of}
@@ -41,14 +41,6 @@ member_count s = length s.listed
 -- how many keys
 abbrev pub entry_count : {K V : Type 0} → Entries K V → ℕ
 entry_count m = length m.listed
-
--- equal values are in each set together or not at all
-abbrev pub EqualValuesAreOne : {T : Type 0} → (T → T → Bool) → Type 0
-EqualValuesAreOne {T} eq = (s : Members T) (x y : T) → eq x y ≡ true → contains eq s y ≡ contains eq s x
-
--- each map has the same at equal keys
-abbrev pub EqualKeysAreOne : {K : Type 0} (V : Type 0) → (K → K → Bool) → Type 0
-EqualKeysAreOne {K} V eq = (m : Entries K V) (j k : K) → eq j k ≡ true → look_up eq m k ≡ look_up eq m j
 
 -- the map that the pairs make: each key has the value of the last pair with a key equal to it, and each key among the
 -- pairs counts once, as the last of those that are equal to it

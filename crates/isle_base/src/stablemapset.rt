@@ -1,9 +1,11 @@
-//! A map and a set over std's hash collections whose order no call shows. Values, and keys, are told apart by `==` alone.
-ghost use Rattle.std.specs.Prelude.{◌≡◌, ◌+◌, ℕ, Bool, List, true, false, None, Some, not, is_some, IsSome, option_copied, if◌then◌else◌, IfOk, OnOk, OnErr};
-ghost use Rattle.isle_base.specs.Stable.{contains, entry_count, look_up, member_count, ClonesAreSame, EqualKeysAreOne, EqualValuesAreOne, HasClones, IsMadeOf};
+//! A map and a set over std's hash collections whose order no call but `Debug` shows. Values, and keys, are told apart by `==`
+//! alone.
+ghost use Rattle.std.specs.Prelude.{◌≡◌, ◌+◌, ℕ, Bool, List, length, true, false, None, Some, not, is_some, IsSome, option_copied, if◌then◌else◌, IfOk, OnOk, OnErr};
+ghost use Rattle.isle_base.specs.Stable.{contains, entry_count, look_up, member_count, ClonesAreSame, HasClones, IsMadeOf};
 ghost use Rattle.std.specs.HashMap.{get, hash_map_len};
 ghost use Rattle.std.specs.Iterator.{Drains, IsFiniteIterable};
-ghost use Rattle.std.specs.Set.{ClonesAreEqual};
+ghost use Rattle.std.specs.List.{IsDistinct};
+ghost use Rattle.std.specs.Set.{is_member, ClonesAreEqual};
 
 use std::alloc::{AllocError, Global};
 use std::collections::{HashMap, HashSet};
@@ -56,14 +58,20 @@ impl<T: Eq + Hash> StableSet<T> {
 
     /// Whether the set has a value that is equal to this one.
     pub fn contains(&self, val: &T) -> bool
-        ensures { result ≡ contains T.eq self.now val.now }
+        ensures value { result ≡ contains T.eq self.now val.now }
+
+        // equal values are in the set together or not at all
+        ensures same { (y : T) → T.eq val.now y ≡ true → contains T.eq self.now y ≡ result }
     {
         self.items.contains(val)
     }
 
     /// How many values the set has, those that are equal counted once.
     pub fn len(&self) -> usize
-        ensures { result ≡ member_count self.now }
+        ensures value { result ≡ member_count self.now }
+
+        // as many as a list has that has each of them once
+        ensures count { (values : List T) × IsDistinct T.eq values × ((y : T) → is_member T.eq values y ≡ contains T.eq self.now y) × (length values ≡ result) }
     {
         self.items.len()
     }
@@ -114,8 +122,8 @@ impl<K: Eq + Hash, V> StableMap<K, V> {
         }
     }
 
-    /// The map that pairs of a key and a value make, a later pair over an earlier one with an equal key. Stands for
-    /// upstream's `FromIterator`, since memory can be refused.
+    /// The map that pairs of a key and a value make, a later pair over an earlier one with an equal key. Condition: the
+    /// pairs come to an end. Stands for upstream's `FromIterator`, since memory can be refused.
     ///
     /// # Errors
     ///
@@ -156,21 +164,30 @@ impl<K: Eq + Hash, V> StableMap<K, V> {
 
     /// The value of the key that is equal to this one, if there is one.
     pub fn get(&self, k: &K) -> Option<&V>
-        ensures { option_copied result ≡ look_up K.eq self.now k.now }
+        ensures value { option_copied result ≡ look_up K.eq self.now k.now }
+
+        // equal keys have the same value, or none has one
+        ensures same { (y : K) → K.eq k.now y ≡ true → look_up K.eq self.now y ≡ option_copied result }
     {
         self.entries.get(k)
     }
 
     /// Whether a key that is equal to this one has a value.
     pub fn contains_key(&self, k: &K) -> bool
-        ensures { result ≡ is_some (look_up K.eq self.now k.now) }
+        ensures value { result ≡ is_some (look_up K.eq self.now k.now) }
+
+        // equal keys have a value together or not at all
+        ensures same { (y : K) → K.eq k.now y ≡ true → is_some (look_up K.eq self.now y) ≡ result }
     {
         self.entries.contains_key(k)
     }
 
     /// How many keys have a value, those that are equal counted once.
     pub fn len(&self) -> usize
-        ensures { result ≡ entry_count self.now }
+        ensures value { result ≡ entry_count self.now }
+
+        // as many as a list has that has each of the keys once
+        ensures count { (keys : List K) × IsDistinct K.eq keys × ((y : K) → is_member K.eq keys y ≡ is_some (look_up K.eq self.now y)) × (length keys ≡ result) }
     {
         self.entries.len()
     }
@@ -216,16 +233,6 @@ impl<K: Eq + Hash, V> From<HashMap<K, V>> for StableMap<K, V> {
         StableMap { entries: map }
     }
 }
-
-/// A set that has a value has each that is equal to it.
-pub fn equal_values_are_one<T: Eq + Hash>()
-    ensures { EqualValuesAreOne T.eq }
-{}
-
-/// A map has the same at equal keys.
-pub fn equal_keys_are_one<K: Eq + Hash, V>()
-    ensures { EqualKeysAreOne V K.eq }
-{}
 
 #[cfg(test)]
 mod tests;

@@ -264,3 +264,28 @@ fn refused_pairs_can_be_taken_again(rt: HostRuntime) -> Result<(), Fail> {
     }
     Ok(())
 }
+
+// Passes as it stands, and with `rt try --test --fail-alloc 14 -- take_no_memory`: 13 requests for memory are made up to `hashed`,
+// and none by the calls below it.
+#[test]
+fn other_calls_take_no_memory(rt: HostRuntime) -> Result<(), Fail> {
+    let alloc = rt.alloc();
+    let (mut set, mut map) = (StableSet::new(alloc), StableMap::new(alloc));
+    assert!(rt; set.insert(7)? && map.insert(7, 'a')? == None);
+    let hashed = HashMap::from_array(alloc, [(7, 'b')])?;
+    let (none, nowhere) = (
+        StableSet::<u32>::new(alloc),
+        StableMap::<u32, char>::new(alloc),
+    );
+    assert!(rt; none.len() == 0 && !none.contains(&7));
+    assert!(rt; nowhere.len() == 0 && !nowhere.contains_key(&7) && nowhere.get(&7).is_none());
+    assert!(rt; set.len() == 1 && set.contains(&7) && !set.contains(&4));
+    assert!(rt; map.len() == 1 && map.contains_key(&7) && !map.contains_key(&4));
+    assert!(rt; map.get(&7) == Some(&'a') && map.get(&4).is_none());
+    assert_eq!(rt; map[&7], 'a');
+    let taken = StableMap::from(hashed);
+    assert!(rt; taken.len() == 1 && taken.contains_key(&7) && !taken.contains_key(&4));
+    assert_eq!(rt; taken.get(&7), Some(&'b'));
+    assert_eq!(rt; taken[&7], 'b');
+    Ok(())
+}

@@ -4,5 +4,5 @@ use Rattle.isle_rules.proofs.rule_names.map_name.Goals as goal
 
 pub returns : goal.returns
 returns c =
-    let free = free_at c.args.rule_map.now c.in-Some.name (sym c.contains_key.ensures ∙ c.if-contains_key.false) in
+    let free = free_at c.args.rule_map.now c.in-Some.name (sym c.contains_key.ensures.value ∙ c.if-contains_key.false) in
     rw c.in-Some.is (inl (refl, free, λ k. read_rules c.args.rule_map.now c.insert.new.self c.in-Some.name c.args.rule.now.id c.in_ok-insert.ensures.has k))
