@@ -7,7 +7,7 @@ ghost use Rattle.std.specs.Ordering.{on};
 ghost use Rattle.std.specs.HashMap.{get, hash_map_len, spare, Updates};
 ghost use Rattle.std.specs.List.{IsDistinct};
 ghost use Rattle.std.specs.List.Sorted.{IsPermutation, IsSorted, IsStrictlySortedBy};
-ghost use Rattle.isle_base.specs.Partition.{set_of, in_set, together, together_after, added_by};
+ghost use Rattle.isle_base.specs.Partition.{set_of, in_set, together, together_after, added_by, IsPartition};
 ghost use Rattle.isle_base.specs.Numbers.{Fit, IsMerge, IsPut, same_number, sets_of, Vacant};
 
 use std::alloc::{AllocError, Global};
@@ -61,6 +61,7 @@ impl<T: Copy + Debug + Eq + Hash> DisjointSets<T> {
 
         // a set has another item
         ensures another { IsSome result → (y : T) × IsFalse (T.eq x y) × IsTrue (together T.eq self.now x y) }
+        ensures partition { IsPartition T.eq self.now }
     {
         let class = *self.classes.get(&x)?;
         let set = &self.members[class];
@@ -74,6 +75,7 @@ impl<T: Copy + Debug + Eq + Hash> DisjointSets<T> {
         // false where either is in no set
         ensures first { IsFalse (together T.eq self.now x x) → IsFalse result }
         ensures second { IsFalse (together T.eq self.now y y) → IsFalse result }
+        ensures partition { IsPartition T.eq self.now }
     {
         match (self.classes.get(&x), self.classes.get(&y)) {
             (Some(a), Some(b)) => *a == *b,
@@ -89,6 +91,7 @@ impl<T: Copy + Debug + Eq + Hash> DisjointSets<T> {
         ensures same { (y : T) → IsTrue (together T.eq self.old x y) → slice_get (set_of T.eq self.old y) 0 ≡ result }
         ensures another { IsSome result → (y : T) × IsFalse (T.eq x y) × IsTrue (together T.eq self.old x y) }
         ensures unchanged { self.new ≡ self.old }
+        ensures partition { IsPartition T.eq self.new }
     {
         self.find(x)
     }
@@ -100,6 +103,7 @@ impl<T: Copy + Debug + Eq + Hash> DisjointSets<T> {
         ensures ok { OnOk result ((a b : T) → together T.eq self.new a b ≡ together_after T.eq self.old x y a b) }
         ensures len { OnOk result (sum_by length self.new ≡ sum_by length self.old + added_by T.eq self.old x + added_by T.eq self.old y) }
         ensures err { OnErr result (self.new ≡ self.old) }
+        ensures partition { IsPartition T.eq self.new }
     {
         let first = self.classes.get(&x).copied();
         let second = self.classes.get(&y).copied();
@@ -124,6 +128,7 @@ impl<T: Copy + Debug + Eq + Hash> DisjointSets<T> {
         ensures len { IfOk result (λ set. sum_by length self.new + length set.items ≡ sum_by length self.old) }
         ensures none { IsFalse (together T.eq self.old x x) → IsOkAnd result (λ set. set.items ≡ []) × (self.new ≡ self.old) }
         ensures err { OnErr result (self.new ≡ self.old) }
+        ensures partition { IsPartition T.eq self.new }
     {
         match self.classes.get(&x).copied() {
             None => Ok(Vec::new(*self.members.allocator())),
@@ -145,6 +150,7 @@ impl<T: Copy + Debug + Eq + Hash> DisjointSets<T> {
 
         // as many as a list has that has each of them once
         ensures count { (items : List T) × IsDistinct T.eq items × ((y : T) → in_set T.eq items y ≡ together T.eq self.now y y) × (length items ≡ result) }
+        ensures partition { IsPartition T.eq self.now }
     {
         self.classes.len()
     }
