@@ -123,6 +123,9 @@ impl<T: Copy + Debug + Eq + Hash> DisjointSets<T> {
         ensures members { IfOk result (λ set. (y : T) → in_set T.eq set.items y ≡ together T.eq self.old x y) }
         ensures ascending { IfOk result (λ set. IsStrictlySortedBy T.cmp set.items) }
 
+        // the very members, as they were merged
+        ensures answer { IfOk result (λ set. IsPermutation (set_of T.eq self.old x) set.items) }
+
         // the other sets stay
         ensures rest { OnOk result ((a b : T) → together T.eq self.new a b ≡ (together T.eq self.old a b && not (together T.eq self.old x a))) }
         ensures len { IfOk result (λ set. sum_by length self.new + length set.items ≡ sum_by length self.old) }
@@ -159,7 +162,10 @@ impl<T: Copy + Debug + Eq + Hash> DisjointSets<T> {
 impl<T: Copy + Debug + Eq + Hash> Clone for DisjointSets<T> {
     ghost is_clone = { λ a b. b ≡ a };
 
-    fn clone(&self) -> Result<DisjointSets<T>, AllocError> {
+    fn clone(&self) -> Result<DisjointSets<T>, AllocError>
+        ensures same { IfOk result (λ copy. copy ≡ self.now) }
+        ensures partition { IfOk result (λ copy. IsPartition T.eq copy) }
+    {
         let alloc = *self.members.allocator();
         Ok(DisjointSets {
             classes: classes_copied(alloc, &self.classes)?,
@@ -416,7 +422,7 @@ fn sorted<T: Copy + Debug + Ord>(alloc: Global, items: &[T]) -> Result<Vec<T>, A
     ensures ascending { IfOk result (λ set. IsSorted T.cmp set.items) }
 {
     let mut set = copied(alloc, items)?;
-    set.sort()?;
+    set.sort_unstable();
     Ok(set)
 }
 
@@ -445,6 +451,7 @@ fn remove<T: Copy + Debug + Eq + Hash + Ord>(
     ensures ok { OnOk result ((q : T) → get T.eq classes.new q ≡ cond (same_number (get T.eq classes.old q) (Some class)) None (get T.eq classes.old q)) }
     ensures members { IfOk result (λ set. (y : T) → in_set T.eq set.items y ≡ same_number (get T.eq classes.old y) (Some class)) }
     ensures ascending { IfOk result (λ set. IsStrictlySortedBy T.cmp set.items) }
+    ensures answer { IfOk result (λ set. IsPermutation (slice_index_or (sets_of members.old.items) class []) set.items) }
     ensures len { IfOk result (λ set. hash_map_len classes.new + length set.items ≡ hash_map_len classes.old) }
     ensures err { OnErr result (sets_of members.new.items ≡ sets_of members.old.items) }
 {

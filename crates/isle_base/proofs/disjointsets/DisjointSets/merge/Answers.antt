@@ -1,11 +1,10 @@
-use Rattle.std.proofs.Common.{◌≡◌, arith, hash_map_len, Some, None, subst}
+use Rattle.std.proofs.Common.{◌≡◌, arith, hash_map_len, Some, None}
 use Rattle.std.specs.HashMap.{get}
 use Rattle.std.proofs.lemmas.Result.{on_ok_weaker}
 use Rattle.isle_base.specs.Numbers.{sets_of}
 use Rattle.isle_base.proofs.Classes.{alike, has_some}
 use Rattle.isle_base.proofs.Togethers.{total, added_none, added_some, partition}
 use Rattle.isle_base.proofs.Merges.{merge_admit, merge_flip, together_merged}
-use Rattle.isle_base.specs.Partition.{IsPartition}
 use Rattle.isle_base.proofs.disjointsets.DisjointSets.merge.Goals as goal
 
 pub admit-requires-clause-some : goal.admit-requires-clause-some
