@@ -674,8 +674,9 @@ mod tests {
         Ok(())
     }
 
-    // Refused memory: run `rt try --test --fail-alloc N -- refused_calls` for N = 1, 2, .. until it prints
-    // `no call was refused`. What a call refuses leaves the sets as the copy before it has them.
+    // Refused memory: run `rt try --test --fail-alloc N -- refused_calls` for N = 1, 2, .. 90, past the last
+    // allocation. Where a call is refused the sets are as the copy before it has them. At some N the
+    // refusal is of the room that a map's `extend` asks for ahead, which it does without: then no call is.
     #[test]
     fn refused_calls_change_nothing(rt: HostRuntime) -> Result<(), Fail> {
         let mut refused = false;
