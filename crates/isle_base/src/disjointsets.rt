@@ -3,7 +3,8 @@ ghost use Rattle.std.specs.Prelude.{nat_eq, ◌%◌, Vec, Some, None, true, fals
 ghost use Rattle.std.proofs.Common.{rules};
 ghost use Rattle.std.specs.Cmp.Rules.{comparing, hashing};
 ghost use Rattle.std.specs.Hash as fed;
-ghost use Rattle.std.specs.Ordering.{on};
+ghost use Rattle.std.specs.Cmp.{partial_order_from_own_ties};
+ghost use Rattle.std.specs.Ordering.{as_partial_cmp, nat_cmp, on};
 ghost use Rattle.std.specs.HashMap.{get, hash_map_len, spare, Updates};
 ghost use Rattle.std.specs.List.{IsDistinct};
 ghost use Rattle.std.specs.List.Sorted.{IsPermutation, IsSorted, IsStrictlySortedBy};
@@ -468,6 +469,7 @@ fn remove<T: Copy + Debug + Eq + Hash + Ord>(
 #[cfg(test)]
 mod tests {
     use super::*;
+    use std::cmp::Ordering;
     use std::hash::Hasher;
     use std::test::Fail;
 
@@ -501,6 +503,30 @@ mod tests {
         }
     }
 
+    impl Ord for LastDigit {
+        ghost cmp = { on (λ a. a.number % 10) nat_cmp };
+
+        ghost total = { Prim.search (comparing, rules) };
+
+        ghost matches_partial_cmp = { Prim.search (comparing, rules) };
+
+        ghost matches_eq = { Prim.search (comparing, rules) };
+
+        fn cmp(&self, other: &LastDigit) -> Ordering {
+            (self.number % 10).cmp(&(other.number % 10))
+        }
+    }
+
+    impl PartialOrd for LastDigit {
+        ghost partial_cmp = { as_partial_cmp (on (λ a. a.number % 10) nat_cmp) };
+
+        ghost laws = { partial_order_from_own_ties (Prim.search (comparing, rules)) (Prim.search (comparing, rules)) };
+
+        fn partial_cmp(&self, other: &LastDigit) -> Option<Ordering> {
+            Some(self.cmp(other))
+        }
+    }
+
     fn digit(number: u32) -> LastDigit
         ensures { result.number ≡ number }
     {
@@ -508,7 +534,11 @@ mod tests {
     }
 
     // Merges two items where they differ.
-    fn joined(sets: &mut DisjointSets<u32>, x: u32, y: u32) -> Result<(), AllocError> {
+    fn merge_where_different<T: Copy + Debug + Eq + Hash>(
+        sets: &mut DisjointSets<T>,
+        x: T,
+        y: T,
+    ) -> Result<(), AllocError> {
         if x != y {
             sets.merge(x, y)?;
         }
@@ -518,7 +548,7 @@ mod tests {
     fn partition(alloc: Global, pairs: &[(u32, u32)]) -> Result<DisjointSets<u32>, AllocError> {
         let mut sets = DisjointSets::new(alloc);
         for (x, y) in pairs {
-            joined(&mut sets, *x, *y)?;
+            merge_where_different(&mut sets, *x, *y)?;
         }
         Ok(sets)
     }
@@ -540,6 +570,32 @@ mod tests {
 
     fn copy_of<C: Clone>(value: &C) -> Result<C, AllocError> {
         value.clone()
+    }
+
+    // Each call once, at two items of which the first is the lesser: whether it answers as it does for one set of both.
+    fn each_call_answers<T: Copy + Debug + Eq + Hash + Ord>(
+        alloc: Global,
+        x: T,
+        y: T,
+    ) -> Result<bool, AllocError> {
+        let mut sets = DisjointSets::new(alloc);
+        let begins_empty = sets.is_empty() && sets.find(x).is_none();
+        merge_where_different(&mut sets, x, y)?;
+        let copy = copy_of(&sets)?;
+        let found = sets.find(x).is_some() && sets.find(x) == sets.find_mut(y);
+        let counted = sets.in_same_set(x, y) && sets.len() == 2;
+        let set = sets.remove_set_of(y)?;
+        let removed = set.len() == 2 && set[0] == x && set[1] == y;
+        Ok(begins_empty && found && counted && copy.len() == 2 && removed && sets.is_empty())
+    }
+
+    #[test]
+    fn each_call_at_its_bounds(rt: HostRuntime) -> Result<(), Fail> {
+        assert!(rt; each_call_answers(rt.alloc(), 7, 12)?);
+        assert!(rt; each_call_answers(rt.alloc(), 'a', 'b')?);
+        // the lesser last digit first
+        assert!(rt; each_call_answers(rt.alloc(), digit(12), digit(7))?);
+        Ok(())
     }
 
     #[test]
@@ -574,8 +630,8 @@ mod tests {
     fn sets_stay_apart(rt: HostRuntime) -> Result<(), Fail> {
         let mut sets = partition(rt.alloc(), &[(1, 2)])?;
         assert_eq!(rt; sets.len(), 2);
-        joined(&mut sets, 3, 4)?;
-        joined(&mut sets, 3, 5)?;
+        merge_where_different(&mut sets, 3, 4)?;
+        merge_where_different(&mut sets, 3, 5)?;
         assert_eq!(rt; sets.len(), 5);
         assert!(rt; !sets.in_same_set(2, 3));
         Ok(())
@@ -609,21 +665,23 @@ mod tests {
     fn a_set_that_is_gone_takes_its_items(rt: HostRuntime) -> Result<(), Fail> {
         let mut sets = partition(rt.alloc(), &[(1, 2)])?;
         let _gone = sets.remove_set_of(1)?;
-        joined(&mut sets, 2, 3)?;
+        merge_where_different(&mut sets, 2, 3)?;
         assert_eq!(rt; sets.find(1), None);
+        assert_eq!(rt; sets.len(), 2);
         Ok(())
     }
 
     #[test]
     fn equal_items_are_one(rt: HostRuntime) -> Result<(), Fail> {
         let mut sets = DisjointSets::new(rt.alloc());
-        let (three, fourteen) = (digit(3), digit(14));
-        if three != fourteen {
-            sets.merge(three, fourteen)?;
-        }
+        merge_where_different(&mut sets, digit(3), digit(14))?;
         assert!(rt; sets.find(digit(13)).is_some());
         assert!(rt; sets.in_same_set(digit(13), digit(4)));
         assert_eq!(rt; sets.len(), 2);
+        merge_where_different(&mut sets, digit(13), digit(5))?;
+        assert_eq!(rt; sets.len(), 3);
+        let set = sets.remove_set_of(digit(24))?;
+        assert!(rt; set.as_slice() == [digit(3), digit(4), digit(5)].as_slice());
         Ok(())
     }
 
@@ -633,7 +691,7 @@ mod tests {
         let _gone = sets.remove_set_of(3)?;
         let copy = copy_of(&sets)?;
         assert!(rt; are_same(&sets, &copy));
-        joined(&mut sets, 2, 7)?;
+        merge_where_different(&mut sets, 2, 7)?;
         assert!(rt; sets.in_same_set(1, 9) && !copy.in_same_set(1, 9));
         assert_eq!(rt; copy.len(), 5);
         Ok(())
@@ -651,7 +709,7 @@ mod tests {
     fn sets_that_come_and_go_leave_no_trace(rt: HostRuntime) -> Result<(), Fail> {
         let mut sets = DisjointSets::new(rt.alloc());
         for x in 0..10_000 {
-            joined(&mut sets, x, x + 10_000)?;
+            merge_where_different(&mut sets, x, x + 10_000)?;
             let set = sets.remove_set_of(x)?;
             assert_eq!(rt; set.len(), 2);
         }
@@ -665,7 +723,7 @@ mod tests {
     fn a_long_chain_is_one_set(rt: HostRuntime) -> Result<(), Fail> {
         let mut sets = DisjointSets::new(rt.alloc());
         for x in 0..10_000 {
-            joined(&mut sets, x, x + 1)?;
+            merge_where_different(&mut sets, x, x + 1)?;
         }
         assert_eq!(rt; sets.len(), 10_001);
         assert!(rt; sets.in_same_set(0, 10_000));
@@ -674,40 +732,80 @@ mod tests {
         Ok(())
     }
 
-    // Refused memory: run `rt try --test --fail-alloc N -- refused_calls` for N = 1, 2, .. 90, past the last
-    // allocation. Where a call is refused the sets are as the copy before it has them. At some N the
-    // refusal is of the room that a map's `extend` asks for ahead, which it does without: then no call is.
+    // Sets of the pairs, made again where memory is refused.
+    fn partition_at_last(
+        alloc: Global,
+        pairs: &[(u32, u32)],
+    ) -> Result<DisjointSets<u32>, AllocError> {
+        match partition(alloc, pairs) {
+            Ok(sets) => Ok(sets),
+            Err(_) => partition(alloc, pairs),
+        }
+    }
+
+    // Refused memory: `rt try --test --fail-alloc N -- refused_calls` refuses the N-th request of each test of
+    // that name, and no other; so a call that is made again has memory.
     #[test]
     fn refused_calls_change_nothing(rt: HostRuntime) -> Result<(), Fail> {
-        let mut refused = false;
-        let mut sets = DisjointSets::new(rt.alloc());
-        for (x, y) in [(1, 2), (3, 4), (2, 3), (6, 7), (6, 8)] {
-            let Ok(copy) = sets.clone() else {
-                refused = true;
-                continue;
-            };
-            if joined(&mut sets, x, y).is_err() {
+        let alloc = rt.alloc();
+        let pairs = [
+            (1, 2),
+            (3, 4),
+            (2, 3),
+            (6, 7),
+            (6, 8),
+            (9, 8),
+            (10, 6),
+            (11, 10),
+            (5, 3),
+            (9, 5),
+        ];
+        let mut sets = DisjointSets::new(alloc);
+        for i in 0..pairs.len() {
+            let (x, y) = pairs[i];
+            let mut copy = DisjointSets::new(alloc);
+            match sets.clone() {
+                Ok(it) => copy = it,
+                Err(_) => {
+                    println!(rt; "clone was refused")?;
+                    copy = sets.clone()?;
+                    assert!(rt; are_same(&copy, &partition(alloc, &pairs[..i])?));
+                }
+            }
+            if merge_where_different(&mut sets, x, y).is_err() {
                 println!(rt; "merge({x}, {y}) was refused")?;
                 assert!(rt; are_same(&sets, &copy));
-                refused = true;
+                merge_where_different(&mut sets, x, y)?;
+                assert!(rt; are_same(&sets, &partition(alloc, &pairs[..i + 1])?));
             }
         }
-        // a set so long that its sort takes memory
-        for x in 10..34 {
-            refused = joined(&mut sets, x, x + 1).is_err() || refused;
-        }
-        if let Ok(copy) = sets.clone() {
-            if sets.remove_set_of(20).is_err() {
-                println!(rt; "remove_set_of(20) was refused")?;
+        Ok(())
+    }
+
+    #[test]
+    fn refused_calls_of_remove_set_of_change_nothing(rt: HostRuntime) -> Result<(), Fail> {
+        let alloc = rt.alloc();
+        let mut sets = partition_at_last(alloc, &[(1, 2), (7, 9), (2, 3), (8, 7)])?;
+        let copy = partition_at_last(alloc, &[(1, 2), (7, 9), (2, 3), (8, 7)])?;
+        let mut set = Vec::new(alloc);
+        match sets.remove_set_of(9) {
+            Ok(it) => set = it,
+            Err(_) => {
+                println!(rt; "remove_set_of(9) was refused")?;
                 assert!(rt; are_same(&sets, &copy));
-                refused = true;
+                set = sets.remove_set_of(9)?;
             }
-        } else {
-            refused = true;
         }
-        if !refused {
-            println!(rt; "no call was refused")?;
+        assert!(rt; set.as_slice() == [7, 8, 9].as_slice());
+        let rest = partition_at_last(alloc, &[(1, 2), (2, 3)])?;
+        assert!(rt; are_same(&sets, &rest));
+        // at the place that the set has left
+        if merge_where_different(&mut sets, 4, 5).is_err() {
+            println!(rt; "merge(4, 5) was refused")?;
+            assert!(rt; are_same(&sets, &rest));
+            merge_where_different(&mut sets, 4, 5)?;
         }
+        assert!(rt; are_same(&sets, &partition_at_last(alloc, &[(1, 2), (2, 3), (4, 5)])?));
         Ok(())
     }
 }
