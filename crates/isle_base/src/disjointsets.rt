@@ -18,7 +18,8 @@ use std::hash::Hash;
 use std::marker::Model;
 use std::mem;
 
-/// Disjoint sets of items. A set has two members or more, and only `merge` makes one.
+/// Disjoint sets of items, where equal items are one item. A set has two members or more, and only `merge` makes
+/// one. Upstream's `DisjointSets`.
 #[derive(Debug, Drop)]
 pub struct DisjointSets<T: Eq + Hash> {
     // the place of each item's set in `members`
@@ -42,7 +43,7 @@ impl<T: Eq + Hash> Model for DisjointSets<T> {
 }
 
 impl<T: Copy + Debug + Eq + Hash> DisjointSets<T> {
-    /// No sets.
+    /// No sets. Takes no memory. Upstream's `DisjointSets::default`.
     pub fn new(alloc: Global) -> DisjointSets<T>
         ensures { result ≡ [] }
     {
@@ -53,7 +54,8 @@ impl<T: Copy + Debug + Eq + Hash> DisjointSets<T> {
         }
     }
 
-    /// A member of the item's set, the same for each of its members, and `None` where the item is in no set.
+    /// A member of the item's set, the same for each of its members, and `None` where the item is in no set. Takes
+    /// no memory. Upstream's `DisjointSets::find`.
     pub fn find(&self, x: T) -> Option<T>
         ensures value { result ≡ slice_get (set_of T.eq self.now x) 0 }
         ensures none { IsNone result ↔ IsFalse (together T.eq self.now x x) }
@@ -69,7 +71,8 @@ impl<T: Copy + Debug + Eq + Hash> DisjointSets<T> {
         Some(set[0])
     }
 
-    /// Whether the two are in one set. An item that is in no set isn't together with itself.
+    /// Whether the two items are in one set. False where either is in no set, also of an item and itself. Takes no
+    /// memory. Upstream's `DisjointSets::in_same_set`.
     pub fn in_same_set(&self, x: T, y: T) -> bool
         ensures value { result ≡ together T.eq self.now x y }
 
@@ -84,7 +87,8 @@ impl<T: Copy + Debug + Eq + Hash> DisjointSets<T> {
         }
     }
 
-    /// What `find` answers. Upstream's changes how its value is kept; here nothing changes.
+    /// What `find` answers. Takes no memory. Upstream's `DisjointSets::find_mut`, which changes how its value is kept;
+    /// here nothing changes.
     pub fn find_mut(&mut self, x: T) -> Option<T>
         ensures value { result ≡ slice_get (set_of T.eq self.old x) 0 }
         ensures none { IsNone result ↔ IsFalse (together T.eq self.old x x) }
@@ -98,7 +102,11 @@ impl<T: Copy + Debug + Eq + Hash> DisjointSets<T> {
     }
 
     /// Makes one set of the sets of two items that differ, where an item in no set counts as one by itself.
-    /// Only a lack of memory is an error, and it changes nothing.
+    /// Upstream's `DisjointSets::merge`.
+    ///
+    /// # Errors
+    ///
+    /// Where memory is refused. The sets are then as they were.
     pub fn merge(&mut self, x: T, y: T) -> Result<(), AllocError>
         requires { T.eq x y ≡ false }
         ensures ok { OnOk result ((a b : T) → together T.eq self.new a b ≡ together_after T.eq self.old x y a b) }
@@ -116,8 +124,12 @@ impl<T: Copy + Debug + Eq + Hash> DisjointSets<T> {
         }
     }
 
-    /// Takes the set of the item away and answers its members in ascending order, and none where the item is
-    /// in no set. Only a lack of memory is an error, and it changes nothing.
+    /// Takes the set of the item away and answers its members in ascending order, each once. Where the item is in no
+    /// set there are none, and no memory is taken. Upstream's `DisjointSets::remove_set_of`.
+    ///
+    /// # Errors
+    ///
+    /// Where memory is refused. The sets are then as they were.
     pub fn remove_set_of(&mut self, x: T) -> Result<Vec<T>, AllocError>
     where
         T: Ord,
@@ -140,7 +152,7 @@ impl<T: Copy + Debug + Eq + Hash> DisjointSets<T> {
         }
     }
 
-    /// Whether no set has an item.
+    /// Whether no set has an item. Takes no memory. Upstream's `DisjointSets::is_empty`.
     pub fn is_empty(&self) -> bool
         ensures value { result ≡ (sum_by length self.now == 0) }
         ensures none { IsTrue result ↔ ((x : T) → IsFalse (together T.eq self.now x x)) }
@@ -148,7 +160,7 @@ impl<T: Copy + Debug + Eq + Hash> DisjointSets<T> {
         self.classes.is_empty()
     }
 
-    /// The number of items in all sets.
+    /// The number of items in all sets. Takes no memory. Upstream's `DisjointSets::len`.
     pub fn len(&self) -> usize
         ensures value { result ≡ sum_by length self.now }
 
@@ -163,6 +175,11 @@ impl<T: Copy + Debug + Eq + Hash> DisjointSets<T> {
 impl<T: Copy + Debug + Eq + Hash> Clone for DisjointSets<T> {
     ghost is_clone = { λ a b. b ≡ a };
 
+    /// The same sets in tables of their own. Upstream derives `Clone`.
+    ///
+    /// # Errors
+    ///
+    /// Where memory is refused.
     fn clone(&self) -> Result<DisjointSets<T>, AllocError>
         ensures same { IfOk result (λ copy. copy ≡ self.now) }
         ensures partition { IfOk result (λ copy. IsPartition T.eq copy) }
@@ -748,6 +765,7 @@ mod tests {
     #[test]
     fn refused_calls_change_nothing(rt: HostRuntime) -> Result<(), Fail> {
         let alloc = rt.alloc();
+        // two sets, one of both, members on either side, and the shorter set first
         let pairs = [
             (1, 2),
             (3, 4),
@@ -756,9 +774,7 @@ mod tests {
             (6, 8),
             (9, 8),
             (10, 6),
-            (11, 10),
-            (5, 3),
-            (9, 5),
+            (4, 9),
         ];
         let mut sets = DisjointSets::new(alloc);
         for i in 0..pairs.len() {
