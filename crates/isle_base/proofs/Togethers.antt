@@ -1,13 +1,14 @@
 -- What is together, by the numbers of sets.
-use Rattle.std.proofs.Common.{◌≡◌, ◌≢◌, ℕ, zero, suc, ◌==◌, Bool, true, false, cond, List, [], ◌∷◌, length, sum_by, get_or, Option, Some, None, refl, sym, ap, ◌∙◌, arith, ◌⊎◌, ◌↔◌, inl, inr, slice_get, IsNone, IsFalse, IsTrue, IfSome, eq-eqb, eqb-true}
+use Rattle.std.proofs.Common.{◌≡◌, ◌≢◌, ℕ, zero, suc, ◌<◌, ◌==◌, Bool, true, false, cond, List, [], ◌∷◌, length, sum_by, get_or, Option, Some, None, refl, sym, ap, ◌∙◌, ◌≤◌, subst, arith, ◌⊎◌, ◌↔◌, inl, inr, slice_get, IsNone, IsFalse, IsTrue, IfSome, eq-eqb, eqb-true}
 use Rattle.std.specs.Cmp.{IsEquivalence}
 use Rattle.std.specs.List.{IsDistinct}
 use Rattle.std.specs.Map.{lookup}
+use Rattle.std.proofs.lemmas.List.{get_or_default}
 use Rattle.std.proofs.lemmas.List.Sums.{sum_by-cons}
 use Rattle.std.proofs.lemmas.Bool.{false≢true, or_left, or_right}
-use Rattle.isle_base.specs.Partition.{in_set, set_of, together, added_by, filled}
+use Rattle.isle_base.specs.Partition.{in_set, set_of, together, added_by, filled, IsPartition}
 use Rattle.isle_base.specs.Numbers.{same_number, IsNumbered}
-use Rattle.isle_base.proofs.Classes.{same_is, same_at, same_symm}
+use Rattle.isle_base.proofs.Classes.{same_is, same_at, same_symm, alike}
 
 -- ---- the sets without the empty ones
 module _ {T : Type 0} where
@@ -16,6 +17,21 @@ module _ {T : Type 0} where
   total_filled [] = refl
   total_filled ([] ∷ ss) = omega (arith, total_filled ss, sum_by-cons length [] ss)
   total_filled ((x ∷ s) ∷ ss) = omega (arith, total_filled ss, sum_by-cons length (x ∷ s) ss, sum_by-cons length (x ∷ s) (filled ss))
+
+  -- what is said of each place, an empty set included, is said of each set that has an item
+  filled_all : (P : List T → Type 0) (sets : List (List T)) → ((k : ℕ) → P (get_or sets k [])) → (k : ℕ) → P (get_or (filled sets) k [])
+  unfolding filled
+  filled_all P [] h k = h k
+  filled_all P ([] ∷ ss) h k = filled_all P ss (λ j. h (suc j)) k
+  filled_all P ((x ∷ s) ∷ ss) h zero = h 0
+  filled_all P ((x ∷ s) ∷ ss) h (suc k) = filled_all P ss (λ j. h (suc j)) k
+
+  filled_some : (sets : List (List T)) (k : ℕ) → k < length (filled sets) → 1 ≤ length (get_or (filled sets) k [])
+  unfolding filled
+  filled_some [] k h = absurd (omega (arith, h))
+  filled_some ([] ∷ ss) k h = filled_some ss k h
+  filled_some ((x ∷ s) ∷ ss) zero h = omega arith
+  filled_some ((x ∷ s) ∷ ss) (suc k) h = filled_some ss k (omega (arith, h))
 
 none_same : (o p : Option ℕ) → same_number o o ≡ false → same_number o p ≡ false
 none_same None p e = refl
@@ -27,6 +43,25 @@ module _ {T : Type 0} (eq : T → T → Bool) where
   set_of_filled [] x = refl
   set_of_filled ([] ∷ ss) x = set_of_filled ss x
   set_of_filled ((y ∷ s) ∷ ss) x = ap (cond (in_set eq (y ∷ s) x) (y ∷ s)) (set_of_filled ss x)
+
+  filled_has : (sets : List (List T)) (x : T) (k : ℕ) → in_set eq (get_or (filled sets) k []) x ≡ true → (j : ℕ) × (in_set eq (get_or sets j []) x ≡ true)
+  unfolding filled
+  filled_has [] x k m = (k, m)
+  filled_has ([] ∷ ss) x k m = let r = filled_has ss x k m in (suc r.0, r.1)
+  filled_has ((y ∷ s) ∷ ss) x zero m = (0, m)
+  filled_has ((y ∷ s) ∷ ss) x (suc k) m = let r = filled_has ss x k m in (suc r.0, r.1)
+
+  -- an item that stands at one place stands at one place among the sets that have an item
+  filled_disjoint : (sets : List (List T)) (x : T) → ((j k : ℕ) → in_set eq (get_or sets j []) x ≡ true → in_set eq (get_or sets k []) x ≡ true → j ≡ k)
+      → (j k : ℕ) → in_set eq (get_or (filled sets) j []) x ≡ true → in_set eq (get_or (filled sets) k []) x ≡ true → j ≡ k
+  unfolding filled
+  filled_disjoint [] x one j k m n = one j k m n
+  filled_disjoint ([] ∷ ss) x one j k m n = filled_disjoint ss x (λ a b m n. let e = one (suc a) (suc b) m n in omega (arith, e)) j k m n
+  filled_disjoint ((y ∷ s) ∷ ss) x one zero zero m n = refl
+  filled_disjoint ((y ∷ s) ∷ ss) x one zero (suc k) m n = let r = filled_has ss x k n in let e = one 0 (suc r.0) m r.1 in absurd (omega (arith, e))
+  filled_disjoint ((y ∷ s) ∷ ss) x one (suc j) zero m n = let r = filled_has ss x j m in let e = one (suc r.0) 0 r.1 n in absurd (omega (arith, e))
+  filled_disjoint ((y ∷ s) ∷ ss) x one (suc j) (suc k) m n =
+      let e = filled_disjoint ss x (λ a b m n. let e = one (suc a) (suc b) m n in omega (arith, e)) j k m n in omega (arith, e)
 
   set_at : (sets : List (List T)) (x : T) (k : ℕ) → in_set eq (get_or sets k []) x ≡ true → ((j : ℕ) → in_set eq (get_or sets j []) x ≡ true → j ≡ k) → set_of eq sets x ≡ get_or sets k []
   unfolding set_of
@@ -119,6 +154,31 @@ module _ {T : Type 0} (eq : T → T → Bool) where
     another laws x k e =
         let r = another_of laws (get_or sets k []) x (p.distinct k) (p.plural k) (p.numbered x k ∙ same_at (number x) k e) in
         (r.0, r.1, ap (λ s. in_set eq s r.0) (found x k e) ∙ r.2)
+
+    -- the value that the tables show is a partition
+    pub partition : IsEquivalence eq → IsPartition eq (filled sets)
+    partition laws = record {
+      equal_first = λ x y z e. by_number x z ∙ ap (λ o. same_number o (number z)) (alike eq laws number count free sets p x y e) ∙ sym (by_number y z);
+      equal_second = λ x y z e. by_number z x ∙ ap (same_number (number z)) (alike eq laws number count free sets p x y e) ∙ sym (by_number z y);
+      symmetric = λ x y. by_number x y ∙ same_symm (number x) (number y) ∙ sym (by_number y x);
+      transitive = λ x y z m n.
+          let e : number x ≡ number y = same_is (number x) (number y) (sym (by_number x y) ∙ m) in
+          by_number x z ∙ ap (λ o. same_number o (number z)) e ∙ sym (by_number y z) ∙ n;
+      one_set = same_set;
+      another = λ x m. elim (number x) as (λ o. number x ≡ o → (y : T) × IsFalse (eq x y) × IsTrue (together eq (filled sets) x y)) [
+        | None ↦ λ e. absurd (false≢true (sym (by_number x x ∙ ap (λ o. same_number o (number x)) e) ∙ m))
+        | Some k ↦ λ e. another laws x k e
+      ] refl;
+      plural = λ k d h.
+          let same = ap length (get_or_default (filled sets) k d [] h) in
+          let many = filled_all (λ s. length s ≢ 1) sets p.plural k in
+          omega (arith, same, many, filled_some sets k h);
+      distinct = λ k d h. subst (IsDistinct eq) (get_or_default (filled sets) k [] d h) (filled_all (IsDistinct eq) sets p.distinct k);
+      disjoint = λ x j k. filled_disjoint sets x (λ a b m n.
+          let e = same_is (number x) (Some a) (sym (p.numbered x a) ∙ m) in
+          let e' = same_is (number x) (Some b) (sym (p.numbered x b) ∙ n) in
+          eqb-true a b (ap (λ o. same_number o (Some b)) (sym e) ∙ ap (λ o. same_number o (Some b)) e' ∙ eq-eqb b b refl)) j k;
+    }
 
     pub added_none : (x : T) → number x ≡ None → added_by eq (filled sets) x ≡ 1
     added_none x e = ap (λ b. cond b 0 1) (by_number x x ∙ ap (λ o. same_number o o) e)

@@ -1,6 +1,6 @@
 -- Sets of items, where a test says which items are one.
-use Rattle.std.specs.Prelude.{ℕ, Bool, cond, if◌then◌else◌, ◌||◌, ◌&&◌, List, [], ◌∷◌}
-use Rattle.std.specs.List.{list_any}
+use Rattle.std.specs.Prelude.{◌≡◌, ℕ, ◌≤◌, Bool, IsTrue, IsFalse, cond, if◌then◌else◌, ◌||◌, ◌&&◌, List, [], ◌∷◌, All, length, slice_index_or}
+use Rattle.std.specs.List.{list_any, IsDistinct}
 
 -- the sets that have an item
 unfoldable pub filled : {T : Type 0} → List (List T) → List (List T)
@@ -21,6 +21,18 @@ module _ {T : Type 0} (eq : T → T → Bool) where
   -- the two items are in one set
   abbrev pub together : List (List T) → T → T → Bool
   together sets x y = in_set (set_of sets x) y
+
+  -- the sets share no item, none has an item twice, each has two items or more, and equal items are one item
+  pub record IsPartition (sets : List (List T)) : Type 0 where
+    pub equal_first : (x y z : T) → IsTrue (eq x y) → together sets x z ≡ together sets y z
+    pub equal_second : (x y z : T) → IsTrue (eq x y) → together sets z x ≡ together sets z y
+    pub symmetric : (x y : T) → together sets x y ≡ together sets y x
+    pub transitive : (x y z : T) → IsTrue (together sets x y) → IsTrue (together sets y z) → IsTrue (together sets x z)
+    pub one_set : (x y : T) → IsTrue (together sets x y) → set_of sets y ≡ set_of sets x
+    pub another : (x : T) → IsTrue (together sets x x) → (y : T) × IsFalse (eq x y) × IsTrue (together sets x y)
+    pub plural : All (λ s. 2 ≤ length s) sets
+    pub distinct : All (IsDistinct eq) sets
+    pub disjoint : (x : T) (j k : ℕ) → IsTrue (in_set (slice_index_or sets j []) x) → IsTrue (in_set (slice_index_or sets k []) x) → j ≡ k
 
   -- a is x, or in the set of x
   abbrev pub joined : List (List T) → T → T → Bool

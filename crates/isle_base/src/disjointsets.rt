@@ -3,11 +3,12 @@ ghost use Rattle.std.specs.Prelude.{nat_eq, ◌%◌, Vec, Some, None, true, fals
 ghost use Rattle.std.proofs.Common.{rules};
 ghost use Rattle.std.specs.Cmp.Rules.{comparing, hashing};
 ghost use Rattle.std.specs.Hash as fed;
-ghost use Rattle.std.specs.Ordering.{on};
+ghost use Rattle.std.specs.Cmp.{partial_order_from_own_ties};
+ghost use Rattle.std.specs.Ordering.{as_partial_cmp, nat_cmp, on};
 ghost use Rattle.std.specs.HashMap.{get, hash_map_len, spare, Updates};
 ghost use Rattle.std.specs.List.{IsDistinct};
 ghost use Rattle.std.specs.List.Sorted.{IsPermutation, IsSorted, IsStrictlySortedBy};
-ghost use Rattle.isle_base.specs.Partition.{set_of, in_set, together, together_after, added_by};
+ghost use Rattle.isle_base.specs.Partition.{set_of, in_set, together, together_after, added_by, IsPartition};
 ghost use Rattle.isle_base.specs.Numbers.{Fit, IsMerge, IsPut, same_number, sets_of, Vacant};
 
 use std::alloc::{AllocError, Global};
@@ -17,7 +18,8 @@ use std::hash::Hash;
 use std::marker::Model;
 use std::mem;
 
-/// Disjoint sets of items. A set has two members or more, and only `merge` makes one.
+/// Disjoint sets of items, where equal items are one item. A set has two members or more, and only `merge` makes
+/// one. Upstream's `DisjointSets`.
 #[derive(Debug, Drop)]
 pub struct DisjointSets<T: Eq + Hash> {
     // the place of each item's set in `members`
@@ -41,7 +43,7 @@ impl<T: Eq + Hash> Model for DisjointSets<T> {
 }
 
 impl<T: Copy + Debug + Eq + Hash> DisjointSets<T> {
-    /// No sets.
+    /// No sets. Takes no memory. Upstream's `DisjointSets::default`.
     pub fn new(alloc: Global) -> DisjointSets<T>
         ensures { result ≡ [] }
     {
@@ -52,7 +54,8 @@ impl<T: Copy + Debug + Eq + Hash> DisjointSets<T> {
         }
     }
 
-    /// A member of the item's set, the same for each of its members, and `None` where the item is in no set.
+    /// A member of the item's set, the same for each of its members, and `None` where the item is in no set. Takes
+    /// no memory. Upstream's `DisjointSets::find`.
     pub fn find(&self, x: T) -> Option<T>
         ensures value { result ≡ slice_get (set_of T.eq self.now x) 0 }
         ensures none { IsNone result ↔ IsFalse (together T.eq self.now x x) }
@@ -61,19 +64,22 @@ impl<T: Copy + Debug + Eq + Hash> DisjointSets<T> {
 
         // a set has another item
         ensures another { IsSome result → (y : T) × IsFalse (T.eq x y) × IsTrue (together T.eq self.now x y) }
+        ensures partition { IsPartition T.eq self.now }
     {
         let class = *self.classes.get(&x)?;
         let set = &self.members[class];
         Some(set[0])
     }
 
-    /// Whether the two are in one set. An item that is in no set isn't together with itself.
+    /// Whether the two items are in one set. False where either is in no set, also of an item and itself. Takes no
+    /// memory. Upstream's `DisjointSets::in_same_set`.
     pub fn in_same_set(&self, x: T, y: T) -> bool
         ensures value { result ≡ together T.eq self.now x y }
 
         // false where either is in no set
         ensures first { IsFalse (together T.eq self.now x x) → IsFalse result }
         ensures second { IsFalse (together T.eq self.now y y) → IsFalse result }
+        ensures partition { IsPartition T.eq self.now }
     {
         match (self.classes.get(&x), self.classes.get(&y)) {
             (Some(a), Some(b)) => *a == *b,
@@ -81,7 +87,8 @@ impl<T: Copy + Debug + Eq + Hash> DisjointSets<T> {
         }
     }
 
-    /// What `find` answers. Upstream's changes how its value is kept; here nothing changes.
+    /// What `find` answers. Takes no memory. Upstream's `DisjointSets::find_mut`, which changes how its value is kept;
+    /// here nothing changes.
     pub fn find_mut(&mut self, x: T) -> Option<T>
         ensures value { result ≡ slice_get (set_of T.eq self.old x) 0 }
         ensures none { IsNone result ↔ IsFalse (together T.eq self.old x x) }
@@ -89,17 +96,23 @@ impl<T: Copy + Debug + Eq + Hash> DisjointSets<T> {
         ensures same { (y : T) → IsTrue (together T.eq self.old x y) → slice_get (set_of T.eq self.old y) 0 ≡ result }
         ensures another { IsSome result → (y : T) × IsFalse (T.eq x y) × IsTrue (together T.eq self.old x y) }
         ensures unchanged { self.new ≡ self.old }
+        ensures partition { IsPartition T.eq self.new }
     {
         self.find(x)
     }
 
     /// Makes one set of the sets of two items that differ, where an item in no set counts as one by itself.
-    /// Only a lack of memory is an error, and it changes nothing.
+    /// Upstream's `DisjointSets::merge`.
+    ///
+    /// # Errors
+    ///
+    /// Where memory is refused. The sets are then as they were.
     pub fn merge(&mut self, x: T, y: T) -> Result<(), AllocError>
         requires { T.eq x y ≡ false }
         ensures ok { OnOk result ((a b : T) → together T.eq self.new a b ≡ together_after T.eq self.old x y a b) }
         ensures len { OnOk result (sum_by length self.new ≡ sum_by length self.old + added_by T.eq self.old x + added_by T.eq self.old y) }
         ensures err { OnErr result (self.new ≡ self.old) }
+        ensures partition { IsPartition T.eq self.new }
     {
         let first = self.classes.get(&x).copied();
         let second = self.classes.get(&y).copied();
@@ -111,19 +124,27 @@ impl<T: Copy + Debug + Eq + Hash> DisjointSets<T> {
         }
     }
 
-    /// Takes the set of the item away and answers its members in ascending order, and none where the item is
-    /// in no set. Only a lack of memory is an error, and it changes nothing.
+    /// Takes the set of the item away and answers its members in ascending order, each once. Where the item is in no
+    /// set there are none, and no memory is taken. Upstream's `DisjointSets::remove_set_of`.
+    ///
+    /// # Errors
+    ///
+    /// Where memory is refused. The sets are then as they were.
     pub fn remove_set_of(&mut self, x: T) -> Result<Vec<T>, AllocError>
     where
         T: Ord,
         ensures members { IfOk result (λ set. (y : T) → in_set T.eq set.items y ≡ together T.eq self.old x y) }
         ensures ascending { IfOk result (λ set. IsStrictlySortedBy T.cmp set.items) }
 
+        // the very members, as they were merged
+        ensures answer { IfOk result (λ set. IsPermutation (set_of T.eq self.old x) set.items) }
+
         // the other sets stay
         ensures rest { OnOk result ((a b : T) → together T.eq self.new a b ≡ (together T.eq self.old a b && not (together T.eq self.old x a))) }
         ensures len { IfOk result (λ set. sum_by length self.new + length set.items ≡ sum_by length self.old) }
         ensures none { IsFalse (together T.eq self.old x x) → IsOkAnd result (λ set. set.items ≡ []) × (self.new ≡ self.old) }
         ensures err { OnErr result (self.new ≡ self.old) }
+        ensures partition { IsPartition T.eq self.new }
     {
         match self.classes.get(&x).copied() {
             None => Ok(Vec::new(*self.members.allocator())),
@@ -131,7 +152,7 @@ impl<T: Copy + Debug + Eq + Hash> DisjointSets<T> {
         }
     }
 
-    /// Whether no set has an item.
+    /// Whether no set has an item. Takes no memory. Upstream's `DisjointSets::is_empty`.
     pub fn is_empty(&self) -> bool
         ensures value { result ≡ (sum_by length self.now == 0) }
         ensures none { IsTrue result ↔ ((x : T) → IsFalse (together T.eq self.now x x)) }
@@ -139,12 +160,13 @@ impl<T: Copy + Debug + Eq + Hash> DisjointSets<T> {
         self.classes.is_empty()
     }
 
-    /// The number of items in all sets.
+    /// The number of items in all sets. Takes no memory. Upstream's `DisjointSets::len`.
     pub fn len(&self) -> usize
         ensures value { result ≡ sum_by length self.now }
 
         // as many as a list has that has each of them once
         ensures count { (items : List T) × IsDistinct T.eq items × ((y : T) → in_set T.eq items y ≡ together T.eq self.now y y) × (length items ≡ result) }
+        ensures partition { IsPartition T.eq self.now }
     {
         self.classes.len()
     }
@@ -153,7 +175,15 @@ impl<T: Copy + Debug + Eq + Hash> DisjointSets<T> {
 impl<T: Copy + Debug + Eq + Hash> Clone for DisjointSets<T> {
     ghost is_clone = { λ a b. b ≡ a };
 
-    fn clone(&self) -> Result<DisjointSets<T>, AllocError> {
+    /// The same sets in tables of their own. Upstream derives `Clone`.
+    ///
+    /// # Errors
+    ///
+    /// Where memory is refused.
+    fn clone(&self) -> Result<DisjointSets<T>, AllocError>
+        ensures same { IfOk result (λ copy. copy ≡ self.now) }
+        ensures partition { IfOk result (λ copy. IsPartition T.eq copy) }
+    {
         let alloc = *self.members.allocator();
         Ok(DisjointSets {
             classes: classes_copied(alloc, &self.classes)?,
@@ -410,7 +440,7 @@ fn sorted<T: Copy + Debug + Ord>(alloc: Global, items: &[T]) -> Result<Vec<T>, A
     ensures ascending { IfOk result (λ set. IsSorted T.cmp set.items) }
 {
     let mut set = copied(alloc, items)?;
-    set.sort()?;
+    set.sort_unstable();
     Ok(set)
 }
 
@@ -439,6 +469,7 @@ fn remove<T: Copy + Debug + Eq + Hash + Ord>(
     ensures ok { OnOk result ((q : T) → get T.eq classes.new q ≡ cond (same_number (get T.eq classes.old q) (Some class)) None (get T.eq classes.old q)) }
     ensures members { IfOk result (λ set. (y : T) → in_set T.eq set.items y ≡ same_number (get T.eq classes.old y) (Some class)) }
     ensures ascending { IfOk result (λ set. IsStrictlySortedBy T.cmp set.items) }
+    ensures answer { IfOk result (λ set. IsPermutation (slice_index_or (sets_of members.old.items) class []) set.items) }
     ensures len { IfOk result (λ set. hash_map_len classes.new + length set.items ≡ hash_map_len classes.old) }
     ensures err { OnErr result (sets_of members.new.items ≡ sets_of members.old.items) }
 {
@@ -455,6 +486,7 @@ fn remove<T: Copy + Debug + Eq + Hash + Ord>(
 #[cfg(test)]
 mod tests {
     use super::*;
+    use std::cmp::Ordering;
     use std::hash::Hasher;
     use std::test::Fail;
 
@@ -488,6 +520,30 @@ mod tests {
         }
     }
 
+    impl Ord for LastDigit {
+        ghost cmp = { on (λ a. a.number % 10) nat_cmp };
+
+        ghost total = { Prim.search (comparing, rules) };
+
+        ghost matches_partial_cmp = { Prim.search (comparing, rules) };
+
+        ghost matches_eq = { Prim.search (comparing, rules) };
+
+        fn cmp(&self, other: &LastDigit) -> Ordering {
+            (self.number % 10).cmp(&(other.number % 10))
+        }
+    }
+
+    impl PartialOrd for LastDigit {
+        ghost partial_cmp = { as_partial_cmp (on (λ a. a.number % 10) nat_cmp) };
+
+        ghost laws = { partial_order_from_own_ties (Prim.search (comparing, rules)) (Prim.search (comparing, rules)) };
+
+        fn partial_cmp(&self, other: &LastDigit) -> Option<Ordering> {
+            Some(self.cmp(other))
+        }
+    }
+
     fn digit(number: u32) -> LastDigit
         ensures { result.number ≡ number }
     {
@@ -495,7 +551,11 @@ mod tests {
     }
 
     // Merges two items where they differ.
-    fn joined(sets: &mut DisjointSets<u32>, x: u32, y: u32) -> Result<(), AllocError> {
+    fn merge_where_different<T: Copy + Debug + Eq + Hash>(
+        sets: &mut DisjointSets<T>,
+        x: T,
+        y: T,
+    ) -> Result<(), AllocError> {
         if x != y {
             sets.merge(x, y)?;
         }
@@ -505,7 +565,7 @@ mod tests {
     fn partition(alloc: Global, pairs: &[(u32, u32)]) -> Result<DisjointSets<u32>, AllocError> {
         let mut sets = DisjointSets::new(alloc);
         for (x, y) in pairs {
-            joined(&mut sets, *x, *y)?;
+            merge_where_different(&mut sets, *x, *y)?;
         }
         Ok(sets)
     }
@@ -527,6 +587,32 @@ mod tests {
 
     fn copy_of<C: Clone>(value: &C) -> Result<C, AllocError> {
         value.clone()
+    }
+
+    // Each call once, at two items of which the first is the lesser: whether it answers as it does for one set of both.
+    fn each_call_answers<T: Copy + Debug + Eq + Hash + Ord>(
+        alloc: Global,
+        x: T,
+        y: T,
+    ) -> Result<bool, AllocError> {
+        let mut sets = DisjointSets::new(alloc);
+        let begins_empty = sets.is_empty() && sets.find(x).is_none();
+        merge_where_different(&mut sets, x, y)?;
+        let copy = copy_of(&sets)?;
+        let found = sets.find(x).is_some() && sets.find(x) == sets.find_mut(y);
+        let counted = sets.in_same_set(x, y) && sets.len() == 2;
+        let set = sets.remove_set_of(y)?;
+        let removed = set.len() == 2 && set[0] == x && set[1] == y;
+        Ok(begins_empty && found && counted && copy.len() == 2 && removed && sets.is_empty())
+    }
+
+    #[test]
+    fn each_call_at_its_bounds(rt: HostRuntime) -> Result<(), Fail> {
+        assert!(rt; each_call_answers(rt.alloc(), 7, 12)?);
+        assert!(rt; each_call_answers(rt.alloc(), 'a', 'b')?);
+        // the lesser last digit first
+        assert!(rt; each_call_answers(rt.alloc(), digit(12), digit(7))?);
+        Ok(())
     }
 
     #[test]
@@ -561,8 +647,8 @@ mod tests {
     fn sets_stay_apart(rt: HostRuntime) -> Result<(), Fail> {
         let mut sets = partition(rt.alloc(), &[(1, 2)])?;
         assert_eq!(rt; sets.len(), 2);
-        joined(&mut sets, 3, 4)?;
-        joined(&mut sets, 3, 5)?;
+        merge_where_different(&mut sets, 3, 4)?;
+        merge_where_different(&mut sets, 3, 5)?;
         assert_eq!(rt; sets.len(), 5);
         assert!(rt; !sets.in_same_set(2, 3));
         Ok(())
@@ -596,21 +682,23 @@ mod tests {
     fn a_set_that_is_gone_takes_its_items(rt: HostRuntime) -> Result<(), Fail> {
         let mut sets = partition(rt.alloc(), &[(1, 2)])?;
         let _gone = sets.remove_set_of(1)?;
-        joined(&mut sets, 2, 3)?;
+        merge_where_different(&mut sets, 2, 3)?;
         assert_eq!(rt; sets.find(1), None);
+        assert_eq!(rt; sets.len(), 2);
         Ok(())
     }
 
     #[test]
     fn equal_items_are_one(rt: HostRuntime) -> Result<(), Fail> {
         let mut sets = DisjointSets::new(rt.alloc());
-        let (three, fourteen) = (digit(3), digit(14));
-        if three != fourteen {
-            sets.merge(three, fourteen)?;
-        }
+        merge_where_different(&mut sets, digit(3), digit(14))?;
         assert!(rt; sets.find(digit(13)).is_some());
         assert!(rt; sets.in_same_set(digit(13), digit(4)));
         assert_eq!(rt; sets.len(), 2);
+        merge_where_different(&mut sets, digit(13), digit(5))?;
+        assert_eq!(rt; sets.len(), 3);
+        let set = sets.remove_set_of(digit(24))?;
+        assert!(rt; set.as_slice() == [digit(3), digit(4), digit(5)].as_slice());
         Ok(())
     }
 
@@ -620,7 +708,7 @@ mod tests {
         let _gone = sets.remove_set_of(3)?;
         let copy = copy_of(&sets)?;
         assert!(rt; are_same(&sets, &copy));
-        joined(&mut sets, 2, 7)?;
+        merge_where_different(&mut sets, 2, 7)?;
         assert!(rt; sets.in_same_set(1, 9) && !copy.in_same_set(1, 9));
         assert_eq!(rt; copy.len(), 5);
         Ok(())
@@ -638,7 +726,7 @@ mod tests {
     fn sets_that_come_and_go_leave_no_trace(rt: HostRuntime) -> Result<(), Fail> {
         let mut sets = DisjointSets::new(rt.alloc());
         for x in 0..10_000 {
-            joined(&mut sets, x, x + 10_000)?;
+            merge_where_different(&mut sets, x, x + 10_000)?;
             let set = sets.remove_set_of(x)?;
             assert_eq!(rt; set.len(), 2);
         }
@@ -652,7 +740,7 @@ mod tests {
     fn a_long_chain_is_one_set(rt: HostRuntime) -> Result<(), Fail> {
         let mut sets = DisjointSets::new(rt.alloc());
         for x in 0..10_000 {
-            joined(&mut sets, x, x + 1)?;
+            merge_where_different(&mut sets, x, x + 1)?;
         }
         assert_eq!(rt; sets.len(), 10_001);
         assert!(rt; sets.in_same_set(0, 10_000));
@@ -661,39 +749,79 @@ mod tests {
         Ok(())
     }
 
-    // Refused memory: run `rt try --test --fail-alloc N -- refused_calls` for N = 1, 2, .. until it prints
-    // `no call was refused`. What a call refuses leaves the sets as the copy before it has them.
+    // Sets of the pairs, made again where memory is refused.
+    fn partition_at_last(
+        alloc: Global,
+        pairs: &[(u32, u32)],
+    ) -> Result<DisjointSets<u32>, AllocError> {
+        match partition(alloc, pairs) {
+            Ok(sets) => Ok(sets),
+            Err(_) => partition(alloc, pairs),
+        }
+    }
+
+    // Refused memory: `rt try --test --fail-alloc N -- refused_calls` refuses the N-th request of each test of
+    // that name, and no other; so a call that is made again has memory.
     #[test]
     fn refused_calls_change_nothing(rt: HostRuntime) -> Result<(), Fail> {
-        let mut refused = false;
-        let mut sets = DisjointSets::new(rt.alloc());
-        for (x, y) in [(1, 2), (3, 4), (2, 3), (6, 7), (6, 8)] {
-            let Ok(copy) = sets.clone() else {
-                refused = true;
-                continue;
-            };
-            if joined(&mut sets, x, y).is_err() {
+        let alloc = rt.alloc();
+        // two sets, one of both, members on either side, and the shorter set first
+        let pairs = [
+            (1, 2),
+            (3, 4),
+            (2, 3),
+            (6, 7),
+            (6, 8),
+            (9, 8),
+            (10, 6),
+            (4, 9),
+        ];
+        let mut sets = DisjointSets::new(alloc);
+        for i in 0..pairs.len() {
+            let (x, y) = pairs[i];
+            let mut copy = DisjointSets::new(alloc);
+            match sets.clone() {
+                Ok(it) => copy = it,
+                Err(_) => {
+                    println!(rt; "clone was refused")?;
+                    copy = sets.clone()?;
+                    assert!(rt; are_same(&copy, &partition(alloc, &pairs[..i])?));
+                }
+            }
+            if merge_where_different(&mut sets, x, y).is_err() {
                 println!(rt; "merge({x}, {y}) was refused")?;
                 assert!(rt; are_same(&sets, &copy));
-                refused = true;
+                merge_where_different(&mut sets, x, y)?;
+                assert!(rt; are_same(&sets, &partition(alloc, &pairs[..i + 1])?));
             }
         }
-        // a set so long that its sort takes memory
-        for x in 10..34 {
-            refused = joined(&mut sets, x, x + 1).is_err() || refused;
-        }
-        if let Ok(copy) = sets.clone() {
-            if sets.remove_set_of(20).is_err() {
-                println!(rt; "remove_set_of(20) was refused")?;
+        Ok(())
+    }
+
+    #[test]
+    fn refused_calls_of_remove_set_of_change_nothing(rt: HostRuntime) -> Result<(), Fail> {
+        let alloc = rt.alloc();
+        let mut sets = partition_at_last(alloc, &[(1, 2), (7, 9), (2, 3), (8, 7)])?;
+        let copy = partition_at_last(alloc, &[(1, 2), (7, 9), (2, 3), (8, 7)])?;
+        let mut set = Vec::new(alloc);
+        match sets.remove_set_of(9) {
+            Ok(it) => set = it,
+            Err(_) => {
+                println!(rt; "remove_set_of(9) was refused")?;
                 assert!(rt; are_same(&sets, &copy));
-                refused = true;
+                set = sets.remove_set_of(9)?;
             }
-        } else {
-            refused = true;
         }
-        if !refused {
-            println!(rt; "no call was refused")?;
+        assert!(rt; set.as_slice() == [7, 8, 9].as_slice());
+        let rest = partition_at_last(alloc, &[(1, 2), (2, 3)])?;
+        assert!(rt; are_same(&sets, &rest));
+        // at the place that the set has left
+        if merge_where_different(&mut sets, 4, 5).is_err() {
+            println!(rt; "merge(4, 5) was refused")?;
+            assert!(rt; are_same(&sets, &rest));
+            merge_where_different(&mut sets, 4, 5)?;
         }
+        assert!(rt; are_same(&sets, &partition_at_last(alloc, &[(1, 2), (2, 3), (4, 5)])?));
         Ok(())
     }
 }

@@ -71,3 +71,10 @@ returns-clause-ascending g c =
     let a = c.deref.ensures.value ∙ sym (at_view vs c.args.class c.index.result.now w c.index.ensures) in
     let perm : IsPermutation (get_or (sets_of vs) c.args.class []) c.in_ok-set.set.items = subst (λ s. IsPermutation s c.in_ok-set.set.items) a c.in_ok-set.ensures.same in
     strictly_ascending g.met.T.Ord.total e g.met.T.Ord.matches_eq c.in_ok-set.set.items c.in_ok-set.ensures.ascending (IsDistinct-IsPermutation e g.met.T.Eq.laws.symm (get_or (sets_of vs) c.args.class []) c.in_ok-set.set.items perm (c.requires.fit.distinct c.args.class))
+
+pub returns-clause-answer : goal.returns-clause-answer
+returns-clause-answer g c =
+    let vs = c.args.members.now.items in
+    let w : c.args.class < length vs = omega (arith, within_filled (sets_of vs) c.args.class c.requires.some, length-map vs (λ v. v.items)) in
+    let a = c.deref.ensures.value ∙ sym (at_view vs c.args.class c.index.result.now w c.index.ensures) in
+    subst (λ s. IsPermutation s c.in_ok-set.set.items) a c.in_ok-set.ensures.same

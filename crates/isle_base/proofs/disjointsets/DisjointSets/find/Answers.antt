@@ -1,11 +1,12 @@
-use Rattle.std.proofs.Common.{◌<◌, length, Some, refl, sym, ap, ◌∙◌, slice_get, arith, hash_map_len}
+use Rattle.std.proofs.Common.{◌<◌, length, Some, refl, sym, ap, ◌∙◌, slice_get, arith, hash_map_len, subst}
 use Rattle.std.proofs.lemmas.List.{length-map}
 use Rattle.std.specs.HashMap.{get}
 use Rattle.std.proofs.lemmas.Option.{slice_get-get_or}
 use Rattle.isle_base.proofs.Classes.{has_some, at_view}
 use Rattle.isle_base.proofs.Puts.{within_filled}
-use Rattle.isle_base.proofs.Togethers.{found, not_found, own_none, own_member, same_set, another}
+use Rattle.isle_base.proofs.Togethers.{found, not_found, own_none, own_member, same_set, another, partition}
 use Rattle.isle_base.specs.Numbers.{sets_of}
+use Rattle.isle_base.specs.Partition.{IsPartition}
 use Rattle.isle_base.proofs.disjointsets.DisjointSets.find.Goals as goal
 
 pub returns-in_err-class-clause-value : goal.returns-in_err-class-clause-value
@@ -69,3 +70,15 @@ returns-clause-another g c some =
     let s = c.self.inside in
     let other = another g.T.PartialEq.eq (get g.T.PartialEq.eq s.classes) (hash_map_len s.classes) s.free.items (sets_of s.members.items) c.self.invariant g.met.T.Eq.laws c.args.x c.in_ok-class.field-0.now (sym c.in_ok-class.ensures.value) in
     rw c.self.view_is at other
+
+pub returns-in_err-class-clause-partition : goal.returns-in_err-class-clause-partition
+returns-in_err-class-clause-partition g c =
+    let e = g.T.PartialEq.eq in
+    let s = c.self.inside in
+    subst (IsPartition e) c.self.view_is (partition e (get e s.classes) (hash_map_len s.classes) s.free.items (sets_of s.members.items) c.self.invariant g.met.T.Eq.laws)
+
+pub returns-clause-partition : goal.returns-clause-partition
+returns-clause-partition g c =
+    let e = g.T.PartialEq.eq in
+    let s = c.self.inside in
+    subst (IsPartition e) c.self.view_is (partition e (get e s.classes) (hash_map_len s.classes) s.free.items (sets_of s.members.items) c.self.invariant g.met.T.Eq.laws)

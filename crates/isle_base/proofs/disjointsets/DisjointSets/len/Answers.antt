@@ -1,10 +1,11 @@
-use Rattle.std.proofs.Common.{sym, ◌∙◌, hash_map_len}
+use Rattle.std.proofs.Common.{sym, ◌∙◌, hash_map_len, subst}
 use Rattle.std.specs.HashMap.{get, keys}
 use Rattle.std.proofs.lemmas.List.{length-map}
 use Rattle.std.proofs.lemmas.Map.Made.{is_some-lookup}
 use Rattle.isle_base.specs.Numbers.{sets_of}
 use Rattle.isle_base.proofs.Classes.{same_self}
-use Rattle.isle_base.proofs.Togethers.{total, by_number}
+use Rattle.isle_base.proofs.Togethers.{total, by_number, partition}
+use Rattle.isle_base.specs.Partition.{IsPartition}
 use Rattle.isle_base.proofs.disjointsets.DisjointSets.len.Goals as goal
 
 pub returns-clause-value : goal.returns-clause-value
@@ -21,3 +22,9 @@ returns-clause-count g c =
       λ y. rw (← c.self.view_is, by_number e (get e s.classes) (hash_map_len s.classes) s.free.items (sets_of s.members.items) c.self.invariant y y, same_self (get e s.classes y)) (sym (is_some-lookup (e y) s.classes.entries)),
       length-map s.classes.entries (λ p. p.0) ∙ sym c.len.ensures.len,
     )
+
+pub returns-clause-partition : goal.returns-clause-partition
+returns-clause-partition g c =
+    let e = g.T.PartialEq.eq in
+    let s = c.self.inside in
+    subst (IsPartition e) c.self.view_is (partition e (get e s.classes) (hash_map_len s.classes) s.free.items (sets_of s.members.items) c.self.invariant g.met.T.Eq.laws)

@@ -3,7 +3,7 @@ use Rattle.std.specs.HashMap.{get}
 use Rattle.std.proofs.lemmas.Result.{on_ok_weaker}
 use Rattle.isle_base.specs.Numbers.{sets_of}
 use Rattle.isle_base.proofs.Classes.{alike, has_some}
-use Rattle.isle_base.proofs.Togethers.{total, added_none, added_some}
+use Rattle.isle_base.proofs.Togethers.{total, added_none, added_some, partition}
 use Rattle.isle_base.proofs.Merges.{merge_admit, merge_flip, together_merged}
 use Rattle.isle_base.proofs.disjointsets.DisjointSets.merge.Goals as goal
 
@@ -132,3 +132,23 @@ returns-in-Some-Some-clause-len g c =
     let first = added_some e (get e s.classes) (hash_map_len s.classes) s.free.items (sets_of s.members.items) c.self.invariant c.args.x c.in-Some-Some.a nx in
     let second = added_some e (get e s.classes) (hash_map_len s.classes) s.free.items (sets_of s.members.items) c.self.invariant c.args.y c.in-Some-Some.b ny in
     rw (← c.self.view_is) (on_ok_weaker c.join.result (λ more. omega (arith, more, before, after, first, second)) c.join.ensures.len)
+
+pub returns-in-None-None-clause-partition : goal.returns-in-None-None-clause-partition
+returns-in-None-None-clause-partition g c =
+    let e = g.T.PartialEq.eq in
+    partition e (get e c.begin.new.classes) (hash_map_len c.begin.new.classes) c.begin.new.free.items (sets_of c.begin.new.members.items) c.begin.ensures.fit g.met.T.Eq.laws
+
+pub returns-in-None-Some-clause-partition : goal.returns-in-None-Some-clause-partition
+returns-in-None-Some-clause-partition g c =
+    let e = g.T.PartialEq.eq in
+    partition e (get e c.admit.new.classes) (hash_map_len c.admit.new.classes) c.self.inside.free.items (sets_of c.admit.new.members.items) (c.admit.ensures.fit c.self.inside.free.items c.self.invariant) g.met.T.Eq.laws
+
+pub returns-in-Some-None-clause-partition : goal.returns-in-Some-None-clause-partition
+returns-in-Some-None-clause-partition g c =
+    let e = g.T.PartialEq.eq in
+    partition e (get e c.admit-in-Some-None.new.classes) (hash_map_len c.admit-in-Some-None.new.classes) c.self.inside.free.items (sets_of c.admit-in-Some-None.new.members.items) (c.admit-in-Some-None.ensures.fit c.self.inside.free.items c.self.invariant) g.met.T.Eq.laws
+
+pub returns-in-Some-Some-clause-partition : goal.returns-in-Some-Some-clause-partition
+returns-in-Some-Some-clause-partition g c =
+    let e = g.T.PartialEq.eq in
+    partition e (get e c.join.new.classes) (hash_map_len c.join.new.classes) c.join.new.free.items (sets_of c.join.new.members.items) c.join.ensures.fit g.met.T.Eq.laws

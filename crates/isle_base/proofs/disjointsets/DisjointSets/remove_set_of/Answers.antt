@@ -1,12 +1,13 @@
-use Rattle.std.proofs.Common.{◌≡◌, ap, sym, ◌∙◌, refl, arith, hash_map_len, Some, None, true, false}
+use Rattle.std.proofs.Common.{◌≡◌, ap, sym, ◌∙◌, refl, arith, hash_map_len, Some, None, true, false, [], subst}
 use Rattle.std.specs.HashMap.{get}
 use Rattle.std.specs.List.Sorted.{IsStrictlySortedBy}
 use Rattle.std.proofs.lemmas.Bool.{false≢true}
 use Rattle.std.proofs.lemmas.Result.{on_ok_weaker, IfOk-weaker}
-use Rattle.isle_base.specs.Partition.{in_set, together, filled}
+use Rattle.std.proofs.lemmas.List.Sorted.{IsPermutation-refl}
+use Rattle.isle_base.specs.Partition.{in_set, together, filled, IsPartition}
 use Rattle.isle_base.specs.Numbers.{sets_of, same_number}
 use Rattle.isle_base.proofs.Classes.{has_some, same_symm, same_at}
-use Rattle.isle_base.proofs.Togethers.{not_found, by_number, total}
+use Rattle.isle_base.proofs.Togethers.{found, not_found, by_number, total, partition}
 use Rattle.isle_base.proofs.Merges.{together_removed, kept}
 use Rattle.isle_base.proofs.disjointsets.DisjointSets.remove_set_of.Goals as goal
 
@@ -74,3 +75,28 @@ returns-in-Some-clause-none g c off =
     ∙ ap (same_number (get e s.classes c.args.x)) n ∙ same_at (get e s.classes c.args.x) c.in-Some.class n in
     let there' : together e c.args.self.now c.args.x c.args.x ≡ true = rw c.self.view_is at there in
     absurd (false≢true (sym off ∙ there'))
+
+pub returns-in-None-clause-partition : goal.returns-in-None-clause-partition
+returns-in-None-clause-partition g c =
+    let e = g.T.PartialEq.eq in
+    let s = c.self.inside in
+    subst (IsPartition e) c.self.view_is (partition e (get e s.classes) (hash_map_len s.classes) s.free.items (sets_of s.members.items) c.self.invariant g.met.T.Eq.laws)
+
+pub returns-in-Some-clause-partition : goal.returns-in-Some-clause-partition
+returns-in-Some-clause-partition g c =
+    let e = g.T.PartialEq.eq in
+    partition e (get e c.remove.new.classes) (hash_map_len c.remove.new.classes) c.remove.new.free.items (sets_of c.remove.new.members.items) c.remove.ensures.fit g.met.T.Eq.laws
+
+pub returns-in-None-clause-answer : goal.returns-in-None-clause-answer
+returns-in-None-clause-answer g c =
+    let e = g.T.PartialEq.eq in
+    let s = c.self.inside in
+    let n : get e s.classes c.args.x ≡ None = let a = c.get.ensures.value in let b = c.copied.ensures in let d = c.in-None.is in cc in
+    rw (c.new.ensures.items, ← c.self.view_is, not_found e (get e s.classes) (hash_map_len s.classes) s.free.items (sets_of s.members.items) c.self.invariant c.args.x n) (IsPermutation-refl [])
+
+pub returns-in-Some-clause-answer : goal.returns-in-Some-clause-answer
+returns-in-Some-clause-answer g c =
+    let e = g.T.PartialEq.eq in
+    let s = c.self.inside in
+    let n : get e s.classes c.args.x ≡ Some c.in-Some.class = let a = c.get.ensures.value in let b = c.copied.ensures in let d = c.in-Some.is in cc in
+    rw (← c.self.view_is, found e (get e s.classes) (hash_map_len s.classes) s.free.items (sets_of s.members.items) c.self.invariant c.args.x c.in-Some.class n) c.remove.ensures.answer
