@@ -117,10 +117,22 @@ impl<T: Copy + Debug + Eq + Hash> DisjointSets<T> {
         let first = self.classes.get(&x).copied();
         let second = self.classes.get(&y).copied();
         match (first, second) {
-            (None, None) => begin(&mut self.classes, &mut self.members, &mut self.free, x, y),
-            (Some(class), None) => admit(&mut self.classes, &mut self.members, class, y),
-            (None, Some(class)) => admit(&mut self.classes, &mut self.members, class, x),
-            (Some(a), Some(b)) => join(&mut self.classes, &mut self.members, &mut self.free, a, b),
+            (None, None) => merge_two_items(
+                &mut self.classes,
+                &mut self.members,
+                &mut self.free,
+                x,
+                y,
+            ),
+            (Some(class), None) => add_to_set(&mut self.classes, &mut self.members, class, y),
+            (None, Some(class)) => add_to_set(&mut self.classes, &mut self.members, class, x),
+            (Some(a), Some(b)) => merge_classes(
+                &mut self.classes,
+                &mut self.members,
+                &mut self.free,
+                a,
+                b,
+            ),
         }
     }
 
@@ -312,7 +324,7 @@ fn pair<T: Copy + Debug>(alloc: Global, x: T, y: T) -> Result<Vec<T>, AllocError
 }
 
 // Makes a set of two items that are in no set.
-fn begin<T: Copy + Debug + Eq + Hash>(
+fn merge_two_items<T: Copy + Debug + Eq + Hash>(
     classes: &mut HashMap<T, usize>,
     members: &mut Vec<Vec<T>>,
     free: &mut Vec<usize>,
@@ -339,7 +351,7 @@ fn begin<T: Copy + Debug + Eq + Hash>(
 }
 
 // Puts an item that is in no set into a set that has some.
-fn admit<T: Copy + Debug + Eq + Hash>(
+fn add_to_set<T: Copy + Debug + Eq + Hash>(
     classes: &mut HashMap<T, usize>,
     members: &mut Vec<Vec<T>>,
     class: usize,
@@ -384,7 +396,7 @@ fn pour<T: Copy + Debug + Eq + Hash>(
 }
 
 // Puts the members of the second set into the first.
-fn unite<T: Copy + Debug + Eq + Hash>(
+fn merge_sets<T: Copy + Debug + Eq + Hash>(
     classes: &mut HashMap<T, usize>,
     members: &mut Vec<Vec<T>>,
     free: &mut Vec<usize>,
@@ -409,7 +421,7 @@ fn unite<T: Copy + Debug + Eq + Hash>(
 }
 
 // Makes one set of two, and moves the members of the shorter one.
-fn join<T: Copy + Debug + Eq + Hash>(
+fn merge_classes<T: Copy + Debug + Eq + Hash>(
     classes: &mut HashMap<T, usize>,
     members: &mut Vec<Vec<T>>,
     free: &mut Vec<usize>,
@@ -428,9 +440,9 @@ fn join<T: Copy + Debug + Eq + Hash>(
         return Ok(());
     }
     if members[a].len() < members[b].len() {
-        unite(classes, members, free, b, a)
+        merge_sets(classes, members, free, b, a)
     } else {
-        unite(classes, members, free, a, b)
+        merge_sets(classes, members, free, a, b)
     }
 }
 
@@ -779,15 +791,15 @@ mod tests {
         let mut sets = DisjointSets::new(alloc);
         for i in 0..pairs.len() {
             let (x, y) = pairs[i];
-            let mut copy = DisjointSets::new(alloc);
-            match sets.clone() {
-                Ok(it) => copy = it,
+            let copy = match sets.clone() {
+                Ok(copy) => copy,
                 Err(_) => {
                     println!(rt; "clone was refused")?;
-                    copy = sets.clone()?;
-                    assert!(rt; are_same(&copy, &partition(alloc, &pairs[..i])?));
+                    assert!(rt; are_same(&sets, &partition(alloc, &pairs[..i])?));
+                    sets.clone()?
                 }
-            }
+            };
+            assert!(rt; are_same(&sets, &copy));
             if merge_where_different(&mut sets, x, y).is_err() {
                 println!(rt; "merge({x}, {y}) was refused")?;
                 assert!(rt; are_same(&sets, &copy));
@@ -803,15 +815,14 @@ mod tests {
         let alloc = rt.alloc();
         let mut sets = partition_at_last(alloc, &[(1, 2), (7, 9), (2, 3), (8, 7)])?;
         let copy = partition_at_last(alloc, &[(1, 2), (7, 9), (2, 3), (8, 7)])?;
-        let mut set = Vec::new(alloc);
-        match sets.remove_set_of(9) {
-            Ok(it) => set = it,
+        let set = match sets.remove_set_of(9) {
+            Ok(set) => set,
             Err(_) => {
                 println!(rt; "remove_set_of(9) was refused")?;
                 assert!(rt; are_same(&sets, &copy));
-                set = sets.remove_set_of(9)?;
+                sets.remove_set_of(9)?
             }
-        }
+        };
         assert!(rt; set.as_slice() == [7, 8, 9].as_slice());
         let rest = partition_at_last(alloc, &[(1, 2), (2, 3)])?;
         assert!(rt; are_same(&sets, &rest));

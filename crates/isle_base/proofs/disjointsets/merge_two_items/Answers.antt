@@ -4,7 +4,7 @@ use Rattle.isle_base.specs.Partition.{in_set}
 use Rattle.isle_base.specs.Numbers.{sets_of, IsPut}
 use Rattle.isle_base.proofs.Classes.{numbered_begin}
 use Rattle.isle_base.proofs.Merges.{merge_begin}
-use Rattle.isle_base.proofs.disjointsets.begin.Goals as goal
+use Rattle.isle_base.proofs.disjointsets.merge_two_items.Goals as goal
 
 pub returns-clause-fit : goal.returns-clause-fit
 returns-clause-fit g c =

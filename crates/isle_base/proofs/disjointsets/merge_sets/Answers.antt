@@ -1,6 +1,6 @@
 use Rattle.std.proofs.Common.{ap, ◌∙◌, rules}
 use Rattle.isle_base.proofs.Puts.{same_sets}
-use Rattle.isle_base.proofs.disjointsets.unite.Goals as goal
+use Rattle.isle_base.proofs.disjointsets.merge_sets.Goals as goal
 
 pub returns-in_err-reserve-2-clause-fit : goal.returns-in_err-reserve-2-clause-fit
 returns-in_err-reserve-2-clause-fit g c =

@@ -4,7 +4,7 @@ use Rattle.std.proofs.lemmas.List.{length-map}
 use Rattle.isle_base.specs.Numbers.{sets_of}
 use Rattle.isle_base.proofs.Classes.{at_view, numbered_admit, numbered_same}
 use Rattle.isle_base.proofs.Puts.{vector_put_as, same_sets, within_filled}
-use Rattle.isle_base.proofs.disjointsets.admit.Goals as goal
+use Rattle.isle_base.proofs.disjointsets.add_to_set.Goals as goal
 
 pub returns-in_err-reserve-clause-fit : goal.returns-in_err-reserve-clause-fit
 returns-in_err-reserve-clause-fit g c free fit =
