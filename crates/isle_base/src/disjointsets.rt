@@ -772,8 +772,9 @@ mod tests {
         }
     }
 
-    // Refused memory: `rt try --test --fail-alloc N -- refused_calls` refuses the N-th request of each test of
-    // that name, and no other; so a call that is made again has memory.
+    // Refused memory: `rt try --test --fail-alloc N -- refused_calls` refuses the N-th request for memory,
+    // those of `clone` too, and no other: a call that is made again has memory. Run it for N = 1, 2, ..
+    // 61, the last N that meets a refusal in the first test. It prints each call that was refused.
     #[test]
     fn refused_calls_change_nothing(rt: HostRuntime) -> Result<(), Fail> {
         let alloc = rt.alloc();
