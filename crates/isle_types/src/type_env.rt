@@ -66,7 +66,8 @@ impl TypeEnv {
         self.intern_text(ident.0.as_str())
     }
 
-    /// The type of a name, or None where it isn't a type's.
+    /// The type of a name, or None where it isn't a type's. Takes no memory. Upstream's
+    /// `TypeEnv::get_type_by_name`.
     pub fn get_type_by_name(&self, ident: &Ident) -> Option<TypeId>
         ensures { option_map (λ t. t.0) result ≡ option_and_then (type_at self.now) (symbol_of self.now (string_bytes ident.now.0)) }
     {
@@ -75,7 +76,7 @@ impl TypeEnv {
     }
 
     /// The variant of a number of the type of a number. Condition: the type is an enum of this table and
-    /// has that variant.
+    /// has that variant. Takes no memory. Upstream's `TypeEnv::get_variant`.
     pub fn get_variant(&self, ty: TypeId, variant: VariantId) -> &Variant
         requires { IsSome (variant_at (type_views self.now.types.items) ty.0 variant.0) }
         ensures { Some (variant_view result.now) ≡ variant_at (type_views self.now.types.items) ty.0 variant.0 }
