@@ -51,9 +51,9 @@ pub struct Lowered {
 /// layer that refuses the definitions: type errors of `TypeEnv::from_ast` and `TermEnv::from_ast`; then limit errors
 /// (more than 256 arguments of a term with rules, more than 65,536 binding sites of a term) and the overlap of two
 /// rules of one priority. So far extractors, converters, externs of terms, partial and multi declarations, if-lets, and
-/// rules beyond integer literals, wildcards and variables bound once on the left, an integer
-/// literal or a variable on the right, are answered with the error `not carried yet`. The upstream crate leaves the
-/// chaining of these passes to its callers.
+/// rules beyond integer literals, wildcards and variables bound once on the left, an integer literal or a variable on
+/// the right, are answered with the error `not carried yet`. The upstream crate leaves the chaining of these passes to
+/// its callers.
 pub fn lower(alloc: Global, defs: &[Def], expand: bool) -> Result<Lowered, Fault>
     // Ok exactly where the definitions are accepted, and then the environments and trees of these definitions
     ensures accepted { Answers result

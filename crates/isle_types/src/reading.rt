@@ -20,7 +20,7 @@ use crate::type_env::TypeEnv;
 use crate::types::Type;
 use isle_base::stablemapset::StableMap;
 use isle_base::syntax;
-use isle_base::syntax::{Def, Error, Fault, Pos, Span, TypeValue};
+use isle_base::syntax::{Def, Error, Fault, Pos, Span};
 use std::alloc::{AllocError, Global};
 use std::collections::HashMap;
 
