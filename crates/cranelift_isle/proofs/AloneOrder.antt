@@ -4,9 +4,9 @@ use Rattle.std.proofs.lemmas.List.Sorted.{ranks_by, IsStrictWeakOrder-flip}
 use Rattle.std.specs.Cmp.{IsStrictWeakOrder, int_cmp_total}
 use Rattle.std.specs.List.{filter}
 use Rattle.std.specs.List.Sorted.{ties, IsSortedBy}
-use Rattle.isle_alone.specs.Alone.{higher, ordered}
-use Rattle.isle_alone.proofs.InOrder.{map_in_order}
-use Rattle.isle_alone.proofs.Orders.{sorted_is}
+use Rattle.isle_model.specs.first.Alone.{is_higher, ordered}
+use Rattle.isle_first.proofs.alone.InOrder.{map_in_order}
+use Rattle.isle_first.proofs.alone.Orders.{sorted_is}
 use Rattle.cranelift_isle.specs.declared.trie_again.Rule.{Rule}
 use Rattle.cranelift_isle.specs.SiteViews.{set_rule_view, set_rule_views}
 use Rattle.cranelift_isle.proofs.AloneSteps.{viewed}
@@ -24,5 +24,5 @@ viewed_rules (x ∷ xs) = ap (λ l. set_rule_view x.now ∷ l) (viewed_rules xs)
 pub by_priority_is : (rules : List Rule) (xs ys : List (Bor Rule)) → map (λ r. r.now) xs ≡ rules → IsSortedBy higher_behind ys → ((z : Bor Rule) → filter (ties higher_behind z) ys ≡ filter (ties higher_behind z) xs) → viewed ys ≡ ordered (set_rule_views rules)
 by_priority_is rules xs ys e s f =
     ap viewed (sorted_is higher_behind strict xs ys s f)
-    ∙ map_in_order (λ r. set_rule_view r.now) higher xs
+    ∙ map_in_order (λ r. set_rule_view r.now) is_higher xs
     ∙ ap ordered (viewed_rules xs ∙ ap set_rule_views e)

@@ -5,17 +5,17 @@ use Rattle.std.proofs.lemmas.Bool.{cases_Bool, cond-true, cond-false, false≢tr
 use Rattle.std.proofs.lemmas.List.{append-nil, map-append}
 use Rattle.std.proofs.lemmas.List.Elements.{All-nil, All-cons, All-append, All-weaker, All-contains, filter-append, Contains-append_left, Contains-append_right}
 use Rattle.std.proofs.lemmas.Option.{none-some, get_or_from_slice_get, slice_get_within}
-use Rattle.isle_model.specs.Typed.{TypedRule}
-use Rattle.isle_model.specs.Program.{Program, arg_types, rules_of}
-use Rattle.isle_model.specs.Sites.{SiteSet}
-use Rattle.isle_model.specs.Demands.{sites_made}
-use Rattle.isle_model.specs.Simple.{IsSimpleRule}
-use Rattle.isle_model.specs.Built.{IsBuiltSet, OverlapsWrongly, numbers_from, terms_with_rules}
-use Rattle.isle_model.specs.Accepted.{PassesArguments, PassesSites}
-use Rattle.isle_building.specs.Building.{ClashAt, IsSimpleSet}
-use Rattle.isle_building.specs.Laws.{set_of}
-use Rattle.isle_building.proofs.Sets.{builds_sets, counts_sites}
-use Rattle.isle_building.proofs.Overlaps.{shows_overlaps}
+use Rattle.isle_model.specs.rules.Typed.{TypedRule}
+use Rattle.isle_model.specs.rules.Program.{Program, arg_types, rules_of, numbers_from, terms_with_rules}
+use Rattle.isle_model.specs.sites.Sites.{SiteSet}
+use Rattle.isle_model.specs.sites.Demands.{sites_made}
+use Rattle.isle_model.specs.first.Simple.{IsSimpleRule}
+use Rattle.isle_model.specs.first.Built.{IsBuiltSet, CarriedOverlapsWrongly}
+use Rattle.isle_model.specs.first.Accepted.{PassesArgumentsOfProgram, PassesSitesOfProgram}
+use Rattle.isle_model.specs.first.Building.{ClashAt, IsSimpleSet}
+use Rattle.isle_first.specs.BuildingLaws.{set_of}
+use Rattle.isle_first.proofs.building.Sets.{builds_sets, counts_sites}
+use Rattle.isle_first.proofs.building.Overlaps.{shows_overlaps}
 use Rattle.isle_base.specs.Answers.{limit_of}
 use Rattle.isle_base.specs.declared.syntax.Error.{Error}
 use Rattle.isle_base.specs.declared.syntax.Limit.{Limit}
@@ -125,14 +125,14 @@ module _ (p : Program) where
 
   -- 4. no limit is passed
   module _ (simple : All (IsSimpleRule p) p.rules) (known : All (λ r. r.root_term < length p.terms) p.rules) where
-    few_arguments : ((t : ℕ) → t < length p.terms → Fits p t) → PassesArguments p → ⊥
+    few_arguments : ((t : ℕ) → t < length p.terms → Fits p t) → PassesArgumentsOfProgram p → ⊥
     few_arguments fits h =
         let w = All-contains (λ r. r.root_term < length p.terms) p.rules h.rule known h.there in
         let f = fits h.rule.root_term w (any_here p.rules h.there.0 h.rule h.there.1 h.there.2) in
         let m = h.many in
         omega (arith, f.0, m)
 
-    few_sites : ((t : ℕ) → t < length p.terms → Fits p t) → PassesSites p → ⊥
+    few_sites : ((t : ℕ) → t < length p.terms → Fits p t) → PassesSitesOfProgram p → ⊥
     few_sites fits h =
         elim (cases_Bool (has_rules p h.term)) [
           | inl y ↦
@@ -165,13 +165,13 @@ module _ (p : Program) where
     passed_of (Some Sites) h = h
     passed_of (Some _) h = absurd h
 
-    which_of : (o : Option Limit) → SaysPassed p o → PassesArguments p ⊎ PassesSites p
+    which_of : (o : Option Limit) → SaysPassed p o → PassesArgumentsOfProgram p ⊎ PassesSitesOfProgram p
     which_of None h = absurd h
     which_of (Some Arguments) h = inl h
     which_of (Some Sites) h = inr h
     which_of (Some _) h = absurd h
 
-    some_passed : (errors : List Error) → All (λ e. SaysPassed p (limit_of e)) errors → errors ≢ [] → PassesArguments p ⊎ PassesSites p
+    some_passed : (errors : List Error) → All (λ e. SaysPassed p (limit_of e)) errors → errors ≢ [] → PassesArgumentsOfProgram p ⊎ PassesSitesOfProgram p
     some_passed [] a some = absurd (some refl)
     some_passed (e ∷ es) a some = which_of (limit_of e) (a 0 e (omega arith))
 
@@ -260,7 +260,7 @@ module _ (p : Program) where
   shown : (n : ℕ) → All Shown (sets_below p n)
   shown n = all_below Shown (λ t h. refl) n
 
-  pub wrong_overlap : All (IsSimpleRule p) p.rules → (sets : List (ℕ × SiteSet)) → AreSetsOf p sets → (k : ℕ) (b : ℕ × SiteSet) → slice_get sets k ≡ Some b → (i j : ℕ) → ClashAt b.1.rules i j → OverlapsWrongly p b.0 i j
+  pub wrong_overlap : All (IsSimpleRule p) p.rules → (sets : List (ℕ × SiteSet)) → AreSetsOf p sets → (k : ℕ) (b : ℕ × SiteSet) → slice_get sets k ≡ Some b → (i j : ℕ) → ClashAt b.1.rules i j → CarriedOverlapsWrongly p b.0 i j
   wrong_overlap s sets a k b e i j c =
       let all = subst (All Shown) (sym a.exact) (shown (length p.terms)) in
       let is : Shown b = subst Shown (get_or_from_slice_get sets k b b e) (all k b (slice_get_within sets k b e)) in
@@ -283,7 +283,7 @@ module _ (p : Program) where
         | inr n ↦ absurd (none-some r (sym (ap (λ l. slice_get l i) (none_kept t rs n)) ∙ e))
       ]
 
-  pub no_wrong_overlap : All (IsSimpleRule p) p.rules → All (λ r. r.root_term < length p.terms) p.rules → (sets : List (ℕ × SiteSet)) → AreSetsOf p sets → All (λ b. NoClash b.1) sets → (t i j : ℕ) → OverlapsWrongly p t i j → ⊥
+  pub no_wrong_overlap : All (IsSimpleRule p) p.rules → All (λ r. r.root_term < length p.terms) p.rules → (sets : List (ℕ × SiteSet)) → AreSetsOf p sets → All (λ b. NoClash b.1) sets → (t i j : ℕ) → CarriedOverlapsWrongly p t i j → ⊥
   no_wrong_overlap s known sets a none t i j o =
       let y = has_by_place t i p.rules o.rule o.here in
       let r = rule_among t p.rules y in

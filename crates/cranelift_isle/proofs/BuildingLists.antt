@@ -2,11 +2,11 @@
 use Rattle.std.proofs.Common.{◌≡◌, ◌==◌, ℕ, zero, suc, ◌+◌, ◌<◌, Bool, true, false, cond, List, [], ◌∷◌, length, map, drop, get_or, Some, None, option_map, All, slice_get, filter, refl, sym, ap, ◌∙◌, subst, arith, drop-cons, add-one, Bor}
 use Rattle.std.proofs.lemmas.List.{length-map, nil_from_length}
 use Rattle.std.proofs.lemmas.Option.{slice_get_read, slice_get-map}
-use Rattle.isle_model.specs.Typed.{TypedRule}
-use Rattle.isle_model.specs.Program.{Program, arg_types, rules_of}
-use Rattle.isle_model.specs.Simple.{IsSimpleRule}
-use Rattle.isle_building.proofs.Laid.{AreSimpleOf}
-use Rattle.isle_building.proofs.Sets.{simple_of_term}
+use Rattle.isle_model.specs.rules.Typed.{TypedRule}
+use Rattle.isle_model.specs.rules.Program.{Program, arg_types, rules_of}
+use Rattle.isle_model.specs.first.Simple.{IsSimpleRule}
+use Rattle.isle_first.proofs.building.Laid.{AreSimpleOf}
+use Rattle.isle_first.proofs.building.Sets.{simple_of_term}
 use Rattle.isle_terms.specs.declared.term.Term.{Term}
 use Rattle.isle_terms.specs.TermViews.{term_view, term_views}
 use Rattle.isle_rules.specs.declared.rules.Rule.{Rule}

@@ -3,11 +3,11 @@ use Rattle.std.proofs.Common.{◌≡◌, ◌≢◌, ◌⊎◌, ℕ, ℤ, zero, s
 use Rattle.std.proofs.lemmas.Bool.{cond-true}
 use Rattle.std.proofs.lemmas.List.{append-nil, length_push, map-append, length-map}
 use Rattle.std.proofs.lemmas.List.Elements.{All-push, All-cons, All-nil, All-weaker}
-use Rattle.isle_model.specs.Typed.{TypedRule}
-use Rattle.isle_model.specs.Sites.{SiteSet, argument_site, int_site}
-use Rattle.isle_building.specs.Building.{argument_sites, sites_after, rules_after, built_rule, with_value, built_set, literal_number, with_literal}
-use Rattle.isle_building.proofs.Laid.{number_at_most}
-use Rattle.isle_building.proofs.Sets.{after_longer}
+use Rattle.isle_model.specs.rules.Typed.{TypedRule}
+use Rattle.isle_model.specs.sites.Sites.{SiteSet, argument_site, int_site}
+use Rattle.isle_model.specs.first.Building.{argument_sites, sites_after, rules_after, built_simple_rule, with_value, built_set, literal_number, with_literal}
+use Rattle.isle_first.proofs.building.Laid.{number_at_most}
+use Rattle.isle_first.proofs.building.Sets.{after_longer}
 use Rattle.isle_base.specs.Answers.{limit_of}
 use Rattle.isle_base.specs.declared.syntax.Error.{Error}
 use Rattle.isle_base.specs.declared.syntax.Limit.TheVariants.{Arguments, Sites}
@@ -23,7 +23,7 @@ pub record AddsSoFar (whole set : SiteSet) (ts : List TypedRule) (before after :
 -- what all rules make of a set
 pub all_rules : (set : SiteSet) (ts : List TypedRule) → with_rules set ts ≡ record { rules = set.rules ++ rules_after set.sites ts; sites = sites_after set.sites ts }
 all_rules set [] = λ k. record { rules = sym (append-nil set.rules) k; sites = set.sites }
-all_rules set (t ∷ ts) = all_rules (with_rule set t) ts ∙ (λ k. record { rules = append_assoc set.rules (built_rule set.sites t ∷ []) (rules_after (with_value set.sites t.rhs) ts) k; sites = sites_after (with_value set.sites t.rhs) ts })
+all_rules set (t ∷ ts) = all_rules (with_rule set t) ts ∙ (λ k. record { rules = append_assoc set.rules (built_simple_rule set.sites t ∷ []) (rules_after (with_value set.sites t.rhs) ts) k; sites = sites_after (with_value set.sites t.rhs) ts })
 
 pub no_shorter : (set : SiteSet) (ts : List TypedRule) → length set.sites ≤ length (with_rules set ts).sites
 no_shorter set ts = subst (λ w. length set.sites ≤ length w.sites) (sym (all_rules set ts)) (after_longer set.sites ts)

@@ -1,4 +1,4 @@
--- Rules that clash, by their places.
+-- Rules that simple_clash, by their places.
 use Rattle.std.proofs.Common.{◌≡◌, ◌==◌, ℕ, ◌+◌, ◌<◌, ◌≤◌, Bool, true, false, not, ◌&&◌, ◌||◌, List, [], ◌∷◌, ◌++◌, length, map, get_or, Some, option_map, All, slice_get, refl, sym, ap, ap₂, ◌∙◌, subst, inl, inr, arith}
 use Rattle.std.specs.List.{list_any}
 use Rattle.std.specs.Prelude.{Result, Ok, Err, OnOk}
@@ -6,9 +6,9 @@ use Rattle.std.proofs.lemmas.Bool.{cases_Bool, both_ways, eq-eqb, eqb-true}
 use Rattle.std.proofs.lemmas.Bool.Decides.{Decides-int_eq}
 use Rattle.std.proofs.lemmas.List.{length-map}
 use Rattle.std.proofs.lemmas.Option.{same_Some, slice_get_within, slice_get_read, slice_get-map, slice_get-get_or}
-use Rattle.isle_model.specs.Syntax.{Position}
-use Rattle.isle_model.specs.Sites.{SetRule, SiteSet}
-use Rattle.isle_building.specs.Building.{differs_at, sites_differ, clash, ClashAt}
+use Rattle.isle_model.specs.lists.Syntax.{Position}
+use Rattle.isle_model.specs.sites.Sites.{SetRule, SiteSet}
+use Rattle.isle_model.specs.first.Building.{differs_at, sites_differ, simple_clash, ClashAt}
 use Rattle.isle_base.specs.SyntaxViews.{position}
 use Rattle.isle_base.specs.declared.syntax.Error.{Error}
 use Rattle.isle_base.specs.declared.syntax.Pos.{Pos}
@@ -30,7 +30,7 @@ views_differ [] bs = refl
 views_differ (a ∷ as') bs =
     ap₂ ◌||◌ (sym (any_map (λ b. (b.0, constraint_view b.1)) (differs_at (a.0, constraint_view a.1)) bs)) (views_differ as' bs)
 
-pub clash_of_tests : (r s : Rule) (xs ys : List (ℕ × Constraint)) (d : Bool) → xs ≡ r.constraints.items → ys ≡ s.constraints.items → d ≡ list_any (λ a. list_any (λ b. differs_at (a.0, constraint_view a.1) (b.0, constraint_view b.1)) ys) xs → r.prio ≡ s.prio → not d ≡ clash (set_rule_view r) (set_rule_view s)
+pub clash_of_tests : (r s : Rule) (xs ys : List (ℕ × Constraint)) (d : Bool) → xs ≡ r.constraints.items → ys ≡ s.constraints.items → d ≡ list_any (λ a. list_any (λ b. differs_at (a.0, constraint_view a.1) (b.0, constraint_view b.1)) ys) xs → r.prio ≡ s.prio → not d ≡ simple_clash (set_rule_view r) (set_rule_view s)
 clash_of_tests r s xs ys d e f h p =
     let v : d ≡ sites_differ (constraint_views r.constraints.items) (constraint_views s.constraints.items) =
     h ∙ views_differ xs ys ∙ (λ k. sites_differ (constraint_views (e k)) (constraint_views (f k))) in
@@ -42,18 +42,18 @@ pub view_at : (rules : List Rule) (i : ℕ) (a : Rule) → i < length rules → 
 view_at rules i a h e = slice_get-map set_rule_view rules i ∙ ap (option_map set_rule_view) (slice_get_read rules (length rules) i a refl h e)
 
 module _ (rules : List Rule) (i j : ℕ) (a b : Rule) (h : i < length rules) (k : j < length rules) (e : a ≡ get_or rules i a) (f : b ≡ get_or rules j b) where
-  pub clash_at : i < j → clash (set_rule_view a) (set_rule_view b) ≡ true → ClashAt (set_rule_views rules) i j
+  pub clash_at : i < j → simple_clash (set_rule_view a) (set_rule_view b) ≡ true → ClashAt (set_rule_views rules) i j
   clash_at l t = record { rule = set_rule_view a; other = set_rule_view b; here = view_at rules i a h e; there = view_at rules j b k f; before = l; together = t }
 
   rule_is : (c : ClashAt (set_rule_views rules) i j) → (c.rule ≡ set_rule_view a) × (c.other ≡ set_rule_view b)
   rule_is c =
       (same_Some c.rule (set_rule_view a) (sym c.here ∙ view_at rules i a h e), same_Some c.other (set_rule_view b) (sym c.there ∙ view_at rules j b k f))
 
-  no_clash_at : clash (set_rule_view a) (set_rule_view b) ≡ false → ClashAt (set_rule_views rules) i j → ⊥
+  no_clash_at : simple_clash (set_rule_view a) (set_rule_view b) ≡ false → ClashAt (set_rule_views rules) i j → ⊥
   no_clash_at t c =
-      let r = rule_is c in both_ways (clash (set_rule_view a) (set_rule_view b)) t ((λ x. clash (sym r.0 x) (sym r.1 x)) ∙ c.together)
+      let r = rule_is c in both_ways (simple_clash (set_rule_view a) (set_rule_view b)) t ((λ x. simple_clash (sym r.0 x) (sym r.1 x)) ∙ c.together)
 
-  pub no_clash_more : clash (set_rule_view a) (set_rule_view b) ≡ false → ((m : ℕ) → m < j → ClashAt (set_rule_views rules) i m → ⊥) → (m : ℕ) → m < j + 1 → ClashAt (set_rule_views rules) i m → ⊥
+  pub no_clash_more : simple_clash (set_rule_view a) (set_rule_view b) ≡ false → ((m : ℕ) → m < j → ClashAt (set_rule_views rules) i m → ⊥) → (m : ℕ) → m < j + 1 → ClashAt (set_rule_views rules) i m → ⊥
   no_clash_more t below m w c =
       elim (cases_Bool (m == j)) [
         | inl y ↦ no_clash_at t (subst (ClashAt (set_rule_views rules) i) (eqb-true m j y) c)

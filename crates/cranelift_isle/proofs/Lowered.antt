@@ -9,20 +9,20 @@ use Rattle.isle_base.specs.declared.syntax.Limit.TheVariants.{Fields, Outputs, A
 use Rattle.isle_base.specs.declared.syntax.Fault.{Fault}
 use Rattle.isle_base.specs.declared.syntax.Fault.TheVariants.{Memory, Errors}
 use Rattle.isle_base.specs.Answers.{limit_of, Answers, OnErrors}
-use Rattle.isle_model.specs.Syntax.{Definition}
-use Rattle.isle_model.specs.Tables.{TermEntry}
-use Rattle.isle_model.specs.Typed.{TypedRule}
-use Rattle.isle_model.specs.Program.{Program, Kind, unknown, flags_of, kind_of}
-use Rattle.isle_model.specs.Simple.{AreSimplePatterns, IsSimpleRule}
-use Rattle.isle_model.specs.Sites.{SiteSet}
-use Rattle.isle_model.specs.Sound.{IsSound}
-use Rattle.isle_model.specs.Built.{IsBuiltSet}
-use Rattle.isle_model.specs.TermTable.{term_entries}
-use Rattle.isle_model.specs.Elaboration.{IsElaborated, program_of}
-use Rattle.isle_model.specs.Accepted.{IsAccepted}
-use Rattle.isle_model.proofs.SameTerms.{built_set_same, terms_with_rules_same, passes_arguments_same, passes_sites_same, overlaps_same}
-use Rattle.isle_matching.proofs.Accepted.{accepted_trees_run_lem}
-use Rattle.isle_matching.proofs.SimpleElaborated.{all_single, elaborated_simple, elaborated_known}
+use Rattle.isle_model.specs.lists.Syntax.{Definition}
+use Rattle.isle_model.specs.lists.Tables.{TermEntry}
+use Rattle.isle_model.specs.rules.Typed.{TypedRule}
+use Rattle.isle_model.specs.rules.Program.{Program, Kind, unknown, flags_of, kind_of}
+use Rattle.isle_model.specs.first.Simple.{AreSimplePatterns, IsSimpleRule}
+use Rattle.isle_model.specs.sites.Sites.{SiteSet}
+use Rattle.isle_model.specs.trees.Sound.{IsSound}
+use Rattle.isle_model.specs.first.Built.{IsBuiltSet}
+use Rattle.isle_model.specs.first.TermTable.{term_entries}
+use Rattle.isle_model.specs.first.Elaboration.{IsCarriedElaborated, carried_program_of}
+use Rattle.isle_model.specs.first.Accepted.{IsCarriedAccepted}
+use Rattle.isle_first.proofs.SameTerms.{built_set_same, terms_with_rules_same, passes_arguments_same, passes_sites_same, overlaps_same}
+use Rattle.isle_first.proofs.matching.Accepted.{accepted_trees_run_lem}
+use Rattle.isle_first.proofs.matching.SimpleElaborated.{all_single, elaborated_simple, elaborated_known}
 use Rattle.isle_terms.specs.TermViews as Terms
 use Rattle.isle_rules.specs.declared.term_env.TermEnv.{TermEnv}
 use Rattle.isle_rules.specs.RuleViews.{rule_views}
@@ -54,9 +54,9 @@ ids_are [] = refl
 ids_are (t ∷ ts) = ap (λ l. t.id ∷ l) (ids_are ts)
 
 -- 2. an environment of elaborated definitions
-module _ (defs : List Definition) (rules : List TypedRule) (expand : Bool) (env : TermEnv) (e : IsElaborated defs rules) (s : SeesRules env defs rules expand) where
+module _ (defs : List Definition) (rules : List TypedRule) (expand : Bool) (env : TermEnv) (e : IsCarriedElaborated defs rules) (s : SeesRules env defs rules expand) where
   abbrev p : Program
-  p = program_of defs rules
+  p = carried_program_of defs rules
 
   abbrev q : Program
   q = env_program env
@@ -70,7 +70,7 @@ module _ (defs : List Definition) (rules : List TypedRule) (expand : Bool) (env 
       subst (λ k. All (λ r. r.root_term < k) (rule_views env.rules.items)) count
       (subst (All (λ r. r.root_term < length (term_entries defs))) (sym s.rules) (elaborated_known defs rules e.terms e.elaborated))
 
-  pub accepted : IsBuildable q → IsAccepted defs rules
+  pub accepted : IsBuildable q → IsCarriedAccepted defs rules
   accepted b = record {
     types = e.types;
     terms = e.terms;
@@ -81,10 +81,10 @@ module _ (defs : List Definition) (rules : List TypedRule) (expand : Bool) (env 
     overlaps = λ t i j o. b.overlaps t i j (overlaps_same p q (sym s.terms) (sym s.rules) t i j o);
   }
 
-  pub buildable : (typed : List TypedRule) → IsAccepted defs typed → IsBuildable q
+  pub buildable : (typed : List TypedRule) → IsCarriedAccepted defs typed → IsBuildable q
   buildable typed a =
       let same : typed ≡ rules = same_rules typed rules (sym a.elaborated.typed ∙ e.elaborated.typed) in
-      let a' = subst (IsAccepted defs) same a in
+      let a' = subst (IsCarriedAccepted defs) same a in
       record {
         arguments = λ h. a'.arguments (passes_arguments_same q p s.terms s.rules h);
         sites = λ h. a'.sites (passes_sites_same q p s.terms s.rules h);

@@ -1,10 +1,10 @@
 -- Sets of simple rules are plain.
 use Rattle.std.proofs.Common.{ℕ, zero, suc, ◌<◌, ◌≤◌, List, [], ◌∷◌, length, subst, arith}
 use Rattle.std.specs.Prelude.{◌≢◌, AllPairs, Contains, slice_index_or}
-use Rattle.isle_model.specs.Sites.{Site, bool_site, int_site, prim_site, argument_site, extractor_site, constructor_site, iterator_site, make_variant_site, match_variant_site, make_struct_site, extract_struct_site, make_some_site, match_some_site, match_tuple_site, Constraint, is_variant, is_struct, is_bool, is_int, is_prim, is_present, SetRule, SiteSet}
-use Rattle.isle_alone.specs.Plain as Plain
-use Rattle.isle_alone.specs.Plain.{IsPlainSite, IsPlainRule, IsPlainSet}
-use Rattle.isle_building.specs.Building.{IsSimpleSite, IsInteger, AscendWithin, IsSimpleSetRule, IsSimpleSet}
+use Rattle.isle_model.specs.sites.Sites.{Site, bool_site, int_site, prim_site, argument_site, extractor_site, constructor_site, iterator_site, make_variant_site, match_variant_site, make_struct_site, extract_struct_site, make_some_site, match_some_site, match_tuple_site, Constraint, is_variant, is_struct, is_bool, is_int, is_prim, is_present, SetRule, SiteSet}
+use Rattle.isle_model.specs.first.Plain as Plain
+use Rattle.isle_model.specs.first.Plain.{IsPlainSite, IsPlainRule, IsPlainSet, IsInteger}
+use Rattle.isle_model.specs.first.Building.{IsSimpleSite, AscendWithin, IsSimpleSetRule, IsSimpleSet}
 
 plain_site : (b : Site) → IsSimpleSite b → IsPlainSite b
 plain_site (argument_site i) h = tt

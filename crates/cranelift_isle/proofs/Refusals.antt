@@ -3,14 +3,14 @@ use Rattle.std.proofs.Common.{◌≡◌, ◌==◌, ◌⊎◌, ℕ, ◌<◌, fals
 use Rattle.std.specs.Prelude.{◌≢◌, All}
 use Rattle.std.proofs.lemmas.List.{length-map}
 use Rattle.std.proofs.lemmas.List.Elements.{All-push}
-use Rattle.isle_model.specs.Typed.{TypedRule}
+use Rattle.isle_model.specs.rules.Typed.{TypedRule}
 use Rattle.isle_base.specs.declared.syntax.Error.{Error}
 use Rattle.isle_base.specs.declared.syntax.Error.TheVariants.{TypeError, UnreachableError, OverlapError, ShadowedError, LimitError}
 use Rattle.isle_base.specs.Answers.{limit_of}
-use Rattle.isle_model.specs.Syntax.{Position}
-use Rattle.isle_model.specs.Simple.{IsSimpleRule}
-use Rattle.isle_model.specs.Sites.{SiteSet}
-use Rattle.isle_model.specs.Program.{Program}
+use Rattle.isle_model.specs.lists.Syntax.{Position}
+use Rattle.isle_model.specs.first.Simple.{IsSimpleRule}
+use Rattle.isle_model.specs.sites.Sites.{SiteSet}
+use Rattle.isle_model.specs.rules.Program.{Program}
 use Rattle.cranelift_isle.specs.Buildings.{IsPassed, AreSetsOf, BuildsAll, IsOverlapError, ChecksOverlaps}
 use Rattle.cranelift_isle.specs.Clashes.{IsBuildable}
 use Rattle.cranelift_isle.proofs.BuildingEnds.{wrong_overlap, no_wrong_overlap}

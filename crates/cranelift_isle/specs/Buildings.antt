@@ -2,15 +2,15 @@
 use Rattle.std.specs.Prelude.{◌≡◌, ◌≢◌, ◌⊎◌, ℕ, zero, suc, ◌<◌, ◌≤◌, Bool, List, [], ◌∷◌, ◌++◌, length, map, Option, Some, None, slice_get, All, IsTrue, string_bytes, if◌then◌else◌}
 use Rattle.std.specs.Bool.{◌==◌}
 use Rattle.std.specs.List.{list_any}
-use Rattle.isle_model.specs.Syntax.{Position}
-use Rattle.isle_model.specs.Typed.{TypedRule}
-use Rattle.isle_model.specs.Program.{Program, arg_types}
-use Rattle.isle_model.specs.Sites.{Site, SetRule, SiteSet}
-use Rattle.isle_model.specs.Simple.{IsSimpleExpr}
-use Rattle.isle_model.specs.Built.{IsBuiltSet, terms_with_rules}
-use Rattle.isle_model.specs.Accepted.{PassesArguments, PassesSites}
-use Rattle.isle_building.specs.Building.{asked_from, value_number, built_rule, with_value, built_set, ClashAt, IsSimpleSet}
-use Rattle.isle_building.specs.Laws.{set_of}
+use Rattle.isle_model.specs.lists.Syntax.{Position}
+use Rattle.isle_model.specs.rules.Typed.{TypedRule}
+use Rattle.isle_model.specs.rules.Program.{Program, arg_types, terms_with_rules}
+use Rattle.isle_model.specs.sites.Sites.{Site, SetRule, SiteSet}
+use Rattle.isle_model.specs.first.Simple.{IsSimpleExpr}
+use Rattle.isle_model.specs.first.Built.{IsBuiltSet}
+use Rattle.isle_model.specs.first.Accepted.{PassesArgumentsOfProgram, PassesSitesOfProgram}
+use Rattle.isle_model.specs.first.Building.{asked_from, value_number, built_simple_rule, with_value, built_set, ClashAt, IsSimpleSet}
+use Rattle.isle_first.specs.BuildingLaws.{set_of}
 use Rattle.isle_base.specs.Answers.{limit_of}
 use Rattle.isle_base.specs.SyntaxViews.{position}
 use Rattle.isle_base.specs.declared.syntax.Error.{Error}
@@ -39,8 +39,8 @@ term_set_views sets = map term_set_view sets
 -- the limit that an error names was passed, where it names one
 abbrev pub IsPassed : Program → Option Limit → Type 0
 IsPassed p None = Unit {0}
-IsPassed p (Some Arguments) = PassesArguments p
-IsPassed p (Some Sites) = PassesSites p
+IsPassed p (Some Arguments) = PassesArgumentsOfProgram p
+IsPassed p (Some Sites) = PassesSitesOfProgram p
 IsPassed p (Some _) = ⊥
 
 -- the sets of the terms below n that have rules, ascending
@@ -60,13 +60,13 @@ pub record AreSetsOf (p : Program) (sets : List (ℕ × SiteSet)) : Type 0 where
   pub terms : map (λ b. b.0) sets ≡ terms_with_rules p
   pub built : All (λ b. IsBuiltSet p b.0 b.1) sets
   pub simple : All (λ b. IsSimpleSet b.1) sets
-  pub few_arguments : PassesArguments p → ⊥
-  pub few_sites : PassesSites p → ⊥
+  pub few_arguments : PassesArgumentsOfProgram p → ⊥
+  pub few_sites : PassesSitesOfProgram p → ⊥
 
 -- each term with rules has its set, or a limit is passed, and the errors say which
 pub record BuildsAll (p : Program) (sets : List (ℕ × SiteSet)) (errors : List Error) : Type 0 where
   pub built : errors ≡ [] → AreSetsOf p sets
-  pub refused : errors ≢ [] → PassesArguments p ⊎ PassesSites p
+  pub refused : errors ≢ [] → PassesArgumentsOfProgram p ⊎ PassesSitesOfProgram p
   pub limits : All (λ e. IsPassed p (limit_of e)) errors
 
 -- a rule of a set, but for its result, and with a result
@@ -75,7 +75,7 @@ with_result t n = record { id = t.id; at = t.at; prio = t.prio; name = t.name; c
 
 -- the set after one more rule
 abbrev pub with_rule : SiteSet → TypedRule → SiteSet
-with_rule set t = record { rules = set.rules ++ built_rule set.sites t ∷ []; sites = with_value set.sites t.rhs }
+with_rule set t = record { rules = set.rules ++ built_simple_rule set.sites t ∷ []; sites = with_value set.sites t.rhs }
 
 abbrev pub with_rules : SiteSet → List TypedRule → SiteSet
 with_rules set [] = set
@@ -126,8 +126,8 @@ Fits p t = IsTrue (has_rules p t) → (length (arg_types p t) ≤ 256) × (lengt
 
 abbrev pub SaysPassed : Program → Option Limit → Type 0
 SaysPassed p None = ⊥
-SaysPassed p (Some Arguments) = PassesArguments p
-SaysPassed p (Some Sites) = PassesSites p
+SaysPassed p (Some Arguments) = PassesArgumentsOfProgram p
+SaysPassed p (Some Sites) = PassesSitesOfProgram p
 SaysPassed p (Some _) = ⊥
 
 -- the terms below n are done

@@ -1,14 +1,15 @@
 -- What lowering a list of definitions gives.
 use Rattle.std.specs.Prelude.{◌≡◌, ℕ, Bool, List, map, Option, Some, None, All}
 use Rattle.isle_base.specs.declared.syntax.Limit.{Limit}
-use Rattle.isle_model.specs.Syntax.{Definition}
-use Rattle.isle_model.specs.Typed.{TypedRule}
-use Rattle.isle_model.specs.Program.{Program, is_multi}
-use Rattle.isle_model.specs.Sites.{SiteSet}
-use Rattle.isle_model.specs.Trees.{Tree}
-use Rattle.isle_model.specs.Sound.{IsSound}
-use Rattle.isle_model.specs.Built.{IsBuiltSet, terms_with_rules, RunsAsChosen}
-use Rattle.isle_model.specs.Elaboration.{IsElaborated, all_names, program_of}
+use Rattle.isle_model.specs.lists.Syntax.{Definition}
+use Rattle.isle_model.specs.rules.Typed.{TypedRule}
+use Rattle.isle_model.specs.rules.Program.{Program, is_multi, terms_with_rules}
+use Rattle.isle_model.specs.sites.Sites.{SiteSet}
+use Rattle.isle_model.specs.trees.Trees.{Tree}
+use Rattle.isle_model.specs.trees.Sound.{IsSound}
+use Rattle.isle_model.specs.first.Built.{IsBuiltSet}
+use Rattle.isle_model.specs.claims.Headline.{RunsAsChosen}
+use Rattle.isle_model.specs.first.Elaboration.{IsCarriedElaborated, all_names, carried_program_of}
 use Rattle.isle_types.specs.TypeTables.{SeesTypes}
 use Rattle.isle_rules.specs.TermEnvs.{SeesRules}
 use Rattle.cranelift_isle.specs.declared.lower.LoweredTerm.{LoweredTerm}
@@ -40,7 +41,7 @@ pub record AreLowered (p : Program) (ts : List TermView) : Type 0 where
 pub record IsLowered (l : Lowered) (defs : List Definition) (typed : List TypedRule) (expanded : Bool) : Type 0 where
   pub types : SeesTypes l.tyenv defs (all_names defs)
   pub rules : SeesRules l.termenv defs typed expanded
-  pub terms : AreLowered (program_of defs typed) (term_views l.terms.items)
+  pub terms : AreLowered (carried_program_of defs typed) (term_views l.terms.items)
 
 -- the tree of each term runs as a test of every rule by priority would
 abbrev pub ChoosesAsSource : Program → List TermView → Type 0
@@ -49,4 +50,4 @@ ChoosesAsSource p ts = All (λ t. RunsAsChosen p t.id t.set.sites t.tree) ts
 -- where an error names a limit, some rule of the definitions passes it
 abbrev pub LimitPassed : List Definition → Option Limit → Type 0
 LimitPassed defs None = Unit {0}
-LimitPassed defs (Some l) = (typed : List TypedRule) × IsElaborated defs typed × IsPassed (program_of defs typed) (Some l)
+LimitPassed defs (Some l) = (typed : List TypedRule) × IsCarriedElaborated defs typed × IsPassed (carried_program_of defs typed) (Some l)

@@ -6,9 +6,9 @@ ghost use Rattle.std.specs.List.{filter, list_any};
 ghost use Rattle.isle_base.specs.Answers.{limit_of};
 ghost use Rattle.isle_base.specs.SyntaxViews.{position};
 ghost use Rattle.isle_base.specs.declared.syntax.Limit.TheVariants.{Arguments, Sites};
-ghost use Rattle.isle_model.specs.Simple.{IsSimpleExpr, IsSimpleRule, binds_var, var_place};
-ghost use Rattle.isle_model.specs.Program.{rules_of};
-ghost use Rattle.isle_building.specs.Building.{argument_sites, is_literal, literal_number, with_literal, asked_of, asked_from, differs_at, sites_differ, clash, ClashAt};
+ghost use Rattle.isle_model.specs.first.Simple.{IsSimpleExpr, IsSimpleRule, binds_var, var_place};
+ghost use Rattle.isle_model.specs.rules.Program.{rules_of};
+ghost use Rattle.isle_model.specs.first.Building.{argument_sites, is_literal, literal_number, with_literal, asked_of, asked_from, differs_at, sites_differ, simple_clash, ClashAt};
 ghost use Rattle.isle_rules.specs.PatternViews.{pattern_view, pattern_views};
 ghost use Rattle.isle_rules.specs.ExprViews.{expr_view};
 ghost use Rattle.isle_rules.specs.RuleViews.{rule_view, rule_views};
@@ -343,8 +343,8 @@ fn sites_differ(some: &[(BindingId, Constraint)], others: &[(BindingId, Constrai
 }
 
 // Whether two rules have one priority and may match together.
-fn clash(a: &trie_again::Rule, b: &trie_again::Rule) -> bool
-    ensures { result ≡ clash (set_rule_view a.now) (set_rule_view b.now) }
+fn simple_clash(a: &trie_again::Rule, b: &trie_again::Rule) -> bool
+    ensures { result ≡ simple_clash (set_rule_view a.now) (set_rule_view b.now) }
 {
     a.prio == b.prio && !sites_differ(&a.constraints, &b.constraints)
 }
@@ -356,7 +356,7 @@ fn later_clash(rules: &[trie_again::Rule], i: usize) -> Option<usize>
         (λ j. (j < length rules.now) × ClashAt (set_rule_views rules.now) i j) }
 {
     for j in i + 1..rules.len() {
-        if clash(&rules[i], &rules[j]) {
+        if simple_clash(&rules[i], &rules[j]) {
             return Some(j);
         }
     }

@@ -1,1 +1,5 @@
-pub mod SameTerms
+pub mod Distinct
+pub mod Elements
+pub mod Members
+pub mod SameSites
+pub mod ValuesEqual

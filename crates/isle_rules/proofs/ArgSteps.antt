@@ -5,12 +5,12 @@ use Rattle.std.proofs.lemmas.List.{at_drop_more, drop_all, map-append, length-ma
 use Rattle.isle_base.specs.declared.syntax.Error.{Error}
 use Rattle.isle_base.specs.declared.syntax.Pattern as P
 use Rattle.isle_base.specs.SyntaxViews as S
-use Rattle.isle_model.specs.Syntax.{PatternTree, RuleTree}
-use Rattle.isle_model.specs.Names.{number}
-use Rattle.isle_model.specs.Outcome.{then_option}
-use Rattle.isle_model.specs.Tables.{TypeEntry, TermEntry}
-use Rattle.isle_model.specs.Typed.{TypedPattern, TypedVar, TypedExpr, TypedIfLet, TypedRule}
-use Rattle.isle_model.specs.Elaboration.{Elaborated, ElaboratedArgs, with_first, root_args, elaborate_pattern, elaborate_args, elaborate_expr, elaborate_at, rule_with}
+use Rattle.isle_model.specs.lists.Syntax.{PatternTree, RuleTree}
+use Rattle.isle_model.specs.lists.Names.{number}
+use Rattle.isle_model.specs.rules.Outcome.{then_option}
+use Rattle.isle_model.specs.lists.Tables.{TypeEntry, TermEntry}
+use Rattle.isle_model.specs.rules.Typed.{TypedPattern, TypedVar, TypedExpr, TypedIfLet, TypedRule}
+use Rattle.isle_model.specs.first.Elaboration.{Elaborated, ElaboratedArgs, with_first, root_args, elaborate_pattern, elaborate_args, elaborate_expr, elaborate_at, rule_with}
 use Rattle.isle_types.specs.declared.ids.TypeId.{TypeId}
 use Rattle.isle_rules.specs.declared.exprs.Expr.{Expr}
 use Rattle.isle_rules.specs.declared.patterns.Pattern.{Pattern}

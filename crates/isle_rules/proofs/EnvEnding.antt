@@ -8,13 +8,15 @@ use Rattle.std.proofs.lemmas.List.Elements.{All-nil, All-cons, All-head, All-tai
 use Rattle.isle_base.specs.declared.syntax.Error.{Error}
 use Rattle.isle_base.specs.Answers.{limit_of}
 use Rattle.isle_base.specs.Stable.{Entries}
-use Rattle.isle_model.specs.Syntax.{DeclTree, Definition}
-use Rattle.isle_model.specs.Names.{IsDistinct}
-use Rattle.isle_model.specs.Tables.{TermEntry, internal_constructor}
-use Rattle.isle_model.specs.Typed.{TypedRule}
-use Rattle.isle_model.specs.TypeTable.{IsValidTypes}
-use Rattle.isle_model.specs.TermTable.{is_rule_of, decl_trees, rule_trees, decl_entry, decl_entries, term_entries, IsValidTerms}
-use Rattle.isle_model.specs.Elaboration.{elaborate_rules, named_rules, rule_names, rule_named, AreElaborated, IsElaborated}
+use Rattle.isle_model.specs.lists.Syntax.{DeclTree, Definition}
+use Rattle.isle_model.specs.lists.Names.{IsDistinct}
+use Rattle.isle_model.specs.lists.Tables.{TermEntry, internal_constructor}
+use Rattle.isle_model.specs.rules.Typed.{TypedRule}
+use Rattle.isle_model.specs.lists.TypeTable.{IsValidTypes}
+use Rattle.isle_model.specs.lists.TermTable.{is_rule_of, decl_trees, rule_trees}
+use Rattle.isle_model.specs.first.TermTable.{decl_entry, decl_entries, term_entries, IsValidCarriedTerms}
+use Rattle.isle_model.specs.first.Elaboration.{elaborate_rules, AreElaborated, IsCarriedElaborated}
+use Rattle.isle_model.specs.lists.Elaborated.{named_rules, rule_names, rule_named}
 use Rattle.isle_types.specs.declared.ids.Sym.{Sym}
 use Rattle.isle_types.specs.declared.ids.RuleId.{RuleId}
 use Rattle.isle_terms.specs.declared.term.Term.{Term}
@@ -87,7 +89,7 @@ mapped_some : {X Y : Type 0} (f : X → Y) (o : Option X) (y : Y) → option_map
 mapped_some f None y e = absurd (cc)
 mapped_some f (Some x) y e = (x, refl, cc)
 
-module _ (defs : List Definition) (types : IsValidTypes defs) (valid : IsValidTerms defs) (terms : List Term) (same : term_views terms ≡ term_entries defs) (made rules : List Rule) (named : rule_views rules ≡ named_rules (term_views terms) (rule_views made)) (m : Entries Sym RuleId) (e0 e1 e2 e3 : List Error) (t : TypesRules defs e0 e1 made) (n : MapsNames e1 e2 (rule_views rules) m) (d : Checks e2 e3 (AreMade (term_views terms))) where
+module _ (defs : List Definition) (types : IsValidTypes defs) (valid : IsValidCarriedTerms defs) (terms : List Term) (same : term_views terms ≡ term_entries defs) (made rules : List Rule) (named : rule_views rules ≡ named_rules (term_views terms) (rule_views made)) (m : Entries Sym RuleId) (e0 e1 e2 e3 : List Error) (t : TypesRules defs e0 e1 made) (n : MapsNames e1 e2 (rule_views rules) m) (d : Checks e2 e3 (AreMade (term_views terms))) where
   all_named : rule_views rules ≡ named_rules (term_entries defs) (rule_views made)
   all_named = named ∙ ap (λ ts. named_rules ts (rule_views made)) same
 
@@ -98,7 +100,7 @@ module _ (defs : List Definition) (types : IsValidTypes defs) (valid : IsValidTe
     names = once;
   }
 
-  pub at_ok : e3 ≡ [] → IsElaborated defs (rule_views rules) × ((k : ℕ) → rule_in m k ≡ rule_named (rule_views rules) k)
+  pub at_ok : e3 ≡ [] → IsCarriedElaborated defs (rule_views rules) × ((k : ℕ) → rule_in m k ≡ rule_named (rule_views rules) k)
   at_ok none =
       ⊎_elim
       (λ made_ok.
@@ -118,19 +120,19 @@ module _ (defs : List Definition) (types : IsValidTypes defs) (valid : IsValidTe
       (λ wrong. absurd (wrong.0.some (sym made_ok.0 ∙ none))) n)
       (λ wrong. absurd (wrong.0.some none)) d
 
-  typed_of : (rs : List TypedRule) → IsElaborated defs rs → (qs : List TypedRule) × AreTyped defs qs × (named_rules (term_entries defs) qs ≡ rs)
+  typed_of : (rs : List TypedRule) → IsCarriedElaborated defs rs → (qs : List TypedRule) × AreTyped defs qs × (named_rules (term_entries defs) qs ≡ rs)
   typed_of rs v =
       let x = mapped_some (named_rules (term_entries defs)) (elaborate_rules defs 0 (rule_trees defs)) rs v.elaborated.typed in
       (x.0, record { carried = v.elaborated.carried; typed = x.1 }, x.2)
 
-  same_rules : (rs : List TypedRule) → IsElaborated defs rs → AreTyped defs (rule_views made) → rs ≡ rule_views rules
+  same_rules : (rs : List TypedRule) → IsCarriedElaborated defs rs → AreTyped defs (rule_views made) → rs ≡ rule_views rules
   same_rules rs v a =
       let x = typed_of rs v in
       let one : Some x.0 ≡ Some (rule_views made) = sym x.1.typed ∙ a.typed in
       let eq : x.0 ≡ rule_views made = cc in
       sym x.2 ∙ ap (named_rules (term_entries defs)) eq ∙ sym all_named
 
-  pub at_err : e0 ≡ [] → e3 ≢ [] → (rs : List TypedRule) → IsElaborated defs rs → ⊥
+  pub at_err : e0 ≡ [] → e3 ≢ [] → (rs : List TypedRule) → IsCarriedElaborated defs rs → ⊥
   at_err first some rs v =
       ⊎_elim
       (λ typed_ok.

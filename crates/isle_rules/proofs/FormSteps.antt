@@ -8,9 +8,10 @@ use Rattle.isle_base.specs.declared.syntax.Pattern.{Pattern}
 use Rattle.isle_base.specs.declared.syntax.Pattern.TheBlock.{hidden-the_row-Pattern-0}
 use Rattle.isle_base.specs.SyntaxViews.{pattern_view, row_patterns, pattern_views}
 use Rattle.isle_base.proofs.PatternViews.{row_patterns-hidden}
-use Rattle.isle_model.specs.Syntax.{PatternTree, var_pattern, bind_pattern, bool_pattern, int_pattern, prim_pattern, term_pattern, wildcard_pattern, and_pattern, macro_arg}
-use Rattle.isle_model.specs.Names.{has_name}
-use Rattle.isle_model.specs.Elaboration.{pattern_list, var_of_pattern, bound_names, all_different, is_carried_pattern, var_named}
+use Rattle.isle_model.specs.lists.Syntax.{PatternTree, var_pattern, bind_pattern, bool_pattern, int_pattern, prim_pattern, term_pattern, wildcard_pattern, and_pattern, macro_arg, pattern_list}
+use Rattle.isle_model.specs.lists.Names.{has_name, all_different}
+use Rattle.isle_model.specs.first.Elaboration.{var_of_pattern, bound_names, is_carried_pattern}
+use Rattle.isle_model.specs.lists.Setting.{var_named}
 use Rattle.isle_rules.specs.declared.rules.BoundVar.{BoundVar}
 use Rattle.isle_rules.specs.RuleViews.{var_view}
 use Rattle.isle_rules.specs.Elaborating.{var_views}

@@ -2,12 +2,13 @@
 use Rattle.std.proofs.Common.{◌≡◌, ℕ, true, false, cond, List, [], ◌++◌, map, Option, Some, None, option_map, option_and_then, slice_get, refl, sym, ap, subst, ◌∙◌}
 use Rattle.std.specs.List.{flat_map}
 use Rattle.isle_base.specs.Stable.{look_up}
-use Rattle.isle_model.specs.Syntax.{Name, RuleTree, Definition}
-use Rattle.isle_model.specs.Names.{number, has_name, with_names}
-use Rattle.isle_model.specs.Outcome.{then_option}
-use Rattle.isle_model.specs.TypeTable.{builtin_names, type_names, type_trees, names_inside, constant_trees, type_names_met, type_id}
-use Rattle.isle_model.specs.TermTable.{decl_names, term_table_names, term_id, term_entries, root_name, rule_trees}
-use Rattle.isle_model.specs.Elaboration.{all_names, names_of_rule, elaborate_at, root_id, elaborate_rule}
+use Rattle.isle_model.specs.lists.Syntax.{Name, RuleTree, Definition}
+use Rattle.isle_model.specs.lists.Names.{number, has_name, with_names}
+use Rattle.isle_model.specs.rules.Outcome.{then_option}
+use Rattle.isle_model.specs.lists.TypeTable.{builtin_names, type_names, type_trees, names_inside, constant_trees, type_names_met, type_id}
+use Rattle.isle_model.specs.lists.TermTable.{decl_names, term_id, root_name, rule_trees}
+use Rattle.isle_model.specs.first.TermTable.{term_table_names, term_entries}
+use Rattle.isle_model.specs.first.Elaboration.{all_names, carried_names_of_rule, elaborate_at, root_id, elaborate_rule}
 use Rattle.isle_types.specs.declared.type_env.TypeEnv.{TypeEnv}
 use Rattle.isle_types.specs.Envs.{names_of, symbol_of, same_symbol, symbol}
 use Rattle.isle_types.specs.Names.{IsInverse}
@@ -36,7 +37,7 @@ no_term : (defs : List Definition) (x : List ℕ) → has_name (term_table_names
 no_term defs x e = place_absent 0 (decl_names defs) x (missing_among (type_names_met defs) (decl_names defs) x e)
 
 abbrev pub rule_texts : List Definition → List (List ℕ)
-rule_texts defs = flat_map names_of_rule (rule_trees defs)
+rule_texts defs = flat_map carried_names_of_rule (rule_trees defs)
 
 pub sees_more : (defs : List Definition) (old new : TypeEnv) → SeesTypes old defs (term_table_names defs) → Meets old new [] (rule_texts defs) → SeesTypes new defs (all_names defs)
 sees_more defs old new s m =

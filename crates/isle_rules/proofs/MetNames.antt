@@ -5,10 +5,10 @@ use Rattle.std.proofs.lemmas.List.{at_drop_more}
 use Rattle.isle_base.specs.declared.syntax.Def.{Def}
 use Rattle.isle_base.specs.declared.syntax.Pattern.{Pattern}
 use Rattle.isle_base.specs.SyntaxViews.{definition_view, definition_views, pattern_view}
-use Rattle.isle_model.specs.Syntax.{Definition, type_definition, declaration, extractor_definition, converter_definition, rule_definition, extern_definition, other_definition}
-use Rattle.isle_model.specs.Names.{with_name, with_names}
-use Rattle.isle_model.specs.TermTable.{rule_trees}
-use Rattle.isle_model.specs.Elaboration.{var_of_pattern, bound_names, names_of_rule}
+use Rattle.isle_model.specs.lists.Syntax.{Definition, type_definition, declaration, extractor_definition, converter_definition, rule_definition, extern_definition, other_definition}
+use Rattle.isle_model.specs.lists.Names.{with_name, with_names}
+use Rattle.isle_model.specs.lists.TermTable.{rule_trees}
+use Rattle.isle_model.specs.first.Elaboration.{var_of_pattern, bound_names, carried_names_of_rule}
 use Rattle.isle_types.specs.declared.type_env.TypeEnv.{TypeEnv}
 use Rattle.isle_types.specs.Envs.{names_of, symbol_of}
 use Rattle.isle_types.specs.Names.{IsInverse}
@@ -44,7 +44,7 @@ meets_both old mid new xs ys a b = record {
 }
 
 -- the names of all rules, definition by definition
-pub names_split : (d : Definition) (rest : List Definition) → flat_map names_of_rule (rule_trees (d ∷ rest)) ≡ definition_names d ++ flat_map names_of_rule (rule_trees rest)
+pub names_split : (d : Definition) (rest : List Definition) → flat_map carried_names_of_rule (rule_trees (d ∷ rest)) ≡ definition_names d ++ flat_map carried_names_of_rule (rule_trees rest)
 names_split (type_definition t) rest = refl
 names_split (declaration d) rest = refl
 names_split (extractor_definition e) rest = refl
@@ -54,7 +54,7 @@ names_split (extern_definition e) rest = refl
 names_split other_definition rest = refl
 
 abbrev pub all_met : List Def → List (List ℕ)
-all_met defs = flat_map names_of_rule (rule_trees (definition_views defs))
+all_met defs = flat_map carried_names_of_rule (rule_trees (definition_views defs))
 
 pub met_split : (defs : List Def) (i : ℕ) (d : Def) → i < length defs → d ≡ get_or defs i d → all_met (drop i defs) ≡ definition_names (definition_view d) ++ all_met (drop (i + 1) defs)
 met_split defs i d within at =

@@ -4,9 +4,9 @@ use Rattle.std.specs.Bool.{◌==◌}
 use Rattle.std.specs.List.{count_by, fold}
 use Rattle.std.proofs.lemmas.List.{map-set, drop_all, append-nil, length-map}
 use Rattle.std.proofs.Math.Seq.{map-set_same}
-use Rattle.isle_model.specs.Tables.{TermEntry}
-use Rattle.isle_model.specs.Typed.{TypedRule}
-use Rattle.isle_model.specs.Elaboration.{term_name, named_rule, named_rules}
+use Rattle.isle_model.specs.lists.Tables.{TermEntry}
+use Rattle.isle_model.specs.rules.Typed.{TypedRule}
+use Rattle.isle_model.specs.lists.Elaborated.{term_name, named_rule, named_rules}
 use Rattle.isle_types.specs.declared.ids.Sym.{Sym}
 use Rattle.isle_rules.specs.declared.rules.Rule.{Rule}
 use Rattle.isle_rules.proofs.ArgSteps.{same_default}

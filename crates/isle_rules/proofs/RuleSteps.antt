@@ -6,11 +6,11 @@ use Rattle.isle_base.specs.declared.syntax.Def.{Def}
 use Rattle.isle_base.specs.declared.syntax.Error.{Error}
 use Rattle.isle_base.specs.declared.syntax.Pattern.{Pattern}
 use Rattle.isle_base.specs.SyntaxViews.{definition_view, definition_views, pattern_view}
-use Rattle.isle_model.specs.Syntax.{RuleTree, Definition, type_definition, declaration, extractor_definition, converter_definition, rule_definition, extern_definition, other_definition}
-use Rattle.isle_model.specs.Names.{has_name}
-use Rattle.isle_model.specs.TermTable.{rule_trees}
-use Rattle.isle_model.specs.Typed.{TypedRule}
-use Rattle.isle_model.specs.Elaboration.{all_names, root_args, var_of_pattern, var_of_expr, bound_names, own_name, names_of_rule, is_carried_rule, with_rule, elaborate_rule, elaborate_rules}
+use Rattle.isle_model.specs.lists.Syntax.{RuleTree, Definition, type_definition, declaration, extractor_definition, converter_definition, rule_definition, extern_definition, other_definition}
+use Rattle.isle_model.specs.lists.Names.{has_name}
+use Rattle.isle_model.specs.lists.TermTable.{rule_trees}
+use Rattle.isle_model.specs.rules.Typed.{TypedRule}
+use Rattle.isle_model.specs.first.Elaboration.{all_names, root_args, var_of_pattern, var_of_expr, bound_names, own_name, carried_names_of_rule, is_carried_rule, with_typed_rule, elaborate_rule, elaborate_rules}
 use Rattle.isle_types.specs.declared.type_env.TypeEnv.{TypeEnv}
 use Rattle.isle_types.specs.TypeTables.{SeesTypes}
 use Rattle.isle_terms.specs.declared.term_table.TermTable.{TermTable}
@@ -58,7 +58,7 @@ module _ (defs rest : List Definition) (r : RuleTree) (rules : List TypedRule) (
       record {
         whole = ap (λ k. following (rules ++ q ∷ []) (elaborate_rules defs k (rule_trees rest))) n
             ∙ following_push rules q (elaborate_rules defs (suc (length rules)) (rule_trees rest))
-            ∙ sym (ap (λ o. following rules (with_rule o (elaborate_rules defs (suc (length rules)) (rule_trees rest)))) e)
+            ∙ sym (ap (λ o. following rules (with_typed_rule o (elaborate_rules defs (suc (length rules)) (rule_trees rest)))) e)
             ∙ t.whole;
         carried = λ h. t.carried (All-cons IsCarried r (rule_trees rest) c h);
         valid = λ v. All-tail IsCarried r (rule_trees rest) (t.valid v);
@@ -67,7 +67,7 @@ module _ (defs rest : List Definition) (r : RuleTree) (rules : List TypedRule) (
   wrong_rule : (IsCarried r → elaborate_rule defs (length rules) r ≡ None) → (qs : List TypedRule) → AreTyped defs qs → ⊥
   wrong_rule w qs a =
       let none : elaborate_rules defs 0 (rule_trees defs) ≡ None =
-      sym t.whole ∙ ap (λ o. following rules (with_rule o (elaborate_rules defs (suc (length rules)) (rule_trees rest)))) (w (All-head IsCarried r (rule_trees rest) (t.valid a.carried))) ∙ following_none rules in
+      sym t.whole ∙ ap (λ o. following rules (with_typed_rule o (elaborate_rules defs (suc (length rules)) (rule_trees rest)))) (w (All-head IsCarried r (rule_trees rest) (t.valid a.carried))) ∙ following_none rules in
       let some : Some qs ≡ None = sym a.typed ∙ none in
       absurd (cc)
 
@@ -150,7 +150,7 @@ known_bound names args i p within at h =
     split_known names (var_of_pattern (pattern_view p)) (all_bound (drop (i + 1) args)) (subst (AreKnown names) (bound_split args i p within at) h)
 
 -- the names of a rule's parts
-pub known_parts : (names : List (List ℕ)) (r : RuleTree) → AreKnown names (names_of_rule r) → AreKnown names (bound_names (root_args r.pattern)) × AreKnown names (var_of_expr r.expr) × AreKnown names (own_name r.name)
+pub known_parts : (names : List (List ℕ)) (r : RuleTree) → AreKnown names (carried_names_of_rule r) → AreKnown names (bound_names (root_args r.pattern)) × AreKnown names (var_of_expr r.expr) × AreKnown names (own_name r.name)
 known_parts names r h =
     let first = split_known names (bound_names (root_args r.pattern) ++ var_of_expr r.expr) (own_name r.name) h in
     let second = split_known names (bound_names (root_args r.pattern)) (var_of_expr r.expr) first.0 in

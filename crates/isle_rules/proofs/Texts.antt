@@ -4,9 +4,9 @@ use Rattle.std.specs.Str.{bytes_eq}
 use Rattle.std.proofs.lemmas.Bool.{false≢true}
 use Rattle.std.proofs.lemmas.List.Elements.{All-nil, All-cons}
 use Rattle.std.proofs.lemmas.Slice.Eq.{bytes_eq-Decides}
-use Rattle.isle_model.specs.Names.{number, has_name, with_name, with_names}
-use Rattle.isle_model.specs.Outcome.{then_option}
-use Rattle.isle_model.specs.TypeTable.{place_from}
+use Rattle.isle_model.specs.lists.Names.{number, has_name, with_name, with_names}
+use Rattle.isle_model.specs.rules.Outcome.{then_option}
+use Rattle.isle_model.specs.lists.TypeTable.{place_from}
 use Rattle.isle_types.specs.Names.{place_of, IsInverse}
 use Rattle.isle_rules.specs.Elaborating.{AreKnown}
 

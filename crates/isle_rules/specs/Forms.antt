@@ -1,8 +1,8 @@
 -- Which patterns of arguments are carried together.
 use Rattle.std.specs.Prelude.{Bool, false, List}
-use Rattle.isle_model.specs.Syntax.{PatternTree, var_pattern}
-use Rattle.isle_model.specs.Names.{has_name}
-use Rattle.isle_model.specs.Elaboration.{bound_names}
+use Rattle.isle_model.specs.lists.Syntax.{PatternTree, var_pattern}
+use Rattle.isle_model.specs.lists.Names.{has_name}
+use Rattle.isle_model.specs.first.Elaboration.{bound_names}
 
 -- whether one of the later patterns binds the name that a pattern binds
 abbrev pub bound_again : PatternTree → List PatternTree → Bool

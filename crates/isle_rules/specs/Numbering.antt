@@ -1,6 +1,6 @@
 -- What meeting names does to a type environment.
 use Rattle.std.specs.Prelude.{◌≡◌, ℕ, List}
-use Rattle.isle_model.specs.Names.{with_names}
+use Rattle.isle_model.specs.lists.Names.{with_names}
 use Rattle.isle_types.specs.declared.type_env.TypeEnv.{TypeEnv}
 use Rattle.isle_types.specs.Envs.{names_of, symbol_of}
 use Rattle.isle_types.specs.Names.{IsInverse}

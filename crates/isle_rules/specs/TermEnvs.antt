@@ -1,10 +1,11 @@
 -- What a term environment is: the term table and the typed rules of a list of definitions.
 use Rattle.std.specs.Prelude.{◌≡◌, ℕ, Bool, List, Option, None, option_map}
 use Rattle.isle_base.specs.Stable.{look_up}
-use Rattle.isle_model.specs.Syntax.{Definition}
-use Rattle.isle_model.specs.Typed.{TypedRule}
-use Rattle.isle_model.specs.TermTable.{term_entries, term_of_number}
-use Rattle.isle_model.specs.Elaboration.{all_names, rule_named}
+use Rattle.isle_model.specs.lists.Syntax.{Definition}
+use Rattle.isle_model.specs.rules.Typed.{TypedRule}
+use Rattle.isle_model.specs.first.TermTable.{term_entries, carried_term_of_number}
+use Rattle.isle_model.specs.first.Elaboration.{all_names}
+use Rattle.isle_model.specs.lists.Elaborated.{rule_named}
 use Rattle.isle_types.specs.declared.ids.TypeId.{TypeId}
 use Rattle.isle_types.specs.Envs.{same_symbol, symbol}
 use Rattle.isle_terms.specs.TermTables.{same_types}
@@ -23,7 +24,7 @@ rule_at env k = option_map (λ r. r.0) (look_up same_symbol env.rule_map (symbol
 -- no converter
 pub record SeesRules (env : TermEnv) (defs : List Definition) (typed : List TypedRule) (expanded : Bool) : Type 0 where
   pub terms : term_views env.terms.items ≡ term_entries defs
-  pub term_ids : (k : ℕ) → term_named env k ≡ term_of_number defs (all_names defs) k
+  pub term_ids : (k : ℕ) → term_named env k ≡ carried_term_of_number defs (all_names defs) k
   pub rules : rule_views env.rules.items ≡ typed
   pub rule_ids : (k : ℕ) → rule_at env k ≡ rule_named typed k
   pub converters : (c : TypeId × TypeId) → look_up same_types env.converters c ≡ None

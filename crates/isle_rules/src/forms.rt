@@ -4,8 +4,8 @@
 ghost use Rattle.std.specs.Prelude.{◌≡◌, map, string_bytes};
 ghost use Rattle.std.specs.List.{list_all};
 ghost use Rattle.isle_base.specs.SyntaxViews.{pattern_view, expr_view, rule_view};
-ghost use Rattle.isle_model.specs.Names.{has_name};
-ghost use Rattle.isle_model.specs.Elaboration.{root_args, var_of_pattern, bound_names, all_different, is_carried_pattern, is_carried_expr, is_carried_rule};
+ghost use Rattle.isle_model.specs.lists.Names.{has_name, all_different};
+ghost use Rattle.isle_model.specs.first.Elaboration.{root_args, var_of_pattern, bound_names, is_carried_pattern, is_carried_expr, is_carried_rule};
 ghost use Rattle.isle_rules.specs.Forms.{bound_again};
 
 use isle_base::syntax::{Expr, Ident, Pattern, Rule};

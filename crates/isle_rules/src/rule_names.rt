@@ -2,7 +2,7 @@
 
 ghost use Rattle.std.specs.Prelude.{◌≡◌, ℕ, IfOk, OnOk, All, IsTrue, if◌then◌else◌, not, ◌&&◌, is_some, count_by, option_map, map};
 ghost use Rattle.std.specs.Bool.{◌==◌};
-ghost use Rattle.isle_model.specs.Elaboration.{named_rule, named_rules, term_name};
+ghost use Rattle.isle_model.specs.lists.Elaborated.{named_rule, named_rules, term_name};
 ghost use Rattle.isle_terms.specs.Terms.{has_internal_constructor_term};
 ghost use Rattle.isle_terms.specs.TermViews.{term_view, term_views};
 ghost use Rattle.isle_rules.specs.Elaborating.{Checks};

@@ -2,9 +2,9 @@
 
 ghost use Rattle.isle_base.specs.Answers.{Answers, NoLimit};
 ghost use Rattle.isle_base.specs.SyntaxViews.{definition_views};
-ghost use Rattle.isle_model.specs.Typed.{TypedRule};
-ghost use Rattle.isle_model.specs.TypeTable.{IsValidTypes, type_names_met};
-ghost use Rattle.isle_model.specs.Elaboration.{IsElaborated, all_names};
+ghost use Rattle.isle_model.specs.rules.Typed.{TypedRule};
+ghost use Rattle.isle_model.specs.lists.TypeTable.{IsValidTypes, type_names_met};
+ghost use Rattle.isle_model.specs.first.Elaboration.{IsCarriedElaborated, all_names};
 ghost use Rattle.isle_types.specs.TypeTables.{SeesTypes};
 ghost use Rattle.isle_rules.specs.TermEnvs.{SeesRules};
 ghost use Rattle.std.specs.Prelude.{List};
@@ -57,8 +57,8 @@ impl TermEnv {
     ) -> Result<TermEnv, Fault>
         requires typed { SeesTypes tyenv.old (definition_views defs.now) (type_names_met (definition_views defs.now)) }
         requires valid { IsValidTypes (definition_views defs.now) }
-        ensures answers { Answers result ((rules : List TypedRule) × IsElaborated (definition_views defs.now) rules)
-            (λ env. (rules : List TypedRule) × IsElaborated (definition_views defs.now) rules
+        ensures answers { Answers result ((rules : List TypedRule) × IsCarriedElaborated (definition_views defs.now) rules)
+            (λ env. (rules : List TypedRule) × IsCarriedElaborated (definition_views defs.now) rules
             × SeesTypes tyenv.new (definition_views defs.now) (all_names (definition_views defs.now))
             × SeesRules env (definition_views defs.now) rules expand_internal_extractors) }
         ensures no_limit { NoLimit result }

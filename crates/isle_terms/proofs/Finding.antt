@@ -2,8 +2,8 @@
 use Rattle.std.proofs.Common.{◌≡◌, ℕ, true, false, cond, nat_eq, List, [], ◌∷◌, ◌++◌, length, Option, Some, None, option_and_then, slice_get, refl, sym, ap, subst, ◌∙◌, arith, eq-eqb, eqb-true}
 use Rattle.std.proofs.lemmas.Bool.{false≢true}
 use Rattle.std.specs.Str.{bytes_eq}
-use Rattle.isle_model.specs.Names.{number, has_name, with_name}
-use Rattle.isle_model.specs.Outcome.{then_option}
+use Rattle.isle_model.specs.lists.Names.{number, has_name, with_name}
+use Rattle.isle_model.specs.rules.Outcome.{then_option}
 use Rattle.isle_types.specs.Names.{IsInverse}
 use Rattle.isle_types.proofs.Places.{same_bytes, found, last, looked_up}
 use Rattle.isle_types.proofs.Texts.{past_end, place_push_new, place_push_other, then_with, with_missing, with_name_at}

@@ -8,12 +8,13 @@ use Rattle.std.proofs.lemmas.List.{append_assoc, append-nil, at_drop_more}
 use Rattle.std.proofs.lemmas.List.Folds.{list_any-append}
 use Rattle.std.proofs.lemmas.List.Elements.{All-nil, All-cons, All-head, All-tail}
 use Rattle.std.proofs.lemmas.Slice.Eq.{bytes_eq-Decides}
-use Rattle.isle_model.specs.Syntax.{Name, PatternTree, var_pattern, bind_pattern, bool_pattern, int_pattern, prim_pattern, term_pattern, wildcard_pattern, and_pattern, macro_arg, DeclTree, RuleTree, Definition, type_definition, declaration, extractor_definition, converter_definition, rule_definition, extern_definition, other_definition}
-use Rattle.isle_model.specs.Names.{number, has_name, IsDistinct}
-use Rattle.isle_model.specs.Outcome.{then_option}
-use Rattle.isle_model.specs.Tables.{ConstructorEntry, internal_constructor, TermEntry, declared_term}
-use Rattle.isle_model.specs.TypeTable.{place_from, type_or_first}
-use Rattle.isle_model.specs.TermTable.{decl_trees, rule_trees, decl_names, term_table_names, term_id, root_name, has_root, is_rule_of, is_declared, IsValidTerms, decl_entry, decl_entries, decl_flags}
+use Rattle.isle_model.specs.lists.Syntax.{Name, PatternTree, var_pattern, bind_pattern, bool_pattern, int_pattern, prim_pattern, term_pattern, wildcard_pattern, and_pattern, macro_arg, DeclTree, RuleTree, Definition, type_definition, declaration, extractor_definition, converter_definition, rule_definition, extern_definition, other_definition}
+use Rattle.isle_model.specs.lists.Names.{number, has_name, IsDistinct}
+use Rattle.isle_model.specs.rules.Outcome.{then_option}
+use Rattle.isle_model.specs.lists.Tables.{ConstructorEntry, internal_constructor, TermEntry, declared_term}
+use Rattle.isle_model.specs.lists.TypeTable.{place_from, type_or_first}
+use Rattle.isle_model.specs.lists.TermTable.{decl_trees, rule_trees, decl_names, term_id, root_name, has_root, is_rule_of, is_declared, decl_flags}
+use Rattle.isle_model.specs.first.TermTable.{term_table_names, IsValidCarriedTerms, decl_entry, decl_entries}
 use Rattle.isle_base.specs.declared.syntax.Def.{Def}
 use Rattle.isle_base.specs.declared.syntax.Error.{Error}
 use Rattle.isle_base.specs.Patterns.{root_term_of}
@@ -167,7 +168,7 @@ module _ (defs rest : List Definition) (r : RuleTree) (env : TypeEnv) (old : Ter
   root_missing None h = refl
   root_missing (Some n) h = ap is_some (sym (term_is n) ∙ h)
 
-  pub root_wrong : root_term_id env old r ≡ None → IsValidTerms defs → ⊥
+  pub root_wrong : root_term_id env old r ≡ None → IsValidCarriedTerms defs → ⊥
   root_wrong none v =
       let rooted : IsRooted defs r = All-head (IsRooted defs) r (rule_trees rest) (s.valid_roots v.roots) in
       false≢true (sym (root_missing (root_name r.pattern) none) ∙ rooted)
@@ -270,7 +271,7 @@ module _ (defs : List Definition) (env : TypeEnv) (table : TermTable) where
   right_so_far es s none = ⊎_elim (λ right. right.1) (λ wrong. absurd (wrong.0 none)) s
 
   -- the declarations are wrong
-  pub sign_err : (es : List Error) → ReadsSignatures defs [] env table es → es ≢ [] → IsValidTerms defs → ⊥
+  pub sign_err : (es : List Error) → ReadsSignatures defs [] env table es → es ≢ [] → IsValidCarriedTerms defs → ⊥
   sign_err es s some = ⊎_elim (λ right. absurd (some right.0)) (λ wrong. wrong.1) s.so_far
 
   -- before the first rule
@@ -282,7 +283,7 @@ module _ (defs : List Definition) (env : TypeEnv) (table : TermTable) where
   }
 
   -- a rule is wrong
-  pub root_err : (es : List Error) → ReadsRoots defs [] env table es → es ≢ [] → IsValidTerms defs → ⊥
+  pub root_err : (es : List Error) → ReadsRoots defs [] env table es → es ≢ [] → IsValidCarriedTerms defs → ⊥
   root_err es s some = ⊎_elim (λ right. absurd (some right.0)) (λ wrong. wrong.1) s.so_far
 
   all_stages : (rules : List RuleTree) (id : ℕ) (ds : List DeclTree) → rules ≡ rule_trees defs → stage_entries defs rules id ds ≡ decl_entries defs id ds
@@ -291,7 +292,7 @@ module _ (defs : List Definition) (env : TypeEnv) (table : TermTable) where
       ap (λ rs. stage_entry defs rs id d ∷ stage_entries defs rules (suc id) ds) all ∙ ap (λ es. decl_entry defs id d ∷ es) (all_stages rules (suc id) ds all)
 
   -- nothing is wrong
-  pub at_ok : (es : List Error) → ReadsRoots defs [] env table es → es ≡ [] → IsValidTerms defs × (SeesTypes env defs (term_table_names defs) × SeesTerms table defs (term_table_names defs))
+  pub at_ok : (es : List Error) → ReadsRoots defs [] env table es → es ≡ [] → IsValidCarriedTerms defs × (SeesTypes env defs (term_table_names defs) × SeesTerms table defs (term_table_names defs))
   at_ok es s none =
       let r = right_so_far es s.so_far none in
       let all : r.read ≡ rule_trees defs = sym (append-nil r.read) ∙ r.whole in (

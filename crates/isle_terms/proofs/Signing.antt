@@ -3,12 +3,13 @@ use Rattle.std.proofs.Common.{◌≡◌, ℕ, suc, ◌+◌, ◌<◌, true, List,
 use Rattle.std.proofs.lemmas.Bool.{false≢true}
 use Rattle.std.proofs.lemmas.List.{append_assoc, at_drop_more, length_push, length-map}
 use Rattle.std.proofs.lemmas.List.Elements.{All-nil, All-cons, All-head, All-tail}
-use Rattle.isle_model.specs.Syntax.{DeclTree, Definition, type_definition, declaration, extractor_definition, converter_definition, rule_definition, extern_definition, other_definition}
-use Rattle.isle_model.specs.Names.{number, with_name, with_names}
-use Rattle.isle_model.specs.Outcome.{then_option}
-use Rattle.isle_model.specs.Tables.{TermEntry}
-use Rattle.isle_model.specs.TypeTable.{type_names_met}
-use Rattle.isle_model.specs.TermTable.{decl_trees, decl_names, term_table_names, is_carried_term, IsValidTerms}
+use Rattle.isle_model.specs.lists.Syntax.{DeclTree, Definition, type_definition, declaration, extractor_definition, converter_definition, rule_definition, extern_definition, other_definition}
+use Rattle.isle_model.specs.lists.Names.{number, with_name, with_names}
+use Rattle.isle_model.specs.rules.Outcome.{then_option}
+use Rattle.isle_model.specs.lists.Tables.{TermEntry}
+use Rattle.isle_model.specs.lists.TypeTable.{type_names_met}
+use Rattle.isle_model.specs.lists.TermTable.{decl_trees, decl_names}
+use Rattle.isle_model.specs.first.TermTable.{term_table_names, is_carried_term, IsValidCarriedTerms}
 use Rattle.isle_base.specs.declared.syntax.Def.{Def}
 use Rattle.isle_base.specs.declared.syntax.Error.{Error}
 use Rattle.isle_base.specs.Answers.{limit_of}
@@ -47,7 +48,7 @@ module _ (defs rest : List Definition) (d : DeclTree) (old : TypeEnv) (table : T
   taken_place : term_at table (number (names_of old) d.term.text) ≡ place s.named d.term.text
   taken_place = at_number (names_of old) (term_at table) (place s.named) s.finds d.term.text
 
-  pub sign_wrong : (new : TypeEnv) → IsWrong d old new table → IsValidTerms defs → ⊥
+  pub sign_wrong : (new : TypeEnv) → IsWrong d old new table → IsValidCarriedTerms defs → ⊥
   sign_wrong new w v =
       let carried : IsCarried (declaration d) = All-head IsCarried (declaration d) rest (s.valid_carried v.carried) in
       let typed : IsTyped defs d = All-head (IsTyped defs) d (decl_trees rest) (s.valid_typed (λ i x h. (v.arguments i x h, v.results i x h))) in

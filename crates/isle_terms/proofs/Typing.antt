@@ -4,9 +4,9 @@ use Rattle.std.proofs.lemmas.Bool.{false≢true}
 use Rattle.std.proofs.lemmas.List.Elements.{All-nil, All-cons, All-weaker}
 use Rattle.std.specs.List.{flat_map}
 use Rattle.std.specs.Str.{bytes_eq}
-use Rattle.isle_model.specs.Syntax.{Name, Definition, DeclTree}
-use Rattle.isle_model.specs.Names.{has_name, with_name, with_names}
-use Rattle.isle_model.specs.TypeTable.{builtin_names, type_trees, type_names, names_inside, constant_trees, type_names_met, type_id, type_or_first}
+use Rattle.isle_model.specs.lists.Syntax.{Name, Definition, DeclTree}
+use Rattle.isle_model.specs.lists.Names.{has_name, with_name, with_names}
+use Rattle.isle_model.specs.lists.TypeTable.{builtin_names, type_trees, type_names, names_inside, constant_trees, type_names_met, type_id, type_or_first}
 use Rattle.isle_base.specs.Stable.{look_up}
 use Rattle.isle_types.specs.declared.type_env.TypeEnv.{TypeEnv}
 use Rattle.isle_types.specs.Envs.{names_of, symbol_of, type_at, same_symbol, symbol}

@@ -1,10 +1,11 @@
 -- What reading one definition does to a term table, to a type environment and to the errors found so far.
 use Rattle.std.specs.Prelude.{◌≡◌, ℕ, zero, suc, ◌<◌, true, false, nat_eq, List, [], ◌∷◌, ◌++◌, ◌⊎◌, length, map, if◌then◌else◌, Option, Some, None, is_some, option_and_then, All, IsTrue}
-use Rattle.isle_model.specs.Syntax.{Name, DeclTree, RuleTree, Definition, declaration, rule_definition}
-use Rattle.isle_model.specs.Names.{number, with_name}
-use Rattle.isle_model.specs.Outcome.{then_option}
-use Rattle.isle_model.specs.Tables.{internal_constructor, TermKindEntry, variant_term, struct_term, declared_term, TermEntry}
-use Rattle.isle_model.specs.TermTable.{decl_flags, is_carried_term, root_name}
+use Rattle.isle_model.specs.lists.Syntax.{Name, DeclTree, RuleTree, Definition, declaration, rule_definition}
+use Rattle.isle_model.specs.lists.Names.{number, with_name}
+use Rattle.isle_model.specs.rules.Outcome.{then_option}
+use Rattle.isle_model.specs.lists.Tables.{internal_constructor, TermKindEntry, variant_term, struct_term, declared_term, TermEntry}
+use Rattle.isle_model.specs.lists.TermTable.{decl_flags, root_name}
+use Rattle.isle_model.specs.first.TermTable.{is_carried_term}
 use Rattle.isle_base.specs.declared.syntax.Error.{Error}
 use Rattle.isle_types.specs.declared.type_env.TypeEnv.{TypeEnv}
 use Rattle.isle_types.specs.Envs.{names_of, symbol_of, type_at}

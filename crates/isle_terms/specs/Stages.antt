@@ -1,12 +1,13 @@
 -- How far the reading of a list of definitions is.
 use Rattle.std.specs.Prelude.{◌≡◌, ◌≢◌, ℕ, suc, false, List, [], ◌∷◌, ◌++◌, ◌⊎◌, length, map, Option, Some, None, is_some, slice_get, All, IsTrue, if◌then◌else◌}
 use Rattle.std.specs.List.{list_any}
-use Rattle.isle_model.specs.Syntax.{Name, DeclTree, RuleTree, Definition}
-use Rattle.isle_model.specs.Names.{number, has_name, with_names, IsDistinct}
-use Rattle.isle_model.specs.Outcome.{then_option}
-use Rattle.isle_model.specs.Tables.{ConstructorEntry, internal_constructor, declared_term, TermEntry}
-use Rattle.isle_model.specs.TypeTable.{type_id, place_from, type_or_first}
-use Rattle.isle_model.specs.TermTable.{decl_trees, rule_trees, decl_names, term_table_names, term_id, root_name, is_rule_of, is_carried_term, is_declared, IsValidTerms, decl_flags}
+use Rattle.isle_model.specs.lists.Syntax.{Name, DeclTree, RuleTree, Definition}
+use Rattle.isle_model.specs.lists.Names.{number, has_name, with_names, IsDistinct}
+use Rattle.isle_model.specs.rules.Outcome.{then_option}
+use Rattle.isle_model.specs.lists.Tables.{ConstructorEntry, internal_constructor, declared_term, TermEntry}
+use Rattle.isle_model.specs.lists.TypeTable.{type_id, place_from, type_or_first}
+use Rattle.isle_model.specs.lists.TermTable.{decl_trees, rule_trees, decl_names, term_id, root_name, is_rule_of, is_declared, decl_flags}
+use Rattle.isle_model.specs.first.TermTable.{term_table_names, is_carried_term, IsValidCarriedTerms}
 use Rattle.isle_base.specs.declared.syntax.Error.{Error}
 use Rattle.isle_base.specs.Stable.{look_up}
 use Rattle.isle_types.specs.declared.ids.TypeId.{TypeId}
@@ -70,7 +71,7 @@ HasNoConverter table = (c : TypeId × TypeId) → look_up same_types table.conve
 
 -- there is no error so far, or the definitions have no term table
 abbrev pub SoFar : List Definition → List Error → Type 0 → Type 0
-SoFar defs es Right = ((es ≡ []) × Right) ⊎ ((es ≢ []) × (IsValidTerms defs → ⊥))
+SoFar defs es Right = ((es ≡ []) × Right) ⊎ ((es ≢ []) × (IsValidCarriedTerms defs → ⊥))
 
 -- the declarations among these definitions are left to be read
 pub record Signing (defs rest : List Definition) (env : TypeEnv) (table : TermTable) : Type 0 where

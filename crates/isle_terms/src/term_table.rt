@@ -2,8 +2,8 @@
 
 ghost use Rattle.isle_base.specs.Answers.{Answers, NoLimit};
 ghost use Rattle.isle_base.specs.SyntaxViews.{definition_views};
-ghost use Rattle.isle_model.specs.TermTable.{IsValidTerms, term_table_names};
-ghost use Rattle.isle_model.specs.TypeTable.{type_names_met};
+ghost use Rattle.isle_model.specs.first.TermTable.{IsValidCarriedTerms, term_table_names};
+ghost use Rattle.isle_model.specs.lists.TypeTable.{type_names_met};
 ghost use Rattle.isle_types.specs.TypeTables.{SeesTypes};
 ghost use Rattle.isle_terms.specs.TermTables.{SeesTerms};
 
@@ -38,7 +38,7 @@ impl TermTable {
     /// `Memory` where memory is refused.
     pub fn from_ast(alloc: Global, tyenv: &mut TypeEnv, defs: &[Def]) -> Result<TermTable, Fault>
         requires typed { SeesTypes tyenv.old (definition_views defs.now) (type_names_met (definition_views defs.now)) }
-        ensures answers { Answers result (IsValidTerms (definition_views defs.now))
+        ensures answers { Answers result (IsValidCarriedTerms (definition_views defs.now))
             (λ table. SeesTypes tyenv.new (definition_views defs.now) (term_table_names (definition_views defs.now))
             × SeesTerms table (definition_views defs.now) (term_table_names (definition_views defs.now))) }
         ensures no_limit { NoLimit result }

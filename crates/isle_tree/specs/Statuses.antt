@@ -1,13 +1,13 @@
 -- What the program's status says of the definitions that were lowered.
 use Rattle.std.specs.Prelude.{ℕ, ◌≡◌, List}
-use Rattle.isle_model.specs.Syntax.{Definition}
-use Rattle.isle_model.specs.Typed.{TypedRule}
-use Rattle.isle_model.specs.Accepted.{IsAccepted}
+use Rattle.isle_model.specs.lists.Syntax.{Definition}
+use Rattle.isle_model.specs.rules.Typed.{TypedRule}
+use Rattle.isle_model.specs.first.Accepted.{IsCarriedAccepted}
 use Rattle.isle_tree.specs.declared.run.Text.{Text}
 use Rattle.isle_tree.specs.declared.run.Text.TheVariants.{Trees, Errors}
 
 abbrev pub AreAccepted : List Definition → Type 0
-AreAccepted defs = (typed : List TypedRule) × IsAccepted defs typed
+AreAccepted defs = (typed : List TypedRule) × IsCarriedAccepted defs typed
 
 -- accepted definitions have trees, which are written (0) or can't be (4); others have errors (1)
 pub record IsStatusOf (defs : List Definition) (status : ℕ) : Type 0 where

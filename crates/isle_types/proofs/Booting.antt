@@ -1,10 +1,10 @@
 -- Adding the built-in types, one after another.
 use Rattle.std.proofs.Common.{◌≡◌, ℕ, ◌+◌, ◌<◌, false, cond, List, [], ◌∷◌, ◌++◌, length, drop, get_or, map, slice_get, sym, ap, subst, ◌∙◌, inl, inr}
 use Rattle.std.proofs.lemmas.List.{append_assoc, append-nil, at_drop_more}
-use Rattle.isle_model.specs.Names.{has_name}
-use Rattle.isle_model.specs.Outcome.{then_option}
-use Rattle.isle_model.specs.Tables.{builtin_type}
-use Rattle.isle_model.specs.TypeTable.{builtin_names, place_from}
+use Rattle.isle_model.specs.lists.Names.{has_name}
+use Rattle.isle_model.specs.rules.Outcome.{then_option}
+use Rattle.isle_model.specs.lists.Tables.{builtin_type}
+use Rattle.isle_model.specs.lists.TypeTable.{builtin_names, place_from}
 use Rattle.isle_base.specs.Stable.{entry_count}
 use Rattle.isle_types.specs.declared.builtin.BuiltinType.{BuiltinType}
 use Rattle.isle_types.specs.declared.type_env.TypeEnv.{TypeEnv}

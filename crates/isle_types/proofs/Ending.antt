@@ -2,14 +2,14 @@
 use Rattle.std.proofs.Common.{◌≡◌, ◌≢◌, ℕ, ◌||◌, true, false, cond, ◌==◌, List, [], ◌∷◌, ◌++◌, length, map, Some, None, nat_eq, slice_get, refl, sym, ap, subst, ◌∙◌, arith, eqb-true, ⊎_elim}
 use Rattle.std.proofs.lemmas.List.{append-nil}
 use Rattle.std.proofs.lemmas.List.Elements.{All-nil}
-use Rattle.isle_model.specs.Syntax.{Definition}
-use Rattle.isle_model.specs.Names.{number, has_name}
-use Rattle.isle_model.specs.Meaning.{look}
-use Rattle.isle_model.specs.Outcome.{then_option}
-use Rattle.isle_model.specs.TypeTable.{builtin_names, type_names, ConstantTree, constant_trees, type_names_met, last_definitions, type_of_number, type_or_first, constant_types, IsOfKnownType, IsValidTypes}
+use Rattle.isle_model.specs.lists.Syntax.{Definition}
+use Rattle.isle_model.specs.lists.Names.{number, has_name}
+use Rattle.isle_model.specs.rules.Meaning.{look}
+use Rattle.isle_model.specs.rules.Outcome.{then_option}
+use Rattle.isle_model.specs.lists.TypeTable.{builtin_names, type_names, ConstantTree, constant_trees, type_names_met, last_definitions, type_of_number, type_or_first, constant_types, IsOfKnownType, IsValidTypes}
 use Rattle.isle_base.specs.declared.syntax.Error.{Error}
-use Rattle.isle_tables.proofs.Names.{same_self, found, has_at, has_met, has_right}
-use Rattle.isle_tables.proofs.TypeLaws.{names_later, type_names_distinct, last_definition_counts_lem}
+use Rattle.isle_laws_lists.proofs.TableNames.{same_self, found, has_at, has_met, has_right}
+use Rattle.isle_laws_lists.proofs.TypeLaws.{names_later, type_names_distinct, last_definition_counts_lem}
 use Rattle.isle_types.specs.declared.type_env.TypeEnv.{TypeEnv}
 use Rattle.isle_types.specs.Envs.{names_of, symbol_of}
 use Rattle.isle_types.specs.Names.{IsInverse}

@@ -5,10 +5,10 @@ use Rattle.std.specs.Option.{is_some}
 use Rattle.std.proofs.lemmas.Bool.{false≢true}
 use Rattle.std.proofs.lemmas.List.{append_assoc, append-nil, map-append, length_push, at_drop_more, at_drop_all}
 use Rattle.std.proofs.lemmas.List.Elements.{All-nil, All-push, All-head, All-tail}
-use Rattle.isle_model.specs.Syntax.{Name, FieldTree, TupleFieldTree, struct_fields, tuple_fields, Definition}
-use Rattle.isle_model.specs.Names.{number, has_name, with_name, with_names, IsDistinct}
-use Rattle.isle_model.specs.Tables.{FieldEntry, TupleFieldEntry, struct_entries, tuple_entries}
-use Rattle.isle_model.specs.TypeTable.{field_names, all_type_names, place_from, IsKnownType, type_or_first, field_entry, tuple_field_entry}
+use Rattle.isle_model.specs.lists.Syntax.{Name, FieldTree, TupleFieldTree, struct_fields, tuple_fields, Definition}
+use Rattle.isle_model.specs.lists.Names.{number, has_name, with_name, with_names, IsDistinct}
+use Rattle.isle_model.specs.lists.Tables.{FieldEntry, TupleFieldEntry, struct_entries, tuple_entries}
+use Rattle.isle_model.specs.lists.TypeTable.{field_names, all_type_names, place_from, IsKnownType, type_or_first, field_entry, tuple_field_entry}
 use Rattle.isle_base.specs.declared.syntax.Error.{Error}
 use Rattle.isle_base.specs.declared.syntax.StructField as S
 use Rattle.isle_base.specs.declared.syntax.TupleField as U

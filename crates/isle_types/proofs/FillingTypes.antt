@@ -3,10 +3,10 @@ use Rattle.std.proofs.Common.{◌≡◌, ◌≢◌, ℕ, zero, suc, ◌+◌, ◌
 use Rattle.std.specs.List.{flat_map}
 use Rattle.std.proofs.lemmas.List.{append_assoc, append-nil, at_drop_more, length_push, length-map, map_push, map-append}
 use Rattle.std.proofs.lemmas.List.Elements.{All-nil, All-cons, All-head, All-tail}
-use Rattle.isle_model.specs.Syntax.{TypeTree, Definition, type_definition, declaration, extractor_definition, converter_definition, rule_definition, extern_definition, other_definition}
-use Rattle.isle_model.specs.Names.{has_name, with_names, IsDistinct}
-use Rattle.isle_model.specs.Tables.{TypeEntry}
-use Rattle.isle_model.specs.TypeTable.{builtin_names, type_of, type_trees, type_names, all_type_names, names_inside, type_names_met, type_entry, type_table, IsValidTypes}
+use Rattle.isle_model.specs.lists.Syntax.{TypeTree, Definition, type_definition, declaration, extractor_definition, converter_definition, rule_definition, extern_definition, other_definition}
+use Rattle.isle_model.specs.lists.Names.{has_name, with_names, IsDistinct}
+use Rattle.isle_model.specs.lists.Tables.{TypeEntry}
+use Rattle.isle_model.specs.lists.TypeTable.{builtin_names, type_of, type_trees, type_names, all_type_names, names_inside, type_names_met, type_entry, type_table, IsValidTypes}
 use Rattle.isle_base.specs.declared.syntax.Def.{Def}
 use Rattle.isle_base.specs.declared.syntax.Error.{Error}
 use Rattle.isle_base.specs.SyntaxViews.{definition_view, definition_views}

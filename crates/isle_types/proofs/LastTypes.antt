@@ -3,11 +3,11 @@ use Rattle.std.proofs.Common.{◌≡◌, ℕ, ◌||◌, true, false, cond, nat_e
 use Rattle.std.specs.List.{find}
 use Rattle.std.specs.Str.{bytes_eq}
 use Rattle.std.proofs.lemmas.List.{reverse-append}
-use Rattle.isle_model.specs.Syntax.{Definition}
-use Rattle.isle_model.specs.Names.{number, has_name, with_name, with_names, IsDistinct}
-use Rattle.isle_model.specs.Outcome.{then_option}
-use Rattle.isle_model.specs.TypeTable.{ConstantTree, type_id, type_or_first, type_names_met}
-use Rattle.isle_tables.proofs.Names.{same_self, found, has_at, same_test, has_met}
+use Rattle.isle_model.specs.lists.Syntax.{Definition}
+use Rattle.isle_model.specs.lists.Names.{number, has_name, with_name, with_names, IsDistinct}
+use Rattle.isle_model.specs.rules.Outcome.{then_option}
+use Rattle.isle_model.specs.lists.TypeTable.{ConstantTree, type_id, type_or_first, type_names_met}
+use Rattle.isle_laws_lists.proofs.TableNames.{same_self, found, has_at, same_test, has_met}
 use Rattle.isle_types.specs.Stages.{last_type}
 
 -- a name with an answer of its own, by its number

@@ -1,8 +1,8 @@
 -- Names that are met one after another, and that the types stay seen meanwhile.
 use Rattle.std.proofs.Common.{◌≡◌, ℕ, true, false, cond, List, [], ◌∷◌, ◌++◌, Option, None, option_map, slice_get, refl, sym, ap, subst, ◌∙◌}
-use Rattle.isle_model.specs.Names.{has_name, with_name, with_names, IsDistinct}
-use Rattle.isle_model.specs.Outcome.{then_option}
-use Rattle.isle_model.specs.TypeTable.{place_from}
+use Rattle.isle_model.specs.lists.Names.{has_name, with_name, with_names, IsDistinct}
+use Rattle.isle_model.specs.rules.Outcome.{then_option}
+use Rattle.isle_model.specs.lists.TypeTable.{place_from}
 use Rattle.isle_base.specs.Stable.{entry_count, look_up}
 use Rattle.isle_types.specs.declared.type_env.TypeEnv.{TypeEnv}
 use Rattle.isle_types.specs.Envs.{names_of, same_symbol, symbol}

@@ -2,8 +2,8 @@
 use Rattle.std.proofs.Common.{◌≡◌, ℕ, ◌&&◌, true, false, not, List, [], map, All, Option, Some, None, sym, ap, subst, ◌∙◌}
 use Rattle.std.proofs.lemmas.Bool.{false≢true}
 use Rattle.std.proofs.lemmas.List.Elements.{All-nil, All-cons}
-use Rattle.isle_model.specs.Syntax.{Position, Name, FieldTrees, VariantTree, TypeTree, TypeValueTree, primitive_value, enum_value, struct_value, Definition}
-use Rattle.isle_model.specs.Names.{number, has_name, with_name, IsDistinct}
+use Rattle.isle_model.specs.lists.Syntax.{Position, Name, FieldTrees, VariantTree, TypeTree, TypeValueTree, primitive_value, enum_value, struct_value, Definition}
+use Rattle.isle_model.specs.lists.Names.{number, has_name, with_name, IsDistinct}
 use Rattle.isle_base.specs.declared.syntax.Error.{Error}
 use Rattle.isle_base.specs.declared.syntax.Type as S
 use Rattle.isle_base.specs.SyntaxViews as views

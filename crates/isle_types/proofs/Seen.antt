@@ -3,9 +3,9 @@ use Rattle.std.proofs.Common.{◌≡◌, ℕ, ◌+◌, true, false, cond, nat_eq
 use Rattle.std.proofs.lemmas.Bool.{false≢true}
 use Rattle.std.proofs.lemmas.List.{length_push}
 use Rattle.std.specs.Str.{bytes_eq}
-use Rattle.isle_model.specs.Names.{number, has_name, with_name}
-use Rattle.isle_model.specs.Outcome.{then_option}
-use Rattle.isle_model.specs.TypeTable.{place_from}
+use Rattle.isle_model.specs.lists.Names.{number, has_name, with_name}
+use Rattle.isle_model.specs.rules.Outcome.{then_option}
+use Rattle.isle_model.specs.lists.TypeTable.{place_from}
 use Rattle.isle_base.specs.Stable.{entry_count, look_up}
 use Rattle.isle_types.specs.declared.type_env.TypeEnv.{TypeEnv}
 use Rattle.isle_types.specs.Envs.{names_of, symbol_of, type_at, same_symbol, symbol}

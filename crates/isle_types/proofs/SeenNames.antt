@@ -2,9 +2,9 @@
 use Rattle.std.proofs.Common.{◌≡◌, ℕ, nat_eq, true, false, cond, List, [], ◌∷◌, ◌++◌, Option, Some, None, slice_get, refl, sym, ap, subst, ◌∙◌}
 use Rattle.std.specs.Option.{is_some}
 use Rattle.std.proofs.lemmas.Bool.{false≢true}
-use Rattle.isle_model.specs.Names.{number, has_name, with_name}
-use Rattle.isle_model.specs.Outcome.{then_option}
-use Rattle.isle_model.specs.TypeTable.{place_from}
+use Rattle.isle_model.specs.lists.Names.{number, has_name, with_name}
+use Rattle.isle_model.specs.rules.Outcome.{then_option}
+use Rattle.isle_model.specs.lists.TypeTable.{place_from}
 use Rattle.isle_base.specs.Stable.{Members}
 use Rattle.isle_types.specs.declared.ids.Sym.{Sym}
 use Rattle.isle_types.specs.FieldReading.{was_seen}

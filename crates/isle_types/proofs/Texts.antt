@@ -3,9 +3,9 @@ use Rattle.std.proofs.Common.{◌≡◌, ℕ, zero, suc, ◌+◌, ◌<◌, ◌||
 use Rattle.std.specs.Str.{bytes_eq}
 use Rattle.std.proofs.lemmas.Bool.{false≢true}
 use Rattle.std.proofs.lemmas.Slice.Eq.{bytes_eq-Decides}
-use Rattle.isle_model.specs.Names.{number, has_name, with_name, with_names, IsDistinct}
-use Rattle.isle_model.specs.Outcome.{then_option}
-use Rattle.isle_model.specs.TypeTable.{place_from, builtin_names}
+use Rattle.isle_model.specs.lists.Names.{number, has_name, with_name, with_names, IsDistinct}
+use Rattle.isle_model.specs.rules.Outcome.{then_option}
+use Rattle.isle_model.specs.lists.TypeTable.{place_from, builtin_names}
 use Rattle.isle_types.proofs.Inverse.{get_push_cases, get_push_last}
 use Rattle.isle_types.proofs.Places.{same_bytes, found, absent, last}
 

@@ -5,10 +5,10 @@ use Rattle.std.proofs.lemmas.List.{append-nil, map_push, map-append, length-map,
 use Rattle.std.proofs.lemmas.List.FromFn.{length-enumerate_from}
 use Rattle.std.proofs.lemmas.List.Elements.{All-head, All-push}
 use Rattle.std.proofs.lemmas.Grind.{flat_map-append}
-use Rattle.isle_model.specs.Syntax.{FieldTrees, VariantTree, Definition}
-use Rattle.isle_model.specs.Names.{IsDistinct}
-use Rattle.isle_model.specs.Tables.{VariantEntry}
-use Rattle.isle_model.specs.TypeTable.{all_type_names, place_from, variant_names, variant_entry}
+use Rattle.isle_model.specs.lists.Syntax.{FieldTrees, VariantTree, Definition}
+use Rattle.isle_model.specs.lists.Names.{IsDistinct}
+use Rattle.isle_model.specs.lists.Tables.{VariantEntry}
+use Rattle.isle_model.specs.lists.TypeTable.{all_type_names, place_from, variant_names, variant_entry}
 use Rattle.isle_base.specs.declared.syntax.Error.{Error}
 use Rattle.isle_base.specs.declared.syntax.Variant as S
 use Rattle.isle_base.specs.SyntaxViews as views

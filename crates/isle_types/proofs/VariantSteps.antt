@@ -1,9 +1,9 @@
 -- Reading one variant: its names, its name's test, its fields.
 use Rattle.std.proofs.Common.{◌≡◌, ℕ, true, false, not, cond, List, [], ◌∷◌, ◌++◌, Some, None, is_some, slice_get, string_bytes, refl, sym, ap, subst, ◌∙◌}
 use Rattle.std.proofs.lemmas.Bool.{false≢true}
-use Rattle.isle_model.specs.Syntax.{Definition}
-use Rattle.isle_model.specs.Names.{number, with_names}
-use Rattle.isle_model.specs.TypeTable.{place_from, full_name, field_names, field_entries, variant_names, variant_entry}
+use Rattle.isle_model.specs.lists.Syntax.{Definition}
+use Rattle.isle_model.specs.lists.Names.{number, with_names}
+use Rattle.isle_model.specs.lists.TypeTable.{place_from, full_name, field_names, field_entries, variant_names, variant_entry}
 use Rattle.isle_base.specs.declared.syntax.Variant as S
 use Rattle.isle_base.specs.SyntaxViews as views
 use Rattle.isle_base.specs.Stable.{Members, contains}

@@ -3,15 +3,15 @@ use Rattle.std.proofs.Common.{◌≡◌, ℕ, zero, suc, ◌+◌, ◌<◌, true,
 use Rattle.std.specs.List.{enumerate_from, flat_map, AllByRecursion}
 use Rattle.std.proofs.lemmas.List.Elements.{All-get_or}
 use Rattle.std.proofs.lemmas.Option.{same_Some, slice_get_within, slice_get-get_or}
-use Rattle.isle_model.specs.Syntax.{VariantTree, TypeTree, TypeValueTree, primitive_value, enum_value, struct_value, Definition}
-use Rattle.isle_model.specs.Names.{number, has_name, IsDistinct}
-use Rattle.isle_model.specs.Outcome.{then_option}
-use Rattle.isle_model.specs.Tables.{VariantEntry, TypeEntry}
-use Rattle.isle_model.specs.TypeTable.{builtin_names, builtin_from, type_id, type_trees, constant_trees, all_type_names, type_names_met, variant_entry, entry_at, type_entry, type_table, type_or_first, IsValidTypes}
-use Rattle.isle_tables.specs.KnownTypes.{types_of, types_inside, entry_numbers, StandAtIds, IsWellFormed}
-use Rattle.isle_tables.proofs.Lists.{all_joined}
-use Rattle.isle_tables.proofs.Names.{found}
-use Rattle.isle_tables.proofs.WellFormed.{place_below, as_many, types_are_found_lem, own_types_are_well_formed_lem}
+use Rattle.isle_model.specs.lists.Syntax.{VariantTree, TypeTree, TypeValueTree, primitive_value, enum_value, struct_value, Definition}
+use Rattle.isle_model.specs.lists.Names.{number, has_name, IsDistinct}
+use Rattle.isle_model.specs.rules.Outcome.{then_option}
+use Rattle.isle_model.specs.lists.Tables.{VariantEntry, TypeEntry}
+use Rattle.isle_model.specs.lists.TypeTable.{builtin_names, builtin_from, type_id, type_trees, constant_trees, all_type_names, type_names_met, variant_entry, entry_at, type_entry, type_table, type_or_first, IsValidTypes}
+use Rattle.isle_model.specs.lists.KnownTypes.{types_of, types_inside, entry_numbers, StandAtIds, IsWellFormed}
+use Rattle.isle_model.proofs.Distinct.{all_joined}
+use Rattle.isle_laws_lists.proofs.TableNames.{found}
+use Rattle.isle_laws_lists.proofs.WellFormed.{place_below, as_many, types_are_found_lem, own_types_are_well_formed_lem}
 use Rattle.isle_types.specs.declared.type_env.TypeEnv.{TypeEnv}
 use Rattle.isle_types.specs.Envs.{names_of, symbol_of, type_at, constant_at}
 use Rattle.isle_types.specs.Names.{IsInverse}

@@ -1,6 +1,5 @@
 -- The built-in types: their names, and their places in the list of them all.
-use Rattle.std.specs.Prelude.{ℕ, List, true, false, codes}
-use Rattle.std.specs.Prelude.{Bool as Truth}
+use Rattle.std.specs.Prelude.{ℕ, List, true, false, codes, Bool as Truth}
 use Rattle.isle_types.specs.declared.ids.TypeId.{TypeId}
 use Rattle.isle_types.specs.declared.builtin.BuiltinType.{BuiltinType}
 use Rattle.isle_types.specs.declared.builtin.BuiltinType.TheVariants.{Bool, Int}

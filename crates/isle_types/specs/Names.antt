@@ -1,6 +1,6 @@
 -- Names by number, and look-ups of them.
 use Rattle.std.specs.Prelude.{◌≡◌, ℕ, List, if◌then◌else◌, Option, Some, None, slice_get}
-use Rattle.isle_model.specs.Names.{number, has_name}
+use Rattle.isle_model.specs.lists.Names.{number, has_name}
 
 -- the number of a text, where it is among the names
 abbrev pub place_of : List (List ℕ) → List ℕ → Option ℕ

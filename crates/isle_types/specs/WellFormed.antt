@@ -1,10 +1,10 @@
 -- Which type environments terms and rules can be read with.
 use Rattle.std.specs.Prelude.{◌≡◌, ℕ, ◌<◌, List, [], length, take, Some, All}
 use Rattle.std.specs.List.{flat_map}
-use Rattle.isle_model.specs.Names.{IsDistinct}
-use Rattle.isle_model.specs.Tables.{VariantEntry, TypeEntry}
-use Rattle.isle_model.specs.TypeTable.{builtin_names, builtin_from}
-use Rattle.isle_tables.specs.KnownTypes.{types_inside, entry_numbers, StandAtIds}
+use Rattle.isle_model.specs.lists.Names.{IsDistinct}
+use Rattle.isle_model.specs.lists.Tables.{VariantEntry, TypeEntry}
+use Rattle.isle_model.specs.lists.TypeTable.{builtin_names, builtin_from}
+use Rattle.isle_model.specs.lists.KnownTypes.{types_inside, entry_numbers, StandAtIds}
 use Rattle.isle_types.specs.declared.type_env.TypeEnv.{TypeEnv}
 use Rattle.isle_types.specs.Envs.{names_of, symbol_of, type_at, constant_at}
 use Rattle.isle_types.specs.Names.{IsInverse}

@@ -1,7 +1,7 @@
 //! The built-in types: `bool` and the integers of fixed width.
 
 ghost use Rattle.std.specs.Prelude.{◌≡◌, ◌∷◌, [], map};
-ghost use Rattle.isle_model.specs.TypeTable.{builtin_names};
+ghost use Rattle.isle_model.specs.lists.TypeTable.{builtin_names};
 ghost use Rattle.isle_types.specs.Builtin.{int_name, int_signed, builtin_name, builtin_place, builtin_id};
 
 use crate::ids::TypeId;

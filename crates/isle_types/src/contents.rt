@@ -2,9 +2,9 @@
 //! that is wrong is noted and ends the work on it.
 
 ghost use Rattle.std.specs.Prelude.{◌≡◌, ℕ, ◌&&◌, [], ◌∷◌, List, map, option_map, OnOk, IfOk, IsTrue, string_bytes};
-ghost use Rattle.isle_model.specs.Syntax.{Position, Definition, primitive_value, enum_value, struct_value};
-ghost use Rattle.isle_model.specs.Names.{has_name};
-ghost use Rattle.isle_model.specs.TypeTable.{all_type_names, type_names};
+ghost use Rattle.isle_model.specs.lists.Syntax.{Position, Definition, primitive_value, enum_value, struct_value};
+ghost use Rattle.isle_model.specs.lists.Names.{has_name};
+ghost use Rattle.isle_model.specs.lists.TypeTable.{all_type_names, type_names};
 ghost use Rattle.isle_base.specs.SyntaxViews.{name_view, fields_view, variant_view, type_view, definition_view, definition_views};
 ghost use Rattle.isle_types.specs.Envs.{names_of, symbol_of};
 ghost use Rattle.isle_types.specs.Names.{IsInverse};

@@ -2,8 +2,8 @@
 //! that is wrong is noted and ends the reading.
 
 ghost use Rattle.std.specs.Prelude.{◌≡◌, List, [], ◌∷◌, map, option_map, IfOk, OnOk};
-ghost use Rattle.isle_model.specs.Syntax.{Definition, struct_fields, tuple_fields};
-ghost use Rattle.isle_model.specs.TypeTable.{all_type_names};
+ghost use Rattle.isle_model.specs.lists.Syntax.{Definition, struct_fields, tuple_fields};
+ghost use Rattle.isle_model.specs.lists.TypeTable.{all_type_names};
 ghost use Rattle.isle_base.specs.SyntaxViews.{fields_view, field_view, tuple_field_view};
 ghost use Rattle.isle_types.specs.Envs.{names_of, symbol_of};
 ghost use Rattle.isle_types.specs.FieldReading.{ReadsField, ReadsTupleField};

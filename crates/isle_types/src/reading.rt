@@ -2,8 +2,8 @@
 //! types are, then constants. What is wrong with a definition is noted, and the reading goes on.
 
 ghost use Rattle.std.specs.Prelude.{◌≡◌, ◌⊎◌, [], IfOk, OnOk, MatchOption, Some};
-ghost use Rattle.isle_model.specs.Names.{number};
-ghost use Rattle.isle_model.specs.TypeTable.{IsValidTypes, builtin_names, type_names_met};
+ghost use Rattle.isle_model.specs.lists.Names.{number};
+ghost use Rattle.isle_model.specs.lists.TypeTable.{IsValidTypes, builtin_names, type_names_met};
 ghost use Rattle.isle_base.specs.Answers.{Answers, NoLimit};
 ghost use Rattle.isle_base.specs.Stable.{entry_count};
 ghost use Rattle.isle_base.specs.SyntaxViews.{definition_view, definition_views, type_view};

@@ -1,6 +1,6 @@
 use Rattle.std.proofs.Common.{◌≡◌, ◌≤◌, map, ap, arith}
 use Rattle.std.proofs.lemmas.List.{length-map}
-use Rattle.isle_building.specs.Building.{argument_sites}
+use Rattle.isle_model.specs.first.Building.{argument_sites}
 use Rattle.isle_rules.specs.RuleViews.{rule_view}
 use Rattle.cranelift_isle.specs.SiteViews.{site_view, site_views, set_rule_views, set_view}
 use Rattle.cranelift_isle.proofs.BuildingSteps.{count_of_sites, set_of_rules}

@@ -1,5 +1,5 @@
 use Rattle.std.proofs.Common.{◌≡◌, ◌++◌, drop}
-use Rattle.isle_building.specs.Building.{asked_from}
+use Rattle.isle_model.specs.first.Building.{asked_from}
 use Rattle.isle_rules.specs.PatternViews.{pattern_views}
 use Rattle.cranelift_isle.specs.SiteViews.{constraint_views}
 use Rattle.cranelift_isle.proofs.building.constraints_of.Given as goal

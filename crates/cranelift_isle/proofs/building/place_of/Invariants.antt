@@ -1,5 +1,5 @@
 use Rattle.std.proofs.Common.{◌≡◌, drop}
-use Rattle.isle_model.specs.Simple.{var_place}
+use Rattle.isle_model.specs.first.Simple.{var_place}
 use Rattle.isle_rules.specs.PatternViews.{pattern_views}
 use Rattle.cranelift_isle.proofs.building.place_of.Given as goal
 

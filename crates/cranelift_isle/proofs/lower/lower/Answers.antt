@@ -5,9 +5,9 @@ use Rattle.cranelift_isle.specs.declared.lower.Lowered.{Lowered}
 use Rattle.cranelift_isle.specs.declared.trie_again.RuleSet.{RuleSet}
 use Rattle.isle_base.specs.Answers.{Answers, OnErrors, limit_of}
 use Rattle.isle_base.specs.SyntaxViews.{definition_views}
-use Rattle.isle_model.specs.Typed.{TypedRule}
-use Rattle.isle_model.specs.Elaboration.{program_of}
-use Rattle.isle_model.specs.Accepted.{IsAccepted}
+use Rattle.isle_model.specs.rules.Typed.{TypedRule}
+use Rattle.isle_model.specs.first.Elaboration.{carried_program_of}
+use Rattle.isle_model.specs.first.Accepted.{IsCarriedAccepted}
 use Rattle.cranelift_isle.specs.Buildings.{env_program, term_set_views, IsPassed}
 use Rattle.cranelift_isle.specs.Lowerings.{term_views, IsLowered, ChoosesAsSource, LimitPassed}
 use Rattle.cranelift_isle.proofs.Lowered.{simple, known, accepted, buildable, lowered, chooses, limits_passed, refused_so, limits_so, same_rules}
@@ -27,7 +27,7 @@ pub returns-in_err-sets-clause-accepted : goal.returns-in_err-sets-clause-accept
 returns-in_err-sets-clause-accepted c =
     let a = c.in_ok-termenv.ensures.answers.1 in
     let e : c.from_residual-in_err-sets.result ≡ Err c.in_err-sets.field-0.0 = search rules in
-    subst (λ r. Answers r ((typed : List TypedRule) × IsAccepted (definition_views c.args.defs.now) typed) (λ l. (typed : List TypedRule) × IsAccepted (definition_views c.args.defs.now) typed × IsLowered l (definition_views c.args.defs.now) typed c.args.expand)) (sym e)
+    subst (λ r. Answers r ((typed : List TypedRule) × IsCarriedAccepted (definition_views c.args.defs.now) typed) (λ l. (typed : List TypedRule) × IsCarriedAccepted (definition_views c.args.defs.now) typed × IsLowered l (definition_views c.args.defs.now) typed c.args.expand)) (sym e)
     (refused_so _ _ c.in_err-sets.field-0.0 _ _ _ _ (λ t. buildable (definition_views c.args.defs.now) a.0 c.args.expand c.in_ok-termenv.termenv a.1 a.3 t.0 t.1) c.in_err-sets.ensures.answers)
 
 pub returns-in_err-sets-clause-limits : goal.returns-in_err-sets-clause-limits
@@ -59,5 +59,5 @@ returns-clause-chosen c typed is =
     let a = c.in_ok-termenv.ensures.answers.1 in
     let s = c.in_ok-sets.ensures.answers in
     let same : a.0 ≡ typed = same_rules a.0 typed (sym a.1.elaborated.typed ∙ is) in
-    subst (λ r. ChoosesAsSource (program_of (definition_views c.args.defs.now) r) (term_views c.in_ok-terms.terms.items)) same
+    subst (λ r. ChoosesAsSource (carried_program_of (definition_views c.args.defs.now) r) (term_views c.in_ok-terms.terms.items)) same
     (chooses (definition_views c.args.defs.now) a.0 c.args.expand c.in_ok-termenv.termenv a.1 a.3 (term_set_views c.in_ok-sets.sets.items) (term_views c.in_ok-terms.terms.items) s.1 c.in_ok-terms.ensures.same c.in_ok-terms.ensures.sound s.0)

@@ -1,6 +1,6 @@
 use Rattle.std.proofs.Common.{drop, map}
 use Rattle.isle_base.specs.SyntaxViews as S
-use Rattle.isle_model.specs.Elaboration.{elaborate_args}
+use Rattle.isle_model.specs.first.Elaboration.{elaborate_args}
 use Rattle.isle_types.specs.Envs.{names_of}
 use Rattle.isle_types.specs.TypeViews.{type_views}
 use Rattle.isle_rules.specs.Elaborating.{AreKnown, var_views}

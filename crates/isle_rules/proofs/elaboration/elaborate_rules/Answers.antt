@@ -1,7 +1,7 @@
 use Rattle.std.proofs.Common.{rules, sym, subst}
 use Rattle.std.proofs.lemmas.List.{drop_all}
 use Rattle.isle_base.specs.SyntaxViews.{definition_views}
-use Rattle.isle_model.specs.TermTable.{term_table_names}
+use Rattle.isle_model.specs.first.TermTable.{term_table_names}
 use Rattle.isle_types.specs.Envs.{names_of, symbol_of}
 use Rattle.isle_types.specs.Names.{IsInverse}
 use Rattle.isle_rules.specs.Elaborating.{AreKnown}

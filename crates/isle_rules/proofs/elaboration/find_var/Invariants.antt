@@ -1,5 +1,5 @@
 use Rattle.std.proofs.Common.{◌≡◌, drop}
-use Rattle.isle_model.specs.Elaboration.{var_named}
+use Rattle.isle_model.specs.lists.Setting.{var_named}
 use Rattle.isle_rules.specs.Elaborating.{var_views}
 use Rattle.isle_rules.proofs.elaboration.find_var.Given as goal
 

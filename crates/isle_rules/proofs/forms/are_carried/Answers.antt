@@ -1,6 +1,6 @@
 use Rattle.std.proofs.Common.{rules}
 use Rattle.isle_base.specs.SyntaxViews.{pattern_view}
-use Rattle.isle_model.specs.Elaboration.{is_carried_pattern}
+use Rattle.isle_model.specs.first.Elaboration.{is_carried_pattern}
 use Rattle.isle_rules.proofs.FormSteps.{carried_next, and_found, and_next}
 use Rattle.isle_rules.proofs.forms.are_carried.Goals as goal
 

@@ -1,5 +1,5 @@
 use Rattle.std.proofs.Common.{◌≡◌, drop}
-use Rattle.isle_model.specs.Elaboration.{all_different}
+use Rattle.isle_model.specs.lists.Names.{all_different}
 use Rattle.isle_rules.proofs.MetNames.{all_bound}
 use Rattle.isle_rules.proofs.forms.are_different.Given as goal
 

@@ -1,7 +1,7 @@
 use Rattle.std.proofs.Common.{rules, string_bytes}
 use Rattle.isle_base.specs.SyntaxViews.{pattern_view}
-use Rattle.isle_model.specs.Names.{has_name}
-use Rattle.isle_model.specs.Elaboration.{var_of_pattern}
+use Rattle.isle_model.specs.lists.Names.{has_name}
+use Rattle.isle_model.specs.first.Elaboration.{var_of_pattern}
 use Rattle.isle_rules.proofs.FormSteps.{bound_next, or_found, or_next}
 use Rattle.isle_rules.proofs.forms.is_bound.Goals as goal
 

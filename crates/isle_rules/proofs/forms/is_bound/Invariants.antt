@@ -1,5 +1,5 @@
 use Rattle.std.proofs.Common.{◌≡◌, drop, string_bytes}
-use Rattle.isle_model.specs.Names.{has_name}
+use Rattle.isle_model.specs.lists.Names.{has_name}
 use Rattle.isle_rules.proofs.MetNames.{all_bound}
 use Rattle.isle_rules.proofs.forms.is_bound.Given as goal
 

@@ -1,7 +1,7 @@
 use Rattle.std.proofs.Common.{◌++◌}
 use Rattle.std.proofs.lemmas.Result.{on_ok_weaker}
 use Rattle.isle_base.specs.SyntaxViews.{rule_view}
-use Rattle.isle_model.specs.Elaboration.{bound_names, root_args, var_of_expr, own_name}
+use Rattle.isle_model.specs.first.Elaboration.{bound_names, root_args, var_of_expr, own_name}
 use Rattle.isle_rules.proofs.MetNames.{meets_both}
 use Rattle.isle_rules.proofs.numbering.number_rule.Goals as goal
 

@@ -1,5 +1,5 @@
 use Rattle.std.proofs.Common.{◌≡◌, drop}
-use Rattle.isle_model.specs.Places.{constraint_at}
+use Rattle.isle_model.specs.trees.Places.{constraint_at}
 use Rattle.cranelift_isle.specs.SiteViews.{constraint_views}
 use Rattle.cranelift_isle.proofs.trie_again.Rule.get_constraint.Given as goal
 

@@ -2,7 +2,7 @@ use Rattle.std.proofs.Common.{◌≡◌, ◌∙◌, All, None, ap, refl, subst, 
 use Rattle.std.proofs.lemmas.List.Elements.{All-nil}
 use Rattle.isle_base.specs.Answers.{limit_of}
 use Rattle.isle_base.specs.SyntaxViews.{definition_views}
-use Rattle.isle_model.specs.Elaboration.{named_rules}
+use Rattle.isle_model.specs.lists.Elaborated.{named_rules}
 use Rattle.isle_terms.specs.TermViews.{term_views}
 use Rattle.isle_rules.specs.Elaborating.{Checks}
 use Rattle.isle_rules.specs.RuleNaming.{MapsNames, AreMade}

@@ -1,7 +1,7 @@
 use Rattle.std.proofs.Common.{◌≡◌, true, refl, subst}
 use Rattle.std.proofs.lemmas.Result.{on_ok_weaker}
-use Rattle.isle_model.specs.Syntax.{declaration}
-use Rattle.isle_model.specs.TermTable.{is_carried_term}
+use Rattle.isle_model.specs.lists.Syntax.{declaration}
+use Rattle.isle_model.specs.first.TermTable.{is_carried_term}
 use Rattle.isle_base.specs.SyntaxViews.{decl_view}
 use Rattle.isle_terms.specs.Reading.{IsFree, AddsOrReports}
 use Rattle.isle_terms.proofs.Signing.{decl_read}

@@ -1,7 +1,7 @@
 use Rattle.std.proofs.Common.{◌≡◌, ◌<◌, Some, length, get_or, refl, sym, ap, ◌∙◌, inl}
 use Rattle.std.proofs.Math.ListN.{set}
-use Rattle.isle_model.specs.Outcome.{then_option}
-use Rattle.isle_model.specs.TermTable.{root_name}
+use Rattle.isle_model.specs.rules.Outcome.{then_option}
+use Rattle.isle_model.specs.lists.TermTable.{root_name}
 use Rattle.isle_base.specs.SyntaxViews.{name_view, rule_view, pattern_view}
 use Rattle.isle_types.specs.Envs.{symbol_of}
 use Rattle.isle_terms.specs.TermViews.{term_view, term_views}

@@ -1,6 +1,6 @@
 use Rattle.std.proofs.Common.{◌≡◌, ◌&&◌, false, map, string_bytes, sym, ap, ◌∙◌}
-use Rattle.isle_model.specs.Names.{number}
-use Rattle.isle_model.specs.Tables.{enum_type}
+use Rattle.isle_model.specs.lists.Names.{number}
+use Rattle.isle_model.specs.lists.Tables.{enum_type}
 use Rattle.isle_base.specs.SyntaxViews as views
 use Rattle.isle_types.specs.Envs.{names_of}
 use Rattle.isle_types.specs.TypeViews.{variant_view}

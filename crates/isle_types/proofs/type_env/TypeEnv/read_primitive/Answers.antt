@@ -1,5 +1,5 @@
 use Rattle.std.proofs.Common.{string_bytes, refl, ap}
-use Rattle.isle_model.specs.Tables.{primitive_type}
+use Rattle.isle_model.specs.lists.Tables.{primitive_type}
 use Rattle.isle_base.specs.SyntaxViews.{name_view, type_view, position}
 use Rattle.isle_types.proofs.NamesMet.{meet_one}
 use Rattle.isle_types.proofs.RightValues.{named_now, primitive_right}

@@ -1,5 +1,0 @@
-pub mod Orders
-pub mod InOrder
-pub mod Flat
-pub mod Marks
-pub mod Soundness

@@ -1,5 +1,0 @@
-pub mod Samples
-pub mod Worked
-pub mod Laws
-pub mod Reported
-pub mod Picked

@@ -1,5 +1,0 @@
-use Rattle.isle_elaboration.proofs.Results as results
-use Rattle.isle_elaboration.proofs.names_stay.Goals as goal
-
-pub returns : goal.returns
-returns c = results.names_stay

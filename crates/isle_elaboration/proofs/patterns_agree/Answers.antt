@@ -1,5 +1,0 @@
-use Rattle.isle_elaboration.proofs.Rules as rules
-use Rattle.isle_elaboration.proofs.patterns_agree.Goals as goal
-
-pub returns : goal.returns
-returns c = rules.patterns_agree

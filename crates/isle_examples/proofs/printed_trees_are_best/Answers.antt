@@ -1,0 +1,5 @@
+use Rattle.isle_examples.proofs.JudgedTrees.{printed_trees_are_best_lem}
+use Rattle.isle_examples.proofs.printed_trees_are_best.Goals as goal
+
+pub returns : goal.returns
+returns c = printed_trees_are_best_lem

@@ -1,0 +1,10 @@
+pub mod CarriedRules
+pub mod CarriedTerms
+pub mod EarlyLimits
+pub mod FallSound
+pub mod NoTerms
+pub mod SameTerms
+pub mod SoundRuns
+pub mod alone
+pub mod building
+pub mod matching

@@ -1,0 +1,4 @@
+pub mod BuildingLaws
+pub mod EarlyLaws
+pub mod FallLaws
+pub mod Sample

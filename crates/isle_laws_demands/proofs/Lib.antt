@@ -1,0 +1,3 @@
+pub mod closure
+pub mod overlaps
+pub mod visits

@@ -1,0 +1,12 @@
+-- Demands and their closure: classes, verdicts, limits.
+pub mod Classes
+pub mod Closing
+pub mod LimitsPassed
+pub mod Names
+pub mod Reports
+pub mod Settled
+pub mod Verdict
+pub mod Visited
+pub mod VisitedRules
+pub mod Whole
+pub mod WholeClosing

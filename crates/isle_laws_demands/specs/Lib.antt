@@ -1,0 +1,3 @@
+pub mod ClosureLaws
+pub mod ReportLaws
+pub mod VisitLaws

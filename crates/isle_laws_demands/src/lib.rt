@@ -1,0 +1,194 @@
+//! Laws of demands: their closure, unreachable rules, overlap, shadow, limits, and what visits of typed rules demand.
+//!
+//! A function here has no code, or calls the laws that its proof rests on: its clause is a law, and its proof stands in
+//! `proofs/`.
+#![tactic(auto)]
+
+ghost use Rattle.isle_laws_demands.specs.ClosureLaws.{JoinedIsEquivalence, ClassesBoundJoined, VerdictIsExact, NamesAreExact, ClosingAddsNothing, ConstraintsAreKept, ClosingIsSound, OverlapIsSymmetric, OverlapIsExact, ClashIsExact, FirstLimitIsPassed, PassedLimitIsMet, ClosingIsWhole, ReportsAreExact, ShadowsAreExact, VisitsMakeEqualSites, PlainClosingEnds};
+ghost use Rattle.isle_laws_demands.specs.ReportLaws.{CheckIsExact, OverlapsAreListedOnce, ListedRulesOverlap, MasksAreReportedOnce, ReportedMasksShadow};
+ghost use Rattle.isle_laws_demands.specs.VisitLaws.{SitesStandOnce, FormedRulesDemandGates, ClosingKeepsGates, ElaboratedRulesDemandGates, BuiltRulesDemandGates, BuiltSetsAreWellBuilt, NoneAskedAndGoneOver, MultiCallsAreGoneOver, NoRuleAsksAndGoesOver, MultiTermsHaveOnePriority};
+ghost use Rattle.isle_model.specs.claims.SetMeanings.{BuiltSetsAreTested};
+
+use isle_laws_lists::{lists_agree, rules_are_formed};
+
+/// Sites that must be equal are an equivalence.
+#[tactic(auto, using(crate::proofs::closure::Classes::joined_is_equivalence_lem))]
+pub fn joined_is_equivalence()
+    ensures { JoinedIsEquivalence }
+{}
+
+/// Whatever classes respect the demands hold all that must be equal.
+#[tactic(auto, using(crate::proofs::closure::Classes::classes_bound))]
+pub fn classes_bound_joined()
+    ensures { ClassesBoundJoined }
+{}
+
+/// The test finds exactly the demands that no values meet.
+pub fn verdict_is_exact()
+    ensures { VerdictIsExact }
+{}
+
+/// The names of classes are exact where the demands can be met.
+pub fn names_are_exact()
+    ensures { NamesAreExact }
+{}
+
+/// Demands without equalities are closed.
+#[tactic(auto, using(crate::proofs::closure::Closing::closing_adds_nothing_lem))]
+pub fn closing_adds_nothing()
+    ensures { ClosingAddsNothing }
+{}
+
+/// Of demands that can be met each constraint is kept.
+pub fn constraints_are_kept()
+    ensures { ConstraintsAreKept }
+{}
+
+/// Closed demands ask nothing that does not follow.
+#[tactic(auto, using(crate::proofs::closure::Closing::closing_is_sound_lem))]
+pub fn closing_is_sound()
+    ensures { ClosingIsSound }
+{}
+
+/// Two closed demand sets overlap in either order.
+#[tactic(auto, using(crate::proofs::overlaps::Overlaps::overlaps_symmetric_lem))]
+pub fn overlap_is_symmetric()
+    ensures { OverlapIsSymmetric }
+{}
+
+/// The tests of overlap and of subset pairs are exact.
+pub fn overlap_is_exact()
+    ensures { OverlapIsExact }
+{}
+
+/// The test of wrong overlaps is exact.
+pub fn clash_is_exact()
+    ensures { ClashIsExact }
+{}
+
+/// A limit that is reported is passed.
+pub fn first_limit_is_passed()
+    ensures { FirstLimitIsPassed }
+{}
+
+/// Where a limit is passed, one is reported.
+pub fn passed_limit_is_met()
+    ensures { PassedLimitIsMet }
+{}
+
+/// Where closing ends, closed demands are all that follows from demands that can be met.
+pub fn closing_is_whole()
+    ensures { ClosingIsWhole }
+{}
+
+/// Something is reported of demands exactly where they can't be met.
+pub fn reports_are_exact()
+    ensures { ReportsAreExact }
+{}
+
+/// The test of shadows is exact.
+pub fn shadows_are_exact()
+    ensures { ShadowsAreExact }
+{}
+
+/// The sites that a visit equates are made by it, but for variables that nothing binds.
+pub fn visits_make_equal_sites()
+    ensures { VisitsMakeEqualSites }
+{}
+
+/// Nothing is reported of a program exactly where all its rules are built, none overlap wrongly, and none is shadowed.
+pub fn check_is_exact()
+    ensures { CheckIsExact }
+{}
+
+/// Each two rules that overlap wrongly stand in exactly one report that lists one of them first.
+pub fn overlaps_are_listed_once()
+    ensures { OverlapsAreListedOnce }
+{}
+
+/// Each further rule of a report overlaps wrongly with its first.
+pub fn listed_rules_overlap()
+    ensures { ListedRulesOverlap }
+{}
+
+/// Where rules stand at distinct positions, each built rule that shadows others is the mask of one report, which lists these.
+pub fn masks_are_reported_once()
+    ensures { MasksAreReportedOnce }
+{}
+
+/// Each shadow report is of such a rule.
+pub fn reported_masks_shadow()
+    ensures { ReportedMasksShadow }
+{}
+
+/// The closing of demands without equalities ends.
+pub fn plain_closing_ends()
+    ensures { PlainClosingEnds }
+{}
+
+/// In a built set no site stands twice.
+pub fn sites_stand_once()
+    ensures { SitesStandOnce }
+{}
+
+/// A rule that hangs together, and whose if-lets make no impure call, demands the gates of all that it tests and returns.
+pub fn formed_rules_demand_gates()
+    ensures { FormedRulesDemandGates }
+{}
+
+/// So do its closed demands.
+pub fn closing_keeps_gates()
+    ensures { ClosingKeepsGates }
+{}
+
+/// So do rules that elaborate.
+pub fn elaborated_rules_demand_gates()
+    ensures { ElaboratedRulesDemandGates }
+{
+    rules_are_formed();
+    lists_agree();
+}
+
+/// In a built set each rule demands the gates of the sites that it tests.
+pub fn built_rules_demand_gates()
+    ensures { BuiltRulesDemandGates }
+{
+    elaborated_rules_demand_gates();
+}
+
+/// A set that is built of elaborated rules, none of which goes over calls, is well built.
+pub fn built_sets_are_well_built()
+    ensures { BuiltSetsAreWellBuilt }
+{
+    elaborated_rules_demand_gates();
+}
+
+/// And in a term that isn't multi it meets what choosing from it asks.
+pub fn built_sets_are_tested()
+    ensures { BuiltSetsAreTested }
+{
+    elaborated_rules_demand_gates();
+}
+
+/// Where no term is multi and partial at once, no call that a rule goes over is constrained.
+pub fn none_asked_and_gone_over()
+    ensures { NoneAskedAndGoneOver }
+{}
+
+/// What a rule goes over are multi calls, and it tests none, where no term is multi and partial at once.
+pub fn multi_calls_are_gone_over()
+    ensures { MultiCallsAreGoneOver }
+{}
+
+/// So no rule of a built set goes over a call that it constrains.
+pub fn no_rule_asks_and_goes_over()
+    ensures { NoRuleAsksAndGoesOver }
+{}
+
+/// The rules of a multi term have one priority in a built set.
+pub fn multi_terms_have_one_priority()
+    ensures { MultiTermsHaveOnePriority }
+{
+    rules_are_formed();
+    lists_agree();
+}

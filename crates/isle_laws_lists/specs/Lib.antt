@@ -1,0 +1,4 @@
+pub mod OwnTypes
+pub mod TableLaws
+pub mod TypingLaws
+pub mod TypingResults

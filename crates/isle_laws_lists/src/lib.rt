@@ -1,0 +1,146 @@
+//! Laws of tables and typing: ids of names, types and terms, and that the rules of typing and the function agree.
+//!
+//! A function here has an empty body: its clause is a law, and its proof stands in `proofs/`.
+#![tactic(auto)]
+
+ghost use Rattle.isle_laws_lists.specs.TypingLaws.{PatternsAgree, ExprsAgree, RulesAgree, TypedWithinLimits, ListsAgree, MoreMayNest, PatternsOneWay, ExprsOneWay, RulesOneWay};
+ghost use Rattle.isle_laws_lists.specs.TypingResults.{TypesAreExpected, VariablesAtPlaces, NamesStay, NamesStayInLists};
+ghost use Rattle.isle_model.specs.lists.Formed.{RulesAreFormed};
+ghost use Rattle.isle_laws_lists.specs.OwnTypes.{OwnTypesAreReadable};
+ghost use Rattle.isle_laws_lists.specs.TableLaws.{OwnTypesAreWellFormed, NamesStandOnce, NumbersStay, TypesStandAtIds, TypesAreFound, LastDefinitionCounts, TermsStandAtIds, TermsAreOfTypes, TermsHaveNames, TermsAreFound, TypesMakeTerms, ConvertersStandOnce};
+
+/// A pattern becomes by the rules of typing what the function gives, and nothing where it gives nothing.
+pub fn patterns_agree()
+    ensures { PatternsAgree }
+{}
+
+/// So does an expression.
+pub fn exprs_agree()
+    ensures { ExprsAgree }
+{}
+
+/// So does a rule.
+pub fn rules_agree()
+    ensures { RulesAgree }
+{}
+
+/// Within the limits on expansions too.
+pub fn typed_within_limits()
+    ensures { TypedWithinLimits }
+{}
+
+/// A list of rules becomes by the rules of typing what the function gives, names included.
+pub fn lists_agree()
+    ensures { ListsAgree }
+{}
+
+/// A rule that elaborates within some nested expansions elaborates alike within more.
+pub fn more_may_nest()
+    ensures { MoreMayNest }
+{}
+
+/// A pattern becomes one typed pattern at most, by one number of expansions.
+pub fn patterns_one_way()
+    ensures { PatternsOneWay }
+{}
+
+/// An expression becomes one typed expression at most.
+pub fn exprs_one_way()
+    ensures { ExprsOneWay }
+{}
+
+/// A rule becomes one typed rule at most.
+pub fn rules_one_way()
+    ensures { RulesOneWay }
+{}
+
+/// A pattern is made at the type asked for, an expression at the type expected.
+pub fn types_are_expected()
+    ensures { TypesAreExpected }
+{}
+
+/// The variables of a rule stand at their numbers.
+pub fn variables_at_places()
+    ensures { VariablesAtPlaces }
+{}
+
+/// Names keep their numbers, and stay distinct.
+pub fn names_stay()
+    ensures { NamesStay }
+{}
+
+/// So they do over a list of rules.
+pub fn names_stay_in_lists()
+    ensures { NamesStayInLists }
+{}
+
+/// A rule that elaborates hangs together: its terms have as many parts as arguments, all at their types, and each
+/// variable is bound once, before it is used.
+pub fn rules_are_formed()
+    ensures { RulesAreFormed }
+{}
+
+/// Terms and rules can be read with the types of a list, if these are valid.
+pub fn own_types_are_readable()
+    ensures { OwnTypesAreReadable }
+{}
+
+/// The types of a list with valid types are well formed.
+pub fn own_types_are_well_formed()
+    ensures { OwnTypesAreWellFormed }
+{}
+
+/// A name has one number, in the type table and in the term table.
+pub fn names_stand_once()
+    ensures { NamesStandOnce }
+{}
+
+/// A name that was met before keeps its number in the term table.
+pub fn numbers_stay()
+    ensures { NumbersStay }
+{}
+
+/// The i-th type, from 0, stands at 13 + i, which in a valid list is the id of its name.
+pub fn types_stand_at_ids()
+    ensures { TypesStandAtIds }
+{}
+
+/// The id of the name of a well-formed type is the type's.
+pub fn types_are_found()
+    ensures { TypesAreFound }
+{}
+
+/// Of the definitions of a constant the last one counts.
+pub fn last_definition_counts()
+    ensures { LastDefinitionCounts }
+{}
+
+/// Each term stands at its id.
+pub fn terms_stand_at_ids()
+    ensures { TermsStandAtIds }
+{}
+
+/// The types of the arguments and of the result of each term are types.
+pub fn terms_are_of_types()
+    ensures { TermsAreOfTypes }
+{}
+
+/// Each term has the number of its name, variants and structs too.
+pub fn terms_have_names()
+    ensures { TermsHaveNames }
+{}
+
+/// In a valid list, the id of the name of a term is the term's.
+pub fn terms_are_found()
+    ensures { TermsAreFound }
+{}
+
+/// The terms of a list that is read with its own types: the declared ones, then those that its types make.
+pub fn types_make_terms()
+    ensures { TypesMakeTerms }
+{}
+
+/// In a valid list no two converters have one pair of types.
+pub fn converters_stand_once()
+    ensures { ConvertersStandOnce }
+{}

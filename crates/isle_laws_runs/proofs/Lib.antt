@@ -1,0 +1,3 @@
+pub mod collecting
+pub mod picks
+pub mod runs

@@ -1,0 +1,9 @@
+-- Picks, bags, and rules without multi calls.
+pub mod Enumerated
+pub mod FirstCall
+pub mod Held
+pub mod NoIterators
+pub mod OnePick
+pub mod Ordered
+pub mod Plain
+pub mod SamePlaces

@@ -1,0 +1,162 @@
+-- A call that is ready can be gone over before others, and results are of places alone.
+use Rattle.std.proofs.Common.{◌≡◌, ℕ, Bool, true, false, cond, List, [], ◌∷◌, ◌++◌, Option, Some, None, Contains, flat_map, refl, sym, ap, ◌∙◌, subst, subst₂}
+use Rattle.std.specs.Prelude.{IsPermutation, ◌&&◌}
+use Rattle.std.specs.List.{list_all}
+use Rattle.std.proofs.lemmas.List.{append_assoc}
+use Rattle.std.proofs.lemmas.List.Elements.{Contains-append_left}
+use Rattle.std.proofs.lemmas.List.Sorted.{IsPermutation-refl, IsPermutation-trans, IsPermutation-append, IsPermutation-append_left, IsPermutation-append_right, IsPermutation-append_comm}
+use Rattle.std.proofs.lemmas.Grind.{flat_map-append}
+use Rattle.isle_model.specs.rules.Values.{Value}
+use Rattle.isle_model.specs.rules.Meaning.{Content, Meaning}
+use Rattle.isle_model.specs.trees.Run.{World, as_value, or_else}
+use Rattle.isle_model.specs.sites.Sites.{SiteTerm, SetRule, unfold_site}
+use Rattle.isle_model.specs.sites.Demands.{site_term_eq}
+use Rattle.isle_model.specs.rules.Picks.{Pick, place_of, site_content, places_in, picks_over, SitedVars, matches_under, results_with, results_under}
+use Rattle.isle_model.specs.trees.Collects.{content_at, meets, same_value, all_same, demands_hold, as_list, result_in}
+use Rattle.isle_model.specs.rules.Outcome.{then_option}
+use Rattle.isle_model.specs.rules.Program.{Program}
+use Rattle.isle_model.specs.rules.Typed.{TypedRule}
+use Rattle.isle_model.proofs.Members.{in_head, in_tail}
+use Rattle.isle_laws_runs.specs.Exact.{GiveSamePlaces}
+use Rattle.isle_laws_runs.specs.Orders.{Covered, OrderedFrom, IsOfPlaces, CallsCanComeFirst, ResultsAreOfPlaces}
+use Rattle.isle_model.proofs.SameSites.{term_means}
+use Rattle.isle_laws_runs.proofs.picks.SamePlaces.{content_same, only_places_matter_lem}
+use Rattle.isle_laws_runs.proofs.picks.Enumerated.{keys, keys_push, content_kept}
+
+-- 1. lists that lists make
+module _ {X Y Z : Type 0} where
+  flat_flat : (f : Y → List Z) (g : X → List Y) (xs : List X) → flat_map f (flat_map g xs) ≡ flat_map (λ x. flat_map f (g x)) xs
+  flat_flat f g [] = refl
+  flat_flat f g (x ∷ xs) = flat_map-append f (g x) (flat_map g xs) ∙ ap (λ l. flat_map f (g x) ++ l) (flat_flat f g xs)
+
+-- a, b, c, d with b and c exchanged
+middle : {Z : Type 0} (a b c d : List Z) → IsPermutation ((a ++ b) ++ (c ++ d)) ((a ++ c) ++ (b ++ d))
+middle a b c d =
+    subst₂ IsPermutation (sym (append_assoc a b (c ++ d))) (sym (append_assoc a c (b ++ d)))
+    (IsPermutation-append_right a (b ++ (c ++ d)) (c ++ (b ++ d))
+    (subst₂ IsPermutation (append_assoc b c d) (append_assoc c b d) (IsPermutation-append_left d (b ++ c) (c ++ b) (IsPermutation-append_comm b c))))
+
+module _ {X Z : Type 0} where
+  flat_moved : (f g : X → List Z) (xs : List X) → ((x : X) → IsPermutation (f x) (g x)) → IsPermutation (flat_map f xs) (flat_map g xs)
+  flat_moved f g [] h = IsPermutation-refl []
+  flat_moved f g (x ∷ xs) h = IsPermutation-append (f x) (g x) (flat_map f xs) (flat_map g xs) (h x) (flat_moved f g xs h)
+
+  all_empty : (xs : List X) → flat_map {A = Z} (λ x. []) xs ≡ []
+  all_empty [] = refl
+  all_empty (x ∷ xs) = all_empty xs
+
+  both_in_one : (f g : X → List Z) (xs : List X) → IsPermutation (flat_map f xs ++ flat_map g xs) (flat_map (λ x. f x ++ g x) xs)
+  both_in_one f g [] = IsPermutation-refl []
+  both_in_one f g (x ∷ xs) =
+      IsPermutation-trans _ ((f x ++ g x) ++ (flat_map f xs ++ flat_map g xs)) _
+      (middle (f x) (flat_map f xs) (g x) (flat_map g xs))
+      (IsPermutation-append_right (f x ++ g x) _ _ (both_in_one f g xs))
+
+exchanged : {X Y Z : Type 0} (g : X → Y → List Z) (xs : List X) (ys : List Y) → IsPermutation (flat_map (λ x. flat_map (g x) ys) xs) (flat_map (λ y. flat_map (λ x. g x y) xs) ys)
+exchanged g [] ys = subst (IsPermutation []) (sym (all_empty ys)) (IsPermutation-refl [])
+exchanged g (x ∷ xs) ys =
+    IsPermutation-trans _ (flat_map (g x) ys ++ flat_map (λ y. flat_map (λ z. g z y) xs) ys) _
+    (IsPermutation-append_right (flat_map (g x) ys) _ _ (exchanged g xs ys))
+    (both_in_one (g x) (λ y. flat_map (λ z. g z y) xs) ys)
+
+-- 2. places
+else_kept : (b : Bool) (n : ℕ) (o q : Option ℕ) → cond b (Some n) (or_else o q) ≡ or_else (cond b (Some n) o) q
+else_kept true n o q = refl
+else_kept false n o q = refl
+
+place_after : (k rest : Pick) (c : SiteTerm) → place_of (k ++ rest) c ≡ or_else (place_of k c) (place_of rest c)
+place_after [] rest c = refl
+place_after (e ∷ k) rest c = ap (cond (site_term_eq e.0 c) (Some e.1)) (place_after k rest c) ∙ else_kept (site_term_eq e.0 c) e.1 (place_of k c) (place_of rest c)
+
+longer_same : (k l rest : Pick) → GiveSamePlaces k l → GiveSamePlaces (k ++ rest) (l ++ rest)
+longer_same k l rest g c = place_after k rest c ∙ ap (λ o. or_else o (place_of rest c)) (g c) ∙ sym (place_after l rest c)
+
+one_of_two : (o : Option ℕ) (x y : Bool) (n i : ℕ) → (x ≡ true → y ≡ true → ⊥)
+    → or_else (or_else o (cond x (Some n) None)) (cond y (Some i) None) ≡ or_else (or_else o (cond y (Some i) None)) (cond x (Some n) None)
+one_of_two (Some v) x y n i h = refl
+one_of_two None true true n i h = absurd (h refl refl)
+one_of_two None true false n i h = refl
+one_of_two None false true n i h = refl
+one_of_two None false false n i h = refl
+
+two_same : (k : Pick) (a b : SiteTerm) (n i : ℕ) → (a ≡ b → ⊥) → GiveSamePlaces ((k ++ (a, n) ∷ []) ++ (b, i) ∷ []) ((k ++ (b, i) ∷ []) ++ (a, n) ∷ [])
+two_same k a b n i h c =
+    place_after (k ++ (a, n) ∷ []) ((b, i) ∷ []) c
+    ∙ ap (λ o. or_else o (place_of ((b, i) ∷ []) c)) (place_after k ((a, n) ∷ []) c)
+    ∙ one_of_two (place_of k c) (site_term_eq a c) (site_term_eq b c) n i (λ s t. h (term_means a c s ∙ sym (term_means b c t)))
+    ∙ ap (λ o. or_else o (place_of ((a, n) ∷ []) c)) (sym (place_after k ((b, i) ∷ []) c))
+    ∙ sym (place_after (k ++ (b, i) ∷ []) ((a, n) ∷ []) c)
+
+-- 3. picks
+module _ (m : Meaning) (args : List Value) (f : Pick → List Content) (g : IsOfPlaces f) where
+  abbrev made : Pick → List SiteTerm → List Content
+  made k calls = flat_map f (picks_over m args k calls)
+
+  made_each : (k : Pick) (c : SiteTerm) (calls : List SiteTerm) → made k (c ∷ calls) ≡ flat_map (λ n. made (k ++ (c, n) ∷ []) calls) (places_in (site_content m args k c))
+  made_each k c calls = flat_flat f (λ n. picks_over m args (k ++ (c, n) ∷ []) calls) (places_in (site_content m args k c))
+
+  made_same : (calls : List SiteTerm) (k l : Pick) → GiveSamePlaces k l → made k calls ≡ made l calls
+  made_same [] k l h = ap (λ u. u ++ []) (g k l h)
+  made_same (c ∷ calls) k l h =
+      let e = content_same m k l h args c in
+      made_each k c calls
+      ∙ (λ j. flat_map (λ n. made_same calls (k ++ (c, n) ∷ []) (l ++ (c, n) ∷ []) (longer_same k l ((c, n) ∷ []) h) j) (places_in (e j)))
+      ∙ sym (made_each l c calls)
+
+  made_two : (k : Pick) (a b : SiteTerm) (n : ℕ) (calls : List SiteTerm) → Covered (keys k) b
+      → made (k ++ (a, n) ∷ []) (b ∷ calls) ≡ flat_map (λ i. made ((k ++ (a, n) ∷ []) ++ (b, i) ∷ []) calls) (places_in (site_content m args k b))
+  made_two k a b n calls h =
+      made_each (k ++ (a, n) ∷ []) b calls
+      ∙ ap (λ o. flat_map (λ i. made ((k ++ (a, n) ∷ []) ++ (b, i) ∷ []) calls) (places_in o)) (content_kept m args k ((a, n) ∷ []) b h)
+
+  first : (before after : List SiteTerm) (k : Pick) (c : SiteTerm) → OrderedFrom (keys k) before → Covered (keys k) c → (Contains before c → ⊥)
+      → IsPermutation (made k (before ++ c ∷ after)) (made k (c ∷ (before ++ after)))
+  first [] after k c o v d = IsPermutation-refl _
+  first (x ∷ before) after k c o v d =
+      let rest = before ++ after in
+      let here = places_in (site_content m args k x) in
+      let there = places_in (site_content m args k c) in
+      let moved : IsPermutation (flat_map (λ n. made (k ++ (x, n) ∷ []) (before ++ c ∷ after)) here) (flat_map (λ n. made (k ++ (x, n) ∷ []) (c ∷ rest)) here)
+      = flat_moved _ _ here (λ n.
+      first before after (k ++ (x, n) ∷ []) c
+      (subst (λ l. OrderedFrom l before) (keys_push k (x, n)) o.1)
+      (subst (λ l. Covered l c) (keys_push k (x, n)) (λ a h. Contains-append_left (keys k) (x ∷ []) a (v a h)))
+      (λ h. d (in_tail x c before h))) in
+      let left : flat_map (λ n. made (k ++ (x, n) ∷ []) (c ∷ rest)) here ≡ flat_map (λ n. flat_map (λ i. made ((k ++ (x, n) ∷ []) ++ (c, i) ∷ []) rest) there) here
+      = λ j. flat_map (λ n. made_two k x c n rest v j) here in
+      let right : flat_map (λ i. flat_map (λ n. made ((k ++ (x, n) ∷ []) ++ (c, i) ∷ []) rest) here) there ≡ flat_map (λ i. made (k ++ (c, i) ∷ []) (x ∷ rest)) there
+      = (λ j. flat_map (λ i. flat_map (λ n. made_same rest ((k ++ (x, n) ∷ []) ++ (c, i) ∷ []) ((k ++ (c, i) ∷ []) ++ (x, n) ∷ []) (two_same k x c n i (λ e. d (subst (Contains (x ∷ before)) e (in_head x before)))) j) here) there)
+      ∙ (λ j. flat_map (λ i. sym (made_two k c x i rest o.0) j) there) in
+      subst₂ IsPermutation (sym (made_each k x (before ++ c ∷ after))) (right ∙ sym (made_each k c (x ∷ rest)))
+      (IsPermutation-trans _ _ _ moved
+      (subst (λ l. IsPermutation l (flat_map (λ i. flat_map (λ n. made ((k ++ (x, n) ∷ []) ++ (c, i) ∷ []) rest) here) there)) (sym left)
+      (exchanged (λ n i. made ((k ++ (x, n) ∷ []) ++ (c, i) ∷ []) rest) here there)))
+
+pub calls_can_come_first_lem : CallsCanComeFirst
+calls_can_come_first_lem m args f k before after call g o v d = first m args f g before after k call o v d
+
+-- 4. results
+module _ (p : Program) (m : Meaning) (args : List Value) (r : TypedRule) (k l : Pick) (g : GiveSamePlaces k l) where
+  with_same : (o : Option SitedVars) → results_with p m k r o ≡ results_with p m l r o
+  with_same None = refl
+  with_same (Some e) = ap (λ o. o.results) ((only_places_matter_lem p m args r k l g).ends e)
+
+  rule_same : results_under p m args r k ≡ results_under p m args r l
+  rule_same = ap (results_with p m k r) (only_places_matter_lem p m args r k l g).matching ∙ with_same (matches_under p m l r args)
+
+module _ (w : World) (r : SetRule) (k l : Pick) (g : GiveSamePlaces k l) where
+  at_same : (s : ℕ) → content_at w k s ≡ content_at w l s
+  at_same s = content_same w.meaning k l g w.args (unfold_site w.sites s)
+
+  class_same : (c : List ℕ) → all_same w k c ≡ all_same w l c
+  class_same [] = refl
+  class_same (s ∷ rest) = λ j. list_all (λ t. same_value (then_option (at_same s j) as_value) (then_option (at_same t j) as_value)) rest
+
+  demands_same : demands_hold w k r ≡ demands_hold w l r
+  demands_same = λ j. list_all (λ d. meets w.meaning d.1 (at_same d.0 j)) r.constraints && list_all (λ c. class_same c j) r.classes
+
+  result_same : result_in w r k ≡ result_in w r l
+  result_same = λ j. cond (demands_same j) (as_list (at_same r.result j)) []
+
+pub results_are_of_places_lem : ResultsAreOfPlaces
+results_are_of_places_lem = (λ p m args r k l g. rule_same p m args r k l g, λ w r k l g. result_same w r k l g)

@@ -1,0 +1,5 @@
+use Rattle.isle_laws_runs.proofs.runs.SoundChoice.{sound_trees_choose_lem}
+use Rattle.isle_laws_runs.proofs.sound_trees_choose.Goals as goal
+
+pub returns : goal.returns
+returns c = sound_trees_choose_lem

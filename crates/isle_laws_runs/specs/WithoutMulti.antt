@@ -1,0 +1,83 @@
+-- Rules without multi calls, and what a pick can't change of them.
+use Rattle.std.specs.Prelude.{◌≡◌, false, List, [], ◌∷◌, Option, Some, None}
+use Rattle.isle_model.specs.rules.Values.{Value}
+use Rattle.isle_model.specs.rules.Meaning.{Meaning}
+use Rattle.isle_model.specs.rules.Program.{Program, Kind, a_variant, a_struct, a_call, unknown, kind, is_multi}
+use Rattle.isle_model.specs.rules.Matching.{Vars, matches}
+use Rattle.isle_model.specs.rules.RightSide.{right_side}
+use Rattle.isle_model.specs.rules.Choice.{with_vars}
+use Rattle.isle_model.specs.sites.Demands.{demands_of}
+use Rattle.isle_model.specs.rules.Picks.{Pick, picks, SitedVars, values_in, matches_under, right_side_under, bag}
+use Rattle.isle_model.specs.rules.Typed.{TypedPattern, match_bind, match_term, match_and, TypedPatterns, no_typed_pattern, typed_pattern_and, TypedExpr, make_term, make_let, TypedExprs, no_typed_expr, typed_expr_and, TypedLets, no_typed_let, typed_let_and, TypedIfLet, TypedRule}
+
+-- what is asked of the parts of a term's pattern, where the term is one of the program: others have no parts
+abbrev pub WhereKnown : Kind → Type 0 → Type 0
+WhereKnown (a_variant ty variant) P = P
+WhereKnown (a_struct ty) P = P
+WhereKnown (a_call flags infallible) P = P
+WhereKnown unknown P = Unit {0}
+
+-- no term of a pattern is multi
+abbrev mutual
+  pub PatternCallsNoMulti : Program → TypedPattern → Type 0
+  PatternCallsNoMulti p (match_bind ty x sub) = PatternCallsNoMulti p sub
+  PatternCallsNoMulti p (match_term ty t args) = (is_multi p t ≡ false) × WhereKnown (kind p t) (PatternsCallNoMulti p args)
+  PatternCallsNoMulti p (match_and ty subs) = PatternsCallNoMulti p subs
+  PatternCallsNoMulti p _ = Unit {0}
+
+  pub PatternsCallNoMulti : Program → TypedPatterns → Type 0
+  PatternsCallNoMulti p no_typed_pattern = Unit {0}
+  PatternsCallNoMulti p (typed_pattern_and q qs) = PatternCallsNoMulti p q × PatternsCallNoMulti p qs
+
+-- no term of an expression is
+abbrev mutual
+  pub ExprCallsNoMulti : Program → TypedExpr → Type 0
+  ExprCallsNoMulti p (make_term ty t args) = (is_multi p t ≡ false) × ExprsCallNoMulti p args
+  ExprCallsNoMulti p (make_let ty defs body) = LetsCallNoMulti p defs × ExprCallsNoMulti p body
+  ExprCallsNoMulti p _ = Unit {0}
+
+  pub ExprsCallNoMulti : Program → TypedExprs → Type 0
+  ExprsCallNoMulti p no_typed_expr = Unit {0}
+  ExprsCallNoMulti p (typed_expr_and x xs) = ExprCallsNoMulti p x × ExprsCallNoMulti p xs
+
+  pub LetsCallNoMulti : Program → TypedLets → Type 0
+  LetsCallNoMulti p no_typed_let = Unit {0}
+  LetsCallNoMulti p (typed_let_and x ty value rest) = ExprCallsNoMulti p value × LetsCallNoMulti p rest
+
+-- none of a rule's argument patterns, none of its if-lets
+abbrev pub ArgsCallNoMulti : Program → List TypedPattern → Type 0
+ArgsCallNoMulti p [] = Unit {0}
+ArgsCallNoMulti p (q ∷ qs) = PatternCallsNoMulti p q × ArgsCallNoMulti p qs
+
+abbrev pub IfLetsCallNoMulti : Program → List TypedIfLet → Type 0
+IfLetsCallNoMulti p [] = Unit {0}
+IfLetsCallNoMulti p (i ∷ is) = PatternCallsNoMulti p i.lhs × ExprCallsNoMulti p i.rhs × IfLetsCallNoMulti p is
+
+-- a rule without multi calls
+pub record CallsNoMulti (p : Program) (r : TypedRule) : Type 0 where
+  pub patterns : ArgsCallNoMulti p r.args
+  pub conditions : IfLetsCallNoMulti p r.iflets
+  pub right : ExprCallsNoMulti p r.rhs
+
+-- a rule is without multi calls exactly where its demands go over no call
+abbrev pub NoMultiIsNoIterators : Type 0
+NoMultiIsNoIterators = (p : Program) (r : TypedRule) → (CallsNoMulti p r → (demands_of p r).iterators ≡ []) × ((demands_of p r).iterators ≡ [] → CallsNoMulti p r)
+
+-- the variables taken, without their sites
+abbrev pub without_sites : Option SitedVars → Option Vars
+without_sites None = None
+without_sites (Some e) = Some (values_in e)
+
+-- under every pick, a rule without multi calls matches as it does without one, with the same values of its variables
+abbrev pub MatchesAsPlain : Type 0
+MatchesAsPlain = (p : Program) (m : Meaning) (k : Pick) (r : TypedRule) (args : List Value) → CallsNoMulti p r → without_sites (matches_under p m k r args) ≡ matches p m r args
+
+-- under every pick, its right side does the same
+abbrev pub EndsAsPlain : Type 0
+EndsAsPlain = (p : Program) (m : Meaning) (k : Pick) (r : TypedRule) (e : SitedVars) → CallsNoMulti p r → right_side_under p m k r e ≡ right_side p m r (values_in e)
+
+-- so it has the empty pick alone, and its bag is the result of its right side, where it matches
+abbrev pub BagAsPlain : Type 0
+BagAsPlain =
+    (p : Program) (m : Meaning) (args : List Value) (r : TypedRule) → CallsNoMulti p r
+    → (picks p m args r ≡ [] ∷ []) × (bag p m (r ∷ []) args ≡ (with_vars p m r (matches p m r args)).results)

@@ -1,0 +1,82 @@
+//! Laws of runs: the run of a sound tree is a choice by priority, or collects the bag of a multi term; picks and bags.
+//!
+//! A function here has an empty body: its clause is a law, and its proof stands in `proofs/`.
+#![tactic(auto)]
+
+ghost use Rattle.isle_model.specs.trees.Collects.{SoundTreesCollect};
+ghost use Rattle.isle_laws_runs.specs.WithoutMulti.{NoMultiIsNoIterators, MatchesAsPlain, EndsAsPlain, BagAsPlain};
+ghost use Rattle.isle_model.specs.rules.Meaning.{one};
+ghost use Rattle.isle_laws_runs.specs.Exact.{PicksAreExact, OnlyPlacesMatter, ContentsAreHeld, HeldAreContents};
+ghost use Rattle.isle_laws_runs.specs.Orders.{CallsCanComeFirst, ResultsAreOfPlaces};
+ghost use Rattle.isle_model.specs.rules.Values.{Value, value_eq};
+ghost use Rattle.std.specs.Prelude.{◌≡◌, Decides};
+ghost use Rattle.isle_model.specs.trees.SetRuns.{SoundTreesChoose};
+
+/// The run of a sound tree of any set of a multi term, whose rules make no impure call and demand every gate below their
+/// sites, collects the bag of the rules' results under each pick under which their demands hold.
+pub fn sound_trees_collect()
+    ensures { SoundTreesCollect }
+{}
+
+/// A rule is without multi calls exactly where its demands go over no call.
+pub fn no_multi_is_no_iterators()
+    ensures { NoMultiIsNoIterators }
+{}
+
+/// A rule without multi calls matches under every pick as it does without one.
+#[tactic(auto, using(crate::proofs::picks::Plain::matches_as_plain_lem))]
+pub fn matches_as_plain()
+    ensures { MatchesAsPlain }
+{}
+
+/// The right side of a rule without multi calls ends under every pick as it does without one.
+#[tactic(auto, using(crate::proofs::picks::Plain::ends_as_plain_lem))]
+pub fn ends_as_plain()
+    ensures { EndsAsPlain }
+{}
+
+/// A rule without multi calls has the empty pick alone, and its bag is the result of its right side, where it matches.
+pub fn bag_as_plain()
+    ensures { BagAsPlain }
+{}
+
+/// The list of a rule's picks has its picks and no others, each once.
+pub fn picks_are_exact()
+    ensures { PicksAreExact }
+{}
+
+/// Of a pick only the places of its calls matter: two picks with the same places act alike, whatever their order.
+pub fn only_places_matter()
+    ensures { OnlyPlacesMatter }
+{}
+
+/// A call that takes answers of calls with a place alone can be gone over before others: what is made of the picks is one
+/// bag.
+pub fn calls_can_come_first()
+    ensures { CallsCanComeFirst }
+{}
+
+/// The results of a rule under a pick are of the pick's places alone, and so are those of a set's rule.
+pub fn results_are_of_places()
+    ensures { ResultsAreOfPlaces }
+{}
+
+/// What a site has under a pick, it can hold.
+pub fn contents_are_held()
+    ensures { ContentsAreHeld }
+{}
+
+/// What a site can hold, it has under every pick, where it takes no answers of multi calls.
+pub fn held_are_contents()
+    ensures { HeldAreContents }
+{}
+
+/// The test of values is exact.
+pub fn value_eq_is_exact()
+    ensures { (v : Value) → (w : Value) → Decides (value_eq v w) (v ≡ w) }
+{}
+
+/// The run of a sound tree of any set whose rules go over no calls is a choice by priority.
+pub fn sound_trees_choose()
+    ensures { SoundTreesChoose }
+{}

@@ -1,0 +1,217 @@
+-- Scores are ordered, and one open test has the greatest.
+use Rattle.std.proofs.Common.{◌≡◌, ◌≢◌, ◌⊎◌, ℕ, ◌<◌, ◌==◌, Bool, true, false, ◌&&◌, nat_lt, List, [], ◌∷◌, Contains, sym, ap, ◌∙◌, subst, inl, inr, arith, eqb-true, eq-eqb, ltb-true, lt-ltb}
+use Rattle.std.proofs.lemmas.Bool.{cases_Bool, and_parts, and_from, or_cases, or_left, or_right, false≢true, cases_lt}
+use Rattle.isle_model.specs.sites.Sites.{SiteSet}
+use Rattle.isle_model.specs.trees.Places.{Around}
+use Rattle.isle_model.specs.trees.Sound.{or_later}
+use Rattle.isle_model.specs.trees.Tests.{Test, match_test, equal_test, loop_test, IsOpen, open_tests, Score, score, is_greater}
+use Rattle.isle_model.specs.trees.Best.{IsGreatest}
+use Rattle.isle_model.proofs.Members.{nothing_in, in_head, in_tail, in_cases}
+use Rattle.isle_laws_trees.specs.Scores.{ScoresAreOrdered, OneTestIsGreatest}
+use Rattle.isle_laws_trees.proofs.OpenTests.{open_listed, listed_open}
+
+-- 1. one number, and what follows where two are the same
+below_itself : (n : ℕ) → nat_lt n n ≡ true → ⊥
+below_itself n h = (let l = ltb-true n n h in omega arith)
+
+module _ (a : ℕ) (t : Bool) where
+  pub one_itself : or_later (nat_lt a a) (a == a) t ≡ true → t ≡ true
+  one_itself h = elim (or_cases (nat_lt a a) ((a == a) && t) h) [ inl l ↦ absurd (below_itself a l) | inr r ↦ (and_parts (a == a) t r).1 ]
+
+module _ (a b c : ℕ) (t t' t'' : Bool) (next : t ≡ true → t' ≡ true → t'' ≡ true) where
+  less : a < c → or_later (nat_lt a c) (a == c) t'' ≡ true
+  less l = or_left (nat_lt a c) ((a == c) && t'') (lt-ltb a c l)
+
+  more : c < a → or_later (nat_lt c a) (a == c) t'' ≡ true
+  more l = or_left (nat_lt c a) ((a == c) && t'') (lt-ltb c a l)
+
+  same : (x : Bool) → a ≡ c → t'' ≡ true → or_later x (a == c) t'' ≡ true
+  same x e h = or_right x ((a == c) && t'') (and_from (a == c) t'' (eq-eqb a c e) h)
+
+  chain_up : or_later (nat_lt a b) (a == b) t ≡ true → or_later (nat_lt b c) (b == c) t' ≡ true → or_later (nat_lt a c) (a == c) t'' ≡ true
+  chain_up h k =
+      elim (or_cases (nat_lt a b) ((a == b) && t) h) [
+        | inl x ↦
+            let p = ltb-true a b x in
+            elim (or_cases (nat_lt b c) ((b == c) && t') k) [
+              | inl y ↦ let q = ltb-true b c y in less (omega arith)
+              | inr y ↦ let q = eqb-true b c (and_parts (b == c) t' y).0 in less (omega arith)
+            ]
+        | inr x ↦
+            let d = and_parts (a == b) t x in
+            let p = eqb-true a b d.0 in
+            elim (or_cases (nat_lt b c) ((b == c) && t') k) [
+              | inl y ↦ let q = ltb-true b c y in less (omega arith)
+              | inr y ↦ let e = and_parts (b == c) t' y in same (nat_lt a c) (p ∙ eqb-true b c e.0) (next d.1 e.1)
+            ]
+      ]
+
+  chain_down : or_later (nat_lt b a) (a == b) t ≡ true → or_later (nat_lt c b) (b == c) t' ≡ true → or_later (nat_lt c a) (a == c) t'' ≡ true
+  chain_down h k =
+      elim (or_cases (nat_lt b a) ((a == b) && t) h) [
+        | inl x ↦
+            let p = ltb-true b a x in
+            elim (or_cases (nat_lt c b) ((b == c) && t') k) [
+              | inl y ↦ let q = ltb-true c b y in more (omega arith)
+              | inr y ↦ let q = eqb-true b c (and_parts (b == c) t' y).0 in more (omega arith)
+            ]
+        | inr x ↦
+            let d = and_parts (a == b) t x in
+            let p = eqb-true a b d.0 in
+            elim (or_cases (nat_lt c b) ((b == c) && t') k) [
+              | inl y ↦ let q = ltb-true c b y in more (omega arith)
+              | inr y ↦ let e = and_parts (b == c) t' y in same (nat_lt c a) (p ∙ eqb-true b c e.0) (next d.1 e.1)
+            ]
+      ]
+
+module _ (a b : ℕ) (t t' : Bool) (next : a ≡ b → (t ≡ true) ⊎ (t' ≡ true)) where
+  first : a < b → or_later (nat_lt a b) (a == b) t ≡ true
+  first l = or_left (nat_lt a b) ((a == b) && t) (lt-ltb a b l)
+
+  second : b < a → or_later (nat_lt b a) (b == a) t' ≡ true
+  second l = or_left (nat_lt b a) ((b == a) && t') (lt-ltb b a l)
+
+  here : (x : Bool) → a ≡ b → t ≡ true → or_later x (a == b) t ≡ true
+  here x e h = or_right x ((a == b) && t) (and_from (a == b) t (eq-eqb a b e) h)
+
+  there : (x : Bool) → a ≡ b → t' ≡ true → or_later x (b == a) t' ≡ true
+  there x e h = or_right x ((b == a) && t') (and_from (b == a) t' (eq-eqb b a (sym e)) h)
+
+  compare_up : (or_later (nat_lt a b) (a == b) t ≡ true) ⊎ (or_later (nat_lt b a) (b == a) t' ≡ true)
+  compare_up =
+      elim (cases_lt a b) [
+        | inl l ↦ inl (first l)
+        | inr l ↦ elim (cases_lt b a) [ inl m ↦ inr (second m) | inr m ↦ let e : a ≡ b = omega arith in elim (next e) [ inl h ↦ inl (here (nat_lt a b) e h) | inr h ↦ inr (there (nat_lt b a) e h) ] ]
+      ]
+
+  compare_down : (or_later (nat_lt b a) (a == b) t ≡ true) ⊎ (or_later (nat_lt a b) (b == a) t' ≡ true)
+  compare_down =
+      elim (cases_lt a b) [
+        | inl l ↦ inr (or_left (nat_lt a b) ((b == a) && t') (lt-ltb a b l))
+        | inr l ↦ elim (cases_lt b a) [ inl m ↦ inl (or_left (nat_lt b a) ((a == b) && t) (lt-ltb b a m)) | inr m ↦ let e : a ≡ b = omega arith in elim (next e) [ inl h ↦ inl (here (nat_lt b a) e h) | inr h ↦ inr (there (nat_lt a b) e h) ] ]
+      ]
+
+-- 2. scores
+abbrev by_site : Score → Score → Bool
+by_site x y = or_later (nat_lt x.site y.site) (x.site == y.site) (nat_lt x.other y.other)
+
+abbrev by_form : Score → Score → Bool
+by_form x y = or_later (nat_lt x.form y.form) (x.form == y.form) (by_site x y)
+
+abbrev by_emitted : Score → Score → Bool
+by_emitted x y = or_later (nat_lt y.emitted x.emitted) (x.emitted == y.emitted) (by_form x y)
+
+greater_itself : (x : Score) → is_greater x x ≡ true → ⊥
+greater_itself x h =
+    below_itself x.other (one_itself x.site (nat_lt x.other x.other) (one_itself x.form (by_site x x) (one_itself x.emitted (by_form x x) (one_itself x.count (by_emitted x x) h))))
+
+not_greater_itself : (x : Score) → is_greater x x ≡ false
+not_greater_itself x = elim (cases_Bool (is_greater x x)) [ inl t ↦ absurd (greater_itself x t) | inr f ↦ f ]
+
+greater_chain : (x y z : Score) → is_greater x y ≡ true → is_greater y z ≡ true → is_greater x z ≡ true
+greater_chain x y z =
+    chain_down x.count y.count z.count (by_emitted x y) (by_emitted y z) (by_emitted x z)
+    (chain_down x.emitted y.emitted z.emitted (by_form x y) (by_form y z) (by_form x z)
+    (chain_up x.form y.form z.form (by_site x y) (by_site y z) (by_site x z)
+    (chain_up x.site y.site z.site (nat_lt x.other y.other) (nat_lt y.other z.other) (nat_lt x.other z.other)
+    (λ h k. let p = ltb-true x.other y.other h in let q = ltb-true y.other z.other k in lt-ltb x.other z.other (omega arith)))))
+
+differ_last : (a b : ℕ) → a ≢ b → (nat_lt a b ≡ true) ⊎ (nat_lt b a ≡ true)
+differ_last a b d = elim (cases_lt a b) [ inl l ↦ inl (lt-ltb a b l) | inr l ↦ inr (lt-ltb b a (omega arith)) ]
+
+compare_scores : (x y : Score) → (x.form ≡ y.form → x.site ≡ y.site → x.other ≡ y.other → ⊥) → (is_greater x y ≡ true) ⊎ (is_greater y x ≡ true)
+compare_scores x y d =
+    compare_down x.count y.count (by_emitted x y) (by_emitted y x)
+    (λ e. compare_down x.emitted y.emitted (by_form x y) (by_form y x)
+    (λ f. compare_up x.form y.form (by_site x y) (by_site y x)
+    (λ g. compare_up x.site y.site (nat_lt x.other y.other) (nat_lt y.other x.other)
+    (λ h. differ_last x.other y.other (d g h)))))
+
+same_tests : (set : SiteSet) (ar : Around) (here : List ℕ) (t u : Test)
+    → (score set ar here t).form ≡ (score set ar here u).form → (score set ar here t).site ≡ (score set ar here u).site → (score set ar here t).other ≡ (score set ar here u).other → t ≡ u
+same_tests set ar here (match_test s) (match_test t) f g h = ap match_test g
+same_tests set ar here (equal_test a b) (equal_test c d) f g h = λ k. equal_test (g k) (h k)
+same_tests set ar here (loop_test s) (loop_test t) f g h = ap loop_test g
+same_tests set ar here (match_test s) (equal_test c d) f g h = absurd (let n : ◌≡◌ {A = ℕ} 0 1 = f in omega arith)
+same_tests set ar here (match_test s) (loop_test t) f g h = absurd (let n : ◌≡◌ {A = ℕ} 0 2 = f in omega arith)
+same_tests set ar here (equal_test a b) (match_test t) f g h = absurd (let n : ◌≡◌ {A = ℕ} 1 0 = f in omega arith)
+same_tests set ar here (equal_test a b) (loop_test t) f g h = absurd (let n : ◌≡◌ {A = ℕ} 1 2 = f in omega arith)
+same_tests set ar here (loop_test s) (match_test t) f g h = absurd (let n : ◌≡◌ {A = ℕ} 2 0 = f in omega arith)
+same_tests set ar here (loop_test s) (equal_test c d) f g h = absurd (let n : ◌≡◌ {A = ℕ} 2 1 = f in omega arith)
+
+compare_tests : (set : SiteSet) (ar : Around) (here : List ℕ) (t u : Test) → t ≢ u
+    → (is_greater (score set ar here t) (score set ar here u) ≡ true) ⊎ (is_greater (score set ar here u) (score set ar here t) ≡ true)
+compare_tests set ar here t u d = compare_scores (score set ar here t) (score set ar here u) (λ f g h. d (same_tests set ar here t u f g h))
+
+pub scores_are_ordered_lem : ScoresAreOrdered
+scores_are_ordered_lem = record { itself = not_greater_itself; chain = greater_chain; compare = compare_tests }
+
+-- 3. the greatest
+module _ (set : SiteSet) (ar : Around) (here : List ℕ) where
+  abbrev of : Test → Score
+  of t = score set ar here t
+
+  abbrev Greatest : List Test → Type 0
+  Greatest xs = (u : Test) × Contains xs u × ((v : Test) → Contains xs v → is_greater (of v) (of u) ≡ false)
+
+  not_above : (x u v : Test) → is_greater (of x) (of u) ≡ true → is_greater (of v) (of u) ≡ false → is_greater (of v) (of x) ≡ false
+  not_above x u v h k =
+      elim (cases_Bool (is_greater (of v) (of x))) [
+        | inl t ↦ absurd (false≢true (sym k ∙ greater_chain (of v) (of x) (of u) t h))
+        | inr f ↦ f
+      ]
+
+  greatest_of : (x : Test) (xs : List Test) → Greatest (x ∷ xs)
+  greatest_of x [] =
+      (x, in_head x [], λ v c. elim (in_cases x v [] c) [ inl e ↦ subst (λ w. is_greater (of w) (of x) ≡ false) e (not_greater_itself (of x)) | inr d ↦ absurd (nothing_in v d) ])
+  greatest_of x (y ∷ ys) =
+      let g = greatest_of y ys in
+      elim (cases_Bool (is_greater (of x) (of g.0))) [
+        | inl t ↦ (
+          x,
+          in_head x (y ∷ ys),
+          λ v c. elim (in_cases x v (y ∷ ys) c) [ inl e ↦ subst (λ w. is_greater (of w) (of x) ≡ false) e (not_greater_itself (of x)) | inr d ↦ not_above x g.0 v t (g.2 v d) ],
+        )
+        | inr f ↦ (
+          g.0,
+          in_tail x g.0 (y ∷ ys) g.1,
+          λ v c. elim (in_cases x v (y ∷ ys) c) [ inl e ↦ subst (λ w. is_greater (of w) (of g.0) ≡ false) e f | inr d ↦ g.2 v d ],
+        )
+      ]
+
+  greatest_among : (xs : List Test) (t : Test) → Contains xs t → Greatest xs
+  greatest_among [] t c = absurd (nothing_in t c)
+  greatest_among (x ∷ xs) t c = greatest_of x xs
+
+  same_or_apart : (x y : Score) → ((x.form ≡ y.form) × (x.site ≡ y.site) × (x.other ≡ y.other)) ⊎ (x.form ≡ y.form → x.site ≡ y.site → x.other ≡ y.other → ⊥)
+  same_or_apart x y =
+      elim (cases_Bool ((x.form == y.form) && (x.site == y.site) && (x.other == y.other))) [
+        | inl t ↦
+            let q = and_parts ((x.form == y.form) && (x.site == y.site)) (x.other == y.other) t in
+            let r = and_parts (x.form == y.form) (x.site == y.site) q.0 in
+            inl (eqb-true x.form y.form r.0, eqb-true x.site y.site r.1, eqb-true x.other y.other q.1)
+        | inr f ↦
+            inr (λ a b c.
+            false≢true (sym f ∙ and_from ((x.form == y.form) && (x.site == y.site)) (x.other == y.other)
+            (and_from (x.form == y.form) (x.site == y.site) (eq-eqb x.form y.form a) (eq-eqb x.site y.site b)) (eq-eqb x.other y.other c)))
+      ]
+
+  one_greatest : (u v : Test) → IsGreatest set ar here u → IsGreatest set ar here v → v ≡ u
+  one_greatest u v g h =
+      elim (same_or_apart (of v) (of u)) [
+        | inl e ↦ same_tests set ar here v u e.0 e.1 e.2
+        | inr d ↦
+            elim (compare_scores (of v) (of u) d) [
+              | inl t ↦ absurd (false≢true (sym (g.greatest v h.open_here) ∙ t))
+              | inr t ↦ absurd (false≢true (sym (h.greatest u g.open_here) ∙ t))
+            ]
+      ]
+
+  the_greatest : (t : Test) → IsOpen set ar t → (u : Test) × IsGreatest set ar here u × ((v : Test) → IsGreatest set ar here v → v ≡ u)
+  the_greatest t o =
+      let g = greatest_among (open_tests set ar) t (open_listed set ar t o) in
+      let top : IsGreatest set ar here g.0 = record { open_here = listed_open set ar g.0 g.1; greatest = λ v p. g.2 v (open_listed set ar v p) } in
+      (g.0, top, λ v h. one_greatest g.0 v top h)
+
+pub one_test_is_greatest_lem : OneTestIsGreatest
+one_test_is_greatest_lem set ar here t o = the_greatest set ar here t o

@@ -1,0 +1,18 @@
+-- Best trees of built sets.
+use Rattle.std.specs.Prelude.{[], ◌≡◌, ℕ, Bool, true, List, All}
+use Rattle.isle_model.specs.lists.Syntax.{Definition}
+use Rattle.isle_model.specs.sites.Sites.{SiteSet}
+use Rattle.isle_model.specs.trees.Trees.{Tree}
+use Rattle.isle_model.specs.trees.Sound.{IsSound}
+use Rattle.isle_model.specs.trees.Best.{IsBestTree}
+use Rattle.isle_model.specs.trees.WellBuilt.{HasOnePriority}
+use Rattle.isle_model.specs.lists.Elaborated.{TypedRules}
+use Rattle.isle_model.specs.claims.Environments.{TypesRead, IsElaborated, program_of}
+use Rattle.isle_model.specs.sites.RuleSets.{IsBuilt}
+
+-- so its best trees are sound
+abbrev pub BestTreesOfBuiltSetsAreSound : Type 0
+BestTreesOfBuiltSetsAreSound =
+    (e : TypesRead) (defs : List Definition) (expand : Bool) (rules : TypedRules) (t : ℕ) (set : SiteSet) (multi : Bool) (tree : Tree)
+    → IsElaborated e defs expand rules → IsBuilt (program_of e defs rules.rules) t set → All (λ r. r.iterators ≡ []) set.rules
+    → (multi ≡ true → HasOnePriority set.rules) → IsBestTree set tree → IsSound set multi tree

@@ -1,0 +1,3 @@
+pub mod BestLaws
+pub mod BuiltLaws
+pub mod Scores

@@ -1,0 +1,69 @@
+//! Laws of best trees: at each place the greatest test is made, for exactly the rules that it covers.
+//!
+//! A function here has no code, or calls the laws that its proof rests on: its clause is a law, and its proof stands in
+//! `proofs/`.
+#![tactic(auto)]
+
+ghost use Rattle.isle_laws_trees.specs.BestLaws.{OpenTestsAreListed, BestTreesShareMost, SitesAreTestedOnce, StepsAreFew, StepsMakeBestTrees, JudgeIsExact, TreeJudgeIsExact};
+ghost use Rattle.isle_laws_trees.specs.Scores.{ScoresAreOrdered, OneTestIsGreatest};
+ghost use Rattle.isle_model.specs.trees.WellBuilt.{BestTreesAreSound};
+ghost use Rattle.isle_laws_trees.specs.BuiltLaws.{BestTreesOfBuiltSetsAreSound};
+
+use isle_laws_demands::built_sets_are_well_built;
+
+/// The list of a place's open tests holds exactly the tests that are open there.
+pub fn open_tests_are_listed()
+    ensures { OpenTestsAreListed }
+{}
+
+/// The order of scores is strict, and tells any two tests of a place apart.
+pub fn scores_are_ordered()
+    ensures { ScoresAreOrdered }
+{}
+
+/// Where a test is open, one and only one is the greatest.
+pub fn one_test_is_greatest()
+    ensures { OneTestIsGreatest }
+{}
+
+/// Where the greatest tests are made, nowhere would an open test cover more rules than the test made.
+pub fn best_trees_share_most()
+    ensures { BestTreesShareMost }
+{}
+
+/// And no site is tested twice around a return.
+pub fn sites_are_tested_once()
+    ensures { SitesAreTestedOnce }
+{}
+
+/// And all blocks together hold at most a step for each demand of a rule, and its return.
+pub fn steps_are_few()
+    ensures { StepsAreFew }
+{}
+
+/// So the facts of a tree's steps are enough.
+pub fn steps_make_best_trees()
+    ensures { StepsMakeBestTrees }
+{}
+
+/// The judge of a marked tree passes it exactly where it is a best tree.
+pub fn judge_is_exact()
+    ensures { JudgeIsExact }
+{}
+
+/// The judge of a tree passes it exactly where it is a best tree, if the set's returns can be told apart.
+pub fn tree_judge_is_exact()
+    ensures { TreeJudgeIsExact }
+{}
+
+/// A best tree of a well built set is sound.
+pub fn best_trees_are_sound()
+    ensures { BestTreesAreSound }
+{}
+
+/// So its best trees are sound.
+pub fn best_trees_of_built_sets_are_sound()
+    ensures { BestTreesOfBuiltSetsAreSound }
+{
+    built_sets_are_well_built();
+}

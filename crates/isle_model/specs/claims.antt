@@ -1,0 +1,5 @@
+-- What each layer answers, up to the headline.
+pub mod Environments
+pub mod Headline
+pub mod Layers
+pub mod SetMeanings

@@ -1,0 +1,199 @@
+-- What the layers answer of typed rules, rule sets and trees: building, checking, serializing, and the whole way.
+use Rattle.std.specs.Prelude.{◌≡◌, ◌≢◌, ℕ, Bool, true, false, not, ◌&&◌, ◌||◌, List, [], ◌∷◌, ◌++◌, map, slice_get, All, IsTrue, if◌then◌else◌}
+use Rattle.std.specs.List.{list_all}
+use Rattle.isle_model.specs.lists.Syntax.{Definition}
+use Rattle.isle_model.specs.lists.Tables.{TypeEntry, TermEntry}
+use Rattle.isle_model.specs.rules.Program.{Program, is_multi, rules_of, terms_with_rules}
+use Rattle.isle_model.specs.sites.Sites.{Site, SiteSet, sources_at}
+use Rattle.isle_model.specs.trees.Trees.{Marked, Tree, no_step, step, Check, match_at, equal_at, loop_at, return_at, Arms, no_arm, arm}
+use Rattle.isle_model.specs.trees.Run.{World, run}
+use Rattle.isle_model.specs.trees.Places.{nothing_around, is_in, is_in_place, field_sites}
+use Rattle.isle_model.specs.trees.Sound.{ReturnsEach}
+use Rattle.isle_model.specs.trees.Best.{are_distinct, IsBestTree, SharesMost}
+use Rattle.isle_model.specs.trees.WellBuilt.{HasOnePriority}
+use Rattle.isle_model.specs.claims.Headline.{RunsAsChosen}
+use Rattle.isle_model.specs.trees.Collects.{Collects, CollectsTheBag, IsCollectedSet, ServesSet, set_bag}
+use Rattle.isle_model.specs.trees.SetRuns.{IsTestedSet, ServesTests, ChoosesFrom}
+use Rattle.isle_model.specs.sites.Overlap.{built_rules, OverlapsWrongly, IsShadowed, HasDistinctPositions, RuleReport, limit_passed, not_reached, rules_overlap, rule_shadows, build_reports, overlap_and_shadow_reports}
+use Rattle.isle_model.specs.lists.TypeTable.{IsValidTypes, type_table, constant_types}
+use Rattle.isle_model.specs.lists.Elaborated.{TypedRules}
+use Rattle.isle_model.specs.claims.Environments.{types_read, HasTypedRules, IsRead, program_of, AnswerAlike, AreRulesOf}
+use Rattle.isle_model.specs.sites.RuleSets.{IsBuilt}
+use Rattle.isle_model.specs.claims.SetMeanings.{CanBeServed, MeansItsRules}
+
+-- each term with rules, ascending, also where every rule is left out, with its built set: what those who use it rest on
+-- holds of it, and it means what its typed rules do
+pub record AreBuiltSets (p : Program) (sets : List (ℕ × SiteSet)) : Type 0 where
+  pub terms : map (λ s. s.0) sets ≡ terms_with_rules p
+  pub built : All (λ s. IsBuilt p s.0 s.1) sets
+  pub served : All (λ s. CanBeServed p s.0 s.1) sets
+  pub meaning : All (λ s. MeansItsRules p s.0 s.1) sets
+
+-- what building gives: the built sets, and what there is to report of the rules left out, in rule order
+pub record BuildAnswers (p : Program) (sets : List (ℕ × SiteSet)) (reports : List RuleReport) : Type 0 where
+  pub given : AreBuiltSets p sets
+  pub reported : reports ≡ build_reports p
+
+-- the rules of a program can be told apart: each one is reachable and passes no limit, no two of a term that isn't multi
+-- overlap wrongly, and none is shadowed
+pub record IsCheckable (p : Program) : Type 0 where
+  pub built : (t : ℕ) → map (λ b. b.rule) (built_rules p t) ≡ rules_of p t
+  pub overlaps : (t i j : ℕ) → OverlapsWrongly p t i j → ⊥
+  pub shadows : (t i : ℕ) → IsShadowed p t i → ⊥
+
+-- what checking gives where they can: what building gives
+pub record CheckAnswers (p : Program) (sets : List (ℕ × SiteSet)) : Type 0 where
+  pub checkable : IsCheckable p
+  pub given : AreBuiltSets p sets
+
+-- a report of a rule that is left out
+abbrev pub is_left_out : RuleReport → Bool
+is_left_out (limit_passed limit at) = true
+is_left_out (not_reached why at) = true
+is_left_out (rules_overlap report) = false
+is_left_out (rule_shadows report) = false
+
+-- what is reported where they can't, and it is something: what building reports, then overlaps and shadows, which are
+-- fixed if no two rules stand at one position
+pub record CheckReports (p : Program) (reports : List RuleReport) : Type 0 where
+  pub later : List RuleReport
+  pub all : reports ≡ build_reports p ++ later
+  pub others : All (λ r. is_left_out r ≡ false) later
+  pub some_report : reports ≢ []
+  pub fixed : HasDistinctPositions p → later ≡ overlap_and_shadow_reports p
+
+-- the run of a tree means what its set does. In a term that isn't multi, where the rules go over no calls, it takes a rule
+-- of greatest priority among those whose demands hold; in a multi term whose rules have one priority, make no impure
+-- call and demand the gates below their sites, it collects the bag of their results
+pub record MeansItsSet (set : SiteSet) (tree : Tree) : Type 0 where
+  pub chooses : IsTestedSet set → (w : World) → ServesTests set w → w.multi ≡ false → ChoosesFrom set w (run tree w)
+  pub collects : HasOnePriority set.rules → IsCollectedSet set → (w : World) → ServesSet set w → w.multi ≡ true → Collects (run tree w) (set_bag set w)
+
+-- what serializing a built set gives: a best tree, which means what its set does
+pub record IsSerialized (set : SiteSet) (tree : Tree) : Type 0 where
+  pub best : IsBestTree set tree
+  pub meaning : MeansItsSet set tree
+
+-- the sites that a step uses
+abbrev pub used_by : List Site → Check → List ℕ
+used_by sites (match_at source arms) = source ∷ []
+used_by sites (equal_at a b body) = a ∷ (b ∷ [])
+used_by sites (loop_at result body) = sources_at sites result
+used_by sites (return_at at result) = result ∷ []
+
+-- the calls that a step goes over: they may be bound again in its body, and after it
+abbrev pub gone_over : List Site → Check → List ℕ
+gone_over sites (loop_at result body) = sources_at sites result
+gone_over sites _ = []
+
+-- a site can be used: it was bound, or it is written in place and what it is a part of was bound
+abbrev pub can_be_used : List Site → List ℕ → ℕ → Bool
+can_be_used sites scope s = is_in s scope || (is_in_place (slice_get sites s) && list_all (λ a. is_in a scope) (sources_at sites s))
+
+-- sites that are brought now: none was bound before
+abbrev pub brings_new : List ℕ → List ℕ → Bool
+brings_new scope ss = are_distinct ss && list_all (λ s. not (is_in s scope)) ss
+
+-- sites that are bound now, each after what it is made of: none stands twice, nor was bound before, but for the sources of
+-- loops
+abbrev pub binds_once : List Site → List ℕ → List ℕ → List ℕ → Bool
+binds_once sites again scope [] = true
+binds_once sites again scope (s ∷ rest) =
+    (not (is_in s scope) || is_in s again) && list_all (can_be_used sites scope) (sources_at sites s) && binds_once sites again (s ∷ scope) rest
+
+abbrev pub returns_at : Check → Bool
+returns_at (return_at at result) = true
+returns_at _ = false
+
+-- whether, in each step that a run reaches, each site that is used was bound before it in scope or is written in place,
+-- and no site but the source of a loop is bound twice in one scope. A step is reached where no return stands before it
+-- in its block, nor before a step around it in that one's block; in a multi term every step is
+abbrev mutual
+  pub binds_before_use : List Site → Bool → List ℕ → List ℕ → Tree → Bool
+  binds_before_use sites multi again scope no_step = true
+  binds_before_use sites multi again scope (step binds check rest) =
+      binds_once sites again scope binds && list_all (can_be_used sites (binds ++ scope)) (used_by sites check)
+      && binds_in_check sites multi again (binds ++ scope) check
+      && (if returns_at check && not multi then true else binds_before_use sites multi (gone_over sites check ++ again) (binds ++ scope) rest)
+
+  pub binds_in_check : List Site → Bool → List ℕ → List ℕ → Check → Bool
+  binds_in_check sites multi again scope (match_at source arms) = binds_in_arms sites multi again scope arms
+  binds_in_check sites multi again scope (equal_at a b body) = binds_before_use sites multi again scope body
+  binds_in_check sites multi again scope (loop_at result body) =
+      brings_new scope (result ∷ []) && binds_before_use sites multi (sources_at sites result ++ again) (result ∷ scope) body
+  binds_in_check sites multi again scope (return_at at result) = true
+
+  pub binds_in_arms : List Site → Bool → List ℕ → List ℕ → Arms → Bool
+  binds_in_arms sites multi again scope no_arm = true
+  binds_in_arms sites multi again scope (arm constraint fields body rest) =
+      brings_new scope (field_sites fields) && binds_before_use sites multi again (field_sites fields ++ scope) body
+      && binds_in_arms sites multi again scope rest
+
+abbrev pub BindsBeforeUse : SiteSet → Bool → Tree → Type 0
+BindsBeforeUse set multi tree = IsTrue (binds_before_use set.sites multi [] [] tree)
+
+-- the program of a list of definitions, by its own types
+abbrev pub own_program : List Definition → TypedRules → Program
+own_program defs rules = program_of (types_read defs) defs rules.rules
+
+-- accepted definitions: they have types, terms and typed rules, and their rules can be told apart
+pub record IsAccepted (defs : List Definition) (expand : Bool) (rules : TypedRules) : Type 0 where
+  pub read : IsRead defs expand rules
+  pub checkable : IsCheckable (own_program defs rules)
+
+-- a term with rules: its built set and its tree
+pub record LoweredTerm : Type 0 where
+  pub term : ℕ
+  pub set : SiteSet
+  pub tree : Tree
+
+-- nowhere would an open test cover more rules than the test made
+pub record TestsAreShared (set : SiteSet) (tree : Tree) : Type 0 where
+  pub marked : Marked
+  pub returns : ReturnsEach set tree marked
+  pub most : SharesMost set nothing_around false marked
+
+-- the headline. In a term that isn't multi and uses no multi extractor, on all well-typed arguments and under every
+-- meaning of the called terms that tells constants apart, the tree's run gives the result or failure and the impure calls
+-- of the one matching source rule of highest priority, or neither where none matches; and nowhere would an open test
+-- cover more rules than the test made
+pub record ChoosesAndShares (p : Program) (l : LoweredTerm) : Type 0 where
+  pub runs : RunsAsChosen p l.term l.set.sites l.tree
+  pub shares : TestsAreShared l.set l.tree
+
+-- the tree of a term: of its built set, a best tree, with the headline; sites are bound before they are used; in a multi
+-- term whose rules make no impure call and need each multi call of an if-let, the run collects the bag of their results
+pub record IsLoweredTerm (p : Program) (l : LoweredTerm) : Type 0 where
+  pub built : IsBuilt p l.term l.set
+  pub best : IsBestTree l.set l.tree
+  pub headline : ChoosesAndShares p l
+  pub collects : CollectsTheBag p l.term l.set.sites l.tree
+  pub binds : BindsBeforeUse l.set (is_multi p l.term) l.tree
+
+-- the trees of a program: each term with rules once, ascending
+pub record AreLowered (p : Program) (terms : List LoweredTerm) : Type 0 where
+  pub each : map (λ l. l.term) terms ≡ terms_with_rules p
+  pub lowered : All (IsLoweredTerm p) terms
+
+-- what lowering gives: the environments and the trees of accepted definitions
+pub record LoweringAnswers (defs : List Definition) (expand : Bool) (types : List TypeEntry) (constants : List (ℕ × ℕ)) (terms : List TermEntry) (term_map rule_map : List (ℕ × ℕ)) (convert : List ((ℕ × ℕ) × ℕ)) (rules : TypedRules) (lowered : List LoweredTerm) : Type 0 where
+  pub accepted : IsAccepted defs expand rules
+  pub type_rows : types ≡ type_table defs
+  pub of_constants : AnswerAlike constants (constant_types defs)
+  pub rule_rows : AreRulesOf (types_read defs) defs expand terms term_map rule_map convert rules
+  pub trees : AreLowered (own_program defs rules) lowered
+
+-- why lowering is refused, by the first layer that refuses; the reports are those of checking
+pub data RefusedBy (defs : List Definition) (expand : Bool) : List RuleReport → Type 0 where
+  by_types : (IsValidTypes defs → ⊥) → RefusedBy defs expand []
+  by_rules : IsValidTypes defs → (HasTypedRules (types_read defs) defs expand → ⊥) → RefusedBy defs expand []
+  by_check : (rules : TypedRules) (reports : List RuleReport) → IsRead defs expand rules → (IsCheckable (own_program defs rules) → ⊥)
+      → CheckReports (own_program defs rules) reports → RefusedBy defs expand reports
+
+-- what theory has to show of them: the best trees of built sets of accepted definitions keep the headline, whatever body
+-- of code made them
+abbrev pub BestTreesKeepTheHeadline : Type 0
+BestTreesKeepTheHeadline =
+    (defs : List Definition) (expand : Bool) (rules : TypedRules) (l : LoweredTerm)
+    → IsAccepted defs expand rules → IsBuilt (own_program defs rules) l.term l.set → IsBestTree l.set l.tree
+    → IsLoweredTerm (own_program defs rules) l

@@ -1,0 +1,122 @@
+-- What built sets give to those who use them: the facts that trees rest on, and that a set means what its typed rules do.
+use Rattle.std.specs.Prelude.{◌≡◌, ℕ, ◌<◌, Bool, true, false, not, List, [], ◌∷◌, ◌++◌, Some, slice_get, is_some, All, Contains, IsTrue, ◌⊎◌}
+use Rattle.std.specs.List.{filter}
+use Rattle.isle_model.specs.lists.Syntax.{Definition}
+use Rattle.isle_model.specs.lists.Names.{IsDistinct}
+use Rattle.isle_model.specs.rules.Values.{Value, args_well_typed}
+use Rattle.isle_model.specs.rules.Meaning.{Meaning}
+use Rattle.isle_model.specs.rules.Outcome.{Outcome}
+use Rattle.isle_model.specs.rules.Matching.{Vars, matches}
+use Rattle.isle_model.specs.rules.RightSide.{right_side}
+use Rattle.isle_model.specs.rules.Typed.{TypedIfLet, TypedRule}
+use Rattle.isle_model.specs.rules.Program.{Program, is_multi, arg_types, rules_of}
+use Rattle.isle_model.specs.sites.Sites.{Site, Constraint, SetRule, SiteSet, sources_at, SiteTerm, unfold_site}
+use Rattle.isle_model.specs.sites.Demands.{Visit, visit_start, visit_args, visit_pattern, visit_expr, has_site}
+use Rattle.isle_model.specs.trees.Places.{joins_in, all_below}
+use Rattle.isle_model.specs.sites.Gates.{gate_demanded}
+use Rattle.isle_model.specs.sites.Serves.{Serves, TellsConstantsApart}
+use Rattle.isle_model.specs.claims.Headline.{IsWithoutMulti}
+use Rattle.isle_model.specs.trees.Run.{world_of}
+use Rattle.isle_model.specs.rules.Picks.{Pick, picks, SitedVars, matches_under, right_side_under}
+use Rattle.isle_model.specs.trees.Collects.{afresh, calls_in, content_at, demands_hold, as_list, HasCollectedResults, IsCollectedSet}
+use Rattle.isle_model.specs.trees.SetRuns.{tested_sites, IsTestedSet, IsTaken}
+use Rattle.isle_model.specs.sites.Overlap.{BuiltRule, built_rules, Overlaps, Shadows}
+use Rattle.isle_model.specs.trees.WellBuilt.{HasOnePriority}
+use Rattle.isle_model.specs.lists.Elaborated.{TypedRules}
+use Rattle.isle_model.specs.claims.Environments.{TypesRead, IsElaborated, program_of}
+use Rattle.isle_model.specs.sites.RuleSets.{IsBuilt}
+
+-- a constrained site of a rule is in no class of it
+abbrev pub ConstrainsOrEquates : SetRule → Type 0
+ConstrainsOrEquates r = (s a : ℕ) (c : Constraint) → Contains r.constraints (s, c) → IsTrue (joins_in r.classes s a) → ⊥
+
+-- the gates below the tested sites of a rule are demanded by it, where it goes over each call that it picks from
+abbrev pub DemandsItsGates : List Site → SetRule → Type 0
+DemandsItsGates sites r = All (λ s. IsTrue (gate_demanded r (slice_get sites s))) (all_below sites (tested_sites r))
+
+-- the multi calls of if-lets that the value takes no answer of
+abbrev pub calls_left : Program → List TypedIfLet → Visit → List SiteTerm
+calls_left p [] v = []
+calls_left p (i ∷ rest) v =
+    let a = visit_expr p i.rhs (afresh v) in
+    filter (λ c. not (has_site (calls_in a.site) c)) a.visit.demands.iterators ++ calls_left p rest (visit_pattern p i.lhs a.site a.visit)
+
+abbrev pub calls_left_by : Program → TypedRule → List SiteTerm
+calls_left_by p r = calls_left p r.iflets (visit_args p 0 r.args visit_start)
+
+-- a call that a rule goes over is left unused, or the gates below it are demanded
+abbrev pub DemandsGatesOfCall : Program → List Site → BuiltRule → SetRule → ℕ → Type 0
+DemandsGatesOfCall p sites b r s = Contains (calls_left_by p b.rule) (unfold_site sites s) ⊎ All (λ u. IsTrue (gate_demanded r (slice_get sites u))) (all_below sites (s ∷ []))
+
+-- a rule of a built set and the rule that it was built of
+pub record AreOneRule (p : Program) (t : ℕ) (set : SiteSet) (b : BuiltRule) (r : SetRule) : Type 0 where
+  pub place : ℕ
+  pub typed : slice_get (built_rules p t) place ≡ Some b
+  pub built : slice_get set.rules place ≡ Some r
+
+-- what those who use a built set rest on: sites stand once, after their sources; a site isn't both constrained and equated;
+-- the gates below what a rule tests are demanded by it, and those below the calls that it goes over, but for calls of
+-- if-lets that are left unused; the rules of a multi term have one priority
+pub record CanBeServed (p : Program) (t : ℕ) (set : SiteSet) : Type 0 where
+  pub once : IsDistinct set.sites
+  pub sources : (s a : ℕ) → Contains (sources_at set.sites s) a → a < s
+  pub apart : All ConstrainsOrEquates set.rules
+  pub gates : All (DemandsItsGates set.sites) set.rules
+  pub gates_of_calls : (b : BuiltRule) (r : SetRule) → AreOneRule p t set b r → All (DemandsGatesOfCall p set.sites b r) r.iterators
+  pub one_priority : is_multi p t ≡ true → HasOnePriority set.rules
+
+-- the sets that are built of elaborated rules are such
+abbrev pub BuiltSetsCanBeServed : Type 0
+BuiltSetsCanBeServed =
+    (e : TypesRead) (defs : List Definition) (expand : Bool) (rules : TypedRules) (t : ℕ) (set : SiteSet)
+    → IsElaborated e defs expand rules → IsBuilt (program_of e defs rules.rules) t set → CanBeServed (program_of e defs rules.rules) t set
+
+-- and they meet what choosing from them, and collecting of them, asks
+abbrev pub BuiltSetsAreTested : Type 0
+BuiltSetsAreTested =
+    (e : TypesRead) (defs : List Definition) (expand : Bool) (rules : TypedRules) (t : ℕ) (set : SiteSet)
+    → IsElaborated e defs expand rules → IsBuilt (program_of e defs rules.rules) t set → is_multi (program_of e defs rules.rules) t ≡ false
+    → All (λ r. r.iterators ≡ []) set.rules → IsTestedSet set
+
+abbrev pub BuiltSetsAreCollected : Type 0
+BuiltSetsAreCollected =
+    (e : TypesRead) (defs : List Definition) (expand : Bool) (rules : TypedRules) (t : ℕ) (set : SiteSet)
+    → IsElaborated e defs expand rules → IsBuilt (program_of e defs rules.rules) t set → is_multi (program_of e defs rules.rules) t ≡ true
+    → All (λ b. HasCollectedResults (program_of e defs rules.rules) b.rule) (built_rules (program_of e defs rules.rules) t) → IsCollectedSet set
+
+-- what holds on all well-typed arguments, under every meaning that serves a term's rules and tells constants apart
+abbrev pub WhereServed : Program → ℕ → (Meaning → List Value → Type 0) → Type 0
+WhereServed p t P =
+    (m : Meaning) (args : List Value) → IsTrue (args_well_typed p.types (arg_types p t) args)
+    → Serves p m args (rules_of p t) → TellsConstantsApart p m (rules_of p t) → P m args
+
+-- under each of its picks a rule matches exactly where its demands hold
+abbrev pub MatchesByDemands : Program → ℕ → SiteSet → Type 0
+MatchesByDemands p t set = WhereServed p t (λ m args. (b : BuiltRule) (r : SetRule) (k : Pick) → AreOneRule p t set b r
+    → Contains (picks p m args b.rule) k → is_some (matches_under p m k b.rule args) ≡ demands_hold (world_of p t set.sites m args) k r)
+
+-- taking a rule that matches and goes over no call gives its right side's outcome
+abbrev pub TakenGivesOutcome : Program → ℕ → SiteSet → Type 0
+TakenGivesOutcome p t set = WhereServed p t (λ m args. (b : BuiltRule) (r : SetRule) (e : Vars) (o : Outcome) → AreOneRule p t set b r
+    → is_multi p t ≡ false → r.iterators ≡ [] → matches p m b.rule args ≡ Some e → IsTaken (world_of p t set.sites m args) r o
+    → o ≡ right_side p m b.rule e)
+
+-- of a rule that makes no impure call, the result's site holds under a pick what the right side gives
+abbrev pub ResultsAreHeld : Program → ℕ → SiteSet → Type 0
+ResultsAreHeld p t set = WhereServed p t (λ m args. (b : BuiltRule) (r : SetRule) (k : Pick) (e : SitedVars) → AreOneRule p t set b r
+    → r.impure ≡ [] → Contains (picks p m args b.rule) k → matches_under p m k b.rule args ≡ Some e
+    → (right_side_under p m k b.rule e).results ≡ as_list (content_at (world_of p t set.sites m args) k r.result))
+
+-- a built set means what its typed rules do
+pub record MeansItsRules (p : Program) (t : ℕ) (set : SiteSet) : Type 0 where
+  pub match : MatchesByDemands p t set
+  pub outcome : TakenGivesOutcome p t set
+  pub results : ResultsAreHeld p t set
+
+-- of rules of a term that isn't multi and uses no multi extractor: those that don't overlap never match together, and a
+-- shadowed rule matches only where its mask does
+pub record TellsRulesApart (p : Program) (t : ℕ) : Type 0 where
+  pub overlap : IsWithoutMulti p t → WhereServed p t (λ m args. (a b : BuiltRule) → Contains (built_rules p t) a → Contains (built_rules p t) b
+      → (Overlaps a.demands b.demands → ⊥) → IsTrue (is_some (matches p m a.rule args)) → IsTrue (is_some (matches p m b.rule args)) → ⊥)
+  pub shadow : IsWithoutMulti p t → WhereServed p t (λ m args. (mask b : BuiltRule) → Contains (built_rules p t) mask → Contains (built_rules p t) b
+      → Shadows mask b → IsTrue (is_some (matches p m b.rule args)) → IsTrue (is_some (matches p m mask.rule args)))

@@ -1,0 +1,13 @@
+-- What lists of definitions say: syntax, names, types, terms, typed rules.
+pub mod Elaborated
+pub mod Elaborates
+pub mod Expansions
+pub mod Formed
+pub mod KnownTypes
+pub mod Names
+pub mod Setting
+pub mod Syntax
+pub mod Tables
+pub mod TermTable
+pub mod TypeTable
+pub mod Typings

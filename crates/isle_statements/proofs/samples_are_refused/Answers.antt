@@ -1,5 +1,0 @@
-use Rattle.isle_statements.proofs.LoweredSamples.{samples_are_refused_lem}
-use Rattle.isle_statements.proofs.samples_are_refused.Goals as goal
-
-pub returns : goal.returns
-returns c = samples_are_refused_lem

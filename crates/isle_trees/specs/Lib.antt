@@ -1,3 +1,0 @@
-pub mod Fall
-pub mod Extract
-pub mod Impure

@@ -1,5 +1,0 @@
-use Rattle.isle_visits.proofs.Sets.{built_sets_are_tested_lem}
-use Rattle.isle_visits.proofs.built_sets_are_tested.Goals as goal
-
-pub returns : goal.returns
-returns c = built_sets_are_tested_lem c.elaborated_rules_demand_gates.ensures

@@ -1,5 +1,0 @@
-use Rattle.isle_visits.proofs.Sets.{built_sets_are_well_built_lem}
-use Rattle.isle_visits.proofs.built_sets_are_well_built.Goals as goal
-
-pub returns : goal.returns
-returns c = built_sets_are_well_built_lem c.elaborated_rules_demand_gates.ensures

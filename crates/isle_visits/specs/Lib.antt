@@ -1,3 +1,0 @@
-pub mod Gates
-pub mod Laws
-pub mod Samples
