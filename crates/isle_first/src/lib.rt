@@ -18,6 +18,7 @@ ghost use Rattle.isle_model.specs.first.Runs.{SoundTreesRun};
 ghost use Rattle.isle_first.specs.FallLaws.{FallIsServed, FallIsSound, ExchangedIsNotSound};
 
 /// The tree that tests each rule of a plain set alone, by descending priority, is sound.
+#[tactic(auto, using(crate::proofs::alone::Soundness::alone_is_sound))]
 pub fn alone_is_sound()
     ensures { AloneIsSound }
 {}
@@ -33,6 +34,7 @@ pub fn builds_sets()
 {}
 
 /// The set has a site for each that the rules make.
+#[tactic(auto, using(crate::proofs::building::Sets::counts_sites))]
 pub fn counts_sites()
     ensures { CountsSites }
 {}
@@ -48,11 +50,13 @@ pub fn early_overlap_agrees()
 {}
 
 /// A program has a term of too many arguments exactly where one of its rules does.
+#[tactic(auto, using(crate::proofs::EarlyLimits::early_arguments_lem))]
 pub fn early_arguments_agree()
     ensures { EarlyArgumentsAgree }
 {}
 
 /// A rule without equalities adds the sites of its visit, and no others.
+#[tactic(auto, using(crate::proofs::EarlyLimits::early_sites_lem))]
 pub fn early_sites_agree()
     ensures { EarlySitesAgree }
 {}
@@ -117,16 +121,19 @@ pub fn sound_tree_runs()
 {}
 
 /// The sample's set is flat, and a world with its literals serves it whatever the argument.
+#[tactic(auto, using(crate::proofs::FallSound::fall_is_served_lem))]
 pub fn fall_is_served()
     ensures { FallIsServed }
 {}
 
 /// The sample's tree is sound.
+#[tactic(auto, using(crate::proofs::FallSound::fall_is_sound_lem))]
 pub fn fall_is_sound()
     ensures { FallIsSound }
 {}
 
 /// With its two steps exchanged it is not: the lower rule would answer where the higher one holds.
+#[tactic(auto, using(crate::proofs::FallSound::exchanged_is_not_sound_lem))]
 pub fn exchanged_is_not_sound()
     ensures { ExchangedIsNotSound }
 {}

@@ -67,11 +67,13 @@ pub fn clash_is_exact()
 {}
 
 /// A limit that is reported is passed.
+#[tactic(auto, using(crate::proofs::closure::LimitsPassed::first_limit_is_passed_lem))]
 pub fn first_limit_is_passed()
     ensures { FirstLimitIsPassed }
 {}
 
 /// Where a limit is passed, one is reported.
+#[tactic(auto, using(crate::proofs::closure::LimitsPassed::passed_limit_is_met_lem))]
 pub fn passed_limit_is_met()
     ensures { PassedLimitIsMet }
 {}
@@ -87,6 +89,7 @@ pub fn reports_are_exact()
 {}
 
 /// The test of shadows is exact.
+#[tactic(auto, using(crate::proofs::overlaps::Agreements::shadows_decides))]
 pub fn shadows_are_exact()
     ensures { ShadowsAreExact }
 {}
@@ -97,6 +100,7 @@ pub fn visits_make_equal_sites()
 {}
 
 /// Nothing is reported of a program exactly where all its rules are built, none overlap wrongly, and none is shadowed.
+#[tactic(auto, using(crate::proofs::overlaps::Checked::check_is_exact_lem))]
 pub fn check_is_exact()
     ensures { CheckIsExact }
 {}
@@ -107,31 +111,37 @@ pub fn overlaps_are_listed_once()
 {}
 
 /// Each further rule of a report overlaps wrongly with its first.
+#[tactic(auto, using(crate::proofs::overlaps::Listed::listed_rules_overlap_lem))]
 pub fn listed_rules_overlap()
     ensures { ListedRulesOverlap }
 {}
 
 /// Where rules stand at distinct positions, each built rule that shadows others is the mask of one report, which lists these.
+#[tactic(auto, using(crate::proofs::overlaps::Masks::masks_are_reported_once_lem))]
 pub fn masks_are_reported_once()
     ensures { MasksAreReportedOnce }
 {}
 
 /// Each shadow report is of such a rule.
+#[tactic(auto, using(crate::proofs::overlaps::Masks::reported_masks_shadow_lem))]
 pub fn reported_masks_shadow()
     ensures { ReportedMasksShadow }
 {}
 
 /// The closing of demands without equalities ends.
+#[tactic(auto, using(crate::proofs::closure::Closing::plain_closing_ends_lem))]
 pub fn plain_closing_ends()
     ensures { PlainClosingEnds }
 {}
 
 /// In a built set no site stands twice.
+#[tactic(auto, using(crate::proofs::visits::Once::sites_stand_once_lem))]
 pub fn sites_stand_once()
     ensures { SitesStandOnce }
 {}
 
 /// A rule that hangs together, and whose if-lets make no impure call, demands the gates of all that it tests and returns.
+#[tactic(auto, using(crate::proofs::visits::Rules::formed_rules_demand_gates_lem))]
 pub fn formed_rules_demand_gates()
     ensures { FormedRulesDemandGates }
 {}
@@ -176,6 +186,7 @@ pub fn none_asked_and_gone_over()
 {}
 
 /// What a rule goes over are multi calls, and it tests none, where no term is multi and partial at once.
+#[tactic(auto, using(crate::proofs::visits::Apart::multi_calls_are_gone_over_lem))]
 pub fn multi_calls_are_gone_over()
     ensures { MultiCallsAreGoneOver }
 {}

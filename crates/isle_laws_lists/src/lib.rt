@@ -76,6 +76,7 @@ pub fn names_stay_in_lists()
 
 /// A rule that elaborates hangs together: its terms have as many parts as arguments, all at their types, and each
 /// variable is bound once, before it is used.
+#[tactic(auto, using(crate::proofs::FormedRules::rules_are_formed))]
 pub fn rules_are_formed()
     ensures { RulesAreFormed }
 {}
@@ -91,11 +92,13 @@ pub fn own_types_are_well_formed()
 {}
 
 /// A name has one number, in the type table and in the term table.
+#[tactic(auto, using(crate::proofs::TermLaws::names_stand_once_lem))]
 pub fn names_stand_once()
     ensures { NamesStandOnce }
 {}
 
 /// A name that was met before keeps its number in the term table.
+#[tactic(auto, using(crate::proofs::TermLaws::numbers_stay_lem))]
 pub fn numbers_stay()
     ensures { NumbersStay }
 {}
@@ -106,11 +109,13 @@ pub fn types_stand_at_ids()
 {}
 
 /// The id of the name of a well-formed type is the type's.
+#[tactic(auto, using(crate::proofs::WellFormed::types_are_found_lem))]
 pub fn types_are_found()
     ensures { TypesAreFound }
 {}
 
 /// Of the definitions of a constant the last one counts.
+#[tactic(auto, using(crate::proofs::TypeLaws::last_definition_counts_lem))]
 pub fn last_definition_counts()
     ensures { LastDefinitionCounts }
 {}
@@ -121,11 +126,13 @@ pub fn terms_stand_at_ids()
 {}
 
 /// The types of the arguments and of the result of each term are types.
+#[tactic(auto, using(crate::proofs::TermTypes::terms_are_of_types_lem))]
 pub fn terms_are_of_types()
     ensures { TermsAreOfTypes }
 {}
 
 /// Each term has the number of its name, variants and structs too.
+#[tactic(auto, using(crate::proofs::TermLaws::terms_have_names_lem))]
 pub fn terms_have_names()
     ensures { TermsHaveNames }
 {}
@@ -136,11 +143,13 @@ pub fn terms_are_found()
 {}
 
 /// The terms of a list that is read with its own types: the declared ones, then those that its types make.
+#[tactic(auto, using(crate::proofs::TermLaws::types_make_terms_lem))]
 pub fn types_make_terms()
     ensures { TypesMakeTerms }
 {}
 
 /// In a valid list no two converters have one pair of types.
+#[tactic(auto, using(crate::proofs::Converters::converters_stand_once_lem))]
 pub fn converters_stand_once()
     ensures { ConvertersStandOnce }
 {}

@@ -12,11 +12,13 @@ ghost use Rattle.isle_laws_trees.specs.BuiltLaws.{BestTreesOfBuiltSetsAreSound};
 use isle_laws_demands::built_sets_are_well_built;
 
 /// The list of a place's open tests holds exactly the tests that are open there.
+#[tactic(auto, using(crate::proofs::OpenTests::open_tests_are_listed_lem))]
 pub fn open_tests_are_listed()
     ensures { OpenTestsAreListed }
 {}
 
 /// The order of scores is strict, and tells any two tests of a place apart.
+#[tactic(auto, using(crate::proofs::Scores::scores_are_ordered_lem))]
 pub fn scores_are_ordered()
     ensures { ScoresAreOrdered }
 {}
@@ -27,36 +29,43 @@ pub fn one_test_is_greatest()
 {}
 
 /// Where the greatest tests are made, nowhere would an open test cover more rules than the test made.
+#[tactic(auto, using(crate::proofs::Shares::best_trees_share_most_lem))]
 pub fn best_trees_share_most()
     ensures { BestTreesShareMost }
 {}
 
 /// And no site is tested twice around a return.
+#[tactic(auto, using(crate::proofs::Once::sites_are_tested_once_lem))]
 pub fn sites_are_tested_once()
     ensures { SitesAreTestedOnce }
 {}
 
 /// And all blocks together hold at most a step for each demand of a rule, and its return.
+#[tactic(auto, using(crate::proofs::Few::steps_are_few_lem))]
 pub fn steps_are_few()
     ensures { StepsAreFew }
 {}
 
 /// So the facts of a tree's steps are enough.
+#[tactic(auto, using(crate::proofs::Few::steps_make_best_trees_lem))]
 pub fn steps_make_best_trees()
     ensures { StepsMakeBestTrees }
 {}
 
 /// The judge of a marked tree passes it exactly where it is a best tree.
+#[tactic(auto, using(crate::proofs::Exact::judge_is_exact_lem))]
 pub fn judge_is_exact()
     ensures { JudgeIsExact }
 {}
 
 /// The judge of a tree passes it exactly where it is a best tree, if the set's returns can be told apart.
+#[tactic(auto, using(crate::proofs::Marking::tree_judge_is_exact_lem))]
 pub fn tree_judge_is_exact()
     ensures { TreeJudgeIsExact }
 {}
 
 /// A best tree of a well built set is sound.
+#[tactic(auto, using(crate::proofs::Soundness::best_trees_are_sound_lem))]
 pub fn best_trees_are_sound()
     ensures { BestTreesAreSound }
 {}
