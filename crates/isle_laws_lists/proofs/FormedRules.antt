@@ -68,7 +68,7 @@ constructs flags (variant_term i) h = refl
 constructs flags struct_term h = refl
 constructs flags (declared_term own c x) h = (and_parts _ _ h).0
 
-named_at : (name : ℕ) (ts : List TermEntry) (t : TermEntry) → entry_named name ts ≡ Some t → (k : ℕ) × (slice_get ts k ≡ Some t)
+pub named_at : (name : ℕ) (ts : List TermEntry) (t : TermEntry) → entry_named name ts ≡ Some t → (k : ℕ) × (slice_get ts k ≡ Some t)
 named_at name [] t h = absurd (none-some t h)
 named_at name (u ∷ us) t h =
     elim (eqb u.name name) as (λ b. cond b (Some u) (entry_named name us) ≡ Some t → (k : ℕ) × (slice_get (u ∷ us) k ≡ Some t)) [

@@ -11,52 +11,15 @@ use Rattle.isle_model.specs.trees.Places.{constraint_at}
 use Rattle.isle_model.specs.sites.Demands.{constraint_eq}
 use Rattle.isle_model.specs.trees.Sound.{AllAsk}
 use Rattle.isle_model.specs.trees.Judge.{is_that, asks_for, asks_at, site_eq, sites_eq}
+use Rattle.isle_model.proofs.SameSites.{number_same, constraint_means, same_constraint}
 use Rattle.isle_model.proofs.Members.{each_passes, all_pass}
 
-number_itself : (n : ℕ) → (n == n) ≡ true
-number_itself n = eq-eqb n n refl
-
-itself : (c : Constraint) → constraint_eq c c ≡ true
-itself (is_variant s i n) = and_from ((s == s) && (i == i)) (n == n) (and_from (s == s) (i == i) (number_itself s) (number_itself i)) (number_itself n)
-itself (is_struct s n) = and_from (s == s) (n == n) (number_itself s) (number_itself n)
-itself (is_bool b s) = and_from (beq b b) (s == s) ((booleans_Decides b b).1 refl) (number_itself s)
-itself (is_int z s) = and_from (int_eq z z) (s == s) ((Decides-int_eq z z).1 refl) (number_itself s)
-itself (is_prim a) = number_itself a
-itself is_present = refl
-
-same : (c d : Constraint) → constraint_eq c d ≡ true → c ≡ d
-same (is_variant s i n) (is_variant t j m) h =
-    let q = and_parts ((s == t) && (i == j)) (n == m) h in
-    let r = and_parts (s == t) (i == j) q.0 in
-    let a = eqb-true s t r.0 in
-    let b = eqb-true i j r.1 in
-    let c = eqb-true n m q.1 in
-    λ k. is_variant (a k) (b k) (c k)
-same (is_struct s n) (is_struct t m) h =
-    let q = and_parts (s == t) (n == m) h in
-    let a = eqb-true s t q.0 in
-    let b = eqb-true n m q.1 in
-    λ k. is_struct (a k) (b k)
-same (is_bool x s) (is_bool y t) h =
-    let q = and_parts (beq x y) (s == t) h in
-    let a = (booleans_Decides x y).0 q.0 in
-    let b = eqb-true s t q.1 in
-    λ k. is_bool (a k) (b k)
-same (is_int y s) (is_int z t) h =
-    let q = and_parts (int_eq y z) (s == t) h in
-    let a = (Decides-int_eq y z).0 q.0 in
-    let b = eqb-true s t q.1 in
-    λ k. is_int (a k) (b k)
-same (is_prim a) (is_prim b) h = ap is_prim (eqb-true a b h)
-same is_present is_present h = refl
-same _ _ h = absurd (false≢true h)
-
 pub constraint_exact : (c d : Constraint) → Decides (constraint_eq c d) (c ≡ d)
-constraint_exact c d = (same c d, λ e. subst (λ x. constraint_eq c x ≡ true) e (itself c))
+constraint_exact c d = (constraint_means c d, same_constraint c d)
 
 that_exact : (o : Option Constraint) (c : Constraint) → Decides (is_that o c) (o ≡ Some c)
 that_exact None c = (λ h. absurd (false≢true h), λ e. absurd (none-some c e))
-that_exact (Some d) c = (λ h. ap Some (same d c h), λ e. (constraint_exact d c).1 (same_Some d c e))
+that_exact (Some d) c = (λ h. ap Some (constraint_means d c h), λ e. (constraint_exact d c).1 (same_Some d c e))
 
 asks_for_exact : (s : ℕ) (c : Constraint) (o : Option SetRule) → Decides (asks_for s c o) ((r : SetRule) → o ≡ Some r → constraint_at r.constraints s ≡ Some c)
 asks_for_exact s c None = (λ h r e. absurd (none-some r e), λ h. refl)
@@ -73,7 +36,7 @@ all_ask_exact rules here s c = (
 
 site_itself : (o : Option ℕ) → site_eq o o ≡ true
 site_itself None = refl
-site_itself (Some s) = number_itself s
+site_itself (Some s) = number_same s
 
 sites_itself : (xs : List (Option ℕ)) → sites_eq xs xs ≡ true
 sites_itself [] = refl

@@ -19,7 +19,7 @@ use Rattle.isle_model.specs.trees.Places.{all_below, is_in}
 use Rattle.isle_model.specs.trees.SetRuns.{tested_sites}
 use Rattle.isle_model.specs.sites.Gates.{gate_demanded}
 use Rattle.isle_model.specs.trees.WellBuilt.{HasOnePriority}
-use Rattle.isle_laws_demands.proofs.closure.Classes.{has_in}
+use Rattle.isle_model.proofs.SitesMade.{has_in}
 use Rattle.isle_model.proofs.Elements.{in_from_contains, contains_from_in, any_in, in_any}
 use Rattle.isle_model.specs.sites.RuleSets.{AsksFor, Equates, GoesOver, StandFor}
 use Rattle.isle_model.specs.claims.SetMeanings.{ConstrainsOrEquates, DemandsItsGates, calls_left_by, DemandsGatesOfCall, CanBeServed}

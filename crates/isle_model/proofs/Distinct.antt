@@ -3,7 +3,9 @@ use Rattle.std.proofs.Common.{◌≡◌, ◌⊎◌, ℕ, zero, suc, ◌<◌, not
 use Rattle.std.specs.List.{AllByRecursion}
 use Rattle.std.specs.Str.{bytes_eq}
 use Rattle.std.proofs.lemmas.Bool.{false≢true}
+use Rattle.std.proofs.lemmas.Option.{none-some, same_Some}
 use Rattle.std.proofs.lemmas.Slice.Eq.{bytes_eq-Decides}
+use Rattle.isle_model.proofs.Elements.{In, in_slice}
 use Rattle.isle_model.specs.lists.Names.{has_name, IsDistinct, all_different}
 
 -- a name that isn't among names stands nowhere
@@ -64,3 +66,19 @@ module _ {X : Type 0} (P : X → Type 0) where
   pub all_right : (xs ys : List X) → AllByRecursion P (xs ++ ys) → AllByRecursion P ys
   all_right [] ys a = a
   all_right (x ∷ xs) ys a = all_right xs ys a.1
+
+-- 1. lists
+-- where an element of a list with one more is
+pub at_end : {X : Type 0} (xs : List X) (y : X) (k : ℕ) (x : X) → slice_get (xs ++ y ∷ []) k ≡ Some x → (slice_get xs k ≡ Some x) ⊎ ((k ≡ length xs) × (y ≡ x))
+at_end [] y zero x e = inr (refl, same_Some y x e)
+at_end [] y (suc k) x e = absurd (none-some x e)
+at_end (z ∷ xs) y zero x e = inl e
+at_end (z ∷ xs) y (suc k) x e = elim (at_end xs y k x e) [ inl h ↦ inl h | inr h ↦ inr (ap suc h.0, h.1) ]
+
+-- one more that is new leaves a list without doubles
+pub distinct_end : {X : Type 0} (xs : List X) (y : X) → IsDistinct xs → (In xs y → ⊥) → IsDistinct (xs ++ y ∷ [])
+distinct_end xs y d new j k x e f =
+    elim (at_end xs y j x e) [
+      | inl a ↦ elim (at_end xs y k x f) [ inl b ↦ d j k x a b | inr b ↦ absurd (new (in_slice xs j y (a ∙ ap Some (sym b.1)))) ]
+      | inr a ↦ elim (at_end xs y k x f) [ inl b ↦ absurd (new (in_slice xs k y (b ∙ ap Some (sym a.1)))) | inr b ↦ a.0 ∙ sym b.0 ]
+    ]

@@ -3,3 +3,4 @@ pub mod Elements
 pub mod Members
 pub mod SameSites
 pub mod ValuesEqual
+pub mod SitesMade

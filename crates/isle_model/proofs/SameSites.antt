@@ -7,17 +7,17 @@ use Rattle.std.proofs.Math.Bool.{beq}
 use Rattle.isle_model.specs.sites.Sites.{Constraint, is_variant, is_struct, is_bool, is_int, is_prim, is_present, SiteTerm, bool_term, int_term, prim_term, argument, extractor_call, constructor_call, pick_of, variant_made, variant_field, struct_made, struct_field, some_made, some_part, tuple_part, no_site, SiteTerms, no_site_term, site_term_and}
 use Rattle.isle_model.specs.sites.Demands.{site_term_eq, site_terms_eq, constraint_eq}
 
-beq_means : (a b : Bool) → beq a b ≡ true → a ≡ b
+pub beq_means : (a b : Bool) → beq a b ≡ true → a ≡ b
 beq_means true true h = refl
 beq_means false false h = refl
 beq_means true false h = absurd (false≢true h)
 beq_means false true h = absurd (false≢true h)
 
-beq_same : (a : Bool) → beq a a ≡ true
+pub beq_same : (a : Bool) → beq a a ≡ true
 beq_same true = refl
 beq_same false = refl
 
-number_same : (n : ℕ) → (n == n) ≡ true
+pub number_same : (n : ℕ) → (n == n) ≡ true
 number_same n = eq-eqb n n refl
 
 mutual

@@ -5,17 +5,8 @@ use Rattle.std.proofs.lemmas.Bool.Decides.{Decides-int_eq}
 use Rattle.std.specs.Bool.{Decides}
 use Rattle.std.specs.Ordering.{int_eq}
 use Rattle.std.proofs.Math.Bool.{beq}
+use Rattle.isle_model.proofs.SameSites.{beq_means, beq_same}
 use Rattle.isle_model.specs.rules.Values.{Value, truth, atom, of_variant, of_struct, Values, no_value, value_and, value_eq, values_eq}
-
-beq_means : (a b : Bool) → beq a b ≡ true → a ≡ b
-beq_means true true h = refl
-beq_means false false h = refl
-beq_means true false h = absurd (false≢true h)
-beq_means false true h = absurd (false≢true h)
-
-beq_same : (a : Bool) → beq a a ≡ true
-beq_same true = refl
-beq_same false = refl
 
 mutual
   pub eq_means : (v w : Value) → value_eq v w ≡ true → v ≡ w

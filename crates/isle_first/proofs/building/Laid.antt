@@ -14,44 +14,14 @@ use Rattle.isle_model.specs.sites.Sites.{Site, bool_site, int_site, prim_site, a
 use Rattle.isle_model.specs.sites.Demands.{demands_of, site_term_eq, site_terms_eq, has_site, with_sites, sites_made}
 use Rattle.isle_model.specs.sites.Serves.{asked_by, asked, constant_site}
 use Rattle.isle_model.specs.lists.Names.{IsDistinct}
+use Rattle.isle_model.proofs.SameSites.{term_same}
+use Rattle.isle_model.proofs.Distinct.{at_end}
+use Rattle.isle_model.proofs.SitesMade.{once_with}
 use Rattle.isle_model.specs.first.Simple.{IsSimpleRule}
 use Rattle.isle_model.specs.first.Building.{argument_sites, is_literal, literal_number, with_literal, with_value, sites_after, IsSimpleSite}
 use Rattle.isle_first.proofs.building.Visits.{makes, makes_value, simple_makes}
 
--- 1. trees that the test finds equal are equal, and each is equal to itself
-beq_same : (a : Bool) → beq a a ≡ true
-beq_same true = refl
-beq_same false = refl
-
-number_same : (a : ℕ) → (a == a) ≡ true
-number_same a = eq-eqb a a refl
-
-mutual
-  pub term_same : (s : SiteTerm) → site_term_eq s s ≡ true
-  term_same (bool_term b ty) = and_from (beq b b) (ty == ty) (beq_same b) (number_same ty)
-  term_same (int_term z ty) = and_from (int_eq z z) (ty == ty) ((Decides-int_eq z z).1 refl) (number_same ty)
-  term_same (prim_term name) = number_same name
-  term_same (argument i) = number_same i
-  term_same (extractor_call t a) = and_from (t == t) (site_term_eq a a) (number_same t) (term_same a)
-  term_same (constructor_call t xs i) =
-      and_from ((t == t) && site_terms_eq xs xs) (i == i) (and_from (t == t) (site_terms_eq xs xs) (number_same t) (terms_same xs)) (number_same i)
-  term_same (pick_of a) = term_same a
-  term_same (variant_made s i xs) =
-      and_from ((s == s) && (i == i)) (site_terms_eq xs xs) (and_from (s == s) (i == i) (number_same s) (number_same i)) (terms_same xs)
-  term_same (variant_field a i f) =
-      and_from (site_term_eq a a && (i == i)) (f == f) (and_from (site_term_eq a a) (i == i) (term_same a) (number_same i)) (number_same f)
-  term_same (struct_made s xs) = and_from (s == s) (site_terms_eq xs xs) (number_same s) (terms_same xs)
-  term_same (struct_field a f) = and_from (site_term_eq a a) (f == f) (term_same a) (number_same f)
-  term_same (some_made a) = term_same a
-  term_same (some_part a) = term_same a
-  term_same (tuple_part a f) = and_from (site_term_eq a a) (f == f) (term_same a) (number_same f)
-  term_same no_site = refl
-
-  terms_same : (xs : SiteTerms) → site_terms_eq xs xs ≡ true
-  terms_same no_site_term = refl
-  terms_same (site_term_and a xs) = and_from (site_term_eq a a) (site_terms_eq xs xs) (term_same a) (terms_same xs)
-
--- 2. what a list has
+-- what a list has
 pub has_from_contains : (ts : List SiteTerm) (k : ℕ) (s : SiteTerm) → slice_get ts k ≡ Some s → has_site ts s ≡ true
 has_from_contains [] k s e = absurd (none-some s e)
 has_from_contains (t ∷ ts) zero s e =
@@ -72,37 +42,6 @@ slice_get_end [] y (suc k) h = absurd (omega arith)
 slice_get_end (x ∷ xs) y zero h = absurd (omega arith)
 slice_get_end (x ∷ xs) y (suc k) h = slice_get_end xs y k (omega arith)
 
--- where an element of a list with one more is
-slice_get_push : {X : Type 0} (xs : List X) (y : X) (k : ℕ) (x : X) → slice_get (xs ++ y ∷ []) k ≡ Some x → (slice_get xs k ≡ Some x) ⊎ ((k ≡ length xs) × (y ≡ x))
-slice_get_push [] y zero x e = inr (refl, same_Some y x e)
-slice_get_push [] y (suc k) x e = absurd (none-some x e)
-slice_get_push (z ∷ xs) y zero x e = inl e
-slice_get_push (z ∷ xs) y (suc k) x e =
-    elim (slice_get_push xs y k x e) [ inl h ↦ inl h | inr h ↦ inr (ap suc h.0, h.1) ]
-
--- 3. sites that are made stand once
-distinct_push : (ts : List SiteTerm) (s : SiteTerm) → IsDistinct ts → has_site ts s ≡ false → IsDistinct (ts ++ s ∷ [])
-distinct_push ts s d h j k x e f =
-    elim (slice_get_push ts s j x e) [
-      | inl a ↦ elim (slice_get_push ts s k x f) [
-        | inl b ↦ d j k x a b
-        | inr b ↦ absurd (both_ways (has_site ts s) h (has_from_contains ts j s (a ∙ ap Some (sym b.1))))
-      ]
-      | inr a ↦ elim (slice_get_push ts s k x f) [
-        | inl b ↦ absurd (both_ways (has_site ts s) h (has_from_contains ts k s (b ∙ ap Some (sym a.1))))
-        | inr b ↦ a.0 ∙ sym b.0
-      ]
-    ]
-
-distinct_made : (ts xs : List SiteTerm) → IsDistinct ts → IsDistinct (with_sites ts xs)
-distinct_made ts [] d = d
-distinct_made ts (x ∷ xs) d =
-    elim (cases_Bool (has_site ts x)) [
-      | inl h ↦ subst (λ l. IsDistinct (with_sites l xs)) (sym (cond-true (has_site ts x) ts (ts ++ x ∷ []) h)) (distinct_made ts xs d)
-      | inr h ↦
-          subst (λ l. IsDistinct (with_sites l xs)) (sym (cond-false (has_site ts x) ts (ts ++ x ∷ []) h)) (distinct_made (ts ++ x ∷ []) xs (distinct_push ts x d h))
-    ]
-
 distinct_none : IsDistinct {X = SiteTerm} []
 distinct_none j k x e f = absurd (none-some x e)
 
@@ -116,7 +55,7 @@ made_from ts (y ∷ xs) k x e =
         | inr c ↦ inr (suc c.0, omega (arith, c.1), c.2)
       ]
       | inr h ↦ elim (made_from (ts ++ y ∷ []) xs k x (ap (λ l. slice_get (with_sites l xs) k) (sym (cond-false (has_site ts y) ts (ts ++ y ∷ []) h)) ∙ e)) [
-        | inl a ↦ elim (slice_get_push ts y a.0 x a.1) [ inl b ↦ inl (a.0, b) | inr b ↦ inr (0, omega arith, b.1) ]
+        | inl a ↦ elim (at_end ts y a.0 x a.1) [ inl b ↦ inl (a.0, b) | inr b ↦ inr (0, omega arith, b.1) ]
         | inr c ↦ inr (suc c.0, omega (arith, c.1), c.2)
       ]
     ]
@@ -126,7 +65,7 @@ contains_none x c = let h : c.0 < 0 = c.1 in absurd (omega arith)
 
 -- each site that rules make stands once among those made, and is asked for
 pub once_made : (p : Program) (ts : List TypedRule) → IsDistinct (sites_made p ts)
-once_made p ts = distinct_made [] (flat_map (λ r. (demands_of p r).made) ts) distinct_none
+once_made p ts = once_with [] (flat_map (λ r. (demands_of p r).made) ts) distinct_none
 
 asked_made : (p : Program) (ts : List TypedRule) (x : SiteTerm) → Contains (flat_map (λ r. (demands_of p r).made) ts) x → Contains (asked p ts) x
 asked_made p [] x c = absurd (contains_none x c)

@@ -9,6 +9,7 @@ use Rattle.isle_model.specs.sites.Closure.{Joined, given, itself, turned, chaine
 use Rattle.isle_laws_demands.specs.ClosureLaws.{IsEquivalence, RespectsDemands}
 use Rattle.isle_model.proofs.Elements.{In, in_from_contains, some_is, none_some, in_left, in_right, in_either, in_slice, slice_in, any_in, in_any, or_split, or_left, or_right, map_in, from_flat_map, in_flat_map, zip_in}
 use Rattle.isle_model.proofs.SameSites.{term_means, same_term, constraint_means}
+use Rattle.isle_model.proofs.SitesMade.{in_has, has_in}
 use Rattle.isle_laws_demands.proofs.closure.Names.{SameName, name_same, given_joined}
 
 pub joined_is_equivalence_lem : (d : Demands) → IsEquivalence (Joined d)
@@ -74,15 +75,6 @@ place_of_field rs cs (is_bool v ty) a i x e = absurd (none_some x e)
 place_of_field rs cs (is_int z ty) a i x e = absurd (none_some x e)
 place_of_field rs cs (is_prim name) a i x e = absurd (none_some x e)
 place_of_field rs cs is_present a i x e = absurd (none_some x e)
-
-pub in_has : (ts : List SiteTerm) (s : SiteTerm) → In ts s → has_site ts s ≡ true
-in_has [] s i = absurd i
-in_has (t ∷ ts) s (inl e) = or_left (site_term_eq t s) (has_site ts s) (same_term t s e)
-in_has (t ∷ ts) s (inr i) = or_right (site_term_eq t s) (has_site ts s) (in_has ts s i)
-
-pub has_in : (ts : List SiteTerm) (s : SiteTerm) → has_site ts s ≡ true → In ts s
-has_in [] s h = absurd (false≢true h)
-has_in (t ∷ ts) s h = elim (or_split (site_term_eq t s) (has_site ts s) h) [ inl e ↦ inl (term_means t s e) | inr r ↦ inr (has_in ts s r) ]
 
 -- the sites of a list without repetition are those of the list
 with_one : List SiteTerm → SiteTerm → List SiteTerm

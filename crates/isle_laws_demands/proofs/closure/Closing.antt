@@ -12,7 +12,7 @@ use Rattle.isle_model.specs.sites.Overlap.{overlaps}
 use Rattle.isle_laws_demands.specs.ClosureLaws.{ClosedFollows, HasEnded}
 use Rattle.isle_model.proofs.Elements.{In, in_from_contains, contains_from_in, some_is, none_some, in_left, in_right, in_either, in_map, from_flat_map, in_zip, in_filter, passed_filter}
 use Rattle.isle_model.proofs.SameSites.{term_means, constraint_cases}
-use Rattle.isle_laws_demands.proofs.closure.Classes.{has_in}
+use Rattle.isle_model.proofs.SitesMade.{has_in}
 use Rattle.isle_laws_demands.proofs.overlaps.Overlaps.{differ_means, differ_from, bool_same}
 
 -- where no class is left, nothing is taken
@@ -164,6 +164,18 @@ agrees_lem p r s before after e f g h =
     (λ i. overlaps (closing_adds_nothing_lem before (demands_of p r) e i) (closing_adds_nothing_lem after (demands_of p s) f i))
     ∙ ap not (differ_on_closed (demands_of p r).constraints (demands_of p s).constraints (one_each (demands_of p r) g) (one_each (demands_of p s) h))
 
+-- what each step of the closing keeps, the closing keeps
+pub closing_keeps : (P : Closed → Type 0)
+    → ((k : Closed) → P k → (c : SiteTerm × Constraint) → next_constrained k.classes k.constraints k.made ≡ Some c → P (taken k c (ascending k.made (class_at k.classes c.0))))
+    → (n : ℕ) (k : Closed) → P k → P (closing n k)
+closing_keeps P step zero k h = h
+closing_keeps P step (suc n) k h = go_on (next_constrained k.classes k.constraints k.made) refl (closing_keeps P step n)
+  where
+    go_on : (o : Option (SiteTerm × Constraint)) → next_constrained k.classes k.constraints k.made ≡ o → ((j : Closed) → P j → P (closing n j))
+        → P (elim o [ None ↦ k | Some c ↦ closing n (taken k c (ascending k.made (class_at k.classes c.0))) ])
+    go_on None e later = h
+    go_on (Some c) e later = later (taken k c (ascending k.made (class_at k.classes c.0))) (step k h c e)
+
 -- what closing asks follows from the demands
 module _ (d : Demands) where
   -- each constraint must be met, and the members of a class must be equal
@@ -257,13 +269,7 @@ module _ (d : Demands) where
       member m j = in_class_joined k.classes f.classes c.0 m (has_in (class_at k.classes c.0) m (passed_filter (has_site (class_at k.classes c.0)) k.made m j))
 
   closing_follows : (n : ℕ) (k : Closed) → FollowsSoFar k → FollowsSoFar (closing n k)
-  closing_follows zero k f = f
-  closing_follows (suc n) k f = go_on (next_constrained k.classes k.constraints k.made) refl (closing_follows n)
-    where
-      go_on : (o : Option (SiteTerm × Constraint)) → next_constrained k.classes k.constraints k.made ≡ o → ((j : Closed) → FollowsSoFar j → FollowsSoFar (closing n j))
-          → FollowsSoFar (elim o [ None ↦ k | Some c ↦ closing n (taken k c (ascending k.made (class_at k.classes c.0))) ])
-      go_on None e later = f
-      go_on (Some c) e later = later (taken k c (ascending k.made (class_at k.classes c.0))) (taken_follows k f c (next_asked k.classes k.constraints k.made c e))
+  closing_follows = closing_keeps FollowsSoFar (λ k f c e. taken_follows k f c (next_asked k.classes k.constraints k.made c e))
 
   pub before_closing_follows : (before : List SiteTerm) → FollowsSoFar (before_closing before d)
   before_closing_follows before = record {

@@ -7,8 +7,9 @@ use Rattle.isle_model.specs.sites.Closure.{Joined, given, itself, turned, chaine
 use Rattle.isle_laws_demands.specs.ClosureLaws.{EqualSitesAreMade, HasEnded, ClosedIsWhole}
 use Rattle.isle_model.proofs.Elements.{In, in_from_contains, contains_from_in, some_is, in_right, in_either, any_in, in_map, map_in, from_flat_map, in_flat_map, in_filter, filter_from, passed_filter}
 use Rattle.isle_model.proofs.SameSites.{term_same, constraint_cases}
-use Rattle.isle_laws_demands.proofs.closure.Classes.{in_has, has_in, in_with_sites, fields_at, moved}
-use Rattle.isle_laws_demands.proofs.closure.Closing.{FollowsSoFar, in_class_joined, constraint_carried, next_asked, taken_follows, before_closing_follows, constraints_kept, one_each}
+use Rattle.isle_model.proofs.SitesMade.{in_has, has_in}
+use Rattle.isle_laws_demands.proofs.closure.Classes.{in_with_sites, fields_at, moved}
+use Rattle.isle_laws_demands.proofs.closure.Closing.{closing_keeps, FollowsSoFar, in_class_joined, constraint_carried, next_asked, taken_follows, before_closing_follows, constraints_kept, one_each}
 use Rattle.isle_laws_demands.proofs.closure.Whole.{IsApart, InOne, class_is, without_in, in_without, AllIn, each_apart, each_keeps_one, each_joins_one, each_all_in, Chain, one_class, one_take, alike, back, then_on, chain_carried, joined_chain_cases, FieldsChained, IsTaken, keeps_all, gets_constraint, pairs_of, members_chained, pair_members, equality_members, none_constrained}
 
 module _ (d : Demands) (reachable : IsUnreachable d → ⊥) where
@@ -120,15 +121,7 @@ module _ (d : Demands) (reachable : IsUnreachable d → ⊥) where
   Standing k = (h : List (SiteTerm × SiteTerm)) × Stands k h
 
   closing_stands : (n : ℕ) (k : Closed) → Standing k → Standing (closing n k)
-  closing_stands zero k s = s
-  closing_stands (suc n) k s = go_on (next_constrained k.classes k.constraints k.made) refl (closing_stands n)
-    where
-      go_on : (o : Option (SiteTerm × Constraint)) → next_constrained k.classes k.constraints k.made ≡ o → ((j : Closed) → Standing j → Standing (closing n j))
-          → Standing (elim o [ None ↦ k | Some c ↦ closing n (taken k c (ascending k.made (class_at k.classes c.0))) ])
-      go_on None e later = s
-      go_on (Some c) e later =
-          let m = next_asked d k.classes k.constraints k.made c e in
-          later (taken k c (ascending k.made (class_at k.classes c.0))) (pairs_of (ascending k.made (class_at k.classes c.0)) ++ s.0, stands_after k s.0 s.1 c m)
+  closing_stands = closing_keeps Standing (λ k s c e. (pairs_of (ascending k.made (class_at k.classes c.0)) ++ s.0, stands_after k s.0 s.1 c (next_asked d k.classes k.constraints k.made c e)))
 
   before_closing_stands : (before : List SiteTerm) → EqualSitesAreMade d → Standing (before_closing before d)
   before_closing_stands before made = (

@@ -7,8 +7,8 @@ use Rattle.isle_model.specs.sites.Demands.{Demands, has_site}
 use Rattle.isle_model.specs.sites.Closure.{fields_from, field_terms, HasConstraint, IsUnreachable, two_in_a_class, constraint_of, Closed, class_at, without_class_of, merged_classes, merged_all, with_constraint, with_constraints, ascending, next_constrained, field_equalities, taken, closing, before_closing, begins_with, in_order, most_closing_steps, closed}
 use Rattle.isle_model.proofs.Elements.{In, in_from_contains, contains_from_in, in_left, in_right, in_either, in_slice, in_map, map_in, from_flat_map, in_zip, in_filter, passed_filter}
 use Rattle.isle_model.proofs.SameSites.{constraint_cases}
-use Rattle.isle_laws_demands.proofs.closure.Classes.{has_in}
-use Rattle.isle_laws_demands.proofs.closure.Closing.{OneEach, constraints_in, in_constraints, constraints_kept, one_each, FollowsSoFar, in_class_joined, constraint_carried, next_asked, taken_follows, before_closing_follows, in_order_follows, from_constraints}
+use Rattle.isle_model.proofs.SitesMade.{has_in}
+use Rattle.isle_laws_demands.proofs.closure.Closing.{closing_keeps, OneEach, constraints_in, in_constraints, constraints_kept, one_each, FollowsSoFar, in_class_joined, constraint_carried, next_asked, taken_follows, before_closing_follows, in_order_follows, from_constraints}
 use Rattle.isle_model.specs.sites.DemandedGates.{GatesDemanded, CanBeTested, ClosedCanBeTested}
 use Rattle.isle_laws_demands.proofs.visits.Gates.{gates_stay}
 
@@ -153,13 +153,7 @@ module _ (d : Demands) (reachable : IsUnreachable d → ⊥) (tested : CanBeTest
           )
 
   closing_tested : (n : ℕ) (k : Closed) → IsTestedSoFar k → IsTestedSoFar (closing n k)
-  closing_tested zero k f = f
-  closing_tested (suc n) k f = go_on (next_constrained k.classes k.constraints k.made) refl (closing_tested n)
-    where
-      go_on : (o : Option (SiteTerm × Constraint)) → next_constrained k.classes k.constraints k.made ≡ o → ((j : Closed) → IsTestedSoFar j → IsTestedSoFar (closing n j))
-          → IsTestedSoFar (elim o [ None ↦ k | Some c ↦ closing n (taken k c (ascending k.made (class_at k.classes c.0))) ])
-      go_on None e later = f
-      go_on (Some c) e later = later (taken k c (ascending k.made (class_at k.classes c.0))) (taken_tested k f c (next_asked d k.classes k.constraints k.made c e))
+  closing_tested = closing_keeps IsTestedSoFar (λ k f c e. taken_tested k f c (next_asked d k.classes k.constraints k.made c e))
 
   before_tested : (before : List SiteTerm) → IsTestedSoFar (before_closing before d)
   before_tested before = record {

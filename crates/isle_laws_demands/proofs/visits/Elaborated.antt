@@ -16,15 +16,8 @@ use Rattle.isle_model.specs.lists.TermTable.{term_names_met, rule_trees}
 use Rattle.isle_model.specs.claims.Environments.{TypesRead, setting_of, IsElaborated, program_of}
 use Rattle.isle_model.proofs.Elements.{In, in_from_contains, in_map}
 use Rattle.isle_model.specs.sites.DemandedGates.{IsPureExpr, ArePureExprs, ArePureLets, ArePureIfLets, DemandsGates}
+use Rattle.isle_laws_lists.proofs.FormedRules.{named_at}
 use Rattle.isle_laws_demands.proofs.visits.Rules.{formed_rules_demand_gates_lem}
-
-named_at : (name : ℕ) (ts : List TermEntry) (t : TermEntry) → entry_named name ts ≡ Some t → (k : ℕ) × (slice_get ts k ≡ Some t)
-named_at name [] t h = absurd (none-some t h)
-named_at name (u ∷ us) t h =
-    elim (eqb u.name name) as (λ b. cond b (Some u) (entry_named name us) ≡ Some t → (k : ℕ) × (slice_get (u ∷ us) k ≡ Some t)) [
-      | true ↦ λ i. (zero, i)
-      | false ↦ λ i. let r = named_at name us t i in (suc r.0, r.1)
-    ] h
 
 -- what pure flags allow is pure
 allowed_pure : (flags : Flags) → flags.pure ≡ true → (t : TermEntry) → is_callable flags t.kind ≡ true → (flags_of (kind_of t)).pure ≡ true

@@ -11,23 +11,9 @@ use Rattle.isle_model.specs.sites.Closure.{is_unreachable, field_terms, Closed, 
 use Rattle.isle_model.specs.sites.Limits.{most_sites, walked_rule, made_walking, sites_wanted, sites_reached, sites_after_rule, sites_after_rules}
 use Rattle.isle_model.specs.sites.RuleSets.{IsBuilt}
 use Rattle.isle_model.proofs.Elements.{In, some_is, none_some, in_slice}
-use Rattle.isle_laws_demands.proofs.closure.Classes.{in_has}
+use Rattle.isle_model.proofs.Distinct.{at_end, distinct_end}
+use Rattle.isle_model.proofs.SitesMade.{in_has, once_with}
 use Rattle.isle_laws_demands.proofs.visits.Unfolding.{one_site}
-
--- 1. lists
--- where an element of a list with one more is
-at_end : {X : Type 0} (xs : List X) (y : X) (k : ℕ) (x : X) → slice_get (xs ++ y ∷ []) k ≡ Some x → (slice_get xs k ≡ Some x) ⊎ ((k ≡ length xs) × (y ≡ x))
-at_end [] y zero x e = inr (refl, some_is y x e)
-at_end [] y (suc k) x e = absurd (none_some x e)
-at_end (z ∷ xs) y zero x e = inl e
-at_end (z ∷ xs) y (suc k) x e = elim (at_end xs y k x e) [ inl h ↦ inl h | inr h ↦ inr (ap suc h.0, h.1) ]
-
-distinct_end : {X : Type 0} (xs : List X) (y : X) → IsDistinct xs → (In xs y → ⊥) → IsDistinct (xs ++ y ∷ [])
-distinct_end xs y d new j k x e f =
-    elim (at_end xs y j x e) [
-      | inl a ↦ elim (at_end xs y k x f) [ inl b ↦ d j k x a b | inr b ↦ absurd (new (in_slice xs j y (a ∙ ap Some (sym b.1)))) ]
-      | inr a ↦ elim (at_end xs y k x f) [ inl b ↦ absurd (new (in_slice xs k y (b ∙ ap Some (sym a.1)))) | inr b ↦ a.0 ∙ sym b.0 ]
-    ]
 
 taken_from : {X : Type 0} (n : ℕ) (xs : List X) (k : ℕ) (x : X) → slice_get (take n xs) k ≡ Some x → slice_get xs k ≡ Some x
 taken_from zero xs k x e = absurd (none_some x e)
@@ -41,17 +27,6 @@ distinct_taken n xs d j k x e f = d j k x (taken_from n xs j x e) (taken_from n 
 either_way : {X : Type 0} (P : X → Type 0) (b : Bool) (x y : X) → P x → P y → P (if b then x else y)
 either_way P true x y h g = h
 either_way P false x y h g = g
-
--- 2. sites made
-once_with : (ts xs : List SiteTerm) → IsDistinct ts → IsDistinct (with_sites ts xs)
-once_with ts [] d = d
-once_with ts (x ∷ xs) d =
-    elim (cases_Bool (has_site ts x)) [
-      | inl h ↦ subst (λ l. IsDistinct (with_sites l xs)) (sym (cond-true (has_site ts x) ts (ts ++ x ∷ []) h)) (once_with ts xs d)
-      | inr h ↦
-          subst (λ l. IsDistinct (with_sites l xs)) (sym (cond-false (has_site ts x) ts (ts ++ x ∷ []) h))
-          (once_with (ts ++ x ∷ []) xs (distinct_end ts x d (λ i. false≢true (sym h ∙ in_has ts x i))))
-    ]
 
 once_closing : (n : ℕ) (k : Closed) → IsDistinct k.made → IsDistinct (closing n k).made
 once_closing zero k d = d
