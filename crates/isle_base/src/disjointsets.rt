@@ -81,10 +81,10 @@ impl<T: Copy + Debug + Eq + Hash> DisjointSets<T> {
         ensures second { IsFalse (together T.eq self.now y y) → IsFalse result }
         ensures partition { IsPartition T.eq self.now }
     {
-        match (self.classes.get(&x), self.classes.get(&y)) {
-            (Some(a), Some(b)) => *a == *b,
-            _ => false,
-        }
+        is_one_class(
+            self.classes.get(&x).copied(),
+            self.classes.get(&y).copied(),
+        )
     }
 
     /// What `find` answers. Takes no memory. Upstream's `DisjointSets::find_mut`, which changes how its value is kept;
@@ -202,6 +202,16 @@ impl<T: Copy + Debug + Eq + Hash> Clone for DisjointSets<T> {
             members: members_copied(alloc, &self.members)?,
             free: copied(alloc, &self.free)?,
         })
+    }
+}
+
+// Whether both items have a class, and it is one class.
+fn is_one_class(first: Option<usize>, second: Option<usize>) -> bool
+    ensures { result ≡ same_number first second }
+{
+    match (first, second) {
+        (Some(a), Some(b)) => a == b,
+        _ => false,
     }
 }
 
