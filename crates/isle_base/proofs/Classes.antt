@@ -9,7 +9,7 @@ use Rattle.std.proofs.lemmas.Map.Keys.{IsDistinct-push}
 use Rattle.std.proofs.lemmas.Map.Steps.{list_any_congr}
 use Rattle.std.proofs.lemmas.Bool.{cases_eq, false≢true, or_parts, or_left, or_right, or_from}
 use Rattle.isle_base.specs.Partition.{in_set}
-use Rattle.isle_base.specs.Numbers.{same_number, sets_of, IsNumbered, IsPut, Vacant}
+use Rattle.isle_base.specs.Numbers.{same_number, sets_of, IsNumbered, IsPut, Numbering, Vacant}
 use Rattle.isle_base.proofs.Puts.{put_here, put_other, vacant_kept, vacant_freed, vacancies_at}
 
 -- a set as the vector that keeps it
@@ -98,7 +98,7 @@ pub same_self : (o : Option ℕ) → same_number o o ≡ is_some o
 same_self None = refl
 same_self (Some k) = eq-eqb k k refl
 
-pub no_sets : {T : Type 0} (eq : T → T → Bool) (number : T → Option ℕ) (count : ℕ) (free : List ℕ) → ((x : T) → number x ≡ None) → count ≡ 0 → free ≡ [] → IsNumbered eq number count free []
+pub no_sets : {T : Type 0} (eq : T → T → Bool) (number : T → Option ℕ) (count : ℕ) (free : List ℕ) → ((x : T) → number x ≡ None) → count ≡ 0 → free ≡ [] → IsNumbered eq (record { number = number; count = count; free = free; sets = [] })
 no_sets eq number count free e f h = record {
   numbered = λ x k. rw (e x) refl;
   counted = f;
@@ -130,86 +130,88 @@ module _ {T : Type 0} (eq : T → T → Bool) where
       none_in x [] a = refl
       none_in x (y ∷ s) a = or_from (eq x y) (in_set eq s x) a.0 (none_in x s a.1)
 
-  -- ---- each operation keeps the tables fitting
-  module _ (laws : IsEquivalence eq) (number : T → Option ℕ) (count : ℕ) (free : List ℕ) (sets : List (List T)) (p : IsNumbered eq number count free sets) where
+module _ {T : Type 0} {eq : T → T → Bool} {n : Numbering T} (p : IsNumbered eq n) where
+  pub has : (x : T) (k : ℕ) → n.number x ≡ Some k → in_set eq (get_or n.sets k []) x ≡ true
+  has x k e = p.numbered x k ∙ same_at (n.number x) k e
+
+  pub has_some : (x : T) (k : ℕ) → n.number x ≡ Some k → 0 < length (get_or n.sets k [])
+  has_some x k e = nonempty eq (get_or n.sets k []) x (has x k e)
+
+  -- the same numbers, in another map
+  pub numbered_same : (changed : T → Option ℕ) (count : ℕ) → ((q : T) → changed q ≡ n.number q) → count ≡ n.count
+      → IsNumbered eq (record { number = changed; count = count; free = n.free; sets = n.sets })
+  numbered_same changed count same same_count = record {
+    numbered = λ q k. p.numbered q k ∙ ap (λ o. same_number o (Some k)) (sym (same q));
+    counted = same_count ∙ p.counted;
+    distinct = p.distinct;
+    plural = p.plural;
+    vacant = p.vacant;
+  }
+
+  module _ (laws : IsEquivalence eq) where
     -- equal items have one number
-    pub alike : (a b : T) → eq a b ≡ true → number a ≡ number b
-    alike a b e = same_everywhere (number a) (number b) (λ k. sym (p.numbered a k) ∙ list_any_congr laws a b (get_or sets k []) e ∙ p.numbered b k)
+    pub alike : (a b : T) → eq a b ≡ true → n.number a ≡ n.number b
+    alike a b e = same_everywhere (n.number a) (n.number b) (λ k. sym (p.numbered a k) ∙ list_any_congr laws a b (get_or n.sets k []) e ∙ p.numbered b k)
 
-    pub has : (x : T) (k : ℕ) → number x ≡ Some k → in_set eq (get_or sets k []) x ≡ true
-    has x k e = p.numbered x k ∙ same_at (number x) k e
-
-    pub has_some : (x : T) (k : ℕ) → number x ≡ Some k → 0 < length (get_or sets k [])
-    has_some x k e = nonempty (get_or sets k []) x (has x k e)
-
-    -- the same numbers, in another map
-    pub numbered_same : (changed : T → Option ℕ) (count' : ℕ) → ((q : T) → changed q ≡ number q) → count' ≡ count → IsNumbered eq changed count' free sets
-    numbered_same changed count' same same_count = record {
-      numbered = λ q k. p.numbered q k ∙ ap (λ o. same_number o (Some k)) (sym (same q));
-      counted = same_count ∙ p.counted;
-      distinct = p.distinct;
-      plural = p.plural;
-      vacant = p.vacant;
-    }
-
-    module _ (changed : T → Option ℕ) (count' : ℕ) (free' : List ℕ) (sets' : List (List T)) where
+    -- ---- each operation keeps the tables fitting
+    module _ {m : Numbering T} where
       -- a set of two new items, at a place that had none
-      pub numbered_begin : (x y : T) (c : ℕ) → IsPut sets sets' c (x ∷ y ∷ []) → get_or sets c [] ≡ [] → Vacant free' sets'
-          → number x ≡ None → number y ≡ None → eq x y ≡ false
-          → ((q : T) → changed q ≡ cond (eq y q) (Some c) (cond (eq x q) (Some c) (number q))) → count' ≡ count + 2
-          → IsNumbered eq changed count' free' sets'
+      pub numbered_begin : (x y : T) (c : ℕ) → IsPut n.sets m.sets c (x ∷ y ∷ []) → get_or n.sets c [] ≡ [] → Vacant m.free m.sets
+          → n.number x ≡ None → n.number y ≡ None → eq x y ≡ false
+          → ((q : T) → m.number q ≡ cond (eq y q) (Some c) (cond (eq x q) (Some c) (n.number q))) → m.count ≡ n.count + 2
+          → IsNumbered eq m
       unfolding IsDistinct
       numbered_begin x y c put before vacant nx ny apart moved more =
-          let here = put_here sets sets' c (x ∷ y ∷ []) put in
+          let here = put_here put in
           record {
             numbered = λ q k. elim (cases_eq k c) [
               | inl same ↦
-                  let was : false ≡ same_number (number q) (Some c) = ap (λ s. in_set eq s q) (sym before) ∙ p.numbered q c in
-                  let at : (a b : Bool) → eq x q ≡ a → eq y q ≡ b → (a || (b || false)) ≡ same_number (cond b (Some c) (cond a (Some c) (number q))) (Some c) =
+                  let was : false ≡ same_number (n.number q) (Some c) = ap (λ s. in_set eq s q) (sym before) ∙ p.numbered q c in
+                  let at : (a b : Bool) → eq x q ≡ a → eq y q ≡ b → (a || (b || false)) ≡ same_number (cond b (Some c) (cond a (Some c) (n.number q))) (Some c) =
                   elim [
                     | true ↦ elim [ true ↦ λ d e. sym (eq-eqb c c refl) | false ↦ λ d e. sym (eq-eqb c c refl) ]
                     | false ↦ elim [ true ↦ λ d e. sym (eq-eqb c c refl) | false ↦ λ d e. was ]
                   ] in
                   rw (same, here, moved q, laws.symm q x, laws.symm q y) (at (eq x q) (eq y q) refl refl)
               | inr ne ↦
-                  let old : in_set eq (get_or sets k []) q ≡ same_number (number q) (Some k) = p.numbered q k in
+                  let old : in_set eq (get_or n.sets k []) q ≡ same_number (n.number q) (Some k) = p.numbered q k in
                   let far : same_number (Some c) (Some k) ≡ false = same_other c k (λ e. ne (sym e)) in
-                  let at : (a b : Bool) → eq x q ≡ a → eq y q ≡ b → same_number (number q) (Some k) ≡ same_number (cond b (Some c) (cond a (Some c) (number q))) (Some k) =
-                  let by_x : eq x q ≡ true → same_number (number q) (Some k) ≡ same_number (Some c) (Some k) = λ d. ap (λ o. same_number o (Some k)) (sym (alike x q d) ∙ nx) ∙ sym far in
-                  let by_y : eq y q ≡ true → same_number (number q) (Some k) ≡ same_number (Some c) (Some k) = λ d. ap (λ o. same_number o (Some k)) (sym (alike y q d) ∙ ny) ∙ sym far in
+                  let at : (a b : Bool) → eq x q ≡ a → eq y q ≡ b → same_number (n.number q) (Some k) ≡ same_number (cond b (Some c) (cond a (Some c) (n.number q))) (Some k) =
+                  let by_x : eq x q ≡ true → same_number (n.number q) (Some k) ≡ same_number (Some c) (Some k) = λ d. ap (λ o. same_number o (Some k)) (sym (alike x q d) ∙ nx) ∙ sym far in
+                  let by_y : eq y q ≡ true → same_number (n.number q) (Some k) ≡ same_number (Some c) (Some k) = λ d. ap (λ o. same_number o (Some k)) (sym (alike y q d) ∙ ny) ∙ sym far in
                   elim [
                     | true ↦ elim [ true ↦ λ d e. by_x d | false ↦ λ d e. by_x d ]
                     | false ↦ elim [ true ↦ λ d e. by_y e | false ↦ λ d e. refl ]
                   ] in
-                  rw (put_other sets sets' c (x ∷ y ∷ []) put k ne, moved q) (old ∙ at (eq x q) (eq y q) refl refl)
+                  rw (put_other put k ne, moved q) (old ∙ at (eq x q) (eq y q) refl refl)
             ];
-            counted = let none : length (get_or sets c []) ≡ 0 = ap length before in omega (arith, put.total, none, more, p.counted);
+            counted = let none : length (get_or n.sets c []) ≡ 0 = ap length before in omega (arith, put.total, none, more, p.counted);
             distinct = λ k. elim (cases_eq k c) [
               | inl same ↦ rw (same, here) ((apart, tt), (tt, tt))
-              | inr ne ↦ rw (put_other sets sets' c (x ∷ y ∷ []) put k ne) (p.distinct k)
+              | inr ne ↦ rw (put_other put k ne) (p.distinct k)
             ];
             plural = λ k. elim (cases_eq k c) [
               | inl same ↦ rw (same, here) (λ e. absurd (omega arith))
-              | inr ne ↦ rw (put_other sets sets' c (x ∷ y ∷ []) put k ne) (p.plural k)
+              | inr ne ↦ rw (put_other put k ne) (p.plural k)
             ];
             vacant = vacant;
           }
 
       -- a new item, into a set that has some
-      pub numbered_admit : (y : T) (c : ℕ) → IsPut sets sets' c (get_or sets c [] ++ y ∷ []) → 0 < length (get_or sets c [])
-          → number y ≡ None → ((q : T) → changed q ≡ cond (eq y q) (Some c) (number q)) → count' ≡ count + 1 → free' ≡ free
-          → IsNumbered eq changed count' free' sets'
+      pub numbered_admit : (y : T) (c : ℕ) → IsPut n.sets m.sets c (get_or n.sets c [] ++ y ∷ []) → 0 < length (get_or n.sets c [])
+          → n.number y ≡ None → ((q : T) → m.number q ≡ cond (eq y q) (Some c) (n.number q)) → m.count ≡ n.count + 1 → m.free ≡ n.free
+          → IsNumbered eq m
       numbered_admit y c put some ny moved more unchanged =
-          let s = get_or sets c [] in
-          let here = put_here sets sets' c (s ++ y ∷ []) put in
+          let s = get_or n.sets c [] in
+          let here = put_here put in
           let long = length-append s (y ∷ []) in
           record {
             numbered = λ q k. elim (cases_eq k c) [
               | inl same ↦
-                  let at : (b : Bool) → eq y q ≡ b → (in_set eq s q || (b || false)) ≡ same_number (cond b (Some c) (number q)) (Some c) =
+                  let at : (b : Bool) → eq y q ≡ b → (in_set eq s q || (b || false)) ≡ same_number (cond b (Some c) (n.number q)) (Some c) =
                   elim [
                     | true ↦ λ e. or_right (in_set eq s q) true refl ∙ sym (eq-eqb c c refl)
-                    | false ↦ λ e. elim (in_set eq s q) as (λ a. in_set eq s q ≡ a → (a || false) ≡ same_number (number q) (Some c)) [
+                    | false ↦ λ e. elim (in_set eq s q) as (λ a. in_set eq s q ≡ a → (a || false) ≡ same_number (n.number q) (Some c)) [
                       | true ↦ λ m. sym m ∙ p.numbered q c
                       | false ↦ λ m. sym m ∙ p.numbered q c
                     ] refl
@@ -217,57 +219,57 @@ module _ {T : Type 0} (eq : T → T → Bool) where
                   rw (same, here, list_any-append (eq q) s (y ∷ []), moved q, laws.symm q y) (at (eq y q) refl)
               | inr ne ↦
                   let far : same_number (Some c) (Some k) ≡ false = same_other c k (λ e. ne (sym e)) in
-                  let at : (b : Bool) → eq y q ≡ b → same_number (number q) (Some k) ≡ same_number (cond b (Some c) (number q)) (Some k) =
+                  let at : (b : Bool) → eq y q ≡ b → same_number (n.number q) (Some k) ≡ same_number (cond b (Some c) (n.number q)) (Some k) =
                   elim [
                     | true ↦ λ d. ap (λ o. same_number o (Some k)) (sym (alike y q d) ∙ ny) ∙ sym far
                     | false ↦ λ d. refl
                   ] in
-                  rw (put_other sets sets' c (s ++ y ∷ []) put k ne, moved q) (p.numbered q k ∙ at (eq y q) refl)
+                  rw (put_other put k ne, moved q) (p.numbered q k ∙ at (eq y q) refl)
             ];
             counted = omega (arith, put.total, long, more, p.counted);
             distinct = λ k. elim (cases_eq k c) [
               | inl same ↦
                   let away : in_set eq s y ≡ false = p.numbered y c ∙ ap (λ o. same_number o (Some c)) ny in
                   rw (same, here) (IsDistinct-push laws s y (p.distinct c) away)
-              | inr ne ↦ rw (put_other sets sets' c (s ++ y ∷ []) put k ne) (p.distinct k)
+              | inr ne ↦ rw (put_other put k ne) (p.distinct k)
             ];
             plural = λ k. elim (cases_eq k c) [
               | inl same ↦ rw (same, here) (λ e. absurd (omega (arith, some, long, e)))
-              | inr ne ↦ rw (put_other sets sets' c (s ++ y ∷ []) put k ne) (p.plural k)
+              | inr ne ↦ rw (put_other put k ne) (p.plural k)
             ];
-            vacant = rw unchanged (vacant_kept sets sets' c (s ++ y ∷ []) put free (vacancies_at sets c some) (omega (arith, long)) p.vacant);
+            vacant = rw unchanged (vacant_kept put n.free (vacancies_at n.sets c some) (omega (arith, long)) p.vacant);
           }
 
       -- the members of one set go to the end of another, and its place becomes free
-      pub numbered_unite : (middle : List (List T)) (a b : ℕ) → IsPut sets middle b [] → IsPut middle sets' a (get_or sets a [] ++ get_or sets b []) → a ≢ b
-          → 0 < length (get_or sets a []) → 0 < length (get_or sets b [])
-          → ((q : T) → changed q ≡ cond (same_number (Some b) (number q)) (Some a) (number q)) → count' ≡ count → free' ≡ free ++ b ∷ []
-          → IsNumbered eq changed count' free' sets'
+      pub numbered_unite : (middle : List (List T)) (a b : ℕ) → IsPut n.sets middle b [] → IsPut middle m.sets a (get_or n.sets a [] ++ get_or n.sets b []) → a ≢ b
+          → 0 < length (get_or n.sets a []) → 0 < length (get_or n.sets b [])
+          → ((q : T) → m.number q ≡ cond (same_number (Some b) (n.number q)) (Some a) (n.number q)) → m.count ≡ n.count → m.free ≡ n.free ++ b ∷ []
+          → IsNumbered eq m
       numbered_unite middle a b emptied put ne first second moved same_count more_free =
-          let s = get_or sets a [] in
-          let t = get_or sets b [] in
+          let s = get_or n.sets a [] in
+          let t = get_or n.sets b [] in
           let ne' : b ≢ a = λ e. ne (sym e) in
-          let here = put_here middle sets' a (s ++ t) put in
-          let kept : get_or middle a [] ≡ s = put_other sets middle b [] emptied a ne in
-          let gone : get_or sets' b [] ≡ [] = put_other middle sets' a (s ++ t) put b ne' ∙ put_here sets middle b [] emptied in
-          let other : (k : ℕ) → k ≢ a → k ≢ b → get_or sets' k [] ≡ get_or sets k [] = λ k na nb. put_other middle sets' a (s ++ t) put k na ∙ put_other sets middle b [] emptied k nb in
+          let here = put_here put in
+          let kept : get_or middle a [] ≡ s = put_other emptied a ne in
+          let gone : get_or m.sets b [] ≡ [] = put_other put b ne' ∙ put_here emptied in
+          let other : (k : ℕ) → k ≢ a → k ≢ b → get_or m.sets k [] ≡ get_or n.sets k [] = λ k na nb. put_other put k na ∙ put_other emptied k nb in
           let long = length-append s t in
           let there : 0 < length (get_or middle a []) = rw kept first in
           record {
             numbered = λ q k. elim (cases_eq k a) [
               | inl same ↦
                   let at : (o : Option ℕ) → (same_number o (Some a) || same_number o (Some b)) ≡ same_number (cond (same_number (Some b) o) (Some a) o) (Some a) = into_first a b in
-                  rw (same, here, list_any-append (eq q) s t, moved q, p.numbered q a, p.numbered q b) (at (number q))
+                  rw (same, here, list_any-append (eq q) s t, moved q, p.numbered q a, p.numbered q b) (at (n.number q))
               | inr na ↦ elim (cases_eq k b) [
-                | inl same ↦ rw (same, gone, moved q) (out_of_second a b ne (number q))
-                | inr nb ↦ rw (other k na nb, moved q) (p.numbered q k ∙ elsewhere a b k na nb (number q))
+                | inl same ↦ rw (same, gone, moved q) (out_of_second a b ne (n.number q))
+                | inr nb ↦ rw (other k na nb, moved q) (p.numbered q k ∙ elsewhere a b k na nb (n.number q))
               ]
             ];
             counted =
                 let kept_length : length (get_or middle a []) ≡ length s = ap length kept in
                 omega (arith, emptied.total, put.total, kept_length, long, same_count, p.counted);
             distinct = λ k. elim (cases_eq k a) [
-              | inl same ↦ rw (same, here) (distinct_append laws.refl s t (p.distinct a) (p.distinct b) (λ q m. p.numbered q b ∙ not_both a b ne (number q) (sym (p.numbered q a) ∙ m)))
+              | inl same ↦ rw (same, here) (distinct_append eq laws.refl s t (p.distinct a) (p.distinct b) (λ q m. p.numbered q b ∙ not_both a b ne (n.number q) (sym (p.numbered q a) ∙ m)))
               | inr na ↦ elim (cases_eq k b) [
                 | inl same ↦ rw (same, gone) (none_distinct eq)
                 | inr nb ↦ rw (other k na nb) (p.distinct k)
@@ -281,29 +283,29 @@ module _ {T : Type 0} (eq : T → T → Bool) where
               ]
             ];
             vacant =
-                let freed : Vacant (free ++ b ∷ []) middle = vacant_freed sets middle b [] emptied free refl (vacancies_at sets b second) p.vacant in
-                rw more_free (vacant_kept middle sets' a (s ++ t) put (free ++ b ∷ []) (vacancies_at middle a there) (omega (arith, first, long)) freed);
+                let freed : Vacant (n.free ++ b ∷ []) middle = vacant_freed emptied n.free refl (vacancies_at n.sets b second) p.vacant in
+                rw more_free (vacant_kept put (n.free ++ b ∷ []) (vacancies_at middle a there) (omega (arith, first, long)) freed);
           }
 
       -- a set goes, and its place becomes free
-      pub numbered_remove : (c : ℕ) → IsPut sets sets' c [] → 0 < length (get_or sets c [])
-          → ((q : T) → changed q ≡ cond (in_set eq (get_or sets c []) q) None (number q)) → count' + length (get_or sets c []) ≡ count → free' ≡ free ++ c ∷ []
-          → IsNumbered eq changed count' free' sets'
+      pub numbered_remove : (c : ℕ) → IsPut n.sets m.sets c [] → 0 < length (get_or n.sets c [])
+          → ((q : T) → m.number q ≡ cond (in_set eq (get_or n.sets c []) q) None (n.number q)) → m.count + length (get_or n.sets c []) ≡ n.count → m.free ≡ n.free ++ c ∷ []
+          → IsNumbered eq m
       numbered_remove c put some moved fewer more_free =
-          let here = put_here sets sets' c [] put in
+          let here = put_here put in
           record {
             numbered = λ q k. elim (cases_eq k c) [
-              | inl same ↦ rw (same, here, moved q, p.numbered q c) (out_of_removed c (number q))
-              | inr ne ↦ rw (put_other sets sets' c [] put k ne, moved q, p.numbered q c) (p.numbered q k ∙ not_removed c k ne (number q))
+              | inl same ↦ rw (same, here, moved q, p.numbered q c) (out_of_removed c (n.number q))
+              | inr ne ↦ rw (put_other put k ne, moved q, p.numbered q c) (p.numbered q k ∙ not_removed c k ne (n.number q))
             ];
             counted = omega (arith, put.total, fewer, p.counted);
             distinct = λ k. elim (cases_eq k c) [
               | inl same ↦ rw (same, here) (none_distinct eq)
-              | inr ne ↦ rw (put_other sets sets' c [] put k ne) (p.distinct k)
+              | inr ne ↦ rw (put_other put k ne) (p.distinct k)
             ];
             plural = λ k. elim (cases_eq k c) [
               | inl same ↦ rw (same, here) (λ e. absurd (omega (arith, e)))
-              | inr ne ↦ rw (put_other sets sets' c [] put k ne) (p.plural k)
+              | inr ne ↦ rw (put_other put k ne) (p.plural k)
             ];
-            vacant = rw more_free (vacant_freed sets sets' c [] put free refl (vacancies_at sets c some) p.vacant);
+            vacant = rw more_free (vacant_freed put n.free refl (vacancies_at n.sets c some) p.vacant);
           }

@@ -1,9 +1,9 @@
 -- What is together once two sets are one, or one is gone.
-use Rattle.std.proofs.Common.{◌≡◌, ℕ, ◌==◌, Bool, true, false, cond, not, ◌||◌, ◌&&◌, List, Option, Some, None, refl, sym, ap, ◌∙◌, inl, inr, eq-eqb, ne_eqb}
+use Rattle.std.proofs.Common.{◌≡◌, ℕ, ◌==◌, Bool, true, false, cond, not, ◌||◌, ◌&&◌, Option, Some, None, refl, sym, ap, ◌∙◌, inl, inr, eq-eqb, ne_eqb}
 use Rattle.std.specs.Cmp.{IsEquivalence}
 use Rattle.std.proofs.lemmas.Bool.{false≢true, or_left, or_right, or_cases, and_right, cases_eq}
 use Rattle.isle_base.specs.Partition.{together, together_after, filled}
-use Rattle.isle_base.specs.Numbers.{same_number, IsNumbered, IsMerge, touches}
+use Rattle.isle_base.specs.Numbers.{same_number, IsNumbered, IsMerge, Numbering, touches}
 use Rattle.isle_base.proofs.Classes.{same_is, same_at, same_symm, alike}
 use Rattle.isle_base.proofs.Togethers.{by_number}
 
@@ -137,16 +137,14 @@ module _ {T : Type 0} (eq : T → T → Bool) (number : T → Option ℕ) where
       ]
 
 -- ---- as values show it
-module _ {T : Type 0} (eq : T → T → Bool) (laws : IsEquivalence eq)
-    (number : T → Option ℕ) (count : ℕ) (free : List ℕ) (sets : List (List T)) (p : IsNumbered eq number count free sets)
-    (changed : T → Option ℕ) (count' : ℕ) (free' : List ℕ) (sets' : List (List T)) (p' : IsNumbered eq changed count' free' sets') where
-  pub together_merged : (x y : T) → IsMerge eq number changed x y → (a b : T) → together eq (filled sets') a b ≡ together_after eq (filled sets) x y a b
-  together_merged x y m a b =
-      rw (by_number eq changed count' free' sets' p' a b, by_number eq number count free sets p x a, by_number eq number count free sets p x b, by_number eq number count free sets p y a, by_number eq number count free sets p y b, by_number eq number count free sets p a b)
-      (merged_numbers eq number (alike eq laws number count free sets p) changed x y m a b)
+module _ {T : Type 0} {eq : T → T → Bool} (laws : IsEquivalence eq) {n m : Numbering T} (p : IsNumbered eq n) (p' : IsNumbered eq m) where
+  pub together_merged : (x y : T) → IsMerge eq n.number m.number x y → (a b : T) → together eq (filled m.sets) a b ≡ together_after eq (filled n.sets) x y a b
+  together_merged x y merge a b =
+      rw (by_number p' a b, by_number p x a, by_number p x b, by_number p y a, by_number p y b, by_number p a b)
+      (merged_numbers eq n.number (alike p laws) m.number x y merge a b)
 
-  pub together_removed : (x : T) (c : ℕ) → number x ≡ Some c → ((q : T) → changed q ≡ cond (same_number (number q) (Some c)) None (number q))
-      → (a b : T) → together eq (filled sets') a b ≡ (together eq (filled sets) a b && not (together eq (filled sets) x a))
+  pub together_removed : (x : T) (c : ℕ) → n.number x ≡ Some c → ((q : T) → m.number q ≡ cond (same_number (n.number q) (Some c)) None (n.number q))
+      → (a b : T) → together eq (filled m.sets) a b ≡ (together eq (filled n.sets) a b && not (together eq (filled n.sets) x a))
   together_removed x c nx moved a b =
-      rw (by_number eq changed count' free' sets' p' a b, by_number eq number count free sets p x a, by_number eq number count free sets p a b)
-      (removed_numbers eq number changed x c nx moved a b)
+      rw (by_number p' a b, by_number p x a, by_number p a b)
+      (removed_numbers eq n.number m.number x c nx moved a b)

@@ -70,7 +70,7 @@ module _ {T : Type 0} where
   same_sets (w ∷ vs) zero v d e = ap (λ s. s ∷ sets_of vs) e
   same_sets (w ∷ vs) (suc i) v d e = ap (λ ss. w.items ∷ ss) (same_sets vs i v d e)
 
-  module _ (xs ys : List (List T)) (i : ℕ) (y : List T) (p : IsPut xs ys i y) where
+  module _ {xs ys : List (List T)} {i : ℕ} {y : List T} (p : IsPut xs ys i y) where
     pub put_here : get_or ys i [] ≡ y
     put_here = get_or_from_slice_get ys i y [] p.here
 
@@ -102,7 +102,7 @@ module _ {T : Type 0} where
   pub free_within : (xs : List (List T)) (i : ℕ) → slice_get xs i ≡ Some [] → i < length xs
   free_within xs i e = slice_get_within xs i [] e
 
-  module _ (xs ys : List (List T)) (i : ℕ) (y : List T) (p : IsPut xs ys i y) where
+  module _ {xs ys : List (List T)} {i : ℕ} {y : List T} (p : IsPut xs ys i y) where
     pub vacant_popped : (before after : List ℕ) → before ≡ after ++ i ∷ [] → 0 < length y → Vacant before xs → Vacant after ys
     vacant_popped before after e filled v k =
         let more : count_by (λ n. n == k) before ≡ count_by (λ n. n == k) after + one_if (i == k) = ap (count_by (λ n. n == k)) e ∙ counted_more after i k in

@@ -7,7 +7,7 @@ use Rattle.std.proofs.lemmas.List.{get_or_default}
 use Rattle.std.proofs.lemmas.List.Sums.{sum_by-cons}
 use Rattle.std.proofs.lemmas.Bool.{false≢true, or_left, or_right}
 use Rattle.isle_base.specs.Partition.{in_set, set_of, together, added_by, filled, IsPartition}
-use Rattle.isle_base.specs.Numbers.{same_number, IsNumbered}
+use Rattle.isle_base.specs.Numbers.{same_number, IsNumbered, Numbering}
 use Rattle.isle_base.proofs.Classes.{same_is, same_at, same_symm, alike}
 
 -- ---- the sets without the empty ones
@@ -114,91 +114,99 @@ module _ {T : Type 0} (eq : T → T → Bool) where
   pub own_member : ((x : T) → eq x x ≡ true) → (sets : List (List T)) (x : T) (r : Option T) → r ≡ slice_get (set_of eq sets x) 0 → IfSome r (λ y. IsTrue (together eq sets x y))
   own_member same sets x r e = rw e (head_member same (set_of eq sets x))
 
-  -- ---- the sets of tables that fit, as their value shows them
-  module _ (number : T → Option ℕ) (count : ℕ) (free : List ℕ) (sets : List (List T)) (p : IsNumbered eq number count free sets) where
-    pub found : (x : T) (k : ℕ) → number x ≡ Some k → set_of eq (filled sets) x ≡ get_or sets k []
-    found x k e =
-        set_of_filled sets x
-        ∙ set_at sets x k (p.numbered x k ∙ same_at (number x) k e) (λ j m. eqb-true j k (same_symm (Some j) (Some k) ∙ (ap (λ o. same_number o (Some j)) (sym e) ∙ sym (p.numbered x j) ∙ m)))
+-- ---- the sets of tables that fit, as their value shows them
+module _ {T : Type 0} {eq : T → T → Bool} {n : Numbering T} (p : IsNumbered eq n) where
+  pub found : (x : T) (k : ℕ) → n.number x ≡ Some k → set_of eq (filled n.sets) x ≡ get_or n.sets k []
+  found x k e =
+      set_of_filled eq n.sets x
+      ∙ set_at eq n.sets x k (p.numbered x k ∙ same_at (n.number x) k e) (λ j m. eqb-true j k (same_symm (Some j) (Some k) ∙ (ap (λ o. same_number o (Some j)) (sym e) ∙ sym (p.numbered x j) ∙ m)))
 
-    pub not_found : (x : T) → number x ≡ None → set_of eq (filled sets) x ≡ []
-    not_found x e = set_of_filled sets x ∙ set_nowhere sets x (λ j. p.numbered x j ∙ ap (λ o. same_number o (Some j)) e)
+  pub not_found : (x : T) → n.number x ≡ None → set_of eq (filled n.sets) x ≡ []
+  not_found x e = set_of_filled eq n.sets x ∙ set_nowhere eq n.sets x (λ j. p.numbered x j ∙ ap (λ o. same_number o (Some j)) e)
 
-    pub by_number : (x y : T) → together eq (filled sets) x y ≡ same_number (number x) (number y)
-    by_number x y =
-        elim (number x) as (λ o. number x ≡ o → together eq (filled sets) x y ≡ same_number o (number y)) [
-          | None ↦ λ e. ap (λ s. in_set eq s y) (not_found x e)
-          | Some k ↦ λ e. ap (λ s. in_set eq s y) (found x k e) ∙ p.numbered y k ∙ same_symm (number y) (Some k)
-        ] refl
+  pub by_number : (x y : T) → together eq (filled n.sets) x y ≡ same_number (n.number x) (n.number y)
+  by_number x y =
+      elim (n.number x) as (λ o. n.number x ≡ o → together eq (filled n.sets) x y ≡ same_number o (n.number y)) [
+        | None ↦ λ e. ap (λ s. in_set eq s y) (not_found x e)
+        | Some k ↦ λ e. ap (λ s. in_set eq s y) (found x k e) ∙ p.numbered y k ∙ same_symm (n.number y) (Some k)
+      ] refl
 
-    -- an item that is in no set is together with none
-    pub first_apart : (x y : T) → together eq (filled sets) x x ≡ false → together eq (filled sets) x y ≡ false
-    first_apart x y off =
-        let no : same_number (number x) (number x) ≡ false = sym (by_number x x) ∙ off in
-        by_number x y ∙ none_same (number x) (number y) no
+  pub same_set : (x y : T) → together eq (filled n.sets) x y ≡ true → set_of eq (filled n.sets) y ≡ set_of eq (filled n.sets) x
+  same_set x y m =
+      let e : n.number x ≡ n.number y = same_is (n.number x) (n.number y) (sym (by_number x y) ∙ m) in
+      elim (n.number x) as (λ o. n.number x ≡ o → set_of eq (filled n.sets) y ≡ set_of eq (filled n.sets) x) [
+        | None ↦ λ h. not_found y (sym e ∙ h) ∙ sym (not_found x h)
+        | Some k ↦ λ h. found y k (sym e ∙ h) ∙ sym (found x k h)
+      ] refl
 
-    pub second_apart : (x y : T) → together eq (filled sets) y y ≡ false → together eq (filled sets) x y ≡ false
-    second_apart x y off =
-        let no : same_number (number y) (number y) ≡ false = sym (by_number y y) ∙ off in
-        by_number x y ∙ same_symm (number x) (number y) ∙ none_same (number y) (number x) no
+  pub another : IsEquivalence eq → (x : T) (k : ℕ) → n.number x ≡ Some k → (y : T) × IsFalse (eq x y) × IsTrue (together eq (filled n.sets) x y)
+  another laws x k e =
+      let r = another_of eq laws (get_or n.sets k []) x (p.distinct k) (p.plural k) (p.numbered x k ∙ same_at (n.number x) k e) in
+      (r.0, r.1, ap (λ s. in_set eq s r.0) (found x k e) ∙ r.2)
 
-    pub same_set : (x y : T) → together eq (filled sets) x y ≡ true → set_of eq (filled sets) y ≡ set_of eq (filled sets) x
-    same_set x y m =
-        let e : number x ≡ number y = same_is (number x) (number y) (sym (by_number x y) ∙ m) in
-        elim (number x) as (λ o. number x ≡ o → set_of eq (filled sets) y ≡ set_of eq (filled sets) x) [
-          | None ↦ λ h. not_found y (sym e ∙ h) ∙ sym (not_found x h)
-          | Some k ↦ λ h. found y k (sym e ∙ h) ∙ sym (found x k h)
-        ] refl
+  -- the value that the tables show is a partition
+  pub partition : IsEquivalence eq → IsPartition eq (filled n.sets)
+  partition laws = record {
+    equal_first = λ x y z e. by_number x z ∙ ap (λ o. same_number o (n.number z)) (alike p laws x y e) ∙ sym (by_number y z);
+    equal_second = λ x y z e. by_number z x ∙ ap (same_number (n.number z)) (alike p laws x y e) ∙ sym (by_number z y);
+    symmetric = λ x y. by_number x y ∙ same_symm (n.number x) (n.number y) ∙ sym (by_number y x);
+    transitive = λ x y z first second.
+        let e : n.number x ≡ n.number y = same_is (n.number x) (n.number y) (sym (by_number x y) ∙ first) in
+        by_number x z ∙ ap (λ o. same_number o (n.number z)) e ∙ sym (by_number y z) ∙ second;
+    one_set = same_set;
+    another = λ x m. elim (n.number x) as (λ o. n.number x ≡ o → (y : T) × IsFalse (eq x y) × IsTrue (together eq (filled n.sets) x y)) [
+      | None ↦ λ e. absurd (false≢true (sym (by_number x x ∙ ap (λ o. same_number o (n.number x)) e) ∙ m))
+      | Some k ↦ λ e. another laws x k e
+    ] refl;
+    plural = λ k d h.
+        let same = ap length (get_or_default (filled n.sets) k d [] h) in
+        let many = filled_all (λ s. length s ≢ 1) n.sets p.plural k in
+        omega (arith, same, many, filled_some n.sets k h);
+    distinct = λ k d h. subst (IsDistinct eq) (get_or_default (filled n.sets) k [] d h) (filled_all (IsDistinct eq) n.sets p.distinct k);
+    disjoint = λ x j k. filled_disjoint eq n.sets x (λ a b first second.
+        let e = same_is (n.number x) (Some a) (sym (p.numbered x a) ∙ first) in
+        let e' = same_is (n.number x) (Some b) (sym (p.numbered x b) ∙ second) in
+        eqb-true a b (ap (λ o. same_number o (Some b)) (sym e) ∙ ap (λ o. same_number o (Some b)) e' ∙ eq-eqb b b refl)) j k;
+  }
 
-    pub another : IsEquivalence eq → (x : T) (k : ℕ) → number x ≡ Some k → (y : T) × IsFalse (eq x y) × IsTrue (together eq (filled sets) x y)
-    another laws x k e =
-        let r = another_of laws (get_or sets k []) x (p.distinct k) (p.plural k) (p.numbered x k ∙ same_at (number x) k e) in
-        (r.0, r.1, ap (λ s. in_set eq s r.0) (found x k e) ∙ r.2)
+  -- the same of the value itself, where it is what the tables show
+  pub partition_of : IsEquivalence eq → {value : List (List T)} → filled n.sets ≡ value → IsPartition eq value
+  partition_of laws e = subst (IsPartition eq) e (partition laws)
 
-    -- the value that the tables show is a partition
-    pub partition : IsEquivalence eq → IsPartition eq (filled sets)
-    partition laws = record {
-      equal_first = λ x y z e. by_number x z ∙ ap (λ o. same_number o (number z)) (alike eq laws number count free sets p x y e) ∙ sym (by_number y z);
-      equal_second = λ x y z e. by_number z x ∙ ap (same_number (number z)) (alike eq laws number count free sets p x y e) ∙ sym (by_number z y);
-      symmetric = λ x y. by_number x y ∙ same_symm (number x) (number y) ∙ sym (by_number y x);
-      transitive = λ x y z m n.
-          let e : number x ≡ number y = same_is (number x) (number y) (sym (by_number x y) ∙ m) in
-          by_number x z ∙ ap (λ o. same_number o (number z)) e ∙ sym (by_number y z) ∙ n;
-      one_set = same_set;
-      another = λ x m. elim (number x) as (λ o. number x ≡ o → (y : T) × IsFalse (eq x y) × IsTrue (together eq (filled sets) x y)) [
-        | None ↦ λ e. absurd (false≢true (sym (by_number x x ∙ ap (λ o. same_number o (number x)) e) ∙ m))
-        | Some k ↦ λ e. another laws x k e
-      ] refl;
-      plural = λ k d h.
-          let same = ap length (get_or_default (filled sets) k d [] h) in
-          let many = filled_all (λ s. length s ≢ 1) sets p.plural k in
-          omega (arith, same, many, filled_some sets k h);
-      distinct = λ k d h. subst (IsDistinct eq) (get_or_default (filled sets) k [] d h) (filled_all (IsDistinct eq) sets p.distinct k);
-      disjoint = λ x j k. filled_disjoint sets x (λ a b m n.
-          let e = same_is (number x) (Some a) (sym (p.numbered x a) ∙ m) in
-          let e' = same_is (number x) (Some b) (sym (p.numbered x b) ∙ n) in
-          eqb-true a b (ap (λ o. same_number o (Some b)) (sym e) ∙ ap (λ o. same_number o (Some b)) e' ∙ eq-eqb b b refl)) j k;
-    }
+  pub added_none : (x : T) → n.number x ≡ None → added_by eq (filled n.sets) x ≡ 1
+  added_none x e = ap (λ b. cond b 0 1) (by_number x x ∙ ap (λ o. same_number o o) e)
 
-    pub added_none : (x : T) → number x ≡ None → added_by eq (filled sets) x ≡ 1
-    added_none x e = ap (λ b. cond b 0 1) (by_number x x ∙ ap (λ o. same_number o o) e)
+  pub added_some : (x : T) (k : ℕ) → n.number x ≡ Some k → added_by eq (filled n.sets) x ≡ 0
+  added_some x k e = ap (λ b. cond b 0 1) (by_number x x ∙ ap (λ o. same_number o o) e ∙ eq-eqb k k refl)
 
-    pub added_some : (x : T) (k : ℕ) → number x ≡ Some k → added_by eq (filled sets) x ≡ 0
-    added_some x k e = ap (λ b. cond b 0 1) (by_number x x ∙ ap (λ o. same_number o o) e ∙ eq-eqb k k refl)
+  pub total : sum_by length (filled n.sets) ≡ n.count
+  total = total_filled n.sets ∙ sym p.counted
 
-    pub total : sum_by length (filled sets) ≡ count
-    total = total_filled sets ∙ sym p.counted
+-- ---- what each partition has
+module _ {T : Type 0} {eq : T → T → Bool} {sets : List (List T)} (p : IsPartition eq sets) where
+  -- an item that is in no set is together with none
+  pub first_apart : (x y : T) → IsFalse (together eq sets x x) → IsFalse (together eq sets x y)
+  first_apart x y off =
+      elim (together eq sets x y) as (λ b. together eq sets x y ≡ b → b ≡ false) [
+        | true ↦ λ m. absurd (false≢true (sym off ∙ p.transitive x y x m (p.symmetric y x ∙ m)))
+        | false ↦ λ m. refl
+      ] refl
 
-  -- no item has a number exactly where there is none in the map
-  pub empty_map : IsEquivalence eq → (entries : List (T × ℕ)) (free : List ℕ) (sets : List (List T)) → IsNumbered eq (λ x. lookup (eq x) entries) (length entries) free sets
+  pub second_apart : (x y : T) → IsFalse (together eq sets y y) → IsFalse (together eq sets x y)
+  second_apart x y off = p.symmetric x y ∙ first_apart y x off
+
+  -- the first member of a set is that of each member's set
+  pub one_name : (x : T) (r : Option T) → r ≡ slice_get (set_of eq sets x) 0 → (y : T) → IsTrue (together eq sets x y) → slice_get (set_of eq sets y) 0 ≡ r
+  one_name x r e y m = ap (λ s. slice_get s 0) (p.one_set x y m) ∙ sym e
+
+-- no item has a number exactly where there is none in the map
+module _ {T : Type 0} {eq : T → T → Bool} (laws : IsEquivalence eq) (free : List ℕ) (sets : List (List T)) where
+  pub empty_map : (entries : List (T × ℕ)) → IsNumbered eq (record { number = λ x. lookup (eq x) entries; count = length entries; free = free; sets = sets })
       → ((length entries == 0) ≡ true) ↔ ((x : T) → together eq (filled sets) x x ≡ false)
-  empty_map laws [] free sets p =
-      let number : T → Option ℕ = λ x. None in
-      (λ e x. by_number number 0 free sets p x x, λ h. refl)
-  empty_map laws (e ∷ es) free sets p = (
+  empty_map [] p = (λ e x. by_number p x x, λ h. refl)
+  empty_map (e ∷ es) p = (
     λ h. absurd (omega (arith, eqb-true (length (e ∷ es)) 0 h)),
     λ h.
-        let number : T → Option ℕ = λ x. lookup (eq x) (e ∷ es) in
-        let some : number e.0 ≡ Some e.1 = ap (λ b. cond b (Some e.1) (lookup (eq e.0) es)) (laws.refl e.0) in
-        absurd (false≢true (sym (h e.0) ∙ by_number number (length (e ∷ es)) free sets p e.0 e.0 ∙ ap (λ o. same_number o o) some ∙ eq-eqb e.1 e.1 refl)),
+        let some : lookup (eq e.0) (e ∷ es) ≡ Some e.1 = ap (λ b. cond b (Some e.1) (lookup (eq e.0) es)) (laws.refl e.0) in
+        absurd (false≢true (sym (h e.0) ∙ by_number p e.0 e.0 ∙ ap (λ o. same_number o o) some ∙ eq-eqb e.1 e.1 refl)),
   )

@@ -25,18 +25,29 @@ Vacant free sets = (k : ℕ) → count_by (λ n. n == k) free ≡ vacancies (sli
 abbrev pub sets_of : {T : Type 0} → List (Vec T Global) → List (List T)
 sets_of vs = map (λ v. v.items) vs
 
+-- tables of sets at numbers: the number of each item, how many items have one, the free places, and the set at each place
+pub record Numbering (T : Type 0) : Type 0 where
+  pub number : T → Option ℕ
+  pub count : ℕ
+  pub free : List ℕ
+  pub sets : List (List T)
+
+-- what the three tables of a partition hold
+abbrev pub numbering : {T S : Type 0} → (T → T → Bool) → HashMap T ℕ S → List (Vec T Global) → List ℕ → Numbering T
+numbering eq classes members free = record { number = get eq classes; count = hash_map_len classes; free = free; sets = sets_of members }
+
 module _ {T : Type 0} (eq : T → T → Bool) where
   -- each item's number is that of the one set that has it
-  pub record IsNumbered (number : T → Option ℕ) (count : ℕ) (free : List ℕ) (sets : List (List T)) : Type 0 where
-    pub numbered : (x : T) (k : ℕ) → in_set eq (slice_index_or sets k []) x ≡ same_number (number x) (Some k)
-    pub counted : count ≡ sum_by length sets
-    pub distinct : (k : ℕ) → IsDistinct eq (slice_index_or sets k [])
-    pub plural : (k : ℕ) → length (slice_index_or sets k []) ≢ 1
-    pub vacant : Vacant free sets
+  pub record IsNumbered (n : Numbering T) : Type 0 where
+    pub numbered : (x : T) (k : ℕ) → in_set eq (slice_index_or n.sets k []) x ≡ same_number (n.number x) (Some k)
+    pub counted : n.count ≡ sum_by length n.sets
+    pub distinct : (k : ℕ) → IsDistinct eq (slice_index_or n.sets k [])
+    pub plural : (k : ℕ) → length (slice_index_or n.sets k []) ≢ 1
+    pub vacant : Vacant n.free n.sets
 
   -- the three tables of a partition fit each other
   abbrev pub Fit : {S : Type 0} → HashMap T ℕ S → List (Vec T Global) → List ℕ → Type 0
-  Fit classes members free = IsNumbered (get eq classes) (hash_map_len classes) free (sets_of members)
+  Fit classes members free = IsNumbered (numbering eq classes members free)
 
   -- q is x or y, or has the number of one of them
   abbrev pub touches : (T → Option ℕ) → T → T → T → Bool

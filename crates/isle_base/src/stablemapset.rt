@@ -233,6 +233,3 @@ impl<K: Eq + Hash, V> From<HashMap<K, V>> for StableMap<K, V> {
         StableMap { entries: map }
     }
 }
-
-#[cfg(test)]
-mod tests;

@@ -14,7 +14,7 @@ ghost use Rattle.isle_base.specs.SyntaxViews.{position, name_view, pattern_view,
 use std::alloc::{AllocError, AllocFailed, Global};
 
 /// A place in a file. Ordered by file, then offset.
-#[derive(Clone, Copy, Debug, Default, PartialEq, Eq, PartialOrd, Ord, Hash)]
+#[derive(Clone, Copy, Debug, Default, PartialEq, Eq, PartialOrd, Ord)]
 pub struct Pos {
     /// The file's number in `Files`.
     pub file: usize,
@@ -23,7 +23,7 @@ pub struct Pos {
 }
 
 /// A piece of a file.
-#[derive(Clone, Copy, Debug, PartialEq, Eq)]
+#[derive(Clone, Copy, Debug, PartialEq)]
 pub struct Span {
     /// Where it begins.
     pub from: Pos,
@@ -32,7 +32,6 @@ pub struct Span {
 }
 
 /// The files that were read: two lists of equal length.
-#[derive(Debug, Drop)]
 pub struct Files {
     /// The files' names.
     pub names: Vec<String>,
@@ -41,11 +40,11 @@ pub struct Files {
 }
 
 /// A name, and where it stands.
-#[derive(Debug, PartialEq, Eq, Drop)]
+#[derive(Debug, PartialEq, Eq)]
 pub struct Ident(pub String, pub Pos);
 
 /// What is bounded.
-#[derive(Clone, Copy, Debug, PartialEq, Eq)]
+#[derive(Clone, Copy, Debug)]
 pub enum Limit {
     /// The fields that a constraint matches.
     Fields,
@@ -62,7 +61,7 @@ pub enum Limit {
 }
 
 /// What is wrong with the definitions.
-#[derive(Debug, Drop)]
+#[derive(Debug)]
 pub enum Error {
     /// A definition, or what it says, isn't right.
     TypeError {
@@ -118,7 +117,7 @@ impl<T: Drop> From<AllocFailed<T>> for Fault {
 }
 
 /// A definition.
-#[derive(Clone, Debug, PartialEq, Eq, Drop)]
+#[derive(Clone, PartialEq, Eq)]
 pub enum Def {
     TypeDef(Type),
     Decl(Decl),
@@ -131,7 +130,7 @@ pub enum Def {
 }
 
 /// A type's definition.
-#[derive(Clone, Debug, PartialEq, Eq, Drop)]
+#[derive(Clone, PartialEq, Eq)]
 pub struct Type {
     pub name: Ident,
     pub is_extern: bool,
@@ -141,7 +140,7 @@ pub struct Type {
 }
 
 /// What a type is.
-#[derive(Clone, Debug, PartialEq, Eq, Drop)]
+#[derive(Clone, PartialEq, Eq)]
 pub enum TypeValue {
     Primitive(Ident, Pos),
     Enum(Vec<Variant>, Pos),
@@ -149,7 +148,7 @@ pub enum TypeValue {
 }
 
 /// A variant of an enum type.
-#[derive(Clone, Debug, PartialEq, Eq, Drop)]
+#[derive(Clone, PartialEq, Eq)]
 pub struct Variant {
     pub name: Ident,
     pub fields: Fields,
@@ -157,7 +156,7 @@ pub struct Variant {
 }
 
 /// The fields of a variant or of a struct type.
-#[derive(Clone, Debug, PartialEq, Eq, Drop)]
+#[derive(Clone, PartialEq, Eq)]
 pub enum Fields {
     Unit,
     Struct(StructFields),
@@ -165,13 +164,13 @@ pub enum Fields {
 }
 
 /// Fields with names.
-#[derive(Clone, Debug, PartialEq, Eq, Drop)]
+#[derive(Clone, PartialEq, Eq)]
 pub struct StructFields {
     pub fields: Vec<StructField>,
 }
 
 /// A field with a name.
-#[derive(Clone, Debug, PartialEq, Eq, Drop)]
+#[derive(Clone, PartialEq, Eq)]
 pub struct StructField {
     pub name: Ident,
     pub ty: Ident,
@@ -179,13 +178,13 @@ pub struct StructField {
 }
 
 /// Fields without names.
-#[derive(Clone, Debug, PartialEq, Eq, Drop)]
+#[derive(Clone, PartialEq, Eq)]
 pub struct TupleFields {
     pub fields: Vec<TupleField>,
 }
 
 /// A field without a name.
-#[derive(Clone, Debug, PartialEq, Eq, Drop)]
+#[derive(Clone, PartialEq, Eq)]
 pub struct TupleField {
     pub index: usize,
     pub ty: Ident,
@@ -193,7 +192,7 @@ pub struct TupleField {
 }
 
 /// A term's declaration.
-#[derive(Clone, Debug, PartialEq, Eq, Drop)]
+#[derive(Clone, PartialEq, Eq)]
 pub struct Decl {
     pub term: Ident,
     pub arg_tys: Vec<Ident>,
@@ -206,7 +205,7 @@ pub struct Decl {
 }
 
 /// A term's extractor, as a pattern that stands for it.
-#[derive(Clone, Debug, PartialEq, Eq, Drop)]
+#[derive(Clone, PartialEq, Eq)]
 pub struct Extractor {
     pub term: Ident,
     pub args: Vec<Ident>,
@@ -215,7 +214,7 @@ pub struct Extractor {
 }
 
 /// A term that converts one type into another.
-#[derive(Clone, Debug, PartialEq, Eq, Drop)]
+#[derive(Clone, PartialEq, Eq)]
 pub struct Converter {
     pub term: Ident,
     pub inner_ty: Ident,
@@ -224,7 +223,7 @@ pub struct Converter {
 }
 
 /// A rule.
-#[derive(Clone, Debug, PartialEq, Eq, Drop)]
+#[derive(Clone, PartialEq, Eq)]
 pub struct Rule {
     pub pattern: Pattern,
     pub iflets: Vec<IfLet>,
@@ -235,7 +234,7 @@ pub struct Rule {
 }
 
 /// A further condition of a rule: an expression's value matches a pattern.
-#[derive(Clone, Debug, PartialEq, Eq, Drop)]
+#[derive(Clone, PartialEq, Eq)]
 pub struct IfLet {
     pub pattern: Pattern,
     pub expr: Expr,
@@ -243,7 +242,7 @@ pub struct IfLet {
 }
 
 /// What is defined outside.
-#[derive(Clone, Debug, PartialEq, Eq, Drop)]
+#[derive(Clone, PartialEq, Eq)]
 pub enum Extern {
     Constructor {
         term: Ident,
@@ -264,7 +263,7 @@ pub enum Extern {
 }
 
 /// What a rule matches.
-#[derive(Debug, PartialEq, Eq, Drop)]
+#[derive(Debug, PartialEq, Eq)]
 pub enum Pattern {
     Var {
         var: Ident,
@@ -307,7 +306,7 @@ pub enum Pattern {
 
 /// What a rule makes.
 #[cycle(expr)]
-#[derive(Debug, PartialEq, Eq, Drop)]
+#[derive(PartialEq, Eq)]
 pub enum Expr {
     Term {
         sym: Ident,
@@ -339,7 +338,7 @@ pub enum Expr {
 
 /// One name of a let.
 #[cycle(expr)]
-#[derive(Debug, PartialEq, Eq, Drop)]
+#[derive(PartialEq, Eq)]
 pub struct LetDef {
     pub var: Ident,
     pub ty: Ident,
@@ -793,5 +792,265 @@ fn let_clones(alloc: Global, parts: &[LetDef]) -> Result<Vec<LetDef>, AllocError
     Ok(out)
 }
 
-#[cfg(test)]
-mod tests;
+// How the parts of each type are let go. Written out, since a derived `Drop` is proved again in each crate that drops the
+// type, and a written one here alone.
+
+impl Drop for Files {
+    fn drop(self) {
+        let Files { names: _, texts: _ } = self;
+    }
+}
+
+impl Drop for Ident {
+    fn drop(self) {
+        let Ident(_, _) = self;
+    }
+}
+
+impl Drop for Error {
+    fn drop(self) {
+        match self {
+            Error::TypeError { msg: _, span: _ } => {}
+            Error::UnreachableError { msg: _, span: _ } => {}
+            Error::OverlapError { msg: _, rules: _ } => {}
+            Error::ShadowedError {
+                shadowed: _,
+                mask: _,
+            } => {}
+            Error::LimitError {
+                limit: _,
+                msg: _,
+                span: _,
+            } => {}
+        }
+    }
+}
+
+impl Drop for Def {
+    fn drop(self) {
+        match self {
+            Def::TypeDef(_) => {}
+            Def::Decl(_) => {}
+            Def::Extractor(_) => {}
+            Def::Converter(_) => {}
+            Def::Rule(_) => {}
+            Def::Extern(_) => {}
+            Def::Other => {}
+        }
+    }
+}
+
+impl Drop for Type {
+    fn drop(self) {
+        let Type {
+            name: _,
+            is_extern: _,
+            is_nodebug: _,
+            ty: _,
+            pos: _,
+        } = self;
+    }
+}
+
+impl Drop for TypeValue {
+    fn drop(self) {
+        match self {
+            TypeValue::Primitive(_, _) => {}
+            TypeValue::Enum(_, _) => {}
+            TypeValue::Struct(_, _) => {}
+        }
+    }
+}
+
+impl Drop for Variant {
+    fn drop(self) {
+        let Variant {
+            name: _,
+            fields: _,
+            pos: _,
+        } = self;
+    }
+}
+
+impl Drop for Fields {
+    fn drop(self) {
+        match self {
+            Fields::Unit => {}
+            Fields::Struct(_) => {}
+            Fields::Tuple(_) => {}
+        }
+    }
+}
+
+impl Drop for StructFields {
+    fn drop(self) {
+        let StructFields { fields: _ } = self;
+    }
+}
+
+impl Drop for StructField {
+    fn drop(self) {
+        let StructField {
+            name: _,
+            ty: _,
+            pos: _,
+        } = self;
+    }
+}
+
+impl Drop for TupleFields {
+    fn drop(self) {
+        let TupleFields { fields: _ } = self;
+    }
+}
+
+impl Drop for TupleField {
+    fn drop(self) {
+        let TupleField {
+            index: _,
+            ty: _,
+            pos: _,
+        } = self;
+    }
+}
+
+impl Drop for Decl {
+    fn drop(self) {
+        let Decl {
+            term: _,
+            arg_tys: _,
+            ret_ty: _,
+            pure: _,
+            multi: _,
+            partial: _,
+            rec: _,
+            pos: _,
+        } = self;
+    }
+}
+
+impl Drop for Extractor {
+    fn drop(self) {
+        let Extractor {
+            term: _,
+            args: _,
+            template: _,
+            pos: _,
+        } = self;
+    }
+}
+
+impl Drop for Converter {
+    fn drop(self) {
+        let Converter {
+            term: _,
+            inner_ty: _,
+            outer_ty: _,
+            pos: _,
+        } = self;
+    }
+}
+
+impl Drop for Rule {
+    fn drop(self) {
+        let Rule {
+            pattern: _,
+            iflets: _,
+            expr: _,
+            pos: _,
+            prio: _,
+            name: _,
+        } = self;
+    }
+}
+
+impl Drop for IfLet {
+    fn drop(self) {
+        let IfLet {
+            pattern: _,
+            expr: _,
+            pos: _,
+        } = self;
+    }
+}
+
+impl Drop for Extern {
+    fn drop(self) {
+        match self {
+            Extern::Constructor {
+                term: _,
+                func: _,
+                pos: _,
+            } => {}
+            Extern::Extractor {
+                term: _,
+                func: _,
+                pos: _,
+                infallible: _,
+            } => {}
+            Extern::Const {
+                name: _,
+                ty: _,
+                pos: _,
+            } => {}
+        }
+    }
+}
+
+impl Drop for Pattern {
+    fn drop(self) {
+        match self {
+            Pattern::Var { var: _, pos: _ } => {}
+            Pattern::BindPattern {
+                var: _,
+                subpat: _,
+                pos: _,
+            } => {}
+            Pattern::ConstBool { val: _, pos: _ } => {}
+            Pattern::ConstInt { val: _, pos: _ } => {}
+            Pattern::ConstPrim { val: _, pos: _ } => {}
+            Pattern::Term {
+                sym: _,
+                args: _,
+                pos: _,
+            } => {}
+            Pattern::Wildcard { pos: _ } => {}
+            Pattern::And { subpats: _, pos: _ } => {}
+            Pattern::MacroArg { index: _, pos: _ } => {}
+        }
+    }
+}
+
+impl Drop for Expr {
+    #[cycle(expr_drop)]
+    fn drop(self) {
+        match self {
+            Expr::Term {
+                sym: _,
+                args: _,
+                pos: _,
+            } => {}
+            Expr::Var { name: _, pos: _ } => {}
+            Expr::ConstBool { val: _, pos: _ } => {}
+            Expr::ConstInt { val: _, pos: _ } => {}
+            Expr::ConstPrim { val: _, pos: _ } => {}
+            Expr::Let {
+                defs: _,
+                body: _,
+                pos: _,
+            } => {}
+        }
+    }
+}
+
+impl Drop for LetDef {
+    #[cycle(expr_drop)]
+    fn drop(self) {
+        let LetDef {
+            var: _,
+            ty: _,
+            val: _,
+            pos: _,
+        } = self;
+    }
+}

@@ -8,14 +8,13 @@ use Rattle.isle_base.proofs.disjointsets.add_to_set.Goals as goal
 
 pub returns-in_err-reserve-clause-fit : goal.returns-in_err-reserve-clause-fit
 returns-in_err-reserve-clause-fit g c free fit =
-    let e = g.T.PartialEq.eq in
-    numbered_same e g.met.T.Eq.laws (get e c.args.classes.now) (hash_map_len c.args.classes.now) free (sets_of c.args.members.now.items) fit (get e c.reserve.new.self) (hash_map_len c.reserve.new.self) c.reserve.ensures.entries.2 c.reserve.ensures.entries.1
+    numbered_same fit (get g.T.PartialEq.eq c.reserve.new.self) (hash_map_len c.reserve.new.self) c.reserve.ensures.entries.2 c.reserve.ensures.entries.1
 
 pub returns-in_err-push-clause-fit : goal.returns-in_err-push-clause-fit
 returns-in_err-push-clause-fit g c free fit =
     let e = g.T.PartialEq.eq in
     let same = same_sets c.args.members.now.items c.args.class c.push.new.self c.index_mut.result.now (c.in_err-push.ensures.items ∙ ap (λ v. v.items) c.index_mut.ensures.value) in
-    rw same (numbered_same e g.met.T.Eq.laws (get e c.args.classes.now) (hash_map_len c.args.classes.now) free (sets_of c.args.members.now.items) fit (get e c.reserve.new.self) (hash_map_len c.reserve.new.self) c.reserve.ensures.entries.2 c.reserve.ensures.entries.1)
+    rw same (numbered_same fit (get e c.reserve.new.self) (hash_map_len c.reserve.new.self) c.reserve.ensures.entries.2 c.reserve.ensures.entries.1)
 
 pub returns-in_err-push-clause-err : goal.returns-in_err-push-clause-err
 returns-in_err-push-clause-err g c =
@@ -32,8 +31,6 @@ returns-clause-fit g c free fit =
     let w : c.args.class < length c.args.members.now.items = omega (arith, within_filled (sets_of c.args.members.now.items) c.args.class c.requires.some, length-map c.args.members.now.items (λ v. v.items)) in
     let a = at_view c.args.members.now.items c.args.class c.index_mut.result.now w c.index_mut.ensures.value in
     let put = vector_put_as c.args.members.now.items c.args.class c.push.new.self (get_or (sets_of c.args.members.now.items) c.args.class [] ++ c.args.item ∷ []) w (c.in_ok-push.ensures.items ∙ ap (λ s. s ++ c.args.item ∷ []) (sym a)) in
-    numbered_admit e g.met.T.Eq.laws (get e c.args.classes.now) (hash_map_len c.args.classes.now) free (sets_of c.args.members.now.items) fit
-    (get e c.put.new.classes) (hash_map_len c.put.new.classes) free _
-    c.args.item c.args.class put c.requires.some c.requires.outside
+    numbered_admit fit g.met.T.Eq.laws c.args.item c.args.class put c.requires.some c.requires.outside
     (λ q. c.put.ensures.updates q ∙ ap (cond (e c.args.item q) (Some c.args.class)) (c.reserve.ensures.entries.2 q))
     (omega (arith, c.put.ensures.len, c.reserve.ensures.entries.1)) refl

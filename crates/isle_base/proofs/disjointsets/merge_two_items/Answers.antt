@@ -1,4 +1,4 @@
-use Rattle.std.proofs.Common.{◌≡◌, ◌∷◌, [], get_or, ap, sym, ◌∙◌, arith, hash_map_len, Some, cond}
+use Rattle.std.proofs.Common.{◌≡◌, ◌∷◌, [], get_or, ap, sym, ◌∙◌, arith, Some, cond}
 use Rattle.std.specs.HashMap.{get}
 use Rattle.isle_base.specs.Partition.{in_set}
 use Rattle.isle_base.specs.Numbers.{sets_of, IsPut}
@@ -12,10 +12,7 @@ returns-clause-fit g c =
     let class = c.place-class.result in
     let put : IsPut (sets_of c.args.members.now.items) (sets_of c.place-class.new.members.items) class (c.args.x ∷ c.args.y ∷ []) = rw (c.reserve_place.ensures.items, c.in_ok-set.ensures) at c.place-class.ensures.put in
     let before : get_or (sets_of c.args.members.now.items) class [] ≡ [] = rw c.reserve_place.ensures.items at c.place-class.ensures.before in
-    numbered_begin e g.met.T.Eq.laws (get e c.args.classes.now) (hash_map_len c.args.classes.now) c.args.free.now.items (sets_of c.args.members.now.items) c.requires.fit
-    (get e c.put-2.new.classes) (hash_map_len c.put-2.new.classes) c.place-class.new.free.items (sets_of c.place-class.new.members.items)
-    c.args.x c.args.y class
-    put before c.place-class.ensures.vacant c.requires.first c.requires.second c.requires.apart
+    numbered_begin c.requires.fit g.met.T.Eq.laws c.args.x c.args.y class put before c.place-class.ensures.vacant c.requires.first c.requires.second c.requires.apart
     (λ q. c.put-2.ensures.updates q ∙ ap (cond (e c.args.y q) (Some class)) (c.put.ensures.updates q ∙ ap (cond (e c.args.x q) (Some class)) (c.reserve.ensures.entries.2 q)))
     (omega (arith, c.put-2.ensures.len, c.put.ensures.len, c.reserve.ensures.entries.1))
 

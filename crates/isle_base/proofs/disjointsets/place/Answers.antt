@@ -23,7 +23,7 @@ returns-in-Some-clause-before g c =
 
 pub returns-in-Some-clause-vacant : goal.returns-in-Some-clause-vacant
 returns-in-Some-clause-vacant g c =
-    vacant_popped (sets_of c.args.members.now.items) _ c.in-Some.class c.args.set.items (returns-in-Some-clause-put g c) c.args.free.now.items c.pop.new.self.items c.in-Some.ensures.items (omega (arith, c.requires.filled, c.args.set.ok.0)) c.requires.vacant
+    vacant_popped (returns-in-Some-clause-put g c) c.args.free.now.items c.pop.new.self.items c.in-Some.ensures.items (omega (arith, c.requires.filled, c.args.set.ok.0)) c.requires.vacant
 
 pub returns-in-None-clause-put : goal.returns-in-None-clause-put
 returns-in-None-clause-put g c =
@@ -34,4 +34,4 @@ pub returns-in-None-clause-vacant : goal.returns-in-None-clause-vacant
 returns-in-None-clause-vacant g c =
     let v : Vacant c.pop.new.self.items (sets_of c.args.members.now.items) = rw (c.in-None.ensures.items ∙ append-nil c.pop.new.self.items) at c.requires.vacant in
     let past = vacancies_past (sets_of c.args.members.now.items) c.len-class.result (omega (arith, c.len-class.ensures, c.args.members.now.ok.0, length-map c.args.members.now.items (λ v. v.items))) in
-    vacant_kept (sets_of c.args.members.now.items) _ c.len-class.result c.args.set.items (returns-in-None-clause-put g c) c.pop.new.self.items past (omega (arith, c.requires.filled, c.args.set.ok.0)) v
+    vacant_kept (returns-in-None-clause-put g c) c.pop.new.self.items past (omega (arith, c.requires.filled, c.args.set.ok.0)) v

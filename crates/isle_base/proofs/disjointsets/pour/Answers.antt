@@ -1,4 +1,4 @@
-use Rattle.std.proofs.Common.{◌≡◌, ◌<◌, ◌++◌, [], length, get_or, ap, sym, ◌∙◌, arith, hash_map_len, Some, cond, is_some, ◌&&◌, slice_set, get_or-set_other, length-set}
+use Rattle.std.proofs.Common.{◌≡◌, ◌<◌, ◌++◌, [], length, get_or, ap, sym, ◌∙◌, arith, Some, cond, is_some, ◌&&◌, slice_set, get_or-set_other, length-set}
 use Rattle.std.specs.HashMap.{get}
 use Rattle.std.proofs.lemmas.List.{length-map, get_or_default}
 use Rattle.isle_base.specs.Partition.{in_set}
@@ -42,7 +42,5 @@ returns-clause-fit g c =
     let all : c.append_within.new.items.items ≡ get_or (sets_of vs) c.args.into [] ++ get_or (sets_of vs) c.args.from [] = c.append_within.ensures ∙ ap (λ s. s ++ c.replace-moved.result.items) (sym a) ∙ ap (λ s. get_or (sets_of vs) c.args.into [] ++ s) (ap (λ v. v.items) c.replace-moved.ensures.value ∙ sym b) in
     let w'' : c.args.into < length middle = omega (arith, w', length-set vs c.args.from c.replace-moved.new.dest) in
     let put = vector_put_as middle c.args.into c.append_within.new.items (get_or (sets_of vs) c.args.into [] ++ get_or (sets_of vs) c.args.from []) w'' all in
-    numbered_unite e g.met.T.Eq.laws (get e c.args.classes.now) (hash_map_len c.args.classes.now) c.args.free.now.items (sets_of vs) c.requires.fit
-    (get e c.renumber.new.classes) (hash_map_len c.renumber.new.classes) c.push_within.new.items.items _
-    (sets_of middle) c.args.into c.args.from emptied put c.requires.apart c.requires.first c.requires.second
+    numbered_unite c.requires.fit g.met.T.Eq.laws (sets_of middle) c.args.into c.args.from emptied put c.requires.apart c.requires.first c.requires.second
     (returns-clause-ok g c) c.renumber.ensures.len c.push_within.ensures

@@ -1,4 +1,4 @@
-use Rattle.std.proofs.Common.{◌≡◌, ◌<◌, ◌++◌, ◌∷◌, [], length, get_or, ap, sym, ◌∙◌, arith, hash_map_len, None, cond, subst}
+use Rattle.std.proofs.Common.{◌≡◌, ◌<◌, ◌++◌, ◌∷◌, [], length, get_or, ap, sym, ◌∙◌, arith, None, cond, subst}
 use Rattle.std.specs.HashMap.{get}
 use Rattle.std.specs.List.{IsDistinct}
 use Rattle.std.specs.List.Sorted.{IsPermutation}
@@ -56,9 +56,7 @@ returns-clause-fit g c =
     let a = c.deref.ensures.value ∙ sym (at_view vs c.args.class c.index.result.now w c.index.ensures) in
     let perm : IsPermutation s c.in_ok-set.set.items = subst (λ t. IsPermutation t c.in_ok-set.set.items) a c.in_ok-set.ensures.same in
     let n : length c.deref-2.result.now ≡ length s = ap length c.deref-2.ensures.value ∙ length_permutation s c.in_ok-set.set.items perm in
-    numbered_remove e g.met.T.Eq.laws old (hash_map_len c.args.classes.now) c.args.free.now.items (sets_of vs) c.requires.fit
-    (get e c.forget.new.classes) (hash_map_len c.forget.new.classes) c.push_within.new.items.items _
-    c.args.class (vector_put_as vs c.args.class c.new.result [] w c.new.ensures.items) c.requires.some
+    numbered_remove c.requires.fit g.met.T.Eq.laws c.args.class (vector_put_as vs c.args.class c.new.result [] w c.new.ensures.items) c.requires.some
     (λ q. returns-clause-ok g c q ∙ ap (λ b. cond b None (old q)) (sym (c.requires.fit.numbered q c.args.class)))
     (omega (arith, c.forget.ensures.len, n))
     (c.push_within.ensures ∙ ap (λ t. t ++ c.args.class ∷ []) c.reserve.ensures.items)

@@ -1,17 +1,15 @@
-use Rattle.std.proofs.Common.{sym, ◌∙◌, hash_map_len, subst}
+use Rattle.std.proofs.Common.{sym, ◌∙◌}
 use Rattle.std.specs.HashMap.{get, keys}
 use Rattle.std.proofs.lemmas.List.{length-map}
 use Rattle.std.proofs.lemmas.Map.Made.{is_some-lookup}
-use Rattle.isle_base.specs.Numbers.{sets_of}
 use Rattle.isle_base.proofs.Classes.{same_self}
-use Rattle.isle_base.proofs.Togethers.{total, by_number, partition}
-use Rattle.isle_base.specs.Partition.{IsPartition}
+use Rattle.isle_base.proofs.Togethers.{total, by_number, partition_of}
 use Rattle.isle_base.proofs.disjointsets.DisjointSets.len.Goals as goal
 
 pub returns-clause-value : goal.returns-clause-value
 returns-clause-value g c =
     let s = c.self.inside in
-    rw (← c.self.view_is) (c.len.ensures.len ∙ sym (total g.T.PartialEq.eq (get g.T.PartialEq.eq s.classes) (hash_map_len s.classes) s.free.items (sets_of s.members.items) c.self.invariant))
+    rw (← c.self.view_is) (c.len.ensures.len ∙ sym (total c.self.invariant))
 
 pub returns-clause-count : goal.returns-clause-count
 returns-clause-count g c =
@@ -19,12 +17,9 @@ returns-clause-count g c =
     let e = g.T.PartialEq.eq in (
       keys s.classes,
       c.len.ensures.unique,
-      λ y. rw (← c.self.view_is, by_number e (get e s.classes) (hash_map_len s.classes) s.free.items (sets_of s.members.items) c.self.invariant y y, same_self (get e s.classes y)) (sym (is_some-lookup (e y) s.classes.entries)),
+      λ y. rw (← c.self.view_is, by_number c.self.invariant y y, same_self (get e s.classes y)) (sym (is_some-lookup (e y) s.classes.entries)),
       length-map s.classes.entries (λ p. p.0) ∙ sym c.len.ensures.len,
     )
 
 pub returns-clause-partition : goal.returns-clause-partition
-returns-clause-partition g c =
-    let e = g.T.PartialEq.eq in
-    let s = c.self.inside in
-    subst (IsPartition e) c.self.view_is (partition e (get e s.classes) (hash_map_len s.classes) s.free.items (sets_of s.members.items) c.self.invariant g.met.T.Eq.laws)
+returns-clause-partition g c = partition_of c.self.invariant g.met.T.Eq.laws c.self.view_is

@@ -1,7 +1,6 @@
-use Rattle.std.proofs.Common.{◌≡◌, arith, hash_map_len, Some, None}
+use Rattle.std.proofs.Common.{◌≡◌, arith, Some, None}
 use Rattle.std.specs.HashMap.{get}
 use Rattle.std.proofs.lemmas.Result.{on_ok_weaker}
-use Rattle.isle_base.specs.Numbers.{sets_of}
 use Rattle.isle_base.proofs.Classes.{alike, has_some}
 use Rattle.isle_base.proofs.Togethers.{total, added_none, added_some, partition}
 use Rattle.isle_base.proofs.Merges.{merge_admit, merge_flip, together_merged}
@@ -12,28 +11,28 @@ add_to_set-requires-clause-some g c =
     let e = g.T.PartialEq.eq in
     let s = c.self.inside in
     let ny : get e s.classes c.args.y ≡ Some c.in-None-Some.class = let a = c.get-2.ensures.value in let b = c.copied-second.ensures in let d = c.in-None-Some.is-1 in cc in
-    has_some e g.met.T.Eq.laws (get e s.classes) (hash_map_len s.classes) s.free.items (sets_of s.members.items) c.self.invariant c.args.y c.in-None-Some.class ny
+    has_some c.self.invariant c.args.y c.in-None-Some.class ny
 
 pub add_to_set-requires-in-Some-None-clause-some : goal.add_to_set-requires-in-Some-None-clause-some
 add_to_set-requires-in-Some-None-clause-some g c =
     let e = g.T.PartialEq.eq in
     let s = c.self.inside in
     let nx : get e s.classes c.args.x ≡ Some c.in-Some-None.class = let a = c.get.ensures.value in let b = c.copied-first.ensures in let d = c.in-Some-None.is-0 in let f = c.in-Some-None.class-is in cc in
-    has_some e g.met.T.Eq.laws (get e s.classes) (hash_map_len s.classes) s.free.items (sets_of s.members.items) c.self.invariant c.args.x c.in-Some-None.class nx
+    has_some c.self.invariant c.args.x c.in-Some-None.class nx
 
 pub merge_classes-requires-clause-first : goal.merge_classes-requires-clause-first
 merge_classes-requires-clause-first g c =
     let e = g.T.PartialEq.eq in
     let s = c.self.inside in
     let nx : get e s.classes c.args.x ≡ Some c.in-Some-Some.a = let a = c.get.ensures.value in let b = c.copied-first.ensures in let d = c.in-Some-Some.is-0 in let f = c.in-Some-Some.a-is in cc in
-    has_some e g.met.T.Eq.laws (get e s.classes) (hash_map_len s.classes) s.free.items (sets_of s.members.items) c.self.invariant c.args.x c.in-Some-Some.a nx
+    has_some c.self.invariant c.args.x c.in-Some-Some.a nx
 
 pub merge_classes-requires-clause-second : goal.merge_classes-requires-clause-second
 merge_classes-requires-clause-second g c =
     let e = g.T.PartialEq.eq in
     let s = c.self.inside in
     let ny : get e s.classes c.args.y ≡ Some c.in-Some-Some.b = let a = c.get-2.ensures.value in let b = c.copied-second.ensures in let d = c.in-Some-Some.is-1 in cc in
-    has_some e g.met.T.Eq.laws (get e s.classes) (hash_map_len s.classes) s.free.items (sets_of s.members.items) c.self.invariant c.args.y c.in-Some-Some.b ny
+    has_some c.self.invariant c.args.y c.in-Some-Some.b ny
 
 pub invariant_of-self-in-None-Some : goal.invariant_of-self-in-None-Some
 invariant_of-self-in-None-Some g c = c.add_to_set.ensures.fit c.self.inside.free.items c.self.invariant
@@ -46,8 +45,7 @@ returns-in-None-None-clause-ok g c =
     let e = g.T.PartialEq.eq in
     let s = c.self.inside in
     rw (← c.self.view_is) (on_ok_weaker c.merge_two_items.result (λ merged.
-    together_merged e g.met.T.Eq.laws (get e s.classes) (hash_map_len s.classes) s.free.items (sets_of s.members.items) c.self.invariant
-    (get e c.merge_two_items.new.classes) (hash_map_len c.merge_two_items.new.classes) c.merge_two_items.new.free.items (sets_of c.merge_two_items.new.members.items) c.merge_two_items.ensures.fit
+    together_merged g.met.T.Eq.laws c.self.invariant c.merge_two_items.ensures.fit
     c.args.x c.args.y merged) c.merge_two_items.ensures.ok)
 
 pub returns-in-None-None-clause-len : goal.returns-in-None-None-clause-len
@@ -56,10 +54,10 @@ returns-in-None-None-clause-len g c =
     let s = c.self.inside in
     let nx : get e s.classes c.args.x ≡ None = let a = c.get.ensures.value in let b = c.copied-first.ensures in let d = c.in-None-None.is-0 in cc in
     let ny : get e s.classes c.args.y ≡ None = let a = c.get-2.ensures.value in let b = c.copied-second.ensures in let d = c.in-None-None.is-1 in cc in
-    let before = total e (get e s.classes) (hash_map_len s.classes) s.free.items (sets_of s.members.items) c.self.invariant in
-    let after = total e (get e c.merge_two_items.new.classes) (hash_map_len c.merge_two_items.new.classes) c.merge_two_items.new.free.items (sets_of c.merge_two_items.new.members.items) c.merge_two_items.ensures.fit in
-    let first = added_none e (get e s.classes) (hash_map_len s.classes) s.free.items (sets_of s.members.items) c.self.invariant c.args.x nx in
-    let second = added_none e (get e s.classes) (hash_map_len s.classes) s.free.items (sets_of s.members.items) c.self.invariant c.args.y ny in
+    let before = total c.self.invariant in
+    let after = total c.merge_two_items.ensures.fit in
+    let first = added_none c.self.invariant c.args.x nx in
+    let second = added_none c.self.invariant c.args.y ny in
     rw (← c.self.view_is) (on_ok_weaker c.merge_two_items.result (λ more. omega (arith, more, before, after, first, second)) c.merge_two_items.ensures.len)
 
 pub returns-in-None-Some-clause-ok : goal.returns-in-None-Some-clause-ok
@@ -68,10 +66,9 @@ returns-in-None-Some-clause-ok g c =
     let s = c.self.inside in
     let nx : get e s.classes c.args.x ≡ None = let a = c.get.ensures.value in let b = c.copied-first.ensures in let d = c.in-None-Some.is-0 in cc in
     let ny : get e s.classes c.args.y ≡ Some c.in-None-Some.class = let a = c.get-2.ensures.value in let b = c.copied-second.ensures in let d = c.in-None-Some.is-1 in cc in
-    let respects = alike e g.met.T.Eq.laws (get e s.classes) (hash_map_len s.classes) s.free.items (sets_of s.members.items) c.self.invariant in
+    let respects = alike c.self.invariant g.met.T.Eq.laws in
     rw (← c.self.view_is) (on_ok_weaker c.add_to_set.result (λ merged.
-    together_merged e g.met.T.Eq.laws (get e s.classes) (hash_map_len s.classes) s.free.items (sets_of s.members.items) c.self.invariant
-    (get e c.add_to_set.new.classes) (hash_map_len c.add_to_set.new.classes) s.free.items (sets_of c.add_to_set.new.members.items) (c.add_to_set.ensures.fit s.free.items c.self.invariant)
+    together_merged g.met.T.Eq.laws c.self.invariant (c.add_to_set.ensures.fit s.free.items c.self.invariant)
     c.args.x c.args.y (merge_flip e (get e s.classes) (get e c.add_to_set.new.classes) c.args.y c.args.x (merge_admit e (get e s.classes) (get e c.add_to_set.new.classes) c.args.y c.args.x g.met.T.Eq.laws respects c.in-None-Some.class ny nx merged))) c.add_to_set.ensures.ok)
 
 pub returns-in-None-Some-clause-len : goal.returns-in-None-Some-clause-len
@@ -80,10 +77,10 @@ returns-in-None-Some-clause-len g c =
     let s = c.self.inside in
     let nx : get e s.classes c.args.x ≡ None = let a = c.get.ensures.value in let b = c.copied-first.ensures in let d = c.in-None-Some.is-0 in cc in
     let ny : get e s.classes c.args.y ≡ Some c.in-None-Some.class = let a = c.get-2.ensures.value in let b = c.copied-second.ensures in let d = c.in-None-Some.is-1 in cc in
-    let before = total e (get e s.classes) (hash_map_len s.classes) s.free.items (sets_of s.members.items) c.self.invariant in
-    let after = total e (get e c.add_to_set.new.classes) (hash_map_len c.add_to_set.new.classes) s.free.items (sets_of c.add_to_set.new.members.items) (c.add_to_set.ensures.fit s.free.items c.self.invariant) in
-    let first = added_none e (get e s.classes) (hash_map_len s.classes) s.free.items (sets_of s.members.items) c.self.invariant c.args.x nx in
-    let second = added_some e (get e s.classes) (hash_map_len s.classes) s.free.items (sets_of s.members.items) c.self.invariant c.args.y c.in-None-Some.class ny in
+    let before = total c.self.invariant in
+    let after = total (c.add_to_set.ensures.fit s.free.items c.self.invariant) in
+    let first = added_none c.self.invariant c.args.x nx in
+    let second = added_some c.self.invariant c.args.y c.in-None-Some.class ny in
     rw (← c.self.view_is) (on_ok_weaker c.add_to_set.result (λ more. omega (arith, more, before, after, first, second)) c.add_to_set.ensures.len)
 
 pub returns-in-Some-None-clause-ok : goal.returns-in-Some-None-clause-ok
@@ -92,10 +89,9 @@ returns-in-Some-None-clause-ok g c =
     let s = c.self.inside in
     let nx : get e s.classes c.args.x ≡ Some c.in-Some-None.class = let a = c.get.ensures.value in let b = c.copied-first.ensures in let d = c.in-Some-None.is-0 in let f = c.in-Some-None.class-is in cc in
     let ny : get e s.classes c.args.y ≡ None = let a = c.get-2.ensures.value in let b = c.copied-second.ensures in let d = c.in-Some-None.is-1 in cc in
-    let respects = alike e g.met.T.Eq.laws (get e s.classes) (hash_map_len s.classes) s.free.items (sets_of s.members.items) c.self.invariant in
+    let respects = alike c.self.invariant g.met.T.Eq.laws in
     rw (← c.self.view_is) (on_ok_weaker c.add_to_set-in-Some-None.result (λ merged.
-    together_merged e g.met.T.Eq.laws (get e s.classes) (hash_map_len s.classes) s.free.items (sets_of s.members.items) c.self.invariant
-    (get e c.add_to_set-in-Some-None.new.classes) (hash_map_len c.add_to_set-in-Some-None.new.classes) s.free.items (sets_of c.add_to_set-in-Some-None.new.members.items) (c.add_to_set-in-Some-None.ensures.fit s.free.items c.self.invariant)
+    together_merged g.met.T.Eq.laws c.self.invariant (c.add_to_set-in-Some-None.ensures.fit s.free.items c.self.invariant)
     c.args.x c.args.y (merge_admit e (get e s.classes) (get e c.add_to_set-in-Some-None.new.classes) c.args.x c.args.y g.met.T.Eq.laws respects c.in-Some-None.class nx ny merged)) c.add_to_set-in-Some-None.ensures.ok)
 
 pub returns-in-Some-None-clause-len : goal.returns-in-Some-None-clause-len
@@ -104,10 +100,10 @@ returns-in-Some-None-clause-len g c =
     let s = c.self.inside in
     let nx : get e s.classes c.args.x ≡ Some c.in-Some-None.class = let a = c.get.ensures.value in let b = c.copied-first.ensures in let d = c.in-Some-None.is-0 in let f = c.in-Some-None.class-is in cc in
     let ny : get e s.classes c.args.y ≡ None = let a = c.get-2.ensures.value in let b = c.copied-second.ensures in let d = c.in-Some-None.is-1 in cc in
-    let before = total e (get e s.classes) (hash_map_len s.classes) s.free.items (sets_of s.members.items) c.self.invariant in
-    let after = total e (get e c.add_to_set-in-Some-None.new.classes) (hash_map_len c.add_to_set-in-Some-None.new.classes) s.free.items (sets_of c.add_to_set-in-Some-None.new.members.items) (c.add_to_set-in-Some-None.ensures.fit s.free.items c.self.invariant) in
-    let first = added_some e (get e s.classes) (hash_map_len s.classes) s.free.items (sets_of s.members.items) c.self.invariant c.args.x c.in-Some-None.class nx in
-    let second = added_none e (get e s.classes) (hash_map_len s.classes) s.free.items (sets_of s.members.items) c.self.invariant c.args.y ny in
+    let before = total c.self.invariant in
+    let after = total (c.add_to_set-in-Some-None.ensures.fit s.free.items c.self.invariant) in
+    let first = added_some c.self.invariant c.args.x c.in-Some-None.class nx in
+    let second = added_none c.self.invariant c.args.y ny in
     rw (← c.self.view_is) (on_ok_weaker c.add_to_set-in-Some-None.result (λ more. omega (arith, more, before, after, first, second)) c.add_to_set-in-Some-None.ensures.len)
 
 pub returns-in-Some-Some-clause-ok : goal.returns-in-Some-Some-clause-ok
@@ -117,8 +113,7 @@ returns-in-Some-Some-clause-ok g c =
     let nx : get e s.classes c.args.x ≡ Some c.in-Some-Some.a = let a = c.get.ensures.value in let b = c.copied-first.ensures in let d = c.in-Some-Some.is-0 in let f = c.in-Some-Some.a-is in cc in
     let ny : get e s.classes c.args.y ≡ Some c.in-Some-Some.b = let a = c.get-2.ensures.value in let b = c.copied-second.ensures in let d = c.in-Some-Some.is-1 in cc in
     rw (← c.self.view_is) (on_ok_weaker c.merge_classes.result (λ merged.
-    together_merged e g.met.T.Eq.laws (get e s.classes) (hash_map_len s.classes) s.free.items (sets_of s.members.items) c.self.invariant
-    (get e c.merge_classes.new.classes) (hash_map_len c.merge_classes.new.classes) c.merge_classes.new.free.items (sets_of c.merge_classes.new.members.items) c.merge_classes.ensures.fit
+    together_merged g.met.T.Eq.laws c.self.invariant c.merge_classes.ensures.fit
     c.args.x c.args.y (merged c.args.x c.args.y nx ny)) c.merge_classes.ensures.ok)
 
 pub returns-in-Some-Some-clause-len : goal.returns-in-Some-Some-clause-len
@@ -127,28 +122,20 @@ returns-in-Some-Some-clause-len g c =
     let s = c.self.inside in
     let nx : get e s.classes c.args.x ≡ Some c.in-Some-Some.a = let a = c.get.ensures.value in let b = c.copied-first.ensures in let d = c.in-Some-Some.is-0 in let f = c.in-Some-Some.a-is in cc in
     let ny : get e s.classes c.args.y ≡ Some c.in-Some-Some.b = let a = c.get-2.ensures.value in let b = c.copied-second.ensures in let d = c.in-Some-Some.is-1 in cc in
-    let before = total e (get e s.classes) (hash_map_len s.classes) s.free.items (sets_of s.members.items) c.self.invariant in
-    let after = total e (get e c.merge_classes.new.classes) (hash_map_len c.merge_classes.new.classes) c.merge_classes.new.free.items (sets_of c.merge_classes.new.members.items) c.merge_classes.ensures.fit in
-    let first = added_some e (get e s.classes) (hash_map_len s.classes) s.free.items (sets_of s.members.items) c.self.invariant c.args.x c.in-Some-Some.a nx in
-    let second = added_some e (get e s.classes) (hash_map_len s.classes) s.free.items (sets_of s.members.items) c.self.invariant c.args.y c.in-Some-Some.b ny in
+    let before = total c.self.invariant in
+    let after = total c.merge_classes.ensures.fit in
+    let first = added_some c.self.invariant c.args.x c.in-Some-Some.a nx in
+    let second = added_some c.self.invariant c.args.y c.in-Some-Some.b ny in
     rw (← c.self.view_is) (on_ok_weaker c.merge_classes.result (λ more. omega (arith, more, before, after, first, second)) c.merge_classes.ensures.len)
 
 pub returns-in-None-None-clause-partition : goal.returns-in-None-None-clause-partition
-returns-in-None-None-clause-partition g c =
-    let e = g.T.PartialEq.eq in
-    partition e (get e c.merge_two_items.new.classes) (hash_map_len c.merge_two_items.new.classes) c.merge_two_items.new.free.items (sets_of c.merge_two_items.new.members.items) c.merge_two_items.ensures.fit g.met.T.Eq.laws
+returns-in-None-None-clause-partition g c = partition c.merge_two_items.ensures.fit g.met.T.Eq.laws
 
 pub returns-in-None-Some-clause-partition : goal.returns-in-None-Some-clause-partition
-returns-in-None-Some-clause-partition g c =
-    let e = g.T.PartialEq.eq in
-    partition e (get e c.add_to_set.new.classes) (hash_map_len c.add_to_set.new.classes) c.self.inside.free.items (sets_of c.add_to_set.new.members.items) (c.add_to_set.ensures.fit c.self.inside.free.items c.self.invariant) g.met.T.Eq.laws
+returns-in-None-Some-clause-partition g c = partition (c.add_to_set.ensures.fit c.self.inside.free.items c.self.invariant) g.met.T.Eq.laws
 
 pub returns-in-Some-None-clause-partition : goal.returns-in-Some-None-clause-partition
-returns-in-Some-None-clause-partition g c =
-    let e = g.T.PartialEq.eq in
-    partition e (get e c.add_to_set-in-Some-None.new.classes) (hash_map_len c.add_to_set-in-Some-None.new.classes) c.self.inside.free.items (sets_of c.add_to_set-in-Some-None.new.members.items) (c.add_to_set-in-Some-None.ensures.fit c.self.inside.free.items c.self.invariant) g.met.T.Eq.laws
+returns-in-Some-None-clause-partition g c = partition (c.add_to_set-in-Some-None.ensures.fit c.self.inside.free.items c.self.invariant) g.met.T.Eq.laws
 
 pub returns-in-Some-Some-clause-partition : goal.returns-in-Some-Some-clause-partition
-returns-in-Some-Some-clause-partition g c =
-    let e = g.T.PartialEq.eq in
-    partition e (get e c.merge_classes.new.classes) (hash_map_len c.merge_classes.new.classes) c.merge_classes.new.free.items (sets_of c.merge_classes.new.members.items) c.merge_classes.ensures.fit g.met.T.Eq.laws
+returns-in-Some-Some-clause-partition g c = partition c.merge_classes.ensures.fit g.met.T.Eq.laws

@@ -1,5 +1,4 @@
-use Rattle.std.proofs.Common.{◌≡◌, ◌∙◌, ap, sym, subst, hash_map_len}
-use Rattle.std.specs.HashMap.{get}
+use Rattle.std.proofs.Common.{◌≡◌, ◌∙◌, ap, sym, subst}
 use Rattle.isle_base.specs.Partition.{filled, IsPartition}
 use Rattle.isle_base.specs.Numbers.{sets_of}
 use Rattle.isle_base.proofs.Togethers.{partition}
@@ -10,4 +9,4 @@ returns-clause-partition g c =
     let e = g.T.PartialEq.eq in
     let s = c.self.inside in
     let same : sets_of c.in_ok-members_copied.field-0.items ≡ sets_of s.members.items = c.in_ok-members_copied.ensures ∙ ap sets_of c.deref.ensures.value in
-    subst (λ sets. IsPartition e (filled sets)) (sym same) (partition e (get e s.classes) (hash_map_len s.classes) s.free.items (sets_of s.members.items) c.self.invariant g.met.T.Eq.laws)
+    subst (λ sets. IsPartition e (filled sets)) (sym same) (partition c.self.invariant g.met.T.Eq.laws)
