@@ -1,6 +1,12 @@
+pub mod ByNumber
+pub mod Bytes
 pub mod Distinct
 pub mod Elements
+pub mod FirstPlaces
 pub mod Members
+pub mod Names
+pub mod Positions
 pub mod SameSites
-pub mod ValuesEqual
 pub mod SitesMade
+pub mod TypeNames
+pub mod ValuesEqual

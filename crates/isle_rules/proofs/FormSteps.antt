@@ -17,7 +17,7 @@ use Rattle.isle_rules.specs.RuleViews.{var_view}
 use Rattle.isle_rules.specs.Elaborating.{var_views}
 use Rattle.isle_rules.specs.Forms.{bound_again}
 use Rattle.isle_rules.proofs.MetNames.{all_bound, bound_split}
-use Rattle.isle_rules.proofs.Texts.{has_append}
+use Rattle.isle_model.proofs.Names.{has_append}
 
 listed : (qs : List Pattern) → pattern_list (pattern_views qs) ≡ map pattern_view qs
 listed [] = refl

@@ -1,11 +1,11 @@
 -- The tables by all names, and what a rule becomes by them.
-use Rattle.std.proofs.Common.{◌≡◌, ℕ, true, false, cond, List, [], ◌++◌, map, Option, Some, None, option_map, option_and_then, slice_get, refl, sym, ap, subst, ◌∙◌}
+use Rattle.std.proofs.Common.{◌≡◌, ℕ, List, [], Option, Some, None, option_map, option_and_then, slice_get, refl, sym, ap, subst, ◌∙◌}
 use Rattle.std.specs.List.{flat_map}
 use Rattle.isle_base.specs.Stable.{look_up}
 use Rattle.isle_model.specs.lists.Syntax.{Name, RuleTree, Definition}
-use Rattle.isle_model.specs.lists.Names.{number, has_name, with_names}
+use Rattle.isle_model.specs.lists.Names.{with_names}
 use Rattle.isle_model.specs.rules.Outcome.{then_option}
-use Rattle.isle_model.specs.lists.TypeTable.{builtin_names, type_names, type_trees, names_inside, constant_trees, type_names_met, type_id}
+use Rattle.isle_model.specs.lists.TypeTable.{type_names_met, type_id}
 use Rattle.isle_model.specs.lists.TermTable.{decl_names, term_id, root_name, rule_trees}
 use Rattle.isle_model.specs.first.TermTable.{term_table_names, term_entries}
 use Rattle.isle_model.specs.first.Elaboration.{all_names, carried_names_of_rule, elaborate_at, root_id, elaborate_rule}
@@ -19,22 +19,9 @@ use Rattle.isle_terms.specs.TermTables.{SeesTerms, term_at}
 use Rattle.isle_terms.specs.TermViews.{term_views}
 use Rattle.isle_rules.specs.Elaborating.{elaborate_found}
 use Rattle.isle_rules.specs.Numbering.{Meets}
-use Rattle.isle_rules.proofs.Texts.{then_withs, missing_before, missing_among, missing_first, missing_both, place_absent, found, looked_up}
-
--- a text that is no name is no type's
-no_type : (defs : List Definition) (x : List ℕ) → has_name (type_names_met defs) x ≡ false → type_id defs x ≡ None
-no_type defs x e =
-    let inside : List (List ℕ) = flat_map (λ t. names_inside t.name.text t.value) (type_trees defs) in
-    let constants : List (List ℕ) = map (λ c. c.name.text) (constant_trees defs) in
-    let all : List (List ℕ) = type_names defs ++ inside ++ constants in
-    let a : has_name builtin_names x ≡ false = missing_before builtin_names all x e in
-    let b : has_name all x ≡ false = missing_among builtin_names all x e in
-    let types : has_name (type_names defs) x ≡ false = missing_first (type_names defs) inside x (missing_first (type_names defs ++ inside) constants x b) in
-    place_absent 0 (builtin_names ++ type_names defs) x (missing_both builtin_names (type_names defs) x a types)
-
--- nor a term's
-no_term : (defs : List Definition) (x : List ℕ) → has_name (term_table_names defs) x ≡ false → term_id defs x ≡ None
-no_term defs x e = place_absent 0 (decl_names defs) x (missing_among (type_names_met defs) (decl_names defs) x e)
+use Rattle.isle_model.proofs.ByNumber.{by_text, then_withs}
+use Rattle.isle_model.proofs.Names.{missing_before}
+use Rattle.isle_model.proofs.TypeNames.{no_type, no_term}
 
 abbrev pub rule_texts : List Definition → List (List ℕ)
 rule_texts defs = flat_map carried_names_of_rule (rule_trees defs)
@@ -62,10 +49,7 @@ terms_more defs table s = record {
 module _ (defs : List Definition) (env : TypeEnv) (table : TermTable) (s : SeesTypes env defs (all_names defs)) (t : SeesTerms table defs (all_names defs)) where
   term_of_text : (x : List ℕ) → option_and_then (term_at table) (symbol_of env x) ≡ term_id defs x
   term_of_text x =
-      ap (option_and_then (term_at table)) (looked_up (all_names defs) (symbol_of env) s.inverse x) ∙ (elim (has_name (all_names defs) x) as (λ b. has_name (all_names defs) x ≡ b → option_and_then (term_at table) (cond b (Some (number (all_names defs) x)) None) ≡ term_id defs x) [
-        | true ↦ λ e. t.ids (number (all_names defs) x) ∙ ap (λ o. then_option o (term_id defs)) (found (all_names defs) x e)
-        | false ↦ λ e. sym (no_term defs x (missing_before (term_table_names defs) (rule_texts defs) x e))
-      ] refl)
+      by_text (all_names defs) (symbol_of env) s.inverse.numbered s.inverse.named (term_at table) (term_id defs) t.ids x (λ e. no_term defs x (missing_before (term_table_names defs) (rule_texts defs) x e))
 
   root_found : (o : Option Name) → then_option o (λ n. option_and_then (term_at table) (symbol_of env n.text)) ≡ then_option o (λ n. term_id defs n.text)
   root_found None = refl

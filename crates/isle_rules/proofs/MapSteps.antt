@@ -1,5 +1,5 @@
 -- Naming one rule after another.
-use Rattle.std.proofs.Common.{◌≡◌, ℕ, zero, suc, ◌+◌, ◌<◌, Bool, true, false, cond, nat_eq, IsTrue, List, [], ◌∷◌, ◌++◌, length, drop, get_or, Option, Some, None, option_map, is_some, unwrap_or, slice_get, refl, sym, ap, subst, ◌∙◌, arith, inl, inr, ◌⊎◌, ⊎_elim}
+use Rattle.std.proofs.Common.{◌≡◌, ℕ, zero, suc, ◌+◌, ◌<◌, Bool, true, false, cond, nat_eq, IsTrue, List, [], ◌∷◌, ◌++◌, length, drop, get_or, Option, Some, None, option_map, is_some, unwrap_or, slice_get, refl, sym, ap, subst, ◌∙◌, arith, inl, inr, ◌⊎◌}
 use Rattle.std.specs.Bool.{◌==◌}
 use Rattle.std.specs.List.{cons_option}
 use Rattle.std.proofs.lemmas.Bool.{false≢true, eqb-true, eq-eqb}
@@ -8,6 +8,7 @@ use Rattle.std.proofs.lemmas.List.Elements.{filter_map-append}
 use Rattle.isle_base.specs.declared.syntax.Error.{Error}
 use Rattle.isle_base.specs.Stable.{Entries, look_up}
 use Rattle.isle_model.specs.lists.Names.{IsDistinct}
+use Rattle.isle_model.proofs.Positions.{distinct_nil, distinct_push, twice}
 use Rattle.isle_model.specs.rules.Typed.{TypedRule}
 use Rattle.isle_model.specs.lists.Elaborated.{rule_names, rule_named}
 use Rattle.isle_types.specs.declared.ids.Sym.{Sym}
@@ -18,30 +19,6 @@ use Rattle.isle_rules.specs.RuleViews.{rule_view, rule_views}
 use Rattle.isle_rules.specs.Elaborating.{Reports}
 use Rattle.isle_rules.specs.RuleNaming.{rule_in, NamesAs, NamesRule, MapsNames}
 use Rattle.isle_rules.proofs.ArgSteps.{both}
-
-get_push_cases : {A : Type 0} (xs : List A) (y z : A) (k : ℕ) → slice_get (xs ++ y ∷ []) k ≡ Some z → (slice_get xs k ≡ Some z) ⊎ ((k ≡ length xs) × (y ≡ z))
-get_push_cases [] y z zero e = inr (refl, cc)
-get_push_cases [] y z (suc k) e = absurd (cc)
-get_push_cases (x ∷ xs) y z zero e = inl e
-get_push_cases (x ∷ xs) y z (suc k) e = ⊎_elim (λ h. inl h) (λ h. inr (ap suc h.0, h.1)) (get_push_cases xs y z k e)
-
-get_front : {A : Type 0} (xs ys : List A) (k : ℕ) (z : A) → slice_get xs k ≡ Some z → slice_get (xs ++ ys) k ≡ Some z
-get_front [] ys k z e = absurd (cc)
-get_front (x ∷ xs) ys zero z e = e
-get_front (x ∷ xs) ys (suc k) z e = get_front xs ys k z e
-
-get_middle : {A : Type 0} (xs : List A) (y : A) (ys : List A) → slice_get (xs ++ y ∷ ys) (length xs) ≡ Some y
-get_middle [] y ys = refl
-get_middle (x ∷ xs) y ys = get_middle xs y ys
-
-distinct_push : (ts : List ℕ) (x : ℕ) → IsDistinct ts → ((j : ℕ) → slice_get ts j ≡ Some x → ⊥) → IsDistinct (ts ++ x ∷ [])
-distinct_push ts x once new j k a p q =
-    ⊎_elim (λ u. ⊎_elim (λ v. once j k a u v) (λ v. absurd (new j (u ∙ ap Some (sym v.1)))) (get_push_cases ts x a k q))
-    (λ u. ⊎_elim (λ v. absurd (new k (v ∙ ap Some (sym u.1)))) (λ v. u.0 ∙ sym v.0) (get_push_cases ts x a k q))
-    (get_push_cases ts x a j p)
-
-distinct_none : IsDistinct {X = ℕ} []
-distinct_none j k x p q = absurd (cc)
 
 -- whether a rule has the name
 abbrev has_it : Option ℕ → ℕ → Bool
@@ -154,11 +131,7 @@ module _ (all rest : List TypedRule) (r : TypedRule) (before after : Entries Sym
           | None ↦ λ _ h. false≢true h
           | Some i ↦ λ e _.
               let p = named_place m.done name i e in
-              let first : slice_get (rule_names all) p.0 ≡ Some name = subst (λ xs. slice_get xs p.0 ≡ Some name) (sym names_all) (get_front (rule_names m.done) (name ∷ rule_names rest) p.0 name p.2) in
-              let second : slice_get (rule_names all) (length (rule_names m.done)) ≡ Some name = subst (λ xs. slice_get xs (length (rule_names m.done)) ≡ Some name) (sym names_all) (get_middle (rule_names m.done) name (rule_names rest)) in
-              let same : p.0 ≡ length (rule_names m.done) = once p.0 (length (rule_names m.done)) name first second in
-              let less : p.0 < length (rule_names m.done) = p.1 in
-              omega arith
+              twice (rule_names m.done) (rule_names rest) (rule_names all) name p.0 once (sym names_all) p.1 p.2
         ] refl (sym (ap is_some (m.ids name)) ∙ some)
 
 step_name : (all rest : List TypedRule) (r : TypedRule) (old mid new : List Error) (before after : Entries Sym RuleId) (o : Option ℕ) → r.name ≡ o → MappingAt all (r ∷ rest) old mid before → NamesAs mid new r.id o before after → MappingAt all rest old new after
@@ -177,7 +150,7 @@ next_named rules i r within at old mid new before after a s =
     step_name (rule_views rules) (rule_views (drop (i + 1) rules)) (rule_view r) old mid new before after (rule_view r).name refl (subst (λ rs. MappingAt (rule_views rules) rs old mid before) left a) s
 
 pub first_named : (all : List TypedRule) (es : List Error) (m : Entries Sym RuleId) → ((k : ℕ) → rule_in m k ≡ None) → MappingAt all all es es m
-first_named all es m none = inl (refl, record { done = []; whole = refl; distinct = distinct_none; ids = none })
+first_named all es m none = inl (refl, record { done = []; whole = refl; distinct = distinct_nil; ids = none })
 
 pub last_named : (all : List TypedRule) (old new : List Error) (m : Entries Sym RuleId) → MappingAt all [] old new m → MapsNames old new all m
 last_named all old new m (inl a) =

@@ -14,7 +14,7 @@ use Rattle.isle_types.specs.Envs.{names_of, symbol_of}
 use Rattle.isle_types.specs.Names.{IsInverse}
 use Rattle.isle_rules.specs.Elaborating.{definition_names}
 use Rattle.isle_rules.specs.Numbering.{Meets}
-use Rattle.isle_rules.proofs.Texts.{with_names_append}
+use Rattle.isle_model.proofs.Names.{with_names_append}
 
 -- nothing is met yet
 pub meets_start : (e : TypeEnv) (all : List (List ℕ)) → IsInverse (names_of e) (symbol_of e) → Meets e e all all

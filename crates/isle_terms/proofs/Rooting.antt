@@ -24,7 +24,9 @@ use Rattle.isle_types.specs.declared.type_env.TypeEnv.{TypeEnv}
 use Rattle.isle_types.specs.Envs.{names_of, symbol_of, same_symbol, symbol}
 use Rattle.isle_types.specs.Names.{IsInverse}
 use Rattle.isle_types.specs.TypeTables.{SeesTypes}
-use Rattle.isle_types.proofs.Places.{same_bytes, found}
+use Rattle.std.proofs.Math.Bool.{or-true, or-false}
+use Rattle.isle_model.proofs.Bytes.{same_bytes}
+use Rattle.isle_model.proofs.Names.{found}
 use Rattle.isle_terms.specs.declared.term.Term.{Term}
 use Rattle.isle_terms.specs.declared.term_table.TermTable.{TermTable}
 use Rattle.isle_terms.specs.TermTables.{term_at, SeesTerms}
@@ -82,14 +84,6 @@ or_nothing true b = refl
 or_nothing false true = refl
 or_nothing false false = refl
 
-or_true : (a : Bool) → a || true ≡ true
-or_true true = refl
-or_true false = refl
-
-or_false : (a : Bool) → a || false ≡ a
-or_false true = refl
-or_false false = refl
-
 any_push : {X : Type 0} (p : X → Bool) (xs : List X) (x : X) → list_any p (xs ++ x ∷ []) ≡ list_any p xs || p x
 any_push p xs x = list_any-append p xs (x ∷ []) ∙ or_nothing (list_any p xs) (p x)
 
@@ -117,12 +111,12 @@ module _ (defs : List Definition) (read : List RuleTree) (r : RuleTree) (n : Nam
   same_constructor : (x : List ℕ) → bytes_eq x n.text ≡ false → constructor_after read x ≡ constructor_after (read ++ r ∷ []) x
   same_constructor x e =
       let other : is_rule_of x r ≡ false = is_rule x ∙ turned_other x n.text e in
-      sym (ap (λ b. cond b (Some internal_constructor) None) (any_push (is_rule_of x) read r ∙ ap (λ b. list_any (is_rule_of x) read || b) other ∙ or_false (list_any (is_rule_of x) read)))
+      sym (ap (λ b. cond b (Some internal_constructor) None) (any_push (is_rule_of x) read r ∙ ap (λ b. list_any (is_rule_of x) read || b) other ∙ or-false (list_any (is_rule_of x) read)))
 
   new_constructor : (x : List ℕ) → bytes_eq x n.text ≡ true → Some internal_constructor ≡ constructor_after (read ++ r ∷ []) x
   new_constructor x e =
       let this : is_rule_of x r ≡ true = is_rule x ∙ turned x n.text e in
-      sym (ap (λ b. cond b (Some internal_constructor) None) (any_push (is_rule_of x) read r ∙ ap (λ b. list_any (is_rule_of x) read || b) this ∙ or_true (list_any (is_rule_of x) read)))
+      sym (ap (λ b. cond b (Some internal_constructor) None) (any_push (is_rule_of x) read r ∙ ap (λ b. list_any (is_rule_of x) read || b) this ∙ or-true (list_any (is_rule_of x) read)))
 
   abbrev with_constructor : ℕ → DeclTree → Option ConstructorEntry → TermEntry
   with_constructor id d c = record { id = id; at = d.at; name = number (term_table_names defs) d.term.text; arg_tys = map (type_or_first defs) d.arg_tys; ret_ty = type_or_first defs d.ret_ty; kind = declared_term (decl_flags d) c None }

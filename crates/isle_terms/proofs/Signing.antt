@@ -19,7 +19,8 @@ use Rattle.isle_types.specs.Envs.{names_of, symbol_of}
 use Rattle.isle_types.specs.Reading.{Reports}
 use Rattle.isle_types.specs.TypeTables.{SeesTypes}
 use Rattle.isle_types.proofs.Reports.{both}
-use Rattle.isle_types.proofs.Texts.{number_stays, distinct_push, twice}
+use Rattle.isle_model.proofs.FirstPlaces.{distinct_push, twice}
+use Rattle.isle_model.proofs.Names.{number_stays}
 use Rattle.isle_terms.specs.declared.term_table.TermTable.{TermTable}
 use Rattle.isle_terms.specs.TermTables.{term_at}
 use Rattle.isle_terms.specs.TermViews.{term_view, term_views}

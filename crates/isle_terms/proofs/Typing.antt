@@ -1,54 +1,19 @@
 -- The types of names, whatever names were met since the type table was read.
-use Rattle.std.proofs.Common.{◌≡◌, ℕ, ◌||◌, true, false, List, [], ◌∷◌, ◌++◌, map, Some, None, is_some, unwrap_or, option_map, All, IsTrue, refl, sym, ap, subst, ◌∙◌, ⊎_elim}
+use Rattle.std.proofs.Common.{◌≡◌, ℕ, true, false, List, [], ◌∷◌, map, Some, is_some, unwrap_or, option_map, All, IsTrue, refl, sym, ap, subst, ◌∙◌, ⊎_elim}
 use Rattle.std.proofs.lemmas.Bool.{false≢true}
 use Rattle.std.proofs.lemmas.List.Elements.{All-nil, All-cons, All-weaker}
-use Rattle.std.specs.List.{flat_map}
-use Rattle.std.specs.Str.{bytes_eq}
 use Rattle.isle_model.specs.lists.Syntax.{Name, Definition, DeclTree}
-use Rattle.isle_model.specs.lists.Names.{has_name, with_name, with_names}
-use Rattle.isle_model.specs.lists.TypeTable.{builtin_names, type_trees, type_names, names_inside, constant_trees, type_names_met, type_id, type_or_first}
+use Rattle.isle_model.specs.lists.Names.{has_name}
+use Rattle.isle_model.specs.lists.TypeTable.{type_names_met, type_id, type_or_first}
 use Rattle.isle_base.specs.Stable.{look_up}
 use Rattle.isle_types.specs.declared.type_env.TypeEnv.{TypeEnv}
 use Rattle.isle_types.specs.Envs.{names_of, symbol_of, type_at, same_symbol, symbol}
 use Rattle.isle_types.specs.TypeTables.{SeesTypes}
 use Rattle.isle_types.specs.TypeViews.{type_views}
-use Rattle.isle_types.proofs.Texts.{place_absent, with_missing}
+use Rattle.isle_model.proofs.TypeNames.{no_type}
 use Rattle.isle_terms.specs.Reading.{Interns, type_named, HaveTypes, IsKnownType, HasUnknown}
 use Rattle.isle_terms.specs.Stages.{Finds, HasTypes, IsKnown, IsTyped}
 use Rattle.isle_terms.proofs.Finding.{by_name, finds_more}
-
--- a text that isn't among names, after more came, was not before, and is none of them
-missing_all : (ns xs : List (List ℕ)) (y : List ℕ) → has_name (with_names ns xs) y ≡ false → (has_name ns y ≡ false) × (has_name xs y ≡ false)
-missing_all ns [] y e = (e, refl)
-missing_all ns (x ∷ xs) y e =
-    let r = missing_all (with_name ns x) xs y e in
-    let s = with_missing ns x y r.0 in
-    (s.0, rw s.1 r.1)
-
-missing_front : (xs ys : List (List ℕ)) (y : List ℕ) → has_name (xs ++ ys) y ≡ false → has_name xs y ≡ false
-missing_front [] ys y e = refl
-missing_front (x ∷ xs) ys y e =
-    elim (bytes_eq x y) as (λ b. b || has_name (xs ++ ys) y ≡ false → b || has_name xs y ≡ false) [
-      | true ↦ λ h. h
-      | false ↦ λ h. missing_front xs ys y h
-    ] e
-
-missing_both : (xs ys : List (List ℕ)) (y : List ℕ) → has_name xs y ≡ false → has_name ys y ≡ false → has_name (xs ++ ys) y ≡ false
-missing_both [] ys y e h = h
-missing_both (x ∷ xs) ys y e h =
-    elim (bytes_eq x y) as (λ b. b || has_name xs y ≡ false → b || has_name (xs ++ ys) y ≡ false) [
-      | true ↦ λ k. k
-      | false ↦ λ k. missing_both xs ys y k h
-    ] e
-
--- no type has a name that isn't in the type table
-no_type : (defs : List Definition) (x : List ℕ) → has_name (type_names_met defs) x ≡ false → type_id defs x ≡ None
-no_type defs x e =
-    let inside : List (List ℕ) = flat_map (λ t. names_inside t.name.text t.value) (type_trees defs) in
-    let constants : List (List ℕ) = map (λ c. c.name.text) (constant_trees defs) in
-    let r = missing_all builtin_names (type_names defs ++ inside ++ constants) x e in
-    let types = missing_front (type_names defs) inside x (missing_front (type_names defs ++ inside) constants x r.1) in
-    place_absent 0 (builtin_names ++ type_names defs) x (missing_both builtin_names (type_names defs) x r.0 types)
 
 pub types_start : (defs : List Definition) (env : TypeEnv) → SeesTypes env defs (type_names_met defs) → HasTypes defs env
 types_start defs env s = record {

@@ -1,5 +1,5 @@
 -- Adding the built-in types, one after another.
-use Rattle.std.proofs.Common.{◌≡◌, ℕ, ◌+◌, ◌<◌, false, cond, List, [], ◌∷◌, ◌++◌, length, drop, get_or, map, slice_get, sym, ap, subst, ◌∙◌, inl, inr}
+use Rattle.std.proofs.Common.{◌≡◌, ℕ, ◌+◌, ◌<◌, false, cond, List, [], ◌∷◌, ◌++◌, length, drop, get_or, map, slice_get, sym, ap, subst, ◌∙◌, inl, inr, refl}
 use Rattle.std.proofs.lemmas.List.{append_assoc, append-nil, at_drop_more}
 use Rattle.isle_model.specs.lists.Names.{has_name}
 use Rattle.isle_model.specs.rules.Outcome.{then_option}
@@ -16,7 +16,8 @@ use Rattle.isle_types.specs.Stages.{Sees, Booting}
 use Rattle.isle_types.specs.TypeTables.{SeesTypes}
 use Rattle.isle_types.specs.TypeViews.{type_views}
 use Rattle.isle_types.proofs.Seen.{type_of_text, was_free, sees_type}
-use Rattle.isle_types.proofs.Texts.{distinct_builtin, place_missing, twice}
+use Rattle.isle_model.proofs.Names.{distinct_if}
+use Rattle.isle_model.proofs.FirstPlaces.{place_missing, twice}
 
 step_boot : (b : BuiltinType) (rest : List BuiltinType) (old new : TypeEnv) → IsInverse (names_of new) (symbol_of new) → Booting old (b ∷ rest) → AddsBuiltin b old new → Booting new rest
 step_boot b rest old new i s (inl a) =
@@ -30,7 +31,7 @@ step_boot b rest old new i s (inl a) =
       types = ap (λ es. es ++ map (λ c. builtin_type (builtin_place c)) rest) a.1 ∙ append_assoc (type_views old.types.items) (builtin_type (builtin_place b) ∷ []) (map (λ c. builtin_type (builtin_place c)) rest) ∙ s.types;
     }
 step_boot b rest old new i s (inr a) =
-    absurd (twice (names_of old) (map builtin_name rest) builtin_names (builtin_name b) a.id distinct_builtin s.whole (sym (type_of_text old (names_of old) s.sees (builtin_name b)) ∙ a.taken))
+    absurd (twice (names_of old) (map builtin_name rest) builtin_names (builtin_name b) a.id (distinct_if builtin_names refl) s.whole (sym (type_of_text old (names_of old) s.sees (builtin_name b)) ∙ a.taken))
 
 -- after the built-in type at k
 pub next_boot : (all : List BuiltinType) (k : ℕ) (d : BuiltinType) → k < length all → (old new : TypeEnv) → IsInverse (names_of new) (symbol_of new) → Booting old (drop k all) → AddsBuiltin (get_or all k d) old new → Booting new (drop (k + 1) all)

@@ -1,5 +1,5 @@
 -- Names that are met later change no entry whose own names were met.
-use Rattle.std.proofs.Common.{◌≡◌, ℕ, ◌+◌, true, List, [], ◌∷◌, map, All, IsTrue, refl, sym, ap, ◌∙◌}
+use Rattle.std.proofs.Common.{◌≡◌, ℕ, ◌+◌, List, [], ◌∷◌, map, All, IsTrue, refl, sym, ap, ◌∙◌}
 use Rattle.std.specs.List.{flat_map, enumerate_from}
 use Rattle.std.proofs.lemmas.List.Elements.{All-nil, All-cons, All-head, All-tail, All-weaker}
 use Rattle.isle_model.specs.lists.Syntax.{FieldTree, FieldTrees, unit_fields, struct_fields, tuple_fields, VariantTree, TypeTree, TypeValueTree, primitive_value, enum_value, struct_value, Definition}
@@ -7,15 +7,11 @@ use Rattle.isle_model.specs.lists.Names.{number, has_name, with_name, with_names
 use Rattle.isle_model.specs.lists.Tables.{primitive_type, enum_type, struct_type, struct_entries}
 use Rattle.isle_model.specs.lists.TypeTable.{full_name, field_names, variant_names, names_inside, type_or_first, field_entry, field_entries, variant_entry, entry_at, type_entry}
 use Rattle.isle_types.proofs.RightTypes.{all_left, all_right}
-use Rattle.isle_types.proofs.Texts.{has_with, has_new, number_kept}
+use Rattle.isle_model.proofs.Names.{has_new, has_kept, number_kept}
 
 -- each of these texts is among the names
 abbrev pub AllMet : List (List ℕ) → List (List ℕ) → Type 0
 AllMet names xs = All (λ x. IsTrue (has_name names x)) xs
-
-has_kept : (ns ys : List (List ℕ)) (x : List ℕ) → has_name ns x ≡ true → has_name (with_names ns ys) x ≡ true
-has_kept ns [] x h = h
-has_kept ns (y ∷ ys) x h = has_kept (with_name ns y) ys x (has_with ns y x h)
 
 pub met_more : (ns ys xs : List (List ℕ)) → AllMet ns xs → AllMet (with_names ns ys) xs
 met_more ns ys xs h = All-weaker (λ x. IsTrue (has_name ns x)) (λ x. IsTrue (has_name (with_names ns ys) x)) (λ x e. has_kept ns ys x e) xs h

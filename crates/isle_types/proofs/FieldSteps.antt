@@ -1,12 +1,12 @@
 -- Reading the fields of a list, one after another.
-use Rattle.std.proofs.Common.{◌≡◌, ℕ, suc, ◌+◌, ◌<◌, ◌≤◌, true, false, List, [], ◌∷◌, ◌++◌, cond, length, map, drop, get_or, Some, None, All, unwrap_or, option_and_then, refl, inr, sym, ap, subst, ◌∙◌, arith, ⊎_elim}
+use Rattle.std.proofs.Common.{◌≡◌, ℕ, suc, ◌+◌, ◌<◌, ◌≤◌, true, false, List, [], ◌∷◌, ◌++◌, length, map, drop, get_or, Some, None, All, unwrap_or, refl, inr, sym, ap, subst, ◌∙◌, arith, ⊎_elim}
 use Rattle.std.specs.List.{enumerate_from}
 use Rattle.std.specs.Option.{is_some}
 use Rattle.std.proofs.lemmas.Bool.{false≢true}
 use Rattle.std.proofs.lemmas.List.{append_assoc, append-nil, map-append, length_push, at_drop_more, at_drop_all}
 use Rattle.std.proofs.lemmas.List.Elements.{All-nil, All-push, All-head, All-tail}
 use Rattle.isle_model.specs.lists.Syntax.{Name, FieldTree, TupleFieldTree, struct_fields, tuple_fields, Definition}
-use Rattle.isle_model.specs.lists.Names.{number, has_name, with_name, with_names, IsDistinct}
+use Rattle.isle_model.specs.lists.Names.{number, with_name, with_names, IsDistinct}
 use Rattle.isle_model.specs.lists.Tables.{FieldEntry, TupleFieldEntry, struct_entries, tuple_entries}
 use Rattle.isle_model.specs.lists.TypeTable.{field_names, all_type_names, place_from, IsKnownType, type_or_first, field_entry, tuple_field_entry}
 use Rattle.isle_base.specs.declared.syntax.Error.{Error}
@@ -25,10 +25,11 @@ use Rattle.isle_types.specs.Names.{IsInverse}
 use Rattle.isle_types.specs.Reading.{MayReport, Reports, MeetsNames, AreRightFields}
 use Rattle.isle_types.specs.Stages.{Sees}
 use Rattle.isle_types.specs.TypeViews.{field_view, tuple_field_view}
-use Rattle.isle_types.proofs.Places.{looked_up}
-use Rattle.isle_types.proofs.Seen.{type_of_text, sees_name}
+use Rattle.isle_model.proofs.ByNumber.{by_text}
+use Rattle.isle_model.proofs.FirstPlaces.{distinct_push, twice}
+use Rattle.isle_model.proofs.Names.{number_stays, with_names_append}
+use Rattle.isle_types.proofs.Seen.{sees_name}
 use Rattle.isle_types.proofs.SeenNames.{none_seen, not_seen, seen_text, one_seen}
-use Rattle.isle_types.proofs.Texts.{number_stays, with_names_append, distinct_push, twice}
 
 -- a fact of all elements is one of an element between the others
 all_middle : {X : Type 0} (P : X → Type 0) (xs : List X) (x : X) (ys : List X) → All P (xs ++ x ∷ ys) → P x
@@ -44,11 +45,7 @@ number_push f n (y ∷ ys) x =
 
 -- the type that is found by a name has the name's place among the names of types
 pub found_type : (env : TypeEnv) (types : List (List ℕ)) → Sees env types → IsInverse (names_of env) (symbol_of env) → (x : List ℕ) → type_named env x ≡ place_from 0 x types
-found_type env types s i x =
-    ap (option_and_then (type_at env)) (looked_up (names_of env) (symbol_of env) i x) ∙ (elim (has_name (names_of env) x) as (λ b. has_name (names_of env) x ≡ b → option_and_then (type_at env) (cond b (Some (number (names_of env) x)) None) ≡ place_from 0 x types) [
-      | true ↦ λ _. type_of_text env types s x
-      | false ↦ λ e. sym (s.known x e)
-    ] refl)
+found_type env types s i x = by_text (names_of env) (symbol_of env) i.numbered i.named (type_at env) (λ y. place_from 0 y types) s.ids x (s.known x)
 
 -- after names were met the same types are seen
 pub sees_met : (types : List (List ℕ)) (old new : TypeEnv) (x : List ℕ) → Sees old types → MeetsNames (x ∷ []) old new → Sees new types

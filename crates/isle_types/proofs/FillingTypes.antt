@@ -21,7 +21,7 @@ use Rattle.isle_types.specs.VariantReading.{FillsType, FillsDefinition}
 use Rattle.isle_types.proofs.EntriesStay.{AllMet, met_more, met_self, type_stays}
 use Rattle.isle_types.proofs.NamesMet.{sees_after}
 use Rattle.isle_types.proofs.RightTypes.{all_left, all_right, types_right}
-use Rattle.isle_types.proofs.Texts.{with_names_append}
+use Rattle.isle_model.proofs.Names.{with_names_append}
 
 -- one more entry, where what follows depends on how many there are
 push_entry : (es es' : List TypeEntry) (p q : TypeEntry) (G : ℕ → List TypeEntry) (whole : List TypeEntry) → es' ≡ es ++ p ∷ [] → p ≡ q → es ++ (q ∷ G (length es + 1)) ≡ whole → es' ++ G (length es') ≡ whole

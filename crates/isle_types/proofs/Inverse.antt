@@ -1,24 +1,11 @@
 -- Names and look-ups of them, with one more name.
-use Rattle.std.proofs.Common.{◌≡◌, ℕ, zero, suc, true, false, cond, List, [], ◌∷◌, ◌++◌, length, Option, Some, option_map, slice_get, refl, sym, ap, ◌∙◌, inl, inr, ◌⊎◌, ⊎_elim}
+use Rattle.std.proofs.Common.{◌≡◌, ℕ, true, false, cond, List, [], ◌∷◌, ◌++◌, length, Option, Some, option_map, slice_get, refl, sym, ap, ◌∙◌, ⊎_elim}
 use Rattle.std.specs.Map.{update}
 use Rattle.std.specs.Str.{bytes_eq}
 use Rattle.isle_types.specs.Names.{IsInverse}
-use Rattle.isle_types.proofs.Places.{same_bytes, differ}
-
-pub get_push_cases : {A : Type 0} (xs : List A) (y z : A) (k : ℕ) → slice_get (xs ++ y ∷ []) k ≡ Some z → (slice_get xs k ≡ Some z) ⊎ ((k ≡ length xs) × (y ≡ z))
-get_push_cases [] y z zero e = inr (refl, cc)
-get_push_cases [] y z (suc k) e = absurd (cc)
-get_push_cases (x ∷ xs) y z zero e = inl e
-get_push_cases (x ∷ xs) y z (suc k) e = ⊎_elim (λ h. inl h) (λ h. inr (ap suc h.0, h.1)) (get_push_cases xs y z k e)
-
-pub get_push_last : {A : Type 0} (xs : List A) (y : A) → slice_get (xs ++ y ∷ []) (length xs) ≡ Some y
-get_push_last [] y = refl
-get_push_last (x ∷ xs) y = get_push_last xs y
-
-get_push_old : {A : Type 0} (xs : List A) (y z : A) (k : ℕ) → slice_get xs k ≡ Some z → slice_get (xs ++ y ∷ []) k ≡ Some z
-get_push_old [] y z k e = absurd (cc)
-get_push_old (x ∷ xs) y z zero e = e
-get_push_old (x ∷ xs) y z (suc k) e = get_push_old xs y z k e
+use Rattle.isle_model.specs.lists.Names.{IsDistinct}
+use Rattle.isle_model.proofs.Bytes.{same_bytes, differ}
+use Rattle.isle_model.proofs.Positions.{get_front, get_middle, get_push_cases}
 
 -- what is read off a map with one more entry
 pub update_read : {X Y : Type 0} (f : X → Y) (old new : List ℕ → Option X) (name : List ℕ) (w : X) → ((q : List ℕ) → new q ≡ update bytes_eq old name (Some w) q) → (q : List ℕ) → option_map f (new q) ≡ update bytes_eq (λ p. option_map f (old p)) name (Some (f w)) q
@@ -45,7 +32,11 @@ module _ (names : List (List ℕ)) (old new : List ℕ → Option ℕ) (i : IsIn
         ] refl;
     named = λ q k h.
         elim (bytes_eq name q) as (λ b. bytes_eq name q ≡ b → slice_get (names ++ name ∷ []) k ≡ Some q) [
-          | true ↦ λ e. let same = same_bytes name q e in let n : length names ≡ k = cc (at_same q e) in rw (← n, ← same) (get_push_last names name)
-          | false ↦ λ e. get_push_old names name q k (i.named q k (sym (at_other q e) ∙ h))
+          | true ↦ λ e. let same = same_bytes name q e in let n : length names ≡ k = cc (at_same q e) in rw (← n, ← same) (get_middle names name [])
+          | false ↦ λ e. get_front names (name ∷ []) k q (i.named q k (sym (at_other q e) ∙ h))
         ] refl;
   }
+
+-- each name stands once
+pub inverse_distinct : (names : List (List ℕ)) (look : List ℕ → Option ℕ) → IsInverse names look → IsDistinct names
+inverse_distinct names look i j k x p q = let first = i.numbered x j p in let second = i.numbered x k q in cc

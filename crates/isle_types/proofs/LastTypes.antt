@@ -7,7 +7,8 @@ use Rattle.isle_model.specs.lists.Syntax.{Definition}
 use Rattle.isle_model.specs.lists.Names.{number, has_name, with_name, with_names, IsDistinct}
 use Rattle.isle_model.specs.rules.Outcome.{then_option}
 use Rattle.isle_model.specs.lists.TypeTable.{ConstantTree, type_id, type_or_first, type_names_met}
-use Rattle.isle_laws_lists.proofs.TableNames.{same_self, found, has_at, same_test, has_met}
+use Rattle.isle_model.proofs.Bytes.{same_self}
+use Rattle.isle_model.proofs.Names.{found, has_at, same_test, has_met}
 use Rattle.isle_types.specs.Stages.{last_type}
 
 -- a name with an answer of its own, by its number

@@ -1,7 +1,6 @@
 pub mod FieldTypes
 pub mod Inverse
 pub mod Places
-pub mod Texts
 pub mod Seen
 pub mod Booting
 pub mod Naming

@@ -1,33 +1,15 @@
 -- Names that are met one after another, and that the types stay seen meanwhile.
-use Rattle.std.proofs.Common.{◌≡◌, ℕ, true, false, cond, List, [], ◌∷◌, ◌++◌, Option, None, option_map, slice_get, refl, sym, ap, subst, ◌∙◌}
-use Rattle.isle_model.specs.lists.Names.{has_name, with_name, with_names, IsDistinct}
+use Rattle.std.proofs.Common.{◌≡◌, ℕ, true, false, List, [], ◌∷◌, ◌++◌, option_map, slice_get, sym, ap, subst, ◌∙◌}
+use Rattle.isle_model.specs.lists.Names.{has_name, with_name, with_names}
 use Rattle.isle_model.specs.rules.Outcome.{then_option}
 use Rattle.isle_model.specs.lists.TypeTable.{place_from}
 use Rattle.isle_base.specs.Stable.{entry_count, look_up}
 use Rattle.isle_types.specs.declared.type_env.TypeEnv.{TypeEnv}
 use Rattle.isle_types.specs.Envs.{names_of, same_symbol, symbol}
-use Rattle.isle_types.specs.Names.{IsInverse}
 use Rattle.isle_types.specs.Reading.{MeetsNames}
 use Rattle.isle_types.specs.Stages.{Sees}
-use Rattle.isle_types.proofs.Texts.{then_with, with_missing, with_names_append}
-
--- a text that isn't among the names afterwards wasn't before
-pub missing_before : (ns xs : List (List ℕ)) (y : List ℕ) → has_name (with_names ns xs) y ≡ false → has_name ns y ≡ false
-missing_before ns [] y e = e
-missing_before ns (x ∷ xs) y e = (with_missing ns x y (missing_before (with_name ns x) xs y e)).0
-
--- what is known of each name stays, where the new names have nothing
-pub then_withs : (ns xs : List (List ℕ)) (P : List ℕ → Option ℕ) → ((y : List ℕ) → has_name ns y ≡ false → P y ≡ None) → (k : ℕ) → then_option (slice_get (with_names ns xs) k) P ≡ then_option (slice_get ns k) P
-then_withs ns [] P h k = refl
-then_withs ns (x ∷ xs) P h k =
-    then_withs (with_name ns x) xs P (λ y e. h y (with_missing ns x y e).0) k ∙ then_with ns x P (h x) k
-
--- a name that was met, met again, changes nothing
-pub known_name : (ns : List (List ℕ)) (x : List ℕ) → has_name ns x ≡ true → with_name ns x ≡ ns
-known_name ns x e = ap (λ b. cond b ns (ns ++ x ∷ [])) e
-
-pub distinct_names : (ns : List (List ℕ)) (look : List ℕ → Option ℕ) → IsInverse ns look → IsDistinct ns
-distinct_names ns look i j k x p q = let first = i.numbered x j p in let second = i.numbered x k q in cc
+use Rattle.isle_model.proofs.ByNumber.{then_withs}
+use Rattle.isle_model.proofs.Names.{known_name, missing_before, with_names_append}
 
 -- one name is met
 pub meet_one : (x y : List ℕ) (old new : TypeEnv) → x ≡ y → names_of new ≡ with_name (names_of old) x → new.types ≡ old.types → new.type_map ≡ old.type_map → new.const_types ≡ old.const_types → new.errors ≡ old.errors → MeetsNames (y ∷ []) old new

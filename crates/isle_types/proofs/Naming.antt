@@ -18,7 +18,8 @@ use Rattle.isle_types.specs.Stages.{ArePlain, Naming, NamesTypes}
 use Rattle.isle_types.specs.TypeTables.{SeesTypes}
 use Rattle.isle_types.specs.TypeViews.{type_views}
 use Rattle.isle_types.proofs.Seen.{type_of_text, was_free, sees_type}
-use Rattle.isle_types.proofs.Texts.{distinct_push, distinct_builtin, place_absent, twice}
+use Rattle.isle_model.proofs.Names.{distinct_if}
+use Rattle.isle_model.proofs.FirstPlaces.{distinct_push, place_absent, twice}
 
 module _ (defs rest : List Definition) (t : TypeTree) (old : TypeEnv) (n : Naming defs (type_definition t ∷ rest) old) where
   pub name_right : (new : TypeEnv) → IsInverse (names_of new) (symbol_of new) → NamesType t.name.text old new → new.types ≡ old.types → Naming defs rest new
@@ -103,7 +104,7 @@ first_name defs env es s count none = record {
         constants = s.constants;
         errors = s.errors;
       };
-      distinct = distinct_builtin;
+      distinct = distinct_if builtin_names refl;
       whole = refl;
       names = ap (λ ns. with_names ns (type_names defs)) s.names;
       types = s.types;

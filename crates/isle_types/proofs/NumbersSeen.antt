@@ -1,7 +1,6 @@
 -- Sets of the numbers of names.
-use Rattle.std.proofs.Common.{◌≡◌, ℕ, nat_eq, true, false, cond, List, [], ◌∷◌, ◌++◌, Some, None, is_some, slice_get, refl, sym, ap, subst, ◌∙◌, eq-eqb, eqb-true}
+use Rattle.std.proofs.Common.{◌≡◌, ℕ, nat_eq, true, false, cond, List, [], ◌∷◌, ◌++◌, Some, None, is_some, slice_get, refl, sym, ap, subst, ◌∙◌, eqb-true}
 use Rattle.std.specs.Str.{bytes_eq}
-use Rattle.std.proofs.lemmas.Bool.{false≢true}
 use Rattle.isle_model.specs.lists.Names.{has_name, with_names, IsDistinct}
 use Rattle.isle_model.specs.rules.Outcome.{then_option}
 use Rattle.isle_model.specs.lists.TypeTable.{place_from}
@@ -9,9 +8,10 @@ use Rattle.isle_base.specs.Stable.{Members, contains}
 use Rattle.isle_types.specs.declared.ids.Sym.{Sym}
 use Rattle.isle_types.specs.Envs.{same_symbol, symbol}
 use Rattle.isle_types.specs.VariantReading.{HasSeen}
-use Rattle.isle_types.proofs.NamesMet.{missing_before, then_withs}
-use Rattle.isle_types.proofs.Places.{same_bytes, absent}
-use Rattle.isle_types.proofs.Texts.{place_push_new, place_push_other}
+use Rattle.isle_model.proofs.ByNumber.{then_withs, others}
+use Rattle.isle_model.proofs.Bytes.{same_bytes}
+use Rattle.isle_model.proofs.FirstPlaces.{place_push_new, place_push_other}
+use Rattle.isle_model.proofs.Names.{absent, missing_before}
 
 module _ (ns : List (List ℕ)) (seen : Members Sym) (earlier : List (List ℕ)) (h : HasSeen ns seen earlier) where
   -- more names are met
@@ -26,27 +26,11 @@ module _ (ns : List (List ℕ)) (seen : Members Sym) (earlier : List (List ℕ))
   seen_number n x at = h.numbers n ∙ ap (λ o. is_some (then_option o (λ y. place_from 0 y earlier))) at
 
   module _ (once : IsDistinct ns) (n : ℕ) (x : List ℕ) (at : slice_get ns n ≡ Some x) (new : place_from 0 x earlier ≡ None) where
-    other_text : (k : ℕ) (y : List ℕ) → nat_eq n k ≡ false → slice_get ns k ≡ Some y → bytes_eq x y ≡ false
-    other_text k y e g =
-        elim (bytes_eq x y) as (λ b. bytes_eq x y ≡ b → b ≡ false) [
-          | true ↦ λ same.
-              let here : slice_get ns k ≡ Some x = g ∙ ap Some (sym (same_bytes x y same)) in
-              absurd (false≢true (sym e ∙ eq-eqb n k (once n k x at here)))
-          | false ↦ λ _. refl
-        ] refl
-
     missing_text : (y : List ℕ) → has_name ns y ≡ false → bytes_eq x y ≡ false
     missing_text y e =
         elim (bytes_eq x y) as (λ b. bytes_eq x y ≡ b → b ≡ false) [
           | true ↦ λ same. absurd (absent ns y e n (at ∙ ap Some (same_bytes x y same)))
           | false ↦ λ _. refl
-        ] refl
-
-    others : (k : ℕ) → nat_eq n k ≡ false → then_option (slice_get ns k) (λ y. place_from 0 y earlier) ≡ then_option (slice_get ns k) (λ y. place_from 0 y (earlier ++ x ∷ []))
-    others k e =
-        elim (slice_get ns k) as (λ o. slice_get ns k ≡ o → then_option o (λ y. place_from 0 y earlier) ≡ then_option o (λ y. place_from 0 y (earlier ++ x ∷ []))) [
-          | None ↦ λ _. refl
-          | Some y ↦ λ g. sym (place_push_other 0 earlier x y (other_text k y e g))
         ] refl
 
     -- the number of one more name is put into the set
@@ -56,7 +40,7 @@ module _ (ns : List (List ℕ)) (seen : Members Sym) (earlier : List (List ℕ))
         | true ↦ λ e.
             let here : slice_get ns k ≡ Some x = subst (λ j. slice_get ns j ≡ Some x) (eqb-true n k e) at in
             sym (ap (λ o. is_some (then_option o (λ y. place_from 0 y (earlier ++ x ∷ [])))) here ∙ ap is_some (place_push_new 0 earlier x new))
-        | false ↦ λ e. h.numbers k ∙ ap is_some (others k e)
+        | false ↦ λ e. h.numbers k ∙ ap is_some (others ns once n x at earlier k e)
       ] refl);
       known = λ y e. place_push_other 0 earlier x y (missing_text y e) ∙ h.known y e;
     }

@@ -13,7 +13,7 @@ use Rattle.isle_types.specs.Envs.{names_of}
 use Rattle.isle_types.specs.Reading.{MeetsNames, AreRightFields, IsRightType, ReadsType}
 use Rattle.isle_types.specs.VariantReading.{of_value, IsNumberOf}
 use Rattle.isle_types.proofs.NamesMet.{meet_more}
-use Rattle.isle_types.proofs.Texts.{has_new, number_new, number_kept}
+use Rattle.isle_model.proofs.Names.{has_new, number_new, number_kept}
 
 -- a name that is met has its number
 pub named_now : (n : ℕ) (x : List ℕ) (old new : TypeEnv) → names_of new ≡ with_name (names_of old) x → n ≡ number (names_of old) x → IsNumberOf n x (names_of new)

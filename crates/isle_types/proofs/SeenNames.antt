@@ -1,8 +1,8 @@
 -- The numbers of names that were seen, while more names are met.
-use Rattle.std.proofs.Common.{◌≡◌, ℕ, nat_eq, true, false, cond, List, [], ◌∷◌, ◌++◌, Option, Some, None, slice_get, refl, sym, ap, subst, ◌∙◌}
+use Rattle.std.proofs.Common.{◌≡◌, ℕ, nat_eq, true, false, cond, List, [], ◌∷◌, ◌++◌, Option, Some, None, slice_get, refl, sym, ap, ◌∙◌}
 use Rattle.std.specs.Option.{is_some}
 use Rattle.std.proofs.lemmas.Bool.{false≢true}
-use Rattle.isle_model.specs.lists.Names.{number, has_name, with_name}
+use Rattle.isle_model.specs.lists.Names.{number, with_name}
 use Rattle.isle_model.specs.rules.Outcome.{then_option}
 use Rattle.isle_model.specs.lists.TypeTable.{place_from}
 use Rattle.isle_base.specs.Stable.{Members}
@@ -10,10 +10,10 @@ use Rattle.isle_types.specs.declared.ids.Sym.{Sym}
 use Rattle.isle_types.specs.FieldReading.{was_seen}
 use Rattle.isle_types.specs.VariantReading.{HasSeen}
 use Rattle.isle_types.specs.Names.{IsInverse}
-use Rattle.isle_types.proofs.NamesMet.{distinct_names}
+use Rattle.isle_model.proofs.ByNumber.{of_text}
+use Rattle.isle_types.proofs.Inverse.{inverse_distinct}
 use Rattle.isle_types.proofs.NumbersSeen.{seen_met, seen_push}
-use Rattle.isle_types.proofs.Places.{found, last}
-use Rattle.isle_types.proofs.Texts.{past_end, with_name_at}
+use Rattle.isle_model.proofs.Names.{with_name_at}
 
 pub none_seen : (names : List (List ℕ)) (seen : Members Sym) → ((k : ℕ) → was_seen seen k ≡ false) → HasSeen names seen []
 none_seen names seen none = record {
@@ -24,13 +24,7 @@ none_seen names seen none = record {
 module _ (names : List (List ℕ)) (seen : Members Sym) (these : List (List ℕ)) (s : HasSeen names seen these) (x : List ℕ) where
   -- the number of a text was seen exactly where the text is one of the names
   pub seen_text : was_seen seen (number names x) ≡ is_some (place_from 0 x these)
-  seen_text =
-      s.numbers (number names x) ∙ ap is_some (elim (has_name names x) as (λ b. has_name names x ≡ b → then_option (slice_get names (number names x)) (λ y. place_from 0 y these) ≡ place_from 0 x these) [
-        | true ↦ λ e. ap (λ o. then_option o (λ y. place_from 0 y these)) (found names x e)
-        | false ↦ λ e.
-            let none : slice_get names (number names x) ≡ None = subst (λ k. slice_get names k ≡ None) (last names x e) (past_end names) in
-            ap (λ o. then_option o (λ y. place_from 0 y these)) none ∙ sym (s.known x e)
-      ] refl)
+  seen_text = s.numbers (number names x) ∙ ap is_some (of_text names (λ y. place_from 0 y these) x (s.known x))
 
   pub not_seen : was_seen seen (number names x) ≡ false → place_from 0 x these ≡ None
   not_seen e =
@@ -42,4 +36,4 @@ module _ (names : List (List ℕ)) (seen : Members Sym) (these : List (List ℕ)
   -- one more name is met and seen
   pub one_seen : (seen' : Members Sym) (look : List ℕ → Option ℕ) → IsInverse (with_name names x) look → was_seen seen (number names x) ≡ false → ((k : ℕ) → was_seen seen' k ≡ cond (nat_eq (number names x) k) true (was_seen seen k)) → HasSeen (with_name names x) seen' (these ++ x ∷ [])
   one_seen seen' look i new more =
-      seen_push (with_name names x) seen these (seen_met names seen these s (x ∷ [])) (distinct_names (with_name names x) look i) (number names x) x (with_name_at names x) (not_seen new) seen' (λ y. more y.0)
+      seen_push (with_name names x) seen these (seen_met names seen these s (x ∷ [])) (inverse_distinct (with_name names x) look i) (number names x) x (with_name_at names x) (not_seen new) seen' (λ y. more y.0)

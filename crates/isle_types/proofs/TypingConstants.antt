@@ -1,5 +1,5 @@
 -- Reading the constants, one definition after another.
-use Rattle.std.proofs.Common.{◌≡◌, ℕ, ◌+◌, ◌<◌, length, drop, get_or, List, [], ◌∷◌, ◌++◌, true, false, cond, Some, None, is_some, option_map, option_and_then, slice_get, map, All, refl, sym, ap, subst, ◌∙◌, inl, inr, ⊎_elim}
+use Rattle.std.proofs.Common.{◌≡◌, ℕ, ◌+◌, ◌<◌, length, drop, get_or, List, [], ◌∷◌, ◌++◌, false, cond, Some, None, is_some, option_map, slice_get, map, All, refl, sym, ap, subst, ◌∙◌, inl, inr, ⊎_elim}
 use Rattle.std.proofs.lemmas.Bool.{false≢true}
 use Rattle.std.proofs.lemmas.List.{append_assoc, append-nil, at_drop_more}
 use Rattle.std.proofs.lemmas.List.Elements.{All-nil, All-cons, All-head, All-tail}
@@ -20,8 +20,8 @@ use Rattle.isle_types.specs.Reading.{IsRightType}
 use Rattle.isle_types.specs.Stages.{constant_names, Filling, FillsTypes, last_type, Constants, ReadsConstants}
 use Rattle.isle_types.specs.TypeViews.{type_views}
 use Rattle.isle_types.proofs.LastTypes.{last_read}
-use Rattle.isle_types.proofs.Places.{found, looked_up}
-use Rattle.isle_types.proofs.Texts.{then_with, with_missing, number_stays}
+use Rattle.isle_model.proofs.ByNumber.{by_text, then_with}
+use Rattle.isle_model.proofs.Names.{with_missing, number_stays}
 
 module _ (defs rest : List Definition) (name ty : Name) (at : Position) (old : TypeEnv) (i : IsInverse (names_of old) (symbol_of old)) (n : Constants defs (extern_definition (extern_const name ty at) ∷ rest) old) where
   abbrev constant : ConstantTree
@@ -29,11 +29,7 @@ module _ (defs rest : List Definition) (name ty : Name) (at : Position) (old : T
 
   -- what is looked up is the type of the name
   type_is : type_named old ty.text ≡ type_id defs ty.text
-  type_is =
-      ap (option_and_then (type_at old)) (looked_up (names_of old) (symbol_of old) i ty.text) ∙ (elim (has_name (names_of old) ty.text) as (λ b. has_name (names_of old) ty.text ≡ b → option_and_then (type_at old) (cond b (Some (number (names_of old) ty.text)) None) ≡ type_id defs ty.text) [
-        | true ↦ λ e. n.ids (number (names_of old) ty.text) ∙ ap (λ o. then_option o (type_id defs)) (found (names_of old) ty.text e)
-        | false ↦ λ e. sym (n.known ty.text e)
-      ] refl)
+  type_is = by_text (names_of old) (symbol_of old) i.numbered i.named (type_at old) (type_id defs) n.ids ty.text (n.known ty.text)
 
   pub constant_wrong : type_named old ty.text ≡ None → IsValidTypes defs → ⊥
   constant_wrong none v =

@@ -26,7 +26,7 @@ use Rattle.isle_types.proofs.EntriesStay.{AllMet, met_self, variants_stay}
 use Rattle.isle_types.proofs.NamesMet.{meet_more, sees_met}
 use Rattle.isle_types.proofs.Reports.{may_both}
 use Rattle.isle_types.proofs.RightTypes.{all_right}
-use Rattle.isle_types.proofs.Texts.{distinct_push, twice}
+use Rattle.isle_model.proofs.FirstPlaces.{distinct_push, twice}
 
 abbrev pub own_names : List VariantTree → List (List ℕ)
 own_names vs = map (λ v. v.name.text) vs

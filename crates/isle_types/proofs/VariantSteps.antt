@@ -18,9 +18,10 @@ use Rattle.isle_types.specs.Reading.{MeetsNames, AreRightFields}
 use Rattle.isle_types.specs.Stages.{Sees}
 use Rattle.isle_types.specs.TypeViews.{fields_view, variant_view}
 use Rattle.isle_types.specs.VariantReading.{HasSeen, VariantRead}
-use Rattle.isle_types.proofs.NamesMet.{distinct_names, meet_more, sees_met}
+use Rattle.isle_types.proofs.Inverse.{inverse_distinct}
+use Rattle.isle_types.proofs.NamesMet.{meet_more, sees_met}
 use Rattle.isle_types.proofs.NumbersSeen.{seen_met, seen_number, seen_push}
-use Rattle.isle_types.proofs.Texts.{with_name_at, number_stays}
+use Rattle.isle_model.proofs.Names.{with_name_at, number_stays}
 
 -- the full name is met, then the name of the variant
 module _ (ty : List ℕ) (w : S.Variant) (old first env : TypeEnv) (one : MeetsNames (full_name ty (string_bytes w.name.0) ∷ []) old first) (two : MeetsNames (string_bytes w.name.0 ∷ []) first env) where
@@ -88,7 +89,7 @@ module _ (ty : List ℕ) (w : S.Variant) (old first env : TypeEnv) (one : MeetsN
         pub variant_right : IsInverse (names_of env) (symbol_of env) → (more : Members Sym) → ((y : Sym) → contains same_symbol more y ≡ cond (same_symbol name y) true (contains same_symbol seen y)) → (b : _) → b ≡ not (contains same_symbol seen name) → b ≡ true → AreRightFields defs (views.fields_view w.fields) → fields_view fields ≡ field_entries defs (names_of new) (views.fields_view w.fields) → VariantRead defs ty id.0 (views.variant_view w) earlier made old new more
         variant_right i more has b is is_new right e =
             let none = fresh_name b is is_new in
-            let pushed = seen_push (names_of env) seen earlier seen_both (distinct_names (names_of env) (symbol_of env) i) name.0 own at_name none more has in
+            let pushed = seen_push (names_of env) seen earlier seen_both (inverse_distinct (names_of env) (symbol_of env) i) name.0 own at_name none more has in
             record {
               fresh = none;
               fields = right;

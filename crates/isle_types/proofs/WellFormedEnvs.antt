@@ -10,7 +10,7 @@ use Rattle.isle_model.specs.lists.Tables.{VariantEntry, TypeEntry}
 use Rattle.isle_model.specs.lists.TypeTable.{builtin_names, builtin_from, type_id, type_trees, constant_trees, all_type_names, type_names_met, variant_entry, entry_at, type_entry, type_table, type_or_first, IsValidTypes}
 use Rattle.isle_model.specs.lists.KnownTypes.{types_of, types_inside, entry_numbers, StandAtIds, IsWellFormed}
 use Rattle.isle_model.proofs.Distinct.{all_joined}
-use Rattle.isle_laws_lists.proofs.TableNames.{found}
+use Rattle.isle_model.proofs.Names.{found}
 use Rattle.isle_laws_lists.proofs.WellFormed.{place_below, as_many, types_are_found_lem, own_types_are_well_formed_lem}
 use Rattle.isle_types.specs.declared.type_env.TypeEnv.{TypeEnv}
 use Rattle.isle_types.specs.Envs.{names_of, symbol_of, type_at, constant_at}
@@ -20,7 +20,7 @@ use Rattle.isle_types.specs.Types.{variants_in}
 use Rattle.isle_types.specs.TypeTables.{SeesTypes}
 use Rattle.isle_types.specs.WellFormed.{HasOneName, AreInRange, HasVariantsAtIds, IsWellFormedEnv}
 use Rattle.isle_types.proofs.Ending.{last_types}
-use Rattle.isle_types.proofs.Texts.{place_there}
+use Rattle.isle_model.proofs.FirstPlaces.{place_there}
 
 -- what an optional answer comes from
 then_some : {X Y : Type 0} (o : Option X) (f : X → Option Y) (y : Y) → then_option o f ≡ Some y → (x : X) × (o ≡ Some x) × (f x ≡ Some y)

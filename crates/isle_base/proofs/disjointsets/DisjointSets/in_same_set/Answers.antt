@@ -1,7 +1,6 @@
 use Rattle.std.proofs.Common.{◌∙◌, refl}
 use Rattle.isle_base.proofs.Togethers.{by_number, first_apart, second_apart, partition_of}
 use Rattle.isle_base.proofs.disjointsets.DisjointSets.in_same_set.Goals as goal
-use Rattle.std.proofs.Common.{◌∙◌}
 
 pub returns-clause-value : goal.returns-clause-value
 returns-clause-value g c =
