@@ -1,12 +1,3 @@
-pub mod TreeLaws
-pub mod SitesIn
-pub mod AloneSteps
-pub mod AloneOrder
-pub mod BuildingSteps
-pub mod BuildingLists
-pub mod BuildingEnds
-pub mod BuildingTests
 pub mod PlainSets
-pub mod Refusals
 pub mod TreesSoFar
 pub mod Lowered

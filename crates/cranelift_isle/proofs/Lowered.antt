@@ -27,9 +27,9 @@ use Rattle.isle_terms.specs.TermViews as Terms
 use Rattle.isle_rules.specs.declared.term_env.TermEnv.{TermEnv}
 use Rattle.isle_rules.specs.RuleViews.{rule_views}
 use Rattle.isle_rules.specs.TermEnvs.{SeesRules}
-use Rattle.cranelift_isle.specs.Buildings.{env_program, IsPassed, AreSetsOf}
-use Rattle.cranelift_isle.specs.Clashes.{IsBuildable}
-use Rattle.cranelift_isle.specs.Lowerings.{TermView, AreLowered, ChoosesAsSource, LimitPassed}
+use Rattle.isle_sets.specs.Buildings.{env_program, IsPassed, AreSetsOf}
+use Rattle.isle_sets.specs.Clashes.{IsSimplyBuildable}
+use Rattle.cranelift_isle.specs.Lowerings.{TermView, AreSimplyLowered, ChoosesAsSource, LimitPassed}
 
 -- 1. simple rules, by the terms alone
 simple_same : (p q : Program) (r : TypedRule) → p.terms ≡ q.terms → IsSimpleRule p r → IsSimpleRule q r
@@ -70,7 +70,7 @@ module _ (defs : List Definition) (rules : List TypedRule) (expand : Bool) (env 
       subst (λ k. All (λ r. r.root_term < k) (rule_views env.rules.items)) count
       (subst (All (λ r. r.root_term < length (term_entries defs))) (sym s.rules) (elaborated_known defs rules e.terms e.elaborated))
 
-  pub accepted : IsBuildable q → IsCarriedAccepted defs rules
+  pub accepted : IsSimplyBuildable q → IsAccepted defs rules
   accepted b = record {
     types = e.types;
     terms = e.terms;
@@ -81,7 +81,7 @@ module _ (defs : List Definition) (rules : List TypedRule) (expand : Bool) (env 
     overlaps = λ t i j o. b.overlaps t i j (overlaps_same p q (sym s.terms) (sym s.rules) t i j o);
   }
 
-  pub buildable : (typed : List TypedRule) → IsCarriedAccepted defs typed → IsBuildable q
+  pub buildable : (typed : List TypedRule) → IsAccepted defs typed → IsSimplyBuildable q
   buildable typed a =
       let same : typed ≡ rules = same_rules typed rules (sym a.elaborated.typed ∙ e.elaborated.typed) in
       let a' = subst (IsCarriedAccepted defs) same a in
@@ -98,14 +98,14 @@ module _ (defs : List Definition) (rules : List TypedRule) (expand : Bool) (env 
         built_set_same q p s.terms s.rules (slice_index_or ts k d).id (slice_index_or ts k d).set
         (all_unmap (λ b. IsBuiltSet q b.0 b.1) (λ t. let b : ℕ × SiteSet = (t.id, t.set) in b) ts (subst (All (λ b. IsBuiltSet q b.0 b.1)) (sym same) a.built) k d h)
 
-    pub lowered : AreLowered p ts
+    pub lowered : AreSimplyLowered p ts
     lowered = record {
       ids = ids_are ts ∙ ap (map (λ b. b.0)) same ∙ a.terms ∙ terms_with_rules_same q p s.terms s.rules;
       built = built;
       sound = λ k d h. subst (λ m. IsSound (slice_index_or ts k d).set m (slice_index_or ts k d).tree) (sym (all_single defs rules e.terms (slice_index_or ts k d).id)) (sound k d h);
     }
 
-    pub chooses : IsBuildable q → ChoosesAsSource p ts
+    pub chooses : IsSimplyBuildable q → ChoosesAsSource p ts
     chooses b k d h =
         let t = slice_index_or ts k d in
         accepted_trees_run_lem defs rules t.id t.set t.tree e.types e.terms e.elaborated ((accepted b).overlaps t.id)

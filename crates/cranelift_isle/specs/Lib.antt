@@ -1,5 +1,1 @@
-pub mod SiteViews
-pub mod TreeViews
-pub mod Buildings
-pub mod Clashes
 pub mod Lowerings

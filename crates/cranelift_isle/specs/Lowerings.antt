@@ -14,9 +14,9 @@ use Rattle.isle_types.specs.TypeTables.{SeesTypes}
 use Rattle.isle_rules.specs.TermEnvs.{SeesRules}
 use Rattle.cranelift_isle.specs.declared.lower.LoweredTerm.{LoweredTerm}
 use Rattle.cranelift_isle.specs.declared.lower.Lowered.{Lowered}
-use Rattle.cranelift_isle.specs.SiteViews.{set_view}
-use Rattle.cranelift_isle.specs.TreeViews.{tree_view}
-use Rattle.cranelift_isle.specs.Buildings.{IsPassed}
+use Rattle.isle_sets.specs.SiteViews.{set_view}
+use Rattle.isle_serialize.specs.TreeViews.{tree_view}
+use Rattle.isle_sets.specs.Buildings.{IsPassed}
 
 -- what each term became: its number, its rule set, its tree
 pub record TermView : Type 0 where
@@ -32,7 +32,7 @@ term_views ts = map term_view ts
 
 -- each term with rules stands once, ascending, with the set that is built of its rules, and with a sound tree, in which
 -- each rule has one return
-pub record AreLowered (p : Program) (ts : List TermView) : Type 0 where
+pub record AreSimplyLowered (p : Program) (ts : List TermView) : Type 0 where
   pub ids : map (λ t. t.id) ts ≡ terms_with_rules p
   pub built : All (λ t. IsBuiltSet p t.id t.set) ts
   pub sound : All (λ t. IsSound t.set (is_multi p t.id) t.tree) ts
@@ -41,7 +41,7 @@ pub record AreLowered (p : Program) (ts : List TermView) : Type 0 where
 pub record IsLowered (l : Lowered) (defs : List Definition) (typed : List TypedRule) (expanded : Bool) : Type 0 where
   pub types : SeesTypes l.tyenv defs (all_names defs)
   pub rules : SeesRules l.termenv defs typed expanded
-  pub terms : AreLowered (carried_program_of defs typed) (term_views l.terms.items)
+  pub terms : AreSimplyLowered (program_of defs typed) (term_views l.terms.items)
 
 -- the tree of each term runs as a test of every rule by priority would
 abbrev pub ChoosesAsSource : Program → List TermView → Type 0

@@ -10,16 +10,15 @@ ghost use Rattle.isle_model.specs.first.Elaboration.{carried_typed_rules, carrie
 ghost use Rattle.isle_model.specs.first.Accepted.{IsCarriedAccepted};
 ghost use Rattle.isle_model.specs.first.Building.{IsSimpleSet};
 ghost use Rattle.isle_rules.specs.RuleViews.{rule_views};
-ghost use Rattle.cranelift_isle.specs.Buildings.{env_program, term_set_views, AreSetsOf, IsPassed};
-ghost use Rattle.cranelift_isle.specs.Clashes.{IsBuildable};
+ghost use Rattle.isle_sets.specs.Buildings.{term_set_views};
 ghost use Rattle.cranelift_isle.specs.Lowerings.{term_views, IsLowered, ChoosesAsSource, LimitPassed};
 
-use crate::alone::serialize_alone;
-use crate::building::{build, check_overlaps};
-use crate::serialize::Block;
-use crate::trie_again::RuleSet;
 use isle_base::syntax::{Def, Fault};
 use isle_rules::TermEnv;
+use isle_serialize::alone::serialize_alone;
+use isle_serialize::serialize::Block;
+use isle_sets::building::sets_of;
+use isle_sets::trie_again::RuleSet;
 use isle_types::{TermId, TypeEnv};
 use std::alloc::{AllocError, Global};
 
@@ -76,23 +75,6 @@ pub fn lower(alloc: Global, defs: &[Def], expand: bool) -> Result<Lowered, Fault
         termenv,
         terms,
     })
-}
-
-// The rule sets of all terms with rules, or the errors of limits and overlaps.
-fn sets_of(alloc: Global, termenv: &TermEnv) -> Result<Vec<(TermId, RuleSet)>, Fault>
-    requires simple { All (IsSimpleRule (env_program termenv.now)) (rule_views termenv.now.rules.items) }
-    requires known { All (λ r. r.root_term < vec_len termenv.now.terms) (rule_views termenv.now.rules.items) }
-    ensures answers { Answers result (IsBuildable (env_program termenv.now))
-        (λ sets. AreSetsOf (env_program termenv.now) (term_set_views sets.items)) }
-    ensures limits { OnErrors result (All (λ e. IsPassed (env_program termenv.now) (limit_of e))) }
-{
-    let (sets, mut errors) = build(alloc, termenv)?;
-    check_overlaps(alloc, &sets, &mut errors)?;
-    if errors.is_empty() {
-        Ok(sets)
-    } else {
-        Err(Fault::Errors(errors))
-    }
 }
 
 // The tree of each set.

@@ -3,8 +3,6 @@
 #![tactic(auto)]
 
 mod definitions;
-#[cfg(test)]
-mod tests;
 
 use definitions::definitions;
 use isle_base::syntax::{Def, Fault};

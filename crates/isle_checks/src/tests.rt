@@ -1,7 +1,7 @@
-// Definitions from rows of words, and the answers as lines of text.
+// Definitions from rows of words and what the program prints of them; the program's answers; and the printed forms.
 mod answers;
-mod last_digit;
-mod partition;
+mod printing;
+mod program;
 mod refused;
 mod stable;
 mod syntax;

@@ -1,13 +1,7 @@
 //! Prints the trees of a built-in sample: `isle-tree SAMPLE`.
 #![tactic(auto)]
 
-mod errors;
-mod print;
-mod run;
-#[cfg(test)]
-mod tests;
-
-use run::{no_memory, run};
+use isle_printing::run::{no_memory, run};
 use std::alloc::{AllocError, Global};
 use std::env::{Env, FillError};
 use std::process::ExitCode;

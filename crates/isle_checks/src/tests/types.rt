@@ -1,7 +1,7 @@
 // The types that `lower` gives for the sample with a primitive type and an enum.
 use cranelift_isle::lower::lower;
 use isle_base::syntax::Pos;
-use isle_samples::sample;
+use isle_printing::sample;
 use isle_types::{Fields, Sym, Type, TypeEnv, TypeId, Variant};
 use std::alloc::Global;
 use std::process::Abort;

@@ -2,7 +2,7 @@
 use isle_base::syntax::{
     Converter, Def, Expr, Extern, Extractor, Fields, IfLet, Pattern, Type, TypeValue, Variant,
 };
-use isle_samples::Definitions;
+use isle_printing::Definitions;
 use std::alloc::{AllocError, Global};
 
 pub type Words<'a> = (&'a str, &'a str, &'a [&'a str], &'a str);

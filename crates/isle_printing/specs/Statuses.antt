@@ -1,0 +1,21 @@
+-- What the program's status says of the definitions that were lowered.
+use Rattle.std.specs.Prelude.{ℕ, ◌≡◌, List}
+use Rattle.isle_model.specs.Syntax.{Definition}
+use Rattle.isle_model.specs.Typed.{TypedRule}
+use Rattle.isle_model.specs.Accepted.{IsAccepted}
+use Rattle.isle_printing.specs.declared.run.Text.{Text}
+use Rattle.isle_printing.specs.declared.run.Text.TheVariants.{Trees, Errors}
+
+abbrev pub AreAccepted : List Definition → Type 0
+AreAccepted defs = (typed : List TypedRule) × IsCarriedAccepted defs typed
+
+-- accepted definitions have trees, which are written (0) or can't be (4); others have errors (1)
+pub record IsStatusOf (defs : List Definition) (status : ℕ) : Type 0 where
+  pub written : status ≡ 0 → AreAccepted defs
+  pub refused : status ≡ 1 → AreAccepted defs → ⊥
+  pub unwritten : status ≡ 4 → AreAccepted defs
+
+-- the text of trees is made of accepted definitions, that of errors of others
+abbrev pub IsTextOf : List Definition → Text → Type 0
+IsTextOf defs (Trees text) = AreAccepted defs
+IsTextOf defs (Errors text) = AreAccepted defs → ⊥

@@ -1,0 +1,3 @@
+pub mod TreeLaws
+pub mod AloneSteps
+pub mod AloneOrder

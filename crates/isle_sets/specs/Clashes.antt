@@ -1,0 +1,11 @@
+-- Which programs have rule sets.
+use Rattle.std.specs.Prelude.{ℕ}
+use Rattle.isle_model.specs.rules.Program.{Program}
+use Rattle.isle_model.specs.first.Built.{CarriedOverlapsWrongly}
+use Rattle.isle_model.specs.first.Accepted.{PassesArgumentsOfProgram, PassesSitesOfProgram}
+
+-- no rule of a program passes a limit, and no two rules of a term overlap wrongly
+pub record IsSimplyBuildable (p : Program) : Type 0 where
+  pub arguments : PassesArguments p → ⊥
+  pub sites : PassesSites p → ⊥
+  pub overlaps : (t i j : ℕ) → OverlapsWrongly p t i j → ⊥

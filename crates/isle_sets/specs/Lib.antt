@@ -1,0 +1,3 @@
+pub mod SiteViews
+pub mod Buildings
+pub mod Clashes

@@ -1,0 +1,356 @@
+//! The rules of one term as sets of constraints on numbered binding sites, which stand for the values that
+//! rules look at and make.
+ghost use Rattle.std.specs.Prelude.{◌≡◌, ◌<◌, ◌^◌, option_map};
+ghost use Rattle.std.specs.Result.{OkIff};
+ghost use Rattle.isle_model.specs.Places.{constraint_at};
+ghost use Rattle.isle_model.specs.Sites.{sources_of};
+ghost use Rattle.isle_sets.specs.SiteViews.{site_view, constraint_view, constraint_views, set_rule_view, set_view, empty_rule, empty_set};
+
+use isle_base::disjointsets::DisjointSets;
+use isle_base::stablemapset::StableSet;
+use isle_base::syntax::Pos;
+use isle_types::{RuleId, Sym, TermId, TypeId, VariantId};
+use std::alloc::Global;
+use std::marker::Model;
+use std::slice;
+
+/// A number that is too great for an index of its kind.
+#[derive(Clone, Copy, Debug, PartialEq, Eq)]
+pub struct OutOfRange;
+
+/// The place of a field in a tuple, a variant or a struct, or of an argument. A contract sees it as the
+/// number.
+#[derive(Clone, Copy, PartialEq, Eq, Hash, PartialOrd, Ord, Debug, Default)]
+pub struct TupleIndex(u8);
+
+impl Model for TupleIndex {
+    ghost use Rattle.std.specs.Prelude.{ℕ};
+
+    ghost Value = { ℕ };
+
+    ghost view = { λ i. i.0 };
+
+    ghost inverse = { λ n. record { 0 = n } };
+}
+
+impl TupleIndex {
+    /// The number itself.
+    pub fn index(self) -> usize
+        ensures number { result ≡ self }
+        ensures fits { result < 2 ^ 8 }
+    {
+        self.0 as usize
+    }
+}
+
+impl TryFrom<usize> for TupleIndex {
+    type Error = OutOfRange;
+
+    ghost try_from_gives = { λ n r. OkIff r (n < 2 ^ 8) n };
+
+    fn try_from(value: usize) -> Result<TupleIndex, OutOfRange> {
+        match u8::try_from(value) {
+            Ok(number) => Ok(TupleIndex(number)),
+            Err(_) => Err(OutOfRange),
+        }
+    }
+}
+
+/// The number of a binding site: its place in `RuleSet::bindings`. A contract sees it as the number.
+#[derive(Clone, Copy, PartialEq, Eq, Hash, PartialOrd, Ord, Debug, Default)]
+pub struct BindingId(u16);
+
+impl Model for BindingId {
+    ghost use Rattle.std.specs.Prelude.{ℕ};
+
+    ghost Value = { ℕ };
+
+    ghost view = { λ i. i.0 };
+
+    ghost inverse = { λ n. record { 0 = n } };
+}
+
+impl BindingId {
+    /// The number itself.
+    pub fn index(self) -> usize
+        ensures number { result ≡ self }
+        ensures fits { result < 2 ^ 16 }
+    {
+        self.0 as usize
+    }
+}
+
+impl TryFrom<usize> for BindingId {
+    type Error = OutOfRange;
+
+    ghost try_from_gives = { λ n r. OkIff r (n < 2 ^ 16) n };
+
+    fn try_from(value: usize) -> Result<BindingId, OutOfRange> {
+        match u16::try_from(value) {
+            Ok(number) => Ok(BindingId(number)),
+            Err(_) => Err(OutOfRange),
+        }
+    }
+}
+
+impl From<u16> for BindingId {
+    ghost from_gives = { λ n i. i ≡ n };
+
+    fn from(value: u16) -> BindingId {
+        BindingId(value)
+    }
+}
+
+/// What a binding site stands for. Sites that it is made of have smaller numbers than its own.
+#[derive(Clone, Debug, PartialEq, Eq, Hash, Drop)]
+pub enum Binding {
+    /// A truth value.
+    ConstBool {
+        /// The value.
+        val: bool,
+        /// Its type.
+        ty: TypeId,
+    },
+    /// An integer.
+    ConstInt {
+        /// The value, as it was written.
+        val: i128,
+        /// Its type.
+        ty: TypeId,
+    },
+    /// A named constant.
+    ConstPrim {
+        /// Its name.
+        val: Sym,
+    },
+    /// An argument of the term.
+    Argument {
+        /// Its place, from 0.
+        index: TupleIndex,
+    },
+    /// What an external extractor answers.
+    Extractor {
+        /// The extractor's term.
+        term: TermId,
+        /// The value that is handed to it.
+        parameter: BindingId,
+    },
+    /// What a constructor answers.
+    Constructor {
+        /// The constructor's term.
+        term: TermId,
+        /// The values that are handed to it, in order.
+        parameters: Vec<BindingId>,
+        /// 0 for a pure call; else the call's number among the impure calls of its rule, from 1.
+        instance: u32,
+    },
+    /// One of the values that a call answered.
+    Iterator {
+        /// The call.
+        source: BindingId,
+    },
+    /// A variant of an enum.
+    MakeVariant {
+        /// The enum.
+        ty: TypeId,
+        /// The variant.
+        variant: VariantId,
+        /// Its fields, in order.
+        fields: Vec<BindingId>,
+    },
+    /// A field of a value that is of some variant.
+    MatchVariant {
+        /// The value.
+        source: BindingId,
+        /// The variant.
+        variant: VariantId,
+        /// The field's place.
+        field: TupleIndex,
+    },
+    /// A struct.
+    MakeStruct {
+        /// Its type.
+        ty: TypeId,
+        /// Its fields, in order.
+        fields: Vec<BindingId>,
+    },
+    /// A field of a struct.
+    ExtractStruct {
+        /// The struct.
+        source: BindingId,
+        /// The field's place.
+        field: TupleIndex,
+    },
+    /// A value, as one that is there.
+    MakeSome {
+        /// The value.
+        inner: BindingId,
+    },
+    /// What is in a value that is there.
+    MatchSome {
+        /// The value that may be there or not.
+        source: BindingId,
+    },
+    /// A part of a tuple.
+    MatchTuple {
+        /// The tuple.
+        source: BindingId,
+        /// The part's place.
+        field: TupleIndex,
+    },
+}
+
+impl Binding {
+    /// The sites that it is made of, left to right.
+    pub fn sources(&self) -> &[BindingId]
+        ensures { result.now ≡ sources_of (site_view self.now) }
+    {
+        match self {
+            Binding::ConstBool { .. }
+            | Binding::ConstInt { .. }
+            | Binding::ConstPrim { .. }
+            | Binding::Argument { .. } => &[],
+            Binding::Constructor { parameters, .. } => parameters,
+            Binding::MakeVariant { fields, .. } | Binding::MakeStruct { fields, .. } => fields,
+            Binding::Extractor {
+                parameter: source,
+                ..
+            }
+            | Binding::Iterator { source }
+            | Binding::MatchVariant { source, .. }
+            | Binding::ExtractStruct { source, .. }
+            | Binding::MakeSome { inner: source }
+            | Binding::MatchSome { source }
+            | Binding::MatchTuple { source, .. } => slice::from_ref(source),
+        }
+    }
+}
+
+/// What a rule asks of a binding site. Ordered by form, as they stand here, then by parts.
+#[derive(Clone, Copy, PartialEq, Eq, Hash, PartialOrd, Ord, Debug)]
+pub enum Constraint {
+    /// That it is of this variant.
+    Variant {
+        /// The enum.
+        ty: TypeId,
+        /// The variant.
+        variant: VariantId,
+        /// How many fields the variant has.
+        fields: TupleIndex,
+    },
+    /// That it is this struct, as each value of the type is.
+    Struct {
+        /// The struct.
+        ty: TypeId,
+        /// How many fields the struct has.
+        fields: TupleIndex,
+    },
+    /// That it is this truth value.
+    ConstBool {
+        /// The value.
+        val: bool,
+        /// Its type.
+        ty: TypeId,
+    },
+    /// That it is this integer.
+    ConstInt {
+        /// The value, as it was written.
+        val: i128,
+        /// Its type.
+        ty: TypeId,
+    },
+    /// That it is this named constant.
+    ConstPrim {
+        /// Its name.
+        val: Sym,
+    },
+    /// That it is there.
+    Some,
+}
+
+/// A rule by its demands. All its sites are of the set that it belongs to.
+#[derive(Debug, Drop)]
+pub struct Rule {
+    /// The typed rule that it came from.
+    pub id: RuleId,
+    /// Where that was defined.
+    pub pos: Pos,
+    // What the rule asks of sites, ascending by site, each site once.
+    pub(crate) constraints: Vec<(BindingId, Constraint)>,
+    /// Sites that must have equal values.
+    pub equals: DisjointSets<BindingId>,
+    /// Calls whose answers are gone over one by one.
+    pub iterators: StableSet<BindingId>,
+    /// Of the rules whose demands hold, one of greatest priority is taken.
+    pub prio: i64,
+    /// The rule's name, where it has one.
+    pub name: Option<Sym>,
+    /// Impure calls, to be made in this order before the result.
+    pub impure: Vec<BindingId>,
+    /// What the term is where the rule is taken.
+    pub result: BindingId,
+}
+
+impl Rule {
+    /// A rule that demands nothing: zeros, no name and empty parts.
+    pub fn new(alloc: Global) -> Rule
+        ensures { set_rule_view result ≡ empty_rule }
+    {
+        Rule {
+            id: RuleId(0),
+            pos: Pos { file: 0, offset: 0 },
+            constraints: Vec::new(alloc),
+            equals: DisjointSets::new(alloc),
+            iterators: StableSet::new(alloc),
+            prio: 0,
+            name: None,
+            impure: Vec::new(alloc),
+            result: BindingId(0),
+        }
+    }
+
+    /// What the rule asks of a site, where it asks something.
+    pub fn get_constraint(&self, source: BindingId) -> Option<Constraint>
+        ensures { option_map constraint_view result ≡ constraint_at (set_rule_view self.now).constraints source }
+    {
+        for (site, constraint) in &self.constraints {
+            if *site == source {
+                return Some(*constraint);
+            }
+        }
+        None
+    }
+}
+
+/// The rules of one term, and the sites that they speak of.
+#[derive(Debug, Drop)]
+pub struct RuleSet {
+    /// The rules, in the order of their numbers.
+    pub rules: Vec<Rule>,
+    /// What each site stands for, by its number.
+    pub bindings: Vec<Binding>,
+}
+
+impl RuleSet {
+    /// No rules, and no sites.
+    pub fn new(alloc: Global) -> RuleSet
+        ensures { set_view result ≡ empty_set }
+    {
+        RuleSet {
+            rules: Vec::new(alloc),
+            bindings: Vec::new(alloc),
+        }
+    }
+}
+
+/// Whether two rules may both match.
+#[derive(Debug, PartialEq, Eq, Drop)]
+pub enum Overlap {
+    /// No value meets the demands of both.
+    No,
+    /// Some value may meet the demands of both.
+    Yes {
+        /// Whether the demands of one are among those of the other.
+        subset: bool,
+    },
+}
