@@ -1,8 +1,8 @@
 -- What the program's status says of the definitions that were lowered.
 use Rattle.std.specs.Prelude.{ℕ, ◌≡◌, List}
-use Rattle.isle_model.specs.Syntax.{Definition}
-use Rattle.isle_model.specs.Typed.{TypedRule}
-use Rattle.isle_model.specs.Accepted.{IsAccepted}
+use Rattle.isle_model.specs.lists.Syntax.{Definition}
+use Rattle.isle_model.specs.rules.Typed.{TypedRule}
+use Rattle.isle_model.specs.first.Accepted.{IsCarriedAccepted}
 use Rattle.isle_printing.specs.declared.run.Text.{Text}
 use Rattle.isle_printing.specs.declared.run.Text.TheVariants.{Trees, Errors}
 

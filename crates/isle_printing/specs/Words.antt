@@ -1,6 +1,6 @@
 -- What the program's words ask for.
 use Rattle.std.specs.Prelude.{ℕ, Bool, List, [], ◌∷◌, Option, None, is_some}
-use Rattle.isle_model.specs.Syntax.{Definition}
+use Rattle.isle_model.specs.lists.Syntax.{Definition}
 use Rattle.isle_printing.specs.Written.{sample_definitions}
 
 -- the definitions of the sample that the words name: there is exactly one word, and it is the name of a sample

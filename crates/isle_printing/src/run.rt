@@ -3,7 +3,7 @@
 
 ghost use Rattle.std.specs.Prelude.{◌≡◌, ◌≢◌, ◌≤◌, true, false, IfOk, List, Some, map, option_map, string_bytes};
 ghost use Rattle.isle_base.specs.SyntaxViews.{definition_views};
-ghost use Rattle.isle_model.specs.Syntax.{Definition};
+ghost use Rattle.isle_model.specs.lists.Syntax.{Definition};
 ghost use Rattle.isle_printing.specs.Statuses.{IsStatusOf, IsTextOf};
 ghost use Rattle.isle_printing.specs.Words.{named_definitions, names_sample};
 

@@ -4,9 +4,9 @@ use Rattle.std.proofs.lemmas.List.Sorted.{ranks_by, IsStrictWeakOrder-flip}
 use Rattle.std.specs.Cmp.{IsStrictWeakOrder, int_cmp_total}
 use Rattle.std.specs.List.{filter}
 use Rattle.std.specs.List.Sorted.{ties, IsSortedBy}
-use Rattle.isle_alone.specs.Alone.{higher, ordered}
-use Rattle.isle_alone.proofs.InOrder.{map_in_order}
-use Rattle.isle_alone.proofs.Orders.{sorted_is}
+use Rattle.isle_model.specs.first.Alone.{is_higher, ordered}
+use Rattle.isle_first.proofs.alone.InOrder.{map_in_order}
+use Rattle.isle_first.proofs.alone.Orders.{sorted_is}
 use Rattle.isle_sets.specs.declared.trie_again.Rule.{Rule}
 use Rattle.isle_sets.specs.SiteViews.{set_rule_view, set_rule_views}
 use Rattle.isle_serialize.proofs.AloneSteps.{viewed}

@@ -3,10 +3,10 @@ use Rattle.std.proofs.Common.{◌≡◌, ℕ, suc, ◌+◌, ◌<◌, ◌≤◌, 
 use Rattle.std.proofs.lemmas.List.{map-append, take_all}
 use Rattle.isle_base.specs.declared.syntax.Pos.{Pos}
 use Rattle.isle_base.specs.SyntaxViews.{position}
-use Rattle.isle_model.specs.Syntax.{Position}
-use Rattle.isle_model.specs.Sites.{SetRule}
-use Rattle.isle_model.specs.Trees.{Tree, no_step, step, join}
-use Rattle.isle_alone.specs.Alone.{alone_match, alone_tests, alone, alone_all}
+use Rattle.isle_model.specs.lists.Syntax.{Position}
+use Rattle.isle_model.specs.sites.Sites.{SetRule}
+use Rattle.isle_model.specs.trees.Trees.{Tree, no_step, step, join}
+use Rattle.isle_model.specs.first.Alone.{alone_match, alone_tests, alone, alone_all}
 use Rattle.isle_serialize.specs.declared.serialize.ControlFlow.{Return}
 use Rattle.isle_serialize.specs.declared.serialize.EvalStep.{EvalStep}
 use Rattle.isle_sets.specs.declared.trie_again.Constraint.{Constraint}

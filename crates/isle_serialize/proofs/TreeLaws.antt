@@ -10,7 +10,7 @@ use Rattle.isle_serialize.specs.declared.serialize.EvalStep.{EvalStep}
 use Rattle.isle_serialize.specs.declared.serialize.MatchArm.{MatchArm, roll-MatchArm}
 use Rattle.isle_serialize.specs.declared.serialize.ControlFlow.{Match, Equal, Loop, Return, Row_of-MatchArm, end_of-MatchArm, more_of-MatchArm, items-the_row-MatchArm, items_hidden-the_row-MatchArm-0}
 use Rattle.isle_serialize.specs.declared.serialize.ControlFlow.TheBlock.{hidden-the_row-EvalStep-1, hidden-the_row-MatchArm-0}
-use Rattle.isle_model.specs.Trees.{step, match_at, equal_at, loop_at, return_at, Arms, arm}
+use Rattle.isle_model.specs.trees.Trees.{step, match_at, equal_at, loop_at, return_at, Arms, arm}
 use Rattle.isle_sets.specs.SiteViews.{constraint_view}
 use Rattle.isle_serialize.specs.TreeViews.{tree_view, row_steps, check_view, row_arms, arm_view, steps_view, arms_view}
 

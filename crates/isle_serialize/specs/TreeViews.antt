@@ -1,7 +1,7 @@
 -- The tree that a block is: its steps, tests and arms without where they lie in memory, sites by their numbers.
 use Rattle.std.specs.Prelude.{List, [], ◌∷◌}
 use Rattle.isle_base.specs.SyntaxViews.{position}
-use Rattle.isle_model.specs.Trees.{Tree, no_step, step, Check, match_at, equal_at, loop_at, return_at, Arms, no_arm, arm}
+use Rattle.isle_model.specs.trees.Trees.{Tree, no_step, step, Check, match_at, equal_at, loop_at, return_at, Arms, no_arm, arm}
 use Rattle.isle_serialize.specs.declared.serialize.Block.{Block, Block', Row_of-EvalStep, end_of-EvalStep, more_of-EvalStep}
 use Rattle.isle_serialize.specs.declared.serialize.EvalStep.{EvalStep}
 use Rattle.isle_serialize.specs.declared.serialize.MatchArm.{MatchArm, MatchArm'}

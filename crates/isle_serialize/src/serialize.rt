@@ -1,7 +1,7 @@
 //! The tree of tests that says which of a term's rules is taken.
 
 ghost use Rattle.std.specs.Prelude.{◌≡◌};
-ghost use Rattle.isle_model.specs.Trees.{no_step};
+ghost use Rattle.isle_model.specs.trees.Trees.{no_step};
 ghost use Rattle.isle_serialize.specs.TreeViews.{tree_view};
 
 use isle_base::syntax::Pos;

@@ -4,8 +4,8 @@ use Rattle.std.specs.Prelude.{ℕ, zero, suc, pos, Bool, List, [], ◌∷◌, �
 use Rattle.std.specs.Bool.{◌==◌}
 use Rattle.isle_base.specs.Stable.{Members, contains}
 use Rattle.isle_base.specs.SyntaxViews.{position}
-use Rattle.isle_model.specs.Sites as Sites
-use Rattle.isle_model.specs.Sites.{Site, bool_site, int_site, prim_site, argument_site, extractor_site, constructor_site, iterator_site, make_variant_site, match_variant_site, make_struct_site, extract_struct_site, make_some_site, match_some_site, match_tuple_site, is_variant, is_struct, is_bool, is_int, is_prim, is_present, SetRule, SiteSet}
+use Rattle.isle_model.specs.sites.Sites as Sites
+use Rattle.isle_model.specs.sites.Sites.{Site, bool_site, int_site, prim_site, argument_site, extractor_site, constructor_site, iterator_site, make_variant_site, match_variant_site, make_struct_site, extract_struct_site, make_some_site, match_some_site, match_tuple_site, is_variant, is_struct, is_bool, is_int, is_prim, is_present, SetRule, SiteSet}
 use Rattle.isle_sets.specs.declared.trie_again.Binding.{Binding}
 use Rattle.isle_sets.specs.declared.trie_again.Binding.TheVariants as B
 use Rattle.isle_sets.specs.declared.trie_again.Constraint.{Constraint}

@@ -5,9 +5,9 @@ use Rattle.cranelift_isle.specs.declared.lower.Lowered.{Lowered}
 use Rattle.isle_sets.specs.declared.trie_again.RuleSet.{RuleSet}
 use Rattle.isle_base.specs.Answers.{Answers, OnErrors, limit_of}
 use Rattle.isle_base.specs.SyntaxViews.{definition_views}
-use Rattle.isle_model.specs.Typed.{TypedRule}
-use Rattle.isle_model.specs.Elaboration.{program_of}
-use Rattle.isle_model.specs.Accepted.{IsAccepted}
+use Rattle.isle_model.specs.rules.Typed.{TypedRule}
+use Rattle.isle_model.specs.first.Elaboration.{carried_program_of}
+use Rattle.isle_model.specs.first.Accepted.{IsCarriedAccepted}
 use Rattle.isle_sets.specs.Buildings.{env_program, term_set_views, IsPassed}
 use Rattle.cranelift_isle.specs.Lowerings.{term_views, IsLowered, ChoosesAsSource, LimitPassed}
 use Rattle.cranelift_isle.proofs.Lowered.{simple, known, accepted, buildable, lowered, chooses, limits_passed, refused_so, limits_so, same_rules}

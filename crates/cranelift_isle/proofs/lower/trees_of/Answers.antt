@@ -2,8 +2,8 @@ use Rattle.std.proofs.Common.{◌≡◌, false, ◌∷◌, [], ◌++◌, map, re
 use Rattle.std.specs.Prelude.{All}
 use Rattle.std.proofs.lemmas.List.{map-append}
 use Rattle.std.proofs.lemmas.List.Elements.{All-nil, All-push, All-head, All-tail}
-use Rattle.isle_model.specs.Sound.{IsSound}
-use Rattle.isle_building.specs.Building.{IsSimpleSet}
+use Rattle.isle_model.specs.trees.Sound.{IsSound}
+use Rattle.isle_model.specs.first.Building.{IsSimpleSet}
 use Rattle.isle_sets.specs.SiteViews.{set_view}
 use Rattle.isle_serialize.specs.TreeViews.{tree_view}
 use Rattle.isle_sets.specs.Buildings.{term_set_view, term_set_views}

@@ -1,7 +1,7 @@
 use Rattle.std.proofs.Common.{◌≡◌, ◌≤◌, length, drop}
 use Rattle.isle_base.specs.SyntaxViews.{position}
-use Rattle.isle_model.specs.Trees.{no_step, step}
-use Rattle.isle_alone.specs.Alone.{alone_tests}
+use Rattle.isle_model.specs.trees.Trees.{no_step, step}
+use Rattle.isle_model.specs.first.Alone.{alone_tests}
 use Rattle.isle_sets.specs.SiteViews.{constraint_views}
 use Rattle.isle_serialize.specs.TreeViews.{check_view}
 use Rattle.isle_serialize.proofs.alone.rule_step.Given as goal

@@ -1,7 +1,7 @@
 use Rattle.std.proofs.Common.{false, ap, sym, ◌∙◌, subst, arith}
-use Rattle.isle_model.specs.Sound.{IsSound}
-use Rattle.isle_alone.specs.Alone.{alone_all, ordered}
-use Rattle.isle_alone.proofs.Soundness.{alone_is_sound}
+use Rattle.isle_model.specs.trees.Sound.{IsSound}
+use Rattle.isle_model.specs.first.Alone.{alone_all, ordered}
+use Rattle.isle_first.proofs.alone.Soundness.{alone_is_sound}
 use Rattle.isle_sets.specs.SiteViews.{set_rule_views, set_view}
 use Rattle.isle_serialize.proofs.TreeLaws.{block_seen}
 use Rattle.isle_serialize.proofs.AloneSteps.{viewed, grown, whole}

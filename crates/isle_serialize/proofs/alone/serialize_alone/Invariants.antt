@@ -1,5 +1,5 @@
 use Rattle.std.proofs.Common.{◌≡◌, take}
-use Rattle.isle_alone.specs.Alone.{alone_all}
+use Rattle.isle_model.specs.first.Alone.{alone_all}
 use Rattle.isle_serialize.specs.TreeViews.{steps_view}
 use Rattle.isle_serialize.proofs.AloneSteps.{viewed}
 use Rattle.isle_serialize.proofs.alone.serialize_alone.Given as goal

@@ -1,5 +1,5 @@
 use Rattle.std.proofs.Common.{◌≡◌, ◌≤◌}
-use Rattle.isle_building.specs.Building.{argument_sites}
+use Rattle.isle_model.specs.first.Building.{argument_sites}
 use Rattle.isle_sets.specs.SiteViews.{site_views}
 use Rattle.isle_sets.proofs.building.argument_sites.Given as goal
 

@@ -1,5 +1,5 @@
 use Rattle.std.proofs.Common.{ℕ, ◌<◌, length, subst, refl, inl, inr, rules}
-use Rattle.isle_building.specs.Building.{ClashAt}
+use Rattle.isle_model.specs.first.Building.{ClashAt}
 use Rattle.isle_sets.specs.SiteViews.{set_rule_views}
 use Rattle.isle_sets.specs.Buildings.{term_set_views, ChecksOverlaps}
 use Rattle.isle_sets.proofs.BuildingTests.{overlap_added, sets_more, sets_all, on_ok}

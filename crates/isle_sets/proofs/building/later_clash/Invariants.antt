@@ -1,5 +1,5 @@
 use Rattle.std.proofs.Common.{ℕ, ◌<◌}
-use Rattle.isle_building.specs.Building.{ClashAt}
+use Rattle.isle_model.specs.first.Building.{ClashAt}
 use Rattle.isle_sets.specs.SiteViews.{set_rule_views}
 use Rattle.isle_sets.proofs.building.later_clash.Given as goal
 

@@ -1,5 +1,5 @@
 use Rattle.std.proofs.Common.{◌≡◌, ◌+◌, drop}
-use Rattle.isle_building.specs.Building.{literal_number}
+use Rattle.isle_model.specs.first.Building.{literal_number}
 use Rattle.isle_sets.specs.SiteViews.{site_views}
 use Rattle.isle_sets.proofs.building.literal_number.Given as goal
 

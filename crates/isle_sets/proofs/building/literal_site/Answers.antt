@@ -1,6 +1,6 @@
 use Rattle.std.proofs.Common.{◌≡◌, ◌≤◌, refl, inl, inr, rules, arith}
 use Rattle.std.proofs.lemmas.Bool.{cases_lt}
-use Rattle.isle_building.specs.Building.{literal_number}
+use Rattle.isle_model.specs.first.Building.{literal_number}
 use Rattle.isle_sets.specs.SiteViews.{site_views}
 use Rattle.isle_sets.proofs.BuildingSteps.{no_room}
 use Rattle.isle_sets.proofs.building.literal_site.Goals as goal

@@ -1,5 +1,5 @@
 use Rattle.std.proofs.Common.{◌≡◌, drop}
-use Rattle.isle_model.specs.Places.{constraint_at}
+use Rattle.isle_model.specs.trees.Places.{constraint_at}
 use Rattle.isle_sets.specs.SiteViews.{constraint_views}
 use Rattle.isle_sets.proofs.trie_again.Rule.get_constraint.Given as goal
 
