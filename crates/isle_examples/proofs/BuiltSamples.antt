@@ -2,7 +2,7 @@
 use Rattle.std.proofs.Common.{◌≡◌, ℕ, ◌<◌, ◌≤◌, [], ◌∷◌, length, refl, ap, arith}
 use Rattle.std.proofs.lemmas.List.Elements.{All-nil, All-from_recursion}
 use Rattle.isle_model.specs.sites.Sites.{Constraint, is_present, unfold_site}
-use Rattle.isle_model.proofs.Distinct.{distinct_nil, distinct_one}
+use Rattle.isle_model.proofs.Positions.{distinct_nil, distinct_one}
 use Rattle.isle_model.proofs.Members.{in_alone}
 use Rattle.isle_examples.specs.Sets as set
 use Rattle.isle_laws_trees.proofs.WellBuilt.{passes_well_built}

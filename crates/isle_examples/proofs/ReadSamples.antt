@@ -8,7 +8,8 @@ use Rattle.isle_model.specs.lists.TermTable.{decl_trees, rule_trees, constructor
 use Rattle.isle_model.specs.lists.KnownTypes.{types_of}
 use Rattle.isle_examples.specs.Written.{name}
 use Rattle.isle_laws_lists.proofs.Acyclic.{plain_acyclic}
-use Rattle.isle_model.proofs.Distinct.{distinct_if, distinct_nil, distinct_one}
+use Rattle.isle_model.proofs.Names.{distinct_if}
+use Rattle.isle_model.proofs.Positions.{distinct_nil, distinct_one}
 use Rattle.isle_model.specs.lists.Elaborated.{elaborated_rules}
 use Rattle.isle_model.specs.claims.Environments.{types_read, setting_of, HasTypedRules, IsRead}
 use Rattle.isle_examples.specs.SampleLists.{extract, extract_rules, partial, partial_rules, multi, multi_rules, overlap, overlap_rules, shadow, shadow_rules, equal, equal_rules, variant_eq, variant_eq_rules, unused, unused_rules}

@@ -12,7 +12,8 @@ use Rattle.isle_examples.specs.Written.{at, name, decl}
 use Rattle.isle_examples.specs.WorkedTerms.{HasTerms}
 use Rattle.isle_examples.specs.WorkedKnown.{one_type, of_that_type, TypesHandedIn, OwnTypesDoNotCount, with_g, plain, NamesGoOn, IllFormed}
 use Rattle.isle_laws_lists.proofs.Acyclic.{plain_acyclic}
-use Rattle.isle_model.proofs.Distinct.{distinct_if, distinct_nil, distinct_one}
+use Rattle.isle_model.proofs.Names.{distinct_if}
+use Rattle.isle_model.proofs.Positions.{distinct_nil, distinct_one}
 use Rattle.isle_laws_lists.proofs.WellFormed.{own_types_are_well_formed_lem}
 
 one_type_valid : IsValidTypes one_type

@@ -11,7 +11,8 @@ use Rattle.isle_examples.specs.Written.{at, name, decl, term, decl_by_template}
 use Rattle.isle_examples.specs.WorkedTypes.{three_types}
 use Rattle.isle_examples.specs.WorkedTerms.{HasTerms, var, any, both, by_function, ByFunction, converted, Converted, doubled, Doubled, chained, Chained, effects, Effects, infallible, Infallible, early, Early, one_full_name, OneFullName, Structs, alone, Alone, recursive, itself, RefusedTerms}
 use Rattle.isle_laws_lists.proofs.Acyclic.{acyclic_by, plain_acyclic}
-use Rattle.isle_model.proofs.Distinct.{distinct_if, distinct_nil, distinct_one}
+use Rattle.isle_model.proofs.Names.{distinct_if}
+use Rattle.isle_model.proofs.Positions.{distinct_nil, distinct_one}
 use Rattle.isle_model.proofs.Members.{nothing_in, in_alone, in_cases}
 
 -- a list of one type that is known

@@ -6,7 +6,8 @@ use Rattle.isle_model.specs.lists.Syntax.{TypeTree, unit_fields}
 use Rattle.isle_model.specs.lists.TypeTable.{builtin_names, type_names, type_trees, ConstantTree, field_lists, constant_trees, all_type_names, IsKnownType, IsUnmarkedIfPrimitive, HasAtMostOneMark, HasDistinctVariants, HasDistinctFields, HasKnownTypes, IsOfKnownType, IsValidTypes}
 use Rattle.isle_examples.specs.Written.{name, primitive}
 use Rattle.isle_examples.specs.WorkedTypes.{two_types, TwoTypes, three_types, ThreeTypes, constants, Constants, RefusedTypes}
-use Rattle.isle_model.proofs.Distinct.{distinct_if, distinct_nil, distinct_one}
+use Rattle.isle_model.proofs.Names.{distinct_if}
+use Rattle.isle_model.proofs.Positions.{distinct_nil, distinct_one}
 
 -- valid
 two_valid : IsValidTypes two_types

@@ -22,7 +22,11 @@ use Rattle.isle_model.specs.lists.Typings.{Typing, plain, joined_typing, followe
 use Rattle.isle_model.specs.lists.Elaborated.{PatternReading, parts_with, deeper_pattern, elaborated_parts, as_expected, deeper_expr, elaborated_expr, elaborated_iflets, sides_of, last_sides, typed_list, own_number, root_parts, rule_of_sides, finished_rule, may_have_priority, rule_of_term}
 use Rattle.isle_laws_lists.specs.TypingLaws.{typing}
 use Rattle.isle_model.specs.first.CarriedRules.{carried_setting_of, rule_and_count, without_expansion, CarriedRulesAgree}
-use Rattle.isle_laws_lists.proofs.TypedNames.{same_bytes, same_self, same_number, number_new, with_known, has_before, number_before, has_among, has_first, has_second, has_tail}
+use Rattle.isle_model.proofs.Bytes.{same_bytes, same_self}
+use Rattle.isle_model.proofs.Names.{same_test, number_new, known_name, has_kept, number_kept, has_met, has_left, has_right}
+
+has_tail : (y : List ℕ) (ys : List (List ℕ)) (x : List ℕ) → has_name ys x ≡ true → has_name (y ∷ ys) x ≡ true
+has_tail y ys x h = has_right (y ∷ []) ys x h
 
 -- 1. terms: found by the number of the name where they are found by the name
 abbrev AllIn : List (List ℕ) → List (List ℕ) → Type 0
@@ -59,8 +63,8 @@ entries_agree defs x k (d ∷ ds) h =
     let here = decl_entry defs k d in
     let rest = decl_entries defs (suc k) ds in
     let texts = map (λ (c : DeclTree). c.term.text) ds in
-    let known : has_name all y ≡ true = has_before ns (later_names defs) y h.0 in
-    let same : eqb (number ns y) (number all x) ≡ bytes_eq y x = ap (λ n. eqb n (number all x)) (sym (number_before ns (later_names defs) y h.0)) ∙ same_number all y x known in
+    let known : has_name all y ≡ true = has_kept ns (later_names defs) y h.0 in
+    let same : eqb (number ns y) (number all x) ≡ bytes_eq y x = ap (λ n. eqb n (number all x)) (sym (number_kept ns (later_names defs) y h.0)) ∙ same_test all y x known in
     subst (λ b. cond b (Some here) (entry_named (number all x) rest) ≡ then_option (cond (bytes_eq y x) (Some 0) (place_from 1 x texts)) (slice_get (here ∷ rest))) (sym same)
     (elim (bytes_eq y x) as (λ b. cond b (Some here) (entry_named (number all x) rest) ≡ then_option (cond b (Some 0) (place_from 1 x texts)) (slice_get (here ∷ rest))) [
       | true ↦ refl
@@ -69,7 +73,7 @@ entries_agree defs x k (d ∷ ds) h =
     ])
 
 term_agrees : (defs : List Definition) (x : List ℕ) → entry_named (number (all_names defs) x) (term_entries defs) ≡ then_option (term_id defs x) (slice_get (term_entries defs))
-term_agrees defs x = entries_agree defs x 0 (decl_trees defs) (all_in (term_table_names defs) (decl_names defs) (λ y h. has_among (type_names_met defs) (decl_names defs) y h))
+term_agrees defs x = entries_agree defs x 0 (decl_trees defs) (all_in (term_table_names defs) (decl_names defs) (λ y h. has_met (type_names_met defs) (decl_names defs) y h))
 
 entry_at : (defs : List Definition) (k j : ℕ) (ds : List DeclTree) (t : TermEntry) → slice_get (decl_entries defs k ds) j ≡ Some t → (d : DeclTree) × (slice_get ds j ≡ Some d) × (t ≡ decl_entry defs (k + j) d)
 entry_at defs k j [] t h = absurd (cc)
@@ -96,13 +100,13 @@ not_multi (other_definition ∷ rest) j d c h = not_multi rest j d (All-tail (λ
 -- 2. the names of a rule were met
 in_rules : (rs : List RuleTree) (k : ℕ) (r : RuleTree) (x : List ℕ) → slice_get rs k ≡ Some r → has_name (carried_names_of_rule r) x ≡ true → has_name (flat_map carried_names_of_rule rs) x ≡ true
 in_rules [] k r x h i = absurd (cc)
-in_rules (q ∷ rs) zero r x h i = has_first (carried_names_of_rule q) (flat_map carried_names_of_rule rs) x (subst (λ z. has_name (carried_names_of_rule z) x ≡ true) (sym (same_Some _ _ h)) i)
-in_rules (q ∷ rs) (suc k) r x h i = has_second (carried_names_of_rule q) (flat_map carried_names_of_rule rs) x (in_rules rs k r x h i)
+in_rules (q ∷ rs) zero r x h i = has_left (carried_names_of_rule q) (flat_map carried_names_of_rule rs) x (subst (λ z. has_name (carried_names_of_rule z) x ≡ true) (sym (same_Some _ _ h)) i)
+in_rules (q ∷ rs) (suc k) r x h i = has_right (carried_names_of_rule q) (flat_map carried_names_of_rule rs) x (in_rules rs k r x h i)
 
 bound_is_met : (defs : List Definition) (k : ℕ) (r : RuleTree) (x : List ℕ) → slice_get (rule_trees defs) k ≡ Some r → has_name (bound_names (root_args r.pattern)) x ≡ true → has_name (all_names defs) x ≡ true
 bound_is_met defs k r x h i =
-    has_among (term_table_names defs) (flat_map carried_names_of_rule (rule_trees defs)) x
-    (in_rules (rule_trees defs) k r x h (has_first (bound_names (root_args r.pattern) ++ var_of_expr r.expr) (own_name r.name) x (has_first (bound_names (root_args r.pattern)) (var_of_expr r.expr) x i)))
+    has_met (term_table_names defs) (flat_map carried_names_of_rule (rule_trees defs)) x
+    (in_rules (rule_trees defs) k r x h (has_left (bound_names (root_args r.pattern) ++ var_of_expr r.expr) (own_name r.name) x (has_left (bound_names (root_args r.pattern)) (var_of_expr r.expr) x i)))
 
 -- 3. variables: looked up alike from either end
 push_here : (n : ℕ) (vars : List TypedVar) (v : TypedVar) → var_named n vars ≡ None → eqb v.name n ≡ true → var_named n (vars ++ v ∷ []) ≡ Some v
@@ -169,7 +173,7 @@ module _ (names : List (List ℕ)) (e : Setting) (multi : Bool) (deeper : Patter
               | true ↦ λ same. absurd (false≢true (sym (not_true (has_name others x) both.0) ∙ subst (λ z. has_name others z ≡ true) (sym (same_bytes x y same)) i))
               | false ↦ λ _. refl
             ] refl in
-            push_other (number names y) vars (new_var vars (number names x) ty) (same_number names x y met ∙ other) ∙ h.free y (has_tail x others y i);
+            push_other (number names y) vars (new_var vars (number names x) ty) (same_test names x y met ∙ other) ∙ h.free y (has_tail x others y i);
         apart = both.1;
       }
 
@@ -193,7 +197,7 @@ module _ (names : List (List ℕ)) (e : Setting) (multi : Bool) (deeper : Patter
       let here : has_name (bound_names (pattern_list (pattern_and (var_pattern name at) rest))) x ≡ true = rw (same_self x) refl in
       let new : var_named (number names x) visible ≡ None = a (number names x) ∙ h.free x here in
       let then_scope : bound (scope visible vars) x ty ≡ scope (v ∷ visible) (vars ++ v ∷ []) =
-      ap (λ ns. let w = new_var vars (number ns x) ty in let s : Scope = record { names = ns; visible = w ∷ visible; vars = vars ++ w ∷ [] } in s) (with_known names x (h.known x here)) in
+      ap (λ ns. let w = new_var vars (number ns x) ty in let s : Scope = record { names = ns; visible = w ∷ visible; vars = vars ++ w ∷ [] } in s) (known_name names x (h.known x here)) in
       rw (new, then_scope)
       (with_one (match_bind ty (length vars) (match_any ty)) (scope (v ∷ visible) (vars ++ v ∷ [])) _ _
       (same_parts rest tys (v ∷ visible) (vars ++ v ∷ []) (alike_push visible vars v a (h.free x here)) (first_new name at rest vars ty h) c))

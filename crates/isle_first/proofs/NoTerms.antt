@@ -5,7 +5,7 @@ use Rattle.std.proofs.lemmas.List.Elements.{recursion_from_All}
 use Rattle.isle_model.specs.lists.Syntax.{TypeTree, Definition, type_definition}
 use Rattle.isle_model.specs.lists.TypeTable.{type_of, type_trees, is_primitive}
 use Rattle.isle_model.specs.first.SameTermTables.{makes_no_term, MakeNoTerms}
-use Rattle.isle_model.proofs.Distinct.{all_joined}
+use Rattle.isle_model.proofs.Joined.{all_joined}
 
 module _ {X Y : Type 0} (f : X → List Y) (P : X → Type 0) where
   -- what no element gives, the list doesn't give

@@ -10,7 +10,7 @@ use Rattle.isle_model.specs.lists.TypeTable.{place_from, IsKnownType}
 use Rattle.isle_model.specs.lists.KnownTypes.{KnownTypes, type_named, known_type}
 use Rattle.isle_model.specs.lists.TermTable.{converter_trees, known_term, IsKnownConverter}
 use Rattle.isle_laws_lists.specs.TableLaws.{ConvertersStandOnce}
-use Rattle.isle_laws_lists.proofs.TableNames.{same_bytes}
+use Rattle.isle_model.proofs.Bytes.{same_bytes}
 
 later : (xs : List (List ℕ)) (n k : ℕ) (x : List ℕ) → place_from n x xs ≡ Some k → n ≤ k
 later [] n k x p = absurd (cc)

@@ -2,12 +2,10 @@ pub mod Acyclic
 pub mod Converters
 pub mod FormedRules
 pub mod OwnTypes
-pub mod TableNames
 pub mod TermLaws
 pub mod TermTypes
 pub mod TypeLaws
 pub mod TypedExprs
-pub mod TypedNames
 pub mod TypedPatterns
 pub mod TypedResults
 pub mod TypedRules

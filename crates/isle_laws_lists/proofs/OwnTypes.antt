@@ -7,8 +7,8 @@ use Rattle.isle_model.specs.lists.Syntax.{Name, VariantTree, TypeTree, TypeValue
 use Rattle.isle_model.specs.lists.Names.{has_name}
 use Rattle.isle_model.specs.lists.Tables.{VariantEntry}
 use Rattle.isle_model.specs.lists.TypeTable.{builtin_names, builtin_from, type_id, type_trees, type_names, ConstantTree, constant_trees, names_inside, all_type_names, type_names_met, name_number, variant_entry, entry_at, type_entry, type_table, last_definitions, constant_types, type_or_first}
-use Rattle.isle_model.proofs.Distinct.{all_joined}
-use Rattle.isle_laws_lists.proofs.TableNames.{number_below, has_at, has_met, has_right}
+use Rattle.isle_model.proofs.Joined.{all_joined}
+use Rattle.isle_model.proofs.Names.{number_below, has_at, has_met, has_right}
 use Rattle.isle_laws_lists.proofs.TypeLaws.{names_later}
 use Rattle.isle_laws_lists.proofs.WellFormed.{place_below, as_many, own_types_are_well_formed_lem}
 use Rattle.isle_model.proofs.Members.{in_head, in_tail, in_cases, get_from_member, in_map, from_map, all_members}

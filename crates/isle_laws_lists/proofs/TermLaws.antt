@@ -11,8 +11,8 @@ use Rattle.isle_model.specs.lists.TypeTable.{builtin_names, builtin_from, type_t
 use Rattle.isle_model.specs.lists.TermTable.{decl_trees, decl_names, function_of, made_by, term_names, term_names_met, variant_as_term, terms_made, decl_as_term, terms_in_order}
 use Rattle.isle_model.specs.lists.KnownTypes.{KnownTypes, types_of, field_numbers, variant_numbers, entry_numbers}
 use Rattle.isle_laws_lists.specs.TableLaws.{NamesStandOnce, NumbersStay, TermsAreFound, TermsStandAtIds, HaveNumbersOfNames, TermsHaveNames, names_made, TypesMakeTerms}
-use Rattle.isle_model.proofs.Distinct.{all_joined, all_left, all_right}
-use Rattle.isle_laws_lists.proofs.TableNames.{found, has_at, get_kept, distinct_names}
+use Rattle.isle_model.proofs.Joined.{all_joined, all_left, all_right}
+use Rattle.isle_model.proofs.Names.{found, has_at, get_kept, distinct_names}
 use Rattle.isle_laws_lists.proofs.TypeLaws.{type_names_distinct, place_at}
 use Rattle.isle_laws_lists.proofs.WellFormed.{names_of_types_met, names_inside_met, numbers_below}
 

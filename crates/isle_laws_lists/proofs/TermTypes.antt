@@ -10,7 +10,7 @@ use Rattle.isle_model.specs.lists.TypeTable.{builtin_names, builtin_from}
 use Rattle.isle_model.specs.lists.TermTable.{decl_trees, term_names_met, variant_as_term, terms_made, decl_as_term, terms_in_order}
 use Rattle.isle_model.specs.lists.KnownTypes.{KnownTypes, types_of, type_named, known_type, entry_id, types_inside, StandAtIds}
 use Rattle.isle_laws_lists.specs.TableLaws.{AreOfTypes, TermsAreOfTypes}
-use Rattle.isle_model.proofs.Distinct.{all_joined, all_left, all_right}
+use Rattle.isle_model.proofs.Joined.{all_joined, all_left, all_right}
 use Rattle.isle_laws_lists.proofs.WellFormed.{place_below, as_many, fields_are_types, own_ids}
 
 -- a fact of the types of each term, whatever id it is given

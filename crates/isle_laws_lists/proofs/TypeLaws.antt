@@ -12,8 +12,8 @@ use Rattle.isle_model.specs.lists.Names.{number, has_name, IsDistinct}
 use Rattle.isle_model.specs.rules.Meaning.{look}
 use Rattle.isle_model.specs.lists.TypeTable.{builtin_names, builtin_from, type_trees, type_names, place_from, ConstantTree, constant_trees, names_inside, type_names_met, type_entry, last_definitions, type_or_first}
 use Rattle.isle_laws_lists.specs.TableLaws.{TypesStandAtIds, LastDefinitionCounts}
-use Rattle.isle_model.proofs.Distinct.{distinct_if}
-use Rattle.isle_laws_lists.proofs.TableNames.{same_bytes, same_self, same_test, has_met, has_left, has_right, distinct_names}
+use Rattle.isle_model.proofs.Names.{distinct_if, same_test, has_met, has_left, has_right, distinct_names}
+use Rattle.isle_model.proofs.Bytes.{same_bytes, same_self}
 
 pub builtin_distinct : IsDistinct builtin_names
 builtin_distinct = distinct_if builtin_names refl

@@ -13,7 +13,7 @@ use Rattle.isle_model.specs.lists.Elaborated.{most_nested, with_own_name}
 use Rattle.isle_model.specs.lists.Elaborates.{ElaboratesRules, no_rule, one_rule, ElaboratesPattern, ElaboratesParts, ElaboratesEach, new_name, bound_name, binding, a_truth, an_integer, a_constant, a_term, a_template, a_conversion, anything, all_of, no_part, part, no_more, one_more, ElaboratesExpr, ElaboratesArgs, ElaboratesLets, a_call, converted_call, a_variable, converted_variable, truth_expr, integer_expr, constant_expr, let_in, no_arg, an_arg, no_def, a_def, ElaboratesIfLets, no_iflet, an_iflet, a_rule}
 use Rattle.isle_model.specs.lists.Formed.{pattern_type}
 use Rattle.isle_laws_lists.specs.TypingResults.{TypesAreExpected, VariablesAtPlaces, NamesStay, NamesStayInLists}
-use Rattle.isle_laws_lists.proofs.TypedNames.{same_self}
+use Rattle.isle_model.proofs.Bytes.{same_self}
 
 -- what may happen to a scope: names are met and bound, and lets are after_let
 data Reaches (s : Scope) : Scope → Type 0 where

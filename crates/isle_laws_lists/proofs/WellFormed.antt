@@ -14,8 +14,9 @@ use Rattle.isle_model.specs.lists.Tables.{TypeEntry}
 use Rattle.isle_model.specs.lists.TypeTable.{builtin_names, builtin_from, place_from, type_id, type_trees, type_names, full_name, field_names, variant_names, names_inside, all_type_names, type_names_met, field_entry, tuple_field_entry, field_entries, variant_entry, entry_at, type_entry, type_table, type_or_first}
 use Rattle.isle_model.specs.lists.KnownTypes.{entry_id, types_inside, field_numbers, variant_numbers, entry_numbers, StandAtIds}
 use Rattle.isle_laws_lists.specs.TableLaws.{OwnTypesAreWellFormed, TypesAreFound}
-use Rattle.isle_model.proofs.Distinct.{all_joined, all_left, all_right}
-use Rattle.isle_laws_lists.proofs.TableNames.{same_self, has_kept, has_right, number_below}
+use Rattle.isle_model.proofs.Joined.{all_joined, all_left, all_right}
+use Rattle.isle_model.proofs.Bytes.{same_self}
+use Rattle.isle_model.proofs.Names.{has_kept, has_right, number_below}
 use Rattle.isle_laws_lists.proofs.TypeLaws.{names_later, type_names_distinct, place_at, types_met, inside_met}
 
 pub types_are_found_lem : TypesAreFound

@@ -1,8 +1,8 @@
 pub mod ByNumber
 pub mod Bytes
-pub mod Distinct
 pub mod Elements
 pub mod FirstPlaces
+pub mod Joined
 pub mod Members
 pub mod Names
 pub mod Positions

@@ -4,9 +4,9 @@ use Rattle.std.proofs.lemmas.Bool.{cases_Bool, cond-true, cond-false, false≢tr
 use Rattle.isle_model.specs.lists.Names.{IsDistinct}
 use Rattle.isle_model.specs.sites.Sites.{SiteTerm}
 use Rattle.isle_model.specs.sites.Demands.{site_term_eq, has_site, with_sites}
-use Rattle.isle_model.proofs.Elements.{In, or_split, or_left, or_right}
+use Rattle.isle_model.proofs.Elements.{In, in_slice, or_split, or_left, or_right}
 use Rattle.isle_model.proofs.SameSites.{term_means, same_term}
-use Rattle.isle_model.proofs.Distinct.{distinct_end}
+use Rattle.isle_model.proofs.Positions.{distinct_push}
 
 pub in_has : (ts : List SiteTerm) (s : SiteTerm) → In ts s → has_site ts s ≡ true
 in_has [] s i = absurd i
@@ -25,5 +25,5 @@ once_with ts (x ∷ xs) d =
       | inl h ↦ subst (λ l. IsDistinct (with_sites l xs)) (sym (cond-true (has_site ts x) ts (ts ++ x ∷ []) h)) (once_with ts xs d)
       | inr h ↦
           subst (λ l. IsDistinct (with_sites l xs)) (sym (cond-false (has_site ts x) ts (ts ++ x ∷ []) h))
-          (once_with (ts ++ x ∷ []) xs (distinct_end ts x d (λ i. false≢true (sym h ∙ in_has ts x i))))
+          (once_with (ts ++ x ∷ []) xs (distinct_push ts x d (λ j e. false≢true (sym h ∙ in_has ts x (in_slice ts j x e)))))
     ]

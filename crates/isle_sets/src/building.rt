@@ -344,7 +344,7 @@ fn sites_differ(some: &[(BindingId, Constraint)], others: &[(BindingId, Constrai
 }
 
 // Whether two rules have one priority and may match together.
-fn simple_clash(a: &trie_again::Rule, b: &trie_again::Rule) -> bool
+fn clash(a: &trie_again::Rule, b: &trie_again::Rule) -> bool
     ensures { result ≡ simple_clash (set_rule_view a.now) (set_rule_view b.now) }
 {
     a.prio == b.prio && !sites_differ(&a.constraints, &b.constraints)
@@ -357,7 +357,7 @@ fn later_clash(rules: &[trie_again::Rule], i: usize) -> Option<usize>
         (λ j. (j < length rules.now) × ClashAt (set_rule_views rules.now) i j) }
 {
     for j in i + 1..rules.len() {
-        if simple_clash(&rules[i], &rules[j]) {
+        if clash(&rules[i], &rules[j]) {
             return Some(j);
         }
     }

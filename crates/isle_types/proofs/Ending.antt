@@ -8,7 +8,8 @@ use Rattle.isle_model.specs.rules.Meaning.{look}
 use Rattle.isle_model.specs.rules.Outcome.{then_option}
 use Rattle.isle_model.specs.lists.TypeTable.{builtin_names, type_names, ConstantTree, constant_trees, type_names_met, last_definitions, type_of_number, type_or_first, constant_types, IsOfKnownType, IsValidTypes}
 use Rattle.isle_base.specs.declared.syntax.Error.{Error}
-use Rattle.isle_laws_lists.proofs.TableNames.{same_self, found, has_at, has_met, has_right}
+use Rattle.isle_model.proofs.Bytes.{same_self}
+use Rattle.isle_model.proofs.Names.{found, has_at, has_met, has_right}
 use Rattle.isle_laws_lists.proofs.TypeLaws.{names_later, type_names_distinct, last_definition_counts_lem}
 use Rattle.isle_types.specs.declared.type_env.TypeEnv.{TypeEnv}
 use Rattle.isle_types.specs.Envs.{names_of, symbol_of}

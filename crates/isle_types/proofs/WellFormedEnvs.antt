@@ -9,7 +9,7 @@ use Rattle.isle_model.specs.rules.Outcome.{then_option}
 use Rattle.isle_model.specs.lists.Tables.{VariantEntry, TypeEntry}
 use Rattle.isle_model.specs.lists.TypeTable.{builtin_names, builtin_from, type_id, type_trees, constant_trees, all_type_names, type_names_met, variant_entry, entry_at, type_entry, type_table, type_or_first, IsValidTypes}
 use Rattle.isle_model.specs.lists.KnownTypes.{types_of, types_inside, entry_numbers, StandAtIds, IsWellFormed}
-use Rattle.isle_model.proofs.Distinct.{all_joined}
+use Rattle.isle_model.proofs.Joined.{all_joined}
 use Rattle.isle_model.proofs.Names.{found}
 use Rattle.isle_laws_lists.proofs.WellFormed.{place_below, as_many, types_are_found_lem, own_types_are_well_formed_lem}
 use Rattle.isle_types.specs.declared.type_env.TypeEnv.{TypeEnv}

@@ -15,7 +15,7 @@ use Rattle.isle_model.specs.sites.Demands.{demands_of, site_term_eq, site_terms_
 use Rattle.isle_model.specs.sites.Serves.{asked_by, asked, constant_site}
 use Rattle.isle_model.specs.lists.Names.{IsDistinct}
 use Rattle.isle_model.proofs.SameSites.{term_same}
-use Rattle.isle_model.proofs.Distinct.{at_end}
+use Rattle.isle_model.proofs.Positions.{get_push_cases}
 use Rattle.isle_model.proofs.SitesMade.{once_with}
 use Rattle.isle_model.specs.first.Simple.{IsSimpleRule}
 use Rattle.isle_model.specs.first.Building.{argument_sites, is_literal, literal_number, with_literal, with_value, sites_after, IsSimpleSite}
@@ -55,7 +55,7 @@ made_from ts (y ∷ xs) k x e =
         | inr c ↦ inr (suc c.0, omega (arith, c.1), c.2)
       ]
       | inr h ↦ elim (made_from (ts ++ y ∷ []) xs k x (ap (λ l. slice_get (with_sites l xs) k) (sym (cond-false (has_site ts y) ts (ts ++ y ∷ []) h)) ∙ e)) [
-        | inl a ↦ elim (at_end ts y a.0 x a.1) [ inl b ↦ inl (a.0, b) | inr b ↦ inr (0, omega arith, b.1) ]
+        | inl a ↦ elim (get_push_cases ts y x a.0 a.1) [ inl b ↦ inl (a.0, b) | inr b ↦ inr (0, omega arith, b.1) ]
         | inr c ↦ inr (suc c.0, omega (arith, c.1), c.2)
       ]
     ]

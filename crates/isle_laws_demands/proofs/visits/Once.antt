@@ -11,7 +11,7 @@ use Rattle.isle_model.specs.sites.Closure.{is_unreachable, field_terms, Closed, 
 use Rattle.isle_model.specs.sites.Limits.{most_sites, walked_rule, made_walking, sites_wanted, sites_reached, sites_after_rule, sites_after_rules}
 use Rattle.isle_model.specs.sites.RuleSets.{IsBuilt}
 use Rattle.isle_model.proofs.Elements.{In, some_is, none_some, in_slice}
-use Rattle.isle_model.proofs.Distinct.{at_end, distinct_end}
+use Rattle.isle_model.proofs.Positions.{get_push_cases, distinct_push}
 use Rattle.isle_model.proofs.SitesMade.{in_has, once_with}
 use Rattle.isle_laws_demands.proofs.visits.Unfolding.{one_site}
 
