@@ -13,18 +13,18 @@ pub record Members (T : Type 0) : Type 0 where
 pub record Entries (K V : Type 0) : Type 0 where
   listed : List (K × V)
 
-abbrev pub set_of : {T : Type 0} → List T → Members T
-set_of xs = record { listed = xs }
+abbrev pub stable_set : {T : Type 0} → List T → Members T
+stable_set xs = record { listed = xs }
 
-abbrev pub map_of : {K V : Type 0} → List (K × V) → Entries K V
-map_of es = record { listed = es }
+abbrev pub stable_map : {K V : Type 0} → List (K × V) → Entries K V
+stable_map es = record { listed = es }
 
 -- a set and a map are stored as their lists
 abbrev pub members_code : {T : Type 0} → Coded T → Coded (Members T)
-members_code {T} c = code_by (List T) (coded_list c) (λ s. s.listed) set_of (λ _. refl)
+members_code {T} c = code_by (List T) (coded_list c) (λ s. s.listed) stable_set (λ _. refl)
 
 abbrev pub entries_code : {K V : Type 0} → Coded K → Coded V → Coded (Entries K V)
-entries_code {K} {V} c d = code_by (List (K × V)) (coded_list (coded× c d)) (λ m. m.listed) map_of (λ _. refl)
+entries_code {K} {V} c d = code_by (List (K × V)) (coded_list (coded× c d)) (λ m. m.listed) stable_map (λ _. refl)
 
 -- the set has the value
 abbrev pub contains : {T : Type 0} → (T → T → Bool) → Members T → T → Bool

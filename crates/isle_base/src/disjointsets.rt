@@ -1,4 +1,4 @@
-//! Sets of items that are apart from each other, each with one of its members as its name.
+//! Sets of items that are apart from each other, each with one of its members as its name: what a rule says is equal.
 ghost use Rattle.std.specs.Prelude.{nat_eq, ◌%◌, Vec, Some, None, true, false, ◌≡◌, ◌≢◌, ◌==◌, ℕ, ◌+◌, ◌<◌, ◌≤◌, ◌||◌, ◌&&◌, cond, not, [], ◌∷◌, ◌++◌, ◌↔◌, List, sum_by, length, count_by, slice_get, slice_index_or, vec_len, vec_capacity, IfOk, IsOkAnd, OnOk, OnErr, IfSome, IsSome, is_some, IsFalse, IsNone, IsTrue};
 ghost use Rattle.std.proofs.Common.{rules};
 ghost use Rattle.std.specs.Cmp.Rules.{comparing, hashing};
@@ -19,7 +19,7 @@ use std::marker::Model;
 use std::mem;
 
 /// Disjoint sets of items, where equal items are one item. A set has two members or more, and only `merge` makes
-/// one. Upstream's `DisjointSets`.
+/// one: an item that nothing was merged with takes no room, and is told from the others by `find`. Upstream's `DisjointSets`.
 #[derive(Debug, Drop)]
 pub struct DisjointSets<T: Eq + Hash> {
     // the place of each item's set in `members`
@@ -81,10 +81,7 @@ impl<T: Copy + Debug + Eq + Hash> DisjointSets<T> {
         ensures second { IsFalse (together T.eq self.now y y) → IsFalse result }
         ensures partition { IsPartition T.eq self.now }
     {
-        is_one_class(
-            self.classes.get(&x).copied(),
-            self.classes.get(&y).copied(),
-        )
+        is_one_class(self.classes.get(&x).copied(), self.classes.get(&y).copied())
     }
 
     /// What `find` answers. Takes no memory. Upstream's `DisjointSets::find_mut`, which changes how its value is kept;

@@ -1,5 +1,5 @@
-//! A map and a set over std's hash collections whose order no call but `Debug` shows. Values, and keys, are told apart by `==`
-//! alone.
+//! A map and a set over std's hash collections whose order no call but `Debug` shows: it differs from run to run, and no answer
+//! of the compiler may depend on it. Values, and keys, are told apart by `==` alone.
 ghost use Rattle.std.specs.Prelude.{◌≡◌, ◌+◌, ℕ, Bool, List, length, true, false, None, Some, not, is_some, IsSome, option_copied, if◌then◌else◌, IfOk, OnOk, OnErr};
 ghost use Rattle.isle_base.specs.Stable.{contains, entry_count, look_up, member_count, ClonesAreSame, HasClones, IsMadeOf};
 ghost use Rattle.std.specs.HashMap.{get, hash_map_len};
@@ -13,20 +13,20 @@ use std::hash::Hash;
 use std::marker::Model;
 use std::ops::Index;
 
-/// A set of values, in no order. Upstream's `StableSet`.
+/// A set of values, in no order: it can be asked and grows, and can't be walked. Upstream's `StableSet`.
 #[derive(Debug, Drop)]
 pub struct StableSet<T: Eq + Hash> {
     items: HashSet<T>,
 }
 
 impl<T: Eq + Hash> Model for StableSet<T> {
-    ghost use Rattle.isle_base.specs.Stable.{Members, members_code, set_of};
+    ghost use Rattle.isle_base.specs.Stable.{Members, members_code, stable_set};
 
     ghost Value = { Members T };
 
     ghost coded = { members_code T.code };
 
-    ghost view = { λ s. set_of s.items.keys };
+    ghost view = { λ s. stable_set s.items.keys };
 }
 
 impl<T: Eq + Hash> StableSet<T> {
@@ -95,20 +95,20 @@ impl<T: Eq + Hash + Clone> StableSet<T> {
     }
 }
 
-/// A map from keys to values, in no order. Upstream's `StableMap`.
+/// A map from keys to values, in no order: it can be asked and grows, and can't be walked. Upstream's `StableMap`.
 #[derive(Debug, Drop)]
 pub struct StableMap<K: Eq + Hash, V> {
     entries: HashMap<K, V>,
 }
 
 impl<K: Eq + Hash, V> Model for StableMap<K, V> {
-    ghost use Rattle.isle_base.specs.Stable.{Entries, entries_code, map_of};
+    ghost use Rattle.isle_base.specs.Stable.{Entries, entries_code, stable_map};
 
     ghost Value = { Entries K V };
 
     ghost coded = { entries_code K.code V.code };
 
-    ghost view = { λ m. map_of m.entries.entries };
+    ghost view = { λ m. stable_map m.entries.entries };
 }
 
 impl<K: Eq + Hash, V> StableMap<K, V> {

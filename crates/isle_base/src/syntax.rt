@@ -13,7 +13,7 @@ ghost use Rattle.isle_base.specs.SyntaxViews.{position, name_view, pattern_view,
 
 use std::alloc::{AllocError, AllocFailed, Global};
 
-/// A place in a file. Ordered by file, then offset.
+/// A place in a file. Ordered by file, then offset, so that errors can be told in the order of the text.
 #[derive(Clone, Copy, Debug, Default, PartialEq, Eq, PartialOrd, Ord)]
 pub struct Pos {
     /// The file's number in `Files`.
@@ -22,7 +22,7 @@ pub struct Pos {
     pub offset: usize,
 }
 
-/// A piece of a file.
+/// A piece of a file, which an error speaks of.
 #[derive(Clone, Copy, Debug, PartialEq)]
 pub struct Span {
     /// Where it begins.
@@ -31,7 +31,8 @@ pub struct Span {
     pub to: Pos,
 }
 
-/// The files that were read: two lists of equal length.
+/// The files that were read: two lists of equal length. A place has only a file's number, and these say its name, and by the
+/// text which line an offset is in.
 pub struct Files {
     /// The files' names.
     pub names: Vec<String>,
@@ -39,11 +40,11 @@ pub struct Files {
     pub texts: Vec<String>,
 }
 
-/// A name, and where it stands.
+/// A name, and where it stands: what is wrong with a name is told at that place.
 #[derive(Debug, PartialEq, Eq)]
 pub struct Ident(pub String, pub Pos);
 
-/// What is bounded.
+/// What is bounded, so that definitions from anyone cost no more than a known amount, and ids fit their types.
 #[derive(Clone, Copy, Debug)]
 pub enum Limit {
     /// The fields that a constraint matches.
@@ -65,38 +66,50 @@ pub enum Limit {
 pub enum Error {
     /// A definition, or what it says, isn't right.
     TypeError {
+        /// What isn't right.
         msg: String,
+        /// Where.
         span: Span,
     },
     /// A rule can never match.
     UnreachableError {
+        /// Why it can't.
         msg: String,
+        /// The rule.
         span: Span,
     },
-    /// Rules of one priority match the same values.
+    /// Rules of one priority match the same values, and nothing says which of them to take.
     OverlapError {
+        /// That they overlap.
         msg: String,
+        /// The first overlaps each of the others.
         rules: Vec<Span>,
     },
-    /// Rules that another one comes before wherever they match.
+    /// Rules that another one comes before wherever they match, so that they are never taken.
     ShadowedError {
+        /// The rules that are never taken.
         shadowed: Vec<Span>,
+        /// The rule that comes before them.
         mask: Span,
     },
     /// More of something than there may be.
     LimitError {
+        /// What there is more of.
         limit: Limit,
+        /// How many there may be.
         msg: String,
+        /// The rule that has more.
         span: Span,
     },
 }
 
-/// Why there is no answer: memory, or the definitions.
+/// Why there is no answer: memory, or the definitions. Kept apart, since the first says nothing of the definitions and the
+/// same call may succeed another time.
 #[derive(Debug, Drop)]
 pub enum Fault {
     /// The allocator refused.
     Memory(AllocError),
-    /// What is wrong with the definitions.
+    /// What is wrong with the definitions: at least one error.
     Errors(Vec<Error>),
 }
 
@@ -116,7 +129,7 @@ impl<T: Drop> From<AllocFailed<T>> for Fault {
     }
 }
 
-/// A definition.
+/// A definition. What is wrong with it is told at its `pos`.
 #[derive(Clone, PartialEq, Eq)]
 pub enum Def {
     TypeDef(Type),
@@ -125,7 +138,7 @@ pub enum Def {
     Converter(Converter),
     Rule(Rule),
     Extern(Extern),
-    /// Any other definition. It changes nothing.
+    /// Any other definition. It changes nothing, and keeps its place in the list, by which rules and errors are in order.
     Other,
 }
 
@@ -133,21 +146,24 @@ pub enum Def {
 #[derive(Clone, PartialEq, Eq)]
 pub struct Type {
     pub name: Ident,
+    /// Whether it is declared outside, so that generated code has no declaration of it.
     pub is_extern: bool,
+    /// Whether generated code can't print its values. Only a type that is declared here can be so marked.
     pub is_nodebug: bool,
     pub ty: TypeValue,
     pub pos: Pos,
 }
 
-/// What a type is.
+/// What a type is, each with its place.
 #[derive(Clone, PartialEq, Eq)]
 pub enum TypeValue {
+    /// A type of the generated code's language, by its name there.
     Primitive(Ident, Pos),
     Enum(Vec<Variant>, Pos),
     Struct(Fields, Pos),
 }
 
-/// A variant of an enum type.
+/// A variant of an enum type. It is a term too, named by `full_name`.
 #[derive(Clone, PartialEq, Eq)]
 pub struct Variant {
     pub name: Ident,
@@ -166,6 +182,7 @@ pub enum Fields {
 /// Fields with names.
 #[derive(Clone, PartialEq, Eq)]
 pub struct StructFields {
+    /// The fields, in the order in which a term's arguments stand for them.
     pub fields: Vec<StructField>,
 }
 
@@ -173,6 +190,7 @@ pub struct StructFields {
 #[derive(Clone, PartialEq, Eq)]
 pub struct StructField {
     pub name: Ident,
+    /// The name of its type.
     pub ty: Ident,
     pub pos: Pos,
 }
@@ -180,13 +198,16 @@ pub struct StructField {
 /// Fields without names.
 #[derive(Clone, PartialEq, Eq)]
 pub struct TupleFields {
+    /// The fields, in the order in which a term's arguments stand for them.
     pub fields: Vec<TupleField>,
 }
 
 /// A field without a name.
 #[derive(Clone, PartialEq, Eq)]
 pub struct TupleField {
+    /// What an error calls the field, since it has no name.
     pub index: usize,
+    /// The name of its type.
     pub ty: Ident,
     pub pos: Pos,
 }
@@ -195,41 +216,56 @@ pub struct TupleField {
 #[derive(Clone, PartialEq, Eq)]
 pub struct Decl {
     pub term: Ident,
+    /// The names of its arguments' types.
     pub arg_tys: Vec<Ident>,
+    /// The name of its result's type.
     pub ret_ty: Ident,
+    /// Whether its constructor changes nothing, so that an if-let may call it before a rule is chosen.
     pub pure: bool,
+    /// Whether a call gives several results. Its rules then have no order, and so no priorities.
     pub multi: bool,
+    /// Whether its constructor may give no result.
     pub partial: bool,
+    /// Whether its rules may call it again, through other terms too.
     pub rec: bool,
     pub pos: Pos,
 }
 
-/// A term's extractor, as a pattern that stands for it.
+/// A term's extractor, as a pattern that stands for it: a use of the term in a pattern is that template, with the use's
+/// arguments in the places of its own.
 #[derive(Clone, PartialEq, Eq)]
 pub struct Extractor {
     pub term: Ident,
+    /// The names that the template gives the term's arguments.
     pub args: Vec<Ident>,
     pub template: Pattern,
     pub pos: Pos,
 }
 
-/// A term that converts one type into another.
+/// A term that converts one type into another: where a form of the one stands and the other is wanted, a use of the term is put
+/// round it.
 #[derive(Clone, PartialEq, Eq)]
 pub struct Converter {
     pub term: Ident,
+    /// The name of the type that the form has.
     pub inner_ty: Ident,
+    /// The name of the type that is wanted.
     pub outer_ty: Ident,
     pub pos: Pos,
 }
 
-/// A rule.
+/// A rule: where the pattern and all conditions match, the term is what the expression makes.
 #[derive(Clone, PartialEq, Eq)]
 pub struct Rule {
+    /// The term that the rule is of, with a pattern for each argument.
     pub pattern: Pattern,
+    /// Further conditions, each of which may use what those before it bind.
     pub iflets: Vec<IfLet>,
     pub expr: Expr,
     pub pos: Pos,
+    /// Of the rules that match, one of the greatest is taken; none is 0.
     pub prio: Option<i64>,
+    /// What the rule is called, in place of its position.
     pub name: Option<Ident>,
 }
 
@@ -241,20 +277,24 @@ pub struct IfLet {
     pub pos: Pos,
 }
 
-/// What is defined outside.
+/// What is defined outside, by functions and constants of the generated code's language.
 #[derive(Clone, PartialEq, Eq)]
 pub enum Extern {
+    /// The function that makes a term's value from its arguments.
     Constructor {
         term: Ident,
         func: Ident,
         pos: Pos,
     },
+    /// The function that takes a term's value apart into its arguments.
     Extractor {
         term: Ident,
         func: Ident,
         pos: Pos,
+        /// Whether it always answers, so that it tests nothing.
         infallible: bool,
     },
+    /// A constant, with the name of its type.
     Const {
         name: Ident,
         ty: Ident,
@@ -265,10 +305,12 @@ pub enum Extern {
 /// What a rule matches.
 #[derive(Debug, PartialEq, Eq)]
 pub enum Pattern {
+    /// The first use of a name binds it to the value; a later one matches a value that is equal to it.
     Var {
         var: Ident,
         pos: Pos,
     },
+    /// Binds a name to the value that the inner pattern matches.
     BindPattern {
         var: Ident,
         subpat: Box<Pattern>,
@@ -282,10 +324,12 @@ pub enum Pattern {
         val: i128,
         pos: Pos,
     },
+    /// A constant that is defined outside.
     ConstPrim {
         val: Ident,
         pos: Pos,
     },
+    /// A variant, a struct, or what an extractor takes apart, with a pattern for each part.
     Term {
         sym: Ident,
         args: Vec<Pattern>,
@@ -294,10 +338,12 @@ pub enum Pattern {
     Wildcard {
         pos: Pos,
     },
+    /// All of these match the value.
     And {
         subpats: Vec<Pattern>,
         pos: Pos,
     },
+    /// Of a template alone: the argument of this place, counted from 0. A use's pattern takes its place.
     MacroArg {
         index: usize,
         pos: Pos,
@@ -308,11 +354,13 @@ pub enum Pattern {
 #[cycle(expr)]
 #[derive(PartialEq, Eq)]
 pub enum Expr {
+    /// A call of a term's constructor.
     Term {
         sym: Ident,
         args: Vec<Expr>,
         pos: Pos,
     },
+    /// What the name is bound to.
     Var {
         name: Ident,
         pos: Pos,
@@ -325,10 +373,12 @@ pub enum Expr {
         val: i128,
         pos: Pos,
     },
+    /// A constant that is defined outside.
     ConstPrim {
         val: Ident,
         pos: Pos,
     },
+    /// Binds names, each of which the later ones and the body may use.
     Let {
         defs: Vec<LetDef>,
         body: Box<Expr>,
@@ -341,6 +391,7 @@ pub enum Expr {
 #[derive(PartialEq, Eq)]
 pub struct LetDef {
     pub var: Ident,
+    /// The name of its type, which isn't guessed from the value.
     pub ty: Ident,
     pub val: Box<Expr>,
     pub pos: Pos,

@@ -1,4 +1,4 @@
-use Rattle.std.proofs.Common.{◌≡◌, arith, Some, None}
+use Rattle.std.proofs.Common.{◌∙◌, sym, ap, arith, Some}
 use Rattle.std.specs.HashMap.{get}
 use Rattle.std.proofs.lemmas.Result.{on_ok_weaker}
 use Rattle.isle_base.proofs.Classes.{alike, has_some}
@@ -8,30 +8,22 @@ use Rattle.isle_base.proofs.disjointsets.DisjointSets.merge.Goals as goal
 
 pub add_to_set-requires-clause-some : goal.add_to_set-requires-clause-some
 add_to_set-requires-clause-some g c =
-    let e = g.T.PartialEq.eq in
-    let s = c.self.inside in
-    let ny : get e s.classes c.args.y ≡ Some c.in-None-Some.class = let a = c.get-2.ensures.value in let b = c.copied-second.ensures in let d = c.in-None-Some.is-1 in cc in
+    let ny = sym c.get-2.ensures.value ∙ sym c.copied-second.ensures ∙ c.in-None-Some.is-1 in
     has_some c.self.invariant c.args.y c.in-None-Some.class ny
 
 pub add_to_set-requires-in-Some-None-clause-some : goal.add_to_set-requires-in-Some-None-clause-some
 add_to_set-requires-in-Some-None-clause-some g c =
-    let e = g.T.PartialEq.eq in
-    let s = c.self.inside in
-    let nx : get e s.classes c.args.x ≡ Some c.in-Some-None.class = let a = c.get.ensures.value in let b = c.copied-first.ensures in let d = c.in-Some-None.is-0 in let f = c.in-Some-None.class-is in cc in
+    let nx = sym c.get.ensures.value ∙ sym c.copied-first.ensures ∙ c.in-Some-None.is-0 ∙ ap Some (sym c.in-Some-None.class-is) in
     has_some c.self.invariant c.args.x c.in-Some-None.class nx
 
 pub merge_classes-requires-clause-first : goal.merge_classes-requires-clause-first
 merge_classes-requires-clause-first g c =
-    let e = g.T.PartialEq.eq in
-    let s = c.self.inside in
-    let nx : get e s.classes c.args.x ≡ Some c.in-Some-Some.a = let a = c.get.ensures.value in let b = c.copied-first.ensures in let d = c.in-Some-Some.is-0 in let f = c.in-Some-Some.a-is in cc in
+    let nx = sym c.get.ensures.value ∙ sym c.copied-first.ensures ∙ c.in-Some-Some.is-0 ∙ ap Some (sym c.in-Some-Some.a-is) in
     has_some c.self.invariant c.args.x c.in-Some-Some.a nx
 
 pub merge_classes-requires-clause-second : goal.merge_classes-requires-clause-second
 merge_classes-requires-clause-second g c =
-    let e = g.T.PartialEq.eq in
-    let s = c.self.inside in
-    let ny : get e s.classes c.args.y ≡ Some c.in-Some-Some.b = let a = c.get-2.ensures.value in let b = c.copied-second.ensures in let d = c.in-Some-Some.is-1 in cc in
+    let ny = sym c.get-2.ensures.value ∙ sym c.copied-second.ensures ∙ c.in-Some-Some.is-1 in
     has_some c.self.invariant c.args.y c.in-Some-Some.b ny
 
 pub invariant_of-self-in-None-Some : goal.invariant_of-self-in-None-Some
@@ -42,18 +34,14 @@ invariant_of-self-in-Some-None g c = c.add_to_set-in-Some-None.ensures.fit c.sel
 
 pub returns-in-None-None-clause-ok : goal.returns-in-None-None-clause-ok
 returns-in-None-None-clause-ok g c =
-    let e = g.T.PartialEq.eq in
-    let s = c.self.inside in
     rw (← c.self.view_is) (on_ok_weaker c.merge_two_items.result (λ merged.
     together_merged g.met.T.Eq.laws c.self.invariant c.merge_two_items.ensures.fit
     c.args.x c.args.y merged) c.merge_two_items.ensures.ok)
 
 pub returns-in-None-None-clause-len : goal.returns-in-None-None-clause-len
 returns-in-None-None-clause-len g c =
-    let e = g.T.PartialEq.eq in
-    let s = c.self.inside in
-    let nx : get e s.classes c.args.x ≡ None = let a = c.get.ensures.value in let b = c.copied-first.ensures in let d = c.in-None-None.is-0 in cc in
-    let ny : get e s.classes c.args.y ≡ None = let a = c.get-2.ensures.value in let b = c.copied-second.ensures in let d = c.in-None-None.is-1 in cc in
+    let nx = sym c.get.ensures.value ∙ sym c.copied-first.ensures ∙ c.in-None-None.is-0 in
+    let ny = sym c.get-2.ensures.value ∙ sym c.copied-second.ensures ∙ c.in-None-None.is-1 in
     let before = total c.self.invariant in
     let after = total c.merge_two_items.ensures.fit in
     let first = added_none c.self.invariant c.args.x nx in
@@ -64,8 +52,8 @@ pub returns-in-None-Some-clause-ok : goal.returns-in-None-Some-clause-ok
 returns-in-None-Some-clause-ok g c =
     let e = g.T.PartialEq.eq in
     let s = c.self.inside in
-    let nx : get e s.classes c.args.x ≡ None = let a = c.get.ensures.value in let b = c.copied-first.ensures in let d = c.in-None-Some.is-0 in cc in
-    let ny : get e s.classes c.args.y ≡ Some c.in-None-Some.class = let a = c.get-2.ensures.value in let b = c.copied-second.ensures in let d = c.in-None-Some.is-1 in cc in
+    let nx = sym c.get.ensures.value ∙ sym c.copied-first.ensures ∙ c.in-None-Some.is-0 in
+    let ny = sym c.get-2.ensures.value ∙ sym c.copied-second.ensures ∙ c.in-None-Some.is-1 in
     let respects = alike c.self.invariant g.met.T.Eq.laws in
     rw (← c.self.view_is) (on_ok_weaker c.add_to_set.result (λ merged.
     together_merged g.met.T.Eq.laws c.self.invariant (c.add_to_set.ensures.fit s.free.items c.self.invariant)
@@ -73,10 +61,9 @@ returns-in-None-Some-clause-ok g c =
 
 pub returns-in-None-Some-clause-len : goal.returns-in-None-Some-clause-len
 returns-in-None-Some-clause-len g c =
-    let e = g.T.PartialEq.eq in
     let s = c.self.inside in
-    let nx : get e s.classes c.args.x ≡ None = let a = c.get.ensures.value in let b = c.copied-first.ensures in let d = c.in-None-Some.is-0 in cc in
-    let ny : get e s.classes c.args.y ≡ Some c.in-None-Some.class = let a = c.get-2.ensures.value in let b = c.copied-second.ensures in let d = c.in-None-Some.is-1 in cc in
+    let nx = sym c.get.ensures.value ∙ sym c.copied-first.ensures ∙ c.in-None-Some.is-0 in
+    let ny = sym c.get-2.ensures.value ∙ sym c.copied-second.ensures ∙ c.in-None-Some.is-1 in
     let before = total c.self.invariant in
     let after = total (c.add_to_set.ensures.fit s.free.items c.self.invariant) in
     let first = added_none c.self.invariant c.args.x nx in
@@ -87,8 +74,8 @@ pub returns-in-Some-None-clause-ok : goal.returns-in-Some-None-clause-ok
 returns-in-Some-None-clause-ok g c =
     let e = g.T.PartialEq.eq in
     let s = c.self.inside in
-    let nx : get e s.classes c.args.x ≡ Some c.in-Some-None.class = let a = c.get.ensures.value in let b = c.copied-first.ensures in let d = c.in-Some-None.is-0 in let f = c.in-Some-None.class-is in cc in
-    let ny : get e s.classes c.args.y ≡ None = let a = c.get-2.ensures.value in let b = c.copied-second.ensures in let d = c.in-Some-None.is-1 in cc in
+    let nx = sym c.get.ensures.value ∙ sym c.copied-first.ensures ∙ c.in-Some-None.is-0 ∙ ap Some (sym c.in-Some-None.class-is) in
+    let ny = sym c.get-2.ensures.value ∙ sym c.copied-second.ensures ∙ c.in-Some-None.is-1 in
     let respects = alike c.self.invariant g.met.T.Eq.laws in
     rw (← c.self.view_is) (on_ok_weaker c.add_to_set-in-Some-None.result (λ merged.
     together_merged g.met.T.Eq.laws c.self.invariant (c.add_to_set-in-Some-None.ensures.fit s.free.items c.self.invariant)
@@ -96,10 +83,9 @@ returns-in-Some-None-clause-ok g c =
 
 pub returns-in-Some-None-clause-len : goal.returns-in-Some-None-clause-len
 returns-in-Some-None-clause-len g c =
-    let e = g.T.PartialEq.eq in
     let s = c.self.inside in
-    let nx : get e s.classes c.args.x ≡ Some c.in-Some-None.class = let a = c.get.ensures.value in let b = c.copied-first.ensures in let d = c.in-Some-None.is-0 in let f = c.in-Some-None.class-is in cc in
-    let ny : get e s.classes c.args.y ≡ None = let a = c.get-2.ensures.value in let b = c.copied-second.ensures in let d = c.in-Some-None.is-1 in cc in
+    let nx = sym c.get.ensures.value ∙ sym c.copied-first.ensures ∙ c.in-Some-None.is-0 ∙ ap Some (sym c.in-Some-None.class-is) in
+    let ny = sym c.get-2.ensures.value ∙ sym c.copied-second.ensures ∙ c.in-Some-None.is-1 in
     let before = total c.self.invariant in
     let after = total (c.add_to_set-in-Some-None.ensures.fit s.free.items c.self.invariant) in
     let first = added_some c.self.invariant c.args.x c.in-Some-None.class nx in
@@ -108,20 +94,16 @@ returns-in-Some-None-clause-len g c =
 
 pub returns-in-Some-Some-clause-ok : goal.returns-in-Some-Some-clause-ok
 returns-in-Some-Some-clause-ok g c =
-    let e = g.T.PartialEq.eq in
-    let s = c.self.inside in
-    let nx : get e s.classes c.args.x ≡ Some c.in-Some-Some.a = let a = c.get.ensures.value in let b = c.copied-first.ensures in let d = c.in-Some-Some.is-0 in let f = c.in-Some-Some.a-is in cc in
-    let ny : get e s.classes c.args.y ≡ Some c.in-Some-Some.b = let a = c.get-2.ensures.value in let b = c.copied-second.ensures in let d = c.in-Some-Some.is-1 in cc in
+    let nx = sym c.get.ensures.value ∙ sym c.copied-first.ensures ∙ c.in-Some-Some.is-0 ∙ ap Some (sym c.in-Some-Some.a-is) in
+    let ny = sym c.get-2.ensures.value ∙ sym c.copied-second.ensures ∙ c.in-Some-Some.is-1 in
     rw (← c.self.view_is) (on_ok_weaker c.merge_classes.result (λ merged.
     together_merged g.met.T.Eq.laws c.self.invariant c.merge_classes.ensures.fit
     c.args.x c.args.y (merged c.args.x c.args.y nx ny)) c.merge_classes.ensures.ok)
 
 pub returns-in-Some-Some-clause-len : goal.returns-in-Some-Some-clause-len
 returns-in-Some-Some-clause-len g c =
-    let e = g.T.PartialEq.eq in
-    let s = c.self.inside in
-    let nx : get e s.classes c.args.x ≡ Some c.in-Some-Some.a = let a = c.get.ensures.value in let b = c.copied-first.ensures in let d = c.in-Some-Some.is-0 in let f = c.in-Some-Some.a-is in cc in
-    let ny : get e s.classes c.args.y ≡ Some c.in-Some-Some.b = let a = c.get-2.ensures.value in let b = c.copied-second.ensures in let d = c.in-Some-Some.is-1 in cc in
+    let nx = sym c.get.ensures.value ∙ sym c.copied-first.ensures ∙ c.in-Some-Some.is-0 ∙ ap Some (sym c.in-Some-Some.a-is) in
+    let ny = sym c.get-2.ensures.value ∙ sym c.copied-second.ensures ∙ c.in-Some-Some.is-1 in
     let before = total c.self.invariant in
     let after = total c.merge_classes.ensures.fit in
     let first = added_some c.self.invariant c.args.x c.in-Some-Some.a nx in

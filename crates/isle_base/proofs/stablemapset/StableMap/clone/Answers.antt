@@ -1,6 +1,6 @@
 use Rattle.std.proofs.lemmas.List.Elements.{length_all_zip}
 use Rattle.std.proofs.Common.{sym, ap}
-use Rattle.isle_base.specs.Stable.{look_up, map_of}
+use Rattle.isle_base.specs.Stable.{look_up, stable_map}
 use Rattle.isle_base.proofs.Copies.{lookup-clones, same_entries, same_option}
 use Rattle.isle_base.proofs.stablemapset.StableMap.clone.Goals as goal
 
@@ -10,7 +10,7 @@ returns-clause-has g c k =
 
 pub returns-clause-values : goal.returns-clause-values
 returns-clause-values g c same k =
-    rw (← c.self.view_is) (same_option same (look_up g.K.PartialEq.eq (map_of c.self.inside.entries.entries) k) (look_up g.K.PartialEq.eq (map_of c.in_ok-entries.entries.entries) k) (lookup-clones g.met.K.Eq.laws g.V.Clone.is_clone c.requires k c.self.inside.entries.entries c.in_ok-entries.entries.entries c.in_ok-entries.ensures.cases))
+    rw (← c.self.view_is) (same_option same (look_up g.K.PartialEq.eq (stable_map c.self.inside.entries.entries) k) (look_up g.K.PartialEq.eq (stable_map c.in_ok-entries.entries.entries) k) (lookup-clones g.met.K.Eq.laws g.V.Clone.is_clone c.requires k c.self.inside.entries.entries c.in_ok-entries.entries.entries c.in_ok-entries.ensures.cases))
 
 pub returns-clause-len : goal.returns-clause-len
 returns-clause-len g c =
@@ -18,4 +18,4 @@ returns-clause-len g c =
 
 pub returns-clause-same : goal.returns-clause-same
 returns-clause-same g c keys values =
-    rw (← c.self.view_is) (ap map_of (same_entries keys values c.self.inside.entries.entries c.in_ok-entries.entries.entries c.in_ok-entries.ensures.cases))
+    rw (← c.self.view_is) (ap stable_map (same_entries keys values c.self.inside.entries.entries c.in_ok-entries.entries.entries c.in_ok-entries.ensures.cases))

@@ -1,6 +1,6 @@
 use Rattle.std.proofs.lemmas.List.Elements.{length_all_zip, same_from_all_zip}
 use Rattle.std.proofs.Common.{sym, ap}
-use Rattle.isle_base.specs.Stable.{set_of}
+use Rattle.isle_base.specs.Stable.{stable_set}
 use Rattle.isle_base.proofs.Copies.{list_any-clones}
 use Rattle.isle_base.proofs.stablemapset.StableSet.clone.Goals as goal
 
@@ -14,4 +14,4 @@ returns-clause-len g c =
 
 pub returns-clause-same : goal.returns-clause-same
 returns-clause-same g c same =
-    rw (← c.self.view_is) (ap set_of (same_from_all_zip g.T.Clone.is_clone c.self.inside.items.keys c.in_ok-items.items.keys c.in_ok-items.ensures.cases same))
+    rw (← c.self.view_is) (ap stable_set (same_from_all_zip g.T.Clone.is_clone c.self.inside.items.keys c.in_ok-items.items.keys c.in_ok-items.ensures.cases same))
