@@ -1,5 +1,5 @@
 -- The judge of reading gives a list's typed rules, and nothing where it has none.
-use Rattle.std.proofs.Common.{◌≡◌, Bool, true, ◌&&◌, List, Option, Some, None, cond, refl, sym, ◌∙◌, subst}
+use Rattle.std.proofs.Common.{◌≡◌, Bool, true, ◌&&◌, List, Option, Some, None, refl, sym, ◌∙◌, subst}
 use Rattle.std.proofs.lemmas.Bool.{and_parts, and_from, cond-true}
 use Rattle.std.proofs.lemmas.Option.{none-some, same_Some}
 use Rattle.isle_model.specs.lists.Syntax.{Definition}
@@ -7,7 +7,7 @@ use Rattle.isle_model.specs.lists.TermTable.{rule_trees, term_names_met}
 use Rattle.isle_model.specs.lists.ListJudge.{has_valid_types, has_valid_terms, all_defined}
 use Rattle.isle_model.specs.lists.Elaborated.{TypedRules, rule_names, elaborated_rules}
 use Rattle.isle_model.specs.trees.Best.{are_distinct}
-use Rattle.isle_model.specs.claims.Environments.{TypesRead, types_read, setting_of, AreReadable, IsElaborated, IsRead}
+use Rattle.isle_model.specs.claims.Environments.{TypesRead, types_read, setting_of, AreReadable, IsElaborated}
 use Rattle.isle_model.specs.claims.ReadJudge.{named_apart, elaborated_list, read_list}
 use Rattle.isle_laws_lists.specs.JudgeLaws.{ListsAreElaborated, ListsAreRead, ListsAreRefused}
 use Rattle.isle_laws_lists.proofs.Typings.{if_gives}

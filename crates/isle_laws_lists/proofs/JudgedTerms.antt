@@ -1,11 +1,11 @@
 -- The judge of terms is exact.
-use Rattle.std.proofs.Common.{◌≡◌, ℕ, ◌<◌, ◌==◌, Bool, not, ◌&&◌, nat_lt, List, [], ◌∷◌, ◌++◌, length, Some, All, Decides, refl, ap, arith}
+use Rattle.std.proofs.Common.{◌≡◌, ℕ, ◌<◌, ◌==◌, false, not, ◌&&◌, nat_lt, List, [], ◌∷◌, ◌++◌, length, Some, All, Decides, refl, ap, arith}
 use Rattle.std.specs.List.{list_all}
-use Rattle.std.proofs.lemmas.Bool.Decides.{Decides-like, Decides-eqb, Decides-ltb}
+use Rattle.std.proofs.lemmas.Bool.Decides.{Decides-like, Decides-eqb, Decides-ltb, not_from_Decides}
 use Rattle.isle_model.specs.lists.Syntax.{Name, ConverterTree, Definition}
 use Rattle.isle_model.specs.lists.TypeTable.{IsKnownType}
 use Rattle.isle_model.specs.lists.KnownTypes.{KnownTypes}
-use Rattle.isle_model.specs.lists.TermTable.{decl_trees, rule_trees, constructor_trees, external_trees, extractor_trees, converter_trees, root_name, is_declared, is_declared_multi, has_rules, term_names, terms_in, arguments_in, argument_count, extractor_template, internal_extractors, external_extractors, external_constructors, converted_pairs, is_defined, IsDeclaredTerm, IsKnownTerm, HasKnownArguments, HasKnownResult, IsNotBothMultiAndPartial, HasDeclaredRoot, IsWithoutRules, IsOfPlainTerm, NamesKnownTerms, HoldsNoMacroArg, UsesDeclaredArguments, IsKnownConverter, IsDefined}
+use Rattle.isle_model.specs.lists.TermTable.{decl_trees, rule_trees, constructor_trees, external_trees, extractor_trees, converter_trees, root_name, is_declared, is_declared_multi, has_rules, term_names, terms_in, arguments_in, argument_count, extractor_template, internal_extractors, external_extractors, external_constructors, converted_pairs, is_defined, IsDeclaredTerm, IsKnownTerm, HasKnownArguments, HasKnownResult, IsNotBothMultiAndPartial, HasDeclaredRoot, IsWithoutRules, IsOfPlainTerm, NamesKnownTerms, HoldsNoMacroArg, UsesDeclaredArguments, IsKnownConverter, IsValidTerms, IsDefined}
 use Rattle.isle_model.specs.lists.ListJudge.{is_known_type, has_known_arguments, is_known_term, names_known_terms, uses_declared_arguments, is_known_converter, has_valid_terms}
 use Rattle.isle_laws_lists.specs.JudgeLaws.{TermsAreJudged, DefinedAreJudged}
 use Rattle.isle_laws_lists.proofs.Twice.{names_differ, pairs_differ}
@@ -73,6 +73,10 @@ terms_are_judged_lem k defs =
     (cycles_are_found_lem defs))
     (each (is_known_converter k defs) (IsKnownConverter k defs) (converts k defs) (converter_trees defs)))
     (pairs_differ (converted_pairs defs)))
+
+-- so a list that the judge refuses has no term table by these types
+pub no_terms : (k : KnownTypes) (defs : List Definition) → has_valid_terms k defs ≡ false → IsValidTerms k defs → ⊥
+no_terms k defs h = not_from_Decides (has_valid_terms k defs) (terms_are_judged_lem k defs) h
 
 pub defined_are_judged_lem : DefinedAreJudged
 defined_are_judged_lem defs = each (λ d. is_defined defs d.term.text) (IsDefined defs) (λ d. itself (is_defined defs d.term.text)) (decl_trees defs)

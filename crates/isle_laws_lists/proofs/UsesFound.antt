@@ -1,15 +1,14 @@
 -- The search for terms that come back to themselves through internal extractors finds all of them, and no other.
 use Rattle.std.proofs.Common.{◌≡◌, ◌⊎◌, ℕ, Bool, true, false, not, cond, List, [], ◌∷◌, ◌++◌, map, Contains, Decides, refl, sym, ap, ◌∙◌, subst, inl, inr, ⊎_elim}
 use Rattle.std.specs.Str.{bytes_eq}
-use Rattle.std.specs.List.{list_all, flat_map}
-use Rattle.std.proofs.lemmas.Bool.{false≢true, cases_Bool, cond-true, cond-false}
+use Rattle.std.proofs.lemmas.Bool.{cond-true}
 use Rattle.std.proofs.lemmas.Bool.Decides.{Decides-not}
 use Rattle.std.proofs.lemmas.List.Elements.{Contains-append_left, Contains-push, Contains-push_cases}
 use Rattle.std.proofs.lemmas.Slice.Eq.{bytes_eq-Decides}
-use Rattle.isle_model.specs.lists.Syntax.{Name, ExtractorTree, Definition}
+use Rattle.isle_model.specs.lists.Syntax.{ExtractorTree, Definition}
 use Rattle.isle_model.specs.lists.Names.{has_name, with_name, with_names}
-use Rattle.isle_model.specs.lists.TermTable.{extractor_trees, internal_extractors, terms_in, Uses, Reaches, directly, through, IsAcyclic}
-use Rattle.isle_model.specs.lists.ListJudge.{TermUses, direct_uses, uses_of, with_uses_of, through_term, through_terms, all_uses, is_acyclic}
+use Rattle.isle_model.specs.lists.TermTable.{extractor_trees, internal_extractors, terms_in, Uses, Reaches, directly, through}
+use Rattle.isle_model.specs.lists.ListJudge.{TermUses, direct_uses, uses_of, with_uses_of, through_term, through_terms, all_uses}
 use Rattle.isle_model.proofs.Members.{nothing_in, in_head, in_tail, in_cases, in_map, from_map, in_flat_map, from_flat_map, each_passes, all_pass}
 use Rattle.isle_laws_lists.specs.JudgeLaws.{CyclesAreFound}
 use Rattle.isle_laws_lists.proofs.Twice.{has_name_decides}
