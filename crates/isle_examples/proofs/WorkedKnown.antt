@@ -8,7 +8,7 @@ use Rattle.isle_model.specs.lists.TypeTable.{builtin_names}
 use Rattle.isle_model.specs.lists.KnownTypes.{types_of, IsWellFormed}
 use Rattle.isle_examples.specs.Written.{at}
 use Rattle.isle_examples.specs.WorkedKnown.{one_type, of_that_type, TypesHandedIn, OwnTypesDoNotCount, with_g, plain, NamesGoOn, IllFormed}
-use Rattle.isle_model.proofs.Distinct.{distinct_if}
+use Rattle.isle_model.proofs.Names.{distinct_if}
 use Rattle.isle_laws_lists.proofs.WellFormed.{own_types_are_well_formed_lem}
 use Rattle.isle_laws_lists.proofs.JudgedTypes.{types_are_judged_lem}
 use Rattle.isle_laws_lists.proofs.JudgedTerms.{terms_are_judged_lem, defined_are_judged_lem, no_terms}

@@ -8,7 +8,7 @@ use Rattle.isle_model.specs.lists.Names.{has_name, IsDistinct, all_different}
 use Rattle.isle_model.specs.lists.ListJudge.{has_pair, all_pairs_different}
 use Rattle.isle_model.specs.trees.Best.{are_distinct}
 use Rattle.isle_model.specs.trees.Places.{is_in}
-use Rattle.isle_model.proofs.Distinct.{distinct_nil}
+use Rattle.isle_model.proofs.Positions.{distinct_nil}
 use Rattle.isle_model.proofs.Members.{nothing_in, in_head, in_tail, in_cases, member_from_get, get_from_member, member_found, member_is_in}
 
 -- whether something stands among others, by recursion
