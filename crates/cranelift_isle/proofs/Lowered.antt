@@ -70,7 +70,7 @@ module _ (defs : List Definition) (rules : List TypedRule) (expand : Bool) (env 
       subst (λ k. All (λ r. r.root_term < k) (rule_views env.rules.items)) count
       (subst (All (λ r. r.root_term < length (term_entries defs))) (sym s.rules) (elaborated_known defs rules e.terms e.elaborated))
 
-  pub accepted : IsSimplyBuildable q → IsAccepted defs rules
+  pub accepted : IsSimplyBuildable q → IsCarriedAccepted defs rules
   accepted b = record {
     types = e.types;
     terms = e.terms;
@@ -81,7 +81,7 @@ module _ (defs : List Definition) (rules : List TypedRule) (expand : Bool) (env 
     overlaps = λ t i j o. b.overlaps t i j (overlaps_same p q (sym s.terms) (sym s.rules) t i j o);
   }
 
-  pub buildable : (typed : List TypedRule) → IsAccepted defs typed → IsSimplyBuildable q
+  pub buildable : (typed : List TypedRule) → IsCarriedAccepted defs typed → IsSimplyBuildable q
   buildable typed a =
       let same : typed ≡ rules = same_rules typed rules (sym a.elaborated.typed ∙ e.elaborated.typed) in
       let a' = subst (IsCarriedAccepted defs) same a in

@@ -6,6 +6,6 @@ use Rattle.isle_model.specs.first.Accepted.{PassesArgumentsOfProgram, PassesSite
 
 -- no rule of a program passes a limit, and no two rules of a term overlap wrongly
 pub record IsSimplyBuildable (p : Program) : Type 0 where
-  pub arguments : PassesArguments p → ⊥
-  pub sites : PassesSites p → ⊥
-  pub overlaps : (t i j : ℕ) → OverlapsWrongly p t i j → ⊥
+  pub arguments : PassesArgumentsOfProgram p → ⊥
+  pub sites : PassesSitesOfProgram p → ⊥
+  pub overlaps : (t i j : ℕ) → CarriedOverlapsWrongly p t i j → ⊥
