@@ -7,7 +7,7 @@ use Rattle.isle_base.specs.declared.syntax.Ident.{Ident}
 use Rattle.isle_base.specs.declared.syntax.Pattern.{Pattern, Term, And, Row_of-Pattern, end_of-Pattern, more_of-Pattern, items-the_row-Pattern}
 use Rattle.isle_base.specs.declared.syntax.Pattern.TheBlock.{hidden-the_row-Pattern-0, items_hidden-the_row-Pattern-0}
 use Rattle.isle_model.specs.lists.Syntax.{PatternTree, PatternTrees, no_pattern, pattern_and, term_pattern, and_pattern}
-use Rattle.isle_base.specs.Patterns.{both}
+use Rattle.isle_model.specs.lists.Expansions.{with_pattern}
 use Rattle.isle_base.specs.SyntaxViews.{position, name_view, pattern_view, row_patterns, pattern_views}
 
 row_patterns-items : {m : _} (r : Row_of-Pattern m) → row_patterns r ≡ pattern_views (items-the_row-Pattern m r)
@@ -64,7 +64,7 @@ module _ (F : PatternTrees → PatternTrees) (f : PatternTree → PatternTree) (
 unfoldable pub after : List Pattern → Option PatternTrees → Option PatternTrees
 after qs o = option_map (before qs) o
 
-after-push : (qs : List Pattern) (q : Pattern) (o : Option PatternTrees) → after (qs ++ q ∷ []) o ≡ after qs (both (Some (pattern_view q)) o)
+after-push : (qs : List Pattern) (q : Pattern) (o : Option PatternTrees) → after (qs ++ q ∷ []) o ≡ after qs (with_pattern (Some (pattern_view q)) o)
 unfolding before after
 after-push qs q None = refl
 after-push qs q (Some rs) = ap Some (before-push qs q rs)
@@ -82,7 +82,7 @@ after-no : (qs : List Pattern) → after qs None ≡ None
 unfolding after
 after-no qs = refl
 
-module _ (F : PatternTrees → Option PatternTrees) (f : PatternTree → Option PatternTree) (on_none : F no_pattern ≡ Some no_pattern) (on_more : (q : PatternTree) (qs : PatternTrees) → F (pattern_and q qs) ≡ both (f q) (F qs)) where
+module _ (F : PatternTrees → Option PatternTrees) (f : PatternTree → Option PatternTree) (on_none : F no_pattern ≡ Some no_pattern) (on_more : (q : PatternTree) (qs : PatternTrees) → F (pattern_and q qs) ≡ with_pattern (f q) (F qs)) where
   -- a step of a loop that makes a pattern of each, where there may be none
   pub step_after : (out new parts : List Pattern) (q x : Pattern) (i : ℕ) → i < length parts → x ≡ get_or parts i x → Some (pattern_view q) ≡ f (pattern_view x) → new ≡ out ++ q ∷ [] → after out (F (pattern_views (drop i parts))) ≡ F (pattern_views parts) → after new (F (pattern_views (drop (i + 1) parts))) ≡ F (pattern_views parts)
   step_after out new parts q x i h at made is inv =
@@ -96,7 +96,7 @@ module _ (F : PatternTrees → Option PatternTrees) (f : PatternTree → Option 
       let a = after-no out in
       let b = on_more (pattern_view x) (pattern_views (drop (i + 1) parts)) in
       let d = pattern_views_drop parts i x h in
-      let e : both None (F (pattern_views (drop (i + 1) parts))) ≡ None = refl in
+      let e : with_pattern None (F (pattern_views (drop (i + 1) parts))) ≡ None = refl in
       cc
 
   pub end_after : (out parts : List Pattern) (i : ℕ) → length parts ≤ i → after out (F (pattern_views (drop i parts))) ≡ F (pattern_views parts) → Some (pattern_views out) ≡ F (pattern_views parts)

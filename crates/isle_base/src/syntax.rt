@@ -7,7 +7,9 @@ ghost use Rattle.std.specs.List.{position_from};
 ghost use Rattle.std.specs.Str.{bytes_eq};
 ghost use Rattle.isle_base.specs.declared.syntax.Fault.TheVariants.{Memory};
 ghost use Rattle.isle_base.specs.Expressions.{expr_position, terms_of_expr, terms_of_exprs, terms_of_lets};
-ghost use Rattle.isle_base.specs.Patterns.{pattern_position, root_term_of, subst_of, subst_all, template_of, templates_of, terms_of, terms_of_all};
+ghost use Rattle.isle_base.specs.Patterns.{pattern_position, terms_of, terms_of_all};
+ghost use Rattle.isle_model.specs.lists.TermTable.{root_name, template, templates};
+ghost use Rattle.isle_model.specs.lists.Expansions.{substituted, all_substituted};
 ghost use Rattle.isle_base.specs.Places.{full_name_of, line_of, printed_line, single_end, term_view};
 ghost use Rattle.isle_base.specs.SyntaxViews.{position, name_view, pattern_view, pattern_views, expr_view, expr_views, let_views};
 
@@ -478,7 +480,7 @@ impl Pattern {
 
     /// The symbol of a term, and `None` of any other form.
     pub fn root_term(&self) -> Option<&Ident>
-        ensures { option_map (λ s. name_view s.now) result ≡ root_term_of (pattern_view self.now) }
+        ensures { option_map (λ s. name_view s.now) result ≡ root_name (pattern_view self.now) }
     {
         match self {
             Pattern::Term { sym, .. } => Some(sym),
@@ -517,7 +519,7 @@ impl Pattern {
     #[cycle(template)]
     pub fn make_macro_template(&self, alloc: Global, args: &[Ident]) -> Result<Pattern, AllocError>
         ensures { IfOk result (λ q. pattern_view q
-            ≡ template_of (map (λ a. string_bytes a.0) args.now) (pattern_view self.now)) }
+            ≡ template (map (λ a. string_bytes a.0) args.now) (pattern_view self.now)) }
     {
         match self {
             Pattern::Var { var, pos } => {
@@ -564,7 +566,7 @@ impl Pattern {
         macro_args: &[Pattern],
     ) -> Result<Option<Pattern>, AllocError>
         ensures { IfOk result (λ o. option_map pattern_view o
-            ≡ subst_of (map pattern_view macro_args.now) (pattern_view self.now)) }
+            ≡ substituted (map pattern_view macro_args.now) (pattern_view self.now)) }
     {
         match self {
             Pattern::MacroArg { index, .. } => match macro_args.get(*index) {
@@ -659,7 +661,7 @@ fn place_of(args: &[Ident], name: &Ident) -> Option<usize>
 #[cycle(template)]
 fn templates(alloc: Global, parts: &[Pattern], args: &[Ident]) -> Result<Vec<Pattern>, AllocError>
     ensures { IfOk result (λ v. pattern_views v.items
-        ≡ templates_of (map (λ a. string_bytes a.0) args.now) (pattern_views parts.now)) }
+        ≡ templates (map (λ a. string_bytes a.0) args.now) (pattern_views parts.now)) }
 {
     let mut out = Vec::new(alloc);
     for part in parts {
@@ -676,7 +678,7 @@ fn subst_each(
     macro_args: &[Pattern],
 ) -> Result<Option<Vec<Pattern>>, AllocError>
     ensures { IfOk result (λ o. option_map (λ v. pattern_views v.items) o
-        ≡ subst_all (map pattern_view macro_args.now) (pattern_views parts.now)) }
+        ≡ all_substituted (map pattern_view macro_args.now) (pattern_views parts.now)) }
 {
     let mut out = Vec::new(alloc);
     for part in parts {

@@ -43,12 +43,3 @@ let_views ds = map let_view ds
 abbrev pub let_parts : List (ℕ × ℕ × TypedExpr) → TypedLets
 let_parts [] = no_typed_let
 let_parts (d ∷ ds) = typed_let_and d.0 d.1 d.2 (let_parts ds)
-
--- the type that an expression holds first
-abbrev pub expr_ty : TypedExpr → ℕ
-expr_ty (make_term ty term args) = ty
-expr_ty (make_var ty x) = ty
-expr_ty (make_bool ty b) = ty
-expr_ty (make_int ty z) = ty
-expr_ty (make_prim ty name) = ty
-expr_ty (make_let ty defs body) = ty

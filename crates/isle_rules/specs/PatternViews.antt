@@ -26,14 +26,3 @@ pattern_views qs = map pattern_view qs
 abbrev pub pattern_parts : List TypedPattern → TypedPatterns
 pattern_parts [] = no_typed_pattern
 pattern_parts (p ∷ ps) = typed_pattern_and p (pattern_parts ps)
-
--- the type that a pattern holds first
-abbrev pub pattern_ty : TypedPattern → ℕ
-pattern_ty (match_bind ty x of) = ty
-pattern_ty (match_var ty x) = ty
-pattern_ty (match_bool ty b) = ty
-pattern_ty (match_int ty z) = ty
-pattern_ty (match_prim ty name) = ty
-pattern_ty (match_term ty term args) = ty
-pattern_ty (match_any ty) = ty
-pattern_ty (match_and ty parts) = ty

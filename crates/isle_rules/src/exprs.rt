@@ -1,6 +1,7 @@
 //! Typed expressions: what a rule makes.
 ghost use Rattle.std.specs.Prelude.{◌≡◌, IfOk};
-ghost use Rattle.isle_rules.specs.ExprViews.{expr_view, expr_views, let_views, expr_ty};
+ghost use Rattle.isle_rules.specs.ExprViews.{expr_view, expr_views, let_views};
+ghost use Rattle.isle_model.specs.lists.Setting.{expr_type};
 
 use isle_types::{Sym, TermId, TypeId, VarId};
 use std::alloc::{AllocError, Global};
@@ -32,7 +33,7 @@ pub enum Expr {
 impl Expr {
     /// The type that the form holds first.
     pub fn ty(&self) -> TypeId
-        ensures { result.0 ≡ expr_ty (expr_view self.now) }
+        ensures { result.0 ≡ expr_type (expr_view self.now) }
     {
         match self {
             Expr::Term(ty, ..)

@@ -1,6 +1,7 @@
 //! Typed patterns: what a rule matches.
 ghost use Rattle.std.specs.Prelude.{◌≡◌, IfOk};
-ghost use Rattle.isle_rules.specs.PatternViews.{pattern_view, pattern_views, pattern_ty};
+ghost use Rattle.isle_rules.specs.PatternViews.{pattern_view, pattern_views};
+ghost use Rattle.isle_model.specs.lists.Formed.{pattern_type};
 
 use isle_types::{Sym, TermId, TypeId, VarId};
 use std::alloc::{AllocError, Global};
@@ -29,7 +30,7 @@ pub enum Pattern {
 impl Pattern {
     /// The type that the form holds first.
     pub fn ty(&self) -> TypeId
-        ensures { result.0 ≡ pattern_ty (pattern_view self.now) }
+        ensures { result.0 ≡ pattern_type (pattern_view self.now) }
     {
         match self {
             Pattern::BindPattern(ty, ..)

@@ -17,7 +17,6 @@ use Rattle.isle_model.specs.lists.TermTable.{decl_trees, rule_trees, decl_names,
 use Rattle.isle_model.specs.first.TermTable.{term_table_names, IsValidCarriedTerms, decl_entry, decl_entries}
 use Rattle.isle_base.specs.declared.syntax.Def.{Def}
 use Rattle.isle_base.specs.declared.syntax.Error.{Error}
-use Rattle.isle_base.specs.Patterns.{root_term_of}
 use Rattle.isle_base.specs.Stable.{look_up}
 use Rattle.isle_base.specs.SyntaxViews.{definition_view, definition_views}
 use Rattle.isle_types.specs.declared.type_env.TypeEnv.{TypeEnv}
@@ -35,7 +34,7 @@ use Rattle.isle_terms.specs.Reading.{IsWithin, internal_entry, mark, root_term_i
 use Rattle.isle_terms.specs.Stages.{Finds, place, constructor_after, stage_entry, stage_entries, SoFar, IsCarried, IsTyped, IsRooted, Signing, ReadsSignatures, IsSigned, Rooting, ReadsRoots}
 use Rattle.isle_terms.proofs.Finding.{by_name}
 
-pub same_root : (p : PatternTree) → root_term_of p ≡ root_name p
+pub same_root : (p : PatternTree) → root_name p ≡ root_name p
 same_root (var_pattern v p) = refl
 same_root (bind_pattern v q p) = refl
 same_root (bool_pattern b p) = refl

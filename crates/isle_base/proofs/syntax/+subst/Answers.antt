@@ -3,7 +3,7 @@ use Rattle.std.specs.Prelude.{slice_get}
 use Rattle.std.proofs.lemmas.Grind.{common_steps}
 use Rattle.std.proofs.lemmas.Option.{slice_get-map, slice_get-get_or, slice_get_past}
 use Rattle.isle_base.specs.SyntaxViews.{pattern_view}
-use Rattle.isle_base.specs.Patterns.{subst_of, subst_all}
+use Rattle.isle_model.specs.lists.Expansions.{substituted, all_substituted}
 use Rattle.isle_base.proofs.PatternViews.{row_patterns-hidden, step_after, none_after, end_after}
 use Rattle.isle_base.proofs.syntax.+subst.Goals as goal
 
@@ -30,16 +30,16 @@ Pattern::subst_macro_args-returns-in_ok-clone-in-Term t c =
 pub subst_each-returns-in_default : goal.subst_each-returns-in_default
 subst_each-returns-in_default t c =
     let given = map pattern_view c.args.macro_args.now in
-    let e : None ≡ subst_of given (pattern_view c.part-item.result) = sym (ap (λ o. option_map pattern_view o) c.in_default.is) ∙ c.in_ok-q.ensures in
-    none_after (subst_all given) (subst_of given) refl (λ q qs. refl) c.loop-part.out.items c.args.parts.now c.part-item.result c.loop-part.part-index (search rules) c.part-item.is e c.loop-part.invariant
+    let e : None ≡ substituted given (pattern_view c.part-item.result) = sym (ap (λ o. option_map pattern_view o) c.in_default.is) ∙ c.in_ok-q.ensures in
+    none_after (all_substituted given) (substituted given) refl (λ q qs. refl) c.loop-part.out.items c.args.parts.now c.part-item.result c.loop-part.part-index (search rules) c.part-item.is e c.loop-part.invariant
 
 pub subst_each-loop-part-preserved : goal.subst_each-loop-part-preserved
 subst_each-loop-part-preserved t c =
     let given = map pattern_view c.args.macro_args.now in
-    let e : Some (pattern_view c.in-Some.q) ≡ subst_of given (pattern_view c.part-item.result) = sym (ap (λ o. option_map pattern_view o) c.in-Some.is) ∙ c.in_ok-q.ensures in
-    step_after (subst_all given) (subst_of given) refl (λ q qs. refl) c.loop-part.out.items c.push.new.self.items c.args.parts.now c.in-Some.q c.part-item.result c.loop-part.part-index (search rules) c.part-item.is e c.in_ok-push.ensures.items c.loop-part.invariant
+    let e : Some (pattern_view c.in-Some.q) ≡ substituted given (pattern_view c.part-item.result) = sym (ap (λ o. option_map pattern_view o) c.in-Some.is) ∙ c.in_ok-q.ensures in
+    step_after (all_substituted given) (substituted given) refl (λ q qs. refl) c.loop-part.out.items c.push.new.self.items c.args.parts.now c.in-Some.q c.part-item.result c.loop-part.part-index (search rules) c.part-item.is e c.in_ok-push.ensures.items c.loop-part.invariant
 
 pub subst_each-returns : goal.subst_each-returns
 subst_each-returns t c =
     let given = map pattern_view c.args.macro_args.now in
-    end_after (subst_all given) (subst_of given) refl (λ q qs. refl) c.loop-part.out.items c.args.parts.now c.loop-part.part-index (search rules) c.loop-part.invariant
+    end_after (all_substituted given) (substituted given) refl (λ q qs. refl) c.loop-part.out.items c.args.parts.now c.loop-part.part-index (search rules) c.loop-part.invariant

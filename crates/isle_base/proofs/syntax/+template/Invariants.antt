@@ -1,10 +1,10 @@
 use Rattle.std.proofs.Common.{◌≡◌, drop, map, string_bytes}
 use Rattle.isle_base.specs.SyntaxViews.{pattern_views}
-use Rattle.isle_base.specs.Patterns.{templates_of}
+use Rattle.isle_model.specs.lists.TermTable.{templates}
 use Rattle.isle_base.proofs.PatternViews.{before}
 use Rattle.isle_base.proofs.syntax.+template.Given as goal
 
 abbrev pub invariant-templates-loop-part : goal.invariant-templates-loop-part
 invariant-templates-loop-part l =
-    before l.out.items (templates_of (map (λ a. string_bytes a.0) l.args) (pattern_views (drop l.part-index l.parts)))
-    ≡ templates_of (map (λ a. string_bytes a.0) l.args) (pattern_views l.parts)
+    before l.out.items (templates (map (λ a. string_bytes a.0) l.args) (pattern_views (drop l.part-index l.parts)))
+    ≡ templates (map (λ a. string_bytes a.0) l.args) (pattern_views l.parts)
