@@ -2,6 +2,8 @@ pub mod CarriedRules
 pub mod CarriedTerms
 pub mod EarlyLimits
 pub mod FallSound
+pub mod FlatRuns
+pub mod FlatSites
 pub mod NoTerms
 pub mod SameTerms
 pub mod SoundRuns

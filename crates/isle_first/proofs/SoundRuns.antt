@@ -14,8 +14,8 @@ use Rattle.isle_model.specs.first.Runs.{MeetsDemands, IsChoiceOf, IsConstant, Is
 use Rattle.isle_laws_runs.proofs.runs.Order.{before_itself}
 use Rattle.isle_laws_runs.proofs.runs.Arms.{arms_after}
 use Rattle.isle_model.proofs.Members.{nothing_in, in_head, in_cases, some_member, member_from_get, get_from_member, get_within, member_counted, constraint_in}
-use Rattle.isle_laws_runs.proofs.runs.Flat.{IsFlatAt, AreFlat, content_at, ReadsAll, reads_all_at_start}
-use Rattle.isle_laws_runs.proofs.runs.Taking.{Fits, IsMet, Passed, TakenAs, NoneHoldsIn, FoundIn, constant_fields, constant_met, value_here, meets_at, equal_at_both, return_found, match_found, equal_found}
+use Rattle.isle_first.proofs.FlatSites.{IsFlatAt, AreFlat, content_at, ReadsAll, reads_all_at_start}
+use Rattle.isle_first.proofs.FlatRuns.{Fits, IsMet, Passed, TakenAs, NoneHoldsIn, FoundIn, constant_fields, constant_met, value_here, meets_at, equal_at_both, return_found, match_found, equal_found}
 use Rattle.isle_laws_runs.proofs.runs.Finding.{found_left, found_right}
 
 module _ (w : World) (rules : List SetRule) (fits : Fits w rules) where

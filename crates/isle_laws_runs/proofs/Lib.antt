@@ -1,3 +1,2 @@
-pub mod collecting
 pub mod picks
 pub mod runs

@@ -1,14 +1,20 @@
--- Runs of sound trees in terms that are not multi.
+-- Runs of sound trees, under a pick of the calls that loops go over: which rule they take, or what they collect.
+pub mod Added
 pub mod Arms
+pub mod Below
 pub mod BindOrders
 pub mod Binding
+pub mod Choice
+pub mod Claims
 pub mod Classes
+pub mod Collected
 pub mod Contents
 pub mod Demanded
 pub mod Fields
 pub mod Finding
-pub mod Flat
+pub mod Left
+pub mod Loops
 pub mod Order
-pub mod SoundChoice
 pub mod Standing
-pub mod Taking
+pub mod Steps
+pub mod Taken

@@ -36,6 +36,7 @@ pub fn ends_as_plain()
 {}
 
 /// A rule without multi calls has the empty pick alone, and its bag is the result of its right side, where it matches.
+#[tactic(auto, using(crate::proofs::picks::OnePick::bag_as_plain_lem))]
 pub fn bag_as_plain()
     ensures { BagAsPlain }
 {}
@@ -52,26 +53,31 @@ pub fn only_places_matter()
 
 /// A call that takes answers of calls with a place alone can be gone over before others: what is made of the picks is one
 /// bag.
+#[tactic(auto, using(crate::proofs::picks::FirstCall::calls_can_come_first_lem))]
 pub fn calls_can_come_first()
     ensures { CallsCanComeFirst }
 {}
 
 /// The results of a rule under a pick are of the pick's places alone, and so are those of a set's rule.
+#[tactic(auto, using(crate::proofs::picks::FirstCall::results_are_of_places_lem))]
 pub fn results_are_of_places()
     ensures { ResultsAreOfPlaces }
 {}
 
 /// What a site has under a pick, it can hold.
+#[tactic(auto, using(crate::proofs::picks::Held::contents_are_held_lem))]
 pub fn contents_are_held()
     ensures { ContentsAreHeld }
 {}
 
 /// What a site can hold, it has under every pick, where it takes no answers of multi calls.
+#[tactic(auto, using(crate::proofs::picks::Held::held_are_contents_lem))]
 pub fn held_are_contents()
     ensures { HeldAreContents }
 {}
 
 /// The test of values is exact.
+#[tactic(auto, using(isle_model::proofs::ValuesEqual::value_eq_decides))]
 pub fn value_eq_is_exact()
     ensures { (v : Value) → (w : Value) → Decides (value_eq v w) (v ≡ w) }
 {}

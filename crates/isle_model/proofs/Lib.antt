@@ -1,11 +1,10 @@
-pub mod ByNumber
-pub mod Bytes
+pub mod Bags
+pub mod Distinct
 pub mod Elements
 pub mod FirstPlaces
 pub mod Joined
 pub mod Members
-pub mod Names
-pub mod Positions
+pub mod Numbers
 pub mod SameSites
 pub mod SitesMade
 pub mod TypeNames

@@ -1,34 +1,68 @@
 -- Binding a bind order of available sites keeps them and all below them.
-use Rattle.std.proofs.Common.{◌≡◌, ◌⊎◌, ℕ, zero, suc, ◌==◌, Bool, true, false, not, ◌&&◌, ◌||◌, cond, List, [], ◌∷◌, ◌++◌, is_some, slice_get, Contains, All, IsTrue, flat_map, refl, sym, ap, ◌∙◌, subst, inl, inr}
+use Rattle.std.proofs.Common.{◌≡◌, ◌⊎◌, ℕ, zero, suc, Bool, true, false, not, ◌&&◌, ◌||◌, cond, List, [], ◌∷◌, ◌++◌, is_some, slice_get, Contains, All, IsTrue, filter, flat_map, refl, sym, ap, ◌∙◌, subst, inl, inr}
 use Rattle.std.specs.List.{list_all}
-use Rattle.std.proofs.lemmas.Bool.{cases_Bool, cond-true, cond-false, and_parts, or_cases, or_left, or_right, false≢true}
-use Rattle.std.proofs.lemmas.List.Elements.{Contains-append_left, Contains-append_right, Contains-append_cases}
-use Rattle.std.proofs.lemmas.List.Folds.{list_any-append}
-use Rattle.isle_model.specs.sites.Sites.{sources_at}
+use Rattle.std.proofs.lemmas.Bool.{cases_Bool, cond-true, cond-false, and_parts, or_cases, or_left, false≢true}
+use Rattle.std.proofs.lemmas.List.Elements.{Contains-append_left, Contains-append_right, Contains-append_cases, filter-append}
+use Rattle.isle_model.specs.sites.Sites.{Site, sources_at}
 use Rattle.isle_model.specs.trees.Places.{Around, is_in, waits, is_available, available, is_in_place, below, all_below, each_after, listed_below, bind_order}
-use Rattle.isle_model.specs.trees.Run.{World, Env, all_bound, then_bind, bind_all}
+use Rattle.isle_model.specs.rules.Outcome.{Call}
+use Rattle.isle_model.specs.trees.Run.{World, Env, Bound, all_bound, unwrap_failed, no_content_there, bind_site, then_bind, bind_all}
 use Rattle.isle_model.specs.trees.SetRuns.{IsPureAt}
-use Rattle.isle_model.proofs.Members.{nothing_in, in_head, in_tail, in_cases, in_alone, each_passes, all_members, in_flat_map, from_flat_map, member_found, member_is_in}
+use Rattle.isle_model.proofs.Members.{nothing_in, in_head, in_tail, in_cases, in_alone, each_passes, all_members, in_flat_map, from_flat_map, member_found}
+use Rattle.isle_model.specs.rules.Picks.{Pick}
+use Rattle.isle_model.specs.trees.Collects.{content_at}
 use Rattle.isle_laws_runs.proofs.runs.Contents.{SourcesBefore}
-use Rattle.isle_laws_runs.proofs.runs.Flat.{to_bind, bind_last}
-use Rattle.isle_laws_runs.proofs.runs.Binding.{content, content_of, Held, held_as, kept_below, binds_now, keeps_bound, keeps_in_place}
+use Rattle.isle_laws_runs.proofs.runs.Binding.{content_of, Held, held_as, kept_below, binds_now, keeps_bound, keeps_in_place}
 
--- each site without impure calls that waits for nothing and whose sources have contents has one
-abbrev pub Finds : World → Type 0
-Finds w = (s : ℕ) → IsPureAt w.sites s → waits (slice_get w.sites s) ≡ false
-    → All (λ a. IsTrue (is_some (content w a))) (sources_at w.sites s) → IsTrue (is_some (content w s))
+-- 1. one bind order after another
+after_bound : (w : World) (ss ts : List ℕ) (b : Bound) (go : Env → List Call → Bound)
+    → ((env : Env) (calls : List Call) → go env calls ≡ then_bind (bind_all w env calls ss) (λ env' calls'. bind_all w env' calls' ts))
+    → then_bind b go ≡ then_bind (then_bind b (λ env calls. bind_all w env calls ss)) (λ env' calls'. bind_all w env' calls' ts)
+after_bound w ss ts (all_bound env calls) go h = h env calls
+after_bound w ss ts (unwrap_failed calls) go h = refl
+after_bound w ss ts (no_content_there calls) go h = refl
 
-module _ (w : World) (before : SourcesBefore w.sites) (finds : Finds w) (brought emitted : List ℕ) (more : (s : ℕ) → IsTrue (is_in s brought) → IsTrue (is_in s emitted)) (env : Env)
-    (Fine : ℕ → Type 0) (pure : (s : ℕ) → Fine s → IsPureAt w.sites s) where
-  -- emitted before, or listed since
+bind_append : (w : World) (ss ts : List ℕ) (env : Env) (calls : List Call) → bind_all w env calls (ss ++ ts) ≡ then_bind (bind_all w env calls ss) (λ env' calls'. bind_all w env' calls' ts)
+bind_append w [] ts env calls = refl
+bind_append w (s ∷ ss) ts env calls =
+    after_bound w ss ts (bind_site w env calls s (slice_get w.sites s)) (λ env' calls'. bind_all w env' calls' (ss ++ ts)) (λ env' calls'. bind_append w ss ts env' calls')
+
+-- what waits to be bound
+abbrev pub to_bind : List Site → List ℕ → List ℕ
+to_bind sites ss = filter (λ s. not (is_in_place (slice_get sites s))) ss
+
+pub bind_last : (w : World) (env env' env'' : Env) (listed : List ℕ) (s : ℕ) → bind_all w env [] (to_bind w.sites listed) ≡ all_bound env' [] → bind_all w env' [] (to_bind w.sites (s ∷ [])) ≡ all_bound env'' []
+    → bind_all w env [] (to_bind w.sites (listed ++ s ∷ [])) ≡ all_bound env'' []
+bind_last w env env' env'' listed s h k =
+    ap (bind_all w env []) (filter-append (λ t. not (is_in_place (slice_get w.sites t))) listed (s ∷ []))
+    ∙ bind_append w (to_bind w.sites listed) (to_bind w.sites (s ∷ [])) env []
+    ∙ ap (λ b. then_bind b (λ e calls. bind_all w e calls (to_bind w.sites (s ∷ [])))) h
+    ∙ k
+
+-- 2. under a pick, each site without impure calls that waits for nothing and whose sources have contents has one
+abbrev pub Finds : World → Pick → Type 0
+Finds w pick = (s : ℕ) → IsPureAt w.sites s → waits (slice_get w.sites s) ≡ false
+    → All (λ a. IsTrue (is_some (content_at w pick a))) (sources_at w.sites s) → IsTrue (is_some (content_at w pick s))
+
+-- what a bind order of these sites comes to: all below them is kept as well
+abbrev pub BindsTo : World → Pick → Env → (ℕ → Type 0) → List ℕ → List ℕ → Type 0
+BindsTo w pick env Base ss order = (env' : Env) × (bind_all w env [] order ≡ all_bound env' []) × Held w pick env' (λ t. Contains (all_below w.sites ss) t ⊎ Base t)
+
+-- binding what these sites need: all that is below them is pure, and each of them is available
+module _ (w : World) (pick : Pick) (before : SourcesBefore w.sites) (finds : Finds w pick) (ar : Around) (more : (s : ℕ) → IsTrue (is_in s ar.brought) → IsTrue (is_in s ar.emitted))
+    (Base : ℕ → Type 0) (base : (s : ℕ) → IsTrue (is_in s ar.emitted) → Base s) (env : Env) (start : Held w pick env Base) (ss : List ℕ) (avail : (s : ℕ) → Contains ss s → IsTrue (available w.sites ar s)) (pure : (u : ℕ) → Contains (all_below w.sites ss) u → IsPureAt w.sites u) where
+  -- kept before, or listed since
   abbrev In : List ℕ → ℕ → Type 0
-  In done t = IsTrue (is_in t emitted) ⊎ Contains done t
+  In done t = Base t ⊎ Contains done t
+
+  abbrev Below : ℕ → Type 0
+  Below t = Contains (all_below w.sites ss) t
 
   -- binding what is listed leads from one environment to another
   record Binds (done : List ℕ) (env' : Env) : Type 0 where
     pub binds : bind_all w env [] (to_bind w.sites done) ≡ all_bound env' []
-    pub held : Held w env' (In done)
-    pub fine : (t : ℕ) → Contains done t → Fine t
+    pub held : Held w pick env' (In done)
+    pub fine : (t : ℕ) → Contains done t → Below t
 
   abbrev More : List ℕ → List ℕ → (ℕ → Type 0) → Type 0
   More done done' Now = (env' : Env) × Binds done' env' × ((t : ℕ) → In done t → In done' t) × ((s : ℕ) → Now s → In done' s)
@@ -42,31 +76,31 @@ module _ (w : World) (before : SourcesBefore w.sites) (finds : Finds w) (brought
   in_last done s t (inl a) = inl (inl a)
   in_last done s t (inr b) = elim (Contains-append_cases done (s ∷ []) t b) [ inl x ↦ inl (inr x) | inr y ↦ inr (in_alone s t y) ]
 
-  fine_last : (done : List ℕ) (s : ℕ) → Fine s → ((t : ℕ) → Contains done t → Fine t) → (t : ℕ) → Contains (done ++ s ∷ []) t → Fine t
-  fine_last done s f all t c = elim (Contains-append_cases done (s ∷ []) t c) [ inl x ↦ all t x | inr y ↦ subst Fine (in_alone s t y) f ]
+  fine_last : (done : List ℕ) (s : ℕ) → Below s → ((t : ℕ) → Contains done t → Below t) → (t : ℕ) → Contains (done ++ s ∷ []) t → Below t
+  fine_last done s f all t c = elim (Contains-append_cases done (s ∷ []) t c) [ inl x ↦ all t x | inr y ↦ subst Below (in_alone s t y) f ]
 
-  put : (done : List ℕ) (env' : Env) → Binds done env' → (s : ℕ) → Fine s → waits (slice_get w.sites s) ≡ false → ((u : ℕ) → Contains (sources_at w.sites s) u → In done u)
+  put : (done : List ℕ) (env' : Env) → Binds done env' → (s : ℕ) → Below s → waits (slice_get w.sites s) ≡ false → ((u : ℕ) → Contains (sources_at w.sites s) u → In done u)
       → (env'' : Env) × Binds (done ++ s ∷ []) env''
   put done env' b s f n sources =
-      let found = finds s (pure s f) n (all_members (λ a. IsTrue (is_some (content w a))) (sources_at w.sites s) (λ a k. let h = b.held.there a (sources a k) in ap is_some h.1)) in
-      let c = content_of (content w s) found in
+      let found = finds s (pure s f) n (all_members (λ a. IsTrue (is_some (content_at w pick a))) (sources_at w.sites s) (λ a k. let h = b.held.there a (sources a k) in ap is_some h.1)) in
+      let c = content_of (content_at w pick s) found in
       elim (cases_Bool (is_in_place (slice_get w.sites s))) [
         | inl p ↦
             let none : to_bind w.sites (s ∷ []) ≡ [] = ap (λ t. cond (not t) (s ∷ []) []) p in (
               env',
               record {
                 binds = bind_last w env env' env' done s b.binds (ap (bind_all w env' []) none);
-                held = held_as w env' (λ t. In done t ⊎ (s ≡ t)) (In (done ++ s ∷ [])) (last_in done s) (in_last done s) (keeps_in_place w before env' (In done) b.held s c.0 c.1 p sources);
+                held = held_as w pick env' (λ t. In done t ⊎ (s ≡ t)) (In (done ++ s ∷ [])) (last_in done s) (in_last done s) (keeps_in_place w pick before env' (In done) b.held s c.0 c.1 p sources);
                 fine = fine_last done s f b.fine;
               },
             )
         | inr q ↦
             let alone : to_bind w.sites (s ∷ []) ≡ s ∷ [] = ap (λ t. cond (not t) (s ∷ []) []) q in
-            let now : bind_all w env' [] (s ∷ []) ≡ all_bound ((s, c.0) ∷ env') [] = ap (λ o. then_bind o (λ e calls. bind_all w e calls [])) (binds_now w before env' (In done) b.held [] s (slice_get w.sites s) c.0 refl n (pure s f) q sources c.1) in (
+            let now : bind_all w env' [] (s ∷ []) ≡ all_bound ((s, c.0) ∷ env') [] = ap (λ o. then_bind o (λ e calls. bind_all w e calls [])) (binds_now w pick before env' (In done) b.held [] s (slice_get w.sites s) c.0 refl n (pure s f) q sources c.1) in (
               (s, c.0) ∷ env',
               record {
                 binds = bind_last w env env' ((s, c.0) ∷ env') done s b.binds (ap (bind_all w env' []) alone ∙ now);
-                held = held_as w ((s, c.0) ∷ env') (λ t. In done t ⊎ (s ≡ t)) (In (done ++ s ∷ [])) (last_in done s) (in_last done s) (keeps_bound w before env' (In done) b.held s c.0 c.1 sources);
+                held = held_as w pick ((s, c.0) ∷ env') (λ t. In done t ⊎ (s ≡ t)) (In (done ++ s ∷ [])) (last_in done s) (in_last done s) (keeps_bound w pick before env' (In done) b.held s c.0 c.1 sources);
                 fine = fine_last done s f b.fine;
               },
             )
@@ -80,57 +114,45 @@ module _ (w : World) (before : SourcesBefore w.sites) (finds : Finds w) (brought
       let r = each f ss (λ u c. step u (in_tail s u ss c)) (f done s) m.0 m.1 in
       (r.0, r.1, λ t i. r.2 t (m.2 t i), λ t c. elim (in_cases s t ss c) [ inl e ↦ r.2 t (m.3 t e) | inr d ↦ r.3 t d ])
 
-  there_already : (done : List ℕ) (s : ℕ) → (is_in s emitted || is_in s done) ≡ true → In done s
-  there_already done s h = elim (or_cases (is_in s emitted) (is_in s done) h) [ inl a ↦ inl a | inr d ↦ inr (member_found s done d) ]
+  there_already : (done : List ℕ) (s : ℕ) → (is_in s ar.emitted || is_in s done) ≡ true → In done s
+  there_already done s h = elim (or_cases (is_in s ar.emitted) (is_in s done) h) [ inl a ↦ inl (base s a) | inr d ↦ inr (member_found s done d) ]
 
-  not_emitted : (done : List ℕ) (s : ℕ) → (is_in s emitted || is_in s done) ≡ false → IsTrue (is_in s brought) → ⊥
-  not_emitted done s h i = false≢true (sym h ∙ or_left (is_in s emitted) (is_in s done) (more s i))
+  not_emitted : (done : List ℕ) (s : ℕ) → (is_in s ar.emitted || is_in s done) ≡ false → IsTrue (is_in s ar.brought) → ⊥
+  not_emitted done s h i = false≢true (sym h ∙ or_left (is_in s ar.emitted) (is_in s done) (more s i))
 
   not_false : (b : Bool) → not b ≡ true → b ≡ false
   not_false true h = absurd (false≢true h)
   not_false false h = refl
 
-  one : (n s : ℕ) → is_available n w.sites brought s ≡ true → ((u : ℕ) → Contains (below n w.sites s) u → Fine u)
-      → (done : List ℕ) (env' : Env) → Binds done env' → More done (listed_below n w.sites emitted done s) (λ t. s ≡ t)
+  one : (n s : ℕ) → is_available n w.sites ar.brought s ≡ true → ((u : ℕ) → Contains (below n w.sites s) u → Below u)
+      → (done : List ℕ) (env' : Env) → Binds done env' → More done (listed_below n w.sites ar.emitted done s) (λ t. s ≡ t)
   one zero s a fine done env' b = absurd (false≢true a)
   one (suc n) s a fine done env' b =
-      elim (cases_Bool (is_in s emitted || is_in s done)) [
+      elim (cases_Bool (is_in s ar.emitted || is_in s done)) [
         | inl t ↦
-            subst (λ l. More done l (λ t. s ≡ t)) (sym (cond-true (is_in s emitted || is_in s done) done (each_after (listed_below n w.sites emitted) done (sources_at w.sites s) ++ s ∷ []) t))
+            subst (λ l. More done l (λ t. s ≡ t)) (sym (cond-true (is_in s ar.emitted || is_in s done) done (each_after (listed_below n w.sites ar.emitted) done (sources_at w.sites s) ++ s ∷ []) t))
             (env', b, λ u i. i, λ u e. subst (In done) e (there_already done s t))
         | inr f ↦
-            subst (λ l. More done l (λ t. s ≡ t)) (sym (cond-false (is_in s emitted || is_in s done) done (each_after (listed_below n w.sites emitted) done (sources_at w.sites s) ++ s ∷ []) f))
+            subst (λ l. More done l (λ t. s ≡ t)) (sym (cond-false (is_in s ar.emitted || is_in s done) done (each_after (listed_below n w.sites ar.emitted) done (sources_at w.sites s) ++ s ∷ []) f))
             (
-            let rest = not (waits (slice_get w.sites s)) && list_all (is_available n w.sites brought) (sources_at w.sites s) in
-            let p : rest ≡ true = elim (or_cases (is_in s brought) rest a) [ inl i ↦ absurd (not_emitted done s f i) | inr r ↦ r ] in
-            let q = and_parts (not (waits (slice_get w.sites s))) (list_all (is_available n w.sites brought) (sources_at w.sites s)) p in
-            let r = each (listed_below n w.sites emitted) (sources_at w.sites s)
-            (λ x c. one n x (each_passes (is_available n w.sites brought) (sources_at w.sites s) q.1 x c) (λ u k. fine u (in_tail s u (flat_map (below n w.sites) (sources_at w.sites s)) (in_flat_map (below n w.sites) (sources_at w.sites s) x u c k))))
+            let rest = not (waits (slice_get w.sites s)) && list_all (is_available n w.sites ar.brought) (sources_at w.sites s) in
+            let p : rest ≡ true = elim (or_cases (is_in s ar.brought) rest a) [ inl i ↦ absurd (not_emitted done s f i) | inr r ↦ r ] in
+            let q = and_parts (not (waits (slice_get w.sites s))) (list_all (is_available n w.sites ar.brought) (sources_at w.sites s)) p in
+            let r = each (listed_below n w.sites ar.emitted) (sources_at w.sites s)
+            (λ x c. one n x (each_passes (is_available n w.sites ar.brought) (sources_at w.sites s) q.1 x c) (λ u k. fine u (in_tail s u (flat_map (below n w.sites) (sources_at w.sites s)) (in_flat_map (below n w.sites) (sources_at w.sites s) x u c k))))
             done env' b in
-            let listed = each_after (listed_below n w.sites emitted) done (sources_at w.sites s) in
+            let listed = each_after (listed_below n w.sites ar.emitted) done (sources_at w.sites s) in
             let o = put listed r.0 r.1 s (fine s (in_head s (flat_map (below n w.sites) (sources_at w.sites s)))) (not_false (waits (slice_get w.sites s)) q.0) r.3 in
             (o.0, o.1, λ t i. last_in listed s t (inl (r.2 t i)), λ t e. last_in listed s t (inr e))
             )
       ]
 
-  nothing_bound : Held w env (λ t. IsTrue (is_in t emitted)) → Binds [] env
-  nothing_bound h = record {
+  nothing_bound : Binds [] env
+  nothing_bound = record {
     binds = refl;
-    held = held_as w env (λ t. IsTrue (is_in t emitted)) (In []) (λ t i. inl i) (λ t i. elim i [ inl a ↦ a | inr c ↦ absurd (nothing_in t c) ]) h;
+    held = held_as w pick env Base (In []) (λ t i. inl i) (λ t i. elim i [ inl a ↦ a | inr c ↦ absurd (nothing_in t c) ]) start;
     fine = λ t c. absurd (nothing_in t c);
   }
-
--- all sites below these are pure, and each of these is available
-abbrev pub BindsTo : World → Env → List ℕ → List ℕ → List ℕ → Type 0
-BindsTo w env emitted ss order = (env' : Env) × (bind_all w env [] order ≡ all_bound env' []) × Held w env' (λ t. IsTrue (is_in t (all_below w.sites ss ++ emitted)))
-
-module _ (w : World) (before : SourcesBefore w.sites) (finds : Finds w) (ar : Around) (more : (s : ℕ) → IsTrue (is_in s ar.brought) → IsTrue (is_in s ar.emitted))
-    (env : Env) (held : Held w env (λ t. IsTrue (is_in t ar.emitted))) (ss : List ℕ) (avail : (s : ℕ) → Contains ss s → IsTrue (available w.sites ar s)) (pure : (u : ℕ) → Contains (all_below w.sites ss) u → IsPureAt w.sites u) where
-  abbrev Fine : ℕ → Type 0
-  Fine u = IsPureAt w.sites u × Contains (all_below w.sites ss) u
-
-  abbrev fine_pure : (u : ℕ) → Fine u → IsPureAt w.sites u
-  fine_pure u f = f.0
 
   abbrev list_one : List ℕ → ℕ → List ℕ
   list_one done s = listed_below (suc s) w.sites ar.emitted done s
@@ -138,48 +160,36 @@ module _ (w : World) (before : SourcesBefore w.sites) (finds : Finds w) (ar : Ar
   abbrev listed : List ℕ
   listed = each_after list_one [] ss
 
-  abbrev Now : List ℕ → ℕ → Type 0
-  Now = In w before finds ar.brought ar.emitted more env Fine fine_pure
+  all_listed : More [] listed (Contains ss)
+  all_listed = each list_one ss (λ s c. one (suc s) s (avail s c) (λ u k. in_flat_map (λ x. below (suc x) w.sites x) ss s u c k)) [] env nothing_bound
 
-  abbrev Emitted : ℕ → Type 0
-  Emitted t = IsTrue (is_in t (all_below w.sites ss ++ ar.emitted))
+  to : (m : More [] listed (Contains ss)) (t : ℕ) → In listed t → Below t ⊎ Base t
+  to m t (inl a) = inr a
+  to m t (inr c) = inl (m.1.fine t c)
 
-  all_listed : More w before finds ar.brought ar.emitted more env Fine fine_pure [] listed (Contains ss)
-  all_listed =
-      each w before finds ar.brought ar.emitted more env Fine fine_pure list_one ss
-      (λ s c. one w before finds ar.brought ar.emitted more env Fine fine_pure (suc s) s (avail s c) (λ u k. let i = in_flat_map (λ x. below (suc x) w.sites x) ss s u c k in (pure u i, i)))
-      [] env (nothing_bound w before finds ar.brought ar.emitted more env Fine fine_pure held)
+  from : (m : More [] listed (Contains ss)) (t : ℕ) → Below t ⊎ Base t → In listed t
+  from m t (inl a) =
+      let r = from_flat_map (λ x. below (suc x) w.sites x) ss t a in
+      kept_below w pick m.0 (In listed) m.1.held (suc r.0) r.0 t (m.3 r.0 r.1) r.2
+  from m t (inr b) = inl b
 
-  to : (m : More w before finds ar.brought ar.emitted more env Fine fine_pure [] listed (Contains ss)) (t : ℕ) → Now listed t → Emitted t
-  to m t (inl a) = list_any-append (λ y. y == t) (all_below w.sites ss) ar.emitted ∙ or_right (is_in t (all_below w.sites ss)) (is_in t ar.emitted) a
-  to m t (inr c) = list_any-append (λ y. y == t) (all_below w.sites ss) ar.emitted ∙ or_left (is_in t (all_below w.sites ss)) (is_in t ar.emitted) (member_is_in t (all_below w.sites ss) (m.1.fine t c).1)
-
-  from : (m : More w before finds ar.brought ar.emitted more env Fine fine_pure [] listed (Contains ss)) (t : ℕ) → Emitted t → Now listed t
-  from m t i =
-      elim (or_cases (is_in t (all_below w.sites ss)) (is_in t ar.emitted) (sym (list_any-append (λ y. y == t) (all_below w.sites ss) ar.emitted) ∙ i)) [
-        | inl a ↦
-            let r = from_flat_map (λ x. below (suc x) w.sites x) ss t (member_found t (all_below w.sites ss) a) in
-            kept_below w m.0 (Now listed) m.1.held (suc r.0) r.0 t (m.3 r.0 r.1) r.2
-        | inr b ↦ inl b
-      ]
-
-  pub binds_order : BindsTo w env ar.emitted ss (bind_order w.sites ar ss)
+  pub binds_order : BindsTo w pick env Base ss (bind_order w.sites ar ss)
   binds_order =
       let m = all_listed in
-      (m.0, m.1.binds, held_as w m.0 (Now listed) Emitted (to m) (from m) m.1.held)
+      (m.0, m.1.binds, held_as w pick m.0 (In listed) (λ t. Below t ⊎ Base t) (to m) (from m) m.1.held)
 
 -- an available site has a content
-pub available_found : (w : World) → Finds w → (ar : Around) → ((s : ℕ) → IsTrue (is_in s ar.brought) → IsTrue (is_some (content w s)))
-    → (n s : ℕ) → is_available n w.sites ar.brought s ≡ true → ((u : ℕ) → Contains (below n w.sites s) u → IsPureAt w.sites u) → IsTrue (is_some (content w s))
-available_found w finds ar there zero s a pure = absurd (false≢true a)
-available_found w finds ar there (suc n) s a pure =
+pub available_found : (w : World) (pick : Pick) → Finds w pick → (ar : Around) → ((s : ℕ) → IsTrue (is_in s ar.brought) → IsTrue (is_some (content_at w pick s)))
+    → (n s : ℕ) → is_available n w.sites ar.brought s ≡ true → ((u : ℕ) → Contains (below n w.sites s) u → IsPureAt w.sites u) → IsTrue (is_some (content_at w pick s))
+available_found w pick finds ar there zero s a pure = absurd (false≢true a)
+available_found w pick finds ar there (suc n) s a pure =
     elim (or_cases (is_in s ar.brought) (not (waits (slice_get w.sites s)) && list_all (is_available n w.sites ar.brought) (sources_at w.sites s)) a) [
       | inl i ↦ there s i
       | inr r ↦
           let q = and_parts (not (waits (slice_get w.sites s))) (list_all (is_available n w.sites ar.brought) (sources_at w.sites s)) r in
           finds s (pure s (in_head s (flat_map (below n w.sites) (sources_at w.sites s)))) (now (waits (slice_get w.sites s)) q.0)
-          (all_members (λ x. IsTrue (is_some (content w x))) (sources_at w.sites s)
-          (λ x c. available_found w finds ar there n x (each_passes (is_available n w.sites ar.brought) (sources_at w.sites s) q.1 x c) (λ u k. pure u (in_tail s u (flat_map (below n w.sites) (sources_at w.sites s)) (in_flat_map (below n w.sites) (sources_at w.sites s) x u c k)))))
+          (all_members (λ x. IsTrue (is_some (content_at w pick x))) (sources_at w.sites s)
+          (λ x c. available_found w pick finds ar there n x (each_passes (is_available n w.sites ar.brought) (sources_at w.sites s) q.1 x c) (λ u k. pure u (in_tail s u (flat_map (below n w.sites) (sources_at w.sites s)) (in_flat_map (below n w.sites) (sources_at w.sites s) x u c k)))))
     ]
   where
     now : (b : Bool) → not b ≡ true → b ≡ false

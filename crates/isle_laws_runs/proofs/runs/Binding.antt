@@ -8,24 +8,22 @@ use Rattle.isle_model.specs.rules.Outcome.{Call, then_option}
 use Rattle.isle_model.specs.sites.Sites.{Site, bool_site, int_site, prim_site, argument_site, extractor_site, constructor_site, make_variant_site, make_struct_site, make_some_site, match_tuple_site, each_term, unfold_site, sources_at}
 use Rattle.isle_model.specs.trees.Places.{waits, is_in_place, below}
 use Rattle.isle_model.specs.trees.Run.{World, Env, bound_to, as_value, from_value, part_at, in_place, or_else, used, used_values, all_bound, now_bound, constructed, bind_site}
-use Rattle.isle_model.specs.rules.Picks.{site_values, call_answer}
+use Rattle.isle_model.specs.rules.Picks.{Pick, site_values, call_answer}
 use Rattle.isle_model.specs.trees.Collects.{content_at, IsPureSite}
 use Rattle.isle_model.specs.trees.SetRuns.{IsPureAt}
 use Rattle.isle_model.proofs.Members.{nothing_in, in_head, in_tail, in_cases, from_flat_map}
 use Rattle.isle_laws_runs.proofs.runs.Contents.{SourcesBefore, sources_in, content_layer}
 
-abbrev pub content : World → ℕ → Option Content
-content w s = content_at w [] s
-
--- 1. the sites of a kind have contents, those that are not written in place are bound to them, and nothing else is bound
-pub record Held (w : World) (env : Env) (Kept : ℕ → Type 0) : Type 0 where
-  pub there : (t : ℕ) → Kept t → (c : Content) × (content w t ≡ Some c)
-  pub bound : (t : ℕ) → Kept t → is_in_place (slice_get w.sites t) ≡ false → bound_to env t ≡ content w t
-  pub right : (t : ℕ) (c : Content) → bound_to env t ≡ Some c → Kept t × (content w t ≡ Some c)
+-- 1. the sites of a kind have contents under a pick, those that are not written in place are bound to them, and nothing else
+-- is bound
+pub record Held (w : World) (pick : Pick) (env : Env) (Kept : ℕ → Type 0) : Type 0 where
+  pub there : (t : ℕ) → Kept t → (c : Content) × (content_at w pick t ≡ Some c)
+  pub bound : (t : ℕ) → Kept t → is_in_place (slice_get w.sites t) ≡ false → bound_to env t ≡ content_at w pick t
+  pub right : (t : ℕ) (c : Content) → bound_to env t ≡ Some c → Kept t × (content_at w pick t ≡ Some c)
   pub closed : (t u : ℕ) → Kept t → Contains (sources_at w.sites t) u → Kept u
 
-pub held_as : (w : World) (env : Env) (P Q : ℕ → Type 0) → ((t : ℕ) → P t → Q t) → ((t : ℕ) → Q t → P t) → Held w env P → Held w env Q
-held_as w env P Q there back h = record {
+pub held_as : (w : World) (pick : Pick) (env : Env) (P Q : ℕ → Type 0) → ((t : ℕ) → P t → Q t) → ((t : ℕ) → Q t → P t) → Held w pick env P → Held w pick env Q
+held_as w pick env P Q there back h = record {
   there = λ t k. h.there t (back t k);
   bound = λ t k n. h.bound t (back t k) n;
   right = λ t c e. let r = h.right t c e in (there t r.0, r.1);
@@ -33,12 +31,12 @@ held_as w env P Q there back h = record {
 }
 
 -- what is below a site of the kind
-pub kept_below : (w : World) (env : Env) (Kept : ℕ → Type 0) → Held w env Kept → (n s t : ℕ) → Kept s → Contains (below n w.sites s) t → Kept t
-kept_below w env Kept h zero s t k c = absurd (nothing_in t c)
-kept_below w env Kept h (suc n) s t k c =
+pub kept_below : (w : World) (pick : Pick) (env : Env) (Kept : ℕ → Type 0) → Held w pick env Kept → (n s t : ℕ) → Kept s → Contains (below n w.sites s) t → Kept t
+kept_below w pick env Kept h zero s t k c = absurd (nothing_in t c)
+kept_below w pick env Kept h (suc n) s t k c =
     elim (in_cases s t (flat_map (below n w.sites) (sources_at w.sites s)) c) [
       | inl e ↦ subst Kept e k
-      | inr d ↦ let r = from_flat_map (below n w.sites) (sources_at w.sites s) t d in kept_below w env Kept h n r.0 t (h.closed s r.0 k r.1) r.2
+      | inr d ↦ let r = from_flat_map (below n w.sites) (sources_at w.sites s) t d in kept_below w pick env Kept h n r.0 t (h.closed s r.0 k r.1) r.2
     ]
 
 pub content_of : (o : Option Content) → IsTrue (is_some o) → (c : Content) × (o ≡ Some c)
@@ -60,22 +58,22 @@ of_parts None i c e = absurd (none-some c e)
 of_parts (Some (parts vs)) i c e = (vs, refl)
 of_parts (Some _) i c e = absurd (none-some c e)
 
-module _ (w : World) (before : SourcesBefore w.sites) where
+module _ (w : World) (pick : Pick) (before : SourcesBefore w.sites) where
   -- the content of each site that is written in place can be read from what its source is bound to
   abbrev PartsBound : Env → Option Site → Type 0
-  PartsBound env o = (source : ℕ) (vs : Values) → Contains (sources_in o) source → content w source ≡ Some (parts vs) → bound_to env source ≡ content w source
+  PartsBound env o = (source : ℕ) (vs : Values) → Contains (sources_in o) source → content_at w pick source ≡ Some (parts vs) → bound_to env source ≡ content_at w pick source
 
-  read_in_place : (env : Env) (s : ℕ) (o : Option Site) (c : Content) → slice_get w.sites s ≡ o → is_in_place o ≡ true → PartsBound env o → content w s ≡ Some c
-      → then_option o (in_place w env) ≡ content w s
+  read_in_place : (env : Env) (s : ℕ) (o : Option Site) (c : Content) → slice_get w.sites s ≡ o → is_in_place o ≡ true → PartsBound env o → content_at w pick s ≡ Some c
+      → then_option o (in_place w env) ≡ content_at w pick s
   read_in_place env s None c at h p e = absurd (false≢true h)
-  read_in_place env s (Some (int_site z ty)) c at h p e = sym (content_layer w before s (int_site z ty) at)
-  read_in_place env s (Some (prim_site name)) c at h p e = sym (content_layer w before s (prim_site name) at)
-  read_in_place env s (Some (argument_site i)) c at h p e = sym (content_layer w before s (argument_site i) at)
-  read_in_place env s (Some (make_variant_site ty variant [])) c at h p e = sym (content_layer w before s (make_variant_site ty variant []) at)
-  read_in_place env s (Some (make_struct_site ty [])) c at h p e = sym (content_layer w before s (make_struct_site ty []) at)
+  read_in_place env s (Some (int_site z ty)) c at h p e = sym (content_layer w pick before s (int_site z ty) at)
+  read_in_place env s (Some (prim_site name)) c at h p e = sym (content_layer w pick before s (prim_site name) at)
+  read_in_place env s (Some (argument_site i)) c at h p e = sym (content_layer w pick before s (argument_site i) at)
+  read_in_place env s (Some (make_variant_site ty variant [])) c at h p e = sym (content_layer w pick before s (make_variant_site ty variant []) at)
+  read_in_place env s (Some (make_struct_site ty [])) c at h p e = sym (content_layer w pick before s (make_struct_site ty []) at)
   read_in_place env s (Some (match_tuple_site source field)) c at h p e =
-      let l = content_layer w before s (match_tuple_site source field) at in
-      let q = of_parts (content w source) field c (sym l ∙ e) in
+      let l = content_layer w pick before s (match_tuple_site source field) at in
+      let q = of_parts (content_at w pick source) field c (sym l ∙ e) in
       ap (λ o. then_option o (λ x. part_at x field)) (p source q.0 (in_head source []) q.1) ∙ sym l
   read_in_place env s (Some _) c at h p e = absurd (false≢true h)
 
@@ -83,7 +81,7 @@ module _ (w : World) (before : SourcesBefore w.sites) where
   sources_here s u o at c = subst (λ x. Contains (sources_in x) u) (sym at) c
 
   -- 2. what is kept can be read
-  module _ (env : Env) (Kept : ℕ → Type 0) (held : Held w env Kept) where
+  module _ (env : Env) (Kept : ℕ → Type 0) (held : Held w pick env Kept) where
     parts_kept : (s : ℕ) → Kept s → PartsBound env (slice_get w.sites s)
     parts_kept s k source vs c e =
         elim (cases_Bool (is_in_place (slice_get w.sites source))) [
@@ -93,18 +91,18 @@ module _ (w : World) (before : SourcesBefore w.sites) where
       where
         alone : (o : Option Site) → is_in_place o ≡ true → slice_get w.sites source ≡ o → ⊥
         alone None h at = false≢true h
-        alone (Some (int_site z ty)) h at = single_value _ vs (sym (content_layer w before source (int_site z ty) at) ∙ e)
-        alone (Some (prim_site name)) h at = single_value _ vs (sym (content_layer w before source (prim_site name) at) ∙ e)
-        alone (Some (argument_site i)) h at = single_value _ vs (sym (content_layer w before source (argument_site i) at) ∙ e)
-        alone (Some (make_variant_site ty variant [])) h at = (let l = sym (content_layer w before source (make_variant_site ty variant []) at) ∙ e in cc)
-        alone (Some (make_struct_site ty [])) h at = (let l = sym (content_layer w before source (make_struct_site ty []) at) ∙ e in cc)
-        alone (Some (match_tuple_site x field)) h at = single_part (content w x) field vs (sym (content_layer w before source (match_tuple_site x field) at) ∙ e)
+        alone (Some (int_site z ty)) h at = single_value _ vs (sym (content_layer w pick before source (int_site z ty) at) ∙ e)
+        alone (Some (prim_site name)) h at = single_value _ vs (sym (content_layer w pick before source (prim_site name) at) ∙ e)
+        alone (Some (argument_site i)) h at = single_value _ vs (sym (content_layer w pick before source (argument_site i) at) ∙ e)
+        alone (Some (make_variant_site ty variant [])) h at = (let l = sym (content_layer w pick before source (make_variant_site ty variant []) at) ∙ e in cc)
+        alone (Some (make_struct_site ty [])) h at = (let l = sym (content_layer w pick before source (make_struct_site ty []) at) ∙ e in cc)
+        alone (Some (match_tuple_site x field)) h at = single_part (content_at w pick x) field vs (sym (content_layer w pick before source (match_tuple_site x field) at) ∙ e)
         alone (Some _) h at = false≢true h
 
-    pub reads : (s : ℕ) → Kept s → used w env s ≡ content w s
+    pub reads : (s : ℕ) → Kept s → used w env s ≡ content_at w pick s
     reads s k = by (bound_to env s) refl (cases_Bool (is_in_place (slice_get w.sites s)))
       where
-        by : (o : Option Content) → bound_to env s ≡ o → (is_in_place (slice_get w.sites s) ≡ true) ⊎ (is_in_place (slice_get w.sites s) ≡ false) → used w env s ≡ content w s
+        by : (o : Option Content) → bound_to env s ≡ o → (is_in_place (slice_get w.sites s) ≡ true) ⊎ (is_in_place (slice_get w.sites s) ≡ false) → used w env s ≡ content_at w pick s
         by (Some c) x p = ap (λ o. or_else o (then_option (slice_get w.sites s) (in_place w env))) x ∙ sym (held.right s c x).1
         by None x (inl t) =
             let h = held.there s k in
@@ -114,11 +112,11 @@ module _ (w : World) (before : SourcesBefore w.sites) where
             let h = held.there s k in
             absurd (none-some h.0 (sym x ∙ held.bound s k f ∙ h.1))
 
-    reads_all : (ss : List ℕ) → ((u : ℕ) → Contains ss u → Kept u) → used_values w env ss ≡ site_values w.meaning w.args [] (each_term (unfold_site w.sites) ss)
+    reads_all : (ss : List ℕ) → ((u : ℕ) → Contains ss u → Kept u) → used_values w env ss ≡ site_values w.meaning w.args pick (each_term (unfold_site w.sites) ss)
     reads_all [] h = refl
     reads_all (s ∷ ss) h =
         ap (λ o. then_option (then_option o as_value) (λ v. then_option (used_values w env ss) (λ vs. Some (value_and v vs)))) (reads s (h s (in_head s ss)))
-        ∙ ap (λ o. then_option (then_option (content w s) as_value) (λ v. then_option o (λ vs. Some (value_and v vs)))) (reads_all ss (λ u c. h u (in_tail s u ss c)))
+        ∙ ap (λ o. then_option (then_option (content_at w pick s) as_value) (λ v. then_option o (λ vs. Some (value_and v vs)))) (reads_all ss (λ u c. h u (in_tail s u ss c)))
 
     -- 3. and what is made of it can be bound
     constructed_now : (calls : List Call) (s term : ℕ) (c : Content) (o : Option Values) → then_option o (call_answer w.meaning term 0) ≡ Some c → constructed w env calls s term 0 o ≡ all_bound ((s, c) ∷ env) calls
@@ -126,26 +124,26 @@ module _ (w : World) (before : SourcesBefore w.sites) where
     constructed_now calls s term c (Some vs) e = ap (now_bound env calls s) e
 
     pub binds_now : (calls : List Call) (s : ℕ) (o : Option Site) (c : Content) → slice_get w.sites s ≡ o → waits o ≡ false → IsPureAt w.sites s → is_in_place o ≡ false
-        → ((u : ℕ) → Contains (sources_in o) u → Kept u) → content w s ≡ Some c → bind_site w env calls s o ≡ all_bound ((s, c) ∷ env) calls
+        → ((u : ℕ) → Contains (sources_in o) u → Kept u) → content_at w pick s ≡ Some c → bind_site w env calls s o ≡ all_bound ((s, c) ∷ env) calls
     binds_now calls s None c at h p n k e = absurd (false≢true (sym h))
-    binds_now calls s (Some (bool_site b ty)) c at h p n k e = ap (now_bound env calls s) (sym (content_layer w before s (bool_site b ty) at) ∙ e)
+    binds_now calls s (Some (bool_site b ty)) c at h p n k e = ap (now_bound env calls s) (sym (content_layer w pick before s (bool_site b ty) at) ∙ e)
     binds_now calls s (Some (extractor_site term source)) c at h p n k e =
         ap (λ o. now_bound env calls s (then_option (then_option o as_value) (extractor_answer w.meaning term))) (reads source (k source (in_head source [])))
-        ∙ ap (now_bound env calls s) (sym (content_layer w before s (extractor_site term source) at) ∙ e)
+        ∙ ap (now_bound env calls s) (sym (content_layer w pick before s (extractor_site term source) at) ∙ e)
     binds_now calls s (Some (constructor_site term sources zero)) c at h p n k e =
         ap (constructed w env calls s term 0) (reads_all sources k)
-        ∙ constructed_now calls s term c (site_values w.meaning w.args [] (each_term (unfold_site w.sites) sources)) (sym (content_layer w before s (constructor_site term sources 0) at) ∙ e)
+        ∙ constructed_now calls s term c (site_values w.meaning w.args pick (each_term (unfold_site w.sites) sources)) (sym (content_layer w pick before s (constructor_site term sources 0) at) ∙ e)
     binds_now calls s (Some (constructor_site term sources (suc instance))) c at h p n k e =
         absurd (subst IsPureSite (same_Some p.0 (constructor_site term sources (suc instance)) (sym p.1 ∙ at)) p.2)
     binds_now calls s (Some (make_variant_site ty variant fields)) c at h p n k e =
         ap (λ o. now_bound env calls s (then_option o (λ vs. Some (one (of_variant ty variant vs))))) (reads_all fields k)
-        ∙ ap (now_bound env calls s) (sym (content_layer w before s (make_variant_site ty variant fields) at) ∙ e)
+        ∙ ap (now_bound env calls s) (sym (content_layer w pick before s (make_variant_site ty variant fields) at) ∙ e)
     binds_now calls s (Some (make_struct_site ty fields)) c at h p n k e =
         ap (λ o. now_bound env calls s (then_option o (λ vs. Some (one (of_struct ty vs))))) (reads_all fields k)
-        ∙ ap (now_bound env calls s) (sym (content_layer w before s (make_struct_site ty fields) at) ∙ e)
+        ∙ ap (now_bound env calls s) (sym (content_layer w pick before s (make_struct_site ty fields) at) ∙ e)
     binds_now calls s (Some (make_some_site source)) c at h p n k e =
         ap (λ o. now_bound env calls s (then_option o (λ x. Some (just x)))) (reads source (k source (in_head source [])))
-        ∙ ap (now_bound env calls s) (sym (content_layer w before s (make_some_site source) at) ∙ e)
+        ∙ ap (now_bound env calls s) (sym (content_layer w pick before s (make_some_site source) at) ∙ e)
     binds_now calls s (Some (int_site z ty)) c at h p n k e = absurd (false≢true (sym n))
     binds_now calls s (Some (prim_site name)) c at h p n k e = absurd (false≢true (sym n))
     binds_now calls s (Some (argument_site i)) c at h p n k e = absurd (false≢true (sym n))
@@ -153,26 +151,26 @@ module _ (w : World) (before : SourcesBefore w.sites) where
     binds_now calls s (Some _) c at h p n k e = absurd (false≢true (sym h))
 
     -- one more site is kept
-    pub keeps_bound : (s : ℕ) (c : Content) → content w s ≡ Some c → ((u : ℕ) → Contains (sources_at w.sites s) u → Kept u) → Held w ((s, c) ∷ env) (λ t. Kept t ⊎ (s ≡ t))
+    pub keeps_bound : (s : ℕ) (c : Content) → content_at w pick s ≡ Some c → ((u : ℕ) → Contains (sources_at w.sites s) u → Kept u) → Held w pick ((s, c) ∷ env) (λ t. Kept t ⊎ (s ≡ t))
     keeps_bound s c e sources = record {
-      there = λ t k. elim k [ inl a ↦ held.there t a | inr q ↦ subst (λ x. (y : Content) × (content w x ≡ Some y)) q (c, e) ];
+      there = λ t k. elim k [ inl a ↦ held.there t a | inr q ↦ subst (λ x. (y : Content) × (content_at w pick x ≡ Some y)) q (c, e) ];
       bound = λ t k n. elim (cases_Bool (s == t)) [
-        | inl q ↦ cond-true (s == t) (Some c) (bound_to env t) q ∙ sym e ∙ ap (content w) (eqb-true s t q)
+        | inl q ↦ cond-true (s == t) (Some c) (bound_to env t) q ∙ sym e ∙ ap (content_at w pick) (eqb-true s t q)
         | inr q ↦ elim k [
           | inl a ↦ cond-false (s == t) (Some c) (bound_to env t) q ∙ held.bound t a n
           | inr x ↦ absurd (false≢true (sym q ∙ eq-eqb s t x))
         ]
       ];
       right = λ t x b. elim (cases_Bool (s == t)) [
-        | inl q ↦ (inr (eqb-true s t q), ap (content w) (sym (eqb-true s t q)) ∙ e ∙ sym (cond-true (s == t) (Some c) (bound_to env t) q) ∙ b)
+        | inl q ↦ (inr (eqb-true s t q), ap (content_at w pick) (sym (eqb-true s t q)) ∙ e ∙ sym (cond-true (s == t) (Some c) (bound_to env t) q) ∙ b)
         | inr q ↦ let r = held.right t x (sym (cond-false (s == t) (Some c) (bound_to env t) q) ∙ b) in (inl r.0, r.1)
       ];
       closed = λ t u k x. elim k [ inl a ↦ inl (held.closed t u a x) | inr q ↦ inl (sources u (subst (λ y. Contains (sources_at w.sites y) u) (sym q) x)) ];
     }
 
-    pub keeps_in_place : (s : ℕ) (c : Content) → content w s ≡ Some c → is_in_place (slice_get w.sites s) ≡ true → ((u : ℕ) → Contains (sources_at w.sites s) u → Kept u) → Held w env (λ t. Kept t ⊎ (s ≡ t))
+    pub keeps_in_place : (s : ℕ) (c : Content) → content_at w pick s ≡ Some c → is_in_place (slice_get w.sites s) ≡ true → ((u : ℕ) → Contains (sources_at w.sites s) u → Kept u) → Held w pick env (λ t. Kept t ⊎ (s ≡ t))
     keeps_in_place s c e p sources = record {
-      there = λ t k. elim k [ inl a ↦ held.there t a | inr q ↦ subst (λ x. (y : Content) × (content w x ≡ Some y)) q (c, e) ];
+      there = λ t k. elim k [ inl a ↦ held.there t a | inr q ↦ subst (λ x. (y : Content) × (content_at w pick x ≡ Some y)) q (c, e) ];
       bound = λ t k n. elim k [ inl a ↦ held.bound t a n | inr q ↦ absurd (false≢true (sym n ∙ ap (λ x. is_in_place (slice_get w.sites x)) (sym q) ∙ p)) ];
       right = λ t x b. let r = held.right t x b in (inl r.0, r.1);
       closed = λ t u k x. elim k [ inl a ↦ inl (held.closed t u a x) | inr q ↦ inl (sources u (subst (λ y. Contains (sources_at w.sites y) u) (sym q) x)) ];

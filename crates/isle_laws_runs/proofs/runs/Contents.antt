@@ -1,9 +1,9 @@
--- The content of a site, from the contents of its sources.
+-- The content of a site under a pick, from the contents of its sources.
 use Rattle.std.proofs.Common.{◌≡◌, ℕ, zero, suc, ◌<◌, List, [], ◌∷◌, Option, Some, None, slice_get, Contains, refl, ap, ◌∙◌, subst, inl, inr, arith}
 use Rattle.std.proofs.lemmas.Bool.{cases_lt}
 use Rattle.isle_model.specs.sites.Sites.{Site, bool_site, int_site, prim_site, argument_site, extractor_site, constructor_site, iterator_site, make_variant_site, match_variant_site, make_struct_site, extract_struct_site, make_some_site, match_some_site, match_tuple_site, SiteTerm, extractor_call, constructor_call, pick_of, variant_made, variant_field, struct_made, struct_field, some_made, some_part, tuple_part, site_term_and, each_term, layer, layer_at, unfolded, unfold_site, sources_of, sources_at}
 use Rattle.isle_model.specs.trees.Run.{World}
-use Rattle.isle_model.specs.rules.Picks.{site_content}
+use Rattle.isle_model.specs.rules.Picks.{Pick, site_content}
 use Rattle.isle_model.specs.trees.Collects.{content_at}
 use Rattle.isle_model.proofs.Members.{in_head, in_tail}
 
@@ -49,7 +49,7 @@ module _ (sites : List Site) (before : SourcesBefore sites) where
       same_layer_at (unfolded (suc n) sites) (unfolded n sites) (slice_get sites u)
       (λ x c. let m = before u x c in unfolded_more n x (omega arith))
 
-  unfolded_enough : (n u : ℕ) → u < n → unfolded n sites u ≡ unfold_site sites u
+  pub unfolded_enough : (n u : ℕ) → u < n → unfolded n sites u ≡ unfold_site sites u
   unfolded_enough zero u l = absurd (omega arith)
   unfolded_enough (suc n) u l =
       elim (cases_lt u n) [
@@ -57,12 +57,12 @@ module _ (sites : List Site) (before : SourcesBefore sites) where
         | inr m ↦ let e : u ≡ n = omega arith in subst (λ k. unfolded (suc k) sites u ≡ unfold_site sites u) e refl
       ]
 
-  unfolded_layer : (s : ℕ) (b : Site) → slice_get sites s ≡ Some b → unfold_site sites s ≡ layer (unfold_site sites) b
+  pub unfolded_layer : (s : ℕ) (b : Site) → slice_get sites s ≡ Some b → unfold_site sites s ≡ layer (unfold_site sites) b
   unfolded_layer s b e =
       same_layer_at (unfolded s sites) (unfold_site sites) (slice_get sites s) (λ u c. unfolded_enough s u (before s u c))
       ∙ ap (layer_at (unfold_site sites)) e
 
 -- 3. so is its content
-pub content_layer : (w : World) → SourcesBefore w.sites → (s : ℕ) (b : Site) → slice_get w.sites s ≡ Some b
-    → content_at w [] s ≡ site_content w.meaning w.args [] (layer (unfold_site w.sites) b)
-content_layer w before s b e = ap (site_content w.meaning w.args []) (unfolded_layer w.sites before s b e)
+pub content_layer : (w : World) (pick : Pick) → SourcesBefore w.sites → (s : ℕ) (b : Site) → slice_get w.sites s ≡ Some b
+    → content_at w pick s ≡ site_content w.meaning w.args pick (layer (unfold_site w.sites) b)
+content_layer w pick before s b e = ap (site_content w.meaning w.args pick) (unfolded_layer w.sites before s b e)

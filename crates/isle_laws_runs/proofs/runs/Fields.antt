@@ -1,4 +1,5 @@
--- The sites of fields: which they are, what they hold where a content meets a constraint, and that an arm binds them.
+-- The sites of fields: which they are, what they hold under a pick where a content meets a constraint, and that an arm
+-- binds them.
 use Rattle.std.proofs.Common.{◌≡◌, ◌⊎◌, ℕ, zero, suc, ◌+◌, ◌<◌, ◌≤◌, ◌==◌, Bool, true, ◌&&◌, List, [], ◌∷◌, length, Option, Some, None, slice_get, Contains, IsTrue, nat_lt, ltb-true, refl, sym, ap, ◌∙◌, subst, inl, inr, arith, eqb-true, eq-eqb}
 use Rattle.std.proofs.lemmas.Bool.{cases_Bool, cond-true, cond-false, and_parts, and_from, false≢true, cases_lt}
 use Rattle.std.proofs.lemmas.Option.{none-some, same_Some}
@@ -7,13 +8,14 @@ use Rattle.isle_model.specs.rules.Meaning.{Content, one, just, Meaning}
 use Rattle.isle_model.specs.rules.Outcome.{then_option}
 use Rattle.isle_model.specs.lists.Names.{IsDistinct}
 use Rattle.isle_model.specs.sites.Sites.{Site, iterator_site, match_variant_site, extract_struct_site, match_some_site, Constraint, is_variant, is_struct, is_bool, is_int, is_prim, is_present, SetRule, sources_at}
-use Rattle.isle_model.specs.trees.Places.{is_in, waits, is_variant_field, is_struct_field, is_part_of, site_from, each_field, fields_of, field_sites}
+use Rattle.isle_model.specs.trees.Places.{waits, is_variant_field, is_struct_field, is_part_of, site_from, each_field, fields_of, field_sites}
 use Rattle.isle_model.specs.trees.Run.{World, Env, as_value, from_value, all_one, content_fields, bind_fields}
-use Rattle.isle_model.specs.rules.Picks.{field_of_variant, field_of_struct, part_of_some}
+use Rattle.isle_model.specs.rules.Picks.{Pick, field_of_variant, field_of_struct, part_of_some}
+use Rattle.isle_model.specs.trees.Collects.{content_at}
 use Rattle.isle_model.specs.trees.SetRuns.{IsPureAt}
-use Rattle.isle_model.proofs.Members.{nothing_in, in_head, in_tail, in_cases, one_passes}
+use Rattle.isle_model.proofs.Members.{nothing_in, in_head, in_tail, in_cases, one_passes, member_found}
 use Rattle.isle_laws_runs.proofs.runs.Contents.{SourcesBefore, sources_in, content_layer}
-use Rattle.isle_laws_runs.proofs.runs.Binding.{content, Held, held_as, keeps_bound}
+use Rattle.isle_laws_runs.proofs.runs.Binding.{Held, held_as, keeps_bound}
 use Rattle.isle_model.specs.sites.Gates.{asks_answer, asks_struct, asks_variant, gate_demanded}
 
 -- 1. the first site that passes
@@ -127,36 +129,34 @@ answer_asked : (s : ℕ) (d : ℕ × Constraint) → asks_answer s d ≡ true �
 answer_asked s (a, is_present) h = (let x = eqb-true a s h in λ k. (x k, is_present))
 answer_asked s (a, _) h = absurd (false≢true h)
 
-no_number_in : (s : ℕ) (xs : List ℕ) → xs ≡ [] → is_in s xs ≡ true → ⊥
-no_number_in s xs e h = false≢true (sym (ap (is_in s) e) ∙ h)
-
-pub gate_brought : (sites : List Site) → IsDistinct sites → (r : SetRule) → r.iterators ≡ [] → (s : ℕ) (b : Site) → slice_get sites s ≡ Some b → waits (Some b) ≡ true → IsTrue (gate_demanded r (Some b))
-    → (a : ℕ) × (c : Constraint) × Contains r.constraints (a, c) × Contains (field_sites (fields_of sites a c)) s
-gate_brought sites once r none s (match_variant_site source v i) e w g =
+-- the arm of a test around brings it, or the loop over a call that the rule goes over
+pub gate_brought : (sites : List Site) → IsDistinct sites → (r : SetRule) → (s : ℕ) (b : Site) → slice_get sites s ≡ Some b → waits (Some b) ≡ true → IsTrue (gate_demanded r (Some b))
+    → ((a : ℕ) × (c : Constraint) × Contains r.constraints (a, c) × Contains (field_sites (fields_of sites a c)) s) ⊎ ((call : ℕ) × (b ≡ iterator_site call) × Contains r.iterators call)
+gate_brought sites once r s (match_variant_site source v i) e w g =
     let m = one_passes (asks_variant source v i) r.constraints g in
     let d = variant_asked source v i m.0 m.2 in
     let here = and_from ((source == source) && (v == v)) (i == i) (and_from (source == source) (v == v) (eq-eqb source source refl) (eq-eqb v v refl)) (eq-eqb i i refl) in
     let found = only_site sites once s (match_variant_site source v i) e (is_variant_field source v i) here (variant_field_same source v i) in
-    (source, is_variant d.0 v d.1, subst (Contains r.constraints) d.2 m.1, field_listed (is_variant_field source v) sites 0 d.1 i s (omega arith) (up i d.1 d.3) found)
+    inl (source, is_variant d.0 v d.1, subst (Contains r.constraints) d.2 m.1, field_listed (is_variant_field source v) sites 0 d.1 i s (omega arith) (up i d.1 d.3) found)
   where
     up : (f n : ℕ) → f < n → f < 0 + n
     up f n l = omega arith
-gate_brought sites once r none s (extract_struct_site source i) e w g =
+gate_brought sites once r s (extract_struct_site source i) e w g =
     let m = one_passes (asks_struct source i) r.constraints g in
     let d = struct_asked source i m.0 m.2 in
     let here = and_from (source == source) (i == i) (eq-eqb source source refl) (eq-eqb i i refl) in
     let found = only_site sites once s (extract_struct_site source i) e (is_struct_field source i) here (struct_field_same source i) in
-    (source, is_struct d.0 d.1, subst (Contains r.constraints) d.2 m.1, field_listed (is_struct_field source) sites 0 d.1 i s (omega arith) (up i d.1 d.3) found)
+    inl (source, is_struct d.0 d.1, subst (Contains r.constraints) d.2 m.1, field_listed (is_struct_field source) sites 0 d.1 i s (omega arith) (up i d.1 d.3) found)
   where
     up : (f n : ℕ) → f < n → f < 0 + n
     up f n l = omega arith
-gate_brought sites once r none s (match_some_site source) e w g =
+gate_brought sites once r s (match_some_site source) e w g =
     let m = one_passes (asks_answer source) r.constraints g in
     let d = answer_asked source m.0 m.2 in
     let found = only_site sites once s (match_some_site source) e (is_part_of source) (eq-eqb source source refl) (part_same source) in
-    (source, is_present, subst (Contains r.constraints) d m.1, subst (λ o. Contains (field_sites (o ∷ [])) s) (sym found) (in_head s []))
-gate_brought sites once r none s (iterator_site source) e w g = absurd (no_number_in source r.iterators none g)
-gate_brought sites once r none s _ e w g = absurd (false≢true w)
+    inl (source, is_present, subst (Contains r.constraints) d m.1, subst (λ o. Contains (field_sites (o ∷ [])) s) (sym found) (in_head s []))
+gate_brought sites once r s (iterator_site source) e w g = inr (source, refl, member_found source r.iterators g)
+gate_brought sites once r s _ e w g = absurd (false≢true w)
 
 -- 4. what a content that meets a constraint is made of
 variant_met : (m : Meaning) (ty v n : ℕ) (x : Content) (cs : List Content) → content_fields m (is_variant ty v n) x ≡ Some cs → (t : ℕ) × (vs : Values) × (x ≡ one (of_variant t v vs)) × (cs ≡ all_one (listed vs))
@@ -185,15 +185,15 @@ present_met m (one v) cs e = absurd (none-some cs e)
 present_met m _ cs e = absurd (none-some cs e)
 
 -- 5. the sites of fields hold them
-module _ (w : World) (before : SourcesBefore w.sites) where
+module _ (w : World) (pick : Pick) (before : SourcesBefore w.sites) where
   abbrev pub FieldsHold : ℕ → List (Option ℕ) → List Content → Type 0
   FieldsHold s [] [] = Unit {0}
   FieldsHold s (None ∷ rest) (c ∷ cs) = FieldsHold s rest cs
-  FieldsHold s (Some x ∷ rest) (c ∷ cs) = (content w x ≡ Some c) × (sources_at w.sites x ≡ s ∷ []) × IsPureAt w.sites x × FieldsHold s rest cs
+  FieldsHold s (Some x ∷ rest) (c ∷ cs) = (content_at w pick x ≡ Some c) × (sources_at w.sites x ≡ s ∷ []) × IsPureAt w.sites x × FieldsHold s rest cs
   FieldsHold s _ _ = ⊥
 
   abbrev FieldIs : ℕ → ℕ → Option Content → Type 0
-  FieldIs s x o = (content w x ≡ o) × (sources_at w.sites x ≡ s ∷ []) × IsPureAt w.sites x
+  FieldIs s x o = (content_at w pick x ≡ o) × (sources_at w.sites x ≡ s ∷ []) × IsPureAt w.sites x
 
   each_holds : (s : ℕ) (p : ℕ → Site → Bool) (vs : List Value) (i n : ℕ) → length (all_one vs) ≡ length (each_field p w.sites i n)
       → ((k j x : ℕ) → j ≡ i + k → site_from 0 (p j) w.sites ≡ Some x → FieldIs s x (from_value (slice_get vs k))) → FieldsHold s (each_field p w.sites i n) (all_one vs)
@@ -213,7 +213,7 @@ module _ (w : World) (before : SourcesBefore w.sites) where
   no_fields s [] l = tt
   no_fields s (c ∷ cs) l = absurd (omega arith)
 
-  pub fields_hold : (s : ℕ) (c : Constraint) (x : Content) (cs : List Content) → content w s ≡ Some x → content_fields w.meaning c x ≡ Some cs → length cs ≡ length (fields_of w.sites s c) → FieldsHold s (fields_of w.sites s c) cs
+  pub fields_hold : (s : ℕ) (c : Constraint) (x : Content) (cs : List Content) → content_at w pick s ≡ Some x → content_fields w.meaning c x ≡ Some cs → length cs ≡ length (fields_of w.sites s c) → FieldsHold s (fields_of w.sites s c) cs
   fields_hold s (is_variant ty v n) x cs e met l =
       let m = variant_met w.meaning ty v n x cs met in
       subst (FieldsHold s (fields_of w.sites s (is_variant ty v n))) (sym m.3)
@@ -222,7 +222,7 @@ module _ (w : World) (before : SourcesBefore w.sites) where
       let b = ap Some (variant_field_same s v j r.0 r.2) in
       let here = r.1 ∙ b in
       let same : j ≡ k = (let z = q in omega arith) in (
-        content_layer w before y (match_variant_site s v j) here
+        content_layer w pick before y (match_variant_site s v j) here
             ∙ ap (λ o. then_option (then_option o as_value) (field_of_variant v j)) (e ∙ ap Some m.2)
             ∙ cond-true (v == v) (from_value (slice_get (listed m.1) j)) None (eq-eqb v v refl)
             ∙ ap (λ i. from_value (slice_get (listed m.1) i)) same,
@@ -237,7 +237,7 @@ module _ (w : World) (before : SourcesBefore w.sites) where
       let b = ap Some (struct_field_same s j r.0 r.2) in
       let here = r.1 ∙ b in
       let same : j ≡ k = (let z = q in omega arith) in (
-        content_layer w before y (extract_struct_site s j) here
+        content_layer w pick before y (extract_struct_site s j) here
             ∙ ap (λ o. then_option (then_option o as_value) (field_of_struct j)) (e ∙ ap Some m.2)
             ∙ ap (λ i. from_value (slice_get (listed m.1) i)) same,
         site_is s y (extract_struct_site s j) here refl,
@@ -252,7 +252,7 @@ module _ (w : World) (before : SourcesBefore w.sites) where
       by c q (Some y) at =
           let r = site_passes (is_part_of s) w.sites y at in
           let here = r.1 ∙ ap Some (part_same s r.0 r.2) in (
-            content_layer w before y (match_some_site s) here ∙ ap (λ o. then_option o part_of_some) (e ∙ ap Some q),
+            content_layer w pick before y (match_some_site s) here ∙ ap (λ o. then_option o part_of_some) (e ∙ ap Some q),
             site_is s y (match_some_site s) here refl,
             (match_some_site s, here, tt),
             tt,
@@ -262,15 +262,15 @@ module _ (w : World) (before : SourcesBefore w.sites) where
   fields_hold s (is_prim name) x cs e met l = no_fields s cs l
 
   -- and are kept once an arm binds them
-  pub fields_bound : (s : ℕ) (fields : List (Option ℕ)) (cs : List Content) (env : Env) (Kept : ℕ → Type 0) → Held w env Kept → Kept s → FieldsHold s fields cs
-      → (env' : Env) × (bind_fields fields cs env ≡ Some env') × Held w env' (λ t. Kept t ⊎ Contains (field_sites fields) t)
+  pub fields_bound : (s : ℕ) (fields : List (Option ℕ)) (cs : List Content) (env : Env) (Kept : ℕ → Type 0) → Held w pick env Kept → Kept s → FieldsHold s fields cs
+      → (env' : Env) × (bind_fields fields cs env ≡ Some env') × Held w pick env' (λ t. Kept t ⊎ Contains (field_sites fields) t)
   fields_bound s [] [] env Kept held k h =
-      (env, refl, held_as w env Kept (λ t. Kept t ⊎ Contains [] t) (λ t a. inl a) (λ t a. elim a [ inl x ↦ x | inr c ↦ absurd (nothing_in t c) ]) held)
+      (env, refl, held_as w pick env Kept (λ t. Kept t ⊎ Contains [] t) (λ t a. inl a) (λ t a. elim a [ inl x ↦ x | inr c ↦ absurd (nothing_in t c) ]) held)
   fields_bound s (None ∷ rest) (c ∷ cs) env Kept held k h = fields_bound s rest cs env Kept held k h
   fields_bound s (Some x ∷ rest) (c ∷ cs) env Kept held k h =
-      let now = keeps_bound w before env Kept held x c h.0 (λ u m. elim (in_cases s u [] (subst (λ l. Contains l u) h.1 m)) [ inl e ↦ subst Kept e k | inr n ↦ absurd (nothing_in u n) ]) in
+      let now = keeps_bound w pick before env Kept held x c h.0 (λ u m. elim (in_cases s u [] (subst (λ l. Contains l u) h.1 m)) [ inl e ↦ subst Kept e k | inr n ↦ absurd (nothing_in u n) ]) in
       let r = fields_bound s rest cs ((x, c) ∷ env) (λ t. Kept t ⊎ (x ≡ t)) now (inl k) h.3 in
-      (r.0, r.1, held_as w r.0 (λ t. (Kept t ⊎ (x ≡ t)) ⊎ Contains (field_sites rest) t) (λ t. Kept t ⊎ Contains (x ∷ field_sites rest) t) to from r.2)
+      (r.0, r.1, held_as w pick r.0 (λ t. (Kept t ⊎ (x ≡ t)) ⊎ Contains (field_sites rest) t) (λ t. Kept t ⊎ Contains (x ∷ field_sites rest) t) to from r.2)
     where
       to : (t : ℕ) → (Kept t ⊎ (x ≡ t)) ⊎ Contains (field_sites rest) t → Kept t ⊎ Contains (x ∷ field_sites rest) t
       to t (inl (inl a)) = inl a

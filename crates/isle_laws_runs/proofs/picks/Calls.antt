@@ -9,8 +9,7 @@ use Rattle.isle_model.specs.trees.Places.{below}
 use Rattle.isle_model.specs.rules.Program.{numbers_from}
 use Rattle.isle_model.specs.trees.Collects.{calls_in, calls_in_all}
 use Rattle.isle_model.proofs.Members.{nothing_in, in_head, in_tail, in_cases, get_within, in_flat_map}
-use Rattle.isle_laws_runs.proofs.runs.Contents.{SourcesBefore, sources_in}
-use Rattle.isle_laws_runs.proofs.collecting.Unfolded.{unfolded_layer, unfolded_enough}
+use Rattle.isle_laws_runs.proofs.runs.Contents.{SourcesBefore, sources_in, unfolded_layer, unfolded_enough}
 use Rattle.isle_laws_runs.specs.Orders.{OrderedFrom}
 
 -- 1. sites that unfold alike are one

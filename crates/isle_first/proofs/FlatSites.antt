@@ -1,17 +1,17 @@
 -- What a site that is an argument or a constant holds, and how a run reads and binds it.
-use Rattle.std.proofs.Common.{◌≡◌, ◌⊎◌, ℕ, suc, ◌==◌, Bool, true, false, not, ◌||◌, cond, List, [], ◌∷◌, ◌++◌, Option, Some, None, slice_get, IsTrue, filter, flat_map, refl, sym, ap, ◌∙◌, subst, inl, inr, eqb-true, eq-eqb}
+use Rattle.std.proofs.Common.{◌≡◌, ◌⊎◌, ℕ, suc, ◌==◌, Bool, true, false, not, ◌||◌, cond, List, [], ◌∷◌, ◌++◌, Option, Some, None, slice_get, IsTrue, flat_map, refl, sym, ap, ◌∙◌, subst, inl, inr, eqb-true, eq-eqb}
 use Rattle.std.proofs.lemmas.Bool.{cases_Bool, cond-true, cond-false, or_cases, or_left, or_right, false≢true}
 use Rattle.std.proofs.lemmas.Option.{none-some}
-use Rattle.std.proofs.lemmas.List.Elements.{filter-append}
 use Rattle.std.proofs.lemmas.List.Folds.{list_any-append}
 use Rattle.isle_model.specs.rules.Values.{Value}
 use Rattle.isle_model.specs.rules.Meaning.{Content, Meaning, bool_literal, int_literal, literal_value, constant_value}
 use Rattle.isle_model.specs.rules.Outcome.{Call, then_option}
 use Rattle.isle_model.specs.sites.Sites.{Site, bool_site, int_site, prim_site, argument_site, SiteTerm, bool_term, int_term, prim_term, argument, no_site, layer_at, unfolded, sources_of, sources_at}
 use Rattle.isle_model.specs.trees.Places.{Around, is_in, is_in_place, below, all_below, each_after, listed_below, bind_order}
-use Rattle.isle_model.specs.trees.Run.{World, Env, bound_to, from_value, in_place, or_else, used, Bound, all_bound, unwrap_failed, no_content_there, now_bound, bind_site, then_bind, bind_all}
+use Rattle.isle_model.specs.trees.Run.{World, Env, bound_to, from_value, in_place, or_else, used, all_bound, now_bound, bind_site, then_bind, bind_all}
 use Rattle.isle_model.specs.sites.Serves.{Holds, holds_bool, holds_int, holds_prim, holds_argument}
 use Rattle.isle_model.specs.first.Runs.{SiteHolds, IsFlatSite}
+use Rattle.isle_laws_runs.proofs.runs.BindOrders.{to_bind, bind_last}
 
 abbrev pub IsFlatAt : Option Site → Type 0
 IsFlatAt None = Unit {0}
@@ -124,22 +124,6 @@ bound_now w env calls s (Some (prim_site name)) t c e n = ap (now_bound env call
 bound_now w env calls s (Some (argument_site i)) t c e n = ap (now_bound env calls s) e
 bound_now w env calls s (Some _) t c e n = absurd t
 
-after_bound : (w : World) (ss ts : List ℕ) (b : Bound) (go : Env → List Call → Bound)
-    → ((env : Env) (calls : List Call) → go env calls ≡ then_bind (bind_all w env calls ss) (λ env' calls'. bind_all w env' calls' ts))
-    → then_bind b go ≡ then_bind (then_bind b (λ env calls. bind_all w env calls ss)) (λ env' calls'. bind_all w env' calls' ts)
-after_bound w ss ts (all_bound env calls) go h = h env calls
-after_bound w ss ts (unwrap_failed calls) go h = refl
-after_bound w ss ts (no_content_there calls) go h = refl
-
-bind_append : (w : World) (ss ts : List ℕ) (env : Env) (calls : List Call) → bind_all w env calls (ss ++ ts) ≡ then_bind (bind_all w env calls ss) (λ env' calls'. bind_all w env' calls' ts)
-bind_append w [] ts env calls = refl
-bind_append w (s ∷ ss) ts env calls =
-    after_bound w ss ts (bind_site w env calls s (slice_get w.sites s)) (λ env' calls'. bind_all w env' calls' (ss ++ ts)) (λ env' calls'. bind_append w ss ts env' calls')
-
--- what waits to be bound
-abbrev pub to_bind : List Site → List ℕ → List ℕ
-to_bind sites ss = filter (λ s. not (is_in_place (slice_get sites s))) ss
-
 -- each site that is written in place or emitted can be read
 abbrev pub ReadsAll : World → Env → List ℕ → Type 0
 ReadsAll w env emitted = (t : ℕ) → IsTrue (is_in_place (slice_get w.sites t) || is_in t emitted) → Reads w env t
@@ -167,14 +151,6 @@ listed_one sites flat emitted listed s =
 -- what binding one more site leads to
 abbrev More : World → Env → List ℕ → Env → ℕ → Type 0
 More w env listed env' s = (env'' : Env) × Binds w env listed env'' × Reads w env'' s × ((t : ℕ) → Reads w env' t → Reads w env'' t)
-
-pub bind_last : (w : World) (env env' env'' : Env) (listed : List ℕ) (s : ℕ) → bind_all w env [] (to_bind w.sites listed) ≡ all_bound env' [] → bind_all w env' [] (to_bind w.sites (s ∷ [])) ≡ all_bound env'' []
-    → bind_all w env [] (to_bind w.sites (listed ++ s ∷ [])) ≡ all_bound env'' []
-bind_last w env env' env'' listed s h k =
-    ap (bind_all w env []) (filter-append (λ t. not (is_in_place (slice_get w.sites t))) listed (s ∷ []))
-    ∙ bind_append w (to_bind w.sites listed) (to_bind w.sites (s ∷ [])) env []
-    ∙ ap (λ b. then_bind b (λ e calls. bind_all w e calls (to_bind w.sites (s ∷ [])))) h
-    ∙ k
 
 more_listed : (w : World) → AreFlat w.sites → (emitted : List ℕ) (env : Env) (listed : List ℕ) (env' : Env) → ReadsAll w env emitted → Binds w env listed env' → (s : ℕ) (c : Content) → content_at w s ≡ Some c → More w env (listed ++ s ∷ []) env' s
 more_listed w flat emitted env listed env' all b s c e =

@@ -1,19 +1,13 @@
--- Bags of results, and what a run adds to the results before it.
+-- What the elements of a list make, one after another, and as a bag: whatever order they are taken in.
 use Rattle.std.proofs.Common.{◌≡◌, ℕ, suc, ◌+◌, ◌<◌, ◌≤◌, ◌==◌, Bool, true, false, cond, List, [], ◌∷◌, ◌++◌, length, flat_map, count_by, Some, slice_get, Contains, refl, sym, ap, ◌∙◌, subst, subst₂, inl, inr, arith, eqb-true, eq-eqb}
 use Rattle.std.specs.Prelude.{IsPermutation}
 use Rattle.std.proofs.lemmas.Bool.{cases_Bool, cond-true, cond-false, false≢true}
-use Rattle.std.proofs.lemmas.List.{append_assoc, append-nil}
+use Rattle.std.proofs.lemmas.List.{append_assoc}
 use Rattle.std.proofs.lemmas.List.Elements.{Contains-append_left, Contains-append_right, Contains-append_cases}
 use Rattle.std.proofs.lemmas.List.Sums.{sum_by-cons}
 use Rattle.std.proofs.lemmas.List.Sorted.{sum_by-IsPermutation, IsPermutation-middle, IsPermutation-refl, IsPermutation-trans, IsPermutation-append, IsPermutation-append_left, IsPermutation-append_right, IsPermutation-append_comm}
 use Rattle.std.proofs.lemmas.Grind.{flat_map-append}
-use Rattle.isle_model.specs.rules.Values.{Value}
-use Rattle.isle_model.specs.rules.Meaning.{Content, Meaning}
-use Rattle.isle_model.specs.rules.Outcome.{Outcome, ran_through}
-use Rattle.isle_model.specs.sites.Sites.{SiteTerm}
-use Rattle.isle_model.specs.rules.Picks.{Pick, site_content, places_in, picks_over}
 use Rattle.isle_model.specs.rules.Program.{numbers_from}
-use Rattle.isle_model.specs.trees.Run.{Trace, ending_at, or_next, for_each}
 use Rattle.isle_model.proofs.Members.{nothing_in, in_head, in_tail, in_cases, member_counted}
 
 -- 1. lists that lists make
@@ -22,6 +16,19 @@ module _ {X Y Z : Type 0} where
   flat_flat f g [] = refl
   flat_flat f g (x ∷ xs) = flat_map-append f (g x) (flat_map g xs) ∙ ap (λ l. flat_map f (g x) ++ l) (flat_flat f g xs)
 
+module _ {X Z : Type 0} where
+  pub flat_map_same : (f g : X → List Z) (xs : List X) → ((x : X) → Contains xs x → f x ≡ g x) → flat_map f xs ≡ flat_map g xs
+  flat_map_same f g [] h = refl
+  flat_map_same f g (x ∷ xs) h =
+      let e = h x (in_head x xs) in
+      let r = flat_map_same f g xs (λ y c. h y (in_tail x y xs c)) in
+      λ j. e j ++ r j
+
+  pub all_nothing : (f : X → List Z) (xs : List X) → ((x : X) → Contains xs x → f x ≡ []) → flat_map f xs ≡ []
+  all_nothing f [] h = refl
+  all_nothing f (x ∷ xs) h = ap (λ l. l ++ flat_map f xs) (h x (in_head x xs)) ∙ all_nothing f xs (λ y c. h y (in_tail x y xs c))
+
+-- 2. as bags
 -- a, b, c, d with b and c exchanged
 middle : {Z : Type 0} (a b c d : List Z) → IsPermutation ((a ++ b) ++ (c ++ d)) ((a ++ c) ++ (b ++ d))
 middle a b c d =
@@ -30,16 +37,16 @@ middle a b c d =
     (subst₂ IsPermutation (append_assoc b c d) (append_assoc c b d) (IsPermutation-append_left d (b ++ c) (c ++ b) (IsPermutation-append_comm b c))))
 
 module _ {X Z : Type 0} where
-  pub all_nothing : (f : X → List Z) (xs : List X) → ((x : X) → Contains xs x → f x ≡ []) → flat_map f xs ≡ []
-  all_nothing f [] h = refl
-  all_nothing f (x ∷ xs) h = ap (λ l. l ++ flat_map f xs) (h x (in_head x xs)) ∙ all_nothing f xs (λ y c. h y (in_tail x y xs c))
-
   both_in_one : (f g : X → List Z) (xs : List X) → IsPermutation (flat_map f xs ++ flat_map g xs) (flat_map (λ x. f x ++ g x) xs)
   both_in_one f g [] = IsPermutation-refl []
   both_in_one f g (x ∷ xs) =
       IsPermutation-trans _ ((f x ++ g x) ++ (flat_map f xs ++ flat_map g xs)) _
       (middle (f x) (flat_map f xs) (g x) (flat_map g xs))
       (IsPermutation-append_right (f x ++ g x) _ _ (both_in_one f g xs))
+
+  pub each_moved : (f g : X → List Z) (xs : List X) → ((x : X) → IsPermutation (f x) (g x)) → IsPermutation (flat_map f xs) (flat_map g xs)
+  each_moved f g [] h = IsPermutation-refl []
+  each_moved f g (x ∷ xs) h = IsPermutation-append (f x) (g x) (flat_map f xs) (flat_map g xs) (h x) (each_moved f g xs h)
 
 -- what each of some makes for each place, by places
 pub by_places : {X Y Z : Type 0} (f : X → List Z) (g : Y → X → List Z) (ys : List Y) (xs : List X) → ((x : X) → Contains xs x → IsPermutation (f x) (flat_map (λ y. g y x) ys))
@@ -50,52 +57,10 @@ by_places f g ys (x ∷ xs) h =
     (IsPermutation-append (f x) (flat_map (λ y. g y x) ys) (flat_map f xs) (flat_map (λ y. flat_map (g y) xs) ys) (h x (in_head x xs)) (by_places f g ys xs (λ z c. h z (in_tail x z xs c))))
     (both_in_one (λ y. g y x) (λ y. flat_map (g y) xs) ys)
 
--- 2. what longer picks make
-pub picks_nothing : (m : Meaning) (args : List Value) (f : Pick → List Content) (calls : List SiteTerm) (k : Pick) → ((rest : Pick) → f (k ++ rest) ≡ []) → flat_map f (picks_over m args k calls) ≡ []
-picks_nothing m args f [] k h = append-nil (f k) ∙ ap f (sym (append-nil k)) ∙ h []
-picks_nothing m args f (c ∷ cs) k h =
-    flat_flat f (λ n. picks_over m args (k ++ (c, n) ∷ []) cs) (places_in (site_content m args k c))
-    ∙ all_nothing (λ n. flat_map f (picks_over m args (k ++ (c, n) ∷ []) cs)) (places_in (site_content m args k c))
-    (λ n i. picks_nothing m args f cs (k ++ (c, n) ∷ []) (λ rest. ap f (append_assoc k ((c, n) ∷ []) rest) ∙ h ((c, n) ∷ rest)))
+pub exchanged : {X Y Z : Type 0} (g : X → Y → List Z) (xs : List X) (ys : List Y) → IsPermutation (flat_map (λ x. flat_map (g x) ys) xs) (flat_map (λ y. flat_map (λ x. g x y) xs) ys)
+exchanged g xs ys = by_places (λ x. flat_map (g x) ys) (λ y x. g x y) ys xs (λ x c. IsPermutation-refl (flat_map (g x) ys))
 
--- 3. a run adds to the results
-abbrev pub trace : List Content → Trace
-trace done = record { calls = []; results = done }
-
--- without impure calls it goes through, and adds these, in whatever order
-abbrev pub Adds : Outcome → List Content → List Content → Type 0
-Adds o done expected = (rs : List Content) × (o ≡ record { calls = []; results = done ++ rs; ending = ran_through }) × IsPermutation expected rs
-
-pub adds_none : (done : List Content) → Adds (ending_at ran_through (trace done)) done []
-adds_none done = ([], ap (λ l. record { calls = []; results = l; ending = ran_through }) (sym (append-nil done)), IsPermutation-refl [])
-
-pub adds_then : (o : Outcome) (go : Trace → Outcome) (done here later : List Content) → Adds o done here → ((now : List Content) → Adds (go (trace now)) now later) → Adds (or_next o go) done (here ++ later)
-adds_then o go done here later (rs, e, p) next =
-    let n = next (done ++ rs) in (
-      rs ++ n.0,
-      ap (λ x. or_next x go) e ∙ n.1 ∙ ap (λ l. record { calls = []; results = l; ending = ran_through }) (append_assoc done rs n.0),
-      IsPermutation-append here rs later n.0 p n.2,
-    )
-
-pub adds_as : (o : Outcome) (done a b : List Content) → IsPermutation a b → Adds o done b → Adds o done a
-adds_as o done a b p (rs, e, q) = (rs, e, IsPermutation-trans a b rs p q)
-
-plus_zero : (n : ℕ) → n + 0 ≡ n
-plus_zero n = omega arith
-
-plus_suc : (n k : ℕ) → n + suc k ≡ suc n + k
-plus_suc n k = omega arith
-
--- so does a body for each answer
-pub each_adds : (go : Content → Trace → Outcome) (made : ℕ → List Content) (i : ℕ) (cs : List Content) → ((j : ℕ) (c : Content) → slice_get cs j ≡ Some c → (done : List Content) → Adds (go c (trace done)) done (made (i + j)))
-    → (done : List Content) → Adds (for_each cs go (trace done)) done (flat_map made (numbers_from i cs))
-each_adds go made i [] h done = adds_none done
-each_adds go made i (c ∷ cs) h done =
-    adds_then (go c (trace done)) (for_each cs go) done (made i) (flat_map made (numbers_from (suc i) cs))
-    (subst (λ n. Adds (go c (trace done)) done (made n)) (plus_zero i) (h 0 c refl done))
-    (λ now. each_adds go made (suc i) cs (λ j d e now'. subst (λ n. Adds (go d (trace now')) now' (made n)) (plus_suc i j) (h (suc j) d e now')) now)
-
--- 4. numbers that each stand once are the numbers in order
+-- 3. numbers that each stand once are the numbers in order
 split_at : (x : ℕ) (xs : List ℕ) → Contains xs x → (first : List ℕ) × (after : List ℕ) × (xs ≡ first ++ x ∷ after)
 split_at x [] c = absurd (nothing_in x c)
 split_at x (y ∷ ys) c =
@@ -130,7 +95,7 @@ counted x (y ∷ ys) c =
           omega (arith, a, b)
     ]
 
-pub as_numbers : {X : Type 0} (f : ℕ → List Content) (i : ℕ) (xs : List X) (ms : List ℕ) → ((j : ℕ) → i ≤ j → j < i + length xs → count_by (λ n. n == j) ms ≡ 1) → ((j : ℕ) → Contains ms j → (i ≤ j) × (j < i + length xs))
+pub as_numbers : {X Z : Type 0} (f : ℕ → List Z) (i : ℕ) (xs : List X) (ms : List ℕ) → ((j : ℕ) → i ≤ j → j < i + length xs → count_by (λ n. n == j) ms ≡ 1) → ((j : ℕ) → Contains ms j → (i ≤ j) × (j < i + length xs))
     → IsPermutation (flat_map f (numbers_from i xs)) (flat_map f ms)
 as_numbers f i [] [] once known = IsPermutation-refl []
 as_numbers f i [] (m ∷ ms) once known = (let b = known m (in_head m ms) in let l = b.0 in let u = b.1 in absurd (omega (arith, l, u)))
@@ -180,10 +145,16 @@ as_numbers f i (x ∷ xs) ms once known =
         (IsPermutation-append_right (f i) _ _ (subst (IsPermutation (flat_map f (numbers_from (suc i) xs))) (flat_map-append f a b) rest))
         (moved (f i) (flat_map f a) (flat_map f b)))
       where
-        moved : (x y z : List Content) → IsPermutation (x ++ (y ++ z)) (y ++ (x ++ z))
+        moved : {Y : Type 0} (x y z : List Y) → IsPermutation (x ++ (y ++ z)) (y ++ (x ++ z))
         moved x y z = subst₂ IsPermutation (append_assoc x y z) (append_assoc y x z) (IsPermutation-append_left z (x ++ y) (y ++ x) (IsPermutation-append_comm x y))
 
-pub of_numbers : {X : Type 0} (f : ℕ → List Content) (g : X → List Content) (i : ℕ) (xs : List X) → ((j : ℕ) (x : X) → slice_get xs j ≡ Some x → f (i + j) ≡ g x) → flat_map f (numbers_from i xs) ≡ flat_map g xs
+plus_zero : (n : ℕ) → n + 0 ≡ n
+plus_zero n = omega arith
+
+plus_suc : (n k : ℕ) → n + suc k ≡ suc n + k
+plus_suc n k = omega arith
+
+pub of_numbers : {X Z : Type 0} (f : ℕ → List Z) (g : X → List Z) (i : ℕ) (xs : List X) → ((j : ℕ) (x : X) → slice_get xs j ≡ Some x → f (i + j) ≡ g x) → flat_map f (numbers_from i xs) ≡ flat_map g xs
 of_numbers f g i [] h = refl
 of_numbers f g i (x ∷ xs) h =
     let here = ap f (sym (plus_zero i)) ∙ h 0 x refl in

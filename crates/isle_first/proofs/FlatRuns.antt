@@ -13,7 +13,7 @@ use Rattle.isle_model.specs.trees.Sound.{NoneHigher, IsTested}
 use Rattle.isle_model.specs.first.Runs.{SiteHolds, MeetsDemands, taken_as, IsConstant, IsFlatRule}
 use Rattle.isle_model.proofs.ValuesEqual.{eq_means, eq_same}
 use Rattle.isle_model.proofs.Members.{constraint_in}
-use Rattle.isle_laws_runs.proofs.runs.Flat.{AreFlat, content_at, held, all_below_same, ReadsAll, bind_one, bind_two, reads_one, reads_two, reads_all_at_start}
+use Rattle.isle_first.proofs.FlatSites.{AreFlat, content_at, held, all_below_same, ReadsAll, bind_one, bind_two, reads_one, reads_two, reads_all_at_start}
 use Rattle.isle_laws_runs.proofs.runs.Classes.{SameAtPairs, joined_same}
 use Rattle.isle_laws_runs.proofs.runs.Finding.{Found, NoneHolds, next_found, rule_found}
 

@@ -1,0 +1,80 @@
+-- What stands below sites: themselves, their sources, and all below those; and what stands below calls without the calls.
+use Rattle.std.proofs.Common.{◌≡◌, ◌⊎◌, ℕ, zero, suc, ◌<◌, ◌≤◌, List, [], ◌∷◌, Contains, flat_map, sym, ap, ◌∙◌, subst, inl, inr, arith}
+use Rattle.std.proofs.lemmas.Bool.{cases_lt}
+use Rattle.isle_model.specs.sites.Sites.{Site, sources_at}
+use Rattle.isle_model.specs.trees.Places.{below, all_below}
+use Rattle.isle_model.specs.trees.SetRuns.{IsPureAt}
+use Rattle.isle_model.proofs.Members.{nothing_in, in_head, in_tail, in_cases, in_alone, in_flat_map, from_flat_map}
+use Rattle.isle_model.proofs.Bags.{flat_map_same}
+use Rattle.isle_laws_runs.proofs.runs.Contents.{SourcesBefore}
+
+-- what is below calls that a loop goes over, without the calls
+abbrev pub under : List Site → List ℕ → List ℕ
+under sites calls = flat_map (λ s. all_below sites (sources_at sites s)) calls
+
+-- a site and all below it make no impure call
+abbrev pub IsPureBelow : List Site → ℕ → Type 0
+IsPureBelow sites s = (u : ℕ) → Contains (below (suc s) sites s) u → IsPureAt sites u
+
+module _ (sites : List Site) where
+  pub below_itself : (s : ℕ) → Contains (below (suc s) sites s) s
+  below_itself s = in_head s (flat_map (below s sites) (sources_at sites s))
+
+  pub below_source : (n s x u : ℕ) → Contains (sources_at sites s) x → Contains (below n sites x) u → Contains (below (suc n) sites s) u
+  below_source n s x u c k = in_tail s u (flat_map (below n sites) (sources_at sites s)) (in_flat_map (below n sites) (sources_at sites s) x u c k)
+
+  -- these are below themselves, and pure where all below each of them is
+  pub all_below_itself : (ss : List ℕ) (s : ℕ) → Contains ss s → Contains (all_below sites ss) s
+  all_below_itself ss s c = in_flat_map (λ x. below (suc x) sites x) ss s s c (below_itself s)
+
+  pub all_below_pure : (ss : List ℕ) → ((s : ℕ) → Contains ss s → IsPureBelow sites s) → (u : ℕ) → Contains (all_below sites ss) u → IsPureAt sites u
+  all_below_pure ss pure u c = (let r = from_flat_map (λ x. below (suc x) sites x) ss u c in pure r.0 r.1 u r.2)
+
+module _ (sites : List Site) (before : SourcesBefore sites) where
+  below_more : (n u : ℕ) → u < n → below (suc n) sites u ≡ below n sites u
+  below_more zero u l = absurd (omega arith)
+  below_more (suc n) u l = ap (λ xs. u ∷ xs) (flat_map_same (below (suc n) sites) (below n sites) (sources_at sites u) (λ x c. let m = before u x c in below_more n x (omega arith)))
+
+  below_enough : (n u : ℕ) → u < n → below n sites u ≡ below (suc u) sites u
+  below_enough zero u l = absurd (omega arith)
+  below_enough (suc n) u l =
+      elim (cases_lt u n) [
+        | inl m ↦ below_more n u m ∙ below_enough n u m
+        | inr m ↦ let e : n ≡ u = omega (arith, l, m) in ap (λ k. below (suc k) sites u) e
+      ]
+
+  pub below_within : (n s u : ℕ) → Contains (below n sites s) u → u ≤ s
+  below_within zero s u c = absurd (nothing_in u c)
+  below_within (suc n) s u c =
+      elim (in_cases s u (flat_map (below n sites) (sources_at sites s)) c) [
+        | inl e ↦ omega (arith, e)
+        | inr d ↦
+            let r = from_flat_map (below n sites) (sources_at sites s) u d in
+            let l = before s r.0 r.1 in
+            let m = below_within n r.0 u r.2 in
+            omega (arith, l, m)
+      ]
+
+  -- below a call stands the call, and what is under it
+  pub call_or_under : (source t : ℕ) → Contains (all_below sites (source ∷ [])) t → (source ≡ t) ⊎ Contains (under sites (source ∷ [])) t
+  call_or_under source t c =
+      let a = from_flat_map (λ s. below (suc s) sites s) (source ∷ []) t c in
+      let k : Contains (below (suc source) sites source) t = subst (λ s. Contains (below (suc s) sites s) t) (sym (in_alone source a.0 a.1)) a.2 in
+      elim (in_cases source t (flat_map (below source sites) (sources_at sites source)) k) [
+        | inl e ↦ inl e
+        | inr r ↦
+            let u = from_flat_map (below source sites) (sources_at sites source) t r in
+            let l = before source u.0 u.1 in
+            inr (in_flat_map (λ s. all_below sites (sources_at sites s)) (source ∷ []) source t (in_head source [])
+            (in_flat_map (λ x. below (suc x) sites x) (sources_at sites source) u.0 t u.1 (subst (λ xs. Contains xs t) (below_enough source u.0 l) u.2)))
+      ]
+
+  pub under_below : (source t : ℕ) → Contains (under sites (source ∷ [])) t → Contains (all_below sites (source ∷ [])) t
+  under_below source t c =
+      let a = from_flat_map (λ s. all_below sites (sources_at sites s)) (source ∷ []) t c in
+      let b = from_flat_map (λ u. below (suc u) sites u) (sources_at sites a.0) t a.2 in
+      let e = in_alone source a.0 a.1 in
+      let k : Contains (sources_at sites source) b.0 = subst (λ s. Contains (sources_at sites s) b.0) (sym e) b.1 in
+      let l = before source b.0 k in
+      in_flat_map (λ s. below (suc s) sites s) (source ∷ []) source t (in_head source [])
+      (below_source sites source source b.0 t k (subst (λ xs. Contains xs t) (sym (below_enough source b.0 l)) b.2))

@@ -1,0 +1,178 @@
+-- The run of a sound tree of a multi term collects the bag of its rules' results.
+use Rattle.std.proofs.Common.{◌≡◌, ℕ, zero, suc, ◌+◌, ◌<◌, Bool, true, false, ◌&&◌, List, [], ◌∷◌, ◌++◌, map, filter, flat_map, length, Some, slice_get, Contains, IsTrue, refl, sym, ap, ◌∙◌, subst, arith}
+use Rattle.std.specs.Prelude.{IsPermutation}
+use Rattle.std.proofs.lemmas.Bool.{cond-true, cond-false, false≢true}
+use Rattle.std.proofs.lemmas.Option.{slice_get_within}
+use Rattle.std.proofs.lemmas.List.{append-nil}
+use Rattle.std.proofs.lemmas.List.Elements.{Contains-append_left, Contains-append_right, All-contains}
+use Rattle.std.proofs.lemmas.List.Sorted.{IsPermutation-refl, IsPermutation-trans}
+use Rattle.std.proofs.lemmas.Grind.{flat_map-append}
+use Rattle.isle_model.specs.rules.Meaning.{Content, contents}
+use Rattle.isle_model.specs.rules.Outcome.{Outcome, ran_through}
+use Rattle.isle_model.specs.rules.Picks.{Pick, picks_over}
+use Rattle.isle_model.specs.rules.Program.{numbers_from}
+use Rattle.isle_model.specs.sites.Sites.{Site, constructor_site, SetRule, unfold_site}
+use Rattle.isle_model.specs.sites.Gates.{gate_demanded}
+use Rattle.isle_model.specs.trees.Trees.{Tree, step, return_at, Marked, marks}
+use Rattle.isle_model.specs.trees.Places.{Around, is_in, available, below, all_below, bind_order, return_uses}
+use Rattle.isle_model.specs.trees.Run.{World, Env, Trace, returned, ending_at, with_content, or_next, for_each, run_tree, run}
+use Rattle.isle_model.specs.trees.Sound.{IsTested, ReturnsEach, IsSound}
+use Rattle.isle_model.specs.trees.Collects.{Collects, content_at, demands_hold, as_list, result_in, sites_of_rule, calls_nothing, IsPureSite, calls_gone_over, set_bag, IsCollectedRule, IsCollectedSet, ServesSet, SoundTreesCollect}
+use Rattle.isle_model.specs.trees.SetRuns.{tested_sites}
+use Rattle.isle_model.proofs.Bags.{as_numbers, of_numbers}
+use Rattle.isle_model.proofs.Members.{in_head, in_alone, some_member, member_from_get, get_within, in_flat_map}
+use Rattle.isle_laws_runs.proofs.picks.Calls.{filters_same}
+use Rattle.isle_laws_runs.proofs.runs.Below.{IsPureBelow, below_within}
+use Rattle.isle_laws_runs.proofs.runs.BindOrders.{Finds}
+use Rattle.isle_laws_runs.proofs.runs.Standing.{IsClear, IsClearSet, ServesUnder, IsGoneOver, At, wider, set_of, found_at, binds_at, ready_here, holds_here}
+use Rattle.isle_laws_runs.proofs.runs.Steps.{trace, step_runs}
+use Rattle.isle_laws_runs.proofs.runs.Claims.{IsKept, says_of_run}
+use Rattle.isle_laws_runs.proofs.runs.Added.{Adds, adds_none, adds_then, adds_as, each_adds}
+use Rattle.isle_laws_runs.proofs.runs.Left.{is_left, left_of, left, left_nothing, none_left, longer, loop_first}
+
+and_yes : (b : Bool) → (b && true) ≡ b
+and_yes true = refl
+and_yes false = refl
+
+zero_plus : (n : ℕ) → 0 + n ≡ n
+zero_plus n = omega arith
+
+none_pass : {X : Type 0} (P : ℕ → Bool) (i : ℕ) (xs : List X) → ((t : ℕ) → P t ≡ false) → filter P (numbers_from i xs) ≡ []
+none_pass P i [] h = refl
+none_pass P i (x ∷ xs) h = cond-false (P i) (i ∷ filter P (numbers_from (suc i) xs)) (filter P (numbers_from (suc i) xs)) (h i) ∙ none_pass P (suc i) xs h
+
+-- pure sites
+pure_site : (b : Site) → calls_nothing (Some b) ≡ true → IsPureSite b
+pure_site (constructor_site term sources zero) h = tt
+pure_site (constructor_site term sources (suc instance)) h = absurd (false≢true h)
+pure_site _ h = tt
+
+nothing_called : (b : Site) → IsPureSite b → calls_nothing (Some b) ≡ true
+nothing_called (constructor_site term sources zero) h = refl
+nothing_called (constructor_site term sources (suc instance)) h = absurd h
+nothing_called _ h = refl
+
+module _ (w : World) (rules : List SetRule) (built : IsCollectedSet (set_of w rules)) (served : ServesSet (set_of w rules) w) (multi : w.multi ≡ true) where
+  -- 1. what is asked of the set, and of the world under every pick
+  rule_of : (r : SetRule) → Contains rules r → IsCollectedRule w.sites r
+  rule_of r c = All-contains (IsCollectedRule w.sites) rules r built.rules c
+
+  site_clear : (r : SetRule) → Contains rules r → (s : ℕ) → Contains (sites_of_rule r) s → IsClear w.sites r s
+  site_clear r known s c = record {
+    pure = λ u k.
+        let l = All-contains (λ x. x < length w.sites) (sites_of_rule r) s (rule_of r known).known c in
+        let m = below_within w.sites built.sources (suc s) s u k in
+        let b = get_within w.sites u (omega (arith, l, m)) in
+        let p = All-contains (λ x. IsTrue (calls_nothing (slice_get w.sites x))) (all_below w.sites (sites_of_rule r)) u (rule_of r known).pure (in_flat_map (λ x. below (suc x) w.sites x) (sites_of_rule r) s u c k) in
+        (b.0, b.1, pure_site b.0 (sym (ap calls_nothing b.1) ∙ p));
+    gates = λ u k. All-contains (λ x. IsTrue (gate_demanded r (slice_get w.sites x))) (all_below w.sites (sites_of_rule r)) u (rule_of r known).gates (in_flat_map (λ x. below (suc x) w.sites x) (sites_of_rule r) s u c k);
+  }
+
+  clear : IsClearSet w rules
+  clear = record {
+    once = built.once;
+    sources = built.sources;
+    tested = λ r known s c. site_clear r known s (Contains-append_left (tested_sites r ++ r.iterators) (r.result ∷ []) s (Contains-append_left (tested_sites r) r.iterators s c));
+    gone_over = λ r known s c. site_clear r known s (Contains-append_left (tested_sites r ++ r.iterators) (r.result ∷ []) s (Contains-append_right (tested_sites r) r.iterators s c));
+  }
+
+  result_clear : (r : SetRule) → Contains rules r → IsClear w.sites r r.result
+  result_clear r known = site_clear r known r.result (Contains-append_right (tested_sites r ++ r.iterators) (r.result ∷ []) r.result (in_head r.result []))
+
+  finds : (k : Pick) → Finds w k
+  finds k s p n all = served.found k s (slice_get_within w.sites s p.0 p.1) n (ap calls_nothing p.1 ∙ nothing_called p.0 p.2) all
+
+  serves : (k : Pick) → ServesUnder w rules k
+  serves k = record { found = finds k; lists = served.lists k; values = served.values k; fields = served.fields k; apart = served.apart k }
+
+  -- 2. a run adds what is left
+  abbrev Says : List ℕ → Pick → List ℕ → (Trace → Outcome) → Type 0
+  Says looped pick ids go = (done : List Content) → Adds (go (trace done)) done (left w rules looped pick ids)
+
+  joined_left : (looped : List ℕ) (pick : Pick) (here later : List ℕ) → left w rules looped pick (here ++ later) ≡ left w rules looped pick here ++ left w rules looped pick later
+  joined_left looped pick here later = flat_map-append (λ i. left_of w rules looped pick (slice_get rules i)) here later
+
+  adds_next : (looped : List ℕ) (pick : Pick) (here later : List ℕ) (go rest : Trace → Outcome) → Says looped pick here go → Says looped pick later rest → Says looped pick (here ++ later) (λ t. or_next (go t) rest)
+  adds_next looped pick here later go rest first next done =
+      subst (Adds (or_next (go (trace done)) rest) done) (sym (joined_left looped pick here later))
+      (adds_then (go (trace done)) rest done (left w rules looped pick here) (left w rules looped pick later) (first done) next)
+
+  -- a return of a rule all of whose demands were tested
+  return_adds : (ar : Around) (pick : Pick) (env : Env) → At w rules ar pick env → (i : ℕ) (r : SetRule) → slice_get rules i ≡ Some r → IsTested ar r → (rest : Tree) (later : List ℕ)
+      → (w.multi ≡ true → (env' : Env) → At w rules (wider w.sites ar (return_uses (Some r))) pick env' → Says ar.looped pick later (run_tree rest w env'))
+      → Says ar.looped pick (i ∷ later) (run_tree (step (bind_order w.sites ar (return_uses (Some r))) (return_at r.at r.result) rest) w env)
+  return_adds ar pick env at i r get all rest later next done =
+      let known = member_from_get rules i r get in
+      let ready = result_clear r known in
+      let avail = ready_here w rules clear ar pick env at r known all r.result ready in
+      let x = found_at w rules clear ar pick env at r.result avail ready.pure in
+      let only : return_uses (Some r) ≡ r.result ∷ [] = ap (λ l. l ++ r.result ∷ []) (rule_of r known).no_calls in
+      let alone : (s : ℕ) → Contains (return_uses (Some r)) s → r.result ≡ s = λ s c. in_alone r.result s (subst (λ l. Contains l s) only c) in
+      let b = binds_at w rules clear ar pick env at (return_uses (Some r)) (λ s c. subst (λ t. IsTrue (available w.sites ar t)) (alone s c) avail) (λ s c. subst (IsPureBelow w.sites) (alone s c) ready.pure) in
+      let read = b.3 r.result (subst (λ l. Contains l r.result) (sym only) (in_head r.result [])) ∙ x.1 in
+      let one_left : left_of w rules ar.looped pick (slice_get rules i) ≡ x.0 ∷ [] =
+      ap (left_of w rules ar.looped pick) get
+      ∙ ap (λ l. flat_map (result_in w r) (picks_over w.meaning w.args pick (map (unfold_site w.sites) l))) (none_pass (is_left w rules ar.looped r) 0 w.sites (none_left w rules ar r all))
+      ∙ append-nil (result_in w r pick)
+      ∙ cond-true (demands_hold w pick r) (as_list (content_at w pick r.result)) [] (holds_here w rules clear ar pick env at r known all)
+      ∙ ap as_list x.1 in
+      let path =
+      step_runs w (bind_order w.sites ar (return_uses (Some r))) (return_at r.at r.result) rest env b.0 done b.1
+      ∙ ap (λ o. or_next (with_content o (trace done) (returned w.multi (trace done))) (run_tree rest w b.0)) read
+      ∙ ap (λ m. or_next (returned m (trace done) x.0) (run_tree rest w b.0)) multi in
+      subst (λ o. Adds o done (left w rules ar.looped pick (i ∷ later))) (sym path)
+      (adds_then (returned true (trace done) x.0) (run_tree rest w b.0) done (left_of w rules ar.looped pick (slice_get rules i)) (left w rules ar.looped pick later)
+      (x.0 ∷ [], refl, subst (λ l. IsPermutation l (x.0 ∷ [])) (sym one_left) (IsPermutation-refl (x.0 ∷ [])))
+      (next multi b.0 b.2))
+
+  adds_kept : IsKept w rules Says
+  adds_kept = record {
+    alike = λ looped pick ids run go same says done. subst (λ o. Adds o done (left w rules looped pick ids)) (sym (same done)) (says done);
+    nothing = λ looped pick ids never done. subst (Adds (ending_at ran_through (trace done)) done) (sym (left_nothing w rules serves looped pick ids never)) (adds_none done);
+    first = λ looped pick here later go never says done.
+        let alone = joined_left looped pick here later ∙ ap (λ l. left w rules looped pick here ++ l) (left_nothing w rules serves looped pick later never) ∙ append-nil (left w rules looped pick here) in
+        subst (Adds (go (trace done)) done) (sym alone) (says done);
+    second = λ looped pick here later go never says done.
+        let alone = joined_left looped pick here later ∙ ap (λ l. l ++ left w rules looped pick later) (left_nothing w rules serves looped pick here never) in
+        subst (Adds (go (trace done)) done) (sym alone) (says done);
+    next = λ looped pick here later go rest higher says then. adds_next looped pick here later go rest says then;
+    goes_over = λ ar pick env at source cs list out ids some known over go says done.
+        let m = some_member ids some in
+        let g = get_within rules m.0 (known m.0 m.1) in
+        let gone : IsGoneOver rules source = (g.0, member_from_get rules m.0 g.0 g.1, over m.0 g.0 m.1 g.1) in
+        let pick_of : ℕ → Pick = longer w rules clear ar pick env at source cs list gone out in
+        adds_as (for_each (contents cs) go (trace done)) done (left w rules ar.looped pick ids) _ (loop_first w rules clear ar pick env at source cs list gone out ids known over)
+        (each_adds go (λ n. left w rules (source ∷ ar.looped) (pick_of n) ids) 0 (contents cs)
+        (λ j c e now. subst (λ n. Adds (go c (trace now)) now (left w rules (source ∷ ar.looped) (pick_of n) ids)) (sym (zero_plus j)) (says j c e now))
+        done);
+    returns = λ ar pick env at i r get all rest later higher go. return_adds ar pick env at i r get all rest later go;
+  }
+
+  -- 3. the returns are the rules, each once
+  whole_bag : (m : Marked) (tree : Tree) → ReturnsEach (set_of w rules) tree m → IsPermutation (set_bag (set_of w rules) w) (left w rules [] [] (marks m))
+  whole_bag m tree returns =
+      subst (λ l. IsPermutation l (left w rules [] [] (marks m)))
+      (of_numbers (λ i. left_of w rules [] [] (slice_get rules i)) (λ r. flat_map (result_in w r) (picks_over w.meaning w.args [] (calls_gone_over (set_of w rules) r))) 0 rules
+      (λ j r e.
+      ap (λ n. left_of w rules [] [] (slice_get rules n)) (zero_plus j)
+      ∙ ap (left_of w rules [] []) e
+      ∙ ap (λ l. flat_map (result_in w r) (picks_over w.meaning w.args [] (map (unfold_site w.sites) l))) (filters_same (λ s. is_in s r.iterators) (is_left w rules [] r) 0 w.sites (λ t l. and_yes (is_in t r.iterators)))))
+      (as_numbers (λ i. left_of w rules [] [] (slice_get rules i)) 0 rules (marks m) (λ j l u. returns.once j (omega (arith, u)))
+      (λ j c. let k = All-contains (λ i. i < length rules) (marks m) j returns.known c in (omega arith, omega (arith, k))))
+
+  pub collected : (tree : Tree) → IsSound (set_of w rules) w.multi tree → Collects (run tree w) (set_bag (set_of w rules) w)
+  collected tree sound =
+      let a = says_of_run w rules clear (λ s g. serves) Says adds_kept tree sound (serves []) [] in
+      record {
+        calls = ap (λ o. o.calls) a.1;
+        ending = ap (λ o. o.ending) a.1;
+        same = subst (IsPermutation (set_bag (set_of w rules) w)) (sym (ap (λ o. o.results) a.1)) (IsPermutation-trans (set_bag (set_of w rules) w) (left w rules [] [] (marks sound.marked)) a.0 (whole_bag sound.marked tree sound.returns) a.2);
+      }
+
+pub sound_trees_collect_lem : SoundTreesCollect
+sound_trees_collect_lem set tree w built served multi sound =
+    subst (λ sites. IsCollectedSet (record { rules = set.rules; sites = sites }) → ServesSet (record { rules = set.rules; sites = sites }) w → IsSound (record { rules = set.rules; sites = sites }) w.multi tree
+    → Collects (run tree w) (set_bag (record { rules = set.rules; sites = sites }) w))
+    served.sites
+    (λ built' served' sound'. collected w set.rules built' served' multi tree sound')
+    built served (subst (λ b. IsSound set b tree) (sym multi) sound)

@@ -1,0 +1,132 @@
+-- One step of a run at a place of a sound tree: what it comes to, and where the run stands then.
+use Rattle.std.proofs.Common.{◌≡◌, ◌⊎◌, ℕ, List, [], ◌∷◌, Option, Some, None, is_some, slice_get, Contains, IsTrue, refl, sym, ap, ap₂, ◌∙◌, subst, inl, inr, true}
+use Rattle.std.proofs.lemmas.Bool.{cases_Bool, cond-true, cond-false, both_ways}
+use Rattle.isle_model.specs.rules.Values.{Value, value_eq}
+use Rattle.isle_model.specs.rules.Meaning.{Content, one, many, Contents, contents}
+use Rattle.isle_model.specs.rules.Outcome.{Outcome, ran_through, then_option}
+use Rattle.isle_model.specs.rules.Picks.{Pick}
+use Rattle.isle_model.specs.sites.Sites.{iterator_site, Constraint, SetRule}
+use Rattle.isle_model.specs.trees.Trees.{Tree, step, Check, match_at, equal_at, loop_at, Arms, arm}
+use Rattle.isle_model.specs.trees.Places.{Around, joins_in, available, all_below, fields_of, field_sites, bind_order, in_arm}
+use Rattle.isle_model.specs.trees.Run.{World, Env, used, as_value, bind_all, all_bound, Trace, content_fields, on_met, on_equal, on_many, iterated, with_env, with_content, with_bound, ending_at, or_next, for_each, run_tree, run_check, run_arms}
+use Rattle.isle_model.specs.trees.Collects.{content_at, meets}
+use Rattle.isle_model.specs.trees.SetRuns.{IsPureAt}
+use Rattle.isle_model.proofs.ValuesEqual.{eq_means, eq_same}
+use Rattle.isle_model.proofs.Members.{in_head, in_tail, in_cases, in_alone}
+use Rattle.isle_model.proofs.Numbers.{in_first}
+use Rattle.isle_laws_runs.proofs.runs.Below.{IsPureBelow, all_below_itself}
+use Rattle.isle_laws_runs.proofs.runs.Demanded.{joined_back}
+use Rattle.isle_laws_runs.proofs.runs.Fields.{FieldsHold, fields_hold, fields_bound, fields_pure}
+use Rattle.isle_laws_runs.proofs.runs.Standing.{IsClearSet, Kept, At, wider, set_of, found_at, binds_at, at_arm}
+
+-- where a run stands that made no impure call
+abbrev pub trace : List Content → Trace
+trace done = record { calls = []; results = done }
+
+-- a step whose sites are bound
+pub step_runs : (w : World) (binds : List ℕ) (check : Check) (rest : Tree) (env env' : Env) (done : List Content) → bind_all w env [] binds ≡ all_bound env' []
+    → run_tree (step binds check rest) w env (trace done) ≡ or_next (run_check check w env' (trace done)) (run_tree rest w env')
+step_runs w binds check rest env env' done h = ap (λ b. with_bound b (trace done) (λ env'' t. or_next (run_check check w env'' t) (run_tree rest w env''))) h
+
+-- two values are one, or an equality goes on without its body
+pub values_cases : (u v : Value)
+    → (((o : Option Content) → o ≡ Some (one v) → o ≡ Some (one u)) × ((t : Trace) (body : Outcome) → on_equal (Some u) (Some v) t body ≡ body)) ⊎ ((u ≡ v → ⊥) × ((t : Trace) (body : Outcome) → on_equal (Some u) (Some v) t body ≡ ending_at ran_through t))
+values_cases u v =
+    elim (cases_Bool (value_eq u v)) [
+      | inl y ↦ inl (λ o e. e ∙ ap (λ x. Some (one x)) (sym (eq_means u v y)), λ t body. cond-true (value_eq u v) body (ending_at ran_through t) y)
+      | inr n ↦ inr (λ e. both_ways (value_eq u v) n (ap (value_eq u) (sym e) ∙ eq_same u), λ t body. cond-false (value_eq u v) body (ending_at ran_through t) n)
+    ]
+
+pub fields_cases : (o : Option (List Content)) → ((cs : List Content) × (o ≡ Some cs)) ⊎ (o ≡ None)
+fields_cases None = inr refl
+fields_cases (Some cs) = inl (cs, refl)
+
+module _ (w : World) (rules : List SetRule) (clear : IsClearSet w rules) (ar : Around) (pick : Pick) (env : Env) where
+  -- a run with more results before it goes on alike
+  abbrev RunsAs : (Trace → Outcome) → (Trace → Outcome) → Type 0
+  RunsAs run go = (done : List Content) → run (trace done) ≡ go (trace done)
+
+  -- 1. a match of an available site
+  pub match_step : At w rules ar pick env → (binds : List ℕ) (source : ℕ) (arms : Arms) (rest : Tree) → binds ≡ bind_order w.sites ar (source ∷ []) → IsTrue (available w.sites ar source) → IsPureBelow w.sites source
+      → (x : Content) × (env' : Env) × (content_at w pick source ≡ Some x) × At w rules (wider w.sites ar (source ∷ [])) pick env'
+      × RunsAs (run_tree (step binds (match_at source arms) rest) w env) (λ t. or_next (run_arms arms w x env' t) (run_tree rest w env'))
+  match_step at binds source arms rest same avail pure =
+      let x = found_at w rules clear ar pick env at source avail pure in
+      let b = binds_at w rules clear ar pick env at (source ∷ []) (λ s c. subst (λ t. IsTrue (available w.sites ar t)) (in_alone source s c) avail) (λ s c. subst (IsPureBelow w.sites) (in_alone source s c) pure) in (
+        x.0,
+        b.0,
+        x.1,
+        b.2,
+        λ done.
+            step_runs w binds (match_at source arms) rest env b.0 done (ap (bind_all w env []) same ∙ b.1)
+            ∙ ap (λ o. or_next (with_content o (trace done) (λ c. run_arms arms w c b.0 (trace done))) (run_tree rest w b.0)) (b.3 source (in_head source []) ∙ x.1),
+      )
+
+  -- 2. an equality of available sites
+  pub equal_step : At w rules ar pick env → (binds : List ℕ) (a b : ℕ) (body rest : Tree) (r : SetRule) → Contains rules r → IsTrue (joins_in r.classes a b)
+      → binds ≡ bind_order w.sites ar (a ∷ (b ∷ [])) → IsTrue (available w.sites ar a) → IsPureBelow w.sites a → IsTrue (available w.sites ar b) → IsPureBelow w.sites b
+      → (u : Value) × (v : Value) × (env' : Env) × (content_at w pick a ≡ Some (one u)) × (content_at w pick b ≡ Some (one v)) × At w rules (wider w.sites ar (a ∷ (b ∷ []))) pick env'
+      × RunsAs (run_tree (step binds (equal_at a b body) rest) w env) (λ t. or_next (on_equal (Some u) (Some v) t (run_tree body w env' t)) (run_tree rest w env'))
+  equal_step at binds a b body rest r known join same avail_a pure_a avail_b pure_b =
+      let x = found_at w rules clear ar pick env at a avail_a pure_a in
+      let y = found_at w rules clear ar pick env at b avail_b pure_b in
+      let u = at.served.values r a b x.0 known join x.1 in
+      let v = at.served.values r b a y.0 known (joined_back r.classes a b join) y.1 in
+      let e = x.1 ∙ ap Some u.1 in
+      let f = y.1 ∙ ap Some v.1 in
+      let m = binds_at w rules clear ar pick env at (a ∷ (b ∷ []))
+      (λ s c. elim (in_cases a s (b ∷ []) c) [ inl e ↦ subst (λ t. IsTrue (available w.sites ar t)) e avail_a | inr d ↦ subst (λ t. IsTrue (available w.sites ar t)) (in_alone b s d) avail_b ])
+      (λ s c. elim (in_cases a s (b ∷ []) c) [ inl e ↦ subst (IsPureBelow w.sites) e pure_a | inr d ↦ subst (IsPureBelow w.sites) (in_alone b s d) pure_b ]) in (
+        u.0,
+        v.0,
+        m.0,
+        e,
+        f,
+        m.2,
+        λ done.
+            step_runs w binds (equal_at a b body) rest env m.0 done (ap (bind_all w env []) same ∙ m.1)
+            ∙ ap₂ (λ s t. or_next (on_equal (then_option s as_value) (then_option t as_value) (trace done) (run_tree body w m.0 (trace done))) (run_tree rest w m.0))
+            (m.3 a (in_head a (b ∷ [])) ∙ e) (m.3 b (in_tail a b (b ∷ []) (in_head b [])) ∙ f),
+      )
+
+  -- 3. a loop over an available call of some rule
+  pub loop_step : At w rules ar pick env → (binds : List ℕ) (result source : ℕ) (body rest : Tree) (r : SetRule) → Contains rules r → Contains r.iterators source → slice_get w.sites result ≡ Some (iterator_site source)
+      → binds ≡ bind_order w.sites ar (source ∷ []) → IsTrue (available w.sites ar source)
+      → (cs : Contents) × (env' : Env) × (content_at w pick source ≡ Some (many cs)) × At w rules (wider w.sites ar (source ∷ [])) pick env'
+      × RunsAs (run_tree (step binds (loop_at result body) rest) w env) (λ t. or_next (for_each (contents cs) (λ c t'. run_tree body w ((result, c) ∷ env') t') t) (run_tree rest w env'))
+  loop_step at binds result source body rest r known over site same avail =
+      let pure = (clear.gone_over r known source over).pure in
+      let x = found_at w rules clear ar pick env at source avail pure in
+      let l = at.served.lists r source x.0 known over x.1 in
+      let e = x.1 ∙ ap Some l.1 in
+      let b = binds_at w rules clear ar pick env at (source ∷ []) (λ s c. subst (λ t. IsTrue (available w.sites ar t)) (in_alone source s c) avail) (λ s c. subst (IsPureBelow w.sites) (in_alone source s c) pure) in (
+        l.0,
+        b.0,
+        e,
+        b.2,
+        λ done.
+            step_runs w binds (loop_at result body) rest env b.0 done (ap (bind_all w env []) same ∙ b.1)
+            ∙ ap (λ o. or_next (on_many (then_option (then_option o iterated) (used w b.0)) (λ c t. run_tree body w ((result, c) ∷ b.0) t) (trace done)) (run_tree rest w b.0)) site
+            ∙ ap (λ o. or_next (on_many o (λ c t. run_tree body w ((result, c) ∷ b.0) t) (trace done)) (run_tree rest w b.0)) (b.3 source (in_head source []) ∙ e),
+      )
+
+  -- 4. an arm that is met, of a constraint that some rule asks for, and one that isn't
+  pub arm_step : (s : ℕ) (c : Constraint) (fields : List (Option ℕ)) (body : Tree) (rest : Arms) (x : Content) (cs : List Content) (r : SetRule) → At w rules (wider w.sites ar (s ∷ [])) pick env
+      → Contains rules r → Contains r.constraints (s, c) → fields ≡ fields_of w.sites s c → content_at w pick s ≡ Some x → content_fields w.meaning c x ≡ Some cs
+      → (env' : Env) × At w rules (in_arm (set_of w rules) ar s c fields) pick env' × RunsAs (run_arms (arm c fields body rest) w x env) (run_tree body w env')
+  arm_step s c fields body rest x cs r at known asks same e met =
+      let hold = fields_hold w pick clear.sources s c x cs e met (at.served.fields r s c x cs known asks e met) in
+      let kept : Kept (wider w.sites ar (s ∷ [])) at.calls s = inl (in_first s (all_below w.sites (s ∷ [])) ar.emitted (all_below_itself w.sites (s ∷ []) s (in_head s []))) in
+      let b = fields_bound w pick clear.sources s fields cs env (Kept (wider w.sites ar (s ∷ [])) at.calls) at.held kept (subst (λ l. FieldsHold w pick clear.sources s l cs) (sym same) hold) in
+      let fine = subst (λ l. (t : ℕ) → Contains (field_sites l) t → IsPureAt w.sites t) (sym same) (fields_pure w pick clear.sources s (fields_of w.sites s c) cs hold) in
+      let passes : meets w.meaning c (content_at w pick s) ≡ true = ap (meets w.meaning c) e ∙ ap is_some met in (
+        b.0,
+        at_arm w rules clear ar s c fields pick env b.0 at same passes fine b.2,
+        λ done.
+            ap (λ o. on_met o fields env (trace done) (λ e. run_tree body w e (trace done)) (run_arms rest w x env (trace done))) met
+            ∙ ap (λ o. with_env o (trace done) (λ e. run_tree body w e (trace done))) b.1,
+      )
+
+  pub arm_unmet : (c : Constraint) (fields : List (Option ℕ)) (body : Tree) (rest : Arms) (x : Content) → content_fields w.meaning c x ≡ None → RunsAs (run_arms (arm c fields body rest) w x env) (run_arms rest w x env)
+  arm_unmet c fields body rest x unmet done =
+      ap (λ o. on_met o fields env (trace done) (λ e. run_tree body w e (trace done)) (run_arms rest w x env (trace done))) unmet
