@@ -1,10 +1,14 @@
 pub mod Acyclic
 pub mod Converters
 pub mod FormedRules
+pub mod JudgedReading
+pub mod JudgedTerms
+pub mod JudgedTypes
 pub mod OwnTypes
 pub mod TableNames
 pub mod TermLaws
 pub mod TermTypes
+pub mod Twice
 pub mod TypeLaws
 pub mod TypedExprs
 pub mod TypedNames
@@ -12,4 +16,5 @@ pub mod TypedPatterns
 pub mod TypedResults
 pub mod TypedRules
 pub mod Typings
+pub mod UsesFound
 pub mod WellFormed

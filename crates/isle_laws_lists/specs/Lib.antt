@@ -1,3 +1,4 @@
+pub mod JudgeLaws
 pub mod OwnTypes
 pub mod TableLaws
 pub mod TypingLaws

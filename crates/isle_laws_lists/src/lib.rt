@@ -7,6 +7,7 @@ ghost use Rattle.isle_laws_lists.specs.TypingLaws.{PatternsAgree, ExprsAgree, Ru
 ghost use Rattle.isle_laws_lists.specs.TypingResults.{TypesAreExpected, VariablesAtPlaces, NamesStay, NamesStayInLists};
 ghost use Rattle.isle_model.specs.lists.Formed.{RulesAreFormed};
 ghost use Rattle.isle_laws_lists.specs.OwnTypes.{OwnTypesAreReadable};
+ghost use Rattle.isle_laws_lists.specs.JudgeLaws.{TypesAreJudged, CyclesAreFound, TermsAreJudged, DefinedAreJudged, ListsAreElaborated, ListsAreRead, ListsAreRefused};
 ghost use Rattle.isle_laws_lists.specs.TableLaws.{OwnTypesAreWellFormed, NamesStandOnce, NumbersStay, TypesStandAtIds, TypesAreFound, LastDefinitionCounts, TermsStandAtIds, TermsAreOfTypes, TermsHaveNames, TermsAreFound, TypesMakeTerms, ConvertersStandOnce};
 
 /// A pattern becomes by the rules of typing what the function gives, and nothing where it gives nothing.
@@ -143,4 +144,43 @@ pub fn types_make_terms()
 /// In a valid list no two converters have one pair of types.
 pub fn converters_stand_once()
     ensures { ConvertersStandOnce }
+{}
+
+/// The judge of types is exact.
+#[tactic(auto, using(crate::proofs::JudgedTypes::types_are_judged_lem))]
+pub fn types_are_judged()
+    ensures { TypesAreJudged }
+{}
+
+/// The search for extractors that come back to themselves is exact.
+#[tactic(auto, using(crate::proofs::UsesFound::cycles_are_found_lem))]
+pub fn cycles_are_found()
+    ensures { CyclesAreFound }
+{}
+
+/// The judge of terms is exact.
+#[tactic(auto, using(crate::proofs::JudgedTerms::terms_are_judged_lem))]
+pub fn terms_are_judged()
+    ensures { TermsAreJudged }
+{}
+
+/// The test that all declared terms are defined is exact.
+#[tactic(auto, using(crate::proofs::JudgedTerms::defined_are_judged_lem))]
+pub fn defined_are_judged()
+    ensures { DefinedAreJudged }
+{}
+
+/// By types that can be read, the judge gives the typed rules of a list, and nothing where it has none.
+pub fn lists_are_elaborated()
+    ensures { ListsAreElaborated }
+{}
+
+/// So it does by a list's own types.
+pub fn lists_are_read()
+    ensures { ListsAreRead }
+{}
+
+/// It gives nothing exactly where a list isn't read.
+pub fn lists_are_refused()
+    ensures { ListsAreRefused }
 {}

@@ -2,4 +2,5 @@
 pub mod Environments
 pub mod Headline
 pub mod Layers
+pub mod ReadJudge
 pub mod SetMeanings

@@ -4,6 +4,7 @@ pub mod Elaborates
 pub mod Expansions
 pub mod Formed
 pub mod KnownTypes
+pub mod ListJudge
 pub mod Names
 pub mod Setting
 pub mod Syntax

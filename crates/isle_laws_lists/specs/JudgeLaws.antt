@@ -1,0 +1,39 @@
+-- The judges of lists of definitions are exact.
+use Rattle.std.specs.Prelude.{◌≡◌, ◌↔◌, Bool, List, Some, None, Decides}
+use Rattle.isle_model.specs.lists.Syntax.{Definition}
+use Rattle.isle_model.specs.lists.TypeTable.{IsValidTypes}
+use Rattle.isle_model.specs.lists.KnownTypes.{KnownTypes}
+use Rattle.isle_model.specs.lists.TermTable.{IsAcyclic, IsValidTerms, AllDefined}
+use Rattle.isle_model.specs.lists.ListJudge.{has_valid_types, is_acyclic, has_valid_terms, all_defined}
+use Rattle.isle_model.specs.lists.Elaborated.{TypedRules}
+use Rattle.isle_model.specs.claims.Environments.{TypesRead, AreReadable, IsElaborated, IsRead}
+use Rattle.isle_model.specs.claims.ReadJudge.{elaborated_list, read_list}
+
+-- the judge says so exactly where a list has a type table
+abbrev pub TypesAreJudged : Type 0
+TypesAreJudged = (defs : List Definition) → Decides (has_valid_types defs) (IsValidTypes defs)
+
+-- the search finds a term that comes back to itself exactly where there is one
+abbrev pub CyclesAreFound : Type 0
+CyclesAreFound = (defs : List Definition) → Decides (is_acyclic defs) (IsAcyclic defs)
+
+-- the judge says so exactly where a list has a term table, by any types
+abbrev pub TermsAreJudged : Type 0
+TermsAreJudged = (k : KnownTypes) (defs : List Definition) → Decides (has_valid_terms k defs) (IsValidTerms k defs)
+
+abbrev pub DefinedAreJudged : Type 0
+DefinedAreJudged = (defs : List Definition) → Decides (all_defined defs) (AllDefined defs)
+
+-- by types that can be read, the judge gives the typed rules of a list, and nothing where it has none
+abbrev pub ListsAreElaborated : Type 0
+ListsAreElaborated =
+    (e : TypesRead) (defs : List Definition) (expand : Bool) (rules : TypedRules) → AreReadable e
+    → (elaborated_list e defs expand ≡ Some rules) ↔ IsElaborated e defs expand rules
+
+-- so it does of a list that is read with its own types
+abbrev pub ListsAreRead : Type 0
+ListsAreRead = (defs : List Definition) (expand : Bool) (rules : TypedRules) → (read_list defs expand ≡ Some rules) ↔ IsRead defs expand rules
+
+-- and gives nothing exactly where the list isn't read
+abbrev pub ListsAreRefused : Type 0
+ListsAreRefused = (defs : List Definition) (expand : Bool) → (read_list defs expand ≡ None) ↔ ((rules : TypedRules) → IsRead defs expand rules → ⊥)

@@ -1,0 +1,25 @@
+-- The judge of reading: the typed rules of a list of definitions, where it has some, by computing.
+use Rattle.std.specs.Prelude.{Bool, ◌&&◌, List, Option, Some, None, if◌then◌else◌}
+use Rattle.isle_model.specs.lists.Syntax.{Definition}
+use Rattle.isle_model.specs.lists.TermTable.{rule_trees, term_names_met}
+use Rattle.isle_model.specs.lists.ListJudge.{has_valid_types, has_valid_terms, all_defined}
+use Rattle.isle_model.specs.lists.Elaborated.{TypedRules, rule_names, elaborated_rules}
+use Rattle.isle_model.specs.trees.Best.{are_distinct}
+use Rattle.isle_model.specs.claims.Environments.{TypesRead, types_read, setting_of}
+
+-- typed rules of which no two have one name
+abbrev pub named_apart : Option TypedRules → Option TypedRules
+named_apart None = None
+named_apart (Some l) = if are_distinct (rule_names l.rules) then Some l else None
+
+-- the typed rules of a list that is read with types which can be read, where its terms are valid and defined, and each
+-- rule has a typed rule
+abbrev pub elaborated_list : TypesRead → List Definition → Bool → Option TypedRules
+elaborated_list e defs expand =
+    if has_valid_terms e.known defs && all_defined defs
+    then named_apart (elaborated_rules (setting_of e defs expand) (rule_trees defs) (term_names_met e.known defs))
+    else None
+
+-- the typed rules of a list that is read with its own types, where these are valid too
+abbrev pub read_list : List Definition → Bool → Option TypedRules
+read_list defs expand = if has_valid_types defs then elaborated_list (types_read defs) defs expand else None
