@@ -1,5 +1,5 @@
 -- Short forms of tables and of typed rules.
-use Rattle.std.specs.Prelude.{ℕ, ℤ, Bool, false, List, [], ◌∷◌, ◌++◌, Option, Some, None}
+use Rattle.std.specs.Prelude.{ℕ, suc, ℤ, Bool, false, List, [], ◌∷◌, ◌++◌, Option, Some, None}
 use Rattle.isle_model.specs.lists.Syntax.{PatternTree}
 use Rattle.isle_model.specs.lists.Tables.{FieldEntry, FieldEntries, VariantEntry, TypeEntry, enum_type, Flags, internal_constructor, external_constructor, internal_extractor, external_extractor, TermKindEntry, variant_term, declared_term, TermEntry}
 use Rattle.isle_model.specs.lists.TypeTable.{builtin_names, builtin_from}
@@ -89,6 +89,11 @@ typed_iflet q x = record { lhs = q; rhs = x }
 -- a variable by id, number of the name, and type
 abbrev pub typed_var : ℕ → ℕ → ℕ → TypedVar
 typed_var id number ty = record { id = id; name = number; ty = ty }
+
+-- variables of type u8 of these names, in order
+abbrev pub variables : ℕ → List ℕ → List TypedVar
+variables i [] = []
+variables i (number ∷ numbers) = typed_var i number u8 ∷ variables (suc i) numbers
 
 -- a rule of definition d, without if-lets
 abbrev pub typed : (id d root : ℕ) → ℤ → Option ℕ → List TypedVar → List TypedPattern → TypedExpr → TypedRule

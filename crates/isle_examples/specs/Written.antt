@@ -1,6 +1,6 @@
 -- Forms of definitions, written short: every place inside a definition is the same offset of the first file.
 use Rattle.std.specs.Prelude.{ℕ, zero, suc, ℤ, pos, true, false, List, [], ◌∷◌, Some, None, map, codes}
-use Rattle.isle_model.specs.lists.Syntax.{Position, Name, PatternTree, var_pattern, bind_pattern, int_pattern, term_pattern, wildcard_pattern, and_pattern, PatternTrees, no_pattern, pattern_and, ExprTree, term_expr, var_expr, int_expr, let_expr, ExprTrees, no_expr, expr_and, no_let, let_and, IfLetTree, FieldTree, TupleFieldTree, FieldTrees, struct_fields, VariantTree, TypeTree, primitive_value, enum_value, struct_value, DeclTree, ExtractorTree, Definition, type_definition, declaration, extractor_definition, converter_definition, rule_definition, extern_definition, extern_constructor, extern_extractor, extern_const}
+use Rattle.isle_model.specs.lists.Syntax.{Position, Name, PatternTree, var_pattern, bind_pattern, int_pattern, term_pattern, wildcard_pattern, and_pattern, PatternTrees, no_pattern, pattern_and, ExprTree, term_expr, var_expr, int_expr, let_expr, ExprTrees, no_expr, expr_and, no_let, let_and, RuleTree, FieldTree, TupleFieldTree, FieldTrees, struct_fields, VariantTree, TypeTree, primitive_value, enum_value, struct_value, DeclTree, ExtractorTree, Definition, type_definition, declaration, extractor_definition, converter_definition, rule_definition, extern_definition, extern_constructor, extern_extractor, extern_const}
 
 -- an offset in the first file
 abbrev pub at : ℕ → Position
@@ -128,18 +128,18 @@ call n t xs = term_expr (name n t) (exprs xs) (at n)
 abbrev pub let_one : ℕ → List ℕ → List ℕ → ExprTree → ExprTree → ExprTree
 let_one n x ty value body = let_expr (let_and (name n x) (name n ty) value (at n) no_let) body (at n)
 
--- a rule without a priority
+-- a rule: without a priority, with one, and with an if-let of a pattern and its value
+abbrev pub rule_tree : ℕ → PatternTree → ExprTree → RuleTree
+rule_tree n p x = record { pattern = p; iflets = []; expr = x; at = at n; prio = None; name = None }
+
 abbrev pub rule_to : ℕ → PatternTree → ExprTree → Definition
-rule_to n p x = rule_definition (record { pattern = p; iflets = []; expr = x; at = at n; prio = None; name = None })
+rule_to n p x = rule_definition (rule_tree n p x)
 
--- a rule with one
 abbrev pub rule_first : ℕ → ℤ → PatternTree → ExprTree → Definition
-rule_first n z p x = rule_definition (record { pattern = p; iflets = []; expr = x; at = at n; prio = Some z; name = None })
+rule_first n z p x = rule_definition (record (rule_tree n p x) { prio = Some z })
 
--- a rule with an if-let, of a pattern and its value
 abbrev pub rule_if : ℕ → PatternTree → PatternTree → ExprTree → ExprTree → Definition
-rule_if n p q value x =
-    rule_definition (record { pattern = p; iflets = record { pattern = q; expr = value; at = at n } ∷ []; expr = x; at = at n; prio = None; name = None })
+rule_if n p q value x = rule_definition (record (rule_tree n p x) { iflets = record { pattern = q; expr = value; at = at n } ∷ [] })
 
 -- the declaration of a term from u8 to u8
 abbrev pub numbers : ℕ → List ℕ → DeclTree
