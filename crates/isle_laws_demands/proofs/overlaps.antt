@@ -1,6 +1,7 @@
 -- Rules that overlap or are shadowed, and what is reported of them.
 pub mod Agreements
 pub mod Checked
+pub mod Judged
 pub mod Listed
 pub mod Masks
 pub mod Overlaps

@@ -1,3 +1,4 @@
+pub mod AcceptLaws
 pub mod ClosureLaws
 pub mod ReportLaws
 pub mod VisitLaws

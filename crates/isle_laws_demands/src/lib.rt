@@ -5,6 +5,7 @@
 #![tactic(auto)]
 
 ghost use Rattle.isle_laws_demands.specs.ClosureLaws.{JoinedIsEquivalence, ClassesBoundJoined, VerdictIsExact, NamesAreExact, ClosingAddsNothing, ConstraintsAreKept, ClosingIsSound, OverlapIsSymmetric, OverlapIsExact, ClashIsExact, FirstLimitIsPassed, PassedLimitIsMet, ClosingIsWhole, ReportsAreExact, ShadowsAreExact, VisitsMakeEqualSites, PlainClosingEnds};
+ghost use Rattle.isle_laws_demands.specs.AcceptLaws.{ElaboratedRulesHaveTerms, RulesAreJudged, ListsAreAccepted, ListsAreNotAccepted};
 ghost use Rattle.isle_laws_demands.specs.ReportLaws.{CheckIsExact, OverlapsAreListedOnce, ListedRulesOverlap, MasksAreReportedOnce, ReportedMasksShadow};
 ghost use Rattle.isle_laws_demands.specs.VisitLaws.{SitesStandOnce, FormedRulesDemandGates, ClosingKeepsGates, ElaboratedRulesDemandGates, BuiltRulesDemandGates, BuiltSetsAreWellBuilt, NoneAskedAndGoneOver, MultiCallsAreGoneOver, NoRuleAsksAndGoesOver, MultiTermsHaveOnePriority};
 ghost use Rattle.isle_model.specs.claims.SetMeanings.{BuiltSetsAreTested};
@@ -192,3 +193,24 @@ pub fn multi_terms_have_one_priority()
     rules_are_formed();
     lists_agree();
 }
+
+/// The term of each rule that elaborates is one of the table.
+pub fn elaborated_rules_have_terms()
+    ensures { ElaboratedRulesHaveTerms }
+{}
+
+/// The judge of rules is exact, where each rule's term is one of the program's.
+#[tactic(auto, using(crate::proofs::overlaps::Judged::rules_are_judged_lem))]
+pub fn rules_are_judged()
+    ensures { RulesAreJudged }
+{}
+
+/// The judge of acceptance gives the typed rules of a list that is accepted.
+pub fn lists_are_accepted()
+    ensures { ListsAreAccepted }
+{}
+
+/// It gives nothing exactly where a list isn't accepted.
+pub fn lists_are_not_accepted()
+    ensures { ListsAreNotAccepted }
+{}

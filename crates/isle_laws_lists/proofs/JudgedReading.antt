@@ -7,12 +7,12 @@ use Rattle.isle_model.specs.lists.TermTable.{rule_trees, term_names_met}
 use Rattle.isle_model.specs.lists.ListJudge.{has_valid_types, has_valid_terms, all_defined}
 use Rattle.isle_model.specs.lists.Elaborated.{TypedRules, rule_names, elaborated_rules}
 use Rattle.isle_model.specs.trees.Best.{are_distinct}
-use Rattle.isle_model.specs.claims.Environments.{TypesRead, types_read, setting_of, AreReadable, IsElaborated}
-use Rattle.isle_model.specs.claims.ReadJudge.{named_apart, elaborated_list, read_list}
+use Rattle.isle_model.specs.claims.Environments.{TypesRead, types_read, setting_of, IsElaborated}
+use Rattle.isle_model.specs.claims.ReadJudge.{are_readable, named_apart, elaborated_list, read_list}
 use Rattle.isle_laws_lists.specs.JudgeLaws.{ListsAreElaborated, ListsAreRead, ListsAreRefused}
 use Rattle.isle_laws_lists.proofs.Typings.{if_gives}
-use Rattle.isle_laws_lists.proofs.OwnTypes.{own_types_are_readable_lem}
 use Rattle.isle_laws_lists.proofs.Twice.{numbers_differ}
+use Rattle.isle_laws_lists.proofs.JudgedKnown.{read_types_are_judged_lem}
 use Rattle.isle_laws_lists.proofs.JudgedTypes.{types_are_judged_lem}
 use Rattle.isle_laws_lists.proofs.JudgedTerms.{terms_are_judged_lem, defined_are_judged_lem}
 
@@ -29,33 +29,37 @@ module _ (e : TypesRead) (defs : List Definition) (expand : Bool) (rules : Typed
   abbrev all_typed : Option TypedRules
   all_typed = elaborated_rules (setting_of e defs expand) (rule_trees defs) (term_names_met e.known defs)
 
-  elaborated : AreReadable e → elaborated_list e defs expand ≡ Some rules → IsElaborated e defs expand rules
-  elaborated readable h =
-      let p = if_gives (has_valid_terms e.known defs && all_defined defs) (named_apart all_typed) h in
-      let tests = and_parts (has_valid_terms e.known defs) (all_defined defs) p.0 in
+  abbrev tables : Bool
+  tables = are_readable e && has_valid_terms e.known defs && all_defined defs
+
+  elaborated : elaborated_list e defs expand ≡ Some rules → IsElaborated e defs expand rules
+  elaborated h =
+      let p = if_gives tables (named_apart all_typed) h in
+      let tests = and_parts (are_readable e && has_valid_terms e.known defs) (all_defined defs) p.0 in
+      let first = and_parts (are_readable e) (has_valid_terms e.known defs) tests.0 in
       let typed = apart_gives all_typed rules p.1 in
       record {
-        readable = readable;
-        terms = (terms_are_judged_lem e.known defs).0 tests.0;
+        readable = (read_types_are_judged_lem e).0 first.0;
+        terms = (terms_are_judged_lem e.known defs).0 first.1;
         defined = (defined_are_judged_lem defs).0 tests.1;
         elaborate = record { typed = typed.0; distinct = (numbers_differ (rule_names rules.rules)).0 typed.1 };
       }
 
   given : IsElaborated e defs expand rules → elaborated_list e defs expand ≡ Some rules
   given r =
-      let tests = and_from (has_valid_terms e.known defs) (all_defined defs) ((terms_are_judged_lem e.known defs).1 r.terms) ((defined_are_judged_lem defs).1 r.defined) in
-      cond-true (has_valid_terms e.known defs && all_defined defs) (named_apart all_typed) None tests
+      let first = and_from (are_readable e) (has_valid_terms e.known defs) ((read_types_are_judged_lem e).1 r.readable) ((terms_are_judged_lem e.known defs).1 r.terms) in
+      let tests = and_from (are_readable e && has_valid_terms e.known defs) (all_defined defs) first ((defined_are_judged_lem defs).1 r.defined) in
+      cond-true tables (named_apart all_typed) None tests
       ∙ subst (λ o. named_apart o ≡ Some rules) (sym r.elaborate.typed) (apart rules ((numbers_differ (rule_names rules.rules)).1 r.elaborate.distinct))
 
 pub lists_are_elaborated_lem : ListsAreElaborated
-lists_are_elaborated_lem e defs expand rules readable = (elaborated e defs expand rules readable, given e defs expand rules)
+lists_are_elaborated_lem e defs expand rules = (elaborated e defs expand rules, given e defs expand rules)
 
 pub lists_are_read_lem : ListsAreRead
 lists_are_read_lem defs expand rules = (
   (λ h.
       let p = if_gives (has_valid_types defs) (elaborated_list (types_read defs) defs expand) h in
-      let types = (types_are_judged_lem defs).0 p.0 in
-      record { types = types; elaborated = elaborated (types_read defs) defs expand rules (own_types_are_readable_lem defs types) p.1 }),
+      record { types = (types_are_judged_lem defs).0 p.0; elaborated = elaborated (types_read defs) defs expand rules p.1 }),
   λ r. cond-true (has_valid_types defs) (elaborated_list (types_read defs) defs expand) None ((types_are_judged_lem defs).1 r.types)
       ∙ given (types_read defs) defs expand rules r.elaborated,
 )

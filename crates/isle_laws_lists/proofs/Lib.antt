@@ -1,6 +1,7 @@
 pub mod Acyclic
 pub mod Converters
 pub mod FormedRules
+pub mod JudgedKnown
 pub mod JudgedReading
 pub mod JudgedTerms
 pub mod JudgedTypes

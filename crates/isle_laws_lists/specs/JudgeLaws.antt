@@ -2,12 +2,13 @@
 use Rattle.std.specs.Prelude.{◌≡◌, ◌↔◌, Bool, List, Some, None, Decides}
 use Rattle.isle_model.specs.lists.Syntax.{Definition}
 use Rattle.isle_model.specs.lists.TypeTable.{IsValidTypes}
-use Rattle.isle_model.specs.lists.KnownTypes.{KnownTypes}
+use Rattle.isle_model.specs.lists.KnownTypes.{KnownTypes, IsWellFormed}
 use Rattle.isle_model.specs.lists.TermTable.{IsAcyclic, IsValidTerms, AllDefined}
+use Rattle.isle_model.specs.lists.KnownJudge.{are_well_formed}
 use Rattle.isle_model.specs.lists.ListJudge.{has_valid_types, is_acyclic, has_valid_terms, all_defined}
 use Rattle.isle_model.specs.lists.Elaborated.{TypedRules}
 use Rattle.isle_model.specs.claims.Environments.{TypesRead, AreReadable, IsElaborated, IsRead}
-use Rattle.isle_model.specs.claims.ReadJudge.{elaborated_list, read_list}
+use Rattle.isle_model.specs.claims.ReadJudge.{are_readable, elaborated_list, read_list}
 
 -- the judge says so exactly where a list has a type table
 abbrev pub TypesAreJudged : Type 0
@@ -24,11 +25,18 @@ TermsAreJudged = (k : KnownTypes) (defs : List Definition) → Decides (has_vali
 abbrev pub DefinedAreJudged : Type 0
 DefinedAreJudged = (defs : List Definition) → Decides (all_defined defs) (AllDefined defs)
 
--- by types that can be read, the judge gives the typed rules of a list, and nothing where it has none
+-- the judge says so exactly where types that are handed in are well formed
+abbrev pub KnownTypesAreJudged : Type 0
+KnownTypesAreJudged = (k : KnownTypes) → Decides (are_well_formed k) (IsWellFormed k)
+
+-- and where rules can be read with them
+abbrev pub ReadTypesAreJudged : Type 0
+ReadTypesAreJudged = (e : TypesRead) → Decides (are_readable e) (AreReadable e)
+
+-- by any types, the judge gives the typed rules of a list, and nothing where it has none
 abbrev pub ListsAreElaborated : Type 0
 ListsAreElaborated =
-    (e : TypesRead) (defs : List Definition) (expand : Bool) (rules : TypedRules) → AreReadable e
-    → (elaborated_list e defs expand ≡ Some rules) ↔ IsElaborated e defs expand rules
+    (e : TypesRead) (defs : List Definition) (expand : Bool) (rules : TypedRules) → (elaborated_list e defs expand ≡ Some rules) ↔ IsElaborated e defs expand rules
 
 -- so it does of a list that is read with its own types
 abbrev pub ListsAreRead : Type 0

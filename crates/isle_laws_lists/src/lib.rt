@@ -7,7 +7,7 @@ ghost use Rattle.isle_laws_lists.specs.TypingLaws.{PatternsAgree, ExprsAgree, Ru
 ghost use Rattle.isle_laws_lists.specs.TypingResults.{TypesAreExpected, VariablesAtPlaces, NamesStay, NamesStayInLists};
 ghost use Rattle.isle_model.specs.lists.Formed.{RulesAreFormed};
 ghost use Rattle.isle_laws_lists.specs.OwnTypes.{OwnTypesAreReadable};
-ghost use Rattle.isle_laws_lists.specs.JudgeLaws.{TypesAreJudged, CyclesAreFound, TermsAreJudged, DefinedAreJudged, ListsAreElaborated, ListsAreRead, ListsAreRefused};
+ghost use Rattle.isle_laws_lists.specs.JudgeLaws.{TypesAreJudged, CyclesAreFound, TermsAreJudged, DefinedAreJudged, KnownTypesAreJudged, ReadTypesAreJudged, ListsAreElaborated, ListsAreRead, ListsAreRefused};
 ghost use Rattle.isle_laws_lists.specs.TableLaws.{OwnTypesAreWellFormed, NamesStandOnce, NumbersStay, TypesStandAtIds, TypesAreFound, LastDefinitionCounts, TermsStandAtIds, TermsAreOfTypes, TermsHaveNames, TermsAreFound, TypesMakeTerms, ConvertersStandOnce};
 
 /// A pattern becomes by the rules of typing what the function gives, and nothing where it gives nothing.
@@ -170,7 +170,19 @@ pub fn defined_are_judged()
     ensures { DefinedAreJudged }
 {}
 
-/// By types that can be read, the judge gives the typed rules of a list, and nothing where it has none.
+/// The judge of types that are handed in is exact.
+#[tactic(auto, using(crate::proofs::JudgedKnown::known_types_are_judged_lem))]
+pub fn known_types_are_judged()
+    ensures { KnownTypesAreJudged }
+{}
+
+/// So is the judge of types that rules can be read with.
+#[tactic(auto, using(crate::proofs::JudgedKnown::read_types_are_judged_lem))]
+pub fn read_types_are_judged()
+    ensures { ReadTypesAreJudged }
+{}
+
+/// By any types, the judge gives the typed rules of a list, and nothing where it has none.
 pub fn lists_are_elaborated()
     ensures { ListsAreElaborated }
 {}

@@ -1,4 +1,5 @@
 -- What each layer answers, up to the headline.
+pub mod AcceptJudge
 pub mod Environments
 pub mod Headline
 pub mod Layers

@@ -3,6 +3,7 @@ pub mod Elaborated
 pub mod Elaborates
 pub mod Expansions
 pub mod Formed
+pub mod KnownJudge
 pub mod KnownTypes
 pub mod ListJudge
 pub mod Names

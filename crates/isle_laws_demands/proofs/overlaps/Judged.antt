@@ -1,0 +1,77 @@
+-- The judge of acceptance gives the typed rules of an accepted list, and nothing where a list isn't accepted.
+use Rattle.std.proofs.Common.{◌≡◌, Bool, true, false, cond, List, [], ◌∷◌, Option, Some, None, slice_get, Decides, refl, sym, ap, ◌∙◌, subst}
+use Rattle.std.proofs.lemmas.Bool.{cond-true, false≢true}
+use Rattle.std.proofs.lemmas.Bool.Decides.{Decides-like}
+use Rattle.std.proofs.lemmas.Option.{none-some, same_Some, slice_get_within}
+use Rattle.isle_model.specs.lists.Syntax.{Definition}
+use Rattle.isle_model.specs.lists.Tables.{TermEntry}
+use Rattle.isle_model.specs.lists.Formed.{of_entry, is_formed_rule}
+use Rattle.isle_model.specs.lists.Elaborated.{TypedRules}
+use Rattle.isle_model.specs.rules.Outcome.{then_option}
+use Rattle.isle_model.specs.sites.Overlap.{RuleReport, check_reports}
+use Rattle.isle_model.specs.claims.Environments.{types_read, program_of}
+use Rattle.isle_model.specs.claims.Layers.{own_program, IsCheckable, IsAccepted}
+use Rattle.isle_model.specs.claims.ReadJudge.{read_list}
+use Rattle.isle_model.specs.claims.AcceptJudge.{is_checkable, accepted_list}
+use Rattle.isle_model.proofs.Elements.{in_from_contains}
+use Rattle.isle_laws_lists.proofs.FormedRules.{rules_are_formed}
+use Rattle.isle_laws_lists.proofs.TypedRules.{lists_agree}
+use Rattle.isle_laws_lists.proofs.Typings.{then_gives, if_gives}
+use Rattle.isle_laws_lists.proofs.JudgedReading.{lists_are_read_lem}
+use Rattle.isle_laws_demands.specs.AcceptLaws.{ElaboratedRulesHaveTerms, RulesAreJudged, ListsAreAccepted, ListsAreNotAccepted}
+use Rattle.isle_laws_demands.proofs.visits.Elaborated.{elaborated_rules_hang}
+use Rattle.isle_laws_demands.proofs.overlaps.Checked.{check_is_exact_lem}
+
+some_entry : (o : Option TermEntry) (f : TermEntry → Bool) → of_entry o f ≡ true → (t : TermEntry) × (o ≡ Some t)
+some_entry None f h = absurd (false≢true h)
+some_entry (Some t) f h = (t, refl)
+
+pub elaborated_rules_have_terms_lem : ElaboratedRulesHaveTerms
+elaborated_rules_have_terms_lem e defs expand rules h r c =
+    let p = program_of e defs rules.rules in
+    let formed : is_formed_rule p r ≡ true = (elaborated_rules_hang rules_are_formed lists_agree e defs expand rules h r (in_from_contains rules.rules r c)).0 in
+    let t = some_entry (slice_get p.terms r.root_term) _ formed in
+    slice_get_within p.terms r.root_term t.0 t.1
+
+none_left : (rs : List RuleReport) → Decides (elim rs [ [] ↦ true | x ∷ xs ↦ false ]) (rs ≡ [])
+none_left [] = (λ _. refl, λ _. refl)
+none_left (x ∷ xs) = (λ h. absurd (false≢true h), λ e. cc)
+
+pub rules_are_judged_lem : RulesAreJudged
+rules_are_judged_lem p terms =
+    let exact = check_is_exact_lem p terms in
+    Decides-like (is_checkable p)
+    (λ e. let f = exact.0 e in record { built = f.built; overlaps = f.overlaps; shadows = f.shadowed })
+    (λ c. exact.1 (record { built = c.built; overlaps = c.overlaps; shadowed = c.shadows }))
+    (none_left (check_reports p))
+
+module _ (defs : List Definition) (expand : Bool) where
+  judged : (rules : TypedRules) → read_list defs expand ≡ Some rules → Decides (is_checkable (own_program defs rules)) (IsCheckable (own_program defs rules))
+  judged rules h =
+      rules_are_judged_lem (own_program defs rules)
+      (elaborated_rules_have_terms_lem (types_read defs) defs expand rules ((lists_are_read_lem defs expand rules).0 h).elaborated)
+
+  accepted : (rules : TypedRules) → accepted_list defs expand ≡ Some rules → IsAccepted defs expand rules
+  accepted rules h =
+      let m = then_gives (read_list defs expand) _ h in
+      let p = if_gives (is_checkable (own_program defs m.0)) (Some m.0) m.2 in
+      let same : m.0 ≡ rules = same_Some m.0 rules p.1 in
+      subst (IsAccepted defs expand) same (record { read = (lists_are_read_lem defs expand m.0).0 m.1; checkable = (judged m.0 m.1).0 p.0 })
+
+  given : (rules : TypedRules) → IsAccepted defs expand rules → accepted_list defs expand ≡ Some rules
+  given rules a =
+      let h = (lists_are_read_lem defs expand rules).1 a.read in
+      ap (λ o. then_option o (λ r. cond (is_checkable (own_program defs r)) (Some r) None)) h
+      ∙ cond-true (is_checkable (own_program defs rules)) (Some rules) None ((judged rules h).1 a.checkable)
+
+pub lists_are_accepted_lem : ListsAreAccepted
+lists_are_accepted_lem defs expand rules = (accepted defs expand rules, given defs expand rules)
+
+pub lists_are_not_accepted_lem : ListsAreNotAccepted
+lists_are_not_accepted_lem defs expand = (
+  (λ h rules a. none-some rules (sym h ∙ given defs expand rules a)),
+  λ h. elim (accepted_list defs expand) as (λ o. accepted_list defs expand ≡ o → o ≡ None) [
+    | None ↦ λ _. refl
+    | Some rules ↦ λ e. absurd (h rules (accepted defs expand rules e))
+  ] refl,
+)
