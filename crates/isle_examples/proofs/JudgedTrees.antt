@@ -1,73 +1,113 @@
--- The printed trees are best, and the near misses are not: by the judge.
-use Rattle.std.proofs.Common.{◌≡◌, true, false, IsTrue, refl}
-use Rattle.std.proofs.lemmas.Bool.Decides.{not_from_Decides}
-use Rattle.isle_model.specs.sites.Sites.{SiteSet}
-use Rattle.isle_model.specs.trees.Trees.{Tree}
-use Rattle.isle_model.specs.trees.Best.{IsBestTree}
-use Rattle.isle_model.specs.trees.Judge.{is_best_tree, returns_apart}
-use Rattle.isle_examples.specs.MoreSets.{const_eq, const_eq_tree, wrap, wrap_tree, used_call, used_tree, multi_ext, multi_ext_tree, shared, shared_tree, emitted_first, emitted_first_tree, between, between_tree}
-use Rattle.isle_examples.specs.Sets.{fall, fall_tree, prio, prio_tree, equal, equal_tree, below, below_tree, variant_eq, variant_eq_tree, extract, extract_tree, partial, partial_tree, effects, effects_tree, multi, multi_tree, surplus, surplus_tree, ties, ties_tree}
-use Rattle.isle_examples.specs.NearMisses.{prio_exchanged, prio_leaves_out, prio_takes_in, prio_arms_exchanged, prio_other_arm, fall_empty_arm, fall_twice, fall_missing, fall_other_result, fall_returns_first, fall_untested, equal_exchanged, equal_tested, variant_eq_wrong_field, variant_eq_no_field, variant_eq_untested, extract_alone, extract_two_arms, extract_unbound, effects_reordered, multi_no_iterator, multi_no_loop, surplus_unbound, ties_exchanged, prio_alone, between_holds_more, equal_not_closed, emitted_last}
-use Rattle.isle_examples.specs.JudgedTrees.{PrintedTreesAreBest}
-use Rattle.isle_examples.specs.RefusedTrees.{NearMissesAreNotBest}
-use Rattle.isle_laws_trees.proofs.Marking.{tree_judge_is_exact_lem}
+-- The tree of each sample is best and sound; the trees near it are not best.
+use Rattle.std.proofs.Common.{true, false, refl}
+use Rattle.isle_examples.proofs.TreeStages.{judged, judged_multi, refused}
+use Rattle.isle_examples.specs.Below.{below_set, below_tree}
+use Rattle.isle_examples.specs.Between.{between_near_trees, between_set, between_tree}
+use Rattle.isle_examples.specs.ConstEq.{const_eq_set, const_eq_tree}
+use Rattle.isle_examples.specs.Effects.{effects_near_trees, effects_set, effects_tree}
+use Rattle.isle_examples.specs.EmittedFirst.{emitted_first_near_trees, emitted_first_set, emitted_first_tree}
+use Rattle.isle_examples.specs.Equal.{equal_near_trees, equal_set, equal_tree}
+use Rattle.isle_examples.specs.Extract.{extract_near_trees, extract_set, extract_tree}
+use Rattle.isle_examples.specs.Fall.{fall_near_trees, fall_set, fall_tree}
+use Rattle.isle_examples.specs.Impure.{impure_set, impure_tree}
+use Rattle.isle_examples.specs.Multi.{multi_near_trees, multi_set, multi_tree}
+use Rattle.isle_examples.specs.MultiExt.{multi_ext_set, multi_ext_tree}
+use Rattle.isle_examples.specs.Partial.{partial_set, partial_tree}
+use Rattle.isle_examples.specs.Prio.{prio_near_trees, prio_set, prio_tree}
+use Rattle.isle_examples.specs.Shared.{shared_set, shared_tree}
+use Rattle.isle_examples.specs.Stages.{AreRefused, IsJudged}
+use Rattle.isle_examples.specs.Surplus.{surplus_near_trees, surplus_set, surplus_tree}
+use Rattle.isle_examples.specs.Ties.{ties_near_trees, ties_set, ties_tree}
+use Rattle.isle_examples.specs.Used.{used_set, used_tree}
+use Rattle.isle_examples.specs.VariantEq.{variant_eq_near_trees, variant_eq_set, variant_eq_tree}
+use Rattle.isle_examples.specs.Wrap.{wrap_set, wrap_tree}
 
-passed : (set : SiteSet) (tree : Tree) → IsTrue (returns_apart set.rules) → is_best_tree set tree ≡ true → IsBestTree set tree
-passed set tree apart h = (tree_judge_is_exact_lem set tree apart).0 h
+pub const_eq_judged : IsJudged const_eq_set false const_eq_tree
+const_eq_judged = judged const_eq_set const_eq_tree refl refl refl refl
 
-refused : (set : SiteSet) (tree : Tree) → IsTrue (returns_apart set.rules) → is_best_tree set tree ≡ false → IsBestTree set tree → ⊥
-refused set tree apart h = not_from_Decides (is_best_tree set tree) (tree_judge_is_exact_lem set tree apart) h
+pub fall_judged : IsJudged fall_set false fall_tree
+fall_judged = judged fall_set fall_tree refl refl refl refl
 
-pub printed_trees_are_best_lem : PrintedTreesAreBest
-printed_trees_are_best_lem = (
-  passed fall fall_tree refl refl,
-  passed prio prio_tree refl refl,
-  passed equal equal_tree refl refl,
-  passed below below_tree refl refl,
-  passed variant_eq variant_eq_tree refl refl,
-  passed extract extract_tree refl refl,
-  passed partial partial_tree refl refl,
-  passed effects effects_tree refl refl,
-  passed multi multi_tree refl refl,
-  passed surplus surplus_tree refl refl,
-  passed ties ties_tree refl refl,
-  passed const_eq const_eq_tree refl refl,
-  passed wrap wrap_tree refl refl,
-  passed used_call used_tree refl refl,
-  passed multi_ext multi_ext_tree refl refl,
-  passed shared shared_tree refl refl,
-  passed emitted_first emitted_first_tree refl refl,
-  passed between between_tree refl refl,
-)
+pub prio_judged : IsJudged prio_set false prio_tree
+prio_judged = judged prio_set prio_tree refl refl refl refl
 
-pub near_misses_are_not_best_lem : NearMissesAreNotBest
-near_misses_are_not_best_lem = (
-  refused prio prio_exchanged refl refl,
-  refused prio prio_leaves_out refl refl,
-  refused prio prio_takes_in refl refl,
-  refused prio prio_arms_exchanged refl refl,
-  refused prio prio_other_arm refl refl,
-  refused fall fall_empty_arm refl refl,
-  refused fall fall_twice refl refl,
-  refused fall fall_missing refl refl,
-  refused fall fall_other_result refl refl,
-  refused fall fall_returns_first refl refl,
-  refused fall fall_untested refl refl,
-  refused equal equal_exchanged refl refl,
-  refused equal equal_tested refl refl,
-  refused variant_eq variant_eq_wrong_field refl refl,
-  refused variant_eq variant_eq_no_field refl refl,
-  refused variant_eq variant_eq_untested refl refl,
-  refused extract extract_alone refl refl,
-  refused extract extract_two_arms refl refl,
-  refused extract extract_unbound refl refl,
-  refused effects effects_reordered refl refl,
-  refused multi multi_no_iterator refl refl,
-  refused multi multi_no_loop refl refl,
-  refused surplus surplus_unbound refl refl,
-  refused ties ties_exchanged refl refl,
-  refused prio prio_alone refl refl,
-  refused between between_holds_more refl refl,
-  refused equal equal_not_closed refl refl,
-  refused emitted_first emitted_last refl refl,
-)
+pub equal_judged : IsJudged equal_set false equal_tree
+equal_judged = judged equal_set equal_tree refl refl refl refl
+
+pub below_judged : IsJudged below_set false below_tree
+below_judged = judged below_set below_tree refl refl refl refl
+
+pub variant_eq_judged : IsJudged variant_eq_set false variant_eq_tree
+variant_eq_judged = judged variant_eq_set variant_eq_tree refl refl refl refl
+
+pub extract_judged : IsJudged extract_set false extract_tree
+extract_judged = judged extract_set extract_tree refl refl refl refl
+
+pub partial_judged : IsJudged partial_set false partial_tree
+partial_judged = judged partial_set partial_tree refl refl refl refl
+
+pub effects_judged : IsJudged effects_set false effects_tree
+effects_judged = judged effects_set effects_tree refl refl refl refl
+
+pub multi_judged : IsJudged multi_set true multi_tree
+multi_judged = judged_multi multi_set multi_tree refl refl refl refl refl
+
+pub surplus_judged : IsJudged surplus_set false surplus_tree
+surplus_judged = judged surplus_set surplus_tree refl refl refl refl
+
+pub ties_judged : IsJudged ties_set true ties_tree
+ties_judged = judged_multi ties_set ties_tree refl refl refl refl refl
+
+pub wrap_judged : IsJudged wrap_set false wrap_tree
+wrap_judged = judged wrap_set wrap_tree refl refl refl refl
+
+pub used_judged : IsJudged used_set false used_tree
+used_judged = judged used_set used_tree refl refl refl refl
+
+pub multi_ext_judged : IsJudged multi_ext_set false multi_ext_tree
+multi_ext_judged = judged multi_ext_set multi_ext_tree refl refl refl refl
+
+pub shared_judged : IsJudged shared_set true shared_tree
+shared_judged = judged_multi shared_set shared_tree refl refl refl refl refl
+
+pub emitted_first_judged : IsJudged emitted_first_set false emitted_first_tree
+emitted_first_judged = judged emitted_first_set emitted_first_tree refl refl refl refl
+
+pub between_judged : IsJudged between_set false between_tree
+between_judged = judged between_set between_tree refl refl refl refl
+
+pub impure_judged : IsJudged impure_set false impure_tree
+impure_judged = judged impure_set impure_tree refl refl refl refl
+
+pub prio_refused : AreRefused prio_set prio_near_trees
+prio_refused = refused prio_set prio_near_trees refl refl
+
+pub fall_refused : AreRefused fall_set fall_near_trees
+fall_refused = refused fall_set fall_near_trees refl refl
+
+pub equal_refused : AreRefused equal_set equal_near_trees
+equal_refused = refused equal_set equal_near_trees refl refl
+
+pub variant_eq_refused : AreRefused variant_eq_set variant_eq_near_trees
+variant_eq_refused = refused variant_eq_set variant_eq_near_trees refl refl
+
+pub extract_refused : AreRefused extract_set extract_near_trees
+extract_refused = refused extract_set extract_near_trees refl refl
+
+pub effects_refused : AreRefused effects_set effects_near_trees
+effects_refused = refused effects_set effects_near_trees refl refl
+
+pub multi_refused : AreRefused multi_set multi_near_trees
+multi_refused = refused multi_set multi_near_trees refl refl
+
+pub surplus_refused : AreRefused surplus_set surplus_near_trees
+surplus_refused = refused surplus_set surplus_near_trees refl refl
+
+pub ties_refused : AreRefused ties_set ties_near_trees
+ties_refused = refused ties_set ties_near_trees refl refl
+
+pub between_refused : AreRefused between_set between_near_trees
+between_refused = refused between_set between_near_trees refl refl
+
+pub emitted_first_refused : AreRefused emitted_first_set emitted_first_near_trees
+emitted_first_refused = refused emitted_first_set emitted_first_near_trees refl refl

@@ -14,7 +14,7 @@ use Rattle.isle_model.specs.rules.Picks.{Pick}
 use Rattle.isle_model.specs.trees.Collects.{content_at, sites_of_rule, calls_nothing, IsCollectedRule, IsCollectedSet, ServesSet}
 use Rattle.isle_model.proofs.Members.{nothing_in, in_alone}
 use Rattle.isle_examples.specs.Meanings.{each}
-use Rattle.isle_examples.specs.LeftOver.{kept_rule, left_over_set, left_over_tree, left_over_world, LeftOverIsCollected, LeftOverCollects, unused_gate_set, unused_gate_rule, DemandsGatesThough}
+use Rattle.isle_examples.specs.OldLeftOver.{kept_rule, left_over_set, left_over_tree, left_over_world, LeftOverIsCollected, LeftOverCollects, unused_gate_set, unused_gate_rule, DemandsGatesThough}
 use Rattle.isle_model.specs.sites.Gates.{gate_demanded}
 
 -- 1. the set with a left-over site

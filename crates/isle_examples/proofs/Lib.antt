@@ -5,7 +5,7 @@ pub mod Doubling
 pub mod ExtractServed
 pub mod ExtractSound
 pub mod ImpureCalled
-pub mod JudgedTrees
+pub mod OldJudged
 pub mod LeftOver
 pub mod LoweredSamples
 pub mod Marked
@@ -20,3 +20,7 @@ pub mod WellBuiltSamples
 pub mod WorkedKnown
 pub mod WorkedTerms
 pub mod WorkedTypes
+pub mod TreeStages
+pub mod SetStages
+pub mod BuiltSets
+pub mod JudgedTrees

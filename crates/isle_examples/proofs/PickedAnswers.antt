@@ -7,7 +7,7 @@ use Rattle.isle_model.specs.rules.Outcome.{then_option}
 use Rattle.isle_model.specs.trees.Run.{part_at, content_fields}
 use Rattle.isle_model.specs.rules.Picks.{Pick, place_of}
 use Rattle.isle_model.specs.sites.Closure.{IsMet, DemandsHold}
-use Rattle.isle_examples.specs.PickedAnswers.{numeral, call, pair, answering, one_and_two}
+use Rattle.isle_examples.specs.OldPickedAnswers.{numeral, call, pair, answering, one_and_two}
 use Rattle.isle_model.proofs.Elements.{In, in_from_contains, contains_from_in, some_is, none_some}
 
 -- an output of the answer at a place

@@ -1,6 +1,6 @@
 -- Forms of definitions, written short: every place inside a definition is the same offset of the first file.
-use Rattle.std.specs.Prelude.{ℕ, pos, true, false, List, [], ◌∷◌, None, map}
-use Rattle.isle_model.specs.lists.Syntax.{Position, Name, PatternTree, term_pattern, PatternTrees, no_pattern, pattern_and, int_expr, FieldTree, TupleFieldTree, FieldTrees, struct_fields, VariantTree, TypeTree, primitive_value, enum_value, struct_value, DeclTree, ExtractorTree, Definition, declaration, extractor_definition, converter_definition, rule_definition, extern_definition, extern_constructor, extern_extractor, extern_const}
+use Rattle.std.specs.Prelude.{ℕ, zero, suc, ℤ, pos, true, false, List, [], ◌∷◌, Some, None, map, codes}
+use Rattle.isle_model.specs.lists.Syntax.{Position, Name, PatternTree, var_pattern, bind_pattern, int_pattern, term_pattern, wildcard_pattern, and_pattern, PatternTrees, no_pattern, pattern_and, ExprTree, term_expr, var_expr, int_expr, let_expr, ExprTrees, no_expr, expr_and, no_let, let_and, RuleTree, FieldTree, TupleFieldTree, FieldTrees, struct_fields, VariantTree, TypeTree, primitive_value, enum_value, struct_value, DeclTree, ExtractorTree, Definition, type_definition, declaration, extractor_definition, converter_definition, rule_definition, extern_definition, extern_constructor, extern_extractor, extern_const}
 
 -- an offset in the first file
 abbrev pub at : ℕ → Position
@@ -82,3 +82,78 @@ infallible_extractor_by n t function = extern_definition (extern_extractor (name
 -- a rule that answers 1
 abbrev pub rule : ℕ → PatternTree → Definition
 rule n p = rule_definition (record { pattern = p; iflets = []; expr = int_expr (pos 1) (at n); at = at n; prio = None; name = None })
+
+-- a variable in a pattern
+abbrev pub var : ℕ → List ℕ → PatternTree
+var n x = var_pattern (name n x) (at n)
+
+-- a name over a pattern
+abbrev pub bind : ℕ → List ℕ → PatternTree → PatternTree
+bind n x p = bind_pattern (name n x) p (at n)
+
+-- an integer in a pattern
+abbrev pub int : ℕ → ℤ → PatternTree
+int n z = int_pattern z (at n)
+
+-- a wildcard
+abbrev pub any : ℕ → PatternTree
+any n = wildcard_pattern (at n)
+
+-- patterns that all must match
+abbrev pub both : ℕ → List PatternTree → PatternTree
+both n ps = and_pattern (patterns ps) (at n)
+
+-- a term f on patterns: most samples have one term with rules, of that name
+abbrev pub of_f : ℕ → List PatternTree → PatternTree
+of_f n ps = term n (codes "f") ps
+
+-- expressions as arguments
+abbrev pub exprs : List ExprTree → ExprTrees
+exprs [] = no_expr
+exprs (x ∷ xs) = expr_and x (exprs xs)
+
+-- a variable in an expression
+abbrev pub variable : ℕ → List ℕ → ExprTree
+variable n x = var_expr (name n x) (at n)
+
+-- an integer in an expression
+abbrev pub number : ℕ → ℤ → ExprTree
+number n z = int_expr z (at n)
+
+-- a term on expressions
+abbrev pub call : ℕ → List ℕ → List ExprTree → ExprTree
+call n t xs = term_expr (name n t) (exprs xs) (at n)
+
+-- a let of one name
+abbrev pub let_one : ℕ → List ℕ → List ℕ → ExprTree → ExprTree → ExprTree
+let_one n x ty value body = let_expr (let_and (name n x) (name n ty) value (at n) no_let) body (at n)
+
+-- a rule: without a priority, with one, and with an if-let of a pattern and its value
+abbrev pub rule_tree : ℕ → PatternTree → ExprTree → RuleTree
+rule_tree n p x = record { pattern = p; iflets = []; expr = x; at = at n; prio = None; name = None }
+
+abbrev pub rule_to : ℕ → PatternTree → ExprTree → Definition
+rule_to n p x = rule_definition (rule_tree n p x)
+
+abbrev pub rule_first : ℕ → ℤ → PatternTree → ExprTree → Definition
+rule_first n z p x = rule_definition (record (rule_tree n p x) { prio = Some z })
+
+abbrev pub rule_if : ℕ → PatternTree → PatternTree → ExprTree → ExprTree → Definition
+rule_if n p q value x = rule_definition (record (rule_tree n p x) { iflets = record { pattern = q; expr = value; at = at n } ∷ [] })
+
+-- the declaration of a term from u8 to u8
+abbrev pub numbers : ℕ → List ℕ → DeclTree
+numbers n t = decl n t (codes "u8" ∷ []) (codes "u8")
+
+-- as many arguments of type u8
+abbrev pub bytes : ℕ → List (List ℕ)
+bytes zero = []
+bytes (suc k) = codes "u8" ∷ bytes k
+
+-- the term f of as many such arguments, and of that type
+abbrev pub f_of_bytes : ℕ → ℕ → Definition
+f_of_bytes n k = declared n (codes "f") (bytes k) (codes "u8")
+
+-- an enum of one variant with fields
+abbrev pub enum_of_one : ℕ → List ℕ → List ℕ → List FieldTree → Definition
+enum_of_one n t v fields = type_definition (enum n t (variant n v fields ∷ []))

@@ -7,19 +7,19 @@ ghost use Rattle.isle_examples.specs.JudgedTrees.{PrintedTreesPass, PrintedTrees
 ghost use Rattle.isle_examples.specs.RefusedTrees.{NearMissesFail, NearMissesAreNotBest};
 ghost use Rattle.isle_examples.specs.WellBuiltSamples.{SamplesAreWellBuilt, PrintedTreesAreSound};
 ghost use Rattle.isle_examples.specs.WorkedDemands.{ConstEqDemands, FallDemands, ExtractDemands, PartialDemands, EffectsDemands, MultiDemands, VariantEqDemands, ConstEqClosed, VariantEqClosed, NestedClosed, ConflictReported, CyclesReported, NothingReported, UnreachableSamples, OverlapReported, ShadowReported, UnreachableReported, NotReported, NearMisses, SamplesAreUnreachable, SamplesAreReachable, TwoReports, Overlapping, Shadowing, ClosingsEnd, LimitsMet};
-ghost use Rattle.isle_examples.specs.PickedAnswers.{HoldUnderNoPick, HoldUnderOnePick};
+ghost use Rattle.isle_examples.specs.OldPickedAnswers.{HoldUnderNoPick, HoldUnderOnePick};
 ghost use Rattle.isle_examples.specs.CollectedSample.{SampleCollects};
 ghost use Rattle.isle_examples.specs.NotFormed.{OthersAreNotFormed};
 ghost use Rattle.isle_examples.specs.TypedSamples.{ConstEqBecomes, FallBecomes, EqualBecomes, VariantEqBecomes, CycleBecomes, ConflictBecomes, ExtractBecomes, PartialBecomes, EffectsBecomes, MultiBecomes, ConstantsBecome};
 ghost use Rattle.isle_examples.specs.Typed.{IfLetHasNone, IfLetBecomes, PartialHasNone, BoundTwiceHasNone, LiteralHasNone, MultiPriorityHasNone, MacroArgHasNone, MultiExtractorsStand, LetShadows, LetNamesAreMet, ConvertedBecomes, ConverterHasNone, EndlessHasNone, EndlessBecomes, ExpansionsDouble, ManyMayNest, TemplateVariablesAreTheRules, LiteralsAreNotConverted, ConversionsNest};
 ghost use Rattle.isle_examples.specs.Doubling.{NestedUsesDouble, LimitIsMet};
-ghost use Rattle.std.specs.Prelude.{[], pos, ◌∷◌};
+ghost use Rattle.std.specs.Prelude.{[], pos, ◌∷◌, true, false, Some};
 ghost use Rattle.isle_model.specs.rules.Meaning.{one, nothing, just};
 ghost use Rattle.isle_examples.specs.Meanings.{ExtractEnds, ends_with, v, PartialEnds, g_of_one, EffectsEnds, im_of_one, pair_of, MultiGives, MultiCollects, MultiIsNot, ExtractMeaningServes, DoesNotServe, blank, extract_program, extract_mute, PartialIsServed, partial_program, partial_mute, MultiIsServed, multi_program, multi_mute, MultiIsCollected, MultiIsSound};
 ghost use Rattle.isle_model.specs.rules.Outcome.{no_rule, failed, ended};
-ghost use Rattle.isle_examples.specs.MultiCalls.{twice, Gives, extracted_twice, twice_impure, nested, unused, condition, program, LeavesACallUnused, unused_condition};
+ghost use Rattle.isle_examples.specs.OldMultiCalls.{twice, Gives, extracted_twice, twice_impure, nested, unused, condition, program, LeavesACallUnused, unused_condition};
 ghost use Rattle.isle_model.specs.trees.Collects.{LeavesNoCallUnused};
-ghost use Rattle.isle_examples.specs.LeftOver.{LeftOverIsCollected, LeftOverCollects, DemandsGatesThough, UnusedGateGives};
+ghost use Rattle.isle_examples.specs.OldLeftOver.{LeftOverIsCollected, LeftOverCollects, DemandsGatesThough, UnusedGateGives};
 ghost use Rattle.isle_examples.specs.ReadSamples.{ExtractIsRead, PartialIsRead, MultiIsRead, OverlapIsRead, ShadowIsRead, EqualIsRead, VariantIsRead, UnusedIsRead, RefusedAreNotRead};
 ghost use Rattle.isle_examples.specs.BuiltSamples.{ExtractIsBuilt, PartialIsBuilt, MultiIsBuilt, EqualIsBuilt, VariantIsBuilt, UnusedIsBuilt, NearSetsAreNotBuilt};
 ghost use Rattle.isle_examples.specs.AcceptedSamples.{SamplesAreAccepted, OverlapIsNotAccepted, ShadowIsNotCheckable};
@@ -32,6 +32,19 @@ ghost use Rattle.isle_examples.specs.FallRun.{FallRuns};
 ghost use Rattle.isle_examples.specs.ExtractRun.{ExtractRuns, ExtractIsServed, ExtractIsSound};
 ghost use Rattle.isle_examples.specs.ImpureRun.{ImpureIsCalled};
 ghost use Rattle.isle_examples.specs.WorkedGates.{FormedRulesMayTestImpureCalls, ResultsMayUnwrap};
+
+ghost use Rattle.isle_examples.specs.Fall.{fall_defs, fall_rules, fall_set, fall_tree, fall_near_trees, FallDemands as FallDemands2, FallRuns as FallRuns2};
+ghost use Rattle.isle_examples.specs.Stages.{Becomes, IsJudged, AreRefused};
+
+/// A rule for a literal.
+#[tactic(auto, using(crate::proofs::JudgedTrees::fall_judged, crate::proofs::JudgedTrees::fall_refused))]
+pub fn falls()
+    ensures typed { Becomes fall_defs true (Some fall_rules) × Becomes fall_defs false (Some fall_rules) }
+    ensures demands { FallDemands2 }
+    ensures tree { IsJudged fall_set false fall_tree }
+    ensures near_trees { AreRefused fall_set fall_near_trees }
+    ensures runs { FallRuns2 }
+{}
 
 /// The judge passes the trees that are printed for the samples.
 pub fn printed_trees_pass()

@@ -1,0 +1,48 @@
+-- A sample: a literal under a name that stands again in another argument.
+--   (decl f (u8 u8) u8)
+--   (rule (f x @ 2 x) x)
+use Rattle.std.specs.Prelude.{◌≡◌, ◌∷◌, [], pos, List, Some, codes}
+use Rattle.isle_model.specs.claims.Layers.{own_program}
+use Rattle.isle_model.specs.lists.Elaborated.{TypedRules}
+use Rattle.isle_model.specs.lists.Syntax.{Definition}
+use Rattle.isle_model.specs.rules.Program.{Program}
+use Rattle.isle_model.specs.rules.Typed.{TypedRule, make_var, match_bind, match_int, match_var}
+use Rattle.isle_model.specs.sites.Demands.{demands_of}
+use Rattle.isle_model.specs.sites.Sites.{SiteSet, argument_site}
+use Rattle.isle_model.specs.trees.Trees.{Tree, match_at, no_step, step}
+use Rattle.isle_examples.specs.SetForms.{a0, a1, a_rule, asking, is_byte, one_arm, returning}
+use Rattle.isle_examples.specs.Stages.{closed_demands}
+use Rattle.isle_examples.specs.TypedForms.{rules_and_names, typed, typed_var, u8}
+use Rattle.isle_examples.specs.Written.{bind, f_of_bytes, int, name, of_f, rule_to, var, variable}
+
+abbrev pub const_eq_defs : List Definition
+const_eq_defs = f_of_bytes 0 2 ∷ rule_to 1 (of_f 1 (bind 1 (codes "x") (int 1 (pos 2)) ∷ var 1 (codes "x") ∷ [])) (variable 1 (codes "x")) ∷ []
+
+-- the only rule of a term has the term's name
+abbrev pub const_eq_rule : TypedRule
+const_eq_rule = typed 0 1 0 (pos 0) (Some 13) (typed_var 0 14 u8 ∷ []) (match_bind u8 0 (match_int u8 (pos 2)) ∷ match_var u8 0 ∷ []) (make_var u8 0)
+
+abbrev pub const_eq_rules : TypedRules
+const_eq_rules = rules_and_names (const_eq_rule ∷ []) (codes "f" ∷ codes "x" ∷ [])
+
+abbrev pub const_eq_program : Program
+const_eq_program = own_program const_eq_defs const_eq_rules
+
+-- one constraint, and one equality
+abbrev pub ConstEqDemands : Type 0
+ConstEqDemands = demands_of const_eq_program const_eq_rule ≡ asking ((a0, is_byte 2) ∷ []) ((a1, a0) ∷ []) (a0 ∷ a1 ∷ [])
+
+-- the literal stands at both arguments, and no equality is left
+abbrev pub ConstEqClosed : Type 0
+ConstEqClosed = closed_demands const_eq_program const_eq_rule ≡ record { constraints = (a0, is_byte 2) ∷ (a1, is_byte 2) ∷ []; classes = []; made = a0 ∷ a1 ∷ [] }
+
+abbrev pub const_eq_set : SiteSet
+const_eq_set = record {
+  rules = record (a_rule 0 1 (pos 0) ((0, is_byte 2) ∷ (1, is_byte 2) ∷ []) [] 0) { name = Some 13 } ∷ [];
+  sites = argument_site 0 ∷ argument_site 1 ∷ [];
+}
+
+abbrev pub const_eq_tree : Tree
+const_eq_tree =
+    step [] (match_at 0 (one_arm (is_byte 2) []
+    (step [] (match_at 1 (one_arm (is_byte 2) [] (returning [] 1 0 no_step))) no_step))) no_step

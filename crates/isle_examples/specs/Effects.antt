@@ -1,0 +1,115 @@
+-- A sample: a pure call that may answer nothing, beside an impure one, inside a variant.
+--   (type T (enum (P (a u8) (b u8))))
+--   (decl pure partial pp (u8) u8)
+--   (extern constructor pp pp_fn)
+--   (decl im (u8) u8)
+--   (extern constructor im im_fn)
+--   (decl partial f (u8) T)
+--   (rule (f x) (T.P (pp x) (im x)))
+use Rattle.std.specs.Prelude.{◌≡◌, ◌∷◌, [], ◌++◌, ℕ, ℤ, pos, true, false, List, Some, codes}
+use Rattle.isle_model.specs.claims.Layers.{own_program}
+use Rattle.isle_model.specs.lists.Elaborated.{TypedRules}
+use Rattle.isle_model.specs.lists.KnownTypes.{types_of}
+use Rattle.isle_model.specs.lists.Syntax.{Definition, declaration}
+use Rattle.isle_model.specs.lists.Tables.{TermEntry, TypeEntry, struct_entries, variant_term}
+use Rattle.isle_model.specs.lists.TermTable.{term_names_met}
+use Rattle.isle_model.specs.lists.TypeTable.{type_table}
+use Rattle.isle_model.specs.rules.Choice.{choice}
+use Rattle.isle_model.specs.rules.Meaning.{Content, Meaning, just, one}
+use Rattle.isle_model.specs.rules.Outcome.{Call, Outcome}
+use Rattle.isle_model.specs.rules.Program.{Program}
+use Rattle.isle_model.specs.rules.Typed.{TypedRule, make_term, make_var}
+use Rattle.isle_model.specs.rules.Values.{of_variant, value_and}
+use Rattle.isle_model.specs.sites.Demands.{demands_of}
+use Rattle.isle_model.specs.sites.Sites.{SiteSet, SiteTerm, argument_site, constructor_call, constructor_site, make_some_site, make_variant_site, match_some_site, site_term_and, some_made, some_part, variant_made}
+use Rattle.isle_model.specs.trees.Run.{run, world_of}
+use Rattle.isle_model.specs.trees.Trees.{Tree, no_step}
+use Rattle.isle_examples.specs.MeaningForms.{alone, blank, given, v}
+use Rattle.isle_examples.specs.SetForms.{a0, a_rule, asking, one_source, returning}
+use Rattle.isle_examples.specs.Stages.{HasTermTable}
+use Rattle.isle_examples.specs.TypedForms.{bind_any, builtins, by_constructor, by_rules, e_list, entry, enum_entry, field_entry, flags, names_with, no_flags, number_term, own, rules_and_names, typed, typed_var, u8, variant_entry}
+use Rattle.isle_examples.specs.Written.{call, constructor_by, decl, enum_of_one, field, name, numbers, of_f, rule_to, term, var, variable}
+
+abbrev pub effects_defs : List Definition
+effects_defs =
+    enum_of_one 0 (codes "T") (codes "P") (field 0 (codes "a") (codes "u8") ∷ field 0 (codes "b") (codes "u8") ∷ [])
+    ∷ declaration (record (numbers 1 (codes "pp")) { pure = true; partial = true }) ∷ constructor_by 2 (codes "pp") (codes "pp_fn")
+    ∷ declaration (numbers 3 (codes "im")) ∷ constructor_by 4 (codes "im") (codes "im_fn")
+    ∷ declaration (record (decl 5 (codes "f") (codes "u8" ∷ []) (codes "T")) { partial = true })
+    ∷ rule_to 6 (of_f 6 (var 6 (codes "x") ∷ []))
+    (call 6 (codes "T.P") (call 6 (codes "pp") (variable 6 (codes "x") ∷ []) ∷ call 6 (codes "im") (variable 6 (codes "x") ∷ []) ∷ [])) ∷ []
+
+abbrev pub effects_names : List (List ℕ)
+effects_names = codes "T" ∷ codes "T.P" ∷ codes "P" ∷ codes "a" ∷ codes "b" ∷ codes "pp" ∷ codes "im" ∷ codes "f" ∷ codes "pp_fn" ∷ codes "im_fn" ∷ []
+
+abbrev pub effects_types : List TypeEntry
+effects_types = enum_entry 13 own (variant_entry 15 14 0 (struct_entries (field_entry 16 0 u8 ∷ field_entry 17 1 u8 ∷ [])) 0 ∷ []) 0 ∷ []
+
+-- the external constructors, and after the declared terms the variant
+abbrev pub effects_terms : List TermEntry
+effects_terms =
+    number_term 0 1 18 (by_constructor (flags true false true) 21) ∷ number_term 1 3 19 (by_constructor no_flags 22)
+    ∷ entry 2 5 20 (u8 ∷ []) own (by_rules (flags false false true)) ∷ entry 3 0 14 (u8 ∷ u8 ∷ []) own (variant_term 0) ∷ []
+
+abbrev pub EffectsTables : Type 0
+EffectsTables =
+    (type_table effects_defs ≡ builtins ++ effects_types)
+    × (term_names_met (types_of effects_defs) effects_defs ≡ names_with effects_names)
+    × HasTermTable effects_defs effects_terms
+
+abbrev pub effects_rule : TypedRule
+effects_rule =
+    typed 0 6 2 (pos 0) (Some 20) (typed_var 0 23 u8 ∷ []) (bind_any u8 0 ∷ [])
+    (make_term own 3 (e_list (make_term u8 0 (e_list (make_var u8 0 ∷ [])) ∷ make_term u8 1 (e_list (make_var u8 0 ∷ [])) ∷ [])))
+
+abbrev pub effects_rules : TypedRules
+effects_rules = rules_and_names (effects_rule ∷ []) (effects_names ++ codes "x" ∷ [])
+
+abbrev pub effects_program : Program
+effects_program = own_program effects_defs effects_rules
+
+abbrev pub call_pp : SiteTerm
+call_pp = constructor_call 0 (one_source a0) 0
+
+abbrev pub call_im : SiteTerm
+call_im = constructor_call 1 (one_source a0) 1
+
+abbrev pub made_p : SiteTerm
+made_p = variant_made own 0 (site_term_and (some_part call_pp) (one_source call_im))
+
+abbrev pub EffectsDemands : Type 0
+EffectsDemands =
+    demands_of effects_program effects_rule
+    ≡ record (asking [] [] (a0 ∷ call_pp ∷ some_part call_pp ∷ call_im ∷ made_p ∷ some_made made_p ∷ [])) { impure = call_im ∷ [] }
+
+abbrev pub effects_set : SiteSet
+effects_set = record {
+  rules = record (a_rule 0 6 (pos 0) [] [] 5) { name = Some 20; impure = 3 ∷ [] } ∷ [];
+  sites = argument_site 0 ∷ constructor_site 0 (0 ∷ []) 0 ∷ match_some_site 1 ∷ constructor_site 1 (0 ∷ []) 1 ∷ make_variant_site own 0 (2 ∷ 3 ∷ []) ∷ make_some_site 4 ∷ [];
+}
+
+-- the impure call is bound first, then the pure one, its answer, the variant and Some of it
+abbrev pub effects_tree : Tree
+effects_tree = returning (3 ∷ 1 ∷ 2 ∷ 4 ∷ 5 ∷ []) 6 5 no_step
+
+-- a tree that is no best one: the failing call is bound before the impure one
+abbrev pub effects_near_trees : List Tree
+effects_near_trees = returning (1 ∷ 2 ∷ 3 ∷ 4 ∷ 5 ∷ []) 6 5 no_step ∷ []
+
+-- pp answers this at 1, and the first impure call answers 6
+abbrev pub effects_meaning : Content → Meaning
+effects_meaning answer = record blank { pure_calls = ((0, alone (pos 1)), answer) ∷ []; impure_calls = ((1, 0), one (v (pos 6))) ∷ [] }
+
+-- the one call that is made on 1
+abbrev pub im_of_one : List Call
+im_of_one = record { term = 1; args = alone (pos 1) } ∷ []
+
+-- where pp answers so, choice and run end so on 1
+abbrev pub EffectsEnds : Content → Outcome → Type 0
+EffectsEnds answer o =
+    (choice effects_program (effects_meaning answer) effects_rules.rules (given (pos 1)) ≡ o)
+    × (run effects_tree (world_of effects_program 2 effects_set.sites (effects_meaning answer) (given (pos 1))) ≡ o)
+
+-- Some of the variant
+abbrev pub pair_of : ℤ → ℤ → Content
+pair_of y z = just (one (of_variant own 0 (value_and (v y) (alone z))))

@@ -1,0 +1,80 @@
+-- Typed rules that no list becomes: rules that don't hang together, and what those that do may still test and return.
+use Rattle.std.specs.Prelude.{◌≡◌, ◌∷◌, [], ℕ, pos, true, false, List, None, length, replicate}
+use Rattle.isle_model.specs.lists.Formed.{is_formed_rule}
+use Rattle.isle_model.specs.lists.Tables.{Flags}
+use Rattle.isle_model.specs.rules.Program.{Program}
+use Rattle.isle_model.specs.rules.Typed.{TypedExpr, TypedPattern, TypedRule, make_int, make_term, make_var, match_any, match_int, match_term, match_var}
+use Rattle.isle_model.specs.sites.DemandedGates.{ArePureIfLets}
+use Rattle.isle_model.specs.sites.Demands.{demands_of, result_of}
+use Rattle.isle_model.specs.sites.Limits.{arguments_limit, limits_of_shape, walked_rule}
+use Rattle.isle_model.specs.sites.Sites.{constructor_call, some_made, some_part}
+use Rattle.isle_examples.specs.SetForms.{a0, is_byte, one_source}
+use Rattle.isle_examples.specs.TypedForms.{bind_any, builtins, by_rules, e_list, entry, flags, no_flags, own, q_list, typed, typed_iflet, u8}
+
+-- a term f alone, with these flags, of arguments of type u8
+abbrev pub f_alone : Flags → List ℕ → Program
+f_alone own args = record { types = builtins; constants = []; terms = entry 0 0 13 args u8 (by_rules own) ∷ []; rules = [] }
+
+-- (decl f (u8 u8) u8), and a rule of it
+abbrev pub f_of_two : Program
+f_of_two = f_alone no_flags (u8 ∷ u8 ∷ [])
+
+abbrev pub with_sides : List TypedPattern → TypedExpr → TypedRule
+with_sides args rhs = typed 0 1 0 (pos 0) None [] args rhs
+
+-- a variable that is used before it is bound, or bound twice, or used at another type, or not bound at all; a pattern
+-- for one of two arguments; a term without an extractor in a pattern; a right side of another type
+abbrev pub OthersAreNotFormed : Type 0
+OthersAreNotFormed =
+    (is_formed_rule f_of_two (with_sides (match_var u8 0 ∷ bind_any u8 0 ∷ []) (make_int u8 (pos 1))) ≡ false)
+    × (is_formed_rule f_of_two (with_sides (bind_any u8 0 ∷ bind_any u8 0 ∷ []) (make_int u8 (pos 1))) ≡ false)
+    × (is_formed_rule f_of_two (with_sides (bind_any u8 0 ∷ match_any u8 ∷ []) (make_var 2 0)) ≡ false)
+    × (is_formed_rule f_of_two (with_sides (match_any u8 ∷ match_any u8 ∷ []) (make_var u8 0)) ≡ false)
+    × (is_formed_rule f_of_two (with_sides (match_any u8 ∷ []) (make_int u8 (pos 1))) ≡ false)
+    × (is_formed_rule f_of_two (with_sides (match_term u8 0 (q_list (match_any u8 ∷ match_any u8 ∷ [])) ∷ match_any u8 ∷ []) (make_int u8 (pos 1))) ≡ false)
+    × (is_formed_rule f_of_two (with_sides (match_any u8 ∷ match_any u8 ∷ []) (make_int 2 (pos 1))) ≡ false)
+    × (is_formed_rule f_of_two (with_sides (bind_any u8 0 ∷ match_var u8 0 ∷ []) (make_term u8 0 (e_list (make_var u8 0 ∷ make_int u8 (pos 1) ∷ [])))) ≡ true)
+
+-- (decl f (u8) u8), which is impure
+abbrev pub f_impure : Program
+f_impure = f_alone no_flags (u8 ∷ [])
+
+-- a call of f on its own argument
+abbrev pub f_of_argument : TypedExpr
+f_of_argument = make_term u8 0 (e_list (make_var u8 0 ∷ []))
+
+-- (rule (f x) (if-let 2 (f x)) x), which doesn't elaborate
+abbrev pub impure_iflet : TypedRule
+impure_iflet = record (with_sides (bind_any u8 0 ∷ []) (make_var u8 0)) { iflets = typed_iflet (match_int u8 (pos 2)) f_of_argument ∷ [] }
+
+-- a rule that hangs together may ask an impure call to be a number: its if-let isn't pure
+abbrev pub FormedRulesMayTestImpureCalls : Type 0
+FormedRulesMayTestImpureCalls =
+    (is_formed_rule f_impure impure_iflet ≡ true)
+    × ((demands_of f_impure impure_iflet).constraints ≡ (constructor_call 0 (one_source a0) 1, is_byte 2) ∷ [])
+    × (ArePureIfLets f_impure impure_iflet.iflets → ⊥)
+
+-- (decl pure partial f (u8) u8)
+abbrev pub f_partial : Program
+f_partial = f_alone (flags true false true) (u8 ∷ [])
+
+-- (rule (f x) (f x))
+abbrev pub calls_itself : TypedRule
+calls_itself = with_sides (bind_any u8 0 ∷ []) f_of_argument
+
+-- what a rule returns may unwrap a call whose answer nothing asks for
+abbrev pub ResultsMayUnwrap : Type 0
+ResultsMayUnwrap =
+    (is_formed_rule f_partial calls_itself ≡ true)
+    × ((demands_of f_partial calls_itself).constraints ≡ [])
+    × (result_of f_partial calls_itself ≡ some_made (some_part (constructor_call 0 (one_source a0) 0)))
+
+-- a rule of n arguments: one of 257 passes the limit on arguments, and the 256 before it are walked
+abbrev pub wide_rule : ℕ → TypedRule
+wide_rule n = with_sides (replicate n (match_any u8)) (make_int u8 (pos 1))
+
+abbrev pub ArgumentsAreLimited : Type 0
+ArgumentsAreLimited =
+    (limits_of_shape (f_alone no_flags []) (wide_rule 256) ≡ [])
+    × (limits_of_shape (f_alone no_flags []) (wide_rule 257) ≡ arguments_limit ∷ [])
+    × (length (walked_rule (f_alone no_flags []) (wide_rule 257)).args ≡ 256)

@@ -1,0 +1,49 @@
+-- Short forms of sites, of sets of rules, and of trees.
+use Rattle.std.specs.Prelude.{ℕ, ℤ, pos, List, [], ◌∷◌, Option, None}
+use Rattle.isle_model.specs.sites.Sites.{Site, int_site, Constraint, is_int, SetRule, SiteTerm, int_term, argument, variant_field, no_site_term, site_term_and, SiteTerms}
+use Rattle.isle_model.specs.sites.Demands.{Demands}
+use Rattle.isle_model.specs.trees.Trees.{Tree, no_step, step, return_at, Arms, no_arm, arm}
+use Rattle.isle_examples.specs.Written.{at}
+
+-- the number n of type u8, as a constraint, as a site and as what a site stands for
+abbrev pub is_byte : ℕ → Constraint
+is_byte n = is_int (pos n) 1
+
+abbrev pub byte : ℕ → Site
+byte n = int_site (pos n) 1
+
+abbrev pub byte_term : ℕ → SiteTerm
+byte_term n = int_term (pos n) 1
+
+-- the first three arguments
+abbrev pub a0 : SiteTerm
+a0 = argument 0
+
+abbrev pub a1 : SiteTerm
+a1 = argument 1
+
+abbrev pub a2 : SiteTerm
+a2 = argument 2
+
+-- the one field of the one variant of a type
+abbrev pub field_of : SiteTerm → SiteTerm
+field_of s = variant_field s 0 0
+
+-- one source of a call
+abbrev pub one_source : SiteTerm → SiteTerms
+one_source s = site_term_and s no_site_term
+
+-- demands without calls
+abbrev pub asking : List (SiteTerm × Constraint) → List (SiteTerm × SiteTerm) → List SiteTerm → Demands
+asking constraints equalities made = record { constraints = constraints; equalities = equalities; iterators = []; impure = []; made = made }
+
+-- a rule by its number, its definition's, its priority, its demands and what it returns
+abbrev pub a_rule : ℕ → ℕ → ℤ → List (ℕ × Constraint) → List (List ℕ) → ℕ → SetRule
+a_rule i d prio constraints classes result = record { id = i; at = at d; prio = prio; name = None; constraints = constraints; classes = classes; iterators = []; impure = []; result = result }
+
+-- a tree that returns, and one arm
+abbrev pub returning : List ℕ → ℕ → ℕ → Tree → Tree
+returning binds d result rest = step binds (return_at (at d) result) rest
+
+abbrev pub one_arm : Constraint → List (Option ℕ) → Tree → Arms
+one_arm c fields body = arm c fields body no_arm

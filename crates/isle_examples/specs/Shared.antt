@@ -1,0 +1,45 @@
+-- A sample: two rules that share a call.
+--   (decl pure p (u8) u8)
+--   (extern constructor p p_fn)
+--   (decl multi f (u8) u8)
+--   (rule (f x) (p x))
+--   (rule (f x) (p (p x)))
+use Rattle.std.specs.Prelude.{◌∷◌, [], ℕ, pos, true, List, None, codes}
+use Rattle.isle_model.specs.lists.Elaborated.{TypedRules}
+use Rattle.isle_model.specs.lists.Syntax.{Definition, ExprTree, declaration}
+use Rattle.isle_model.specs.rules.Typed.{TypedExpr, make_term, make_var}
+use Rattle.isle_model.specs.sites.Sites.{SiteSet, argument_site, constructor_site}
+use Rattle.isle_model.specs.trees.Trees.{Tree, no_step}
+use Rattle.isle_examples.specs.SetForms.{a_rule, returning}
+use Rattle.isle_examples.specs.TypedForms.{bind_any, e_list, rules_and_names, typed, typed_var, u8}
+use Rattle.isle_examples.specs.Written.{call, constructor_by, numbers, of_f, rule_to, var, variable}
+
+-- a use of p
+abbrev pub p_of : ℕ → ExprTree → ExprTree
+p_of n x = call n (codes "p") (x ∷ [])
+
+abbrev pub shared_defs : List Definition
+shared_defs =
+    declaration (record (numbers 0 (codes "p")) { pure = true }) ∷ constructor_by 1 (codes "p") (codes "p_fn")
+    ∷ declaration (record (numbers 2 (codes "f")) { multi = true })
+    ∷ rule_to 3 (of_f 3 (var 3 (codes "x") ∷ [])) (p_of 3 (variable 3 (codes "x")))
+    ∷ rule_to 4 (of_f 4 (var 4 (codes "x") ∷ [])) (p_of 4 (p_of 4 (variable 4 (codes "x")))) ∷ []
+
+abbrev pub p_made : TypedExpr → TypedExpr
+p_made x = make_term u8 0 (e_list (x ∷ []))
+
+abbrev pub shared_rules : TypedRules
+shared_rules =
+    rules_and_names
+    (typed 0 3 1 (pos 0) None (typed_var 0 16 u8 ∷ []) (bind_any u8 0 ∷ []) (p_made (make_var u8 0))
+    ∷ typed 1 4 1 (pos 0) None (typed_var 0 16 u8 ∷ []) (bind_any u8 0 ∷ []) (p_made (p_made (make_var u8 0))) ∷ [])
+    (codes "p" ∷ codes "f" ∷ codes "p_fn" ∷ codes "x" ∷ [])
+
+abbrev pub shared_set : SiteSet
+shared_set = record {
+  rules = a_rule 0 3 (pos 0) [] [] 1 ∷ a_rule 1 4 (pos 0) [] [] 2 ∷ [];
+  sites = argument_site 0 ∷ constructor_site 0 (0 ∷ []) 0 ∷ constructor_site 0 (1 ∷ []) 0 ∷ [];
+}
+
+abbrev pub shared_tree : Tree
+shared_tree = returning (1 ∷ []) 3 1 (returning (2 ∷ []) 4 2 no_step)

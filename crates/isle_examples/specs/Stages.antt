@@ -1,0 +1,90 @@
+-- The claims on the stages of a sample: what its list of definitions becomes, what its set is built of, and what its tree is.
+use Rattle.std.specs.Prelude.{◌≡◌, ℕ, Bool, true, false, List, [], ◌∷◌, Option, None}
+use Rattle.isle_model.specs.lists.Syntax.{Definition}
+use Rattle.isle_model.specs.lists.Setting.{Setting}
+use Rattle.isle_model.specs.lists.TypeTable.{IsValidTypes}
+use Rattle.isle_model.specs.lists.TermTable.{rule_trees, term_names_met, term_table, IsValidTerms}
+use Rattle.isle_model.specs.lists.KnownTypes.{types_of}
+use Rattle.isle_model.specs.lists.Tables.{TermEntry}
+use Rattle.isle_model.specs.lists.Elaborated.{TypedRules, elaborated_rules}
+use Rattle.isle_model.specs.rules.Program.{Program}
+use Rattle.isle_model.specs.rules.Typed.{TypedRule}
+use Rattle.isle_model.specs.sites.Sites.{SiteSet}
+use Rattle.isle_model.specs.sites.Demands.{demands_of}
+use Rattle.isle_model.specs.sites.Closure.{IsUnreachable, is_unreachable, Unreachability, reported, Closed, closed, closing, before_closing, most_closing_steps}
+use Rattle.isle_model.specs.sites.RuleSets.{IsBuilt}
+use Rattle.isle_model.specs.sites.Limits.{first_limit}
+use Rattle.isle_model.specs.trees.Trees.{Tree}
+use Rattle.isle_model.specs.trees.Best.{IsBestTree}
+use Rattle.isle_model.specs.trees.Judge.{is_best_tree}
+use Rattle.isle_model.specs.trees.Sound.{IsSound}
+use Rattle.isle_model.specs.trees.WellBuilt.{IsWellBuilt}
+use Rattle.isle_model.specs.claims.Environments.{types_read, setting_of, IsRead}
+use Rattle.isle_model.specs.claims.Layers.{own_program, BindsBeforeUse}
+use Rattle.isle_model.specs.claims.SetMeanings.{CanBeServed}
+use Rattle.isle_laws_demands.specs.ClosureLaws.{HasEnded}
+
+-- the tables that the rules of a list are read with, internal extractors expanded or not
+abbrev pub own_setting : List Definition → Bool → Setting
+own_setting defs expand = setting_of (types_read defs) defs expand
+
+-- a list becomes these typed rules, whether internal extractors are expanded or not
+abbrev pub IsReadBoth : List Definition → TypedRules → Type 0
+IsReadBoth defs rules = IsRead defs true rules × IsRead defs false rules
+
+-- a list has no typed rules, whether they are expanded or not
+abbrev pub IsNotRead : List Definition → Type 0
+IsNotRead defs = (expand : Bool) (rules : TypedRules) → IsRead defs expand rules → ⊥
+
+-- what the rules of a list become
+abbrev pub Becomes : List Definition → Bool → Option TypedRules → Type 0
+Becomes defs expand rules = elaborated_rules (own_setting defs expand) (rule_trees defs) (term_names_met (types_of defs) defs) ≡ rules
+
+-- the tables of a list are valid, and yet its rules become nothing
+abbrev pub HasNoTypedRules : List Definition → Type 0
+HasNoTypedRules defs = IsValidTypes defs × IsValidTerms (types_of defs) defs × Becomes defs true None × Becomes defs false None
+
+-- the term table of a list
+abbrev pub HasTermTable : List Definition → List TermEntry → Type 0
+HasTermTable defs terms = term_table (types_of defs) defs ≡ terms
+
+-- a set is built of the rules of a term, and can be served
+abbrev pub IsBuiltOf : List Definition → TypedRules → ℕ → SiteSet → Type 0
+IsBuiltOf defs rules t set = IsBuilt (own_program defs rules) t set × CanBeServed (own_program defs rules) t set
+
+-- a tree passes the judge; it is a best tree, and sound, in a term that is multi or that isn't; its set is well built, and
+-- it binds sites before they are used
+pub record IsJudged (set : SiteSet) (multi : Bool) (tree : Tree) : Type 0 where
+  pub passes : is_best_tree set tree ≡ true
+  pub best : IsBestTree set tree
+  pub well_built : IsWellBuilt set
+  pub sound : IsSound set multi tree
+  pub binds : BindsBeforeUse set multi tree
+
+-- the judge refuses each of these trees; however its returns are marked, it is no best tree
+abbrev pub AreRefused : SiteSet → List Tree → Type 0
+AreRefused set [] = Unit {0}
+AreRefused set (tree ∷ trees) = ((is_best_tree set tree ≡ false) × (IsBestTree set tree → ⊥)) × AreRefused set trees
+
+-- what is found wrong with a rule's demands
+abbrev pub verdicts : Program → TypedRule → List Unreachability
+verdicts p r = reported (demands_of p r).made (demands_of p r)
+
+-- values can meet the demands of a rule; none can, and the test finds it
+abbrev pub CanMatch : Program → TypedRule → Type 0
+CanMatch p r = IsUnreachable (demands_of p r) → ⊥
+
+abbrev pub CantMatch : Program → TypedRule → Type 0
+CantMatch p r = (is_unreachable (demands_of p r) ≡ true) × IsUnreachable (demands_of p r)
+
+-- the closing of a rule's demands ends: nothing is left to be taken
+abbrev pub ClosingEndsOf : Program → TypedRule → Type 0
+ClosingEndsOf p r = HasEnded (closing most_closing_steps (before_closing [] (demands_of p r)))
+
+-- a rule's closed demands, before which no sites were made
+abbrev pub closed_demands : Program → TypedRule → Closed
+closed_demands p r = closed [] (demands_of p r)
+
+-- a rule passes no limit
+abbrev pub PassesNoLimit : Program → TypedRule → Type 0
+PassesNoLimit p r = first_limit p [] r ≡ None
