@@ -32,7 +32,7 @@ endless_defs =
 abbrev pub endless_names : List (List ℕ)
 endless_names = codes "A" ∷ codes "B" ∷ codes "k" ∷ codes "conv" ∷ codes "f" ∷ codes "k_fn" ∷ []
 
--- the template, and the converter by it
+-- the template, and the conversion by it
 abbrev pub EndlessTables : Type 0
 EndlessTables =
     (term_names_met (types_of endless_defs) endless_defs ≡ names_with endless_names)

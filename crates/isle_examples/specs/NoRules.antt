@@ -57,7 +57,7 @@ MultiPriorityHasNone =
 abbrev pub MacroArgHasNone : Type 0
 MacroArgHasNone = HasNoTypedRules (with_rule (rule_to 1 (of_f 1 (macro_arg 0 (at 1) ∷ [])) (number 1 (pos 1))))
 
--- (extern const $X u16), (decl f (u8 bool) u8), (decl w (u8) u8), (extern extractor w w_fn), with w as the converter between
+-- (extern const $X u16), (decl f (u8 bool) u8), (decl w (u8) u8), (extern extractor w w_fn), with w as the conversion between
 -- any two of these types, and (rule (f p q) 1)
 abbrev pub with_converters : PatternTree → PatternTree → List Definition
 with_converters p q =

@@ -1,4 +1,4 @@
--- Runs of sound trees, under a pick of the calls that loops go over: which rule they take, or what they collect.
+-- Runs of sound trees in terms that are not multi.
 pub mod Added
 pub mod Arms
 pub mod Below

@@ -1,10 +1,13 @@
 pub mod Bags
-pub mod Distinct
+pub mod ByNumber
+pub mod Bytes
 pub mod Elements
 pub mod FirstPlaces
 pub mod Joined
 pub mod Members
+pub mod Names
 pub mod Numbers
+pub mod Positions
 pub mod SameSites
 pub mod SitesMade
 pub mod TypeNames
