@@ -6,6 +6,7 @@ use Rattle.std.proofs.lemmas.Option.{none-some, same_Some, slice_get_within}
 use Rattle.isle_model.specs.sites.Sites.{Site, iterator_site, match_variant_site, extract_struct_site, match_some_site, Constraint, is_variant, is_struct, is_present, SetRule, SiteSet, sources_of, sources_at}
 use Rattle.isle_model.specs.trees.Places.{Around, is_in, waits, is_available, available, below, is_variant_field, is_struct_field, is_part_of, site_from, each_field, fields_of, field_sites}
 use Rattle.isle_model.specs.trees.WellBuilt.{IsWellBuilt}
+use Rattle.isle_laws_runs.proofs.runs.Fields.{site_found, field_listed, variant_field_same, struct_field_same, part_same}
 use Rattle.isle_model.proofs.Members.{nothing_in, in_head, in_tail, in_cases, member_found, each_passes, all_pass, in_flat_map, from_flat_map, member_is_in}
 use Rattle.isle_laws_trees.proofs.Gates.{variant_gate, struct_gate, answer_gate}
 use Rattle.isle_model.specs.sites.Gates.{gate_demanded}
@@ -56,73 +57,7 @@ module _ (sites : List Site) where
   pub below_source : (s x u : ℕ) → Contains (sources_at sites s) x → x < s → Contains (below (suc x) sites x) u → Contains (below (suc s) sites s) u
   below_source s x u c l d = in_tail s u (flat_map (below s sites) (sources_at sites s)) (in_flat_map (below s sites) (sources_at sites s) x u c (below_at s x u l d))
 
--- 2. the site of a field
-module _ (p : Site → Bool) where
-  site_found : (sites : List Site) (n s : ℕ) (b : Site) → slice_get sites s ≡ Some b → p b ≡ true
-      → ((j : ℕ) (x : Site) → slice_get sites j ≡ Some x → p x ≡ true → j ≡ s) → site_from n p sites ≡ Some (n + s)
-  site_found [] n s b e h only = absurd (none-some b e)
-  site_found (x ∷ xs) n zero b e h only =
-      let q : p x ≡ true = ap p (same_Some x b e) ∙ h in
-      cond-true (p x) (Some n) (site_from (suc n) p xs) q ∙ ap Some (plus n)
-    where
-      plus : (n : ℕ) → n ≡ n + 0
-      plus n = omega arith
-  site_found (x ∷ xs) n (suc k) b e h only =
-      elim (cases_Bool (p x)) [
-        | inl t ↦ absurd (apart k (only 0 x refl t))
-        | inr f ↦
-            cond-false (p x) (Some n) (site_from (suc n) p xs) f
-            ∙ site_found xs (suc n) k b e h (λ j y at t. down j k (only (suc j) y at t))
-            ∙ ap Some (plus n k)
-      ]
-    where
-      apart : (k : ℕ) → 0 ≡ suc k → ⊥
-      apart k e = omega arith
-
-      down : (j k : ℕ) → suc j ≡ suc k → j ≡ k
-      down j k e = omega arith
-
-      plus : (n k : ℕ) → suc n + k ≡ n + suc k
-      plus n k = omega arith
-
-field_listed : (p : ℕ → Site → Bool) (sites : List Site) (i n f s : ℕ) → i ≤ f → f < i + n → site_from 0 (p f) sites ≡ Some s → Contains (field_sites (each_field p sites i n)) s
-field_listed p sites i zero f s l m e = absurd (omega arith)
-field_listed p sites i (suc n) f s l m e =
-    elim (cases_lt i f) [
-      | inl k ↦ later (site_from 0 (p i) sites) (each_field p sites (suc i) n) (field_listed p sites (suc i) n f s k (omega arith) e)
-      | inr k ↦
-          let same : f ≡ i = omega arith in
-          let here : site_from 0 (p i) sites ≡ Some s = ap (λ j. site_from 0 (p j) sites) (sym same) ∙ e in
-          subst (λ o. Contains (field_sites (o ∷ each_field p sites (suc i) n)) s) (sym here) (in_head s (field_sites (each_field p sites (suc i) n)))
-    ]
-  where
-    later : (o : Option ℕ) (os : List (Option ℕ)) → Contains (field_sites os) s → Contains (field_sites (o ∷ os)) s
-    later None os c = c
-    later (Some x) os c = in_tail x s (field_sites os) c
-
-variant_field_same : (s v i : ℕ) (b : Site) → is_variant_field s v i b ≡ true → b ≡ match_variant_site s v i
-variant_field_same s v i (match_variant_site source w field) h =
-    let q = and_parts ((source == s) && (w == v)) (field == i) h in
-    let r = and_parts (source == s) (w == v) q.0 in
-    let x = eqb-true source s r.0 in
-    let y = eqb-true w v r.1 in
-    let z = eqb-true field i q.1 in
-    λ k. match_variant_site (x k) (y k) (z k)
-variant_field_same s v i _ h = absurd (false≢true h)
-
-struct_field_same : (s i : ℕ) (b : Site) → is_struct_field s i b ≡ true → b ≡ extract_struct_site s i
-struct_field_same s i (extract_struct_site source field) h =
-    let q = and_parts (source == s) (field == i) h in
-    let x = eqb-true source s q.0 in
-    let z = eqb-true field i q.1 in
-    λ k. extract_struct_site (x k) (z k)
-struct_field_same s i _ h = absurd (false≢true h)
-
-part_same : (s : ℕ) (b : Site) → is_part_of s b ≡ true → b ≡ match_some_site s
-part_same s (match_some_site source) h = ap match_some_site (eqb-true source s h)
-part_same s _ h = absurd (false≢true h)
-
--- 3. what is around a place brings what it tested, and every test of a rule whose site is available was made
+-- 2. what is around a place brings what it tested, and every test of a rule whose site is available was made
 pub record Brings (sites : List Site) (ar : Around) : Type 0 where
   pub fields : (s : ℕ) (c : Constraint) (x : ℕ) → Contains ar.tested (s, c) → Contains (field_sites (fields_of sites s c)) x → Contains ar.brought x
   pub picks : (s x : ℕ) → Contains ar.looped s → slice_get sites x ≡ Some (iterator_site s) → Contains ar.brought x
