@@ -6,7 +6,7 @@ use isle_types::{Sym, TermId, TypeId, VarId};
 use std::alloc::{AllocError, Global};
 
 /// A value to make. Each form begins with the type of the value.
-#[derive(Debug, PartialEq, Eq, Drop)]
+#[derive(Debug, PartialEq, Eq)]
 pub enum Expr {
     /// A variant, a struct or a call, with an expression for each argument.
     Term(TypeId, TermId, Vec<Expr>),
@@ -99,4 +99,24 @@ fn clone_bindings(
         out.push((binding.0, binding.1, value))?;
     }
     Ok(out)
+}
+
+// Written out, and so proved here once: a derived `Drop` is proved again in each crate that drops the
+// type.
+impl Drop for Expr {
+    #[cycle(drop_expr)]
+    fn drop(self) {
+        match self {
+            Expr::Term(_, _, _) => {}
+            Expr::Var(_, _) => {}
+            Expr::ConstBool(_, _) => {}
+            Expr::ConstInt(_, _) => {}
+            Expr::ConstPrim(_, _) => {}
+            Expr::Let {
+                ty: _,
+                bindings: _,
+                body: _,
+            } => {}
+        }
+    }
 }

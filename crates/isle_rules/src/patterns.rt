@@ -6,7 +6,7 @@ use isle_types::{Sym, TermId, TypeId, VarId};
 use std::alloc::{AllocError, Global};
 
 /// What a value must be. Each form begins with the type of the values that it is for.
-#[derive(Debug, PartialEq, Eq, Drop)]
+#[derive(Debug, PartialEq, Eq)]
 pub enum Pattern {
     /// Binds the value to a variable, and matches it against a pattern.
     BindPattern(TypeId, VarId, Box<Pattern>),
@@ -80,4 +80,22 @@ fn clones(alloc: Global, parts: &[Pattern]) -> Result<Vec<Pattern>, AllocError>
         out.push(part.clone()?)?;
     }
     Ok(out)
+}
+
+// Written out, and so proved here once: a derived `Drop` is proved again in each crate that drops the
+// type.
+impl Drop for Pattern {
+    #[cycle(drop_pattern)]
+    fn drop(self) {
+        match self {
+            Pattern::BindPattern(_, _, _) => {}
+            Pattern::Var(_, _) => {}
+            Pattern::ConstBool(_, _) => {}
+            Pattern::ConstInt(_, _) => {}
+            Pattern::ConstPrim(_, _) => {}
+            Pattern::Term(_, _, _) => {}
+            Pattern::Wildcard(_) => {}
+            Pattern::And(_, _) => {}
+        }
+    }
 }

@@ -7,7 +7,7 @@ use isle_types::{RuleId, Sym, TermId, TypeId, VarId};
 use std::alloc::AllocError;
 
 /// A condition of a rule: the pattern must match the value of the expression.
-#[derive(Debug, Drop)]
+#[derive(Debug)]
 pub struct IfLet {
     /// What the value must be.
     pub lhs: Pattern,
@@ -41,7 +41,7 @@ pub struct BoundVar {
 }
 
 /// A typed rule.
-#[derive(Debug, Drop)]
+#[derive(Debug)]
 pub struct Rule {
     /// Its place in `TermEnv::rules`.
     pub id: RuleId,
@@ -81,5 +81,29 @@ impl Clone for Rule {
             pos: self.pos,
             name: self.name,
         })
+    }
+}
+
+// Written out, and so proved here once: a derived `Drop` is proved again in each crate that drops the
+// type.
+impl Drop for IfLet {
+    fn drop(self) {
+        let IfLet { lhs: _, rhs: _ } = self;
+    }
+}
+
+impl Drop for Rule {
+    fn drop(self) {
+        let Rule {
+            id: _,
+            root_term: _,
+            args: _,
+            iflets: _,
+            rhs: _,
+            vars: _,
+            prio: _,
+            pos: _,
+            name: _,
+        } = self;
     }
 }

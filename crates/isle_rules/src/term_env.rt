@@ -20,7 +20,7 @@ use isle_types::{RuleId, Sym, TermId, TypeEnv, TypeId};
 use std::alloc::Global;
 
 /// All terms, and all rules in typed form.
-#[derive(Debug, Drop)]
+#[derive(Debug)]
 pub struct TermEnv {
     /// The terms, by their numbers.
     pub terms: Vec<Term>,
@@ -89,5 +89,16 @@ impl TermEnv {
     }
 }
 
-#[cfg(test)]
-mod tests;
+// Written out, and so proved here once.
+impl Drop for TermEnv {
+    fn drop(self) {
+        let TermEnv {
+            terms: _,
+            term_map: _,
+            rules: _,
+            rule_map: _,
+            converters: _,
+            expand_internal_extractors: _,
+        } = self;
+    }
+}

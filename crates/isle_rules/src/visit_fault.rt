@@ -6,7 +6,7 @@ use isle_base::syntax::Limit;
 use std::alloc::{AllocError, AllocFailed};
 
 /// Why a visit ended before its end.
-#[derive(Debug, Drop)]
+#[derive(Debug)]
 pub enum VisitFault {
     /// The allocator refused.
     Memory(AllocError),
@@ -29,5 +29,16 @@ impl<T: Drop> From<AllocFailed<T>> for VisitFault {
 
     fn from(e: AllocFailed<T>) -> VisitFault {
         VisitFault::Memory(AllocError::from(e))
+    }
+}
+
+// Written out, and so proved here once.
+impl Drop for VisitFault {
+    fn drop(self) {
+        match self {
+            VisitFault::Memory(_) => {}
+            VisitFault::Limit(_) => {}
+            VisitFault::Stopped => {}
+        }
     }
 }

@@ -9,7 +9,7 @@ use isle_types::{Sym, TermId, TypeId, VariantId};
 
 /// A term. A constructor makes a value of its type from values of the argument types, an extractor
 /// takes one apart into such values, and a term may be both.
-#[derive(Clone, Debug, PartialEq, Eq, Drop)]
+#[derive(Clone, Debug, PartialEq, Eq)]
 pub struct Term {
     /// The number of the term.
     pub id: TermId,
@@ -39,7 +39,7 @@ pub struct TermFlags {
 }
 
 /// What a term is.
-#[derive(Clone, Debug, PartialEq, Eq, Drop)]
+#[derive(Clone, Debug, PartialEq, Eq)]
 pub enum TermKind {
     /// A variant of an enum.
     EnumVariant {
@@ -60,7 +60,7 @@ pub enum TermKind {
 }
 
 /// What makes a value of a declared term.
-#[derive(Clone, Debug, PartialEq, Eq, Drop)]
+#[derive(Clone, Debug, PartialEq, Eq)]
 pub enum ConstructorKind {
     /// The rules of the term.
     InternalConstructor,
@@ -72,7 +72,7 @@ pub enum ConstructorKind {
 }
 
 /// What takes a value of a declared term apart.
-#[derive(Clone, Debug, PartialEq, Eq, Drop)]
+#[derive(Clone, Debug, PartialEq, Eq)]
 pub enum ExtractorKind {
     /// A pattern with places for the arguments.
     InternalExtractor {
@@ -204,5 +204,56 @@ impl Term {
                 ..
             }
         )
+    }
+}
+
+// Written out, and so proved here once: a derived `Drop` is proved again in each crate that drops the
+// type.
+impl Drop for Term {
+    fn drop(self) {
+        let Term {
+            id: _,
+            decl_pos: _,
+            name: _,
+            arg_tys: _,
+            ret_ty: _,
+            kind: _,
+        } = self;
+    }
+}
+
+impl Drop for TermKind {
+    fn drop(self) {
+        match self {
+            TermKind::EnumVariant { variant: _ } => {}
+            TermKind::Struct => {}
+            TermKind::Decl {
+                flags: _,
+                constructor_kind: _,
+                extractor_kind: _,
+            } => {}
+        }
+    }
+}
+
+impl Drop for ConstructorKind {
+    fn drop(self) {
+        match self {
+            ConstructorKind::InternalConstructor => {}
+            ConstructorKind::ExternalConstructor { name: _ } => {}
+        }
+    }
+}
+
+impl Drop for ExtractorKind {
+    fn drop(self) {
+        match self {
+            ExtractorKind::InternalExtractor { template: _ } => {}
+            ExtractorKind::ExternalExtractor {
+                name: _,
+                infallible: _,
+                pos: _,
+            } => {}
+        }
     }
 }

@@ -2,13 +2,8 @@
 #![tactic(auto)]
 
 mod builtin;
-mod constants;
-mod contents;
-mod fields;
 mod ids;
 mod reading;
-#[cfg(test)]
-mod tests;
 mod type_env;
 mod types;
 

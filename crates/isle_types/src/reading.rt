@@ -14,6 +14,10 @@ ghost use Rattle.isle_types.specs.Stages.{Booting, NamesTypes};
 ghost use Rattle.isle_types.specs.TypeTables.{SeesTypes};
 ghost use Rattle.isle_types.specs.WellFormed.{IsWellFormedEnv};
 
+mod constants;
+mod contents;
+mod fields;
+
 use crate::builtin::BuiltinType;
 use crate::ids::TypeId;
 use crate::type_env::TypeEnv;
@@ -80,8 +84,8 @@ impl TypeEnv {
         }
     }
 
-    // The number of a name, where it is a type's; else it becomes the name of the next type.
-    fn name_type(&mut self, name: &str) -> Result<Option<TypeId>, AllocError>
+    // Makes a name that of the next type. The type that has the name already, where one does.
+    fn claim_type_name(&mut self, name: &str) -> Result<Option<TypeId>, AllocError>
         requires { IsInverse (names_of self.old) (symbol_of self.old) }
         ensures inverse { IsInverse (names_of self.new) (symbol_of self.new) }
         ensures named { IfOk result (λ o. MatchOption o (NamesType name.now self.old self.new)
@@ -114,7 +118,7 @@ impl TypeEnv {
         ensures inverse { IsInverse (names_of self.new) (symbol_of self.new) }
         ensures adds { OnOk result (AddsBuiltin builtin self.old self.new) }
     {
-        let _existing = self.name_type(builtin.name())?;
+        let _existing = self.claim_type_name(builtin.name())?;
         self.types.push(Type::Builtin(builtin))?;
         Ok(())
     }
@@ -128,7 +132,7 @@ impl TypeEnv {
         let Def::TypeDef(ty) = def else {
             return Ok(());
         };
-        let Some(existing) = self.name_type(ty.name.0.as_str())? else {
+        let Some(existing) = self.claim_type_name(ty.name.0.as_str())? else {
             return Ok(());
         };
         report_duplicate(errors, ty, existing)

@@ -13,7 +13,7 @@ use isle_base::syntax::Pos;
 use std::alloc::{AllocError, Global};
 
 /// A type. Upstream's `Type`.
-#[derive(Clone, Debug, PartialEq, Eq, Drop)]
+#[derive(Clone, Debug, PartialEq, Eq)]
 pub enum Type {
     /// A built-in type, which no definition makes.
     Builtin(BuiltinType),
@@ -53,7 +53,7 @@ pub enum Type {
 }
 
 /// A variant of an enum. Upstream's `Variant`.
-#[derive(Clone, Debug, PartialEq, Eq, Drop)]
+#[derive(Clone, Debug, PartialEq, Eq)]
 pub struct Variant {
     /// The name of the variant.
     pub name: Sym,
@@ -68,7 +68,7 @@ pub struct Variant {
 }
 
 /// The fields of a struct or of a variant. Upstream's `Fields`.
-#[derive(Clone, Debug, PartialEq, Eq, Drop)]
+#[derive(Clone, Debug, PartialEq, Eq)]
 pub enum Fields {
     /// No fields.
     Unit,
@@ -79,14 +79,14 @@ pub enum Fields {
 }
 
 /// Fields with names.
-#[derive(Clone, Debug, PartialEq, Eq, Drop)]
+#[derive(Clone, Debug, PartialEq, Eq)]
 pub struct StructFields {
     /// The fields: the place of each is its number.
     pub fields: Vec<StructField>,
 }
 
 /// A field with a name.
-#[derive(Clone, Debug, PartialEq, Eq, Drop)]
+#[derive(Clone, Debug, PartialEq, Eq)]
 pub struct StructField {
     /// The name of the field.
     pub name: Sym,
@@ -97,14 +97,14 @@ pub struct StructField {
 }
 
 /// Fields without names.
-#[derive(Clone, Debug, PartialEq, Eq, Drop)]
+#[derive(Clone, Debug, PartialEq, Eq)]
 pub struct TupleFields {
     /// The fields: the place of each is its number.
     pub fields: Vec<TupleField>,
 }
 
 /// A field without a name.
-#[derive(Clone, Debug, PartialEq, Eq, Drop)]
+#[derive(Clone, Debug, PartialEq, Eq)]
 pub struct TupleField {
     /// The number of the field.
     pub id: FieldId,
@@ -190,4 +190,81 @@ fn tuple_field_types(alloc: Global, fields: &[TupleField]) -> Result<Vec<TypeId>
     ensures { IfOk result (λ v. v.items ≡ map (λ f. f.ty) fields.now) }
 {
     fields.iter().map(|part| part.ty).collect(alloc)
+}
+
+// Written out, and so proved here once: a derived `Drop` is proved again in each crate that drops the
+// type.
+impl Drop for Type {
+    fn drop(self) {
+        match self {
+            Type::Builtin(_) => {}
+            Type::Primitive(_, _, _) => {}
+            Type::Enum {
+                name: _,
+                id: _,
+                is_extern: _,
+                is_nodebug: _,
+                variants: _,
+                pos: _,
+            } => {}
+            Type::Struct {
+                name: _,
+                id: _,
+                is_extern: _,
+                is_nodebug: _,
+                fields: _,
+                pos: _,
+            } => {}
+        }
+    }
+}
+
+impl Drop for Variant {
+    fn drop(self) {
+        let Variant {
+            name: _,
+            fullname: _,
+            id: _,
+            fields: _,
+            pos: _,
+        } = self;
+    }
+}
+
+impl Drop for Fields {
+    fn drop(self) {
+        match self {
+            Fields::Unit => {}
+            Fields::Struct(_) => {}
+            Fields::Tuple(_) => {}
+        }
+    }
+}
+
+impl Drop for StructFields {
+    fn drop(self) {
+        let StructFields { fields: _ } = self;
+    }
+}
+
+impl Drop for StructField {
+    fn drop(self) {
+        let StructField {
+            name: _,
+            id: _,
+            ty: _,
+        } = self;
+    }
+}
+
+impl Drop for TupleFields {
+    fn drop(self) {
+        let TupleFields { fields: _ } = self;
+    }
+}
+
+impl Drop for TupleField {
+    fn drop(self) {
+        let TupleField { id: _, ty: _ } = self;
+    }
 }
