@@ -5,7 +5,8 @@ ghost use Rattle.isle_rules.specs.ExprViews.{expr_view, expr_views, let_views, e
 use isle_types::{Sym, TermId, TypeId, VarId};
 use std::alloc::{AllocError, Global};
 
-/// A value to make. Each form begins with the type of the value.
+/// A value to make. Each form begins with the type of the value: a constant keeps it, since the literal
+/// alone doesn't say which constant it is.
 #[derive(Debug, PartialEq, Eq)]
 pub enum Expr {
     /// A variant, a struct or a call, with an expression for each argument.
@@ -18,7 +19,8 @@ pub enum Expr {
     ConstInt(TypeId, i128),
     /// A named constant.
     ConstPrim(TypeId, Sym),
-    /// The body's value, where some variables stand for values.
+    /// The body's value, where some variables stand for values. All of these are evaluated, in order, used
+    /// or not.
     Let {
         /// The body's type.
         ty: TypeId,

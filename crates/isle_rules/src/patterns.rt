@@ -5,24 +5,27 @@ ghost use Rattle.isle_rules.specs.PatternViews.{pattern_view, pattern_views, pat
 use isle_types::{Sym, TermId, TypeId, VarId};
 use std::alloc::{AllocError, Global};
 
-/// What a value must be. Each form begins with the type of the values that it is for.
+/// What a value must be. Each form begins with the type of the values that it is for, so that who reads a
+/// pattern needs no table to know what it is tested on.
 #[derive(Debug, PartialEq, Eq)]
 pub enum Pattern {
-    /// Binds the value to a variable, and matches it against a pattern.
+    /// Binds the value to a variable, and matches it against a pattern. A variable alone is bound over a
+    /// wildcard.
     BindPattern(TypeId, VarId, Box<Pattern>),
-    /// The value of a variable that is bound already.
+    /// The value of a variable that is bound already: the two values must be equal.
     Var(TypeId, VarId),
     /// A truth value.
     ConstBool(TypeId, bool),
     /// An integer.
     ConstInt(TypeId, i128),
-    /// A named constant.
+    /// A named constant, whose value is known outside alone.
     ConstPrim(TypeId, Sym),
-    /// A variant, a struct or an extractor's answer, with a pattern for each part.
+    /// A variant, a struct or an extractor's answer, with a pattern for each part. The type is that of the
+    /// value that is taken apart.
     Term(TypeId, TermId, Vec<Pattern>),
     /// Any value.
     Wildcard(TypeId),
-    /// What matches all of these.
+    /// What matches all of these, which are asked of one value.
     And(TypeId, Vec<Pattern>),
 }
 

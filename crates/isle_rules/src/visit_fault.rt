@@ -10,9 +10,9 @@ use std::alloc::{AllocError, AllocFailed};
 pub enum VisitFault {
     /// The allocator refused.
     Memory(AllocError),
-    /// The rule passed this limit.
+    /// The rule passed this limit, and is left out.
     Limit(Limit),
-    /// The visitor wanted to see no more.
+    /// The visitor wanted to see no more. No visitor of this crate gives it: it is for those of others.
     Stopped,
 }
 

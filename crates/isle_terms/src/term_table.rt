@@ -13,14 +13,15 @@ use isle_base::syntax::{Def, Fault};
 use isle_types::{Sym, TermId, TypeEnv, TypeId};
 use std::alloc::Global;
 
-/// The terms that definitions speak of.
+/// The terms that definitions speak of: what rules are typed with, before there are any.
 #[derive(Drop)]
 pub struct TermTable {
-    /// The terms: the place of each is its number.
+    /// The terms: the place of each is its id.
     pub terms: Vec<Term>,
     /// The term of each term's name.
     pub term_map: StableMap<Sym, TermId>,
-    /// The term that converts a type, the first one, into another, the second one.
+    /// The term that converts a type, the first one, into another, the second one. It is called where a
+    /// rule uses a value of the one type at the other and says no conversion.
     pub converters: StableMap<(TypeId, TypeId), TermId>,
 }
 

@@ -1,4 +1,4 @@
-//! Types: their numbers, the built-in ones, those that definitions make, and the table of them all.
+//! Types: their ids, the built-in ones, those that definitions make, and the table of them all.
 #![tactic(auto)]
 
 mod builtin;
