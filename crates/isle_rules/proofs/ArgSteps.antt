@@ -17,10 +17,9 @@ use Rattle.isle_rules.specs.declared.patterns.Pattern.{Pattern}
 use Rattle.isle_rules.specs.declared.rules.BoundVar.{BoundVar}
 use Rattle.isle_rules.specs.ExprViews.{expr_view}
 use Rattle.isle_rules.specs.PatternViews.{pattern_view, pattern_views}
-use Rattle.isle_rules.specs.Elaborating.{Reports, Checks, Elaborates, ElaboratesArgs, var_views, pattern_with, patterns_with}
-
-pub both : (a b c : List Error) → Reports a b → Reports b c → Reports a c
-both a b c r s = record { some = s.some; plain = λ h. s.plain (r.plain h) }
+use Rattle.isle_types.specs.Reading.{Reports}
+use Rattle.isle_types.proofs.Reports.{both}
+use Rattle.isle_rules.specs.Elaborating.{Checks, Elaborates, TypesArgs, var_views, pattern_with, patterns_with}
 
 -- arguments after others
 abbrev pub after : List TypedPattern → Option ElaboratedArgs → Option ElaboratedArgs
@@ -84,7 +83,7 @@ module _ (names : List (List ℕ)) (types : List TypeEntry) where
   pub first_arg : (es : List Error) (args : List PatternTree) (tys : List ℕ) (vars : List BoundVar) → ArgsAt es es (elaborate_args names types args tys (var_views vars)) args tys vars []
   first_arg es args tys vars = inl (refl, refl)
 
-  pub last_arg : (args : List P.Pattern) (tys : List TypeId) (i : ℕ) (old new : List Error) (before vars : List BoundVar) (out : List Pattern) → (length args ≡ length tys → (length args ≤ i) × (length tys ≤ i)) → ArgsAt old new (elaborate_args names types (map S.pattern_view args) (map (λ t. t.0) tys) (var_views before)) (map S.pattern_view (drop i args)) (map (λ t. t.0) (drop i tys)) vars out → ElaboratesArgs old new names types (map S.pattern_view args) (map (λ t. t.0) tys) before vars out
+  pub last_arg : (args : List P.Pattern) (tys : List TypeId) (i : ℕ) (old new : List Error) (before vars : List BoundVar) (out : List Pattern) → (length args ≡ length tys → (length args ≤ i) × (length tys ≤ i)) → ArgsAt old new (elaborate_args names types (map S.pattern_view args) (map (λ t. t.0) tys) (var_views before)) (map S.pattern_view (drop i args)) (map (λ t. t.0) (drop i tys)) vars out → TypesArgs old new names types (map S.pattern_view args) (map (λ t. t.0) tys) before vars out
   last_arg args tys i old new before vars out ends (inl a) =
       inl (
         a.0,
@@ -145,7 +144,7 @@ checks_as : (old new : List Error) (P Q : Type 0) → (P → Q) → (Q → P) �
 checks_as old new P Q f g (inl c) = inl (c.0, f c.1)
 checks_as old new P Q f g (inr c) = inr (c.0, λ q. c.1 (g q))
 
-module _ (names : List (List ℕ)) (types : List TypeEntry) (r : RuleTree) (id root : ℕ) (term : TermEntry) (given : List P.Pattern) (tys : List TypeId) (got expect : ℕ) (g : map S.pattern_view given ≡ root_args r.pattern) (k : map (λ t. t.0) tys ≡ term.arg_tys) (n : got ≡ length given) (m : expect ≡ length tys) (before vars : List BoundVar) (s : before ≡ []) (args : List Pattern) (e0 e1 e2 e3 : List Error) (c : Checks e0 e1 (got ≡ expect)) (a : ElaboratesArgs e1 e2 names types (map S.pattern_view given) (map (λ t. t.0) tys) before vars args) where
+module _ (names : List (List ℕ)) (types : List TypeEntry) (r : RuleTree) (id root : ℕ) (term : TermEntry) (given : List P.Pattern) (tys : List TypeId) (got expect : ℕ) (g : map S.pattern_view given ≡ root_args r.pattern) (k : map (λ t. t.0) tys ≡ term.arg_tys) (n : got ≡ length given) (m : expect ≡ length tys) (before vars : List BoundVar) (s : before ≡ []) (args : List Pattern) (e0 e1 e2 e3 : List Error) (c : Checks e0 e1 (got ≡ expect)) (a : TypesArgs e1 e2 names types (map S.pattern_view given) (map (λ t. t.0) tys) before vars args) where
   abbrev Counted : Type 0
   Counted = length (root_args r.pattern) ≡ length term.arg_tys
 
@@ -155,11 +154,11 @@ module _ (names : List (List ℕ)) (types : List TypeEntry) (r : RuleTree) (id r
   wanted_count : expect ≡ length term.arg_tys
   wanted_count = m ∙ sym (length-map tys (λ t. t.0)) ∙ ap length k
 
-  moved : ElaboratesArgs e1 e2 names types (root_args r.pattern) term.arg_tys [] vars args
+  moved : TypesArgs e1 e2 names types (root_args r.pattern) term.arg_tys [] vars args
   moved =
-      subst (λ b. ElaboratesArgs e1 e2 names types (root_args r.pattern) term.arg_tys b vars args) s
-      (subst (λ ts. ElaboratesArgs e1 e2 names types (root_args r.pattern) ts before vars args) k
-      (subst (λ ps. ElaboratesArgs e1 e2 names types ps (map (λ t. t.0) tys) before vars args) g a))
+      subst (λ b. TypesArgs e1 e2 names types (root_args r.pattern) term.arg_tys b vars args) s
+      (subst (λ ts. TypesArgs e1 e2 names types (root_args r.pattern) ts before vars args) k
+      (subst (λ ps. TypesArgs e1 e2 names types ps (map (λ t. t.0) tys) before vars args) g a))
 
   pub rule_from : (made : Option TypedExpr) → Elaborates e2 e3 made (elaborate_expr names types r.expr term.ret_ty (var_views vars)) → Elaborates e0 e3 (option_map (rule_with names r id root (patterns_with vars args)) made) (elaborate_at names types r id root term)
   rule_from made e =

@@ -24,9 +24,10 @@ use Rattle.isle_terms.specs.Terms.{is_internal_constructor, has_internal_constru
 use Rattle.isle_terms.specs.TermViews.{term_view, term_views}
 use Rattle.isle_rules.specs.declared.rules.Rule.{Rule}
 use Rattle.isle_rules.specs.RuleViews.{rule_views}
-use Rattle.isle_rules.specs.Elaborating.{Reports, Checks, AreTyped, TypesRules}
+use Rattle.isle_types.specs.Reading.{Reports}
+use Rattle.isle_rules.specs.Elaborating.{Checks, AreTyped, TypesRules}
 use Rattle.isle_rules.specs.RuleNaming.{rule_in, MapsNames, AreMade}
-use Rattle.isle_rules.proofs.ArgSteps.{both}
+use Rattle.isle_types.proofs.Reports.{both}
 
 abbrev IsMade : TermEntry → Type 0
 IsMade t = IsTrue (has_internal_constructor_term t)

@@ -16,9 +16,9 @@ use Rattle.isle_types.specs.declared.ids.RuleId.{RuleId}
 use Rattle.isle_types.specs.Envs.{same_symbol, symbol}
 use Rattle.isle_rules.specs.declared.rules.Rule.{Rule}
 use Rattle.isle_rules.specs.RuleViews.{rule_view, rule_views}
-use Rattle.isle_rules.specs.Elaborating.{Reports}
+use Rattle.isle_types.specs.Reading.{Reports}
 use Rattle.isle_rules.specs.RuleNaming.{rule_in, NamesAs, NamesRule, MapsNames}
-use Rattle.isle_rules.proofs.ArgSteps.{both}
+use Rattle.isle_types.proofs.Reports.{both}
 
 -- whether a rule has the name
 abbrev has_it : Option ℕ → ℕ → Bool

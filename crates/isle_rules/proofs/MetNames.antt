@@ -10,17 +10,16 @@ use Rattle.isle_model.specs.lists.Names.{with_name, with_names}
 use Rattle.isle_model.specs.lists.TermTable.{rule_trees}
 use Rattle.isle_model.specs.first.Elaboration.{var_of_pattern, bound_names, carried_names_of_rule}
 use Rattle.isle_types.specs.declared.type_env.TypeEnv.{TypeEnv}
-use Rattle.isle_types.specs.Envs.{names_of, symbol_of}
-use Rattle.isle_types.specs.Names.{IsInverse}
+use Rattle.isle_types.specs.Envs.{names_of, IsInterned}
 use Rattle.isle_rules.specs.Elaborating.{definition_names}
 use Rattle.isle_rules.specs.Numbering.{Meets}
 use Rattle.isle_model.proofs.Names.{with_names_append}
 
 -- nothing is met yet
-pub meets_start : (e : TypeEnv) (all : List (List ℕ)) → IsInverse (names_of e) (symbol_of e) → Meets e e all all
+pub meets_start : (e : TypeEnv) (all : List (List ℕ)) → IsInterned e → Meets e e all all
 meets_start e all i = record { names = refl; inverse = i; types = refl; type_map = refl; const_types = refl; errors = refl }
 
-pub meets_one : (old new : TypeEnv) (x : List ℕ) → names_of new ≡ with_name (names_of old) x → IsInverse (names_of new) (symbol_of new) → new.types ≡ old.types → new.type_map ≡ old.type_map → new.const_types ≡ old.const_types → new.errors ≡ old.errors → Meets old new [] (x ∷ [])
+pub meets_one : (old new : TypeEnv) (x : List ℕ) → names_of new ≡ with_name (names_of old) x → IsInterned new → new.types ≡ old.types → new.type_map ≡ old.type_map → new.const_types ≡ old.const_types → new.errors ≡ old.errors → Meets old new [] (x ∷ [])
 meets_one old new x n i t m c e = record { names = n; inverse = i; types = t; type_map = m; const_types = c; errors = e }
 
 pub meets_then : (old mid new : TypeEnv) (xs left all : List (List ℕ)) → Meets old mid (xs ++ left) all → Meets mid new [] xs → Meets old new left all

@@ -17,8 +17,9 @@ use Rattle.isle_terms.specs.declared.term_table.TermTable.{TermTable}
 use Rattle.isle_terms.specs.TermTables.{SeesTerms}
 use Rattle.isle_rules.specs.declared.rules.Rule.{Rule}
 use Rattle.isle_rules.specs.RuleViews.{rule_view, rule_views}
-use Rattle.isle_rules.specs.Elaborating.{AreKnown, Reports, definition_names, elaborate_found, AddsRule, AreTyped, TypesRules}
-use Rattle.isle_rules.proofs.ArgSteps.{both}
+use Rattle.isle_types.specs.Reading.{Reports}
+use Rattle.isle_rules.specs.Elaborating.{AreKnown, definition_names, elaborate_found, AddsRule, AreTyped, TypesRules}
+use Rattle.isle_types.proofs.Reports.{both}
 use Rattle.isle_rules.proofs.MetNames.{all_met, met_split, all_bound, bound_split}
 use Rattle.isle_rules.proofs.Found.{same_rule}
 

@@ -1,16 +1,16 @@
 -- What elaborating one thing after another does to the errors found so far.
-use Rattle.std.specs.Prelude.{◌≡◌, ◌≢◌, ℕ, ◌⊎◌, List, [], ◌∷◌, ◌++◌, length, map, IsTrue, Option, Some, None, option_and_then, slice_get, All}
-use Rattle.isle_model.specs.lists.Syntax.{PatternTree, RuleTree, Definition, rule_definition}
-use Rattle.isle_model.specs.lists.Names.{has_name}
-use Rattle.isle_model.specs.rules.Outcome.{then_option}
-use Rattle.isle_model.specs.lists.TermTable.{root_name, rule_trees}
-use Rattle.isle_model.specs.lists.Tables.{TypeEntry}
-use Rattle.isle_model.specs.rules.Typed.{TypedVar, TypedRule}
-use Rattle.isle_model.specs.first.Elaboration.{Elaborated, ElaboratedArgs, elaborate_args, elaborate_at, elaborate_rules, is_carried_rule, carried_names_of_rule}
+use Rattle.std.specs.Prelude.{◌≡◌, ℕ, ◌⊎◌, List, [], ◌∷◌, ◌++◌, length, map, IsTrue, Option, Some, None, option_and_then, slice_get, All}
+use Rattle.isle_model.specs.Syntax.{PatternTree, RuleTree, Definition, rule_definition}
+use Rattle.isle_model.specs.Names.{has_name}
+use Rattle.isle_model.specs.Outcome.{then_option}
+use Rattle.isle_model.specs.TermTable.{root_name, rule_trees}
+use Rattle.isle_model.specs.Tables.{TypeEntry}
+use Rattle.isle_model.specs.Typed.{TypedVar, TypedRule}
+use Rattle.isle_model.specs.Elaboration.{Elaborated, ElaboratedArgs, elaborate_args, elaborate_at, elaborate_rules, is_carried_rule, names_of_rule}
 use Rattle.isle_base.specs.declared.syntax.Error.{Error}
-use Rattle.isle_base.specs.Answers.{limit_of}
 use Rattle.isle_types.specs.declared.type_env.TypeEnv.{TypeEnv}
 use Rattle.isle_types.specs.Envs.{names_of, symbol_of}
+use Rattle.isle_types.specs.Reading.{Reports}
 use Rattle.isle_types.specs.TypeViews.{type_views}
 use Rattle.isle_terms.specs.declared.term_table.TermTable.{TermTable}
 use Rattle.isle_terms.specs.TermTables.{term_at}
@@ -20,11 +20,6 @@ use Rattle.isle_rules.specs.declared.rules.BoundVar.{BoundVar}
 use Rattle.isle_rules.specs.declared.rules.Rule.{Rule}
 use Rattle.isle_rules.specs.PatternViews.{pattern_view, pattern_views}
 use Rattle.isle_rules.specs.RuleViews.{var_view, rule_views}
-
--- there are errors now, and no new one says that a limit was passed
-pub record Reports (old new : List Error) : Type 0 where
-  pub some : new ≢ []
-  pub plain : All (λ e. limit_of e ≡ None) old → All (λ e. limit_of e ≡ None) new
 
 -- all these texts are names
 abbrev pub AreKnown : List (List ℕ) → List (List ℕ) → Type 0
@@ -49,8 +44,8 @@ abbrev pub patterns_with : List BoundVar → List Pattern → ElaboratedArgs
 patterns_with vars ps = record { patterns = pattern_views ps; vars = var_views vars }
 
 -- where there are as many arguments as types, they are elaborated; or there is an error, and they are not
-abbrev pub ElaboratesArgs : List Error → List Error → List (List ℕ) → List TypeEntry → List PatternTree → List ℕ → List BoundVar → List BoundVar → List Pattern → Type 0
-ElaboratesArgs old new names types args tys before after made =
+abbrev pub TypesArgs : List Error → List Error → List (List ℕ) → List TypeEntry → List PatternTree → List ℕ → List BoundVar → List BoundVar → List Pattern → Type 0
+TypesArgs old new names types args tys before after made =
     ((new ≡ old) × (length args ≡ length tys → elaborate_args names types args tys (var_views before) ≡ Some (patterns_with after made)))
     ⊎ (Reports old new × (elaborate_args names types args tys (var_views before) ≡ None))
 
@@ -64,8 +59,8 @@ elaborate_found env table id r =
     then_option (found_root env table r) (λ root. then_option (slice_get (term_views table.terms.items) root) (λ term. elaborate_at (names_of env) (type_views env.types.items) r id root term))
 
 -- a rule that is carried becomes a typed rule, or there is an error
-abbrev pub ElaboratesRule : List Error → List Error → TypeEnv → TermTable → ℕ → RuleTree → Option TypedRule → Type 0
-ElaboratesRule old new env table id r made =
+abbrev pub TypesRule : List Error → List Error → TypeEnv → TermTable → ℕ → RuleTree → Option TypedRule → Type 0
+TypesRule old new env table id r made =
     ((new ≡ old) × IsTrue (is_carried_rule r) × ((q : TypedRule) × (made ≡ Some q) × (elaborate_found env table id r ≡ Some q)))
     ⊎ (Reports old new × (IsTrue (is_carried_rule r) → elaborate_found env table id r ≡ None))
 

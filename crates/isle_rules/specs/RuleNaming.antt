@@ -10,7 +10,7 @@ use Rattle.isle_types.specs.declared.ids.Sym.{Sym}
 use Rattle.isle_types.specs.declared.ids.RuleId.{RuleId}
 use Rattle.isle_types.specs.Envs.{same_symbol, symbol}
 use Rattle.isle_terms.specs.Terms.{has_internal_constructor_term}
-use Rattle.isle_rules.specs.Elaborating.{Reports}
+use Rattle.isle_types.specs.Reading.{Reports}
 
 -- the rule of the name of a number
 abbrev pub rule_in : Entries Sym RuleId → ℕ → Option ℕ

@@ -14,18 +14,18 @@ use Rattle.isle_rules.specs.declared.term_env.TermEnv.{TermEnv}
 use Rattle.isle_rules.specs.RuleViews.{rule_views}
 
 -- the term, and the rule, of the name of a number
-abbrev pub term_named : TermEnv → ℕ → Option ℕ
-term_named env k = option_map (λ t. t.0) (look_up same_symbol env.term_map (symbol k))
+abbrev pub term_in_env : TermEnv → ℕ → Option ℕ
+term_in_env env k = option_map (λ t. t.0) (look_up same_symbol env.term_map (symbol k))
 
-abbrev pub rule_at : TermEnv → ℕ → Option ℕ
-rule_at env k = option_map (λ r. r.0) (look_up same_symbol env.rule_map (symbol k))
+abbrev pub rule_in_env : TermEnv → ℕ → Option ℕ
+rule_in_env env k = option_map (λ r. r.0) (look_up same_symbol env.rule_map (symbol k))
 
 -- the terms are those of the definitions, the rules are these typed rules, both are found by their names, and there is
 -- no converter
 pub record SeesRules (env : TermEnv) (defs : List Definition) (typed : List TypedRule) (expanded : Bool) : Type 0 where
   pub terms : term_views env.terms.items ≡ term_entries defs
-  pub term_ids : (k : ℕ) → term_named env k ≡ carried_term_of_number defs (all_names defs) k
+  pub term_ids : (k : ℕ) → term_in_env env k ≡ term_of_number defs (all_names defs) k
   pub rules : rule_views env.rules.items ≡ typed
-  pub rule_ids : (k : ℕ) → rule_at env k ≡ rule_named typed k
+  pub rule_ids : (k : ℕ) → rule_in_env env k ≡ rule_named typed k
   pub converters : (c : TypeId × TypeId) → look_up same_types env.converters c ≡ None
   pub expand : env.expand_internal_extractors ≡ expanded

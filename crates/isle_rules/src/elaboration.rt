@@ -1,24 +1,23 @@
-//! How rules become typed rules, where all names have their numbers. What is wrong with a rule is noted, and
+//! How rules become typed rules, where all names have their ids. What is wrong with a rule is noted, and
 //! the elaboration goes on.
 
 ghost use Rattle.std.specs.Prelude.{◌≡◌, ◌++◌, Bool, true, IfOk, OnOk, MatchBool, All, IsTrue, Some, length, map, option_map, option_and_then, pos, slice_get, string_bytes, unwrap_or};
 ghost use Rattle.std.specs.Option.{option_to_list};
 ghost use Rattle.isle_base.specs.SyntaxViews as S;
 ghost use Rattle.isle_base.specs.SyntaxViews.{definition_view, definition_views};
-ghost use Rattle.isle_model.specs.lists.Names.{number, has_name};
-ghost use Rattle.isle_model.specs.lists.TermTable.{root_name};
-ghost use Rattle.isle_model.specs.rules.Values.{is_atom_type};
-ghost use Rattle.isle_model.specs.first.Elaboration.{all_names, elaborate_pattern, elaborate_expr, elaborate_at, carried_names_of_rule, own_name, root_args, var_of_pattern, var_of_expr, bound_names};
-ghost use Rattle.isle_model.specs.lists.Setting.{var_named};
-ghost use Rattle.isle_types.specs.Envs.{names_of, symbol_of};
-ghost use Rattle.isle_types.specs.Names.{IsInverse};
+ghost use Rattle.isle_model.specs.Names.{number, has_name};
+ghost use Rattle.isle_model.specs.TermTable.{root_name};
+ghost use Rattle.isle_model.specs.Values.{is_atom_type};
+ghost use Rattle.isle_model.specs.Elaboration.{all_names, elaborate_pattern, elaborate_expr, elaborate_at, names_of_rule, own_name, root_args, var_named, var_of_pattern, var_of_expr, bound_names};
+ghost use Rattle.isle_types.specs.Envs.{names_of, symbol_of, IsInterned};
 ghost use Rattle.isle_types.specs.TypeTables.{SeesTypes};
 ghost use Rattle.isle_types.specs.TypeViews.{type_views};
 ghost use Rattle.isle_terms.specs.TermTables.{SeesTerms, term_at};
 ghost use Rattle.isle_terms.specs.TermViews.{term_view};
 ghost use Rattle.isle_rules.specs.ExprViews.{expr_view};
 ghost use Rattle.isle_rules.specs.RuleViews.{var_view, rule_view};
-ghost use Rattle.isle_rules.specs.Elaborating.{AreKnown, definition_names, Reports, Checks, Elaborates, ElaboratesArgs, ElaboratesRule, AddsRule, TypesRules, var_views, pattern_with};
+ghost use Rattle.isle_types.specs.Reading.{Reports};
+ghost use Rattle.isle_rules.specs.Elaborating.{AreKnown, definition_names, Checks, Elaborates, TypesArgs, TypesRule, AddsRule, TypesRules, var_views, pattern_with};
 
 use crate::exprs::Expr;
 use crate::forms::{args_of, is_carried};
@@ -31,9 +30,9 @@ use isle_terms::{Term, TermTable};
 use isle_types::{RuleId, Sym, TermId, TypeEnv, TypeId, VarId};
 use std::alloc::{AllocError, Global};
 
-// The number of a name that has one.
+// The id of a name that has one.
 fn number_of(tyenv: &TypeEnv, name: &Ident) -> Sym
-    requires inverse { IsInverse (names_of tyenv.now) (symbol_of tyenv.now) }
+    requires inverse { IsInterned tyenv.now }
     requires known { IsTrue (has_name (names_of tyenv.now) (string_bytes name.now.0)) }
     ensures { result.0 ≡ number (names_of tyenv.now) (string_bytes name.now.0) }
 {
@@ -82,7 +81,7 @@ fn elaborate_arg(
     vars: &mut Vec<BoundVar>,
     errors: &mut Vec<Error>,
 ) -> Result<Option<Pattern>, AllocError>
-    requires inverse { IsInverse (names_of tyenv.now) (symbol_of tyenv.now) }
+    requires inverse { IsInterned tyenv.now }
     requires known { AreKnown (names_of tyenv.now) (var_of_pattern (S.pattern_view arg.now)) }
     ensures { IfOk result (λ o. Elaborates errors.old.items errors.new.items (option_map (pattern_with vars.new.items) o)
         (elaborate_pattern (names_of tyenv.now) (type_views tyenv.now.types.items) (S.pattern_view arg.now) ty.0 (var_views vars.old.items))) }
@@ -118,9 +117,9 @@ fn elaborate_args(
     vars: &mut Vec<BoundVar>,
     errors: &mut Vec<Error>,
 ) -> Result<Vec<Pattern>, AllocError>
-    requires inverse { IsInverse (names_of tyenv.now) (symbol_of tyenv.now) }
+    requires inverse { IsInterned tyenv.now }
     requires known { AreKnown (names_of tyenv.now) (bound_names (map S.pattern_view args.now)) }
-    ensures { IfOk result (λ v. ElaboratesArgs errors.old.items errors.new.items (names_of tyenv.now) (type_views tyenv.now.types.items)
+    ensures { IfOk result (λ v. TypesArgs errors.old.items errors.new.items (names_of tyenv.now) (type_views tyenv.now.types.items)
         (map S.pattern_view args.now) (map (λ ty. ty.0) tys.now) vars.old.items vars.new.items v.items) }
 {
     let mut out = Vec::new(alloc);
@@ -163,7 +162,7 @@ fn elaborate_rhs(
     vars: &[BoundVar],
     errors: &mut Vec<Error>,
 ) -> Result<Option<Expr>, AllocError>
-    requires inverse { IsInverse (names_of tyenv.now) (symbol_of tyenv.now) }
+    requires inverse { IsInterned tyenv.now }
     requires known { AreKnown (names_of tyenv.now) (var_of_expr (S.expr_view expr.now)) }
     ensures { IfOk result (λ o. Elaborates errors.old.items errors.new.items (option_map expr_view o)
         (elaborate_expr (names_of tyenv.now) (type_views tyenv.now.types.items) (S.expr_view expr.now) ty.0 (var_views vars.now))) }
@@ -242,9 +241,9 @@ fn check_count(
     report(errors, pos, msg.as_str())
 }
 
-// The number of a rule's own name, where it has one.
+// The id of a rule's own name, where it has one.
 fn number_of_own(tyenv: &TypeEnv, rule: &syntax::Rule) -> Option<Sym>
-    requires inverse { IsInverse (names_of tyenv.now) (symbol_of tyenv.now) }
+    requires inverse { IsInterned tyenv.now }
     requires known { AreKnown (names_of tyenv.now) (own_name (S.rule_view rule.now).name) }
     ensures { option_map (λ s. s.0) result ≡ option_map (λ n. number (names_of tyenv.now) n.text) (S.rule_view rule.now).name }
 {
@@ -261,7 +260,7 @@ fn prio_of(rule: &syntax::Rule) -> i64
     rule.prio.unwrap_or(0)
 }
 
-// A rule of a term becomes the typed rule of this number.
+// A rule of a term becomes the typed rule of this id.
 fn elaborate_for(
     alloc: Global,
     tyenv: &TypeEnv,
@@ -272,8 +271,8 @@ fn elaborate_for(
     term: &Term,
     errors: &mut Vec<Error>,
 ) -> Result<Option<Rule>, AllocError>
-    requires inverse { IsInverse (names_of tyenv.now) (symbol_of tyenv.now) }
-    requires known { AreKnown (names_of tyenv.now) (carried_names_of_rule (S.rule_view rule.now)) }
+    requires inverse { IsInterned tyenv.now }
+    requires known { AreKnown (names_of tyenv.now) (names_of_rule (S.rule_view rule.now)) }
     ensures { IfOk result (λ o. Elaborates errors.old.items errors.new.items (option_map rule_view o)
         (elaborate_at (names_of tyenv.now) (type_views tyenv.now.types.items) (S.rule_view rule.now) id.0 root_term.0 (term_view term.now))) }
 {
@@ -308,7 +307,7 @@ fn root_of(rule: &syntax::Rule) -> Option<&Ident>
     }
 }
 
-// The number of the term of a name.
+// The id of the term of a name.
 fn term_of(tyenv: &TypeEnv, table: &TermTable, name: &Ident) -> Option<TermId>
     ensures { option_map (λ t. t.0) result ≡ option_and_then (term_at table.now) (symbol_of tyenv.now (string_bytes name.now.0)) }
 {
@@ -316,7 +315,7 @@ fn term_of(tyenv: &TypeEnv, table: &TermTable, name: &Ident) -> Option<TermId>
     table.term_map.get(&sym).copied()
 }
 
-// A rule becomes the typed rule of this number, where it is carried.
+// A rule becomes the typed rule of this id, where it is carried.
 fn elaborate_rule(
     alloc: Global,
     tyenv: &TypeEnv,
@@ -325,9 +324,9 @@ fn elaborate_rule(
     id: RuleId,
     errors: &mut Vec<Error>,
 ) -> Result<Option<Rule>, AllocError>
-    requires inverse { IsInverse (names_of tyenv.now) (symbol_of tyenv.now) }
-    requires known { AreKnown (names_of tyenv.now) (carried_names_of_rule (S.rule_view rule.now)) }
-    ensures { IfOk result (λ o. ElaboratesRule errors.old.items errors.new.items tyenv.now table.now id.0 (S.rule_view rule.now) (option_map rule_view o)) }
+    requires inverse { IsInterned tyenv.now }
+    requires known { AreKnown (names_of tyenv.now) (names_of_rule (S.rule_view rule.now)) }
+    ensures { IfOk result (λ o. TypesRule errors.old.items errors.new.items tyenv.now table.now id.0 (S.rule_view rule.now) (option_map rule_view o)) }
 {
     if !is_carried(rule) {
         report(errors, rule.pos, "not carried yet")?;
@@ -361,7 +360,7 @@ fn elaborate_definition(
     rules: &mut Vec<Rule>,
     errors: &mut Vec<Error>,
 ) -> Result<(), AllocError>
-    requires inverse { IsInverse (names_of tyenv.now) (symbol_of tyenv.now) }
+    requires inverse { IsInterned tyenv.now }
     requires known { AreKnown (names_of tyenv.now) (definition_names (definition_view def.now)) }
     ensures { OnOk result (AddsRule (definition_view def.now) errors.old.items errors.new.items tyenv.now table.now rules.old.items rules.new.items) }
 {

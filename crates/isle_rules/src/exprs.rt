@@ -6,8 +6,9 @@ ghost use Rattle.isle_model.specs.lists.Setting.{expr_type};
 use isle_types::{Sym, TermId, TypeId, VarId};
 use std::alloc::{AllocError, Global};
 
-/// A value to make. Each form begins with the type of the value.
-#[derive(Debug, PartialEq, Eq, Drop)]
+/// A value to make. Each form begins with the type of the value: a constant keeps it, since the literal
+/// alone doesn't say which constant it is.
+#[derive(Debug, PartialEq, Eq)]
 pub enum Expr {
     /// A variant, a struct or a call, with an expression for each argument.
     Term(TypeId, TermId, Vec<Expr>),
@@ -19,7 +20,8 @@ pub enum Expr {
     ConstInt(TypeId, i128),
     /// A named constant.
     ConstPrim(TypeId, Sym),
-    /// The body's value, where some variables stand for values.
+    /// The body's value, where some variables stand for values. All of these are evaluated, in order, used
+    /// or not.
     Let {
         /// The body's type.
         ty: TypeId,
@@ -100,4 +102,24 @@ fn clone_bindings(
         out.push((binding.0, binding.1, value))?;
     }
     Ok(out)
+}
+
+// Written out, and so proved here once: a derived `Drop` is proved again in each crate that drops the
+// type.
+impl Drop for Expr {
+    #[cycle(drop_expr)]
+    fn drop(self) {
+        match self {
+            Expr::Term(_, _, _) => {}
+            Expr::Var(_, _) => {}
+            Expr::ConstBool(_, _) => {}
+            Expr::ConstInt(_, _) => {}
+            Expr::ConstPrim(_, _) => {}
+            Expr::Let {
+                ty: _,
+                bindings: _,
+                body: _,
+            } => {}
+        }
+    }
 }

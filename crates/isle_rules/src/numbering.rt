@@ -1,13 +1,12 @@
-//! The names that rules speak of get their numbers: rule by rule, the variables, what the right side names,
+//! The names that rules speak of get their ids: rule by rule, the variables, what the right side names,
 //! and the rule's own name.
 
 ghost use Rattle.std.specs.Prelude.{[], ◌++◌, OnOk};
 ghost use Rattle.std.specs.List.{flat_map};
 ghost use Rattle.isle_base.specs.SyntaxViews.{definition_view, definition_views, pattern_view, expr_view, rule_view};
-ghost use Rattle.isle_model.specs.lists.TermTable.{rule_trees};
-ghost use Rattle.isle_model.specs.first.Elaboration.{bound_names, root_args, var_of_pattern, var_of_expr, own_name, carried_names_of_rule};
-ghost use Rattle.isle_types.specs.Envs.{names_of, symbol_of};
-ghost use Rattle.isle_types.specs.Names.{IsInverse};
+ghost use Rattle.isle_model.specs.TermTable.{rule_trees};
+ghost use Rattle.isle_model.specs.Elaboration.{bound_names, root_args, var_of_pattern, var_of_expr, own_name, names_of_rule};
+ghost use Rattle.isle_types.specs.Envs.{IsInterned};
 ghost use Rattle.isle_rules.specs.Elaborating.{definition_names};
 ghost use Rattle.isle_rules.specs.Numbering.{Meets};
 
@@ -16,10 +15,10 @@ use isle_base::syntax::{Def, Expr, Pattern, Rule};
 use isle_types::TypeEnv;
 use std::alloc::AllocError;
 
-// Numbers the names of all rules, in order.
+// Gives the names of all rules their ids, in order.
 pub(crate) fn number_names(tyenv: &mut TypeEnv, defs: &[Def]) -> Result<(), AllocError>
-    requires { IsInverse (names_of tyenv.old) (symbol_of tyenv.old) }
-    ensures { OnOk result (Meets tyenv.old tyenv.new [] (flat_map carried_names_of_rule (rule_trees (definition_views defs.now)))) }
+    requires { IsInterned tyenv.old }
+    ensures { OnOk result (Meets tyenv.old tyenv.new [] (flat_map names_of_rule (rule_trees (definition_views defs.now)))) }
 {
     for def in defs {
         number_definition(tyenv, def)?;
@@ -28,7 +27,7 @@ pub(crate) fn number_names(tyenv: &mut TypeEnv, defs: &[Def]) -> Result<(), Allo
 }
 
 fn number_definition(tyenv: &mut TypeEnv, def: &Def) -> Result<(), AllocError>
-    requires { IsInverse (names_of tyenv.old) (symbol_of tyenv.old) }
+    requires { IsInterned tyenv.old }
     ensures { OnOk result (Meets tyenv.old tyenv.new [] (definition_names (definition_view def.now))) }
 {
     let Def::Rule(rule) = def else {
@@ -38,8 +37,8 @@ fn number_definition(tyenv: &mut TypeEnv, def: &Def) -> Result<(), AllocError>
 }
 
 fn number_rule(tyenv: &mut TypeEnv, rule: &Rule) -> Result<(), AllocError>
-    requires { IsInverse (names_of tyenv.old) (symbol_of tyenv.old) }
-    ensures { OnOk result (Meets tyenv.old tyenv.new [] (carried_names_of_rule (rule_view rule.now))) }
+    requires { IsInterned tyenv.old }
+    ensures { OnOk result (Meets tyenv.old tyenv.new [] (names_of_rule (rule_view rule.now))) }
 {
     number_args(tyenv, rule)?;
     number_expr(tyenv, &rule.expr)?;
@@ -47,7 +46,7 @@ fn number_rule(tyenv: &mut TypeEnv, rule: &Rule) -> Result<(), AllocError>
 }
 
 fn number_args(tyenv: &mut TypeEnv, rule: &Rule) -> Result<(), AllocError>
-    requires { IsInverse (names_of tyenv.old) (symbol_of tyenv.old) }
+    requires { IsInterned tyenv.old }
     ensures { OnOk result (Meets tyenv.old tyenv.new [] (bound_names (root_args (rule_view rule.now).pattern))) }
 {
     let args = args_of(rule);
@@ -58,7 +57,7 @@ fn number_args(tyenv: &mut TypeEnv, rule: &Rule) -> Result<(), AllocError>
 }
 
 fn number_pattern(tyenv: &mut TypeEnv, arg: &Pattern) -> Result<(), AllocError>
-    requires { IsInverse (names_of tyenv.old) (symbol_of tyenv.old) }
+    requires { IsInterned tyenv.old }
     ensures { OnOk result (Meets tyenv.old tyenv.new [] (var_of_pattern (pattern_view arg.now))) }
 {
     if let Pattern::Var { var, .. } = arg {
@@ -69,7 +68,7 @@ fn number_pattern(tyenv: &mut TypeEnv, arg: &Pattern) -> Result<(), AllocError>
 }
 
 fn number_expr(tyenv: &mut TypeEnv, expr: &Expr) -> Result<(), AllocError>
-    requires { IsInverse (names_of tyenv.old) (symbol_of tyenv.old) }
+    requires { IsInterned tyenv.old }
     ensures { OnOk result (Meets tyenv.old tyenv.new [] (var_of_expr (expr_view expr.now))) }
 {
     if let Expr::Var { name, .. } = expr {
@@ -80,7 +79,7 @@ fn number_expr(tyenv: &mut TypeEnv, expr: &Expr) -> Result<(), AllocError>
 }
 
 fn number_own(tyenv: &mut TypeEnv, rule: &Rule) -> Result<(), AllocError>
-    requires { IsInverse (names_of tyenv.old) (symbol_of tyenv.old) }
+    requires { IsInterned tyenv.old }
     ensures { OnOk result (Meets tyenv.old tyenv.new [] (own_name (rule_view rule.now).name)) }
 {
     if let Some(name) = &rule.name {

@@ -6,24 +6,27 @@ ghost use Rattle.isle_model.specs.lists.Formed.{pattern_type};
 use isle_types::{Sym, TermId, TypeId, VarId};
 use std::alloc::{AllocError, Global};
 
-/// What a value must be. Each form begins with the type of the values that it is for.
-#[derive(Debug, PartialEq, Eq, Drop)]
+/// What a value must be. Each form begins with the type of the values that it is for, so that who reads a
+/// pattern needs no table to know what it is tested on.
+#[derive(Debug, PartialEq, Eq)]
 pub enum Pattern {
-    /// Binds the value to a variable, and matches it against a pattern.
+    /// Binds the value to a variable, and matches it against a pattern. A variable alone is bound over a
+    /// wildcard.
     BindPattern(TypeId, VarId, Box<Pattern>),
-    /// The value of a variable that is bound already.
+    /// The value of a variable that is bound already: the two values must be equal.
     Var(TypeId, VarId),
     /// A truth value.
     ConstBool(TypeId, bool),
     /// An integer.
     ConstInt(TypeId, i128),
-    /// A named constant.
+    /// A named constant, whose value is known outside alone.
     ConstPrim(TypeId, Sym),
-    /// A variant, a struct or an extractor's answer, with a pattern for each part.
+    /// A variant, a struct or an extractor's answer, with a pattern for each part. The type is that of the
+    /// value that is taken apart.
     Term(TypeId, TermId, Vec<Pattern>),
     /// Any value.
     Wildcard(TypeId),
-    /// What matches all of these.
+    /// What matches all of these, which are asked of one value.
     And(TypeId, Vec<Pattern>),
 }
 
@@ -81,4 +84,22 @@ fn clones(alloc: Global, parts: &[Pattern]) -> Result<Vec<Pattern>, AllocError>
         out.push(part.clone()?)?;
     }
     Ok(out)
+}
+
+// Written out, and so proved here once: a derived `Drop` is proved again in each crate that drops the
+// type.
+impl Drop for Pattern {
+    #[cycle(drop_pattern)]
+    fn drop(self) {
+        match self {
+            Pattern::BindPattern(_, _, _) => {}
+            Pattern::Var(_, _) => {}
+            Pattern::ConstBool(_, _) => {}
+            Pattern::ConstInt(_, _) => {}
+            Pattern::ConstPrim(_, _) => {}
+            Pattern::Term(_, _, _) => {}
+            Pattern::Wildcard(_) => {}
+            Pattern::And(_, _) => {}
+        }
+    }
 }

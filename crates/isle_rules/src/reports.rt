@@ -2,7 +2,7 @@
 
 ghost use Rattle.std.specs.Prelude.{◌≡◌, Some, OnOk};
 ghost use Rattle.isle_types.specs.Envs.{names_of};
-ghost use Rattle.isle_rules.specs.Elaborating.{Reports};
+ghost use Rattle.isle_types.specs.Reading.{Reports};
 
 use isle_base::syntax::{Error, Pos, Span};
 use isle_types::{Sym, Type, TypeEnv, TypeId};
@@ -18,7 +18,7 @@ pub(crate) fn report(errors: &mut Vec<Error>, pos: Pos, msg: &str) -> Result<(),
     Ok(())
 }
 
-// The text of a name, for messages. Nothing where the number is no name's.
+// The text of a name, for messages. Nothing where the id is no name's.
 pub(crate) fn text_of(tyenv: &TypeEnv, name: Sym) -> &str {
     match tyenv.syms.get(name.index()) {
         Some(text) => text.as_str(),
@@ -26,7 +26,7 @@ pub(crate) fn text_of(tyenv: &TypeEnv, name: Sym) -> &str {
     }
 }
 
-// The name of a type, for messages. Nothing where the number is no type's.
+// The name of a type, for messages. Nothing where the id is no type's.
 pub(crate) fn type_text(tyenv: &TypeEnv, ty: TypeId) -> &str {
     match tyenv.types.get(ty.index()) {
         Some(Type::Builtin(builtin)) => builtin.name(),

@@ -6,12 +6,13 @@ use isle_base::syntax::Pos;
 use isle_types::{RuleId, Sym, TermId, TypeId, VarId};
 use std::alloc::AllocError;
 
-/// A condition of a rule: the pattern must match the value of the expression.
-#[derive(Debug, Drop)]
+/// A condition of a rule beyond its arguments: the pattern must match the value of the expression, and binds
+/// variables that what comes later may use.
+#[derive(Debug)]
 pub struct IfLet {
     /// What the value must be.
     pub lhs: Pattern,
-    /// What is evaluated.
+    /// What is evaluated before a rule is chosen, so it has to be pure. It may give no value.
     pub rhs: Expr,
 }
 
@@ -29,10 +30,11 @@ impl Clone for IfLet {
     }
 }
 
-/// A variable of a rule, bound by a pattern or by a let.
+/// A variable of a rule, bound by a pattern or by a let. Patterns and expressions name it by its id, since a
+/// name may be bound twice.
 #[derive(Clone, Copy, Debug)]
 pub struct BoundVar {
-    /// Its number: its place in `Rule::vars`.
+    /// Its id: its place in `Rule::vars`.
     pub id: VarId,
     /// Its name.
     pub name: Sym,
@@ -40,10 +42,10 @@ pub struct BoundVar {
     pub ty: TypeId,
 }
 
-/// A typed rule.
-#[derive(Debug, Drop)]
+/// A typed rule: all names are ids, and each part has its type.
+#[derive(Debug)]
 pub struct Rule {
-    /// Its place in `TermEnv::rules`.
+    /// Its id: its place in `TermEnv::rules`.
     pub id: RuleId,
     /// The term that it is a rule of.
     pub root_term: TermId,
@@ -53,11 +55,11 @@ pub struct Rule {
     pub iflets: Vec<IfLet>,
     /// What the term then is.
     pub rhs: Expr,
-    /// The variables, by their numbers.
+    /// The variables, by their ids: what each was called, and its type.
     pub vars: Vec<BoundVar>,
     /// Of the rules that match, one of greatest priority is taken; 0 where none was given.
     pub prio: i64,
-    /// Where it was defined.
+    /// Where it was defined: what errors name, and what a tree's `Return` says it came from.
     pub pos: Pos,
     /// Its name, where it has one.
     pub name: Option<Sym>,
@@ -81,5 +83,29 @@ impl Clone for Rule {
             pos: self.pos,
             name: self.name,
         })
+    }
+}
+
+// Written out, and so proved here once: a derived `Drop` is proved again in each crate that drops the
+// type.
+impl Drop for IfLet {
+    fn drop(self) {
+        let IfLet { lhs: _, rhs: _ } = self;
+    }
+}
+
+impl Drop for Rule {
+    fn drop(self) {
+        let Rule {
+            id: _,
+            root_term: _,
+            args: _,
+            iflets: _,
+            rhs: _,
+            vars: _,
+            prio: _,
+            pos: _,
+            name: _,
+        } = self;
     }
 }

@@ -19,16 +19,16 @@ use isle_terms::{Term, TermTable};
 use isle_types::{RuleId, Sym, TermId, TypeEnv, TypeId};
 use std::alloc::Global;
 
-/// All terms, and all rules in typed form.
-#[derive(Debug, Drop)]
+/// All terms, and all rules in typed form: what the meaning of a list of definitions is read from.
+#[derive(Debug)]
 pub struct TermEnv {
-    /// The terms, by their numbers.
+    /// The terms, by their ids.
     pub terms: Vec<Term>,
-    /// Each term's number by its name.
+    /// Each term's id by its name.
     pub term_map: StableMap<Sym, TermId>,
-    /// The rules, by their numbers.
+    /// The rules, by their ids.
     pub rules: Vec<Rule>,
-    /// Each named rule's number by its name.
+    /// Each named rule's id by its name.
     pub rule_map: StableMap<Sym, RuleId>,
     /// The term that converts the first type into the second, where there is one.
     pub converters: StableMap<(TypeId, TypeId), TermId>,
@@ -38,7 +38,7 @@ pub struct TermEnv {
 
 impl TermEnv {
     /// The terms and the typed rules of a list of definitions, each found by its name. `tyenv` is the type
-    /// table of the same list. Names are numbered by first meeting: those of the type table, the terms,
+    /// table of the same list. Names get their ids by first meeting: those of the type table, the terms,
     /// then rule by rule the variables of its left side, the variable of its right side, and its own name.
     /// An unnamed rule that is the only one of its term has the term's name.
     ///
@@ -89,5 +89,16 @@ impl TermEnv {
     }
 }
 
-#[cfg(test)]
-mod tests;
+// Written out, and so proved here once.
+impl Drop for TermEnv {
+    fn drop(self) {
+        let TermEnv {
+            terms: _,
+            term_map: _,
+            rules: _,
+            rule_map: _,
+            converters: _,
+            expand_internal_extractors: _,
+        } = self;
+    }
+}

@@ -6,13 +6,13 @@ use isle_base::syntax::Limit;
 use std::alloc::{AllocError, AllocFailed};
 
 /// Why a visit ended before its end.
-#[derive(Debug, Drop)]
+#[derive(Debug)]
 pub enum VisitFault {
     /// The allocator refused.
     Memory(AllocError),
-    /// The rule passed this limit.
+    /// The rule passed this limit, and is left out.
     Limit(Limit),
-    /// The visitor wanted to see no more.
+    /// The visitor wanted to see no more. No visitor of this crate gives it: it is for those of others.
     Stopped,
 }
 
@@ -29,5 +29,16 @@ impl<T: Drop> From<AllocFailed<T>> for VisitFault {
 
     fn from(e: AllocFailed<T>) -> VisitFault {
         VisitFault::Memory(AllocError::from(e))
+    }
+}
+
+// Written out, and so proved here once.
+impl Drop for VisitFault {
+    fn drop(self) {
+        match self {
+            VisitFault::Memory(_) => {}
+            VisitFault::Limit(_) => {}
+            VisitFault::Stopped => {}
+        }
     }
 }

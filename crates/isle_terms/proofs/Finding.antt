@@ -6,7 +6,7 @@ use Rattle.isle_types.specs.Names.{IsInverse}
 use Rattle.isle_model.proofs.ByNumber.{by_text, of_text, others, then_with}
 use Rattle.isle_model.proofs.FirstPlaces.{place_push_new, place_push_other}
 use Rattle.isle_model.proofs.Names.{with_missing, with_name_at}
-use Rattle.isle_terms.specs.Stages.{Finds, place}
+use Rattle.isle_terms.specs.Stages.{Finds, place_among}
 
 module _ (names : List (List ℕ)) (at : ℕ → Option ℕ) (has : List ℕ → Option ℕ) (f : Finds names at has) where
   -- what is at the number of a text is what the text has
@@ -24,7 +24,7 @@ module _ (names : List (List ℕ)) (at : ℕ → Option ℕ) (has : List ℕ →
     known = λ y e. f.known y (with_missing names x y (subst (λ ns. has_name ns y ≡ false) is e)).0;
   }
 
-module _ (names : List (List ℕ)) (at : ℕ → Option ℕ) (ts : List (List ℕ)) (f : Finds names at (place ts)) (x : List ℕ) (names' : List (List ℕ)) (is : names' ≡ with_name names x) (look_up : List ℕ → Option ℕ) (i : IsInverse names' look_up) (free : place ts x ≡ None) (at' : ℕ → Option ℕ) (adds : (k : ℕ) → at' k ≡ cond (nat_eq (number names x) k) (Some (length ts)) (at k)) where
+module _ (names : List (List ℕ)) (at : ℕ → Option ℕ) (ts : List (List ℕ)) (f : Finds names at (place_among ts)) (x : List ℕ) (names' : List (List ℕ)) (is : names' ≡ with_name names x) (look_up : List ℕ → Option ℕ) (i : IsInverse names' look_up) (free : place_among ts x ≡ None) (at' : ℕ → Option ℕ) (adds : (k : ℕ) → at' k ≡ cond (nat_eq (number names x) k) (Some (length ts)) (at k)) where
   here_named : slice_get names' (number names x) ≡ Some x
   here_named = subst (λ ns. slice_get ns (number names x) ≡ Some x) (sym is) (with_name_at names x)
 
@@ -32,16 +32,16 @@ module _ (names : List (List ℕ)) (at : ℕ → Option ℕ) (ts : List (List �
   once j k y p q = let first = i.numbered y j p in let second = i.numbered y k q in cc
 
   -- a name becomes that of the next place
-  pub finds_next : Finds names' at' (place (ts ++ x ∷ []))
+  pub finds_next : Finds names' at' (place_among (ts ++ x ∷ []))
   finds_next = record {
     ids = λ k.
-        adds k ∙ (elim (nat_eq (number names x) k) as (λ b. nat_eq (number names x) k ≡ b → cond b (Some (length ts)) (at k) ≡ then_option (slice_get names' k) (place (ts ++ x ∷ []))) [
+        adds k ∙ (elim (nat_eq (number names x) k) as (λ b. nat_eq (number names x) k ≡ b → cond b (Some (length ts)) (at k) ≡ then_option (slice_get names' k) (place_among (ts ++ x ∷ []))) [
           | true ↦ λ e.
               let here : slice_get names' k ≡ Some x = subst (λ j. slice_get names' j ≡ Some x) (eqb-true (number names x) k e) here_named in
-              let next : place (ts ++ x ∷ []) x ≡ Some (length ts) = place_push_new 0 ts x free ∙ ap Some (omega arith) in
-              sym (ap (λ o. then_option o (place (ts ++ x ∷ []))) here ∙ next)
+              let next : place_among (ts ++ x ∷ []) x ≡ Some (length ts) = place_push_new 0 ts x free ∙ ap Some (omega arith) in
+              sym (ap (λ o. then_option o (place_among (ts ++ x ∷ []))) here ∙ next)
           | false ↦ λ e.
-              f.ids k ∙ sym (ap (λ ns. then_option (slice_get ns k) (place ts)) is ∙ then_with names x (place ts) (f.known x) k) ∙ others names' once (number names x) x here_named ts k e
+              f.ids k ∙ sym (ap (λ ns. then_option (slice_get ns k) (place_among ts)) is ∙ then_with names x (place_among ts) (f.known x) k) ∙ others names' once (number names x) x here_named ts k e
         ] refl);
     known = λ y e.
         let r = with_missing names x y (subst (λ ns. has_name ns y ≡ false) is e) in

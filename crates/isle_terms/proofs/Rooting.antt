@@ -30,8 +30,8 @@ use Rattle.isle_terms.specs.declared.term.Term.{Term}
 use Rattle.isle_terms.specs.declared.term_table.TermTable.{TermTable}
 use Rattle.isle_terms.specs.TermTables.{term_at, SeesTerms}
 use Rattle.isle_terms.specs.TermViews.{term_view, term_views}
-use Rattle.isle_terms.specs.Reading.{IsWithin, internal_entry, mark, root_term_id, term_named, MarksRoot, ReadsRule, ReadsRoot}
-use Rattle.isle_terms.specs.Stages.{Finds, place, constructor_after, stage_entry, stage_entries, SoFar, IsCarried, IsTyped, IsRooted, Signing, ReadsSignatures, IsSigned, Rooting, ReadsRoots}
+use Rattle.isle_terms.specs.Reading.{IsWithin, internal_entry, mark, root_term_id, term_of_name, MarksRoot, ReadsRule, ReadsRoot}
+use Rattle.isle_terms.specs.Stages.{Finds, place_among, constructor_after, stage_entry, stage_entries, SoFarOfTerms, IsCarried, IsTyped, IsRooted, Signing, ReadsSignatures, IsSigned, Rooting, ReadsRoots}
 use Rattle.isle_terms.proofs.Finding.{by_name}
 
 pub same_root : (p : PatternTree) → root_name p ≡ root_name p
@@ -131,7 +131,7 @@ module _ (defs : List Definition) (read : List RuleTree) (r : RuleTree) (n : Nam
       ] refl e
 
   -- the rule marks the term of its name
-  pub marked : (id k : ℕ) (ds : List DeclTree) → IsDistinct (map text_of ds) → place (map text_of ds) n.text ≡ Some k → mark k (stage_entries defs read id ds) ≡ stage_entries defs (read ++ r ∷ []) id ds
+  pub marked : (id k : ℕ) (ds : List DeclTree) → IsDistinct (map text_of ds) → place_among (map text_of ds) n.text ≡ Some k → mark k (stage_entries defs read id ds) ≡ stage_entries defs (read ++ r ∷ []) id ds
   marked id k [] once e = absurd (cc)
   marked id k (d ∷ ds) once e =
       elim (bytes_eq d.term.text n.text) as (λ b. bytes_eq d.term.text n.text ≡ b → cond b (Some 0) (place_from 1 n.text (map text_of ds)) ≡ Some k → mark k (stage_entries defs read id (d ∷ ds)) ≡ stage_entries defs (read ++ r ∷ []) id (d ∷ ds)) [
@@ -142,7 +142,7 @@ module _ (defs : List Definition) (read : List RuleTree) (r : RuleTree) (n : Nam
             ∙ ap (λ c. with_constructor id d c ∷ stage_entries defs read (suc id) ds) (new_constructor d.term.text this)
             ∙ ap (λ es. stage_entry defs (read ++ r ∷ []) id d ∷ es) (unmarked (suc id) ds none)
         | false ↦ λ other h.
-            let before = one_before (place (map text_of ds) n.text) k (sym (place_next 0 n.text (map text_of ds)) ∙ h) in
+            let before = one_before (place_among (map text_of ds) n.text) k (sym (place_next 0 n.text (map text_of ds)) ∙ h) in
             ap (λ m. mark m (stage_entries defs read id (d ∷ ds))) before.1
             ∙ ap (λ es. stage_entry defs read id d ∷ es) (marked (suc id) before.0 ds (distinct_rest d.term.text (map text_of ds) once) before.2)
             ∙ ap (λ c. with_constructor id d c ∷ stage_entries defs (read ++ r ∷ []) (suc id) ds) (same_constructor d.term.text other)
@@ -153,11 +153,11 @@ has_some None g id h = absurd (cc)
 has_some (Some n) g id h = (n, refl, h)
 
 module _ (defs rest : List Definition) (r : RuleTree) (env : TypeEnv) (old : TermTable) (s : Rooting defs (rule_definition r ∷ rest) env old) where
-  term_is : (n : Name) → term_named env old n ≡ term_id defs n.text
+  term_is : (n : Name) → term_of_name env old n ≡ term_id defs n.text
   term_is n =
       by_name (names_of env) (term_at old) (term_id defs) s.finds (symbol_of env) (subst (λ ns. IsInverse ns (symbol_of env)) (sym s.signed.types.names) s.signed.types.inverse) n.text
 
-  root_missing : (o : Option Name) → then_option o (term_named env old) ≡ None → is_declared defs o ≡ false
+  root_missing : (o : Option Name) → then_option o (term_of_name env old) ≡ None → is_declared defs o ≡ false
   root_missing None h = refl
   root_missing (Some n) h = ap is_some (sym (term_is n) ∙ h)
 
@@ -168,7 +168,7 @@ module _ (defs rest : List Definition) (r : RuleTree) (env : TypeEnv) (old : Ter
 
   pub root_right : (new : TermTable) → MarksRoot r env old new → Rooting defs rest env new
   root_right new m =
-      let named = has_some (root_name r.pattern) (term_named env old) m.id m.root in
+      let named = has_some (root_name r.pattern) (term_of_name env old) m.id m.root in
       let found : term_id defs named.0.text ≡ Some m.id = sym (term_is named.0) ∙ named.2 in
       let rooted : IsRooted defs r = ap (is_declared defs) named.1 ∙ ap is_some found in
       record {
@@ -253,14 +253,14 @@ module _ (defs : List Definition) (env : TypeEnv) (table : TermTable) where
         signed = all_signed s;
         read = [];
         whole = refl;
-        finds = subst (λ ts. Finds (names_of env) (term_at table) (place ts)) all s.finds;
+        finds = subst (λ ts. Finds (names_of env) (term_at table) (place_among ts)) all s.finds;
         terms = sym (append-nil (term_views table.terms.items)) ∙ s.terms;
         converters = s.converters;
         roots = λ h. h;
         valid_roots = λ v. v;
       }
 
-  right_so_far : {Right : Type 0} (es : List Error) → SoFar defs es Right → es ≡ [] → Right
+  right_so_far : {Right : Type 0} (es : List Error) → SoFarOfTerms defs es Right → es ≡ [] → Right
   right_so_far es s none = ⊎_elim (λ right. right.1) (λ wrong. absurd (wrong.0 none)) s
 
   -- the declarations are wrong

@@ -24,12 +24,13 @@ use Rattle.isle_model.proofs.Names.{number_stays}
 use Rattle.isle_terms.specs.declared.term_table.TermTable.{TermTable}
 use Rattle.isle_terms.specs.TermTables.{term_at}
 use Rattle.isle_terms.specs.TermViews.{term_view, term_views}
-use Rattle.isle_terms.specs.Reading.{IsWithin, IsInterned, Interns, IsFree, AddsOrReports, signature_entry, IsWrong, ReadsRight, ReadsDecl, ReadsOther, ReadsSignature}
-use Rattle.isle_terms.specs.Stages.{place, stage_entry, stage_entries, IsCarried, IsTyped, HasTypes, HasNoConverter, Signing, ReadsSignatures}
+use Rattle.isle_terms.specs.Reading.{IsWithin, Interns, IsFreeOrReported, AddsOrReports, signature_entry, IsWrong, ReadsRight, ReadsDecl, ReadsOther, ReadsSignature}
+use Rattle.isle_types.specs.Envs.{IsInterned}
+use Rattle.isle_terms.specs.Stages.{place_among, stage_entry, stage_entries, IsCarried, IsTyped, HasTypes, HasNoConverter, Signing, ReadsSignatures}
 use Rattle.isle_terms.proofs.Finding.{at_number, finds_next}
 use Rattle.isle_terms.proofs.Typing.{types_start, types_after, types_of, all_known, result_of, result_known, unknown_wrong}
 
-nothing_there : (o : Option (List ℕ)) → then_option o (place []) ≡ None
+nothing_there : (o : Option (List ℕ)) → then_option o (place_among []) ≡ None
 nothing_there None = refl
 nothing_there (Some x) = refl
 
@@ -46,8 +47,8 @@ count_push ts ts' e more =
     sym a ∙ ap length more ∙ c ∙ ap (λ n. n + 1) b ∙ omega arith
 
 module _ (defs rest : List Definition) (d : DeclTree) (old : TypeEnv) (table : TermTable) (s : Signing defs (declaration d ∷ rest) old table) where
-  taken_place : term_at table (number (names_of old) d.term.text) ≡ place s.named d.term.text
-  taken_place = at_number (names_of old) (term_at table) (place s.named) s.finds d.term.text
+  taken_place : term_at table (number (names_of old) d.term.text) ≡ place_among s.named d.term.text
+  taken_place = at_number (names_of old) (term_at table) (place_among s.named) s.finds d.term.text
 
   pub sign_wrong : (new : TypeEnv) → IsWrong d old new table → IsValidCarriedTerms defs → ⊥
   sign_wrong new w v =
@@ -75,7 +76,7 @@ module _ (defs rest : List Definition) (d : DeclTree) (old : TypeEnv) (table : T
         ∙ ap (λ ts. signature_entry (length table.terms.items) (number (term_table_names defs) d.term.text) ts r.adds.ret_ty d) (types_of defs new types_new d.arg_tys r.adds.arg_tys r.adds.arguments)
         ∙ ap (λ t. signature_entry (length table.terms.items) (number (term_table_names defs) d.term.text) (stage_entry defs [] (length table.terms.items) d).arg_tys t d) (result_of defs new types_new d.ret_ty r.adds.ret_ty r.adds.result)
 
-    free_place : place s.named d.term.text ≡ None
+    free_place : place_among s.named d.term.text ≡ None
     free_place = sym taken_place ∙ r.free
 
     size : length table'.terms.items ≡ suc (length table.terms.items)
@@ -99,7 +100,7 @@ module _ (defs rest : List Definition) (d : DeclTree) (old : TypeEnv) (table : T
     }
 
 -- a name is looked at first, and then the types
-pub decl_read : (d : DeclTree) (old new : TypeEnv) (table table' : TermTable) (es mid es' : List Error) → is_carried_term (declaration d) ≡ true → Interns d.term.text old new → IsFree (number (names_of old) d.term.text) table es mid → AddsOrReports d new (number (names_of old) d.term.text) table table' mid es' → ReadsDecl d old table es new table' es'
+pub decl_read : (d : DeclTree) (old new : TypeEnv) (table table' : TermTable) (es mid es' : List Error) → is_carried_term (declaration d) ≡ true → Interns d.term.text old new → IsFreeOrReported (number (names_of old) d.term.text) table es mid → AddsOrReports d new (number (names_of old) d.term.text) table table' mid es' → ReadsDecl d old table es new table' es'
 decl_read d old new table table' es mid es' carried n (inl f) (inl a) = inl (a.0 ∙ f.0, record { carried = carried; interns = n; free = f.1; adds = a.1 })
 decl_read d old new table table' es mid es' carried n (inl f) (inr a) = inr (subst (λ xs. Reports xs es') f.0 a.0, inr (inr (n, a.1)))
 decl_read d old new table table' es mid es' carried n (inr f) (inl a) = inr (subst (Reports es) (sym a.0) f.0, inr (inl f.1))

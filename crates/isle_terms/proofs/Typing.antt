@@ -11,7 +11,8 @@ use Rattle.isle_types.specs.Envs.{names_of, symbol_of, type_at, same_symbol, sym
 use Rattle.isle_types.specs.TypeTables.{SeesTypes}
 use Rattle.isle_types.specs.TypeViews.{type_views}
 use Rattle.isle_model.proofs.TypeNames.{no_type}
-use Rattle.isle_terms.specs.Reading.{Interns, type_named, HaveTypes, IsKnownType, HasUnknown}
+use Rattle.isle_terms.specs.Reading.{Interns, HaveTypes, IsKnownInEnv, HasUnknown}
+use Rattle.isle_types.specs.Envs.{type_of_name}
 use Rattle.isle_terms.specs.Stages.{Finds, HasTypes, IsKnown, IsTyped}
 use Rattle.isle_terms.proofs.Finding.{by_name, finds_more}
 
@@ -25,7 +26,7 @@ module _ (defs : List Definition) (env : TypeEnv) (t : HasTypes defs env) where
   finds_types : Finds (names_of env) (type_at env) (type_id defs)
   finds_types = record { ids = t.sees.ids; known = t.known }
 
-  pub type_is : (n : Name) → type_named env n ≡ type_id defs n.text
+  pub type_is : (n : Name) → type_of_name env n.text ≡ type_id defs n.text
   type_is n = by_name (names_of env) (type_at env) (type_id defs) finds_types (symbol_of env) t.sees.inverse n.text
 
   pub types_after : (x : List ℕ) (new : TypeEnv) → Interns x env new → HasTypes defs new
@@ -44,10 +45,10 @@ module _ (defs : List Definition) (env : TypeEnv) (t : HasTypes defs env) where
         known = more.known;
       }
 
-  is_known : (n : Name) → IsKnownType env n → IsKnown defs n
+  is_known : (n : Name) → IsKnownInEnv env n → IsKnown defs n
   is_known n h = subst (λ o. IsTrue (is_some o)) (type_is n) h
 
-  was_known : (n : Name) → IsKnown defs n → IsKnownType env n
+  was_known : (n : Name) → IsKnown defs n → IsKnownInEnv env n
   was_known n h = subst (λ o. IsTrue (is_some o)) (sym (type_is n)) h
 
   -- the types of names are those of the definitions
@@ -56,8 +57,8 @@ module _ (defs : List Definition) (env : TypeEnv) (t : HasTypes defs env) where
   types_of [] (t ∷ ts) h = absurd (cc)
   types_of (n ∷ ns) [] h = absurd (cc)
   types_of (n ∷ ns) (t ∷ ts) h =
-      let first : Some t ≡ type_named env n = cc in
-      let rest : map Some ts ≡ map (type_named env) ns = cc in
+      let first : Some t ≡ type_of_name env n.text = cc in
+      let rest : map Some ts ≡ map (λ n. type_of_name env n.text) ns = cc in
       let one : t ≡ type_or_first defs n = ap (λ o. unwrap_or o 0) (first ∙ type_is n) in
       ap (λ z. z ∷ ts) one ∙ ap (λ zs. type_or_first defs n ∷ zs) (types_of ns ts rest)
 
@@ -65,19 +66,19 @@ module _ (defs : List Definition) (env : TypeEnv) (t : HasTypes defs env) where
   all_known [] tys h = All-nil (IsKnown defs)
   all_known (n ∷ ns) [] h = absurd (cc)
   all_known (n ∷ ns) (t ∷ ts) h =
-      let first : Some t ≡ type_named env n = cc in
-      let rest : map Some ts ≡ map (type_named env) ns = cc in
+      let first : Some t ≡ type_of_name env n.text = cc in
+      let rest : map Some ts ≡ map (λ n. type_of_name env n.text) ns = cc in
       All-cons (IsKnown defs) n ns (subst (λ o. IsTrue (is_some o)) (first ∙ type_is n) refl) (all_known ns ts rest)
 
-  pub result_of : (n : Name) (ty : ℕ) → Some ty ≡ type_named env n → ty ≡ type_or_first defs n
+  pub result_of : (n : Name) (ty : ℕ) → Some ty ≡ type_of_name env n.text → ty ≡ type_or_first defs n
   result_of n ty h = ap (λ o. unwrap_or o 0) (h ∙ type_is n)
 
-  pub result_known : (n : Name) (ty : ℕ) → Some ty ≡ type_named env n → IsKnown defs n
+  pub result_known : (n : Name) (ty : ℕ) → Some ty ≡ type_of_name env n.text → IsKnown defs n
   result_known n ty h = subst (λ o. IsTrue (is_some o)) (h ∙ type_is n) refl
 
   -- a declaration that names an unknown type isn't valid
   pub unknown_wrong : (d : DeclTree) → HasUnknown d env → IsTyped defs d → ⊥
   unknown_wrong d u v =
       ⊎_elim
-      (λ a. a (All-weaker (IsKnown defs) (IsKnownType env) was_known d.arg_tys v.0))
+      (λ a. a (All-weaker (IsKnown defs) (IsKnownInEnv env) was_known d.arg_tys v.0))
       (λ none. false≢true (subst (λ o. is_some o ≡ true) none (was_known d.ret_ty v.1))) u

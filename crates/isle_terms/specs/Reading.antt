@@ -8,27 +8,19 @@ use Rattle.isle_model.specs.lists.TermTable.{decl_flags, root_name}
 use Rattle.isle_model.specs.first.TermTable.{is_carried_term}
 use Rattle.isle_base.specs.declared.syntax.Error.{Error}
 use Rattle.isle_types.specs.declared.type_env.TypeEnv.{TypeEnv}
-use Rattle.isle_types.specs.Envs.{names_of, symbol_of, type_at}
-use Rattle.isle_types.specs.Names.{IsInverse}
+use Rattle.isle_types.specs.Envs.{names_of, symbol_of, type_of_name, IsInterned}
 use Rattle.isle_types.specs.Reading.{Reports}
 use Rattle.isle_terms.specs.declared.term_table.TermTable.{TermTable}
 use Rattle.isle_terms.specs.TermTables.{term_at}
 use Rattle.isle_terms.specs.TermViews.{term_views}
 
--- the type of a name
-abbrev pub type_named : TypeEnv → Name → Option ℕ
-type_named env n = option_and_then (type_at env) (symbol_of env n.text)
-
 -- the term of a name
-abbrev pub term_named : TypeEnv → TermTable → Name → Option ℕ
-term_named env table n = option_and_then (term_at table) (symbol_of env n.text)
+abbrev pub term_of_name : TypeEnv → TermTable → Name → Option ℕ
+term_of_name env table n = option_and_then (term_at table) (symbol_of env n.text)
 
 -- each term that is looked up is one of the table
 abbrev pub IsWithin : TermTable → Type 0
 IsWithin table = (k n : ℕ) → term_at table k ≡ Some n → n < length table.terms.items
-
-abbrev pub IsInterned : TypeEnv → Type 0
-IsInterned env = IsInverse (names_of env) (symbol_of env)
 
 -- a name is met, and nothing else
 pub record Interns (name : List ℕ) (old new : TypeEnv) : Type 0 where
@@ -52,33 +44,33 @@ signature_entry id name arg_tys ret_ty d = record {
 
 -- the types of the arguments are all known, and are these
 abbrev pub HaveTypes : TypeEnv → List Name → List ℕ → Type 0
-HaveTypes env names tys = map Some tys ≡ map (type_named env) names
+HaveTypes env names tys = map Some tys ≡ map (λ n. type_of_name env n.text) names
 
-abbrev pub IsKnownType : TypeEnv → Name → Type 0
-IsKnownType env n = IsTrue (is_some (type_named env n))
+abbrev pub IsKnownInEnv : TypeEnv → Name → Type 0
+IsKnownInEnv env n = IsTrue (is_some (type_of_name env n.text))
 
 -- a declared term becomes the next one, by the name of this number
 pub record AddsTerm (d : DeclTree) (env : TypeEnv) (name : ℕ) (old new : TermTable) : Type 0 where
   pub arg_tys : List ℕ
   pub ret_ty : ℕ
   pub arguments : HaveTypes env d.arg_tys arg_tys
-  pub result : Some ret_ty ≡ type_named env d.ret_ty
+  pub result : Some ret_ty ≡ type_of_name env d.ret_ty.text
   pub ids : (k : ℕ) → term_at new k ≡ (if nat_eq name k then Some (length old.terms.items) else term_at old k)
   pub terms : term_views new.terms.items ≡ term_views old.terms.items ++ signature_entry (length old.terms.items) name arg_tys ret_ty d ∷ []
   pub converters : new.converters ≡ old.converters
 
 -- the name of a number is a term's already
-pub record IsTaken (name : ℕ) (table : TermTable) : Type 0 where
+pub record IsTakenByTerm (name : ℕ) (table : TermTable) : Type 0 where
   pub id : ℕ
   pub taken : term_at table name ≡ Some id
 
 -- a type that a declaration names isn't known
 abbrev pub HasUnknown : DeclTree → TypeEnv → Type 0
-HasUnknown d env = (All (IsKnownType env) d.arg_tys → ⊥) ⊎ (type_named env d.ret_ty ≡ None)
+HasUnknown d env = (All (IsKnownInEnv env) d.arg_tys → ⊥) ⊎ (type_of_name env d.ret_ty.text ≡ None)
 
 -- a declaration whose name was met, and has no term yet
-abbrev pub IsFree : ℕ → TermTable → List Error → List Error → Type 0
-IsFree name table es es' = ((es' ≡ es) × (term_at table name ≡ None)) ⊎ (Reports es es' × IsTaken name table)
+abbrev pub IsFreeOrReported : ℕ → TermTable → List Error → List Error → Type 0
+IsFreeOrReported name table es es' = ((es' ≡ es) × (term_at table name ≡ None)) ⊎ (Reports es es' × IsTakenByTerm name table)
 
 abbrev pub AddsOrReports : DeclTree → TypeEnv → ℕ → TermTable → TermTable → List Error → List Error → Type 0
 AddsOrReports d env name old new es es' = ((es' ≡ es) × AddsTerm d env name old new) ⊎ (Reports es es' × HasUnknown d env)
@@ -93,7 +85,7 @@ pub record ReadsRight (d : DeclTree) (old new : TypeEnv) (table table' : TermTab
 -- what is wrong with a declaration
 abbrev pub IsWrong : DeclTree → TypeEnv → TypeEnv → TermTable → Type 0
 IsWrong d old new table =
-    (is_carried_term (declaration d) ≡ false) ⊎ (IsTaken (number (names_of old) d.term.text) table ⊎ (Interns d.term.text old new × HasUnknown d new))
+    (is_carried_term (declaration d) ≡ false) ⊎ (IsTakenByTerm (number (names_of old) d.term.text) table ⊎ (Interns d.term.text old new × HasUnknown d new))
 
 abbrev pub ReadsDecl : DeclTree → TypeEnv → TermTable → List Error → TypeEnv → TermTable → List Error → Type 0
 ReadsDecl d old table es new table' es' = ((es' ≡ es) × ReadsRight d old new table table') ⊎ (Reports es es' × IsWrong d old new table)
@@ -124,7 +116,7 @@ mark (suc n) (e ∷ es) = e ∷ mark n es
 
 -- the term that a rule is of
 abbrev pub root_term_id : TypeEnv → TermTable → RuleTree → Option ℕ
-root_term_id env table r = then_option (root_name r.pattern) (term_named env table)
+root_term_id env table r = then_option (root_name r.pattern) (term_of_name env table)
 
 -- a rule's term is made by rules now
 pub record MarksRoot (r : RuleTree) (env : TypeEnv) (old new : TermTable) : Type 0 where

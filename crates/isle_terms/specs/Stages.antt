@@ -18,7 +18,8 @@ use Rattle.isle_types.specs.TypeTables.{SeesTypes}
 use Rattle.isle_terms.specs.declared.term_table.TermTable.{TermTable}
 use Rattle.isle_terms.specs.TermTables.{term_at, same_types}
 use Rattle.isle_terms.specs.TermViews.{term_views}
-use Rattle.isle_terms.specs.Reading.{IsWithin, IsInterned}
+use Rattle.isle_terms.specs.Reading.{IsWithin}
+use Rattle.isle_types.specs.Envs.{IsInterned}
 
 -- what is found at the number of each name is what the name has, and other texts have nothing
 pub record Finds (names : List (List ℕ)) (at : ℕ → Option ℕ) (has : List ℕ → Option ℕ) : Type 0 where
@@ -31,8 +32,8 @@ pub record HasTypes (defs : List Definition) (env : TypeEnv) : Type 0 where
   pub known : (x : List ℕ) → has_name (names_of env) x ≡ false → type_id defs x ≡ None
 
 -- the place among names, from 0
-abbrev pub place : List (List ℕ) → List ℕ → Option ℕ
-place names x = place_from 0 x names
+abbrev pub place_among : List (List ℕ) → List ℕ → Option ℕ
+place_among names x = place_from 0 x names
 
 -- what makes a term of a name, when these rules are read
 abbrev pub constructor_after : List RuleTree → List ℕ → Option ConstructorEntry
@@ -70,14 +71,14 @@ abbrev pub HasNoConverter : TermTable → Type 0
 HasNoConverter table = (c : TypeId × TypeId) → look_up same_types table.converters c ≡ None
 
 -- there is no error so far, or the definitions have no term table
-abbrev pub SoFar : List Definition → List Error → Type 0 → Type 0
-SoFar defs es Right = ((es ≡ []) × Right) ⊎ ((es ≢ []) × (IsValidCarriedTerms defs → ⊥))
+abbrev pub SoFarOfTerms : List Definition → List Error → Type 0 → Type 0
+SoFarOfTerms defs es Right = ((es ≡ []) × Right) ⊎ ((es ≢ []) × (IsValidTerms defs → ⊥))
 
 -- the declarations among these definitions are left to be read
 pub record Signing (defs rest : List Definition) (env : TypeEnv) (table : TermTable) : Type 0 where
   pub named : List (List ℕ)
   pub types : HasTypes defs env
-  pub finds : Finds (names_of env) (term_at table) (place named)
+  pub finds : Finds (names_of env) (term_at table) (place_among named)
   pub distinct : IsDistinct named
   pub whole : named ++ decl_names rest ≡ decl_names defs
   pub names : with_names (names_of env) (decl_names rest) ≡ term_table_names defs
@@ -93,7 +94,7 @@ pub record ReadsSignatures (defs rest : List Definition) (env : TypeEnv) (table 
   pub inverse : IsInterned env
   pub within : IsWithin table
   pub plain : ArePlain es
-  pub so_far : SoFar defs es (Signing defs rest env table)
+  pub so_far : SoFarOfTerms defs es (Signing defs rest env table)
 
 -- all declarations are read
 pub record IsSigned (defs : List Definition) (env : TypeEnv) : Type 0 where
@@ -116,4 +117,4 @@ pub record Rooting (defs rest : List Definition) (env : TypeEnv) (table : TermTa
 pub record ReadsRoots (defs rest : List Definition) (env : TypeEnv) (table : TermTable) (es : List Error) : Type 0 where
   pub within : IsWithin table
   pub plain : ArePlain es
-  pub so_far : SoFar defs es (Rooting defs rest env table)
+  pub so_far : SoFarOfTerms defs es (Rooting defs rest env table)

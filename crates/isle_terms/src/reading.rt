@@ -3,10 +3,11 @@
 
 ghost use Rattle.std.specs.Prelude.{◌≡◌, ◌⊎◌, ◌++◌, ◌∷◌, [], ℕ, None, Some, All, nat_eq, if◌then◌else◌, length, map, IfOk, OnOk, MatchOption, option_map};
 ghost use Rattle.isle_base.specs.SyntaxViews.{decl_view, definition_view, definition_views, name_view, rule_view};
+ghost use Rattle.isle_types.specs.Envs.{IsInterned};
 ghost use Rattle.isle_types.specs.Reading.{Reports};
 ghost use Rattle.isle_terms.specs.TermTables.{term_at};
 ghost use Rattle.isle_terms.specs.TermViews.{term_view, term_views};
-ghost use Rattle.isle_terms.specs.Reading.{IsWithin, IsInterned, IsKnownType, HaveTypes, IsFree, AddsOrReports, ReadsDecl, ReadsSignature, ReadsRule, ReadsRoot, internal_entry, signature_entry, term_named};
+ghost use Rattle.isle_terms.specs.Reading.{IsWithin, IsKnownInEnv, HaveTypes, IsFreeOrReported, AddsOrReports, ReadsDecl, ReadsSignature, ReadsRule, ReadsRoot, internal_entry, signature_entry, term_of_name};
 ghost use Rattle.isle_terms.specs.Stages.{ReadsSignatures, ReadsRoots};
 
 use crate::term::{ConstructorKind, Term, TermFlags, TermKind};
@@ -81,7 +82,7 @@ impl TermTable {
     // Notes a declaration whose name is a term's already, and then the earlier one.
     fn check_free(&self, errors: &mut Vec<Error>, decl: &Decl, name: Sym) -> Result<(), AllocError>
         requires { IsWithin self.now }
-        ensures { OnOk result (IsFree name.0 self.now errors.old.items errors.new.items) }
+        ensures { OnOk result (IsFreeOrReported name.0 self.now errors.old.items errors.new.items) }
     {
         let Some(existing) = self.term_map.get(&name) else {
             return Ok(());
@@ -122,7 +123,8 @@ impl TermTable {
     ) -> Result<(), AllocError>
         ensures ids { OnOk result ((k : ℕ) → term_at self.new k ≡ (if nat_eq name.0 k then Some (length self.old.terms.items) else term_at self.old k)) }
         ensures terms { OnOk result (term_views self.new.terms.items
-            ≡ term_views self.old.terms.items ++ signature_entry (length self.old.terms.items) name.0 (map (λ t. t.0) arg_tys.items) ret_ty.0 (decl_view decl.now) ∷ []) }
+            ≡ term_views self.old.terms.items
+            ++ signature_entry (length self.old.terms.items) name.0 (map (λ t. t.0) arg_tys.items) ret_ty.0 (decl_view decl.now) ∷ []) }
         ensures converters { self.new.converters ≡ self.old.converters }
     {
         let id = TermId(self.terms.len());
@@ -209,7 +211,7 @@ impl TermTable {
 
     // The term of a name.
     fn find_term(&self, tyenv: &TypeEnv, name: &Ident) -> Option<TermId>
-        ensures { option_map (λ t. t.0) result ≡ term_named tyenv.now self.now (name_view name.now) }
+        ensures { option_map (λ t. t.0) result ≡ term_of_name tyenv.now self.now (name_view name.now) }
     {
         let sym = tyenv.intern(name)?;
         self.term_map.get(&sym).copied()
@@ -236,7 +238,7 @@ fn arg_types(
     names: &[Ident],
 ) -> Result<Option<Vec<TypeId>>, AllocError>
     ensures { IfOk result (λ o. MatchOption o
-        (Reports errors.old.items errors.new.items × (All (IsKnownType tyenv.now) (map name_view names.now) → ⊥))
+        (Reports errors.old.items errors.new.items × (All (IsKnownInEnv tyenv.now) (map name_view names.now) → ⊥))
         (λ tys. (errors.new.items ≡ errors.old.items) × HaveTypes tyenv.now (map name_view names.now) (map (λ t. t.0) tys.items))) }
 {
     let mut arg_tys = Vec::new(*errors.allocator());

@@ -14,7 +14,7 @@ pub enum ReturnKind {
 }
 
 /// The signature of a function that stands for a term.
-#[derive(Clone, Debug, Drop)]
+#[derive(Clone, Debug)]
 pub struct ExternalSig {
     /// The name of the function.
     pub func_name: String,
@@ -26,4 +26,18 @@ pub struct ExternalSig {
     pub ret_tys: Vec<TypeId>,
     /// How many values the function gives.
     pub ret_kind: ReturnKind,
+}
+
+// Written out, and so proved here once: a derived `Drop` is proved again in each crate that drops the
+// type.
+impl Drop for ExternalSig {
+    fn drop(self) {
+        let ExternalSig {
+            func_name: _,
+            full_name: _,
+            param_tys: _,
+            ret_tys: _,
+            ret_kind: _,
+        } = self;
+    }
 }

@@ -9,60 +9,62 @@ use isle_types::{Sym, TermId, TypeId, VariantId};
 
 /// A term. A constructor makes a value of its type from values of the argument types, an extractor
 /// takes one apart into such values, and a term may be both.
-#[derive(Clone, Debug, PartialEq, Eq, Drop)]
+#[derive(Clone, Debug, PartialEq, Eq)]
 pub struct Term {
-    /// The number of the term.
+    /// The id of the term: its place in `TermEnv::terms`.
     pub id: TermId,
     /// Where the term is declared.
     pub decl_pos: Pos,
     /// The name of the term.
     pub name: Sym,
-    /// The types of the arguments.
+    /// The types of the arguments: what a constructor takes, and what an extractor gives.
     pub arg_tys: Vec<TypeId>,
-    /// The type of what the term makes.
+    /// The type of what a constructor makes, and of what an extractor takes apart.
     pub ret_ty: TypeId,
-    /// What the term is.
+    /// What the term is, and with it what makes its values and takes them apart.
     pub kind: TermKind,
 }
 
-/// How a term is declared.
+/// How a term is declared. Rules are checked against these flags, and calls are made by them.
 #[derive(Clone, Copy, PartialEq, Eq, Debug)]
 pub struct TermFlags {
-    /// Whether the term has no effects.
+    /// Whether the term has no effects: only then may an if-let call it, and only then may one call stand
+    /// for two equal ones.
     pub pure: bool,
-    /// Whether the term may give many values.
+    /// Whether the term may give many values, each of which a rule goes on with.
     pub multi: bool,
-    /// Whether the term may give no value.
+    /// Whether the term may give no value: in an if-let the rule then doesn't match, on a right side the
+    /// whole term fails.
     pub partial: bool,
-    /// Whether the term may call itself.
+    /// Whether the term may call itself. It is carried and shown, never checked.
     pub rec: bool,
 }
 
 /// What a term is.
-#[derive(Clone, Debug, PartialEq, Eq, Drop)]
+#[derive(Clone, Debug, PartialEq, Eq)]
 pub enum TermKind {
     /// A variant of an enum.
     EnumVariant {
-        /// The number of the variant in its enum.
+        /// The id of the variant in its enum, which is the term's result type.
         variant: VariantId,
     },
-    /// A struct.
+    /// A struct: made of its fields, and taken apart into them without a test.
     Struct,
     /// A declared term.
     Decl {
         /// How the term is declared.
         flags: TermFlags,
-        /// What makes a value, where the term has a constructor.
+        /// What makes a value, where the term has a constructor. Only then may it stand in an expression.
         constructor_kind: Option<ConstructorKind>,
-        /// What takes a value apart, where the term has an extractor.
+        /// What takes a value apart, where the term has an extractor. Only then may it stand in a pattern.
         extractor_kind: Option<ExtractorKind>,
     },
 }
 
 /// What makes a value of a declared term.
-#[derive(Clone, Debug, PartialEq, Eq, Drop)]
+#[derive(Clone, Debug, PartialEq, Eq)]
 pub enum ConstructorKind {
-    /// The rules of the term.
+    /// The rules of the term: for these a tree is made.
     InternalConstructor,
     /// An external function.
     ExternalConstructor {
@@ -72,9 +74,9 @@ pub enum ConstructorKind {
 }
 
 /// What takes a value of a declared term apart.
-#[derive(Clone, Debug, PartialEq, Eq, Drop)]
+#[derive(Clone, Debug, PartialEq, Eq)]
 pub enum ExtractorKind {
-    /// A pattern with places for the arguments.
+    /// A pattern with places for the arguments, which stands for the term wherever a pattern uses it.
     InternalExtractor {
         /// The pattern.
         template: Pattern,
@@ -83,9 +85,9 @@ pub enum ExtractorKind {
     ExternalExtractor {
         /// The name of the function.
         name: Sym,
-        /// Whether the function always answers.
+        /// Whether the function always answers: what it gives is then there without a test.
         infallible: bool,
-        /// Where the extractor is declared.
+        /// Where the extractor is declared, for the error that a second one gets.
         pos: Pos,
     },
 }
@@ -204,5 +206,56 @@ impl Term {
                 ..
             }
         )
+    }
+}
+
+// Written out, and so proved here once: a derived `Drop` is proved again in each crate that drops the
+// type.
+impl Drop for Term {
+    fn drop(self) {
+        let Term {
+            id: _,
+            decl_pos: _,
+            name: _,
+            arg_tys: _,
+            ret_ty: _,
+            kind: _,
+        } = self;
+    }
+}
+
+impl Drop for TermKind {
+    fn drop(self) {
+        match self {
+            TermKind::EnumVariant { variant: _ } => {}
+            TermKind::Struct => {}
+            TermKind::Decl {
+                flags: _,
+                constructor_kind: _,
+                extractor_kind: _,
+            } => {}
+        }
+    }
+}
+
+impl Drop for ConstructorKind {
+    fn drop(self) {
+        match self {
+            ConstructorKind::InternalConstructor => {}
+            ConstructorKind::ExternalConstructor { name: _ } => {}
+        }
+    }
+}
+
+impl Drop for ExtractorKind {
+    fn drop(self) {
+        match self {
+            ExtractorKind::InternalExtractor { template: _ } => {}
+            ExtractorKind::ExternalExtractor {
+                name: _,
+                infallible: _,
+                pos: _,
+            } => {}
+        }
     }
 }

@@ -13,14 +13,15 @@ use isle_base::syntax::{Def, Fault};
 use isle_types::{Sym, TermId, TypeEnv, TypeId};
 use std::alloc::Global;
 
-/// The terms that definitions speak of.
-#[derive(Debug, Drop)]
+/// The terms that definitions speak of: what rules are typed with, before there are any.
+#[derive(Drop)]
 pub struct TermTable {
-    /// The terms: the place of each is its number.
+    /// The terms: the place of each is its id.
     pub terms: Vec<Term>,
     /// The term of each term's name.
     pub term_map: StableMap<Sym, TermId>,
-    /// The term that converts a type, the first one, into another, the second one.
+    /// The term that converts a type, the first one, into another, the second one. It is called where a
+    /// rule uses a value of the one type at the other and says no conversion.
     pub converters: StableMap<(TypeId, TypeId), TermId>,
 }
 
@@ -58,154 +59,5 @@ impl TermTable {
             return Err(Fault::Errors(errors));
         }
         Ok(table)
-    }
-}
-
-#[cfg(test)]
-mod tests {
-    use super::*;
-    use isle_base::syntax::{
-        Converter, Decl, Error, Expr, Extern, Extractor, Ident, Pattern, Pos, Rule,
-    };
-    use std::alloc::AllocError;
-    use std::test::Fail;
-
-    fn at(offset: usize) -> Pos {
-        Pos { file: 0, offset }
-    }
-
-    fn ident(alloc: Global, text: &str, offset: usize) -> Result<Ident, AllocError> {
-        Ok(Ident(String::from_str(alloc, text)?, at(offset)))
-    }
-
-    // A declaration with the argument types `u8` and this one, which stands at 100.
-    fn decl(
-        alloc: Global,
-        name: &str,
-        arg: &str,
-        partial: bool,
-        offset: usize,
-    ) -> Result<Def, AllocError> {
-        let mut arg_tys = Vec::new(alloc);
-        arg_tys.push(ident(alloc, "u8", offset)?)?;
-        arg_tys.push(ident(alloc, arg, 100)?)?;
-        Ok(Def::Decl(Decl {
-            term: ident(alloc, name, offset)?,
-            arg_tys,
-            ret_ty: ident(alloc, "u32", offset)?,
-            pure: false,
-            multi: false,
-            partial,
-            rec: false,
-            pos: at(offset),
-        }))
-    }
-
-    fn rule(alloc: Global, root: &str, offset: usize) -> Result<Def, AllocError> {
-        let pos = at(offset);
-        Ok(Def::Rule(Rule {
-            pattern: Pattern::Term {
-                sym: ident(alloc, root, offset)?,
-                args: Vec::new(alloc),
-                pos,
-            },
-            iflets: Vec::new(alloc),
-            expr: Expr::ConstInt { val: 1, pos },
-            pos,
-            prio: None,
-            name: None,
-        }))
-    }
-
-    // The errors, each with its place.
-    fn printed(alloc: Global, defs: &[Def]) -> Result<String, Fault> {
-        let mut tyenv = TypeEnv::from_ast(alloc, defs)?;
-        let mut text = String::new(alloc);
-        if let Err(Fault::Errors(errors)) = &TermTable::from_ast(alloc, &mut tyenv, defs) {
-            for error in errors {
-                if let Error::TypeError { msg, span } = error {
-                    text = format!(in alloc;
-                        "{text}{}:{} {msg};",
-                        span.from.file, span.from.offset
-                    )?;
-                }
-            }
-        }
-        Ok(text)
-    }
-
-    #[test]
-    fn a_term_declared_twice(rt: HostRuntime) -> Result<(), Fail> {
-        let alloc = rt.alloc();
-        let defs = [
-            decl(alloc, "f", "u16", false, 0)?,
-            decl(alloc, "f", "X", false, 5)?,
-        ];
-        assert_eq!(rt;
-            printed(alloc, &defs)?.as_str(),
-            "0:5 Duplicate decl for 'f';0:0 Duplicate decl for 'f';0:100 Unknown arg type: 'X';"
-        );
-        Ok(())
-    }
-
-    #[test]
-    fn a_rule_of_no_term(rt: HostRuntime) -> Result<(), Fail> {
-        let alloc = rt.alloc();
-        let defs = [decl(alloc, "f", "u16", false, 0)?, rule(alloc, "g", 9)?];
-        assert_eq!(rt;
-            printed(alloc, &defs)?.as_str(),
-            "0:9 Rule LHS root term is not defined;"
-        );
-        Ok(())
-    }
-
-    #[test]
-    fn forms_that_are_not_carried(rt: HostRuntime) -> Result<(), Fail> {
-        let alloc = rt.alloc();
-        let extractor = Extractor {
-            term: ident(alloc, "f", 4)?,
-            args: Vec::new(alloc),
-            template: Pattern::Wildcard { pos: at(4) },
-            pos: at(4),
-        };
-        let converter = Converter {
-            term: ident(alloc, "f", 5)?,
-            inner_ty: ident(alloc, "u8", 5)?,
-            outer_ty: ident(alloc, "u16", 5)?,
-            pos: at(5),
-        };
-        let external = Extern::Constructor {
-            term: ident(alloc, "f", 6)?,
-            func: ident(alloc, "g", 6)?,
-            pos: at(6),
-        };
-        let defs = [
-            decl(alloc, "f", "X", true, 3)?,
-            Def::Extractor(extractor),
-            Def::Converter(converter),
-            Def::Extern(external),
-        ];
-        assert_eq!(rt;
-            printed(alloc, &defs)?.as_str(),
-            "0:3 not carried yet;0:4 not carried yet;0:5 not carried yet;0:6 not carried yet;"
-        );
-        Ok(())
-    }
-
-    #[test]
-    fn a_term_with_a_rule(rt: HostRuntime) -> Result<(), Fail> {
-        let alloc = rt.alloc();
-        let defs = [decl(alloc, "f", "u16", false, 0)?, rule(alloc, "f", 9)?];
-        let mut tyenv = TypeEnv::from_ast(alloc, &defs)?;
-        let table = TermTable::from_ast(alloc, &mut tyenv, &defs)?;
-        assert_eq!(rt; table.terms.len(), 1);
-        for term in &table.terms {
-            assert_eq!(rt; term.id, TermId(0));
-            assert_eq!(rt; term.name, Sym(13));
-            assert_eq!(rt; term.arg_tys.as_slice(), [TypeId(1), TypeId(2)].as_slice());
-            assert!(rt; term.has_internal_constructor());
-        }
-        assert_eq!(rt; table.term_map.get(&Sym(13)).copied(), Some(TermId(0)));
-        Ok(())
     }
 }

@@ -9,7 +9,7 @@ use Rattle.isle_base.specs.Stable.{entry_count}
 use Rattle.isle_types.specs.declared.builtin.BuiltinType.{BuiltinType}
 use Rattle.isle_types.specs.declared.type_env.TypeEnv.{TypeEnv}
 use Rattle.isle_types.specs.Builtin.{builtin_name, builtin_place}
-use Rattle.isle_types.specs.Envs.{names_of, symbol_of}
+use Rattle.isle_types.specs.Envs.{names_of, symbol_of, IsInterned}
 use Rattle.isle_types.specs.Names.{IsInverse}
 use Rattle.isle_types.specs.Reading.{AddsBuiltin}
 use Rattle.isle_types.specs.Stages.{Sees, Booting}
@@ -19,7 +19,7 @@ use Rattle.isle_types.proofs.Seen.{type_of_text, was_free, sees_type}
 use Rattle.isle_model.proofs.Names.{distinct_if}
 use Rattle.isle_model.proofs.FirstPlaces.{place_missing, twice}
 
-step_boot : (b : BuiltinType) (rest : List BuiltinType) (old new : TypeEnv) → IsInverse (names_of new) (symbol_of new) → Booting old (b ∷ rest) → AddsBuiltin b old new → Booting new rest
+step_boot : (b : BuiltinType) (rest : List BuiltinType) (old new : TypeEnv) → IsInterned new → Booting old (b ∷ rest) → AddsBuiltin b old new → Booting new rest
 step_boot b rest old new i s (inl a) =
     let free = was_free old (names_of old) s.sees new (builtin_name b) a.0 i in
     let missing : has_name (names_of old) (builtin_name b) ≡ false = place_missing 0 (names_of old) (builtin_name b) free in
@@ -34,7 +34,7 @@ step_boot b rest old new i s (inr a) =
     absurd (twice (names_of old) (map builtin_name rest) builtin_names (builtin_name b) a.id (distinct_if builtin_names refl) s.whole (sym (type_of_text old (names_of old) s.sees (builtin_name b)) ∙ a.taken))
 
 -- after the built-in type at k
-pub next_boot : (all : List BuiltinType) (k : ℕ) (d : BuiltinType) → k < length all → (old new : TypeEnv) → IsInverse (names_of new) (symbol_of new) → Booting old (drop k all) → AddsBuiltin (get_or all k d) old new → Booting new (drop (k + 1) all)
+pub next_boot : (all : List BuiltinType) (k : ℕ) (d : BuiltinType) → k < length all → (old new : TypeEnv) → IsInterned new → Booting old (drop k all) → AddsBuiltin (get_or all k d) old new → Booting new (drop (k + 1) all)
 next_boot all k d within old new i s a =
     step_boot (get_or all k d) (drop (k + 1) all) old new i (subst (Booting old) (at_drop_more (λ l. l) all k d within) s) a
 

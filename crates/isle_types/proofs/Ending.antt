@@ -12,9 +12,9 @@ use Rattle.isle_model.proofs.Bytes.{same_self}
 use Rattle.isle_model.proofs.Names.{found, has_at, has_met, has_right}
 use Rattle.isle_laws_lists.proofs.TypeLaws.{names_later, type_names_distinct, last_definition_counts_lem}
 use Rattle.isle_types.specs.declared.type_env.TypeEnv.{TypeEnv}
-use Rattle.isle_types.specs.Envs.{names_of, symbol_of}
+use Rattle.isle_types.specs.Envs.{symbol_of, IsInterned}
 use Rattle.isle_types.specs.Names.{IsInverse}
-use Rattle.isle_types.specs.Stages.{names_in_types, constant_names, last_type, Constants, ReadsConstants}
+use Rattle.isle_types.specs.Stages.{names_in_types, constant_names, last_type, TypingConstants, ReadsConstants}
 use Rattle.isle_types.specs.TypeTables.{SeesTypes}
 use Rattle.isle_types.proofs.RightTypes.{types_valid}
 
@@ -52,10 +52,10 @@ last_types defs k =
     ] refl
 
 module _ (defs : List Definition) (env : TypeEnv) where
-  valid_of : Constants defs [] env → IsValidTypes defs
+  valid_of : TypingConstants defs [] env → IsValidTypes defs
   valid_of n = types_valid defs n.distinct n.right (n.of_known (All-nil (IsOfKnownType defs)))
 
-  sees_of : Constants defs [] env → IsInverse (names_of env) (symbol_of env) → SeesTypes env defs (type_names_met defs)
+  sees_of : TypingConstants defs [] env → IsInterned env → SeesTypes env defs (type_names_met defs)
   sees_of n i = record {
     names = n.names;
     inverse = subst (λ ns. IsInverse ns (symbol_of env)) n.names i;

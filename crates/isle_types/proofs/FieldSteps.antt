@@ -18,7 +18,7 @@ use Rattle.isle_types.specs.declared.ids.Sym.{Sym}
 use Rattle.isle_types.specs.declared.type_env.TypeEnv.{TypeEnv}
 use Rattle.isle_types.specs.declared.types.StructField.{StructField}
 use Rattle.isle_types.specs.declared.types.TupleField.{TupleField}
-use Rattle.isle_types.specs.Envs.{names_of, symbol_of, type_at, type_named}
+use Rattle.isle_types.specs.Envs.{names_of, symbol_of, type_at, type_of_name, IsInterned}
 use Rattle.isle_types.specs.VariantReading.{HasSeen}
 use Rattle.isle_types.specs.FieldReading.{was_seen, IsField, ReadsField, IsTupleField, ReadsTupleField}
 use Rattle.isle_types.specs.Names.{IsInverse}
@@ -44,7 +44,7 @@ number_push f n (y ∷ ys) x =
     ap (λ zs. f (n, y) ∷ zs) (number_push f (n + 1) ys x ∙ ap (λ k. map f (enumerate_from (n + 1) ys) ++ f (k, x) ∷ []) past)
 
 -- the type that is found by a name has the name's place among the names of types
-pub found_type : (env : TypeEnv) (types : List (List ℕ)) → Sees env types → IsInverse (names_of env) (symbol_of env) → (x : List ℕ) → type_named env x ≡ place_from 0 x types
+pub found_type : (env : TypeEnv) (types : List (List ℕ)) → Sees env types → IsInterned env → (x : List ℕ) → type_of_name env x ≡ place_from 0 x types
 found_type env types s i x = by_text (names_of env) (symbol_of env) i.numbered i.named (type_at env) (λ y. place_from 0 y types) s.ids x (s.known x)
 
 -- after names were met the same types are seen
@@ -107,11 +107,11 @@ last_field defs fs read seen old new s =
       s.entries [] ∙ ap (entries_of defs (names_of new)) all,
     )
 
-module _ (defs : List Definition) (all rest : List FieldTree) (f : FieldTree) (read : List StructField) (seen : Members Sym) (old env : TypeEnv) (s : FieldsRead defs all (f ∷ rest) read seen old env) (new : TypeEnv) (m : MeetsNames (f.name.text ∷ []) env new) (i : IsInverse (names_of new) (symbol_of new)) where
+module _ (defs : List Definition) (all rest : List FieldTree) (f : FieldTree) (read : List StructField) (seen : Members Sym) (old env : TypeEnv) (s : FieldsRead defs all (f ∷ rest) read seen old env) (new : TypeEnv) (m : MeetsNames (f.name.text ∷ []) env new) (i : IsInterned new) where
   sees_now : Sees new (all_type_names defs)
   sees_now = sees_met (all_type_names defs) env new f.name.text s.sees m
 
-  type_now : type_named new f.ty.text ≡ place_from 0 f.ty.text (all_type_names defs)
+  type_now : type_of_name new f.ty.text ≡ place_from 0 f.ty.text (all_type_names defs)
   type_now = found_type new (all_type_names defs) sees_now i f.ty.text
 
   names_after : names_in (s.done ++ f ∷ []) ≡ names_in s.done ++ f.name.text ∷ []
@@ -176,18 +176,18 @@ module _ (defs : List Definition) (all rest : List FieldTree) (f : FieldTree) (r
           | Some k ↦ λ there _. twice (names_in s.done) (names_in rest) (names_in all) f.name.text k right.distinct parts there
         ] refl (sym (seen_text (names_of env) seen (names_in s.done) s.numbers f.name.text) ∙ e)
 
-    has_type : type_named new f.ty.text ≡ None → ⊥
+    has_type : type_of_name new f.ty.text ≡ None → ⊥
     has_type e =
         let parts : map (λ (g : FieldTree). g.ty) all ≡ map (λ g. g.ty) s.done ++ f.ty ∷ map (λ g. g.ty) rest = sym (ap (map (λ (g : FieldTree). g.ty)) s.whole) ∙ map-append (λ (g : FieldTree). g.ty) s.done (f ∷ rest) in
         unknown_type (all_type_names defs) f.ty (sym type_now ∙ e) (all_middle (IsKnownType (all_type_names defs)) (map (λ g. g.ty) s.done) f.ty (map (λ g. g.ty) rest) (subst (All (IsKnownType (all_type_names defs))) parts right.known))
 
 -- of these fields of a struct or of a variant the rest is left to be read, and nothing was noted
 pub record ReadsMore (fields rest : List S.StructField) (read : List StructField) (seen : Members Sym) (old : TypeEnv) (es : List Error) (new : TypeEnv) (es' : List Error) : Type 0 where
-  pub inverse : IsInverse (names_of new) (symbol_of new)
+  pub inverse : IsInterned new
   pub unnoted : es' ≡ es
   pub reads : (defs : List Definition) → Sees old (all_type_names defs) → FieldsRead defs (map X.field_view fields) (map X.field_view rest) read seen old new
 
-pub reads_first : (fields : List S.StructField) (read : List StructField) (seen : Members Sym) (env : TypeEnv) (es : List Error) → IsInverse (names_of env) (symbol_of env) → read ≡ [] → ((k : ℕ) → was_seen seen k ≡ false) → ReadsMore fields fields read seen env es env es
+pub reads_first : (fields : List S.StructField) (read : List StructField) (seen : Members Sym) (env : TypeEnv) (es : List Error) → IsInterned env → read ≡ [] → ((k : ℕ) → was_seen seen k ≡ false) → ReadsMore fields fields read seen env es env es
 reads_first fields read seen env es i empty none = record {
   inverse = i;
   unnoted = refl;
@@ -200,7 +200,7 @@ reads_last fields k past read seen old es new es' s defs sees =
     let l = last_field defs (map X.field_view fields) read seen old new (subst (λ rest. FieldsRead defs (map X.field_view fields) rest read seen old new) none (s.reads defs sees)) in
     (s.unnoted, l.0, l.1, ap struct_entries l.2)
 
-module _ (fields : List S.StructField) (k : ℕ) (d : S.StructField) (within : k < length fields) (here : d ≡ get_or fields k d) (read : List StructField) (seen seen' : Members Sym) (old env new : TypeEnv) (es now es' : List Error) (s : ReadsMore fields (drop k fields) read seen old es env now) (m : MeetsNames ((X.field_view d).name.text ∷ []) env new) (i : IsInverse (names_of new) (symbol_of new)) (id : ℕ) where
+module _ (fields : List S.StructField) (k : ℕ) (d : S.StructField) (within : k < length fields) (here : d ≡ get_or fields k d) (read : List StructField) (seen seen' : Members Sym) (old env new : TypeEnv) (es now es' : List Error) (s : ReadsMore fields (drop k fields) read seen old es env now) (m : MeetsNames ((X.field_view d).name.text ∷ []) env new) (i : IsInterned new) (id : ℕ) where
   so_far : (defs : List Definition) → Sees old (all_type_names defs) → FieldsRead defs (map X.field_view fields) (X.field_view d ∷ map X.field_view (drop (k + 1) fields)) read seen old env
   so_far defs sees = subst (λ rest. FieldsRead defs (map X.field_view fields) rest read seen old env) (left_at X.field_view fields k d within here) (s.reads defs sees)
 
@@ -258,7 +258,7 @@ reads_last_tuple fields k past read env es es' s defs sees =
       ap tuple_entries (l.entries ∙ ap (tuple_entries_of defs) all),
     )
 
-module _ (fields : List U.TupleField) (k : ℕ) (d : U.TupleField) (within : k < length fields) (here : d ≡ get_or fields k d) (read : List TupleField) (env : TypeEnv) (es now es' : List Error) (s : ReadsMoreTuple fields (drop k fields) read env es now) (i : IsInverse (names_of env) (symbol_of env)) (id : ℕ) (defs : List Definition) (sees : Sees env (all_type_names defs)) where
+module _ (fields : List U.TupleField) (k : ℕ) (d : U.TupleField) (within : k < length fields) (here : d ≡ get_or fields k d) (read : List TupleField) (env : TypeEnv) (es now es' : List Error) (s : ReadsMoreTuple fields (drop k fields) read env es now) (i : IsInterned env) (id : ℕ) (defs : List Definition) (sees : Sees env (all_type_names defs)) where
   before : TupleFieldsRead defs (map X.tuple_field_view fields) (map X.tuple_field_view (drop k fields)) read
   before = s.reads defs sees
 
@@ -282,12 +282,12 @@ module _ (fields : List U.TupleField) (k : ℕ) (d : U.TupleField) (within : k <
             ∙ sym (number_push (λ p. tuple_field_entry defs p.0 p.1) 0 before.done (X.tuple_field_view d));
       }
 
-  wrong_part : type_named env (X.tuple_field_view d).ty.text ≡ None → AreRightFields defs (tuple_fields (map X.tuple_field_view fields)) → ⊥
+  wrong_part : type_of_name env (X.tuple_field_view d).ty.text ≡ None → AreRightFields defs (tuple_fields (map X.tuple_field_view fields)) → ⊥
   wrong_part e right =
       let types : map (λ (g : TupleFieldTree). g.ty) (map X.tuple_field_view fields) ≡ map (λ g. g.ty) before.done ++ (X.tuple_field_view d).ty ∷ map (λ g. g.ty) (map X.tuple_field_view (drop (k + 1) fields)) = sym (ap (map (λ (g : TupleFieldTree). g.ty)) parts) ∙ map-append (λ (g : TupleFieldTree). g.ty) before.done (X.tuple_field_view d ∷ map X.tuple_field_view (drop (k + 1) fields)) in
       unknown_type (all_type_names defs) (X.tuple_field_view d).ty (sym (found_type env (all_type_names defs) sees i (X.tuple_field_view d).ty.text) ∙ e) (all_middle (IsKnownType (all_type_names defs)) (map (λ g. g.ty) before.done) (X.tuple_field_view d).ty (map (λ g. g.ty) (map X.tuple_field_view (drop (k + 1) fields))) (subst (All (IsKnownType (all_type_names defs))) types right.known))
 
-module _ (fields : List U.TupleField) (k : ℕ) (d : U.TupleField) (within : k < length fields) (here : d ≡ get_or fields k d) (read : List TupleField) (env : TypeEnv) (es now es' : List Error) (s : ReadsMoreTuple fields (drop k fields) read env es now) (i : IsInverse (names_of env) (symbol_of env)) (id : ℕ) where
+module _ (fields : List U.TupleField) (k : ℕ) (d : U.TupleField) (within : k < length fields) (here : d ≡ get_or fields k d) (read : List TupleField) (env : TypeEnv) (es now es' : List Error) (s : ReadsMoreTuple fields (drop k fields) read env es now) (i : IsInterned env) (id : ℕ) where
   -- after a field that is right
   pub reads_next_tuple : (r : TupleField) → id ≡ length read → ReadsTupleField (X.tuple_field_view d) id (Some r) env now es' → ReadsMoreTuple fields (drop (k + 1) fields) (read ++ r ∷ []) env es es'
   reads_next_tuple r at a = record {

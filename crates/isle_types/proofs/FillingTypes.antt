@@ -12,10 +12,9 @@ use Rattle.isle_base.specs.declared.syntax.Error.{Error}
 use Rattle.isle_base.specs.SyntaxViews.{definition_view, definition_views}
 use Rattle.isle_types.specs.declared.type_env.TypeEnv.{TypeEnv}
 use Rattle.isle_types.specs.declared.types.Type as T
-use Rattle.isle_types.specs.Envs.{names_of, symbol_of}
-use Rattle.isle_types.specs.Names.{IsInverse}
+use Rattle.isle_types.specs.Envs.{names_of, IsInterned}
 use Rattle.isle_types.specs.Reading.{Reports, MayReport, MeetsNames, IsRightType}
-use Rattle.isle_types.specs.Stages.{Sees, ArePlain, SoFar, Naming, NamesTypes, names_in_types, constant_names, entries_from, AreMet, Filling, FillsTypes}
+use Rattle.isle_types.specs.Stages.{Sees, ArePlain, SoFarOfTypes, Naming, NamesTypes, names_in_types, constant_names, entries_from, AreMet, Filling, FillsTypes}
 use Rattle.isle_types.specs.TypeViews.{type_view, type_views}
 use Rattle.isle_types.specs.VariantReading.{FillsType, FillsDefinition}
 use Rattle.isle_types.proofs.EntriesStay.{AllMet, met_more, met_self, type_stays}
@@ -95,7 +94,7 @@ fill_other defs rest rest' env same n = record {
 
 -- what a definition leaves, where nothing was wrong before it
 abbrev Leaves : List Definition → List Definition → TypeEnv → List Error → Type 0
-Leaves defs rest new es' = SoFar defs es' (Filling defs rest new)
+Leaves defs rest new es' = SoFarOfTypes defs es' (Filling defs rest new)
 
 leave_type : (defs rest : List Definition) (t : TypeTree) (old new : TypeEnv) (es es' : List Error) → es ≡ [] → Filling defs (type_definition t ∷ rest) old → AreMet old (t.name.text ∷ []) → ((es' ≡ es) × FillsType defs t old new) ⊎ (Reports es es' × (IsRightType defs t → ⊥)) → Leaves defs rest new es'
 leave_type defs rest t old new es es' none n own (inl a) =
@@ -146,13 +145,13 @@ module _ (env : TypeEnv) where
       met_from i defs (all_right Met (named (definition_view d)) (type_names (definition_views defs)) (split (definition_view d) (definition_views defs) h))
 
 -- after the definition at i
-pub next_type : (defs : List Def) (i : ℕ) (d : Def) → i < length defs → d ≡ get_or defs i d → (old new : TypeEnv) (es es' : List Error) → IsInverse (names_of new) (symbol_of new) → FillsTypes (definition_views defs) (definition_views (drop i defs)) old es → MayReport es es' → ((all : List Definition) → Sees old (all_type_names all) → AreMet old (type_names (definition_view d ∷ [])) → FillsDefinition all (definition_view d) old es new es') → FillsTypes (definition_views defs) (definition_views (drop (i + 1) defs)) new es'
+pub next_type : (defs : List Def) (i : ℕ) (d : Def) → i < length defs → d ≡ get_or defs i d → (old new : TypeEnv) (es es' : List Error) → IsInterned new → FillsTypes (definition_views defs) (definition_views (drop i defs)) old es → MayReport es es' → ((all : List Definition) → Sees old (all_type_names all) → AreMet old (type_names (definition_view d ∷ [])) → FillsDefinition all (definition_view d) old es new es') → FillsTypes (definition_views defs) (definition_views (drop (i + 1) defs)) new es'
 next_type defs i d within at old new es es' inverse s noted step =
     let rest = definition_views (drop (i + 1) defs) in
     let left : definition_views (drop i defs) ≡ definition_view d ∷ rest =
     at_drop_more definition_views defs i d within ∙ ap (λ x. definition_view x ∷ rest) (sym at) in
-    let before : SoFar (definition_views defs) es (Filling (definition_views defs) (definition_view d ∷ rest) old) =
-    subst (λ ds. SoFar (definition_views defs) es (Filling (definition_views defs) ds old)) left s.so_far in
+    let before : SoFarOfTypes (definition_views defs) es (Filling (definition_views defs) (definition_view d ∷ rest) old) =
+    subst (λ ds. SoFarOfTypes (definition_views defs) es (Filling (definition_views defs) ds old)) left s.so_far in
     record {
       inverse = inverse;
       plain = plain_after es es' noted s.plain;

@@ -11,9 +11,9 @@ use Rattle.isle_base.specs.declared.syntax.Error.{Error}
 use Rattle.isle_base.specs.SyntaxViews.{definition_view, definition_views}
 use Rattle.isle_base.specs.Stable.{entry_count}
 use Rattle.isle_types.specs.declared.type_env.TypeEnv.{TypeEnv}
-use Rattle.isle_types.specs.Envs.{names_of, symbol_of}
+use Rattle.isle_types.specs.Envs.{names_of, symbol_of, IsInterned}
 use Rattle.isle_types.specs.Names.{IsInverse}
-use Rattle.isle_types.specs.Reading.{Reports, NamesType, IsTaken, NamesDefinition}
+use Rattle.isle_types.specs.Reading.{Reports, NamesType, IsTakenByType, NamesDefinition}
 use Rattle.isle_types.specs.Stages.{ArePlain, Naming, NamesTypes}
 use Rattle.isle_types.specs.TypeTables.{SeesTypes}
 use Rattle.isle_types.specs.TypeViews.{type_views}
@@ -22,7 +22,7 @@ use Rattle.isle_model.proofs.Names.{distinct_if}
 use Rattle.isle_model.proofs.FirstPlaces.{distinct_push, place_absent, twice}
 
 module _ (defs rest : List Definition) (t : TypeTree) (old : TypeEnv) (n : Naming defs (type_definition t ∷ rest) old) where
-  pub name_right : (new : TypeEnv) → IsInverse (names_of new) (symbol_of new) → NamesType t.name.text old new → new.types ≡ old.types → Naming defs rest new
+  pub name_right : (new : TypeEnv) → IsInterned new → NamesType t.name.text old new → new.types ≡ old.types → Naming defs rest new
   name_right new i a types = record {
     named = n.named ++ t.name.text ∷ [];
     sees = sees_type old n.named n.sees new t.name.text a i;
@@ -32,12 +32,12 @@ module _ (defs rest : List Definition) (t : TypeTree) (old : TypeEnv) (n : Namin
     types = ap (λ v. type_views v.items) types ∙ n.types;
   }
 
-  pub name_wrong : IsTaken t.name.text old → IsValidTypes defs → ⊥
+  pub name_wrong : IsTakenByType t.name.text old → IsValidTypes defs → ⊥
   name_wrong a v =
       twice n.named (type_names rest) (builtin_names ++ type_names defs) t.name.text a.id v.distinct n.whole (sym (type_of_text old n.named n.sees t.name.text) ∙ a.taken)
 
 -- after a definition of a type
-step_type : (defs rest : List Definition) (t : TypeTree) (old new : TypeEnv) (es es' : List Error) → IsInverse (names_of new) (symbol_of new) → NamesTypes defs (type_definition t ∷ rest) old es → ((es' ≡ es) × NamesType t.name.text old new × (new.types ≡ old.types)) ⊎ (Reports es es' × IsTaken t.name.text old) → NamesTypes defs rest new es'
+step_type : (defs rest : List Definition) (t : TypeTree) (old new : TypeEnv) (es es' : List Error) → IsInterned new → NamesTypes defs (type_definition t ∷ rest) old es → ((es' ≡ es) × NamesType t.name.text old new × (new.types ≡ old.types)) ⊎ (Reports es es' × IsTakenByType t.name.text old) → NamesTypes defs rest new es'
 step_type defs rest t old new es es' i s (inl a) = record {
   inverse = i;
   plain = rw a.0 s.plain;
@@ -72,7 +72,7 @@ step_other defs rest rest' old new es es' same s a =
           (λ wrong. inr (rw a.0 wrong.0, wrong.1)) s.so_far;
     })
 
-pub step_name : (defs rest : List Definition) (d : Definition) (old new : TypeEnv) (es es' : List Error) → IsInverse (names_of new) (symbol_of new) → NamesTypes defs (d ∷ rest) old es → NamesDefinition d old es new es' → NamesTypes defs rest new es'
+pub step_name : (defs rest : List Definition) (d : Definition) (old new : TypeEnv) (es es' : List Error) → IsInterned new → NamesTypes defs (d ∷ rest) old es → NamesDefinition d old es new es' → NamesTypes defs rest new es'
 step_name defs rest (type_definition t) old new es es' i s a = step_type defs rest t old new es es' i s a
 step_name defs rest (declaration d) old new es es' i s a = step_other defs (declaration d ∷ rest) rest old new es es' refl s a
 step_name defs rest (extractor_definition d) old new es es' i s a = step_other defs (extractor_definition d ∷ rest) rest old new es es' refl s a
@@ -82,7 +82,7 @@ step_name defs rest (extern_definition d) old new es es' i s a = step_other defs
 step_name defs rest other_definition old new es es' i s a = step_other defs (other_definition ∷ rest) rest old new es es' refl s a
 
 -- after the definition at i
-pub next_name : (defs : List Def) (i : ℕ) (d : Def) → i < length defs → d ≡ get_or defs i d → (old new : TypeEnv) (es es' : List Error) → IsInverse (names_of new) (symbol_of new) → NamesTypes (definition_views defs) (definition_views (drop i defs)) old es → NamesDefinition (definition_view d) old es new es' → NamesTypes (definition_views defs) (definition_views (drop (i + 1) defs)) new es'
+pub next_name : (defs : List Def) (i : ℕ) (d : Def) → i < length defs → d ≡ get_or defs i d → (old new : TypeEnv) (es es' : List Error) → IsInterned new → NamesTypes (definition_views defs) (definition_views (drop i defs)) old es → NamesDefinition (definition_view d) old es new es' → NamesTypes (definition_views defs) (definition_views (drop (i + 1) defs)) new es'
 next_name defs i d within at old new es es' inverse s a =
     let left : definition_views (drop i defs) ≡ definition_view d ∷ definition_views (drop (i + 1) defs) =
     at_drop_more definition_views defs i d within ∙ ap (λ x. definition_view x ∷ definition_views (drop (i + 1) defs)) (sym at) in

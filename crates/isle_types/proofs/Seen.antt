@@ -6,8 +6,7 @@ use Rattle.isle_model.specs.rules.Outcome.{then_option}
 use Rattle.isle_model.specs.lists.TypeTable.{place_from}
 use Rattle.isle_base.specs.Stable.{entry_count, look_up}
 use Rattle.isle_types.specs.declared.type_env.TypeEnv.{TypeEnv}
-use Rattle.isle_types.specs.Envs.{names_of, symbol_of, type_at, same_symbol, symbol}
-use Rattle.isle_types.specs.Names.{IsInverse}
+use Rattle.isle_types.specs.Envs.{names_of, symbol_of, type_at, same_symbol, symbol, IsInterned}
 use Rattle.isle_types.specs.Reading.{NamesType}
 use Rattle.isle_types.specs.Stages.{Sees}
 use Rattle.isle_types.proofs.Inverse.{inverse_distinct}
@@ -31,7 +30,7 @@ module _ (env : TypeEnv) (ts : List (List ℕ)) (s : Sees env ts) where
     errors = ap (λ v. v.items) errors ∙ s.errors;
   }
 
-  module _ (new : TypeEnv) (x : List ℕ) (n : NamesType x env new) (i : IsInverse (names_of new) (symbol_of new)) where
+  module _ (new : TypeEnv) (x : List ℕ) (n : NamesType x env new) (i : IsInterned new) where
     pub was_free : place_from 0 x ts ≡ None
     was_free = sym (type_of_text x) ∙ n.fresh
 

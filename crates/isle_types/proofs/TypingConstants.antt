@@ -14,29 +14,28 @@ use Rattle.isle_base.specs.SyntaxViews.{definition_view, definition_views}
 use Rattle.isle_laws_lists.proofs.TypeLaws.{type_names_distinct}
 use Rattle.isle_types.specs.declared.type_env.TypeEnv.{TypeEnv}
 use Rattle.isle_types.specs.ConstantReading.{TypesConstant, ReadsConstant, ReadsDefinition}
-use Rattle.isle_types.specs.Envs.{names_of, symbol_of, type_at, same_symbol, symbol, type_named}
-use Rattle.isle_types.specs.Names.{IsInverse}
+use Rattle.isle_types.specs.Envs.{names_of, symbol_of, type_at, same_symbol, symbol, type_of_name, IsInterned}
 use Rattle.isle_types.specs.Reading.{IsRightType}
-use Rattle.isle_types.specs.Stages.{constant_names, Filling, FillsTypes, last_type, Constants, ReadsConstants}
+use Rattle.isle_types.specs.Stages.{constant_names, Filling, FillsTypes, last_type, TypingConstants, ReadsConstants}
 use Rattle.isle_types.specs.TypeViews.{type_views}
 use Rattle.isle_types.proofs.LastTypes.{last_read}
 use Rattle.isle_model.proofs.ByNumber.{by_text, then_with}
 use Rattle.isle_model.proofs.Names.{with_missing, number_stays}
 
-module _ (defs rest : List Definition) (name ty : Name) (at : Position) (old : TypeEnv) (i : IsInverse (names_of old) (symbol_of old)) (n : Constants defs (extern_definition (extern_const name ty at) ∷ rest) old) where
+module _ (defs rest : List Definition) (name ty : Name) (at : Position) (old : TypeEnv) (i : IsInterned old) (n : TypingConstants defs (extern_definition (extern_const name ty at) ∷ rest) old) where
   abbrev constant : ConstantTree
   constant = record { name = name; ty = ty }
 
   -- what is looked up is the type of the name
-  type_is : type_named old ty.text ≡ type_id defs ty.text
+  type_is : type_of_name old ty.text ≡ type_id defs ty.text
   type_is = by_text (names_of old) (symbol_of old) i.numbered i.named (type_at old) (type_id defs) n.ids ty.text (n.known ty.text)
 
-  pub constant_wrong : type_named old ty.text ≡ None → IsValidTypes defs → ⊥
+  pub constant_wrong : type_of_name old ty.text ≡ None → IsValidTypes defs → ⊥
   constant_wrong none v =
       let known : IsOfKnownType defs constant = All-head (IsOfKnownType defs) constant (constant_trees rest) (n.left v.types_of_constants) in
       false≢true (sym (ap is_some (sym type_is ∙ none)) ∙ known)
 
-  pub constant_right : (new : TypeEnv) → TypesConstant name.text ty.text old new → Constants defs rest new
+  pub constant_right : (new : TypeEnv) → TypesConstant name.text ty.text old new → TypingConstants defs rest new
   constant_right new t =
       let known : type_id defs ty.text ≡ Some t.id = sym type_is ∙ t.known in
       record {
@@ -58,7 +57,7 @@ module _ (defs rest : List Definition) (name ty : Name) (at : Position) (old : T
       }
 
 -- after the definition of a constant
-step_read : (defs rest : List Definition) (name ty : Name) (at : Position) (old new : TypeEnv) (es es' : List Error) → IsInverse (names_of old) (symbol_of old) → IsInverse (names_of new) (symbol_of new) → ReadsConstants defs (extern_definition (extern_const name ty at) ∷ rest) old es → ReadsConstant name ty old es new es' → ReadsConstants defs rest new es'
+step_read : (defs rest : List Definition) (name ty : Name) (at : Position) (old new : TypeEnv) (es es' : List Error) → IsInterned old → IsInterned new → ReadsConstants defs (extern_definition (extern_const name ty at) ∷ rest) old es → ReadsConstant name ty old es new es' → ReadsConstants defs rest new es'
 step_read defs rest name ty at old new es es' i i' s (inl a) = record {
   inverse = i';
   plain = rw a.0 s.plain;
@@ -99,7 +98,7 @@ step_other defs rest rest' old new es es' same s a =
           (λ wrong. inr (rw a.0 wrong.0, wrong.1)) s.so_far;
     })
 
-step_constant : (defs rest : List Definition) (d : Definition) (old new : TypeEnv) (es es' : List Error) → IsInverse (names_of old) (symbol_of old) → IsInverse (names_of new) (symbol_of new) → ReadsConstants defs (d ∷ rest) old es → ReadsDefinition d old es new es' → ReadsConstants defs rest new es'
+step_constant : (defs rest : List Definition) (d : Definition) (old new : TypeEnv) (es es' : List Error) → IsInterned old → IsInterned new → ReadsConstants defs (d ∷ rest) old es → ReadsDefinition d old es new es' → ReadsConstants defs rest new es'
 step_constant defs rest (type_definition t) old new es es' i i' s a = step_other defs (type_definition t ∷ rest) rest old new es es' refl s a
 step_constant defs rest (declaration d) old new es es' i i' s a = step_other defs (declaration d ∷ rest) rest old new es es' refl s a
 step_constant defs rest (extractor_definition d) old new es es' i i' s a = step_other defs (extractor_definition d ∷ rest) rest old new es es' refl s a
@@ -111,13 +110,13 @@ step_constant defs rest (extern_definition (extern_const name ty at)) old new es
 step_constant defs rest other_definition old new es es' i i' s a = step_other defs (other_definition ∷ rest) rest old new es es' refl s a
 
 -- after the definition at i
-pub next_constant : (defs : List Def) (i : ℕ) (d : Def) → i < length defs → d ≡ get_or defs i d → (old new : TypeEnv) (es es' : List Error) → IsInverse (names_of old) (symbol_of old) → IsInverse (names_of new) (symbol_of new) → ReadsConstants (definition_views defs) (definition_views (drop i defs)) old es → ReadsDefinition (definition_view d) old es new es' → ReadsConstants (definition_views defs) (definition_views (drop (i + 1) defs)) new es'
+pub next_constant : (defs : List Def) (i : ℕ) (d : Def) → i < length defs → d ≡ get_or defs i d → (old new : TypeEnv) (es es' : List Error) → IsInterned old → IsInterned new → ReadsConstants (definition_views defs) (definition_views (drop i defs)) old es → ReadsDefinition (definition_view d) old es new es' → ReadsConstants (definition_views defs) (definition_views (drop (i + 1) defs)) new es'
 next_constant defs i d within at old new es es' inverse inverse' s a =
     let left : definition_views (drop i defs) ≡ definition_view d ∷ definition_views (drop (i + 1) defs) =
     at_drop_more definition_views defs i d within ∙ ap (λ x. definition_view x ∷ definition_views (drop (i + 1) defs)) (sym at) in
     step_constant (definition_views defs) (definition_views (drop (i + 1) defs)) (definition_view d) old new es es' inverse inverse' (subst (λ ds. ReadsConstants (definition_views defs) ds old es) left s) a
 
-start : (defs : List Definition) (env : TypeEnv) → Filling defs [] env → Constants defs defs env
+start : (defs : List Definition) (env : TypeEnv) → Filling defs [] env → TypingConstants defs defs env
 start defs env n = record {
   ids = n.sees.ids;
   known = n.sees.known;

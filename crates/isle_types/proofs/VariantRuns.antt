@@ -16,8 +16,7 @@ use Rattle.isle_base.specs.Stable.{Members}
 use Rattle.isle_types.specs.declared.ids.Sym.{Sym}
 use Rattle.isle_types.specs.declared.type_env.TypeEnv.{TypeEnv}
 use Rattle.isle_types.specs.declared.types.Variant.{Variant}
-use Rattle.isle_types.specs.Envs.{names_of, symbol_of}
-use Rattle.isle_types.specs.Names.{IsInverse}
+use Rattle.isle_types.specs.Envs.{names_of, IsInterned}
 use Rattle.isle_types.specs.Reading.{Reports, MayReport, MeetsNames, AreRightFields}
 use Rattle.isle_types.specs.Stages.{Sees}
 use Rattle.isle_types.specs.TypeViews.{variant_view}
@@ -36,7 +35,7 @@ own_fields vs = map (λ v. v.fields) vs
 
 -- the first variants, these, are read
 pub record VariantsSoFar (ty : List ℕ) (done : List VariantTree) (read : List Variant) (old : TypeEnv) (es : List Error) (env : TypeEnv) (es' : List Error) (seen : Members Sym) : Type 0 where
-  pub inverse : IsInverse (names_of env) (symbol_of env)
+  pub inverse : IsInterned env
   pub noted : MayReport es es'
   pub reads : (defs : List Definition) → Sees old (all_type_names defs) → (es' ≡ es) × VariantsRead defs ty done read old env × HasSeen (names_of env) seen (own_names done)
 
@@ -86,7 +85,7 @@ module _ (ty : List ℕ) (done : List VariantTree) (v : VariantTree) (id : ℕ) 
 
   module _ (es es' es'' : List Error) (new : TypeEnv) (seen more : Members Sym) (s : VariantsSoFar ty done read old es env es' seen) (noted : MayReport es' es'') where
     -- after one more variant
-    pub run_more : (next : Variant) → id ≡ length read → IsInverse (names_of new) (symbol_of new) → ((defs : List Definition) (earlier : List (List ℕ)) → Sees env (all_type_names defs) → HasSeen (names_of env) seen earlier → ReadsVariant defs ty id v earlier (Some next) env es' new es'' more) → VariantsSoFar ty (done ++ v ∷ []) (read ++ next ∷ []) old es new es'' more
+    pub run_more : (next : Variant) → id ≡ length read → IsInterned new → ((defs : List Definition) (earlier : List (List ℕ)) → Sees env (all_type_names defs) → HasSeen (names_of env) seen earlier → ReadsVariant defs ty id v earlier (Some next) env es' new es'' more) → VariantsSoFar ty (done ++ v ∷ []) (read ++ next ∷ []) old es new es'' more
     run_more next place i step = record {
       inverse = i;
       noted = may_both es es' es'' s.noted noted;

@@ -12,8 +12,7 @@ use Rattle.isle_types.specs.declared.ids.VariantId.{VariantId}
 use Rattle.isle_types.specs.declared.type_env.TypeEnv.{TypeEnv}
 use Rattle.isle_types.specs.declared.types.Fields.{Fields}
 use Rattle.isle_types.specs.declared.types.Variant.{Variant}
-use Rattle.isle_types.specs.Envs.{names_of, symbol_of, same_symbol}
-use Rattle.isle_types.specs.Names.{IsInverse}
+use Rattle.isle_types.specs.Envs.{names_of, symbol_of, same_symbol, IsInterned}
 use Rattle.isle_types.specs.Reading.{MeetsNames, AreRightFields}
 use Rattle.isle_types.specs.Stages.{Sees}
 use Rattle.isle_types.specs.TypeViews.{fields_view, variant_view}
@@ -86,7 +85,7 @@ module _ (ty : List ℕ) (w : S.Variant) (old first env : TypeEnv) (one : MeetsN
             ∙ ap (λ k. record { name = number (names_of new) own; full_name = k; id = id.0; fields = fields_view fields; at = views.position w.pos }) f
             ∙ ap (λ k. record { name = number (names_of new) own; full_name = number (names_of new) whole; id = id.0; fields = k; at = views.position w.pos }) e
 
-        pub variant_right : IsInverse (names_of env) (symbol_of env) → (more : Members Sym) → ((y : Sym) → contains same_symbol more y ≡ cond (same_symbol name y) true (contains same_symbol seen y)) → (b : _) → b ≡ not (contains same_symbol seen name) → b ≡ true → AreRightFields defs (views.fields_view w.fields) → fields_view fields ≡ field_entries defs (names_of new) (views.fields_view w.fields) → VariantRead defs ty id.0 (views.variant_view w) earlier made old new more
+        pub variant_right : IsInterned env → (more : Members Sym) → ((y : Sym) → contains same_symbol more y ≡ cond (same_symbol name y) true (contains same_symbol seen y)) → (b : _) → b ≡ not (contains same_symbol seen name) → b ≡ true → AreRightFields defs (views.fields_view w.fields) → fields_view fields ≡ field_entries defs (names_of new) (views.fields_view w.fields) → VariantRead defs ty id.0 (views.variant_view w) earlier made old new more
         variant_right i more has b is is_new right e =
             let none = fresh_name b is is_new in
             let pushed = seen_push (names_of env) seen earlier seen_both (inverse_distinct (names_of env) (symbol_of env) i) name.0 own at_name none more has in

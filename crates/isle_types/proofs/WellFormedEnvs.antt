@@ -16,9 +16,9 @@ use Rattle.isle_types.specs.declared.type_env.TypeEnv.{TypeEnv}
 use Rattle.isle_types.specs.Envs.{names_of, symbol_of, type_at, constant_at}
 use Rattle.isle_types.specs.Names.{IsInverse}
 use Rattle.isle_types.specs.Stages.{last_type}
-use Rattle.isle_types.specs.Types.{variants_in}
+use Rattle.isle_types.specs.Types.{entry_variants}
 use Rattle.isle_types.specs.TypeTables.{SeesTypes}
-use Rattle.isle_types.specs.WellFormed.{HasOneName, AreInRange, HasVariantsAtIds, IsWellFormedEnv}
+use Rattle.isle_types.specs.WellFormed.{HasOneName, AreInRange, VariantsStandAtIds, IsWellFormedEnv}
 use Rattle.isle_types.proofs.Ending.{last_types}
 use Rattle.isle_model.proofs.FirstPlaces.{place_there}
 
@@ -43,7 +43,7 @@ variant_ids defs ns ty n zero m (w ∷ ws) v e h = let same : n ≡ m = omega ar
 variant_ids defs ns ty n (suc i) m (w ∷ ws) v e h = variant_ids defs ns ty (n + 1) i m ws v (omega arith) h
 
 abbrev StandAtVariantIds : TypeEntry → Type 0
-StandAtVariantIds t = (i : ℕ) (v : VariantEntry) → slice_get (variants_in t) i ≡ Some v → v.id ≡ i
+StandAtVariantIds t = (i : ℕ) (v : VariantEntry) → slice_get (entry_variants t) i ≡ Some v → v.id ≡ i
 
 builtins_without : (n : ℕ) (xs : List (List ℕ)) → AllByRecursion StandAtVariantIds (builtin_from n xs)
 builtins_without n [] = tt
@@ -59,11 +59,11 @@ module _ (defs : List Definition) where
   variants_of_entries ns n [] = tt
   variants_of_entries ns n (t ∷ ts) = (variants_of_entry ns n t t.value, variants_of_entries ns (n + 1) ts)
 
-  own_variants : HasVariantsAtIds (type_table defs)
+  own_variants : VariantsStandAtIds (type_table defs)
   own_variants ty i v h =
       let all : AllByRecursion StandAtVariantIds (type_table defs) =
       all_joined StandAtVariantIds (builtin_from 0 builtin_names) (map (λ p. type_entry defs (type_names_met defs) p.0 p.1) (enumerate_from 13 (type_trees defs))) (builtins_without 0 builtin_names) (variants_of_entries (type_names_met defs) 13 (type_trees defs)) in
-      let t = then_some (slice_get (type_table defs) ty) (λ t. slice_get (variants_in t) i) v h in
+      let t = then_some (slice_get (type_table defs) ty) (λ t. slice_get (entry_variants t) i) v h in
       each_at StandAtVariantIds (type_table defs) ty t.0 all t.1 i v t.2
 
   -- the type of a name is a type
@@ -135,7 +135,7 @@ module _ (defs : List Definition) (env : TypeEnv) (v : IsValidTypes defs) (s : S
     named = are_named;
     types_in_range = subst (λ ts. All (λ ty. ty < length ts) (flat_map types_inside ts)) (sym s.types) own.types_in_range;
     numbers_in_range = subst (λ ts. All (λ n. n < length (names_of env)) (flat_map entry_numbers ts)) (sym s.types) (subst (λ ns. All (λ n. n < length ns) (flat_map entry_numbers (type_table defs))) (sym s.names) own.numbers_in_range);
-    variants = subst HasVariantsAtIds (sym s.types) (own_variants defs);
+    variants = subst VariantsStandAtIds (sym s.types) (own_variants defs);
     constants = of_constants;
     errors = s.errors;
   }

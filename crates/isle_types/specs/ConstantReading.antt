@@ -4,13 +4,13 @@ use Rattle.isle_model.specs.lists.Syntax.{Name, Definition, extern_definition, e
 use Rattle.isle_model.specs.lists.Names.{number, with_name}
 use Rattle.isle_base.specs.declared.syntax.Error.{Error}
 use Rattle.isle_types.specs.declared.type_env.TypeEnv.{TypeEnv}
-use Rattle.isle_types.specs.Envs.{names_of, constant_at, type_named}
+use Rattle.isle_types.specs.Envs.{names_of, constant_at, type_of_name}
 use Rattle.isle_types.specs.Reading.{Reports}
 
 -- a name is met, and is that of a constant of a type that is known
 pub record TypesConstant (name ty : List ℕ) (old new : TypeEnv) : Type 0 where
   pub id : ℕ
-  pub known : type_named old ty ≡ Some id
+  pub known : type_of_name old ty ≡ Some id
   pub names : names_of new ≡ with_name (names_of old) name
   pub constants : (k : ℕ) → constant_at new k ≡ (if nat_eq (number (names_of old) name) k then Some id else constant_at old k)
   pub types : new.types ≡ old.types
@@ -19,7 +19,7 @@ pub record TypesConstant (name ty : List ℕ) (old new : TypeEnv) : Type 0 where
 
 -- a constant is read, or its type isn't known
 abbrev pub ReadsConstant : Name → Name → TypeEnv → List Error → TypeEnv → List Error → Type 0
-ReadsConstant name ty old es new es' = ((es' ≡ es) × TypesConstant name.text ty.text old new) ⊎ (Reports es es' × (type_named old ty.text ≡ None))
+ReadsConstant name ty old es new es' = ((es' ≡ es) × TypesConstant name.text ty.text old new) ⊎ (Reports es es' × (type_of_name old ty.text ≡ None))
 
 -- the constant that a definition makes is read
 abbrev pub ReadsDefinition : Definition → TypeEnv → List Error → TypeEnv → List Error → Type 0

@@ -4,6 +4,7 @@ use Rattle.std.specs.HashMap.{get_by_text}
 use Rattle.isle_base.specs.Stable.{look_up}
 use Rattle.isle_types.specs.declared.ids.Sym.{Sym}
 use Rattle.isle_types.specs.declared.type_env.TypeEnv.{TypeEnv}
+use Rattle.isle_types.specs.Names.{IsInverse}
 
 -- the names, in the order of their numbers
 abbrev pub names_of : TypeEnv → List (List ℕ)
@@ -28,5 +29,9 @@ abbrev pub constant_at : TypeEnv → ℕ → Option ℕ
 constant_at env n = option_map (λ t. t.0) (look_up same_symbol env.const_types (symbol n))
 
 -- the type of a text, where it is a type's name
-abbrev pub type_named : TypeEnv → List ℕ → Option ℕ
-type_named env x = option_and_then (type_at env) (symbol_of env x)
+abbrev pub type_of_name : TypeEnv → List ℕ → Option ℕ
+type_of_name env x = option_and_then (type_at env) (symbol_of env x)
+
+-- no name stands twice, and each is looked up at its place
+abbrev pub IsInterned : TypeEnv → Type 0
+IsInterned env = IsInverse (names_of env) (symbol_of env)

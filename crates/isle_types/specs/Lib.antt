@@ -8,5 +8,6 @@ pub mod Reading
 pub mod FieldReading
 pub mod VariantReading
 pub mod Stages
+pub mod Promises
 pub mod ConstantReading
 pub mod WellFormed

@@ -3,8 +3,8 @@ use Rattle.std.specs.Prelude.{◌≡◌, ℕ, List, if◌then◌else◌, Option,
 use Rattle.isle_model.specs.lists.Names.{number, has_name}
 
 -- the number of a text, where it is among the names
-abbrev pub place_of : List (List ℕ) → List ℕ → Option ℕ
-place_of names x = if has_name names x then Some (number names x) else None
+abbrev pub number_if_known : List (List ℕ) → List ℕ → Option ℕ
+number_if_known names x = if has_name names x then Some (number names x) else None
 
 -- look-ups find each name at its place and no other text, so that each name stands once
 pub record IsInverse (names : List (List ℕ)) (look_up : List ℕ → Option ℕ) : Type 0 where

@@ -34,19 +34,19 @@ pub record NamesType (name : List ℕ) (old new : TypeEnv) : Type 0 where
   pub errors : new.errors ≡ old.errors
 
 -- a name is a type's already
-pub record IsTaken (name : List ℕ) (old : TypeEnv) : Type 0 where
+pub record IsTakenByType (name : List ℕ) (old : TypeEnv) : Type 0 where
   pub id : ℕ
   pub taken : type_at old (number (names_of old) name) ≡ Some id
 
 -- the name of a type's definition is read
 abbrev pub NamesDefinition : Definition → TypeEnv → List Error → TypeEnv → List Error → Type 0
-NamesDefinition (type_definition t) old es new es' = ((es' ≡ es) × NamesType t.name.text old new × (new.types ≡ old.types)) ⊎ (Reports es es' × IsTaken t.name.text old)
+NamesDefinition (type_definition t) old es new es' = ((es' ≡ es) × NamesType t.name.text old new × (new.types ≡ old.types)) ⊎ (Reports es es' × IsTakenByType t.name.text old)
 NamesDefinition _ old es new es' = (es' ≡ es) × (new ≡ old)
 
 -- a built-in type becomes the next type, unless its name is taken
 abbrev pub AddsBuiltin : BuiltinType → TypeEnv → TypeEnv → Type 0
 AddsBuiltin b old new =
-    (NamesType (builtin_name b) old new × (type_views new.types.items ≡ type_views old.types.items ++ builtin_type (builtin_place b) ∷ [])) ⊎ IsTaken (builtin_name b) old
+    (NamesType (builtin_name b) old new × (type_views new.types.items ≡ type_views old.types.items ++ builtin_type (builtin_place b) ∷ [])) ⊎ IsTakenByType (builtin_name b) old
 
 -- these names are met in this order, and nothing else changes
 pub record MeetsNames (met : List (List ℕ)) (old new : TypeEnv) : Type 0 where

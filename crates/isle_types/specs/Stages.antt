@@ -13,8 +13,7 @@ use Rattle.isle_base.specs.Stable.{entry_count}
 use Rattle.isle_types.specs.declared.builtin.BuiltinType.{BuiltinType}
 use Rattle.isle_types.specs.declared.type_env.TypeEnv.{TypeEnv}
 use Rattle.isle_types.specs.Builtin.{builtin_name, builtin_place}
-use Rattle.isle_types.specs.Envs.{names_of, symbol_of, type_at, constant_at}
-use Rattle.isle_types.specs.Names.{IsInverse}
+use Rattle.isle_types.specs.Envs.{names_of, type_at, constant_at, IsInterned}
 use Rattle.isle_types.specs.Reading.{IsRightType}
 use Rattle.isle_types.specs.TypeViews.{type_views}
 
@@ -31,12 +30,12 @@ abbrev pub ArePlain : List Error → Type 0
 ArePlain es = All (λ e. limit_of e ≡ None) es
 
 -- there is no error so far, or the definitions have no type table
-abbrev pub SoFar : List Definition → List Error → Type 0 → Type 0
-SoFar defs es Right = ((es ≡ []) × Right) ⊎ ((es ≢ []) × (IsValidTypes defs → ⊥))
+abbrev pub SoFarOfTypes : List Definition → List Error → Type 0 → Type 0
+SoFarOfTypes defs es Right = ((es ≡ []) × Right) ⊎ ((es ≢ []) × (IsValidTypes defs → ⊥))
 
 -- these built-in types are left to be added
 pub record Booting (env : TypeEnv) (rest : List BuiltinType) : Type 0 where
-  pub inverse : IsInverse (names_of env) (symbol_of env)
+  pub inverse : IsInterned env
   pub sees : Sees env (names_of env)
   pub whole : names_of env ++ map builtin_name rest ≡ builtin_names
   pub types : type_views env.types.items ++ map (λ b. builtin_type (builtin_place b)) rest ≡ builtin_from 0 builtin_names
@@ -51,9 +50,9 @@ pub record Naming (defs rest : List Definition) (env : TypeEnv) : Type 0 where
   pub types : type_views env.types.items ≡ builtin_from 0 builtin_names
 
 pub record NamesTypes (defs rest : List Definition) (env : TypeEnv) (es : List Error) : Type 0 where
-  pub inverse : IsInverse (names_of env) (symbol_of env)
+  pub inverse : IsInterned env
   pub plain : ArePlain es
-  pub so_far : SoFar defs es (Naming defs rest env)
+  pub so_far : SoFarOfTypes defs es (Naming defs rest env)
 
 -- the names inside these types, in order
 abbrev pub names_in_types : List Definition → List (List ℕ)
@@ -82,16 +81,16 @@ pub record Filling (defs rest : List Definition) (env : TypeEnv) : Type 0 where
   pub left : All (IsRightType defs) (type_trees defs) → All (IsRightType defs) (type_trees rest)
 
 pub record FillsTypes (defs rest : List Definition) (env : TypeEnv) (es : List Error) : Type 0 where
-  pub inverse : IsInverse (names_of env) (symbol_of env)
+  pub inverse : IsInterned env
   pub plain : ArePlain es
-  pub so_far : SoFar defs es (Filling defs rest env)
+  pub so_far : SoFarOfTypes defs es (Filling defs rest env)
 
 -- the type of the last of these definitions of a constant
 abbrev pub last_type : List Definition → List ConstantTree → List ℕ → Option ℕ
 last_type defs read x = option_map (λ c. type_or_first defs c.ty) (find (λ c. bytes_eq c.name.text x) (reverse read))
 
 -- the constants of these definitions are left to be read
-pub record Constants (defs rest : List Definition) (env : TypeEnv) : Type 0 where
+pub record TypingConstants (defs rest : List Definition) (env : TypeEnv) : Type 0 where
   pub ids : (k : ℕ) → type_at env k ≡ type_of_number defs (names_of env) k
   pub known : (x : List ℕ) → has_name (names_of env) x ≡ false → type_id defs x ≡ None
   pub errors : env.errors.items ≡ []
@@ -106,6 +105,6 @@ pub record Constants (defs rest : List Definition) (env : TypeEnv) : Type 0 wher
   pub left : All (IsOfKnownType defs) (constant_trees defs) → All (IsOfKnownType defs) (constant_trees rest)
 
 pub record ReadsConstants (defs rest : List Definition) (env : TypeEnv) (es : List Error) : Type 0 where
-  pub inverse : IsInverse (names_of env) (symbol_of env)
+  pub inverse : IsInterned env
   pub plain : ArePlain es
-  pub so_far : SoFar defs es (Constants defs rest env)
+  pub so_far : SoFarOfTypes defs es (TypingConstants defs rest env)

@@ -39,18 +39,18 @@ is_int_type (enum_type name id is_extern is_nodebug variants at) = false
 is_int_type (struct_type name id is_extern is_nodebug fields at) = false
 
 -- the types of the fields, in order
-abbrev pub field_types : FieldEntries → List ℕ
-field_types unit_entries = []
-field_types (struct_entries fields) = map (λ f. f.ty) fields
-field_types (tuple_entries fields) = map (λ f. f.ty) fields
+abbrev pub entry_field_types : FieldEntries → List ℕ
+entry_field_types unit_entries = []
+entry_field_types (struct_entries fields) = map (λ f. f.ty) fields
+entry_field_types (tuple_entries fields) = map (λ f. f.ty) fields
 
 -- the variants of a type, in order
-abbrev pub variants_in : TypeEntry → List VariantEntry
-variants_in (builtin_type place) = []
-variants_in (primitive_type id name at) = []
-variants_in (enum_type name id is_extern is_nodebug variants at) = variants
-variants_in (struct_type name id is_extern is_nodebug fields at) = []
+abbrev pub entry_variants : TypeEntry → List VariantEntry
+entry_variants (builtin_type place) = []
+entry_variants (primitive_type id name at) = []
+entry_variants (enum_type name id is_extern is_nodebug variants at) = variants
+entry_variants (struct_type name id is_extern is_nodebug fields at) = []
 
 -- the variant of this number of the type of this number
 abbrev pub variant_at : List TypeEntry → ℕ → ℕ → Option VariantEntry
-variant_at types ty variant = then_option (slice_get types ty) (λ t. slice_get (variants_in t) variant)
+variant_at types ty variant = then_option (slice_get types ty) (λ t. slice_get (entry_variants t) variant)

@@ -6,8 +6,7 @@ use Rattle.isle_model.specs.lists.Tables.{VariantEntry, TypeEntry}
 use Rattle.isle_model.specs.lists.TypeTable.{builtin_names, builtin_from}
 use Rattle.isle_model.specs.lists.KnownTypes.{types_inside, entry_numbers, StandAtIds}
 use Rattle.isle_types.specs.declared.type_env.TypeEnv.{TypeEnv}
-use Rattle.isle_types.specs.Envs.{names_of, symbol_of, type_at, constant_at}
-use Rattle.isle_types.specs.Names.{IsInverse}
+use Rattle.isle_types.specs.Envs.{names_of, type_at, constant_at, IsInterned}
 use Rattle.isle_types.specs.Types.{variant_at}
 use Rattle.isle_types.specs.TypeViews.{type_views}
 
@@ -24,8 +23,8 @@ abbrev pub AreInRange : TypeEnv → ℕ → ℕ → Type 0
 AreInRange env k ty = (k < length (names_of env)) × (ty < length (types_in env))
 
 -- each variant of an enum stands at the number that it says
-abbrev pub HasVariantsAtIds : List TypeEntry → Type 0
-HasVariantsAtIds types = (ty i : ℕ) (v : VariantEntry) → variant_at types ty i ≡ Some v → v.id ≡ i
+abbrev pub VariantsStandAtIds : List TypeEntry → Type 0
+VariantsStandAtIds types = (ty i : ℕ) (v : VariantEntry) → variant_at types ty i ≡ Some v → v.id ≡ i
 
 -- no name stands twice, and each is looked up at its place; the first 13 types are the built-in ones, in order, and each
 -- type stands at its number; names are mapped one to one onto the types; the types of fields and of constants are types,
@@ -33,13 +32,13 @@ HasVariantsAtIds types = (ty i : ℕ) (v : VariantEntry) → variant_at types ty
 -- numbers; and nothing was found wrong
 pub record IsWellFormedEnv (env : TypeEnv) : Type 0 where
   pub names_distinct : IsDistinct (names_of env)
-  pub inverse : IsInverse (names_of env) (symbol_of env)
+  pub inverse : IsInterned env
   pub builtins : take 13 (types_in env) ≡ builtin_from 0 builtin_names
   pub ids : StandAtIds (types_in env)
   pub one_name : (ty : ℕ) → ty < length (types_in env) → HasOneName env ty
   pub named : (k ty : ℕ) → type_at env k ≡ Some ty → AreInRange env k ty
   pub types_in_range : All (λ ty. ty < length (types_in env)) (flat_map types_inside (types_in env))
   pub numbers_in_range : All (λ n. n < length (names_of env)) (flat_map entry_numbers (types_in env))
-  pub variants : HasVariantsAtIds (types_in env)
+  pub variants : VariantsStandAtIds (types_in env)
   pub constants : (k ty : ℕ) → constant_at env k ≡ Some ty → AreInRange env k ty
   pub errors : env.errors.items ≡ []

@@ -7,7 +7,7 @@ ghost use Rattle.isle_types.specs.Builtin.{int_name, int_signed, builtin_name, b
 use crate::ids::TypeId;
 use std::fmt;
 
-/// A built-in type.
+/// A built-in type: always there, and defined by no list.
 #[derive(Clone, Copy, PartialEq, Eq, Debug)]
 pub enum BuiltinType {
     /// The type of `true` and `false`.
@@ -99,7 +99,8 @@ impl fmt::Display for IntType {
 }
 
 impl BuiltinType {
-    /// All built-in types. The place of a type is its number, both as a type and as a name.
+    /// All built-in types, in the order of their ids: the place of each is its `TypeId`, and the `Sym` of its
+    /// name too.
     pub const ALL: [BuiltinType; 13] = [
         BuiltinType::Bool,
         BuiltinType::Int(IntType::U8),
@@ -138,34 +139,34 @@ impl BuiltinType {
 }
 
 impl TypeId {
-    /// The number of `bool`.
+    /// The id of `bool`.
     pub const BOOL: TypeId = TypeId(0);
-    /// The number of `u8`.
+    /// The id of `u8`.
     pub const U8: TypeId = TypeId(1);
-    /// The number of `u16`.
+    /// The id of `u16`.
     pub const U16: TypeId = TypeId(2);
-    /// The number of `u32`.
+    /// The id of `u32`.
     pub const U32: TypeId = TypeId(3);
-    /// The number of `u64`.
+    /// The id of `u64`.
     pub const U64: TypeId = TypeId(4);
-    /// The number of `u128`.
+    /// The id of `u128`.
     pub const U128: TypeId = TypeId(5);
-    /// The number of `usize`.
+    /// The id of `usize`.
     pub const USIZE: TypeId = TypeId(6);
-    /// The number of `i8`.
+    /// The id of `i8`.
     pub const I8: TypeId = TypeId(7);
-    /// The number of `i16`.
+    /// The id of `i16`.
     pub const I16: TypeId = TypeId(8);
-    /// The number of `i32`.
+    /// The id of `i32`.
     pub const I32: TypeId = TypeId(9);
-    /// The number of `i64`.
+    /// The id of `i64`.
     pub const I64: TypeId = TypeId(10);
-    /// The number of `i128`.
+    /// The id of `i128`.
     pub const I128: TypeId = TypeId(11);
-    /// The number of `isize`.
+    /// The id of `isize`.
     pub const ISIZE: TypeId = TypeId(12);
 
-    /// The number of a built-in type: its place in `BuiltinType::ALL`.
+    /// The id of a built-in type: its place in `BuiltinType::ALL`.
     pub fn builtin(builtin: BuiltinType) -> TypeId
         ensures { result ≡ builtin_id builtin }
     {
@@ -173,7 +174,7 @@ impl TypeId {
     }
 }
 
-/// The constants of `TypeId` are the numbers of the built-in types, in the order of
+/// The constants of `TypeId` are the ids of the built-in types, in the order of
 /// `BuiltinType::ALL`.
 pub fn builtin_ids_in_order()
     ensures { map builtin_id BuiltinType.ALL

@@ -1,37 +1,39 @@
-//! The numbers that names, types, variants, fields, terms, rules and variables are known by.
+//! The ids that names, types, variants, fields, terms, rules and variables are known by. An id is a place in
+//! a list, and each list has a type of ids of its own, so that a place in one isn't taken for one in another.
 
 ghost use Rattle.std.specs.Prelude.{◌≡◌};
 
-/// The number of a name: its place in `TypeEnv::syms`.
+/// The id of a name: its place in `TypeEnv::syms`. Names are compared by their ids, never by their texts.
 #[derive(Clone, Copy, PartialEq, Eq, Hash, PartialOrd, Ord, Debug, Default)]
 pub struct Sym(pub usize);
 
-/// The number of a type: its place in `TypeEnv::types`.
+/// The id of a type: its place in `TypeEnv::types`.
 #[derive(Clone, Copy, PartialEq, Eq, Hash, PartialOrd, Ord, Debug, Default)]
 pub struct TypeId(pub usize);
 
-/// The number of a variant: its place among the variants of its enum.
+/// The id of a variant: its place among the variants of its enum, so that it says something only beside
+/// the enum's `TypeId`.
 #[derive(Clone, Copy, PartialEq, Eq, Hash, PartialOrd, Ord, Debug, Default)]
 pub struct VariantId(pub usize);
 
-/// The number of a field: its place among the fields of its struct or variant.
+/// The id of a field: its place among the fields of its struct or variant.
 #[derive(Clone, Copy, PartialEq, Eq, Hash, PartialOrd, Ord, Debug, Default)]
 pub struct FieldId(pub usize);
 
-/// The number of a term: its place in the term table.
+/// The id of a term: its place in `TermEnv::terms`.
 #[derive(Clone, Copy, PartialEq, Eq, Hash, PartialOrd, Ord, Debug, Default)]
 pub struct TermId(pub usize);
 
-/// The number of a rule: its place among the rules.
+/// The id of a rule: its place in `TermEnv::rules`.
 #[derive(Clone, Copy, PartialEq, Eq, Hash, PartialOrd, Ord, Debug, Default)]
 pub struct RuleId(pub usize);
 
-/// The number of a variable: its place among the variables of its rule.
+/// The id of a variable: its place in `Rule::vars`. Two variables of one name have two ids.
 #[derive(Clone, Copy, PartialEq, Eq, Hash, PartialOrd, Ord, Debug, Default)]
 pub struct VarId(pub usize);
 
 impl Sym {
-    /// The number itself.
+    /// The place.
     pub fn index(self) -> usize
         ensures { result ≡ self.0 }
     {
@@ -41,7 +43,7 @@ impl Sym {
 }
 
 impl TypeId {
-    /// The number itself.
+    /// The place.
     pub fn index(self) -> usize
         ensures { result ≡ self.0 }
     {
@@ -51,7 +53,7 @@ impl TypeId {
 }
 
 impl VariantId {
-    /// The number itself.
+    /// The place.
     pub fn index(self) -> usize
         ensures { result ≡ self.0 }
     {
@@ -61,7 +63,7 @@ impl VariantId {
 }
 
 impl FieldId {
-    /// The number itself.
+    /// The place.
     pub fn index(self) -> usize
         ensures { result ≡ self.0 }
     {
@@ -71,7 +73,7 @@ impl FieldId {
 }
 
 impl TermId {
-    /// The number itself.
+    /// The place.
     pub fn index(self) -> usize
         ensures { result ≡ self.0 }
     {
@@ -81,7 +83,7 @@ impl TermId {
 }
 
 impl RuleId {
-    /// The number itself.
+    /// The place.
     pub fn index(self) -> usize
         ensures { result ≡ self.0 }
     {
@@ -91,7 +93,7 @@ impl RuleId {
 }
 
 impl VarId {
-    /// The number itself.
+    /// The place.
     pub fn index(self) -> usize
         ensures { result ≡ self.0 }
     {

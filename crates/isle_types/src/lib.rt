@@ -1,14 +1,9 @@
-//! Types: their numbers, the built-in ones, those that definitions make, and the table of them all.
+//! Types: their ids, the built-in ones, those that definitions make, and the table of them all.
 #![tactic(auto)]
 
 mod builtin;
-mod constants;
-mod contents;
-mod fields;
 mod ids;
 mod reading;
-#[cfg(test)]
-mod tests;
 mod type_env;
 mod types;
 

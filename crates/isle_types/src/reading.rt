@@ -7,12 +7,15 @@ ghost use Rattle.isle_model.specs.lists.TypeTable.{IsValidTypes, builtin_names, 
 ghost use Rattle.isle_base.specs.Answers.{Answers, NoLimit};
 ghost use Rattle.isle_base.specs.Stable.{entry_count};
 ghost use Rattle.isle_base.specs.SyntaxViews.{definition_view, definition_views, type_view};
-ghost use Rattle.isle_types.specs.Envs.{names_of, symbol_of, type_at};
-ghost use Rattle.isle_types.specs.Names.{IsInverse};
+ghost use Rattle.isle_types.specs.Envs.{names_of, type_at, IsInterned};
 ghost use Rattle.isle_types.specs.Reading.{Reports, AddsBuiltin, NamesType, NamesDefinition};
 ghost use Rattle.isle_types.specs.Stages.{Booting, NamesTypes};
 ghost use Rattle.isle_types.specs.TypeTables.{SeesTypes};
 ghost use Rattle.isle_types.specs.WellFormed.{IsWellFormedEnv};
+
+mod constants;
+mod contents;
+mod fields;
 
 use crate::builtin::BuiltinType;
 use crate::ids::TypeId;
@@ -25,7 +28,7 @@ use std::alloc::{AllocError, Global};
 use std::collections::HashMap;
 
 impl TypeEnv {
-    /// A table of the built-in types alone, each with its place in `BuiltinType::ALL` as its number and
+    /// A table of the built-in types alone, each with its place in `BuiltinType::ALL` as its id and
     /// as that of its name. An error where memory is refused. Stands for upstream's `Default`.
     pub fn try_default(alloc: Global) -> Result<TypeEnv, AllocError>
         ensures table { IfOk result (λ env. SeesTypes env [] builtin_names) }
@@ -37,7 +40,7 @@ impl TypeEnv {
     }
 
     /// The type table of a list of definitions, upstream's `TypeEnv::from_ast`. The built-in types come
-    /// first; the types that are defined follow in order. Names are numbered by first meeting: those of
+    /// first; the types that are defined follow in order. Names get their ids by first meeting: those of
     /// the built-in types, those of the types that are defined, then in each type the name inside a
     /// primitive one, or each variant's full name, name and fields, or the struct's fields, and last those
     /// of constants. A constant has the type of its last definition.
@@ -80,10 +83,10 @@ impl TypeEnv {
         }
     }
 
-    // The number of a name, where it is a type's; else it becomes the name of the next type.
-    fn name_type(&mut self, name: &str) -> Result<Option<TypeId>, AllocError>
-        requires { IsInverse (names_of self.old) (symbol_of self.old) }
-        ensures inverse { IsInverse (names_of self.new) (symbol_of self.new) }
+    // Makes a name that of the next type. The type that has the name already, where one does.
+    fn claim_type_name(&mut self, name: &str) -> Result<Option<TypeId>, AllocError>
+        requires { IsInterned self.old }
+        ensures inverse { IsInterned self.new }
         ensures named { IfOk result (λ o. MatchOption o (NamesType name.now self.old self.new)
             (λ id. type_at self.old (number (names_of self.old) name.now) ≡ Some id.0)) }
         ensures types { self.new.types ≡ self.old.types }
@@ -110,25 +113,25 @@ impl TypeEnv {
 
     // Adds a built-in type, the next one.
     fn add_builtin(&mut self, builtin: BuiltinType) -> Result<(), AllocError>
-        requires { IsInverse (names_of self.old) (symbol_of self.old) }
-        ensures inverse { IsInverse (names_of self.new) (symbol_of self.new) }
+        requires { IsInterned self.old }
+        ensures inverse { IsInterned self.new }
         ensures adds { OnOk result (AddsBuiltin builtin self.old self.new) }
     {
-        let _existing = self.name_type(builtin.name())?;
+        let _existing = self.claim_type_name(builtin.name())?;
         self.types.push(Type::Builtin(builtin))?;
         Ok(())
     }
 
     // Reads the name of the type that a definition is of, if it is one.
     fn name_definition(&mut self, errors: &mut Vec<Error>, def: &Def) -> Result<(), AllocError>
-        requires { IsInverse (names_of self.old) (symbol_of self.old) }
-        ensures inverse { IsInverse (names_of self.new) (symbol_of self.new) }
+        requires { IsInterned self.old }
+        ensures inverse { IsInterned self.new }
         ensures names { OnOk result (NamesDefinition (definition_view def.now) self.old errors.old.items self.new errors.new.items) }
     {
         let Def::TypeDef(ty) = def else {
             return Ok(());
         };
-        let Some(existing) = self.name_type(ty.name.0.as_str())? else {
+        let Some(existing) = self.claim_type_name(ty.name.0.as_str())? else {
             return Ok(());
         };
         report_duplicate(errors, ty, existing)

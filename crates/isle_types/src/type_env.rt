@@ -2,9 +2,9 @@
 
 ghost use Rattle.std.specs.Prelude.{◌≡◌, ℕ, List, ◌++◌, ◌∷◌, [], map, option_map, option_and_then, IfOk, OnOk, OnErr, string_bytes, length, Some, IsSome, slice_get};
 ghost use Rattle.std.specs.HashMap.{get_by_text};
-ghost use Rattle.isle_model.specs.lists.Names.{number, with_name};
-ghost use Rattle.isle_types.specs.Names.{place_of, IsInverse};
-ghost use Rattle.isle_types.specs.Envs.{names_of, symbol_of, type_at};
+ghost use Rattle.isle_model.specs.Names.{number, with_name};
+ghost use Rattle.isle_types.specs.Names.{number_if_known};
+ghost use Rattle.isle_types.specs.Envs.{names_of, symbol_of, type_at, IsInterned};
 ghost use Rattle.isle_types.specs.Types.{variant_at};
 ghost use Rattle.isle_types.specs.TypeViews.{type_views, variant_view};
 
@@ -16,33 +16,33 @@ use std::alloc::AllocError;
 use std::collections::HashMap;
 
 /// The names and the types that definitions speak of. Upstream's `TypeEnv`.
-#[derive(Debug, Drop)]
+#[derive(Debug)]
 pub struct TypeEnv {
-    /// The names: the place of each is its number. No name stands twice.
+    /// The names: the place of each is its id. No name stands twice, so equal names have equal ids.
     pub syms: Vec<String>,
-    /// The number of each name.
+    /// The id of each name.
     pub sym_map: HashMap<String, Sym>,
-    /// The types: the place of each is its number.
+    /// The types: the place of each is its id.
     pub types: Vec<Type>,
-    /// The type of each type's name.
+    /// The type of each type's name. Names of other things are not in it.
     pub type_map: StableMap<Sym, TypeId>,
-    /// The type of each constant's name.
+    /// The type of each constant's name: a constant is known by its name alone, its value is outside.
     pub const_types: StableMap<Sym, TypeId>,
-    /// What was found wrong in a run that is not finished.
+    /// What was found wrong in a reading that is not finished. Empty in each table that is answered.
     pub errors: Vec<Error>,
 }
 
 impl TypeEnv {
-    /// The number of a name, or None where it isn't known. Takes no memory. Upstream's `TypeEnv::intern`.
+    /// The id of a name, or None where it isn't known. Takes no memory. Upstream's `TypeEnv::intern`.
     pub fn intern(&self, ident: &Ident) -> Option<Sym>
         ensures looked_up { option_map (λ s. s.0) result ≡ symbol_of self.now (string_bytes ident.now.0) }
-        ensures place { IsInverse (names_of self.now) (symbol_of self.now)
-            → option_map (λ s. s.0) result ≡ place_of (names_of self.now) (string_bytes ident.now.0) }
+        ensures place { IsInterned self.now
+            → option_map (λ s. s.0) result ≡ number_if_known (names_of self.now) (string_bytes ident.now.0) }
     {
         self.look_up_text(ident.0.as_str())
     }
 
-    /// The number of a name, which is the next one where the name isn't known yet. Upstream's private
+    /// The id of a name, which is the next one where the name isn't known yet. Upstream's private
     /// `TypeEnv::intern_mut`.
     ///
     /// Condition: no name stands twice in `syms`, and `sym_map` has the place of each, as in every
@@ -52,10 +52,10 @@ impl TypeEnv {
     ///
     /// Where memory is refused. Nothing has changed then.
     pub fn intern_mut(&mut self, ident: &Ident) -> Result<Sym, AllocError>
-        requires { IsInverse (names_of self.old) (symbol_of self.old) }
+        requires { IsInterned self.old }
         ensures names { OnOk result (names_of self.new ≡ with_name (names_of self.old) (string_bytes ident.now.0)) }
         ensures number { IfOk result (λ s. s.0 ≡ number (names_of self.old) (string_bytes ident.now.0)) }
-        ensures inverse { IsInverse (names_of self.new) (symbol_of self.new) }
+        ensures inverse { IsInterned self.new }
         ensures err_names { OnErr result (names_of self.new ≡ names_of self.old) }
         ensures err_symbols { OnErr result ((q : List ℕ) → symbol_of self.new q ≡ symbol_of self.old q) }
         ensures types { self.new.types ≡ self.old.types }
@@ -75,7 +75,7 @@ impl TypeEnv {
         self.type_map.get(&sym).copied()
     }
 
-    /// The variant of a number of the type of a number. Condition: the type is an enum of this table and
+    /// The variant of this id of the type of this id. Condition: the type is an enum of this table and
     /// has that variant. Takes no memory. Upstream's `TypeEnv::get_variant`.
     pub fn get_variant(&self, ty: TypeId, variant: VariantId) -> &Variant
         requires { IsSome (variant_at (type_views self.now.types.items) ty.0 variant.0) }
@@ -87,21 +87,21 @@ impl TypeEnv {
         &variants[variant.index()]
     }
 
-    // The number of the name of a text.
+    // The id of the name of a text.
     fn look_up_text(&self, name: &str) -> Option<Sym>
         ensures looked_up { option_map (λ s. s.0) result ≡ symbol_of self.now name.now }
-        ensures place { IsInverse (names_of self.now) (symbol_of self.now)
-            → option_map (λ s. s.0) result ≡ place_of (names_of self.now) name.now }
+        ensures place { IsInterned self.now
+            → option_map (λ s. s.0) result ≡ number_if_known (names_of self.now) name.now }
     {
         self.sym_map.get(name).copied()
     }
 
-    // The number of the name of a text, the next one where the text isn't known yet.
+    // The id of the name of a text, the next one where the text isn't known yet.
     pub(crate) fn intern_text(&mut self, name: &str) -> Result<Sym, AllocError>
-        requires { IsInverse (names_of self.old) (symbol_of self.old) }
+        requires { IsInterned self.old }
         ensures names { OnOk result (names_of self.new ≡ with_name (names_of self.old) name.now) }
         ensures number { IfOk result (λ s. s.0 ≡ number (names_of self.old) name.now) }
-        ensures inverse { IsInverse (names_of self.new) (symbol_of self.new) }
+        ensures inverse { IsInterned self.new }
         ensures err_names { OnErr result (names_of self.new ≡ names_of self.old) }
         ensures err_symbols { OnErr result ((q : List ℕ) → symbol_of self.new q ≡ symbol_of self.old q) }
         ensures types { self.new.types ≡ self.old.types }
@@ -115,13 +115,13 @@ impl TypeEnv {
         self.add_name(name)
     }
 
-    // Gives a name that isn't known yet the next number.
+    // Gives a name that isn't known yet the next id.
     fn add_name(&mut self, name: &str) -> Result<Sym, AllocError>
-        requires inverse { IsInverse (names_of self.old) (symbol_of self.old) }
+        requires inverse { IsInterned self.old }
         requires absent { (k : ℕ) → slice_get (names_of self.old) k ≡ Some name.now → ⊥ }
         ensures names { OnOk result (names_of self.new ≡ names_of self.old ++ name.now ∷ []) }
         ensures number { IfOk result (λ s. s.0 ≡ length (names_of self.old)) }
-        ensures inverse { IsInverse (names_of self.new) (symbol_of self.new) }
+        ensures inverse { IsInterned self.new }
         ensures err_names { OnErr result (names_of self.new ≡ names_of self.old) }
         ensures err_symbols { OnErr result ((q : List ℕ) → symbol_of self.new q ≡ symbol_of self.old q) }
         ensures types { self.new.types ≡ self.old.types }
@@ -140,47 +140,16 @@ impl TypeEnv {
     }
 }
 
-#[cfg(test)]
-mod tests {
-    use super::*;
-    use crate::types::Fields;
-    use isle_base::syntax::Pos;
-    use std::alloc::Global;
-    use std::test::Fail;
-
-    fn variant(name: usize, id: usize) -> Variant {
-        Variant {
-            name: Sym(name),
-            fullname: Sym(name),
-            id: VariantId(id),
-            fields: Fields::Unit,
-            pos: Pos::default(),
-        }
-    }
-
-    // A table whose first type is an enum of two variants.
-    fn two_variants(alloc: Global) -> Result<TypeEnv, AllocError>
-        ensures { IfOk result (λ env. IsSome (variant_at (type_views env.types.items) 0 1)) }
-    {
-        let mut env = TypeEnv::try_default(alloc)?;
-        let variants = Vec::from_array(alloc, [variant(15, 0), variant(17, 1)])?;
-        let ty = Type::Enum {
-            name: Sym(13),
-            id: TypeId(0),
-            is_extern: false,
-            is_nodebug: false,
-            variants,
-            pos: Pos::default(),
-        };
-        env.types = Vec::from_array(alloc, [ty])?;
-        Ok(env)
-    }
-
-    #[test]
-    fn the_variant_that_is_asked_for(rt: HostRuntime) -> Result<(), Fail> {
-        let env = two_variants(rt.alloc())?;
-        let second = env.get_variant(TypeId(0), VariantId(1));
-        assert_eq!(rt; second.name, Sym(17));
-        Ok(())
+// Written out, and so proved here once.
+impl Drop for TypeEnv {
+    fn drop(self) {
+        let TypeEnv {
+            syms: _,
+            sym_map: _,
+            types: _,
+            type_map: _,
+            const_types: _,
+            errors: _,
+        } = self;
     }
 }

@@ -3,7 +3,7 @@
 ghost use Rattle.std.specs.Prelude.{◌≡◌, IfOk, IsSome, Some, map, option_map};
 ghost use Rattle.isle_base.specs.SyntaxViews.{position};
 ghost use Rattle.isle_types.specs.Envs.{names_of};
-ghost use Rattle.isle_types.specs.Types.{type_text, field_types, type_id_of, type_pos_of, is_primitive_type, is_int_type};
+ghost use Rattle.isle_types.specs.Types.{type_text, entry_field_types, type_id_of, type_pos_of, is_primitive_type, is_int_type};
 ghost use Rattle.isle_types.specs.TypeViews.{fields_view, type_view};
 
 use crate::builtin::BuiltinType;
@@ -13,37 +13,40 @@ use isle_base::syntax::Pos;
 use std::alloc::{AllocError, Global};
 
 /// A type. Upstream's `Type`.
-#[derive(Clone, Debug, PartialEq, Eq, Drop)]
+#[derive(Clone, Debug, PartialEq, Eq)]
 pub enum Type {
-    /// A built-in type, which no definition makes.
+    /// A built-in type, which no definition makes: it has no place, and its id and its name are fixed.
     Builtin(BuiltinType),
-    /// A type of which only constants with a name or a number are known: its number, its name and
-    /// where it is defined.
+    /// A type that is declared outside, of which only literals and named constants are known: these pass
+    /// through as they are written. Its id, its name and where it is defined.
     Primitive(TypeId, Sym, Pos),
-    /// A type with variants.
+    /// A type with variants, one of which a value has.
     Enum {
         /// The name of the type.
         name: Sym,
-        /// The number of the type.
+        /// The id of the type: its place in `TypeEnv::types`.
         id: TypeId,
-        /// Whether the type is declared outside of what is compiled.
+        /// Whether the type is declared outside: what is generated then uses it and doesn't declare it.
         is_extern: bool,
-        /// Whether the type is to be declared without `Debug`.
+        /// Whether what is generated declares the type without `Debug`. Never so beside `is_extern`, where
+        /// nothing is declared.
         is_nodebug: bool,
-        /// The variants: the place of each is its number.
+        /// The variants: the place of each is its id.
         variants: Vec<Variant>,
         /// Where the type is defined.
         pos: Pos,
     },
-    /// A type with fields.
+    /// A type with fields: as an enum with a single variant, but there is nothing to tell apart, so a
+    /// pattern of it takes the fields without a test.
     Struct {
         /// The name of the type.
         name: Sym,
-        /// The number of the type.
+        /// The id of the type: its place in `TypeEnv::types`.
         id: TypeId,
-        /// Whether the type is declared outside of what is compiled.
+        /// Whether the type is declared outside: what is generated then uses it and doesn't declare it.
         is_extern: bool,
-        /// Whether the type is to be declared without `Debug`.
+        /// Whether what is generated declares the type without `Debug`. Never so beside `is_extern`, where
+        /// nothing is declared.
         is_nodebug: bool,
         /// The fields of the type.
         fields: Fields,
@@ -53,13 +56,14 @@ pub enum Type {
 }
 
 /// A variant of an enum. Upstream's `Variant`.
-#[derive(Clone, Debug, PartialEq, Eq, Drop)]
+#[derive(Clone, Debug, PartialEq, Eq)]
 pub struct Variant {
     /// The name of the variant.
     pub name: Sym,
-    /// The name of the enum, a point, and the name of the variant.
+    /// The name of the enum, a point, and the name of the variant: what the term of the variant is called,
+    /// so that variants of one name in two enums are two terms.
     pub fullname: Sym,
-    /// The number of the variant: its place in its enum.
+    /// The id of the variant: its place in its enum.
     pub id: VariantId,
     /// The fields of the variant.
     pub fields: Fields,
@@ -68,7 +72,7 @@ pub struct Variant {
 }
 
 /// The fields of a struct or of a variant. Upstream's `Fields`.
-#[derive(Clone, Debug, PartialEq, Eq, Drop)]
+#[derive(Clone, Debug, PartialEq, Eq)]
 pub enum Fields {
     /// No fields.
     Unit,
@@ -79,41 +83,41 @@ pub enum Fields {
 }
 
 /// Fields with names.
-#[derive(Clone, Debug, PartialEq, Eq, Drop)]
+#[derive(Clone, Debug, PartialEq, Eq)]
 pub struct StructFields {
-    /// The fields: the place of each is its number.
+    /// The fields: the place of each is its id.
     pub fields: Vec<StructField>,
 }
 
 /// A field with a name.
-#[derive(Clone, Debug, PartialEq, Eq, Drop)]
+#[derive(Clone, Debug, PartialEq, Eq)]
 pub struct StructField {
     /// The name of the field.
     pub name: Sym,
-    /// The number of the field.
+    /// The id of the field: its place, which a pattern's parts and a term's arguments are matched with.
     pub id: FieldId,
     /// The type of the field.
     pub ty: TypeId,
 }
 
 /// Fields without names.
-#[derive(Clone, Debug, PartialEq, Eq, Drop)]
+#[derive(Clone, Debug, PartialEq, Eq)]
 pub struct TupleFields {
-    /// The fields: the place of each is its number.
+    /// The fields: the place of each is its id.
     pub fields: Vec<TupleField>,
 }
 
 /// A field without a name.
-#[derive(Clone, Debug, PartialEq, Eq, Drop)]
+#[derive(Clone, Debug, PartialEq, Eq)]
 pub struct TupleField {
-    /// The number of the field.
+    /// The id of the field: its place, which a pattern's parts and a term's arguments are matched with.
     pub id: FieldId,
     /// The type of the field.
     pub ty: TypeId,
 }
 
 impl Type {
-    /// The number of the type.
+    /// The id of the type: its place in `TypeEnv::types`.
     pub fn id(&self) -> TypeId
         ensures { result.0 ≡ type_id_of (type_view self.now) }
     {
@@ -123,7 +127,7 @@ impl Type {
         }
     }
 
-    /// The name of the type. Condition: the table has a name of that number, where the type isn't a
+    /// The name of the type. Condition: the table has a name of that id, where the type isn't a
     /// built-in one.
     pub fn name<'a>(&self, tyenv: &'a TypeEnv) -> &'a str
         requires { IsSome (type_text (names_of tyenv.now) (type_view self.now)) }
@@ -168,7 +172,7 @@ impl Fields {
     /// The types of the fields, in order. An error where memory is refused.
     #[tactic(auto, using(crate::proofs::FieldTypes::types_of_struct, crate::proofs::FieldTypes::types_of_tuple))]
     pub fn types(&self, alloc: Global) -> Result<Vec<TypeId>, AllocError>
-        ensures { IfOk result (λ v. map (λ ty. ty.0) v.items ≡ field_types (fields_view self.now)) }
+        ensures { IfOk result (λ v. map (λ ty. ty.0) v.items ≡ entry_field_types (fields_view self.now)) }
     {
         match self {
             Fields::Unit => Ok(Vec::new(alloc)),
@@ -190,4 +194,81 @@ fn tuple_field_types(alloc: Global, fields: &[TupleField]) -> Result<Vec<TypeId>
     ensures { IfOk result (λ v. v.items ≡ map (λ f. f.ty) fields.now) }
 {
     fields.iter().map(|part| part.ty).collect(alloc)
+}
+
+// Written out, and so proved here once: a derived `Drop` is proved again in each crate that drops the
+// type.
+impl Drop for Type {
+    fn drop(self) {
+        match self {
+            Type::Builtin(_) => {}
+            Type::Primitive(_, _, _) => {}
+            Type::Enum {
+                name: _,
+                id: _,
+                is_extern: _,
+                is_nodebug: _,
+                variants: _,
+                pos: _,
+            } => {}
+            Type::Struct {
+                name: _,
+                id: _,
+                is_extern: _,
+                is_nodebug: _,
+                fields: _,
+                pos: _,
+            } => {}
+        }
+    }
+}
+
+impl Drop for Variant {
+    fn drop(self) {
+        let Variant {
+            name: _,
+            fullname: _,
+            id: _,
+            fields: _,
+            pos: _,
+        } = self;
+    }
+}
+
+impl Drop for Fields {
+    fn drop(self) {
+        match self {
+            Fields::Unit => {}
+            Fields::Struct(_) => {}
+            Fields::Tuple(_) => {}
+        }
+    }
+}
+
+impl Drop for StructFields {
+    fn drop(self) {
+        let StructFields { fields: _ } = self;
+    }
+}
+
+impl Drop for StructField {
+    fn drop(self) {
+        let StructField {
+            name: _,
+            id: _,
+            ty: _,
+        } = self;
+    }
+}
+
+impl Drop for TupleFields {
+    fn drop(self) {
+        let TupleFields { fields: _ } = self;
+    }
+}
+
+impl Drop for TupleField {
+    fn drop(self) {
+        let TupleField { id: _, ty: _ } = self;
+    }
 }

@@ -3,8 +3,7 @@
 ghost use Rattle.std.specs.Prelude.{[], OnOk};
 ghost use Rattle.isle_base.specs.SyntaxViews.{definition_view, definition_views, name_view};
 ghost use Rattle.isle_types.specs.ConstantReading.{ReadsConstant, ReadsDefinition};
-ghost use Rattle.isle_types.specs.Envs.{names_of, symbol_of};
-ghost use Rattle.isle_types.specs.Names.{IsInverse};
+ghost use Rattle.isle_types.specs.Envs.{IsInterned};
 ghost use Rattle.isle_types.specs.Stages.{FillsTypes, ReadsConstants};
 
 use crate::reading::report;
@@ -30,8 +29,8 @@ impl TypeEnv {
 
     // Reads the constant that a definition makes, if it makes one.
     fn read_definition(&mut self, errors: &mut Vec<Error>, def: &Def) -> Result<(), AllocError>
-        requires { IsInverse (names_of self.old) (symbol_of self.old) }
-        ensures inverse { IsInverse (names_of self.new) (symbol_of self.new) }
+        requires { IsInterned self.old }
+        ensures inverse { IsInterned self.new }
         ensures reads { OnOk result (ReadsDefinition (definition_view def.now) self.old errors.old.items self.new errors.new.items) }
     {
         let Def::Extern(Extern::Const { name, ty, pos }) = def else {
@@ -48,8 +47,8 @@ impl TypeEnv {
         ty: &Ident,
         pos: Pos,
     ) -> Result<(), AllocError>
-        requires { IsInverse (names_of self.old) (symbol_of self.old) }
-        ensures inverse { IsInverse (names_of self.new) (symbol_of self.new) }
+        requires { IsInterned self.old }
+        ensures inverse { IsInterned self.new }
         ensures reads { OnOk result (ReadsConstant (name_view name.now) (name_view ty.now) self.old errors.old.items self.new errors.new.items) }
     {
         let Some(id) = self.get_type_by_name(ty) else {

@@ -1,15 +1,13 @@
 //! How the fields of a struct or of a variant are read: their names are met in order, and the first thing
 //! that is wrong is noted and ends the reading.
 
-ghost use Rattle.std.specs.Prelude.{◌≡◌, List, [], ◌∷◌, map, option_map, IfOk, OnOk};
-ghost use Rattle.isle_model.specs.lists.Syntax.{Definition, struct_fields, tuple_fields};
-ghost use Rattle.isle_model.specs.lists.TypeTable.{all_type_names};
+ghost use Rattle.std.specs.Prelude.{[], ◌∷◌, map, option_map, IfOk, OnOk};
+ghost use Rattle.isle_model.specs.Syntax.{struct_fields, tuple_fields};
 ghost use Rattle.isle_base.specs.SyntaxViews.{fields_view, field_view, tuple_field_view};
-ghost use Rattle.isle_types.specs.Envs.{names_of, symbol_of};
+ghost use Rattle.isle_types.specs.Envs.{IsInterned};
 ghost use Rattle.isle_types.specs.FieldReading.{ReadsField, ReadsTupleField};
-ghost use Rattle.isle_types.specs.Names.{IsInverse};
-ghost use Rattle.isle_types.specs.Reading.{MayReport, MeetsNames, ReadsFields, Reports};
-ghost use Rattle.isle_types.specs.Stages.{Sees};
+ghost use Rattle.isle_types.specs.Promises.{FieldsAreRead};
+ghost use Rattle.isle_types.specs.Reading.{MayReport, MeetsNames, Reports};
 
 use crate::ids::{FieldId, Sym};
 use crate::reading::report;
@@ -29,10 +27,10 @@ impl TypeEnv {
         fields: &syntax::Fields,
         variant: Option<&Ident>,
     ) -> Result<Option<Fields>, AllocError>
-        requires { IsInverse (names_of self.old) (symbol_of self.old) }
-        ensures inverse { IsInverse (names_of self.new) (symbol_of self.new) }
+        requires { IsInterned self.old }
+        ensures inverse { IsInterned self.new }
         ensures noted { OnOk result (MayReport errors.old.items errors.new.items) }
-        ensures reads { IfOk result (λ o. (defs : List Definition) → Sees self.old (all_type_names defs) → ReadsFields defs (fields_view fields.now) o self.old errors.old.items self.new errors.new.items) }
+        ensures reads { IfOk result (λ o. FieldsAreRead (fields_view fields.now) o self.old errors.old.items self.new errors.new.items) }
     {
         match fields {
             syntax::Fields::Unit => Ok(Some(Fields::Unit)),
@@ -54,10 +52,11 @@ impl TypeEnv {
         fields: &[syntax::StructField],
         variant: Option<&Ident>,
     ) -> Result<Option<StructFields>, AllocError>
-        requires { IsInverse (names_of self.old) (symbol_of self.old) }
-        ensures inverse { IsInverse (names_of self.new) (symbol_of self.new) }
+        requires { IsInterned self.old }
+        ensures inverse { IsInterned self.new }
         ensures noted { OnOk result (MayReport errors.old.items errors.new.items) }
-        ensures reads { IfOk result (λ o. (defs : List Definition) → Sees self.old (all_type_names defs) → ReadsFields defs (struct_fields (map field_view fields.now)) (option_map Fields.Struct o) self.old errors.old.items self.new errors.new.items) }
+        ensures reads { IfOk result (λ o. FieldsAreRead (struct_fields (map field_view fields.now)) (option_map Fields.Struct o)
+            self.old errors.old.items self.new errors.new.items) }
     {
         let alloc = *self.syms.allocator();
         let mut read = Vec::new(alloc);
@@ -72,7 +71,7 @@ impl TypeEnv {
         Ok(Some(StructFields { fields: read }))
     }
 
-    // The field of this number, where the numbers of the names before it were seen.
+    // The field of this id, where the ids of the names before it were seen.
     fn read_struct_field(
         &mut self,
         errors: &mut Vec<Error>,
@@ -81,8 +80,8 @@ impl TypeEnv {
         field: &syntax::StructField,
         variant: Option<&Ident>,
     ) -> Result<Option<StructField>, AllocError>
-        requires { IsInverse (names_of self.old) (symbol_of self.old) }
-        ensures inverse { IsInverse (names_of self.new) (symbol_of self.new) }
+        requires { IsInterned self.old }
+        ensures inverse { IsInterned self.new }
         ensures meets { OnOk result (MeetsNames ((field_view field.now).name.text ∷ []) self.old self.new) }
         ensures reads { IfOk result (λ o. ReadsField (field_view field.now) id.0 o self.old errors.old.items seen.old self.new errors.new.items seen.new) }
     {
@@ -107,9 +106,10 @@ impl TypeEnv {
         fields: &[syntax::TupleField],
         variant: Option<&Ident>,
     ) -> Result<Option<TupleFields>, AllocError>
-        requires { IsInverse (names_of self.now) (symbol_of self.now) }
+        requires { IsInterned self.now }
         ensures noted { OnOk result (MayReport errors.old.items errors.new.items) }
-        ensures reads { IfOk result (λ o. (defs : List Definition) → Sees self.now (all_type_names defs) → ReadsFields defs (tuple_fields (map tuple_field_view fields.now)) (option_map Fields.Tuple o) self.now errors.old.items self.now errors.new.items) }
+        ensures reads { IfOk result (λ o. FieldsAreRead (tuple_fields (map tuple_field_view fields.now)) (option_map Fields.Tuple o)
+            self.now errors.old.items self.now errors.new.items) }
     {
         let mut read = Vec::new(*self.syms.allocator());
         for field in fields {
@@ -122,7 +122,7 @@ impl TypeEnv {
         Ok(Some(TupleFields { fields: read }))
     }
 
-    // The field of this number.
+    // The field of this id.
     fn read_tuple_field(
         &self,
         errors: &mut Vec<Error>,

@@ -2,7 +2,7 @@ use Rattle.std.proofs.Common.{◌≡◌, None, option_map, option_copied, sym, a
 use Rattle.isle_base.specs.Stable.{look_up}
 use Rattle.isle_types.specs.Envs.{same_symbol}
 use Rattle.isle_types.proofs.TypeMaps.{read_ids}
-use Rattle.isle_types.proofs.type_env.TypeEnv.name_type.Goals as goal
+use Rattle.isle_types.proofs.type_env.TypeEnv.claim_type_name.Goals as goal
 
 pub returns-clause-named : goal.returns-clause-named
 returns-clause-named c =

@@ -1,16 +1,14 @@
 //! How the types of definitions are read, after all names of types are known. In each type the first thing
 //! that is wrong is noted and ends the work on it.
 
-ghost use Rattle.std.specs.Prelude.{◌≡◌, ℕ, ◌&&◌, [], ◌∷◌, List, map, option_map, OnOk, IfOk, IsTrue, string_bytes};
-ghost use Rattle.isle_model.specs.lists.Syntax.{Position, Definition, primitive_value, enum_value, struct_value};
-ghost use Rattle.isle_model.specs.lists.Names.{has_name};
-ghost use Rattle.isle_model.specs.lists.TypeTable.{all_type_names, type_names};
+ghost use Rattle.std.specs.Prelude.{◌≡◌, ◌&&◌, [], map, option_map, OnOk, IfOk, string_bytes};
+ghost use Rattle.isle_model.specs.Syntax.{enum_value, struct_value};
 ghost use Rattle.isle_base.specs.SyntaxViews.{name_view, fields_view, variant_view, type_view, definition_view, definition_views};
-ghost use Rattle.isle_types.specs.Envs.{names_of, symbol_of};
-ghost use Rattle.isle_types.specs.Names.{IsInverse};
-ghost use Rattle.isle_types.specs.Reading.{Reports, MayReport, ReadsType};
-ghost use Rattle.isle_types.specs.Stages.{Sees, AreMet, NamesTypes, FillsTypes};
-ghost use Rattle.isle_types.specs.VariantReading.{of_value, ReportsIf, IsNumberOf, HasSeen, ReadsVariant, ReadsVariants, FillsDefinition};
+ghost use Rattle.isle_types.specs.Envs.{names_of, IsInterned};
+ghost use Rattle.isle_types.specs.Reading.{Reports, MayReport};
+ghost use Rattle.isle_types.specs.Promises.{TypeIsRead, PrimitiveIsRead, ValueIsRead, VariantsAreRead, VariantIsRead, DefinitionIsFilled};
+ghost use Rattle.isle_types.specs.Stages.{NamesTypes, FillsTypes};
+ghost use Rattle.isle_types.specs.VariantReading.{ReportsIf, IsNumberOf};
 
 use crate::ids::{Sym, TypeId, VariantId};
 use crate::reading::report;
@@ -22,17 +20,17 @@ use isle_base::syntax::{Def, Error, Ident, TypeValue};
 use std::alloc::AllocError;
 
 impl TypeEnv {
-    // What a type becomes, with this number. None where something is wrong with it, which is noted then.
+    // What a type becomes, with this id. None where something is wrong with it, which is noted then.
     fn read_type(
         &mut self,
         errors: &mut Vec<Error>,
         id: TypeId,
         ty: &syntax::Type,
     ) -> Result<Option<Type>, AllocError>
-        requires { IsInverse (names_of self.old) (symbol_of self.old) }
-        ensures inverse { IsInverse (names_of self.new) (symbol_of self.new) }
+        requires { IsInterned self.old }
+        ensures inverse { IsInterned self.new }
         ensures noted { OnOk result (MayReport errors.old.items errors.new.items) }
-        ensures reads { IfOk result (λ o. (defs : List Definition) → Sees self.old (all_type_names defs) → IsTrue (has_name (names_of self.old) (type_view ty.now).name.text) → ReadsType defs id.0 (type_view ty.now) o self.old errors.old.items self.new errors.new.items) }
+        ensures reads { IfOk result (λ o. TypeIsRead id.0 (type_view ty.now) o self.old errors.old.items self.new errors.new.items) }
     {
         let name = self.intern_mut(&ty.name)?;
         match &ty.ty {
@@ -50,10 +48,11 @@ impl TypeEnv {
         ty: &syntax::Type,
         inner: &Ident,
     ) -> Result<Option<Type>, AllocError>
-        requires { IsInverse (names_of self.old) (symbol_of self.old) }
-        ensures inverse { IsInverse (names_of self.new) (symbol_of self.new) }
+        requires { IsInterned self.old }
+        ensures inverse { IsInterned self.new }
         ensures noted { OnOk result (MayReport errors.old.items errors.new.items) }
-        ensures reads { IfOk result (λ o. (defs : List Definition) (at : Position) → ReadsType defs id.0 (of_value (type_view ty.now) (primitive_value (name_view inner.now) at)) o self.old errors.old.items self.new errors.new.items) }
+        ensures reads { IfOk result (λ o. PrimitiveIsRead id.0 (type_view ty.now) (name_view inner.now) o
+            self.old errors.old.items self.new errors.new.items) }
     {
         if ty.is_nodebug {
             report(errors, ty.pos, "primitive types cannot be marked `nodebug`")?;
@@ -67,7 +66,7 @@ impl TypeEnv {
         Ok(Some(Type::Primitive(id, name, ty.pos)))
     }
 
-    // What an enum becomes, whose name has this number.
+    // What an enum becomes, whose name has this id.
     fn read_enum(
         &mut self,
         errors: &mut Vec<Error>,
@@ -76,11 +75,12 @@ impl TypeEnv {
         ty: &syntax::Type,
         variants: &[syntax::Variant],
     ) -> Result<Option<Type>, AllocError>
-        requires inverse { IsInverse (names_of self.old) (symbol_of self.old) }
+        requires inverse { IsInterned self.old }
         requires name { IsNumberOf name.0 (string_bytes ty.now.name.0) (names_of self.old) }
-        ensures inverse { IsInverse (names_of self.new) (symbol_of self.new) }
+        ensures inverse { IsInterned self.new }
         ensures noted { OnOk result (MayReport errors.old.items errors.new.items) }
-        ensures reads { IfOk result (λ o. (defs : List Definition) (at : Position) → Sees self.old (all_type_names defs) → ReadsType defs id.0 (of_value (type_view ty.now) (enum_value (map variant_view variants.now) at)) o self.old errors.old.items self.new errors.new.items) }
+        ensures reads { IfOk result (λ o. ValueIsRead id.0 (type_view ty.now) (enum_value (map variant_view variants.now)) o
+            self.old errors.old.items self.new errors.new.items) }
     {
         if has_both_marks(errors, ty)? {
             return Ok(None);
@@ -98,7 +98,7 @@ impl TypeEnv {
         }))
     }
 
-    // What a struct becomes, whose name has this number.
+    // What a struct becomes, whose name has this id.
     fn read_struct(
         &mut self,
         errors: &mut Vec<Error>,
@@ -107,11 +107,12 @@ impl TypeEnv {
         ty: &syntax::Type,
         fields: &syntax::Fields,
     ) -> Result<Option<Type>, AllocError>
-        requires inverse { IsInverse (names_of self.old) (symbol_of self.old) }
+        requires inverse { IsInterned self.old }
         requires name { IsNumberOf name.0 (string_bytes ty.now.name.0) (names_of self.old) }
-        ensures inverse { IsInverse (names_of self.new) (symbol_of self.new) }
+        ensures inverse { IsInterned self.new }
         ensures noted { OnOk result (MayReport errors.old.items errors.new.items) }
-        ensures reads { IfOk result (λ o. (defs : List Definition) (at : Position) → Sees self.old (all_type_names defs) → ReadsType defs id.0 (of_value (type_view ty.now) (struct_value (fields_view fields.now) at)) o self.old errors.old.items self.new errors.new.items) }
+        ensures reads { IfOk result (λ o. ValueIsRead id.0 (type_view ty.now) (struct_value (fields_view fields.now)) o
+            self.old errors.old.items self.new errors.new.items) }
     {
         if has_both_marks(errors, ty)? {
             return Ok(None);
@@ -136,10 +137,11 @@ impl TypeEnv {
         ty: &Ident,
         variants: &[syntax::Variant],
     ) -> Result<Option<Vec<Variant>>, AllocError>
-        requires { IsInverse (names_of self.old) (symbol_of self.old) }
-        ensures inverse { IsInverse (names_of self.new) (symbol_of self.new) }
+        requires { IsInterned self.old }
+        ensures inverse { IsInterned self.new }
         ensures noted { OnOk result (MayReport errors.old.items errors.new.items) }
-        ensures reads { IfOk result (λ o. (defs : List Definition) → Sees self.old (all_type_names defs) → ReadsVariants defs (string_bytes ty.now.0) (map variant_view variants.now) (option_map (λ v. v.items) o) self.old errors.old.items self.new errors.new.items) }
+        ensures reads { IfOk result (λ o. VariantsAreRead (string_bytes ty.now.0) (map variant_view variants.now) (option_map (λ v. v.items) o)
+            self.old errors.old.items self.new errors.new.items) }
     {
         let alloc = *self.syms.allocator();
         let mut seen = StableSet::new(alloc);
@@ -154,7 +156,7 @@ impl TypeEnv {
         Ok(Some(read))
     }
 
-    // What a variant becomes, with this number, where the set has the names of those before it.
+    // What a variant becomes, with this id, where the set has the names of those before it.
     fn read_variant(
         &mut self,
         errors: &mut Vec<Error>,
@@ -163,10 +165,11 @@ impl TypeEnv {
         id: VariantId,
         variant: &syntax::Variant,
     ) -> Result<Option<Variant>, AllocError>
-        requires { IsInverse (names_of self.old) (symbol_of self.old) }
-        ensures inverse { IsInverse (names_of self.new) (symbol_of self.new) }
+        requires { IsInterned self.old }
+        ensures inverse { IsInterned self.new }
         ensures noted { OnOk result (MayReport errors.old.items errors.new.items) }
-        ensures reads { IfOk result (λ o. (defs : List Definition) (earlier : List (List ℕ)) → Sees self.old (all_type_names defs) → HasSeen (names_of self.old) seen.old earlier → ReadsVariant defs (string_bytes ty.now.0) id.0 (variant_view variant.now) earlier o self.old errors.old.items self.new errors.new.items seen.new) }
+        ensures reads { IfOk result (λ o. VariantIsRead (string_bytes ty.now.0) id.0 (variant_view variant.now) o
+            self.old errors.old.items seen.old self.new errors.new.items seen.new) }
     {
         let full_name = syntax::Variant::full_name(ty, &variant.name)?;
         let fullname = self.intern_mut(&full_name)?;
@@ -189,10 +192,10 @@ impl TypeEnv {
 
     // Reads what the type of a definition is, if it is one of a type.
     fn fill_definition(&mut self, errors: &mut Vec<Error>, def: &Def) -> Result<(), AllocError>
-        requires { IsInverse (names_of self.old) (symbol_of self.old) }
-        ensures inverse { IsInverse (names_of self.new) (symbol_of self.new) }
+        requires { IsInterned self.old }
+        ensures inverse { IsInterned self.new }
         ensures noted { OnOk result (MayReport errors.old.items errors.new.items) }
-        ensures fills { OnOk result ((defs : List Definition) → Sees self.old (all_type_names defs) → AreMet self.old (type_names (definition_view def.now ∷ [])) → FillsDefinition defs (definition_view def.now) self.old errors.old.items self.new errors.new.items) }
+        ensures fills { OnOk result (DefinitionIsFilled (definition_view def.now) self.old errors.old.items self.new errors.new.items) }
     {
         let Def::TypeDef(ty) = def else {
             return Ok(());
