@@ -23,7 +23,6 @@ use isle_types::{TermId, TypeEnv};
 use std::alloc::{AllocError, Global};
 
 /// A term with rules: its rule set, and the tree of tests that takes one of the rules.
-#[derive(Drop)]
 pub struct LoweredTerm {
     /// The term, a place in `TermEnv::terms`.
     pub id: TermId,
@@ -33,8 +32,17 @@ pub struct LoweredTerm {
     pub block: Block,
 }
 
+impl Drop for LoweredTerm {
+    fn drop(self) {
+        let Self {
+            id: _,
+            rules: _,
+            block: _,
+        } = self;
+    }
+}
+
 /// What a list of definitions becomes.
-#[derive(Drop)]
 pub struct Lowered {
     /// The names and types.
     pub tyenv: TypeEnv,
@@ -42,6 +50,16 @@ pub struct Lowered {
     pub termenv: TermEnv,
     /// Each term with rules, once, ascending by its number.
     pub terms: Vec<LoweredTerm>,
+}
+
+impl Drop for Lowered {
+    fn drop(self) {
+        let Self {
+            tyenv: _,
+            termenv: _,
+            terms: _,
+        } = self;
+    }
 }
 
 /// The trees of all terms with rules. The whole way: types and terms, typed rules, rule sets, trees.

@@ -1,5 +1,5 @@
 -- What the builder of definitions writes, and which samples there are.
-use Rattle.std.specs.Prelude.{ℕ, ℤ, pos, Bool, true, false, List, [], ◌∷◌, Option, Some, None, map, codes, if◌then◌else◌}
+use Rattle.std.specs.Prelude.{◌≡◌, ℕ, ℤ, pos, Bool, true, false, List, [], ◌∷◌, ◌++◌, length, Option, Some, None, map, codes, if◌then◌else◌}
 use Rattle.std.specs.Str.{bytes_eq}
 use Rattle.isle_model.specs.lists.Syntax.{Position, Name, PatternTree, var_pattern, int_pattern, term_pattern, PatternTrees, no_pattern, pattern_and, ExprTree, var_expr, int_expr, FieldTree, FieldTrees, struct_fields, VariantTree, TypeValueTree, primitive_value, enum_value, DeclTree, RuleTree, Definition, type_definition, declaration, rule_definition}
 use Rattle.isle_base.specs.SyntaxViews.{definition_views}
@@ -8,6 +8,10 @@ use Rattle.isle_printing.specs.declared.builder.Definitions.{Definitions}
 -- the definitions written so far
 abbrev pub written : Definitions → List Definition
 written d = definition_views d.defs.items
+
+-- one definition more; it is made of its number
+abbrev pub WritesOne : Definitions → Definitions → (ℕ → Definition) → Type 0
+WritesOne before after definition = written after ≡ written before ++ definition (length (written before)) ∷ []
 
 -- a name at a position
 abbrev pub name_in : Position → List ℕ → Name
@@ -37,7 +41,16 @@ primitive_at d name inner = type_in (at d) name false (primitive_value (name_at 
 
 -- a declaration without flags
 abbrev pub decl_at : ℕ → List ℕ → List (List ℕ) → List ℕ → DeclTree
-decl_at d name args ret = record { term = name_at d name; arg_tys = map (name_at d) args; ret_ty = name_at d ret; pure = false; multi = false; partial = false; rec = false; at = at d }
+decl_at d name args ret = record {
+  term = name_at d name;
+  arg_tys = map (name_at d) args;
+  ret_ty = name_at d ret;
+  pure = false;
+  multi = false;
+  partial = false;
+  rec = false;
+  at = at d;
+}
 
 -- a rule without if-lets and without a name
 abbrev pub rule_at : ℕ → Option ℤ → List ℕ → PatternTrees → ExprTree → RuleTree

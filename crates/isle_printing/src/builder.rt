@@ -1,9 +1,9 @@
 //! Lists of definitions, written out one after another.
 
-ghost use Rattle.std.specs.Prelude.{◌≡◌, ◌∷◌, ◌++◌, [], IfOk, OnOk, OnErr, map, length};
+ghost use Rattle.std.specs.Prelude.{◌≡◌, [], IfOk, OnOk, OnErr, map, length};
 ghost use Rattle.isle_base.specs.SyntaxViews.{decl_view, definition_view, definition_views, expr_view, field_view, fields_view, name_view, pattern_view, pattern_views, position, rule_view, type_value_view, variant_view};
-ghost use Rattle.isle_model.specs.lists.Syntax.{declaration, int_expr, int_pattern, rule_definition, struct_fields, wildcard_pattern};
-ghost use Rattle.isle_printing.specs.Written.{at, decl_at, field_in, name_at, name_in, primitive_at, rule_at, type_in, use_at, var_at, variant_in, written};
+ghost use Rattle.isle_model.specs.Syntax.{declaration, int_expr, int_pattern, rule_definition, struct_fields, wildcard_pattern};
+ghost use Rattle.isle_printing.specs.Written.{WritesOne, at, decl_at, field_in, name_at, name_in, primitive_at, rule_at, type_in, use_at, var_at, variant_in, written};
 
 use isle_base::syntax::{
     Decl, Def, Expr, Fields, Ident, Pattern, Pos, Rule, StructField, StructFields, Type, TypeValue,
@@ -74,7 +74,7 @@ impl Definitions {
 
     /// Adds a definition.
     pub fn push(&mut self, def: Def) -> Result<(), AllocError>
-        ensures added { OnOk result (written self.new ≡ written self.old ++ definition_view def ∷ []) }
+        ensures added { OnOk result (WritesOne self.old self.new (λ d. definition_view def)) }
         ensures err { OnErr result (written self.new ≡ written self.old) }
     {
         self.defs.push(def)?;
@@ -83,7 +83,7 @@ impl Definitions {
 
     /// Adds `(type NAME (primitive INNER))`.
     pub fn primitive(&mut self, name: &str, inner: &str) -> Result<(), AllocError>
-        ensures added { OnOk result (written self.new ≡ written self.old ++ primitive_at (length (written self.old)) name.now inner.now ∷ []) }
+        ensures added { OnOk result (WritesOne self.old self.new (λ d. primitive_at d name.now inner.now)) }
         ensures err { OnErr result (written self.new ≡ written self.old) }
     {
         let pos = self.pos();
@@ -100,7 +100,7 @@ impl Definitions {
         is_extern: bool,
         ty: TypeValue,
     ) -> Result<(), AllocError>
-        ensures added { OnOk result (written self.new ≡ written self.old ++ type_in (position pos) name.now is_extern (type_value_view ty) ∷ []) }
+        ensures added { OnOk result (WritesOne self.old self.new (λ d. type_in (position pos) name.now is_extern (type_value_view ty))) }
         ensures err { OnErr result (written self.new ≡ written self.old) }
     {
         let name = self.ident_at(pos, name)?;
@@ -173,7 +173,7 @@ impl Definitions {
 
     /// Adds `(decl NAME (ARGS ..) RET)`.
     pub fn declare(&mut self, name: &str, args: &[&str], ret: &str) -> Result<(), AllocError>
-        ensures added { OnOk result (written self.new ≡ written self.old ++ declaration (decl_at (length (written self.old)) name.now (map (λ a. a.now) args.now) ret.now) ∷ []) }
+        ensures added { OnOk result (WritesOne self.old self.new (λ d. declaration (decl_at d name.now (map (λ a. a.now) args.now) ret.now))) }
         ensures err { OnErr result (written self.new ≡ written self.old) }
     {
         let decl = self.decl(name, args, ret)?;
@@ -214,7 +214,7 @@ impl Definitions {
         args: Vec<Pattern>,
         expr: Expr,
     ) -> Result<(), AllocError>
-        ensures added { OnOk result (written self.new ≡ written self.old ++ rule_definition (rule_at (length (written self.old)) prio term.now (pattern_views args.items) (expr_view expr)) ∷ []) }
+        ensures added { OnOk result (WritesOne self.old self.new (λ d. rule_definition (rule_at d prio term.now (pattern_views args.items) (expr_view expr)))) }
         ensures err { OnErr result (written self.new ≡ written self.old) }
     {
         let rule = self.rule_of(prio, term, args, expr)?;

@@ -240,20 +240,13 @@ fn print_binding(out: &mut String, names: Names<'_>, binding: &Binding) -> Resul
             term,
             parameters,
             instance,
-        } => {
-            print_call(out, names.term(*term), *instance)?;
-            print_sites(out, parameters)
-        }
+        } => print_call(out, names.term(*term), *instance, parameters),
         Binding::Iterator { source } => print_of(out, "pick", *source),
         Binding::MakeVariant {
             ty,
             variant,
             fields,
-        } => {
-            out.push_str("make ")?;
-            print_variant(out, names, *ty, *variant)?;
-            print_sites(out, fields)
-        }
+        } => print_made_variant(out, names, *ty, *variant, fields),
         Binding::MatchVariant {
             source,
             variant,
@@ -317,13 +310,31 @@ fn print_number(out: &mut String, first: &str, number: usize) -> Result<(), Allo
     write!(out, "{number}")
 }
 
-// A call, with its number where it is impure.
-fn print_call(out: &mut String, term: &str, instance: u32) -> Result<(), AllocError> {
+// A call, with its number where it is impure, and the sites that are handed to it.
+fn print_call(
+    out: &mut String,
+    term: &str,
+    instance: u32,
+    parameters: &[BindingId],
+) -> Result<(), AllocError> {
     print_word(out, "call ", term)?;
-    if instance == 0 {
-        return Ok(());
+    if instance != 0 {
+        write!(out, " #{instance}")?;
     }
-    write!(out, " #{instance}")
+    print_sites(out, parameters)
+}
+
+// A variant that is made, and the sites of its fields.
+fn print_made_variant(
+    out: &mut String,
+    names: Names<'_>,
+    ty: TypeId,
+    variant: VariantId,
+    fields: &[BindingId],
+) -> Result<(), AllocError> {
+    out.push_str("make ")?;
+    print_variant(out, names, ty, variant)?;
+    print_sites(out, fields)
 }
 
 // A word and a site.

@@ -1,12 +1,12 @@
 //! The tree that tests each rule alone, by descending priority.
 
 ghost use Rattle.std.specs.Prelude.{◌≡◌, false, IfOk, map};
-ghost use Rattle.isle_model.specs.trees.Trees.{no_step, step};
-ghost use Rattle.isle_model.specs.trees.Sound.{IsSound};
-ghost use Rattle.isle_model.specs.first.Plain.{IsPlainSet};
-ghost use Rattle.isle_model.specs.first.Alone.{alone, alone_match, alone_all, ordered};
+ghost use Rattle.isle_model.specs.Trees.{no_step};
+ghost use Rattle.isle_model.specs.Sound.{IsSound};
+ghost use Rattle.isle_alone.specs.Plain.{IsPlainSet};
+ghost use Rattle.isle_alone.specs.Alone.{alone, alone_match, alone_all, ordered};
 ghost use Rattle.isle_sets.specs.SiteViews.{constraint_view, set_rule_view, set_rule_views, set_view};
-ghost use Rattle.isle_serialize.specs.TreeViews.{tree_view, check_view};
+ghost use Rattle.isle_serialize.specs.TreeViews.{tree_view, step_view};
 
 use crate::serialize::{Block, ControlFlow, EvalStep, MatchArm};
 use isle_sets::building::demands;
@@ -40,7 +40,7 @@ fn by_priority<'a>(alloc: Global, rules: &'a [Rule]) -> Result<Vec<&'a Rule>, Al
 
 // The step that tests a rule's constraints, the first one outermost.
 fn rule_step(alloc: Global, rule: &Rule) -> Result<EvalStep, AllocError>
-    ensures { IfOk result (λ s. step s.bind_order.items (check_view s.check) no_step ≡ alone (set_rule_view rule.now) no_step) }
+    ensures { IfOk result (λ s. step_view s ≡ alone (set_rule_view rule.now) no_step) }
 {
     let mut last = EvalStep {
         bind_order: Vec::new(alloc),
@@ -67,7 +67,7 @@ fn match_step(
     constraint: Constraint,
     then: EvalStep,
 ) -> Result<EvalStep, AllocError>
-    ensures { IfOk result (λ s. step s.bind_order.items (check_view s.check) no_step ≡ alone_match source (constraint_view constraint) (step then.bind_order.items (check_view then.check) no_step) no_step) }
+    ensures { IfOk result (λ s. step_view s ≡ alone_match source (constraint_view constraint) (step_view then) no_step) }
 {
     let mut steps = Vec::new(alloc);
     steps.push(then)?;

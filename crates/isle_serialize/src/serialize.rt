@@ -1,4 +1,5 @@
-//! The tree of tests that says which of a term's rules is taken.
+//! The tree of tests that says which of a term's rules is taken: the one that trying them all by descending priority
+//! would take. A tree may make a test once for several rules.
 
 ghost use Rattle.std.specs.Prelude.{◌≡◌};
 ghost use Rattle.isle_model.specs.trees.Trees.{no_step};
@@ -8,12 +9,19 @@ use isle_base::syntax::Pos;
 use isle_sets::trie_again::{BindingId, Constraint};
 use std::alloc::Global;
 
-/// Steps, tried in order. Where one's test fails or its body runs through, the next one follows.
+/// Steps, tried in order. Where one's test fails or its body runs through, the next one follows, and may rest on no
+/// earlier one having ended the run.
 #[cycle(tree)]
-#[derive(Drop)]
 pub struct Block {
     /// The steps.
     pub steps: Vec<EvalStep>,
+}
+
+impl Drop for Block {
+    #[cycle(drop)]
+    fn drop(self) {
+        let Self { steps: _ } = self;
+    }
 }
 
 impl Block {
@@ -28,9 +36,9 @@ impl Block {
     }
 }
 
-/// Sites to bind, and then a test or an end.
+/// Sites to bind, and then a test or an end. Calls and made values are bound ahead, since nothing can be computed while
+/// a value is matched.
 #[cycle(tree)]
-#[derive(Drop)]
 pub struct EvalStep {
     /// The sites that are bound first, in this order.
     pub bind_order: Vec<BindingId>,
@@ -38,11 +46,20 @@ pub struct EvalStep {
     pub check: ControlFlow,
 }
 
+impl Drop for EvalStep {
+    #[cycle(drop)]
+    fn drop(self) {
+        let Self {
+            bind_order: _,
+            check: _,
+        } = self;
+    }
+}
+
 /// A test or an end.
 #[cycle(tree)]
-#[derive(Drop)]
 pub enum ControlFlow {
-    /// Goes on in the arm whose constraint the value meets.
+    /// Goes on in the arm whose constraint the value meets. No value meets those of two arms.
     Match {
         /// The value.
         source: BindingId,
@@ -53,35 +70,61 @@ pub enum ControlFlow {
     Equal {
         /// One value.
         a: BindingId,
-        /// The other one, of a greater number.
+        /// The other one, of a greater number, so that the pair is written in one way alone.
         b: BindingId,
         /// What follows.
         body: Block,
     },
     /// Goes on once for each value that a call answered.
     Loop {
-        /// The site that stands for each of them in turn.
+        /// The site that stands for each of them in turn, a `Binding::Iterator`.
         result: BindingId,
         /// What follows for each.
         body: Block,
     },
-    /// Takes a rule. In a term that is multi it adds a result, and goes on with the next step.
+    /// Takes a rule, and ends the run. In a term that is multi it adds a result instead, and goes on with the next step.
     Return {
-        /// Where the rule was defined.
+        /// Where the rule was defined, by which a reader of the tree finds it.
         pos: Pos,
         /// What the term is.
         result: BindingId,
     },
 }
 
+impl Drop for ControlFlow {
+    #[cycle(drop)]
+    fn drop(self) {
+        match self {
+            ControlFlow::Match { source: _, arms: _ } => {}
+            ControlFlow::Equal {
+                a: _,
+                b: _,
+                body: _,
+            } => {}
+            ControlFlow::Loop { result: _, body: _ } => {}
+            ControlFlow::Return { pos: _, result: _ } => {}
+        }
+    }
+}
+
 /// What follows where a value meets a constraint.
 #[cycle(tree)]
-#[derive(Drop)]
 pub struct MatchArm {
     /// The constraint.
     pub constraint: Constraint,
-    /// The site of each field that the constraint brings, where there is one.
+    /// The site of each field that the constraint brings, in order; None where no rule of the set speaks of the field.
     pub bindings: Vec<Option<BindingId>>,
     /// What follows.
     pub body: Block,
+}
+
+impl Drop for MatchArm {
+    #[cycle(drop)]
+    fn drop(self) {
+        let Self {
+            constraint: _,
+            bindings: _,
+            body: _,
+        } = self;
+    }
 }

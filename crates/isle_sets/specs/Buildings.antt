@@ -71,7 +71,17 @@ pub record BuildsAll (p : Program) (sets : List (ℕ × SiteSet)) (errors : List
 
 -- a rule of a set, but for its result, and with a result
 abbrev pub with_result : TypedRule → ℕ → SetRule
-with_result t n = record { id = t.id; at = t.at; prio = t.prio; name = t.name; constraints = asked_from 0 t.args; classes = []; iterators = []; impure = []; result = n }
+with_result t n = record {
+  id = t.id;
+  at = t.at;
+  prio = t.prio;
+  name = t.name;
+  constraints = asked_from 0 t.args;
+  classes = [];
+  iterators = [];
+  impure = [];
+  result = n;
+}
 
 -- the set after one more rule
 abbrev pub with_rule : SiteSet → TypedRule → SiteSet
@@ -110,6 +120,15 @@ AddsEach before after n P = (es : List Error) × (after ≡ before ++ es) × (le
 -- rules are added to a set, with the error that there are too many sites where the whole has too many
 abbrev pub AddsRules : SiteSet → List Error → List Error → (SiteSet → Type 0) → Type 0
 AddsRules whole before after P = Adds before after (P whole) (λ e. (limit_of e ≡ Some Sites) × (65536 < length whole.sites))
+
+abbrev pub AddsAllRules : SiteSet → List TypedRule → List Error → List Error → SiteSet → Type 0
+AddsAllRules set ts before after new = AddsRules (with_rules set ts) before after (λ whole. new ≡ whole)
+
+-- a rule is added to a set, or the error that there are too many sites with it
+abbrev pub AddsRule : SiteSet → TypedRule → List Error → List Error → SiteSet → Type 0
+AddsRule set t before after new =
+    ((after ≡ before) × (new ≡ with_rule set t))
+    ⊎ (AddsOne before after (λ e. limit_of e ≡ Some Sites) × (65536 < length (with_rule set t).sites))
 
 -- the limit that the set of rules with n arguments passes
 abbrev pub Exceeds : ℕ → List TypedRule → Option Limit → Type 0

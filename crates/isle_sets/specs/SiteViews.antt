@@ -53,7 +53,17 @@ abbrev pub sites_in : Members ℕ → List ℕ
 sites_in s = passing_below 65536 (contains ◌==◌ s)
 
 abbrev pub set_rule_view : Rule → SetRule
-set_rule_view r = record { id = r.id.0; at = position r.pos; prio = r.prio; name = option_map (λ s. s.0) r.name; constraints = constraint_views r.constraints.items; classes = r.equals; iterators = sites_in r.iterators; impure = r.impure.items; result = r.result }
+set_rule_view r = record {
+  id = r.id.0;
+  at = position r.pos;
+  prio = r.prio;
+  name = option_map (λ s. s.0) r.name;
+  constraints = constraint_views r.constraints.items;
+  classes = r.equals;
+  iterators = sites_in r.iterators;
+  impure = r.impure.items;
+  result = r.result;
+}
 
 abbrev pub set_rule_views : List Rule → List SetRule
 set_rule_views rs = map set_rule_view rs
@@ -63,7 +73,17 @@ set_view s = record { rules = set_rule_views s.rules.items; sites = site_views s
 
 -- what `Rule::new` and `RuleSet::new` give
 abbrev pub empty_rule : SetRule
-empty_rule = record { id = 0; at = record { file = 0; offset = 0 }; prio = pos 0; name = None; constraints = []; classes = []; iterators = []; impure = []; result = 0 }
+empty_rule = record {
+  id = 0;
+  at = record { file = 0; offset = 0 };
+  prio = pos 0;
+  name = None;
+  constraints = [];
+  classes = [];
+  iterators = [];
+  impure = [];
+  result = 0;
+}
 
 abbrev pub empty_set : SiteSet
 empty_set = record { rules = []; sites = [] }

@@ -1,5 +1,5 @@
-//! The rules of one term as sets of constraints on numbered binding sites, which stand for the values that
-//! rules look at and make.
+//! The rules of one term as sets of demands on numbered binding sites, which stand for the values that rules look at
+//! and make. Rules that speak of the same value do so by the same site, so that one test may serve them all.
 ghost use Rattle.std.specs.Prelude.{◌≡◌, ◌<◌, ◌^◌, option_map};
 ghost use Rattle.std.specs.Result.{OkIff};
 ghost use Rattle.isle_model.specs.trees.Places.{constraint_at};
@@ -15,11 +15,11 @@ use std::marker::Model;
 use std::slice;
 
 /// A number that is too great for an index of its kind.
-#[derive(Clone, Copy, Debug, PartialEq, Eq)]
+#[derive(Clone, Copy, Debug)]
 pub struct OutOfRange;
 
-/// The place of a field in a tuple, a variant or a struct, or of an argument. A contract sees it as the
-/// number.
+/// The place of a field in a tuple, a variant or a struct, or of an argument. Fields go by places, since these are
+/// compared at once; the type table has their names. A contract sees it as the number.
 #[derive(Clone, Copy, PartialEq, Eq, Hash, PartialOrd, Ord, Debug, Default)]
 pub struct TupleIndex(u8);
 
@@ -56,7 +56,8 @@ impl TryFrom<usize> for TupleIndex {
     }
 }
 
-/// The number of a binding site: its place in `RuleSet::bindings`. A contract sees it as the number.
+/// The number of a binding site: its place in `RuleSet::bindings`. It means nothing outside its set. A contract sees
+/// it as the number.
 #[derive(Clone, Copy, PartialEq, Eq, Hash, PartialOrd, Ord, Debug, Default)]
 pub struct BindingId(u16);
 
@@ -101,8 +102,9 @@ impl From<u16> for BindingId {
     }
 }
 
-/// What a binding site stands for. Sites that it is made of have smaller numbers than its own.
-#[derive(Clone, Debug, PartialEq, Eq, Hash, Drop)]
+/// What a binding site stands for: a value that rules make, or a part of one that they look at. Sites that it is made
+/// of have smaller numbers than its own. A site is found by its equal, so all that tells two values apart stands here.
+#[derive(Clone, Debug, PartialEq, Eq, Hash)]
 pub enum Binding {
     /// A truth value.
     ConstBool {
@@ -115,12 +117,12 @@ pub enum Binding {
     ConstInt {
         /// The value, as it was written.
         val: i128,
-        /// Its type.
+        /// Its type. The number alone doesn't say which constant it is: 1 is one of each integer type.
         ty: TypeId,
     },
     /// A named constant.
     ConstPrim {
-        /// Its name.
+        /// Its name, which says its type too.
         val: Sym,
     },
     /// An argument of the term.
@@ -128,7 +130,7 @@ pub enum Binding {
         /// Its place, from 0.
         index: TupleIndex,
     },
-    /// What an external extractor answers.
+    /// What an external extractor answers, as a whole. Its outputs are sites made of this one.
     Extractor {
         /// The extractor's term.
         term: TermId,
@@ -141,10 +143,11 @@ pub enum Binding {
         term: TermId,
         /// The values that are handed to it, in order.
         parameters: Vec<BindingId>,
-        /// 0 for a pure call; else the call's number among the impure calls of its rule, from 1.
+        /// 0 for a pure call, which is one site however often it is written. Else the call's number among the impure
+        /// calls of its rule, from 1: two of them are never taken for one.
         instance: u32,
     },
-    /// One of the values that a call answered.
+    /// One of the values that a multi call answered: each of them in turn.
     Iterator {
         /// The call.
         source: BindingId,
@@ -158,11 +161,13 @@ pub enum Binding {
         /// Its fields, in order.
         fields: Vec<BindingId>,
     },
-    /// A field of a value that is of some variant.
+    /// A field of a value that is of some variant. A rule that speaks of it asks the same variant of the value, by
+    /// `Constraint::Variant`.
     MatchVariant {
         /// The value.
         source: BindingId,
-        /// The variant.
+        /// The variant. The constraint names it as well, but equal sites are found by look-up: without it here the
+        /// first fields of two variants would be one site.
         variant: VariantId,
         /// The field's place.
         field: TupleIndex,
@@ -174,7 +179,7 @@ pub enum Binding {
         /// Its fields, in order.
         fields: Vec<BindingId>,
     },
-    /// A field of a struct.
+    /// A field of a struct. A rule that speaks of it has a `Constraint::Struct` on the struct.
     ExtractStruct {
         /// The struct.
         source: BindingId,
@@ -186,18 +191,62 @@ pub enum Binding {
         /// The value.
         inner: BindingId,
     },
-    /// What is in a value that is there.
+    /// What is in a value that is there: in the answer of a call that may fail. A rule that speaks of it has a
+    /// `Constraint::Some` on that answer.
     MatchSome {
         /// The value that may be there or not.
         source: BindingId,
     },
-    /// A part of a tuple.
+    /// A part of a tuple: one of several outputs of an extractor. Each tuple has all its parts, so no constraint goes
+    /// with it.
     MatchTuple {
         /// The tuple.
         source: BindingId,
         /// The part's place.
         field: TupleIndex,
     },
+}
+
+impl Drop for Binding {
+    fn drop(self) {
+        match self {
+            Binding::ConstBool { val: _, ty: _ } => {}
+            Binding::ConstInt { val: _, ty: _ } => {}
+            Binding::ConstPrim { val: _ } => {}
+            Binding::Argument { index: _ } => {}
+            Binding::Extractor {
+                term: _,
+                parameter: _,
+            } => {}
+            Binding::Constructor {
+                term: _,
+                parameters: _,
+                instance: _,
+            } => {}
+            Binding::Iterator { source: _ } => {}
+            Binding::MakeVariant {
+                ty: _,
+                variant: _,
+                fields: _,
+            } => {}
+            Binding::MatchVariant {
+                source: _,
+                variant: _,
+                field: _,
+            } => {}
+            Binding::MakeStruct { ty: _, fields: _ } => {}
+            Binding::ExtractStruct {
+                source: _,
+                field: _,
+            } => {}
+            Binding::MakeSome { inner: _ } => {}
+            Binding::MatchSome { source: _ } => {}
+            Binding::MatchTuple {
+                source: _,
+                field: _,
+            } => {}
+        }
+    }
 }
 
 impl Binding {
@@ -226,23 +275,24 @@ impl Binding {
     }
 }
 
-/// What a rule asks of a binding site. Ordered by form, as they stand here, then by parts.
+/// What a rule asks of a binding site: the tests that a value may fail. Ordered by form, as they stand here, then by
+/// parts.
 #[derive(Clone, Copy, PartialEq, Eq, Hash, PartialOrd, Ord, Debug)]
 pub enum Constraint {
     /// That it is of this variant.
     Variant {
-        /// The enum.
+        /// The enum. The site implies it; here nobody has to look it up.
         ty: TypeId,
         /// The variant.
         variant: VariantId,
-        /// How many fields the variant has.
+        /// How many fields the variant has, so that they can be gone over without the type table.
         fields: TupleIndex,
     },
-    /// That it is this struct, as each value of the type is.
+    /// That it is this struct, as each value of the type is. It never fails, and brings the fields into reach.
     Struct {
-        /// The struct.
+        /// The struct. The site implies it, as above.
         ty: TypeId,
-        /// How many fields the struct has.
+        /// How many fields the struct has, for the same use as above.
         fields: TupleIndex,
     },
     /// That it is this truth value.
@@ -256,7 +306,7 @@ pub enum Constraint {
     ConstInt {
         /// The value, as it was written.
         val: i128,
-        /// Its type.
+        /// Its type, without which the number doesn't say which constant is asked.
         ty: TypeId,
     },
     /// That it is this named constant.
@@ -264,31 +314,49 @@ pub enum Constraint {
         /// Its name.
         val: Sym,
     },
-    /// That it is there.
+    /// That it is there: that the call which may fail has answered.
     Some,
 }
 
 /// A rule by its demands. All its sites are of the set that it belongs to.
-#[derive(Debug, Drop)]
+#[derive(Debug)]
 pub struct Rule {
     /// The typed rule that it came from.
     pub id: RuleId,
     /// Where that was defined.
     pub pos: Pos,
-    // What the rule asks of sites, ascending by site, each site once.
+    // What the rule asks of sites, ascending by site, each site once: a rule that asked two things of one site could
+    // never match.
     pub(crate) constraints: Vec<(BindingId, Constraint)>,
     /// Sites that must have equal values.
     pub equals: DisjointSets<BindingId>,
-    /// Calls whose answers are gone over one by one.
+    /// Calls of multi terms, whose answers the rule goes over one by one.
     pub iterators: StableSet<BindingId>,
-    /// Of the rules whose demands hold, one of greatest priority is taken.
+    /// Of the rules whose demands hold, the one of greatest priority is taken. Two of one priority that may both match
+    /// are an overlap, which is refused.
     pub prio: i64,
-    /// The rule's name, where it has one.
+    /// The rule's name, where it has one, for those who trace which rule was taken.
     pub name: Option<Sym>,
-    /// Impure calls, to be made in this order before the result.
+    /// Impure calls, to be made in this order before the result, whether it uses them or not.
     pub impure: Vec<BindingId>,
     /// What the term is where the rule is taken.
     pub result: BindingId,
+}
+
+impl Drop for Rule {
+    fn drop(self) {
+        let Self {
+            id: _,
+            pos: _,
+            constraints: _,
+            equals: _,
+            iterators: _,
+            prio: _,
+            name: _,
+            impure: _,
+            result: _,
+        } = self;
+    }
 }
 
 impl Rule {
@@ -322,13 +390,22 @@ impl Rule {
     }
 }
 
-/// The rules of one term, and the sites that they speak of.
-#[derive(Debug, Drop)]
+/// The rules of one term, and the sites that they speak of, which they share.
+#[derive(Debug)]
 pub struct RuleSet {
     /// The rules, in the order of their numbers.
     pub rules: Vec<Rule>,
     /// What each site stands for, by its number.
     pub bindings: Vec<Binding>,
+}
+
+impl Drop for RuleSet {
+    fn drop(self) {
+        let Self {
+            rules: _,
+            bindings: _,
+        } = self;
+    }
 }
 
 impl RuleSet {
@@ -350,7 +427,8 @@ pub enum Overlap {
     No,
     /// Some value may meet the demands of both.
     Yes {
-        /// Whether the demands of one are among those of the other.
+        /// Whether the demands of one are among those of the other, so that what meets the latter's meets both. Which of
+        /// the two asks less isn't said.
         subset: bool,
     },
 }

@@ -8,6 +8,16 @@ use std::alloc::{AllocError, Global};
 use std::process::Abort;
 use std::test::Fail;
 
+// What is printed of `(decl f (u8) u8)`, `(rule 1 (f 1) 10)`, `(rule (f x) x)`.
+pub const FALL: &str = "term f
+  b0 = arg 0
+  b1 = int 10 u8
+  match b0
+    int 1 u8:
+      return b1
+  return b0
+";
+
 // Whether each list of definitions gets its answer.
 pub fn expect_answers(
     rt: &impl Abort,

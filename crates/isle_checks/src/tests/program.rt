@@ -1,19 +1,11 @@
 // What the program answers to its words, and what it does where its output fails.
+use super::answers::FALL;
 use isle_printing::run::run;
 use std::alloc::{AllocError, Global};
 use std::io;
 use std::io::{ErrorKind, Write};
 use std::process::Abort;
 use std::test::Fail;
-
-const FALL: &str = "term f
-  b0 = arg 0
-  b1 = int 10 u8
-  match b0
-    int 1 u8:
-      return b1
-  return b0
-";
 
 const BUILTIN: &str = "type error at 0:0: Type with name 'u8' defined more than once
 type error at 0:0: Type with name 'u8' is a built-in type

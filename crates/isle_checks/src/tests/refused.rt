@@ -15,7 +15,7 @@ fn expect_error(rt: &impl Abort, alloc: Global, rows: &[Words], want: &str) -> R
 }
 
 #[test]
-fn names(rt: HostRuntime) -> Result<(), Fail> {
+fn names_of_types(rt: HostRuntime) -> Result<(), Fail> {
     expect_answers(
         &rt,
         rt.alloc(),
@@ -29,20 +29,30 @@ fn names(rt: HostRuntime) -> Result<(), Fail> {
                 "type error at 0:1: Type with name 'A' defined more than once\n",
             ),
             (
-                &[
-                    ("decl", "f", &["u8"], "u8"),
-                    ("decl", "f", &["u8"], "u8"),
-                    ("rule", "f", &["x"], "x"),
-                ],
-                "type error at 0:1: Duplicate decl for 'f'\ntype error at 0:0: Duplicate decl for 'f'\n",
-            ),
-            (
                 &[("decl", "f", &["T"], "u8"), ("rule", "f", &["x"], "1")],
                 "type error at 0:0: Unknown arg type: 'T'\n",
             ),
             (
                 &[("decl", "f", &["u8"], "T"), ("rule", "f", &["x"], "1")],
                 "type error at 0:0: Unknown return type: 'T'\n",
+            ),
+        ],
+    )
+}
+
+#[test]
+fn names_of_terms(rt: HostRuntime) -> Result<(), Fail> {
+    expect_answers(
+        &rt,
+        rt.alloc(),
+        &[
+            (
+                &[
+                    ("decl", "f", &["u8"], "u8"),
+                    ("decl", "f", &["u8"], "u8"),
+                    ("rule", "f", &["x"], "x"),
+                ],
+                "type error at 0:1: Duplicate decl for 'f'\ntype error at 0:0: Duplicate decl for 'f'\n",
             ),
             (
                 &[("rule", "f", &["x"], "x")],

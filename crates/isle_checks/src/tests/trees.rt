@@ -1,15 +1,6 @@
 // The trees of accepted definitions.
-use super::answers::expect_answers;
+use super::answers::{FALL, expect_answers};
 use std::test::Fail;
-
-const FALL: &str = "term f
-  b0 = arg 0
-  b1 = int 10 u8
-  match b0
-    int 1 u8:
-      return b1
-  return b0
-";
 
 const PRIORITIES: &str = "term f
   b0 = arg 0
@@ -89,6 +80,17 @@ fn lowers_beside_types_and_constants(rt: HostRuntime) -> Result<(), Fail> {
                 ],
                 FALL,
             ),
+        ],
+    )
+}
+
+// Declarations over an enum and a struct.
+#[test]
+fn lowers_over_types(rt: HostRuntime) -> Result<(), Fail> {
+    expect_answers(
+        &rt,
+        rt.alloc(),
+        &[
             (
                 &[
                     ("enum", "T", &["A", "B"], ""),

@@ -1,25 +1,24 @@
 // The types that `lower` gives for the sample with a primitive type and an enum.
-use cranelift_isle::lower::lower;
+use super::answers::accepted;
+use cranelift_isle::lower::Lowered;
 use isle_base::syntax::Pos;
 use isle_printing::sample;
-use isle_types::{Fields, Sym, Type, TypeEnv, TypeId, Variant};
+use isle_types::{Fields, Sym, Type, TypeId, Variant};
 use std::alloc::Global;
 use std::process::Abort;
 use std::test::Fail;
 
-fn types_of(alloc: Global, name: &str) -> Result<TypeEnv, Fail> {
+fn lowered(alloc: Global, name: &str) -> Result<Lowered, Fail> {
     let Some(defs) = sample(alloc, name)? else {
         return Err(Fail::from("no sample"));
     };
-    match lower(alloc, &defs, true) {
-        Ok(lowered) => Ok(lowered.tyenv),
-        Err(_) => Err(Fail::from("refused")),
-    }
+    accepted(alloc, &defs)
 }
 
 #[test]
 fn names_of_the_sample(rt: HostRuntime) -> Result<(), Fail> {
-    let env = types_of(rt.alloc(), "types")?;
+    let lowered = lowered(rt.alloc(), "types")?;
+    let env = &lowered.tyenv;
     let names = [
         (13, "UImm8"),
         (14, "A"),
@@ -40,7 +39,8 @@ fn names_of_the_sample(rt: HostRuntime) -> Result<(), Fail> {
 
 #[test]
 fn types_of_the_sample(rt: HostRuntime) -> Result<(), Fail> {
-    let env = types_of(rt.alloc(), "types")?;
+    let lowered = lowered(rt.alloc(), "types")?;
+    let env = &lowered.tyenv;
     assert_eq!(rt; env.types.len(), 15);
     let primitive = Type::Primitive(TypeId(13), Sym(13), at(19));
     assert!(rt; env.types[13] == primitive);
