@@ -1,12 +1,12 @@
 -- What elaborating one thing after another does to the errors found so far.
 use Rattle.std.specs.Prelude.{◌≡◌, ℕ, ◌⊎◌, List, [], ◌∷◌, ◌++◌, length, map, IsTrue, Option, Some, None, option_and_then, slice_get, All}
-use Rattle.isle_model.specs.Syntax.{PatternTree, RuleTree, Definition, rule_definition}
-use Rattle.isle_model.specs.Names.{has_name}
-use Rattle.isle_model.specs.Outcome.{then_option}
-use Rattle.isle_model.specs.TermTable.{root_name, rule_trees}
-use Rattle.isle_model.specs.Tables.{TypeEntry}
-use Rattle.isle_model.specs.Typed.{TypedVar, TypedRule}
-use Rattle.isle_model.specs.Elaboration.{Elaborated, ElaboratedArgs, elaborate_args, elaborate_at, elaborate_rules, is_carried_rule, names_of_rule}
+use Rattle.isle_model.specs.lists.Syntax.{PatternTree, RuleTree, Definition, rule_definition}
+use Rattle.isle_model.specs.lists.Names.{has_name}
+use Rattle.isle_model.specs.rules.Outcome.{then_option}
+use Rattle.isle_model.specs.lists.TermTable.{root_name, rule_trees}
+use Rattle.isle_model.specs.lists.Tables.{TypeEntry}
+use Rattle.isle_model.specs.rules.Typed.{TypedVar, TypedRule}
+use Rattle.isle_model.specs.first.Elaboration.{Elaborated, ElaboratedArgs, elaborate_args, elaborate_at, elaborate_rules, is_carried_rule, carried_names_of_rule}
 use Rattle.isle_base.specs.declared.syntax.Error.{Error}
 use Rattle.isle_types.specs.declared.type_env.TypeEnv.{TypeEnv}
 use Rattle.isle_types.specs.Envs.{names_of, symbol_of}

@@ -24,7 +24,7 @@ rule_in_env env k = option_map (λ r. r.0) (look_up same_symbol env.rule_map (sy
 -- no converter
 pub record SeesRules (env : TermEnv) (defs : List Definition) (typed : List TypedRule) (expanded : Bool) : Type 0 where
   pub terms : term_views env.terms.items ≡ term_entries defs
-  pub term_ids : (k : ℕ) → term_in_env env k ≡ term_of_number defs (all_names defs) k
+  pub term_ids : (k : ℕ) → term_in_env env k ≡ carried_term_of_number defs (all_names defs) k
   pub rules : rule_views env.rules.items ≡ typed
   pub rule_ids : (k : ℕ) → rule_in_env env k ≡ rule_named typed k
   pub converters : (c : TypeId × TypeId) → look_up same_types env.converters c ≡ None

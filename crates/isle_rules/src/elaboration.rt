@@ -5,10 +5,11 @@ ghost use Rattle.std.specs.Prelude.{◌≡◌, ◌++◌, Bool, true, IfOk, OnOk,
 ghost use Rattle.std.specs.Option.{option_to_list};
 ghost use Rattle.isle_base.specs.SyntaxViews as S;
 ghost use Rattle.isle_base.specs.SyntaxViews.{definition_view, definition_views};
-ghost use Rattle.isle_model.specs.Names.{number, has_name};
-ghost use Rattle.isle_model.specs.TermTable.{root_name};
-ghost use Rattle.isle_model.specs.Values.{is_atom_type};
-ghost use Rattle.isle_model.specs.Elaboration.{all_names, elaborate_pattern, elaborate_expr, elaborate_at, names_of_rule, own_name, root_args, var_named, var_of_pattern, var_of_expr, bound_names};
+ghost use Rattle.isle_model.specs.lists.Names.{number, has_name};
+ghost use Rattle.isle_model.specs.lists.TermTable.{root_name};
+ghost use Rattle.isle_model.specs.rules.Values.{is_atom_type};
+ghost use Rattle.isle_model.specs.first.Elaboration.{all_names, elaborate_pattern, elaborate_expr, elaborate_at, carried_names_of_rule, own_name, root_args, var_of_pattern, var_of_expr, bound_names};
+ghost use Rattle.isle_model.specs.lists.Setting.{var_named};
 ghost use Rattle.isle_types.specs.Envs.{names_of, symbol_of, IsInterned};
 ghost use Rattle.isle_types.specs.TypeTables.{SeesTypes};
 ghost use Rattle.isle_types.specs.TypeViews.{type_views};
@@ -272,7 +273,7 @@ fn elaborate_for(
     errors: &mut Vec<Error>,
 ) -> Result<Option<Rule>, AllocError>
     requires inverse { IsInterned tyenv.now }
-    requires known { AreKnown (names_of tyenv.now) (names_of_rule (S.rule_view rule.now)) }
+    requires known { AreKnown (names_of tyenv.now) (carried_names_of_rule (S.rule_view rule.now)) }
     ensures { IfOk result (λ o. Elaborates errors.old.items errors.new.items (option_map rule_view o)
         (elaborate_at (names_of tyenv.now) (type_views tyenv.now.types.items) (S.rule_view rule.now) id.0 root_term.0 (term_view term.now))) }
 {
@@ -325,7 +326,7 @@ fn elaborate_rule(
     errors: &mut Vec<Error>,
 ) -> Result<Option<Rule>, AllocError>
     requires inverse { IsInterned tyenv.now }
-    requires known { AreKnown (names_of tyenv.now) (names_of_rule (S.rule_view rule.now)) }
+    requires known { AreKnown (names_of tyenv.now) (carried_names_of_rule (S.rule_view rule.now)) }
     ensures { IfOk result (λ o. TypesRule errors.old.items errors.new.items tyenv.now table.now id.0 (S.rule_view rule.now) (option_map rule_view o)) }
 {
     if !is_carried(rule) {

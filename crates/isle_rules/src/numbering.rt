@@ -4,8 +4,8 @@
 ghost use Rattle.std.specs.Prelude.{[], ◌++◌, OnOk};
 ghost use Rattle.std.specs.List.{flat_map};
 ghost use Rattle.isle_base.specs.SyntaxViews.{definition_view, definition_views, pattern_view, expr_view, rule_view};
-ghost use Rattle.isle_model.specs.TermTable.{rule_trees};
-ghost use Rattle.isle_model.specs.Elaboration.{bound_names, root_args, var_of_pattern, var_of_expr, own_name, names_of_rule};
+ghost use Rattle.isle_model.specs.lists.TermTable.{rule_trees};
+ghost use Rattle.isle_model.specs.first.Elaboration.{bound_names, root_args, var_of_pattern, var_of_expr, own_name, carried_names_of_rule};
 ghost use Rattle.isle_types.specs.Envs.{IsInterned};
 ghost use Rattle.isle_rules.specs.Elaborating.{definition_names};
 ghost use Rattle.isle_rules.specs.Numbering.{Meets};
@@ -18,7 +18,7 @@ use std::alloc::AllocError;
 // Gives the names of all rules their ids, in order.
 pub(crate) fn number_names(tyenv: &mut TypeEnv, defs: &[Def]) -> Result<(), AllocError>
     requires { IsInterned tyenv.old }
-    ensures { OnOk result (Meets tyenv.old tyenv.new [] (flat_map names_of_rule (rule_trees (definition_views defs.now)))) }
+    ensures { OnOk result (Meets tyenv.old tyenv.new [] (flat_map carried_names_of_rule (rule_trees (definition_views defs.now)))) }
 {
     for def in defs {
         number_definition(tyenv, def)?;
@@ -38,7 +38,7 @@ fn number_definition(tyenv: &mut TypeEnv, def: &Def) -> Result<(), AllocError>
 
 fn number_rule(tyenv: &mut TypeEnv, rule: &Rule) -> Result<(), AllocError>
     requires { IsInterned tyenv.old }
-    ensures { OnOk result (Meets tyenv.old tyenv.new [] (names_of_rule (rule_view rule.now))) }
+    ensures { OnOk result (Meets tyenv.old tyenv.new [] (carried_names_of_rule (rule_view rule.now))) }
 {
     number_args(tyenv, rule)?;
     number_expr(tyenv, &rule.expr)?;

@@ -1,10 +1,10 @@
 //! The tree that tests each rule alone, by descending priority.
 
 ghost use Rattle.std.specs.Prelude.{◌≡◌, false, IfOk, map};
-ghost use Rattle.isle_model.specs.Trees.{no_step};
-ghost use Rattle.isle_model.specs.Sound.{IsSound};
-ghost use Rattle.isle_alone.specs.Plain.{IsPlainSet};
-ghost use Rattle.isle_alone.specs.Alone.{alone, alone_match, alone_all, ordered};
+ghost use Rattle.isle_model.specs.trees.Trees.{no_step};
+ghost use Rattle.isle_model.specs.trees.Sound.{IsSound};
+ghost use Rattle.isle_model.specs.first.Plain.{IsPlainSet};
+ghost use Rattle.isle_model.specs.first.Alone.{alone, alone_match, alone_all, ordered};
 ghost use Rattle.isle_sets.specs.SiteViews.{constraint_view, set_rule_view, set_rule_views, set_view};
 ghost use Rattle.isle_serialize.specs.TreeViews.{tree_view, step_view};
 

@@ -15,7 +15,7 @@ use Rattle.isle_base.specs.declared.syntax.Error.{Error}
 use Rattle.isle_base.specs.Answers.{limit_of}
 use Rattle.isle_base.specs.SyntaxViews.{definition_view, definition_views}
 use Rattle.isle_types.specs.declared.type_env.TypeEnv.{TypeEnv}
-use Rattle.isle_types.specs.Envs.{names_of, symbol_of}
+use Rattle.isle_types.specs.Envs.{names_of, symbol_of, IsInterned}
 use Rattle.isle_types.specs.Reading.{Reports}
 use Rattle.isle_types.specs.TypeTables.{SeesTypes}
 use Rattle.isle_types.proofs.Reports.{both}
@@ -25,7 +25,6 @@ use Rattle.isle_terms.specs.declared.term_table.TermTable.{TermTable}
 use Rattle.isle_terms.specs.TermTables.{term_at}
 use Rattle.isle_terms.specs.TermViews.{term_view, term_views}
 use Rattle.isle_terms.specs.Reading.{IsWithin, Interns, IsFreeOrReported, AddsOrReports, signature_entry, IsWrong, ReadsRight, ReadsDecl, ReadsOther, ReadsSignature}
-use Rattle.isle_types.specs.Envs.{IsInterned}
 use Rattle.isle_terms.specs.Stages.{place_among, stage_entry, stage_entries, IsCarried, IsTyped, HasTypes, HasNoConverter, Signing, ReadsSignatures}
 use Rattle.isle_terms.proofs.Finding.{at_number, finds_next}
 use Rattle.isle_terms.proofs.Typing.{types_start, types_after, types_of, all_known, result_of, result_known, unknown_wrong}

@@ -7,12 +7,11 @@ use Rattle.isle_model.specs.lists.Names.{has_name}
 use Rattle.isle_model.specs.lists.TypeTable.{type_names_met, type_id, type_or_first}
 use Rattle.isle_base.specs.Stable.{look_up}
 use Rattle.isle_types.specs.declared.type_env.TypeEnv.{TypeEnv}
-use Rattle.isle_types.specs.Envs.{names_of, symbol_of, type_at, same_symbol, symbol}
+use Rattle.isle_types.specs.Envs.{names_of, symbol_of, type_at, same_symbol, symbol, type_of_name}
 use Rattle.isle_types.specs.TypeTables.{SeesTypes}
 use Rattle.isle_types.specs.TypeViews.{type_views}
 use Rattle.isle_model.proofs.TypeNames.{no_type}
 use Rattle.isle_terms.specs.Reading.{Interns, HaveTypes, IsKnownInEnv, HasUnknown}
-use Rattle.isle_types.specs.Envs.{type_of_name}
 use Rattle.isle_terms.specs.Stages.{Finds, HasTypes, IsKnown, IsTyped}
 use Rattle.isle_terms.proofs.Finding.{by_name, finds_more}
 

@@ -12,14 +12,13 @@ use Rattle.isle_base.specs.declared.syntax.Error.{Error}
 use Rattle.isle_base.specs.Stable.{look_up}
 use Rattle.isle_types.specs.declared.ids.TypeId.{TypeId}
 use Rattle.isle_types.specs.declared.type_env.TypeEnv.{TypeEnv}
-use Rattle.isle_types.specs.Envs.{names_of}
+use Rattle.isle_types.specs.Envs.{names_of, IsInterned}
 use Rattle.isle_types.specs.Stages.{ArePlain}
 use Rattle.isle_types.specs.TypeTables.{SeesTypes}
 use Rattle.isle_terms.specs.declared.term_table.TermTable.{TermTable}
 use Rattle.isle_terms.specs.TermTables.{term_at, same_types}
 use Rattle.isle_terms.specs.TermViews.{term_views}
 use Rattle.isle_terms.specs.Reading.{IsWithin}
-use Rattle.isle_types.specs.Envs.{IsInterned}
 
 -- what is found at the number of each name is what the name has, and other texts have nothing
 pub record Finds (names : List (List ℕ)) (at : ℕ → Option ℕ) (has : List ℕ → Option ℕ) : Type 0 where
@@ -72,7 +71,7 @@ HasNoConverter table = (c : TypeId × TypeId) → look_up same_types table.conve
 
 -- there is no error so far, or the definitions have no term table
 abbrev pub SoFarOfTerms : List Definition → List Error → Type 0 → Type 0
-SoFarOfTerms defs es Right = ((es ≡ []) × Right) ⊎ ((es ≢ []) × (IsValidTerms defs → ⊥))
+SoFarOfTerms defs es Right = ((es ≡ []) × Right) ⊎ ((es ≢ []) × (IsValidCarriedTerms defs → ⊥))
 
 -- the declarations among these definitions are left to be read
 pub record Signing (defs rest : List Definition) (env : TypeEnv) (table : TermTable) : Type 0 where

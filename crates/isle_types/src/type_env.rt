@@ -2,7 +2,7 @@
 
 ghost use Rattle.std.specs.Prelude.{◌≡◌, ℕ, List, ◌++◌, ◌∷◌, [], map, option_map, option_and_then, IfOk, OnOk, OnErr, string_bytes, length, Some, IsSome, slice_get};
 ghost use Rattle.std.specs.HashMap.{get_by_text};
-ghost use Rattle.isle_model.specs.Names.{number, with_name};
+ghost use Rattle.isle_model.specs.lists.Names.{number, with_name};
 ghost use Rattle.isle_types.specs.Names.{number_if_known};
 ghost use Rattle.isle_types.specs.Envs.{names_of, symbol_of, type_at, IsInterned};
 ghost use Rattle.isle_types.specs.Types.{variant_at};
