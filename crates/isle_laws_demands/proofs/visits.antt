@@ -2,6 +2,7 @@
 pub mod Apart
 pub mod Built
 pub mod Closing
+pub mod Constrained
 pub mod Declared
 pub mod Elaborated
 pub mod Exprs

@@ -4,7 +4,8 @@
 //! `proofs/`.
 #![tactic(auto)]
 
-ghost use Rattle.isle_laws_demands.specs.ClosureLaws.{JoinedIsEquivalence, ClassesBoundJoined, VerdictIsExact, NamesAreExact, ClosingAddsNothing, ConstraintsAreKept, ClosingIsSound, OverlapIsSymmetric, OverlapIsExact, ClashIsExact, FirstLimitIsPassed, PassedLimitIsMet, ClosingIsWhole, ReportsAreExact, ShadowsAreExact, VisitsMakeEqualSites, PlainClosingEnds};
+ghost use Rattle.isle_laws_demands.specs.ClosureLaws.{JoinedIsEquivalence, ClassesBoundJoined, VerdictIsExact, NamesAreExact, ClosingAddsNothing, ConstraintsAreKept, ClosingIsSound, OverlapIsSymmetric, OverlapIsExact, ClashIsExact, FirstLimitIsPassed, PassedLimitIsMet, ClosingIsWhole, ReportsAreExact, ShadowsAreExact, VisitsMakeEqualSites, PlainClosingEnds, ClosingEnds};
+ghost use Rattle.isle_laws_demands.specs.BuiltLaws.{ClosingsOfBuiltRulesAreWhole, ConstrainedSitesStandInNoClass, BuiltRulesConstrainOrEquate};
 ghost use Rattle.isle_laws_demands.specs.ReportLaws.{CheckIsExact, OverlapsAreListedOnce, ListedRulesOverlap, MasksAreReportedOnce, ReportedMasksShadow};
 ghost use Rattle.isle_laws_demands.specs.VisitLaws.{SitesStandOnce, FormedRulesDemandGates, ClosingKeepsGates, ElaboratedRulesDemandGates, BuiltRulesDemandGates, BuiltSetsAreWellBuilt, NoneAskedAndGoneOver, MultiCallsAreGoneOver, NoRuleAsksAndGoesOver, MultiTermsHaveOnePriority};
 ghost use Rattle.isle_model.specs.claims.SetMeanings.{BuiltSetsAreTested};
@@ -124,6 +125,28 @@ pub fn reported_masks_shadow()
 /// The closing of demands without equalities ends.
 pub fn plain_closing_ends()
     ensures { PlainClosingEnds }
+{}
+
+/// So does that of the demands of each rule that is built.
+#[tactic(auto, using(crate::proofs::closure::BuiltRules::closing_ends_lem))]
+pub fn closings_end()
+    ensures { ClosingEnds }
+{}
+
+/// So the closed demands of a rule that is built are all that follows.
+#[tactic(auto, using(crate::proofs::closure::BuiltRules::closings_of_built_rules_are_whole_lem))]
+pub fn closings_of_built_rules_are_whole()
+    ensures { ClosingsOfBuiltRulesAreWhole }
+{}
+
+/// And none of their classes holds a constrained site.
+pub fn constrained_sites_stand_in_no_class()
+    ensures { ConstrainedSitesStandInNoClass }
+{}
+
+/// So no rule of a built set both constrains and equates a site.
+pub fn built_rules_constrain_or_equate()
+    ensures { BuiltRulesConstrainOrEquate }
 {}
 
 /// In a built set no site stands twice.

@@ -24,7 +24,7 @@ use Rattle.isle_laws_demands.proofs.visits.Once.{sites_stand_once_lem}
 use Rattle.isle_laws_demands.proofs.visits.Built.{rule_at, BuiltGates, built_gates, IsGood, below_good}
 
 -- 1. lists
-all_from_in : {X : Type 0} (P : X → Type 0) (xs : List X) → ((x : X) → In xs x → P x) → All P xs
+pub all_from_in : {X : Type 0} (P : X → Type 0) (xs : List X) → ((x : X) → In xs x → P x) → All P xs
 all_from_in P xs f k d l = f (get_or xs k d) (in_slice xs k (get_or xs k d) (slice_get-get_or xs k d l))
 
 pub in_from_all : {X : Type 0} (P : X → Type 0) (xs : List X) → All P xs → (x : X) → In xs x → P x
