@@ -8,7 +8,7 @@ ghost use Rattle.isle_laws_demands.specs.ClosureLaws.{JoinedIsEquivalence, Class
 ghost use Rattle.isle_laws_demands.specs.BuiltLaws.{ClosingsOfBuiltRulesAreWhole, ConstrainedSitesStandInNoClass, BuiltRulesConstrainOrEquate};
 ghost use Rattle.isle_laws_demands.specs.ReportLaws.{CheckIsExact, OverlapsAreListedOnce, ListedRulesOverlap, MasksAreReportedOnce, ReportedMasksShadow};
 ghost use Rattle.isle_laws_demands.specs.VisitLaws.{SitesStandOnce, FormedRulesDemandGates, ClosingKeepsGates, ElaboratedRulesDemandGates, BuiltRulesDemandGates, BuiltSetsAreWellBuilt, NoneAskedAndGoneOver, MultiCallsAreGoneOver, NoRuleAsksAndGoesOver, MultiTermsHaveOnePriority};
-ghost use Rattle.isle_model.specs.claims.SetMeanings.{BuiltSetsAreTested};
+ghost use Rattle.isle_model.specs.claims.SetMeanings.{BuiltSetsAreTested, BuiltSetsCanBeServed, BuiltSetsAreCollected};
 
 use isle_laws_lists::{lists_agree, rules_are_formed};
 
@@ -214,4 +214,23 @@ pub fn multi_terms_have_one_priority()
 {
     rules_are_formed();
     lists_agree();
+}
+
+/// A set that is built of elaborated rules can be served: no site stands twice or is both constrained and equated, the
+/// gates below what a rule tests and goes over are demanded, and the rules of a multi term have one priority.
+pub fn built_sets_can_be_served()
+    ensures { BuiltSetsCanBeServed }
+{
+    rules_are_formed();
+    lists_agree();
+    elaborated_rules_demand_gates();
+}
+
+/// And in a multi term whose rules make no impure call and leave no multi call unused it meets what collecting asks.
+pub fn built_sets_are_collected()
+    ensures { BuiltSetsAreCollected }
+{
+    rules_are_formed();
+    lists_agree();
+    elaborated_rules_demand_gates();
 }

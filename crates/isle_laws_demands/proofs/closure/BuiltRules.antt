@@ -1,16 +1,15 @@
 -- The closing of a rule that is built ends, so its closed demands are whole, and none of its classes is constrained.
-use Rattle.std.proofs.Common.{◌≡◌, true, false, List, ◌∷◌, map, Some, None, Contains, filter, sym, ◌∙◌, subst}
+use Rattle.std.proofs.Common.{◌≡◌, true, List, map, filter, sym, ◌∙◌, subst}
 use Rattle.std.proofs.lemmas.Bool.{false≢true}
 use Rattle.isle_model.specs.rules.Program.{Program}
 use Rattle.isle_model.specs.rules.Typed.{TypedRule}
 use Rattle.isle_model.specs.sites.Sites.{Constraint, SiteTerm}
 use Rattle.isle_model.specs.sites.Demands.{demands_of, has_site}
-use Rattle.isle_model.specs.sites.Closure.{IsUnreachable, is_unreachable, Closed, ascending, closing, before_closing, begins_with, in_order, most_closing_steps, closed}
+use Rattle.isle_model.specs.sites.Closure.{IsUnreachable, Closed, ascending, closing, before_closing, begins_with, in_order, most_closing_steps, closed}
 use Rattle.isle_model.specs.sites.Overlap.{is_built}
 use Rattle.isle_laws_demands.specs.ClosureLaws.{HasEnded, ClosingEnds}
 use Rattle.isle_laws_demands.specs.BuiltLaws.{ClosingsOfBuiltRulesAreWhole, ConstrainedSitesStandInNoClass}
 use Rattle.isle_model.proofs.Elements.{In, in_from_contains, any_in, in_map, from_flat_map, in_filter, passed_filter}
-use Rattle.isle_laws_demands.proofs.closure.Classes.{in_has, has_in}
 use Rattle.isle_laws_demands.proofs.closure.Ending.{few_made_end}
 use Rattle.isle_laws_demands.proofs.closure.Settled.{verdict_is_exact_lem}
 use Rattle.isle_laws_demands.proofs.closure.Whole.{none_constrained}
@@ -21,7 +20,7 @@ pub closing_ends_lem : ClosingEnds
 closing_ends_lem p before r built = few_made_end before (demands_of p r) (few_made p before r built)
 
 -- values can meet its demands
-reachable : (p : Program) (before : List SiteTerm) (r : TypedRule) → is_built p before r ≡ true → IsUnreachable (demands_of p r) → ⊥
+pub reachable : (p : Program) (before : List SiteTerm) (r : TypedRule) → is_built p before r ≡ true → IsUnreachable (demands_of p r) → ⊥
 reachable p before r built u = false≢true (sym (is_reached p before r built) ∙ (verdict_is_exact_lem (demands_of p r)).1 u)
 
 pub closings_of_built_rules_are_whole_lem : ClosingsOfBuiltRulesAreWhole

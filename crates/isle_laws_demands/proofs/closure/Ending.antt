@@ -1,12 +1,10 @@
 -- The closing of a rule that is built ends: each step lessens the number of pairs of a made site and one of its owners
 -- that stands in a class, and there are no more pairs than steps.
-use Rattle.std.proofs.Common.{◌≡◌, ◌⊎◌, ◌+◌, ℕ, zero, suc, ◌<◌, ◌≤◌, Bool, true, false, not, ◌&&◌, cond, if◌then◌else◌, ◌*◌, List, [], ◌∷◌, length, Option, Some, None, is_none, Contains, sum_by, count_by, flat_map, refl, sym, ap, ◌∙◌, subst, inl, inr, arith}
+use Rattle.std.proofs.Common.{◌≡◌, ◌⊎◌, ◌+◌, ℕ, zero, suc, ◌<◌, ◌≤◌, Bool, true, false, not, ◌&&◌, cond, if◌then◌else◌, ◌*◌, List, [], ◌∷◌, length, Option, Some, None, sum_by, count_by, flat_map, refl, sym, ap, ◌∙◌, subst, inl, inr, arith}
 use Rattle.std.proofs.lemmas.Bool.{cases_Bool, cond-true, cond-false, and_parts, and_from, false≢true}
 use Rattle.std.proofs.lemmas.List.Sums.{sum_by-cons}
-use Rattle.isle_model.specs.rules.Program.{Program}
-use Rattle.isle_model.specs.rules.Typed.{TypedRule}
 use Rattle.isle_model.specs.sites.Sites.{Constraint, is_variant, is_struct, is_bool, is_int, is_prim, is_present, SiteTerm, bool_term, int_term, prim_term, argument, extractor_call, constructor_call, pick_of, variant_made, variant_field, struct_made, struct_field, some_made, some_part, tuple_part, no_site}
-use Rattle.isle_model.specs.sites.Demands.{Demands, demands_of, site_term_eq, has_site}
+use Rattle.isle_model.specs.sites.Demands.{Demands, site_term_eq, has_site}
 use Rattle.isle_model.specs.sites.Closure.{field_terms, with_owners, constraint_of, Closed, class_at, without_class_of, merged_all, ascending, is_in_class, next_constrained, field_equalities, taken, closing, before_closing, most_closing_steps}
 use Rattle.isle_laws_demands.specs.ClosureLaws.{HasEnded}
 use Rattle.isle_model.proofs.Elements.{In, some_is, none_some, any_in, in_any, in_filter, filter_from, passed_filter}

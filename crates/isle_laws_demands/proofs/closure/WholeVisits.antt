@@ -6,7 +6,7 @@ use Rattle.isle_model.specs.rules.Program.{Program, kind}
 use Rattle.isle_model.specs.sites.Sites.{SiteTerm}
 use Rattle.isle_model.specs.sites.Demands.{pattern_count, demands_of, with_sites}
 use Rattle.isle_model.specs.sites.Closure.{is_unreachable, closed}
-use Rattle.isle_model.specs.sites.Limits.{most_arguments, most_sites, RuleLimit, arguments_limit, sites_limit, Width, width_of, widths, widths_in, limit_of_width, limits_in, limits_in_args, limits_of_shape, Walked, WalkedAll, passes_width, unwalked, walked_term, walked_and, walked, walked_all, WalkedRule, ended_at, after_arg, after_iflet, walked_iflets, walked_args, walked_rule, made_walking, sites_wanted, sites_reached, first_limit}
+use Rattle.isle_model.specs.sites.Limits.{most_arguments, most_sites, RuleLimit, arguments_limit, sites_limit, Width, width_of, widths, widths_in, limit_of_width, limits_in, limits_in_args, limits_of_shape, Walked, WalkedAll, passes_width, unwalked, walked_term, walked_and, walked, walked_all, WalkedRule, ended_at, after_arg, walked_iflets, walked_args, walked_rule, made_walking, sites_wanted, sites_reached, first_limit}
 use Rattle.isle_model.specs.sites.Overlap.{is_built}
 use Rattle.isle_model.proofs.Elements.{In, none_some, in_left, in_right, from_flat_map, in_flat_map}
 

@@ -1,11 +1,11 @@
 -- No rule of a built set both constrains and equates a site.
-use Rattle.std.proofs.Common.{◌≡◌, ℕ, true, List, [], Contains, subst}
+use Rattle.std.proofs.Common.{ℕ, List, [], Contains, subst}
 use Rattle.isle_model.specs.rules.Program.{Program, rules_of}
 use Rattle.isle_model.specs.sites.Sites.{Constraint, SetRule, SiteSet, SiteTerm, unfold_site}
 use Rattle.isle_model.specs.sites.Overlap.{BuiltRule, built_rules}
-use Rattle.isle_model.specs.sites.RuleSets.{IsRuleOf, IsBuilt}
+use Rattle.isle_model.specs.sites.RuleSets.{IsRuleOf}
 use Rattle.isle_model.specs.claims.SetMeanings.{ConstrainsOrEquates}
-use Rattle.isle_model.proofs.Elements.{In, in_from_contains}
+use Rattle.isle_model.proofs.Elements.{In}
 use Rattle.isle_laws_demands.specs.BuiltLaws.{BuiltRulesConstrainOrEquate}
 use Rattle.isle_laws_demands.proofs.closure.BuiltRules.{constrained_sites_stand_in_no_class_lem}
 use Rattle.isle_laws_demands.proofs.visits.Built.{rule_at, was_built}
