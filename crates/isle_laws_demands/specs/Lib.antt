@@ -1,4 +1,4 @@
-pub mod AcceptLaws
+pub mod BuiltLaws
 pub mod ClosureLaws
 pub mod ReportLaws
 pub mod VisitLaws
