@@ -41,7 +41,7 @@ pub grown_binding : (x : ℕ) (s : SiteTerm) (v : Visit) → Grown v (binding x 
 grown_binding x s v = record { made = λ u i. i; calls = λ u i. i; asked = λ x i. i; equal = λ x i. i }
 
 -- the visit after two sites that are two were equated
-pub equated : SiteTerm → SiteTerm → Visit → Visit
+unfoldable pub equated : SiteTerm → SiteTerm → Visit → Visit
 equated a b v = record { vars = v.vars; impure_calls = v.impure_calls; demands = record { constraints = v.demands.constraints; equalities = v.demands.equalities ++ (a, b) ∷ []; iterators = v.demands.iterators; impure = v.demands.impure; made = v.demands.made } }
 
 grown_equated : (a b : SiteTerm) (v : Visit) → Grown v (equated a b v)
