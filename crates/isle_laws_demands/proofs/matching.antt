@@ -3,6 +3,7 @@ pub mod Contents
 pub mod Demanded
 pub mod Exprs
 pub mod Grown
+pub mod Patterns
 pub mod SameExprs
 pub mod TypedParts
 pub mod Variables

@@ -1,10 +1,10 @@
 -- What demands ask of contents, where a rule matches and so that it does, step by step of a visit.
-use Rattle.std.proofs.Common.{◌≡◌, ◌⊎◌, ℕ, Bool, true, false, List, [], ◌∷◌, ◌++◌, Option, Some, None, is_some, refl, sym, ap, subst, ◌∙◌, inl, inr}
+use Rattle.std.proofs.Common.{◌≡◌, ◌⊎◌, ◌==◌, ℕ, Bool, true, false, List, [], ◌∷◌, ◌++◌, Option, Some, None, is_some, refl, sym, ap, subst, ◌∙◌, inl, inr}
 use Rattle.std.proofs.lemmas.Bool.{cases_Bool, cond-true, cond-false, false≢true}
 use Rattle.isle_model.specs.rules.Values.{Value, value_eq, well_typed}
-use Rattle.isle_model.specs.rules.Meaning.{Content, one, parts, nothing, just, many}
+use Rattle.isle_model.specs.rules.Meaning.{Content, one, parts, nothing, just, many, look}
 use Rattle.isle_model.specs.rules.Outcome.{then_option}
-use Rattle.isle_model.specs.rules.Picks.{SitedVars, sited_value, where_same}
+use Rattle.isle_model.specs.rules.Picks.{Sited, SitedVars, sited_value, where_same}
 use Rattle.isle_model.specs.trees.Run.{content_fields, where_constant}
 use Rattle.isle_model.specs.sites.Sites.{Constraint, is_present, SiteTerm}
 use Rattle.isle_model.specs.sites.Demands.{site_term_eq, Demands, Visit, asking, equating, asking_all}
@@ -126,6 +126,14 @@ AreBound g vars e vs = (x ty : ℕ) → var_type vars x ≡ Some ty → IsBound 
 
 pub bound_vars : (g : Given) (vars : List (ℕ × ℕ)) (e : SitedVars) (vs : List (ℕ × SiteTerm)) → AreBound g vars e vs → AreVars g vars e vs
 bound_vars g vars e vs f x ty h = (f x ty h).var
+
+-- another variable is bound
+pub bound_kept : (g : Given) (x y ty : ℕ) (a : Sited) (s : SiteTerm) (e : SitedVars) (vs : List (ℕ × SiteTerm)) → (x == y) ≡ false → IsBound g e vs y ty → IsBound g ((x, a) ∷ e) ((x, s) ∷ vs) y ty
+bound_kept g x y ty a s e vs n b = record {
+  var = var_kept g x y ty a s e vs n b.var;
+  value = b.value;
+  there = ap (λ (q : Option Sited). then_option q (λ c. c.value)) (cond-false (x == y) (Some a) (look (λ k. k == y) e) n) ∙ b.there;
+}
 
 -- after a part of a match and of a visit: what was met is met, enough was asked, and variables agree
 pub record After (g : Given) (more : List (ℕ × ℕ)) (e : SitedVars) (v w : Visit) (o : Option SitedVars) : Type 0 where
