@@ -4,6 +4,7 @@ pub mod Demanded
 pub mod Exprs
 pub mod Grown
 pub mod Patterns
+pub mod Rules
 pub mod SameExprs
 pub mod TypedParts
 pub mod Variables
