@@ -1,3 +1,4 @@
 pub mod closure
+pub mod matching
 pub mod overlaps
 pub mod visits

@@ -38,7 +38,7 @@ made_not_both (enum_type name id is_extern is_nodebug variants at) f i =
 made_not_both (struct_type name id is_extern is_nodebug fields at) f i =
     elim i [ inl e ↦ subst IsNeverBoth e (λ n h q. false≢true h) | inr n ↦ absurd n ]
 
-in_numbered : {X : Type 0} (k : ℕ) (xs : List X) (e : ℕ × X) → In (enumerate_from k xs) e → In xs e.1
+pub in_numbered : {X : Type 0} (k : ℕ) (xs : List X) (e : ℕ × X) → In (enumerate_from k xs) e → In xs e.1
 in_numbered k [] e i = absurd i
 in_numbered k (x ∷ xs) e (inl q) = inl (ap (λ (y : ℕ × _). y.1) q)
 in_numbered k (x ∷ xs) e (inr i) = inr (in_numbered (k + 1) xs e i)

@@ -140,7 +140,7 @@ kind_known t e = by t.kind e
     by struct_term q = cc
     by (declared_term flags c x) q = cc
 
-term_known : (p : Program) (t : ℕ) (entry : TermEntry) → slice_get p.terms t ≡ Some entry → kind p t ≡ unknown → ⊥
+pub term_known : (p : Program) (t : ℕ) (entry : TermEntry) → slice_get p.terms t ≡ Some entry → kind p t ≡ unknown → ⊥
 term_known p t entry e h = kind_known entry (sym (ap (λ o. elim o as (λ _. Kind) [ None ↦ unknown | Some x ↦ kind_of x ]) e) ∙ h)
 
 -- 3. patterns

@@ -1,0 +1,10 @@
+-- A typed rule matches exactly where its demands hold, and so a built set means what its rules do.
+pub mod Contents
+pub mod Demanded
+pub mod Exprs
+pub mod Grown
+pub mod Patterns
+pub mod Rules
+pub mod SameExprs
+pub mod TypedParts
+pub mod Variables
