@@ -1,4 +1,4 @@
--- A typed rule matches exactly where its demands hold, and so a built set means what its rules do.
+-- Matching of simple rules.
 pub mod Contents
 pub mod Demanded
 pub mod Exprs

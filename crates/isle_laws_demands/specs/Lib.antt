@@ -1,3 +1,4 @@
+pub mod AcceptLaws
 pub mod BuiltLaws
 pub mod ClosureLaws
 pub mod ReportLaws

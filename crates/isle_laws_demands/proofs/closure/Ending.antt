@@ -9,7 +9,8 @@ use Rattle.isle_model.specs.sites.Closure.{field_terms, with_owners, constraint_
 use Rattle.isle_laws_demands.specs.ClosureLaws.{HasEnded}
 use Rattle.isle_model.proofs.Elements.{In, some_is, none_some, any_in, in_any, in_filter, filter_from, passed_filter}
 use Rattle.isle_model.proofs.SameSites.{term_means, term_same}
-use Rattle.isle_laws_demands.proofs.closure.Classes.{in_has, has_in, in_with_sites}
+use Rattle.isle_model.proofs.SitesMade.{in_has, has_in}
+use Rattle.isle_laws_demands.proofs.closure.Classes.{in_with_sites}
 use Rattle.isle_laws_demands.proofs.closure.Whole.{IsApart, own_class, class_found, without_in, AllIn, each_apart, each_all_in, equality_members}
 use Rattle.isle_laws_demands.proofs.visits.Closing.{in_fields}
 

@@ -2,7 +2,7 @@
 use Rattle.std.proofs.Common.{if◌then◌else◌, ◌≡◌, ℕ, suc, ◌+◌, ◌==◌, Bool, true, false, ◌&&◌, cond, List, [], ◌∷◌, ◌++◌, Option, Some, None, is_some, is_none, slice_get, refl, sym, ap, subst, ◌∙◌, inl, inr, eq-eqb, eqb-true, arith}
 use Rattle.std.proofs.lemmas.Bool.{and_parts, cases_Bool, cond-true, cond-false, false≢true}
 use Rattle.isle_model.specs.lists.Tables.{Flags, TermEntry}
-use Rattle.isle_model.specs.rules.Values.{Value, truth, atom, of_variant, of_struct, Values, no_value, value_and, listed, well_typed, all_well_typed, variant_types, struct_types}
+use Rattle.isle_model.specs.rules.Values.{Value, truth, atom, of_variant, of_struct, Values, no_value, value_and, listed, well_typed, all_well_typed, variant_types, struct_types, is_atom_type}
 use Rattle.isle_model.specs.rules.Meaning.{Content, one, nothing, just, bool_literal, int_literal, literal_value, constant_value, extractor_answer, answered, look}
 use Rattle.isle_model.specs.rules.Outcome.{then_option}
 use Rattle.isle_model.specs.rules.Matching.{parts_seen}
@@ -14,7 +14,6 @@ use Rattle.isle_model.specs.sites.Sites.{Constraint, is_variant, is_struct, is_b
 use Rattle.isle_model.specs.sites.Demands.{Demands, Visit, visit_start, making, asking, equating, iterating, binding, from_to, pattern_count, Opened, opened, output_sites, part_sites, open_call, open_term, visit_pattern, visit_each, visit_all}
 use Rattle.isle_model.specs.sites.Serves.{constant_type, term_args, fits_answer, fits_extractor}
 use Rattle.isle_model.specs.lists.Setting.{bool_type, has_extractor}
-use Rattle.isle_model.specs.rules.Values.{is_atom_type}
 use Rattle.isle_model.specs.lists.Formed.{pattern_type, var_type, is_type, with_new, formed_pattern, formed_parts, formed_each}
 use Rattle.isle_model.proofs.Elements.{In, in_right, some_is, none_some}
 use Rattle.isle_laws_demands.proofs.visits.Patterns.{from_if, from_then, from_new, term_known}

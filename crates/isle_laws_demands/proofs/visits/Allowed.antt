@@ -18,7 +18,8 @@ use Rattle.isle_model.specs.claims.Environments.{TypesRead, setting_of, IsElabor
 use Rattle.isle_model.proofs.Elements.{In, in_map}
 use Rattle.isle_model.specs.sites.DemandedGates.{HasNoPartialMulti}
 use Rattle.isle_laws_demands.proofs.visits.Calls.{CallsAlone, CallAlone, LetsCallAlone, calls_such}
-use Rattle.isle_laws_demands.proofs.visits.Elaborated.{named_at, declared_are}
+use Rattle.isle_laws_lists.proofs.FormedRules.{named_at}
+use Rattle.isle_laws_demands.proofs.visits.Elaborated.{declared_are}
 use Rattle.isle_laws_demands.proofs.visits.Exprs.{IsTotal}
 use Rattle.isle_laws_demands.proofs.visits.RightSides.{IsSingle}
 

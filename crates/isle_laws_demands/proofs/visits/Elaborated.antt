@@ -19,14 +19,6 @@ use Rattle.isle_model.specs.sites.DemandedGates.{IsPureExpr, ArePureExprs, ArePu
 use Rattle.isle_laws_lists.proofs.FormedRules.{named_at}
 use Rattle.isle_laws_demands.proofs.visits.Rules.{formed_rules_demand_gates_lem}
 
-pub named_at : (name : ℕ) (ts : List TermEntry) (t : TermEntry) → entry_named name ts ≡ Some t → (k : ℕ) × (slice_get ts k ≡ Some t)
-named_at name [] t h = absurd (none-some t h)
-named_at name (u ∷ us) t h =
-    elim (eqb u.name name) as (λ b. cond b (Some u) (entry_named name us) ≡ Some t → (k : ℕ) × (slice_get (u ∷ us) k ≡ Some t)) [
-      | true ↦ λ i. (zero, i)
-      | false ↦ λ i. let r = named_at name us t i in (suc r.0, r.1)
-    ] h
-
 -- what pure flags allow is pure
 allowed_pure : (flags : Flags) → flags.pure ≡ true → (t : TermEntry) → is_callable flags t.kind ≡ true → (flags_of (kind_of t)).pure ≡ true
 allowed_pure flags h t c = by t.kind c

@@ -15,7 +15,7 @@ use Rattle.isle_model.specs.lists.Setting.{expr_type}
 use Rattle.isle_model.specs.lists.Formed.{pattern_type, where_bound, formed_pattern, is_formed_expr, formed_list, formed_iflets, is_formed_rule}
 use Rattle.isle_model.proofs.Elements.{In, in_left, in_right, in_either, all_in, in_filter, filter_from, passed_filter}
 use Rattle.isle_model.specs.sites.DemandedGates.{GatesDemanded, IsPureExpr, ArePureIfLets}
-use Rattle.isle_laws_demands.proofs.closure.Classes.{has_in}
+use Rattle.isle_model.proofs.SitesMade.{has_in}
 use Rattle.isle_laws_demands.proofs.visits.Afresh.{AreAlike, asked_alike, asked_iterators, pattern_alike, AreValuedAlike, expr_alike}
 use Rattle.isle_laws_demands.proofs.visits.Calls.{CallsAlone}
 use Rattle.isle_laws_demands.proofs.visits.Exprs.{from_entry, from_vars, IsTotal, expr_valued_by, expr_valued}
