@@ -1,7 +1,9 @@
 pub mod Bags
 pub mod Distinct
+pub mod DistinctJoined
 pub mod Elements
 pub mod Members
 pub mod Numbers
+pub mod Options
 pub mod SameSites
 pub mod ValuesEqual
