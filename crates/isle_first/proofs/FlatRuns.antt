@@ -6,15 +6,16 @@ use Rattle.isle_model.specs.rules.Values.{Value, value_eq}
 use Rattle.isle_model.specs.rules.Meaning.{Content, one, Meaning, bool_literal, int_literal, literal_value, constant_value}
 use Rattle.isle_model.specs.rules.Outcome.{Outcome, ended, ran_through, then_option}
 use Rattle.isle_model.specs.sites.Sites.{Site, Constraint, is_bool, is_int, is_prim, SetRule}
-use Rattle.isle_model.specs.trees.Trees.{Tree, no_step, step, Check, match_at, equal_at, return_at, Arms}
+use Rattle.isle_model.specs.trees.Trees.{Tree, no_step, step, match_at, equal_at, return_at, Arms}
 use Rattle.isle_model.specs.trees.Places.{Around, nothing_around, all_below, bind_order, return_uses, fields_of, joins_in, constraint_at}
-use Rattle.isle_model.specs.trees.Run.{World, Env, all_bound, bind_all, with_bound, Trace, at_start, or_next, with_content, used, as_value, returned, content_fields, where_constant, on_equal, run_tree, run_check, run_arms, ending_at}
+use Rattle.isle_model.specs.trees.Run.{World, Env, Trace, at_start, or_next, with_content, used, as_value, returned, content_fields, where_constant, on_equal, run_tree, run_check, run_arms, ending_at}
 use Rattle.isle_model.specs.trees.Sound.{NoneHigher, IsTested}
 use Rattle.isle_model.specs.first.Runs.{SiteHolds, MeetsDemands, taken_as, IsConstant, IsFlatRule}
 use Rattle.isle_model.proofs.ValuesEqual.{eq_means, eq_same}
 use Rattle.isle_model.proofs.Members.{constraint_in}
 use Rattle.isle_first.proofs.FlatSites.{AreFlat, content_at, held, all_below_same, ReadsAll, bind_one, bind_two, reads_one, reads_two, reads_all_at_start}
 use Rattle.isle_laws_runs.proofs.runs.Classes.{SameAtPairs, joined_same}
+use Rattle.isle_laws_runs.proofs.runs.Steps.{step_runs}
 use Rattle.isle_laws_runs.proofs.runs.Finding.{Found, NoneHolds, next_found, rule_found}
 
 -- a world and rules that fit each other: flat sites, each with a value, and constraints that tell values apart
@@ -48,10 +49,6 @@ FoundIn w rules = Found rules (MeetsDemands w) (TakenAs w)
 
 abbrev pub result_of : Value → Outcome
 result_of v = record { calls = []; results = one v ∷ []; ending = ended }
-
-pub step_runs : (w : World) (binds : List ℕ) (check : Check) (rest : Tree) (env env' : Env) → bind_all w env [] binds ≡ all_bound env' []
-    → run_tree (step binds check rest) w env at_start ≡ or_next (run_check check w env' at_start) (run_tree rest w env')
-step_runs w binds check rest env env' h = ap (λ b. with_bound b at_start (λ env'' t. or_next (run_check check w env'' t) (run_tree rest w env''))) h
 
 -- what constants' constraints bring
 pub constant_fields : (sites : List Site) (s : ℕ) (c : Constraint) → IsConstant c → fields_of sites s c ≡ []
@@ -120,7 +117,7 @@ module _ (w : World) (rules : List SetRule) (fits : Fits w rules) where
       let v = value_here r.result rule.result in
       let b = bind_one w fits.sites ar env all r.result (one v.0) v.2 in
       ap (λ l. run_tree (step (bind_order w.sites ar (l ++ r.result ∷ [])) (return_at r.at r.result) rest) w env at_start) rule.no_calls
-      ∙ step_runs w (bind_order w.sites ar (r.result ∷ [])) (return_at r.at r.result) rest env b.0 b.1.0
+      ∙ step_runs w (bind_order w.sites ar (r.result ∷ [])) (return_at r.at r.result) rest env b.0 [] b.1.0
       ∙ ap (λ o. or_next o (run_tree rest w b.0)) (returns_value b.0 r v.0 (b.2 ∙ v.2))
 
   pub taken_is : (r : SetRule) (rule : IsFlatRule w.sites r) → taken_as w r ≡ result_of (value_here r.result rule.result).0
@@ -156,7 +153,7 @@ module _ (w : World) (rules : List SetRule) (fits : Fits w rules) where
       let b = bind_one w fits.sites ar env all source (one v) e in
       let reads = subst (λ l. ReadsAll w b.0 (l ++ ar.emitted)) (sym (all_below_same w.sites fits.sites (source ∷ []))) (reads_one w env b.0 ar.emitted source all b.1.1 b.2) in
       let path =
-      step_runs w (bind_order w.sites ar (source ∷ [])) (match_at source arms) rest env b.0 b.1.0
+      step_runs w (bind_order w.sites ar (source ∷ [])) (match_at source arms) rest env b.0 [] b.1.0
       ∙ ap (λ c. or_next (with_content c at_start (λ c'. run_arms arms w c' b.0 at_start)) (run_tree rest w b.0)) (b.2 ∙ e) in
       subst (FoundIn w rules (here ++ later)) (sym path)
       (next_in here later (run_arms arms w (one v) b.0 at_start) (run_tree rest w b.0) (first b.0 reads) higher (next b.0 reads))
@@ -178,7 +175,7 @@ module _ (w : World) (rules : List SetRule) (fits : Fits w rules) where
       let m = bind_two w fits.sites ar env all a b (one u) (one v) e f in
       let reads = subst (λ l. ReadsAll w m.0 (l ++ ar.emitted)) (sym (all_below_same w.sites fits.sites (a ∷ (b ∷ [])))) (reads_two w env m.0 ar.emitted a b all m.1.1 m.2 m.3) in
       let path =
-      step_runs w (bind_order w.sites ar (a ∷ (b ∷ []))) (equal_at a b body) rest env m.0 m.1.0
+      step_runs w (bind_order w.sites ar (a ∷ (b ∷ []))) (equal_at a b body) rest env m.0 [] m.1.0
       ∙ ap₂ (λ x y. or_next (on_equal (then_option x as_value) (then_option y as_value) at_start (run_tree body w m.0 at_start)) (run_tree rest w m.0)) (m.2 ∙ e) (m.3 ∙ f) in
       subst (FoundIn w rules (here ++ later)) (sym path)
       (next_in here later (on_equal (Some u) (Some v) at_start (run_tree body w m.0 at_start)) (run_tree rest w m.0) (on_equal_found u v (run_tree body w m.0 at_start) here (λ s. same s m.0 reads) other) higher (next m.0 reads))

@@ -1,13 +1,13 @@
 pub mod Bags
-pub mod ByNumber
-pub mod Bytes
+pub mod Distinct
+pub mod DistinctJoined
 pub mod Elements
 pub mod FirstPlaces
 pub mod Joined
 pub mod Members
 pub mod Names
 pub mod Numbers
-pub mod Positions
+pub mod Options
 pub mod SameSites
 pub mod SitesMade
 pub mod TypeNames

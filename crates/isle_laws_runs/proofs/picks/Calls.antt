@@ -1,6 +1,6 @@
 -- The calls of a rule by their numbers: different sites unfold to different terms, a site takes answers of the calls below
 -- it, calls in the order of their numbers are in order, and one of them taken out.
-use Rattle.std.proofs.Common.{◌≡◌, ◌⊎◌, ℕ, zero, suc, ◌+◌, ◌<◌, ◌≤◌, Bool, true, false, cond, List, [], ◌∷◌, ◌++◌, length, map, filter, flat_map, Option, Some, None, slice_get, Contains, refl, sym, ap, ap₂, ◌∙◌, subst, inl, inr, arith}
+use Rattle.std.proofs.Common.{◌≡◌, ◌⊎◌, ℕ, zero, suc, ◌+◌, ◌<◌, ◌≤◌, Bool, true, false, List, [], ◌∷◌, ◌++◌, length, map, filter, flat_map, Option, Some, None, slice_get, Contains, refl, sym, ap, ap₂, ◌∙◌, subst, inl, inr, arith}
 use Rattle.std.proofs.lemmas.Bool.{cases_Bool, cond-true, cond-false, both_ways, cases_lt}
 use Rattle.std.proofs.lemmas.List.Elements.{Contains-append_left, Contains-append_right, Contains-append_cases}
 use Rattle.isle_model.specs.lists.Names.{IsDistinct}
@@ -189,59 +189,3 @@ module _ {X : Type 0} (f : ℕ → SiteTerm) (P : ℕ → Bool) where
                   | inr g ↦ let same : i ≡ a = omega (arith, m, g) in absurd (both_ways (P i) none (ap P same ∙ q))
                 ]
           ]
-
--- 4. one number taken out
-module _ {X : Type 0} (P Q : ℕ → Bool) where
-  pub filters_same : (i : ℕ) (xs : List X) → ((t : ℕ) → i ≤ t → Q t ≡ P t) → filter Q (numbers_from i xs) ≡ filter P (numbers_from i xs)
-  filters_same i [] h = refl
-  filters_same i (x ∷ xs) h =
-      let e = h i (omega arith) in
-      let r = filters_same (suc i) xs (λ t l. h t (omega arith)) in
-      λ j. cond (e j) (i ∷ r j) (r j)
-
-  pub record TakenOut (s i : ℕ) (xs : List X) : Type 0 where
-    pub first : List ℕ
-    pub after : List ℕ
-    pub all : filter P (numbers_from i xs) ≡ first ++ s ∷ after
-    pub others : filter Q (numbers_from i xs) ≡ first ++ after
-    pub less : (t : ℕ) → Contains first t → t < s
-
-  pub taken_out : (s i : ℕ) (xs : List X) → i ≤ s → s < i + length xs → P s ≡ true → Q s ≡ false → ((t : ℕ) → (t ≡ s → ⊥) → Q t ≡ P t) → TakenOut s i xs
-  taken_out s i [] l m p q h = absurd (omega arith)
-  taken_out s i (x ∷ xs) l m p q h =
-      elim (cases_lt i s) [
-        | inl g ↦
-            let r = taken_out s (suc i) xs g (omega arith) p q h in
-            let e = h i (λ d. absurd (omega (arith, d, g))) in
-            elim (cases_Bool (P i)) [
-              | inl t ↦ record {
-                first = i ∷ r.first;
-                after = r.after;
-                all = cond-true (P i) (i ∷ rest_p) rest_p t ∙ ap (λ y. i ∷ y) r.all;
-                others = cond-true (Q i) (i ∷ rest_q) rest_q (e ∙ t) ∙ ap (λ y. i ∷ y) r.others;
-                less = λ t k. elim (in_cases i t r.first k) [ inl d ↦ omega (arith, d, g) | inr d ↦ r.less t d ];
-              }
-              | inr n ↦ record {
-                first = r.first;
-                after = r.after;
-                all = cond-false (P i) (i ∷ rest_p) rest_p n ∙ r.all;
-                others = cond-false (Q i) (i ∷ rest_q) rest_q (e ∙ n) ∙ r.others;
-                less = r.less;
-              }
-            ]
-        | inr g ↦
-            let same : s ≡ i = omega (arith, l, g) in
-            record {
-              first = [];
-              after = rest_p;
-              all = cond-true (P i) (i ∷ rest_p) rest_p (ap P (sym same) ∙ p) ∙ ap (λ y. y ∷ rest_p) (sym same);
-              others = cond-false (Q i) (i ∷ rest_q) rest_q (ap Q (sym same) ∙ q) ∙ filters_same (suc i) xs (λ t k. h t (λ d. absurd (omega (arith, d, k, same))));
-              less = λ t k. absurd (nothing_in t k);
-            }
-      ]
-    where
-      rest_p : List ℕ
-      rest_p = filter P (numbers_from (suc i) xs)
-
-      rest_q : List ℕ
-      rest_q = filter Q (numbers_from (suc i) xs)

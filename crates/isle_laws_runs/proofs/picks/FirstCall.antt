@@ -2,10 +2,8 @@
 use Rattle.std.proofs.Common.{◌≡◌, ℕ, Bool, true, false, cond, List, [], ◌∷◌, ◌++◌, Option, Some, None, Contains, flat_map, refl, sym, ap, ◌∙◌, subst, subst₂}
 use Rattle.std.specs.Prelude.{IsPermutation, ◌&&◌}
 use Rattle.std.specs.List.{list_all}
-use Rattle.std.proofs.lemmas.List.{append_assoc}
 use Rattle.std.proofs.lemmas.List.Elements.{Contains-append_left}
-use Rattle.std.proofs.lemmas.List.Sorted.{IsPermutation-refl, IsPermutation-trans, IsPermutation-append, IsPermutation-append_left, IsPermutation-append_right, IsPermutation-append_comm}
-use Rattle.std.proofs.lemmas.Grind.{flat_map-append}
+use Rattle.std.proofs.lemmas.List.Sorted.{IsPermutation-refl, IsPermutation-trans}
 use Rattle.isle_model.specs.rules.Values.{Value}
 use Rattle.isle_model.specs.rules.Meaning.{Content, Meaning}
 use Rattle.isle_model.specs.trees.Run.{World, as_value, or_else}
@@ -16,21 +14,16 @@ use Rattle.isle_model.specs.trees.Collects.{content_at, meets, same_value, all_s
 use Rattle.isle_model.specs.rules.Outcome.{then_option}
 use Rattle.isle_model.specs.rules.Program.{Program}
 use Rattle.isle_model.specs.rules.Typed.{TypedRule}
+use Rattle.isle_model.proofs.Bags.{flat_flat, each_moved, exchanged}
 use Rattle.isle_model.proofs.Members.{in_head, in_tail}
 use Rattle.isle_laws_runs.specs.Exact.{GiveSamePlaces}
 use Rattle.isle_laws_runs.specs.Orders.{Covered, OrderedFrom, IsOfPlaces, CallsCanComeFirst, ResultsAreOfPlaces}
 use Rattle.isle_model.proofs.Bags.{each_moved, exchanged}
 use Rattle.isle_model.proofs.SameSites.{term_means}
 use Rattle.isle_laws_runs.proofs.picks.SamePlaces.{content_same, only_places_matter_lem}
-use Rattle.isle_laws_runs.proofs.picks.Enumerated.{keys, keys_push, content_kept}
+use Rattle.isle_laws_runs.proofs.picks.Grown.{keys, keys_push, content_kept}
 
--- 1. lists that lists make
-module _ {X Y Z : Type 0} where
-  flat_flat : (f : Y → List Z) (g : X → List Y) (xs : List X) → flat_map f (flat_map g xs) ≡ flat_map (λ x. flat_map f (g x)) xs
-  flat_flat f g [] = refl
-  flat_flat f g (x ∷ xs) = flat_map-append f (g x) (flat_map g xs) ∙ ap (λ l. flat_map f (g x) ++ l) (flat_flat f g xs)
-
--- 2. places
+-- 1. places
 else_kept : (b : Bool) (n : ℕ) (o q : Option ℕ) → cond b (Some n) (or_else o q) ≡ or_else (cond b (Some n) o) q
 else_kept true n o q = refl
 else_kept false n o q = refl
@@ -58,7 +51,7 @@ two_same k a b n i h c =
     ∙ ap (λ o. or_else o (place_of ((a, n) ∷ []) c)) (sym (place_after k ((b, i) ∷ []) c))
     ∙ sym (place_after (k ++ (b, i) ∷ []) ((a, n) ∷ []) c)
 
--- 3. picks
+-- 2. picks
 module _ (m : Meaning) (args : List Value) (f : Pick → List Content) (g : IsOfPlaces f) where
   abbrev made : Pick → List SiteTerm → List Content
   made k calls = flat_map f (picks_over m args k calls)
@@ -106,7 +99,7 @@ module _ (m : Meaning) (args : List Value) (f : Pick → List Content) (g : IsOf
 pub calls_can_come_first_lem : CallsCanComeFirst
 calls_can_come_first_lem m args f k before after call g o v d = first m args f g before after k call o v d
 
--- 4. results
+-- 3. results
 module _ (p : Program) (m : Meaning) (args : List Value) (r : TypedRule) (k l : Pick) (g : GiveSamePlaces k l) where
   with_same : (o : Option SitedVars) → results_with p m k r o ≡ results_with p m l r o
   with_same None = refl

@@ -11,13 +11,10 @@ use Rattle.isle_model.specs.sites.Serves.{Holds, holds_bool, holds_int, holds_pr
 use Rattle.isle_model.specs.rules.Picks.{Pick, place_of, picked, field_of_variant, field_of_struct, part_of_some, call_answer, site_content, site_values}
 use Rattle.isle_model.specs.trees.Collects.{calls_in, calls_in_all}
 use Rattle.isle_model.proofs.Members.{member_from_get}
+use Rattle.isle_model.proofs.Options.{then_some}
 use Rattle.isle_laws_runs.specs.Exact.{ContentsAreHeld, HeldAreContents}
 
 -- 1. where one after another gives something
-then_some : {X Y : Type 0} (o : Option X) (f : X → Option Y) (y : Y) → then_option o f ≡ Some y → (x : X) × (o ≡ Some x) × (f x ≡ Some y)
-then_some None f y e = absurd (none-some y e)
-then_some (Some x) f y e = (x, refl, e)
-
 from_one : (o : Option Value) (c : Content) → from_value o ≡ Some c → (w : Value) × (o ≡ Some w) × (one w ≡ c)
 from_one None c e = absurd (none-some c e)
 from_one (Some w) c e = (w, refl, same_Some (one w) c e)

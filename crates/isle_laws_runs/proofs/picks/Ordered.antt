@@ -16,7 +16,7 @@ use Rattle.isle_laws_runs.specs.Orders.{Within, Covered, OrderedFrom}
 use Rattle.isle_model.proofs.SameSites.{term_means}
 
 -- 1. calls that stand in a list
-none_within : (ls : List SiteTerm) → Within [] ls
+pub none_within : (ls : List SiteTerm) → Within [] ls
 none_within ls c h = absurd (nothing_in c h)
 
 within_push : (ls : List SiteTerm) (s : SiteTerm) → Within ls (ls ++ s ∷ [])

@@ -1,56 +1,26 @@
 -- Picks that give each call the same place act alike.
-use Rattle.std.proofs.Common.{◌≡◌, ℕ, suc, Bool, true, false, cond, List, [], ◌∷◌, ◌++◌, length, Option, Some, None, slice_get, refl, ap, ◌∙◌}
-use Rattle.isle_model.specs.rules.Values.{Value, of_variant, of_struct, Values, no_value, value_and}
-use Rattle.isle_model.specs.rules.Meaning.{Content, one, parts, nothing, just, many, contents, Meaning, extractor_answer, pure_answer, impure_answer, answered}
+use Rattle.std.proofs.Common.{◌≡◌, ℕ, suc, Bool, true, false, cond, List, [], ◌∷◌, ◌++◌, length, Option, Some, None, refl, ap, ◌∙◌}
+use Rattle.isle_model.specs.rules.Values.{Value, Values, no_value, value_and}
+use Rattle.isle_model.specs.rules.Meaning.{Content, Meaning, extractor_answer, pure_answer, impure_answer, answered}
 use Rattle.isle_model.specs.rules.Outcome.{Call, then_option}
 use Rattle.isle_model.specs.rules.Program.{Program, Kind, a_variant, a_struct, a_call, unknown, kind, is_partial}
 use Rattle.isle_model.specs.rules.Matching.{single}
 use Rattle.isle_model.specs.rules.RightSide.{gives, EvalAll, gives_all, ends_all, or_end, then_rest, outcome_of}
-use Rattle.isle_model.specs.trees.Run.{as_value, part_at}
-use Rattle.isle_model.specs.sites.Sites.{SiteTerm, bool_term, int_term, prim_term, argument, extractor_call, constructor_call, pick_of, variant_made, variant_field, struct_made, struct_field, some_made, some_part, tuple_part, no_site, SiteTerms, no_site_term, site_term_and}
-use Rattle.isle_model.specs.rules.Picks.{Pick, picked, taken_answer, field_of_variant, field_of_struct, part_of_some, call_answer, site_content, site_values, sited, SitedVars, expr_site, expr_sites, input_sites, parts_under, holds_under, each_holds_under, all_hold_under, term_under, value_under, values_under, lets_under, args_hold_under, iflets_hold_under, impure_under, apply_under, then_sited_lets, then_sited_body, eval_under, eval_all_under, eval_lets_under}
+use Rattle.isle_model.specs.sites.Sites.{SiteTerm, argument, extractor_call, constructor_call, SiteTerms}
+use Rattle.isle_model.specs.rules.Picks.{Pick, taken_answer, site_content, sited, SitedVars, expr_site, expr_sites, input_sites, parts_under, holds_under, each_holds_under, all_hold_under, term_under, value_under, values_under, lets_under, args_hold_under, iflets_hold_under, impure_under, apply_under, then_sited_lets, then_sited_body, eval_under, eval_all_under, eval_lets_under}
 use Rattle.isle_model.specs.rules.Typed.{TypedPattern, match_bind, match_var, match_bool, match_int, match_prim, match_term, match_any, match_and, TypedPatterns, no_typed_pattern, typed_pattern_and, TypedExpr, make_term, make_var, make_bool, make_int, make_prim, make_let, TypedExprs, no_typed_expr, typed_expr_and, TypedLets, no_typed_let, typed_let_and, TypedIfLet}
 use Rattle.isle_laws_runs.specs.Exact.{GiveSamePlaces, OnlyPlacesMatter}
+use Rattle.isle_laws_runs.proofs.picks.Grown.{picked_alike, content_alike}
 
 module _ (m : Meaning) (k l : Pick) (g : GiveSamePlaces k l) where
   -- 1. answers
-  picked_same : (call : SiteTerm) (c : Content) → picked k call c ≡ picked l call c
-  picked_same call (many cs) = ap (λ o. then_option o (slice_get (contents cs))) (g call)
-  picked_same call (one v) = refl
-  picked_same call (parts vs) = refl
-  picked_same call nothing = refl
-  picked_same call (just c) = refl
-
   taken_same : (multi : Bool) (call : SiteTerm) (c : Content) → taken_answer multi k call c ≡ taken_answer multi l call c
-  taken_same true call c = picked_same call c
+  taken_same true call c = picked_alike k l call c (g call)
   taken_same false call c = refl
 
   -- 2. sites
-  module _ (args : List Value) where
-    mutual
-      pub content_same : (s : SiteTerm) → site_content m args k s ≡ site_content m args l s
-      content_same (bool_term b ty) = refl
-      content_same (int_term z ty) = refl
-      content_same (prim_term name) = refl
-      content_same (argument i) = refl
-      content_same (extractor_call t s) = ap (λ o. then_option (then_option o as_value) (extractor_answer m t)) (content_same s)
-      content_same (constructor_call t ss i) = ap (λ o. then_option o (call_answer m t i)) (all_content_same ss)
-      content_same (pick_of s) = let h = content_same s in λ j. then_option (h j) (λ c. picked_same s c j)
-      content_same (variant_made ty variant ss) = ap (λ o. then_option o (λ vs. Some (one (of_variant ty variant vs)))) (all_content_same ss)
-      content_same (variant_field s variant i) = ap (λ o. then_option (then_option o as_value) (field_of_variant variant i)) (content_same s)
-      content_same (struct_made ty ss) = ap (λ o. then_option o (λ vs. Some (one (of_struct ty vs)))) (all_content_same ss)
-      content_same (struct_field s i) = ap (λ o. then_option (then_option o as_value) (field_of_struct i)) (content_same s)
-      content_same (some_made s) = ap (λ o. then_option o (λ c. Some (just c))) (content_same s)
-      content_same (some_part s) = ap (λ o. then_option o part_of_some) (content_same s)
-      content_same (tuple_part s i) = ap (λ o. then_option o (λ c. part_at c i)) (content_same s)
-      content_same no_site = refl
-
-      all_content_same : (ss : SiteTerms) → site_values m args k ss ≡ site_values m args l ss
-      all_content_same no_site_term = refl
-      all_content_same (site_term_and s ss) =
-          let h = content_same s in
-          let f = all_content_same ss in
-          λ j. then_option (then_option (h j) as_value) (λ v. then_option (f j) (λ vs. Some (value_and v vs)))
+  pub content_same : (args : List Value) (s : SiteTerm) → site_content m args k s ≡ site_content m args l s
+  content_same args s = content_alike m args k l s (λ c n. g c)
 
 module _ (p : Program) (m : Meaning) (k l : Pick) (g : GiveSamePlaces k l) where
   -- 3. patterns

@@ -14,7 +14,7 @@ use Rattle.isle_model.specs.trees.Run.{World, Env, as_value, Trace, content_fiel
 use Rattle.isle_model.specs.trees.Sound.{NoneHigher, comes_before, AllAsk, AllJoin, AllGoOver, IsTested, SoundSteps, SoundArms, IsSound}
 use Rattle.isle_model.specs.trees.Collects.{content_at, meets, demands_hold}
 use Rattle.isle_model.proofs.Members.{nothing_in, in_head, some_member, member_from_get, get_within, constraint_in, member_is_in}
-use Rattle.isle_laws_runs.proofs.picks.Enumerated.{keys}
+use Rattle.isle_laws_runs.proofs.picks.Grown.{keys}
 use Rattle.isle_laws_runs.proofs.picks.Calls.{unfold_once}
 use Rattle.isle_laws_runs.proofs.runs.Order.{before_itself}
 use Rattle.isle_laws_runs.proofs.runs.Arms.{arms_after}

@@ -1,7 +1,7 @@
 -- The run of a sound tree of a multi term collects the bag of its rules' results.
-use Rattle.std.proofs.Common.{◌≡◌, ℕ, zero, suc, ◌+◌, ◌<◌, Bool, true, false, ◌&&◌, List, [], ◌∷◌, ◌++◌, map, filter, flat_map, length, Some, slice_get, Contains, IsTrue, refl, sym, ap, ◌∙◌, subst, arith}
+use Rattle.std.proofs.Common.{◌≡◌, ℕ, zero, suc, ◌+◌, ◌<◌, Bool, true, false, ◌&&◌, List, [], ◌∷◌, ◌++◌, map, flat_map, length, Some, slice_get, Contains, IsTrue, refl, sym, ap, ◌∙◌, subst, arith}
 use Rattle.std.specs.Prelude.{IsPermutation}
-use Rattle.std.proofs.lemmas.Bool.{cond-true, cond-false, false≢true}
+use Rattle.std.proofs.lemmas.Bool.{cond-true, false≢true}
 use Rattle.std.proofs.lemmas.Option.{slice_get_within}
 use Rattle.std.proofs.lemmas.List.{append-nil}
 use Rattle.std.proofs.lemmas.List.Elements.{Contains-append_left, Contains-append_right, All-contains}
@@ -10,7 +10,6 @@ use Rattle.std.proofs.lemmas.Grind.{flat_map-append}
 use Rattle.isle_model.specs.rules.Meaning.{Content, contents}
 use Rattle.isle_model.specs.rules.Outcome.{Outcome, ran_through}
 use Rattle.isle_model.specs.rules.Picks.{Pick, picks_over}
-use Rattle.isle_model.specs.rules.Program.{numbers_from}
 use Rattle.isle_model.specs.sites.Sites.{Site, constructor_site, SetRule, unfold_site}
 use Rattle.isle_model.specs.sites.Gates.{gate_demanded}
 use Rattle.isle_model.specs.trees.Trees.{Tree, step, return_at, Marked, marks}
@@ -21,7 +20,7 @@ use Rattle.isle_model.specs.trees.Collects.{Collects, content_at, demands_hold, 
 use Rattle.isle_model.specs.trees.SetRuns.{tested_sites}
 use Rattle.isle_model.proofs.Bags.{as_numbers, of_numbers}
 use Rattle.isle_model.proofs.Members.{in_head, in_alone, some_member, member_from_get, get_within, in_flat_map}
-use Rattle.isle_laws_runs.proofs.picks.Calls.{filters_same}
+use Rattle.isle_model.proofs.Numbers.{none_pass, filters_same}
 use Rattle.isle_laws_runs.proofs.runs.Below.{IsPureBelow, below_within}
 use Rattle.isle_laws_runs.proofs.runs.BindOrders.{Finds}
 use Rattle.isle_laws_runs.proofs.runs.Standing.{IsClear, IsClearSet, ServesUnder, IsGoneOver, At, wider, set_of, found_at, binds_at, ready_here, holds_here}
@@ -36,10 +35,6 @@ and_yes false = refl
 
 zero_plus : (n : ℕ) → 0 + n ≡ n
 zero_plus n = omega arith
-
-none_pass : {X : Type 0} (P : ℕ → Bool) (i : ℕ) (xs : List X) → ((t : ℕ) → P t ≡ false) → filter P (numbers_from i xs) ≡ []
-none_pass P i [] h = refl
-none_pass P i (x ∷ xs) h = cond-false (P i) (i ∷ filter P (numbers_from (suc i) xs)) (filter P (numbers_from (suc i) xs)) (h i) ∙ none_pass P (suc i) xs h
 
 -- pure sites
 pure_site : (b : Site) → calls_nothing (Some b) ≡ true → IsPureSite b

@@ -18,7 +18,7 @@ use Rattle.isle_model.specs.trees.Collects.{content_at, meets, demands_hold}
 use Rattle.isle_model.specs.trees.SetRuns.{tested_sites, IsPureAt}
 use Rattle.isle_model.proofs.Members.{in_head, in_cases, all_pass, in_map, in_flat_map, member_is_in}
 use Rattle.isle_model.proofs.Numbers.{in_either, in_first, in_second}
-use Rattle.isle_laws_runs.proofs.picks.Enumerated.{keys}
+use Rattle.isle_laws_runs.proofs.picks.Grown.{keys}
 use Rattle.isle_laws_runs.proofs.runs.Classes.{SameAtPairs, joined_same}
 use Rattle.isle_laws_runs.proofs.runs.Contents.{SourcesBefore}
 use Rattle.isle_laws_runs.proofs.runs.Below.{IsPureBelow, below_itself, below_source, all_below_itself, all_below_pure}

@@ -1,0 +1,17 @@
+-- One optional value after another.
+use Rattle.std.proofs.Common.{◌≡◌, Option, Some, None, refl, ap, ◌∙◌}
+use Rattle.std.proofs.lemmas.Option.{none-some}
+use Rattle.isle_model.specs.rules.Outcome.{then_option}
+
+module _ {X Y : Type 0} where
+  -- where both give something
+  pub then_some : (o : Option X) (f : X → Option Y) (y : Y) → then_option o f ≡ Some y → (x : X) × (o ≡ Some x) × (f x ≡ Some y)
+  then_some None f y e = absurd (none-some y e)
+  then_some (Some x) f y e = (x, refl, e)
+
+  pub then_same : (o q : Option X) (f g : X → Option Y) → o ≡ q → ((x : X) → f x ≡ g x) → then_option o f ≡ then_option q g
+  then_same o q f g e h = ap (λ u. then_option u f) e ∙ each q
+    where
+      each : (u : Option X) → then_option u f ≡ then_option u g
+      each None = refl
+      each (Some x) = h x
