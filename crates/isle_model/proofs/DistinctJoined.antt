@@ -4,7 +4,7 @@ use Rattle.std.proofs.lemmas.Option.{same_Some}
 use Rattle.std.proofs.lemmas.List.Elements.{Contains-append_cases}
 use Rattle.isle_model.specs.lists.Names.{IsDistinct}
 use Rattle.isle_model.proofs.Members.{in_head, in_tail, member_from_get, get_from_member, from_flat_map}
-use Rattle.isle_model.proofs.Distinct.{distinct_nil}
+use Rattle.isle_model.proofs.Positions.{distinct_nil}
 
 module _ {X : Type 0} where
   pub distinct_cons : (x : X) (xs : List X) → (Contains xs x → ⊥) → IsDistinct xs → IsDistinct (x ∷ xs)

@@ -1,5 +1,6 @@
 pub mod Bags
-pub mod Distinct
+pub mod ByNumber
+pub mod Bytes
 pub mod DistinctJoined
 pub mod Elements
 pub mod FirstPlaces
@@ -8,6 +9,7 @@ pub mod Members
 pub mod Names
 pub mod Numbers
 pub mod Options
+pub mod Positions
 pub mod SameSites
 pub mod SitesMade
 pub mod TypeNames

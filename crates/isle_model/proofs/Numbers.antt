@@ -5,7 +5,7 @@ use Rattle.std.proofs.lemmas.List.Folds.{list_any-append}
 use Rattle.isle_model.specs.lists.Names.{IsDistinct}
 use Rattle.isle_model.specs.rules.Program.{numbers_from}
 use Rattle.isle_model.specs.trees.Places.{is_in}
-use Rattle.isle_model.proofs.Distinct.{distinct_nil}
+use Rattle.isle_model.proofs.Positions.{distinct_nil}
 use Rattle.isle_model.proofs.DistinctJoined.{distinct_cons}
 use Rattle.isle_model.proofs.Members.{nothing_in, in_head, in_tail, in_cases, member_found, member_is_in}
 

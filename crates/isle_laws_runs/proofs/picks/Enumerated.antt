@@ -8,7 +8,7 @@ use Rattle.isle_model.specs.sites.Sites.{SiteTerm}
 use Rattle.isle_model.specs.rules.Program.{numbers_from}
 use Rattle.isle_model.specs.rules.Picks.{Pick, site_content, multi_calls, IsPick, places_in, picks_over}
 use Rattle.isle_model.proofs.Members.{nothing_in, in_head, in_tail, in_cases, in_alone, in_flat_map, from_flat_map}
-use Rattle.isle_model.proofs.Distinct.{distinct_nil}
+use Rattle.isle_model.proofs.Positions.{distinct_nil}
 use Rattle.isle_model.proofs.DistinctJoined.{distinct_cons, distinct_flat}
 use Rattle.isle_model.proofs.Numbers.{numbers_below, numbers_all, numbers_distinct}
 use Rattle.isle_laws_runs.specs.Exact.{PicksAreExact}

@@ -18,7 +18,6 @@ use Rattle.isle_model.proofs.Bags.{flat_flat, each_moved, exchanged}
 use Rattle.isle_model.proofs.Members.{in_head, in_tail}
 use Rattle.isle_laws_runs.specs.Exact.{GiveSamePlaces}
 use Rattle.isle_laws_runs.specs.Orders.{Covered, OrderedFrom, IsOfPlaces, CallsCanComeFirst, ResultsAreOfPlaces}
-use Rattle.isle_model.proofs.Bags.{each_moved, exchanged}
 use Rattle.isle_model.proofs.SameSites.{term_means}
 use Rattle.isle_laws_runs.proofs.picks.SamePlaces.{content_same, only_places_matter_lem}
 use Rattle.isle_laws_runs.proofs.picks.Grown.{keys, keys_push, content_kept}

@@ -11,8 +11,7 @@ use Rattle.isle_model.specs.trees.Run.{World, Env}
 use Rattle.isle_model.specs.trees.Collects.{content_at, meets}
 use Rattle.isle_model.proofs.Members.{in_head, in_tail, in_cases, in_alone}
 use Rattle.isle_model.proofs.Numbers.{in_either, in_first, in_second}
-use Rattle.isle_laws_runs.proofs.picks.Grown.{keys, keys_push}
-use Rattle.isle_laws_runs.proofs.picks.Grown.{content_grown, place_added}
+use Rattle.isle_laws_runs.proofs.picks.Grown.{keys, keys_push, content_grown, place_added}
 use Rattle.isle_laws_runs.proofs.runs.Contents.{sources_in, content_layer}
 use Rattle.isle_laws_runs.proofs.runs.Below.{under, all_below_itself, call_or_under, under_below}
 use Rattle.isle_laws_runs.proofs.runs.Binding.{Held, held_as, keeps_bound}
