@@ -1,5 +1,6 @@
-// Sets and maps of values that are equal modulo 10. Each test passes as it stands, and with `rt try --test --fail-alloc N`
-// for every N: a call that is refused memory is made again, and the table then says what the set or map still has.
+// Sets and maps of values that are equal modulo 10. Each test but the last passes as it stands, and with `rt try --test
+// --fail-alloc N` for every N: a call that is refused memory is made again, and the table then says what the set or map still
+// has.
 use super::last_digit::LastDigit;
 use isle_base::stablemapset::{StableMap, StableSet};
 use std::alloc::{AllocError, Global};
@@ -135,7 +136,7 @@ fn maps_of_pairs(rt: HostRuntime) -> Result<(), Fail> {
     Ok(())
 }
 
-// No request for memory is made after `hashed`: with `--fail-alloc N` for an N past those before it, nothing is refused.
+// Passes as it stands, and with `--fail-alloc 2`: one request for memory is made, for `hashed`, and none by the calls below it.
 #[test]
 fn other_calls_take_no_memory(rt: HostRuntime) -> Result<(), Fail> {
     let alloc = rt.alloc();
