@@ -5,7 +5,7 @@
 #![tactic(auto)]
 
 ghost use Rattle.isle_laws_demands.specs.ClosureLaws.{JoinedIsEquivalence, ClassesBoundJoined, VerdictIsExact, NamesAreExact, ClosingAddsNothing, ConstraintsAreKept, ClosingIsSound, OverlapIsSymmetric, OverlapIsExact, ClashIsExact, FirstLimitIsPassed, PassedLimitIsMet, ClosingIsWhole, ReportsAreExact, ShadowsAreExact, VisitsMakeEqualSites, PlainClosingEnds, ClosingEnds};
-ghost use Rattle.isle_laws_demands.specs.BuiltLaws.{ClosingsOfBuiltRulesAreWhole, ConstrainedSitesStandInNoClass, BuiltRulesConstrainOrEquate};
+ghost use Rattle.isle_laws_demands.specs.BuiltLaws.{ClosingsOfBuiltRulesAreWhole, ConstrainedSitesStandInNoClass, BuiltRulesConstrainOrEquate, FormedRulesMakeEqualSites, BuiltDemandsAreWhole};
 ghost use Rattle.isle_laws_demands.specs.ReportLaws.{CheckIsExact, OverlapsAreListedOnce, ListedRulesOverlap, MasksAreReportedOnce, ReportedMasksShadow};
 ghost use Rattle.isle_laws_demands.specs.VisitLaws.{SitesStandOnce, FormedRulesDemandGates, ClosingKeepsGates, ElaboratedRulesDemandGates, BuiltRulesDemandGates, BuiltSetsAreWellBuilt, NoneAskedAndGoneOver, MultiCallsAreGoneOver, NoRuleAsksAndGoesOver, MultiTermsHaveOnePriority};
 ghost use Rattle.isle_model.specs.claims.SetMeanings.{BuiltSetsAreTested, BuiltSetsCanBeServed, BuiltSetsAreCollected};
@@ -211,6 +211,19 @@ pub fn no_rule_asks_and_goes_over()
 /// The rules of a multi term have one priority in a built set.
 pub fn multi_terms_have_one_priority()
     ensures { MultiTermsHaveOnePriority }
+{
+    rules_are_formed();
+    lists_agree();
+}
+
+/// The visit of a rule that hangs together makes the sites that it equates.
+pub fn formed_rules_make_equal_sites()
+    ensures { FormedRulesMakeEqualSites }
+{}
+
+/// So the closed demands of each rule that is built of elaborated rules are all that follows.
+pub fn built_demands_are_whole()
+    ensures { BuiltDemandsAreWhole }
 {
     rules_are_formed();
     lists_agree();
