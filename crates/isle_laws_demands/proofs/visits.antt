@@ -2,6 +2,7 @@
 pub mod Afresh
 pub mod Allowed
 pub mod Apart
+pub mod BoundSites
 pub mod Built
 pub mod Calls
 pub mod Closing
@@ -22,3 +23,4 @@ pub mod Served
 pub mod Sets
 pub mod Unfolding
 pub mod Visited
+pub mod WholeDemands

@@ -43,7 +43,7 @@ AsMany [] no_typed_pattern = Unit {0}
 AsMany (s ∷ ss) (typed_pattern_and q qs) = AsMany ss qs
 AsMany _ _ = ⊥
 
-as_many : (f : ℕ → SiteTerm) (i : ℕ) (args : TypedPatterns) → AsMany (from_to f i args) args
+pub as_many : (f : ℕ → SiteTerm) (i : ℕ) (args : TypedPatterns) → AsMany (from_to f i args) args
 as_many f i no_typed_pattern = tt
 as_many f i (typed_pattern_and q qs) = as_many f (suc i) qs
 
@@ -66,7 +66,7 @@ output_good v s (typed_pattern_and q no_typed_pattern) u m i = elim i [ inl e �
 output_good v s (typed_pattern_and q (typed_pattern_and r rs)) u m i =
     let k = in_numbers (tuple_part s) 0 (typed_pattern_and q (typed_pattern_and r rs)) u i in subst (MayTest v) k.2 m
 
-output_count : (s : SiteTerm) (args : TypedPatterns) → AsMany (output_sites s args) args
+pub output_count : (s : SiteTerm) (args : TypedPatterns) → AsMany (output_sites s args) args
 output_count s no_typed_pattern = tt
 output_count s (typed_pattern_and q no_typed_pattern) = tt
 output_count s (typed_pattern_and q (typed_pattern_and r rs)) = as_many (tuple_part s) 0 (typed_pattern_and q (typed_pattern_and r rs))
