@@ -9,7 +9,7 @@ ghost use Rattle.isle_laws_demands.specs.BuiltLaws.{ClosingsOfBuiltRulesAreWhole
 ghost use Rattle.isle_laws_demands.specs.ReportLaws.{CheckIsExact, OverlapsAreListedOnce, ListedRulesOverlap, MasksAreReportedOnce, ReportedMasksShadow};
 ghost use Rattle.isle_laws_demands.specs.VisitLaws.{SitesStandOnce, FormedRulesDemandGates, ClosingKeepsGates, ElaboratedRulesDemandGates, BuiltRulesDemandGates, BuiltSetsAreWellBuilt, NoneAskedAndGoneOver, MultiCallsAreGoneOver, NoRuleAsksAndGoesOver, MultiTermsHaveOnePriority};
 ghost use Rattle.isle_model.specs.claims.SetMeanings.{BuiltSetsAreTested, BuiltSetsCanBeServed, BuiltSetsAreCollected};
-ghost use Rattle.isle_laws_demands.specs.BuiltLaws.{ClosingsOfBuiltRulesAreWhole, ConstrainedSitesStandInNoClass, BuiltRulesConstrainOrEquate};
+ghost use Rattle.isle_laws_demands.specs.AcceptLaws.{ElaboratedRulesHaveTerms, RulesAreJudged, ListsAreAccepted, ListsAreNotAccepted};
 
 use isle_laws_lists::{lists_agree, rules_are_formed};
 
@@ -69,13 +69,11 @@ pub fn clash_is_exact()
 {}
 
 /// A limit that is reported is passed.
-#[tactic(auto, using(crate::proofs::closure::LimitsPassed::first_limit_is_passed_lem))]
 pub fn first_limit_is_passed()
     ensures { FirstLimitIsPassed }
 {}
 
 /// Where a limit is passed, one is reported.
-#[tactic(auto, using(crate::proofs::closure::LimitsPassed::passed_limit_is_met_lem))]
 pub fn passed_limit_is_met()
     ensures { PassedLimitIsMet }
 {}
@@ -91,7 +89,6 @@ pub fn reports_are_exact()
 {}
 
 /// The test of shadows is exact.
-#[tactic(auto, using(crate::proofs::overlaps::Agreements::shadows_decides))]
 pub fn shadows_are_exact()
     ensures { ShadowsAreExact }
 {}
@@ -102,7 +99,6 @@ pub fn visits_make_equal_sites()
 {}
 
 /// Nothing is reported of a program exactly where all its rules are built, none overlap wrongly, and none is shadowed.
-#[tactic(auto, using(crate::proofs::overlaps::Checked::check_is_exact_lem))]
 pub fn check_is_exact()
     ensures { CheckIsExact }
 {}
@@ -113,37 +109,53 @@ pub fn overlaps_are_listed_once()
 {}
 
 /// Each further rule of a report overlaps wrongly with its first.
-#[tactic(auto, using(crate::proofs::overlaps::Listed::listed_rules_overlap_lem))]
 pub fn listed_rules_overlap()
     ensures { ListedRulesOverlap }
 {}
 
 /// Where rules stand at distinct positions, each built rule that shadows others is the mask of one report, which lists these.
-#[tactic(auto, using(crate::proofs::overlaps::Masks::masks_are_reported_once_lem))]
 pub fn masks_are_reported_once()
     ensures { MasksAreReportedOnce }
 {}
 
 /// Each shadow report is of such a rule.
-#[tactic(auto, using(crate::proofs::overlaps::Masks::reported_masks_shadow_lem))]
 pub fn reported_masks_shadow()
     ensures { ReportedMasksShadow }
 {}
 
 /// The closing of demands without equalities ends.
-#[tactic(auto, using(crate::proofs::closure::Closing::plain_closing_ends_lem))]
 pub fn plain_closing_ends()
     ensures { PlainClosingEnds }
 {}
 
+/// So does that of the demands of each rule that is built.
+#[tactic(auto, using(crate::proofs::closure::BuiltRules::closing_ends_lem))]
+pub fn closings_end()
+    ensures { ClosingEnds }
+{}
+
+/// So the closed demands of a rule that is built are all that follows.
+#[tactic(auto, using(crate::proofs::closure::BuiltRules::closings_of_built_rules_are_whole_lem))]
+pub fn closings_of_built_rules_are_whole()
+    ensures { ClosingsOfBuiltRulesAreWhole }
+{}
+
+/// And none of their classes holds a constrained site.
+pub fn constrained_sites_stand_in_no_class()
+    ensures { ConstrainedSitesStandInNoClass }
+{}
+
+/// So no rule of a built set both constrains and equates a site.
+pub fn built_rules_constrain_or_equate()
+    ensures { BuiltRulesConstrainOrEquate }
+{}
+
 /// In a built set no site stands twice.
-#[tactic(auto, using(crate::proofs::visits::Once::sites_stand_once_lem))]
 pub fn sites_stand_once()
     ensures { SitesStandOnce }
 {}
 
 /// A rule that hangs together, and whose if-lets make no impure call, demands the gates of all that it tests and returns.
-#[tactic(auto, using(crate::proofs::visits::Rules::formed_rules_demand_gates_lem))]
 pub fn formed_rules_demand_gates()
     ensures { FormedRulesDemandGates }
 {}
@@ -188,7 +200,6 @@ pub fn none_asked_and_gone_over()
 {}
 
 /// What a rule goes over are multi calls, and it tests none, where no term is multi and partial at once.
-#[tactic(auto, using(crate::proofs::visits::Apart::multi_calls_are_gone_over_lem))]
 pub fn multi_calls_are_gone_over()
     ensures { MultiCallsAreGoneOver }
 {}
@@ -237,3 +248,24 @@ pub fn built_sets_are_collected()
     lists_agree();
     elaborated_rules_demand_gates();
 }
+
+/// The term of each rule that elaborates is one of the table.
+pub fn elaborated_rules_have_terms()
+    ensures { ElaboratedRulesHaveTerms }
+{}
+
+/// The judge of rules is exact, where each rule's term is one of the program's.
+#[tactic(auto, using(crate::proofs::overlaps::Judged::rules_are_judged_lem))]
+pub fn rules_are_judged()
+    ensures { RulesAreJudged }
+{}
+
+/// The judge of acceptance gives the typed rules of a list that is accepted.
+pub fn lists_are_accepted()
+    ensures { ListsAreAccepted }
+{}
+
+/// It gives nothing exactly where a list isn't accepted.
+pub fn lists_are_not_accepted()
+    ensures { ListsAreNotAccepted }
+{}
