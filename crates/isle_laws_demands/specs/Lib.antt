@@ -1,3 +1,4 @@
 pub mod ClosureLaws
+pub mod MatchLaws
 pub mod ReportLaws
 pub mod VisitLaws
