@@ -1,4 +1,5 @@
--- Matching of simple rules.
+-- A typed rule matches exactly where its demands hold, and so a built set means what its rules do.
+pub mod Answered
 pub mod Contents
 pub mod Demanded
 pub mod Exprs
@@ -8,3 +9,4 @@ pub mod Rules
 pub mod SameExprs
 pub mod TypedParts
 pub mod Variables
+pub mod Visits

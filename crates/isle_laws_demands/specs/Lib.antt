@@ -1,5 +1,6 @@
 pub mod AcceptLaws
 pub mod BuiltLaws
 pub mod ClosureLaws
+pub mod MatchLaws
 pub mod ReportLaws
 pub mod VisitLaws

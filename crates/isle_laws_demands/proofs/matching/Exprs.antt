@@ -172,8 +172,8 @@ module _ (g : Given) (z : Visit) (h : IsAnswered g z.demands) (parts : HasTypedP
     call_valued : (pure multi partial rec infallible : Bool) → pure ≡ true → (a : ValuedAll) (o : Option Values) → kind p t ≡ a_call (record { pure = pure; multi = multi; partial = partial; rec = rec }) infallible
         → Grown (visit_term (a_call (record { pure = pure; multi = multi; partial = partial; rec = rec }) infallible) t a).visit z → AreValued g a.sites o x.arg_tys a.sites
         → IsValued g (term_site (a_call (record { pure = pure; multi = multi; partial = partial; rec = rec }) infallible) t a.sites)
-            (then_option o (λ vs. term_under (a_call (record { pure = pure; multi = multi; partial = partial; rec = rec }) infallible) g.meaning g.pick t a.sites vs)) x.ret_ty
-            (term_site (a_call (record { pure = pure; multi = multi; partial = partial; rec = rec }) infallible) t a.sites)
+        (then_option o (λ vs. term_under (a_call (record { pure = pure; multi = multi; partial = partial; rec = rec }) infallible) g.meaning g.pick t a.sites vs)) x.ret_ty
+        (term_site (a_call (record { pure = pure; multi = multi; partial = partial; rec = rec }) infallible) t a.sites)
     call_valued false multi partial rec infallible y a o q l v = absurd (false≢true y)
     call_valued true true true rec infallible y a o q l v = absurd (neither t (ap (λ k. (flags_of k).multi) q) (ap (λ k. (flags_of k).partial) q))
     call_valued true true false rec infallible y a o q l v =
@@ -242,7 +242,7 @@ module _ (g : Given) (z : Visit) (h : IsAnswered g z.demands) (parts : HasTypedP
         let k = lets_valued ds v vars a.0 e a.1 y.0 w (then_grown u (visit_expr p body u).visit z (expr_adds p body u).grown l) in
         let r = expr_valued body u a.0 (lets_under p g.meaning g.pick ds e) a.3 y.1 k l in
         let own : own_expr body (lets_under p g.meaning g.pick ds e) ≡ own_expr (make_let ty ds body) e =
-            r.site ∙ sym (expr_alike p (make_let ty ds body) v (visit_at e 0) vars f y (λ x i. sym (vars_same g vars e v w x i))) in
+        r.site ∙ sym (expr_alike p (make_let ty ds body) v (visit_at e 0) vars f y (λ x i. sym (vars_same g vars e v w x i))) in
         subst (λ n. IsValued g (own_expr (make_let ty ds body) e) (own_value body (lets_under p g.meaning g.pick ds e)) n (visit_expr p body u).site) a.2
         (subst (λ s. IsValued g s (own_value body (lets_under p g.meaning g.pick ds e)) (expr_type body) (visit_expr p body u).site) own r)
 
@@ -280,7 +280,7 @@ module _ (g : Given) (z : Visit) (h : IsAnswered g z.demands) (parts : HasTypedP
         let b = visit_expr p value v in
         let u = binding x b.site b.visit in
         let r = expr_valued value v vars e a.1 y.0 w
-            (then_grown b.visit u z (grown_binding x b.site b.visit) (then_grown u (visit_lets p rest u) z (lets_add p rest u).grown l)) in
+        (then_grown b.visit u z (grown_binding x b.site b.visit) (then_grown u (visit_lets p rest u) z (lets_add p rest u).grown l)) in
         lets_valued rest u ((x, ty) ∷ vars) more ((x, sited (own_expr value e) (own_value value e)) ∷ e) a.3 y.1
         (vars_and g x ty vars (own_expr value e) b.site (own_value value e) e b.visit.vars a.2
         (subst (λ n. IsValued g (own_expr value e) (own_value value e) n b.site) a.0 r)

@@ -263,9 +263,9 @@ module _ (g : Given) (z : Visit) (h : IsAnswered g z.demands) (parts : HasTypedP
                 binds = refl;
                 met = λ a ws j.
                     (let b = met_asking g call is_present made
-                        (record { content = just d.0; held = call_content c.answer c.there ∙ ap Some d.1; meets = refl })
-                        (λ y i. absurd (not_one d.0 y (same_content g call (just d.0) (one y) (call_content c.answer c.there ∙ ap Some d.1) i)))
-                        (record { asked = a.asked; equal = a.equal }) in
+                    (record { content = just d.0; held = call_content c.answer c.there ∙ ap Some d.1; meets = refl })
+                    (λ y i. absurd (not_one d.0 y (same_content g call (just d.0) (one y) (call_content c.answer c.there ∙ ap Some d.1) i)))
+                    (record { asked = a.asked; equal = a.equal }) in
                     record { asked = b.asked; equal = b.equal });
                 found = λ a. (w.values, seen);
                 inputs = λ ws j. subst (AreHere g (output_sites (some_part call) args) e.arg_tys) (some_is w.values ws (sym seen ∙ j)) w.here;
@@ -356,7 +356,7 @@ module _ (g : Given) (z : Visit) (h : IsAnswered g z.demands) (parts : HasTypedP
         let w = visit_pattern p sub s (binding y s v) in
         let new : is_some (var_type vars y) ≡ false = outside vars a.0 (pattern_within p sub vars a.0 a.2) y a.3 in
         let r = pattern_after sub s (binding y s v) vars a.0 ((y, sited s (Some x)) ∷ e) x a.2 (subst (λ u. Here g s u x) (sym a.1) here)
-            (λ u t i. bound_kept g y u t (sited s (Some x)) s e v.vars (not_among vars y u t new i) (b u t i)) l in
+        (λ u t i. bound_kept g y u t (sited s (Some x)) s e v.vars (not_among vars y u t new i) (b u t i)) l in
         subst (λ vs. After g vs e v w (holds_under p g.meaning g.pick sub s x ((y, sited s (Some x)) ∷ e))) a.4
         (bind_after a.0 e v w s y ty x (holds_under p g.meaning g.pick sub s x ((y, sited s (Some x)) ∷ e)) a.3 here r)
     pattern_after (match_var ty y) s v vars more e x f here b l =
@@ -378,7 +378,7 @@ module _ (g : Given) (z : Visit) (h : IsAnswered g z.demands) (parts : HasTypedP
         let w = visit_each p args o.inputs o.visit in
         let k = each_grown p args o.inputs o.visit in
         let u = term_opens t a.entry a.there s x ty here args (as_many p args a.entry.arg_tys vars more a.formed) v (kind p t) refl
-            (sym (ap (λ o. elim o as (λ _. Kind) [ None ↦ unknown | Some i ↦ kind_of i ]) a.there)) a.ret (then_grown o.visit w z k l) in
+        (sym (ap (λ o. elim o as (λ _. Kind) [ None ↦ unknown | Some i ↦ kind_of i ]) a.there)) a.ret (then_grown o.visit w z k l) in
         subst (λ ins. After g more e v w (then_option (parts_under (kind p t) g.meaning g.pick t s x) (λ vs. each_holds_under p g.meaning g.pick args ins vs e))) (same_inputs (kind p t) t s args v)
         (opened_after more e v w o a.entry.arg_tys (parts_under (kind p t) g.meaning g.pick t s x) (λ vs. each_holds_under p g.meaning g.pick args o.inputs vs e) u k
         (λ ws i. each_after args o.inputs a.entry.arg_tys o.visit vars more e ws a.formed (u.inputs ws i) (subst (AreBound g vars e) (sym u.binds) b) l))

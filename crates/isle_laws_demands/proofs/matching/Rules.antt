@@ -163,16 +163,16 @@ module _ (g : Given) (z : Visit) (h : IsAnswered g z.demands) (parts : HasTypedP
       let grown_u : Grown u z = then_grown u w z (pattern_grown p i.lhs a.site u) l in
       let r = expr_valued g z h parts neither i.rhs v vars e f y (bound_vars g vars e v.vars b) (then_grown a.visit u z (grown_all (unwraps a.site) a.visit) grown_u) in
       let moved : AreBound g vars e u.vars = λ x ty k.
-          (let n = b x ty k in
-          record {
-            var = var_moved g e v.vars u.vars x ty (ap (λ vs. named vs x) (asked_binds (unwraps a.site) a.visit) ∙ expr_keeps p i.rhs v vars f x (ap is_some k)) n.var;
-            value = n.value;
-            there = n.there;
-          }) in
+      (let n = b x ty k in
+      record {
+        var = var_moved g e v.vars u.vars x ty (ap (λ vs. named vs x) (asked_binds (unwraps a.site) a.visit) ∙ expr_keeps p i.rhs v vars f x (ap is_some k)) n.var;
+        value = n.value;
+        there = n.there;
+      }) in
       let rest : (x : Value) → value_in i e ≡ Some x → After g mid e u w (holds_in i e x) = λ x k.
-          subst (λ n. After g mid e u w (holds_under p g.meaning g.pick i.lhs n x e)) (sym r.site)
-          (pattern_after g z h parts i.lhs a.site u vars mid e x q
-          (record { content = is_value (content_of g a.site) x (sym r.value ∙ k); typed = subst (λ n. well_typed p.types n x ≡ true) (sym s) (r.typed x k) }) moved l) in
+      subst (λ n. After g mid e u w (holds_under p g.meaning g.pick i.lhs n x e)) (sym r.site)
+      (pattern_after g z h parts i.lhs a.site u vars mid e x q
+      (record { content = is_value (content_of g a.site) x (sym r.value ∙ k); typed = subst (λ n. well_typed p.types n x ≡ true) (sym s) (r.typed x k) }) moved l) in
       record {
         met = λ m e' k.
             (let c = from_then (value_in i e) (holds_in i e) e' k in
@@ -247,11 +247,11 @@ rule_matches g r f y t fields neither h =
     let w = visit_iflets p r.iflets u in
     let adds = rule_adds p r w in
     let typed : all_well_typed p.types (Some a.entry.arg_tys) (of_list g.args) ≡ true =
-        subst (λ o. args_well_typed p.types (elim o as (λ _. List ℕ) [ None ↦ [] | Some e ↦ e.arg_tys ]) g.args ≡ true) a.there t in
+    subst (λ o. args_well_typed p.types (elim o as (λ _. List ℕ) [ None ↦ [] | Some e ↦ e.arg_tys ]) g.args ≡ true) a.there t in
     let first = args_past g z h fields neither 0 r.args a.entry.arg_tys g.args visit_start [] a.mid [] a.args typed
-        (λ j x s. (let same : 0 + j ≡ j = omega arith in ap (slice_get g.args) same ∙ s)) (λ x ty i. absurd (none_some ty i)) (then_grown u w z (iflets_grown p r.iflets u) adds.grown) in
+    (λ j x s. (let same : 0 + j ≡ j = omega arith in ap (slice_get g.args) same ∙ s)) (λ x ty i. absurd (none_some ty i)) (then_grown u w z (iflets_grown p r.iflets u) adds.grown) in
     let all = then_past g a.mid a.vars [] visit_start u w (args_hold_under p g.meaning g.pick 0 r.args g.args []) (λ e. iflets_hold_under p g.meaning g.pick r.iflets e) first (iflets_grown p r.iflets u)
-        (λ e i. iflets_past g z h fields neither r.iflets u a.mid a.vars e a.iflets y (first.agree e i) adds.grown) in
+    (λ e i. iflets_past g z h fields neither r.iflets u a.mid a.vars e a.iflets y (first.agree e i) adds.grown) in
     record {
       met = λ m.
           (let e = some_there (matches_under p g.meaning g.pick r g.args) m in

@@ -1,0 +1,35 @@
+-- What theory proves of matching by demands: of one rule, of its closed demands, of what can't be met, and of built sets.
+use Rattle.std.specs.Prelude.{◌≡◌, ◌↔◌, ℕ, Bool, List, Some, is_some, IsTrue, Contains}
+use Rattle.isle_model.specs.lists.Syntax.{Definition}
+use Rattle.isle_model.specs.lists.Elaborated.{TypedRules}
+use Rattle.isle_model.specs.rules.Values.{Value, args_well_typed}
+use Rattle.isle_model.specs.rules.Meaning.{many, Contents, Meaning}
+use Rattle.isle_model.specs.rules.Program.{Program, arg_types, rules_of}
+use Rattle.isle_model.specs.rules.Typed.{TypedRule}
+use Rattle.isle_model.specs.rules.Picks.{Pick, site_content, picks, matches_under}
+use Rattle.isle_model.specs.sites.Sites.{SiteTerm}
+use Rattle.isle_model.specs.sites.Demands.{demands_of}
+use Rattle.isle_model.specs.sites.Closure.{DemandsHold}
+use Rattle.isle_model.specs.sites.Serves.{Serves}
+use Rattle.isle_model.specs.claims.Environments.{TypesRead, IsElaborated, program_of}
+
+-- a rule on arguments of its term's types, a meaning that serves the rules of the term, and one of the rule's picks
+pub record IsTried (p : Program) (t : ℕ) (m : Meaning) (args : List Value) (r : TypedRule) (k : Pick) : Type 0 where
+  pub typed : IsTrue (args_well_typed p.types (arg_types p t) args)
+  pub served : Serves p m args (rules_of p t)
+  pub rule : Contains (rules_of p t) r
+  pub pick : Contains (picks p m args r) k
+
+-- of rules that elaborate
+abbrev pub WhereTried : (Program → ℕ → Meaning → List Value → TypedRule → Pick → Type 0) → Type 0
+WhereTried P =
+    (e : TypesRead) (defs : List Definition) (expand : Bool) (rules : TypedRules) (t : ℕ) (m : Meaning) (args : List Value) (r : TypedRule) (k : Pick)
+    → IsElaborated e defs expand rules → IsTried (program_of e defs rules.rules) t m args r k → P (program_of e defs rules.rules) t m args r k
+
+-- a rule matches exactly where its demands hold, and each call that it goes over answers a list
+pub record MatchesByVisit (p : Program) (m : Meaning) (args : List Value) (r : TypedRule) (k : Pick) : Type 0 where
+  pub matching : IsTrue (is_some (matches_under p m k r args)) ↔ DemandsHold m args k (demands_of p r)
+  pub lists : (call : SiteTerm) → Contains (demands_of p r).iterators call → (cs : Contents) × (site_content m args k call ≡ Some (many cs))
+
+abbrev pub VisitsMatch : Type 0
+VisitsMatch = WhereTried (λ p t m args r k. MatchesByVisit p m args r k)
