@@ -1,4 +1,4 @@
--- A typed rule matches exactly where its demands hold, and so a built set means what its rules do.
+-- Matching of simple rules.
 pub mod Answered
 pub mod Contents
 pub mod Demanded
