@@ -5,12 +5,11 @@
 #![tactic(auto)]
 
 ghost use Rattle.isle_laws_demands.specs.ClosureLaws.{JoinedIsEquivalence, ClassesBoundJoined, VerdictIsExact, NamesAreExact, ClosingAddsNothing, ConstraintsAreKept, ClosingIsSound, OverlapIsSymmetric, OverlapIsExact, ClashIsExact, FirstLimitIsPassed, PassedLimitIsMet, ClosingIsWhole, ReportsAreExact, ShadowsAreExact, VisitsMakeEqualSites, PlainClosingEnds, ClosingEnds};
+ghost use Rattle.isle_laws_demands.specs.AcceptLaws.{ElaboratedRulesHaveTerms, RulesAreJudged, ListsAreAccepted, ListsAreNotAccepted};
 ghost use Rattle.isle_laws_demands.specs.ReportLaws.{CheckIsExact, OverlapsAreListedOnce, ListedRulesOverlap, MasksAreReportedOnce, ReportedMasksShadow};
 ghost use Rattle.isle_laws_demands.specs.VisitLaws.{SitesStandOnce, FormedRulesDemandGates, ClosingKeepsGates, ElaboratedRulesDemandGates, BuiltRulesDemandGates, BuiltSetsAreWellBuilt, NoneAskedAndGoneOver, MultiCallsAreGoneOver, NoRuleAsksAndGoesOver, MultiTermsHaveOnePriority};
-ghost use Rattle.isle_laws_demands.specs.MatchLaws.{VisitsMatch};
 ghost use Rattle.isle_model.specs.claims.SetMeanings.{BuiltSetsAreTested, BuiltSetsCanBeServed, BuiltSetsAreCollected};
 ghost use Rattle.isle_laws_demands.specs.BuiltLaws.{ClosingsOfBuiltRulesAreWhole, ConstrainedSitesStandInNoClass, BuiltRulesConstrainOrEquate, FormedRulesMakeEqualSites, BuiltDemandsAreWhole};
-ghost use Rattle.isle_laws_demands.specs.AcceptLaws.{ElaboratedRulesHaveTerms, RulesAreJudged, ListsAreAccepted, ListsAreNotAccepted};
 
 use isle_laws_lists::{lists_agree, rules_are_formed};
 
@@ -70,11 +69,13 @@ pub fn clash_is_exact()
 {}
 
 /// A limit that is reported is passed.
+#[tactic(auto, using(crate::proofs::closure::LimitsPassed::first_limit_is_passed_lem))]
 pub fn first_limit_is_passed()
     ensures { FirstLimitIsPassed }
 {}
 
 /// Where a limit is passed, one is reported.
+#[tactic(auto, using(crate::proofs::closure::LimitsPassed::passed_limit_is_met_lem))]
 pub fn passed_limit_is_met()
     ensures { PassedLimitIsMet }
 {}
@@ -90,6 +91,7 @@ pub fn reports_are_exact()
 {}
 
 /// The test of shadows is exact.
+#[tactic(auto, using(crate::proofs::overlaps::Agreements::shadows_decides))]
 pub fn shadows_are_exact()
     ensures { ShadowsAreExact }
 {}
@@ -100,6 +102,7 @@ pub fn visits_make_equal_sites()
 {}
 
 /// Nothing is reported of a program exactly where all its rules are built, none overlap wrongly, and none is shadowed.
+#[tactic(auto, using(crate::proofs::overlaps::Checked::check_is_exact_lem))]
 pub fn check_is_exact()
     ensures { CheckIsExact }
 {}
@@ -110,31 +113,37 @@ pub fn overlaps_are_listed_once()
 {}
 
 /// Each further rule of a report overlaps wrongly with its first.
+#[tactic(auto, using(crate::proofs::overlaps::Listed::listed_rules_overlap_lem))]
 pub fn listed_rules_overlap()
     ensures { ListedRulesOverlap }
 {}
 
 /// Where rules stand at distinct positions, each built rule that shadows others is the mask of one report, which lists these.
+#[tactic(auto, using(crate::proofs::overlaps::Masks::masks_are_reported_once_lem))]
 pub fn masks_are_reported_once()
     ensures { MasksAreReportedOnce }
 {}
 
 /// Each shadow report is of such a rule.
+#[tactic(auto, using(crate::proofs::overlaps::Masks::reported_masks_shadow_lem))]
 pub fn reported_masks_shadow()
     ensures { ReportedMasksShadow }
 {}
 
 /// The closing of demands without equalities ends.
+#[tactic(auto, using(crate::proofs::closure::Closing::plain_closing_ends_lem))]
 pub fn plain_closing_ends()
     ensures { PlainClosingEnds }
 {}
 
 /// In a built set no site stands twice.
+#[tactic(auto, using(crate::proofs::visits::Once::sites_stand_once_lem))]
 pub fn sites_stand_once()
     ensures { SitesStandOnce }
 {}
 
 /// A rule that hangs together, and whose if-lets make no impure call, demands the gates of all that it tests and returns.
+#[tactic(auto, using(crate::proofs::visits::Rules::formed_rules_demand_gates_lem))]
 pub fn formed_rules_demand_gates()
     ensures { FormedRulesDemandGates }
 {}
@@ -179,6 +188,7 @@ pub fn none_asked_and_gone_over()
 {}
 
 /// What a rule goes over are multi calls, and it tests none, where no term is multi and partial at once.
+#[tactic(auto, using(crate::proofs::visits::Apart::multi_calls_are_gone_over_lem))]
 pub fn multi_calls_are_gone_over()
     ensures { MultiCallsAreGoneOver }
 {}
@@ -196,9 +206,25 @@ pub fn multi_terms_have_one_priority()
     lists_agree();
 }
 
-/// A rule that elaborates matches under a pick exactly where the demands of its visit hold.
-pub fn visits_match()
-    ensures { VisitsMatch }
+/// The term of each rule that elaborates is one of the table.
+pub fn elaborated_rules_have_terms()
+    ensures { ElaboratedRulesHaveTerms }
+{}
+
+/// The judge of rules is exact, where each rule's term is one of the program's.
+#[tactic(auto, using(crate::proofs::overlaps::Judged::rules_are_judged_lem))]
+pub fn rules_are_judged()
+    ensures { RulesAreJudged }
+{}
+
+/// The judge of acceptance gives the typed rules of a list that is accepted.
+pub fn lists_are_accepted()
+    ensures { ListsAreAccepted }
+{}
+
+/// It gives nothing exactly where a list isn't accepted.
+pub fn lists_are_not_accepted()
+    ensures { ListsAreNotAccepted }
 {}
 
 /// So does that of the demands of each rule that is built.
@@ -223,19 +249,6 @@ pub fn built_rules_constrain_or_equate()
     ensures { BuiltRulesConstrainOrEquate }
 {}
 
-/// The visit of a rule that hangs together makes the sites that it equates.
-pub fn formed_rules_make_equal_sites()
-    ensures { FormedRulesMakeEqualSites }
-{}
-
-/// So the closed demands of each rule that is built of elaborated rules are all that follows.
-pub fn built_demands_are_whole()
-    ensures { BuiltDemandsAreWhole }
-{
-    rules_are_formed();
-    lists_agree();
-}
-
 /// A set that is built of elaborated rules can be served: no site stands twice or is both constrained and equated, the
 /// gates below what a rule tests and goes over are demanded, and the rules of a multi term have one priority.
 pub fn built_sets_can_be_served()
@@ -255,23 +268,15 @@ pub fn built_sets_are_collected()
     elaborated_rules_demand_gates();
 }
 
-/// The term of each rule that elaborates is one of the table.
-pub fn elaborated_rules_have_terms()
-    ensures { ElaboratedRulesHaveTerms }
+/// The visit of a rule that hangs together makes the sites that it equates.
+pub fn formed_rules_make_equal_sites()
+    ensures { FormedRulesMakeEqualSites }
 {}
 
-/// The judge of rules is exact, where each rule's term is one of the program's.
-#[tactic(auto, using(crate::proofs::overlaps::Judged::rules_are_judged_lem))]
-pub fn rules_are_judged()
-    ensures { RulesAreJudged }
-{}
-
-/// The judge of acceptance gives the typed rules of a list that is accepted.
-pub fn lists_are_accepted()
-    ensures { ListsAreAccepted }
-{}
-
-/// It gives nothing exactly where a list isn't accepted.
-pub fn lists_are_not_accepted()
-    ensures { ListsAreNotAccepted }
-{}
+/// So the closed demands of each rule that is built of elaborated rules are all that follows.
+pub fn built_demands_are_whole()
+    ensures { BuiltDemandsAreWhole }
+{
+    rules_are_formed();
+    lists_agree();
+}
