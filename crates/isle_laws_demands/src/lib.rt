@@ -10,6 +10,7 @@ ghost use Rattle.isle_laws_demands.specs.ReportLaws.{CheckIsExact, OverlapsAreLi
 ghost use Rattle.isle_laws_demands.specs.VisitLaws.{SitesStandOnce, FormedRulesDemandGates, ClosingKeepsGates, ElaboratedRulesDemandGates, BuiltRulesDemandGates, BuiltSetsAreWellBuilt, NoneAskedAndGoneOver, MultiCallsAreGoneOver, NoRuleAsksAndGoesOver, MultiTermsHaveOnePriority};
 ghost use Rattle.isle_model.specs.claims.SetMeanings.{BuiltSetsAreTested, BuiltSetsCanBeServed, BuiltSetsAreCollected};
 ghost use Rattle.isle_laws_demands.specs.BuiltLaws.{ClosingsOfBuiltRulesAreWhole, ConstrainedSitesStandInNoClass, BuiltRulesConstrainOrEquate, FormedRulesMakeEqualSites, BuiltDemandsAreWhole};
+ghost use Rattle.isle_laws_demands.specs.MatchLaws.{VisitsMatch};
 
 use isle_laws_lists::{lists_agree, rules_are_formed};
 
@@ -280,3 +281,8 @@ pub fn built_demands_are_whole()
     rules_are_formed();
     lists_agree();
 }
+
+/// A rule that elaborates matches under a pick exactly where the demands of its visit hold.
+pub fn visits_match()
+    ensures { VisitsMatch }
+{}
