@@ -133,7 +133,7 @@ pub fn closings_end()
     ensures { ClosingEnds }
 {}
 
-/// So the closed demands of a rule that is built are all that follows.
+/// So the closed demands of a rule that is built are all that follows, where its visit makes the sites that it equates.
 #[tactic(auto, using(crate::proofs::closure::BuiltRules::closings_of_built_rules_are_whole_lem))]
 pub fn closings_of_built_rules_are_whole()
     ensures { ClosingsOfBuiltRulesAreWhole }
