@@ -6,6 +6,7 @@ use Rattle.std.proofs.lemmas.List.Sums.{sum_by-cons}
 use Rattle.isle_model.specs.sites.Sites.{Constraint, is_variant, is_struct, is_bool, is_int, is_prim, is_present, SiteTerm, bool_term, int_term, prim_term, argument, extractor_call, constructor_call, pick_of, variant_made, variant_field, struct_made, struct_field, some_made, some_part, tuple_part, no_site}
 use Rattle.isle_model.specs.sites.Demands.{Demands, site_term_eq, has_site}
 use Rattle.isle_model.specs.sites.Closure.{field_terms, with_owners, constraint_of, Closed, class_at, without_class_of, merged_all, ascending, is_in_class, next_constrained, field_equalities, taken, closing, before_closing, most_closing_steps}
+use Rattle.isle_model.specs.sites.Limits.{most_sites}
 use Rattle.isle_laws_demands.specs.ClosureLaws.{HasEnded}
 use Rattle.isle_model.proofs.Elements.{In, some_is, none_some, any_in, in_any, in_filter, filter_from, passed_filter}
 use Rattle.isle_model.proofs.SameSites.{term_means, term_same}
@@ -49,6 +50,7 @@ owner_of_field (is_prim name) a x i = absurd i
 owner_of_field is_present a x i = absurd i
 
 -- 2. counting owners
+-- one for a test that passes
 abbrev bit : Bool → ℕ
 bit b = cond b 1 0
 
@@ -56,15 +58,15 @@ bit b = cond b 1 0
 abbrev owners_by : (SiteTerm → Bool) → SiteTerm → ℕ
 owners_by p s = count_by p (with_owners s)
 
-counted_alone : (p : SiteTerm → Bool) (s : SiteTerm) → with_owners s ≡ s ∷ [] → owners_by p s ≡ cond (p s) 1 0
-counted_alone p s e = ap (count_by p) e ∙ sum_by-cons (λ x. cond (p x) 1 0) s [] ∙ omega arith
+counted_alone : (p : SiteTerm → Bool) (s : SiteTerm) → with_owners s ≡ s ∷ [] → owners_by p s ≡ bit (p s)
+counted_alone p s e = ap (count_by p) e ∙ sum_by-cons (λ x. bit (p x)) s [] ∙ omega arith
 
-counted_field : (p : SiteTerm → Bool) (s a : SiteTerm) → with_owners s ≡ s ∷ with_owners a → owners_by p s ≡ cond (p s) 1 0 + owners_by p a
-counted_field p s a e = ap (count_by p) e ∙ sum_by-cons (λ x. cond (p x) 1 0) s (with_owners a)
+counted_field : (p : SiteTerm → Bool) (s a : SiteTerm) → with_owners s ≡ s ∷ with_owners a → owners_by p s ≡ bit (p s) + owners_by p a
+counted_field p s a e = ap (count_by p) e ∙ sum_by-cons (λ x. bit (p x)) s (with_owners a)
 
--- a site in a class is taken, or was in none, or came with its owner
+-- a site that passes after passed before and isn't taken, or its owner is taken; one that is taken passed before
 no_more_than : (took after was owner : Bool) → (took ≡ true → was ≡ true) → (after ≡ true → ((was ≡ true) × (took ≡ false)) ⊎ (owner ≡ true))
-    → cond took 1 0 + cond after 1 0 ≤ cond was 1 0 + cond owner 1 0
+    → bit took + bit after ≤ bit was + bit owner
 no_more_than true true was owner f g =
     elim (g refl) [ inl h ↦ absurd (false≢true (sym h.1)) | inr h ↦ let a = ap bit (f refl) in let b = ap bit h in omega (arith, a, b) ]
 no_more_than true false was owner f g = let a = ap bit (f refl) in omega (arith, a)
@@ -76,9 +78,9 @@ no_more_than false false was owner f g = omega arith
 -- such owners after, and one that is taken has fewer
 module _ (took after was : SiteTerm → Bool) (from : (x : SiteTerm) → took x ≡ true → was x ≡ true)
     (new : (x : SiteTerm) → after x ≡ true → ((was x ≡ true) × (took x ≡ false)) ⊎ ((a : SiteTerm) × (owner_of x ≡ Some a) × (took a ≡ true))) where
-  lessened : (u : SiteTerm) → cond (took u) 1 0 + owners_by after u ≤ owners_by was u
+  lessened : (u : SiteTerm) → bit (took u) + owners_by after u ≤ owners_by was u
   lessened =
-      by_owners (λ u. cond (took u) 1 0 + owners_by after u ≤ owners_by was u)
+      by_owners (λ u. bit (took u) + owners_by after u ≤ owners_by was u)
       (λ s o e.
       let x = counted_alone after s e in
       let y = counted_alone was s e in
@@ -385,12 +387,12 @@ ends_within us (suc n) k apart within few = go_on (next_constrained k.classes k.
         let l = step_lessens us k apart made c next in
         later after (after_apart us k apart made c next) w (omega (arith, l, few))
 
--- no more sites than there may be are made
-pub few_made_end : (before : List SiteTerm) (d : Demands) → length (closing most_closing_steps (before_closing before d)).made ≤ 65536
+-- and there are, where no more sites than there may be are made
+pub few_made_end : (before : List SiteTerm) (d : Demands) → length (closing most_closing_steps (before_closing before d)).made ≤ most_sites
     → HasEnded (closing most_closing_steps (before_closing before d))
 few_made_end before d few =
     ends_within us most_closing_steps (before_closing before d) (each_apart d.equalities [] (λ l m s i. absurd i)) (λ x i. i)
-    (let l = held_few us (merged_all [] d.equalities) 65536 few us in omega (arith, l, few))
+    (let l = held_few us (merged_all [] d.equalities) most_sites few us in omega (arith, l, few))
   where
     us : List SiteTerm
     us = (closing most_closing_steps (before_closing before d)).made

@@ -126,5 +126,5 @@ module _ (p : Program) (before : List SiteTerm) (r : TypedRule) (built : is_buil
       ∙ cond-false (is_unreachable (demands_of p r)) (with_sites before (demands_of p r).made) (closed before (demands_of p r)).made is_reached
 
   -- there are no more of these than there may be
-  pub few_made : length (closed before (demands_of p r)).made ≤ 65536
+  pub few_made : length (closed before (demands_of p r)).made ≤ most_sites
   few_made = let l = ltb-false most_sites (length (sites_reached p before r)) few_reached in let e = ap length reached_closed in omega (arith, l, e)

@@ -37,8 +37,8 @@ equating_alike s t v w a =
       | inr f ↦ subst (λ u. AreAlike u w) (sym (cond-false (site_term_eq s t) v (equated s t v) f)) (record { vars = a.vars; impure_calls = a.impure_calls })
     ]
 
-turned : (v w : Visit) → AreAlike v w → AreAlike w v
-turned v w a = record { vars = sym a.vars; impure_calls = sym a.impure_calls }
+alike_turned : (v w : Visit) → AreAlike v w → AreAlike w v
+alike_turned v w a = record { vars = sym a.vars; impure_calls = sym a.impure_calls }
 
 -- 1. patterns
 -- opened alike: the same inputs
@@ -63,7 +63,7 @@ module _ (p : Program) where
     pub pattern_alike : (q : TypedPattern) (s : SiteTerm) (v w : Visit) → AreAlike v w → AreAlike (visit_pattern p q s v) (visit_pattern p q s w)
     pattern_alike (match_bind ty x sub) s v w a = pattern_alike sub s (binding x s v) (binding x s w) (alike_binding x s s v w a refl)
     pattern_alike (match_var ty x) s v w a =
-        equating_alike s (var_site v x) v (equating s (var_site w x) w) (turned (equating s (var_site w x) w) v (equating_alike s (var_site w x) w v (turned v w a)))
+        equating_alike s (var_site v x) v (equating s (var_site w x) w) (alike_turned (equating s (var_site w x) w) v (equating_alike s (var_site w x) w v (alike_turned v w a)))
     pattern_alike (match_bool ty b) s v w a = record { vars = a.vars; impure_calls = a.impure_calls }
     pattern_alike (match_int ty z) s v w a = record { vars = a.vars; impure_calls = a.impure_calls }
     pattern_alike (match_prim ty name) s v w a = record { vars = a.vars; impure_calls = a.impure_calls }

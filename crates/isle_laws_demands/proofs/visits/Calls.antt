@@ -4,8 +4,7 @@ use Rattle.isle_model.specs.sites.Sites.{SiteTerm}
 use Rattle.isle_model.specs.sites.Demands.{Visit, iterating}
 use Rattle.isle_model.specs.rules.Typed.{TypedExpr, make_term, make_var, make_bool, make_int, make_prim, make_let, TypedExprs, no_typed_expr, typed_expr_and, TypedLets, no_typed_let, typed_let_and}
 use Rattle.isle_model.proofs.Elements.{In, in_either}
-use Rattle.isle_laws_demands.proofs.visits.Gates.{AllIn, gates_stay}
-use Rattle.isle_laws_demands.proofs.visits.Visited.{Good, Later}
+use Rattle.isle_laws_demands.proofs.visits.Visited.{Good, Later, good_stays}
 
 -- 1. calls
 -- the gates of the calls that a later visit goes over are demanded by it, but for those of the earlier one
@@ -15,17 +14,12 @@ NewCalls asked pure v w = (u : SiteTerm) → In w.demands.iterators u → In v.d
 pub no_call : (asked pure : Bool) (v : Visit) → NewCalls asked pure v v
 no_call asked pure v u i = inl i
 
--- and then of a visit that asks for no less
-pub calls_then : (asked pure : Bool) (u v w : Visit) → AllIn v.demands.constraints w.demands.constraints → AllIn v.demands.iterators w.demands.iterators
-    → NewCalls asked pure u v → NewCalls asked pure v w → NewCalls asked pure u w
-calls_then asked pure u v w more calls f g s i =
+pub then_calls : (asked pure : Bool) (u v w : Visit) → Later v w → NewCalls asked pure u v → NewCalls asked pure v w → NewCalls asked pure u w
+then_calls asked pure u v w l f g s i =
     elim (g s i) [
-      | inl j ↦ elim (f s j) [ inl k ↦ inl k | inr h ↦ inr (gates_stay v.demands.constraints w.demands.constraints v.demands.iterators w.demands.iterators more calls asked pure s h) ]
+      | inl j ↦ elim (f s j) [ inl k ↦ inl k | inr h ↦ inr (good_stays v w l asked pure s h) ]
       | inr h ↦ inr h
     ]
-
-pub then_calls : (asked pure : Bool) (u v w : Visit) → Later v w → NewCalls asked pure u v → NewCalls asked pure v w → NewCalls asked pure u w
-then_calls asked pure u v w l = calls_then asked pure u v w l.more l.calls
 
 pub one_call : (asked pure : Bool) (s : SiteTerm) (v : Visit) → Good asked pure (iterating s v) s → NewCalls asked pure v (iterating s v)
 one_call asked pure s v h u i =

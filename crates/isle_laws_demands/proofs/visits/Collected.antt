@@ -19,7 +19,7 @@ use Rattle.isle_model.proofs.Elements.{In, in_from_contains, contains_from_in, i
 use Rattle.isle_laws_demands.proofs.visits.Built.{rule_at, was_built, BuiltGates, built_gates, IsGood, below_good}
 use Rattle.isle_laws_demands.proofs.visits.GoneOver.{none_left, pure_right_side}
 use Rattle.isle_laws_demands.proofs.visits.Once.{sites_stand_once_lem}
-use Rattle.isle_laws_demands.proofs.visits.Served.{IsSoundRule, elaborated_rules_are_sound, built_calls, built_result, gate_there}
+use Rattle.isle_laws_demands.proofs.visits.Served.{IsSoundRule, elaborated_rules_are_sound, built_calls, built_result, gate_at}
 use Rattle.isle_laws_demands.proofs.visits.Sets.{all_from_in, in_from_all, each_tested}
 
 nothing_mapped : {X Y : Type 0} (f : X → Y) (xs : List X) → map f xs ≡ [] → xs ≡ []
@@ -100,7 +100,7 @@ module _ (p : Program) (t : ℕ) (f : (r : TypedRule) → In p.rules r → IsSou
     no_calls = nothing_mapped (unfold_site set.sites) r.impure (q.impure.1 ∙ results.no_calls);
     pure = all_from_in (λ s. IsTrue (calls_nothing (slice_get set.sites s))) (all_below set.sites (sites_of_rule r))
         (λ u i. let k = below_collected u i in subst (λ o. IsTrue (calls_nothing o)) (sym k.there) (pure_calls_nothing k.site k.pure_site));
-    gates = all_from_in (λ s. IsTrue (gate_demanded r (slice_get set.sites s))) (all_below set.sites (sites_of_rule r)) (λ u i. gate_there true set.sites r u (below_collected u i));
+    gates = all_from_in (λ s. IsTrue (gate_demanded r (slice_get set.sites s))) (all_below set.sites (sites_of_rule r)) (λ u i. gate_at true set.sites r u (below_collected u i));
   }
 
 pub are_collected_lem : RulesAreFormed → ListsAgree → ElaboratedRulesDemandGates → BuiltSetsAreCollected

@@ -31,7 +31,8 @@ pub record IsValued (pure : Bool) (vars : List (ℕ × ℕ)) (v : Visit) (a : Va
   pub same : Same vars v a.visit
   pub site : Good false pure a.visit a.site
 
--- likewise, where no call that may answer nothing is made if answers matter, with the calls that are gone over
+-- likewise: where answers matter, no call is made that may answer nothing; and with the gates of the calls that it is made
+-- by going over
 pub record IsValuedBy (asked pure : Bool) (vars : List (ℕ × ℕ)) (v : Visit) (a : Valued) : Type 0 where
   pub later : Later v a.visit
   pub same : Same vars v a.visit

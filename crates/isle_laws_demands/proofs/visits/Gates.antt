@@ -145,25 +145,25 @@ module _ (cs : List (SiteTerm × Constraint)) (calls : List SiteTerm) where
 
   -- and the multi calls that it takes answers of
   mutual
-    pub taken_from : (asked pure : Bool) (u s : SiteTerm) → GatesDemanded asked pure cs calls u → In (calls_in u) s → GatesDemanded asked pure cs calls s
-    taken_from a p (bool_term b ty) s h i = absurd i
-    taken_from a p (int_term z ty) s h i = absurd i
-    taken_from a p (prim_term name) s h i = absurd i
-    taken_from a p (argument n) s h i = absurd i
-    taken_from a p (extractor_call t u) s h i = taken_from a p u s h i
-    taken_from a p (constructor_call t args n) s h i = all_taken_from a p args s h.1 i
-    taken_from a p (pick_of u) s h (inl e) = subst (GatesDemanded a p cs calls) e h.1
-    taken_from a p (pick_of u) s h (inr i) = taken_from a p u s h.1 i
-    taken_from a p (variant_made ty variant fields) s h i = all_taken_from a p fields s h i
-    taken_from a p (variant_field u variant f) s h i = taken_from a p u s h.1 i
-    taken_from a p (struct_made ty fields) s h i = all_taken_from a p fields s h i
-    taken_from a p (struct_field u f) s h i = taken_from a p u s h.1 i
-    taken_from a p (some_made u) s h i = taken_from a p u s h i
-    taken_from a p (some_part u) s h i = taken_from a p u s h.1 i
-    taken_from a p (tuple_part u f) s h i = taken_from a p u s h i
-    taken_from a p no_site s h i = absurd i
+    pub gates_of_taken : (asked pure : Bool) (u s : SiteTerm) → GatesDemanded asked pure cs calls u → In (calls_in u) s → GatesDemanded asked pure cs calls s
+    gates_of_taken a p (bool_term b ty) s h i = absurd i
+    gates_of_taken a p (int_term z ty) s h i = absurd i
+    gates_of_taken a p (prim_term name) s h i = absurd i
+    gates_of_taken a p (argument n) s h i = absurd i
+    gates_of_taken a p (extractor_call t u) s h i = gates_of_taken a p u s h i
+    gates_of_taken a p (constructor_call t args n) s h i = all_gates_of_taken a p args s h.1 i
+    gates_of_taken a p (pick_of u) s h (inl e) = subst (GatesDemanded a p cs calls) e h.1
+    gates_of_taken a p (pick_of u) s h (inr i) = gates_of_taken a p u s h.1 i
+    gates_of_taken a p (variant_made ty variant fields) s h i = all_gates_of_taken a p fields s h i
+    gates_of_taken a p (variant_field u variant f) s h i = gates_of_taken a p u s h.1 i
+    gates_of_taken a p (struct_made ty fields) s h i = all_gates_of_taken a p fields s h i
+    gates_of_taken a p (struct_field u f) s h i = gates_of_taken a p u s h.1 i
+    gates_of_taken a p (some_made u) s h i = gates_of_taken a p u s h i
+    gates_of_taken a p (some_part u) s h i = gates_of_taken a p u s h.1 i
+    gates_of_taken a p (tuple_part u f) s h i = gates_of_taken a p u s h i
+    gates_of_taken a p no_site s h i = absurd i
 
-    pub all_taken_from : (asked pure : Bool) (us : SiteTerms) (s : SiteTerm) → AllGatesDemanded asked pure cs calls us → In (calls_in_all us) s → GatesDemanded asked pure cs calls s
-    all_taken_from a p no_site_term s h i = absurd i
-    all_taken_from a p (site_term_and u us) s h i =
-        elim (in_either (calls_in u) (calls_in_all us) s i) [ inl j ↦ taken_from a p u s h.0 j | inr j ↦ all_taken_from a p us s h.1 j ]
+    pub all_gates_of_taken : (asked pure : Bool) (us : SiteTerms) (s : SiteTerm) → AllGatesDemanded asked pure cs calls us → In (calls_in_all us) s → GatesDemanded asked pure cs calls s
+    all_gates_of_taken a p no_site_term s h i = absurd i
+    all_gates_of_taken a p (site_term_and u us) s h i =
+        elim (in_either (calls_in u) (calls_in_all us) s i) [ inl j ↦ gates_of_taken a p u s h.0 j | inr j ↦ all_gates_of_taken a p us s h.1 j ]

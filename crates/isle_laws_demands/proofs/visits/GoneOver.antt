@@ -19,7 +19,7 @@ use Rattle.isle_model.proofs.SitesMade.{has_in}
 use Rattle.isle_laws_demands.proofs.visits.Afresh.{AreAlike, asked_alike, asked_iterators, pattern_alike, AreValuedAlike, expr_alike}
 use Rattle.isle_laws_demands.proofs.visits.Calls.{CallsAlone}
 use Rattle.isle_laws_demands.proofs.visits.Exprs.{from_entry, from_vars, IsTotal, expr_valued_by, expr_valued}
-use Rattle.isle_laws_demands.proofs.visits.Gates.{unpurified, taken_from}
+use Rattle.isle_laws_demands.proofs.visits.Gates.{unpurified, gates_of_taken}
 use Rattle.isle_laws_demands.proofs.visits.PatternCalls.{Adds, still_tested, pattern_adds, args_add}
 use Rattle.isle_laws_demands.proofs.visits.Patterns.{from_if, from_then}
 use Rattle.isle_laws_demands.proofs.visits.RightSides.{IsSingle, expr_single, expr_quiet}
@@ -67,7 +67,7 @@ iflets_calls p (i ∷ is) v v' vars more f h g alike u k =
                           elim (cases_Bool (has_site (calls_in y.site) u)) [
                             | inl t ↦
                                 let here = subst (λ s. In (calls_in s) u) (sym same.site) (has_in (calls_in y.site) u t) in
-                                inr (inr (at_end (still_tested w.demands z.demands adds u (taken_from w.demands.constraints w.demands.iterators true true x.site u tested here))))
+                                inr (inr (at_end (still_tested w.demands z.demands adds u (gates_of_taken w.demands.constraints w.demands.iterators true true x.site u tested here))))
                             | inr o ↦
                                 inr (inl (in_left left (calls_left p is (visit_pattern p i.lhs y.site y.visit)) u
                                 (filter_from (λ c. not (has_site (calls_in y.site) c)) y.visit.demands.iterators u n (ap not o))))

@@ -96,8 +96,8 @@ rule_at_place p sites (a ∷ bs) [] h k b r x y = absurd (none_some r y)
 rule_at_place p sites (a ∷ bs) (q ∷ rs) h zero b r x y = subst (λ d. IsRuleOf p sites d r) (some_is a b x) (subst (IsRuleOf p sites a) (some_is q r y) h.0)
 rule_at_place p sites (a ∷ bs) (q ∷ rs) h (suc k) b r x y = rule_at_place p sites bs rs h.1 k b r x y
 
-pub gate_there : (asked : Bool) (sites : List Site) (r : SetRule) (u : ℕ) → IsGood true asked sites r u → IsTrue (gate_demanded r (slice_get sites u))
-gate_there pure sites r u k = subst (λ o. IsTrue (gate_demanded r o)) (sym k.there) k.gate
+pub gate_at : (asked : Bool) (sites : List Site) (r : SetRule) (u : ℕ) → IsGood true asked sites r u → IsTrue (gate_demanded r (slice_get sites u))
+gate_at pure sites r u k = subst (λ o. IsTrue (gate_demanded r o)) (sym k.there) k.gate
 
 module _ (p : Program) (t : ℕ) (f : (r : TypedRule) → In p.rules r → IsSoundRule p r) (set : SiteSet) (h : IsBuilt p t set) (b : BuiltRule) (r : SetRule) (same : AreOneRule p t set b r) where
   is_rule : IsRuleOf p set.sites b r
@@ -114,7 +114,7 @@ module _ (p : Program) (t : ℕ) (f : (r : TypedRule) → In p.rules r → IsSou
             (λ u j.
             let m = from_flat_map (λ a. below (suc a) set.sites a) (s ∷ []) u j in
             let at = only m.0 m.1 in
-            gate_there false set.sites r u
+            gate_at false set.sites r u
             (below_good p t set h b r is_rule true false (suc s) s k.0 g u (subst (λ a. In (below (suc a) set.sites a) u) (sym at) m.2))))
       ]
     where
