@@ -137,28 +137,6 @@ pub fn plain_closing_ends()
     ensures { PlainClosingEnds }
 {}
 
-/// So does that of the demands of each rule that is built.
-#[tactic(auto, using(crate::proofs::closure::BuiltRules::closing_ends_lem))]
-pub fn closings_end()
-    ensures { ClosingEnds }
-{}
-
-/// So the closed demands of a rule that is built are all that follows, where its visit makes the sites that it equates.
-#[tactic(auto, using(crate::proofs::closure::BuiltRules::closings_of_built_rules_are_whole_lem))]
-pub fn closings_of_built_rules_are_whole()
-    ensures { ClosingsOfBuiltRulesAreWhole }
-{}
-
-/// And none of their classes holds a constrained site.
-pub fn constrained_sites_stand_in_no_class()
-    ensures { ConstrainedSitesStandInNoClass }
-{}
-
-/// So no rule of a built set both constrains and equates a site.
-pub fn built_rules_constrain_or_equate()
-    ensures { BuiltRulesConstrainOrEquate }
-{}
-
 /// In a built set no site stands twice.
 #[tactic(auto, using(crate::proofs::visits::Once::sites_stand_once_lem))]
 pub fn sites_stand_once()
@@ -256,7 +234,7 @@ pub fn closings_end()
     ensures { ClosingEnds }
 {}
 
-/// So the closed demands of a rule that is built are all that follows.
+/// So the closed demands of a rule that is built are all that follows, where its visit makes the sites that it equates.
 #[tactic(auto, using(crate::proofs::closure::BuiltRules::closings_of_built_rules_are_whole_lem))]
 pub fn closings_of_built_rules_are_whole()
     ensures { ClosingsOfBuiltRulesAreWhole }
