@@ -14,13 +14,14 @@ use Rattle.isle_model.specs.sites.Demands.{demands_of}
 use Rattle.isle_model.specs.sites.Closure.{IsUnreachable, is_unreachable, Unreachability, reported, Closed, closed, closing, before_closing, most_closing_steps}
 use Rattle.isle_model.specs.sites.RuleSets.{IsBuilt}
 use Rattle.isle_model.specs.sites.Limits.{first_limit}
+use Rattle.isle_model.specs.sites.Overlap.{check_reports}
 use Rattle.isle_model.specs.trees.Trees.{Tree}
 use Rattle.isle_model.specs.trees.Best.{IsBestTree}
 use Rattle.isle_model.specs.trees.Judge.{is_best_tree}
 use Rattle.isle_model.specs.trees.Sound.{IsSound}
 use Rattle.isle_model.specs.trees.WellBuilt.{IsWellBuilt}
 use Rattle.isle_model.specs.claims.Environments.{types_read, setting_of, IsRead}
-use Rattle.isle_model.specs.claims.Layers.{own_program, BindsBeforeUse}
+use Rattle.isle_model.specs.claims.Layers.{own_program, IsCheckable, IsAccepted, BindsBeforeUse}
 use Rattle.isle_model.specs.claims.SetMeanings.{CanBeServed}
 use Rattle.isle_laws_demands.specs.ClosureLaws.{HasEnded}
 
@@ -32,9 +33,17 @@ own_setting defs expand = setting_of (types_read defs) defs expand
 abbrev pub IsReadBoth : List Definition → TypedRules → Type 0
 IsReadBoth defs rules = IsRead defs true rules × IsRead defs false rules
 
--- a list has no typed rules, whether they are expanded or not
+-- and they can be told apart: nothing is reported of them
+abbrev pub IsAcceptedBoth : List Definition → TypedRules → Type 0
+IsAcceptedBoth defs rules = IsAccepted defs true rules × IsAccepted defs false rules × (check_reports (own_program defs rules) ≡ [])
+
+-- a list has no typed rules; it has some that can't be told apart
 abbrev pub IsNotRead : List Definition → Type 0
 IsNotRead defs = (expand : Bool) (rules : TypedRules) → IsRead defs expand rules → ⊥
+
+abbrev pub IsNotAccepted : List Definition → TypedRules → Type 0
+IsNotAccepted defs rules =
+    IsReadBoth defs rules × (IsCheckable (own_program defs rules) → ⊥) × ((expand : Bool) (rules : TypedRules) → IsAccepted defs expand rules → ⊥)
 
 -- what the rules of a list become
 abbrev pub Becomes : List Definition → Bool → Option TypedRules → Type 0

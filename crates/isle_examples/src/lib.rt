@@ -576,19 +576,19 @@ pub fn multi_is_sound()
 
 /// A set with an impure site that none of its rules uses is such as a run collects, and a world where that call answers
 /// nothing serves it.
-#[tactic(auto, using(crate::proofs::LeftOver::left_over_is_collected_lem))]
+#[tactic(auto, using(crate::proofs::OldLeftOver::left_over_is_collected_lem))]
 pub fn left_over_sites_are_harmless()
     ensures { LeftOverIsCollected }
 {}
 
 /// The run of its tree collects the set's bag.
-#[tactic(auto, using(crate::proofs::LeftOver::left_over_collects_lem))]
+#[tactic(auto, using(crate::proofs::OldLeftOver::left_over_collects_lem))]
 pub fn left_over_sites_are_not_run()
     ensures { LeftOverCollects }
 {}
 
 /// A rule may demand every gate though an if-let of it leaves a multi call unused.
-#[tactic(auto, using(crate::proofs::LeftOver::demands_gates_though_lem))]
+#[tactic(auto, using(crate::proofs::OldLeftOver::demands_gates_though_lem))]
 pub fn unused_calls_may_demand_gates()
     ensures { DemandsGatesThough }
 {}
