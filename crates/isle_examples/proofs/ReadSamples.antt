@@ -1,12 +1,13 @@
 -- The samples' lists are valid, and their rules elaborate: the judge of reading says so.
-use Rattle.std.proofs.Common.{◌≡◌, Bool, true, false, List, Some, refl}
+use Rattle.std.proofs.Common.{◌≡◌, Bool, true, false, List, Some, is_some, refl}
+use Rattle.std.proofs.lemmas.Bool.Decides.{not_from_Decides}
 use Rattle.isle_model.specs.lists.Syntax.{Definition}
 use Rattle.isle_model.specs.lists.TypeTable.{IsValidTypes}
 use Rattle.isle_model.specs.lists.Elaborated.{TypedRules}
 use Rattle.isle_model.specs.claims.Environments.{types_read, HasTypedRules}
-use Rattle.isle_model.specs.claims.ReadJudge.{read_list}
+use Rattle.isle_model.specs.claims.ReadJudge.{elaborated_list, read_list}
 use Rattle.isle_laws_lists.proofs.JudgedTypes.{types_are_judged_lem}
-use Rattle.isle_laws_lists.proofs.JudgedReading.{lists_are_read_lem, lists_are_refused_lem}
+use Rattle.isle_laws_lists.proofs.JudgedReading.{typed_rules_are_found_lem, lists_are_read_lem, lists_are_refused_lem}
 use Rattle.isle_examples.specs.SampleLists.{extract, extract_rules, partial, partial_rules, multi, multi_rules, overlap, overlap_rules, shadow, shadow_rules, equal, equal_rules, variant_eq, variant_eq_rules, unused, unused_rules}
 use Rattle.isle_examples.specs.ReadSamples.{IsReadBoth, EqualIsRead, ExtractIsRead, PartialIsRead, MultiIsRead, OverlapIsRead, ShadowIsRead, VariantIsRead, UnusedIsRead, declared_twice, unbound, RefusedAreNotRead}
 
@@ -41,7 +42,7 @@ pub unbound_types : IsValidTypes unbound
 unbound_types = (types_are_judged_lem unbound).0 refl
 
 pub unbound_elaborates_not : (expand : Bool) → HasTypedRules (types_read unbound) unbound expand → ⊥
-unbound_elaborates_not expand h = (lists_are_refused_lem unbound expand).0 refl h.0 (record { types = unbound_types; elaborated = h.1 })
+unbound_elaborates_not expand = not_from_Decides (is_some (elaborated_list (types_read unbound) unbound expand)) (typed_rules_are_found_lem (types_read unbound) unbound expand) refl
 
 pub refused_are_not_read_lem : RefusedAreNotRead
 refused_are_not_read_lem = ((λ expand. (lists_are_refused_lem declared_twice expand).0 refl), λ expand. (lists_are_refused_lem unbound expand).0 refl)

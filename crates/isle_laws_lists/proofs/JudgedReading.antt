@@ -1,15 +1,15 @@
 -- The judge of reading gives a list's typed rules, and nothing where it has none.
-use Rattle.std.proofs.Common.{◌≡◌, Bool, true, ◌&&◌, List, Option, Some, None, refl, sym, ◌∙◌, subst}
-use Rattle.std.proofs.lemmas.Bool.{and_parts, and_from, cond-true}
+use Rattle.std.proofs.Common.{◌≡◌, Bool, true, ◌&&◌, List, Option, Some, None, is_some, refl, sym, ap, ◌∙◌, subst}
+use Rattle.std.proofs.lemmas.Bool.{false≢true, and_parts, and_from, cond-true}
 use Rattle.std.proofs.lemmas.Option.{none-some, same_Some}
 use Rattle.isle_model.specs.lists.Syntax.{Definition}
 use Rattle.isle_model.specs.lists.TermTable.{rule_trees, term_names_met}
 use Rattle.isle_model.specs.lists.ListJudge.{has_valid_types, has_valid_terms, all_defined}
 use Rattle.isle_model.specs.lists.Elaborated.{TypedRules, rule_names, elaborated_rules}
 use Rattle.isle_model.specs.trees.Best.{are_distinct}
-use Rattle.isle_model.specs.claims.Environments.{TypesRead, types_read, setting_of, IsElaborated}
+use Rattle.isle_model.specs.claims.Environments.{TypesRead, types_read, setting_of, IsElaborated, HasTypedRules}
 use Rattle.isle_model.specs.claims.ReadJudge.{are_readable, named_apart, elaborated_list, read_list}
-use Rattle.isle_laws_lists.specs.JudgeLaws.{ListsAreElaborated, ListsAreRead, ListsAreRefused}
+use Rattle.isle_laws_lists.specs.JudgeLaws.{ListsAreElaborated, TypedRulesAreFound, ListsAreRead, ListsAreRefused}
 use Rattle.isle_laws_lists.proofs.Typings.{if_gives}
 use Rattle.isle_laws_lists.proofs.Twice.{numbers_differ}
 use Rattle.isle_laws_lists.proofs.JudgedKnown.{read_types_are_judged_lem}
@@ -54,6 +54,15 @@ module _ (e : TypesRead) (defs : List Definition) (expand : Bool) (rules : Typed
 
 pub lists_are_elaborated_lem : ListsAreElaborated
 lists_are_elaborated_lem e defs expand rules = (elaborated e defs expand rules, given e defs expand rules)
+
+pub typed_rules_are_found_lem : TypedRulesAreFound
+typed_rules_are_found_lem e defs expand = (
+  elim (elaborated_list e defs expand) as (λ o. elaborated_list e defs expand ≡ o → is_some o ≡ true → HasTypedRules e defs expand) [
+    | None ↦ λ _ h. absurd (false≢true h)
+    | Some rules ↦ λ q _. (rules, elaborated e defs expand rules q)
+  ] refl,
+  λ h. ap is_some (given e defs expand h.0 h.1),
+)
 
 pub lists_are_read_lem : ListsAreRead
 lists_are_read_lem defs expand rules = (

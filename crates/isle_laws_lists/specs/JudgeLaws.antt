@@ -1,5 +1,5 @@
 -- The judges of lists of definitions are exact.
-use Rattle.std.specs.Prelude.{◌≡◌, ◌↔◌, Bool, List, Some, None, Decides}
+use Rattle.std.specs.Prelude.{◌≡◌, ◌↔◌, Bool, List, Some, None, is_some, Decides}
 use Rattle.isle_model.specs.lists.Syntax.{Definition}
 use Rattle.isle_model.specs.lists.TypeTable.{IsValidTypes}
 use Rattle.isle_model.specs.lists.KnownTypes.{KnownTypes, IsWellFormed}
@@ -7,7 +7,7 @@ use Rattle.isle_model.specs.lists.TermTable.{IsAcyclic, IsValidTerms, AllDefined
 use Rattle.isle_model.specs.lists.KnownJudge.{are_well_formed}
 use Rattle.isle_model.specs.lists.ListJudge.{has_valid_types, is_acyclic, has_valid_terms, all_defined}
 use Rattle.isle_model.specs.lists.Elaborated.{TypedRules}
-use Rattle.isle_model.specs.claims.Environments.{TypesRead, AreReadable, IsElaborated, IsRead}
+use Rattle.isle_model.specs.claims.Environments.{TypesRead, AreReadable, IsElaborated, HasTypedRules, IsRead}
 use Rattle.isle_model.specs.claims.ReadJudge.{are_readable, elaborated_list, read_list}
 
 -- the judge says so exactly where a list has a type table
@@ -38,7 +38,11 @@ abbrev pub ListsAreElaborated : Type 0
 ListsAreElaborated =
     (e : TypesRead) (defs : List Definition) (expand : Bool) (rules : TypedRules) → (elaborated_list e defs expand ≡ Some rules) ↔ IsElaborated e defs expand rules
 
--- so it does of a list that is read with its own types
+-- so a list has typed rules exactly where the judge gives some
+abbrev pub TypedRulesAreFound : Type 0
+TypedRulesAreFound = (e : TypesRead) (defs : List Definition) (expand : Bool) → Decides (is_some (elaborated_list e defs expand)) (HasTypedRules e defs expand)
+
+-- it gives them of a list that is read with its own types
 abbrev pub ListsAreRead : Type 0
 ListsAreRead = (defs : List Definition) (expand : Bool) (rules : TypedRules) → (read_list defs expand ≡ Some rules) ↔ IsRead defs expand rules
 

@@ -7,7 +7,7 @@ ghost use Rattle.isle_laws_lists.specs.TypingLaws.{PatternsAgree, ExprsAgree, Ru
 ghost use Rattle.isle_laws_lists.specs.TypingResults.{TypesAreExpected, VariablesAtPlaces, NamesStay, NamesStayInLists};
 ghost use Rattle.isle_model.specs.lists.Formed.{RulesAreFormed};
 ghost use Rattle.isle_laws_lists.specs.OwnTypes.{OwnTypesAreReadable};
-ghost use Rattle.isle_laws_lists.specs.JudgeLaws.{TypesAreJudged, CyclesAreFound, TermsAreJudged, DefinedAreJudged, KnownTypesAreJudged, ReadTypesAreJudged, ListsAreElaborated, ListsAreRead, ListsAreRefused};
+ghost use Rattle.isle_laws_lists.specs.JudgeLaws.{TypesAreJudged, CyclesAreFound, TermsAreJudged, DefinedAreJudged, KnownTypesAreJudged, ReadTypesAreJudged, ListsAreElaborated, TypedRulesAreFound, ListsAreRead, ListsAreRefused};
 ghost use Rattle.isle_laws_lists.specs.TableLaws.{OwnTypesAreWellFormed, NamesStandOnce, NumbersStay, TypesStandAtIds, TypesAreFound, LastDefinitionCounts, TermsStandAtIds, TermsAreOfTypes, TermsHaveNames, TermsAreFound, TypesMakeTerms, ConvertersStandOnce};
 
 /// A pattern becomes by the rules of typing what the function gives, and nothing where it gives nothing.
@@ -187,7 +187,12 @@ pub fn lists_are_elaborated()
     ensures { ListsAreElaborated }
 {}
 
-/// So it does by a list's own types.
+/// So a list has typed rules exactly where the judge gives some.
+pub fn typed_rules_are_found()
+    ensures { TypedRulesAreFound }
+{}
+
+/// It gives them by a list's own types.
 pub fn lists_are_read()
     ensures { ListsAreRead }
 {}
