@@ -7,14 +7,12 @@ use Rattle.isle_model.specs.lists.Elaborated.{elaborated_rule}
 use Rattle.isle_model.specs.lists.KnownTypes.{types_of}
 use Rattle.isle_model.specs.lists.Setting.{Scope, bound, new_scope}
 use Rattle.isle_model.specs.lists.Syntax.{PatternTree}
-use Rattle.isle_model.specs.rules.Meaning.{many}
 use Rattle.isle_model.specs.rules.Typed.{TypedPattern, TypedRule}
 use Rattle.isle_laws_lists.proofs.JudgedReading.{lists_are_read_lem}
 use Rattle.isle_laws_lists.proofs.JudgedTerms.{defined_are_judged_lem, terms_are_judged_lem}
 use Rattle.isle_laws_lists.proofs.TypedRules.{rules_agree}
 use Rattle.isle_laws_lists.specs.TypingLaws.{typing}
 use Rattle.isle_examples.specs.Expansions.{DoubledTables, EndlessBecomes, EndlessTables, LimitIsMet, NestedUsesDouble, TemplateVariablesAreTheRules, doubled, doubled_defs, endless_defs, endless_rules, expansions_of, nested_uses, once_more, own_variable_defs, own_variable_rules, template_setting, twice}
-use Rattle.isle_examples.specs.MeaningForms.{v}
 use Rattle.isle_examples.specs.TypedForms.{names_with, typed_var, u8}
 use Rattle.isle_examples.specs.Written.{any, number, of_f, rule_tree}
 
@@ -87,20 +85,21 @@ grows (suc k) n =
 
 pub nested_uses_double : NestedUsesDouble
 unfolding total
-nested_uses_double = (
-  λ n h.
+nested_uses_double = record {
+  within = λ n h.
       let l : n ≤ 256 = omega (arith, h) in
       let g = grows (16 - n) n in
       let i : (16 - n) + n ≡ 16 = omega (arith, h) in
       let small : doubled n ≤ 65535 = subst (λ m. doubled n ≤ doubled m) i g in
       let few : (doubled n + (0 + (0 + 0))) + (0 + 0) ≤ 65536 = omega (arith, small) in
       let same : (doubled n + (0 + (0 + 0))) + (0 + 0) ≡ doubled n = omega arith in
-      within (nested_uses n) (any 3) (any 3) (doubled n) 0 0 (first_one n l) any_one any_one few ∙ ap Some same,
-  refl,
-  let l : 17 ≤ 256 = omega arith in
+      within (nested_uses n) (any 3) (any 3) (doubled n) 0 0 (first_one n l) any_one any_one few ∙ ap Some same;
+  most = refl;
+  past =
+      let l : 17 ≤ 256 = omega arith in
       let many : 65536 < (131071 + (0 + (0 + 0))) + (0 + 0) = omega arith in
-      past (nested_uses 17) (any 3) (any 3) 131071 0 0 (first_one 17 l) any_one any_one many,
-)
+      past (nested_uses 17) (any 3) (any 3) 131071 0 0 (first_one 17 l) any_one any_one many;
+}
 
 pub limit_is_met : LimitIsMet
 unfolding total
@@ -108,4 +107,7 @@ limit_is_met =
     let l : 16 ≤ 256 = omega arith in
     let few : (65535 + (1 + (0 + 0))) + (0 + 0) ≤ 65536 = omega arith in
     let many : 65536 < (65535 + (1 + (1 + 0))) + (0 + 0) = omega arith in
-    (within (nested_uses 16) once_more (any 3) 65535 1 0 (first_one 16 l) one_use any_one few, past (nested_uses 16) once_more once_more 65535 1 1 (first_one 16 l) one_use one_use many)
+    record {
+      met = within (nested_uses 16) once_more (any 3) 65535 1 0 (first_one 16 l) one_use any_one few;
+      passed = past (nested_uses 16) once_more once_more 65535 1 1 (first_one 16 l) one_use one_use many;
+    }

@@ -1,9 +1,7 @@
 -- The sample with an extractor: a world where the extractor answers serves the tests of its rules; and near sets are not built.
 use Rattle.std.proofs.Common.{◌≡◌, ◌∷◌, [], ◌⊎◌, ◌∙◌, ℕ, pos, zero, suc, false, List, Option, Some, None, length, slice_get, Contains, IsTrue, refl, sym, ap, subst, inl, inr, arith, is_some}
-use Rattle.std.specs.List.{list_all}
 use Rattle.std.proofs.lemmas.Bool.{cases_Bool, cond-true, cond-false, false≢true}
 use Rattle.std.proofs.lemmas.Option.{none-some, same_Some}
-use Rattle.std.proofs.lemmas.List.Elements.{All-nil, All-cons}
 use Rattle.isle_model.proofs.Members.{in_alone, in_cases}
 use Rattle.isle_model.specs.rules.Meaning.{Content, Meaning, int_literal, literal_value, one}
 use Rattle.isle_model.specs.rules.Values.{Value, value_eq}
@@ -13,8 +11,6 @@ use Rattle.isle_model.specs.trees.Collects.{content_at}
 use Rattle.isle_model.specs.trees.Places.{fields_of, joins_in, waits}
 use Rattle.isle_model.specs.trees.Run.{content_fields, where_constant}
 use Rattle.isle_model.specs.trees.SetRuns.{IsPureAt, IsTestedSet, ServesTests}
-use Rattle.isle_laws_demands.proofs.visits.Visited.{all_asked}
-use Rattle.isle_laws_lists.proofs.TableNames.{found}
 use Rattle.isle_laws_runs.proofs.runs.Fields.{present_met}
 use Rattle.isle_examples.proofs.AcceptedLists.{extract_accepted}
 use Rattle.isle_examples.proofs.BuiltSets.{extract_built}

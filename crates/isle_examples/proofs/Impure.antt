@@ -4,7 +4,6 @@ use Rattle.std.proofs.lemmas.Bool.{cases_Bool, false≢true}
 use Rattle.std.proofs.lemmas.Option.{none-some, same_Some}
 use Rattle.std.proofs.lemmas.List.Elements.{All-contains}
 use Rattle.isle_model.proofs.Members.{each_passes, in_head}
-use Rattle.isle_model.specs.lists.Setting.{bound}
 use Rattle.isle_model.specs.rules.Meaning.{Content, Meaning, impure_answer, one}
 use Rattle.isle_model.specs.rules.Outcome.{Outcome, then_option}
 use Rattle.isle_model.specs.rules.Values.{Value, no_value, value_and}
@@ -16,7 +15,7 @@ use Rattle.isle_model.specs.trees.SetRuns.{IsPureAt, IsTaken}
 use Rattle.isle_model.specs.trees.Trees.{no_step, return_at, step}
 use Rattle.isle_examples.specs.Impure.{ImpureIsCalled, after_call, call_on_argument, im_called, impure_set, the_call}
 use Rattle.isle_examples.specs.MeaningForms.{v}
-use Rattle.isle_examples.specs.Written.{at, call}
+use Rattle.isle_examples.specs.Written.{call}
 
 -- what is bound, where the call and the argument are emitted or not
 abbrev order : Bool → Bool → List ℕ
@@ -81,5 +80,5 @@ module _ (m : Meaning) (v : Value) (o : Outcome) (t : IsTaken (im_called m v) ca
       ∙ ap (λ u. then_returns m v t.env (constructed w t.env [] 1 0 1 (then_option (then_option u as_value) (λ x. Some (value_and x no_value))))) arg_read
       ∙ answered m v t.env (impure_answer m 0 0)
 
-pub impure_is_called_lem : ImpureIsCalled
-impure_is_called_lem m v = (taken_at_start m v, called m v)
+pub impure_is_called : ImpureIsCalled
+impure_is_called = record { can_be_taken = taken_at_start; makes_the_call = λ m v o t. called m v o t }

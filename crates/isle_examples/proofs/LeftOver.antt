@@ -1,10 +1,7 @@
 -- The set with a left-over site: a world where its call answers nothing serves it, and the run of its tree collects its bag.
 use Rattle.std.proofs.Common.{◌≡◌, ◌∷◌, [], ◌<◌, ℕ, pos, zero, suc, List, slice_get, Contains, IsTrue, refl, sym, ap, subst, arith, is_some}
 use Rattle.std.proofs.lemmas.Bool.{false≢true}
-use Rattle.std.proofs.lemmas.Option.{none-some, same_Some}
-use Rattle.std.proofs.lemmas.List.Elements.{All-nil, All-cons}
 use Rattle.std.proofs.lemmas.List.Sorted.{IsPermutation-refl}
-use Rattle.std.proofs.lemmas.List.Sums.{AllPass-from_list_all}
 use Rattle.isle_model.proofs.Members.{in_alone, nothing_in}
 use Rattle.isle_model.specs.rules.Picks.{Pick}
 use Rattle.isle_model.specs.sites.Sites.{SetRule}

@@ -16,10 +16,10 @@ use Rattle.isle_examples.specs.Stages.{CanMatch, CantMatch}
 use Rattle.isle_examples.specs.VariantEq.{variant_eq_program, variant_eq_rule}
 
 can_match : (p : Program) (r : TypedRule) → is_unreachable (demands_of p r) ≡ false → CanMatch p r
-can_match p r h = not_from_Decides (is_unreachable (demands_of p r)) (verdict_is_exact_lem (demands_of p r)) h
+can_match p r h = record { tested = h; reachable = not_from_Decides (is_unreachable (demands_of p r)) (verdict_is_exact_lem (demands_of p r)) h }
 
 cant_match : (p : Program) (r : TypedRule) → is_unreachable (demands_of p r) ≡ true → CantMatch p r
-cant_match p r h = (h, (verdict_is_exact_lem (demands_of p r)).0 h)
+cant_match p r h = record { tested = h; unreachable = (verdict_is_exact_lem (demands_of p r)).0 h }
 
 pub const_eq_matches : CanMatch const_eq_program const_eq_rule
 const_eq_matches = can_match const_eq_program const_eq_rule refl

@@ -3,8 +3,7 @@ use Rattle.std.proofs.Common.{◌≡◌, ◌∷◌, [], ◌<◌, ◌∙◌, ℕ,
 use Rattle.std.proofs.lemmas.Bool.{false≢true}
 use Rattle.std.proofs.lemmas.List.Elements.{All-nil, All-cons}
 use Rattle.std.proofs.lemmas.List.Sorted.{IsPermutation-refl, length_permutation, sum_by-IsPermutation}
-use Rattle.std.proofs.lemmas.List.Sums.{AllPass-from_list_all}
-use Rattle.std.proofs.lemmas.Option.{none-some, same_Some}
+use Rattle.std.proofs.lemmas.Option.{same_Some}
 use Rattle.std.specs.Prelude.{IsPermutation}
 use Rattle.std.specs.Prelude.{IsPermutation}
 use Rattle.isle_model.proofs.Members.{in_alone, in_cases, nothing_in}
@@ -13,9 +12,8 @@ use Rattle.isle_model.specs.rules.Picks.{Pick}
 use Rattle.isle_model.specs.rules.Values.{atom}
 use Rattle.isle_model.specs.sites.Sites.{Constraint, SetRule, is_int}
 use Rattle.isle_model.specs.trees.Collects.{HasCollectedResults, IsCollectedSet, ServesSet, content_at}
-use Rattle.isle_model.specs.trees.Places.{below, fields_of, joins_in, waits}
+use Rattle.isle_model.specs.trees.Places.{fields_of, joins_in, waits}
 use Rattle.isle_model.specs.trees.Run.{content_fields}
-use Rattle.isle_laws_lists.proofs.TypedExprs.{sound}
 use Rattle.isle_laws_runs.proofs.collecting.Collected.{sound_trees_collect_lem}
 use Rattle.isle_examples.proofs.JudgedTrees.{multi_judged}
 use Rattle.isle_examples.proofs.SetStages.{collected}

@@ -7,10 +7,7 @@ use Rattle.isle_model.specs.rules.Outcome.{then_option}
 use Rattle.isle_model.specs.rules.Picks.{Pick, place_of}
 use Rattle.isle_model.specs.sites.Closure.{DemandsHold, IsMet}
 use Rattle.isle_model.specs.sites.Sites.{Constraint, SiteTerm, is_int, pick_of, tuple_part}
-use Rattle.isle_model.specs.trees.Collects.{meets}
 use Rattle.isle_model.specs.trees.Run.{content_fields, part_at}
-use Rattle.isle_laws_runs.proofs.runs.Binding.{content}
-use Rattle.isle_laws_runs.proofs.runs.Flat.{held}
 use Rattle.isle_examples.specs.MeaningForms.{given, v}
 use Rattle.isle_examples.specs.PickedAnswers.{answering, call_me, one_and_two, pair}
 

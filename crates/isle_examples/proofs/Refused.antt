@@ -1,8 +1,7 @@
 -- Lists that have no typed rules, and samples that lowering refuses.
 use Rattle.std.proofs.Common.{◌≡◌, ◌∷◌, [], ◌++◌, Bool, true, false, List, codes, length, refl, sym, ap, arith}
 use Rattle.isle_model.specs.claims.Layers.{CheckReports, is_left_out, by_types, by_rules, by_check}
-use Rattle.std.proofs.lemmas.Bool.{false≢true}
-use Rattle.std.proofs.lemmas.List.Elements.{All-from_recursion, All-contains}
+use Rattle.std.proofs.lemmas.List.Elements.{All-from_recursion}
 use Rattle.isle_model.specs.claims.Environments.{HasTypedRules, IsRead, types_read}
 use Rattle.isle_model.specs.lists.Elaborated.{TypedRules}
 use Rattle.isle_model.specs.lists.Syntax.{Definition}
@@ -12,15 +11,15 @@ use Rattle.isle_model.specs.sites.Overlap.{RuleReport, build_reports, overlap_an
 use Rattle.isle_laws_lists.proofs.JudgedTypes.{types_are_judged_lem}
 use Rattle.isle_examples.proofs.AcceptedLists.{overlap_not_accepted, shadow_not_accepted}
 use Rattle.isle_examples.proofs.ListStages.{not_read}
-use Rattle.isle_examples.specs.MeaningForms.{v}
 use Rattle.isle_examples.specs.Overlap.{overlap_defs, overlap_program, overlap_rules}
-use Rattle.isle_examples.specs.Refused.{RefusedAreNotRead, SamplesAreRefused, declared_twice, unbound}
+use Rattle.isle_examples.specs.Refused.{RefusedAreNotRead, SamplesAreRefused, unbound}
 use Rattle.isle_examples.specs.Shadow.{shadow_defs, shadow_program, shadow_rules}
 use Rattle.isle_examples.specs.Stages.{IsReadBoth}
+use Rattle.isle_examples.specs.TermLists.{term_twice}
 use Rattle.isle_examples.specs.Written.{at}
 
 pub refused_are_not_read : RefusedAreNotRead
-refused_are_not_read = (not_read declared_twice refl refl, not_read unbound refl refl)
+refused_are_not_read = (not_read term_twice refl refl, not_read unbound refl refl)
 
 -- internal extractors expanded or not
 read_with : (defs : List Definition) (rules : TypedRules) → IsReadBoth defs rules → (expand : Bool) → IsRead defs expand rules

@@ -16,7 +16,7 @@ use Rattle.isle_examples.specs.Extract.{ExtractMeaningServes, extract_meaning, e
 use Rattle.isle_examples.specs.MeaningForms.{DoesNotServe, alone, blank, given, just_number, v}
 use Rattle.isle_examples.specs.Multi.{MultiIsServed, multi_meaning, multi_mute, multi_program, multi_rules}
 use Rattle.isle_examples.specs.Partial.{PartialIsServed, partial_call, partial_meaning, partial_mute, partial_program, partial_rules}
-use Rattle.isle_examples.specs.Written.{call, name}
+use Rattle.isle_examples.specs.Written.{name}
 
 -- 1. literals with well-typed values, and calls that a test passes
 abbrev some_and : Option Value → (Value → Bool) → Bool
@@ -77,7 +77,7 @@ module _ (answer : Content) (fits : IsTrue (fits_extractor extract_program 0 (ki
   extract_serves : Serves extract_program (extract_meaning answer) (given (pos 7)) extract_rules.rules
   extract_serves =
       serves_from extract_program (extract_meaning answer) (given (pos 7)) extract_rules.rules extract_call refl refl
-          extract_answers (λ t ss vs h holds. absurd (false≢true h)) (λ t before ss h. absurd (false≢true h))
+      extract_answers (λ t ss vs h holds. absurd (false≢true h)) (λ t before ss h. absurd (false≢true h))
 
 pub extract_served : ExtractMeaningServes
 extract_served = (

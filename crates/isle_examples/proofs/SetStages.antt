@@ -9,7 +9,6 @@ use Rattle.isle_model.specs.claims.Layers.{own_program}
 use Rattle.isle_model.specs.lists.Elaborated.{TypedRules}
 use Rattle.isle_model.specs.lists.Names.{IsDistinct}
 use Rattle.isle_model.specs.lists.Syntax.{Definition, Position}
-use Rattle.isle_model.specs.rules.Meaning.{one, parts}
 use Rattle.isle_model.specs.rules.Program.{Program, is_multi, numbers_from, rules_of}
 use Rattle.isle_model.specs.sites.Demands.{demands_of, result_of}
 use Rattle.isle_model.specs.sites.Gates.{gate_demanded}
@@ -19,7 +18,7 @@ use Rattle.isle_model.specs.sites.RuleSets.{AreRulesOfSet, IsBuilt, IsRuleOf}
 use Rattle.isle_model.specs.sites.Sites.{Constraint, SetRule, Site, SiteSet, SiteTerm, unfold_site}
 use Rattle.isle_model.specs.trees.Best.{are_distinct}
 use Rattle.isle_model.specs.trees.Collects.{IsCollectedRule, IsCollectedSet, calls_nothing, sites_of_rule}
-use Rattle.isle_model.specs.trees.Places.{all_below, below, is_in}
+use Rattle.isle_model.specs.trees.Places.{all_below, is_in}
 use Rattle.isle_model.specs.trees.SetRuns.{IsTestedSet}
 use Rattle.isle_laws_demands.proofs.visits.Elaborated.{elaborated_rules_demand_gates_lem}
 use Rattle.isle_laws_demands.proofs.visits.Sets.{built_sets_are_tested_lem}
@@ -32,7 +31,6 @@ use Rattle.isle_examples.proofs.TreeStages.{has_no_priorities}
 use Rattle.isle_examples.specs.Expansions.{once}
 use Rattle.isle_examples.specs.MeaningForms.{each}
 use Rattle.isle_examples.specs.Stages.{IsAcceptedBoth, IsBuiltOf}
-use Rattle.isle_examples.specs.Written.{at, name, rule}
 
 -- no number stands twice
 stands_twice : (n : ℕ) (ns : List ℕ) → not (is_in n ns) ≡ true → (k : ℕ) (x : ℕ) → n ≡ x → slice_get ns k ≡ Some x → ⊥
@@ -51,13 +49,28 @@ Row = ℕ × Position × ℤ × Option ℕ × List (SiteTerm × Constraint) × L
 
 abbrev pub row_in : List Site → SetRule → Row
 row_in sites r = (
-  r.id, r.at, r.prio, r.name, map (unfolded_demand sites) r.constraints, map (map (unfold_site sites)) r.classes, map (unfold_site sites) r.iterators,
-  map (unfold_site sites) r.impure, unfold_site sites r.result
+  r.id,
+  r.at,
+  r.prio,
+  r.name,
+  map (unfolded_demand sites) r.constraints,
+  map (map (unfold_site sites)) r.classes,
+  map (unfold_site sites) r.iterators,
+  map (unfold_site sites) r.impure,
+  unfold_site sites r.result,
 )
 
 abbrev pub built_row : Program → BuiltRule → Row
 built_row p b = (
-  b.rule.id, b.rule.at, b.rule.prio, b.rule.name, b.demands.constraints, b.demands.classes, (demands_of p b.rule).iterators, (demands_of p b.rule).impure, result_of p b.rule
+  b.rule.id,
+  b.rule.at,
+  b.rule.prio,
+  b.rule.name,
+  b.demands.constraints,
+  b.demands.classes,
+  (demands_of p b.rule).iterators,
+  (demands_of p b.rule).impure,
+  result_of p b.rule,
 )
 
 -- the sites of a rule are a set's, and stand once: in its constraints, in its classes, in its calls
@@ -129,9 +142,10 @@ rules_stand p sites [] [] e h = tt
 rules_stand p sites [] (r ∷ rs) e h = absurd (no_row (row_in sites r) (map (row_in sites) rs) e)
 rules_stand p sites (b ∷ bs) [] e h = absurd (no_row (built_row p b) (map (built_row p) bs) (sym e))
 rules_stand p sites (b ∷ bs) (r ∷ rs) e h =
-    let q = and_parts (stands_once (length sites) r) (list_all (stands_once (length sites)) rs) h in
-    (rule_stands p sites b r (same_first (row_in sites r) (built_row p b) (map (row_in sites) rs) (map (built_row p) bs) e) q.0,
-    rules_stand p sites bs rs (same_rest (row_in sites r) (built_row p b) (map (row_in sites) rs) (map (built_row p) bs) e) q.1)
+    let q = and_parts (stands_once (length sites) r) (list_all (stands_once (length sites)) rs) h in (
+      rule_stands p sites b r (same_first (row_in sites r) (built_row p b) (map (row_in sites) rs) (map (built_row p) bs) e) q.0,
+      rules_stand p sites bs rs (same_rest (row_in sites r) (built_row p b) (map (row_in sites) rs) (map (built_row p) bs) e) q.1,
+    )
 
 -- a set stands so, by its rows, its sites, and the tests
 is_built : (p : Program) (t : ℕ) (set : SiteSet) → map (row_in set.sites) set.rules ≡ map (built_row p) (built_rules p t) → list_all (stands_once (length set.sites)) set.rules ≡ true

@@ -10,7 +10,6 @@ use Rattle.isle_model.specs.sites.Sites.{SetRule, SiteSet}
 use Rattle.isle_model.specs.trees.Judge.{is_best_tree, returns_apart}
 use Rattle.isle_model.specs.trees.Trees.{Tree}
 use Rattle.isle_model.specs.trees.WellBuilt.{HasOnePriority}
-use Rattle.isle_laws_lists.proofs.TypedExprs.{sound}
 use Rattle.isle_laws_trees.proofs.Exact.{not_exact}
 use Rattle.isle_laws_trees.proofs.Marking.{tree_judge_is_exact_lem}
 use Rattle.isle_laws_trees.proofs.Soundness.{best_trees_are_sound_lem}

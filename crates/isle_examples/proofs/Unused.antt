@@ -11,10 +11,7 @@ use Rattle.isle_laws_trees.proofs.Marking.{tree_judge_is_exact_lem}
 use Rattle.isle_laws_trees.proofs.Shares.{best_trees_share_most_lem}
 use Rattle.isle_examples.proofs.AcceptedLists.{unused_accepted}
 use Rattle.isle_examples.proofs.BuiltSets.{unused_built}
-use Rattle.isle_examples.proofs.SetStages.{built}
-use Rattle.isle_examples.specs.MeaningForms.{each}
 use Rattle.isle_examples.specs.Unused.{UnusedIsLowered, unused_program, unused_rule, unused_set, unused_term, unused_tree}
-use Rattle.isle_examples.specs.Written.{term}
 
 unused_best : IsBestTree unused_set unused_tree
 unused_best = (tree_judge_is_exact_lem unused_set unused_tree refl).0 refl

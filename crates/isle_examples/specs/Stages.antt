@@ -49,9 +49,13 @@ IsNotAccepted defs rules =
 abbrev pub Becomes : List Definition → Bool → Option TypedRules → Type 0
 Becomes defs expand rules = elaborated_rules (own_setting defs expand) (rule_trees defs) (term_names_met (types_of defs) defs) ≡ rules
 
+-- a list has a term table, read with its own types
+abbrev pub HasTerms : List Definition → Type 0
+HasTerms defs = IsValidTerms (types_of defs) defs
+
 -- the tables of a list are valid, and yet its rules become nothing
 abbrev pub HasNoTypedRules : List Definition → Type 0
-HasNoTypedRules defs = IsValidTypes defs × IsValidTerms (types_of defs) defs × Becomes defs true None × Becomes defs false None
+HasNoTypedRules defs = IsValidTypes defs × HasTerms defs × Becomes defs true None × Becomes defs false None
 
 -- the term table of a list
 abbrev pub HasTermTable : List Definition → List TermEntry → Type 0
@@ -79,12 +83,15 @@ AreRefused set (tree ∷ trees) = ((is_best_tree set tree ≡ false) × (IsBestT
 abbrev pub verdicts : Program → TypedRule → List Unreachability
 verdicts p r = reported (demands_of p r).made (demands_of p r)
 
--- values can meet the demands of a rule; none can, and the test finds it
-abbrev pub CanMatch : Program → TypedRule → Type 0
-CanMatch p r = IsUnreachable (demands_of p r) → ⊥
+-- values can meet the demands of a rule, and the test finds nothing wrong with them
+pub record CanMatch (p : Program) (r : TypedRule) : Type 0 where
+  pub tested : is_unreachable (demands_of p r) ≡ false
+  pub reachable : IsUnreachable (demands_of p r) → ⊥
 
-abbrev pub CantMatch : Program → TypedRule → Type 0
-CantMatch p r = (is_unreachable (demands_of p r) ≡ true) × IsUnreachable (demands_of p r)
+-- none can, and the test finds it
+pub record CantMatch (p : Program) (r : TypedRule) : Type 0 where
+  pub tested : is_unreachable (demands_of p r) ≡ true
+  pub unreachable : IsUnreachable (demands_of p r)
 
 -- the closing of a rule's demands ends: nothing is left to be taken
 abbrev pub ClosingEndsOf : Program → TypedRule → Type 0
