@@ -10,6 +10,7 @@ use Rattle.isle_examples.specs.Equal.{equal_defs, equal_rules, equal_set}
 use Rattle.isle_examples.specs.Extract.{extract_defs, extract_rules, extract_set}
 use Rattle.isle_examples.specs.Fall.{fall_defs, fall_rules, fall_set}
 use Rattle.isle_examples.specs.Impure.{impure_defs, impure_rules, impure_set}
+use Rattle.isle_examples.specs.LeftOver.{left_over_defs, left_over_rules, left_over_set}
 use Rattle.isle_examples.specs.Multi.{multi_defs, multi_rules, multi_set}
 use Rattle.isle_examples.specs.MultiExt.{multi_ext_defs, multi_ext_rules, multi_ext_set}
 use Rattle.isle_examples.specs.Partial.{partial_defs, partial_rules, partial_set}
@@ -82,3 +83,6 @@ unused_built = built_multi unused_defs unused_rules 2 unused_set refl refl refl 
 
 pub impure_built : IsBuiltOf impure_defs impure_rules 1 impure_set
 impure_built = built impure_defs impure_rules 1 impure_set refl refl refl refl refl refl refl refl
+
+pub left_over_built : IsBuiltOf left_over_defs left_over_rules 1 left_over_set
+left_over_built = built_multi left_over_defs left_over_rules 1 left_over_set refl refl refl refl refl refl refl refl

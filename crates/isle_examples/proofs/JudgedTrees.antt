@@ -10,6 +10,7 @@ use Rattle.isle_examples.specs.Equal.{equal_near_trees, equal_set, equal_tree}
 use Rattle.isle_examples.specs.Extract.{extract_near_trees, extract_set, extract_tree}
 use Rattle.isle_examples.specs.Fall.{fall_near_trees, fall_set, fall_tree}
 use Rattle.isle_examples.specs.Impure.{impure_set, impure_tree}
+use Rattle.isle_examples.specs.LeftOver.{left_over_set, left_over_tree}
 use Rattle.isle_examples.specs.Multi.{multi_near_trees, multi_set, multi_tree}
 use Rattle.isle_examples.specs.MultiExt.{multi_ext_set, multi_ext_tree}
 use Rattle.isle_examples.specs.Partial.{partial_set, partial_tree}
@@ -78,6 +79,9 @@ between_judged = judged between_set between_tree refl refl refl refl
 
 pub impure_judged : IsJudged impure_set false impure_tree
 impure_judged = judged impure_set impure_tree refl refl refl refl
+
+pub left_over_judged : IsJudged left_over_set true left_over_tree
+left_over_judged = judged_multi left_over_set left_over_tree refl refl refl refl refl
 
 pub prio_refused : AreRefused prio_set prio_near_trees
 prio_refused = refused prio_set prio_near_trees refl refl

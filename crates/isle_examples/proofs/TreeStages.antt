@@ -1,20 +1,20 @@
 -- Trees that the judge passes are best and sound, those that it refuses aren't: by computing.
-use Rattle.std.proofs.Common.{◌≡◌, ℕ, pos, Bool, true, false, not, List, [], ◌∷◌, IsTrue, Some, slice_get, refl, sym, ap, ◌∙◌}
+use Rattle.std.proofs.Common.{◌≡◌, ◌∷◌, [], ◌∙◌, ℕ, pos, Bool, true, false, List, Some, slice_get, sym, not}
 use Rattle.std.specs.List.{list_all}
 use Rattle.std.specs.Ordering.{int_eq}
 use Rattle.std.proofs.lemmas.Bool.{and_parts, false≢true}
 use Rattle.std.proofs.lemmas.Bool.Decides.{Decides-int_eq, not_from_Decides}
-use Rattle.isle_model.specs.sites.Sites.{SetRule, SiteSet}
-use Rattle.isle_model.specs.trees.Trees.{Tree}
-use Rattle.isle_model.specs.trees.Judge.{is_best_tree, returns_apart}
-use Rattle.isle_model.specs.trees.WellBuilt.{HasOnePriority}
+use Rattle.isle_model.proofs.Members.{each_passes, member_from_get}
 use Rattle.isle_model.specs.claims.Layers.{BindsBeforeUse}
-use Rattle.isle_model.proofs.Members.{member_from_get, each_passes}
+use Rattle.isle_model.specs.sites.Sites.{SetRule, SiteSet}
+use Rattle.isle_model.specs.trees.Judge.{is_best_tree, returns_apart}
+use Rattle.isle_model.specs.trees.Trees.{Tree}
+use Rattle.isle_model.specs.trees.WellBuilt.{HasOnePriority}
 use Rattle.isle_laws_trees.proofs.Exact.{not_exact}
 use Rattle.isle_laws_trees.proofs.Marking.{tree_judge_is_exact_lem}
 use Rattle.isle_laws_trees.proofs.Soundness.{best_trees_are_sound_lem}
-use Rattle.isle_laws_trees.proofs.WellBuilt.{set_passes, passes_well_built}
-use Rattle.isle_examples.specs.Stages.{IsJudged, AreRefused}
+use Rattle.isle_laws_trees.proofs.WellBuilt.{passes_well_built, set_passes}
+use Rattle.isle_examples.specs.Stages.{AreRefused, IsJudged}
 
 -- whether the rules have no priority
 abbrev pub has_no_priorities : List SetRule → Bool
@@ -27,13 +27,13 @@ no_priorities rules h i j r q e f =
 
 judged_with : (set : SiteSet) (multi : Bool) (tree : Tree) → (multi ≡ true → HasOnePriority set.rules) → is_best_tree set tree ≡ true → returns_apart set.rules ≡ true → set_passes set ≡ true
     → BindsBeforeUse set multi tree → IsJudged set multi tree
-judged_with set multi tree one h apart passes binds =
+judged_with set multi tree same h apart passes binds =
     let best = (tree_judge_is_exact_lem set tree apart).0 h in
     record {
       passes = h;
       best = best;
       well_built = passes_well_built set passes;
-      sound = best_trees_are_sound_lem set multi tree (passes_well_built set passes) one best;
+      sound = best_trees_are_sound_lem set multi tree (passes_well_built set passes) same best;
       binds = binds;
     }
 

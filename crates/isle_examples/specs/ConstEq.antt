@@ -13,7 +13,7 @@ use Rattle.isle_model.specs.trees.Trees.{Tree, match_at, no_step, step}
 use Rattle.isle_examples.specs.SetForms.{a0, a1, a_rule, asking, is_byte, one_arm, returning}
 use Rattle.isle_examples.specs.Stages.{closed_demands}
 use Rattle.isle_examples.specs.TypedForms.{rules_and_names, typed, typed_var, u8}
-use Rattle.isle_examples.specs.Written.{bind, f_of_bytes, int, name, of_f, rule_to, var, variable}
+use Rattle.isle_examples.specs.Written.{bind, f_of_bytes, int, of_f, rule_to, var, variable}
 
 abbrev pub const_eq_defs : List Definition
 const_eq_defs = f_of_bytes 0 2 ∷ rule_to 1 (of_f 1 (bind 1 (codes "x") (int 1 (pos 2)) ∷ var 1 (codes "x") ∷ [])) (variable 1 (codes "x")) ∷ []

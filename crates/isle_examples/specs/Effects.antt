@@ -28,7 +28,7 @@ use Rattle.isle_examples.specs.MeaningForms.{alone, blank, given, v}
 use Rattle.isle_examples.specs.SetForms.{a0, a_rule, asking, one_source, returning}
 use Rattle.isle_examples.specs.Stages.{HasTermTable}
 use Rattle.isle_examples.specs.TypedForms.{bind_any, builtins, by_constructor, by_rules, e_list, entry, enum_entry, field_entry, flags, names_with, no_flags, number_term, own, rules_and_names, typed, typed_var, u8, variant_entry}
-use Rattle.isle_examples.specs.Written.{call, constructor_by, decl, enum_of_one, field, name, numbers, of_f, rule_to, term, var, variable}
+use Rattle.isle_examples.specs.Written.{call, constructor_by, decl, enum_of_one, field, numbers, of_f, rule_to, var, variable}
 
 abbrev pub effects_defs : List Definition
 effects_defs =

@@ -14,7 +14,7 @@ use Rattle.isle_model.specs.trees.Trees.{Tree, loop_at, no_step, step}
 use Rattle.isle_examples.specs.SetForms.{a_rule, returning}
 use Rattle.isle_examples.specs.Stages.{own_setting}
 use Rattle.isle_examples.specs.TypedForms.{bind_any, q_list, rules_and_names, typed, typed_var, u8}
-use Rattle.isle_examples.specs.Written.{extractor_by, name, numbers, of_f, rule_to, term, var, variable}
+use Rattle.isle_examples.specs.Written.{extractor_by, numbers, of_f, rule_to, term, var, variable}
 
 abbrev pub multi_ext_in : DeclTree → List Definition
 multi_ext_in f =

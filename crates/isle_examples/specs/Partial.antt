@@ -22,7 +22,7 @@ use Rattle.isle_model.specs.trees.Trees.{Tree, match_at, no_step, step}
 use Rattle.isle_examples.specs.MeaningForms.{alone, given, literal, mute}
 use Rattle.isle_examples.specs.SetForms.{a0, a_rule, asking, byte, byte_term, is_byte, one_arm, one_source, returning}
 use Rattle.isle_examples.specs.TypedForms.{by_constructor, by_rules, e_list, flags, number_term, rules_and_names, typed, u8}
-use Rattle.isle_examples.specs.Written.{any, call, constructor_by, int, number, numbers, of_f, rule_first, rule_to, term}
+use Rattle.isle_examples.specs.Written.{any, call, constructor_by, int, number, numbers, of_f, rule_first, rule_to}
 
 abbrev pub partial_defs : List Definition
 partial_defs =

@@ -1,7 +1,7 @@
 -- Short forms of tables and of typed rules.
 use Rattle.std.specs.Prelude.{ℕ, suc, ℤ, Bool, false, List, [], ◌∷◌, ◌++◌, Option, Some, None}
 use Rattle.isle_model.specs.lists.Syntax.{PatternTree}
-use Rattle.isle_model.specs.lists.Tables.{FieldEntry, FieldEntries, VariantEntry, TypeEntry, enum_type, Flags, internal_constructor, external_constructor, internal_extractor, external_extractor, TermKindEntry, variant_term, declared_term, TermEntry}
+use Rattle.isle_model.specs.lists.Tables.{FieldEntry, FieldEntries, VariantEntry, TypeEntry, enum_type, Flags, internal_constructor, external_constructor, internal_extractor, external_extractor, TermKindEntry, declared_term, TermEntry}
 use Rattle.isle_model.specs.lists.TypeTable.{builtin_names, builtin_from}
 use Rattle.isle_model.specs.lists.Elaborated.{TypedRules}
 use Rattle.isle_model.specs.rules.Typed.{TypedPattern, match_bind, match_any, TypedPatterns, no_typed_pattern, typed_pattern_and, TypedExpr, make_let, TypedExprs, no_typed_expr, typed_expr_and, no_typed_let, typed_let_and, TypedVar, TypedIfLet, TypedRule}

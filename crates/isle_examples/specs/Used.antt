@@ -12,7 +12,7 @@ use Rattle.isle_model.specs.sites.Sites.{SiteSet, argument_site, constructor_sit
 use Rattle.isle_model.specs.trees.Trees.{Tree, match_at, no_step, step}
 use Rattle.isle_examples.specs.SetForms.{a_rule, byte, one_arm, returning}
 use Rattle.isle_examples.specs.TypedForms.{bind_any, e_list, make_let_one, rules_and_names, typed, typed_iflet, typed_var, u8}
-use Rattle.isle_examples.specs.Written.{any, call, constructor_by, f_of_bytes, let_one, name, number, numbers, of_f, rule_if, var, variable}
+use Rattle.isle_examples.specs.Written.{any, call, constructor_by, f_of_bytes, let_one, number, numbers, of_f, rule_if, var, variable}
 
 abbrev pub used_defs : List Definition
 used_defs =

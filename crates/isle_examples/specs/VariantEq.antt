@@ -17,7 +17,7 @@ use Rattle.isle_examples.specs.Expansions.{inside}
 use Rattle.isle_examples.specs.SetForms.{a0, a1, a_rule, asking, field_of, one_arm, returning}
 use Rattle.isle_examples.specs.Stages.{HasTermTable, closed_demands}
 use Rattle.isle_examples.specs.TypedForms.{builtins, by_rules, entry, enum_entry, field_entry, no_flags, own, q_list, rules_and_names, typed, typed_var, u8, variant_entry}
-use Rattle.isle_examples.specs.Written.{any, bind, declared, enum_of_one, field, name, rule_to, term, var, variable}
+use Rattle.isle_examples.specs.Written.{any, bind, declared, enum_of_one, field, rule_to, term, var, variable}
 
 abbrev pub variant_eq_defs : List Definition
 variant_eq_defs =
