@@ -5,7 +5,6 @@ use Rattle.std.proofs.lemmas.List.Elements.{All-nil, All-cons}
 use Rattle.std.proofs.lemmas.List.Sorted.{IsPermutation-refl, length_permutation, sum_by-IsPermutation}
 use Rattle.std.proofs.lemmas.Option.{same_Some}
 use Rattle.std.specs.Prelude.{IsPermutation}
-use Rattle.std.specs.Prelude.{IsPermutation}
 use Rattle.isle_model.proofs.Members.{in_alone, in_cases, nothing_in}
 use Rattle.isle_model.specs.rules.Meaning.{Content, one}
 use Rattle.isle_model.specs.rules.Picks.{Pick}
