@@ -16,12 +16,6 @@ use Rattle.isle_laws_runs.proofs.runs.Contents.{SourcesBefore, sources_in, conte
 use Rattle.isle_laws_runs.proofs.runs.Binding.{Held, held_as, keeps_bound}
 use Rattle.isle_laws_runs.proofs.runs.FieldSites.{site_passes, variant_field_same, struct_field_same, part_same}
 
-plus_zero : (n : ℕ) → n ≡ n + 0
-plus_zero n = omega arith
-
-plus_suc : (n k : ℕ) → suc n + k ≡ n + suc k
-plus_suc n k = omega arith
-
 -- 1. what a content that meets a constraint is made of
 variant_met : (m : Meaning) (ty v n : ℕ) (x : Content) (cs : List Content) → content_fields m (is_variant ty v n) x ≡ Some cs → (t : ℕ) × (vs : Values) × (x ≡ one (of_variant t v vs)) × (cs ≡ all_one (listed vs))
 variant_met m ty v n (one (of_variant t i vs)) cs e =
@@ -64,11 +58,11 @@ module _ (w : World) (pick : Pick) (before : SourcesBefore w.sites) where
   each_holds s p [] i zero l h = tt
   each_holds s p [] i (suc n) l h = absurd (omega arith)
   each_holds s p (v ∷ vs) i zero l h = absurd (omega arith)
-  each_holds s p (v ∷ vs) i (suc n) l h = by (site_from 0 (p i) w.sites) refl (each_holds s p vs (suc i) n (omega arith) (λ k j x e. h (suc k) j x (e ∙ plus_suc i k)))
+  each_holds s p (v ∷ vs) i (suc n) l h = by (site_from 0 (p i) w.sites) refl (each_holds s p vs (suc i) n (omega arith) (λ k j x e. h (suc k) j x (omega (arith, e))))
     where
       by : (o : Option ℕ) → site_from 0 (p i) w.sites ≡ o → FieldsHold s (each_field p w.sites (suc i) n) (all_one vs) → FieldsHold s (o ∷ each_field p w.sites (suc i) n) (one v ∷ all_one vs)
       by None e rest = rest
-      by (Some x) e rest = (let g = h 0 i x (plus_zero i) e in (g.0, g.1, g.2, rest))
+      by (Some x) e rest = (let g = h 0 i x (omega arith) e in (g.0, g.1, g.2, rest))
 
   site_is : (s x : ℕ) (b : Site) → slice_get w.sites x ≡ Some b → sources_in (Some b) ≡ s ∷ [] → sources_at w.sites x ≡ s ∷ []
   site_is s x b e q = ap sources_in e ∙ q
