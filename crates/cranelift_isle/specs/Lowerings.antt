@@ -41,7 +41,7 @@ pub record AreSimplyLowered (p : Program) (ts : List TermView) : Type 0 where
 pub record IsLowered (l : Lowered) (defs : List Definition) (typed : List TypedRule) (expanded : Bool) : Type 0 where
   pub types : SeesTypes l.tyenv defs (all_names defs)
   pub rules : SeesRules l.termenv defs typed expanded
-  pub terms : AreSimplyLowered (program_of defs typed) (lowered_views l.terms.items)
+  pub terms : AreSimplyLowered (carried_program_of defs typed) (lowered_views l.terms.items)
 
 -- the tree of each term runs as a test of every rule by priority would
 abbrev pub ChoosesAsSource : Program → List TermView → Type 0

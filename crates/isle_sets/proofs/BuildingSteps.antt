@@ -23,7 +23,7 @@ pub record AddsSoFar (whole set : SiteSet) (ts : List TypedRule) (before after :
 -- what all rules make of a set
 pub all_rules : (set : SiteSet) (ts : List TypedRule) → set_with_rules set ts ≡ record { rules = set.rules ++ rules_after set.sites ts; sites = sites_after set.sites ts }
 all_rules set [] = λ k. record { rules = sym (append-nil set.rules) k; sites = set.sites }
-all_rules set (t ∷ ts) = all_rules (set_with_rule set t) ts ∙ (λ k. record { rules = append_assoc set.rules (built_rule set.sites t ∷ []) (rules_after (with_value set.sites t.rhs) ts) k; sites = sites_after (with_value set.sites t.rhs) ts })
+all_rules set (t ∷ ts) = all_rules (set_with_rule set t) ts ∙ (λ k. record { rules = append_assoc set.rules (built_simple_rule set.sites t ∷ []) (rules_after (with_value set.sites t.rhs) ts) k; sites = sites_after (with_value set.sites t.rhs) ts })
 
 pub no_shorter : (set : SiteSet) (ts : List TypedRule) → length set.sites ≤ length (set_with_rules set ts).sites
 no_shorter set ts = subst (λ w. length set.sites ≤ length w.sites) (sym (all_rules set ts)) (after_longer set.sites ts)

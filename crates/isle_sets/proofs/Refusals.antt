@@ -7,10 +7,10 @@ use Rattle.isle_model.specs.rules.Typed.{TypedRule}
 use Rattle.isle_base.specs.declared.syntax.Error.{Error}
 use Rattle.isle_base.specs.declared.syntax.Error.TheVariants.{TypeError, UnreachableError, OverlapError, ShadowedError, LimitError}
 use Rattle.isle_base.specs.Answers.{limit_of}
-use Rattle.isle_model.specs.Syntax.{Position}
-use Rattle.isle_model.specs.Simple.{IsSimpleRule}
-use Rattle.isle_model.specs.Sites.{SiteSet}
-use Rattle.isle_model.specs.Program.{Program}
+use Rattle.isle_model.specs.lists.Syntax.{Position}
+use Rattle.isle_model.specs.first.Simple.{IsSimpleRule}
+use Rattle.isle_model.specs.sites.Sites.{SiteSet}
+use Rattle.isle_model.specs.rules.Program.{Program}
 use Rattle.isle_terms.specs.TermViews.{term_view}
 use Rattle.isle_rules.specs.declared.term_env.TermEnv.{TermEnv}
 use Rattle.isle_sets.specs.Buildings.{env_program, IsPassed, AreSetsOf, BuildsAll, IsOverlapError, ChecksOverlaps}

@@ -85,7 +85,7 @@ with_result t n = record {
 
 -- the set after one more rule
 abbrev pub set_with_rule : SiteSet → TypedRule → SiteSet
-set_with_rule set t = record { rules = set.rules ++ built_rule set.sites t ∷ []; sites = with_value set.sites t.rhs }
+set_with_rule set t = record { rules = set.rules ++ built_simple_rule set.sites t ∷ []; sites = with_value set.sites t.rhs }
 
 abbrev pub set_with_rules : SiteSet → List TypedRule → SiteSet
 set_with_rules set [] = set

@@ -59,5 +59,5 @@ returns-clause-chosen c typed is =
     let a = c.in_ok-termenv.ensures.answers.1 in
     let s = c.in_ok-sets.ensures.answers in
     let same : a.0 ≡ typed = same_rules a.0 typed (sym a.1.elaborated.typed ∙ is) in
-    subst (λ r. ChoosesAsSource (program_of (definition_views c.args.defs.now) r) (lowered_views c.in_ok-terms.terms.items)) same
+    subst (λ r. ChoosesAsSource (carried_program_of (definition_views c.args.defs.now) r) (lowered_views c.in_ok-terms.terms.items)) same
     (chooses (definition_views c.args.defs.now) a.0 c.args.expand c.in_ok-termenv.termenv a.1 a.3 (term_set_views c.in_ok-sets.sets.items) (lowered_views c.in_ok-terms.terms.items) s.1 c.in_ok-terms.ensures.same c.in_ok-terms.ensures.sound s.0)
