@@ -6,7 +6,7 @@ use Rattle.std.proofs.lemmas.Option.{none-some, same_Some, slice_get_within}
 use Rattle.isle_model.specs.sites.Sites.{Site, iterator_site, match_variant_site, extract_struct_site, match_some_site, Constraint, is_variant, is_struct, is_present, SetRule, SiteSet, sources_of, sources_at}
 use Rattle.isle_model.specs.trees.Places.{Around, is_in, waits, is_available, available, below, is_variant_field, is_struct_field, is_part_of, site_from, each_field, fields_of, field_sites}
 use Rattle.isle_model.specs.trees.WellBuilt.{IsWellBuilt}
-use Rattle.isle_laws_runs.proofs.runs.Fields.{site_found, field_listed, variant_field_same, struct_field_same, part_same}
+use Rattle.isle_laws_runs.proofs.runs.FieldSites.{site_found, field_listed, variant_field_same, struct_field_same, part_same}
 use Rattle.isle_model.proofs.Members.{nothing_in, in_head, in_tail, in_cases, member_found, each_passes, all_pass, in_flat_map, from_flat_map, member_is_in}
 use Rattle.isle_laws_trees.proofs.Gates.{variant_gate, struct_gate, answer_gate}
 use Rattle.isle_model.specs.sites.Gates.{gate_demanded}
