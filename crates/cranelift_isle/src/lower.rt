@@ -1,15 +1,13 @@
 //! From definitions to trees of tests, in one call.
 
-ghost use Rattle.std.specs.Prelude.{◌≡◌, ◌<◌, vec_len, false, List, map, Some, All, IfOk};
+ghost use Rattle.std.specs.Prelude.{◌≡◌, false, List, map, Some, All, IfOk};
 ghost use Rattle.isle_base.specs.Answers.{Answers, OnErrors, limit_of};
 ghost use Rattle.isle_base.specs.SyntaxViews.{definition_views};
-ghost use Rattle.isle_model.specs.rules.Typed.{TypedRule};
-ghost use Rattle.isle_model.specs.first.Simple.{IsSimpleRule};
-ghost use Rattle.isle_model.specs.trees.Sound.{IsSound};
-ghost use Rattle.isle_model.specs.first.Elaboration.{carried_typed_rules, carried_program_of};
-ghost use Rattle.isle_model.specs.first.Accepted.{IsCarriedAccepted};
-ghost use Rattle.isle_model.specs.first.Building.{IsSimpleSet};
-ghost use Rattle.isle_rules.specs.RuleViews.{rule_views};
+ghost use Rattle.isle_model.specs.Typed.{TypedRule};
+ghost use Rattle.isle_model.specs.Sound.{IsSound};
+ghost use Rattle.isle_model.specs.Elaboration.{typed_rules, program_of};
+ghost use Rattle.isle_model.specs.Accepted.{IsAccepted};
+ghost use Rattle.isle_building.specs.Building.{IsSimpleSet};
 ghost use Rattle.isle_sets.specs.Buildings.{term_set_views};
 ghost use Rattle.cranelift_isle.specs.Lowerings.{lowered_views, IsLowered, ChoosesAsSource, LimitPassed};
 

@@ -1,7 +1,7 @@
 //! The rule sets of the terms of an environment, and the check that no two rules of one priority may match
 //! together. For rules whose patterns are integers, wildcards and variables, and that make an integer or a
 //! variable.
-ghost use Rattle.std.specs.Prelude.{◌≡◌, ◌⊎◌, ◌==◌, ◌+◌, ℕ, ◌<◌, ◌≤◌, ◌++◌, length, map, Some, All, IfOk, OnOk, MatchOption, vec_len};
+ghost use Rattle.std.specs.Prelude.{◌≡◌, ◌==◌, ◌+◌, ℕ, ◌<◌, ◌≤◌, ◌++◌, length, map, Some, All, IfOk, OnOk, MatchOption, vec_len};
 ghost use Rattle.std.specs.List.{filter, list_any};
 ghost use Rattle.isle_base.specs.Answers.{Answers, OnErrors, limit_of};
 ghost use Rattle.isle_base.specs.SyntaxViews.{position};
