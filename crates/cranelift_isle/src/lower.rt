@@ -3,11 +3,11 @@
 ghost use Rattle.std.specs.Prelude.{◌≡◌, false, List, map, Some, All, IfOk};
 ghost use Rattle.isle_base.specs.Answers.{Answers, OnErrors, limit_of};
 ghost use Rattle.isle_base.specs.SyntaxViews.{definition_views};
-ghost use Rattle.isle_model.specs.Typed.{TypedRule};
-ghost use Rattle.isle_model.specs.Sound.{IsSound};
-ghost use Rattle.isle_model.specs.Elaboration.{typed_rules, program_of};
-ghost use Rattle.isle_model.specs.Accepted.{IsAccepted};
-ghost use Rattle.isle_building.specs.Building.{IsSimpleSet};
+ghost use Rattle.isle_model.specs.rules.Typed.{TypedRule};
+ghost use Rattle.isle_model.specs.trees.Sound.{IsSound};
+ghost use Rattle.isle_model.specs.first.Elaboration.{carried_typed_rules, carried_program_of};
+ghost use Rattle.isle_model.specs.first.Accepted.{IsCarriedAccepted};
+ghost use Rattle.isle_model.specs.first.Building.{IsSimpleSet};
 ghost use Rattle.isle_sets.specs.Buildings.{term_set_views};
 ghost use Rattle.cranelift_isle.specs.Lowerings.{lowered_views, IsLowered, ChoosesAsSource, LimitPassed};
 
@@ -76,8 +76,8 @@ pub fn lower(alloc: Global, defs: &[Def], expand: bool) -> Result<Lowered, Fault
         (λ l. (typed : List TypedRule) × IsCarriedAccepted (definition_views defs.now) typed × IsLowered l (definition_views defs.now) typed expand) }
 
     // each tree chooses as a test of every source rule by priority would
-    ensures chosen { IfOk result (λ l. (typed : List TypedRule) → typed_rules (definition_views defs.now) ≡ Some typed
-        → ChoosesAsSource (program_of (definition_views defs.now) typed) (lowered_views l.terms.items)) }
+    ensures chosen { IfOk result (λ l. (typed : List TypedRule) → carried_typed_rules (definition_views defs.now) ≡ Some typed
+        → ChoosesAsSource (carried_program_of (definition_views defs.now) typed) (lowered_views l.terms.items)) }
 
     // an error names a limit only where it was passed
     ensures limits { OnErrors result (All (λ e. LimitPassed (definition_views defs.now) (limit_of e))) }

@@ -2,8 +2,8 @@
 //! and make. Rules that speak of the same value do so by the same site, so that one test may serve them all.
 ghost use Rattle.std.specs.Prelude.{◌≡◌, ◌<◌, ◌^◌, option_map};
 ghost use Rattle.std.specs.Result.{OkIff};
-ghost use Rattle.isle_model.specs.Places.{constraint_at};
-ghost use Rattle.isle_model.specs.Sites.{sources_of};
+ghost use Rattle.isle_model.specs.trees.Places.{constraint_at};
+ghost use Rattle.isle_model.specs.sites.Sites.{sources_of};
 ghost use Rattle.isle_sets.specs.SiteViews.{site_view, constraint_view, set_rule_view, set_view, empty_rule, empty_set};
 
 use isle_base::disjointsets::DisjointSets;
