@@ -3,6 +3,7 @@ pub mod Answered
 pub mod Contents
 pub mod Demanded
 pub mod Exprs
+pub mod FormedDemands
 pub mod Grown
 pub mod Patterns
 pub mod Rules
