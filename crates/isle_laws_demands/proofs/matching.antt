@@ -5,9 +5,12 @@ pub mod Demanded
 pub mod Exprs
 pub mod FormedDemands
 pub mod Grown
+pub mod NeverMatches
 pub mod Patterns
 pub mod Rules
 pub mod SameExprs
+pub mod Shapes
 pub mod TypedParts
+pub mod Unreachable
 pub mod Variables
 pub mod Visits
