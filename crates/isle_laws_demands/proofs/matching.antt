@@ -1,12 +1,17 @@
 -- Matching of simple rules.
 pub mod Answered
+pub mod ClosedDemands
 pub mod Contents
 pub mod Demanded
 pub mod Exprs
+pub mod FormedDemands
 pub mod Grown
+pub mod NeverMatches
 pub mod Patterns
 pub mod Rules
 pub mod SameExprs
+pub mod Shapes
 pub mod TypedParts
+pub mod Unreachable
 pub mod Variables
 pub mod Visits

@@ -9,8 +9,8 @@ use Rattle.isle_model.specs.rules.Typed.{TypedRule}
 use Rattle.isle_model.specs.rules.Picks.{Pick, site_content, picks, matches_under}
 use Rattle.isle_model.specs.sites.Sites.{SiteTerm}
 use Rattle.isle_model.specs.sites.Demands.{demands_of}
-use Rattle.isle_model.specs.sites.Closure.{DemandsHold}
-use Rattle.isle_model.specs.sites.Serves.{Serves}
+use Rattle.isle_model.specs.sites.Closure.{IsUnreachable, DemandsHold}
+use Rattle.isle_model.specs.sites.Serves.{Serves, TellsConstantsApart}
 use Rattle.isle_model.specs.claims.Environments.{TypesRead, IsElaborated, program_of}
 
 -- a rule on arguments of its term's types, a meaning that serves the rules of the term, and one of the rule's picks
@@ -33,3 +33,8 @@ pub record MatchesByVisit (p : Program) (m : Meaning) (args : List Value) (r : T
 
 abbrev pub VisitsMatch : Type 0
 VisitsMatch = WhereTried (λ p t m args r k. MatchesByVisit p m args r k)
+
+-- where different constants have different values, a rule whose demands no values can meet doesn't match
+abbrev pub UnreachableRulesNeverMatch : Type 0
+UnreachableRulesNeverMatch =
+    WhereTried (λ p t m args r k. TellsConstantsApart p m (rules_of p t) → IsUnreachable (demands_of p r) → IsTrue (is_some (matches_under p m k r args)) → ⊥)
