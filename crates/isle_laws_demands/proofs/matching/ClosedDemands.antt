@@ -13,7 +13,7 @@ use Rattle.isle_model.specs.sites.Closure.{fields_from, field_terms, Joined, giv
 use Rattle.isle_model.proofs.Elements.{In, in_from_contains, contains_from_in, in_map, in_filter, passed_filter, from_flat_map, some_is, none_some}
 use Rattle.isle_model.proofs.SameSites.{term_cases}
 use Rattle.isle_laws_demands.specs.ClosureLaws.{ClosedIsWhole}
-use Rattle.isle_laws_demands.proofs.closure.Classes.{has_in}
+use Rattle.isle_model.proofs.SitesMade.{has_in}
 use Rattle.isle_laws_demands.proofs.closure.Closing.{FollowsSoFar, constraint_carried, in_class_joined, next_asked, taken_follows, before_closing_follows, in_order_follows}
 use Rattle.isle_laws_demands.proofs.closure.Whole.{AllIn, each_all_in, without_in, equality_members}
 use Rattle.isle_laws_demands.proofs.matching.Contents.{Given, content_of, Here, has_value}
