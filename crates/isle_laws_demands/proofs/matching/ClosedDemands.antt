@@ -1,7 +1,7 @@
 -- The closed demands of a rule hold exactly where its demands do.
-use Rattle.std.proofs.Common.{◌≡◌, ◌≢◌, ◌⊎◌, ◌==◌, ℕ, zero, suc, ◌+◌, ◌<◌, Bool, true, false, ◌&&◌, List, [], ◌∷◌, map, length, Option, Some, None, is_some, slice_get, Contains, filter, flat_map, refl, sym, ap, subst, ◌∙◌, inl, inr, arith, eq-eqb, eqb-true}
+use Rattle.std.proofs.Common.{◌≡◌, ◌⊎◌, ◌==◌, ℕ, zero, suc, ◌+◌, ◌<◌, true, List, [], ◌∷◌, map, length, Option, Some, None, is_some, slice_get, Contains, filter, refl, sym, ap, subst, ◌∙◌, inl, inr, arith, eq-eqb, eqb-true}
 use Rattle.std.proofs.lemmas.Bool.{and_parts, cond-true}
-use Rattle.isle_model.specs.rules.Values.{Value, truth, atom, of_variant, of_struct, Values, no_value, value_and, listed, variant_types, struct_types, well_typed, all_well_typed}
+use Rattle.isle_model.specs.rules.Values.{Value, of_variant, of_struct, Values, listed, variant_types, struct_types, well_typed, all_well_typed}
 use Rattle.isle_model.specs.rules.Meaning.{Content, one, just, Meaning, bool_literal, int_literal, literal_value, constant_value}
 use Rattle.isle_model.specs.rules.Outcome.{then_option}
 use Rattle.isle_model.specs.rules.Program.{Program}
@@ -9,15 +9,15 @@ use Rattle.isle_model.specs.rules.Picks.{field_of_variant, field_of_struct}
 use Rattle.isle_model.specs.trees.Run.{as_value, from_value, content_fields}
 use Rattle.isle_model.specs.sites.Sites.{Constraint, is_variant, is_struct, is_bool, is_int, is_prim, is_present, SiteTerm, variant_field, struct_field}
 use Rattle.isle_model.specs.sites.Demands.{Demands, has_site}
-use Rattle.isle_model.specs.sites.Closure.{fields_from, field_terms, Joined, given, itself, turned, chained, at_field, HasConstraint, IsMet, AreEqual, Closed, class_at, without_class_of, begins_with, ascending, next_constrained, field_equalities, taken, closing, before_closing, in_order, most_closing_steps, closed, ClosedDemandsHold}
-use Rattle.isle_model.proofs.Elements.{In, in_from_contains, contains_from_in, in_map, in_filter, passed_filter, from_flat_map, some_is, none_some}
+use Rattle.isle_model.specs.sites.Closure.{fields_from, field_terms, Joined, at_field, HasConstraint, Closed, class_at, without_class_of, begins_with, ascending, next_constrained, field_equalities, taken, closing, before_closing, in_order, most_closing_steps, closed, ClosedDemandsHold}
+use Rattle.isle_model.proofs.Elements.{In, in_from_contains, contains_from_in, in_map, in_filter, passed_filter, from_flat_map, some_is}
 use Rattle.isle_model.proofs.SameSites.{term_cases}
 use Rattle.isle_laws_demands.specs.ClosureLaws.{ClosedIsWhole}
 use Rattle.isle_model.proofs.SitesMade.{has_in}
 use Rattle.isle_laws_demands.proofs.closure.Closing.{FollowsSoFar, constraint_carried, in_class_joined, next_asked, taken_follows, before_closing_follows, in_order_follows}
 use Rattle.isle_laws_demands.proofs.closure.Whole.{AllIn, each_all_in, without_in, equality_members}
-use Rattle.isle_laws_demands.proofs.matching.Contents.{Given, content_of, Here, has_value}
-use Rattle.isle_laws_demands.proofs.matching.Demanded.{Meets, Equal, AreMet, AskEnough, one_is, same_content}
+use Rattle.isle_laws_demands.proofs.matching.Contents.{Given, content_of}
+use Rattle.isle_laws_demands.proofs.matching.Demanded.{AreMet, one_is, same_content}
 use Rattle.isle_laws_demands.proofs.matching.FormedDemands.{IsFormed, AreFormed}
 use Rattle.isle_laws_demands.proofs.matching.Shapes.{HasForm, has_form}
 
@@ -236,16 +236,16 @@ module _ (g : Given) (d : Demands) (k : Closed) (whole : ClosedIsWhole d k) (for
           let y : content_of g a ≡ Some (one (of_variant x.ty x.variant fs)) = e ∙ ap (λ v. Some (one v)) x.first ∙ ap (λ l. Some (one (of_variant x.ty x.variant l))) (sym fields) in
           let z : content_of g b ≡ Some (one (of_variant x.ty x.variant x.second_fields)) = f ∙ ap (λ v. Some (one v)) x.second in
           let same = alone x.second_fields r.0 (variant_field a x.variant) (variant_field b x.variant) 0
-              (record {
-                first_typed = variant_typed x.ty x.variant fs r.0 r.1 (t.0, subst (λ v. well_typed p.types t.0 v ≡ true) (x.first ∙ ap (of_variant x.ty x.variant) (sym fields)) t.1);
-                second_typed = variant_typed x.ty x.variant x.second_fields r.0 r.1 (u.0, subst (λ v. well_typed p.types u.0 v ≡ true) x.second u.1);
-                first = λ i v q. at_start (variant_field a x.variant) i v (variant_value a x.ty x.variant fs i v y q);
-                second = λ i v q. at_start (variant_field b x.variant) i v (variant_value b x.ty x.variant x.second_fields i v z q);
-                joined = λ i l.
-                    at_field i j h.joined (subst (λ (o : Constraint). Contains d.constraints (h.source, o)) x.constraint h.asked)
-                    (field_at (variant_field a x.variant) 0 x.count i (let k : length r.0 ≡ x.count = r.2 in omega arith))
-                    (field_at (variant_field b x.variant) 0 x.count i (let k : length r.0 ≡ x.count = r.2 in omega arith));
-              }) in
+          (record {
+            first_typed = variant_typed x.ty x.variant fs r.0 r.1 (t.0, subst (λ v. well_typed p.types t.0 v ≡ true) (x.first ∙ ap (of_variant x.ty x.variant) (sym fields)) t.1);
+            second_typed = variant_typed x.ty x.variant x.second_fields r.0 r.1 (u.0, subst (λ v. well_typed p.types u.0 v ≡ true) x.second u.1);
+            first = λ i v q. at_start (variant_field a x.variant) i v (variant_value a x.ty x.variant fs i v y q);
+            second = λ i v q. at_start (variant_field b x.variant) i v (variant_value b x.ty x.variant x.second_fields i v z q);
+            joined = λ i l.
+                at_field i j h.joined (subst (λ (o : Constraint). Contains d.constraints (h.source, o)) x.constraint h.asked)
+                (field_at (variant_field a x.variant) 0 x.count i (let k : length r.0 ≡ x.count = r.2 in omega arith))
+                (field_at (variant_field b x.variant) 0 x.count i (let k : length r.0 ≡ x.count = r.2 in omega arith));
+          }) in
           x.first ∙ ap (of_variant x.ty x.variant) (sym fields ∙ same) ∙ sym x.second
 
       by : (c : Constraint) → HasConstraint d a c → Compared c (of_variant s n fs) w → of_variant s n fs ≡ w
