@@ -4,7 +4,7 @@ use super::type_rows::at;
 use super::written::written;
 use isle_base::syntax::{Def, Expr};
 use isle_rules::{Pattern, TermEnv};
-use isle_samples::Definitions;
+use isle_printing::Definitions;
 use isle_terms::TermTable;
 use isle_types::{RuleId, Sym, TermId, TypeEnv, TypeId, VarId};
 use std::test::Fail;

@@ -2,7 +2,7 @@
 use isle_base::syntax::{
     Def, Extern, Fields, Pos, StructField, StructFields, TupleField, TupleFields, Type, TypeValue,
 };
-use isle_samples::Definitions;
+use isle_printing::Definitions;
 use std::alloc::{AllocError, Global};
 
 // A field: its name and its place, the name of its type and the place of that.
