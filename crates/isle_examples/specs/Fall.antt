@@ -15,6 +15,7 @@ use Rattle.isle_model.specs.trees.Run.{World, run}
 use Rattle.isle_model.specs.trees.Trees.{Tree, arm, match_at, no_step, step}
 use Rattle.isle_examples.specs.MeaningForms.{answers, given, literal, mute}
 use Rattle.isle_examples.specs.SetForms.{a0, a_rule, asking, byte, byte_term, is_byte, one_arm, returning}
+use Rattle.isle_examples.specs.Stages.{Sample}
 use Rattle.isle_examples.specs.TypedForms.{bind_any, rules_and_names, typed, typed_var, u8}
 use Rattle.isle_examples.specs.Written.{f_of_bytes, int, number, of_f, rule_first, rule_to, var, variable}
 
@@ -56,6 +57,9 @@ fall_set = record { rules = ten_for_one ∷ itself ∷ []; sites = argument_site
 -- the match first, and what doesn't meet it falls through to the return
 abbrev pub fall_tree : Tree
 fall_tree = step [] (match_at 0 (one_arm (is_byte 1) [] (returning [] 1 1 no_step))) (returning [] 2 0 no_step)
+
+abbrev pub fall_sample : Sample
+fall_sample = record { defs = fall_defs; rules = fall_rules; term = 0; multi = false; set = fall_set; tree = fall_tree }
 
 -- trees that are no best ones: an arm without a rule; a rule that returns twice; a rule that doesn't return
 abbrev pub fall_empty_arm : Tree

@@ -104,3 +104,19 @@ closed_demands p r = closed [] (demands_of p r)
 -- a rule passes no limit
 abbrev pub PassesNoLimit : Program → TypedRule → Type 0
 PassesNoLimit p r = first_limit p [] r ≡ None
+
+-- a sample whose rules are accepted: its list, what that becomes, and the set and the tree of one of its terms, which is
+-- multi or isn't
+pub record Sample : Type 0 where
+  pub defs : List Definition
+  pub rules : TypedRules
+  pub term : ℕ
+  pub multi : Bool
+  pub set : SiteSet
+  pub tree : Tree
+
+-- each stage comes from the one before
+pub record HasStages (s : Sample) : Type 0 where
+  pub accepted : IsAcceptedBoth s.defs s.rules
+  pub built : IsBuiltOf s.defs s.rules s.term s.set
+  pub judged : IsJudged s.set s.multi s.tree
