@@ -15,7 +15,6 @@ use Rattle.isle_laws_runs.proofs.runs.Fields.{present_met}
 use Rattle.isle_examples.proofs.SampleStages.{extract_stages}
 use Rattle.isle_examples.proofs.SetStages.{tested}
 use Rattle.isle_examples.specs.Extract.{ExtractIsServed, NearSetsAreNotBuilt, answer_itself, extract_defs, extract_meaning, extract_program, extract_rules, extract_set, extract_world, less_asked, ten_for_answer_one}
-use Rattle.isle_examples.specs.MeaningForms.{v}
 use Rattle.isle_examples.specs.SetForms.{is_byte}
 
 -- 1. the set goes over no calls, and its rules demand the gates below what they test

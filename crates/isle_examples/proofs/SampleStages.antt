@@ -22,7 +22,6 @@ use Rattle.isle_examples.specs.EmittedFirst.{emitted_first_sample}
 use Rattle.isle_examples.specs.Equal.{equal_sample}
 use Rattle.isle_examples.specs.Extract.{extract_sample}
 use Rattle.isle_examples.specs.Fall.{fall_sample}
-use Rattle.isle_examples.specs.HandedIn.{plain}
 use Rattle.isle_examples.specs.Impure.{impure_sample}
 use Rattle.isle_examples.specs.Multi.{multi_sample}
 use Rattle.isle_examples.specs.MultiExt.{multi_ext_sample}

@@ -28,8 +28,6 @@ use Rattle.isle_laws_trees.proofs.Exact.{not_exact}
 use Rattle.isle_laws_trees.proofs.JudgedSets.{are_below, asks, calls_pass, each_of, equates, goes_over, multi_can_be_served, only_sites, serves, stand, unfolded_demand}
 use Rattle.isle_laws_trees.proofs.WellBuilt.{passes_well_built, set_passes}
 use Rattle.isle_examples.proofs.TreeStages.{has_no_priorities}
-use Rattle.isle_examples.specs.Expansions.{once}
-use Rattle.isle_examples.specs.MeaningForms.{each}
 use Rattle.isle_examples.specs.Stages.{IsAcceptedBoth, IsBuiltOf}
 
 -- no number stands twice

@@ -14,7 +14,6 @@ use Rattle.isle_model.specs.sites.Sites.{SetRule, SiteSet, argument_site, constr
 use Rattle.isle_model.specs.trees.Run.{World}
 use Rattle.isle_model.specs.trees.SetRuns.{IsTaken}
 use Rattle.isle_model.specs.trees.Trees.{Tree, no_step}
-use Rattle.isle_examples.specs.MeaningForms.{v}
 use Rattle.isle_examples.specs.SetForms.{a_rule, returning}
 use Rattle.isle_examples.specs.Stages.{Sample}
 use Rattle.isle_examples.specs.TypedForms.{bind_any, e_list, rules_and_names, typed, typed_var, u8}

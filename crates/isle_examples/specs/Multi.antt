@@ -20,7 +20,6 @@ use Rattle.isle_model.specs.sites.Sites.{SetRule, SiteSet, SiteTerm, argument_si
 use Rattle.isle_model.specs.trees.Collects.{Collects, HasCollectedResults, IsCollectedSet, ServesSet, set_bag}
 use Rattle.isle_model.specs.trees.Run.{World, run, world_of}
 use Rattle.isle_model.specs.trees.Trees.{Tree, loop_at, match_at, no_step, step}
-use Rattle.isle_examples.specs.Expansions.{inside}
 use Rattle.isle_examples.specs.MeaningForms.{all_of, alone, each, given, literal, mute}
 use Rattle.isle_examples.specs.SetForms.{a0, a_rule, asking, byte, byte_term, is_byte, one_arm, one_source, returning}
 use Rattle.isle_examples.specs.Stages.{Sample}

@@ -13,7 +13,6 @@ use Rattle.isle_model.specs.rules.Typed.{TypedRule, make_var, match_any, match_b
 use Rattle.isle_model.specs.sites.Demands.{demands_of}
 use Rattle.isle_model.specs.sites.Sites.{Constraint, SiteSet, argument_site, is_variant, match_variant_site}
 use Rattle.isle_model.specs.trees.Trees.{Tree, equal_at, match_at, no_step, step}
-use Rattle.isle_examples.specs.Expansions.{inside}
 use Rattle.isle_examples.specs.SetForms.{a0, a1, a_rule, asking, field_of, one_arm, returning}
 use Rattle.isle_examples.specs.Stages.{HasTermTable, Sample, closed_demands}
 use Rattle.isle_examples.specs.TypedForms.{builtins, by_rules, entry, enum_entry, field_entry, no_flags, own, q_list, rules_and_names, typed, typed_var, u8, variant_entry}
