@@ -53,6 +53,11 @@ Becomes defs expand rules = elaborated_rules (own_setting defs expand) (rule_tre
 abbrev pub HasTerms : List Definition → Type 0
 HasTerms defs = IsValidTerms (types_of defs) defs
 
+-- none of these lists is such
+abbrev pub NoneOf : (List Definition → Type 0) → List (List Definition) → Type 0
+NoneOf P [] = Unit {0}
+NoneOf P (defs ∷ rest) = (P defs → ⊥) × NoneOf P rest
+
 -- the tables of a list are valid, and yet its rules become nothing
 abbrev pub HasNoTypedRules : List Definition → Type 0
 HasNoTypedRules defs = IsValidTypes defs × HasTerms defs × Becomes defs true None × Becomes defs false None

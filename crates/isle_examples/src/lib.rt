@@ -4,6 +4,7 @@
 #![tactic(auto)]
 
 ghost use Rattle.std.specs.Prelude.{[], pos, true, ◌∷◌, ◌≡◌};
+ghost use Rattle.isle_model.specs.lists.TypeTable.{IsValidTypes};
 ghost use Rattle.isle_model.specs.rules.Meaning.{nothing};
 ghost use Rattle.isle_model.specs.rules.Outcome.{ended, failed, no_rule};
 ghost use Rattle.isle_model.specs.trees.Collects.{LeavesNoCallUnused};
@@ -37,11 +38,11 @@ ghost use Rattle.isle_examples.specs.Refused.{RefusedAreNotRead, SamplesAreRefus
 ghost use Rattle.isle_examples.specs.Scopes.{let_in_let_defs, let_in_let_rules, shadowing_defs, shadowing_rules};
 ghost use Rattle.isle_examples.specs.Shadow.{ShadowReported, ShadowsFound, shadow_defs, shadow_rules};
 ghost use Rattle.isle_examples.specs.Shared.{shared_sample};
-ghost use Rattle.isle_examples.specs.Stages.{AreRefused, CanMatch, CantMatch, ClosingEndsOf, HasStages, HasTermTable, IsAcceptedBoth, IsBuiltOf, IsJudged, IsNotAccepted, PassesNoLimit, verdicts};
+ghost use Rattle.isle_examples.specs.Stages.{AreRefused, CanMatch, CantMatch, ClosingEndsOf, HasStages, HasTermTable, HasTerms, IsAcceptedBoth, IsBuiltOf, IsJudged, IsNotAccepted, NoneOf, PassesNoLimit, verdicts};
 ghost use Rattle.isle_examples.specs.Surplus.{surplus_near_trees, surplus_sample, surplus_set};
-ghost use Rattle.isle_examples.specs.TermLists.{Alone, Chained, Early, HaveNoTerms, Infallible, OneFullName, Structs, Templates, refused_terms};
+ghost use Rattle.isle_examples.specs.TermLists.{Alone, Chained, Early, Infallible, OneFullName, Structs, Templates, refused_terms};
 ghost use Rattle.isle_examples.specs.Ties.{ties_near_trees, ties_sample, ties_set};
-ghost use Rattle.isle_examples.specs.TypeLists.{ConstantTypes, HaveNoTypes, ThreeTypes, TwoTypes, refused_types};
+ghost use Rattle.isle_examples.specs.TypeLists.{ConstantTypes, ThreeTypes, TwoTypes, refused_types};
 ghost use Rattle.isle_examples.specs.Unused.{UnusedIsLowered, UnusedIsNotDemanded, unused_defs, unused_rules, unused_set};
 ghost use Rattle.isle_examples.specs.Used.{NearTreesDoNotBind, used_sample};
 ghost use Rattle.isle_examples.specs.VariantEq.{VariantEqClosed, VariantEqDemands, VariantEqTables, variant_eq_near_trees, variant_eq_program, variant_eq_rule, variant_eq_sample, variant_eq_set};
@@ -55,7 +56,7 @@ pub fn type_lists()
     ensures two_types { TwoTypes }
     ensures three_types { ThreeTypes }
     ensures constants { ConstantTypes }
-    ensures refused { HaveNoTypes refused_types }
+    ensures refused { NoneOf IsValidTypes refused_types }
 {}
 
 /// Lists of terms: a template may call another internal extractor, and a surplus argument that it doesn't use is
@@ -71,7 +72,7 @@ pub fn term_lists()
     ensures structs { Structs }
     ensures templates { Templates }
     ensures alone { Alone }
-    ensures refused { HaveNoTerms refused_terms }
+    ensures refused { NoneOf HasTerms refused_terms }
 {}
 
 /// A list may name a type that is handed in, and its names go on after all that were met before; a type that a list
