@@ -9,7 +9,6 @@ pub mod Marked
 pub mod Matchable
 pub mod Multi
 pub mod MultiCalls
-pub mod NearTrees
 pub mod NoRules
 pub mod PickedAnswers
 pub mod Refused

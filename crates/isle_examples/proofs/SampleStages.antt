@@ -1,4 +1,4 @@
--- Each sample has its stages: by computing.
+-- Each sample has its stages, and the trees near its tree are refused: by computing.
 use Rattle.std.proofs.Common.{◌≡◌, [], ◌∙◌, ◌&&◌, ◌||◌, Bool, true, false, Some, map, length, refl, subst, inl, inr, not, nat_le}
 use Rattle.std.specs.List.{list_all}
 use Rattle.std.proofs.lemmas.Bool.{and_parts, cases_Bool}
@@ -13,7 +13,7 @@ use Rattle.isle_laws_trees.proofs.JudgedSets.{calls_pass, can_be_served, multi_c
 use Rattle.isle_laws_trees.proofs.WellBuilt.{set_passes}
 use Rattle.isle_examples.proofs.ListStages.{accepted_both}
 use Rattle.isle_examples.proofs.SetStages.{built_row, is_built, row_in, stands_once}
-use Rattle.isle_examples.proofs.TreeStages.{has_no_priorities, judged_with, no_priorities}
+use Rattle.isle_examples.proofs.TreeStages.{has_no_priorities, judged_with, no_priorities, refused}
 use Rattle.isle_examples.specs.Below.{below_sample}
 use Rattle.isle_examples.specs.Between.{between_sample}
 use Rattle.isle_examples.specs.ConstEq.{const_eq_sample}
@@ -55,8 +55,9 @@ module _ (s : Sample) where
   pub stages : accepted_list s.defs true ≡ Some s.rules → accepted_list s.defs false ≡ Some s.rules → check_reports p ≡ []
       → map (row_in s.set.sites) s.set.rules ≡ map (built_row p) (built_rules p s.term)
       → map (unfold_site s.set.sites) (numbers_from 0 s.set.sites) ≡ sites_after_rules p [] (rules_of p s.term)
-      → is_multi p s.term ≡ s.multi → not s.multi || has_no_priorities s.set.rules ≡ true → set_tests ≡ true → tree_tests ≡ true → HasStages s
-  stages h k none rows sites m plain tests best =
+      → is_multi p s.term ≡ s.multi → not s.multi || has_no_priorities s.set.rules ≡ true → set_tests ≡ true → tree_tests ≡ true
+      → list_all (λ t. not (is_best_tree s.set t)) s.near_trees ≡ true → HasStages s
+  stages h k none rows sites m plain tests best near =
       let a = and_parts (list_all (stands_once (length s.set.sites)) s.set.rules) (nat_le (length s.set.sites) most_sites && (set_passes (only_sites s.set)
       && (list_all (serves s.set.sites) s.set.rules && calls_pass p s.set.sites (built_rules p s.term) s.set.rules))) tests in
       let b = and_parts (nat_le (length s.set.sites) most_sites) (set_passes (only_sites s.set)
@@ -76,61 +77,62 @@ module _ (s : Sample) where
           ],
         );
         judged = judged_with s.set s.multi s.tree (λ t. no_priorities s.set.rules (plain_if_multi plain t)) e.0 f.0 g.0 g.1;
+        refused = refused s.set s.near_trees f.0 near;
       }
 
 pub const_eq_stages : HasStages const_eq_sample
-const_eq_stages = stages const_eq_sample refl refl refl refl refl refl refl refl refl
+const_eq_stages = stages const_eq_sample refl refl refl refl refl refl refl refl refl refl
 
 pub fall_stages : HasStages fall_sample
-fall_stages = stages fall_sample refl refl refl refl refl refl refl refl refl
+fall_stages = stages fall_sample refl refl refl refl refl refl refl refl refl refl
 
 pub prio_stages : HasStages prio_sample
-prio_stages = stages prio_sample refl refl refl refl refl refl refl refl refl
+prio_stages = stages prio_sample refl refl refl refl refl refl refl refl refl refl
 
 pub equal_stages : HasStages equal_sample
-equal_stages = stages equal_sample refl refl refl refl refl refl refl refl refl
+equal_stages = stages equal_sample refl refl refl refl refl refl refl refl refl refl
 
 pub below_stages : HasStages below_sample
-below_stages = stages below_sample refl refl refl refl refl refl refl refl refl
+below_stages = stages below_sample refl refl refl refl refl refl refl refl refl refl
 
 pub variant_eq_stages : HasStages variant_eq_sample
-variant_eq_stages = stages variant_eq_sample refl refl refl refl refl refl refl refl refl
+variant_eq_stages = stages variant_eq_sample refl refl refl refl refl refl refl refl refl refl
 
 pub extract_stages : HasStages extract_sample
-extract_stages = stages extract_sample refl refl refl refl refl refl refl refl refl
+extract_stages = stages extract_sample refl refl refl refl refl refl refl refl refl refl
 
 pub partial_stages : HasStages partial_sample
-partial_stages = stages partial_sample refl refl refl refl refl refl refl refl refl
+partial_stages = stages partial_sample refl refl refl refl refl refl refl refl refl refl
 
 pub effects_stages : HasStages effects_sample
-effects_stages = stages effects_sample refl refl refl refl refl refl refl refl refl
+effects_stages = stages effects_sample refl refl refl refl refl refl refl refl refl refl
 
 pub multi_stages : HasStages multi_sample
-multi_stages = stages multi_sample refl refl refl refl refl refl refl refl refl
+multi_stages = stages multi_sample refl refl refl refl refl refl refl refl refl refl
 
 pub surplus_stages : HasStages surplus_sample
-surplus_stages = stages surplus_sample refl refl refl refl refl refl refl refl refl
+surplus_stages = stages surplus_sample refl refl refl refl refl refl refl refl refl refl
 
 pub ties_stages : HasStages ties_sample
-ties_stages = stages ties_sample refl refl refl refl refl refl refl refl refl
+ties_stages = stages ties_sample refl refl refl refl refl refl refl refl refl refl
 
 pub wrap_stages : HasStages wrap_sample
-wrap_stages = stages wrap_sample refl refl refl refl refl refl refl refl refl
+wrap_stages = stages wrap_sample refl refl refl refl refl refl refl refl refl refl
 
 pub used_stages : HasStages used_sample
-used_stages = stages used_sample refl refl refl refl refl refl refl refl refl
+used_stages = stages used_sample refl refl refl refl refl refl refl refl refl refl
 
 pub multi_ext_stages : HasStages multi_ext_sample
-multi_ext_stages = stages multi_ext_sample refl refl refl refl refl refl refl refl refl
+multi_ext_stages = stages multi_ext_sample refl refl refl refl refl refl refl refl refl refl
 
 pub shared_stages : HasStages shared_sample
-shared_stages = stages shared_sample refl refl refl refl refl refl refl refl refl
+shared_stages = stages shared_sample refl refl refl refl refl refl refl refl refl refl
 
 pub emitted_first_stages : HasStages emitted_first_sample
-emitted_first_stages = stages emitted_first_sample refl refl refl refl refl refl refl refl refl
+emitted_first_stages = stages emitted_first_sample refl refl refl refl refl refl refl refl refl refl
 
 pub between_stages : HasStages between_sample
-between_stages = stages between_sample refl refl refl refl refl refl refl refl refl
+between_stages = stages between_sample refl refl refl refl refl refl refl refl refl refl
 
 pub impure_stages : HasStages impure_sample
-impure_stages = stages impure_sample refl refl refl refl refl refl refl refl refl
+impure_stages = stages impure_sample refl refl refl refl refl refl refl refl refl refl

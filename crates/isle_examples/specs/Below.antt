@@ -43,4 +43,4 @@ abbrev pub below_tree : Tree
 below_tree = returning [] 1 3 (returning [] 2 4 no_step)
 
 abbrev pub below_sample : Sample
-below_sample = record { defs = below_defs; rules = below_rules; term = 0; multi = false; set = below_set; tree = below_tree }
+below_sample = record { defs = below_defs; rules = below_rules; term = 0; multi = false; set = below_set; tree = below_tree; near_trees = [] }

@@ -44,9 +44,6 @@ between_tree =
     (step [] (match_at 2 (one_arm (is_byte 2) [] (returning [] 2 4 no_step)))
     (step [] (match_at 0 (one_arm (is_byte 1) [] (step [] (match_at 1 (one_arm (is_byte 6) [] (returning [] 3 5 no_step))) no_step))) no_step))
 
-abbrev pub between_sample : Sample
-between_sample = record { defs = between_defs; rules = between_rules; term = 0; multi = false; set = between_set; tree = between_tree }
-
 -- a tree that is no best one: the first step holds a rule that needs its test, and that its cover leaves out for its priority
 abbrev pub between_holds_more : Tree
 between_holds_more =
@@ -55,3 +52,6 @@ between_holds_more =
 
 abbrev pub between_near_trees : List Tree
 between_near_trees = between_holds_more ∷ []
+
+abbrev pub between_sample : Sample
+between_sample = record { defs = between_defs; rules = between_rules; term = 0; multi = false; set = between_set; tree = between_tree; near_trees = between_near_trees }

@@ -48,4 +48,4 @@ const_eq_tree =
     (step [] (match_at 1 (one_arm (is_byte 2) [] (returning [] 1 0 no_step))) no_step))) no_step
 
 abbrev pub const_eq_sample : Sample
-const_eq_sample = record { defs = const_eq_defs; rules = const_eq_rules; term = 0; multi = false; set = const_eq_set; tree = const_eq_tree }
+const_eq_sample = record { defs = const_eq_defs; rules = const_eq_rules; term = 0; multi = false; set = const_eq_set; tree = const_eq_tree; near_trees = [] }

@@ -92,12 +92,12 @@ effects_set = record {
 abbrev pub effects_tree : Tree
 effects_tree = returning (3 ∷ 1 ∷ 2 ∷ 4 ∷ 5 ∷ []) 6 5 no_step
 
-abbrev pub effects_sample : Sample
-effects_sample = record { defs = effects_defs; rules = effects_rules; term = 2; multi = false; set = effects_set; tree = effects_tree }
-
 -- a tree that is no best one: the failing call is bound before the impure one
 abbrev pub effects_near_trees : List Tree
 effects_near_trees = returning (1 ∷ 2 ∷ 3 ∷ 4 ∷ 5 ∷ []) 6 5 no_step ∷ []
+
+abbrev pub effects_sample : Sample
+effects_sample = record { defs = effects_defs; rules = effects_rules; term = 2; multi = false; set = effects_set; tree = effects_tree; near_trees = effects_near_trees }
 
 -- pp answers this at 1, and the first impure call answers 6
 abbrev pub effects_meaning : Content → Meaning

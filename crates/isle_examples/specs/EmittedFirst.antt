@@ -42,9 +42,9 @@ two_before third = step [] (equal_at 1 2 (returning [] 1 4 no_step)) (step [] (m
 abbrev pub emitted_first_tree : Tree
 emitted_first_tree = two_before (step [] (equal_at 1 2 (step [] (equal_at 0 1 (returning [] 3 6 no_step)) no_step)) no_step)
 
-abbrev pub emitted_first_sample : Sample
-emitted_first_sample = record { defs = emitted_first_defs; rules = emitted_first_rules; term = 0; multi = false; set = emitted_first_set; tree = emitted_first_tree }
-
 -- a tree that is no best one: the pair of smaller numbers goes first, though its sites aren't both emitted
 abbrev pub emitted_first_near_trees : List Tree
 emitted_first_near_trees = two_before (step [] (equal_at 0 1 (step [] (equal_at 0 2 (returning [] 3 6 no_step)) no_step)) no_step) ∷ []
+
+abbrev pub emitted_first_sample : Sample
+emitted_first_sample = record { defs = emitted_first_defs; rules = emitted_first_rules; term = 0; multi = false; set = emitted_first_set; tree = emitted_first_tree; near_trees = emitted_first_near_trees }

@@ -44,9 +44,6 @@ equal_set = record {
 abbrev pub equal_tree : Tree
 equal_tree = returning [] 1 0 (returning [] 2 2 no_step)
 
-abbrev pub equal_sample : Sample
-equal_sample = record { defs = equal_defs; rules = equal_rules; term = 0; multi = false; set = equal_set; tree = equal_tree }
-
 -- trees that are no best ones: the lower rule returns first; the equality is tested though it covers no rule; a test
 -- follows the return of its block
 abbrev pub equal_exchanged : Tree
@@ -60,3 +57,6 @@ equal_not_closed = returning [] 1 0 (step [] (equal_at 0 1 (returning [] 2 2 no_
 
 abbrev pub equal_near_trees : List Tree
 equal_near_trees = equal_exchanged ∷ equal_tested ∷ equal_not_closed ∷ []
+
+abbrev pub equal_sample : Sample
+equal_sample = record { defs = equal_defs; rules = equal_rules; term = 0; multi = false; set = equal_set; tree = equal_tree; near_trees = equal_near_trees }

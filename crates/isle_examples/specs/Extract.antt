@@ -96,9 +96,6 @@ answer_tested = match_at 2 (one_arm (is_byte 1) [] (returning [] 3 3 no_step))
 abbrev pub extract_tree : Tree
 extract_tree = step (1 ∷ []) (match_at 1 (one_arm is_present (Some 2 ∷ []) (step [] answer_tested (returning [] 4 2 no_step)))) no_step
 
-abbrev pub extract_sample : Sample
-extract_sample = record { defs = extract_defs; rules = extract_rules; term = 1; multi = false; set = extract_set; tree = extract_tree }
-
 -- trees that are no best ones: each rule is tested alone, by descending priority
 abbrev pub extract_alone : Tree
 extract_alone =
@@ -115,6 +112,9 @@ extract_unbound = step [] (match_at 1 (one_arm is_present (Some 2 ∷ []) (step 
 
 abbrev pub extract_near_trees : List Tree
 extract_near_trees = extract_alone ∷ extract_two_arms ∷ extract_unbound ∷ []
+
+abbrev pub extract_sample : Sample
+extract_sample = record { defs = extract_defs; rules = extract_rules; term = 1; multi = false; set = extract_set; tree = extract_tree; near_trees = extract_near_trees }
 
 -- the call answers this on 7
 abbrev pub extract_meaning : Content → Meaning

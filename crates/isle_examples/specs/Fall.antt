@@ -58,9 +58,6 @@ fall_set = record { rules = ten_for_one ∷ itself ∷ []; sites = argument_site
 abbrev pub fall_tree : Tree
 fall_tree = step [] (match_at 0 (one_arm (is_byte 1) [] (returning [] 1 1 no_step))) (returning [] 2 0 no_step)
 
-abbrev pub fall_sample : Sample
-fall_sample = record { defs = fall_defs; rules = fall_rules; term = 0; multi = false; set = fall_set; tree = fall_tree }
-
 -- trees that are no best ones: an arm without a rule; a rule that returns twice; a rule that doesn't return
 abbrev pub fall_empty_arm : Tree
 fall_empty_arm = step [] (match_at 0 (arm (is_byte 1) [] (returning [] 1 1 no_step) (one_arm (is_byte 2) [] no_step))) (returning [] 2 0 no_step)
@@ -85,6 +82,9 @@ fall_untested = returning [] 1 1 (returning [] 2 0 no_step)
 
 abbrev pub fall_near_trees : List Tree
 fall_near_trees = fall_empty_arm ∷ fall_twice ∷ fall_missing ∷ fall_other_result ∷ fall_returns_first ∷ fall_untested ∷ []
+
+abbrev pub fall_sample : Sample
+fall_sample = record { defs = fall_defs; rules = fall_rules; term = 0; multi = false; set = fall_set; tree = fall_tree; near_trees = fall_near_trees }
 
 -- the world of a run on an argument
 abbrev pub fall_meaning : Meaning

@@ -39,7 +39,7 @@ abbrev pub impure_tree : Tree
 impure_tree = returning (1 ∷ []) 3 1 no_step
 
 abbrev pub impure_sample : Sample
-impure_sample = record { defs = impure_defs; rules = impure_rules; term = 1; multi = false; set = impure_set; tree = impure_tree }
+impure_sample = record { defs = impure_defs; rules = impure_rules; term = 1; multi = false; set = impure_set; tree = impure_tree; near_trees = [] }
 
 abbrev pub im_called : Meaning → Value → World
 im_called m v = record { sites = impure_set.sites; args = v ∷ []; meaning = m; multi = false }

@@ -74,12 +74,12 @@ nine_first rest = step [] (match_at 0 (one_arm (is_byte 1) [] (returning [] 4 3 
 abbrev pub multi_tree : Tree
 multi_tree = nine_first (step (1 ∷ []) (loop_at 2 (returning [] 3 2 no_step)) no_step)
 
-abbrev pub multi_sample : Sample
-multi_sample = record { defs = multi_defs; rules = multi_rules; term = 1; multi = true; set = multi_set; tree = multi_tree }
-
 -- trees that are no best ones: a loop over the call, which is no iterator; and a rule that returns outside of its loop
 abbrev pub multi_near_trees : List Tree
 multi_near_trees = nine_first (step (1 ∷ []) (loop_at 1 (returning [] 3 2 no_step)) no_step) ∷ nine_first (returning (1 ∷ 2 ∷ []) 3 2 no_step) ∷ []
+
+abbrev pub multi_sample : Sample
+multi_sample = record { defs = multi_defs; rules = multi_rules; term = 1; multi = true; set = multi_set; tree = multi_tree; near_trees = multi_near_trees }
 
 -- the call that a loop goes over may be bound again in its body, or after it, but not what the loop brought
 abbrev pub looped_with : List ℕ → List ℕ → Tree

@@ -53,4 +53,4 @@ abbrev pub multi_ext_tree : Tree
 multi_ext_tree = step (1 ∷ []) (loop_at 2 (returning [] 3 2 no_step)) no_step
 
 abbrev pub multi_ext_sample : Sample
-multi_ext_sample = record { defs = multi_ext_defs; rules = multi_ext_rules; term = 1; multi = false; set = multi_ext_set; tree = multi_ext_tree }
+multi_ext_sample = record { defs = multi_ext_defs; rules = multi_ext_rules; term = 1; multi = false; set = multi_ext_set; tree = multi_ext_tree; near_trees = [] }

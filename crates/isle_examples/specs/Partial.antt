@@ -68,7 +68,7 @@ abbrev pub partial_tree : Tree
 partial_tree = step [] (match_at 0 (one_arm (is_byte 1) [] (returning (2 ∷ 3 ∷ 4 ∷ []) 3 4 no_step))) (returning (6 ∷ []) 4 6 no_step)
 
 abbrev pub partial_sample : Sample
-partial_sample = record { defs = partial_defs; rules = partial_rules; term = 1; multi = false; set = partial_set; tree = partial_tree }
+partial_sample = record { defs = partial_defs; rules = partial_rules; term = 1; multi = false; set = partial_set; tree = partial_tree; near_trees = [] }
 
 -- the first impure call answers this
 abbrev pub partial_meaning : Content → Meaning

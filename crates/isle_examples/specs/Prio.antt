@@ -53,9 +53,6 @@ prio_tree =
     step [] (match_at 1 (arm (is_byte 2) [] (returning [] 2 3 no_step) (one_arm (is_byte 5) [] (step [] (match_at 0 (one_arm (is_byte 1) [] (returning [] 1 2 no_step))) no_step))))
     (step [] (match_at 0 (one_arm (is_byte 1) [] (returning [] 3 4 no_step))) no_step)
 
-abbrev pub prio_sample : Sample
-prio_sample = record { defs = prio_defs; rules = prio_rules; term = 0; multi = false; set = prio_set; tree = prio_tree }
-
 -- trees that are no best ones: the test of the first argument goes first, though it covers one rule and the other one two
 abbrev pub prio_exchanged : Tree
 prio_exchanged =
@@ -98,3 +95,6 @@ prio_alone =
 
 abbrev pub prio_near_trees : List Tree
 prio_near_trees = prio_exchanged ∷ prio_leaves_out ∷ prio_takes_in ∷ prio_arms_exchanged ∷ prio_other_arm ∷ prio_alone ∷ []
+
+abbrev pub prio_sample : Sample
+prio_sample = record { defs = prio_defs; rules = prio_rules; term = 0; multi = false; set = prio_set; tree = prio_tree; near_trees = prio_near_trees }

@@ -46,4 +46,4 @@ abbrev pub shared_tree : Tree
 shared_tree = returning (1 ∷ []) 3 1 (returning (2 ∷ []) 4 2 no_step)
 
 abbrev pub shared_sample : Sample
-shared_sample = record { defs = shared_defs; rules = shared_rules; term = 1; multi = true; set = shared_set; tree = shared_tree }
+shared_sample = record { defs = shared_defs; rules = shared_rules; term = 1; multi = true; set = shared_set; tree = shared_tree; near_trees = [] }

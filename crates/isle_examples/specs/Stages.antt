@@ -111,7 +111,7 @@ abbrev pub PassesNoLimit : Program → TypedRule → Type 0
 PassesNoLimit p r = first_limit p [] r ≡ None
 
 -- a sample whose rules are accepted: its list, what that becomes, and the set and the tree of one of its terms, which is
--- multi or isn't
+-- multi or isn't; and trees near that one
 pub record Sample : Type 0 where
   pub defs : List Definition
   pub rules : TypedRules
@@ -119,9 +119,11 @@ pub record Sample : Type 0 where
   pub multi : Bool
   pub set : SiteSet
   pub tree : Tree
+  pub near_trees : List Tree
 
--- each stage comes from the one before
+-- each stage comes from the one before, and the near trees are refused
 pub record HasStages (s : Sample) : Type 0 where
   pub accepted : IsAcceptedBoth s.defs s.rules
   pub built : IsBuiltOf s.defs s.rules s.term s.set
   pub judged : IsJudged s.set s.multi s.tree
+  pub refused : AreRefused s.set s.near_trees

@@ -40,9 +40,9 @@ surplus_set = record {
 abbrev pub surplus_tree : Tree
 surplus_tree = returning [] 2 2 (returning (3 ∷ []) 3 3 no_step)
 
-abbrev pub surplus_sample : Sample
-surplus_sample = record { defs = surplus_defs; rules = surplus_rules; term = 0; multi = false; set = surplus_set; tree = surplus_tree }
-
 -- a tree that is no best one: the second return, which never runs, has no bind order
 abbrev pub surplus_near_trees : List Tree
 surplus_near_trees = returning [] 2 2 (returning [] 3 3 no_step) ∷ []
+
+abbrev pub surplus_sample : Sample
+surplus_sample = record { defs = surplus_defs; rules = surplus_rules; term = 0; multi = false; set = surplus_set; tree = surplus_tree; near_trees = surplus_near_trees }

@@ -45,9 +45,6 @@ ties_tree =
     (step [] (equal_at 2 3 (returning [] 1 5 no_step))
     (step [] (equal_at 2 4 (returning [] 2 6 no_step)) no_step))
 
-abbrev pub ties_sample : Sample
-ties_sample = record { defs = ties_defs; rules = ties_rules; term = 0; multi = true; set = ties_set; tree = ties_tree }
-
 -- a tree that is no best one: that of greater sites is made first
 abbrev pub ties_exchanged : Tree
 ties_exchanged =
@@ -57,3 +54,6 @@ ties_exchanged =
 
 abbrev pub ties_near_trees : List Tree
 ties_near_trees = ties_exchanged ∷ []
+
+abbrev pub ties_sample : Sample
+ties_sample = record { defs = ties_defs; rules = ties_rules; term = 0; multi = true; set = ties_set; tree = ties_tree; near_trees = ties_near_trees }

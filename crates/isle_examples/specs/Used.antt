@@ -43,7 +43,7 @@ abbrev pub used_tree : Tree
 used_tree = used_with (1 ∷ []) []
 
 abbrev pub used_sample : Sample
-used_sample = record { defs = used_defs; rules = used_rules; term = 1; multi = false; set = used_set; tree = used_tree }
+used_sample = record { defs = used_defs; rules = used_rules; term = 1; multi = false; set = used_set; tree = used_tree; near_trees = [] }
 
 -- the call isn't bound; its answer is bound before it; the arm's field is bound again; the call is bound twice in one scope
 abbrev pub NearTreesDoNotBind : Type 0

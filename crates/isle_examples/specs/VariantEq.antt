@@ -77,9 +77,9 @@ variant_eq_equality = step [] (equal_at 1 3 (returning [] 2 0 no_step)) no_step
 abbrev pub variant_eq_tree : Tree
 variant_eq_tree = variant_eq_matches (Some 1) variant_eq_equality
 
-abbrev pub variant_eq_sample : Sample
-variant_eq_sample = record { defs = variant_eq_defs; rules = variant_eq_rules; term = 0; multi = false; set = variant_eq_set; tree = variant_eq_tree }
-
 -- trees that are no best ones: an arm brings the other match's field, or no field; the equality is not tested
 abbrev pub variant_eq_near_trees : List Tree
 variant_eq_near_trees = variant_eq_matches (Some 3) variant_eq_equality ∷ variant_eq_matches None variant_eq_equality ∷ variant_eq_matches (Some 1) (returning [] 2 0 no_step) ∷ []
+
+abbrev pub variant_eq_sample : Sample
+variant_eq_sample = record { defs = variant_eq_defs; rules = variant_eq_rules; term = 0; multi = false; set = variant_eq_set; tree = variant_eq_tree; near_trees = variant_eq_near_trees }

@@ -32,4 +32,4 @@ abbrev pub wrap_tree : Tree
 wrap_tree = step [] (match_at 0 (arm (is_int (negsuc 0) u8) [] (returning [] 2 2 no_step) (one_arm (is_byte 255) [] (returning [] 1 1 no_step)))) no_step
 
 abbrev pub wrap_sample : Sample
-wrap_sample = record { defs = wrap_defs; rules = wrap_rules; term = 0; multi = false; set = wrap_set; tree = wrap_tree }
+wrap_sample = record { defs = wrap_defs; rules = wrap_rules; term = 0; multi = false; set = wrap_set; tree = wrap_tree; near_trees = [] }

@@ -9,22 +9,22 @@ ghost use Rattle.isle_model.specs.rules.Meaning.{nothing};
 ghost use Rattle.isle_model.specs.rules.Outcome.{ended, failed, no_rule};
 ghost use Rattle.isle_model.specs.trees.Collects.{LeavesNoCallUnused};
 ghost use Rattle.isle_examples.specs.Below.{below_program, below_same, below_sample};
-ghost use Rattle.isle_examples.specs.Between.{between_near_trees, between_sample, between_set};
+ghost use Rattle.isle_examples.specs.Between.{between_sample};
 ghost use Rattle.isle_examples.specs.Conflict.{ConflictReported, conflict_defs, conflict_program, conflict_rule, conflict_rules};
 ghost use Rattle.isle_examples.specs.ConstEq.{ConstEqClosed, ConstEqDemands, const_eq_program, const_eq_rule, const_eq_sample};
 ghost use Rattle.isle_examples.specs.Cycle.{CycleTables, CyclesReported, cycle_rules, one_step_defs, one_step_program, one_step_rule, two_step_defs, two_step_program, two_step_rule};
-ghost use Rattle.isle_examples.specs.Effects.{EffectsDemands, EffectsEnds, EffectsTables, effects_near_trees, effects_sample, effects_set, im_of_one, pair_of};
-ghost use Rattle.isle_examples.specs.EmittedFirst.{emitted_first_near_trees, emitted_first_sample, emitted_first_set};
-ghost use Rattle.isle_examples.specs.Equal.{equal_near_trees, equal_program, equal_same, equal_sample, equal_set};
+ghost use Rattle.isle_examples.specs.Effects.{EffectsDemands, EffectsEnds, EffectsTables, effects_sample, im_of_one, pair_of};
+ghost use Rattle.isle_examples.specs.EmittedFirst.{emitted_first_sample};
+ghost use Rattle.isle_examples.specs.Equal.{equal_program, equal_same, equal_sample};
 ghost use Rattle.isle_examples.specs.Expansions.{ConversionsNest, DoubledTables, EndlessBecomes, EndlessHasNone, EndlessTables, ExpansionsDouble, LimitIsMet, ManyMayNest, NestedUsesDouble, TemplateVariablesAreTheRules};
-ghost use Rattle.isle_examples.specs.Extract.{ExtractDemands, ExtractEnds, ExtractIsServed, ExtractMeaningServes, ExtractTables, NearSetsAreNotBuilt, extract_any, extract_mute, extract_near_trees, extract_one, extract_program, extract_sample, extract_set};
-ghost use Rattle.isle_examples.specs.Fall.{FallDemands, FallRuns, fall_any, fall_near_trees, fall_one, fall_program, fall_sample, fall_set};
+ghost use Rattle.isle_examples.specs.Extract.{ExtractDemands, ExtractEnds, ExtractIsServed, ExtractMeaningServes, ExtractTables, NearSetsAreNotBuilt, extract_any, extract_mute, extract_one, extract_program, extract_sample};
+ghost use Rattle.isle_examples.specs.Fall.{FallDemands, FallRuns, fall_any, fall_one, fall_program, fall_sample};
 ghost use Rattle.isle_examples.specs.FormedRules.{ArgumentsAreLimited, FormedRulesMayTestImpureCalls, OthersAreNotFormed, ResultsMayUnwrap};
 ghost use Rattle.isle_examples.specs.HandedIn.{IllFormed, NamesGoOn, OwnTypesDoNotCount, TypesHandedIn};
 ghost use Rattle.isle_examples.specs.Impure.{ImpureIsCalled, impure_sample};
 ghost use Rattle.isle_examples.specs.LeftOver.{LeftOverCollects, LeftOverIsCollected, left_over_defs, left_over_rules, left_over_set, left_over_tree};
 ghost use Rattle.isle_examples.specs.MeaningForms.{DoesNotServe, answers, blank, ends_with, just_number};
-ghost use Rattle.isle_examples.specs.Multi.{LoopsMayBindAgain, MultiCollects, MultiDemands, MultiGives, MultiIsCollected, MultiIsNot, MultiIsServed, MultiSetCollects, multi_defs, multi_mute, multi_near_trees, multi_program, multi_sample, multi_set, multi_terms};
+ghost use Rattle.isle_examples.specs.Multi.{LoopsMayBindAgain, MultiCollects, MultiDemands, MultiGives, MultiIsCollected, MultiIsNot, MultiIsServed, MultiSetCollects, multi_defs, multi_mute, multi_program, multi_sample, multi_terms};
 ghost use Rattle.isle_examples.specs.MultiCalls.{DemandsGatesThough, Gives, LeavesACallUnused, UnusedGateGives, call_in_call, calls_program, extracted_twice, impure_twice, pure_twice, unused_condition, unused_let, used_condition};
 ghost use Rattle.isle_examples.specs.MultiExt.{MultiExtractorsStand, multi_ext_sample};
 ghost use Rattle.isle_examples.specs.NamedConstants.{constants_defs, constants_rules};
@@ -33,19 +33,19 @@ ghost use Rattle.isle_examples.specs.NoRules.{BoundTwiceHasNone, ConverterHasNon
 ghost use Rattle.isle_examples.specs.Overlap.{OverlapReported, OverlapsFound, TwoReports, overlap_defs, overlap_rules, three_defs, three_rules};
 ghost use Rattle.isle_examples.specs.Partial.{PartialDemands, PartialEnds, PartialIsServed, g_of_one, partial_defs, partial_mute, partial_program, partial_sample, partial_terms};
 ghost use Rattle.isle_examples.specs.PickedAnswers.{HoldUnderNoPick, HoldUnderOnePick};
-ghost use Rattle.isle_examples.specs.Prio.{prio_near_trees, prio_sample, prio_set};
+ghost use Rattle.isle_examples.specs.Prio.{prio_sample};
 ghost use Rattle.isle_examples.specs.Refused.{RefusedAreNotRead, SamplesAreRefused};
 ghost use Rattle.isle_examples.specs.Scopes.{let_in_let_defs, let_in_let_rules, shadowing_defs, shadowing_rules};
 ghost use Rattle.isle_examples.specs.Shadow.{ShadowReported, ShadowsFound, shadow_defs, shadow_rules};
 ghost use Rattle.isle_examples.specs.Shared.{shared_sample};
-ghost use Rattle.isle_examples.specs.Stages.{AreRefused, CanMatch, CantMatch, ClosingEndsOf, HasStages, HasTermTable, HasTerms, IsAcceptedBoth, IsBuiltOf, IsJudged, IsNotAccepted, NoneOf, PassesNoLimit, verdicts};
-ghost use Rattle.isle_examples.specs.Surplus.{surplus_near_trees, surplus_sample, surplus_set};
+ghost use Rattle.isle_examples.specs.Stages.{CanMatch, CantMatch, ClosingEndsOf, HasStages, HasTermTable, HasTerms, IsAcceptedBoth, IsBuiltOf, IsJudged, IsNotAccepted, NoneOf, PassesNoLimit, verdicts};
+ghost use Rattle.isle_examples.specs.Surplus.{surplus_sample};
 ghost use Rattle.isle_examples.specs.TermLists.{Alone, Chained, Early, Infallible, OneFullName, Structs, Templates, refused_terms};
-ghost use Rattle.isle_examples.specs.Ties.{ties_near_trees, ties_sample, ties_set};
+ghost use Rattle.isle_examples.specs.Ties.{ties_sample};
 ghost use Rattle.isle_examples.specs.TypeLists.{ConstantTypes, ThreeTypes, TwoTypes, refused_types};
 ghost use Rattle.isle_examples.specs.Unused.{UnusedIsLowered, UnusedIsNotDemanded, unused_defs, unused_rules, unused_set};
 ghost use Rattle.isle_examples.specs.Used.{NearTreesDoNotBind, used_sample};
-ghost use Rattle.isle_examples.specs.VariantEq.{VariantEqClosed, VariantEqDemands, VariantEqTables, variant_eq_near_trees, variant_eq_program, variant_eq_rule, variant_eq_sample, variant_eq_set};
+ghost use Rattle.isle_examples.specs.VariantEq.{VariantEqClosed, VariantEqDemands, VariantEqTables, variant_eq_program, variant_eq_rule, variant_eq_sample};
 ghost use Rattle.isle_examples.specs.Wrap.{wrap_sample};
 
 /// Lists of types: a primitive type and an extern enum; structs, one of them a tuple, whose types are named before they
@@ -97,10 +97,9 @@ pub fn const_eq_sample()
 {}
 
 /// A rule for a literal, and a lower one: the tree answers 10 at 1, and 2 at 2.
-#[tactic(auto, using(crate::proofs::SampleStages::fall_stages, crate::proofs::NearTrees::fall_refused, crate::proofs::Matchable::fall_one_matches, crate::proofs::Matchable::fall_any_matches))]
+#[tactic(auto, using(crate::proofs::SampleStages::fall_stages, crate::proofs::Matchable::fall_one_matches, crate::proofs::Matchable::fall_any_matches))]
 pub fn fall_sample()
     ensures stages { HasStages fall_sample }
-    ensures near_trees { AreRefused fall_set fall_near_trees }
     ensures demands { FallDemands }
     ensures ends { ClosingEndsOf fall_program fall_one }
     ensures one_matches { CanMatch fall_program fall_one }
@@ -109,10 +108,9 @@ pub fn fall_sample()
 {}
 
 /// Three priorities: the test that covers two rules goes first.
-#[tactic(auto, using(crate::proofs::SampleStages::prio_stages, crate::proofs::NearTrees::prio_refused))]
+#[tactic(auto, using(crate::proofs::SampleStages::prio_stages))]
 pub fn prio_sample()
     ensures stages { HasStages prio_sample }
-    ensures near_trees { AreRefused prio_set prio_near_trees }
 {}
 
 /// Rules that overlap wrongly, as those of `fall` don't: the one that is later by position is reported first.
@@ -140,10 +138,9 @@ pub fn shadow_sample()
 {}
 
 /// A lower rule whose arguments must be equal, below one that always matches.
-#[tactic(auto, using(crate::proofs::SampleStages::equal_stages, crate::proofs::NearTrees::equal_refused))]
+#[tactic(auto, using(crate::proofs::SampleStages::equal_stages))]
 pub fn equal_sample()
     ensures stages { HasStages equal_sample }
-    ensures near_trees { AreRefused equal_set equal_near_trees }
     ensures ends { ClosingEndsOf equal_program equal_same }
 {}
 
@@ -155,10 +152,9 @@ pub fn below_sample()
 {}
 
 /// A variant under a name that stands again: it stands at both arguments, and the closure makes the second field.
-#[tactic(auto, using(crate::proofs::SampleStages::variant_eq_stages, crate::proofs::NearTrees::variant_eq_refused, crate::proofs::Matchable::variant_eq_matches))]
+#[tactic(auto, using(crate::proofs::SampleStages::variant_eq_stages, crate::proofs::Matchable::variant_eq_matches))]
 pub fn variant_eq_sample()
     ensures stages { HasStages variant_eq_sample }
-    ensures near_trees { AreRefused variant_eq_set variant_eq_near_trees }
     ensures tables { VariantEqTables }
     ensures demands { VariantEqDemands }
     ensures closed { VariantEqClosed }
@@ -200,10 +196,9 @@ pub fn nested_sample()
 {}
 
 /// An external extractor: a call that is asked to answer, and its answer to be a literal.
-#[tactic(auto, using(crate::proofs::SampleStages::extract_stages, crate::proofs::NearTrees::extract_refused, crate::proofs::Matchable::extract_one_matches, crate::proofs::Matchable::extract_any_matches, crate::proofs::Extract::near_sets_are_not_built))]
+#[tactic(auto, using(crate::proofs::SampleStages::extract_stages, crate::proofs::Matchable::extract_one_matches, crate::proofs::Matchable::extract_any_matches, crate::proofs::Extract::near_sets_are_not_built))]
 pub fn extract_sample()
     ensures stages { HasStages extract_sample }
-    ensures near_trees { AreRefused extract_set extract_near_trees }
     ensures tables { ExtractTables }
     ensures demands { ExtractDemands }
     ensures one_matches { CanMatch extract_program extract_one }
@@ -255,10 +250,9 @@ pub fn partial_is_served()
 {}
 
 /// A pure call that may answer nothing, beside an impure one, inside a variant.
-#[tactic(auto, using(crate::proofs::SampleStages::effects_stages, crate::proofs::NearTrees::effects_refused))]
+#[tactic(auto, using(crate::proofs::SampleStages::effects_stages))]
 pub fn effects_sample()
     ensures stages { HasStages effects_sample }
-    ensures near_trees { AreRefused effects_set effects_near_trees }
     ensures tables { EffectsTables }
     ensures demands { EffectsDemands }
 {}
@@ -271,10 +265,9 @@ pub fn effects_end()
 {}
 
 /// A multi call is gone over.
-#[tactic(auto, using(crate::proofs::SampleStages::multi_stages, crate::proofs::NearTrees::multi_refused, crate::proofs::Multi::loops_may_bind_again))]
+#[tactic(auto, using(crate::proofs::SampleStages::multi_stages, crate::proofs::Multi::loops_may_bind_again))]
 pub fn multi_sample()
     ensures stages { HasStages multi_sample }
-    ensures near_trees { AreRefused multi_set multi_near_trees }
     ensures tables { HasTermTable multi_defs multi_terms }
     ensures demands { MultiDemands }
     ensures binds_again { LoopsMayBindAgain }
@@ -307,17 +300,15 @@ pub fn multi_is_served()
 {}
 
 /// A rule below one that always matches, whose demands nothing tests and whose field nothing brings.
-#[tactic(auto, using(crate::proofs::SampleStages::surplus_stages, crate::proofs::NearTrees::surplus_refused))]
+#[tactic(auto, using(crate::proofs::SampleStages::surplus_stages))]
 pub fn surplus_sample()
     ensures stages { HasStages surplus_sample }
-    ensures near_trees { AreRefused surplus_set surplus_near_trees }
 {}
 
 /// Of tests of one score, that of smaller sites is made first.
-#[tactic(auto, using(crate::proofs::SampleStages::ties_stages, crate::proofs::NearTrees::ties_refused))]
+#[tactic(auto, using(crate::proofs::SampleStages::ties_stages))]
 pub fn ties_sample()
     ensures stages { HasStages ties_sample }
-    ensures near_trees { AreRefused ties_set ties_near_trees }
 {}
 
 /// A literal below zero comes before those above.
@@ -347,17 +338,15 @@ pub fn shared_sample()
 {}
 
 /// Of two pairs that must be equal, the one whose sites are emitted goes first.
-#[tactic(auto, using(crate::proofs::SampleStages::emitted_first_stages, crate::proofs::NearTrees::emitted_first_refused))]
+#[tactic(auto, using(crate::proofs::SampleStages::emitted_first_stages))]
 pub fn emitted_first_sample()
     ensures stages { HasStages emitted_first_sample }
-    ensures near_trees { AreRefused emitted_first_set emitted_first_near_trees }
 {}
 
 /// A rule that needs the test of a higher one is kept from its step by a rule between them.
-#[tactic(auto, using(crate::proofs::SampleStages::between_stages, crate::proofs::NearTrees::between_refused))]
+#[tactic(auto, using(crate::proofs::SampleStages::between_stages))]
 pub fn between_sample()
     ensures stages { HasStages between_sample }
-    ensures near_trees { AreRefused between_set between_near_trees }
 {}
 
 /// A multi call whose answer nothing uses: a set is built that doesn't demand what stands below the call, and the list
