@@ -12,16 +12,14 @@ use Rattle.isle_model.specs.trees.Places.{fields_of, joins_in, waits}
 use Rattle.isle_model.specs.trees.Run.{content_fields, where_constant}
 use Rattle.isle_model.specs.trees.SetRuns.{IsPureAt, IsTestedSet, ServesTests}
 use Rattle.isle_laws_runs.proofs.runs.Fields.{present_met}
-use Rattle.isle_examples.proofs.AcceptedLists.{extract_accepted}
-use Rattle.isle_examples.proofs.BuiltSets.{extract_built}
+use Rattle.isle_examples.proofs.SampleStages.{extract_stages}
 use Rattle.isle_examples.proofs.SetStages.{tested}
 use Rattle.isle_examples.specs.Extract.{ExtractIsServed, NearSetsAreNotBuilt, answer_itself, extract_defs, extract_meaning, extract_program, extract_rules, extract_set, extract_world, less_asked, ten_for_answer_one}
-use Rattle.isle_examples.specs.MeaningForms.{v}
 use Rattle.isle_examples.specs.SetForms.{is_byte}
 
 -- 1. the set goes over no calls, and its rules demand the gates below what they test
 set_tested : IsTestedSet extract_set
-set_tested = tested extract_defs extract_rules 1 extract_set extract_accepted extract_built refl refl
+set_tested = tested extract_defs extract_rules 1 extract_set extract_stages.accepted extract_stages.built refl refl
 
 -- 2. the world
 abbrev Asked : ℕ → Constraint → Type 0

@@ -14,8 +14,6 @@ use Rattle.isle_model.specs.trees.Run.{Bound, Env, World, all_bound, as_value, a
 use Rattle.isle_model.specs.trees.SetRuns.{IsPureAt, IsTaken}
 use Rattle.isle_model.specs.trees.Trees.{no_step, return_at, step}
 use Rattle.isle_examples.specs.Impure.{ImpureIsCalled, after_call, call_on_argument, im_called, impure_set, the_call}
-use Rattle.isle_examples.specs.MeaningForms.{v}
-use Rattle.isle_examples.specs.Written.{call}
 
 -- what is bound, where the call and the argument are emitted or not
 abbrev order : Bool → Bool → List ℕ

@@ -1,5 +1,5 @@
 -- The set with a left-over site: a world where its call answers nothing serves it, and the run of its tree collects its bag.
-use Rattle.std.proofs.Common.{◌≡◌, ◌∷◌, [], ◌<◌, ℕ, pos, zero, suc, List, slice_get, Contains, IsTrue, refl, sym, ap, subst, arith, is_some}
+use Rattle.std.proofs.Common.{◌≡◌, ◌∷◌, [], ◌<◌, ℕ, pos, zero, suc, true, List, slice_get, Contains, IsTrue, refl, sym, ap, subst, arith, is_some}
 use Rattle.std.proofs.lemmas.Bool.{false≢true}
 use Rattle.std.proofs.lemmas.List.Sorted.{IsPermutation-refl}
 use Rattle.isle_model.proofs.Members.{in_alone, nothing_in}
@@ -7,9 +7,17 @@ use Rattle.isle_model.specs.rules.Picks.{Pick}
 use Rattle.isle_model.specs.sites.Sites.{SetRule}
 use Rattle.isle_model.specs.trees.Collects.{ServesSet, calls_nothing, content_at}
 use Rattle.isle_model.specs.trees.Places.{joins_in}
-use Rattle.isle_examples.proofs.SetStages.{collected}
-use Rattle.isle_examples.specs.LeftOver.{LeftOverCollects, LeftOverIsCollected, kept_rule, left_over_set, left_over_world}
+use Rattle.isle_examples.proofs.SetStages.{built_multi, collected}
+use Rattle.isle_examples.proofs.TreeStages.{judged_multi}
+use Rattle.isle_examples.specs.LeftOver.{LeftOverCollects, LeftOverIsCollected, kept_rule, left_over_defs, left_over_rules, left_over_set, left_over_tree, left_over_world}
 use Rattle.isle_examples.specs.MeaningForms.{each}
+use Rattle.isle_examples.specs.Stages.{IsBuiltOf, IsJudged}
+
+pub left_over_built : IsBuiltOf left_over_defs left_over_rules 1 left_over_set
+left_over_built = built_multi left_over_defs left_over_rules 1 left_over_set refl refl refl refl refl refl refl refl
+
+pub left_over_judged : IsJudged left_over_set true left_over_tree
+left_over_judged = judged_multi left_over_set left_over_tree refl refl refl refl refl
 
 found : (k : Pick) (s : ℕ) → s < 3 → IsTrue (calls_nothing (slice_get left_over_set.sites s)) → IsTrue (is_some (content_at left_over_world k s))
 found k zero l n = refl

@@ -1,10 +1,8 @@
 pub mod AcceptedLists
-pub mod BuiltSets
 pub mod Expansions
 pub mod Extract
 pub mod HandedIn
 pub mod Impure
-pub mod JudgedTrees
 pub mod LeftOver
 pub mod ListStages
 pub mod Marked
@@ -14,6 +12,7 @@ pub mod MultiCalls
 pub mod NoRules
 pub mod PickedAnswers
 pub mod Refused
+pub mod SampleStages
 pub mod Served
 pub mod SetStages
 pub mod TermLists

@@ -13,8 +13,8 @@ use Rattle.isle_model.specs.sites.Sites.{Constraint, SetRule, is_int}
 use Rattle.isle_model.specs.trees.Collects.{HasCollectedResults, IsCollectedSet, ServesSet, content_at}
 use Rattle.isle_model.specs.trees.Places.{fields_of, joins_in, waits}
 use Rattle.isle_model.specs.trees.Run.{content_fields}
-use Rattle.isle_laws_runs.proofs.runs.Collected.{sound_trees_collect_lem}
-use Rattle.isle_examples.proofs.JudgedTrees.{multi_judged}
+use Rattle.isle_laws_runs.proofs.collecting.Collected.{sound_trees_collect_lem}
+use Rattle.isle_examples.proofs.SampleStages.{multi_stages}
 use Rattle.isle_examples.proofs.SetStages.{collected}
 use Rattle.isle_examples.specs.MeaningForms.{each, v}
 use Rattle.isle_examples.specs.Multi.{LoopsMayBindAgain, MultiCollects, MultiIsCollected, MultiIsNot, MultiSetCollects, each_m, each_of_m, multi_meaning, multi_program, multi_rules, multi_set, multi_tree, multi_world, nine, nine_for_one}
@@ -76,7 +76,7 @@ pub multi_is_collected : MultiIsCollected
 multi_is_collected = (rules_collected, set_collected, set_served)
 
 pub multi_set_collects : MultiSetCollects
-multi_set_collects = sound_trees_collect_lem multi_set multi_tree (multi_world (pos 1)) multi_is_collected.1 multi_is_collected.2 refl multi_judged.sound
+multi_set_collects = sound_trees_collect_lem multi_set multi_tree (multi_world (pos 1)) multi_is_collected.1 multi_is_collected.2 refl multi_stages.judged.sound
 
 -- 3. what the run collects
 -- 9 stands last in the bag, and first in the run

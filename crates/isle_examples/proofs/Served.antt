@@ -4,7 +4,6 @@ use Rattle.std.specs.List.{list_all}
 use Rattle.std.proofs.lemmas.Bool.{false≢true}
 use Rattle.std.proofs.lemmas.Option.{none-some, same_Some}
 use Rattle.isle_model.proofs.Members.{each_passes, in_alone}
-use Rattle.isle_model.specs.rules.Matching.{holds}
 use Rattle.isle_model.specs.rules.Meaning.{Content, Meaning, extractor_answer, impure_answer, int_literal, literal_value, look, nothing, one, pure_answer}
 use Rattle.isle_model.specs.rules.Program.{Program, kind}
 use Rattle.isle_model.specs.rules.Typed.{TypedRule}
@@ -16,7 +15,6 @@ use Rattle.isle_examples.specs.Extract.{ExtractMeaningServes, extract_meaning, e
 use Rattle.isle_examples.specs.MeaningForms.{DoesNotServe, alone, blank, given, just_number, v}
 use Rattle.isle_examples.specs.Multi.{MultiIsServed, multi_meaning, multi_mute, multi_program, multi_rules}
 use Rattle.isle_examples.specs.Partial.{PartialIsServed, partial_call, partial_meaning, partial_mute, partial_program, partial_rules}
-use Rattle.isle_examples.specs.Written.{name}
 
 -- 1. literals with well-typed values, and calls that a test passes
 abbrev some_and : Option Value → (Value → Bool) → Bool

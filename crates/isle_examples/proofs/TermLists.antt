@@ -1,7 +1,5 @@
 -- The lists of terms: which are valid, and which are not, as the judge of terms says.
-use Rattle.std.proofs.Common.{◌≡◌, ◌∷◌, [], true, false, List, refl, not}
-use Rattle.std.specs.List.{list_all}
-use Rattle.std.proofs.lemmas.Bool.{and_parts}
+use Rattle.std.proofs.Common.{◌≡◌, true, false, List, refl}
 use Rattle.std.proofs.lemmas.Bool.Decides.{not_from_Decides}
 use Rattle.isle_model.specs.lists.KnownTypes.{types_of}
 use Rattle.isle_model.specs.lists.ListJudge.{all_defined, has_valid_terms}
@@ -9,9 +7,9 @@ use Rattle.isle_model.specs.lists.Syntax.{Definition}
 use Rattle.isle_model.specs.lists.TermTable.{AllDefined}
 use Rattle.isle_laws_lists.proofs.JudgedTerms.{defined_are_judged_lem, no_terms, terms_are_judged_lem}
 use Rattle.isle_laws_lists.proofs.JudgedTypes.{types_are_judged_lem}
-use Rattle.isle_laws_trees.proofs.Exact.{not_exact}
-use Rattle.isle_examples.specs.Stages.{HasTerms}
-use Rattle.isle_examples.specs.TermLists.{Alone, Chained, Early, HaveNoTerms, Infallible, OneFullName, Structs, chained, early, infallible, made_by_nothing, one_full_name, refused_terms}
+use Rattle.isle_examples.specs.Stages.{HasTerms, NoneOf}
+use Rattle.isle_examples.proofs.ListStages.{none_of}
+use Rattle.isle_examples.specs.TermLists.{Alone, Chained, Early, Infallible, OneFullName, Structs, chained, early, infallible, made_by_nothing, one_full_name, refused_terms}
 use Rattle.isle_examples.specs.TypeLists.{three_types}
 
 -- by the list's own types
@@ -42,11 +40,5 @@ structs_read = (refl, valid three_types refl)
 pub alone_read : Alone
 alone_read = (valid made_by_nothing refl, not_from_Decides (all_defined made_by_nothing) (defined_are_judged_lem made_by_nothing) refl)
 
-none_valid : (lists : List (List Definition)) → list_all (λ defs. not (has_valid_terms (types_of defs) defs)) lists ≡ true → HaveNoTerms lists
-none_valid [] h = tt
-none_valid (defs ∷ rest) h =
-    let q = and_parts (not (has_valid_terms (types_of defs) defs)) (list_all (λ d. not (has_valid_terms (types_of d) d)) rest) h in
-    (without_terms defs ((not_exact (has_valid_terms (types_of defs) defs)).0 q.0), none_valid rest q.1)
-
-pub terms_refused : HaveNoTerms refused_terms
-terms_refused = none_valid refused_terms refl
+pub terms_refused : NoneOf HasTerms refused_terms
+terms_refused = none_of HasTerms (λ defs. has_valid_terms (types_of defs) defs) without_terms refused_terms refl

@@ -10,8 +10,12 @@ use Rattle.isle_model.specs.trees.Collects.{HasCollectedResults}
 use Rattle.isle_laws_trees.proofs.Marking.{tree_judge_is_exact_lem}
 use Rattle.isle_laws_trees.proofs.Shares.{best_trees_share_most_lem}
 use Rattle.isle_examples.proofs.AcceptedLists.{unused_accepted}
-use Rattle.isle_examples.proofs.BuiltSets.{unused_built}
-use Rattle.isle_examples.specs.Unused.{UnusedIsLowered, unused_program, unused_rule, unused_set, unused_term, unused_tree}
+use Rattle.isle_examples.proofs.SetStages.{built_multi}
+use Rattle.isle_examples.specs.Stages.{IsBuiltOf}
+use Rattle.isle_examples.specs.Unused.{UnusedIsLowered, unused_defs, unused_program, unused_rule, unused_rules, unused_set, unused_term, unused_tree}
+
+pub unused_built : IsBuiltOf unused_defs unused_rules 2 unused_set
+unused_built = built_multi unused_defs unused_rules 2 unused_set refl refl refl refl refl refl refl refl
 
 unused_best : IsBestTree unused_set unused_tree
 unused_best = (tree_judge_is_exact_lem unused_set unused_tree refl).0 refl

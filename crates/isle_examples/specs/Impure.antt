@@ -14,8 +14,8 @@ use Rattle.isle_model.specs.sites.Sites.{SetRule, SiteSet, argument_site, constr
 use Rattle.isle_model.specs.trees.Run.{World}
 use Rattle.isle_model.specs.trees.SetRuns.{IsTaken}
 use Rattle.isle_model.specs.trees.Trees.{Tree, no_step}
-use Rattle.isle_examples.specs.MeaningForms.{v}
 use Rattle.isle_examples.specs.SetForms.{a_rule, returning}
+use Rattle.isle_examples.specs.Stages.{Sample}
 use Rattle.isle_examples.specs.TypedForms.{bind_any, e_list, rules_and_names, typed, typed_var, u8}
 use Rattle.isle_examples.specs.Written.{call, constructor_by, f_of_bytes, numbers, of_f, rule_to, var, variable}
 
@@ -37,6 +37,9 @@ impure_set = record { rules = call_on_argument ∷ []; sites = argument_site 0 �
 
 abbrev pub impure_tree : Tree
 impure_tree = returning (1 ∷ []) 3 1 no_step
+
+abbrev pub impure_sample : Sample
+impure_sample = record { defs = impure_defs; rules = impure_rules; term = 1; multi = false; set = impure_set; tree = impure_tree; near_trees = [] }
 
 abbrev pub im_called : Meaning → Value → World
 im_called m v = record { sites = impure_set.sites; args = v ∷ []; meaning = m; multi = false }

@@ -53,6 +53,11 @@ Becomes defs expand rules = elaborated_rules (own_setting defs expand) (rule_tre
 abbrev pub HasTerms : List Definition → Type 0
 HasTerms defs = IsValidTerms (types_of defs) defs
 
+-- none of these lists is such
+abbrev pub NoneOf : (List Definition → Type 0) → List (List Definition) → Type 0
+NoneOf P [] = Unit {0}
+NoneOf P (defs ∷ rest) = (P defs → ⊥) × NoneOf P rest
+
 -- the tables of a list are valid, and yet its rules become nothing
 abbrev pub HasNoTypedRules : List Definition → Type 0
 HasNoTypedRules defs = IsValidTypes defs × HasTerms defs × Becomes defs true None × Becomes defs false None
@@ -104,3 +109,21 @@ closed_demands p r = closed [] (demands_of p r)
 -- a rule passes no limit
 abbrev pub PassesNoLimit : Program → TypedRule → Type 0
 PassesNoLimit p r = first_limit p [] r ≡ None
+
+-- a sample whose rules are accepted: its list, what that becomes, and the set and the tree of one of its terms, which is
+-- multi or isn't; and trees near that one
+pub record Sample : Type 0 where
+  pub defs : List Definition
+  pub rules : TypedRules
+  pub term : ℕ
+  pub multi : Bool
+  pub set : SiteSet
+  pub tree : Tree
+  pub near_trees : List Tree
+
+-- each stage comes from the one before, and the near trees are refused
+pub record HasStages (s : Sample) : Type 0 where
+  pub accepted : IsAcceptedBoth s.defs s.rules
+  pub built : IsBuiltOf s.defs s.rules s.term s.set
+  pub judged : IsJudged s.set s.multi s.tree
+  pub refused : AreRefused s.set s.near_trees

@@ -228,12 +228,7 @@ abbrev pub converter_twice : List Definition
 converter_twice =
     declaration (numbers 0 (codes "c")) ∷ (conversion 1 (codes "u8") (codes "u16") (codes "c") ∷ (conversion 2 (codes "u8") (codes "u16") (codes "c") ∷ []))
 
--- none of these lists has a term table
-abbrev pub HaveNoTerms : List (List Definition) → Type 0
-HaveNoTerms [] = Unit {0}
-HaveNoTerms (defs ∷ rest) = (HasTerms defs → ⊥) × HaveNoTerms rest
-
--- each breaks one demand
+-- lists without one: each breaks one demand
 abbrev pub refused_terms : List (List Definition)
 refused_terms =
     term_twice ∷ variant_again ∷ struct_again ∷ unknown_argument_type ∷ unknown_result_type ∷ multi_and_partial ∷ no_root ∷ unknown_root ∷

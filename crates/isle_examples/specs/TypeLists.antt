@@ -111,12 +111,7 @@ unknown_before_known = constant 0 (codes "X") (codes "nope") ∷ (constant 1 (co
 abbrev pub unknown_after_known : List Definition
 unknown_after_known = constant 0 (codes "X") (codes "u8") ∷ (constant 1 (codes "X") (codes "nope") ∷ [])
 
--- none of these lists has a type table
-abbrev pub HaveNoTypes : List (List Definition) → Type 0
-HaveNoTypes [] = Unit {0}
-HaveNoTypes (defs ∷ rest) = (IsValidTypes defs → ⊥) × HaveNoTypes rest
-
--- each breaks one demand
+-- lists without one: each breaks one demand
 abbrev pub refused_types : List (List Definition)
 refused_types =
     type_twice ∷ builtin_again ∷ extern_primitive ∷ nodebug_primitive ∷ enum_with_both ∷ struct_with_both ∷ variant_twice ∷ field_twice ∷

@@ -51,15 +51,15 @@ number_term id d number kind = entry id d number (u8 ∷ []) u8 kind
 
 -- made by rules
 abbrev pub by_rules : Flags → TermKindEntry
-by_rules own = declared_term own (Some internal_constructor) None
+by_rules marks = declared_term marks (Some internal_constructor) None
 
 -- made by a function of this name
 abbrev pub by_constructor : Flags → ℕ → TermKindEntry
-by_constructor own function = declared_term own (Some (external_constructor function)) None
+by_constructor marks function = declared_term marks (Some (external_constructor function)) None
 
 -- taken apart by a function of this name, as definition d says
 abbrev pub by_extractor : Flags → ℕ → ℕ → TermKindEntry
-by_extractor own function d = declared_term own None (Some (external_extractor function false (at d)))
+by_extractor marks function d = declared_term marks None (Some (external_extractor function false (at d)))
 
 -- taken apart by a template
 abbrev pub by_pattern : PatternTree → TermKindEntry

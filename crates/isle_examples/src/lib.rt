@@ -3,49 +3,50 @@
 //! A function here has an empty body: its clauses say what the definitions make of a sample, stage by stage.
 #![tactic(auto)]
 
-ghost use Rattle.std.specs.Prelude.{[], false, pos, true, ◌∷◌, ◌≡◌};
+ghost use Rattle.std.specs.Prelude.{[], pos, true, ◌∷◌, ◌≡◌};
+ghost use Rattle.isle_model.specs.lists.TypeTable.{IsValidTypes};
 ghost use Rattle.isle_model.specs.rules.Meaning.{nothing};
 ghost use Rattle.isle_model.specs.rules.Outcome.{ended, failed, no_rule};
 ghost use Rattle.isle_model.specs.trees.Collects.{LeavesNoCallUnused};
-ghost use Rattle.isle_examples.specs.Below.{below_defs, below_program, below_rules, below_same, below_set, below_tree};
-ghost use Rattle.isle_examples.specs.Between.{between_defs, between_near_trees, between_rules, between_set, between_tree};
+ghost use Rattle.isle_examples.specs.Below.{below_program, below_same, below_sample};
+ghost use Rattle.isle_examples.specs.Between.{between_sample};
 ghost use Rattle.isle_examples.specs.Conflict.{ConflictReported, conflict_defs, conflict_program, conflict_rule, conflict_rules};
-ghost use Rattle.isle_examples.specs.ConstEq.{ConstEqClosed, ConstEqDemands, const_eq_defs, const_eq_program, const_eq_rule, const_eq_rules, const_eq_set, const_eq_tree};
+ghost use Rattle.isle_examples.specs.ConstEq.{ConstEqClosed, ConstEqDemands, const_eq_program, const_eq_rule, const_eq_sample};
 ghost use Rattle.isle_examples.specs.Cycle.{CycleTables, CyclesReported, cycle_rules, one_step_defs, one_step_program, one_step_rule, two_step_defs, two_step_program, two_step_rule};
-ghost use Rattle.isle_examples.specs.Effects.{EffectsDemands, EffectsEnds, EffectsTables, effects_defs, effects_near_trees, effects_rules, effects_set, effects_tree, im_of_one, pair_of};
-ghost use Rattle.isle_examples.specs.EmittedFirst.{emitted_first_defs, emitted_first_near_trees, emitted_first_rules, emitted_first_set, emitted_first_tree};
-ghost use Rattle.isle_examples.specs.Equal.{equal_defs, equal_near_trees, equal_program, equal_rules, equal_same, equal_set, equal_tree};
+ghost use Rattle.isle_examples.specs.Effects.{EffectsDemands, EffectsEnds, EffectsTables, effects_sample, im_of_one, pair_of};
+ghost use Rattle.isle_examples.specs.EmittedFirst.{emitted_first_sample};
+ghost use Rattle.isle_examples.specs.Equal.{equal_program, equal_same, equal_sample};
 ghost use Rattle.isle_examples.specs.Expansions.{ConversionsNest, DoubledTables, EndlessBecomes, EndlessHasNone, EndlessTables, ExpansionsDouble, LimitIsMet, ManyMayNest, NestedUsesDouble, TemplateVariablesAreTheRules};
-ghost use Rattle.isle_examples.specs.Extract.{ExtractDemands, ExtractEnds, ExtractIsServed, ExtractMeaningServes, ExtractTables, NearSetsAreNotBuilt, extract_any, extract_defs, extract_mute, extract_near_trees, extract_one, extract_program, extract_rules, extract_set, extract_tree};
-ghost use Rattle.isle_examples.specs.Fall.{FallDemands, FallRuns, fall_any, fall_defs, fall_near_trees, fall_one, fall_program, fall_rules, fall_set, fall_tree};
+ghost use Rattle.isle_examples.specs.Extract.{ExtractDemands, ExtractEnds, ExtractIsServed, ExtractMeaningServes, ExtractTables, NearSetsAreNotBuilt, extract_any, extract_mute, extract_one, extract_program, extract_sample};
+ghost use Rattle.isle_examples.specs.Fall.{FallDemands, FallRuns, fall_any, fall_one, fall_program, fall_sample};
 ghost use Rattle.isle_examples.specs.FormedRules.{ArgumentsAreLimited, FormedRulesMayTestImpureCalls, OthersAreNotFormed, ResultsMayUnwrap};
 ghost use Rattle.isle_examples.specs.HandedIn.{IllFormed, NamesGoOn, OwnTypesDoNotCount, TypesHandedIn};
-ghost use Rattle.isle_examples.specs.Impure.{ImpureIsCalled, impure_defs, impure_rules, impure_set, impure_tree};
+ghost use Rattle.isle_examples.specs.Impure.{ImpureIsCalled, impure_sample};
 ghost use Rattle.isle_examples.specs.LeftOver.{LeftOverCollects, LeftOverIsCollected, left_over_defs, left_over_rules, left_over_set, left_over_tree};
 ghost use Rattle.isle_examples.specs.MeaningForms.{DoesNotServe, answers, blank, ends_with, just_number};
-ghost use Rattle.isle_examples.specs.Multi.{LoopsMayBindAgain, MultiCollects, MultiDemands, MultiGives, MultiIsCollected, MultiIsNot, MultiIsServed, MultiSetCollects, multi_defs, multi_mute, multi_near_trees, multi_program, multi_rules, multi_set, multi_terms, multi_tree};
+ghost use Rattle.isle_examples.specs.Multi.{LoopsMayBindAgain, MultiCollects, MultiDemands, MultiGives, MultiIsCollected, MultiIsNot, MultiIsServed, MultiSetCollects, multi_defs, multi_mute, multi_program, multi_sample, multi_terms};
 ghost use Rattle.isle_examples.specs.MultiCalls.{DemandsGatesThough, Gives, LeavesACallUnused, UnusedGateGives, call_in_call, calls_program, extracted_twice, impure_twice, pure_twice, unused_condition, unused_let, used_condition};
-ghost use Rattle.isle_examples.specs.MultiExt.{MultiExtractorsStand, multi_ext_defs, multi_ext_rules, multi_ext_set, multi_ext_tree};
+ghost use Rattle.isle_examples.specs.MultiExt.{MultiExtractorsStand, multi_ext_sample};
 ghost use Rattle.isle_examples.specs.NamedConstants.{constants_defs, constants_rules};
 ghost use Rattle.isle_examples.specs.Nested.{NestedClosed, NestedTables, nested_defs, nested_program, nested_rule, nested_rules};
 ghost use Rattle.isle_examples.specs.NoRules.{BoundTwiceHasNone, ConverterHasNone, IfLetHasNone, LiteralHasNone, LiteralsAreNotConverted, MacroArgHasNone, MultiPriorityHasNone, PartialHasNone, converted_defs, converted_rules, iflet_defs, iflet_rules};
 ghost use Rattle.isle_examples.specs.Overlap.{OverlapReported, OverlapsFound, TwoReports, overlap_defs, overlap_rules, three_defs, three_rules};
-ghost use Rattle.isle_examples.specs.Partial.{PartialDemands, PartialEnds, PartialIsServed, g_of_one, partial_defs, partial_mute, partial_program, partial_rules, partial_set, partial_terms, partial_tree};
+ghost use Rattle.isle_examples.specs.Partial.{PartialDemands, PartialEnds, PartialIsServed, g_of_one, partial_defs, partial_mute, partial_program, partial_sample, partial_terms};
 ghost use Rattle.isle_examples.specs.PickedAnswers.{HoldUnderNoPick, HoldUnderOnePick};
-ghost use Rattle.isle_examples.specs.Prio.{prio_defs, prio_near_trees, prio_rules, prio_set, prio_tree};
+ghost use Rattle.isle_examples.specs.Prio.{prio_sample};
 ghost use Rattle.isle_examples.specs.Refused.{RefusedAreNotRead, SamplesAreRefused};
 ghost use Rattle.isle_examples.specs.Scopes.{let_in_let_defs, let_in_let_rules, shadowing_defs, shadowing_rules};
 ghost use Rattle.isle_examples.specs.Shadow.{ShadowReported, ShadowsFound, shadow_defs, shadow_rules};
-ghost use Rattle.isle_examples.specs.Shared.{shared_defs, shared_rules, shared_set, shared_tree};
-ghost use Rattle.isle_examples.specs.Stages.{AreRefused, CanMatch, CantMatch, ClosingEndsOf, HasTermTable, IsAcceptedBoth, IsBuiltOf, IsJudged, IsNotAccepted, PassesNoLimit, verdicts};
-ghost use Rattle.isle_examples.specs.Surplus.{surplus_defs, surplus_near_trees, surplus_rules, surplus_set, surplus_tree};
-ghost use Rattle.isle_examples.specs.TermLists.{Alone, Chained, Early, HaveNoTerms, Infallible, OneFullName, Structs, Templates, refused_terms};
-ghost use Rattle.isle_examples.specs.Ties.{ties_defs, ties_near_trees, ties_rules, ties_set, ties_tree};
-ghost use Rattle.isle_examples.specs.TypeLists.{ConstantTypes, HaveNoTypes, ThreeTypes, TwoTypes, refused_types};
+ghost use Rattle.isle_examples.specs.Shared.{shared_sample};
+ghost use Rattle.isle_examples.specs.Stages.{CanMatch, CantMatch, ClosingEndsOf, HasStages, HasTermTable, HasTerms, IsAcceptedBoth, IsBuiltOf, IsJudged, IsNotAccepted, NoneOf, PassesNoLimit, verdicts};
+ghost use Rattle.isle_examples.specs.Surplus.{surplus_sample};
+ghost use Rattle.isle_examples.specs.TermLists.{Alone, Chained, Early, Infallible, OneFullName, Structs, Templates, refused_terms};
+ghost use Rattle.isle_examples.specs.Ties.{ties_sample};
+ghost use Rattle.isle_examples.specs.TypeLists.{ConstantTypes, ThreeTypes, TwoTypes, refused_types};
 ghost use Rattle.isle_examples.specs.Unused.{UnusedIsLowered, UnusedIsNotDemanded, unused_defs, unused_rules, unused_set};
-ghost use Rattle.isle_examples.specs.Used.{NearTreesDoNotBind, used_defs, used_rules, used_set, used_tree};
-ghost use Rattle.isle_examples.specs.VariantEq.{VariantEqClosed, VariantEqDemands, VariantEqTables, variant_eq_defs, variant_eq_near_trees, variant_eq_program, variant_eq_rule, variant_eq_rules, variant_eq_set, variant_eq_tree};
-ghost use Rattle.isle_examples.specs.Wrap.{wrap_defs, wrap_rules, wrap_set, wrap_tree};
+ghost use Rattle.isle_examples.specs.Used.{NearTreesDoNotBind, used_sample};
+ghost use Rattle.isle_examples.specs.VariantEq.{VariantEqClosed, VariantEqDemands, VariantEqTables, variant_eq_program, variant_eq_rule, variant_eq_sample};
+ghost use Rattle.isle_examples.specs.Wrap.{wrap_sample};
 
 /// Lists of types: a primitive type and an extern enum; structs, one of them a tuple, whose types are named before they
 /// are defined; a constant that is defined twice has the type of its last definition. Lists that break one demand on
@@ -55,7 +56,7 @@ pub fn type_lists()
     ensures two_types { TwoTypes }
     ensures three_types { ThreeTypes }
     ensures constants { ConstantTypes }
-    ensures refused { HaveNoTypes refused_types }
+    ensures refused { NoneOf IsValidTypes refused_types }
 {}
 
 /// Lists of terms: a template may call another internal extractor, and a surplus argument that it doesn't use is
@@ -71,7 +72,7 @@ pub fn term_lists()
     ensures structs { Structs }
     ensures templates { Templates }
     ensures alone { Alone }
-    ensures refused { HaveNoTerms refused_terms }
+    ensures refused { NoneOf HasTerms refused_terms }
 {}
 
 /// A list may name a type that is handed in, and its names go on after all that were met before; a type that a list
@@ -85,11 +86,9 @@ pub fn handed_in()
 {}
 
 /// A literal, and a name that stands again: the literal stands at both arguments, and no equality is left.
-#[tactic(auto, using(crate::proofs::AcceptedLists::const_eq_accepted, crate::proofs::BuiltSets::const_eq_built, crate::proofs::JudgedTrees::const_eq_judged, crate::proofs::Matchable::const_eq_matches))]
-pub fn const_eq_stages()
-    ensures accepted { IsAcceptedBoth const_eq_defs const_eq_rules }
-    ensures built { IsBuiltOf const_eq_defs const_eq_rules 0 const_eq_set }
-    ensures tree { IsJudged const_eq_set false const_eq_tree }
+#[tactic(auto, using(crate::proofs::SampleStages::const_eq_stages, crate::proofs::Matchable::const_eq_matches))]
+pub fn const_eq_sample()
+    ensures stages { HasStages const_eq_sample }
     ensures demands { ConstEqDemands }
     ensures closed { ConstEqClosed }
     ensures ends { ClosingEndsOf const_eq_program const_eq_rule }
@@ -98,12 +97,9 @@ pub fn const_eq_stages()
 {}
 
 /// A rule for a literal, and a lower one: the tree answers 10 at 1, and 2 at 2.
-#[tactic(auto, using(crate::proofs::AcceptedLists::fall_accepted, crate::proofs::BuiltSets::fall_built, crate::proofs::JudgedTrees::fall_judged, crate::proofs::JudgedTrees::fall_refused, crate::proofs::Matchable::fall_one_matches, crate::proofs::Matchable::fall_any_matches))]
-pub fn fall_stages()
-    ensures accepted { IsAcceptedBoth fall_defs fall_rules }
-    ensures built { IsBuiltOf fall_defs fall_rules 0 fall_set }
-    ensures tree { IsJudged fall_set false fall_tree }
-    ensures near_trees { AreRefused fall_set fall_near_trees }
+#[tactic(auto, using(crate::proofs::SampleStages::fall_stages, crate::proofs::Matchable::fall_one_matches, crate::proofs::Matchable::fall_any_matches))]
+pub fn fall_sample()
+    ensures stages { HasStages fall_sample }
     ensures demands { FallDemands }
     ensures ends { ClosingEndsOf fall_program fall_one }
     ensures one_matches { CanMatch fall_program fall_one }
@@ -112,17 +108,14 @@ pub fn fall_stages()
 {}
 
 /// Three priorities: the test that covers two rules goes first.
-#[tactic(auto, using(crate::proofs::AcceptedLists::prio_accepted, crate::proofs::BuiltSets::prio_built, crate::proofs::JudgedTrees::prio_judged, crate::proofs::JudgedTrees::prio_refused))]
-pub fn prio_stages()
-    ensures accepted { IsAcceptedBoth prio_defs prio_rules }
-    ensures built { IsBuiltOf prio_defs prio_rules 0 prio_set }
-    ensures tree { IsJudged prio_set false prio_tree }
-    ensures near_trees { AreRefused prio_set prio_near_trees }
+#[tactic(auto, using(crate::proofs::SampleStages::prio_stages))]
+pub fn prio_sample()
+    ensures stages { HasStages prio_sample }
 {}
 
 /// Rules that overlap wrongly, as those of `fall` don't: the one that is later by position is reported first.
 #[tactic(auto, using(crate::proofs::AcceptedLists::overlap_not_accepted))]
-pub fn overlap_stages()
+pub fn overlap_sample()
     ensures not_accepted { IsNotAccepted overlap_defs overlap_rules }
     ensures reported { OverlapReported }
     ensures found { OverlapsFound }
@@ -138,38 +131,30 @@ pub fn three_overlaps()
 /// A shadowed rule is reported with its mask; equal priorities, a mask of more constraints, and equalities, don't
 /// shadow.
 #[tactic(auto, using(crate::proofs::AcceptedLists::shadow_not_accepted))]
-pub fn shadow_stages()
+pub fn shadow_sample()
     ensures not_accepted { IsNotAccepted shadow_defs shadow_rules }
     ensures reported { ShadowReported }
     ensures found { ShadowsFound }
 {}
 
 /// A lower rule whose arguments must be equal, below one that always matches.
-#[tactic(auto, using(crate::proofs::AcceptedLists::equal_accepted, crate::proofs::BuiltSets::equal_built, crate::proofs::JudgedTrees::equal_judged, crate::proofs::JudgedTrees::equal_refused))]
-pub fn equal_stages()
-    ensures accepted { IsAcceptedBoth equal_defs equal_rules }
-    ensures built { IsBuiltOf equal_defs equal_rules 0 equal_set }
-    ensures tree { IsJudged equal_set false equal_tree }
-    ensures near_trees { AreRefused equal_set equal_near_trees }
+#[tactic(auto, using(crate::proofs::SampleStages::equal_stages))]
+pub fn equal_sample()
+    ensures stages { HasStages equal_sample }
     ensures ends { ClosingEndsOf equal_program equal_same }
 {}
 
 /// A lower rule with a literal and an equality, below one that always matches.
-#[tactic(auto, using(crate::proofs::AcceptedLists::below_accepted, crate::proofs::BuiltSets::below_built, crate::proofs::JudgedTrees::below_judged))]
-pub fn below_stages()
-    ensures accepted { IsAcceptedBoth below_defs below_rules }
-    ensures built { IsBuiltOf below_defs below_rules 0 below_set }
-    ensures tree { IsJudged below_set false below_tree }
+#[tactic(auto, using(crate::proofs::SampleStages::below_stages))]
+pub fn below_sample()
+    ensures stages { HasStages below_sample }
     ensures ends { ClosingEndsOf below_program below_same }
 {}
 
 /// A variant under a name that stands again: it stands at both arguments, and the closure makes the second field.
-#[tactic(auto, using(crate::proofs::AcceptedLists::variant_eq_accepted, crate::proofs::BuiltSets::variant_eq_built, crate::proofs::JudgedTrees::variant_eq_judged, crate::proofs::JudgedTrees::variant_eq_refused, crate::proofs::Matchable::variant_eq_matches))]
-pub fn variant_eq_stages()
-    ensures accepted { IsAcceptedBoth variant_eq_defs variant_eq_rules }
-    ensures built { IsBuiltOf variant_eq_defs variant_eq_rules 0 variant_eq_set }
-    ensures tree { IsJudged variant_eq_set false variant_eq_tree }
-    ensures near_trees { AreRefused variant_eq_set variant_eq_near_trees }
+#[tactic(auto, using(crate::proofs::SampleStages::variant_eq_stages, crate::proofs::Matchable::variant_eq_matches))]
+pub fn variant_eq_sample()
+    ensures stages { HasStages variant_eq_sample }
     ensures tables { VariantEqTables }
     ensures demands { VariantEqDemands }
     ensures closed { VariantEqClosed }
@@ -182,7 +167,7 @@ pub fn variant_eq_stages()
 /// Values that are a part of themselves, at one step and at two: no values meet these demands, and the rule is
 /// reported.
 #[tactic(auto, using(crate::proofs::AcceptedLists::one_step_not_accepted, crate::proofs::AcceptedLists::two_step_not_accepted))]
-pub fn cycle_stages()
+pub fn cycle_sample()
     ensures one_step { IsNotAccepted one_step_defs (cycle_rules one_step_rule) }
     ensures two_steps { IsNotAccepted two_step_defs (cycle_rules two_step_rule) }
     ensures tables { CycleTables }
@@ -193,7 +178,7 @@ pub fn cycle_stages()
 
 /// Two literals for one value: no value meets these demands, and the lesser site's literal is reported first.
 #[tactic(auto, using(crate::proofs::AcceptedLists::conflict_not_accepted))]
-pub fn conflict_stages()
+pub fn conflict_sample()
     ensures not_accepted { IsNotAccepted conflict_defs conflict_rules }
     ensures cant_match { CantMatch conflict_program conflict_rule }
     ensures reported { ConflictReported }
@@ -201,7 +186,7 @@ pub fn conflict_stages()
 
 /// A class that a later step adds to is taken after that step.
 #[tactic(auto, using(crate::proofs::AcceptedLists::nested_accepted, crate::proofs::Matchable::nested_matches))]
-pub fn nested_stages()
+pub fn nested_sample()
     ensures accepted { IsAcceptedBoth nested_defs nested_rules }
     ensures tables { NestedTables }
     ensures closed { NestedClosed }
@@ -211,12 +196,9 @@ pub fn nested_stages()
 {}
 
 /// An external extractor: a call that is asked to answer, and its answer to be a literal.
-#[tactic(auto, using(crate::proofs::AcceptedLists::extract_accepted, crate::proofs::BuiltSets::extract_built, crate::proofs::JudgedTrees::extract_judged, crate::proofs::JudgedTrees::extract_refused, crate::proofs::Matchable::extract_one_matches, crate::proofs::Matchable::extract_any_matches, crate::proofs::Extract::near_sets_are_not_built))]
-pub fn extract_stages()
-    ensures accepted { IsAcceptedBoth extract_defs extract_rules }
-    ensures built { IsBuiltOf extract_defs extract_rules 1 extract_set }
-    ensures tree { IsJudged extract_set false extract_tree }
-    ensures near_trees { AreRefused extract_set extract_near_trees }
+#[tactic(auto, using(crate::proofs::SampleStages::extract_stages, crate::proofs::Matchable::extract_one_matches, crate::proofs::Matchable::extract_any_matches, crate::proofs::Extract::near_sets_are_not_built))]
+pub fn extract_sample()
+    ensures stages { HasStages extract_sample }
     ensures tables { ExtractTables }
     ensures demands { ExtractDemands }
     ensures one_matches { CanMatch extract_program extract_one }
@@ -244,11 +226,9 @@ pub fn extract_is_served()
 {}
 
 /// A partial call on the right side is made and unwrapped, and nothing is asked of it.
-#[tactic(auto, using(crate::proofs::AcceptedLists::partial_accepted, crate::proofs::BuiltSets::partial_built, crate::proofs::JudgedTrees::partial_judged))]
-pub fn partial_stages()
-    ensures accepted { IsAcceptedBoth partial_defs partial_rules }
-    ensures built { IsBuiltOf partial_defs partial_rules 1 partial_set }
-    ensures tree { IsJudged partial_set false partial_tree }
+#[tactic(auto, using(crate::proofs::SampleStages::partial_stages))]
+pub fn partial_sample()
+    ensures stages { HasStages partial_sample }
     ensures tables { HasTermTable partial_defs partial_terms }
     ensures demands { PartialDemands }
 {}
@@ -270,12 +250,9 @@ pub fn partial_is_served()
 {}
 
 /// A pure call that may answer nothing, beside an impure one, inside a variant.
-#[tactic(auto, using(crate::proofs::AcceptedLists::effects_accepted, crate::proofs::BuiltSets::effects_built, crate::proofs::JudgedTrees::effects_judged, crate::proofs::JudgedTrees::effects_refused))]
-pub fn effects_stages()
-    ensures accepted { IsAcceptedBoth effects_defs effects_rules }
-    ensures built { IsBuiltOf effects_defs effects_rules 2 effects_set }
-    ensures tree { IsJudged effects_set false effects_tree }
-    ensures near_trees { AreRefused effects_set effects_near_trees }
+#[tactic(auto, using(crate::proofs::SampleStages::effects_stages))]
+pub fn effects_sample()
+    ensures stages { HasStages effects_sample }
     ensures tables { EffectsTables }
     ensures demands { EffectsDemands }
 {}
@@ -288,12 +265,9 @@ pub fn effects_end()
 {}
 
 /// A multi call is gone over.
-#[tactic(auto, using(crate::proofs::AcceptedLists::multi_accepted, crate::proofs::BuiltSets::multi_built, crate::proofs::JudgedTrees::multi_judged, crate::proofs::JudgedTrees::multi_refused, crate::proofs::Multi::loops_may_bind_again))]
-pub fn multi_stages()
-    ensures accepted { IsAcceptedBoth multi_defs multi_rules }
-    ensures built { IsBuiltOf multi_defs multi_rules 1 multi_set }
-    ensures tree { IsJudged multi_set true multi_tree }
-    ensures near_trees { AreRefused multi_set multi_near_trees }
+#[tactic(auto, using(crate::proofs::SampleStages::multi_stages, crate::proofs::Multi::loops_may_bind_again))]
+pub fn multi_sample()
+    ensures stages { HasStages multi_sample }
     ensures tables { HasTermTable multi_defs multi_terms }
     ensures demands { MultiDemands }
     ensures binds_again { LoopsMayBindAgain }
@@ -326,79 +300,59 @@ pub fn multi_is_served()
 {}
 
 /// A rule below one that always matches, whose demands nothing tests and whose field nothing brings.
-#[tactic(auto, using(crate::proofs::AcceptedLists::surplus_accepted, crate::proofs::BuiltSets::surplus_built, crate::proofs::JudgedTrees::surplus_judged, crate::proofs::JudgedTrees::surplus_refused))]
-pub fn surplus_stages()
-    ensures accepted { IsAcceptedBoth surplus_defs surplus_rules }
-    ensures built { IsBuiltOf surplus_defs surplus_rules 0 surplus_set }
-    ensures tree { IsJudged surplus_set false surplus_tree }
-    ensures near_trees { AreRefused surplus_set surplus_near_trees }
+#[tactic(auto, using(crate::proofs::SampleStages::surplus_stages))]
+pub fn surplus_sample()
+    ensures stages { HasStages surplus_sample }
 {}
 
 /// Of tests of one score, that of smaller sites is made first.
-#[tactic(auto, using(crate::proofs::AcceptedLists::ties_accepted, crate::proofs::BuiltSets::ties_built, crate::proofs::JudgedTrees::ties_judged, crate::proofs::JudgedTrees::ties_refused))]
-pub fn ties_stages()
-    ensures accepted { IsAcceptedBoth ties_defs ties_rules }
-    ensures built { IsBuiltOf ties_defs ties_rules 0 ties_set }
-    ensures tree { IsJudged ties_set true ties_tree }
-    ensures near_trees { AreRefused ties_set ties_near_trees }
+#[tactic(auto, using(crate::proofs::SampleStages::ties_stages))]
+pub fn ties_sample()
+    ensures stages { HasStages ties_sample }
 {}
 
 /// A literal below zero comes before those above.
-#[tactic(auto, using(crate::proofs::AcceptedLists::wrap_accepted, crate::proofs::BuiltSets::wrap_built, crate::proofs::JudgedTrees::wrap_judged))]
-pub fn wrap_stages()
-    ensures accepted { IsAcceptedBoth wrap_defs wrap_rules }
-    ensures built { IsBuiltOf wrap_defs wrap_rules 0 wrap_set }
-    ensures tree { IsJudged wrap_set false wrap_tree }
+#[tactic(auto, using(crate::proofs::SampleStages::wrap_stages))]
+pub fn wrap_sample()
+    ensures stages { HasStages wrap_sample }
 {}
 
 /// A partial call that an if-let's value takes is asked to answer; it is bound once, before it is used.
-#[tactic(auto, using(crate::proofs::AcceptedLists::used_accepted, crate::proofs::BuiltSets::used_built, crate::proofs::JudgedTrees::used_judged, crate::proofs::Used::near_trees_do_not_bind))]
-pub fn used_stages()
-    ensures accepted { IsAcceptedBoth used_defs used_rules }
-    ensures built { IsBuiltOf used_defs used_rules 1 used_set }
-    ensures tree { IsJudged used_set false used_tree }
+#[tactic(auto, using(crate::proofs::SampleStages::used_stages, crate::proofs::Used::near_trees_do_not_bind))]
+pub fn used_sample()
+    ensures stages { HasStages used_sample }
     ensures near_trees { NearTreesDoNotBind }
 {}
 
 /// A multi extractor may stand in a rule of a multi term, and in others only where that is allowed.
-#[tactic(auto, using(crate::proofs::AcceptedLists::multi_ext_accepted, crate::proofs::BuiltSets::multi_ext_built, crate::proofs::JudgedTrees::multi_ext_judged))]
-pub fn multi_ext_stages()
-    ensures accepted { IsAcceptedBoth multi_ext_defs multi_ext_rules }
-    ensures built { IsBuiltOf multi_ext_defs multi_ext_rules 1 multi_ext_set }
-    ensures tree { IsJudged multi_ext_set false multi_ext_tree }
+#[tactic(auto, using(crate::proofs::SampleStages::multi_ext_stages))]
+pub fn multi_ext_sample()
+    ensures stages { HasStages multi_ext_sample }
     ensures stands { MultiExtractorsStand }
 {}
 
 /// Two rules that share a call.
-#[tactic(auto, using(crate::proofs::AcceptedLists::shared_accepted, crate::proofs::BuiltSets::shared_built, crate::proofs::JudgedTrees::shared_judged))]
-pub fn shared_stages()
-    ensures accepted { IsAcceptedBoth shared_defs shared_rules }
-    ensures built { IsBuiltOf shared_defs shared_rules 1 shared_set }
-    ensures tree { IsJudged shared_set true shared_tree }
+#[tactic(auto, using(crate::proofs::SampleStages::shared_stages))]
+pub fn shared_sample()
+    ensures stages { HasStages shared_sample }
 {}
 
 /// Of two pairs that must be equal, the one whose sites are emitted goes first.
-#[tactic(auto, using(crate::proofs::AcceptedLists::emitted_first_accepted, crate::proofs::BuiltSets::emitted_first_built, crate::proofs::JudgedTrees::emitted_first_judged, crate::proofs::JudgedTrees::emitted_first_refused))]
-pub fn emitted_first_stages()
-    ensures accepted { IsAcceptedBoth emitted_first_defs emitted_first_rules }
-    ensures built { IsBuiltOf emitted_first_defs emitted_first_rules 0 emitted_first_set }
-    ensures tree { IsJudged emitted_first_set false emitted_first_tree }
-    ensures near_trees { AreRefused emitted_first_set emitted_first_near_trees }
+#[tactic(auto, using(crate::proofs::SampleStages::emitted_first_stages))]
+pub fn emitted_first_sample()
+    ensures stages { HasStages emitted_first_sample }
 {}
 
 /// A rule that needs the test of a higher one is kept from its step by a rule between them.
-#[tactic(auto, using(crate::proofs::AcceptedLists::between_accepted, crate::proofs::BuiltSets::between_built, crate::proofs::JudgedTrees::between_judged, crate::proofs::JudgedTrees::between_refused))]
-pub fn between_stages()
-    ensures accepted { IsAcceptedBoth between_defs between_rules }
-    ensures built { IsBuiltOf between_defs between_rules 0 between_set }
-    ensures tree { IsJudged between_set false between_tree }
-    ensures near_trees { AreRefused between_set between_near_trees }
+#[tactic(auto, using(crate::proofs::SampleStages::between_stages))]
+pub fn between_sample()
+    ensures stages { HasStages between_sample }
 {}
 
 /// A multi call whose answer nothing uses: a set is built that doesn't demand what stands below the call, and the list
 /// is lowered to a tree that doesn't go over it.
-#[tactic(auto, using(crate::proofs::AcceptedLists::unused_accepted, crate::proofs::BuiltSets::unused_built, crate::proofs::Unused::unused_is_lowered))]
-pub fn unused_stages()
+#[tactic(auto, using(crate::proofs::AcceptedLists::unused_accepted, crate::proofs::Unused::unused_built, crate::proofs::Unused::unused_is_lowered))]
+pub fn unused_sample()
     ensures accepted { IsAcceptedBoth unused_defs unused_rules }
     ensures built { IsBuiltOf unused_defs unused_rules 2 unused_set }
     ensures not_demanded { UnusedIsNotDemanded }
@@ -406,11 +360,9 @@ pub fn unused_stages()
 {}
 
 /// An impure call: the rule can be taken, and makes the call from whatever place it is taken.
-#[tactic(auto, using(crate::proofs::AcceptedLists::impure_accepted, crate::proofs::BuiltSets::impure_built, crate::proofs::JudgedTrees::impure_judged, crate::proofs::Impure::impure_is_called))]
-pub fn impure_stages()
-    ensures accepted { IsAcceptedBoth impure_defs impure_rules }
-    ensures built { IsBuiltOf impure_defs impure_rules 1 impure_set }
-    ensures tree { IsJudged impure_set false impure_tree }
+#[tactic(auto, using(crate::proofs::SampleStages::impure_stages, crate::proofs::Impure::impure_is_called))]
+pub fn impure_sample()
+    ensures stages { HasStages impure_sample }
     ensures called { ImpureIsCalled }
 {}
 
@@ -422,8 +374,8 @@ pub fn named_constants()
 
 /// A set with an impure site that none of its rules uses: a world where that call answers nothing serves it, and the
 /// run of its tree collects the bag.
-#[tactic(auto, using(crate::proofs::AcceptedLists::left_over_not_accepted, crate::proofs::BuiltSets::left_over_built, crate::proofs::JudgedTrees::left_over_judged, crate::proofs::LeftOver::left_over_is_collected, crate::proofs::LeftOver::left_over_collects))]
-pub fn left_over_stages()
+#[tactic(auto, using(crate::proofs::AcceptedLists::left_over_not_accepted, crate::proofs::LeftOver::left_over_built, crate::proofs::LeftOver::left_over_judged, crate::proofs::LeftOver::left_over_is_collected, crate::proofs::LeftOver::left_over_collects))]
+pub fn left_over_sample()
     ensures not_accepted { IsNotAccepted left_over_defs left_over_rules }
     ensures built { IsBuiltOf left_over_defs left_over_rules 1 left_over_set }
     ensures tree { IsJudged left_over_set true left_over_tree }

@@ -1,5 +1,5 @@
 use Rattle.isle_examples.proofs.Matchable.{one_step_cant_match, two_step_cant_match}
-use Rattle.isle_examples.proofs.cycle_stages.Goals as goal
+use Rattle.isle_examples.proofs.cycle_sample.Goals as goal
 
 pub returns-clause-one_step_cant : goal.returns-clause-one_step_cant
 returns-clause-one_step_cant c = one_step_cant_match
