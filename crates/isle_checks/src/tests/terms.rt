@@ -1,13 +1,29 @@
 // The terms and the typed rules of small lists, and what is wrong with several at once.
-use super::answers::{answer_to, expect_answer};
+use super::answers::{answer_to, expect_answers};
 use super::type_rows::at;
 use super::written::written;
 use isle_base::syntax::{Def, Expr};
-use isle_rules::{Pattern, TermEnv};
 use isle_printing::Definitions;
+use isle_rules::{Pattern, TermEnv};
 use isle_terms::TermTable;
 use isle_types::{RuleId, Sym, TermId, TypeEnv, TypeId, VarId};
 use std::test::Fail;
+
+const SIGNATURES: &str = "type error at 0:1: Duplicate decl for 'f'
+type error at 0:0: Duplicate decl for 'f'
+type error at 0:1: Unknown arg type: 'X'
+type error at 0:2: not carried yet
+";
+
+const RULES: &str = "type error at 0:1: Incorrect argument count for term 'f': got 2, expect 1
+type error at 0:1: Unknown variable 'x'
+type error at 0:2: not carried yet
+";
+
+const PARTS: &str =
+    "type error at 0:20: expected non-integer type bool, but found integer literal '1'
+type error at 0:30: Unknown variable 'x'
+";
 
 #[test]
 fn a_term_with_a_rule(rt: HostRuntime) -> Result<(), Fail> {
@@ -73,18 +89,20 @@ fn several_in_order(rt: HostRuntime) -> Result<(), Fail> {
     let alloc = rt.alloc();
     let f = ("decl", "f", ["u8"].as_slice(), "u8");
     let twice = ("decl", "f", ["X"].as_slice(), "u8");
-    expect_answer(
-        &rt,
-        alloc,
-        &[f, twice, ("partial", "f", ["X"].as_slice(), "u8")],
-        "type error at 0:1: Duplicate decl for 'f'|type error at 0:0: Duplicate decl for 'f'|type error at 0:1: Unknown arg type: 'X'|type error at 0:2: not carried yet|",
-    )?;
     let repeated = ("rule", "f", ["x", "x"].as_slice(), "x");
-    expect_answer(
+    expect_answers(
         &rt,
         alloc,
-        &[f, ("rule", "f", ["1", "x"].as_slice(), "x"), repeated],
-        "type error at 0:1: Incorrect argument count for term 'f': got 2, expect 1|type error at 0:1: Unknown variable 'x'|type error at 0:2: not carried yet|",
+        &[
+            (
+                &[f, twice, ("partial", "f", ["X"].as_slice(), "u8")],
+                SIGNATURES,
+            ),
+            (
+                &[f, ("rule", "f", ["1", "x"].as_slice(), "x"), repeated],
+                RULES,
+            ),
+        ],
     )
 }
 
@@ -103,8 +121,6 @@ fn parts_of_a_rule_at_their_places(rt: HostRuntime) -> Result<(), Fail> {
     let expr = Expr::Var { name, pos: at(30) };
     let rule = defs.rule_of(None, "f", args, expr)?;
     defs.push(Def::Rule(rule))?;
-    let want =
-        "type error at 0:20: expected non-integer type bool, but found integer literal '1'|type error at 0:30: Unknown variable 'x'|";
-    assert_eq!(rt; answer_to(alloc, &defs.into_vec())?.as_str(), want);
+    assert_eq!(rt; answer_to(alloc, &defs.into_vec())?.as_str(), PARTS);
     Ok(())
 }

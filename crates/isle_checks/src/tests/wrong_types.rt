@@ -3,6 +3,17 @@ use super::answers::answer_to;
 use super::type_rows::types;
 use std::test::Fail;
 
+const SEVERAL: &str = "type error at 0:2: Type with name 'A' defined more than once
+type error at 0:4: Type with name 'i8' defined more than once
+type error at 0:4: Type with name 'i8' is a built-in type
+type error at 0:2: primitive types cannot be marked `nodebug`
+type error at 0:3: external types cannot be marked `nodebug`
+type error at 0:5: Unknown type 'nope' for field 'g'
+type error at 0:80: Duplicate variant name in type: 'A'
+type error at 0:0: Unknown type for constant
+type error at 0:6: Unknown type for constant
+";
+
 #[test]
 fn one_type(rt: HostRuntime) -> Result<(), Fail> {
     let alloc = rt.alloc();
@@ -75,7 +86,7 @@ fn one_type(rt: HostRuntime) -> Result<(), Fail> {
         ("const", "nope", none, "0: Unknown type for constant"),
     ] {
         let defs = types(alloc, &[(form, "T", marks, fields)])?;
-        let want = format!(in alloc; "type error at 0:{want}|")?;
+        let want = format!(in alloc; "type error at 0:{want}\n")?;
         assert_eq!(rt; answer_to(alloc, &defs)?.as_str(), want.as_str());
     }
     Ok(())
@@ -100,8 +111,6 @@ fn several_in_order(rt: HostRuntime) -> Result<(), Fail> {
             ("const", "Y", "X", none),
         ],
     )?;
-    let want =
-        "type error at 0:2: Type with name 'A' defined more than once|type error at 0:4: Type with name 'i8' defined more than once|type error at 0:4: Type with name 'i8' is a built-in type|type error at 0:2: primitive types cannot be marked `nodebug`|type error at 0:3: external types cannot be marked `nodebug`|type error at 0:5: Unknown type 'nope' for field 'g'|type error at 0:80: Duplicate variant name in type: 'A'|type error at 0:0: Unknown type for constant|type error at 0:6: Unknown type for constant|";
-    assert_eq!(rt; answer_to(alloc, &defs)?.as_str(), want);
+    assert_eq!(rt; answer_to(alloc, &defs)?.as_str(), SEVERAL);
     Ok(())
 }
