@@ -13,7 +13,7 @@ use Rattle.isle_model.specs.sites.Sites.{Constraint, SetRule, is_int}
 use Rattle.isle_model.specs.trees.Collects.{HasCollectedResults, IsCollectedSet, ServesSet, content_at}
 use Rattle.isle_model.specs.trees.Places.{fields_of, joins_in, waits}
 use Rattle.isle_model.specs.trees.Run.{content_fields}
-use Rattle.isle_laws_runs.proofs.collecting.Collected.{sound_trees_collect_lem}
+use Rattle.isle_laws_runs.proofs.runs.Collected.{sound_trees_collect_lem}
 use Rattle.isle_examples.proofs.SampleStages.{multi_stages}
 use Rattle.isle_examples.proofs.SetStages.{collected}
 use Rattle.isle_examples.specs.MeaningForms.{each, v}
