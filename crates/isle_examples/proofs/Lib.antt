@@ -10,6 +10,7 @@ pub mod JudgedTrees
 pub mod LeftOver
 pub mod LoweredSamples
 pub mod Marked
+pub mod Mended
 pub mod MultiCollected
 pub mod MultiSound
 pub mod OldJudged

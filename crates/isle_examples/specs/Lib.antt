@@ -24,6 +24,7 @@ pub mod LeftOver
 pub mod LoweredSamples
 pub mod MeaningForms
 pub mod Meanings
+pub mod Mended
 pub mod MoreSets
 pub mod Multi
 pub mod MultiCalls

@@ -32,7 +32,6 @@ ghost use Rattle.isle_examples.specs.FallRun.{FallRuns};
 ghost use Rattle.isle_examples.specs.ExtractRun.{ExtractRuns, ExtractIsServed, ExtractIsSound};
 ghost use Rattle.isle_examples.specs.ImpureRun.{ImpureIsCalled};
 ghost use Rattle.isle_examples.specs.WorkedGates.{FormedRulesMayTestImpureCalls, ResultsMayUnwrap};
-
 ghost use Rattle.isle_examples.specs.Fall.{fall_defs, fall_rules, fall_set, fall_tree, fall_near_trees, FallDemands as FallDemands2, FallRuns as FallRuns2};
 ghost use Rattle.isle_examples.specs.Stages.{Becomes, IsJudged, AreRefused};
 
@@ -846,4 +845,12 @@ pub fn formed_rules_may_test_impure_calls()
 /// What a rule returns may unwrap a call that nothing asks to answer.
 pub fn results_may_unwrap()
     ensures { ResultsMayUnwrap }
+{}
+
+ghost use Rattle.isle_examples.specs.Mended.{AboveCallsNothingIsAsked};
+
+/// A world that has what tests ask may have no content for a construction above an impure call that is never made.
+#[tactic(auto, using(crate::proofs::Mended::above_calls_nothing_is_asked_lem))]
+pub fn above_calls_nothing_is_asked()
+    ensures { AboveCallsNothingIsAsked }
 {}

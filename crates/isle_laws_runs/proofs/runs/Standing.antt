@@ -112,7 +112,7 @@ module _ (w : World) (rules : List SetRule) (clear : IsClearSet w rules) where
     pub found_at : (s : ℕ) → IsTrue (available w.sites ar s) → IsPureBelow w.sites s → (c : Content) × (content_at w pick s ≡ Some c)
     found_at s a pure =
         content_of (content_at w pick s)
-        (available_found w pick at.served.found ar (λ u i. let h = at.held.there u (inl (at.brought u i)) in ap is_some h.1) (suc s) s a pure)
+        (available_found w pick clear.sources at.served.found ar (λ u i. let h = at.held.there u (inl (at.brought u i)) in ap is_some h.1) (suc s) s a pure)
 
     -- bound, they can be used, and the place is wider
     pub binds_at : (ss : List ℕ) → ((s : ℕ) → Contains ss s → IsTrue (available w.sites ar s)) → ((s : ℕ) → Contains ss s → IsPureBelow w.sites s)
