@@ -1,20 +1,22 @@
 -- The smallest inputs behind choices of statements do what is said of them.
-use Rattle.std.proofs.Common.{◌≡◌, ◌⊎◌, ℕ, zero, suc, pos, true, false, List, [], ◌∷◌, length, Option, Some, None, is_some, slice_get, Contains, All, IsTrue, refl, sym, ap, ◌∙◌, subst, inl, inr}
+use Rattle.std.proofs.Common.{◌≡◌, ◌⊎◌, ℕ, zero, suc, pos, true, false, List, [], ◌∷◌, length, Option, Some, None, is_some, slice_get, Contains, All, IsTrue, refl, sym, ap, ◌∙◌, subst, inl, inr, arith}
 use Rattle.std.proofs.lemmas.Bool.{false≢true}
 use Rattle.std.proofs.lemmas.Option.{none-some, same_Some}
 use Rattle.std.proofs.lemmas.List.Elements.{All-nil, All-cons, All-contains}
 use Rattle.isle_model.specs.rules.Meaning.{Content, one}
 use Rattle.isle_model.specs.rules.Values.{Value}
-use Rattle.isle_model.specs.sites.Sites.{Constraint, SetRule, constructor_site, make_variant_site, sources_at}
+use Rattle.isle_model.specs.sites.Sites.{Constraint, SetRule, constructor_site, make_variant_site, sources_at, argument}
 use Rattle.isle_model.specs.trees.Collects.{IsPureSite, content_at}
 use Rattle.isle_model.specs.trees.Places.{all_below, joins_in, waits}
 use Rattle.isle_model.specs.trees.Run.{content_fields}
 use Rattle.isle_model.specs.trees.SetRuns.{IsPureAt, ServesTests}
 use Rattle.isle_model.proofs.Members.{nothing_in, in_alone, in_cases, in_head, in_tail}
+use Rattle.isle_model.specs.sites.Overlap.{built_rules}
+use Rattle.isle_model.specs.sites.Demands.{constraint_eq}
 use Rattle.isle_examples.specs.MeaningForms.{v}
 use Rattle.isle_examples.specs.SetForms.{is_byte}
 use Rattle.isle_examples.specs.TypedForms.{own}
-use Rattle.isle_examples.specs.Mended.{wrapped_call, wrapped_two, wrapped_sites, wrapped_set, wrapped_meaning, wrapped_world, AboveCallsNothingIsAsked}
+use Rattle.isle_examples.specs.Mended.{wrapped_call, wrapped_two, wrapped_sites, wrapped_set, wrapped_meaning, wrapped_world, AboveCallsNothingIsAsked, third_program, third_rule, built_one, built_two, ThirdRulesDontCount}
 
 -- 1. above an impure call
 -- the one constraint of the rules
@@ -70,3 +72,14 @@ above_calls_nothing_is_asked_lem = (
   refl,
   wrapped_served,
 )
+
+-- 2. a third rule
+pub third_rules_dont_count_lem : ThirdRulesDontCount
+third_rules_dont_count_lem = (
+  (λ w. absurd (false≢true (sym (w.extractors 0 (argument 0) (1, omega arith, refl))))),
+  record { one_of = (1, omega arith, refl); other_of = (2, omega arith, refl); one_goes_over_none = refl; other_goes_over_none = refl },
+  (λ o. one_two (o (argument 0) (is_byte 1) (is_byte 2) (0, omega arith, refl) (0, omega arith, refl))),
+)
+  where
+    one_two : is_byte 1 ≡ is_byte 2 → ⊥
+    one_two e = false≢true (ap (constraint_eq (is_byte 2)) e)
