@@ -76,17 +76,17 @@ one_constraint s d f (inr a) (inr b) = a.1 ∙ sym b.1
 one_constraint s d f (inl a) (inr b) = (let e = sym a.0 ∙ b.0 in absurd (omega arith))
 one_constraint s d f (inr a) (inl b) = (let e = sym a.0 ∙ b.0 in absurd (omega arith))
 
-has_content : (c : Content) (s : ℕ) → IsPureAt extract_set.sites s → waits (slice_get extract_set.sites s) ≡ false → IsTrue (is_some (content_at (extract_world c) [] s))
-has_content c zero p n = refl
-has_content c (suc zero) p n = refl
-has_content c (suc (suc zero)) p n = absurd (false≢true (sym n))
-has_content c (suc (suc (suc zero))) p n = refl
-has_content c (suc (suc (suc (suc s)))) p n = absurd (none-some p.0 p.1)
+has_content : (c : Content) (s : ℕ) → waits (slice_get extract_set.sites s) ≡ false → IsTrue (is_some (content_at (extract_world c) [] s))
+has_content c zero n = refl
+has_content c (suc zero) n = refl
+has_content c (suc (suc zero)) n = absurd (false≢true (sym n))
+has_content c (suc (suc (suc zero))) n = refl
+has_content c (suc (suc (suc (suc s)))) n = absurd (false≢true (sym n))
 
 tests_served : (c : Content) → ServesTests extract_set (extract_world c)
 tests_served c = record {
   sites = refl;
-  found = λ s p n all. has_content c s p n;
+  found = λ s p n all. has_content c s n;
   values = λ r a b x k j e. absurd (false≢true (sym (ap (λ l. joins_in l a b) (no_classes r k)) ∙ j));
   fields = λ r s d x cs k m e f. field_count (extract_meaning c) s d x cs (asked r k s d m) f;
   apart = λ r q s d f k l m n h g. one_constraint s d f (asked r k s d m) (asked q l s f n);

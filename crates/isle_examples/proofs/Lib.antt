@@ -7,6 +7,7 @@ pub mod LeftOver
 pub mod ListStages
 pub mod Marked
 pub mod Matchable
+pub mod Mended
 pub mod Multi
 pub mod MultiCalls
 pub mod NoRules

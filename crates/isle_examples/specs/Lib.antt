@@ -14,6 +14,7 @@ pub mod HandedIn
 pub mod Impure
 pub mod LeftOver
 pub mod MeaningForms
+pub mod Mended
 pub mod Multi
 pub mod MultiCalls
 pub mod MultiExt

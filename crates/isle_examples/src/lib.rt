@@ -487,3 +487,17 @@ pub fn lists_refused()
     ensures not_read { RefusedAreNotRead }
     ensures lowering { SamplesAreRefused }
 {}
+
+ghost use Rattle.isle_examples.specs.Mended.{AboveCallsNothingIsAsked, ThirdRulesDontCount};
+
+/// A world that has what tests ask may have no content for a construction above an impure call that is never made.
+#[tactic(auto, using(crate::proofs::Mended::above_calls_nothing_is_asked_lem))]
+pub fn above_calls_nothing_is_asked()
+    ensures { AboveCallsNothingIsAsked }
+{}
+
+/// Two rules of a term that use no multi extractor can be told apart though a third one uses one.
+#[tactic(auto, using(crate::proofs::Mended::third_rules_dont_count_lem))]
+pub fn third_rules_dont_count()
+    ensures { ThirdRulesDontCount }
+{}

@@ -21,7 +21,7 @@ use Rattle.isle_model.specs.trees.SetRuns.{tested_sites}
 use Rattle.isle_model.proofs.Bags.{as_numbers, of_numbers}
 use Rattle.isle_model.proofs.Members.{in_head, in_alone, some_member, member_from_get, get_within, in_flat_map}
 use Rattle.isle_model.proofs.Numbers.{none_pass, filters_same}
-use Rattle.isle_laws_runs.proofs.runs.Below.{below_within}
+use Rattle.isle_laws_runs.proofs.runs.Below.{IsPureBelow, below_itself, below_within}
 use Rattle.isle_laws_runs.proofs.runs.BindOrders.{Finds}
 use Rattle.isle_laws_runs.proofs.runs.Standing.{IsClear, IsClearSet, ServesUnder, IsGoneOver, At, IsReady, wider, set_of, found_at, binds_at, ready_here, holds_here}
 use Rattle.isle_laws_runs.proofs.runs.Steps.{trace, step_runs}
@@ -75,7 +75,9 @@ module _ (w : World) (rules : List SetRule) (built : IsCollectedSet (set_of w ru
   result_clear r known = site_clear r known r.result (Contains-append_right (tested_sites r ++ r.iterators) (r.result ∷ []) r.result (in_head r.result []))
 
   finds : (k : Pick) → Finds w k
-  finds k s p n all = served.found k s (slice_get_within w.sites s p.0 p.1) n (ap calls_nothing p.1 ∙ nothing_called p.0 p.2) all
+  finds k s pure n all =
+      let p = pure s (below_itself w.sites s) in
+      served.found k s (slice_get_within w.sites s p.0 p.1) n (ap calls_nothing p.1 ∙ nothing_called p.0 p.2) all
 
   serves : (k : Pick) → ServesUnder w rules k
   serves k = record { found = finds k; lists = served.lists k; values = served.values k; fields = served.fields k; apart = served.apart k }

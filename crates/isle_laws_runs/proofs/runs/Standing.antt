@@ -122,7 +122,7 @@ module _ (w : World) (rules : List SetRule) (clear : IsClearSet w rules) where
     pub found_at : (s : ℕ) → IsReady w.sites ar s → (c : Content) × (content_at w pick s ≡ Some c)
     found_at s ready =
         content_of (content_at w pick s)
-        (available_found w pick at.picked.served.found ar (λ u i. let h = at.held.there u (inl (at.brought u i)) in ap is_some h.1) (suc s) s ready.available ready.pure)
+        (available_found w pick clear.sources at.picked.served.found ar (λ u i. let h = at.held.there u (inl (at.brought u i)) in ap is_some h.1) (suc s) s ready.available ready.pure)
 
     -- bound, they can be used, and the place is wider
     pub binds_at : (ss : List ℕ) → ((s : ℕ) → Contains ss s → IsReady w.sites ar s)
