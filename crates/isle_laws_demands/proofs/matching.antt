@@ -1,5 +1,6 @@
 -- A typed rule matches exactly where its demands hold, and so a built set means what its rules do.
 pub mod Answered
+pub mod ClosedAlike
 pub mod ClosedDemands
 pub mod Contents
 pub mod Demanded

@@ -9,9 +9,10 @@ use Rattle.isle_model.specs.rules.Typed.{TypedRule}
 use Rattle.isle_model.specs.rules.Picks.{Pick, site_content, picks, matches_under}
 use Rattle.isle_model.specs.sites.Sites.{SiteTerm}
 use Rattle.isle_model.specs.sites.Demands.{demands_of}
-use Rattle.isle_model.specs.sites.Closure.{IsUnreachable, DemandsHold}
+use Rattle.isle_model.specs.sites.Closure.{IsUnreachable, DemandsHold, closed, ClosedDemandsHold}
 use Rattle.isle_model.specs.sites.Serves.{Serves, TellsConstantsApart}
 use Rattle.isle_model.specs.claims.Environments.{TypesRead, IsElaborated, program_of}
+use Rattle.isle_laws_demands.specs.ClosureLaws.{ClosedIsWhole}
 
 -- a rule on arguments of its term's types, a meaning that serves the rules of the term, and one of the rule's picks
 pub record IsTried (p : Program) (t : ℕ) (m : Meaning) (args : List Value) (r : TypedRule) (k : Pick) : Type 0 where
@@ -38,3 +39,9 @@ VisitsMatch = WhereTried (λ p t m args r k. MatchesByVisit p m args r k)
 abbrev pub UnreachableRulesNeverMatch : Type 0
 UnreachableRulesNeverMatch =
     WhereTried (λ p t m args r k. TellsConstantsApart p m (rules_of p t) → IsUnreachable (demands_of p r) → IsTrue (is_some (matches_under p m k r args)) → ⊥)
+
+-- the closed demands of a rule, after any sites, hold exactly where its demands do, if they are all that follows from these
+abbrev pub ClosedDemandsHoldAlike : Type 0
+ClosedDemandsHoldAlike =
+    WhereTried (λ p t m args r k. (before : List SiteTerm) → ClosedIsWhole (demands_of p r) (closed before (demands_of p r))
+    → DemandsHold m args k (demands_of p r) ↔ ClosedDemandsHold m args k (closed before (demands_of p r)))

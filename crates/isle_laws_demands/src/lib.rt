@@ -7,7 +7,7 @@
 ghost use Rattle.isle_laws_demands.specs.ClosureLaws.{JoinedIsEquivalence, ClassesBoundJoined, VerdictIsExact, NamesAreExact, ClosingAddsNothing, ConstraintsAreKept, ClosingIsSound, OverlapIsSymmetric, OverlapIsExact, ClashIsExact, FirstLimitIsPassed, PassedLimitIsMet, ClosingIsWhole, ReportsAreExact, ShadowsAreExact, VisitsMakeEqualSites, PlainClosingEnds};
 ghost use Rattle.isle_laws_demands.specs.ReportLaws.{CheckIsExact, OverlapsAreListedOnce, ListedRulesOverlap, MasksAreReportedOnce, ReportedMasksShadow};
 ghost use Rattle.isle_laws_demands.specs.VisitLaws.{SitesStandOnce, FormedRulesDemandGates, ClosingKeepsGates, ElaboratedRulesDemandGates, BuiltRulesDemandGates, BuiltSetsAreWellBuilt, NoneAskedAndGoneOver, MultiCallsAreGoneOver, NoRuleAsksAndGoesOver, MultiTermsHaveOnePriority};
-ghost use Rattle.isle_laws_demands.specs.MatchLaws.{VisitsMatch, UnreachableRulesNeverMatch};
+ghost use Rattle.isle_laws_demands.specs.MatchLaws.{VisitsMatch, UnreachableRulesNeverMatch, ClosedDemandsHoldAlike};
 ghost use Rattle.isle_model.specs.claims.SetMeanings.{BuiltSetsAreTested};
 
 use isle_laws_lists::{lists_agree, rules_are_formed};
@@ -202,4 +202,9 @@ pub fn visits_match()
 /// An unreachable rule never matches.
 pub fn unreachable_rules_never_match()
     ensures { UnreachableRulesNeverMatch }
+{}
+
+/// The closed demands of a rule hold exactly where its demands do, if they are all that follows.
+pub fn closed_demands_hold_alike()
+    ensures { ClosedDemandsHoldAlike }
 {}

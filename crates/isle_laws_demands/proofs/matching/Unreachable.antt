@@ -170,6 +170,10 @@ module _ (g : Given) (r : TypedRule) (rs : List TypedRule) (here : Contains rs r
   pub has_parts_there : (s : SiteTerm) (c : Constraint) → HasConstraint d s c → HasParts (content_of g s) c
   has_parts_there s c h = subst (λ o. HasParts o c) (same_contents h.source s h.joined) (asked_parts h.source c (in_from_contains d.constraints (h.source, c) h.asked))
 
+  -- so the field of a constrained site has a value
+  pub constrained_field : (s : SiteTerm) (c : Constraint) (x : SiteTerm) → HasConstraint d s c → In (field_terms c s) x → (v : Value) × (content_of g x ≡ Some (one v))
+  constrained_field s c x h i = let f = field_there c s x (has_parts_there s c h) i in (f.part, f.field)
+
   -- a part's value is smaller than the whole's
   record IsSmaller (s t : SiteTerm) : Type 0 where
     part : Value
