@@ -1,5 +1,6 @@
 -- A typed rule matches exactly where its demands hold, and so a built set means what its rules do.
 pub mod Answered
+pub mod BuiltMatches
 pub mod ClosedAlike
 pub mod ClosedDemands
 pub mod Contents
@@ -8,6 +9,7 @@ pub mod Exprs
 pub mod FormedDemands
 pub mod Grown
 pub mod NeverMatches
+pub mod Numbers
 pub mod Patterns
 pub mod Rules
 pub mod SameExprs
