@@ -1,6 +1,8 @@
 -- Demands and their closure: classes, verdicts, limits.
+pub mod BuiltRules
 pub mod Classes
 pub mod Closing
+pub mod Ending
 pub mod LimitsPassed
 pub mod Names
 pub mod Reports
@@ -10,3 +12,4 @@ pub mod Visited
 pub mod VisitedRules
 pub mod Whole
 pub mod WholeClosing
+pub mod WholeVisits

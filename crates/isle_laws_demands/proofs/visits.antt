@@ -1,15 +1,26 @@
 -- What visits of typed rules demand, and so what built sets are.
+pub mod Afresh
+pub mod Allowed
 pub mod Apart
+pub mod BoundSites
 pub mod Built
+pub mod Calls
 pub mod Closing
+pub mod Collected
+pub mod Constrained
 pub mod Declared
 pub mod Elaborated
 pub mod Exprs
 pub mod Gates
+pub mod GoneOver
 pub mod Once
+pub mod PatternCalls
 pub mod Patterns
 pub mod Priorities
+pub mod RightSides
 pub mod Rules
+pub mod Served
 pub mod Sets
 pub mod Unfolding
 pub mod Visited
+pub mod WholeDemands

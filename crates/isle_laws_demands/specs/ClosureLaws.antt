@@ -111,7 +111,7 @@ ClosingIsWhole =
 abbrev pub PlainClosingEnds : Type 0
 PlainClosingEnds = (before : List SiteTerm) (d : Demands) → d.equalities ≡ [] → HasEnded (closing most_closing_steps (before_closing before d))
 
--- not proved here: the closing of a rule that is built ends
+-- the closing of a rule that is built ends
 abbrev pub ClosingEnds : Type 0
 ClosingEnds = (p : Program) (before : List SiteTerm) (r : TypedRule) → is_built p before r ≡ true → HasEnded (closing most_closing_steps (before_closing before (demands_of p r)))
 

@@ -1,3 +1,4 @@
+pub mod BuiltLaws
 pub mod ClosureLaws
 pub mod MatchLaws
 pub mod ReportLaws

@@ -7,11 +7,14 @@ use Rattle.isle_model.specs.rules.Meaning.{many, Contents, Meaning}
 use Rattle.isle_model.specs.rules.Program.{Program, arg_types, rules_of}
 use Rattle.isle_model.specs.rules.Typed.{TypedRule}
 use Rattle.isle_model.specs.rules.Picks.{Pick, site_content, picks, matches_under}
-use Rattle.isle_model.specs.sites.Sites.{SiteTerm}
+use Rattle.isle_model.specs.sites.Sites.{SiteTerm, SiteSet}
 use Rattle.isle_model.specs.sites.Demands.{demands_of}
 use Rattle.isle_model.specs.sites.Closure.{IsUnreachable, DemandsHold, closed, ClosedDemandsHold}
+use Rattle.isle_model.specs.sites.Overlap.{BuiltRule, built_rules}
+use Rattle.isle_model.specs.sites.RuleSets.{IsBuilt}
 use Rattle.isle_model.specs.sites.Serves.{Serves, TellsConstantsApart}
 use Rattle.isle_model.specs.claims.Environments.{TypesRead, IsElaborated, program_of}
+use Rattle.isle_model.specs.claims.SetMeanings.{MatchesByDemands}
 use Rattle.isle_laws_demands.specs.ClosureLaws.{ClosedIsWhole}
 
 -- a rule on arguments of its term's types, a meaning that serves the rules of the term, and one of the rule's picks
@@ -45,3 +48,16 @@ abbrev pub ClosedDemandsHoldAlike : Type 0
 ClosedDemandsHoldAlike =
     WhereTried (λ p t m args r k. (before : List SiteTerm) → ClosedIsWhole (demands_of p r) (closed before (demands_of p r))
     → DemandsHold m args k (demands_of p r) ↔ ClosedDemandsHold m args k (closed before (demands_of p r)))
+
+-- so those of each rule that is built of elaborated rules do
+abbrev pub BuiltDemandsHoldAlike : Type 0
+BuiltDemandsHoldAlike =
+    (e : TypesRead) (defs : List Definition) (expand : Bool) (rules : TypedRules) (t : ℕ) (m : Meaning) (args : List Value) (b : BuiltRule) (k : Pick)
+    → IsElaborated e defs expand rules → Contains (built_rules (program_of e defs rules.rules) t) b → IsTried (program_of e defs rules.rules) t m args b.rule k
+    → DemandsHold m args k (demands_of (program_of e defs rules.rules) b.rule) ↔ ClosedDemandsHold m args k b.demands
+
+-- and under each of its picks a rule of a set that is built of elaborated rules matches exactly where its demands hold
+abbrev pub BuiltSetsMatchByDemands : Type 0
+BuiltSetsMatchByDemands =
+    (e : TypesRead) (defs : List Definition) (expand : Bool) (rules : TypedRules) (t : ℕ) (set : SiteSet)
+    → IsElaborated e defs expand rules → IsBuilt (program_of e defs rules.rules) t set → MatchesByDemands (program_of e defs rules.rules) t set

@@ -4,11 +4,12 @@
 //! `proofs/`.
 #![tactic(auto)]
 
-ghost use Rattle.isle_laws_demands.specs.ClosureLaws.{JoinedIsEquivalence, ClassesBoundJoined, VerdictIsExact, NamesAreExact, ClosingAddsNothing, ConstraintsAreKept, ClosingIsSound, OverlapIsSymmetric, OverlapIsExact, ClashIsExact, FirstLimitIsPassed, PassedLimitIsMet, ClosingIsWhole, ReportsAreExact, ShadowsAreExact, VisitsMakeEqualSites, PlainClosingEnds};
+ghost use Rattle.isle_laws_demands.specs.ClosureLaws.{JoinedIsEquivalence, ClassesBoundJoined, VerdictIsExact, NamesAreExact, ClosingAddsNothing, ConstraintsAreKept, ClosingIsSound, OverlapIsSymmetric, OverlapIsExact, ClashIsExact, FirstLimitIsPassed, PassedLimitIsMet, ClosingIsWhole, ReportsAreExact, ShadowsAreExact, VisitsMakeEqualSites, PlainClosingEnds, ClosingEnds};
+ghost use Rattle.isle_laws_demands.specs.BuiltLaws.{ClosingsOfBuiltRulesAreWhole, ConstrainedSitesStandInNoClass, BuiltRulesConstrainOrEquate, FormedRulesMakeEqualSites, BuiltDemandsAreWhole};
 ghost use Rattle.isle_laws_demands.specs.ReportLaws.{CheckIsExact, OverlapsAreListedOnce, ListedRulesOverlap, MasksAreReportedOnce, ReportedMasksShadow};
 ghost use Rattle.isle_laws_demands.specs.VisitLaws.{SitesStandOnce, FormedRulesDemandGates, ClosingKeepsGates, ElaboratedRulesDemandGates, BuiltRulesDemandGates, BuiltSetsAreWellBuilt, NoneAskedAndGoneOver, MultiCallsAreGoneOver, NoRuleAsksAndGoesOver, MultiTermsHaveOnePriority};
-ghost use Rattle.isle_laws_demands.specs.MatchLaws.{VisitsMatch, UnreachableRulesNeverMatch, ClosedDemandsHoldAlike};
-ghost use Rattle.isle_model.specs.claims.SetMeanings.{BuiltSetsAreTested};
+ghost use Rattle.isle_laws_demands.specs.MatchLaws.{VisitsMatch, UnreachableRulesNeverMatch, ClosedDemandsHoldAlike, BuiltDemandsHoldAlike, BuiltSetsMatchByDemands};
+ghost use Rattle.isle_model.specs.claims.SetMeanings.{BuiltSetsAreTested, BuiltSetsCanBeServed, BuiltSetsAreCollected};
 
 use isle_laws_lists::{lists_agree, rules_are_formed};
 
@@ -127,6 +128,28 @@ pub fn plain_closing_ends()
     ensures { PlainClosingEnds }
 {}
 
+/// So does that of the demands of each rule that is built.
+#[tactic(auto, using(crate::proofs::closure::BuiltRules::closing_ends_lem))]
+pub fn closings_end()
+    ensures { ClosingEnds }
+{}
+
+/// So the closed demands of a rule that is built are all that follows, where its visit makes the sites that it equates.
+#[tactic(auto, using(crate::proofs::closure::BuiltRules::closings_of_built_rules_are_whole_lem))]
+pub fn closings_of_built_rules_are_whole()
+    ensures { ClosingsOfBuiltRulesAreWhole }
+{}
+
+/// And none of their classes holds a constrained site.
+pub fn constrained_sites_stand_in_no_class()
+    ensures { ConstrainedSitesStandInNoClass }
+{}
+
+/// So no rule of a built set both constrains and equates a site.
+pub fn built_rules_constrain_or_equate()
+    ensures { BuiltRulesConstrainOrEquate }
+{}
+
 /// In a built set no site stands twice.
 pub fn sites_stand_once()
     ensures { SitesStandOnce }
@@ -194,6 +217,38 @@ pub fn multi_terms_have_one_priority()
     lists_agree();
 }
 
+/// The visit of a rule that hangs together makes the sites that it equates.
+pub fn formed_rules_make_equal_sites()
+    ensures { FormedRulesMakeEqualSites }
+{}
+
+/// So the closed demands of each rule that is built of elaborated rules are all that follows.
+pub fn built_demands_are_whole()
+    ensures { BuiltDemandsAreWhole }
+{
+    rules_are_formed();
+    lists_agree();
+}
+
+/// A set that is built of elaborated rules can be served: no site stands twice or is both constrained and equated, the
+/// gates below what a rule tests and goes over are demanded, and the rules of a multi term have one priority.
+pub fn built_sets_can_be_served()
+    ensures { BuiltSetsCanBeServed }
+{
+    rules_are_formed();
+    lists_agree();
+    elaborated_rules_demand_gates();
+}
+
+/// And in a multi term whose rules make no impure call and leave no multi call unused it meets what collecting asks.
+pub fn built_sets_are_collected()
+    ensures { BuiltSetsAreCollected }
+{
+    rules_are_formed();
+    lists_agree();
+    elaborated_rules_demand_gates();
+}
+
 /// A rule that elaborates matches under a pick exactly where the demands of its visit hold.
 pub fn visits_match()
     ensures { VisitsMatch }
@@ -208,3 +263,17 @@ pub fn unreachable_rules_never_match()
 pub fn closed_demands_hold_alike()
     ensures { ClosedDemandsHoldAlike }
 {}
+
+/// So those of each rule that is built of elaborated rules do.
+pub fn built_demands_hold_alike()
+    ensures { BuiltDemandsHoldAlike }
+{
+    built_demands_are_whole();
+}
+
+/// And so, under each of its picks, a rule of a set that is built of elaborated rules matches exactly where its demands hold.
+pub fn built_sets_match_by_demands()
+    ensures { BuiltSetsMatchByDemands }
+{
+    built_demands_are_whole();
+}

@@ -1,21 +1,20 @@
 -- Under each of its picks a rule of a built set matches exactly where its demands hold, by the numbers of the set.
-use Rattle.std.proofs.Common.{◌≡◌, ap, ◌∙◌, Bool, ℕ, zero, suc, List, [], ◌∷◌, Some, is_some, slice_get, Contains, sym, subst}
-use Rattle.isle_model.specs.lists.Syntax.{Definition}
-use Rattle.isle_model.specs.lists.Elaborated.{TypedRules}
+use Rattle.std.proofs.Common.{◌↔◌, ◌≡◌, ap, ◌∙◌, ℕ, zero, suc, List, [], ◌∷◌, Some, is_some, slice_get, Contains, sym, subst}
 use Rattle.isle_model.specs.rules.Program.{Program, rules_of}
 use Rattle.isle_model.specs.rules.Picks.{matches_under}
 use Rattle.isle_model.specs.trees.Run.{world_of}
 use Rattle.isle_model.specs.trees.Collects.{demands_hold}
 use Rattle.isle_model.specs.sites.Sites.{Site, SetRule, SiteSet}
 use Rattle.isle_model.specs.sites.Demands.{demands_of}
-use Rattle.isle_model.specs.sites.Closure.{closed, ClosedDemandsHold}
+use Rattle.isle_model.specs.sites.Closure.{DemandsHold, closed, ClosedDemandsHold}
 use Rattle.isle_model.specs.sites.Overlap.{BuiltRule, built_rules}
 use Rattle.isle_model.specs.sites.RuleSets.{IsRuleOf, AreRulesOfSet, IsBuilt}
-use Rattle.isle_model.specs.claims.Environments.{TypesRead, IsElaborated, program_of}
-use Rattle.isle_model.specs.claims.SetMeanings.{AreOneRule, MatchesByDemands}
-use Rattle.isle_model.proofs.Elements.{contains_from_in, in_slice, some_is, none_some}
+use Rattle.isle_model.specs.claims.Environments.{program_of}
+use Rattle.isle_model.specs.claims.SetMeanings.{AreOneRule}
+use Rattle.isle_model.proofs.Elements.{in_from_contains, contains_from_in, in_slice, some_is, none_some}
+use Rattle.isle_laws_demands.specs.BuiltLaws.{BuiltDemandsAreWhole}
 use Rattle.isle_laws_demands.specs.ClosureLaws.{ClosedIsWhole}
-use Rattle.isle_laws_demands.specs.MatchLaws.{IsTried}
+use Rattle.isle_laws_demands.specs.MatchLaws.{IsTried, BuiltDemandsHoldAlike, BuiltSetsMatchByDemands}
 use Rattle.isle_laws_demands.proofs.overlaps.Overlaps.{bool_same}
 use Rattle.isle_laws_demands.proofs.visits.Built.{was_built}
 use Rattle.isle_laws_demands.proofs.matching.ClosedAlike.{closed_demands_hold_alike_lem}
@@ -32,21 +31,30 @@ one_place p sites (c ∷ bs) (q ∷ rs) (suc i) b r h e f = one_place p sites bs
 pub one_rule : (p : Program) (t : ℕ) (set : SiteSet) (b : BuiltRule) (r : SetRule) → IsBuilt p t set → AreOneRule p t set b r → IsRuleOf p set.sites b r
 one_rule p t set b r h a = one_place p set.sites (built_rules p t) set.rules a.place b r h.rules a.typed a.built
 
-pub matches_by_demands_lem : (e : TypesRead) (defs : List Definition) (expand : Bool) (rules : TypedRules) (t : ℕ) (set : SiteSet) → IsElaborated e defs expand rules → IsBuilt (program_of e defs rules.rules) t set
-    → ((b : BuiltRule) → Contains (built_rules (program_of e defs rules.rules) t) b → ClosedIsWhole (demands_of (program_of e defs rules.rules) b.rule) b.demands)
-    → MatchesByDemands (program_of e defs rules.rules) t set
-matches_by_demands_lem e defs expand rules t set h built whole m args typed served apart b r k one pick =
+-- a built rule's demands, after the sites of the rules before it
+pub built_demands_hold_alike_lem : BuiltDemandsAreWhole → BuiltDemandsHoldAlike
+built_demands_hold_alike_lem whole e defs expand rules t m args b k h i a =
+    let p = program_of e defs rules.rules in
+    let w = was_built p [] (rules_of p t) b (in_from_contains (built_rules p t) b i) in
+    let rule = ap (λ (x : BuiltRule). x.rule) w.same in
+    let demands : closed w.before (demands_of p b.rule) ≡ b.demands = ap (λ x. closed w.before (demands_of p x)) (sym rule) ∙ ap (λ (x : BuiltRule). x.demands) w.same in
+    subst (λ d. DemandsHold m args k (demands_of p b.rule) ↔ ClosedDemandsHold m args k d) demands
+    (closed_demands_hold_alike_lem e defs expand rules t m args b.rule k h a w.before (subst (ClosedIsWhole (demands_of p b.rule)) (sym demands) (whole e defs expand rules t h b i)))
+
+-- a built rule is one of its term
+pub built_listed : (p : Program) (t : ℕ) (b : BuiltRule) → Contains (built_rules p t) b → Contains (rules_of p t) b.rule
+built_listed p t b i =
+    let w = was_built p [] (rules_of p t) b (in_from_contains (built_rules p t) b i) in
+    subst (Contains (rules_of p t)) (ap (λ (x : BuiltRule). x.rule) w.same) (contains_from_in (rules_of p t) w.rule w.listed)
+
+pub built_sets_match_by_demands_lem : BuiltDemandsAreWhole → BuiltSetsMatchByDemands
+built_sets_match_by_demands_lem whole e defs expand rules t set h built m args typed served apart b r k one pick =
     let p = program_of e defs rules.rules in
     let q = one_rule p t set b r built one in
-    let listed = in_slice (built_rules p t) one.place b one.typed in
-    let w = was_built p [] (rules_of p t) b listed in
-    let rule = ap (λ (x : BuiltRule). x.rule) w.same in
-    let a : IsTried p t m args b.rule k = record { typed = typed; served = served; rule = subst (Contains (rules_of p t)) rule (contains_from_in (rules_of p t) w.rule w.listed); pick = pick } in
-    let demands : closed w.before (demands_of p b.rule) ≡ b.demands = ap (λ x. closed w.before (demands_of p x)) (sym rule) ∙ ap (λ (x : BuiltRule). x.demands) w.same in
+    let i = contains_from_in (built_rules p t) b (in_slice (built_rules p t) one.place b one.typed) in
+    let a : IsTried p t m args b.rule k = record { typed = typed; served = served; rule = built_listed p t b i; pick = pick } in
     let v = visits_match_lem e defs expand rules t m args b.rule k h a in
-    let c = closed_demands_hold_alike_lem e defs expand rules t m args b.rule k h a w.before
-    (subst (ClosedIsWhole (demands_of p b.rule)) (sym demands) (whole b (contains_from_in (built_rules p t) b listed))) in
+    let c = built_demands_hold_alike_lem whole e defs expand rules t m args b k h i a in
     let n = numbers_hold p t set.sites m args k b.demands r q.constraints q.classes in
     bool_same (is_some (matches_under p m k b.rule args)) (demands_hold (world_of p t set.sites m args) k r)
-    (λ i. n.1 (subst (ClosedDemandsHold m args k) demands (c.0 (v.matching.0 i))))
-    (λ i. v.matching.1 (c.1 (subst (ClosedDemandsHold m args k) (sym demands) (n.0 i))))
+    (λ j. n.1 (c.0 (v.matching.0 j))) (λ j. v.matching.1 (c.1 (n.0 j)))

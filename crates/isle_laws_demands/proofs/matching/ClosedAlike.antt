@@ -1,14 +1,11 @@
 -- Of a rule that elaborates, the closed demands hold exactly where the demands do, if they are all that follows.
-use Rattle.std.proofs.Common.{◌≡◌, List, Contains, sym, ◌∙◌}
 use Rattle.isle_model.specs.rules.Program.{rules_of}
-use Rattle.isle_model.specs.sites.Sites.{Constraint, SiteTerm}
 use Rattle.isle_model.specs.sites.Demands.{demands_of}
-use Rattle.isle_model.specs.sites.Closure.{field_terms, HasConstraint, closed}
+use Rattle.isle_model.specs.sites.Closure.{closed}
 use Rattle.isle_model.specs.claims.Environments.{program_of}
-use Rattle.isle_model.proofs.Elements.{In}
 use Rattle.isle_laws_demands.specs.MatchLaws.{ClosedDemandsHoldAlike}
 use Rattle.isle_laws_demands.proofs.closure.Closing.{closed_follows}
-use Rattle.isle_laws_demands.proofs.matching.ClosedDemands.{IsOne, closed_hold, ask_enough}
+use Rattle.isle_laws_demands.proofs.matching.ClosedDemands.{closed_hold, ask_enough}
 use Rattle.isle_laws_demands.proofs.matching.FormedDemands.{rule_formed}
 use Rattle.isle_laws_demands.proofs.matching.NeverMatches.{program_has_types}
 use Rattle.isle_laws_demands.proofs.matching.TypedParts.{program_has_typed_parts}

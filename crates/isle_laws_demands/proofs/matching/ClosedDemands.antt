@@ -1,5 +1,5 @@
 -- The closed demands of a rule hold exactly where its demands do.
-use Rattle.std.proofs.Common.{◌≡◌, ◌≢◌, ◌⊎◌, ◌==◌, ℕ, zero, suc, ◌+◌, ◌<◌, Bool, true, false, ◌&&◌, List, [], ◌∷◌, map, length, Option, Some, None, is_some, slice_get, Contains, filter, flat_map, refl, sym, ap, ap₂, subst, ◌∙◌, inl, inr, arith, eq-eqb, eqb-true}
+use Rattle.std.proofs.Common.{◌≡◌, ◌⊎◌, ◌==◌, ℕ, zero, suc, ◌+◌, ◌<◌, true, List, [], ◌∷◌, map, length, Option, Some, None, is_some, slice_get, Contains, filter, refl, sym, ap, ap₂, subst, ◌∙◌, inl, inr, arith, eq-eqb, eqb-true}
 use Rattle.std.proofs.lemmas.Bool.{and_parts, cond-true, false≢true}
 use Rattle.isle_model.specs.rules.Values.{Value, truth, atom, of_variant, of_struct, Values, no_value, value_and, listed, variant_types, struct_types, well_typed, all_well_typed}
 use Rattle.isle_model.specs.rules.Meaning.{Content, one, just, Meaning, bool_literal, int_literal, literal_value, constant_value}
@@ -9,15 +9,15 @@ use Rattle.isle_model.specs.rules.Picks.{field_of_variant, field_of_struct}
 use Rattle.isle_model.specs.trees.Run.{as_value, from_value, content_fields}
 use Rattle.isle_model.specs.sites.Sites.{Constraint, is_variant, is_struct, is_bool, is_int, is_prim, is_present, SiteTerm, variant_field, struct_field}
 use Rattle.isle_model.specs.sites.Demands.{Demands, has_site}
-use Rattle.isle_model.specs.sites.Closure.{fields_from, field_terms, Joined, given, itself, turned, chained, at_field, HasConstraint, IsMet, AreEqual, Closed, class_at, without_class_of, begins_with, ascending, next_constrained, field_equalities, taken, closing, before_closing, in_order, most_closing_steps, closed, ClosedDemandsHold}
-use Rattle.isle_model.proofs.Elements.{In, in_from_contains, contains_from_in, in_map, in_filter, passed_filter, from_flat_map, some_is, none_some}
+use Rattle.isle_model.specs.sites.Closure.{fields_from, field_terms, Joined, given, itself, at_field, HasConstraint, Closed, class_at, without_class_of, begins_with, ascending, next_constrained, field_equalities, taken, closing, before_closing, in_order, most_closing_steps, closed, ClosedDemandsHold}
+use Rattle.isle_model.proofs.Elements.{In, in_from_contains, contains_from_in, in_map, in_filter, passed_filter, from_flat_map, some_is}
 use Rattle.isle_model.proofs.SameSites.{term_cases}
 use Rattle.isle_laws_demands.specs.ClosureLaws.{ClosedIsWhole}
 use Rattle.isle_laws_demands.proofs.closure.Classes.{has_in}
 use Rattle.isle_laws_demands.proofs.closure.Closing.{FollowsSoFar, constraint_carried, in_class_joined, next_asked, taken_follows, before_closing_follows, in_order_follows}
 use Rattle.isle_laws_demands.proofs.closure.Whole.{AllIn, each_all_in, without_in, equality_members}
-use Rattle.isle_laws_demands.proofs.matching.Contents.{Given, content_of, Here, has_value}
-use Rattle.isle_laws_demands.proofs.matching.Demanded.{Meets, Equal, AreMet, AskEnough, one_is, same_content}
+use Rattle.isle_laws_demands.proofs.matching.Contents.{Given, content_of}
+use Rattle.isle_laws_demands.proofs.matching.Demanded.{AreMet, AskEnough, one_is, same_content}
 use Rattle.isle_laws_demands.proofs.matching.FormedDemands.{IsFormed, AreFormed}
 use Rattle.isle_laws_demands.proofs.matching.Shapes.{HasForm, has_form}
 

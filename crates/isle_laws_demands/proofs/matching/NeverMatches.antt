@@ -1,11 +1,10 @@
 -- A rule that elaborates and is unreachable never matches, under any of its picks.
-use Rattle.std.proofs.Common.{◌≡◌, ℕ, Bool, List, [], ◌∷◌, take, Some, slice_get, ap}
+use Rattle.std.proofs.Common.{◌≡◌, Bool, List, [], ◌∷◌, take, Some, slice_get, ap}
 use Rattle.isle_model.specs.lists.Syntax.{Definition}
 use Rattle.isle_model.specs.lists.Tables.{TypeEntry, builtin_type}
 use Rattle.isle_model.specs.lists.TypeTable.{builtin_names, builtin_from}
 use Rattle.isle_model.specs.lists.Elaborated.{TypedRules}
 use Rattle.isle_model.specs.rules.Program.{rules_of}
-use Rattle.isle_model.specs.sites.Demands.{demands_of}
 use Rattle.isle_model.specs.claims.Environments.{TypesRead, IsElaborated, program_of}
 use Rattle.isle_laws_demands.specs.MatchLaws.{UnreachableRulesNeverMatch}
 use Rattle.isle_laws_demands.proofs.matching.FormedDemands.{rule_formed}

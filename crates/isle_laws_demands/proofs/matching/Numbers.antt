@@ -1,8 +1,8 @@
 -- The demands of a set's rule, by the numbers of its sites, hold exactly where the closed demands do that it is built of.
-use Rattle.std.proofs.Common.{◌≡◌, ◌==◌, ◌<◌, ◌≤◌, ℕ, suc, Bool, true, false, ◌&&◌, List, [], ◌∷◌, length, Option, Some, None, is_some, slice_get, Contains, All, IsTrue, refl, sym, ap, subst, ◌∙◌, inl, inr, arith, eq-eqb, eqb-true}
+use Rattle.std.proofs.Common.{◌≡◌, ◌==◌, ◌≤◌, ℕ, true, ◌&&◌, List, [], ◌∷◌, length, Option, Some, None, is_some, refl, sym, ap, subst, ◌∙◌, inl, inr, arith, eq-eqb, eqb-true}
 use Rattle.std.proofs.lemmas.Bool.{and_parts, and_from, false≢true}
-use Rattle.std.specs.List.{list_all, list_any}
-use Rattle.isle_model.specs.rules.Values.{Value, value_eq}
+use Rattle.std.specs.List.{list_all}
+use Rattle.isle_model.specs.rules.Values.{Value}
 use Rattle.isle_model.specs.rules.Meaning.{Content, one, Meaning}
 use Rattle.isle_model.specs.rules.Outcome.{then_option}
 use Rattle.isle_model.specs.rules.Program.{Program}
@@ -10,8 +10,8 @@ use Rattle.isle_model.specs.rules.Picks.{Pick, site_content}
 use Rattle.isle_model.specs.trees.Run.{World, as_value, content_fields, world_of}
 use Rattle.isle_model.specs.trees.Places.{is_in, joins_in}
 use Rattle.isle_model.specs.trees.Collects.{content_at, meets, same_value, value_at, all_same, demands_hold}
-use Rattle.isle_model.specs.sites.Sites.{Site, Constraint, SetRule, SiteTerm, unfold_site}
-use Rattle.isle_model.specs.sites.Closure.{IsMet, AreEqual, Closed, ClosedDemandsHold}
+use Rattle.isle_model.specs.sites.Sites.{Site, Constraint, SetRule, unfold_site}
+use Rattle.isle_model.specs.sites.Closure.{Closed, ClosedDemandsHold}
 use Rattle.isle_model.specs.sites.RuleSets.{AsksFor, Equates}
 use Rattle.isle_model.proofs.Elements.{In, in_from_contains, contains_from_in, in_any, any_in, all_in, all_from}
 use Rattle.isle_model.proofs.ValuesEqual.{eq_means, eq_same}

@@ -1,7 +1,6 @@
 -- Where a rule matches, its demands can be met: an unreachable rule never matches.
-use Rattle.std.proofs.Common.{◌≡◌, ◌≢◌, ◌==◌, ℕ, zero, suc, ◌+◌, ◌<◌, ◌≤◌, Bool, true, false, ◌&&◌, List, [], ◌∷◌, length, Option, Some, None, is_some, slice_get, IsSomeAnd, IsTrue, Contains, flat_map, refl, sym, ap, subst, ◌∙◌, inl, inr, arith, eq-eqb, eqb-true}
-use Rattle.std.proofs.lemmas.Bool.{and_parts, cond-true, false≢true}
-use Rattle.isle_model.specs.lists.Tables.{TypeEntry}
+use Rattle.std.proofs.Common.{◌≡◌, ◌==◌, ℕ, zero, suc, ◌+◌, ◌<◌, ◌≤◌, Bool, true, false, List, [], ◌∷◌, length, Option, Some, None, slice_get, IsSomeAnd, IsTrue, Contains, flat_map, refl, sym, ap, subst, ◌∙◌, inl, arith, eq-eqb, eqb-true}
+use Rattle.std.proofs.lemmas.Bool.{and_parts, cond-true}
 use Rattle.isle_model.specs.rules.Values.{Value, truth, atom, of_variant, of_struct, Values, no_value, value_and, listed, variant_types, struct_types, well_typed, all_well_typed}
 use Rattle.isle_model.specs.rules.Meaning.{Content, one, just, Meaning, bool_literal, int_literal, literal_value, constant_value}
 use Rattle.isle_model.specs.rules.Outcome.{then_option}
@@ -9,16 +8,15 @@ use Rattle.isle_model.specs.rules.Program.{Program}
 use Rattle.isle_model.specs.rules.Typed.{TypedRule}
 use Rattle.isle_model.specs.rules.Picks.{field_of_variant, field_of_struct}
 use Rattle.isle_model.specs.trees.Run.{as_value, from_value}
-use Rattle.isle_model.specs.lists.Setting.{bool_type}
 use Rattle.isle_model.specs.sites.Sites.{Constraint, is_variant, is_struct, is_bool, is_int, is_prim, is_present, SiteTerm, bool_term, int_term, prim_term, variant_field, struct_field}
 use Rattle.isle_model.specs.sites.Demands.{Demands, demands_of}
 use Rattle.isle_model.specs.sites.Closure.{fields_from, field_terms, Joined, given, itself, turned, chained, at_field, HasConstraint, IsPartOf, IsProperPart, directly, deeper, IsUnreachable, two_at_a_site, two_in_a_class, part_of_itself}
 use Rattle.isle_model.specs.sites.Serves.{asked_by, asked, constant_site, constant_type, typed_as, written_type, written_value, has_parts, tested_constants, Serves, TellsConstantsApart}
-use Rattle.isle_model.proofs.Elements.{In, in_from_contains, contains_from_in, in_right, in_flat_map, in_slice, slice_in, some_is, none_some}
-use Rattle.isle_laws_demands.proofs.matching.Contents.{Given, content_of, value_of}
-use Rattle.isle_laws_demands.proofs.matching.Demanded.{Meets, Equal, IsTyped, AreMet, one_is}
-use Rattle.isle_laws_demands.proofs.matching.FormedDemands.{IsFormed, AreFormed}
-use Rattle.isle_laws_demands.proofs.matching.Shapes.{HasTypes, one_type, no_variant, no_struct, atom_without_parts, as_many_values, HasForm, has_form}
+use Rattle.isle_model.proofs.Elements.{In, in_from_contains, contains_from_in, in_right, in_flat_map, slice_in, some_is, none_some}
+use Rattle.isle_laws_demands.proofs.matching.Contents.{Given, content_of}
+use Rattle.isle_laws_demands.proofs.matching.Demanded.{Equal, AreMet, one_is}
+use Rattle.isle_laws_demands.proofs.matching.FormedDemands.{AreFormed}
+use Rattle.isle_laws_demands.proofs.matching.Shapes.{HasTypes, one_type, no_variant, no_struct, atom_without_parts, as_many_values, has_form}
 
 -- 1. fields
 pub field_is : (f : ℕ → SiteTerm) (j n i : ℕ) (x : SiteTerm) → slice_get (fields_from f j n) i ≡ Some x → (f (j + i) ≡ x) × (i < n)

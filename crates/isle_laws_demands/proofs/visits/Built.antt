@@ -1,6 +1,6 @@
 -- Rules of a built set demand the gates of the sites that they test and return.
-use Rattle.std.proofs.Common.{◌≡◌, ◌⊎◌, ℕ, zero, suc, ◌==◌, ◌<◌, Bool, true, false, not, ◌&&◌, if◌then◌else◌, nat_lt, List, [], ◌∷◌, length, Option, Some, None, is_none, slice_get, Contains, IsTrue, flat_map, refl, sym, ap, ◌∙◌, subst, inl, inr, arith, eq-eqb, lt-ltb}
-use Rattle.std.proofs.lemmas.Bool.{and_parts, and_from, false≢true}
+use Rattle.std.proofs.Common.{◌≡◌, ◌⊎◌, ℕ, zero, suc, ◌==◌, ◌<◌, Bool, true, false, ◌&&◌, if◌then◌else◌, nat_lt, List, [], ◌∷◌, length, Option, Some, None, slice_get, Contains, IsTrue, flat_map, refl, sym, ap, ◌∙◌, subst, inl, inr, arith, eq-eqb, lt-ltb}
+use Rattle.std.proofs.lemmas.Bool.{and_from}
 use Rattle.isle_model.specs.rules.Typed.{TypedRule}
 use Rattle.isle_model.specs.rules.Program.{Program, rules_of}
 use Rattle.isle_model.specs.sites.Sites.{Site, bool_site, int_site, prim_site, argument_site, extractor_site, constructor_site, iterator_site, make_variant_site, match_variant_site, make_struct_site, extract_struct_site, make_some_site, match_some_site, match_tuple_site, Constraint, is_variant, is_struct, is_present, SetRule, SiteSet, sources_of, sources_at, SiteTerm, each_term, layer, layer_at, unfold_site}
@@ -9,12 +9,12 @@ use Rattle.isle_model.specs.trees.Places.{is_in, below}
 use Rattle.isle_model.specs.sites.Gates.{asks_variant, asks_struct, asks_answer, gate_demanded}
 use Rattle.isle_model.specs.trees.Collects.{IsPureSite}
 use Rattle.isle_model.specs.trees.SetRuns.{IsUnwrap}
-use Rattle.isle_model.specs.sites.Closure.{IsUnreachable, is_unreachable, closed}
-use Rattle.isle_model.specs.sites.Limits.{first_limit, sites_after_rule}
+use Rattle.isle_model.specs.sites.Closure.{IsUnreachable, closed}
+use Rattle.isle_model.specs.sites.Limits.{sites_after_rule}
 use Rattle.isle_model.specs.sites.Overlap.{BuiltRule, is_built, built_rule, built_from, built_rules}
 use Rattle.isle_model.specs.sites.RuleSets.{IsRuleOf, AreRulesOfSet, IsBuilt}
 use Rattle.isle_model.proofs.Elements.{In, in_from_contains, contains_from_in, in_either, any_in, from_flat_map, in_filter}
-use Rattle.isle_laws_demands.proofs.closure.Settled.{verdict_is_exact_lem}
+use Rattle.isle_laws_demands.proofs.closure.BuiltRules.{reachable}
 use Rattle.isle_model.specs.sites.DemandedGates.{AsksAnswer, IsPureCall, GatesDemanded, AllGatesDemanded, ClosedCanBeTested, DemandsGates}
 use Rattle.isle_laws_demands.proofs.visits.Unfolding.{unfolds}
 use Rattle.isle_laws_demands.proofs.visits.Once.{one_number}
@@ -48,11 +48,6 @@ was_built p before (r ∷ rs) b i =
     here : (q : Bool) → is_built p before r ≡ q → In (if q then built_rule p before r ∷ [] else []) b → WasBuilt p (r ∷ rs) b
     here true e j = elim j [ inl s ↦ record { rule = r; before = before; listed = inl refl; built = e; same = s } | inr n ↦ absurd n ]
     here false e j = absurd j
-
-reachable : (p : Program) (before : List SiteTerm) (r : TypedRule) → is_built p before r ≡ true → IsUnreachable (demands_of p r) → ⊥
-reachable p before r h u =
-    let n = (and_parts (is_none (first_limit p before r)) (not (is_unreachable (demands_of p r))) h).1 in
-    false≢true (sym (ap not ((verdict_is_exact_lem (demands_of p r)).1 u)) ∙ n)
 
 -- the gates of a built rule
 pub record BuiltGates (p : Program) (b : BuiltRule) : Type 0 where

@@ -18,7 +18,7 @@ use Rattle.isle_model.proofs.Elements.{In, in_from_contains, in_map}
 use Rattle.isle_model.specs.sites.DemandedGates.{IsPureExpr, ArePureExprs, ArePureLets, ArePureIfLets, DemandsGates}
 use Rattle.isle_laws_demands.proofs.visits.Rules.{formed_rules_demand_gates_lem}
 
-named_at : (name : ℕ) (ts : List TermEntry) (t : TermEntry) → entry_named name ts ≡ Some t → (k : ℕ) × (slice_get ts k ≡ Some t)
+pub named_at : (name : ℕ) (ts : List TermEntry) (t : TermEntry) → entry_named name ts ≡ Some t → (k : ℕ) × (slice_get ts k ≡ Some t)
 named_at name [] t h = absurd (none-some t h)
 named_at name (u ∷ us) t h =
     elim (eqb u.name name) as (λ b. cond b (Some u) (entry_named name us) ≡ Some t → (k : ℕ) × (slice_get (u ∷ us) k ≡ Some t)) [
@@ -42,7 +42,7 @@ allowed_pure flags h t c = by t.kind c
         subst (λ b. (not b || own.pure) ≡ true) h (and_parts (not flags.pure || own.pure) ((flags.multi || not own.multi) && (flags.partial || not own.partial)) a).0
 
 -- the flags of a declared term are those of its declaration
-declared_are : (flags : Flags) (t : TermEntry) → declared_flags t.kind ≡ Some flags → flags_of (kind_of t) ≡ flags
+pub declared_are : (flags : Flags) (t : TermEntry) → declared_flags t.kind ≡ Some flags → flags_of (kind_of t) ≡ flags
 declared_are flags t h = by t.kind h
   where
     by : (k : TermKindEntry) → declared_flags k ≡ Some flags → flags_of (elim k as (λ _. Kind) [

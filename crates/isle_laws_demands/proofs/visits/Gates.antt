@@ -2,6 +2,7 @@
 use Rattle.std.proofs.Common.{ℕ, Bool, true, false, List, Contains, refl, subst, inl, inr}
 use Rattle.isle_model.specs.sites.Sites.{Constraint, is_variant, is_struct, is_present, SiteTerm, bool_term, int_term, prim_term, argument, extractor_call, constructor_call, pick_of, variant_made, variant_field, struct_made, struct_field, some_made, some_part, tuple_part, no_site, SiteTerms, no_site_term, site_term_and}
 use Rattle.isle_model.specs.sites.Demands.{unwraps, unwraps_all}
+use Rattle.isle_model.specs.trees.Collects.{calls_in, calls_in_all}
 use Rattle.isle_model.specs.sites.DemandedGates.{AsksAnswer, IsPureCall, GatesDemanded, AllGatesDemanded}
 use Rattle.isle_model.proofs.Elements.{In, in_left, in_right, in_either}
 
@@ -43,28 +44,55 @@ module _ (cs : List (SiteTerm × Constraint)) (calls : List SiteTerm) where
   pure_weaker true i h = h
   pure_weaker false i h = tt
 
-  -- what is demanded of a tested site is more than what is of a value
+  -- impure calls needn't be ruled out
   mutual
-    pub weaker : (pure : Bool) (u : SiteTerm) → GatesDemanded true true cs calls u → GatesDemanded false pure cs calls u
-    weaker p (bool_term b ty) h = tt
-    weaker p (int_term z ty) h = tt
-    weaker p (prim_term name) h = tt
-    weaker p (argument i) h = tt
-    weaker p (extractor_call t u) h = weaker p u h
-    weaker p (constructor_call t args i) h = (pure_weaker p i h.0, all_weaker p args h.1)
-    weaker p (pick_of u) h = (h.0, weaker p u h.1)
-    weaker p (variant_made ty variant fields) h = all_weaker p fields h
-    weaker p (variant_field u variant f) h = (h.0, weaker p u h.1)
-    weaker p (struct_made ty fields) h = all_weaker p fields h
-    weaker p (struct_field u f) h = (h.0, weaker p u h.1)
-    weaker p (some_made u) h = weaker p u h
-    weaker p (some_part u) h = (tt, weaker p u h.1)
-    weaker p (tuple_part u f) h = weaker p u h
-    weaker p no_site h = tt
+    pub unpurified : (asked pure : Bool) (u : SiteTerm) → GatesDemanded asked true cs calls u → GatesDemanded asked pure cs calls u
+    unpurified a p (bool_term b ty) h = tt
+    unpurified a p (int_term z ty) h = tt
+    unpurified a p (prim_term name) h = tt
+    unpurified a p (argument i) h = tt
+    unpurified a p (extractor_call t u) h = unpurified a p u h
+    unpurified a p (constructor_call t args i) h = (pure_weaker p i h.0, all_unpurified a p args h.1)
+    unpurified a p (pick_of u) h = (h.0, unpurified a p u h.1)
+    unpurified a p (variant_made ty variant fields) h = all_unpurified a p fields h
+    unpurified a p (variant_field u variant f) h = (h.0, unpurified a p u h.1)
+    unpurified a p (struct_made ty fields) h = all_unpurified a p fields h
+    unpurified a p (struct_field u f) h = (h.0, unpurified a p u h.1)
+    unpurified a p (some_made u) h = unpurified a p u h
+    unpurified a p (some_part u) h = (h.0, unpurified a p u h.1)
+    unpurified a p (tuple_part u f) h = unpurified a p u h
+    unpurified a p no_site h = tt
 
-    pub all_weaker : (pure : Bool) (us : SiteTerms) → AllGatesDemanded true true cs calls us → AllGatesDemanded false pure cs calls us
-    all_weaker p no_site_term h = tt
-    all_weaker p (site_term_and u us) h = (weaker p u h.0, all_weaker p us h.1)
+    all_unpurified : (asked pure : Bool) (us : SiteTerms) → AllGatesDemanded asked true cs calls us → AllGatesDemanded asked pure cs calls us
+    all_unpurified a p no_site_term h = tt
+    all_unpurified a p (site_term_and u us) h = (unpurified a p u h.0, all_unpurified a p us h.1)
+
+  -- answers needn't be asked for
+  mutual
+    pub unasked : (pure : Bool) (u : SiteTerm) → GatesDemanded true pure cs calls u → GatesDemanded false pure cs calls u
+    unasked p (bool_term b ty) h = tt
+    unasked p (int_term z ty) h = tt
+    unasked p (prim_term name) h = tt
+    unasked p (argument i) h = tt
+    unasked p (extractor_call t u) h = unasked p u h
+    unasked p (constructor_call t args i) h = (h.0, all_unasked p args h.1)
+    unasked p (pick_of u) h = (h.0, unasked p u h.1)
+    unasked p (variant_made ty variant fields) h = all_unasked p fields h
+    unasked p (variant_field u variant f) h = (h.0, unasked p u h.1)
+    unasked p (struct_made ty fields) h = all_unasked p fields h
+    unasked p (struct_field u f) h = (h.0, unasked p u h.1)
+    unasked p (some_made u) h = unasked p u h
+    unasked p (some_part u) h = (tt, unasked p u h.1)
+    unasked p (tuple_part u f) h = unasked p u h
+    unasked p no_site h = tt
+
+    all_unasked : (pure : Bool) (us : SiteTerms) → AllGatesDemanded true pure cs calls us → AllGatesDemanded false pure cs calls us
+    all_unasked p no_site_term h = tt
+    all_unasked p (site_term_and u us) h = (unasked p u h.0, all_unasked p us h.1)
+
+  -- what is demanded of a tested site is more than what is of a value
+  pub weaker : (pure : Bool) (u : SiteTerm) → GatesDemanded true true cs calls u → GatesDemanded false pure cs calls u
+  weaker p u h = unasked p u (unpurified true p u h)
 
   -- where each call that a pure value unwraps is asked to answer, the value may be tested
   mutual
@@ -114,3 +142,28 @@ module _ (cs : List (SiteTerm × Constraint)) (calls : List SiteTerm) where
     all_unwrapped no_site_term s h i = absurd i
     all_unwrapped (site_term_and u us) s h i =
         elim (in_either (unwraps u) (unwraps_all us) s i) [ inl j ↦ unwrapped u s h.0 j | inr j ↦ all_unwrapped us s h.1 j ]
+
+  -- and the multi calls that it takes answers of
+  mutual
+    pub gates_of_taken : (asked pure : Bool) (u s : SiteTerm) → GatesDemanded asked pure cs calls u → In (calls_in u) s → GatesDemanded asked pure cs calls s
+    gates_of_taken a p (bool_term b ty) s h i = absurd i
+    gates_of_taken a p (int_term z ty) s h i = absurd i
+    gates_of_taken a p (prim_term name) s h i = absurd i
+    gates_of_taken a p (argument n) s h i = absurd i
+    gates_of_taken a p (extractor_call t u) s h i = gates_of_taken a p u s h i
+    gates_of_taken a p (constructor_call t args n) s h i = all_gates_of_taken a p args s h.1 i
+    gates_of_taken a p (pick_of u) s h (inl e) = subst (GatesDemanded a p cs calls) e h.1
+    gates_of_taken a p (pick_of u) s h (inr i) = gates_of_taken a p u s h.1 i
+    gates_of_taken a p (variant_made ty variant fields) s h i = all_gates_of_taken a p fields s h i
+    gates_of_taken a p (variant_field u variant f) s h i = gates_of_taken a p u s h.1 i
+    gates_of_taken a p (struct_made ty fields) s h i = all_gates_of_taken a p fields s h i
+    gates_of_taken a p (struct_field u f) s h i = gates_of_taken a p u s h.1 i
+    gates_of_taken a p (some_made u) s h i = gates_of_taken a p u s h i
+    gates_of_taken a p (some_part u) s h i = gates_of_taken a p u s h.1 i
+    gates_of_taken a p (tuple_part u f) s h i = gates_of_taken a p u s h i
+    gates_of_taken a p no_site s h i = absurd i
+
+    pub all_gates_of_taken : (asked pure : Bool) (us : SiteTerms) (s : SiteTerm) → AllGatesDemanded asked pure cs calls us → In (calls_in_all us) s → GatesDemanded asked pure cs calls s
+    all_gates_of_taken a p no_site_term s h i = absurd i
+    all_gates_of_taken a p (site_term_and u us) s h i =
+        elim (in_either (calls_in u) (calls_in_all us) s i) [ inl j ↦ gates_of_taken a p u s h.0 j | inr j ↦ all_gates_of_taken a p us s h.1 j ]

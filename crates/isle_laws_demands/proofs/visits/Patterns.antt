@@ -38,21 +38,21 @@ from_new x ty vars more e =
 
 -- 2. parts of a term's pattern
 -- as many sites as patterns
-abbrev AsMany : List SiteTerm → TypedPatterns → Type 0
+abbrev pub AsMany : List SiteTerm → TypedPatterns → Type 0
 AsMany [] no_typed_pattern = Unit {0}
 AsMany (s ∷ ss) (typed_pattern_and q qs) = AsMany ss qs
 AsMany _ _ = ⊥
 
-as_many : (f : ℕ → SiteTerm) (i : ℕ) (args : TypedPatterns) → AsMany (from_to f i args) args
+pub as_many : (f : ℕ → SiteTerm) (i : ℕ) (args : TypedPatterns) → AsMany (from_to f i args) args
 as_many f i no_typed_pattern = tt
 as_many f i (typed_pattern_and q qs) = as_many f (suc i) qs
 
 -- a term's pattern, opened: the inputs of its parts may be tested
-record IsOpened (v : Visit) (o : Opened) (args : TypedPatterns) : Type 0 where
-  later : Later v o.visit
-  binds : o.visit.vars ≡ v.vars
-  inputs : (u : SiteTerm) → In o.inputs u → MayTest o.visit u
-  count : AsMany o.inputs args
+pub record IsOpened (v : Visit) (o : Opened) (args : TypedPatterns) : Type 0 where
+  pub later : Later v o.visit
+  pub binds : o.visit.vars ≡ v.vars
+  pub inputs : (u : SiteTerm) → In o.inputs u → MayTest o.visit u
+  pub count : AsMany o.inputs args
 
 -- one of n numbers from i
 pub in_numbers : (f : ℕ → SiteTerm) (i : ℕ) (args : TypedPatterns) (u : SiteTerm) → In (from_to f i args) u → (j : ℕ) × (j < i + pattern_count args) × (f j ≡ u)
@@ -66,7 +66,7 @@ output_good v s (typed_pattern_and q no_typed_pattern) u m i = elim i [ inl e �
 output_good v s (typed_pattern_and q (typed_pattern_and r rs)) u m i =
     let k = in_numbers (tuple_part s) 0 (typed_pattern_and q (typed_pattern_and r rs)) u i in subst (MayTest v) k.2 m
 
-output_count : (s : SiteTerm) (args : TypedPatterns) → AsMany (output_sites s args) args
+pub output_count : (s : SiteTerm) (args : TypedPatterns) → AsMany (output_sites s args) args
 output_count s no_typed_pattern = tt
 output_count s (typed_pattern_and q no_typed_pattern) = tt
 output_count s (typed_pattern_and q (typed_pattern_and r rs)) = as_many (tuple_part s) 0 (typed_pattern_and q (typed_pattern_and r rs))
@@ -96,7 +96,7 @@ call_opened pure false partial rec false t s args v m =
     (then_later v made (asking call is_present made) (later_making (call ∷ (some_part call ∷ [])) v) (later_asking call is_present made m)) refl
     (at_right v.demands.constraints (call, is_present), good_stays made (asking call is_present made) (later_asking call is_present made m) true true call m)
 
-term_opened : (k : Kind) (t : ℕ) (s : SiteTerm) (args : TypedPatterns) (v : Visit) → (k ≡ unknown → ⊥) → MayTest v s → IsOpened v (open_term k t s args v) args
+pub term_opened : (k : Kind) (t : ℕ) (s : SiteTerm) (args : TypedPatterns) (v : Visit) → (k ≡ unknown → ⊥) → MayTest v s → IsOpened v (open_term k t s args v) args
 term_opened (a_variant ty variant) t s args v known m =
     let fields = from_to (variant_field s variant) 0 args in
     let c = is_variant ty variant (pattern_count args) in

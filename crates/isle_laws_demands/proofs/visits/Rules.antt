@@ -18,9 +18,9 @@ use Rattle.isle_laws_demands.proofs.visits.Patterns.{from_if, from_then, IsAfter
 use Rattle.isle_laws_demands.proofs.visits.Exprs.{IsValued, expr_valued, from_entry, from_vars}
 
 -- after some patterns and if-lets: nothing less is asked, and variables that can be used may be tested
-record IsPast (v w : Visit) (more : List (ℕ × ℕ)) : Type 0 where
-  later : Later v w
-  good : AreGood true true more w
+pub record IsPast (v w : Visit) (more : List (ℕ × ℕ)) : Type 0 where
+  pub later : Later v w
+  pub good : AreGood true true more w
 
 then_past : (u v w : Visit) (more : List (ℕ × ℕ)) → Later u v → IsPast v w more → IsPast u w more
 then_past u v w more l r = record { later = then_later u v w l r.later; good = r.good }
@@ -28,7 +28,7 @@ then_past u v w more l r = record { later = then_later u v w l r.later; good = r
 nothing_past : (v : Visit) (vars more : List (ℕ × ℕ)) → Some vars ≡ Some more → AreGood true true vars v → IsPast v v more
 nothing_past v vars more e g = record { later = now v; good = subst (λ vs. AreGood true true vs v) (some_is vars more e) g }
 
-args_past : (p : Program) (i : ℕ) (qs : List TypedPattern) (tys : List ℕ) (v : Visit) (vars more : List (ℕ × ℕ)) → formed_list p qs tys vars ≡ Some more → AreGood true true vars v → IsPast v (visit_args p i qs v) more
+pub args_past : (p : Program) (i : ℕ) (qs : List TypedPattern) (tys : List ℕ) (v : Visit) (vars more : List (ℕ × ℕ)) → formed_list p qs tys vars ≡ Some more → AreGood true true vars v → IsPast v (visit_args p i qs v) more
 args_past p i [] [] v vars more f g = nothing_past v vars more f g
 args_past p i [] (ty ∷ tys) v vars more f g = absurd (none_some more f)
 args_past p i (q ∷ qs) [] v vars more f g = absurd (none_some more f)
@@ -40,10 +40,30 @@ args_past p i (q ∷ qs) (ty ∷ tys) v vars more f g =
     let r = pattern_after p q (argument i) u vars b.0 b.1 tt g in
     then_past v w (visit_args p (suc i) qs w) more (then_later v u w (later_making (argument i ∷ []) v) r.later) (args_past p (suc i) qs tys w b.0 more b.2 r.good)
 
-less_good : (pure : Bool) (vars : List (ℕ × ℕ)) (v : Visit) → AreGood true true vars v → AreGood false pure vars v
+pub less_good : (pure : Bool) (vars : List (ℕ × ℕ)) (v : Visit) → AreGood true true vars v → AreGood false pure vars v
 less_good pure vars v g x h = weaker v.demands.constraints v.demands.iterators pure (var_site v x) (g x h)
 
-iflet_past : (p : Program) (i : TypedIfLet) (v : Visit) (vars more : List (ℕ × ℕ)) → is_formed_expr p i.rhs vars ≡ true → IsPureExpr p i.rhs
+-- an if-let's value may be tested, once the calls that it unwraps are asked to answer
+pub iflet_tested : (p : Program) (i : TypedIfLet) (v : Visit) (vars : List (ℕ × ℕ)) → is_formed_expr p i.rhs vars ≡ true → IsPureExpr p i.rhs → AreGood true true vars v
+    → MayTest (asking_all (unwraps (visit_expr p i.rhs v).site) (visit_expr p i.rhs v).visit) (visit_expr p i.rhs v).site
+iflet_tested p i v vars f h g =
+    stronger w.demands.constraints w.demands.iterators s
+    (gates_stay u.demands.constraints w.demands.constraints u.demands.iterators w.demands.iterators (asked_more (unwraps s) u) (asked_calls (unwraps s) u) false true s a.site)
+    (all_asked (unwraps s) u)
+  where
+    s : SiteTerm
+    s = (visit_expr p i.rhs v).site
+
+    u : Visit
+    u = (visit_expr p i.rhs v).visit
+
+    w : Visit
+    w = asking_all (unwraps (visit_expr p i.rhs v).site) (visit_expr p i.rhs v).visit
+
+    a : IsValued true vars v (visit_expr p i.rhs v)
+    a = expr_valued true p i.rhs v vars f (λ q. h) (less_good true vars v g)
+
+pub iflet_past : (p : Program) (i : TypedIfLet) (v : Visit) (vars more : List (ℕ × ℕ)) → is_formed_expr p i.rhs vars ≡ true → IsPureExpr p i.rhs
     → formed_pattern p i.lhs vars ≡ Some more → AreGood true true vars v
     → IsPast v (visit_pattern p i.lhs (visit_expr p i.rhs v).site (asking_all (unwraps (visit_expr p i.rhs v).site) (visit_expr p i.rhs v).visit)) more
 iflet_past p i v vars more f h e g =
@@ -63,10 +83,7 @@ iflet_past p i v vars more f h e g =
     a = expr_valued true p i.rhs v vars f (λ q. h) (less_good true vars v g)
 
     tested : MayTest w s
-    tested =
-        stronger w.demands.constraints w.demands.iterators s
-        (gates_stay u.demands.constraints w.demands.constraints u.demands.iterators w.demands.iterators (asked_more (unwraps s) u) (asked_calls (unwraps s) u) false true s a.site)
-        (all_asked (unwraps s) u)
+    tested = iflet_tested p i v vars f h g
 
     l : Later u w
     l = later_asked (unwraps s) u (λ t k. unwrapped w.demands.constraints w.demands.iterators s t tested k)
@@ -79,7 +96,7 @@ iflet_past p i v vars more f h e g =
     b : IsAfter w (visit_pattern p i.lhs s w) more
     b = pattern_after p i.lhs s w vars more e tested good
 
-iflets_past : (p : Program) (is : List TypedIfLet) (v : Visit) (vars more : List (ℕ × ℕ)) → formed_iflets p is vars ≡ Some more → ArePureIfLets p is → AreGood true true vars v → IsPast v (visit_iflets p is v) more
+pub iflets_past : (p : Program) (is : List TypedIfLet) (v : Visit) (vars more : List (ℕ × ℕ)) → formed_iflets p is vars ≡ Some more → ArePureIfLets p is → AreGood true true vars v → IsPast v (visit_iflets p is v) more
 iflets_past p [] v vars more f h g = nothing_past v vars more f g
 iflets_past p (i ∷ is) v vars more f h g =
     let a = from_if (is_formed_expr p i.rhs vars && (pattern_type i.lhs == expr_type i.rhs)) (then_option (formed_pattern p i.lhs vars) (λ after. formed_iflets p is after)) more f in

@@ -24,7 +24,7 @@ use Rattle.isle_laws_demands.proofs.visits.Once.{sites_stand_once_lem}
 use Rattle.isle_laws_demands.proofs.visits.Built.{rule_at, BuiltGates, built_gates, IsGood, below_good}
 
 -- 1. lists
-all_from_in : {X : Type 0} (P : X → Type 0) (xs : List X) → ((x : X) → In xs x → P x) → All P xs
+pub all_from_in : {X : Type 0} (P : X → Type 0) (xs : List X) → ((x : X) → In xs x → P x) → All P xs
 all_from_in P xs f k d l = f (get_or xs k d) (in_slice xs k (get_or xs k d) (slice_get-get_or xs k d l))
 
 pub in_from_all : {X : Type 0} (P : X → Type 0) (xs : List X) → All P xs → (x : X) → In xs x → P x
@@ -70,9 +70,9 @@ nothing_in xs e x i = subst (λ l. In l x) e i
 -- 2. rules
 module _ (p : Program) (t : ℕ) (set : SiteSet) (h : IsBuilt p t set) (b : BuiltRule) (r : SetRule) (q : IsRuleOf p set.sites b r) (g : BuiltGates p b) where
   -- a site that may be tested
-  record IsTested (s : ℕ) : Type 0 where
-    known : s < length set.sites
-    good : GatesDemanded true true b.demands.constraints (demands_of p b.rule).iterators (unfold_site set.sites s)
+  pub record IsTested (s : ℕ) : Type 0 where
+    pub known : s < length set.sites
+    pub good : GatesDemanded true true b.demands.constraints (demands_of p b.rule).iterators (unfold_site set.sites s)
 
   constrained_tested : (s : ℕ) (c : Constraint) → In r.constraints (s, c) → IsTested s
   constrained_tested s c i =
@@ -107,7 +107,7 @@ module _ (p : Program) (t : ℕ) (set : SiteSet) (h : IsBuilt p t set) (b : Buil
   }
 
   -- the sites that a rule tests
-  each_tested : (s : ℕ) → In (tested_sites r) s → IsTested s
+  pub each_tested : (s : ℕ) → In (tested_sites r) s → IsTested s
   each_tested s i =
       elim (in_either (map (λ (d : ℕ × Constraint). d.0) r.constraints) (flat_map (λ (c : List ℕ). c) r.classes) s i) [
         | inl a ↦ let m = in_map (λ (d : ℕ × Constraint). d.0) r.constraints s a in subst IsTested m.2 (constrained_tested m.0.0 m.0.1 m.1)

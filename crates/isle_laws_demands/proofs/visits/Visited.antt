@@ -55,7 +55,7 @@ later_calling s v g = record {
 pub later_binding : (x : ℕ) (s : SiteTerm) (v : Visit) → Later v (binding x s v)
 later_binding x s v = record { sound = λ h. record { asked = h.asked; equal = h.equal; impure = h.impure }; more = λ y c. c; calls = λ y c. c }
 
-at_left : {X : Type 0} (xs ys : List X) → AllIn xs (xs ++ ys)
+pub at_left : {X : Type 0} (xs ys : List X) → AllIn xs (xs ++ ys)
 at_left xs ys x c = contains_from_in (xs ++ ys) x (in_left xs ys x (in_from_contains xs x c))
 
 pub at_right : {X : Type 0} (xs : List X) (y : X) → Contains (xs ++ y ∷ []) y
@@ -92,11 +92,11 @@ later_asking s c v g = record {
     keep : (asked pure : Bool) (u : SiteTerm) → Good asked pure v u → Good asked pure (asking s c v) u
     keep = gates_stay v.demands.constraints (v.demands.constraints ++ (s, c) ∷ []) v.demands.iterators v.demands.iterators (at_left v.demands.constraints ((s, c) ∷ [])) (λ x k. k)
 
-equated : SiteTerm → SiteTerm → Visit → Visit
+-- with one equality more
+abbrev pub equated : SiteTerm → SiteTerm → Visit → Visit
 equated a b v = record { vars = v.vars; impure_calls = v.impure_calls; demands = record { constraints = v.demands.constraints; equalities = v.demands.equalities ++ (a, b) ∷ []; iterators = v.demands.iterators; impure = v.demands.impure; made = v.demands.made } }
 
 later_equated : (a b : SiteTerm) (v : Visit) → MayTest v a → MayTest v b → Later v (equated a b v)
-unfolding equated
 later_equated a b v m n = record {
   sound = λ h. record {
     asked = h.asked;
@@ -111,7 +111,6 @@ later_equated a b v m n = record {
 }
 
 pub later_equating : (a b : SiteTerm) (v : Visit) → MayTest v a → MayTest v b → Later v (equating a b v)
-unfolding equated
 later_equating a b v m n =
     elim (cases_Bool (site_term_eq a b)) [
       | inl t ↦ subst (Later v) (sym (cond-true (site_term_eq a b) v (equated a b v) t)) (now v)
@@ -119,7 +118,6 @@ later_equating a b v m n =
     ]
 
 pub equating_binds : (a b : SiteTerm) (v : Visit) → (equating a b v).vars ≡ v.vars
-unfolding equated
 equating_binds a b v =
     elim (cases_Bool (site_term_eq a b)) [
       | inl t ↦ ap (λ (w : Visit). w.vars) (cond-true (site_term_eq a b) v (equated a b v) t)

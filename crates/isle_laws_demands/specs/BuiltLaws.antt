@@ -1,0 +1,42 @@
+-- What theory proves of the closed demands of rules that are built, and so of the rules of built sets.
+use Rattle.std.specs.Prelude.{◌≡◌, ℕ, Bool, true, List, All, Contains}
+use Rattle.isle_model.specs.lists.Elaborated.{TypedRules}
+use Rattle.isle_model.specs.lists.Formed.{is_formed_rule}
+use Rattle.isle_model.specs.lists.Syntax.{Definition}
+use Rattle.isle_model.specs.rules.Program.{Program}
+use Rattle.isle_model.specs.rules.Typed.{TypedRule}
+use Rattle.isle_model.specs.sites.Sites.{Constraint, SiteTerm, SiteSet}
+use Rattle.isle_model.specs.sites.Demands.{demands_of}
+use Rattle.isle_model.specs.sites.Closure.{closed}
+use Rattle.isle_model.specs.sites.Overlap.{BuiltRule, is_built, built_rules}
+use Rattle.isle_model.specs.sites.RuleSets.{IsBuilt}
+use Rattle.isle_model.specs.claims.Environments.{TypesRead, IsElaborated, program_of}
+use Rattle.isle_model.specs.claims.SetMeanings.{ConstrainsOrEquates}
+use Rattle.isle_laws_demands.specs.ClosureLaws.{EqualSitesAreMade, ClosedIsWhole}
+
+-- the closed demands of a built rule are all that follows, where its visit makes the sites that it equates
+abbrev pub ClosingsOfBuiltRulesAreWhole : Type 0
+ClosingsOfBuiltRulesAreWhole =
+    (p : Program) (before : List SiteTerm) (r : TypedRule) → EqualSitesAreMade (demands_of p r) → is_built p before r ≡ true
+    → ClosedIsWhole (demands_of p r) (closed before (demands_of p r))
+
+-- a constrained site stands in no class of a built rule's closed demands
+abbrev pub ConstrainedSitesStandInNoClass : Type 0
+ConstrainedSitesStandInNoClass =
+    (p : Program) (before : List SiteTerm) (r : TypedRule) → is_built p before r ≡ true
+    → (s : SiteTerm) (c : Constraint) (class : List SiteTerm) → Contains (closed before (demands_of p r)).constraints (s, c)
+    → Contains (closed before (demands_of p r)).classes class → Contains class s → ⊥
+
+-- so no rule of a built set both constrains and equates a site
+abbrev pub BuiltRulesConstrainOrEquate : Type 0
+BuiltRulesConstrainOrEquate = (p : Program) (t : ℕ) (set : SiteSet) → IsBuilt p t set → All ConstrainsOrEquates set.rules
+
+-- the visit of a rule that hangs together makes the sites that it equates
+abbrev pub FormedRulesMakeEqualSites : Type 0
+FormedRulesMakeEqualSites = (p : Program) (r : TypedRule) → is_formed_rule p r ≡ true → EqualSitesAreMade (demands_of p r)
+
+-- so the closed demands of each rule that is built of elaborated rules are all that follows
+abbrev pub BuiltDemandsAreWhole : Type 0
+BuiltDemandsAreWhole =
+    (e : TypesRead) (defs : List Definition) (expand : Bool) (rules : TypedRules) (t : ℕ) → IsElaborated e defs expand rules
+    → (b : BuiltRule) → Contains (built_rules (program_of e defs rules.rules) t) b → ClosedIsWhole (demands_of (program_of e defs rules.rules) b.rule) b.demands
