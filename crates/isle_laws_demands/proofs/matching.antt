@@ -3,6 +3,7 @@ pub mod Answered
 pub mod BuiltMatches
 pub mod ClosedAlike
 pub mod ClosedDemands
+pub mod ConstrainedOnce
 pub mod Contents
 pub mod Demanded
 pub mod Exprs
@@ -14,6 +15,7 @@ pub mod Patterns
 pub mod Rules
 pub mod SameExprs
 pub mod Shapes
+pub mod ToldApart
 pub mod TypedParts
 pub mod Unreachable
 pub mod Variables

@@ -14,7 +14,7 @@ use Rattle.isle_model.specs.sites.Overlap.{BuiltRule, built_rules}
 use Rattle.isle_model.specs.sites.RuleSets.{IsBuilt}
 use Rattle.isle_model.specs.sites.Serves.{Serves, TellsConstantsApart}
 use Rattle.isle_model.specs.claims.Environments.{TypesRead, IsElaborated, program_of}
-use Rattle.isle_model.specs.claims.SetMeanings.{MatchesByDemands}
+use Rattle.isle_model.specs.claims.SetMeanings.{MatchesByDemands, TellsRulesWithoutCallsApart}
 use Rattle.isle_laws_demands.specs.ClosureLaws.{ClosedIsWhole}
 
 -- a rule on arguments of its term's types, a meaning that serves the rules of the term, and one of the rule's picks
@@ -61,3 +61,9 @@ abbrev pub BuiltSetsMatchByDemands : Type 0
 BuiltSetsMatchByDemands =
     (e : TypesRead) (defs : List Definition) (expand : Bool) (rules : TypedRules) (t : ℕ) (set : SiteSet)
     → IsElaborated e defs expand rules → IsBuilt (program_of e defs rules.rules) t set → MatchesByDemands (program_of e defs rules.rules) t set
+
+-- the closed demands of rules that are built of elaborated rules tell those apart that go over no calls
+abbrev pub BuiltRulesAreToldApart : Type 0
+BuiltRulesAreToldApart =
+    (e : TypesRead) (defs : List Definition) (expand : Bool) (rules : TypedRules) (t : ℕ)
+    → IsElaborated e defs expand rules → TellsRulesWithoutCallsApart (program_of e defs rules.rules) t

@@ -8,7 +8,7 @@ ghost use Rattle.isle_laws_demands.specs.ClosureLaws.{JoinedIsEquivalence, Class
 ghost use Rattle.isle_laws_demands.specs.BuiltLaws.{ClosingsOfBuiltRulesAreWhole, ConstrainedSitesStandInNoClass, BuiltRulesConstrainOrEquate, FormedRulesMakeEqualSites, BuiltDemandsAreWhole};
 ghost use Rattle.isle_laws_demands.specs.ReportLaws.{CheckIsExact, OverlapsAreListedOnce, ListedRulesOverlap, MasksAreReportedOnce, ReportedMasksShadow};
 ghost use Rattle.isle_laws_demands.specs.VisitLaws.{SitesStandOnce, FormedRulesDemandGates, ClosingKeepsGates, ElaboratedRulesDemandGates, BuiltRulesDemandGates, BuiltSetsAreWellBuilt, NoneAskedAndGoneOver, MultiCallsAreGoneOver, NoRuleAsksAndGoesOver, MultiTermsHaveOnePriority};
-ghost use Rattle.isle_laws_demands.specs.MatchLaws.{VisitsMatch, UnreachableRulesNeverMatch, ClosedDemandsHoldAlike, BuiltDemandsHoldAlike, BuiltSetsMatchByDemands};
+ghost use Rattle.isle_laws_demands.specs.MatchLaws.{VisitsMatch, UnreachableRulesNeverMatch, ClosedDemandsHoldAlike, BuiltDemandsHoldAlike, BuiltSetsMatchByDemands, BuiltRulesAreToldApart};
 ghost use Rattle.isle_model.specs.claims.SetMeanings.{BuiltSetsAreTested, BuiltSetsCanBeServed, BuiltSetsAreCollected};
 
 use isle_laws_lists::{lists_agree, rules_are_formed};
@@ -274,6 +274,14 @@ pub fn built_demands_hold_alike()
 /// And so, under each of its picks, a rule of a set that is built of elaborated rules matches exactly where its demands hold.
 pub fn built_sets_match_by_demands()
     ensures { BuiltSetsMatchByDemands }
+{
+    built_demands_are_whole();
+}
+
+/// Of two rules that are built of elaborated rules and go over no calls, those that don't overlap never match together, and
+/// a shadowed one matches only where its mask does.
+pub fn built_rules_are_told_apart()
+    ensures { BuiltRulesAreToldApart }
 {
     built_demands_are_whole();
 }

@@ -11,7 +11,7 @@ use Rattle.isle_model.specs.rules.RightSide.{right_side}
 use Rattle.isle_model.specs.rules.Typed.{TypedIfLet, TypedRule}
 use Rattle.isle_model.specs.rules.Program.{Program, is_multi, arg_types, rules_of}
 use Rattle.isle_model.specs.sites.Sites.{Site, Constraint, SetRule, SiteSet, sources_at, SiteTerm, unfold_site}
-use Rattle.isle_model.specs.sites.Demands.{Visit, visit_start, visit_args, visit_pattern, visit_expr, has_site}
+use Rattle.isle_model.specs.sites.Demands.{demands_of, Visit, visit_start, visit_args, visit_pattern, visit_expr, has_site}
 use Rattle.isle_model.specs.trees.Places.{joins_in, all_below}
 use Rattle.isle_model.specs.sites.Gates.{gate_demanded}
 use Rattle.isle_model.specs.sites.Serves.{Serves, TellsConstantsApart}
@@ -119,4 +119,13 @@ pub record TellsRulesApart (p : Program) (t : ℕ) : Type 0 where
   pub overlap : IsWithoutMulti p t → WhereServed p t (λ m args. (a b : BuiltRule) → Contains (built_rules p t) a → Contains (built_rules p t) b
       → (Overlaps a.demands b.demands → ⊥) → IsTrue (is_some (matches p m a.rule args)) → IsTrue (is_some (matches p m b.rule args)) → ⊥)
   pub shadow : IsWithoutMulti p t → WhereServed p t (λ m args. (mask b : BuiltRule) → Contains (built_rules p t) mask → Contains (built_rules p t) b
+      → Shadows mask b → IsTrue (is_some (matches p m b.rule args)) → IsTrue (is_some (matches p m mask.rule args)))
+
+-- so of any two rules that go over no calls, whatever else the term is and whatever its other rules do
+pub record TellsRulesWithoutCallsApart (p : Program) (t : ℕ) : Type 0 where
+  pub overlap : WhereServed p t (λ m args. (a b : BuiltRule) → Contains (built_rules p t) a → Contains (built_rules p t) b
+      → (demands_of p a.rule).iterators ≡ [] → (demands_of p b.rule).iterators ≡ []
+      → (Overlaps a.demands b.demands → ⊥) → IsTrue (is_some (matches p m a.rule args)) → IsTrue (is_some (matches p m b.rule args)) → ⊥)
+  pub shadow : WhereServed p t (λ m args. (mask b : BuiltRule) → Contains (built_rules p t) mask → Contains (built_rules p t) b
+      → (demands_of p mask.rule).iterators ≡ [] → (demands_of p b.rule).iterators ≡ []
       → Shadows mask b → IsTrue (is_some (matches p m b.rule args)) → IsTrue (is_some (matches p m mask.rule args)))
