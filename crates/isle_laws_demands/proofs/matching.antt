@@ -10,6 +10,7 @@ pub mod Exprs
 pub mod FormedDemands
 pub mod Grown
 pub mod NeverMatches
+pub mod NoMulti
 pub mod Numbers
 pub mod Patterns
 pub mod Rules

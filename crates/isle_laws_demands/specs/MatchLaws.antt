@@ -1,5 +1,5 @@
 -- What theory proves of matching by demands: of one rule, of its closed demands, of what can't be met, and of built sets.
-use Rattle.std.specs.Prelude.{◌≡◌, ◌↔◌, ℕ, Bool, List, Some, is_some, IsTrue, Contains}
+use Rattle.std.specs.Prelude.{[], ◌≡◌, ◌↔◌, ℕ, Bool, List, Some, is_some, IsTrue, Contains}
 use Rattle.isle_model.specs.lists.Syntax.{Definition}
 use Rattle.isle_model.specs.lists.Elaborated.{TypedRules}
 use Rattle.isle_model.specs.rules.Values.{Value, args_well_typed}
@@ -14,7 +14,8 @@ use Rattle.isle_model.specs.sites.Overlap.{BuiltRule, built_rules}
 use Rattle.isle_model.specs.sites.RuleSets.{IsBuilt}
 use Rattle.isle_model.specs.sites.Serves.{Serves, TellsConstantsApart}
 use Rattle.isle_model.specs.claims.Environments.{TypesRead, IsElaborated, program_of}
-use Rattle.isle_model.specs.claims.SetMeanings.{MatchesByDemands, TellsRulesWithoutCallsApart}
+use Rattle.isle_model.specs.claims.Headline.{IsWithoutMulti}
+use Rattle.isle_model.specs.claims.SetMeanings.{MatchesByDemands, TellsRulesApart, TellsRulesWithoutCallsApart}
 use Rattle.isle_laws_demands.specs.ClosureLaws.{ClosedIsWhole}
 
 -- a rule on arguments of its term's types, a meaning that serves the rules of the term, and one of the rule's picks
@@ -67,3 +68,16 @@ abbrev pub BuiltRulesAreToldApart : Type 0
 BuiltRulesAreToldApart =
     (e : TypesRead) (defs : List Definition) (expand : Bool) (rules : TypedRules) (t : ℕ)
     → IsElaborated e defs expand rules → TellsRulesWithoutCallsApart (program_of e defs rules.rules) t
+
+-- the rules of a term that isn't multi and uses no multi extractor go over no calls
+abbrev pub RulesWithoutMultiGoOverNoCalls : Type 0
+RulesWithoutMultiGoOverNoCalls =
+    (e : TypesRead) (defs : List Definition) (expand : Bool) (rules : TypedRules) (t : ℕ)
+    → IsElaborated e defs expand rules → IsWithoutMulti (program_of e defs rules.rules) t
+    → (r : TypedRule) → Contains (rules_of (program_of e defs rules.rules) t) r → (demands_of (program_of e defs rules.rules) r).iterators ≡ []
+
+-- so they are told apart
+abbrev pub RulesWithoutMultiAreToldApart : Type 0
+RulesWithoutMultiAreToldApart =
+    (e : TypesRead) (defs : List Definition) (expand : Bool) (rules : TypedRules) (t : ℕ)
+    → IsElaborated e defs expand rules → TellsRulesApart (program_of e defs rules.rules) t
