@@ -8,9 +8,8 @@ ghost use Rattle.isle_laws_demands.specs.ClosureLaws.{JoinedIsEquivalence, Class
 ghost use Rattle.isle_laws_demands.specs.AcceptLaws.{ElaboratedRulesHaveTerms, RulesAreJudged, ListsAreAccepted, ListsAreNotAccepted};
 ghost use Rattle.isle_laws_demands.specs.ReportLaws.{CheckIsExact, OverlapsAreListedOnce, ListedRulesOverlap, MasksAreReportedOnce, ReportedMasksShadow};
 ghost use Rattle.isle_laws_demands.specs.VisitLaws.{SitesStandOnce, FormedRulesDemandGates, ClosingKeepsGates, ElaboratedRulesDemandGates, BuiltRulesDemandGates, BuiltSetsAreWellBuilt, NoneAskedAndGoneOver, MultiCallsAreGoneOver, NoRuleAsksAndGoesOver, MultiTermsHaveOnePriority};
+ghost use Rattle.isle_laws_demands.specs.MatchLaws.{VisitsMatch, UnreachableRulesNeverMatch, ClosedDemandsHoldAlike, BuiltDemandsHoldAlike, BuiltSetsMatchByDemands, BuiltRulesAreToldApart, RulesWithoutMultiGoOverNoCalls, RulesWithoutMultiAreToldApart};
 ghost use Rattle.isle_model.specs.claims.SetMeanings.{BuiltSetsAreTested, BuiltSetsCanBeServed, BuiltSetsAreCollected};
-ghost use Rattle.isle_laws_demands.specs.BuiltLaws.{ClosingsOfBuiltRulesAreWhole, ConstrainedSitesStandInNoClass, BuiltRulesConstrainOrEquate, FormedRulesMakeEqualSites, BuiltDemandsAreWhole};
-ghost use Rattle.isle_laws_demands.specs.MatchLaws.{VisitsMatch, UnreachableRulesNeverMatch};
 
 use isle_laws_lists::{lists_agree, rules_are_formed};
 
@@ -207,9 +206,9 @@ pub fn multi_terms_have_one_priority()
     lists_agree();
 }
 
-/// The term of each rule that elaborates is one of the table.
-pub fn elaborated_rules_have_terms()
-    ensures { ElaboratedRulesHaveTerms }
+/// The visit of a rule that hangs together makes the sites that it equates.
+pub fn formed_rules_make_equal_sites()
+    ensures { FormedRulesMakeEqualSites }
 {}
 
 /// The judge of rules is exact, where each rule's term is one of the program's.
@@ -269,19 +268,6 @@ pub fn built_sets_are_collected()
     elaborated_rules_demand_gates();
 }
 
-/// The visit of a rule that hangs together makes the sites that it equates.
-pub fn formed_rules_make_equal_sites()
-    ensures { FormedRulesMakeEqualSites }
-{}
-
-/// So the closed demands of each rule that is built of elaborated rules are all that follows.
-pub fn built_demands_are_whole()
-    ensures { BuiltDemandsAreWhole }
-{
-    rules_are_formed();
-    lists_agree();
-}
-
 /// A rule that elaborates matches under a pick exactly where the demands of its visit hold.
 pub fn visits_match()
     ensures { VisitsMatch }
@@ -291,3 +277,42 @@ pub fn visits_match()
 pub fn unreachable_rules_never_match()
     ensures { UnreachableRulesNeverMatch }
 {}
+
+/// The closed demands of a rule hold exactly where its demands do, if they are all that follows.
+pub fn closed_demands_hold_alike()
+    ensures { ClosedDemandsHoldAlike }
+{}
+
+/// So those of each rule that is built of elaborated rules do.
+pub fn built_demands_hold_alike()
+    ensures { BuiltDemandsHoldAlike }
+{
+    built_demands_are_whole();
+}
+
+/// And so, under each of its picks, a rule of a set that is built of elaborated rules matches exactly where its demands hold.
+pub fn built_sets_match_by_demands()
+    ensures { BuiltSetsMatchByDemands }
+{
+    built_demands_are_whole();
+}
+
+/// Of two rules that are built of elaborated rules and go over no calls, those that don't overlap never match together, and
+/// a shadowed one matches only where its mask does.
+pub fn built_rules_are_told_apart()
+    ensures { BuiltRulesAreToldApart }
+{
+    built_demands_are_whole();
+}
+
+/// The rules of a term that isn't multi and uses no multi extractor go over no calls.
+pub fn rules_without_multi_go_over_no_calls()
+    ensures { RulesWithoutMultiGoOverNoCalls }
+{}
+
+/// So their closed demands tell them apart.
+pub fn rules_without_multi_are_told_apart()
+    ensures { RulesWithoutMultiAreToldApart }
+{
+    built_demands_are_whole();
+}

@@ -1,7 +1,7 @@
 -- The closed demands of a rule hold exactly where its demands do.
-use Rattle.std.proofs.Common.{◌≡◌, ◌⊎◌, ◌==◌, ℕ, zero, suc, ◌+◌, ◌<◌, true, List, [], ◌∷◌, map, length, Option, Some, None, is_some, slice_get, Contains, filter, refl, sym, ap, subst, ◌∙◌, inl, inr, arith, eq-eqb, eqb-true}
-use Rattle.std.proofs.lemmas.Bool.{and_parts, cond-true}
-use Rattle.isle_model.specs.rules.Values.{Value, of_variant, of_struct, Values, listed, variant_types, struct_types, well_typed, all_well_typed}
+use Rattle.std.proofs.Common.{◌≡◌, ◌⊎◌, ◌==◌, ℕ, zero, suc, ◌+◌, ◌<◌, true, List, [], ◌∷◌, map, length, Option, Some, None, is_some, slice_get, Contains, filter, refl, sym, ap, ap₂, subst, ◌∙◌, inl, inr, arith, eq-eqb, eqb-true}
+use Rattle.std.proofs.lemmas.Bool.{and_parts, cond-true, false≢true}
+use Rattle.isle_model.specs.rules.Values.{Value, truth, atom, of_variant, of_struct, Values, no_value, value_and, listed, variant_types, struct_types, well_typed, all_well_typed}
 use Rattle.isle_model.specs.rules.Meaning.{Content, one, just, Meaning, bool_literal, int_literal, literal_value, constant_value}
 use Rattle.isle_model.specs.rules.Outcome.{then_option}
 use Rattle.isle_model.specs.rules.Program.{Program}
@@ -9,7 +9,7 @@ use Rattle.isle_model.specs.rules.Picks.{field_of_variant, field_of_struct}
 use Rattle.isle_model.specs.trees.Run.{as_value, from_value, content_fields}
 use Rattle.isle_model.specs.sites.Sites.{Constraint, is_variant, is_struct, is_bool, is_int, is_prim, is_present, SiteTerm, variant_field, struct_field}
 use Rattle.isle_model.specs.sites.Demands.{Demands, has_site}
-use Rattle.isle_model.specs.sites.Closure.{fields_from, field_terms, Joined, at_field, HasConstraint, Closed, class_at, without_class_of, begins_with, ascending, next_constrained, field_equalities, taken, closing, before_closing, in_order, most_closing_steps, closed, ClosedDemandsHold}
+use Rattle.isle_model.specs.sites.Closure.{fields_from, field_terms, Joined, given, itself, at_field, HasConstraint, Closed, class_at, without_class_of, begins_with, ascending, next_constrained, field_equalities, taken, closing, before_closing, in_order, most_closing_steps, closed, ClosedDemandsHold}
 use Rattle.isle_model.proofs.Elements.{In, in_from_contains, contains_from_in, in_map, in_filter, passed_filter, from_flat_map, some_is}
 use Rattle.isle_model.proofs.SameSites.{term_cases}
 use Rattle.isle_laws_demands.specs.ClosureLaws.{ClosedIsWhole}
@@ -17,7 +17,7 @@ use Rattle.isle_model.proofs.SitesMade.{has_in}
 use Rattle.isle_laws_demands.proofs.closure.Closing.{FollowsSoFar, constraint_carried, in_class_joined, next_asked, taken_follows, before_closing_follows, in_order_follows}
 use Rattle.isle_laws_demands.proofs.closure.Whole.{AllIn, each_all_in, without_in, equality_members}
 use Rattle.isle_laws_demands.proofs.matching.Contents.{Given, content_of}
-use Rattle.isle_laws_demands.proofs.matching.Demanded.{AreMet, one_is, same_content}
+use Rattle.isle_laws_demands.proofs.matching.Demanded.{AreMet, AskEnough, one_is, same_content}
 use Rattle.isle_laws_demands.proofs.matching.FormedDemands.{IsFormed, AreFormed}
 use Rattle.isle_laws_demands.proofs.matching.Shapes.{HasForm, has_form}
 
@@ -252,3 +252,90 @@ module _ (g : Given) (d : Demands) (k : Closed) (whole : ClosedIsWhole d k) (for
       by c h (one_value q) = q
       by c h (two_variants x) = both c h x
       by c h (two_structs x) = absurd (not_struct s n fs x.ty x.first_fields x.first)
+
+  struct_alone : (s : ℕ) (fs : Values) (w : Value) (a b : SiteTerm) → Joined d a b → content_of g a ≡ Some (one (of_struct s fs)) → content_of g b ≡ Some (one w) → IsTypedValue (of_struct s fs) → IsTypedValue w
+      → AreAlone fs → of_struct s fs ≡ w
+  struct_alone s fs w a b j e f t u alone =
+      elim (compare a b (of_struct s fs) w j e f) [
+        | inl q ↦ q
+        | inr c ↦ by c.constraint c.there c.compared
+      ]
+    where
+      both : (c : Constraint) → HasConstraint d a c → BothStructs c (of_struct s fs) w → of_struct s fs ≡ w
+      both c h x =
+          let q = formed (h.source, c) (in_from_contains d.constraints (h.source, c) h.asked) in
+          let r : IsFormed p (is_struct x.ty x.count) = subst (IsFormed p) x.constraint q in
+          let fields : fs ≡ x.first_fields = struct_parts s fs x.ty x.first_fields x.first in
+          let y : content_of g a ≡ Some (one (of_struct x.ty fs)) = e ∙ ap (λ v. Some (one v)) x.first ∙ ap (λ l. Some (one (of_struct x.ty l))) (sym fields) in
+          let z : content_of g b ≡ Some (one (of_struct x.ty x.second_fields)) = f ∙ ap (λ v. Some (one v)) x.second in
+          let same = alone x.second_fields r.0 (struct_field a) (struct_field b) 0
+          (record {
+            first_typed = struct_typed x.ty fs r.0 r.1 (t.0, subst (λ v. well_typed p.types t.0 v ≡ true) (x.first ∙ ap (of_struct x.ty) (sym fields)) t.1);
+            second_typed = struct_typed x.ty x.second_fields r.0 r.1 (u.0, subst (λ v. well_typed p.types u.0 v ≡ true) x.second u.1);
+            first = λ i v q. at_start (struct_field a) i v (struct_value a x.ty fs i v y q);
+            second = λ i v q. at_start (struct_field b) i v (struct_value b x.ty x.second_fields i v z q);
+            joined = λ i l.
+                at_field i j h.joined (subst (λ (o : Constraint). Contains d.constraints (h.source, o)) x.constraint h.asked)
+                (field_at (struct_field a) 0 x.count i (let k : length r.0 ≡ x.count = r.2 in omega arith))
+                (field_at (struct_field b) 0 x.count i (let k : length r.0 ≡ x.count = r.2 in omega arith));
+          }) in
+          x.first ∙ ap (of_struct x.ty) (sym fields ∙ same) ∙ sym x.second
+
+      by : (c : Constraint) → HasConstraint d a c → Compared c (of_struct s fs) w → of_struct s fs ≡ w
+      by c h (one_value q) = q
+      by c h (two_variants x) = absurd (not_struct x.ty x.variant x.first_fields s fs (sym x.first))
+      by c h (two_structs x) = both c h x
+
+  -- a value without fields
+  abbrev HasNoFields : Value → Type 0
+  HasNoFields v = ((ty i : ℕ) (fs : Values) → v ≡ of_variant ty i fs → ⊥) × ((ty : ℕ) (fs : Values) → v ≡ of_struct ty fs → ⊥)
+
+  plain_alone : (v w : Value) (a b : SiteTerm) → HasNoFields v → Joined d a b → content_of g a ≡ Some (one v) → content_of g b ≡ Some (one w) → v ≡ w
+  plain_alone v w a b n j e f =
+      elim (compare a b v w j e f) [
+        | inl q ↦ q
+        | inr c ↦ by c.constraint c.compared
+      ]
+    where
+      by : (c : Constraint) → Compared c v w → v ≡ w
+      by c (one_value q) = q
+      by c (two_variants x) = absurd (n.0 x.ty x.variant x.first_fields x.first)
+      by c (two_structs x) = absurd (n.1 x.ty x.first_fields x.first)
+
+  -- fields after the first
+  next_fields : (v w : Value) (vs ws : Values) (ty : ℕ) (tys : List ℕ) (f h : ℕ → SiteTerm) (i : ℕ) → FieldsAlike (value_and v vs) (value_and w ws) (ty ∷ tys) f h i → FieldsAlike vs ws tys f h (suc i)
+  next_fields v w vs ws ty tys f h i x = record {
+    first_typed = (and_parts (well_typed p.types ty v) (all_well_typed p.types (Some tys) vs) x.first_typed).1;
+    second_typed = (and_parts (well_typed p.types ty w) (all_well_typed p.types (Some tys) ws) x.second_typed).1;
+    first = λ j y q. (let n : i + suc j ≡ suc i + j = omega arith in subst (λ l. content_of g (f l) ≡ Some (one y)) n (x.first (suc j) y q));
+    second = λ j y q. (let n : i + suc j ≡ suc i + j = omega arith in subst (λ l. content_of g (h l) ≡ Some (one y)) n (x.second (suc j) y q));
+    joined = λ j l. (let n : i + suc j ≡ suc i + j = omega arith in subst (λ o. Joined d (f o) (h o)) n (x.joined (suc j) (omega (arith, l))));
+  }
+
+  mutual
+    value_same : (v w : Value) (a b : SiteTerm) → Joined d a b → content_of g a ≡ Some (one v) → content_of g b ≡ Some (one w) → IsTypedValue v → IsTypedValue w → v ≡ w
+    value_same (truth c) w a b j e f t u = plain_alone (truth c) w a b (λ ty i fs q. cc, λ ty fs q. cc) j e f
+    value_same (atom ty n) w a b j e f t u = plain_alone (atom ty n) w a b (λ ty i fs q. cc, λ ty fs q. cc) j e f
+    value_same (of_variant s i fs) w a b j e f t u = variant_alone s i fs w a b j e f t u (values_same fs)
+    value_same (of_struct s fs) w a b j e f t u = struct_alone s fs w a b j e f t u (values_same fs)
+
+    values_same : (vs : Values) → AreAlone vs
+    values_same no_value no_value tys f h i x = refl
+    values_same no_value (value_and w ws) [] f h i x = absurd (false≢true x.second_typed)
+    values_same no_value (value_and w ws) (ty ∷ tys) f h i x = absurd (false≢true x.first_typed)
+    values_same (value_and v vs) no_value [] f h i x = absurd (false≢true x.first_typed)
+    values_same (value_and v vs) no_value (ty ∷ tys) f h i x = absurd (false≢true x.second_typed)
+    values_same (value_and v vs) (value_and w ws) [] f h i x = absurd (false≢true x.first_typed)
+    values_same (value_and v vs) (value_and w ws) (ty ∷ tys) f h i x =
+        ap₂ value_and
+        (value_same v w (f (i + 0)) (h (i + 0)) (x.joined 0 (omega arith)) (x.first 0 v refl) (x.second 0 w refl)
+        (ty, (and_parts (well_typed p.types ty v) (all_well_typed p.types (Some tys) vs) x.first_typed).0)
+        (ty, (and_parts (well_typed p.types ty w) (all_well_typed p.types (Some tys) ws) x.second_typed).0))
+        (values_same vs ws tys f h (suc i) (next_fields v w vs ws ty tys f h i x))
+
+  -- so they ask enough
+  pub ask_enough : AskEnough g d
+  ask_enough = record {
+    asked = λ x i. hold.constraints x.0 x.1 ((whole.constraints x.0 x.1).1 (record { source = x.0; joined = itself; asked = contains_from_in d.constraints x i }));
+    equal = λ x i ty v w a b. value_same v w x.0 x.1 (given (contains_from_in d.equalities x i)) a.content b.content (ty, a.typed) (ty, b.typed);
+  }

@@ -81,7 +81,125 @@ element [] j l = absurd (omega (arith, l))
 element (v ∷ vs) zero l = (v, refl)
 element (v ∷ vs) (suc j) l = element vs j (omega (arith, l))
 
--- 3. what is met
+-- a content that is a variant or a struct with all its fields
+abbrev pub HasParts : Option Content → Constraint → Type 0
+HasParts o (is_variant ty i n) = (fs : Values) × (o ≡ Some (one (of_variant ty i fs))) × (length (listed fs) ≡ n)
+HasParts o (is_struct ty n) = (fs : Values) × (o ≡ Some (one (of_struct ty fs))) × (length (listed fs) ≡ n)
+HasParts o _ = Unit {0}
+
+-- 3. one content meets one constraint
+module _ (g : Given) (rs : List TypedRule) (types : HasTypes g.program.types) (apart : TellsConstantsApart g.program g.meaning rs) where
+  abbrev q : Program
+  q = g.program
+
+  -- a constant of a pattern, and its value
+  pub record IsConstant (o : Option Content) (u : SiteTerm) : Type 0 where
+    pub value : Value
+    pub there : o ≡ Some (one value)
+    pub ty : ℕ
+    pub written : written_type q u ≡ Some ty
+    pub worth : written_value g.meaning u ≡ Some value
+    pub typed : well_typed q.types ty value ≡ true
+    pub atomic : has_parts (slice_get q.types ty) ≡ false
+    pub tested : Contains (tested_constants q rs) u
+
+  abbrev pub Shape : Option Content → Constraint → Type 0
+  Shape o (is_variant ty i n) = HasParts o (is_variant ty i n)
+  Shape o (is_struct ty n) = HasParts o (is_struct ty n)
+  Shape o (is_bool b ty) = IsConstant o (bool_term b ty)
+  Shape o (is_int z ty) = IsConstant o (int_term z ty)
+  Shape o (is_prim name) = IsConstant o (prim_term name)
+  Shape o is_present = (c : Content) × (o ≡ Some (just c))
+
+  -- two constants with one value are one
+  constants_same : (o : Option Content) (a b : SiteTerm) → IsConstant o a → IsConstant o b → a ≡ b
+  constants_same o a b x y =
+      let same : x.value ≡ y.value = one_is x.value y.value (some_is (one x.value) (one y.value) (sym x.there ∙ y.there)) in
+      let t : y.ty ≡ x.ty = one_type q.types types y.value y.ty x.ty y.typed (subst (λ v. well_typed q.types x.ty v ≡ true) same x.typed) in
+      apart.different a b x.ty x.value x.tested y.tested x.written (y.written ∙ ap Some t) x.worth (y.worth ∙ ap Some (sym same))
+
+  constant_variant : (o : Option Content) (u : SiteTerm) (ty i : ℕ) (fs : Values) → IsConstant o u → o ≡ Some (one (of_variant ty i fs)) → ⊥
+  constant_variant o u ty i fs x e =
+      let same : x.value ≡ of_variant ty i fs = one_is x.value (of_variant ty i fs) (some_is (one x.value) (one (of_variant ty i fs)) (sym x.there ∙ e)) in
+      let w = subst (λ v. well_typed q.types x.ty v ≡ true) same x.typed in
+      no_variant q.types (slice_get q.types x.ty) i fs x.atomic (and_parts (ty == x.ty) (all_well_typed q.types (variant_types (slice_get q.types x.ty) i) fs) w).1
+
+  constant_struct : (o : Option Content) (u : SiteTerm) (ty : ℕ) (fs : Values) → IsConstant o u → o ≡ Some (one (of_struct ty fs)) → ⊥
+  constant_struct o u ty fs x e =
+      let same : x.value ≡ of_struct ty fs = one_is x.value (of_struct ty fs) (some_is (one x.value) (one (of_struct ty fs)) (sym x.there ∙ e)) in
+      let w = subst (λ v. well_typed q.types x.ty v ≡ true) same x.typed in
+      no_struct q.types (slice_get q.types x.ty) fs x.atomic (and_parts (ty == x.ty) (all_well_typed q.types (struct_types (slice_get q.types x.ty)) fs) w).1
+
+  not_just : (o : Option Content) (v : Value) (c : Content) → o ≡ Some (one v) → o ≡ Some (just c) → ⊥
+  not_just o v c e f = by (sym e ∙ f)
+    where
+      by : Some (one v) ≡ Some (just c) → ⊥
+      by q = cc
+
+  variant_struct : (o : Option Content) (s i t : ℕ) (fs hs : Values) → o ≡ Some (one (of_variant s i fs)) → o ≡ Some (one (of_struct t hs)) → ⊥
+  variant_struct o s i t fs hs e f = by (sym e ∙ f)
+    where
+      by : Some (one (of_variant s i fs)) ≡ Some (one (of_struct t hs)) → ⊥
+      by q = cc
+
+  -- the constraint that a constant's site is of
+  back : SiteTerm → Constraint
+  back (bool_term b ty) = is_bool b ty
+  back (int_term z ty) = is_int z ty
+  back (prim_term name) = is_prim name
+  back _ = is_present
+
+  pub same_shape : (o : Option Content) (a b : Constraint) → Shape o a → Shape o b → a ≡ b
+  unfolding back
+  same_shape o (is_variant s i n) (is_variant t j k) x y =
+      let e : Some (one (of_variant s i x.0)) ≡ Some (one (of_variant t j y.0)) = sym x.1 ∙ y.1 in
+      let a : s ≡ t = cc in
+      let b : i ≡ j = cc in
+      let c : x.0 ≡ y.0 = cc in
+      let l : n ≡ k = sym x.2 ∙ ap (λ fs. length (listed fs)) c ∙ y.2 in
+      λ q. is_variant (a q) (b q) (l q)
+  same_shape o (is_struct s n) (is_struct t k) x y =
+      let e : Some (one (of_struct s x.0)) ≡ Some (one (of_struct t y.0)) = sym x.1 ∙ y.1 in
+      let a : s ≡ t = cc in
+      let c : x.0 ≡ y.0 = cc in
+      let l : n ≡ k = sym x.2 ∙ ap (λ fs. length (listed fs)) c ∙ y.2 in
+      λ q. is_struct (a q) (l q)
+  same_shape o (is_variant s i n) (is_struct t k) x y = absurd (variant_struct o s i t x.0 y.0 x.1 y.1)
+  same_shape o (is_struct t k) (is_variant s i n) x y = absurd (variant_struct o s i t y.0 x.0 y.1 x.1)
+  same_shape o (is_variant s i n) (is_bool b ty) x y = absurd (constant_variant o (bool_term b ty) s i x.0 y x.1)
+  same_shape o (is_variant s i n) (is_int z ty) x y = absurd (constant_variant o (int_term z ty) s i x.0 y x.1)
+  same_shape o (is_variant s i n) (is_prim name) x y = absurd (constant_variant o (prim_term name) s i x.0 y x.1)
+  same_shape o (is_bool b ty) (is_variant s i n) x y = absurd (constant_variant o (bool_term b ty) s i y.0 x y.1)
+  same_shape o (is_int z ty) (is_variant s i n) x y = absurd (constant_variant o (int_term z ty) s i y.0 x y.1)
+  same_shape o (is_prim name) (is_variant s i n) x y = absurd (constant_variant o (prim_term name) s i y.0 x y.1)
+  same_shape o (is_struct s n) (is_bool b ty) x y = absurd (constant_struct o (bool_term b ty) s x.0 y x.1)
+  same_shape o (is_struct s n) (is_int z ty) x y = absurd (constant_struct o (int_term z ty) s x.0 y x.1)
+  same_shape o (is_struct s n) (is_prim name) x y = absurd (constant_struct o (prim_term name) s x.0 y x.1)
+  same_shape o (is_bool b ty) (is_struct s n) x y = absurd (constant_struct o (bool_term b ty) s y.0 x y.1)
+  same_shape o (is_int z ty) (is_struct s n) x y = absurd (constant_struct o (int_term z ty) s y.0 x y.1)
+  same_shape o (is_prim name) (is_struct s n) x y = absurd (constant_struct o (prim_term name) s y.0 x y.1)
+  same_shape o (is_bool b ty) (is_bool c u) x y = ap back (constants_same o (bool_term b ty) (bool_term c u) x y)
+  same_shape o (is_bool b ty) (is_int z u) x y = ap back (constants_same o (bool_term b ty) (int_term z u) x y)
+  same_shape o (is_bool b ty) (is_prim n) x y = ap back (constants_same o (bool_term b ty) (prim_term n) x y)
+  same_shape o (is_int z ty) (is_bool c u) x y = ap back (constants_same o (int_term z ty) (bool_term c u) x y)
+  same_shape o (is_int z ty) (is_int w u) x y = ap back (constants_same o (int_term z ty) (int_term w u) x y)
+  same_shape o (is_int z ty) (is_prim n) x y = ap back (constants_same o (int_term z ty) (prim_term n) x y)
+  same_shape o (is_prim n) (is_bool c u) x y = ap back (constants_same o (prim_term n) (bool_term c u) x y)
+  same_shape o (is_prim n) (is_int w u) x y = ap back (constants_same o (prim_term n) (int_term w u) x y)
+  same_shape o (is_prim n) (is_prim k) x y = ap back (constants_same o (prim_term n) (prim_term k) x y)
+  same_shape o is_present is_present x y = refl
+  same_shape o is_present (is_variant s i n) x y = absurd (not_just o (of_variant s i y.0) x.0 y.1 x.1)
+  same_shape o is_present (is_struct s n) x y = absurd (not_just o (of_struct s y.0) x.0 y.1 x.1)
+  same_shape o is_present (is_bool b ty) x y = absurd (not_just o y.value x.0 y.there x.1)
+  same_shape o is_present (is_int z ty) x y = absurd (not_just o y.value x.0 y.there x.1)
+  same_shape o is_present (is_prim name) x y = absurd (not_just o y.value x.0 y.there x.1)
+  same_shape o (is_variant s i n) is_present x y = absurd (not_just o (of_variant s i x.0) y.0 x.1 y.1)
+  same_shape o (is_struct s n) is_present x y = absurd (not_just o (of_struct s x.0) y.0 x.1 y.1)
+  same_shape o (is_bool b ty) is_present x y = absurd (not_just o x.value y.0 x.there y.1)
+  same_shape o (is_int z ty) is_present x y = absurd (not_just o x.value y.0 x.there y.1)
+  same_shape o (is_prim name) is_present x y = absurd (not_just o x.value y.0 x.there y.1)
+
+-- 4. what is met
 module _ (g : Given) (r : TypedRule) (rs : List TypedRule) (here : Contains rs r) (served : Serves g.program g.meaning g.args rs) (types : HasTypes g.program.types)
     (formed : AreFormed g.program (demands_of g.program r)) (met : AreMet g (demands_of g.program r)) where
   abbrev p : Program
@@ -92,12 +210,6 @@ module _ (g : Given) (r : TypedRule) (rs : List TypedRule) (here : Contains rs r
 
   abbrev d : Demands
   d = demands_of g.program r
-
-  -- a content that is a variant or a struct with all its fields
-  abbrev pub HasParts : Option Content → Constraint → Type 0
-  HasParts o (is_variant ty i n) = (fs : Values) × (o ≡ Some (one (of_variant ty i fs))) × (length (listed fs) ≡ n)
-  HasParts o (is_struct ty n) = (fs : Values) × (o ≡ Some (one (of_struct ty fs))) × (length (listed fs) ≡ n)
-  HasParts o _ = Unit {0}
 
   asked_parts : (s : SiteTerm) (c : Constraint) → In d.constraints (s, c) → HasParts (content_of g s) c
   asked_parts s (is_variant ty i n) k =
@@ -168,6 +280,10 @@ module _ (g : Given) (r : TypedRule) (rs : List TypedRule) (here : Contains rs r
   pub has_parts_there : (s : SiteTerm) (c : Constraint) → HasConstraint d s c → HasParts (content_of g s) c
   has_parts_there s c h = subst (λ o. HasParts o c) (same_contents h.source s h.joined) (asked_parts h.source c (in_from_contains d.constraints (h.source, c) h.asked))
 
+  -- so the field of a constrained site has a value
+  pub constrained_field : (s : SiteTerm) (c : Constraint) (x : SiteTerm) → HasConstraint d s c → In (field_terms c s) x → (v : Value) × (content_of g x ≡ Some (one v))
+  constrained_field s c x h i = let f = field_there c s x (has_parts_there s c h) i in (f.part, f.field)
+
   -- a part's value is smaller than the whole's
   record IsSmaller (s t : SiteTerm) : Type 0 where
     part : Value
@@ -206,26 +322,9 @@ module _ (g : Given) (r : TypedRule) (rs : List TypedRule) (here : Contains rs r
       let l : size a.part < size a.whole = a.less in
       omega arith
 
-  -- 4. one content meets one constraint
   module _ (apart : TellsConstantsApart g.program g.meaning rs) where
-    -- a constant of a pattern, and its value
-    pub record IsConstant (o : Option Content) (u : SiteTerm) : Type 0 where
-      pub value : Value
-      pub there : o ≡ Some (one value)
-      pub ty : ℕ
-      pub written : written_type p u ≡ Some ty
-      pub worth : written_value m u ≡ Some value
-      pub typed : well_typed p.types ty value ≡ true
-      pub atomic : has_parts (slice_get p.types ty) ≡ false
-      pub tested : Contains (tested_constants p rs) u
-
-    abbrev pub Shape : Option Content → Constraint → Type 0
-    Shape o (is_variant ty i n) = HasParts o (is_variant ty i n)
-    Shape o (is_struct ty n) = HasParts o (is_struct ty n)
-    Shape o (is_bool b ty) = IsConstant o (bool_term b ty)
-    Shape o (is_int z ty) = IsConstant o (int_term z ty)
-    Shape o (is_prim name) = IsConstant o (prim_term name)
-    Shape o is_present = (c : Content) × (o ≡ Some (just c))
+    abbrev Shape_of : Option Content → Constraint → Type 0
+    Shape_of = Shape g rs types apart
 
     is_tested : (s : SiteTerm) (c : Constraint) (u : SiteTerm) → In d.constraints (s, c) → In (constant_site c) u → Contains (tested_constants p rs) u
     is_tested s c u i j =
@@ -243,7 +342,7 @@ module _ (g : Given) (r : TypedRule) (rs : List TypedRule) (here : Contains rs r
     value_typed : (o : Option Value) (f : Value → Bool) (v : Value) → o ≡ Some v → IsSomeAnd o (λ w. IsTrue (f w)) → f v ≡ true
     value_typed o f v e h = subst (λ q. IsSomeAnd q (λ w. IsTrue (f w))) e h
 
-    asked_shape : (s : SiteTerm) (c : Constraint) → In d.constraints (s, c) → Shape (content_of g s) c
+    asked_shape : (s : SiteTerm) (c : Constraint) → In d.constraints (s, c) → Shape_of (content_of g s) c
     asked_shape s (is_variant ty i n) k = asked_parts s (is_variant ty i n) k
     asked_shape s (is_struct ty n) k = asked_parts s (is_struct ty n) k
     asked_shape s (is_bool b ty) k =
@@ -292,99 +391,11 @@ module _ (g : Given) (r : TypedRule) (rs : List TypedRule) (here : Contains rs r
         let f = has_form m is_present a.0.content a.0.meets in
         (f.0, a.0.held ∙ ap Some f.1)
 
-    pub shape_there : (s : SiteTerm) (c : Constraint) → HasConstraint d s c → Shape (content_of g s) c
-    shape_there s c h = subst (λ o. Shape o c) (same_contents h.source s h.joined) (asked_shape h.source c (in_from_contains d.constraints (h.source, c) h.asked))
-
-    -- two constants with one value are one
-    constants_same : (o : Option Content) (a b : SiteTerm) → IsConstant o a → IsConstant o b → a ≡ b
-    constants_same o a b x y =
-        let same : x.value ≡ y.value = one_is x.value y.value (some_is (one x.value) (one y.value) (sym x.there ∙ y.there)) in
-        let t : y.ty ≡ x.ty = one_type p.types types y.value y.ty x.ty y.typed (subst (λ v. well_typed p.types x.ty v ≡ true) same x.typed) in
-        apart.different a b x.ty x.value x.tested y.tested x.written (y.written ∙ ap Some t) x.worth (y.worth ∙ ap Some (sym same))
-
-    constant_variant : (o : Option Content) (u : SiteTerm) (ty i : ℕ) (fs : Values) → IsConstant o u → o ≡ Some (one (of_variant ty i fs)) → ⊥
-    constant_variant o u ty i fs x e =
-        let same : x.value ≡ of_variant ty i fs = one_is x.value (of_variant ty i fs) (some_is (one x.value) (one (of_variant ty i fs)) (sym x.there ∙ e)) in
-        let w = subst (λ v. well_typed p.types x.ty v ≡ true) same x.typed in
-        no_variant p.types (slice_get p.types x.ty) i fs x.atomic (and_parts (ty == x.ty) (all_well_typed p.types (variant_types (slice_get p.types x.ty) i) fs) w).1
-
-    constant_struct : (o : Option Content) (u : SiteTerm) (ty : ℕ) (fs : Values) → IsConstant o u → o ≡ Some (one (of_struct ty fs)) → ⊥
-    constant_struct o u ty fs x e =
-        let same : x.value ≡ of_struct ty fs = one_is x.value (of_struct ty fs) (some_is (one x.value) (one (of_struct ty fs)) (sym x.there ∙ e)) in
-        let w = subst (λ v. well_typed p.types x.ty v ≡ true) same x.typed in
-        no_struct p.types (slice_get p.types x.ty) fs x.atomic (and_parts (ty == x.ty) (all_well_typed p.types (struct_types (slice_get p.types x.ty)) fs) w).1
-
-    not_just : (o : Option Content) (v : Value) (c : Content) → o ≡ Some (one v) → o ≡ Some (just c) → ⊥
-    not_just o v c e f = by (sym e ∙ f)
-      where
-        by : Some (one v) ≡ Some (just c) → ⊥
-        by q = cc
-
-    variant_struct : (o : Option Content) (s i t : ℕ) (fs hs : Values) → o ≡ Some (one (of_variant s i fs)) → o ≡ Some (one (of_struct t hs)) → ⊥
-    variant_struct o s i t fs hs e f = by (sym e ∙ f)
-      where
-        by : Some (one (of_variant s i fs)) ≡ Some (one (of_struct t hs)) → ⊥
-        by q = cc
-
-    -- the constraint that a constant's site is of
-    back : SiteTerm → Constraint
-    back (bool_term b ty) = is_bool b ty
-    back (int_term z ty) = is_int z ty
-    back (prim_term name) = is_prim name
-    back _ = is_present
-
-    pub same_shape : (o : Option Content) (a b : Constraint) → Shape o a → Shape o b → a ≡ b
-    unfolding back
-    same_shape o (is_variant s i n) (is_variant t j k) x y =
-        let e : Some (one (of_variant s i x.0)) ≡ Some (one (of_variant t j y.0)) = sym x.1 ∙ y.1 in
-        let a : s ≡ t = cc in
-        let b : i ≡ j = cc in
-        let c : x.0 ≡ y.0 = cc in
-        let l : n ≡ k = sym x.2 ∙ ap (λ fs. length (listed fs)) c ∙ y.2 in
-        λ q. is_variant (a q) (b q) (l q)
-    same_shape o (is_struct s n) (is_struct t k) x y =
-        let e : Some (one (of_struct s x.0)) ≡ Some (one (of_struct t y.0)) = sym x.1 ∙ y.1 in
-        let a : s ≡ t = cc in
-        let c : x.0 ≡ y.0 = cc in
-        let l : n ≡ k = sym x.2 ∙ ap (λ fs. length (listed fs)) c ∙ y.2 in
-        λ q. is_struct (a q) (l q)
-    same_shape o (is_variant s i n) (is_struct t k) x y = absurd (variant_struct o s i t x.0 y.0 x.1 y.1)
-    same_shape o (is_struct t k) (is_variant s i n) x y = absurd (variant_struct o s i t y.0 x.0 y.1 x.1)
-    same_shape o (is_variant s i n) (is_bool b ty) x y = absurd (constant_variant o (bool_term b ty) s i x.0 y x.1)
-    same_shape o (is_variant s i n) (is_int z ty) x y = absurd (constant_variant o (int_term z ty) s i x.0 y x.1)
-    same_shape o (is_variant s i n) (is_prim name) x y = absurd (constant_variant o (prim_term name) s i x.0 y x.1)
-    same_shape o (is_bool b ty) (is_variant s i n) x y = absurd (constant_variant o (bool_term b ty) s i y.0 x y.1)
-    same_shape o (is_int z ty) (is_variant s i n) x y = absurd (constant_variant o (int_term z ty) s i y.0 x y.1)
-    same_shape o (is_prim name) (is_variant s i n) x y = absurd (constant_variant o (prim_term name) s i y.0 x y.1)
-    same_shape o (is_struct s n) (is_bool b ty) x y = absurd (constant_struct o (bool_term b ty) s x.0 y x.1)
-    same_shape o (is_struct s n) (is_int z ty) x y = absurd (constant_struct o (int_term z ty) s x.0 y x.1)
-    same_shape o (is_struct s n) (is_prim name) x y = absurd (constant_struct o (prim_term name) s x.0 y x.1)
-    same_shape o (is_bool b ty) (is_struct s n) x y = absurd (constant_struct o (bool_term b ty) s y.0 x y.1)
-    same_shape o (is_int z ty) (is_struct s n) x y = absurd (constant_struct o (int_term z ty) s y.0 x y.1)
-    same_shape o (is_prim name) (is_struct s n) x y = absurd (constant_struct o (prim_term name) s y.0 x y.1)
-    same_shape o (is_bool b ty) (is_bool c u) x y = ap back (constants_same o (bool_term b ty) (bool_term c u) x y)
-    same_shape o (is_bool b ty) (is_int z u) x y = ap back (constants_same o (bool_term b ty) (int_term z u) x y)
-    same_shape o (is_bool b ty) (is_prim n) x y = ap back (constants_same o (bool_term b ty) (prim_term n) x y)
-    same_shape o (is_int z ty) (is_bool c u) x y = ap back (constants_same o (int_term z ty) (bool_term c u) x y)
-    same_shape o (is_int z ty) (is_int w u) x y = ap back (constants_same o (int_term z ty) (int_term w u) x y)
-    same_shape o (is_int z ty) (is_prim n) x y = ap back (constants_same o (int_term z ty) (prim_term n) x y)
-    same_shape o (is_prim n) (is_bool c u) x y = ap back (constants_same o (prim_term n) (bool_term c u) x y)
-    same_shape o (is_prim n) (is_int w u) x y = ap back (constants_same o (prim_term n) (int_term w u) x y)
-    same_shape o (is_prim n) (is_prim k) x y = ap back (constants_same o (prim_term n) (prim_term k) x y)
-    same_shape o is_present is_present x y = refl
-    same_shape o is_present (is_variant s i n) x y = absurd (not_just o (of_variant s i y.0) x.0 y.1 x.1)
-    same_shape o is_present (is_struct s n) x y = absurd (not_just o (of_struct s y.0) x.0 y.1 x.1)
-    same_shape o is_present (is_bool b ty) x y = absurd (not_just o y.value x.0 y.there x.1)
-    same_shape o is_present (is_int z ty) x y = absurd (not_just o y.value x.0 y.there x.1)
-    same_shape o is_present (is_prim name) x y = absurd (not_just o y.value x.0 y.there x.1)
-    same_shape o (is_variant s i n) is_present x y = absurd (not_just o (of_variant s i x.0) y.0 x.1 y.1)
-    same_shape o (is_struct s n) is_present x y = absurd (not_just o (of_struct s x.0) y.0 x.1 y.1)
-    same_shape o (is_bool b ty) is_present x y = absurd (not_just o x.value y.0 x.there y.1)
-    same_shape o (is_int z ty) is_present x y = absurd (not_just o x.value y.0 x.there y.1)
-    same_shape o (is_prim name) is_present x y = absurd (not_just o x.value y.0 x.there y.1)
+    pub shape_there : (s : SiteTerm) (c : Constraint) → HasConstraint d s c → Shape_of (content_of g s) c
+    shape_there s c h = subst (λ o. Shape_of o c) (same_contents h.source s h.joined) (asked_shape h.source c (in_from_contains d.constraints (h.source, c) h.asked))
 
     pub can_be_met : IsUnreachable d → ⊥
     can_be_met (two_at_a_site s a b i j n) =
-        n (same_shape (content_of g s) a b (asked_shape s a (in_from_contains d.constraints (s, a) i)) (asked_shape s b (in_from_contains d.constraints (s, b) j)))
-    can_be_met (two_in_a_class s a b i j n) = n (same_shape (content_of g s) a b (shape_there s a i) (shape_there s b j))
+        n (same_shape g rs types apart (content_of g s) a b (asked_shape s a (in_from_contains d.constraints (s, a) i)) (asked_shape s b (in_from_contains d.constraints (s, b) j)))
+    can_be_met (two_in_a_class s a b i j n) = n (same_shape g rs types apart (content_of g s) a b (shape_there s a i) (shape_there s b j))
     can_be_met (part_of_itself s h) = no_cycle s h

@@ -126,3 +126,12 @@ pub record TellsRulesApart (p : Program) (t : ℕ) : Type 0 where
       → (Overlaps a.demands b.demands → ⊥) → IsTrue (is_some (matches p m a.rule args)) → IsTrue (is_some (matches p m b.rule args)) → ⊥)
   pub shadow : is_multi p t ≡ false → WhereServed p t (λ m args. (mask b : BuiltRule) → AreRulesWithoutCalls p t mask b
       → Shadows mask b → IsTrue (is_some (matches p m b.rule args)) → IsTrue (is_some (matches p m mask.rule args)))
+
+-- so of any two rules that go over no calls, whatever else the term is and whatever its other rules do
+pub record TellsRulesWithoutCallsApart (p : Program) (t : ℕ) : Type 0 where
+  pub overlap : WhereServed p t (λ m args. (a b : BuiltRule) → Contains (built_rules p t) a → Contains (built_rules p t) b
+      → (demands_of p a.rule).iterators ≡ [] → (demands_of p b.rule).iterators ≡ []
+      → (Overlaps a.demands b.demands → ⊥) → IsTrue (is_some (matches p m a.rule args)) → IsTrue (is_some (matches p m b.rule args)) → ⊥)
+  pub shadow : WhereServed p t (λ m args. (mask b : BuiltRule) → Contains (built_rules p t) mask → Contains (built_rules p t) b
+      → (demands_of p mask.rule).iterators ≡ [] → (demands_of p b.rule).iterators ≡ []
+      → Shadows mask b → IsTrue (is_some (matches p m b.rule args)) → IsTrue (is_some (matches p m mask.rule args)))
