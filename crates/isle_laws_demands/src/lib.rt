@@ -8,8 +8,9 @@ ghost use Rattle.isle_laws_demands.specs.ClosureLaws.{JoinedIsEquivalence, Class
 ghost use Rattle.isle_laws_demands.specs.AcceptLaws.{ElaboratedRulesHaveTerms, RulesAreJudged, ListsAreAccepted, ListsAreNotAccepted};
 ghost use Rattle.isle_laws_demands.specs.ReportLaws.{CheckIsExact, OverlapsAreListedOnce, ListedRulesOverlap, MasksAreReportedOnce, ReportedMasksShadow};
 ghost use Rattle.isle_laws_demands.specs.VisitLaws.{SitesStandOnce, FormedRulesDemandGates, ClosingKeepsGates, ElaboratedRulesDemandGates, BuiltRulesDemandGates, BuiltSetsAreWellBuilt, NoneAskedAndGoneOver, MultiCallsAreGoneOver, NoRuleAsksAndGoesOver, MultiTermsHaveOnePriority};
-ghost use Rattle.isle_laws_demands.specs.MatchLaws.{VisitsMatch, UnreachableRulesNeverMatch, ClosedDemandsHoldAlike, BuiltDemandsHoldAlike, BuiltSetsMatchByDemands, BuiltRulesAreToldApart, RulesWithoutMultiGoOverNoCalls, RulesWithoutMultiAreToldApart};
 ghost use Rattle.isle_model.specs.claims.SetMeanings.{BuiltSetsAreTested, BuiltSetsCanBeServed, BuiltSetsAreCollected};
+ghost use Rattle.isle_laws_demands.specs.BuiltLaws.{ClosingsOfBuiltRulesAreWhole, ConstrainedSitesStandInNoClass, BuiltRulesConstrainOrEquate, FormedRulesMakeEqualSites, BuiltDemandsAreWhole};
+ghost use Rattle.isle_laws_demands.specs.MatchLaws.{VisitsMatch, UnreachableRulesNeverMatch, ClosedDemandsHoldAlike, BuiltDemandsHoldAlike, BuiltSetsMatchByDemands, BuiltRulesAreToldApart, RulesWithoutMultiGoOverNoCalls, RulesWithoutMultiAreToldApart};
 
 use isle_laws_lists::{lists_agree, rules_are_formed};
 
@@ -206,9 +207,9 @@ pub fn multi_terms_have_one_priority()
     lists_agree();
 }
 
-/// The visit of a rule that hangs together makes the sites that it equates.
-pub fn formed_rules_make_equal_sites()
-    ensures { FormedRulesMakeEqualSites }
+/// The term of each rule that elaborates is one of the table.
+pub fn elaborated_rules_have_terms()
+    ensures { ElaboratedRulesHaveTerms }
 {}
 
 /// The judge of rules is exact, where each rule's term is one of the program's.
@@ -266,6 +267,19 @@ pub fn built_sets_are_collected()
     rules_are_formed();
     lists_agree();
     elaborated_rules_demand_gates();
+}
+
+/// The visit of a rule that hangs together makes the sites that it equates.
+pub fn formed_rules_make_equal_sites()
+    ensures { FormedRulesMakeEqualSites }
+{}
+
+/// So the closed demands of each rule that is built of elaborated rules are all that follows.
+pub fn built_demands_are_whole()
+    ensures { BuiltDemandsAreWhole }
+{
+    rules_are_formed();
+    lists_agree();
 }
 
 /// A rule that elaborates matches under a pick exactly where the demands of its visit hold.
