@@ -15,7 +15,7 @@ use Rattle.isle_model.specs.sites.RuleSets.{IsBuilt}
 use Rattle.isle_model.specs.sites.Serves.{Serves, TellsConstantsApart}
 use Rattle.isle_model.specs.claims.Environments.{TypesRead, IsElaborated, program_of}
 use Rattle.isle_model.specs.claims.Headline.{IsWithoutMulti}
-use Rattle.isle_model.specs.claims.SetMeanings.{MatchesByDemands, TellsRulesApart, TellsRulesWithoutCallsApart}
+use Rattle.isle_model.specs.claims.SetMeanings.{MatchesByDemands, TellsRulesApart}
 use Rattle.isle_laws_demands.specs.ClosureLaws.{ClosedIsWhole}
 
 -- a rule on arguments of its term's types, a meaning that serves the rules of the term, and one of the rule's picks
@@ -67,7 +67,7 @@ BuiltSetsMatchByDemands =
 abbrev pub BuiltRulesAreToldApart : Type 0
 BuiltRulesAreToldApart =
     (e : TypesRead) (defs : List Definition) (expand : Bool) (rules : TypedRules) (t : ℕ)
-    → IsElaborated e defs expand rules → TellsRulesWithoutCallsApart (program_of e defs rules.rules) t
+    → IsElaborated e defs expand rules → TellsRulesApart (program_of e defs rules.rules) t
 
 -- the rules of a term that isn't multi and uses no multi extractor go over no calls
 abbrev pub RulesWithoutMultiGoOverNoCalls : Type 0
@@ -75,9 +75,3 @@ RulesWithoutMultiGoOverNoCalls =
     (e : TypesRead) (defs : List Definition) (expand : Bool) (rules : TypedRules) (t : ℕ)
     → IsElaborated e defs expand rules → IsWithoutMulti (program_of e defs rules.rules) t
     → (r : TypedRule) → Contains (rules_of (program_of e defs rules.rules) t) r → (demands_of (program_of e defs rules.rules) r).iterators ≡ []
-
--- so they are told apart
-abbrev pub RulesWithoutMultiAreToldApart : Type 0
-RulesWithoutMultiAreToldApart =
-    (e : TypesRead) (defs : List Definition) (expand : Bool) (rules : TypedRules) (t : ℕ)
-    → IsElaborated e defs expand rules → TellsRulesApart (program_of e defs rules.rules) t

@@ -10,7 +10,7 @@ ghost use Rattle.isle_laws_demands.specs.ReportLaws.{CheckIsExact, OverlapsAreLi
 ghost use Rattle.isle_laws_demands.specs.VisitLaws.{SitesStandOnce, FormedRulesDemandGates, ClosingKeepsGates, ElaboratedRulesDemandGates, BuiltRulesDemandGates, BuiltSetsAreWellBuilt, NoneAskedAndGoneOver, MultiCallsAreGoneOver, NoRuleAsksAndGoesOver, MultiTermsHaveOnePriority};
 ghost use Rattle.isle_model.specs.claims.SetMeanings.{BuiltSetsAreTested, BuiltSetsCanBeServed, BuiltSetsAreCollected};
 ghost use Rattle.isle_laws_demands.specs.BuiltLaws.{ClosingsOfBuiltRulesAreWhole, ConstrainedSitesStandInNoClass, BuiltRulesConstrainOrEquate, FormedRulesMakeEqualSites, BuiltDemandsAreWhole};
-ghost use Rattle.isle_laws_demands.specs.MatchLaws.{VisitsMatch, UnreachableRulesNeverMatch, ClosedDemandsHoldAlike, BuiltDemandsHoldAlike, BuiltSetsMatchByDemands, BuiltRulesAreToldApart, RulesWithoutMultiGoOverNoCalls, RulesWithoutMultiAreToldApart};
+ghost use Rattle.isle_laws_demands.specs.MatchLaws.{VisitsMatch, UnreachableRulesNeverMatch, ClosedDemandsHoldAlike, BuiltDemandsHoldAlike, BuiltSetsMatchByDemands, BuiltRulesAreToldApart, RulesWithoutMultiGoOverNoCalls};
 
 use isle_laws_lists::{lists_agree, rules_are_formed};
 
@@ -323,10 +323,3 @@ pub fn built_rules_are_told_apart()
 pub fn rules_without_multi_go_over_no_calls()
     ensures { RulesWithoutMultiGoOverNoCalls }
 {}
-
-/// So their closed demands tell them apart.
-pub fn rules_without_multi_are_told_apart()
-    ensures { RulesWithoutMultiAreToldApart }
-{
-    built_demands_are_whole();
-}

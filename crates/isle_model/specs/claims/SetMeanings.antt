@@ -119,19 +119,10 @@ pub record AreRulesWithoutCalls (p : Program) (t : ℕ) (a b : BuiltRule) : Type
   pub one_goes_over_none : (demands_of p a.rule).iterators ≡ []
   pub other_goes_over_none : (demands_of p b.rule).iterators ≡ []
 
--- of two rules of a term that isn't multi, which use no multi extractor: those that don't overlap never match together, and
--- a shadowed rule matches only where its mask does
+-- of two rules that go over no calls, whatever the term's other rules do: those that don't overlap never match together,
+-- and a shadowed rule matches only where its mask does
 pub record TellsRulesApart (p : Program) (t : ℕ) : Type 0 where
-  pub overlap : is_multi p t ≡ false → WhereServed p t (λ m args. (a b : BuiltRule) → AreRulesWithoutCalls p t a b
+  pub overlap : WhereServed p t (λ m args. (a b : BuiltRule) → AreRulesWithoutCalls p t a b
       → (Overlaps a.demands b.demands → ⊥) → IsTrue (is_some (matches p m a.rule args)) → IsTrue (is_some (matches p m b.rule args)) → ⊥)
-  pub shadow : is_multi p t ≡ false → WhereServed p t (λ m args. (mask b : BuiltRule) → AreRulesWithoutCalls p t mask b
-      → Shadows mask b → IsTrue (is_some (matches p m b.rule args)) → IsTrue (is_some (matches p m mask.rule args)))
-
--- so of any two rules that go over no calls, whatever else the term is and whatever its other rules do
-pub record TellsRulesWithoutCallsApart (p : Program) (t : ℕ) : Type 0 where
-  pub overlap : WhereServed p t (λ m args. (a b : BuiltRule) → Contains (built_rules p t) a → Contains (built_rules p t) b
-      → (demands_of p a.rule).iterators ≡ [] → (demands_of p b.rule).iterators ≡ []
-      → (Overlaps a.demands b.demands → ⊥) → IsTrue (is_some (matches p m a.rule args)) → IsTrue (is_some (matches p m b.rule args)) → ⊥)
-  pub shadow : WhereServed p t (λ m args. (mask b : BuiltRule) → Contains (built_rules p t) mask → Contains (built_rules p t) b
-      → (demands_of p mask.rule).iterators ≡ [] → (demands_of p b.rule).iterators ≡ []
+  pub shadow : WhereServed p t (λ m args. (mask b : BuiltRule) → AreRulesWithoutCalls p t mask b
       → Shadows mask b → IsTrue (is_some (matches p m b.rule args)) → IsTrue (is_some (matches p m mask.rule args)))
