@@ -12,6 +12,7 @@ ghost use Rattle.isle_laws_demands.specs.MatchLaws.{VisitsMatch, UnreachableRule
 ghost use Rattle.isle_model.specs.claims.SetMeanings.{BuiltSetsAreTested, BuiltSetsCanBeServed, BuiltSetsAreCollected};
 
 use isle_laws_lists::{lists_agree, rules_are_formed};
+use isle_laws_runs::no_multi_is_no_iterators;
 
 /// Sites that must be equal are an equivalence.
 #[tactic(auto, using(crate::proofs::closure::Classes::joined_is_equivalence_lem))]
@@ -283,17 +284,21 @@ pub fn built_sets_match_by_demands()
 pub fn built_rules_are_told_apart()
     ensures { BuiltRulesAreToldApart }
 {
+    no_multi_is_no_iterators();
     built_demands_are_whole();
 }
 
 /// The rules of a term that isn't multi and uses no multi extractor go over no calls.
 pub fn rules_without_multi_go_over_no_calls()
     ensures { RulesWithoutMultiGoOverNoCalls }
-{}
+{
+    no_multi_is_no_iterators();
+}
 
 /// So their closed demands tell them apart.
 pub fn rules_without_multi_are_told_apart()
     ensures { RulesWithoutMultiAreToldApart }
 {
+    no_multi_is_no_iterators();
     built_demands_are_whole();
 }

@@ -17,8 +17,7 @@ use Rattle.isle_model.specs.claims.Environments.{TypesRead, setting_of, IsElabor
 use Rattle.isle_model.proofs.Elements.{In, in_from_contains, contains_from_in, in_left, in_right, in_map, in_flat_map}
 use Rattle.isle_laws_lists.proofs.TermLaws.{terms_stand_at_ids_lem}
 use Rattle.isle_laws_lists.proofs.TypedRules as typed
-use Rattle.isle_laws_runs.specs.WithoutMulti.{WhereKnown, PatternCallsNoMulti, PatternsCallNoMulti, ExprCallsNoMulti, ExprsCallNoMulti, LetsCallNoMulti, ArgsCallNoMulti, IfLetsCallNoMulti}
-use Rattle.isle_laws_runs.proofs.picks.NoIterators.{no_multi_is_no_iterators_lem}
+use Rattle.isle_laws_runs.specs.WithoutMulti.{NoMultiIsNoIterators, WhereKnown, PatternCallsNoMulti, PatternsCallNoMulti, ExprCallsNoMulti, ExprsCallNoMulti, LetsCallNoMulti, ArgsCallNoMulti, IfLetsCallNoMulti}
 use Rattle.isle_laws_runs.proofs.picks.Plain.{from_to_count, output_count}
 use Rattle.isle_laws_demands.specs.MatchLaws.{RulesWithoutMultiGoOverNoCalls, RulesWithoutMultiAreToldApart}
 use Rattle.isle_laws_demands.specs.BuiltLaws.{BuiltDemandsAreWhole}
@@ -169,8 +168,8 @@ module _ (p : Program) (z : Visit) (none : (u : ℕ) (s : SiteTerm) → In z.dem
       (pattern_single i.lhs a.site u (then_grown w (visit_iflets p is w) z (iflets_grown p is w) l), h.0, conditions_single is w h.1 l)
 
 -- 3. rules
-pub rules_without_multi_go_over_no_calls_lem : RulesWithoutMultiGoOverNoCalls
-rules_without_multi_go_over_no_calls_lem e defs expand rules t h without r c =
+pub rules_without_multi_go_over_no_calls_lem : NoMultiIsNoIterators → RulesWithoutMultiGoOverNoCalls
+rules_without_multi_go_over_no_calls_lem single e defs expand rules t h without r c =
     let p = program_of e defs rules.rules in
     let b = of_term e defs expand rules h t r c in
     let z = (visit_rule p r).visit in
@@ -183,7 +182,7 @@ rules_without_multi_go_over_no_calls_lem e defs expand rules t h without r c =
     (contains_from_in (asked p (rules_of p t)) (extractor_call n y)
     (in_flat_map (λ (q : TypedRule). asked_by (demands_of p q)) (rules_of p t) r (extractor_call n y) (in_from_contains (rules_of p t) r c)
     (in_left (demands_of p r).made (flat_map (λ (x : SiteTerm × Constraint). constant_site x.1) (demands_of p r).constraints) (extractor_call n y) i))) in
-    (no_multi_is_no_iterators_lem p r).0
+    (single p r).0
     (record {
       patterns = args_single p z none 0 r.args visit_start (then_grown u w z (iflets_grown p r.iflets u) adds.grown);
       conditions = conditions_single p z none r.iflets u s.0 adds.grown;
@@ -191,17 +190,17 @@ rules_without_multi_go_over_no_calls_lem e defs expand rules t h without r c =
     })
 
 -- so they are told apart
-pub rules_without_multi_are_told_apart_lem : BuiltDemandsAreWhole → RulesWithoutMultiAreToldApart
-rules_without_multi_are_told_apart_lem whole e defs expand rules t h =
+pub rules_without_multi_are_told_apart_lem : NoMultiIsNoIterators → BuiltDemandsAreWhole → RulesWithoutMultiAreToldApart
+rules_without_multi_are_told_apart_lem single whole e defs expand rules t h =
     let p = program_of e defs rules.rules in
-    let told = built_rules_are_told_apart_lem whole e defs expand rules t h in
+    let told = built_rules_are_told_apart_lem single whole e defs expand rules t h in
     record {
       overlap = λ without m args typed served apart a b i j no.
           told.overlap m args typed served apart a b i j
-          (rules_without_multi_go_over_no_calls_lem e defs expand rules t h without a.rule (built_listed p t a i))
-          (rules_without_multi_go_over_no_calls_lem e defs expand rules t h without b.rule (built_listed p t b j)) no;
+          (rules_without_multi_go_over_no_calls_lem single e defs expand rules t h without a.rule (built_listed p t a i))
+          (rules_without_multi_go_over_no_calls_lem single e defs expand rules t h without b.rule (built_listed p t b j)) no;
       shadow = λ without m args typed served apart mask b i j x.
           told.shadow m args typed served apart mask b i j
-          (rules_without_multi_go_over_no_calls_lem e defs expand rules t h without mask.rule (built_listed p t mask i))
-          (rules_without_multi_go_over_no_calls_lem e defs expand rules t h without b.rule (built_listed p t b j)) x;
+          (rules_without_multi_go_over_no_calls_lem single e defs expand rules t h without mask.rule (built_listed p t mask i))
+          (rules_without_multi_go_over_no_calls_lem single e defs expand rules t h without b.rule (built_listed p t b j)) x;
     }

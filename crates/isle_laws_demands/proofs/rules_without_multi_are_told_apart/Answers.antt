@@ -2,4 +2,4 @@ use Rattle.isle_laws_demands.proofs.matching.NoMulti.{rules_without_multi_are_to
 use Rattle.isle_laws_demands.proofs.rules_without_multi_are_told_apart.Goals as goal
 
 pub returns : goal.returns
-returns c = rules_without_multi_are_told_apart_lem c.built_demands_are_whole.ensures
+returns c = rules_without_multi_are_told_apart_lem c.no_multi_is_no_iterators.ensures c.built_demands_are_whole.ensures

@@ -2,4 +2,4 @@ use Rattle.isle_laws_demands.proofs.matching.NoMulti.{rules_without_multi_go_ove
 use Rattle.isle_laws_demands.proofs.rules_without_multi_go_over_no_calls.Goals as goal
 
 pub returns : goal.returns
-returns c = rules_without_multi_go_over_no_calls_lem
+returns c = rules_without_multi_go_over_no_calls_lem c.no_multi_is_no_iterators.ensures
