@@ -17,9 +17,10 @@ use Rattle.isle_model.specs.lists.Setting.{bool_type, has_extractor}
 use Rattle.isle_model.specs.rules.Values.{is_atom_type}
 use Rattle.isle_model.specs.lists.Formed.{pattern_type, var_type, is_type, with_new, formed_pattern, formed_parts, formed_each}
 use Rattle.isle_model.proofs.Elements.{In, in_right, some_is, none_some}
+use Rattle.isle_model.proofs.Present.{is_there}
 use Rattle.isle_laws_demands.proofs.visits.Patterns.{from_if, from_then, from_new, term_known}
 use Rattle.isle_laws_demands.proofs.matching.Contents.{Given, content_of, Here, AreHere, AsMany, IsAnswered, has_value, maybe_fits, picked_fits, fits_answered, fields_here, PutOut, put_out}
-use Rattle.isle_laws_demands.proofs.matching.Demanded.{AreMet, AskEnough, same_content, here_typed, met_asking, asked_now, IsBound, AreBound, bound_kept, After, outside, then_after, unbound, constant_after, var_after}
+use Rattle.isle_laws_demands.proofs.matching.Demanded.{one_not_just, AreMet, AskEnough, same_content, here_typed, met_asking, asked_now, IsBound, AreBound, bound_kept, After, outside, then_after, unbound, constant_after, var_after}
 use Rattle.isle_laws_demands.proofs.matching.Exprs.{type_is}
 use Rattle.isle_laws_demands.proofs.matching.Grown.{Grown, then_grown, grown_making, grown_asking, grown_iterating, each_grown, all_grown}
 use Rattle.isle_laws_demands.proofs.matching.SameExprs.{AreWithin, within_new}
@@ -99,10 +100,6 @@ record Opens (g : Given) (v : Visit) (o : Opened) (tys : List ℕ) (seen : Optio
   met : AreMet g v.demands → (ws : Values) → seen ≡ Some ws → AreMet g o.visit.demands
   found : AskEnough g o.visit.demands → (ws : Values) × (seen ≡ Some ws)
   inputs : (ws : Values) → seen ≡ Some ws → AreHere g o.inputs tys ws
-
-is_there : {X : Type 0} (o : Option X) → is_some o ≡ true → (x : X) × (o ≡ Some x)
-is_there None h = absurd (false≢true h)
-is_there (Some x) h = (x, refl)
 
 both_there : {X Y : Type 0} (b : Bool) (x : X) (y : Y) → is_some (cond b (Some x) None) ≡ is_some (cond b (Some y) None)
 both_there true x y = refl
@@ -265,16 +262,13 @@ module _ (g : Given) (z : Visit) (h : IsAnswered g z.demands) (parts : HasTypedP
                 met = λ a ws j.
                     (let b = met_asking g call is_present made
                     (record { content = just d.0; held = call_content c.answer c.there ∙ ap Some d.1; meets = refl })
-                    (λ y i. absurd (not_one d.0 y (same_content g call (just d.0) (one y) (call_content c.answer c.there ∙ ap Some d.1) i)))
+                    (λ y i. absurd (one_not_just y d.0 (same_content g call (one y) (just d.0) i (call_content c.answer c.there ∙ ap Some d.1))))
                     (record { asked = a.asked; equal = a.equal }) in
                     record { asked = b.asked; equal = b.equal });
                 found = λ a. (w.values, seen);
                 inputs = λ ws j. subst (AreHere g (output_sites (some_part call) args) e.arg_tys) (some_is w.values ws (sym seen ∙ j)) w.here;
               }
         ]
-      where
-        not_one : (c : Content) (y : Value) → just c ≡ one y → ⊥
-        not_one c y i = cc
 
     term_opens : (k : Kind) → kind p t ≡ k → kind_of e ≡ k → e.ret_ty ≡ ty → Grown (open_term k t s args v).visit z → Opens g v (open_term k t s args v) e.arg_tys (parts_under k g.meaning g.pick t s x)
     term_opens (a_variant u i) q w r l =
