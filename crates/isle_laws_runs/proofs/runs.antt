@@ -12,6 +12,7 @@ pub mod Contents
 pub mod Demanded
 pub mod Fields
 pub mod Finding
+pub mod HoldsOnce
 pub mod Left
 pub mod Loops
 pub mod Order

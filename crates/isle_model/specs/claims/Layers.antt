@@ -13,7 +13,7 @@ use Rattle.isle_model.specs.trees.Best.{are_distinct, IsBestTree, SharesMost}
 use Rattle.isle_model.specs.trees.WellBuilt.{HasOnePriority}
 use Rattle.isle_model.specs.claims.Headline.{RunsAsChosen}
 use Rattle.isle_model.specs.trees.Collects.{Collects, CollectsTheBag, IsCollectedSet, ServesSet, set_bag}
-use Rattle.isle_model.specs.trees.SetRuns.{IsTestedSet, ServesTests, ChoosesFrom}
+use Rattle.isle_model.specs.trees.SetRuns.{IsTestedSet, ServesTests, ChoosesFrom, HasNoWrongOverlap, HoldsOnce}
 use Rattle.isle_model.specs.sites.Overlap.{built_rules, OverlapsWrongly, IsShadowed, HasDistinctPositions, RuleReport, limit_passed, not_reached, rules_overlap, rule_shadows, build_reports, overlap_and_shadow_reports}
 use Rattle.isle_model.specs.lists.TypeTable.{IsValidTypes, type_table, constant_types}
 use Rattle.isle_model.specs.lists.Elaborated.{TypedRules}
@@ -64,10 +64,12 @@ pub record CheckReports (p : Program) (reports : List RuleReport) : Type 0 where
   pub fixed : HasDistinctPositions p → later ≡ overlap_and_shadow_reports p
 
 -- the run of a tree means what its set does. In a term that isn't multi, where the rules go over no calls, it takes a rule
--- of greatest priority among those whose demands hold; in a multi term whose rules have one priority, make no impure
+-- of greatest priority among those whose demands hold, the only one of that priority where no two rules of the set overlap
+-- wrongly; in a multi term whose rules have one priority, make no impure
 -- call and demand the gates below their sites, it collects the bag of their results
 pub record MeansItsSet (set : SiteSet) (tree : Tree) : Type 0 where
   pub chooses : IsTestedSet set → (w : World) → ServesTests set w → w.multi ≡ false → ChoosesFrom set w (run tree w)
+  pub once : HasNoWrongOverlap set.rules → (w : World) → ServesTests set w → w.multi ≡ false → HoldsOnce set.rules w
   pub collects : HasOnePriority set.rules → IsCollectedSet set → (w : World) → ServesSet set w → w.multi ≡ true → Collects (run tree w) (set_bag set w)
 
 -- what serializing a built set gives: a best tree, which means what its set does
