@@ -2,13 +2,10 @@
 use Rattle.std.specs.Prelude.{Bool, true, List, [], ◌∷◌, codes}
 use Rattle.isle_model.specs.lists.Syntax.{Definition, type_definition}
 use Rattle.isle_model.specs.trees.Trees.{Tree, no_step}
-use Rattle.isle_model.specs.sites.Overlap.{rules_overlap, rule_shadows}
-use Rattle.isle_model.specs.lists.TypeTable.{type_table}
-use Rattle.isle_model.specs.lists.TermTable.{term_table}
-use Rattle.isle_model.specs.lists.KnownTypes.{types_of}
 use Rattle.isle_examples.specs.Written.{at, field, variant, enum}
 use Rattle.isle_examples.specs.Sets as set
-use Rattle.isle_model.specs.claims.Environments.{terms_by_name, rules_by_name}
+use Rattle.isle_model.specs.claims.Environments.{types_read, environment_of, with_read_names, term_environment_of}
+use Rattle.isle_model.specs.claims.Refusals.{ill_typed, overlapping, shadowing}
 use Rattle.isle_model.specs.claims.Layers.{LoweredTerm, LoweringAnswers, RefusedBy}
 use Rattle.isle_examples.specs.SampleLists.{overlap, shadow, unused, unused_rules}
 use Rattle.isle_examples.specs.ReadSamples.{unbound}
@@ -24,7 +21,7 @@ unused_term = record { term = 2; set = unused_set; tree = unused_tree }
 
 abbrev pub UnusedIsLowered : Type 0
 UnusedIsLowered =
-    LoweringAnswers unused true (type_table unused) [] (term_table (types_of unused) unused) (terms_by_name (term_table (types_of unused) unused)) (rules_by_name unused_rules.rules) []
+    LoweringAnswers unused true (environment_of (with_read_names (types_read unused) unused_rules.names)) (term_environment_of (types_read unused) unused true unused_rules.rules)
     unused_rules (unused_term ∷ [])
 
 -- (type T (enum (A (v u8)))), twice
@@ -36,7 +33,7 @@ two_of_one_name =
 -- by two types of one name, by a variable that nothing binds, by a wrong overlap, by a shadowed rule
 abbrev pub SamplesAreRefused : Type 0
 SamplesAreRefused =
-    ((expand : Bool) → RefusedBy two_of_one_name expand [])
-    × ((expand : Bool) → RefusedBy unbound expand [])
-    × ((expand : Bool) → RefusedBy overlap expand (rules_overlap (record { first = at 2; others = at 1 ∷ [] }) ∷ []))
-    × ((expand : Bool) → RefusedBy shadow expand (rule_shadows (record { mask = at 1; shadowed = at 2 ∷ [] }) ∷ []))
+    ((expand : Bool) → RefusedBy two_of_one_name expand (ill_typed (at 1) ∷ []))
+    × ((expand : Bool) → RefusedBy unbound expand (ill_typed (at 1) ∷ []))
+    × ((expand : Bool) → RefusedBy overlap expand (overlapping (at 2 ∷ (at 1 ∷ [])) ∷ []))
+    × ((expand : Bool) → RefusedBy shadow expand (shadowing (at 2 ∷ []) (at 1) ∷ []))
