@@ -8,6 +8,7 @@ pub mod Joined
 pub mod Members
 pub mod Names
 pub mod Numbers
+pub mod NumbersOf
 pub mod Options
 pub mod Positions
 pub mod SameSites
