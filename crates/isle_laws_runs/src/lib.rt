@@ -10,7 +10,7 @@ ghost use Rattle.isle_laws_runs.specs.Exact.{PicksAreExact, OnlyPlacesMatter, Co
 ghost use Rattle.isle_laws_runs.specs.Orders.{CallsCanComeFirst, ResultsAreOfPlaces};
 ghost use Rattle.isle_model.specs.rules.Values.{Value, value_eq};
 ghost use Rattle.std.specs.Prelude.{◌≡◌, Decides};
-ghost use Rattle.isle_model.specs.trees.SetRuns.{SoundTreesChoose};
+ghost use Rattle.isle_model.specs.trees.SetRuns.{SoundTreesChoose, TakenOnce};
 
 /// The run of a sound tree of any set of a multi term, whose rules make no impure call and demand every gate below their
 /// sites, collects the bag of the rules' results under each pick under which their demands hold.
@@ -85,4 +85,9 @@ pub fn value_eq_is_exact()
 /// The run of a sound tree of any set whose rules go over no calls is a choice by priority.
 pub fn sound_trees_choose()
     ensures { SoundTreesChoose }
+{}
+
+/// Taking a rule comes to one outcome, whatever the place that it is taken from.
+pub fn taken_once()
+    ensures { TakenOnce }
 {}
