@@ -24,11 +24,11 @@ pub record TermView : Type 0 where
   pub set : SiteSet
   pub tree : Tree
 
-abbrev pub term_view : LoweredTerm → TermView
-term_view t = record { id = t.id.0; set = set_view t.rules; tree = tree_view t.block }
+abbrev pub lowered_view : LoweredTerm → TermView
+lowered_view t = record { id = t.id.0; set = set_view t.rules; tree = tree_view t.block }
 
-abbrev pub term_views : List LoweredTerm → List TermView
-term_views ts = map term_view ts
+abbrev pub lowered_views : List LoweredTerm → List TermView
+lowered_views ts = map lowered_view ts
 
 -- each term with rules stands once, ascending, with the set that is built of its rules, and with a sound tree, in which
 -- each rule has one return
@@ -41,7 +41,7 @@ pub record AreSimplyLowered (p : Program) (ts : List TermView) : Type 0 where
 pub record IsLowered (l : Lowered) (defs : List Definition) (typed : List TypedRule) (expanded : Bool) : Type 0 where
   pub types : SeesTypes l.tyenv defs (all_names defs)
   pub rules : SeesRules l.termenv defs typed expanded
-  pub terms : AreSimplyLowered (carried_program_of defs typed) (term_views l.terms.items)
+  pub terms : AreSimplyLowered (carried_program_of defs typed) (lowered_views l.terms.items)
 
 -- the tree of each term runs as a test of every rule by priority would
 abbrev pub ChoosesAsSource : Program → List TermView → Type 0

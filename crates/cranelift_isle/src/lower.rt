@@ -1,17 +1,15 @@
 //! From definitions to trees of tests, in one call.
 
-ghost use Rattle.std.specs.Prelude.{◌≡◌, ◌<◌, vec_len, false, List, map, Some, All, IfOk};
+ghost use Rattle.std.specs.Prelude.{◌≡◌, false, List, map, Some, All, IfOk};
 ghost use Rattle.isle_base.specs.Answers.{Answers, OnErrors, limit_of};
 ghost use Rattle.isle_base.specs.SyntaxViews.{definition_views};
 ghost use Rattle.isle_model.specs.rules.Typed.{TypedRule};
-ghost use Rattle.isle_model.specs.first.Simple.{IsSimpleRule};
 ghost use Rattle.isle_model.specs.trees.Sound.{IsSound};
 ghost use Rattle.isle_model.specs.first.Elaboration.{carried_typed_rules, carried_program_of};
 ghost use Rattle.isle_model.specs.first.Accepted.{IsCarriedAccepted};
 ghost use Rattle.isle_model.specs.first.Building.{IsSimpleSet};
-ghost use Rattle.isle_rules.specs.RuleViews.{rule_views};
 ghost use Rattle.isle_sets.specs.Buildings.{term_set_views};
-ghost use Rattle.cranelift_isle.specs.Lowerings.{term_views, IsLowered, ChoosesAsSource, LimitPassed};
+ghost use Rattle.cranelift_isle.specs.Lowerings.{lowered_views, IsLowered, ChoosesAsSource, LimitPassed};
 
 use isle_base::syntax::{Def, Fault};
 use isle_rules::TermEnv;
@@ -79,7 +77,7 @@ pub fn lower(alloc: Global, defs: &[Def], expand: bool) -> Result<Lowered, Fault
 
     // each tree chooses as a test of every source rule by priority would
     ensures chosen { IfOk result (λ l. (typed : List TypedRule) → carried_typed_rules (definition_views defs.now) ≡ Some typed
-        → ChoosesAsSource (carried_program_of (definition_views defs.now) typed) (term_views l.terms.items)) }
+        → ChoosesAsSource (carried_program_of (definition_views defs.now) typed) (lowered_views l.terms.items)) }
 
     // an error names a limit only where it was passed
     ensures limits { OnErrors result (All (λ e. LimitPassed (definition_views defs.now) (limit_of e))) }
@@ -98,8 +96,8 @@ pub fn lower(alloc: Global, defs: &[Def], expand: bool) -> Result<Lowered, Fault
 // The tree of each set.
 fn trees_of(alloc: Global, sets: Vec<(TermId, RuleSet)>) -> Result<Vec<LoweredTerm>, AllocError>
     requires simple { All (λ b. IsSimpleSet b.1) (term_set_views sets.items) }
-    ensures same { IfOk result (λ ts. map (λ t. (t.id, t.set)) (term_views ts.items) ≡ term_set_views sets.items) }
-    ensures sound { IfOk result (λ ts. All (λ t. IsSound t.set false t.tree) (term_views ts.items)) }
+    ensures same { IfOk result (λ ts. map (λ t. (t.id, t.set)) (lowered_views ts.items) ≡ term_set_views sets.items) }
+    ensures sound { IfOk result (λ ts. All (λ t. IsSound t.set false t.tree) (lowered_views ts.items)) }
 {
     let mut terms = Vec::new(alloc);
     for (id, rules) in sets {

@@ -1,26 +1,34 @@
 -- Sets are built of the rules of their terms: by computing.
-use Rattle.std.proofs.Common.{◌≡◌, ℤ, ℕ, zero, suc, ◌<◌, ◌≤◌, Bool, true, false, not, ◌&&◌, nat_lt, nat_le, List, [], ◌∷◌, length, map, Option, Some, None, slice_get, All, refl, sym, ap, ◌∙◌, subst, arith, ltb-true}
+use Rattle.std.proofs.Common.{◌≡◌, ◌∷◌, [], ◌<◌, ◌≤◌, ◌∙◌, ◌&&◌, ℕ, ℤ, zero, suc, Bool, true, false, List, Option, Some, map, length, slice_get, All, IsTrue, refl, sym, ap, not, nat_lt, nat_le, ltb-true}
 use Rattle.std.specs.List.{list_all, flat_map}
 use Rattle.std.proofs.lemmas.Bool.{and_parts, false≢true, leb-true}
 use Rattle.std.proofs.lemmas.Option.{none-some, same_Some}
-use Rattle.isle_model.specs.lists.Syntax.{Position, Definition}
-use Rattle.isle_model.specs.lists.Names.{IsDistinct}
+use Rattle.isle_model.proofs.Members.{each_passes, member_from_get, member_is_in}
+use Rattle.isle_model.specs.claims.Environments.{types_read}
+use Rattle.isle_model.specs.claims.Layers.{own_program}
 use Rattle.isle_model.specs.lists.Elaborated.{TypedRules}
-use Rattle.isle_model.specs.rules.Program.{Program, numbers_from, is_multi, rules_of}
-use Rattle.isle_model.specs.sites.Sites.{Site, Constraint, SetRule, SiteSet, SiteTerm, unfold_site}
+use Rattle.isle_model.specs.lists.Names.{IsDistinct}
+use Rattle.isle_model.specs.lists.Syntax.{Definition, Position}
+use Rattle.isle_model.specs.rules.Program.{Program, is_multi, numbers_from, rules_of}
 use Rattle.isle_model.specs.sites.Demands.{demands_of, result_of}
+use Rattle.isle_model.specs.sites.Gates.{gate_demanded}
 use Rattle.isle_model.specs.sites.Limits.{most_sites, sites_after_rules}
 use Rattle.isle_model.specs.sites.Overlap.{BuiltRule, built_rules}
-use Rattle.isle_model.specs.sites.RuleSets.{IsRuleOf, AreRulesOfSet, IsBuilt}
-use Rattle.isle_model.specs.trees.Places.{is_in}
+use Rattle.isle_model.specs.sites.RuleSets.{AreRulesOfSet, IsBuilt, IsRuleOf}
+use Rattle.isle_model.specs.sites.Sites.{Constraint, SetRule, Site, SiteSet, SiteTerm, unfold_site}
 use Rattle.isle_model.specs.trees.Best.{are_distinct}
-use Rattle.isle_model.specs.claims.Layers.{own_program}
-use Rattle.isle_model.proofs.Members.{each_passes, member_from_get, member_is_in}
+use Rattle.isle_model.specs.trees.Collects.{IsCollectedRule, IsCollectedSet, calls_nothing, sites_of_rule}
+use Rattle.isle_model.specs.trees.Places.{all_below, is_in}
+use Rattle.isle_model.specs.trees.SetRuns.{IsTestedSet}
+use Rattle.isle_laws_demands.proofs.visits.Elaborated.{elaborated_rules_demand_gates_lem}
+use Rattle.isle_laws_demands.proofs.visits.Sets.{built_sets_are_tested_lem}
+use Rattle.isle_laws_lists.proofs.FormedRules.{rules_are_formed}
+use Rattle.isle_laws_lists.proofs.TypedRules.{lists_agree}
 use Rattle.isle_laws_trees.proofs.Exact.{not_exact}
-use Rattle.isle_laws_trees.proofs.WellBuilt.{set_passes, passes_well_built}
-use Rattle.isle_laws_trees.proofs.JudgedSets.{unfolded_demand, are_below, asks, goes_over, stand, equates, each_of, serves, calls_pass, only_sites, can_be_served, multi_can_be_served}
-use Rattle.isle_examples.specs.Stages.{IsBuiltOf}
+use Rattle.isle_laws_trees.proofs.JudgedSets.{are_below, asks, calls_pass, each_of, equates, goes_over, multi_can_be_served, only_sites, serves, stand, unfolded_demand}
+use Rattle.isle_laws_trees.proofs.WellBuilt.{passes_well_built, set_passes}
 use Rattle.isle_examples.proofs.TreeStages.{has_no_priorities}
+use Rattle.isle_examples.specs.Stages.{IsAcceptedBoth, IsBuiltOf}
 
 -- no number stands twice
 stands_twice : (n : ℕ) (ns : List ℕ) → not (is_in n ns) ≡ true → (k : ℕ) (x : ℕ) → n ≡ x → slice_get ns k ≡ Some x → ⊥
@@ -39,13 +47,28 @@ Row = ℕ × Position × ℤ × Option ℕ × List (SiteTerm × Constraint) × L
 
 abbrev pub row_in : List Site → SetRule → Row
 row_in sites r = (
-  r.id, r.at, r.prio, r.name, map (unfolded_demand sites) r.constraints, map (map (unfold_site sites)) r.classes, map (unfold_site sites) r.iterators,
-  map (unfold_site sites) r.impure, unfold_site sites r.result
+  r.id,
+  r.at,
+  r.prio,
+  r.name,
+  map (unfolded_demand sites) r.constraints,
+  map (map (unfold_site sites)) r.classes,
+  map (unfold_site sites) r.iterators,
+  map (unfold_site sites) r.impure,
+  unfold_site sites r.result,
 )
 
 abbrev pub built_row : Program → BuiltRule → Row
 built_row p b = (
-  b.rule.id, b.rule.at, b.rule.prio, b.rule.name, b.demands.constraints, b.demands.classes, (demands_of p b.rule).iterators, (demands_of p b.rule).impure, result_of p b.rule
+  b.rule.id,
+  b.rule.at,
+  b.rule.prio,
+  b.rule.name,
+  b.demands.constraints,
+  b.demands.classes,
+  (demands_of p b.rule).iterators,
+  (demands_of p b.rule).impure,
+  result_of p b.rule,
 )
 
 -- the sites of a rule are a set's, and stand once: in its constraints, in its classes, in its calls
@@ -60,6 +83,15 @@ calls_stand n r = are_below n r.iterators && (are_distinct r.iterators && (are_b
 
 abbrev pub stands_once : ℕ → SetRule → Bool
 stands_once n r = constraints_stand n r && (classes_stand n r && calls_stand n r)
+
+-- whether a list is empty
+abbrev pub is_none_of : List ℕ → Bool
+is_none_of [] = true
+is_none_of (x ∷ xs) = false
+
+empty : (xs : List ℕ) → is_none_of xs ≡ true → xs ≡ []
+empty [] h = refl
+empty (x ∷ xs) h = absurd (false≢true h)
 
 -- what a test says of each
 each_below : (n : ℕ) (ss : List ℕ) → are_below n ss ≡ true → All (λ s. s < n) ss
@@ -108,12 +140,13 @@ rules_stand p sites [] [] e h = tt
 rules_stand p sites [] (r ∷ rs) e h = absurd (no_row (row_in sites r) (map (row_in sites) rs) e)
 rules_stand p sites (b ∷ bs) [] e h = absurd (no_row (built_row p b) (map (built_row p) bs) (sym e))
 rules_stand p sites (b ∷ bs) (r ∷ rs) e h =
-    let q = and_parts (stands_once (length sites) r) (list_all (stands_once (length sites)) rs) h in
-    (rule_stands p sites b r (same_first (row_in sites r) (built_row p b) (map (row_in sites) rs) (map (built_row p) bs) e) q.0,
-    rules_stand p sites bs rs (same_rest (row_in sites r) (built_row p b) (map (row_in sites) rs) (map (built_row p) bs) e) q.1)
+    let q = and_parts (stands_once (length sites) r) (list_all (stands_once (length sites)) rs) h in (
+      rule_stands p sites b r (same_first (row_in sites r) (built_row p b) (map (row_in sites) rs) (map (built_row p) bs) e) q.0,
+      rules_stand p sites bs rs (same_rest (row_in sites r) (built_row p b) (map (row_in sites) rs) (map (built_row p) bs) e) q.1,
+    )
 
 -- a set stands so, by its rows, its sites, and the tests
-is_built : (p : Program) (t : ℕ) (set : SiteSet) → map (row_in set.sites) set.rules ≡ map (built_row p) (built_rules p t) → list_all (stands_once (length set.sites)) set.rules ≡ true
+pub is_built : (p : Program) (t : ℕ) (set : SiteSet) → map (row_in set.sites) set.rules ≡ map (built_row p) (built_rules p t) → list_all (stands_once (length set.sites)) set.rules ≡ true
     → map (unfold_site set.sites) (numbers_from 0 set.sites) ≡ sites_after_rules p [] (rules_of p t) → nat_le (length set.sites) most_sites ≡ true → set_passes (only_sites set) ≡ true
     → IsBuilt p t set
 is_built p t set rows once sites few passes = record {
@@ -123,18 +156,48 @@ is_built p t set rows once sites few passes = record {
   sources = (passes_well_built (only_sites set) passes).sources;
 }
 
+-- the set of a multi term is built, and can be served
 module _ (defs : List Definition) (rules : TypedRules) (t : ℕ) (set : SiteSet) where
   abbrev p : Program
   p = own_program defs rules
 
-  -- of a term that isn't multi
-  pub built : map (row_in set.sites) set.rules ≡ map (built_row p) (built_rules p t) → list_all (stands_once (length set.sites)) set.rules ≡ true
-      → map (unfold_site set.sites) (numbers_from 0 set.sites) ≡ sites_after_rules p [] (rules_of p t) → nat_le (length set.sites) most_sites ≡ true → set_passes (only_sites set) ≡ true
-      → is_multi p t ≡ false → list_all (serves set.sites) set.rules ≡ true → calls_pass p set.sites (built_rules p t) set.rules ≡ true → IsBuiltOf defs rules t set
-  built rows once sites few passes m each calls = (is_built p t set rows once sites few passes, can_be_served p t set m passes each calls)
-
-  -- of a multi term
   pub built_multi : map (row_in set.sites) set.rules ≡ map (built_row p) (built_rules p t) → list_all (stands_once (length set.sites)) set.rules ≡ true
       → map (unfold_site set.sites) (numbers_from 0 set.sites) ≡ sites_after_rules p [] (rules_of p t) → nat_le (length set.sites) most_sites ≡ true → set_passes (only_sites set) ≡ true
       → list_all (serves set.sites) set.rules ≡ true → calls_pass p set.sites (built_rules p t) set.rules ≡ true → has_no_priorities set.rules ≡ true → IsBuiltOf defs rules t set
   built_multi rows once sites few passes each calls none = (is_built p t set rows once sites few passes, multi_can_be_served p t set passes each calls none)
+
+-- a set that is built of accepted rules of a term that isn't multi, and goes over no calls, meets what choosing asks
+pub tested : (defs : List Definition) (rules : TypedRules) (t : ℕ) (set : SiteSet) → IsAcceptedBoth defs rules → IsBuiltOf defs rules t set → is_multi (own_program defs rules) t ≡ false
+    → list_all (λ (r : SetRule). is_none_of r.iterators) set.rules ≡ true → IsTestedSet set
+tested defs rules t set a b m none =
+    built_sets_are_tested_lem (elaborated_rules_demand_gates_lem rules_are_formed lists_agree) (types_read defs) defs true rules t set a.0.read.elaborated b.0 m
+    (each_of (λ r. r.iterators ≡ []) set.rules (λ r c. empty r.iterators (each_passes (λ (q : SetRule). is_none_of q.iterators) set.rules none r c)))
+
+-- what must hold of a rule whose results a run collects
+abbrev pub is_collected : List Site → SetRule → Bool
+is_collected sites r =
+    is_none_of r.impure && (are_below (length sites) (sites_of_rule r)
+    && (list_all (λ s. calls_nothing (slice_get sites s)) (all_below sites (sites_of_rule r)) && list_all (λ s. gate_demanded r (slice_get sites s)) (all_below sites (sites_of_rule r))))
+
+pub collected_rule : (sites : List Site) (r : SetRule) → is_collected sites r ≡ true → IsCollectedRule sites r
+collected_rule sites r h =
+    let below = all_below sites (sites_of_rule r) in
+    let pure = list_all (λ s. calls_nothing (slice_get sites s)) below in
+    let gates = list_all (λ s. gate_demanded r (slice_get sites s)) below in
+    let a = and_parts (is_none_of r.impure) (are_below (length sites) (sites_of_rule r) && (pure && gates)) h in
+    let b = and_parts (are_below (length sites) (sites_of_rule r)) (pure && gates) a.1 in
+    let c = and_parts pure gates b.1 in
+    record {
+      known = each_below (length sites) (sites_of_rule r) b.0;
+      no_calls = empty r.impure a.0;
+      pure = each_of (λ s. IsTrue (calls_nothing (slice_get sites s))) below (each_passes (λ s. calls_nothing (slice_get sites s)) below c.0);
+      gates = each_of (λ s. IsTrue (gate_demanded r (slice_get sites s))) below (each_passes (λ s. gate_demanded r (slice_get sites s)) below c.1);
+    }
+
+-- a set of such rules, whose sites stand once, after their sources
+pub collected : (set : SiteSet) → set_passes (only_sites set) ≡ true → list_all (is_collected set.sites) set.rules ≡ true → IsCollectedSet set
+collected set h each = record {
+  once = (passes_well_built (only_sites set) h).sites_once;
+  sources = (passes_well_built (only_sites set) h).sources;
+  rules = each_of (IsCollectedRule set.sites) set.rules (λ r c. collected_rule set.sites r (each_passes (is_collected set.sites) set.rules each r c));
+}

@@ -1,45 +1,41 @@
 -- Trees that the judge passes are best and sound, those that it refuses aren't: by computing.
-use Rattle.std.proofs.Common.{◌≡◌, ℕ, pos, Bool, true, false, not, List, [], ◌∷◌, IsTrue, Some, slice_get, refl, sym, ap, ◌∙◌}
+use Rattle.std.proofs.Common.{◌≡◌, ◌∷◌, [], ◌∙◌, ℕ, pos, Bool, true, List, Some, slice_get, sym, not}
 use Rattle.std.specs.List.{list_all}
 use Rattle.std.specs.Ordering.{int_eq}
-use Rattle.std.proofs.lemmas.Bool.{and_parts, false≢true}
+use Rattle.std.proofs.lemmas.Bool.{and_parts}
 use Rattle.std.proofs.lemmas.Bool.Decides.{Decides-int_eq, not_from_Decides}
-use Rattle.isle_model.specs.sites.Sites.{SetRule, SiteSet}
-use Rattle.isle_model.specs.trees.Trees.{Tree}
-use Rattle.isle_model.specs.trees.Judge.{is_best_tree, returns_apart}
-use Rattle.isle_model.specs.trees.WellBuilt.{HasOnePriority}
+use Rattle.isle_model.proofs.Members.{each_passes, member_from_get}
 use Rattle.isle_model.specs.claims.Layers.{BindsBeforeUse}
-use Rattle.isle_model.proofs.Members.{member_from_get, each_passes}
+use Rattle.isle_model.specs.sites.Sites.{SetRule, SiteSet}
+use Rattle.isle_model.specs.trees.Judge.{is_best_tree, returns_apart}
+use Rattle.isle_model.specs.trees.Trees.{Tree}
+use Rattle.isle_model.specs.trees.WellBuilt.{HasOnePriority}
 use Rattle.isle_laws_trees.proofs.Exact.{not_exact}
 use Rattle.isle_laws_trees.proofs.Marking.{tree_judge_is_exact_lem}
 use Rattle.isle_laws_trees.proofs.Soundness.{best_trees_are_sound_lem}
-use Rattle.isle_laws_trees.proofs.WellBuilt.{set_passes, passes_well_built}
-use Rattle.isle_examples.specs.Stages.{IsJudged, AreRefused}
+use Rattle.isle_laws_trees.proofs.WellBuilt.{passes_well_built, set_passes}
+use Rattle.isle_examples.specs.Stages.{AreRefused, IsJudged}
 
 -- whether the rules have no priority
 abbrev pub has_no_priorities : List SetRule → Bool
 has_no_priorities rules = list_all (λ (r : SetRule). int_eq r.prio (pos 0)) rules
 
-no_priorities : (rules : List SetRule) → has_no_priorities rules ≡ true → HasOnePriority rules
+pub no_priorities : (rules : List SetRule) → has_no_priorities rules ≡ true → HasOnePriority rules
 no_priorities rules h i j r q e f =
     let zero-at : (k : ℕ) (x : SetRule) → slice_get rules k ≡ Some x → x.prio ≡ pos 0 = λ k x g. (Decides-int_eq x.prio (pos 0)).0 (each_passes (λ (y : SetRule). int_eq y.prio (pos 0)) rules h x (member_from_get rules k x g)) in
     zero-at i r e ∙ sym (zero-at j q f)
 
-judged_with : (set : SiteSet) (multi : Bool) (tree : Tree) → (multi ≡ true → HasOnePriority set.rules) → is_best_tree set tree ≡ true → returns_apart set.rules ≡ true → set_passes set ≡ true
+pub judged_with : (set : SiteSet) (multi : Bool) (tree : Tree) → (multi ≡ true → HasOnePriority set.rules) → is_best_tree set tree ≡ true → returns_apart set.rules ≡ true → set_passes set ≡ true
     → BindsBeforeUse set multi tree → IsJudged set multi tree
-judged_with set multi tree one h apart passes binds =
+judged_with set multi tree same h apart passes binds =
     let best = (tree_judge_is_exact_lem set tree apart).0 h in
     record {
       passes = h;
       best = best;
       well_built = passes_well_built set passes;
-      sound = best_trees_are_sound_lem set multi tree (passes_well_built set passes) one best;
+      sound = best_trees_are_sound_lem set multi tree (passes_well_built set passes) same best;
       binds = binds;
     }
-
--- in a term that isn't multi
-pub judged : (set : SiteSet) (tree : Tree) → is_best_tree set tree ≡ true → returns_apart set.rules ≡ true → set_passes set ≡ true → BindsBeforeUse set false tree → IsJudged set false tree
-judged set tree h apart passes binds = judged_with set false tree (λ e. absurd (false≢true e)) h apart passes binds
 
 -- in a multi term
 pub judged_multi : (set : SiteSet) (tree : Tree) → has_no_priorities set.rules ≡ true → is_best_tree set tree ≡ true → returns_apart set.rules ≡ true → set_passes set ≡ true

@@ -2,7 +2,7 @@
 --   (decl f (u8 u8 u8) u8)
 --   (rule 1 (f _ _ _) 1)
 --   (rule (f 1 x x) 2)
-use Rattle.std.specs.Prelude.{◌∷◌, [], pos, List, None, codes}
+use Rattle.std.specs.Prelude.{◌∷◌, [], pos, false, List, None, codes}
 use Rattle.isle_model.specs.claims.Layers.{own_program}
 use Rattle.isle_model.specs.lists.Elaborated.{TypedRules}
 use Rattle.isle_model.specs.lists.Syntax.{Definition}
@@ -11,6 +11,7 @@ use Rattle.isle_model.specs.rules.Typed.{TypedRule, make_int, match_any, match_i
 use Rattle.isle_model.specs.sites.Sites.{SiteSet, argument_site}
 use Rattle.isle_model.specs.trees.Trees.{Tree, no_step}
 use Rattle.isle_examples.specs.SetForms.{a_rule, byte, is_byte, returning}
+use Rattle.isle_examples.specs.Stages.{Sample}
 use Rattle.isle_examples.specs.TypedForms.{bind_any, rules_and_names, typed, typed_var, u8}
 use Rattle.isle_examples.specs.Written.{any, f_of_bytes, int, number, of_f, rule_first, rule_to, var}
 
@@ -40,3 +41,6 @@ below_set = record {
 
 abbrev pub below_tree : Tree
 below_tree = returning [] 1 3 (returning [] 2 4 no_step)
+
+abbrev pub below_sample : Sample
+below_sample = record { defs = below_defs; rules = below_rules; term = 0; multi = false; set = below_set; tree = below_tree; near_trees = [] }

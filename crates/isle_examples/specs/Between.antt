@@ -3,13 +3,14 @@
 --   (rule 2 (f 1 5 _) 10)
 --   (rule 1 (f _ _ 2) 11)
 --   (rule (f 1 6 _) 12)
-use Rattle.std.specs.Prelude.{◌∷◌, [], pos, List, None, codes}
+use Rattle.std.specs.Prelude.{◌∷◌, [], pos, false, List, None, codes}
 use Rattle.isle_model.specs.lists.Elaborated.{TypedRules}
 use Rattle.isle_model.specs.lists.Syntax.{Definition}
 use Rattle.isle_model.specs.rules.Typed.{make_int, match_any, match_int}
 use Rattle.isle_model.specs.sites.Sites.{SiteSet, argument_site}
 use Rattle.isle_model.specs.trees.Trees.{Tree, arm, match_at, no_step, step}
 use Rattle.isle_examples.specs.SetForms.{a_rule, byte, is_byte, one_arm, returning}
+use Rattle.isle_examples.specs.Stages.{Sample}
 use Rattle.isle_examples.specs.TypedForms.{rules_and_names, typed, u8}
 use Rattle.isle_examples.specs.Written.{any, f_of_bytes, int, number, of_f, rule_first, rule_to}
 
@@ -51,3 +52,6 @@ between_holds_more =
 
 abbrev pub between_near_trees : List Tree
 between_near_trees = between_holds_more ∷ []
+
+abbrev pub between_sample : Sample
+between_sample = record { defs = between_defs; rules = between_rules; term = 0; multi = false; set = between_set; tree = between_tree; near_trees = between_near_trees }

@@ -1,7 +1,7 @@
 -- A sample: a literal under a name that stands again in another argument.
 --   (decl f (u8 u8) u8)
 --   (rule (f x @ 2 x) x)
-use Rattle.std.specs.Prelude.{◌≡◌, ◌∷◌, [], pos, List, Some, codes}
+use Rattle.std.specs.Prelude.{◌≡◌, ◌∷◌, [], pos, false, List, Some, codes}
 use Rattle.isle_model.specs.claims.Layers.{own_program}
 use Rattle.isle_model.specs.lists.Elaborated.{TypedRules}
 use Rattle.isle_model.specs.lists.Syntax.{Definition}
@@ -11,9 +11,9 @@ use Rattle.isle_model.specs.sites.Demands.{demands_of}
 use Rattle.isle_model.specs.sites.Sites.{SiteSet, argument_site}
 use Rattle.isle_model.specs.trees.Trees.{Tree, match_at, no_step, step}
 use Rattle.isle_examples.specs.SetForms.{a0, a1, a_rule, asking, is_byte, one_arm, returning}
-use Rattle.isle_examples.specs.Stages.{closed_demands}
+use Rattle.isle_examples.specs.Stages.{Sample, closed_demands}
 use Rattle.isle_examples.specs.TypedForms.{rules_and_names, typed, typed_var, u8}
-use Rattle.isle_examples.specs.Written.{bind, f_of_bytes, int, name, of_f, rule_to, var, variable}
+use Rattle.isle_examples.specs.Written.{bind, f_of_bytes, int, of_f, rule_to, var, variable}
 
 abbrev pub const_eq_defs : List Definition
 const_eq_defs = f_of_bytes 0 2 ∷ rule_to 1 (of_f 1 (bind 1 (codes "x") (int 1 (pos 2)) ∷ var 1 (codes "x") ∷ [])) (variable 1 (codes "x")) ∷ []
@@ -46,3 +46,6 @@ abbrev pub const_eq_tree : Tree
 const_eq_tree =
     step [] (match_at 0 (one_arm (is_byte 2) []
     (step [] (match_at 1 (one_arm (is_byte 2) [] (returning [] 1 0 no_step))) no_step))) no_step
+
+abbrev pub const_eq_sample : Sample
+const_eq_sample = record { defs = const_eq_defs; rules = const_eq_rules; term = 0; multi = false; set = const_eq_set; tree = const_eq_tree; near_trees = [] }

@@ -26,9 +26,9 @@ use Rattle.isle_model.specs.trees.Run.{run, world_of}
 use Rattle.isle_model.specs.trees.Trees.{Tree, no_step}
 use Rattle.isle_examples.specs.MeaningForms.{alone, blank, given, v}
 use Rattle.isle_examples.specs.SetForms.{a0, a_rule, asking, one_source, returning}
-use Rattle.isle_examples.specs.Stages.{HasTermTable}
+use Rattle.isle_examples.specs.Stages.{HasTermTable, Sample}
 use Rattle.isle_examples.specs.TypedForms.{bind_any, builtins, by_constructor, by_rules, e_list, entry, enum_entry, field_entry, flags, names_with, no_flags, number_term, own, rules_and_names, typed, typed_var, u8, variant_entry}
-use Rattle.isle_examples.specs.Written.{call, constructor_by, decl, enum_of_one, field, name, numbers, of_f, rule_to, term, var, variable}
+use Rattle.isle_examples.specs.Written.{call, constructor_by, decl, enum_of_one, field, numbers, of_f, rule_to, var, variable}
 
 abbrev pub effects_defs : List Definition
 effects_defs =
@@ -95,6 +95,9 @@ effects_tree = returning (3 ∷ 1 ∷ 2 ∷ 4 ∷ 5 ∷ []) 6 5 no_step
 -- a tree that is no best one: the failing call is bound before the impure one
 abbrev pub effects_near_trees : List Tree
 effects_near_trees = returning (1 ∷ 2 ∷ 3 ∷ 4 ∷ 5 ∷ []) 6 5 no_step ∷ []
+
+abbrev pub effects_sample : Sample
+effects_sample = record { defs = effects_defs; rules = effects_rules; term = 2; multi = false; set = effects_set; tree = effects_tree; near_trees = effects_near_trees }
 
 -- pp answers this at 1, and the first impure call answers 6
 abbrev pub effects_meaning : Content → Meaning

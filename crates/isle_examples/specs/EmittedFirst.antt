@@ -3,13 +3,14 @@
 --   (rule 2 (f _ x x _) 1)
 --   (rule 1 (f _ _ _ 5) 2)
 --   (rule (f x x x _) 3)
-use Rattle.std.specs.Prelude.{◌∷◌, [], pos, List, None, codes}
+use Rattle.std.specs.Prelude.{◌∷◌, [], pos, false, List, None, codes}
 use Rattle.isle_model.specs.lists.Elaborated.{TypedRules}
 use Rattle.isle_model.specs.lists.Syntax.{Definition}
 use Rattle.isle_model.specs.rules.Typed.{make_int, match_any, match_int, match_var}
 use Rattle.isle_model.specs.sites.Sites.{SiteSet, argument_site}
 use Rattle.isle_model.specs.trees.Trees.{Tree, equal_at, match_at, no_step, step}
 use Rattle.isle_examples.specs.SetForms.{a_rule, byte, is_byte, one_arm, returning}
+use Rattle.isle_examples.specs.Stages.{Sample}
 use Rattle.isle_examples.specs.TypedForms.{bind_any, rules_and_names, typed, typed_var, u8}
 use Rattle.isle_examples.specs.Written.{any, f_of_bytes, int, number, of_f, rule_first, rule_to, var}
 
@@ -44,3 +45,6 @@ emitted_first_tree = two_before (step [] (equal_at 1 2 (step [] (equal_at 0 1 (r
 -- a tree that is no best one: the pair of smaller numbers goes first, though its sites aren't both emitted
 abbrev pub emitted_first_near_trees : List Tree
 emitted_first_near_trees = two_before (step [] (equal_at 0 1 (step [] (equal_at 0 2 (returning [] 3 6 no_step)) no_step)) no_step) ∷ []
+
+abbrev pub emitted_first_sample : Sample
+emitted_first_sample = record { defs = emitted_first_defs; rules = emitted_first_rules; term = 0; multi = false; set = emitted_first_set; tree = emitted_first_tree; near_trees = emitted_first_near_trees }

@@ -2,7 +2,7 @@
 --   (decl f (u8 u8) u8)
 --   (rule 1 (f x y) x)
 --   (rule (f x x) 7)
-use Rattle.std.specs.Prelude.{◌∷◌, [], pos, List, None, codes}
+use Rattle.std.specs.Prelude.{◌∷◌, [], pos, false, List, None, codes}
 use Rattle.isle_model.specs.claims.Layers.{own_program}
 use Rattle.isle_model.specs.lists.Elaborated.{TypedRules}
 use Rattle.isle_model.specs.lists.Syntax.{Definition}
@@ -11,6 +11,7 @@ use Rattle.isle_model.specs.rules.Typed.{TypedRule, make_int, make_var, match_va
 use Rattle.isle_model.specs.sites.Sites.{SiteSet, argument_site}
 use Rattle.isle_model.specs.trees.Trees.{Tree, equal_at, no_step, step}
 use Rattle.isle_examples.specs.SetForms.{a_rule, byte, returning}
+use Rattle.isle_examples.specs.Stages.{Sample}
 use Rattle.isle_examples.specs.TypedForms.{bind_any, rules_and_names, typed, typed_var, u8}
 use Rattle.isle_examples.specs.Written.{f_of_bytes, number, of_f, rule_first, rule_to, var, variable}
 
@@ -56,3 +57,6 @@ equal_not_closed = returning [] 1 0 (step [] (equal_at 0 1 (returning [] 2 2 no_
 
 abbrev pub equal_near_trees : List Tree
 equal_near_trees = equal_exchanged ∷ equal_tested ∷ equal_not_closed ∷ []
+
+abbrev pub equal_sample : Sample
+equal_sample = record { defs = equal_defs; rules = equal_rules; term = 0; multi = false; set = equal_set; tree = equal_tree; near_trees = equal_near_trees }

@@ -5,9 +5,9 @@ use Rattle.isle_model.specs.lists.Elaborated.{TypedRules, elaborated_rule, names
 use Rattle.isle_model.specs.lists.KnownTypes.{types_of}
 use Rattle.isle_model.specs.lists.Setting.{Setting}
 use Rattle.isle_model.specs.lists.Syntax.{Definition, ExprTree, PatternTree, declaration, macro_arg, type_definition}
-use Rattle.isle_model.specs.lists.TermTable.{AllDefined, IsValidTerms, converters, rule_trees, template, term_names_met}
+use Rattle.isle_model.specs.lists.TermTable.{AllDefined, converters, rule_trees, template, term_names_met}
 use Rattle.isle_model.specs.rules.Typed.{TypedExpr, make_int, make_term, make_var, match_and, match_any, match_term}
-use Rattle.isle_examples.specs.Stages.{Becomes, HasTermTable, own_setting}
+use Rattle.isle_examples.specs.Stages.{Becomes, HasTermTable, HasTerms, own_setting}
 use Rattle.isle_examples.specs.TypedForms.{bind_any, by_extractor, by_pattern, by_rules, e_list, entry, names_with, no_flags, number_term, own, q_list, rules_and_names, typed, typed_var, u8}
 use Rattle.isle_examples.specs.Written.{any, at, both, call, constructor_by, conversion, declared, extractor, extractor_by, f_of_bytes, number, numbers, of_f, primitive, rule_to, rule_tree, term, var, variable}
 
@@ -40,7 +40,7 @@ EndlessTables =
     (entry 0 2 15 (13 ∷ []) 13 (by_extractor no_flags 18 3) ∷ entry 1 4 16 (13 ∷ []) 14 (by_pattern (term 5 (codes "k") (macro_arg 0 (at 5) ∷ [])))
     ∷ entry 2 7 17 (14 ∷ []) u8 (by_rules no_flags) ∷ [])
     × (converters (types_of endless_defs) endless_defs ≡ ((13, 14), 1) ∷ [])
-    × IsValidTerms (types_of endless_defs) endless_defs
+    × HasTerms endless_defs
     × AllDefined endless_defs
 
 -- where the converter's template is expanded there is no end within the limits
@@ -91,7 +91,7 @@ doubled_defs = by_template twice (inside 1 (var 3 (codes "x")) ∷ []) (number 3
 abbrev pub DoubledTables : Type 0
 DoubledTables =
     HasTermTable doubled_defs (number_term 0 0 13 (by_pattern (both 1 (macro_arg 0 (at 1) ∷ macro_arg 0 (at 1) ∷ []))) ∷ number_term 1 2 14 (by_rules no_flags) ∷ [])
-    × IsValidTerms (types_of doubled_defs) doubled_defs
+    × HasTerms doubled_defs
     × AllDefined doubled_defs
 
 -- used once, 256 uses may nest, and no more
@@ -125,12 +125,15 @@ abbrev pub once_more : PatternTree
 once_more = term 3 (codes "d") (any 3 ∷ [])
 
 -- x inside n uses takes 2 to the number n, less 1, as long as that is within the limit, which it is up to 16 uses
-abbrev pub NestedUsesDouble : Type 0
-NestedUsesDouble = ((n : ℕ) → n ≤ 16 → expansions_of (nested_uses n) (any 3) (any 3) ≡ Some (doubled n)) × (doubled 16 ≡ 65535) × (expansions_of (nested_uses 17) (any 3) (any 3) ≡ None)
+pub record NestedUsesDouble : Type 0 where
+  pub within : (n : ℕ) → n ≤ 16 → expansions_of (nested_uses n) (any 3) (any 3) ≡ Some (doubled n)
+  pub most : doubled 16 ≡ 65535
+  pub past : expansions_of (nested_uses 17) (any 3) (any 3) ≡ None
 
 -- with one use more the limit is met, with two it is passed
-abbrev pub LimitIsMet : Type 0
-LimitIsMet = (expansions_of (nested_uses 16) once_more (any 3) ≡ Some 65536) × (expansions_of (nested_uses 16) once_more once_more ≡ None)
+pub record LimitIsMet : Type 0 where
+  pub met : expansions_of (nested_uses 16) once_more (any 3) ≡ Some 65536
+  pub passed : expansions_of (nested_uses 16) once_more once_more ≡ None
 
 -- a template's variable that is no argument is a variable of the rule, and its name one of the rule's: (rule (f (d x)) z)
 abbrev pub own_variable_defs : List Definition

@@ -4,7 +4,7 @@
 --   (decl f (u8) u8)
 --   (rule 1 (f (e 1)) 10)
 --   (rule (f (e x)) x)
-use Rattle.std.specs.Prelude.{◌≡◌, ◌∷◌, [], ◌++◌, pos, List, Some, None, codes}
+use Rattle.std.specs.Prelude.{◌≡◌, ◌∷◌, [], ◌++◌, pos, false, List, Some, None, codes}
 use Rattle.isle_model.specs.claims.Layers.{own_program}
 use Rattle.isle_model.specs.lists.Elaborated.{TypedRules}
 use Rattle.isle_model.specs.lists.KnownTypes.{types_of}
@@ -25,7 +25,7 @@ use Rattle.isle_model.specs.trees.SetRuns.{IsTestedSet, ServesTests}
 use Rattle.isle_model.specs.trees.Trees.{Check, Tree, arm, match_at, no_step, step}
 use Rattle.isle_examples.specs.MeaningForms.{given, just_number, literal, mute, v}
 use Rattle.isle_examples.specs.SetForms.{a0, a_rule, asking, byte, byte_term, is_byte, one_arm, returning}
-use Rattle.isle_examples.specs.Stages.{HasTermTable}
+use Rattle.isle_examples.specs.Stages.{HasTermTable, Sample}
 use Rattle.isle_examples.specs.TypedForms.{bind_any, by_extractor, by_rules, names_with, no_flags, number_term, q_list, rules_and_names, typed, typed_var, u8}
 use Rattle.isle_examples.specs.Written.{extractor_by, f_of_bytes, int, number, numbers, of_f, rule_first, rule_to, term, var, variable}
 
@@ -112,6 +112,9 @@ extract_unbound = step [] (match_at 1 (one_arm is_present (Some 2 ∷ []) (step 
 
 abbrev pub extract_near_trees : List Tree
 extract_near_trees = extract_alone ∷ extract_two_arms ∷ extract_unbound ∷ []
+
+abbrev pub extract_sample : Sample
+extract_sample = record { defs = extract_defs; rules = extract_rules; term = 1; multi = false; set = extract_set; tree = extract_tree; near_trees = extract_near_trees }
 
 -- the call answers this on 7
 abbrev pub extract_meaning : Content → Meaning

@@ -15,6 +15,7 @@ use Rattle.isle_model.specs.trees.Run.{World, run}
 use Rattle.isle_model.specs.trees.Trees.{Tree, arm, match_at, no_step, step}
 use Rattle.isle_examples.specs.MeaningForms.{answers, given, literal, mute}
 use Rattle.isle_examples.specs.SetForms.{a0, a_rule, asking, byte, byte_term, is_byte, one_arm, returning}
+use Rattle.isle_examples.specs.Stages.{Sample}
 use Rattle.isle_examples.specs.TypedForms.{bind_any, rules_and_names, typed, typed_var, u8}
 use Rattle.isle_examples.specs.Written.{f_of_bytes, int, number, of_f, rule_first, rule_to, var, variable}
 
@@ -81,6 +82,9 @@ fall_untested = returning [] 1 1 (returning [] 2 0 no_step)
 
 abbrev pub fall_near_trees : List Tree
 fall_near_trees = fall_empty_arm ∷ fall_twice ∷ fall_missing ∷ fall_other_result ∷ fall_returns_first ∷ fall_untested ∷ []
+
+abbrev pub fall_sample : Sample
+fall_sample = record { defs = fall_defs; rules = fall_rules; term = 0; multi = false; set = fall_set; tree = fall_tree; near_trees = fall_near_trees }
 
 -- the world of a run on an argument
 abbrev pub fall_meaning : Meaning

@@ -9,11 +9,11 @@ use Rattle.isle_model.specs.sites.Demands.{demands_of, result_of}
 use Rattle.isle_model.specs.sites.Limits.{arguments_limit, limits_of_shape, walked_rule}
 use Rattle.isle_model.specs.sites.Sites.{constructor_call, some_made, some_part}
 use Rattle.isle_examples.specs.SetForms.{a0, is_byte, one_source}
-use Rattle.isle_examples.specs.TypedForms.{bind_any, builtins, by_rules, e_list, entry, flags, no_flags, own, q_list, typed, typed_iflet, u8}
+use Rattle.isle_examples.specs.TypedForms.{bind_any, builtins, by_rules, e_list, entry, flags, no_flags, q_list, typed, typed_iflet, u8}
 
 -- a term f alone, with these flags, of arguments of type u8
 abbrev pub f_alone : Flags → List ℕ → Program
-f_alone own args = record { types = builtins; constants = []; terms = entry 0 0 13 args u8 (by_rules own) ∷ []; rules = [] }
+f_alone marks args = record { types = builtins; constants = []; terms = entry 0 0 13 args u8 (by_rules marks) ∷ []; rules = [] }
 
 -- (decl f (u8 u8) u8), and a rule of it
 abbrev pub f_of_two : Program

@@ -14,10 +14,10 @@ use Rattle.isle_model.specs.sites.Sites.{SetRule, SiteSet, argument_site, constr
 use Rattle.isle_model.specs.trees.Run.{World}
 use Rattle.isle_model.specs.trees.SetRuns.{IsTaken}
 use Rattle.isle_model.specs.trees.Trees.{Tree, no_step}
-use Rattle.isle_examples.specs.MeaningForms.{v}
 use Rattle.isle_examples.specs.SetForms.{a_rule, returning}
+use Rattle.isle_examples.specs.Stages.{Sample}
 use Rattle.isle_examples.specs.TypedForms.{bind_any, e_list, rules_and_names, typed, typed_var, u8}
-use Rattle.isle_examples.specs.Written.{call, constructor_by, f_of_bytes, name, numbers, of_f, rule_to, term, var, variable}
+use Rattle.isle_examples.specs.Written.{call, constructor_by, f_of_bytes, numbers, of_f, rule_to, var, variable}
 
 abbrev pub impure_defs : List Definition
 impure_defs =
@@ -38,6 +38,9 @@ impure_set = record { rules = call_on_argument ∷ []; sites = argument_site 0 �
 abbrev pub impure_tree : Tree
 impure_tree = returning (1 ∷ []) 3 1 no_step
 
+abbrev pub impure_sample : Sample
+impure_sample = record { defs = impure_defs; rules = impure_rules; term = 1; multi = false; set = impure_set; tree = impure_tree; near_trees = [] }
+
 abbrev pub im_called : Meaning → Value → World
 im_called m v = record { sites = impure_set.sites; args = v ∷ []; meaning = m; multi = false }
 
@@ -50,7 +53,6 @@ after_call v None = record { calls = the_call v; results = []; ending = stuck }
 after_call v (Some c) = record { calls = the_call v; results = c ∷ []; ending = ended }
 
 -- the rule can be taken, and from whatever place it is, the call is made
-abbrev pub ImpureIsCalled : Type 0
-ImpureIsCalled =
-    (m : Meaning) (v : Value) → IsTaken (im_called m v) call_on_argument (after_call v (impure_answer m 0 0))
-    × ((o : Outcome) → IsTaken (im_called m v) call_on_argument o → o ≡ after_call v (impure_answer m 0 0))
+pub record ImpureIsCalled : Type 0 where
+  pub can_be_taken : (m : Meaning) (v : Value) → IsTaken (im_called m v) call_on_argument (after_call v (impure_answer m 0 0))
+  pub makes_the_call : (m : Meaning) (v : Value) (o : Outcome) → IsTaken (im_called m v) call_on_argument o → o ≡ after_call v (impure_answer m 0 0)

@@ -20,9 +20,9 @@ use Rattle.isle_model.specs.sites.Sites.{SetRule, SiteSet, SiteTerm, argument_si
 use Rattle.isle_model.specs.trees.Collects.{Collects, HasCollectedResults, IsCollectedSet, ServesSet, set_bag}
 use Rattle.isle_model.specs.trees.Run.{World, run, world_of}
 use Rattle.isle_model.specs.trees.Trees.{Tree, loop_at, match_at, no_step, step}
-use Rattle.isle_examples.specs.Expansions.{inside}
 use Rattle.isle_examples.specs.MeaningForms.{all_of, alone, each, given, literal, mute}
 use Rattle.isle_examples.specs.SetForms.{a0, a_rule, asking, byte, byte_term, is_byte, one_arm, one_source, returning}
+use Rattle.isle_examples.specs.Stages.{Sample}
 use Rattle.isle_examples.specs.TypedForms.{bind_any, by_constructor, by_rules, e_list, flags, number_term, rules_and_names, typed, typed_var, u8}
 use Rattle.isle_examples.specs.Written.{call, constructor_by, int, number, numbers, of_f, rule_to, var, variable}
 
@@ -77,6 +77,9 @@ multi_tree = nine_first (step (1 ∷ []) (loop_at 2 (returning [] 3 2 no_step)) 
 -- trees that are no best ones: a loop over the call, which is no iterator; and a rule that returns outside of its loop
 abbrev pub multi_near_trees : List Tree
 multi_near_trees = nine_first (step (1 ∷ []) (loop_at 1 (returning [] 3 2 no_step)) no_step) ∷ nine_first (returning (1 ∷ 2 ∷ []) 3 2 no_step) ∷ []
+
+abbrev pub multi_sample : Sample
+multi_sample = record { defs = multi_defs; rules = multi_rules; term = 1; multi = true; set = multi_set; tree = multi_tree; near_trees = multi_near_trees }
 
 -- the call that a loop goes over may be bound again in its body, or after it, but not what the loop brought
 abbrev pub looped_with : List ℕ → List ℕ → Tree

@@ -12,7 +12,6 @@ use Rattle.isle_model.specs.trees.Run.{World}
 use Rattle.isle_examples.specs.MeaningForms.{all_of, alone, each, given, just_number, literal, v}
 use Rattle.isle_examples.specs.SetForms.{a_rule, byte}
 use Rattle.isle_examples.specs.TypedForms.{bind_any, builtins, by_constructor, by_extractor, by_rules, e_list, entry, flags, make_let_one, number_term, q_list, typed, typed_iflet, u8, variables}
-use Rattle.isle_examples.specs.Written.{name}
 
 -- f and the pure m are multi, pr is pure, pp is pure and partial, w is impure and multi, e is a multi extractor
 abbrev pub calls_program : Program

@@ -12,9 +12,9 @@ use Rattle.isle_model.specs.rules.Typed.{make_var, match_term}
 use Rattle.isle_model.specs.sites.Sites.{SiteSet, argument_site, extractor_site, iterator_site}
 use Rattle.isle_model.specs.trees.Trees.{Tree, loop_at, no_step, step}
 use Rattle.isle_examples.specs.SetForms.{a_rule, returning}
-use Rattle.isle_examples.specs.Stages.{own_setting}
+use Rattle.isle_examples.specs.Stages.{Sample, own_setting}
 use Rattle.isle_examples.specs.TypedForms.{bind_any, q_list, rules_and_names, typed, typed_var, u8}
-use Rattle.isle_examples.specs.Written.{extractor_by, name, numbers, of_f, rule_to, term, var, variable}
+use Rattle.isle_examples.specs.Written.{extractor_by, numbers, of_f, rule_to, term, var, variable}
 
 abbrev pub multi_ext_in : DeclTree → List Definition
 multi_ext_in f =
@@ -51,3 +51,6 @@ multi_ext_set = record {
 
 abbrev pub multi_ext_tree : Tree
 multi_ext_tree = step (1 ∷ []) (loop_at 2 (returning [] 3 2 no_step)) no_step
+
+abbrev pub multi_ext_sample : Sample
+multi_ext_sample = record { defs = multi_ext_defs; rules = multi_ext_rules; term = 1; multi = false; set = multi_ext_set; tree = multi_ext_tree; near_trees = [] }

@@ -2,8 +2,8 @@
 --   (decl f (u8) u8)
 --   (rule (f 1) 10)
 --   (rule (f x) x)
-use Rattle.std.specs.Prelude.{◌≡◌, ◌∷◌, [], pos, Bool, true, false, List, None, codes}
-use Rattle.isle_model.specs.claims.Layers.{IsAccepted, IsCheckable, own_program}
+use Rattle.std.specs.Prelude.{◌≡◌, ◌∷◌, [], pos, true, false, List, None, codes}
+use Rattle.isle_model.specs.claims.Layers.{own_program}
 use Rattle.isle_model.specs.lists.Elaborated.{TypedRules}
 use Rattle.isle_model.specs.lists.Syntax.{Definition}
 use Rattle.isle_model.specs.rules.Program.{Program}
@@ -48,10 +48,6 @@ OverlapsFound =
     × (clash (built_alone fall_program fall_one) (built_alone fall_program fall_any) ≡ false)
     × (overlaps (built_alone fall_program fall_one).demands (built_alone overlap_program overlap_one).demands ≡ true)
     × (overlaps (built_alone prio_program one_and_five).demands (built_alone prio_program any_and_two).demands ≡ false)
-
--- two rules of one priority that overlap, whatever typed rules are given
-abbrev pub OverlapIsNotAccepted : Type 0
-OverlapIsNotAccepted = (IsCheckable overlap_program → ⊥) × ((expand : Bool) (rules : TypedRules) → IsAccepted overlap_defs expand rules → ⊥)
 
 -- three rules of which each two overlap
 --   (decl f (u8 u8) u8)

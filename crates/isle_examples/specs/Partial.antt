@@ -21,8 +21,9 @@ use Rattle.isle_model.specs.trees.Run.{run, world_of}
 use Rattle.isle_model.specs.trees.Trees.{Tree, match_at, no_step, step}
 use Rattle.isle_examples.specs.MeaningForms.{alone, given, literal, mute}
 use Rattle.isle_examples.specs.SetForms.{a0, a_rule, asking, byte, byte_term, is_byte, one_arm, one_source, returning}
+use Rattle.isle_examples.specs.Stages.{Sample}
 use Rattle.isle_examples.specs.TypedForms.{by_constructor, by_rules, e_list, flags, number_term, rules_and_names, typed, u8}
-use Rattle.isle_examples.specs.Written.{any, call, constructor_by, int, number, numbers, of_f, rule_first, rule_to, term}
+use Rattle.isle_examples.specs.Written.{any, call, constructor_by, int, number, numbers, of_f, rule_first, rule_to}
 
 abbrev pub partial_defs : List Definition
 partial_defs =
@@ -65,6 +66,9 @@ partial_set = record {
 -- under the test for 1 the call, its answer and Some of it are bound before the return
 abbrev pub partial_tree : Tree
 partial_tree = step [] (match_at 0 (one_arm (is_byte 1) [] (returning (2 ∷ 3 ∷ 4 ∷ []) 3 4 no_step))) (returning (6 ∷ []) 4 6 no_step)
+
+abbrev pub partial_sample : Sample
+partial_sample = record { defs = partial_defs; rules = partial_rules; term = 1; multi = false; set = partial_set; tree = partial_tree; near_trees = [] }
 
 -- the first impure call answers this
 abbrev pub partial_meaning : Content → Meaning

@@ -3,7 +3,7 @@
 --   (rule 2 (f 1 5) 12)
 --   (rule 1 (f _ 2) 11)
 --   (rule (f 1 _) 10)
-use Rattle.std.specs.Prelude.{◌∷◌, [], pos, List, None, codes}
+use Rattle.std.specs.Prelude.{◌∷◌, [], pos, false, List, None, codes}
 use Rattle.isle_model.specs.claims.Layers.{own_program}
 use Rattle.isle_model.specs.lists.Elaborated.{TypedRules}
 use Rattle.isle_model.specs.lists.Syntax.{Definition}
@@ -12,6 +12,7 @@ use Rattle.isle_model.specs.rules.Typed.{TypedRule, make_int, match_any, match_i
 use Rattle.isle_model.specs.sites.Sites.{SiteSet, argument_site}
 use Rattle.isle_model.specs.trees.Trees.{Tree, arm, match_at, no_step, step}
 use Rattle.isle_examples.specs.SetForms.{a_rule, byte, is_byte, one_arm, returning}
+use Rattle.isle_examples.specs.Stages.{Sample}
 use Rattle.isle_examples.specs.TypedForms.{rules_and_names, typed, u8}
 use Rattle.isle_examples.specs.Written.{any, f_of_bytes, int, number, of_f, rule_first, rule_to}
 
@@ -94,3 +95,6 @@ prio_alone =
 
 abbrev pub prio_near_trees : List Tree
 prio_near_trees = prio_exchanged ∷ prio_leaves_out ∷ prio_takes_in ∷ prio_arms_exchanged ∷ prio_other_arm ∷ prio_alone ∷ []
+
+abbrev pub prio_sample : Sample
+prio_sample = record { defs = prio_defs; rules = prio_rules; term = 0; multi = false; set = prio_set; tree = prio_tree; near_trees = prio_near_trees }

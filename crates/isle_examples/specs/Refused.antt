@@ -6,18 +6,15 @@ use Rattle.isle_model.specs.sites.Overlap.{rule_shadows, rules_overlap}
 use Rattle.isle_examples.specs.Overlap.{overlap_defs}
 use Rattle.isle_examples.specs.Shadow.{shadow_defs}
 use Rattle.isle_examples.specs.Stages.{IsNotRead}
+use Rattle.isle_examples.specs.TermLists.{term_twice}
 use Rattle.isle_examples.specs.Written.{at, enum_of_one, f_of_bytes, field, int, of_f, rule_to, variable}
-
--- (decl f (u8) u8), twice
-abbrev pub declared_twice : List Definition
-declared_twice = f_of_bytes 0 1 ∷ f_of_bytes 1 1 ∷ []
 
 -- (decl f (u8) u8), (rule (f 1) x): a variable that nothing binds
 abbrev pub unbound : List Definition
 unbound = f_of_bytes 0 1 ∷ rule_to 1 (of_f 1 (int 1 (pos 1) ∷ [])) (variable 1 (codes "x")) ∷ []
 
 abbrev pub RefusedAreNotRead : Type 0
-RefusedAreNotRead = IsNotRead declared_twice × IsNotRead unbound
+RefusedAreNotRead = IsNotRead term_twice × IsNotRead unbound
 
 -- (type T (enum (A (v u8)))), twice
 abbrev pub two_of_one_name : List Definition

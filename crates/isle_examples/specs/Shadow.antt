@@ -3,7 +3,7 @@
 --   (rule 1 (f x) x)
 --   (rule (f 1) 10)
 use Rattle.std.specs.Prelude.{◌≡◌, ◌∷◌, [], ℤ, pos, true, false, List, None, codes}
-use Rattle.isle_model.specs.claims.Layers.{IsCheckable, own_program}
+use Rattle.isle_model.specs.claims.Layers.{own_program}
 use Rattle.isle_model.specs.lists.Elaborated.{TypedRules}
 use Rattle.isle_model.specs.lists.Syntax.{Definition}
 use Rattle.isle_model.specs.rules.Program.{Program}
@@ -51,7 +51,3 @@ ShadowsFound =
     × (shadows (built_alone equal_program equal_any) (built_alone equal_program equal_same) ≡ false)
     × (shadows (built_alone below_program below_any) (built_alone below_program below_same) ≡ false)
     × (overlaps (built_alone equal_program equal_any).demands (built_alone equal_program equal_same).demands ≡ true)
-
--- a rule that a rule of greater priority shadows
-abbrev pub ShadowIsNotCheckable : Type 0
-ShadowIsNotCheckable = IsCheckable shadow_program → ⊥

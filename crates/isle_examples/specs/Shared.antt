@@ -11,6 +11,7 @@ use Rattle.isle_model.specs.rules.Typed.{TypedExpr, make_term, make_var}
 use Rattle.isle_model.specs.sites.Sites.{SiteSet, argument_site, constructor_site}
 use Rattle.isle_model.specs.trees.Trees.{Tree, no_step}
 use Rattle.isle_examples.specs.SetForms.{a_rule, returning}
+use Rattle.isle_examples.specs.Stages.{Sample}
 use Rattle.isle_examples.specs.TypedForms.{bind_any, e_list, rules_and_names, typed, typed_var, u8}
 use Rattle.isle_examples.specs.Written.{call, constructor_by, numbers, of_f, rule_to, var, variable}
 
@@ -43,3 +44,6 @@ shared_set = record {
 
 abbrev pub shared_tree : Tree
 shared_tree = returning (1 ∷ []) 3 1 (returning (2 ∷ []) 4 2 no_step)
+
+abbrev pub shared_sample : Sample
+shared_sample = record { defs = shared_defs; rules = shared_rules; term = 1; multi = true; set = shared_set; tree = shared_tree; near_trees = [] }

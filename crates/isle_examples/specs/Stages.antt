@@ -14,13 +14,14 @@ use Rattle.isle_model.specs.sites.Demands.{demands_of}
 use Rattle.isle_model.specs.sites.Closure.{IsUnreachable, is_unreachable, Unreachability, reported, Closed, closed, closing, before_closing, most_closing_steps}
 use Rattle.isle_model.specs.sites.RuleSets.{IsBuilt}
 use Rattle.isle_model.specs.sites.Limits.{first_limit}
+use Rattle.isle_model.specs.sites.Overlap.{check_reports}
 use Rattle.isle_model.specs.trees.Trees.{Tree}
 use Rattle.isle_model.specs.trees.Best.{IsBestTree}
 use Rattle.isle_model.specs.trees.Judge.{is_best_tree}
 use Rattle.isle_model.specs.trees.Sound.{IsSound}
 use Rattle.isle_model.specs.trees.WellBuilt.{IsWellBuilt}
 use Rattle.isle_model.specs.claims.Environments.{types_read, setting_of, IsRead}
-use Rattle.isle_model.specs.claims.Layers.{own_program, BindsBeforeUse}
+use Rattle.isle_model.specs.claims.Layers.{own_program, IsCheckable, IsAccepted, BindsBeforeUse}
 use Rattle.isle_model.specs.claims.SetMeanings.{CanBeServed}
 use Rattle.isle_laws_demands.specs.ClosureLaws.{HasEnded}
 
@@ -32,17 +33,34 @@ own_setting defs expand = setting_of (types_read defs) defs expand
 abbrev pub IsReadBoth : List Definition → TypedRules → Type 0
 IsReadBoth defs rules = IsRead defs true rules × IsRead defs false rules
 
--- a list has no typed rules, whether they are expanded or not
+-- and they can be told apart: nothing is reported of them
+abbrev pub IsAcceptedBoth : List Definition → TypedRules → Type 0
+IsAcceptedBoth defs rules = IsAccepted defs true rules × IsAccepted defs false rules × (check_reports (own_program defs rules) ≡ [])
+
+-- a list has no typed rules; it has some that can't be told apart
 abbrev pub IsNotRead : List Definition → Type 0
 IsNotRead defs = (expand : Bool) (rules : TypedRules) → IsRead defs expand rules → ⊥
+
+abbrev pub IsNotAccepted : List Definition → TypedRules → Type 0
+IsNotAccepted defs rules =
+    IsReadBoth defs rules × (IsCheckable (own_program defs rules) → ⊥) × ((expand : Bool) (rules : TypedRules) → IsAccepted defs expand rules → ⊥)
 
 -- what the rules of a list become
 abbrev pub Becomes : List Definition → Bool → Option TypedRules → Type 0
 Becomes defs expand rules = elaborated_rules (own_setting defs expand) (rule_trees defs) (term_names_met (types_of defs) defs) ≡ rules
 
+-- a list has a term table, read with its own types
+abbrev pub HasTerms : List Definition → Type 0
+HasTerms defs = IsValidTerms (types_of defs) defs
+
+-- none of these lists is such
+abbrev pub NoneOf : (List Definition → Type 0) → List (List Definition) → Type 0
+NoneOf P [] = Unit {0}
+NoneOf P (defs ∷ rest) = (P defs → ⊥) × NoneOf P rest
+
 -- the tables of a list are valid, and yet its rules become nothing
 abbrev pub HasNoTypedRules : List Definition → Type 0
-HasNoTypedRules defs = IsValidTypes defs × IsValidTerms (types_of defs) defs × Becomes defs true None × Becomes defs false None
+HasNoTypedRules defs = IsValidTypes defs × HasTerms defs × Becomes defs true None × Becomes defs false None
 
 -- the term table of a list
 abbrev pub HasTermTable : List Definition → List TermEntry → Type 0
@@ -70,12 +88,15 @@ AreRefused set (tree ∷ trees) = ((is_best_tree set tree ≡ false) × (IsBestT
 abbrev pub verdicts : Program → TypedRule → List Unreachability
 verdicts p r = reported (demands_of p r).made (demands_of p r)
 
--- values can meet the demands of a rule; none can, and the test finds it
-abbrev pub CanMatch : Program → TypedRule → Type 0
-CanMatch p r = IsUnreachable (demands_of p r) → ⊥
+-- values can meet the demands of a rule, and the test finds nothing wrong with them
+pub record CanMatch (p : Program) (r : TypedRule) : Type 0 where
+  pub tested : is_unreachable (demands_of p r) ≡ false
+  pub reachable : IsUnreachable (demands_of p r) → ⊥
 
-abbrev pub CantMatch : Program → TypedRule → Type 0
-CantMatch p r = (is_unreachable (demands_of p r) ≡ true) × IsUnreachable (demands_of p r)
+-- none can, and the test finds it
+pub record CantMatch (p : Program) (r : TypedRule) : Type 0 where
+  pub tested : is_unreachable (demands_of p r) ≡ true
+  pub unreachable : IsUnreachable (demands_of p r)
 
 -- the closing of a rule's demands ends: nothing is left to be taken
 abbrev pub ClosingEndsOf : Program → TypedRule → Type 0
@@ -88,3 +109,21 @@ closed_demands p r = closed [] (demands_of p r)
 -- a rule passes no limit
 abbrev pub PassesNoLimit : Program → TypedRule → Type 0
 PassesNoLimit p r = first_limit p [] r ≡ None
+
+-- a sample whose rules are accepted: its list, what that becomes, and the set and the tree of one of its terms, which is
+-- multi or isn't; and trees near that one
+pub record Sample : Type 0 where
+  pub defs : List Definition
+  pub rules : TypedRules
+  pub term : ℕ
+  pub multi : Bool
+  pub set : SiteSet
+  pub tree : Tree
+  pub near_trees : List Tree
+
+-- each stage comes from the one before, and the near trees are refused
+pub record HasStages (s : Sample) : Type 0 where
+  pub accepted : IsAcceptedBoth s.defs s.rules
+  pub built : IsBuiltOf s.defs s.rules s.term s.set
+  pub judged : IsJudged s.set s.multi s.tree
+  pub refused : AreRefused s.set s.near_trees

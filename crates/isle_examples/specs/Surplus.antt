@@ -3,13 +3,14 @@
 --   (decl g (T T) u8)
 --   (rule 1 (g _ _) 1)
 --   (rule (g x @ (T.A v) x) v)
-use Rattle.std.specs.Prelude.{◌∷◌, [], pos, List, None, codes}
+use Rattle.std.specs.Prelude.{◌∷◌, [], pos, false, List, None, codes}
 use Rattle.isle_model.specs.lists.Elaborated.{TypedRules}
 use Rattle.isle_model.specs.lists.Syntax.{Definition}
 use Rattle.isle_model.specs.rules.Typed.{TypedRule, make_int, make_var, match_any, match_bind, match_term, match_var}
 use Rattle.isle_model.specs.sites.Sites.{SiteSet, argument_site, is_variant, match_variant_site}
 use Rattle.isle_model.specs.trees.Trees.{Tree, no_step}
 use Rattle.isle_examples.specs.SetForms.{a_rule, byte, returning}
+use Rattle.isle_examples.specs.Stages.{Sample}
 use Rattle.isle_examples.specs.TypedForms.{bind_any, own, q_list, rules_and_names, typed, typed_var, u8}
 use Rattle.isle_examples.specs.Written.{any, bind, declared, enum_of_one, field, number, rule_first, rule_to, term, var, variable}
 
@@ -42,3 +43,6 @@ surplus_tree = returning [] 2 2 (returning (3 ∷ []) 3 3 no_step)
 -- a tree that is no best one: the second return, which never runs, has no bind order
 abbrev pub surplus_near_trees : List Tree
 surplus_near_trees = returning [] 2 2 (returning [] 3 3 no_step) ∷ []
+
+abbrev pub surplus_sample : Sample
+surplus_sample = record { defs = surplus_defs; rules = surplus_rules; term = 0; multi = false; set = surplus_set; tree = surplus_tree; near_trees = surplus_near_trees }

@@ -10,6 +10,7 @@ use Rattle.isle_model.specs.rules.Typed.{TypedPattern, TypedRule, make_int, matc
 use Rattle.isle_model.specs.sites.Sites.{SiteSet, argument_site}
 use Rattle.isle_model.specs.trees.Trees.{Tree, equal_at, no_step, step}
 use Rattle.isle_examples.specs.SetForms.{a_rule, byte, returning}
+use Rattle.isle_examples.specs.Stages.{Sample}
 use Rattle.isle_examples.specs.TypedForms.{bind_any, rules_and_names, typed, typed_var, u8}
 use Rattle.isle_examples.specs.Written.{any, bytes, decl, number, of_f, rule_to, var}
 
@@ -53,3 +54,6 @@ ties_exchanged =
 
 abbrev pub ties_near_trees : List Tree
 ties_near_trees = ties_exchanged ∷ []
+
+abbrev pub ties_sample : Sample
+ties_sample = record { defs = ties_defs; rules = ties_rules; term = 0; multi = true; set = ties_set; tree = ties_tree; near_trees = ties_near_trees }

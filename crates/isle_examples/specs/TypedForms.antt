@@ -1,7 +1,7 @@
 -- Short forms of tables and of typed rules.
 use Rattle.std.specs.Prelude.{ℕ, suc, ℤ, Bool, false, List, [], ◌∷◌, ◌++◌, Option, Some, None}
 use Rattle.isle_model.specs.lists.Syntax.{PatternTree}
-use Rattle.isle_model.specs.lists.Tables.{FieldEntry, FieldEntries, VariantEntry, TypeEntry, enum_type, Flags, internal_constructor, external_constructor, internal_extractor, external_extractor, TermKindEntry, variant_term, declared_term, TermEntry}
+use Rattle.isle_model.specs.lists.Tables.{FieldEntry, FieldEntries, VariantEntry, TypeEntry, enum_type, Flags, internal_constructor, external_constructor, internal_extractor, external_extractor, TermKindEntry, declared_term, TermEntry}
 use Rattle.isle_model.specs.lists.TypeTable.{builtin_names, builtin_from}
 use Rattle.isle_model.specs.lists.Elaborated.{TypedRules}
 use Rattle.isle_model.specs.rules.Typed.{TypedPattern, match_bind, match_any, TypedPatterns, no_typed_pattern, typed_pattern_and, TypedExpr, make_let, TypedExprs, no_typed_expr, typed_expr_and, no_typed_let, typed_let_and, TypedVar, TypedIfLet, TypedRule}
@@ -51,15 +51,15 @@ number_term id d number kind = entry id d number (u8 ∷ []) u8 kind
 
 -- made by rules
 abbrev pub by_rules : Flags → TermKindEntry
-by_rules own = declared_term own (Some internal_constructor) None
+by_rules marks = declared_term marks (Some internal_constructor) None
 
 -- made by a function of this name
 abbrev pub by_constructor : Flags → ℕ → TermKindEntry
-by_constructor own function = declared_term own (Some (external_constructor function)) None
+by_constructor marks function = declared_term marks (Some (external_constructor function)) None
 
 -- taken apart by a function of this name, as definition d says
 abbrev pub by_extractor : Flags → ℕ → ℕ → TermKindEntry
-by_extractor own function d = declared_term own None (Some (external_extractor function false (at d)))
+by_extractor marks function d = declared_term marks None (Some (external_extractor function false (at d)))
 
 -- taken apart by a template
 abbrev pub by_pattern : PatternTree → TermKindEntry

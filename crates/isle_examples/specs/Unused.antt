@@ -19,7 +19,7 @@ use Rattle.isle_model.specs.sites.Sites.{SetRule, SiteSet, argument_site, constr
 use Rattle.isle_model.specs.trees.Trees.{Tree, no_step}
 use Rattle.isle_examples.specs.SetForms.{a_rule, byte, returning}
 use Rattle.isle_examples.specs.TypedForms.{bind_any, by_constructor, by_rules, e_list, flags, make_let_one, number_term, rules_and_names, typed, typed_iflet, typed_var, u8}
-use Rattle.isle_examples.specs.Written.{any, call, constructor_by, let_one, name, number, numbers, of_f, rule_if, term, var, variable}
+use Rattle.isle_examples.specs.Written.{any, call, constructor_by, let_one, number, numbers, of_f, rule_if, var, variable}
 
 abbrev pub unused_defs : List Definition
 unused_defs =

@@ -11,8 +11,9 @@ use Rattle.isle_model.specs.rules.Typed.{TypedRule, make_int, make_term, make_va
 use Rattle.isle_model.specs.sites.Sites.{SiteSet, argument_site, constructor_site, is_present, match_some_site}
 use Rattle.isle_model.specs.trees.Trees.{Tree, match_at, no_step, step}
 use Rattle.isle_examples.specs.SetForms.{a_rule, byte, one_arm, returning}
+use Rattle.isle_examples.specs.Stages.{Sample}
 use Rattle.isle_examples.specs.TypedForms.{bind_any, e_list, make_let_one, rules_and_names, typed, typed_iflet, typed_var, u8}
-use Rattle.isle_examples.specs.Written.{any, call, constructor_by, f_of_bytes, let_one, name, number, numbers, of_f, rule_if, var, variable}
+use Rattle.isle_examples.specs.Written.{any, call, constructor_by, f_of_bytes, let_one, number, numbers, of_f, rule_if, var, variable}
 
 abbrev pub used_defs : List Definition
 used_defs =
@@ -40,6 +41,9 @@ used_with first then_bound = step first (match_at 1 (one_arm is_present (Some 2 
 
 abbrev pub used_tree : Tree
 used_tree = used_with (1 ∷ []) []
+
+abbrev pub used_sample : Sample
+used_sample = record { defs = used_defs; rules = used_rules; term = 1; multi = false; set = used_set; tree = used_tree; near_trees = [] }
 
 -- the call isn't bound; its answer is bound before it; the arm's field is bound again; the call is bound twice in one scope
 abbrev pub NearTreesDoNotBind : Type 0

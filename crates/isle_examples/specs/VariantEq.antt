@@ -2,7 +2,7 @@
 --   (type T (enum (A (v u8))))
 --   (decl g (T T) T)
 --   (rule (g x @ (T.A _) x) x)
-use Rattle.std.specs.Prelude.{◌≡◌, ◌∷◌, [], ◌++◌, ℕ, pos, List, Option, Some, None, codes}
+use Rattle.std.specs.Prelude.{◌≡◌, ◌∷◌, [], ◌++◌, ℕ, pos, false, List, Option, Some, None, codes}
 use Rattle.isle_model.specs.claims.Layers.{own_program}
 use Rattle.isle_model.specs.lists.Elaborated.{TypedRules}
 use Rattle.isle_model.specs.lists.Syntax.{Definition}
@@ -13,11 +13,10 @@ use Rattle.isle_model.specs.rules.Typed.{TypedRule, make_var, match_any, match_b
 use Rattle.isle_model.specs.sites.Demands.{demands_of}
 use Rattle.isle_model.specs.sites.Sites.{Constraint, SiteSet, argument_site, is_variant, match_variant_site}
 use Rattle.isle_model.specs.trees.Trees.{Tree, equal_at, match_at, no_step, step}
-use Rattle.isle_examples.specs.Expansions.{inside}
 use Rattle.isle_examples.specs.SetForms.{a0, a1, a_rule, asking, field_of, one_arm, returning}
-use Rattle.isle_examples.specs.Stages.{HasTermTable, closed_demands}
+use Rattle.isle_examples.specs.Stages.{HasTermTable, Sample, closed_demands}
 use Rattle.isle_examples.specs.TypedForms.{builtins, by_rules, entry, enum_entry, field_entry, no_flags, own, q_list, rules_and_names, typed, typed_var, u8, variant_entry}
-use Rattle.isle_examples.specs.Written.{any, bind, declared, enum_of_one, field, name, rule_to, term, var, variable}
+use Rattle.isle_examples.specs.Written.{any, bind, declared, enum_of_one, field, rule_to, term, var, variable}
 
 abbrev pub variant_eq_defs : List Definition
 variant_eq_defs =
@@ -81,3 +80,6 @@ variant_eq_tree = variant_eq_matches (Some 1) variant_eq_equality
 -- trees that are no best ones: an arm brings the other match's field, or no field; the equality is not tested
 abbrev pub variant_eq_near_trees : List Tree
 variant_eq_near_trees = variant_eq_matches (Some 3) variant_eq_equality ∷ variant_eq_matches None variant_eq_equality ∷ variant_eq_matches (Some 1) (returning [] 2 0 no_step) ∷ []
+
+abbrev pub variant_eq_sample : Sample
+variant_eq_sample = record { defs = variant_eq_defs; rules = variant_eq_rules; term = 0; multi = false; set = variant_eq_set; tree = variant_eq_tree; near_trees = variant_eq_near_trees }

@@ -79,10 +79,6 @@ extractor_by n t function = extern_definition (extern_extractor (name n t) (name
 abbrev pub infallible_extractor_by : ℕ → List ℕ → List ℕ → Definition
 infallible_extractor_by n t function = extern_definition (extern_extractor (name n t) (name n function) (at n) true)
 
--- a rule that answers 1
-abbrev pub rule : ℕ → PatternTree → Definition
-rule n p = rule_definition (record { pattern = p; iflets = []; expr = int_expr (pos 1) (at n); at = at n; prio = None; name = None })
-
 -- a variable in a pattern
 abbrev pub var : ℕ → List ℕ → PatternTree
 var n x = var_pattern (name n x) (at n)
@@ -134,6 +130,10 @@ rule_tree n p x = record { pattern = p; iflets = []; expr = x; at = at n; prio =
 
 abbrev pub rule_to : ℕ → PatternTree → ExprTree → Definition
 rule_to n p x = rule_definition (rule_tree n p x)
+
+-- one that answers 1
+abbrev pub rule_to_one : ℕ → PatternTree → Definition
+rule_to_one n p = rule_to n p (number n (pos 1))
 
 abbrev pub rule_first : ℕ → ℤ → PatternTree → ExprTree → Definition
 rule_first n z p x = rule_definition (record (rule_tree n p x) { prio = Some z })

@@ -1,849 +1,503 @@
 //! Worked samples, and near ones that are refused: definitions, tables, typed rules, demands, sets, trees and runs.
 //!
-//! A function here has an empty body: its clause says what the definitions make of a sample.
+//! A function here has an empty body: its clauses say what the definitions make of a sample, stage by stage.
 #![tactic(auto)]
 
-ghost use Rattle.isle_examples.specs.JudgedTrees.{PrintedTreesPass, PrintedTreesAreBest};
-ghost use Rattle.isle_examples.specs.RefusedTrees.{NearMissesFail, NearMissesAreNotBest};
-ghost use Rattle.isle_examples.specs.WellBuiltSamples.{SamplesAreWellBuilt, PrintedTreesAreSound};
-ghost use Rattle.isle_examples.specs.WorkedDemands.{ConstEqDemands, FallDemands, ExtractDemands, PartialDemands, EffectsDemands, MultiDemands, VariantEqDemands, ConstEqClosed, VariantEqClosed, NestedClosed, ConflictReported, CyclesReported, NothingReported, UnreachableSamples, OverlapReported, ShadowReported, UnreachableReported, NotReported, NearMisses, SamplesAreUnreachable, SamplesAreReachable, TwoReports, Overlapping, Shadowing, ClosingsEnd, LimitsMet};
-ghost use Rattle.isle_examples.specs.OldPickedAnswers.{HoldUnderNoPick, HoldUnderOnePick};
-ghost use Rattle.isle_examples.specs.CollectedSample.{SampleCollects};
-ghost use Rattle.isle_examples.specs.NotFormed.{OthersAreNotFormed};
-ghost use Rattle.isle_examples.specs.TypedSamples.{ConstEqBecomes, FallBecomes, EqualBecomes, VariantEqBecomes, CycleBecomes, ConflictBecomes, ExtractBecomes, PartialBecomes, EffectsBecomes, MultiBecomes, ConstantsBecome};
-ghost use Rattle.isle_examples.specs.Typed.{IfLetHasNone, IfLetBecomes, PartialHasNone, BoundTwiceHasNone, LiteralHasNone, MultiPriorityHasNone, MacroArgHasNone, MultiExtractorsStand, LetShadows, LetNamesAreMet, ConvertedBecomes, ConverterHasNone, EndlessHasNone, EndlessBecomes, ExpansionsDouble, ManyMayNest, TemplateVariablesAreTheRules, LiteralsAreNotConverted, ConversionsNest};
-ghost use Rattle.isle_examples.specs.Doubling.{NestedUsesDouble, LimitIsMet};
-ghost use Rattle.std.specs.Prelude.{[], pos, ◌∷◌, true, false, Some};
-ghost use Rattle.isle_model.specs.rules.Meaning.{one, nothing, just};
-ghost use Rattle.isle_examples.specs.Meanings.{ExtractEnds, ends_with, v, PartialEnds, g_of_one, EffectsEnds, im_of_one, pair_of, MultiGives, MultiCollects, MultiIsNot, ExtractMeaningServes, DoesNotServe, blank, extract_program, extract_mute, PartialIsServed, partial_program, partial_mute, MultiIsServed, multi_program, multi_mute, MultiIsCollected, MultiIsSound};
-ghost use Rattle.isle_model.specs.rules.Outcome.{no_rule, failed, ended};
-ghost use Rattle.isle_examples.specs.OldMultiCalls.{twice, Gives, extracted_twice, twice_impure, nested, unused, condition, program, LeavesACallUnused, unused_condition};
+ghost use Rattle.std.specs.Prelude.{[], pos, true, ◌∷◌, ◌≡◌};
+ghost use Rattle.isle_model.specs.lists.TypeTable.{IsValidTypes};
+ghost use Rattle.isle_model.specs.rules.Meaning.{nothing};
+ghost use Rattle.isle_model.specs.rules.Outcome.{ended, failed, no_rule};
 ghost use Rattle.isle_model.specs.trees.Collects.{LeavesNoCallUnused};
-ghost use Rattle.isle_examples.specs.OldLeftOver.{LeftOverIsCollected, LeftOverCollects, DemandsGatesThough, UnusedGateGives};
-ghost use Rattle.isle_examples.specs.ReadSamples.{ExtractIsRead, PartialIsRead, MultiIsRead, OverlapIsRead, ShadowIsRead, EqualIsRead, VariantIsRead, UnusedIsRead, RefusedAreNotRead};
-ghost use Rattle.isle_examples.specs.BuiltSamples.{ExtractIsBuilt, PartialIsBuilt, MultiIsBuilt, EqualIsBuilt, VariantIsBuilt, UnusedIsBuilt, NearSetsAreNotBuilt};
-ghost use Rattle.isle_examples.specs.AcceptedSamples.{SamplesAreAccepted, OverlapIsNotAccepted, ShadowIsNotCheckable};
-ghost use Rattle.isle_examples.specs.BindingSamples.{PrintedTreesBind, NearTreesDoNotBind};
-ghost use Rattle.isle_examples.specs.LoweredSamples.{UnusedIsLowered, SamplesAreRefused};
-ghost use Rattle.isle_examples.specs.WorkedTypes.{TwoTypes, ThreeTypes, Constants, RefusedTypes};
-ghost use Rattle.isle_examples.specs.WorkedTerms.{ByFunction, Converted, Doubled, Chained, Effects, Infallible, Early, OneFullName, Structs, Templates, Alone, RefusedTerms};
-ghost use Rattle.isle_examples.specs.WorkedKnown.{TypesHandedIn, OwnTypesDoNotCount, NamesGoOn, IllFormed};
-ghost use Rattle.isle_examples.specs.FallRun.{FallRuns};
-ghost use Rattle.isle_examples.specs.ExtractRun.{ExtractRuns, ExtractIsServed, ExtractIsSound};
-ghost use Rattle.isle_examples.specs.ImpureRun.{ImpureIsCalled};
-ghost use Rattle.isle_examples.specs.WorkedGates.{FormedRulesMayTestImpureCalls, ResultsMayUnwrap};
+ghost use Rattle.isle_examples.specs.Below.{below_program, below_same, below_sample};
+ghost use Rattle.isle_examples.specs.Between.{between_sample};
+ghost use Rattle.isle_examples.specs.Conflict.{ConflictReported, conflict_defs, conflict_program, conflict_rule, conflict_rules};
+ghost use Rattle.isle_examples.specs.ConstEq.{ConstEqClosed, ConstEqDemands, const_eq_program, const_eq_rule, const_eq_sample};
+ghost use Rattle.isle_examples.specs.Cycle.{CycleTables, CyclesReported, cycle_rules, one_step_defs, one_step_program, one_step_rule, two_step_defs, two_step_program, two_step_rule};
+ghost use Rattle.isle_examples.specs.Effects.{EffectsDemands, EffectsEnds, EffectsTables, effects_sample, im_of_one, pair_of};
+ghost use Rattle.isle_examples.specs.EmittedFirst.{emitted_first_sample};
+ghost use Rattle.isle_examples.specs.Equal.{equal_program, equal_same, equal_sample};
+ghost use Rattle.isle_examples.specs.Expansions.{ConversionsNest, DoubledTables, EndlessBecomes, EndlessHasNone, EndlessTables, ExpansionsDouble, LimitIsMet, ManyMayNest, NestedUsesDouble, TemplateVariablesAreTheRules};
+ghost use Rattle.isle_examples.specs.Extract.{ExtractDemands, ExtractEnds, ExtractIsServed, ExtractMeaningServes, ExtractTables, NearSetsAreNotBuilt, extract_any, extract_mute, extract_one, extract_program, extract_sample};
+ghost use Rattle.isle_examples.specs.Fall.{FallDemands, FallRuns, fall_any, fall_one, fall_program, fall_sample};
+ghost use Rattle.isle_examples.specs.FormedRules.{ArgumentsAreLimited, FormedRulesMayTestImpureCalls, OthersAreNotFormed, ResultsMayUnwrap};
+ghost use Rattle.isle_examples.specs.HandedIn.{IllFormed, NamesGoOn, OwnTypesDoNotCount, TypesHandedIn};
+ghost use Rattle.isle_examples.specs.Impure.{ImpureIsCalled, impure_sample};
+ghost use Rattle.isle_examples.specs.LeftOver.{LeftOverCollects, LeftOverIsCollected, left_over_defs, left_over_rules, left_over_set, left_over_tree};
+ghost use Rattle.isle_examples.specs.MeaningForms.{DoesNotServe, answers, blank, ends_with, just_number};
+ghost use Rattle.isle_examples.specs.Multi.{LoopsMayBindAgain, MultiCollects, MultiDemands, MultiGives, MultiIsCollected, MultiIsNot, MultiIsServed, MultiSetCollects, multi_defs, multi_mute, multi_program, multi_sample, multi_terms};
+ghost use Rattle.isle_examples.specs.MultiCalls.{DemandsGatesThough, Gives, LeavesACallUnused, UnusedGateGives, call_in_call, calls_program, extracted_twice, impure_twice, pure_twice, unused_condition, unused_let, used_condition};
+ghost use Rattle.isle_examples.specs.MultiExt.{MultiExtractorsStand, multi_ext_sample};
+ghost use Rattle.isle_examples.specs.NamedConstants.{constants_defs, constants_rules};
+ghost use Rattle.isle_examples.specs.Nested.{NestedClosed, NestedTables, nested_defs, nested_program, nested_rule, nested_rules};
+ghost use Rattle.isle_examples.specs.NoRules.{BoundTwiceHasNone, ConverterHasNone, IfLetHasNone, LiteralHasNone, LiteralsAreNotConverted, MacroArgHasNone, MultiPriorityHasNone, PartialHasNone, converted_defs, converted_rules, iflet_defs, iflet_rules};
+ghost use Rattle.isle_examples.specs.Overlap.{OverlapReported, OverlapsFound, TwoReports, overlap_defs, overlap_rules, three_defs, three_rules};
+ghost use Rattle.isle_examples.specs.Partial.{PartialDemands, PartialEnds, PartialIsServed, g_of_one, partial_defs, partial_mute, partial_program, partial_sample, partial_terms};
+ghost use Rattle.isle_examples.specs.PickedAnswers.{HoldUnderNoPick, HoldUnderOnePick};
+ghost use Rattle.isle_examples.specs.Prio.{prio_sample};
+ghost use Rattle.isle_examples.specs.Refused.{RefusedAreNotRead, SamplesAreRefused};
+ghost use Rattle.isle_examples.specs.Scopes.{let_in_let_defs, let_in_let_rules, shadowing_defs, shadowing_rules};
+ghost use Rattle.isle_examples.specs.Shadow.{ShadowReported, ShadowsFound, shadow_defs, shadow_rules};
+ghost use Rattle.isle_examples.specs.Shared.{shared_sample};
+ghost use Rattle.isle_examples.specs.Stages.{CanMatch, CantMatch, ClosingEndsOf, HasStages, HasTermTable, HasTerms, IsAcceptedBoth, IsBuiltOf, IsJudged, IsNotAccepted, NoneOf, PassesNoLimit, verdicts};
+ghost use Rattle.isle_examples.specs.Surplus.{surplus_sample};
+ghost use Rattle.isle_examples.specs.TermLists.{Alone, Chained, Early, Infallible, OneFullName, Structs, Templates, refused_terms};
+ghost use Rattle.isle_examples.specs.Ties.{ties_sample};
+ghost use Rattle.isle_examples.specs.TypeLists.{ConstantTypes, ThreeTypes, TwoTypes, refused_types};
+ghost use Rattle.isle_examples.specs.Unused.{UnusedIsLowered, UnusedIsNotDemanded, unused_defs, unused_rules, unused_set};
+ghost use Rattle.isle_examples.specs.Used.{NearTreesDoNotBind, used_sample};
+ghost use Rattle.isle_examples.specs.VariantEq.{VariantEqClosed, VariantEqDemands, VariantEqTables, variant_eq_program, variant_eq_rule, variant_eq_sample};
+ghost use Rattle.isle_examples.specs.Wrap.{wrap_sample};
 
-ghost use Rattle.isle_examples.specs.Fall.{fall_defs, fall_rules, fall_set, fall_tree, fall_near_trees, FallDemands as FallDemands2, FallRuns as FallRuns2};
-ghost use Rattle.isle_examples.specs.Stages.{Becomes, IsJudged, AreRefused};
-
-/// A rule for a literal.
-#[tactic(auto, using(crate::proofs::JudgedTrees::fall_judged, crate::proofs::JudgedTrees::fall_refused))]
-pub fn falls()
-    ensures typed { Becomes fall_defs true (Some fall_rules) × Becomes fall_defs false (Some fall_rules) }
-    ensures demands { FallDemands2 }
-    ensures tree { IsJudged fall_set false fall_tree }
-    ensures near_trees { AreRefused fall_set fall_near_trees }
-    ensures runs { FallRuns2 }
+/// Lists of types: a primitive type and an extern enum; structs, one of them a tuple, whose types are named before they
+/// are defined; a constant that is defined twice has the type of its last definition. Lists that break one demand on
+/// types each have no type table.
+#[tactic(auto, using(crate::proofs::TypeLists::two_types_read, crate::proofs::TypeLists::three_types_read, crate::proofs::TypeLists::constants_read, crate::proofs::TypeLists::types_refused))]
+pub fn type_lists()
+    ensures two_types { TwoTypes }
+    ensures three_types { ThreeTypes }
+    ensures constants { ConstantTypes }
+    ensures refused { NoneOf IsValidTypes refused_types }
 {}
 
-/// The judge passes the trees that are printed for the samples.
-pub fn printed_trees_pass()
-    ensures { PrintedTreesPass }
+/// Lists of terms: a template may call another internal extractor, and a surplus argument that it doesn't use is
+/// accepted; an external extractor that always answers; an external constructor before its declaration; two variants of
+/// one full name, whose types are valid; structs; what becomes an argument of a template, and what is kept; a term that
+/// nothing makes, which has a place in a valid table. Lists that break one demand on terms each have no term table.
+#[tactic(auto, using(crate::proofs::TermLists::chained_read, crate::proofs::TermLists::infallible_read, crate::proofs::TermLists::early_read, crate::proofs::TermLists::one_full_name_read, crate::proofs::TermLists::structs_read, crate::proofs::TermLists::alone_read, crate::proofs::TermLists::terms_refused))]
+pub fn term_lists()
+    ensures chained { Chained }
+    ensures infallible { Infallible }
+    ensures early { Early }
+    ensures one_full_name { OneFullName }
+    ensures structs { Structs }
+    ensures templates { Templates }
+    ensures alone { Alone }
+    ensures refused { NoneOf HasTerms refused_terms }
 {}
 
-/// They are best trees.
-pub fn printed_trees_are_best()
-    ensures { PrintedTreesAreBest }
+/// A list may name a type that is handed in, and its names go on after all that were met before; a type that a list
+/// defines isn't known to its terms unless it is handed in. Types that break one demand each are not well formed.
+#[tactic(auto, using(crate::proofs::HandedIn::types_handed_in_lem, crate::proofs::HandedIn::own_types_do_not_count_lem, crate::proofs::HandedIn::names_go_on_lem, crate::proofs::HandedIn::ill_formed_lem))]
+pub fn handed_in()
+    ensures types { TypesHandedIn }
+    ensures own_types { OwnTypesDoNotCount }
+    ensures names { NamesGoOn }
+    ensures ill_formed { IllFormed }
 {}
 
-/// The judge refuses the near misses.
-pub fn near_misses_fail()
-    ensures { NearMissesFail }
+/// A literal, and a name that stands again: the literal stands at both arguments, and no equality is left.
+#[tactic(auto, using(crate::proofs::SampleStages::const_eq_stages, crate::proofs::Matchable::const_eq_matches))]
+pub fn const_eq_sample()
+    ensures stages { HasStages const_eq_sample }
+    ensures demands { ConstEqDemands }
+    ensures closed { ConstEqClosed }
+    ensures ends { ClosingEndsOf const_eq_program const_eq_rule }
+    ensures verdicts { verdicts const_eq_program const_eq_rule ≡ [] }
+    ensures can_match { CanMatch const_eq_program const_eq_rule }
 {}
 
-/// However their returns are marked, they are no best trees.
-pub fn near_misses_are_not_best()
-    ensures { NearMissesAreNotBest }
+/// A rule for a literal, and a lower one: the tree answers 10 at 1, and 2 at 2.
+#[tactic(auto, using(crate::proofs::SampleStages::fall_stages, crate::proofs::Matchable::fall_one_matches, crate::proofs::Matchable::fall_any_matches))]
+pub fn fall_sample()
+    ensures stages { HasStages fall_sample }
+    ensures demands { FallDemands }
+    ensures ends { ClosingEndsOf fall_program fall_one }
+    ensures one_matches { CanMatch fall_program fall_one }
+    ensures any_matches { CanMatch fall_program fall_any }
+    ensures runs { FallRuns }
 {}
 
-/// The samples' sets are well built.
-pub fn samples_are_well_built()
-    ensures { SamplesAreWellBuilt }
+/// Three priorities: the test that covers two rules goes first.
+#[tactic(auto, using(crate::proofs::SampleStages::prio_stages))]
+pub fn prio_sample()
+    ensures stages { HasStages prio_sample }
 {}
 
-/// So the trees that are printed for them are sound.
-pub fn printed_trees_are_sound()
-    ensures { PrintedTreesAreSound }
-{}
-
-/// A literal and a repeated variable: one constraint, one equality.
-pub fn const_eq_demands()
-    ensures { ConstEqDemands }
-{}
-
-/// A literal, and a variable.
-pub fn fall_demands()
-    ensures { FallDemands }
-{}
-
-/// A fallible extractor is asked to answer, and its answer to be the literal.
-pub fn extract_demands()
-    ensures { ExtractDemands }
-{}
-
-/// A partial call on the right is made and unwrapped, and nothing is asked of it.
-pub fn partial_demands()
-    ensures { PartialDemands }
-{}
-
-/// A pure and an impure call, and the construction of their results.
-pub fn effects_demands()
-    ensures { EffectsDemands }
-{}
-
-/// A multi call is gone over.
-pub fn multi_demands()
-    ensures { MultiDemands }
-{}
-
-/// A variant, and a repeated variable.
-pub fn variant_eq_demands()
-    ensures { VariantEqDemands }
-{}
-
-/// The literal stands at both arguments.
-pub fn const_eq_closed()
-    ensures { ConstEqClosed }
-{}
-
-/// The variant stands at both arguments, and the fields are equal; the closure makes the second field.
-pub fn variant_eq_closed()
-    ensures { VariantEqClosed }
-{}
-
-/// A class that a later step adds to is taken after that step.
-pub fn nested_closed()
-    ensures { NestedClosed }
-{}
-
-/// Two literals in one class: the lesser site's first.
-pub fn conflict_reported()
-    ensures { ConflictReported }
-{}
-
-/// A value that is a part of itself, at one step and at two.
-pub fn cycles_reported()
-    ensures { CyclesReported }
-{}
-
-/// Rules that can match.
-pub fn nothing_reported()
-    ensures { NothingReported }
-{}
-
-/// The test finds the conflict and the cycles.
-pub fn unreachable_samples()
-    ensures { UnreachableSamples }
-{}
-
-/// The rule latest by position comes first.
-pub fn overlap_reported()
-    ensures { OverlapReported }
-{}
-
-/// The mask, and what it shadows.
-pub fn shadow_reported()
-    ensures { ShadowReported }
-{}
-
-/// Rules that can't match are reported where they stand.
-pub fn unreachable_reported()
-    ensures { UnreachableReported }
-{}
-
-/// Accepted samples.
-pub fn not_reported()
-    ensures { NotReported }
-{}
-
-/// A priority of its own, and equal priorities in place of a shadow.
-pub fn near_misses()
-    ensures { NearMisses }
-{}
-
-/// No values meet the demands of a cycle, at one step or at two, nor those of two literals in one class.
-pub fn samples_are_unreachable()
-    ensures { SamplesAreUnreachable }
-{}
-
-/// The demands of the other samples can be met.
-pub fn samples_are_reachable()
-    ensures { SamplesAreReachable }
+/// Rules that overlap wrongly, as those of `fall` don't: the one that is later by position is reported first.
+#[tactic(auto, using(crate::proofs::AcceptedLists::overlap_not_accepted))]
+pub fn overlap_sample()
+    ensures not_accepted { IsNotAccepted overlap_defs overlap_rules }
+    ensures reported { OverlapReported }
+    ensures found { OverlapsFound }
 {}
 
 /// Of three overlaps the rule with two is reported first, with the later position; the one left comes next.
-pub fn two_reports()
-    ensures { TwoReports }
+#[tactic(auto, using(crate::proofs::AcceptedLists::three_not_accepted))]
+pub fn three_overlaps()
+    ensures not_accepted { IsNotAccepted three_defs three_rules }
+    ensures reported { TwoReports }
 {}
 
-/// One wrong overlap, and near misses: another priority, different constants.
-pub fn overlapping()
-    ensures { Overlapping }
+/// A shadowed rule is reported with its mask; equal priorities, a mask of more constraints, and equalities, don't
+/// shadow.
+#[tactic(auto, using(crate::proofs::AcceptedLists::shadow_not_accepted))]
+pub fn shadow_sample()
+    ensures not_accepted { IsNotAccepted shadow_defs shadow_rules }
+    ensures reported { ShadowReported }
+    ensures found { ShadowsFound }
 {}
 
-/// One shadowed rule, and near misses: equal priorities, a mask with more constraints, equalities.
-pub fn shadowing()
-    ensures { Shadowing }
+/// A lower rule whose arguments must be equal, below one that always matches.
+#[tactic(auto, using(crate::proofs::SampleStages::equal_stages))]
+pub fn equal_sample()
+    ensures stages { HasStages equal_sample }
+    ensures ends { ClosingEndsOf equal_program equal_same }
 {}
 
-/// The closings of the samples end.
-pub fn closings_end()
-    ensures { ClosingsEnd }
+/// A lower rule with a literal and an equality, below one that always matches.
+#[tactic(auto, using(crate::proofs::SampleStages::below_stages))]
+pub fn below_sample()
+    ensures stages { HasStages below_sample }
+    ensures ends { ClosingEndsOf below_program below_same }
 {}
 
-/// No rule of a sample passes a limit; a term of 257 arguments does, and the 256 before it are walked.
-pub fn limits_met()
-    ensures { LimitsMet }
+/// A variant under a name that stands again: it stands at both arguments, and the closure makes the second field.
+#[tactic(auto, using(crate::proofs::SampleStages::variant_eq_stages, crate::proofs::Matchable::variant_eq_matches))]
+pub fn variant_eq_sample()
+    ensures stages { HasStages variant_eq_sample }
+    ensures tables { VariantEqTables }
+    ensures demands { VariantEqDemands }
+    ensures closed { VariantEqClosed }
+    ensures ends { ClosingEndsOf variant_eq_program variant_eq_rule }
+    ensures verdicts { verdicts variant_eq_program variant_eq_rule ≡ [] }
+    ensures can_match { CanMatch variant_eq_program variant_eq_rule }
+    ensures limits { PassesNoLimit variant_eq_program variant_eq_rule }
 {}
 
-/// Demands that two answers of a multi call meet in part hold under no pick.
-pub fn hold_under_no_pick()
-    ensures { HoldUnderNoPick }
+/// Values that are a part of themselves, at one step and at two: no values meet these demands, and the rule is
+/// reported.
+#[tactic(auto, using(crate::proofs::AcceptedLists::one_step_not_accepted, crate::proofs::AcceptedLists::two_step_not_accepted))]
+pub fn cycle_sample()
+    ensures one_step { IsNotAccepted one_step_defs (cycle_rules one_step_rule) }
+    ensures two_steps { IsNotAccepted two_step_defs (cycle_rules two_step_rule) }
+    ensures tables { CycleTables }
+    ensures one_step_cant { CantMatch one_step_program one_step_rule }
+    ensures two_steps_cant { CantMatch two_step_program two_step_rule }
+    ensures reported { CyclesReported }
 {}
 
-/// Demands that one answer meets hold under its pick.
-pub fn hold_under_one_pick()
-    ensures { HoldUnderOnePick }
+/// Two literals for one value: no value meets these demands, and the lesser site's literal is reported first.
+#[tactic(auto, using(crate::proofs::AcceptedLists::conflict_not_accepted))]
+pub fn conflict_sample()
+    ensures not_accepted { IsNotAccepted conflict_defs conflict_rules }
+    ensures cant_match { CantMatch conflict_program conflict_rule }
+    ensures reported { ConflictReported }
 {}
 
-/// The multi sample, whose tree has a loop, meets all that the law asks for.
-#[tactic(auto, using(crate::proofs::SampleCollected::sample_collects_lem))]
-pub fn sample_collects()
-    ensures { SampleCollects }
+/// A class that a later step adds to is taken after that step.
+#[tactic(auto, using(crate::proofs::AcceptedLists::nested_accepted, crate::proofs::Matchable::nested_matches))]
+pub fn nested_sample()
+    ensures accepted { IsAcceptedBoth nested_defs nested_rules }
+    ensures tables { NestedTables }
+    ensures closed { NestedClosed }
+    ensures ends { ClosingEndsOf nested_program nested_rule }
+    ensures verdicts { verdicts nested_program nested_rule ≡ [] }
+    ensures can_match { CanMatch nested_program nested_rule }
 {}
 
-/// Rules that don't hang together are told apart.
-pub fn others_are_not_formed()
-    ensures { OthersAreNotFormed }
+/// An external extractor: a call that is asked to answer, and its answer to be a literal.
+#[tactic(auto, using(crate::proofs::SampleStages::extract_stages, crate::proofs::Matchable::extract_one_matches, crate::proofs::Matchable::extract_any_matches, crate::proofs::Extract::near_sets_are_not_built))]
+pub fn extract_sample()
+    ensures stages { HasStages extract_sample }
+    ensures tables { ExtractTables }
+    ensures demands { ExtractDemands }
+    ensures one_matches { CanMatch extract_program extract_one }
+    ensures any_matches { CanMatch extract_program extract_any }
+    ensures limits { PassesNoLimit extract_program extract_one }
+    ensures near_sets { NearSetsAreNotBuilt }
 {}
 
-/// A constant, and the same name in two arguments.
-pub fn const_eq_becomes()
-    ensures { ConstEqBecomes }
+/// Where the extractor answers 1 the higher rule gives 10, where it answers 5 the lower rule gives it, and where it
+/// answers nothing no rule matches.
+pub fn extract_ends()
+    ensures of_one { ExtractEnds (just_number (pos 1)) (answers (pos 10)) }
+    ensures of_another { ExtractEnds (just_number (pos 5)) (answers (pos 5)) }
+    ensures of_none { ExtractEnds nothing no_rule }
 {}
 
-/// A rule with a priority, and one without, which has 0.
-pub fn fall_becomes()
-    ensures { FallBecomes }
+/// A meaning with its literals and a fitting answer has what its rules ask, and a world serves their tests whatever it
+/// answers; meanings without literals or calls don't.
+#[tactic(auto, using(crate::proofs::Served::extract_served, crate::proofs::Served::blank_extract, crate::proofs::Served::mute_extract, crate::proofs::Extract::extract_is_served_lem))]
+pub fn extract_is_served()
+    ensures meaning { ExtractMeaningServes }
+    ensures tests { ExtractIsServed }
+    ensures without_all { DoesNotServe extract_program blank (pos 7) }
+    ensures without_calls { DoesNotServe extract_program extract_mute (pos 7) }
 {}
 
-/// A name in two arguments is bound by the first and used by the second.
-pub fn equal_becomes()
-    ensures { EqualBecomes }
+/// A partial call on the right side is made and unwrapped, and nothing is asked of it.
+#[tactic(auto, using(crate::proofs::SampleStages::partial_stages))]
+pub fn partial_sample()
+    ensures stages { HasStages partial_sample }
+    ensures tables { HasTermTable partial_defs partial_terms }
+    ensures demands { PartialDemands }
 {}
 
-/// A name over a variant, which another argument uses.
-pub fn variant_eq_becomes()
-    ensures { VariantEqBecomes }
+/// Where the partial call answers nothing, the one call is made and then all fails: the lower rule isn't tried. Where
+/// it answers 3, the result is Some of 3. Elsewhere the lower rule gives Some of 7, and nothing is called.
+pub fn partial_ends()
+    ensures fails { PartialEnds nothing (pos 1) (record { calls = g_of_one; results = []; ending = failed }) }
+    ensures gives_some { PartialEnds (just_number (pos 3)) (pos 1) (record { calls = g_of_one; results = just_number (pos 3) ∷ []; ending = ended }) }
+    ensures elsewhere { PartialEnds nothing (pos 2) (ends_with (just_number (pos 7))) }
 {}
 
-/// A name inside what it names.
-pub fn cycle_becomes()
-    ensures { CycleBecomes }
+/// Its meaning has what its rules ask; meanings without literals or calls don't.
+#[tactic(auto, using(crate::proofs::Served::partial_served, crate::proofs::Served::blank_partial, crate::proofs::Served::mute_partial))]
+pub fn partial_is_served()
+    ensures meaning { PartialIsServed }
+    ensures without_all { DoesNotServe partial_program blank (pos 1) }
+    ensures without_calls { DoesNotServe partial_program partial_mute (pos 1) }
 {}
 
-/// Two literals for one value: elaboration doesn't look at what can match.
-pub fn conflict_becomes()
-    ensures { ConflictBecomes }
+/// A pure call that may answer nothing, beside an impure one, inside a variant.
+#[tactic(auto, using(crate::proofs::SampleStages::effects_stages))]
+pub fn effects_sample()
+    ensures stages { HasStages effects_sample }
+    ensures tables { EffectsTables }
+    ensures demands { EffectsDemands }
 {}
 
-/// An external extractor.
-pub fn extract_becomes()
-    ensures { ExtractBecomes }
+/// Where the pure call answers nothing, the impure one is made once, and then all fails. Where it answers 5, the result
+/// has both answers.
+pub fn effects_end()
+    ensures fail { EffectsEnds nothing (record { calls = im_of_one; results = []; ending = failed }) }
+    ensures give_both { EffectsEnds (just_number (pos 5)) (record { calls = im_of_one; results = pair_of (pos 5) (pos 6) ∷ []; ending = ended }) }
 {}
 
-/// A partial call in a partial term.
-pub fn partial_becomes()
-    ensures { PartialBecomes }
+/// A multi call is gone over.
+#[tactic(auto, using(crate::proofs::SampleStages::multi_stages, crate::proofs::Multi::loops_may_bind_again))]
+pub fn multi_sample()
+    ensures stages { HasStages multi_sample }
+    ensures tables { HasTermTable multi_defs multi_terms }
+    ensures demands { MultiDemands }
+    ensures binds_again { LoopsMayBindAgain }
 {}
 
-/// Pure and impure calls inside a variant.
-pub fn effects_becomes()
-    ensures { EffectsBecomes }
+/// On 1 the bag is 4, 4 and 9, and the run gives 9 first; on 2, where the call answers 7 alone, it is 7; on 3, where it
+/// answers the empty list, there is no result. A run that stopped after the first answer would not collect the bag, nor
+/// one with as many results, of which another stands twice.
+#[tactic(auto, using(crate::proofs::Multi::on_one, crate::proofs::Multi::on_two, crate::proofs::Multi::on_three, crate::proofs::Multi::stopped, crate::proofs::Multi::exchanged))]
+pub fn multi_gives()
+    ensures on_one { MultiGives (pos 1) (pos 4 ∷ pos 4 ∷ pos 9 ∷ []) (pos 9 ∷ pos 4 ∷ pos 4 ∷ []) }
+    ensures on_two { MultiGives (pos 2) (pos 7 ∷ []) (pos 7 ∷ []) }
+    ensures on_three { MultiGives (pos 3) [] [] }
+    ensures collects_on_one { MultiCollects (pos 1) }
+    ensures collects_on_two { MultiCollects (pos 2) }
+    ensures collects_on_three { MultiCollects (pos 3) }
+    ensures stopped { MultiIsNot (pos 9 ∷ pos 4 ∷ []) }
+    ensures exchanged { MultiIsNot (pos 9 ∷ pos 9 ∷ pos 4 ∷ []) }
 {}
 
-/// A multi call in a multi term.
-pub fn multi_becomes()
-    ensures { MultiBecomes }
+/// Its meaning has what its rules ask, and its world serves its set, so the law on runs of multi terms applies;
+/// meanings without literals or calls don't serve.
+#[tactic(auto, using(crate::proofs::Served::multi_served, crate::proofs::Served::blank_multi, crate::proofs::Served::mute_multi, crate::proofs::Multi::multi_is_collected, crate::proofs::Multi::multi_set_collects))]
+pub fn multi_is_served()
+    ensures meaning { MultiIsServed }
+    ensures set { MultiIsCollected }
+    ensures collects { MultiSetCollects }
+    ensures without_all { DoesNotServe multi_program blank (pos 1) }
+    ensures without_calls { DoesNotServe multi_program multi_mute (pos 1) }
 {}
 
-/// An if-let's expression that calls a term without a constructor has no typed rule.
-pub fn iflet_has_none()
-    ensures { IfLetHasNone }
+/// A rule below one that always matches, whose demands nothing tests and whose field nothing brings.
+#[tactic(auto, using(crate::proofs::SampleStages::surplus_stages))]
+pub fn surplus_sample()
+    ensures stages { HasStages surplus_sample }
 {}
 
-/// A pure partial call may stand in an if-let of a term that isn't partial.
-pub fn iflet_becomes()
-    ensures { IfLetBecomes }
+/// Of tests of one score, that of smaller sites is made first.
+#[tactic(auto, using(crate::proofs::SampleStages::ties_stages))]
+pub fn ties_sample()
+    ensures stages { HasStages ties_sample }
 {}
 
-/// On the right side it may not.
-pub fn partial_has_none()
-    ensures { PartialHasNone }
+/// A literal below zero comes before those above.
+#[tactic(auto, using(crate::proofs::SampleStages::wrap_stages))]
+pub fn wrap_sample()
+    ensures stages { HasStages wrap_sample }
 {}
 
-/// The name of an `@` may not be bound by its own pattern.
-pub fn bound_twice_has_none()
-    ensures { BoundTwiceHasNone }
+/// A partial call that an if-let's value takes is asked to answer; it is bound once, before it is used.
+#[tactic(auto, using(crate::proofs::SampleStages::used_stages, crate::proofs::Used::near_trees_do_not_bind))]
+pub fn used_sample()
+    ensures stages { HasStages used_sample }
+    ensures near_trees { NearTreesDoNotBind }
 {}
 
-/// An integer literal may not be the whole expression of an if-let.
-pub fn literal_has_none()
-    ensures { LiteralHasNone }
+/// A multi extractor may stand in a rule of a multi term, and in others only where that is allowed.
+#[tactic(auto, using(crate::proofs::SampleStages::multi_ext_stages))]
+pub fn multi_ext_sample()
+    ensures stages { HasStages multi_ext_sample }
+    ensures stands { MultiExtractorsStand }
 {}
 
-/// A rule of a multi term has no priority.
-pub fn multi_priority_has_none()
-    ensures { MultiPriorityHasNone }
+/// Two rules that share a call.
+#[tactic(auto, using(crate::proofs::SampleStages::shared_stages))]
+pub fn shared_sample()
+    ensures stages { HasStages shared_sample }
 {}
 
-/// An argument of a template stands in templates alone.
-pub fn macro_arg_has_none()
-    ensures { MacroArgHasNone }
+/// Of two pairs that must be equal, the one whose sites are emitted goes first.
+#[tactic(auto, using(crate::proofs::SampleStages::emitted_first_stages))]
+pub fn emitted_first_sample()
+    ensures stages { HasStages emitted_first_sample }
 {}
 
-/// Multi extractors stand in multi terms, and in others only where that is allowed.
-pub fn multi_extractors_stand()
-    ensures { MultiExtractorsStand }
+/// A rule that needs the test of a higher one is kept from its step by a rule between them.
+#[tactic(auto, using(crate::proofs::SampleStages::between_stages))]
+pub fn between_sample()
+    ensures stages { HasStages between_sample }
 {}
 
-/// A let may bind a name anew, for its body alone.
-pub fn let_shadows()
-    ensures { LetShadows }
+/// A multi call whose answer nothing uses: a set is built that doesn't demand what stands below the call, and the list
+/// is lowered to a tree that doesn't go over it.
+#[tactic(auto, using(crate::proofs::AcceptedLists::unused_accepted, crate::proofs::Unused::unused_built, crate::proofs::Unused::unused_is_lowered))]
+pub fn unused_sample()
+    ensures accepted { IsAcceptedBoth unused_defs unused_rules }
+    ensures built { IsBuiltOf unused_defs unused_rules 2 unused_set }
+    ensures not_demanded { UnusedIsNotDemanded }
+    ensures lowered { UnusedIsLowered }
 {}
 
-/// A let's name is met before its value and bound after it.
-pub fn let_names_are_met()
-    ensures { LetNamesAreMet }
-{}
-
-/// A variable of another type is converted.
-pub fn converted_becomes()
-    ensures { ConvertedBecomes }
-{}
-
-/// A converter without a constructor converts no expression.
-pub fn converter_has_none()
-    ensures { ConverterHasNone }
-{}
-
-/// A conversion that needs its own conversion has no typed rule.
-pub fn endless_has_none()
-    ensures { EndlessHasNone }
-{}
-
-/// It has one where templates aren't expanded: a pattern that is converted.
-pub fn endless_becomes()
-    ensures { EndlessBecomes }
-{}
-
-/// A template that uses its argument twice doubles the expansions inside.
-pub fn expansions_double()
-    ensures { ExpansionsDouble }
-{}
-
-/// 256 expansions may nest, and no more.
-pub fn many_may_nest()
-    ensures { ManyMayNest }
-{}
-
-/// A variable of a template that is no argument is one of the rule.
-pub fn template_variables_are_the_rules()
-    ensures { TemplateVariablesAreTheRules }
-{}
-
-/// Nested uses of a template that uses its argument twice take 2 to their number, less 1: 16 uses are within the limit
-/// on expansions, 17 aren't.
-pub fn nested_uses_double()
-    ensures { NestedUsesDouble }
-{}
-
-/// 65,536 expansions may stand in a rule, and no more.
-pub fn limit_is_met()
-    ensures { LimitIsMet }
+/// An impure call: the rule can be taken, and makes the call from whatever place it is taken.
+#[tactic(auto, using(crate::proofs::SampleStages::impure_stages, crate::proofs::Impure::impure_is_called))]
+pub fn impure_sample()
+    ensures stages { HasStages impure_sample }
+    ensures called { ImpureIsCalled }
 {}
 
 /// Constants, and a boolean literal.
-pub fn constants_become()
-    ensures { ConstantsBecome }
-{}
-
-/// Literals and constants stand at their own types alone, whatever converters there are.
-pub fn literals_are_not_converted()
-    ensures { LiteralsAreNotConverted }
-{}
-
-/// A conversion inside another one is nested in it.
-pub fn conversions_nest()
-    ensures { ConversionsNest }
-{}
-
-/// Where the extractor answers 1, the higher rule gives 10.
-pub fn extract_of_one()
-    ensures { ExtractEnds (pos 7) (ends_with (one (v (pos 10)))) }
-{}
-
-/// Where it answers 5, the lower rule gives it.
-pub fn extract_of_another()
-    ensures { ExtractEnds (pos 8) (ends_with (one (v (pos 5)))) }
-{}
-
-/// Where it answers nothing, no rule matches.
-pub fn extract_of_none()
-    ensures { ExtractEnds (pos 9) no_rule }
-{}
-
-/// Where the partial call answers nothing, the one call is made and then all fails: the lower rule isn't tried.
-pub fn partial_fails()
-    ensures { PartialEnds nothing (pos 1) (record { calls = g_of_one; results = []; ending = failed }) }
-{}
-
-/// Where it answers 3, the result is Some of 3.
-pub fn partial_gives_some()
-    ensures { PartialEnds (just (one (v (pos 3)))) (pos 1) (record { calls = g_of_one; results = just (one (v (pos 3))) ∷ []; ending = ended }) }
-{}
-
-/// Elsewhere the lower rule gives Some of 7, and nothing is called.
-pub fn partial_elsewhere()
-    ensures { PartialEnds nothing (pos 2) (ends_with (just (one (v (pos 7))))) }
-{}
-
-/// Where the pure call answers nothing, the impure one is made once, and then all fails.
-pub fn effects_fail()
-    ensures { EffectsEnds nothing (record { calls = im_of_one; results = []; ending = failed }) }
-{}
-
-/// Where it answers 5, the result has both answers.
-pub fn effects_give_both()
-    ensures { EffectsEnds (just (one (v (pos 5)))) (record { calls = im_of_one; results = pair_of (pos 5) (pos 6) ∷ []; ending = ended }) }
-{}
-
-/// On 1 the bag is 4, 4 and 9; the run gives 9 first.
-pub fn multi_on_one()
-    ensures { MultiGives (pos 1) (pos 4 ∷ (pos 4 ∷ (pos 9 ∷ []))) (pos 9 ∷ (pos 4 ∷ (pos 4 ∷ []))) }
-{}
-
-/// Both are one bag.
-#[tactic(auto, using(crate::proofs::MultiCollected::on_one))]
-pub fn multi_on_one_collects()
-    ensures { MultiCollects (pos 1) }
-{}
-
-/// A run that stopped after the first answer would not collect the bag.
-#[tactic(auto, using(crate::proofs::MultiCollected::stopped))]
-pub fn stopped_is_not_the_bag()
-    ensures { MultiIsNot (pos 9 ∷ (pos 4 ∷ [])) }
-{}
-
-/// Nor would one with as many results, of which another stands twice.
-#[tactic(auto, using(crate::proofs::MultiCollected::exchanged))]
-pub fn exchanged_is_not_the_bag()
-    ensures { MultiIsNot (pos 9 ∷ (pos 9 ∷ (pos 4 ∷ []))) }
-{}
-
-/// On 2, where the call answers 7 alone, the bag is 7.
-#[tactic(auto, using(crate::proofs::MultiCollected::on_two))]
-pub fn multi_on_two()
-    ensures gives { MultiGives (pos 2) (pos 7 ∷ []) (pos 7 ∷ []) }
-    ensures collects { MultiCollects (pos 2) }
-{}
-
-/// On 3, where the call answers the empty list, there is no result.
-#[tactic(auto, using(crate::proofs::MultiCollected::on_three))]
-pub fn multi_on_three()
-    ensures gives { MultiGives (pos 3) [] [] }
-    ensures collects { MultiCollects (pos 3) }
-{}
-
-/// The meaning of the sample with an extractor has what its rules ask, and tells its constants apart.
-#[tactic(auto, using(crate::proofs::SamplesServed::extract_served))]
-pub fn extract_meaning_serves()
-    ensures { ExtractMeaningServes }
-{}
-
-/// A meaning without its literals and calls does not serve it.
-#[tactic(auto, using(crate::proofs::SamplesServed::blank_extract))]
-pub fn extract_without_all()
-    ensures { DoesNotServe extract_program blank (pos 7) }
-{}
-
-/// A meaning with its literals and without its calls does not either.
-#[tactic(auto, using(crate::proofs::SamplesServed::mute_extract))]
-pub fn extract_without_calls()
-    ensures { DoesNotServe extract_program extract_mute (pos 7) }
-{}
-
-/// The meaning of the sample with an impure call has what its rules ask, and tells its constants apart.
-#[tactic(auto, using(crate::proofs::SamplesServed::partial_served))]
-pub fn partial_is_served()
-    ensures { PartialIsServed }
-{}
-
-/// A meaning without its literals and calls does not serve it.
-#[tactic(auto, using(crate::proofs::SamplesServed::blank_partial))]
-pub fn partial_without_all()
-    ensures { DoesNotServe partial_program blank (pos 1) }
-{}
-
-/// A meaning with its literals and without its calls does not either.
-#[tactic(auto, using(crate::proofs::SamplesServed::mute_partial))]
-pub fn partial_without_calls()
-    ensures { DoesNotServe partial_program partial_mute (pos 1) }
-{}
-
-/// The meaning of the sample with a multi call has what its rules ask, and tells its constants apart.
-#[tactic(auto, using(crate::proofs::SamplesServed::multi_served))]
-pub fn multi_is_served()
-    ensures { MultiIsServed }
-{}
-
-/// A meaning without its literals and calls does not serve it.
-#[tactic(auto, using(crate::proofs::SamplesServed::blank_multi))]
-pub fn multi_without_all()
-    ensures { DoesNotServe multi_program blank (pos 1) }
-{}
-
-/// A meaning with its literals and without its calls does not either.
-#[tactic(auto, using(crate::proofs::SamplesServed::mute_multi))]
-pub fn multi_without_calls()
-    ensures { DoesNotServe multi_program multi_mute (pos 1) }
-{}
-
-/// A call that a rule makes twice on the same sites is one call: both take one answer.
-pub fn same_calls_are_one()
-    ensures { Gives twice (pos 1) (pos 44 ∷ (pos 55 ∷ [])) }
-{}
-
-/// So it is with a multi extractor.
-pub fn same_extractor_calls_are_one()
-    ensures { Gives extracted_twice (pos 1) (pos 44 ∷ (pos 55 ∷ [])) }
-{}
-
-/// Two impure calls on the same sites are two: each takes an answer of its own list.
-pub fn impure_calls_are_two()
-    ensures { Gives twice_impure (pos 1) (pos 46 ∷ (pos 47 ∷ (pos 56 ∷ (pos 57 ∷ [])))) }
-{}
-
-/// A call on another call's answer has a list for each of them.
-pub fn nested_calls_follow()
-    ensures { Gives nested (pos 1) (pos 6 ∷ (pos 7 ∷ (pos 8 ∷ []))) }
-{}
-
-/// A call that a right side leaves unused still gives a result for each answer.
-pub fn unused_calls_count()
-    ensures { Gives unused (pos 1) (pos 1 ∷ (pos 1 ∷ [])) }
-{}
-
-/// Where an argument of a condition's call has no value, the rule has no pick, and no result.
-pub fn calls_without_lists_give_nothing()
-    ensures { Gives condition (pos 2) [] }
-{}
-
-/// Where it has one, there is a result for each answer.
-pub fn calls_with_lists_give_all()
-    ensures { Gives condition (pos 1) (pos 8 ∷ []) }
-{}
-
-/// A condition whose value takes the call's answer leaves no call unused.
-pub fn used_condition_leaves_none()
-    ensures { LeavesNoCallUnused program condition }
-{}
-
-/// One whose value does not take the answer of its multi call leaves it unused.
-pub fn unused_condition_leaves_a_call()
-    ensures { LeavesACallUnused unused_condition }
-{}
-
-/// The multi sample's rules and set are such as a run collects, and the world serves the set.
-pub fn multi_is_collected()
-    ensures { MultiIsCollected }
-{}
-
-/// Its tree is sound.
-pub fn multi_is_sound()
-    ensures { MultiIsSound }
-{}
-
-/// A set with an impure site that none of its rules uses is such as a run collects, and a world where that call answers
-/// nothing serves it.
-#[tactic(auto, using(crate::proofs::LeftOver::left_over_is_collected_lem))]
-pub fn left_over_sites_are_harmless()
-    ensures { LeftOverIsCollected }
-{}
-
-/// The run of its tree collects the set's bag.
-#[tactic(auto, using(crate::proofs::LeftOver::left_over_collects_lem))]
-pub fn left_over_sites_are_not_run()
-    ensures { LeftOverCollects }
-{}
-
-/// A rule may demand every gate though an if-let of it leaves a multi call unused.
-#[tactic(auto, using(crate::proofs::LeftOver::demands_gates_though_lem))]
-pub fn unused_calls_may_demand_gates()
-    ensures { DemandsGatesThough }
-{}
-
-/// Its bag and the bag of its set have a result for each answer of the unused call.
-pub fn unused_calls_of_conditions_count()
-    ensures { UnusedGateGives }
-{}
-
-/// Definitions with an extractor have these typed rules.
-pub fn extract_is_read()
-    ensures { ExtractIsRead }
-{}
-
-/// Definitions with an impure call have these typed rules.
-pub fn partial_is_read()
-    ensures { PartialIsRead }
-{}
-
-/// Definitions with a multi call have these typed rules.
-pub fn multi_is_read()
-    ensures { MultiIsRead }
-{}
-
-/// Definitions whose rules overlap wrongly have typed rules too.
-pub fn overlap_is_read()
-    ensures { OverlapIsRead }
-{}
-
-/// Definitions of whose rules one shadows another have typed rules too.
-pub fn shadow_is_read()
-    ensures { ShadowIsRead }
-{}
-
-/// Definitions with a rule that demands that two arguments are equal have these typed rules.
-pub fn equal_is_read()
-    ensures { EqualIsRead }
-{}
-
-/// Definitions with a rule that matches a variant have this typed rule.
-pub fn variant_is_read()
-    ensures { VariantIsRead }
-{}
-
-/// Definitions with a multi call whose answer nothing uses have this typed rule.
-pub fn unused_is_read()
-    ensures { UnusedIsRead }
-{}
-
-/// Definitions with a term that is declared twice have no typed rules, nor have those with a variable that nothing binds.
-pub fn refused_are_not_read()
-    ensures { RefusedAreNotRead }
-{}
-
-/// A set is built of rules that test what an extractor answers.
-pub fn extract_is_built()
-    ensures { ExtractIsBuilt }
-{}
-
-/// A set is built of rules with an impure call.
-pub fn partial_is_built()
-    ensures { PartialIsBuilt }
-{}
-
-/// A set is built of rules that go over a multi call.
-pub fn multi_is_built()
-    ensures { MultiIsBuilt }
-{}
-
-/// A set is built of a rule that demands that two arguments are equal.
-pub fn equal_is_built()
-    ensures { EqualIsBuilt }
-{}
-
-/// A set is built of a rule that matches a variant.
-pub fn variant_is_built()
-    ensures { VariantIsBuilt }
-{}
-
-/// A set is built of a rule that uses no answer of a call, and doesn't demand what stands below that call.
-pub fn unused_is_built()
-    ensures { UnusedIsBuilt }
-{}
-
-/// A set isn't built where a constraint or a rule is left out, or where it has one site more.
-pub fn near_sets_are_not_built()
-    ensures { NearSetsAreNotBuilt }
-{}
-
-/// Definitions are accepted whose rules can be told apart.
-pub fn samples_are_accepted()
-    ensures { SamplesAreAccepted }
-{}
-
-/// Definitions are not accepted where two rules of one priority overlap.
-pub fn overlap_is_not_accepted()
-    ensures { OverlapIsNotAccepted }
-{}
-
-/// Rules can't be told apart where one shadows another.
-pub fn shadow_is_not_checkable()
-    ensures { ShadowIsNotCheckable }
-{}
-
-/// The trees that are printed for the samples' sets bind sites before they are used.
-pub fn printed_trees_bind()
-    ensures { PrintedTreesBind }
-{}
-
-/// Trees don't where a site isn't bound, is bound before what it is made of, or again; but a loop's call may be bound again.
-pub fn near_trees_do_not_bind()
-    ensures { NearTreesDoNotBind }
-{}
-
-/// Definitions whose rule leaves a multi call unused are lowered to a tree that doesn't go over the call.
-pub fn unused_is_lowered()
-    ensures { UnusedIsLowered }
-{}
-
-/// Lowering is refused by two types of one name, an unbound variable, a wrong overlap, a shadowed rule: with these reports.
-pub fn samples_are_refused()
-    ensures { SamplesAreRefused }
-{}
-
-/// The table and the names of a primitive type and an extern enum, which are valid.
-pub fn two_types()
-    ensures { TwoTypes }
-{}
-
-/// The table and the names of structs, one of them a tuple, whose types are named before they are defined.
-pub fn three_types()
-    ensures { ThreeTypes }
-{}
-
-/// A constant that is defined twice has the type of its last definition.
-pub fn constants()
-    ensures { Constants }
-{}
-
-/// Lists that break one demand on types each have no type table.
-pub fn refused_types()
-    ensures { RefusedTypes }
-{}
-
-/// The table of an external extractor and of a term with rules, which are valid and defined.
-pub fn by_function()
-    ensures { ByFunction }
-{}
-
-/// The table of an internal extractor, with its template, and of a converter by it, which are valid and defined.
-pub fn converted()
-    ensures { Converted }
-{}
-
-/// A template may use its argument twice.
-pub fn doubled()
-    ensures { Doubled }
-{}
-
-/// A template may call another internal extractor, and a surplus argument that it doesn't use is accepted.
-pub fn chained()
-    ensures { Chained }
-{}
-
-/// The table of external constructors and, after the declared terms, of a variant.
-pub fn effects()
-    ensures { Effects }
-{}
-
-/// The table of an external extractor that always answers.
-pub fn infallible()
-    ensures { Infallible }
-{}
-
-/// An external constructor may stand before its declaration.
-pub fn early()
-    ensures { Early }
-{}
-
-/// Two variants of one full name: the types are valid, but there is no term table.
-pub fn one_full_name()
-    ensures { OneFullName }
-{}
-
-/// The table of structs.
-pub fn structs()
-    ensures { Structs }
-{}
-
-/// The template of a pattern: what becomes an argument, and what is kept.
+#[tactic(auto, using(crate::proofs::AcceptedLists::constants_accepted))]
+pub fn named_constants()
+    ensures accepted { IsAcceptedBoth constants_defs constants_rules }
+{}
+
+/// A set with an impure site that none of its rules uses: a world where that call answers nothing serves it, and the
+/// run of its tree collects the bag.
+#[tactic(auto, using(crate::proofs::AcceptedLists::left_over_not_accepted, crate::proofs::LeftOver::left_over_built, crate::proofs::LeftOver::left_over_judged, crate::proofs::LeftOver::left_over_is_collected, crate::proofs::LeftOver::left_over_collects))]
+pub fn left_over_sample()
+    ensures not_accepted { IsNotAccepted left_over_defs left_over_rules }
+    ensures built { IsBuiltOf left_over_defs left_over_rules 1 left_over_set }
+    ensures tree { IsJudged left_over_set true left_over_tree }
+    ensures served { LeftOverIsCollected }
+    ensures collects { LeftOverCollects }
+{}
+
+/// A call that a rule makes twice on the same sites is one call, and so with an extractor; two impure calls are two. A
+/// call on another call's answer has a list for each of them.
+pub fn multi_calls()
+    ensures pure { Gives pure_twice (pos 1) (pos 44 ∷ pos 55 ∷ []) }
+    ensures extractors { Gives extracted_twice (pos 1) (pos 44 ∷ pos 55 ∷ []) }
+    ensures impure { Gives impure_twice (pos 1) (pos 46 ∷ pos 47 ∷ pos 56 ∷ pos 57 ∷ []) }
+    ensures nested { Gives call_in_call (pos 1) (pos 6 ∷ pos 7 ∷ pos 8 ∷ []) }
+{}
+
+/// A call that a right side or an if-let leaves unused still gives a result for each answer, and its rule may demand
+/// every gate. Where an argument of a condition's call has no value, the rule has no pick, and no result.
+#[tactic(auto, using(crate::proofs::MultiCalls::demands_gates_though, crate::proofs::MultiCalls::unused_condition_leaves_a_call))]
+pub fn unused_calls()
+    ensures count { Gives unused_let (pos 1) (pos 1 ∷ pos 1 ∷ []) }
+    ensures without_lists { Gives used_condition (pos 2) [] }
+    ensures with_lists { Gives used_condition (pos 1) (pos 8 ∷ []) }
+    ensures leaves_none { LeavesNoCallUnused calls_program used_condition }
+    ensures leaves_one { LeavesACallUnused unused_condition }
+    ensures gates { DemandsGatesThough }
+    ensures gate_gives { UnusedGateGives }
+{}
+
+/// Demands that two answers of a multi call meet in part hold under no pick; those that one answer meets hold under its
+/// pick.
+#[tactic(auto, using(crate::proofs::PickedAnswers::hold_under_no_pick_lem, crate::proofs::PickedAnswers::hold_under_one_pick_lem))]
+pub fn picked_answers()
+    ensures no_pick { HoldUnderNoPick }
+    ensures one_pick { HoldUnderOnePick }
+{}
+
+/// What has no typed rule: an if-let's expression that calls a term without a constructor, a partial call on the right
+/// side of a term that isn't partial, the name of an `@` that its own pattern binds, an integer literal as the whole
+/// expression of an if-let, a rule of a multi term with a priority, an argument of a template outside of one.
+#[tactic(auto, using(crate::proofs::NoRules::iflet_has_none, crate::proofs::NoRules::partial_has_none, crate::proofs::NoRules::bound_twice_has_none, crate::proofs::NoRules::literal_has_none, crate::proofs::NoRules::multi_priority_has_none, crate::proofs::NoRules::macro_arg_has_none))]
+pub fn no_rules()
+    ensures iflet { IfLetHasNone }
+    ensures partial { PartialHasNone }
+    ensures bound_twice { BoundTwiceHasNone }
+    ensures literal { LiteralHasNone }
+    ensures multi_priority { MultiPriorityHasNone }
+    ensures macro_arg { MacroArgHasNone }
+{}
+
+/// A pure partial call may stand in an if-let of a term that isn't partial.
+#[tactic(auto, using(crate::proofs::AcceptedLists::iflet_accepted))]
+pub fn iflets()
+    ensures accepted { IsAcceptedBoth iflet_defs iflet_rules }
+{}
+
+/// A let may bind a name anew, for its body alone; its name is met before its value and bound after it.
+#[tactic(auto, using(crate::proofs::AcceptedLists::shadowing_accepted, crate::proofs::AcceptedLists::let_in_let_accepted))]
+pub fn lets()
+    ensures shadow { IsAcceptedBoth shadowing_defs shadowing_rules }
+    ensures names { IsAcceptedBoth let_in_let_defs let_in_let_rules }
+{}
+
+/// A variable of another type is converted, but by no converter without a constructor; literals and constants stand at
+/// their own types alone; a conversion inside another one is nested in it.
+#[tactic(auto, using(crate::proofs::AcceptedLists::converted_accepted, crate::proofs::NoRules::converter_has_none, crate::proofs::NoRules::literals_are_not_converted))]
+pub fn conversions()
+    ensures converted { IsAcceptedBoth converted_defs converted_rules }
+    ensures without_constructor { ConverterHasNone }
+    ensures literals { LiteralsAreNotConverted }
+    ensures nest { ConversionsNest }
+{}
+
+/// A conversion that needs its own conversion has no typed rule, but where templates aren't expanded it has one.
+#[tactic(auto, using(crate::proofs::Expansions::endless_tables, crate::proofs::Expansions::endless_becomes))]
+pub fn endless()
+    ensures tables { EndlessTables }
+    ensures has_none { EndlessHasNone }
+    ensures becomes { EndlessBecomes }
+{}
+
+/// A template that uses its argument twice doubles the expansions inside: 16 nested uses are within the limit of
+/// 65,536, and 17 aren't; 256 expansions may nest, and no more. A variable of a template that is no argument is one of
+/// the rule.
+#[tactic(auto, using(crate::proofs::Expansions::doubled_tables, crate::proofs::Expansions::nested_uses_double, crate::proofs::Expansions::template_variables_are_the_rules))]
 pub fn templates()
-    ensures { Templates }
+    ensures tables { DoubledTables }
+    ensures double { ExpansionsDouble }
+    ensures nested { NestedUsesDouble }
+    ensures limit { LimitIsMet }
+    ensures nest { ManyMayNest }
+    ensures variables { TemplateVariablesAreTheRules }
 {}
 
-/// A term that nothing makes has a place in a valid table, but isn't defined.
-pub fn alone()
-    ensures { Alone }
+/// Rules that don't hang together are told apart; those that do may test an impure call, if an if-let isn't pure, and
+/// what they return may unwrap a call that nothing asks to answer. A term of 257 arguments passes the limit, and the
+/// 256 before it are walked.
+pub fn formed_rules()
+    ensures others { OthersAreNotFormed }
+    ensures impure { FormedRulesMayTestImpureCalls }
+    ensures unwrap { ResultsMayUnwrap }
+    ensures arguments { ArgumentsAreLimited }
 {}
 
-/// Lists that break one demand on terms each have no term table.
-pub fn refused_terms()
-    ensures { RefusedTerms }
+/// A term that is declared twice, or a variable that nothing binds, leaves a list without typed rules. Lowering is
+/// refused by two types of one name, an unbound variable, a wrong overlap, a shadowed rule: with these reports.
+#[tactic(auto, using(crate::proofs::Refused::refused_are_not_read, crate::proofs::Refused::samples_are_refused))]
+pub fn lists_refused()
+    ensures not_read { RefusedAreNotRead }
+    ensures lowering { SamplesAreRefused }
 {}
 
-/// A list may name a type that is handed in.
-pub fn types_handed_in()
-    ensures { TypesHandedIn }
+ghost use Rattle.isle_examples.specs.Mended.{AboveCallsNothingIsAsked, ThirdRulesDontCount};
+
+/// A world that has what tests ask may have no content for a construction above an impure call that is never made.
+#[tactic(auto, using(crate::proofs::Mended::above_calls_nothing_is_asked_lem))]
+pub fn above_calls_nothing_is_asked()
+    ensures { AboveCallsNothingIsAsked }
 {}
 
-/// A type that a list defines isn't known to its terms unless it is handed in.
-pub fn own_types_do_not_count()
-    ensures { OwnTypesDoNotCount }
-{}
-
-/// The names of terms go on after all names that were met before.
-pub fn names_go_on()
-    ensures { NamesGoOn }
-{}
-
-/// Types that break one demand each are not well formed.
-pub fn ill_formed()
-    ensures { IllFormed }
-{}
-
-/// The sample's tree answers 10 at 1, and 2 at 2: what no arm meets falls through to the return.
-pub fn fall_runs()
-    ensures { FallRuns }
-{}
-
-/// The sample with an extractor answers 10 where the call answers 1, what it answers otherwise, and nothing where it answers nothing.
-pub fn extract_runs()
-    ensures { ExtractRuns }
-{}
-
-/// Its rules go over no calls, and a world in which the call has an answer serves them, whatever the answer.
-pub fn extract_is_served()
-    ensures { ExtractIsServed }
-{}
-
-/// Its tree is sound.
-pub fn extract_is_sound()
-    ensures { ExtractIsSound }
-{}
-
-/// The rule of the sample with an impure call can be taken, and makes the call from whatever place it is taken.
-pub fn impure_is_called()
-    ensures { ImpureIsCalled }
-{}
-
-/// A rule that hangs together may test an impure call, if its if-let isn't pure.
-pub fn formed_rules_may_test_impure_calls()
-    ensures { FormedRulesMayTestImpureCalls }
-{}
-
-/// What a rule returns may unwrap a call that nothing asks to answer.
-pub fn results_may_unwrap()
-    ensures { ResultsMayUnwrap }
+/// Two rules of a term that use no multi extractor can be told apart though a third one uses one.
+#[tactic(auto, using(crate::proofs::Mended::third_rules_dont_count_lem))]
+pub fn third_rules_dont_count()
+    ensures { ThirdRulesDontCount }
 {}

@@ -12,7 +12,8 @@ use Rattle.isle_model.specs.trees.Run.{content_fields}
 use Rattle.isle_model.specs.sites.Serves.{holds_argument, holds_int}
 use Rattle.isle_model.specs.trees.Sound.{IsTested, SoundSteps, NoneHigher, AllAsk}
 use Rattle.isle_model.specs.first.Runs.{SiteHolds, MeetsDemands, taken_as, IsChoiceOf, IsConstant, IsFlatSite, IsFlatRule, IsFlat, IsServed}
-use Rattle.isle_examples.specs.FallRun.{ten_for_one, itself, fall, exchanged_tree, numbers, on_argument, answers}
+use Rattle.isle_examples.specs.MeaningForms.{answers}
+use Rattle.isle_examples.specs.Fall.{ten_for_one, itself, fall_set as fall, fall_returns_first as exchanged_tree, fall_meaning as numbers, fall_world as on_argument}
 use Rattle.isle_first.specs.FallLaws.{FallIsServed, FallIsSound, ExchangedIsNotSound}
 use Rattle.isle_model.proofs.Members.{nothing_in, in_head, in_alone, in_cases}
 use Rattle.isle_first.proofs.SoundRuns.{sound_tree_runs_lem}

@@ -2,7 +2,7 @@
 use Rattle.std.specs.Prelude.{ℤ, false}
 use Rattle.isle_model.specs.trees.Sound.{IsSound}
 use Rattle.isle_model.specs.first.Runs.{IsFlat, IsServed}
-use Rattle.isle_examples.specs.FallRun.{exchanged_tree, fall, fall_tree, on_argument}
+use Rattle.isle_examples.specs.Fall.{fall_returns_first as exchanged_tree, fall_set as fall, fall_tree, fall_world as on_argument}
 
 abbrev pub FallIsServed : Type 0
 FallIsServed = IsFlat fall × ((z : ℤ) → IsServed fall (on_argument z))

@@ -1,12 +1,23 @@
 -- Matching of simple rules.
 pub mod Answered
+pub mod BuiltMatches
+pub mod ClosedAlike
+pub mod ClosedDemands
+pub mod ConstrainedOnce
 pub mod Contents
 pub mod Demanded
 pub mod Exprs
+pub mod FormedDemands
 pub mod Grown
+pub mod NeverMatches
+pub mod NoMulti
+pub mod Numbers
 pub mod Patterns
 pub mod Rules
 pub mod SameExprs
+pub mod Shapes
+pub mod ToldApart
 pub mod TypedParts
+pub mod Unreachable
 pub mod Variables
 pub mod Visits

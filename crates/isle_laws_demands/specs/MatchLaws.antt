@@ -1,5 +1,5 @@
 -- What theory proves of matching by demands: of one rule, of its closed demands, of what can't be met, and of built sets.
-use Rattle.std.specs.Prelude.{◌≡◌, ◌↔◌, ℕ, Bool, List, Some, is_some, IsTrue, Contains}
+use Rattle.std.specs.Prelude.{[], ◌≡◌, ◌↔◌, ℕ, Bool, List, Some, is_some, IsTrue, Contains}
 use Rattle.isle_model.specs.lists.Syntax.{Definition}
 use Rattle.isle_model.specs.lists.Elaborated.{TypedRules}
 use Rattle.isle_model.specs.rules.Values.{Value, args_well_typed}
@@ -7,11 +7,16 @@ use Rattle.isle_model.specs.rules.Meaning.{many, Contents, Meaning}
 use Rattle.isle_model.specs.rules.Program.{Program, arg_types, rules_of}
 use Rattle.isle_model.specs.rules.Typed.{TypedRule}
 use Rattle.isle_model.specs.rules.Picks.{Pick, site_content, picks, matches_under}
-use Rattle.isle_model.specs.sites.Sites.{SiteTerm}
+use Rattle.isle_model.specs.sites.Sites.{SiteTerm, SiteSet}
 use Rattle.isle_model.specs.sites.Demands.{demands_of}
-use Rattle.isle_model.specs.sites.Closure.{DemandsHold}
-use Rattle.isle_model.specs.sites.Serves.{Serves}
+use Rattle.isle_model.specs.sites.Closure.{IsUnreachable, DemandsHold, closed, ClosedDemandsHold}
+use Rattle.isle_model.specs.sites.Overlap.{BuiltRule, built_rules}
+use Rattle.isle_model.specs.sites.RuleSets.{IsBuilt}
+use Rattle.isle_model.specs.sites.Serves.{Serves, TellsConstantsApart}
 use Rattle.isle_model.specs.claims.Environments.{TypesRead, IsElaborated, program_of}
+use Rattle.isle_model.specs.claims.Headline.{IsWithoutMulti}
+use Rattle.isle_model.specs.claims.SetMeanings.{MatchesByDemands, TellsRulesApart, TellsRulesWithoutCallsApart}
+use Rattle.isle_laws_demands.specs.ClosureLaws.{ClosedIsWhole}
 
 -- a rule on arguments of its term's types, a meaning that serves the rules of the term, and one of the rule's picks
 pub record IsTried (p : Program) (t : ℕ) (m : Meaning) (args : List Value) (r : TypedRule) (k : Pick) : Type 0 where
@@ -33,3 +38,46 @@ pub record MatchesByVisit (p : Program) (m : Meaning) (args : List Value) (r : T
 
 abbrev pub VisitsMatch : Type 0
 VisitsMatch = WhereTried (λ p t m args r k. MatchesByVisit p m args r k)
+
+-- where different constants have different values, a rule whose demands no values can meet doesn't match
+abbrev pub UnreachableRulesNeverMatch : Type 0
+UnreachableRulesNeverMatch =
+    WhereTried (λ p t m args r k. TellsConstantsApart p m (rules_of p t) → IsUnreachable (demands_of p r) → IsTrue (is_some (matches_under p m k r args)) → ⊥)
+
+-- the closed demands of a rule, after any sites, hold exactly where its demands do, if they are all that follows from these
+abbrev pub ClosedDemandsHoldAlike : Type 0
+ClosedDemandsHoldAlike =
+    WhereTried (λ p t m args r k. (before : List SiteTerm) → ClosedIsWhole (demands_of p r) (closed before (demands_of p r))
+    → DemandsHold m args k (demands_of p r) ↔ ClosedDemandsHold m args k (closed before (demands_of p r)))
+
+-- so those of each rule that is built of elaborated rules do
+abbrev pub BuiltDemandsHoldAlike : Type 0
+BuiltDemandsHoldAlike =
+    (e : TypesRead) (defs : List Definition) (expand : Bool) (rules : TypedRules) (t : ℕ) (m : Meaning) (args : List Value) (b : BuiltRule) (k : Pick)
+    → IsElaborated e defs expand rules → Contains (built_rules (program_of e defs rules.rules) t) b → IsTried (program_of e defs rules.rules) t m args b.rule k
+    → DemandsHold m args k (demands_of (program_of e defs rules.rules) b.rule) ↔ ClosedDemandsHold m args k b.demands
+
+-- and under each of its picks a rule of a set that is built of elaborated rules matches exactly where its demands hold
+abbrev pub BuiltSetsMatchByDemands : Type 0
+BuiltSetsMatchByDemands =
+    (e : TypesRead) (defs : List Definition) (expand : Bool) (rules : TypedRules) (t : ℕ) (set : SiteSet)
+    → IsElaborated e defs expand rules → IsBuilt (program_of e defs rules.rules) t set → MatchesByDemands (program_of e defs rules.rules) t set
+
+-- the closed demands of rules that are built of elaborated rules tell those apart that go over no calls
+abbrev pub BuiltRulesAreToldApart : Type 0
+BuiltRulesAreToldApart =
+    (e : TypesRead) (defs : List Definition) (expand : Bool) (rules : TypedRules) (t : ℕ)
+    → IsElaborated e defs expand rules → TellsRulesWithoutCallsApart (program_of e defs rules.rules) t
+
+-- the rules of a term that isn't multi and uses no multi extractor go over no calls
+abbrev pub RulesWithoutMultiGoOverNoCalls : Type 0
+RulesWithoutMultiGoOverNoCalls =
+    (e : TypesRead) (defs : List Definition) (expand : Bool) (rules : TypedRules) (t : ℕ)
+    → IsElaborated e defs expand rules → IsWithoutMulti (program_of e defs rules.rules) t
+    → (r : TypedRule) → Contains (rules_of (program_of e defs rules.rules) t) r → (demands_of (program_of e defs rules.rules) r).iterators ≡ []
+
+-- so they are told apart
+abbrev pub RulesWithoutMultiAreToldApart : Type 0
+RulesWithoutMultiAreToldApart =
+    (e : TypesRead) (defs : List Definition) (expand : Bool) (rules : TypedRules) (t : ℕ)
+    → IsElaborated e defs expand rules → TellsRulesApart (program_of e defs rules.rules) t

@@ -10,6 +10,7 @@ pub mod Classes
 pub mod Collected
 pub mod Contents
 pub mod Demanded
+pub mod FieldSites
 pub mod Fields
 pub mod Finding
 pub mod Left

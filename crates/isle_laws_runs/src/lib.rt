@@ -19,6 +19,7 @@ pub fn sound_trees_collect()
 {}
 
 /// A rule is without multi calls exactly where its demands go over no call.
+#[tactic(auto, using(crate::proofs::picks::OnePick::no_iterators, crate::proofs::picks::NoIterators::calls_no_multi))]
 pub fn no_multi_is_no_iterators()
     ensures { NoMultiIsNoIterators }
 {}
@@ -47,6 +48,7 @@ pub fn picks_are_exact()
 {}
 
 /// Of a pick only the places of its calls matter: two picks with the same places act alike, whatever their order.
+#[tactic(auto, using(crate::proofs::picks::SamePlaces::content_same, crate::proofs::picks::SamePlaces::matching_same, crate::proofs::picks::SamePlaces::ends_same))]
 pub fn only_places_matter()
     ensures { OnlyPlacesMatter }
 {}

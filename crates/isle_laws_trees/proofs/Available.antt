@@ -1,12 +1,12 @@
 -- What a rule tests is available once what brings it was tested.
-use Rattle.std.proofs.Common.{◌≡◌, ℕ, zero, suc, ◌+◌, ◌<◌, ◌≤◌, ◌==◌, Bool, true, false, not, ◌&&◌, List, [], ◌∷◌, length, Option, Some, None, slice_get, Contains, flat_map, refl, sym, ap, ◌∙◌, subst, inl, inr, arith, eqb-true, eq-eqb}
+use Rattle.std.proofs.Common.{◌≡◌, ℕ, zero, suc, ◌+◌, ◌<◌, ◌==◌, Bool, true, false, not, ◌&&◌, List, [], ◌∷◌, length, Option, Some, None, slice_get, Contains, flat_map, refl, sym, ap, ◌∙◌, subst, inl, inr, arith, eq-eqb}
 use Rattle.std.specs.List.{list_all}
-use Rattle.std.proofs.lemmas.Bool.{cases_Bool, cond-true, cond-false, and_parts, and_from, or_cases, or_left, or_right, false≢true, cases_lt}
-use Rattle.std.proofs.lemmas.Option.{none-some, same_Some, slice_get_within}
+use Rattle.std.proofs.lemmas.Bool.{and_parts, and_from, or_cases, or_left, or_right, false≢true, cases_lt}
+use Rattle.std.proofs.lemmas.Option.{slice_get_within}
 use Rattle.isle_model.specs.sites.Sites.{Site, iterator_site, match_variant_site, extract_struct_site, match_some_site, Constraint, is_variant, is_struct, is_present, SetRule, SiteSet, sources_of, sources_at}
-use Rattle.isle_model.specs.trees.Places.{Around, is_in, waits, is_available, available, below, is_variant_field, is_struct_field, is_part_of, site_from, each_field, fields_of, field_sites}
+use Rattle.isle_model.specs.trees.Places.{Around, is_in, waits, is_available, available, below, is_variant_field, is_struct_field, is_part_of, site_from, fields_of, field_sites}
 use Rattle.isle_model.specs.trees.WellBuilt.{IsWellBuilt}
-use Rattle.isle_laws_runs.proofs.runs.Fields.{site_found, field_listed, variant_field_same, struct_field_same, part_same}
+use Rattle.isle_laws_runs.proofs.runs.FieldSites.{site_found, field_listed, variant_field_same, struct_field_same, part_same}
 use Rattle.isle_model.proofs.Members.{nothing_in, in_head, in_tail, in_cases, member_found, each_passes, all_pass, in_flat_map, from_flat_map, member_is_in}
 use Rattle.isle_laws_trees.proofs.Gates.{variant_gate, struct_gate, answer_gate}
 use Rattle.isle_model.specs.sites.Gates.{gate_demanded}

@@ -1,12 +1,9 @@
 -- The tests of constraints and of lists of fields are exact.
-use Rattle.std.proofs.Common.{◌≡◌, ℕ, ◌==◌, true, ◌&&◌, List, [], ◌∷◌, Option, Some, None, slice_get, Decides, int_eq, refl, ap, subst, eqb-true, eq-eqb}
-use Rattle.std.proofs.Math.Bool.{beq}
-use Rattle.std.specs.Cmp.{booleans_Decides}
+use Rattle.std.proofs.Common.{◌≡◌, ℕ, true, List, [], ◌∷◌, Option, Some, None, slice_get, Decides, refl, ap, subst, eqb-true}
 use Rattle.std.specs.List.{list_all}
 use Rattle.std.proofs.lemmas.Bool.{and_parts, and_from, false≢true}
-use Rattle.std.proofs.lemmas.Bool.Decides.{Decides-int_eq}
 use Rattle.std.proofs.lemmas.Option.{none-some, same_Some}
-use Rattle.isle_model.specs.sites.Sites.{Constraint, is_variant, is_struct, is_bool, is_int, is_prim, is_present, SetRule}
+use Rattle.isle_model.specs.sites.Sites.{Constraint, SetRule}
 use Rattle.isle_model.specs.trees.Places.{constraint_at}
 use Rattle.isle_model.specs.sites.Demands.{constraint_eq}
 use Rattle.isle_model.specs.trees.Sound.{AllAsk}

@@ -53,8 +53,8 @@ decl_at d name args ret = record {
 }
 
 -- a rule without if-lets and without a name
-abbrev pub rule_at : ℕ → Option ℤ → List ℕ → PatternTrees → ExprTree → RuleTree
-rule_at d prio term args expr = record { pattern = term_pattern (name_at d term) args (at d); iflets = []; expr = expr; at = at d; prio = prio; name = None }
+abbrev pub plain_rule_at : ℕ → Option ℤ → List ℕ → PatternTrees → ExprTree → RuleTree
+plain_rule_at d prio term args expr = record { pattern = term_pattern (name_at d term) args (at d); iflets = []; expr = expr; at = at d; prio = prio; name = None }
 
 abbrev pub var_at : ℕ → List ℕ → PatternTree
 var_at d name = var_pattern (name_at d name) (at d)
@@ -66,8 +66,8 @@ use_at d name = var_expr (name_at d name) (at d)
 abbrev pub fall_definitions : List Definition
 fall_definitions =
     declaration (decl_at 0 (codes "f") (codes "u8" ∷ []) (codes "u8"))
-    ∷ (rule_definition (rule_at 1 (Some (pos 1)) (codes "f") (pattern_and (int_pattern (pos 1) (at 1)) no_pattern) (int_expr (pos 10) (at 1)))
-    ∷ (rule_definition (rule_at 2 None (codes "f") (pattern_and (var_at 2 (codes "x")) no_pattern) (use_at 2 (codes "x"))) ∷ []))
+    ∷ (rule_definition (plain_rule_at 1 (Some (pos 1)) (codes "f") (pattern_and (int_pattern (pos 1) (at 1)) no_pattern) (int_expr (pos 10) (at 1)))
+    ∷ (rule_definition (plain_rule_at 2 None (codes "f") (pattern_and (var_at 2 (codes "x")) no_pattern) (use_at 2 (codes "x"))) ∷ []))
 
 -- the variants of the second type below
 abbrev pub types_variant_b : VariantTree

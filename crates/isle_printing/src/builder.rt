@@ -3,7 +3,7 @@
 ghost use Rattle.std.specs.Prelude.{◌≡◌, [], IfOk, OnOk, OnErr, map, length};
 ghost use Rattle.isle_base.specs.SyntaxViews.{decl_view, definition_view, definition_views, expr_view, field_view, fields_view, name_view, pattern_view, pattern_views, position, rule_view, type_value_view, variant_view};
 ghost use Rattle.isle_model.specs.lists.Syntax.{declaration, int_expr, int_pattern, rule_definition, struct_fields, wildcard_pattern};
-ghost use Rattle.isle_printing.specs.Written.{WritesOne, at, decl_at, field_in, name_at, name_in, primitive_at, rule_at, type_in, use_at, var_at, variant_in, written};
+ghost use Rattle.isle_printing.specs.Written.{WritesOne, at, decl_at, field_in, name_at, name_in, primitive_at, plain_rule_at, type_in, use_at, var_at, variant_in, written};
 
 use isle_base::syntax::{
     Decl, Def, Expr, Fields, Ident, Pattern, Pos, Rule, StructField, StructFields, Type, TypeValue,
@@ -188,7 +188,7 @@ impl Definitions {
         args: Vec<Pattern>,
         expr: Expr,
     ) -> Result<Rule, AllocError>
-        ensures { IfOk result (λ r. rule_view r ≡ rule_at (length (written self.now)) prio term.now (pattern_views args.items) (expr_view expr)) }
+        ensures { IfOk result (λ r. rule_view r ≡ plain_rule_at (length (written self.now)) prio term.now (pattern_views args.items) (expr_view expr)) }
     {
         let pos = self.pos();
         let pattern = Pattern::Term {
@@ -214,7 +214,7 @@ impl Definitions {
         args: Vec<Pattern>,
         expr: Expr,
     ) -> Result<(), AllocError>
-        ensures added { OnOk result (WritesOne self.old self.new (λ d. rule_definition (rule_at d prio term.now (pattern_views args.items) (expr_view expr)))) }
+        ensures added { OnOk result (WritesOne self.old self.new (λ d. rule_definition (plain_rule_at d prio term.now (pattern_views args.items) (expr_view expr)))) }
         ensures err { OnErr result (written self.new ≡ written self.old) }
     {
         let rule = self.rule_of(prio, term, args, expr)?;

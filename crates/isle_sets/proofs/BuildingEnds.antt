@@ -20,7 +20,7 @@ use Rattle.isle_base.specs.Answers.{limit_of}
 use Rattle.isle_base.specs.declared.syntax.Error.{Error}
 use Rattle.isle_base.specs.declared.syntax.Limit.{Limit}
 use Rattle.isle_base.specs.declared.syntax.Limit.TheVariants.{Arguments, Sites}
-use Rattle.isle_sets.specs.Buildings.{IsPassed, AreSetsOf, BuildsAll, has_rules, sets_at, sets_below, Fits, SaysPassed, BuildsBelow, IsWhole, Adds, Exceeds, NoClash}
+use Rattle.isle_sets.specs.Buildings.{IsPassed, AreSetsOf, BuildsAll, term_has_rules, sets_at, sets_below, Fits, SaysPassed, BuildsBelow, IsWhole, Adds, Exceeds, NoClash}
 
 -- 1. a term has rules where its list isn't empty
 no_cons : {X : Type 0} (x : X) (xs : List X) → x ∷ xs ≢ []
@@ -46,13 +46,13 @@ none_kept t (r ∷ rs) h =
           ∙ none_kept t rs (sym (ap (λ b. b || list_any (λ r. r.root_term == t) rs) n) ∙ h)
     ]
 
-pub with_rules_has : (p : Program) (t : ℕ) → rules_of p t ≢ [] → has_rules p t ≡ true
+pub with_rules_has : (p : Program) (t : ℕ) → rules_of p t ≢ [] → term_has_rules p t ≡ true
 with_rules_has p t some =
-    elim (cases_Bool (has_rules p t)) [ inl h ↦ h | inr h ↦ absurd (some (none_kept t p.rules h)) ]
+    elim (cases_Bool (term_has_rules p t)) [ inl h ↦ h | inr h ↦ absurd (some (none_kept t p.rules h)) ]
 
-pub without_rules : (p : Program) (t : ℕ) → rules_of p t ≡ [] → has_rules p t ≡ false
+pub without_rules : (p : Program) (t : ℕ) → rules_of p t ≡ [] → term_has_rules p t ≡ false
 without_rules p t e =
-    elim (cases_Bool (has_rules p t)) [ inl h ↦ absurd (kept_some t p.rules h e) | inr h ↦ h ]
+    elim (cases_Bool (term_has_rules p t)) [ inl h ↦ absurd (kept_some t p.rules h e) | inr h ↦ h ]
 
 -- a rule of the term, where it has rules
 rule_among : (t : ℕ) (rs : List TypedRule) → list_any (λ r. r.root_term == t) rs ≡ true → (r : TypedRule) × Contains rs r × (r.root_term ≡ t)
@@ -91,31 +91,31 @@ all_numbers : {X : Type 0} (xs : List X) → numbers_from 0 xs ≡ below (length
 all_numbers xs = let e : 0 + length xs ≡ length xs = omega arith in numbers_are 0 xs ∙ ap below e
 
 module _ (p : Program) where
-  terms_at : (n : ℕ) → map (λ b. b.0) (sets_at p n) ≡ filter (has_rules p) (n ∷ [])
+  terms_at : (n : ℕ) → map (λ b. b.0) (sets_at p n) ≡ filter (term_has_rules p) (n ∷ [])
   terms_at n =
-      elim (cases_Bool (has_rules p n)) [
-        | inl h ↦ ap (map (λ b. b.0)) (cond-true (has_rules p n) ((n, set_of p n) ∷ []) [] h) ∙ sym (cond-true (has_rules p n) (n ∷ []) [] h)
-        | inr h ↦ ap (map (λ b. b.0)) (cond-false (has_rules p n) ((n, set_of p n) ∷ []) [] h) ∙ sym (cond-false (has_rules p n) (n ∷ []) [] h)
+      elim (cases_Bool (term_has_rules p n)) [
+        | inl h ↦ ap (map (λ b. b.0)) (cond-true (term_has_rules p n) ((n, set_of p n) ∷ []) [] h) ∙ sym (cond-true (term_has_rules p n) (n ∷ []) [] h)
+        | inr h ↦ ap (map (λ b. b.0)) (cond-false (term_has_rules p n) ((n, set_of p n) ∷ []) [] h) ∙ sym (cond-false (term_has_rules p n) (n ∷ []) [] h)
       ]
 
-  terms_below : (n : ℕ) → map (λ b. b.0) (sets_below p n) ≡ filter (has_rules p) (below n)
+  terms_below : (n : ℕ) → map (λ b. b.0) (sets_below p n) ≡ filter (term_has_rules p) (below n)
   unfolding sets_below
   terms_below zero = refl
   terms_below (suc n) =
       map-append (λ b. b.0) (sets_below p n) (sets_at p n)
       ∙ ap₂ ◌++◌ (terms_below n) (terms_at n)
-      ∙ sym (filter-append (has_rules p) (below n) (n ∷ []))
+      ∙ sym (filter-append (term_has_rules p) (below n) (n ∷ []))
 
   terms_are : map (λ b. b.0) (sets_below p (length p.terms)) ≡ terms_with_rules p
-  terms_are = terms_below (length p.terms) ∙ sym (ap (filter (has_rules p)) (all_numbers p.terms))
+  terms_are = terms_below (length p.terms) ∙ sym (ap (filter (term_has_rules p)) (all_numbers p.terms))
 
   -- 3. each set is built
-  module _ (Q : ℕ × SiteSet → Type 0) (each : (t : ℕ) → has_rules p t ≡ true → Q (t, set_of p t)) where
+  module _ (Q : ℕ × SiteSet → Type 0) (each : (t : ℕ) → term_has_rules p t ≡ true → Q (t, set_of p t)) where
     all_at : (n : ℕ) → All Q (sets_at p n)
     all_at n =
-        elim (cases_Bool (has_rules p n)) [
-          | inl h ↦ subst (All Q) (sym (cond-true (has_rules p n) ((n, set_of p n) ∷ []) [] h)) (All-cons Q (n, set_of p n) [] (each n h) (All-nil Q))
-          | inr h ↦ subst (All Q) (sym (cond-false (has_rules p n) ((n, set_of p n) ∷ []) [] h)) (All-nil Q)
+        elim (cases_Bool (term_has_rules p n)) [
+          | inl h ↦ subst (All Q) (sym (cond-true (term_has_rules p n) ((n, set_of p n) ∷ []) [] h)) (All-cons Q (n, set_of p n) [] (each n h) (All-nil Q))
+          | inr h ↦ subst (All Q) (sym (cond-false (term_has_rules p n) ((n, set_of p n) ∷ []) [] h)) (All-nil Q)
         ]
 
     all_below : (n : ℕ) → All Q (sets_below p n)
@@ -134,7 +134,7 @@ module _ (p : Program) where
 
     few_sites : ((t : ℕ) → t < length p.terms → Fits p t) → PassesSitesOfProgram p → ⊥
     few_sites fits h =
-        elim (cases_Bool (has_rules p h.term)) [
+        elim (cases_Bool (term_has_rules p h.term)) [
           | inl y ↦
               let r = rule_among h.term p.rules y in
               let w : r.0.root_term < length p.terms = All-contains (λ r. r.root_term < length p.terms) p.rules r.0 known r.1 in
@@ -200,28 +200,28 @@ module _ (p : Program) where
     no_set e =
         let f = without_rules p n e in
         record {
-          exact = λ z. b.exact z ∙ sym (append-nil (sets_below p n)) ∙ ap (λ l. sets_below p n ++ l) (sym (cond-false (has_rules p n) ((n, set_of p n) ∷ []) [] f)) ∙ ap (sets_below p) (sym (add-one n));
-          fits = λ z. fits_more (n + 1) refl (b.fits z) (λ h. absurd (both_ways (has_rules p n) f h));
+          exact = λ z. b.exact z ∙ sym (append-nil (sets_below p n)) ∙ ap (λ l. sets_below p n ++ l) (sym (cond-false (term_has_rules p n) ((n, set_of p n) ∷ []) [] f)) ∙ ap (sets_below p) (sym (add-one n));
+          fits = λ z. fits_more (n + 1) refl (b.fits z) (λ h. absurd (both_ways (term_has_rules p n) f h));
           says = b.says;
         }
 
-    says_of : (e : Error) (t : TypedRule) → Contains p.rules t → t.root_term ≡ n → IsTrue (has_rules p n) → All (IsSimpleRule p) p.rules → (o : Option Limit) → Exceeds (length (arg_types p n)) (rules_of p n) o → SaysPassed p o
+    says_of : (e : Error) (t : TypedRule) → Contains p.rules t → t.root_term ≡ n → IsTrue (term_has_rules p n) → All (IsSimpleRule p) p.rules → (o : Option Limit) → Exceeds (length (arg_types p n)) (rules_of p n) o → SaysPassed p o
     says_of e t c r h s None x = absurd x
     says_of e t c r h s (Some Arguments) x = record { rule = t; there = c; many = subst (λ k. 256 < length (arg_types p k)) (sym r) x }
     says_of e t c r h s (Some Sites) x =
         let m = counts_sites p n s (kept_some n p.rules h) in record { term = n; many = omega (arith, m, x) }
     says_of e t c r h s (Some _) x = absurd x
 
-    says_all : IsTrue (has_rules p n) → All (IsSimpleRule p) p.rules → (es : List Error) → All (λ e. Exceeds (length (arg_types p n)) (rules_of p n) (limit_of e)) es → All (λ e. SaysPassed p (limit_of e)) es
+    says_all : IsTrue (term_has_rules p n) → All (IsSimpleRule p) p.rules → (es : List Error) → All (λ e. Exceeds (length (arg_types p n)) (rules_of p n) (limit_of e)) es → All (λ e. SaysPassed p (limit_of e)) es
     says_all h s es a =
         let r = rule_among n p.rules h in
         All-weaker (λ e. Exceeds (length (arg_types p n)) (rules_of p n) (limit_of e)) (λ e. SaysPassed p (limit_of e)) (λ e x. says_of e r.0 r.1 r.2 h s (limit_of e) x) es a
 
-    one_set : All (IsSimpleRule p) p.rules → (set : SiteSet) (after : List Error) → IsTrue (has_rules p n) → Adds errors after (IsWhole (length (arg_types p n)) (rules_of p n) set) (λ e. Exceeds (length (arg_types p n)) (rules_of p n) (limit_of e)) → BuildsBelow p (n + 1) (sets ++ (n, set) ∷ []) after
+    one_set : All (IsSimpleRule p) p.rules → (set : SiteSet) (after : List Error) → IsTrue (term_has_rules p n) → Adds errors after (IsWhole (length (arg_types p n)) (rules_of p n) set) (λ e. Exceeds (length (arg_types p n)) (rules_of p n) (limit_of e)) → BuildsBelow p (n + 1) (sets ++ (n, set) ∷ []) after
     unfolding sets_below
     one_set s set after h (inl x) = record {
       exact = λ z.
-          ap₂ ◌++◌ (b.exact (sym x.0 ∙ z)) ((λ k. (n, x.1.0 k) ∷ []) ∙ sym (cond-true (has_rules p n) ((n, set_of p n) ∷ []) [] h))
+          ap₂ ◌++◌ (b.exact (sym x.0 ∙ z)) ((λ k. (n, x.1.0 k) ∷ []) ∙ sym (cond-true (term_has_rules p n) ((n, set_of p n) ∷ []) [] h))
           ∙ ap (sets_below p) (sym (add-one n));
       fits = λ z. fits_more (n + 1) refl (b.fits (sym x.0 ∙ z)) (λ y. (x.1.1, subst (λ w. length w.sites ≤ 65536) x.1.0 x.1.2));
       says = subst (All (λ e. SaysPassed p (limit_of e))) (sym x.0) b.says;
@@ -267,12 +267,12 @@ module _ (p : Program) where
       (shows_overlaps p b.0 s i j).0 (subst (λ set. ClashAt set.rules i j) is c)
 
   -- a term that two rules of which overlap wrongly has a set
-  found_below : (n t : ℕ) → t < n → has_rules p t ≡ true → Contains (sets_below p n) (t, set_of p t)
+  found_below : (n t : ℕ) → t < n → term_has_rules p t ≡ true → Contains (sets_below p n) (t, set_of p t)
   unfolding sets_below
   found_below zero t h y = absurd (omega arith)
   found_below (suc n) t h y =
       elim (cases_Bool (t == n)) [
-        | inl e ↦ Contains-append_right (sets_below p n) (sets_at p n) (t, set_of p t) (subst (λ k. Contains (sets_at p k) (t, set_of p t)) (eqb-true t n e) (subst (λ l. Contains l (t, set_of p t)) (sym (cond-true (has_rules p t) ((t, set_of p t) ∷ []) [] y)) (0, omega arith, refl)))
+        | inl e ↦ Contains-append_right (sets_below p n) (sets_at p n) (t, set_of p t) (subst (λ k. Contains (sets_at p k) (t, set_of p t)) (eqb-true t n e) (subst (λ l. Contains l (t, set_of p t)) (sym (cond-true (term_has_rules p t) ((t, set_of p t) ∷ []) [] y)) (0, omega arith, refl)))
         | inr k ↦ Contains-append_left (sets_below p n) (sets_at p n) (t, set_of p t) (found_below n t (let d : t ≡ n → ⊥ = λ (d : t ≡ n). both_ways (t == n) k (eq-eqb t n d) in omega arith) y)
       ]
 

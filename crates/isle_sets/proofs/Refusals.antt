@@ -1,6 +1,6 @@
 -- When the sets of a program are answered, and when errors are.
-use Rattle.std.proofs.Common.{◌≡◌, ◌==◌, ◌⊎◌, ℕ, ◌<◌, false, List, [], ◌∷◌, ◌++◌, length, map, None, refl, sym, ◌∙◌, subst, inl, inr}
-use Rattle.std.specs.Prelude.{◌≢◌, All}
+use Rattle.std.proofs.Common.{◌≡◌, ◌==◌, ◌⊎◌, ℕ, ◌<◌, false, List, [], ◌∷◌, ◌++◌, length, None, refl, sym, ◌∙◌, subst, inl, inr}
+use Rattle.std.specs.Prelude.{◌≢◌, All, vec_len}
 use Rattle.std.proofs.lemmas.List.{length-map}
 use Rattle.std.proofs.lemmas.List.Elements.{All-push}
 use Rattle.isle_model.specs.rules.Typed.{TypedRule}
@@ -11,7 +11,9 @@ use Rattle.isle_model.specs.lists.Syntax.{Position}
 use Rattle.isle_model.specs.first.Simple.{IsSimpleRule}
 use Rattle.isle_model.specs.sites.Sites.{SiteSet}
 use Rattle.isle_model.specs.rules.Program.{Program}
-use Rattle.isle_sets.specs.Buildings.{IsPassed, AreSetsOf, BuildsAll, IsOverlapError, ChecksOverlaps}
+use Rattle.isle_terms.specs.TermViews.{term_view}
+use Rattle.isle_rules.specs.declared.term_env.TermEnv.{TermEnv}
+use Rattle.isle_sets.specs.Buildings.{env_program, IsPassed, AreSetsOf, BuildsAll, IsOverlapError, ChecksOverlaps}
 use Rattle.isle_sets.specs.Clashes.{IsSimplyBuildable}
 use Rattle.isle_sets.proofs.BuildingEnds.{wrong_overlap, no_wrong_overlap}
 
@@ -56,8 +58,8 @@ module _ (p : Program) (sets : List (ℕ × SiteSet)) (before after : List Error
       (All-push (λ e. IsPassed p (limit_of e)) before o.added.0 built.limits (subst (IsPassed p) (sym none) tt))
 
 -- the number of terms is that of their views
-pub known_views : {X Y : Type 0} (f : X → Y) (xs : List X) (n : ℕ) → n ≡ length xs → (rs : List TypedRule) → All (λ r. r.root_term < n) rs → All (λ r. r.root_term < length (map f xs)) rs
-known_views f xs n e rs h = subst (λ k. All (λ r. r.root_term < k) rs) (e ∙ sym (length-map xs f)) h
+pub known_views : (env : TermEnv) → vec_len env.terms ≡ length env.terms.items → (rs : List TypedRule) → All (λ r. r.root_term < vec_len env.terms) rs → All (λ r. r.root_term < length (env_program env).terms) rs
+known_views env e rs h = subst (λ k. All (λ r. r.root_term < k) rs) (e ∙ sym (length-map env.terms.items term_view)) h
 
 pub not_zero : (n : ℕ) → (n == 0) ≡ false → n ≡ 0 → ⊥
 not_zero n h e = let t : (0 == 0) ≡ false = subst (λ k. (k == 0) ≡ false) e h in cc

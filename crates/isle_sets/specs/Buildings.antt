@@ -44,11 +44,11 @@ IsPassed p (Some Sites) = PassesSitesOfProgram p
 IsPassed p (Some _) = ⊥
 
 -- the sets of the terms below n that have rules, ascending
-abbrev pub has_rules : Program → ℕ → Bool
-has_rules p t = list_any (λ r. r.root_term == t) p.rules
+abbrev pub term_has_rules : Program → ℕ → Bool
+term_has_rules p t = list_any (λ r. r.root_term == t) p.rules
 
 abbrev pub sets_at : Program → ℕ → List (ℕ × SiteSet)
-sets_at p t = if has_rules p t then (t, set_of p t) ∷ [] else []
+sets_at p t = if term_has_rules p t then (t, set_of p t) ∷ [] else []
 
 unfoldable pub sets_below : Program → ℕ → List (ℕ × SiteSet)
 sets_below p zero = []
@@ -84,12 +84,12 @@ with_result t n = record {
 }
 
 -- the set after one more rule
-abbrev pub with_rule : SiteSet → TypedRule → SiteSet
-with_rule set t = record { rules = set.rules ++ built_simple_rule set.sites t ∷ []; sites = with_value set.sites t.rhs }
+abbrev pub set_with_rule : SiteSet → TypedRule → SiteSet
+set_with_rule set t = record { rules = set.rules ++ built_simple_rule set.sites t ∷ []; sites = with_value set.sites t.rhs }
 
-abbrev pub with_rules : SiteSet → List TypedRule → SiteSet
-with_rules set [] = set
-with_rules set (t ∷ ts) = with_rules (with_rule set t) ts
+abbrev pub set_with_rules : SiteSet → List TypedRule → SiteSet
+set_with_rules set [] = set
+set_with_rules set (t ∷ ts) = set_with_rules (set_with_rule set t) ts
 
 -- the number of a right side's site, which has a place in the sites after it; or there are too many
 abbrev pub IsValueSite : List Site → TypedRule → List Site → Option ℕ → Type 0
@@ -121,14 +121,14 @@ AddsEach before after n P = (es : List Error) × (after ≡ before ++ es) × (le
 abbrev pub AddsRules : SiteSet → List Error → List Error → (SiteSet → Type 0) → Type 0
 AddsRules whole before after P = Adds before after (P whole) (λ e. (limit_of e ≡ Some Sites) × (65536 < length whole.sites))
 
-abbrev pub AddsAllRules : SiteSet → List TypedRule → List Error → List Error → SiteSet → Type 0
-AddsAllRules set ts before after new = AddsRules (with_rules set ts) before after (λ whole. new ≡ whole)
+abbrev pub AddsAllToSet : SiteSet → List TypedRule → List Error → List Error → SiteSet → Type 0
+AddsAllToSet set ts before after new = AddsRules (set_with_rules set ts) before after (λ whole. new ≡ whole)
 
 -- a rule is added to a set, or the error that there are too many sites with it
-abbrev pub AddsRule : SiteSet → TypedRule → List Error → List Error → SiteSet → Type 0
-AddsRule set t before after new =
-    ((after ≡ before) × (new ≡ with_rule set t))
-    ⊎ (AddsOne before after (λ e. limit_of e ≡ Some Sites) × (65536 < length (with_rule set t).sites))
+abbrev pub AddsToSet : SiteSet → TypedRule → List Error → List Error → SiteSet → Type 0
+AddsToSet set t before after new =
+    ((after ≡ before) × (new ≡ set_with_rule set t))
+    ⊎ (AddsOne before after (λ e. limit_of e ≡ Some Sites) × (65536 < length (set_with_rule set t).sites))
 
 -- the limit that the set of rules with n arguments passes
 abbrev pub Exceeds : ℕ → List TypedRule → Option Limit → Type 0
@@ -141,7 +141,7 @@ IsWhole n ts set = (set ≡ built_set n ts) × (n ≤ 256) × (length set.sites 
 
 -- no limit is passed by the set of a term
 abbrev pub Fits : Program → ℕ → Type 0
-Fits p t = IsTrue (has_rules p t) → (length (arg_types p t) ≤ 256) × (length (set_of p t).sites ≤ 65536)
+Fits p t = IsTrue (term_has_rules p t) → (length (arg_types p t) ≤ 256) × (length (set_of p t).sites ≤ 65536)
 
 abbrev pub SaysPassed : Program → Option Limit → Type 0
 SaysPassed p None = ⊥

@@ -49,8 +49,8 @@ passing_below zero p = []
 passing_below (suc n) p = passing_below n p ++ (if p n then n ∷ [] else [])
 
 -- the sites of a set, ascending: each site's number fits in 16 bits
-abbrev pub sites_in : Members ℕ → List ℕ
-sites_in s = passing_below 65536 (contains ◌==◌ s)
+abbrev pub member_sites : Members ℕ → List ℕ
+member_sites s = passing_below 65536 (contains ◌==◌ s)
 
 abbrev pub set_rule_view : Rule → SetRule
 set_rule_view r = record {
@@ -60,7 +60,7 @@ set_rule_view r = record {
   name = option_map (λ s. s.0) r.name;
   constraints = constraint_views r.constraints.items;
   classes = r.equals;
-  iterators = sites_in r.iterators;
+  iterators = member_sites r.iterators;
   impure = r.impure.items;
   result = r.result;
 }

@@ -1,7 +1,7 @@
 //! The rule sets of the terms of an environment, and the check that no two rules of one priority may match
 //! together. For rules whose patterns are integers, wildcards and variables, and that make an integer or a
 //! variable.
-ghost use Rattle.std.specs.Prelude.{◌≡◌, ◌⊎◌, ◌==◌, ◌+◌, ℕ, ◌<◌, ◌≤◌, ◌++◌, length, map, Some, All, IfOk, OnOk, MatchOption, vec_len};
+ghost use Rattle.std.specs.Prelude.{◌≡◌, ◌==◌, ◌+◌, ℕ, ◌<◌, ◌≤◌, ◌++◌, length, map, Some, All, IfOk, OnOk, MatchOption, vec_len};
 ghost use Rattle.std.specs.List.{filter, list_any};
 ghost use Rattle.isle_base.specs.Answers.{Answers, OnErrors, limit_of};
 ghost use Rattle.isle_base.specs.SyntaxViews.{position};
@@ -13,7 +13,7 @@ ghost use Rattle.isle_rules.specs.PatternViews.{pattern_view, pattern_views};
 ghost use Rattle.isle_rules.specs.ExprViews.{expr_view};
 ghost use Rattle.isle_rules.specs.RuleViews.{rule_view, rule_views};
 ghost use Rattle.isle_sets.specs.SiteViews.{site_view, site_views, constraint_view, constraint_views, set_rule_view, set_rule_views, set_view};
-ghost use Rattle.isle_sets.specs.Buildings.{env_program, term_set_views, AreSetsOf, IsPassed, BuildsAll, BuildsBelow, with_result, IsValueSite, IsSimpleWithArguments, IsLimitError, AddsOne, Adds, Exceeds, IsWhole, AddsEach, AddsRule, AddsAllRules, IsOverlapError, ChecksOverlaps};
+ghost use Rattle.isle_sets.specs.Buildings.{env_program, term_set_views, AreSetsOf, IsPassed, BuildsAll, BuildsBelow, with_result, IsValueSite, IsSimpleWithArguments, IsLimitError, AddsOne, Adds, Exceeds, IsWhole, AddsEach, AddsToSet, AddsAllToSet, IsOverlapError, ChecksOverlaps};
 ghost use Rattle.isle_sets.specs.Clashes.{IsSimplyBuildable};
 
 use crate::trie_again::{self, Binding, BindingId, Constraint, RuleSet, TupleIndex};
@@ -199,7 +199,7 @@ fn add_rule(
     requires room { vec_len set.old.bindings ≤ 65536 }
     ensures room { OnOk result (vec_len set.new.bindings ≤ 65536) }
     ensures outcome { OnOk result
-        (AddsRule (set_view set.old) (rule_view rule.now) errors.old.items errors.new.items (set_view set.new)) }
+        (AddsToSet (set_view set.old) (rule_view rule.now) errors.old.items errors.new.items (set_view set.new)) }
 {
     let Some(site) = value_site(&mut set.bindings, rule)? else {
         return report_limit(
@@ -225,7 +225,7 @@ fn add_rules(
     requires room { vec_len set.old.bindings ≤ 65536 }
     ensures room { OnOk result (vec_len set.new.bindings ≤ 65536) }
     ensures outcome { OnOk result
-        (AddsAllRules (set_view set.old) (map (λ r. rule_view r.now) rules.now) errors.old.items errors.new.items (set_view set.new)) }
+        (AddsAllToSet (set_view set.old) (map (λ r. rule_view r.now) rules.now) errors.old.items errors.new.items (set_view set.new)) }
 {
     for rule in rules {
         add_rule(alloc, rule, set, errors)?;

@@ -4,7 +4,7 @@ ghost use Rattle.std.specs.Prelude.{◌≡◌, ◌<◌, ◌^◌, option_map};
 ghost use Rattle.std.specs.Result.{OkIff};
 ghost use Rattle.isle_model.specs.trees.Places.{constraint_at};
 ghost use Rattle.isle_model.specs.sites.Sites.{sources_of};
-ghost use Rattle.isle_sets.specs.SiteViews.{site_view, constraint_view, constraint_views, set_rule_view, set_view, empty_rule, empty_set};
+ghost use Rattle.isle_sets.specs.SiteViews.{site_view, constraint_view, set_rule_view, set_view, empty_rule, empty_set};
 
 use isle_base::disjointsets::DisjointSets;
 use isle_base::stablemapset::StableSet;

@@ -36,8 +36,8 @@ abbrev pub VariantsAreRead : List ℕ → List VariantTree → Option (List Vari
 VariantsAreRead ty vs o old es new es' = (defs : List Definition) → Sees old (all_type_names defs) → ReadsVariants defs ty vs o old es new es'
 
 -- a variant of this id, after those whose names were seen
-abbrev pub VariantIsRead : List ℕ → ℕ → VariantTree → Option Variant → TypeEnv → List Error → Members Sym → TypeEnv → List Error → Members Sym → Type 0
-VariantIsRead ty id v o old es seen new es' seen' =
+abbrev pub OneVariantIsRead : List ℕ → ℕ → VariantTree → Option Variant → TypeEnv → List Error → Members Sym → TypeEnv → List Error → Members Sym → Type 0
+OneVariantIsRead ty id v o old es seen new es' seen' =
     (defs : List Definition) (earlier : List (List ℕ)) → Sees old (all_type_names defs) → HasSeen (names_of old) seen earlier → ReadsVariant defs ty id v earlier o old es new es' seen'
 
 -- what the type of a definition is, where the name of the type was met

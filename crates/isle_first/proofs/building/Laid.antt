@@ -1,8 +1,7 @@
 -- Sites of simple rules: what their numbers stand for, and that they are the sites made, each once.
-use Rattle.std.proofs.Common.{◌≡◌, ◌⊎◌, ◌==◌, ℕ, ℤ, zero, suc, ◌+◌, ◌<◌, ◌≤◌, Bool, true, false, ◌&&◌, cond, List, [], ◌∷◌, ◌++◌, length, map, get_or, Some, option_map, slice_get, All, Contains, refl, sym, ap, ap₂, ◌∙◌, subst, inl, inr, arith, flat_map, eqb-true, eq-eqb}
+use Rattle.std.proofs.Common.{◌≡◌, ◌⊎◌, ◌==◌, ℕ, ℤ, zero, suc, ◌+◌, ◌<◌, ◌≤◌, true, false, cond, List, [], ◌∷◌, ◌++◌, length, map, get_or, Some, option_map, slice_get, All, Contains, refl, sym, ap, ap₂, ◌∙◌, subst, inl, inr, arith, flat_map, eqb-true, eq-eqb}
 use Rattle.std.specs.Ordering.{int_eq}
-use Rattle.std.proofs.Math.Bool.{beq}
-use Rattle.std.proofs.lemmas.Bool.{cases_Bool, cond-true, cond-false, and_parts, and_from, or_cases, or_parts, or_left, or_right, or_from, false≢true, both_ways, ne_eqb}
+use Rattle.std.proofs.lemmas.Bool.{cases_Bool, cond-true, cond-false, and_parts, or_cases, or_parts, or_left, or_right, or_from, false≢true, both_ways, ne_eqb}
 use Rattle.std.proofs.lemmas.Bool.Decides.{Decides-int_eq}
 use Rattle.std.proofs.lemmas.Option.{none-some, same_Some, slice_get_within, slice_get-get_or, slice_get-map, get_or_from_slice_get}
 use Rattle.std.proofs.lemmas.List.{map-append, length_push}
@@ -10,8 +9,8 @@ use Rattle.std.proofs.lemmas.List.Concat.{flat_map-append}
 use Rattle.std.proofs.lemmas.List.Elements.{All-cons, All-nil, All-push, Contains-append_left, Contains-append_right, Contains-append_cases}
 use Rattle.isle_model.specs.rules.Typed.{TypedPattern, TypedExpr, make_int, TypedRule}
 use Rattle.isle_model.specs.rules.Program.{Program}
-use Rattle.isle_model.specs.sites.Sites.{Site, bool_site, int_site, prim_site, argument_site, extractor_site, constructor_site, iterator_site, make_variant_site, match_variant_site, make_struct_site, extract_struct_site, make_some_site, match_some_site, match_tuple_site, SiteTerm, bool_term, int_term, prim_term, argument, extractor_call, constructor_call, pick_of, variant_made, variant_field, struct_made, struct_field, some_made, some_part, tuple_part, no_site, SiteTerms, no_site_term, site_term_and, layer, layer_at, unfolded, unfold_site}
-use Rattle.isle_model.specs.sites.Demands.{demands_of, site_term_eq, site_terms_eq, has_site, with_sites, sites_made}
+use Rattle.isle_model.specs.sites.Sites.{Site, bool_site, int_site, prim_site, argument_site, extractor_site, constructor_site, iterator_site, make_variant_site, match_variant_site, make_struct_site, extract_struct_site, make_some_site, match_some_site, match_tuple_site, SiteTerm, int_term, argument, no_site, layer, layer_at, unfolded, unfold_site}
+use Rattle.isle_model.specs.sites.Demands.{demands_of, site_term_eq, has_site, with_sites, sites_made}
 use Rattle.isle_model.specs.sites.Serves.{asked_by, asked, constant_site}
 use Rattle.isle_model.specs.lists.Names.{IsDistinct}
 use Rattle.isle_model.proofs.SameSites.{term_same}

@@ -7,7 +7,7 @@ use Rattle.isle_model.specs.sites.Sites.{Constraint, is_variant, is_struct, is_b
 use Rattle.isle_model.specs.sites.Demands.{Demands, site_term_eq, has_site, with_sites, constraint_eq}
 use Rattle.isle_model.specs.sites.Closure.{Joined, given, itself, turned, chained, at_field, fields_from, field_terms, HasConstraint, IsPartOf, IsProperPart, directly, deeper, class_name, same_class, due_with, due, with_owners, spoken_of, class_names, differs_in_class, has_conflict, constrained_in, fields_of_first, parts_of, goes_deeper, has_cycle}
 use Rattle.isle_laws_demands.specs.ClosureLaws.{IsEquivalence, RespectsDemands}
-use Rattle.isle_model.proofs.Elements.{In, in_from_contains, some_is, none_some, in_left, in_right, in_either, in_slice, slice_in, any_in, in_any, or_split, or_left, or_right, map_in, from_flat_map, in_flat_map, zip_in}
+use Rattle.isle_model.proofs.Elements.{In, in_from_contains, some_is, none_some, in_left, in_right, in_either, in_slice, slice_in, any_in, in_any, map_in, from_flat_map, in_flat_map, zip_in}
 use Rattle.isle_model.proofs.SameSites.{term_means, same_term, constraint_means}
 use Rattle.isle_model.proofs.SitesMade.{in_has, has_in}
 use Rattle.isle_laws_demands.proofs.closure.Names.{SameName, name_same, given_joined}

@@ -1,20 +1,20 @@
 -- A meaning that serves the rules of a term answers the sites of each of them, under its picks.
-use Rattle.std.proofs.Common.{◌≡◌, ℕ, ℤ, zero, suc, ◌<◌, Bool, true, false, List, [], ◌∷◌, ◌++◌, map, length, Option, Some, None, slice_get, IsSomeAnd, Contains, IsTrue, flat_map, refl, sym, ap, subst, ◌∙◌, inl, inr, arith}
+use Rattle.std.proofs.Common.{◌≡◌, ℕ, zero, suc, ◌<◌, Bool, true, false, List, [], ◌∷◌, map, length, Option, Some, None, slice_get, IsSomeAnd, Contains, IsTrue, flat_map, refl, sym, ap, subst, ◌∙◌, inl, inr, arith}
 use Rattle.std.proofs.lemmas.Bool.{cases_Bool, cond-true, cond-false}
 use Rattle.isle_model.specs.rules.Values.{Value, of_struct, Values, well_typed}
 use Rattle.isle_model.specs.rules.Meaning.{Content, one, many, Contents, contents, Meaning, bool_literal, int_literal, literal_value, constant_value, extractor_answer, pure_answer}
 use Rattle.isle_model.specs.rules.Outcome.{then_option}
-use Rattle.isle_model.specs.rules.Program.{Program, kind, rules_of}
+use Rattle.isle_model.specs.rules.Program.{Program, kind}
 use Rattle.isle_model.specs.rules.Typed.{TypedRule}
-use Rattle.isle_model.specs.rules.Picks.{Pick, place_of, picked, site_content, multi_calls, IsPick}
+use Rattle.isle_model.specs.rules.Picks.{Pick, place_of, picked, site_content, IsPick}
 use Rattle.isle_model.specs.sites.Sites.{SiteTerm, bool_term, int_term, prim_term, extractor_call, constructor_call, pick_of, struct_made, SiteTerms}
-use Rattle.isle_model.specs.sites.Demands.{demands_of, site_term_eq, with_sites}
+use Rattle.isle_model.specs.sites.Demands.{demands_of, site_term_eq}
 use Rattle.isle_model.specs.sites.Serves.{asked_by, asked, constant_site, constant_type, typed_as, fits_extractor, fits_constructor, Holds, holds_bool, holds_int, holds_prim, holds_argument, holds_extractor, holds_pure, holds_impure, holds_pick, holds_variant, holds_variant_field, holds_struct, holds_struct_field, holds_some, holds_part, holds_tuple_part, HoldsAll, Serves}
-use Rattle.isle_model.proofs.Elements.{In, in_from_contains, contains_from_in, in_left, in_map, in_flat_map}
+use Rattle.isle_model.proofs.Elements.{In, in_from_contains, contains_from_in, in_left, in_flat_map}
 use Rattle.isle_model.proofs.SameSites.{term_means, same_term}
 use Rattle.isle_laws_runs.proofs.picks.Held.{contents_are_held_lem}
 use Rattle.isle_laws_demands.proofs.closure.Classes.{in_with_sites}
-use Rattle.isle_laws_demands.proofs.matching.Contents.{Given, content_of, values_of, IsValueOf, Fits, IsAnswered}
+use Rattle.isle_laws_demands.proofs.matching.Contents.{Given, content_of, IsValueOf, Fits, IsAnswered}
 
 -- arguments' values are held
 abbrev HoldsParts : Meaning → List Value → SiteTerm → Content → Type 0

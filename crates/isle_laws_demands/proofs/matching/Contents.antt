@@ -1,9 +1,9 @@
 -- The contents of sites under a pick, by the answers that a meaning gives: values of types, and the outputs of calls.
-use Rattle.std.proofs.Common.{◌≡◌, ◌⊎◌, ℕ, ℤ, zero, suc, ◌+◌, ◌==◌, Bool, true, false, ◌&&◌, List, [], ◌∷◌, Option, Some, None, slice_get, refl, sym, ap, subst, inl, inr, ◌∙◌, arith}
+use Rattle.std.proofs.Common.{◌≡◌, ◌⊎◌, ℕ, ℤ, suc, ◌+◌, Bool, true, false, List, [], ◌∷◌, Option, Some, None, slice_get, refl, sym, ap, subst, inl, inr, ◌∙◌, arith}
 use Rattle.std.proofs.lemmas.Bool.{and_parts, false≢true}
 use Rattle.std.specs.List.{list_all}
 use Rattle.isle_model.specs.rules.Values.{Value, Values, no_value, value_and, listed, well_typed, all_well_typed}
-use Rattle.isle_model.specs.rules.Meaning.{Content, one, parts, nothing, just, many, Contents, contents, Meaning, bool_literal, int_literal, literal_value, constant_value, extractor_answer, pure_answer, outputs, answered}
+use Rattle.isle_model.specs.rules.Meaning.{Content, one, parts, nothing, just, many, contents, Meaning, bool_literal, int_literal, literal_value, constant_value, extractor_answer, pure_answer, outputs, answered}
 use Rattle.isle_model.specs.rules.Outcome.{then_option}
 use Rattle.isle_model.specs.rules.Program.{Program, kind}
 use Rattle.isle_model.specs.rules.Typed.{TypedPatterns, no_typed_pattern, typed_pattern_and}

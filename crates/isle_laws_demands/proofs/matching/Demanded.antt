@@ -1,5 +1,5 @@
 -- What demands ask of contents, where a rule matches and so that it does, step by step of a visit.
-use Rattle.std.proofs.Common.{◌≡◌, ◌⊎◌, ◌==◌, ℕ, Bool, true, false, List, [], ◌∷◌, ◌++◌, Option, Some, None, is_some, refl, sym, ap, subst, ◌∙◌, inl, inr}
+use Rattle.std.proofs.Common.{◌≡◌, ◌⊎◌, ◌==◌, ℕ, true, false, List, [], ◌∷◌, Option, Some, None, is_some, refl, sym, ap, subst, ◌∙◌, inl, inr}
 use Rattle.std.proofs.lemmas.Bool.{cases_Bool, cond-true, cond-false, false≢true}
 use Rattle.isle_model.specs.rules.Values.{Value, value_eq, well_typed}
 use Rattle.isle_model.specs.rules.Meaning.{Content, one, parts, nothing, just, many, look}
@@ -15,10 +15,10 @@ use Rattle.isle_model.proofs.SameSites.{term_means}
 use Rattle.isle_model.proofs.ValuesEqual.{eq_means, eq_same}
 use Rattle.isle_laws_demands.proofs.visits.Visited.{equating_binds}
 use Rattle.isle_laws_demands.proofs.visits.Patterns.{from_if, from_then}
-use Rattle.isle_laws_demands.proofs.matching.Contents.{Given, content_of, value_of, Here, is_value, has_value}
+use Rattle.isle_laws_demands.proofs.matching.Contents.{Given, content_of, Here, is_value}
 use Rattle.isle_laws_demands.proofs.matching.Grown.{Grown, either, equated}
 use Rattle.isle_laws_demands.proofs.matching.SameExprs.{AreWithin, type_there}
-use Rattle.isle_laws_demands.proofs.matching.Variables.{named, IsPresent, AllPresent, IsVar, AreVars, var_bound, var_kept, here_valued}
+use Rattle.isle_laws_demands.proofs.matching.Variables.{named, IsPresent, AllPresent, IsVar, AreVars, var_kept}
 
 -- the content of a site meets a constraint
 abbrev pub Meets : Given → SiteTerm → Constraint → Type 0

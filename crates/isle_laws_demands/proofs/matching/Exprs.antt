@@ -1,17 +1,17 @@
 -- The value of an expression that calls pure terms alone is its site's.
-use Rattle.std.proofs.Common.{◌≡◌, ℕ, ◌==◌, Bool, true, false, ◌&&◌, List, [], ◌∷◌, ◌++◌, Option, Some, None, is_some, slice_get, refl, sym, ap, ap₂, subst, ◌∙◌, inl, inr, eq-eqb, eqb-true}
+use Rattle.std.proofs.Common.{◌≡◌, ℕ, ◌==◌, Bool, true, false, List, [], ◌∷◌, Option, Some, None, is_some, slice_get, refl, sym, ap, ap₂, subst, ◌∙◌, inl, inr, eq-eqb, eqb-true}
 use Rattle.std.proofs.lemmas.Bool.{and_from, false≢true}
 use Rattle.isle_model.specs.lists.Tables.{Flags, TermEntry}
 use Rattle.isle_model.specs.rules.Values.{Value, of_variant, of_struct, Values, no_value, value_and, well_typed, all_well_typed, variant_types, struct_types}
 use Rattle.isle_model.specs.rules.Meaning.{Content, one, nothing, just, bool_literal, int_literal, literal_value, constant_value, pure_answer}
 use Rattle.isle_model.specs.rules.Outcome.{then_option}
 use Rattle.isle_model.specs.rules.Matching.{single}
-use Rattle.isle_model.specs.rules.Program.{Program, Kind, a_variant, a_struct, a_call, unknown, kind, kind_of, flags_of, is_multi, is_partial}
+use Rattle.isle_model.specs.rules.Program.{Program, Kind, a_variant, a_struct, a_call, unknown, kind, kind_of, flags_of}
 use Rattle.isle_model.specs.rules.Typed.{TypedExpr, make_term, make_var, make_bool, make_int, make_prim, make_let, TypedExprs, no_typed_expr, typed_expr_and, TypedLets, no_typed_let, typed_let_and}
-use Rattle.isle_model.specs.rules.Picks.{Pick, picked, taken_answer, part_of_some, SitedVars, sited, visit_at, expr_site, expr_sites, term_under, value_under, values_under, lets_under}
+use Rattle.isle_model.specs.rules.Picks.{picked, taken_answer, part_of_some, SitedVars, sited, visit_at, expr_site, expr_sites, term_under, value_under, values_under, lets_under}
 use Rattle.isle_model.specs.trees.Run.{as_value, from_value}
-use Rattle.isle_model.specs.sites.Sites.{SiteTerm, bool_term, int_term, prim_term, constructor_call, pick_of, variant_made, struct_made, some_part, SiteTerms, no_site_term, site_term_and}
-use Rattle.isle_model.specs.sites.Demands.{Visit, binding, Valued, ValuedAll, visit_term, visit_expr, visit_exprs, visit_lets, unwraps, unwraps_all}
+use Rattle.isle_model.specs.sites.Sites.{SiteTerm, bool_term, int_term, prim_term, constructor_call, pick_of, variant_made, struct_made, some_part, SiteTerms}
+use Rattle.isle_model.specs.sites.Demands.{Visit, binding, ValuedAll, visit_term, visit_expr, visit_exprs, visit_lets, unwraps, unwraps_all}
 use Rattle.isle_model.specs.sites.Serves.{constant_type, term_results, fits_answer, fits_constructor}
 use Rattle.isle_model.specs.sites.DemandedGates.{IsPureExpr, ArePureExprs, ArePureLets, HasNoPartialMulti}
 use Rattle.isle_model.specs.lists.Setting.{expr_type}
@@ -19,11 +19,11 @@ use Rattle.isle_model.specs.lists.Formed.{var_type, is_type, is_formed_expr, are
 use Rattle.isle_model.proofs.Elements.{In, in_left, in_right, some_is, none_some}
 use Rattle.isle_laws_demands.proofs.visits.Visited.{Same}
 use Rattle.isle_laws_demands.proofs.visits.Patterns.{from_then, term_known}
-use Rattle.isle_laws_demands.proofs.matching.Contents.{Given, content_of, value_of, values_of, IsValueOf, Fits, IsAnswered, is_value, one_fits, maybe_fits, picked_fits}
-use Rattle.isle_laws_demands.proofs.matching.Grown.{Grown, now, then_grown, grown_binding, expr_adds, exprs_add, lets_add, term_adds}
-use Rattle.isle_laws_demands.proofs.matching.SameExprs.{AreWithin, type_there, lets_within, from_let, from_term, from_args, from_body, expr_keeps, exprs_keep, term_site, pure_site, expr_alike, exprs_alike}
+use Rattle.isle_laws_demands.proofs.matching.Contents.{Given, content_of, value_of, values_of, IsValueOf, Fits, IsAnswered, one_fits, maybe_fits, picked_fits}
+use Rattle.isle_laws_demands.proofs.matching.Grown.{Grown, then_grown, grown_binding, expr_adds, exprs_add, lets_add, term_adds}
+use Rattle.isle_laws_demands.proofs.matching.SameExprs.{type_there, from_let, from_term, from_args, from_body, expr_keeps, term_site, pure_site, expr_alike, exprs_alike}
 use Rattle.isle_laws_demands.proofs.matching.TypedParts.{HasTypedParts}
-use Rattle.isle_laws_demands.proofs.matching.Variables.{named, IsPresent, AllPresent, IsValued, AreVars, var_moved, vars_and}
+use Rattle.isle_laws_demands.proofs.matching.Variables.{AllPresent, IsValued, AreVars, var_moved, vars_and}
 
 pub type_is : (o : Option ℕ) (ty : ℕ) → is_type o ty ≡ true → o ≡ Some ty
 type_is None ty h = absurd (false≢true h)

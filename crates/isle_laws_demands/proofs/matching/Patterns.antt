@@ -1,29 +1,29 @@
 -- A pattern holds of a site's value exactly where what its visit asks is met.
-use Rattle.std.proofs.Common.{if◌then◌else◌, ◌≡◌, ℕ, suc, ◌+◌, ◌==◌, Bool, true, false, ◌&&◌, cond, List, [], ◌∷◌, ◌++◌, Option, Some, None, is_some, is_none, slice_get, refl, sym, ap, subst, ◌∙◌, inl, inr, eq-eqb, eqb-true, arith}
+use Rattle.std.proofs.Common.{if◌then◌else◌, ◌≡◌, ℕ, ◌+◌, ◌==◌, Bool, true, false, ◌&&◌, cond, List, [], ◌∷◌, Option, Some, None, is_some, slice_get, refl, sym, ap, subst, ◌∙◌, inl, inr, eq-eqb, eqb-true, arith}
 use Rattle.std.proofs.lemmas.Bool.{and_parts, cases_Bool, cond-true, cond-false, false≢true}
 use Rattle.isle_model.specs.lists.Tables.{Flags, TermEntry}
-use Rattle.isle_model.specs.rules.Values.{Value, truth, atom, of_variant, of_struct, Values, no_value, value_and, listed, well_typed, all_well_typed, variant_types, struct_types, is_atom_type}
-use Rattle.isle_model.specs.rules.Meaning.{Content, one, nothing, just, bool_literal, int_literal, literal_value, constant_value, extractor_answer, answered, look}
+use Rattle.isle_model.specs.rules.Values.{Value, truth, atom, of_variant, of_struct, Values, no_value, value_and, listed, all_well_typed, variant_types, struct_types}
+use Rattle.isle_model.specs.rules.Meaning.{Content, one, just, bool_literal, int_literal, literal_value, constant_value, extractor_answer, answered, look}
 use Rattle.isle_model.specs.rules.Outcome.{then_option}
 use Rattle.isle_model.specs.rules.Matching.{parts_seen}
-use Rattle.isle_model.specs.rules.Program.{Program, Kind, a_variant, a_struct, a_call, unknown, kind, kind_of, flags_of}
+use Rattle.isle_model.specs.rules.Program.{Program, Kind, a_variant, a_struct, a_call, unknown, kind, kind_of}
 use Rattle.isle_model.specs.rules.Typed.{TypedPattern, match_bind, match_var, match_bool, match_int, match_prim, match_term, match_any, match_and, TypedPatterns, no_typed_pattern, typed_pattern_and}
-use Rattle.isle_model.specs.rules.Picks.{Pick, picked, taken_answer, field_of_variant, field_of_struct, part_of_some, Sited, SitedVars, sited, input_sites, parts_under, holds_under, each_holds_under, all_hold_under}
-use Rattle.isle_model.specs.trees.Run.{as_value, from_value, content_fields, all_one}
+use Rattle.isle_model.specs.rules.Picks.{picked, taken_answer, field_of_variant, field_of_struct, part_of_some, Sited, SitedVars, sited, input_sites, parts_under, holds_under, each_holds_under, all_hold_under}
+use Rattle.isle_model.specs.trees.Run.{from_value, content_fields, all_one}
 use Rattle.isle_model.specs.sites.Sites.{Constraint, is_variant, is_struct, is_bool, is_int, is_prim, is_present, SiteTerm, extractor_call, pick_of, variant_field, struct_field, some_part}
-use Rattle.isle_model.specs.sites.Demands.{Demands, Visit, visit_start, making, asking, equating, iterating, binding, from_to, pattern_count, Opened, opened, output_sites, part_sites, open_call, open_term, visit_pattern, visit_each, visit_all}
+use Rattle.isle_model.specs.sites.Demands.{Visit, visit_start, making, asking, iterating, binding, from_to, pattern_count, Opened, opened, output_sites, part_sites, open_call, open_term, visit_pattern, visit_each, visit_all}
 use Rattle.isle_model.specs.sites.Serves.{constant_type, term_args, fits_answer, fits_extractor}
 use Rattle.isle_model.specs.lists.Setting.{bool_type, has_extractor}
 use Rattle.isle_model.specs.lists.Formed.{pattern_type, var_type, is_type, with_new, formed_pattern, formed_parts, formed_each}
 use Rattle.isle_model.proofs.Elements.{In, in_right, some_is, none_some}
 use Rattle.isle_laws_demands.proofs.visits.Patterns.{from_if, from_then, from_new, term_known}
-use Rattle.isle_laws_demands.proofs.matching.Contents.{Given, content_of, value_of, Here, AreHere, AsMany, Fits, IsAnswered, has_value, one_fits, maybe_fits, picked_fits, fits_answered, fields_here, PutOut, put_out}
-use Rattle.isle_laws_demands.proofs.matching.Demanded.{Meets, IsTyped, AreMet, AskEnough, same_content, here_typed, met_asking, asked_now, IsBound, AreBound, bound_kept, After, outside, then_after, unbound, constant_after, var_after}
+use Rattle.isle_laws_demands.proofs.matching.Contents.{Given, content_of, Here, AreHere, AsMany, IsAnswered, has_value, maybe_fits, picked_fits, fits_answered, fields_here, PutOut, put_out}
+use Rattle.isle_laws_demands.proofs.matching.Demanded.{AreMet, AskEnough, same_content, here_typed, met_asking, asked_now, IsBound, AreBound, bound_kept, After, outside, then_after, unbound, constant_after, var_after}
 use Rattle.isle_laws_demands.proofs.matching.Exprs.{type_is}
-use Rattle.isle_laws_demands.proofs.matching.Grown.{Grown, then_grown, grown_making, grown_asking, grown_iterating, grown_binding, term_grown, pattern_grown, each_grown, all_grown}
+use Rattle.isle_laws_demands.proofs.matching.Grown.{Grown, then_grown, grown_making, grown_asking, grown_iterating, each_grown, all_grown}
 use Rattle.isle_laws_demands.proofs.matching.SameExprs.{AreWithin, within_new}
 use Rattle.isle_laws_demands.proofs.matching.TypedParts.{HasTypedParts}
-use Rattle.isle_laws_demands.proofs.matching.Variables.{here_valued, var_bound, var_kept, not_among}
+use Rattle.isle_laws_demands.proofs.matching.Variables.{here_valued, var_bound, not_among}
 
 -- 1. what patterns are that hang together
 -- a term's pattern

@@ -1,32 +1,31 @@
 -- A rule that hangs together matches exactly where what its visit asks is met.
-use Rattle.std.proofs.Common.{if◌then◌else◌, ◌≡◌, ℕ, suc, ◌+◌, ◌==◌, Bool, true, false, ◌&&◌, List, [], ◌∷◌, Option, Some, None, is_some, slice_get, refl, sym, ap, subst, ◌∙◌, inl, inr, eqb-true, arith}
+use Rattle.std.proofs.Common.{◌≡◌, ℕ, suc, ◌+◌, ◌==◌, true, ◌&&◌, List, [], ◌∷◌, Option, Some, None, is_some, slice_get, refl, sym, ap, subst, ◌∙◌, inl, inr, eqb-true, arith}
 use Rattle.std.proofs.lemmas.Bool.{and_parts, false≢true}
-use Rattle.std.proofs.lemmas.List.Elements.{Contains-append_left}
 use Rattle.isle_model.specs.lists.Tables.{TermEntry}
-use Rattle.isle_model.specs.rules.Values.{Value, of_variant, of_struct, Values, value_and, listed, of_list, well_typed, all_well_typed, args_well_typed}
+use Rattle.isle_model.specs.rules.Values.{Value, of_variant, of_struct, Values, value_and, of_list, well_typed, all_well_typed, args_well_typed}
 use Rattle.isle_model.specs.rules.Meaning.{Content, one, parts, nothing, just, many, extractor_answer}
 use Rattle.isle_model.specs.rules.Outcome.{then_option}
-use Rattle.isle_model.specs.rules.Program.{Program, is_partial, arg_types}
+use Rattle.isle_model.specs.rules.Program.{Program, arg_types}
 use Rattle.isle_model.specs.rules.Typed.{TypedPattern, TypedIfLet, TypedRule}
 use Rattle.isle_model.specs.rules.Picks.{picked, field_of_variant, field_of_struct, part_of_some, call_answer, SitedVars, expr_site, holds_under, value_under, args_hold_under, iflets_hold_under, matches_under}
 use Rattle.isle_model.specs.trees.Run.{as_value, from_value, part_at}
-use Rattle.isle_model.specs.sites.Sites.{Constraint, is_present, SiteTerm, bool_term, int_term, prim_term, argument, extractor_call, constructor_call, pick_of, variant_made, variant_field, struct_made, struct_field, some_made, some_part, tuple_part, no_site, SiteTerms, no_site_term, site_term_and}
-use Rattle.isle_model.specs.sites.Demands.{Demands, demands_of, Visit, visit_start, making, visit_pattern, Valued, visit_expr, unwraps, unwraps_all, asking_all, visit_args, visit_iflets, visit_rule}
+use Rattle.isle_model.specs.sites.Sites.{is_present, SiteTerm, bool_term, int_term, prim_term, argument, extractor_call, constructor_call, pick_of, variant_made, variant_field, struct_made, struct_field, some_made, some_part, tuple_part, no_site, SiteTerms, no_site_term, site_term_and}
+use Rattle.isle_model.specs.sites.Demands.{demands_of, Visit, visit_start, making, visit_pattern, Valued, visit_expr, unwraps, unwraps_all, asking_all, visit_args, visit_iflets, visit_rule}
 use Rattle.isle_model.specs.sites.DemandedGates.{IsPureExpr, ArePureIfLets, HasNoPartialMulti}
 use Rattle.isle_model.specs.lists.Setting.{expr_type}
-use Rattle.isle_model.specs.lists.Formed.{pattern_type, var_type, where_bound, of_entry, formed_pattern, is_formed_expr, formed_list, formed_iflets, is_formed_rule}
-use Rattle.isle_model.proofs.Elements.{In, in_from_contains, in_left, in_either, some_is, none_some}
+use Rattle.isle_model.specs.lists.Formed.{pattern_type, where_bound, of_entry, formed_pattern, is_formed_expr, formed_list, formed_iflets, is_formed_rule}
+use Rattle.isle_model.proofs.Elements.{In, in_from_contains, in_either, some_is, none_some}
 use Rattle.isle_laws_demands.proofs.visits.Visited.{all_asked, asked_binds}
 use Rattle.isle_laws_demands.proofs.visits.Patterns.{from_if, from_then}
-use Rattle.isle_laws_demands.proofs.visits.Exprs.{from_entry, from_vars}
+use Rattle.isle_laws_demands.proofs.visits.Exprs.{from_vars}
 use Rattle.isle_laws_demands.proofs.matching.Contents.{Given, content_of, value_of, values_of, Here, IsAnswered, is_value}
 use Rattle.isle_laws_demands.proofs.matching.Demanded.{AreMet, AskEnough, enough_before, met_all, meets_present, AreBound, bound_vars, After}
-use Rattle.isle_laws_demands.proofs.matching.Exprs.{expr_valued, vars_moved}
-use Rattle.isle_laws_demands.proofs.matching.Grown.{Grown, then_grown, grown_all, Adds, expr_adds, pattern_grown, iflet_grown, iflets_grown, args_grown, rule_adds}
+use Rattle.isle_laws_demands.proofs.matching.Exprs.{expr_valued}
+use Rattle.isle_laws_demands.proofs.matching.Grown.{Grown, then_grown, grown_all, expr_adds, pattern_grown, iflets_grown, args_grown, rule_adds}
 use Rattle.isle_laws_demands.proofs.matching.Patterns.{from_part, pattern_after}
 use Rattle.isle_laws_demands.proofs.matching.SameExprs.{expr_keeps}
 use Rattle.isle_laws_demands.proofs.matching.TypedParts.{HasTypedParts}
-use Rattle.isle_laws_demands.proofs.matching.Variables.{named, IsPresent, AllPresent, IsValued, var_moved}
+use Rattle.isle_laws_demands.proofs.matching.Variables.{named, IsPresent, AllPresent, var_moved}
 
 -- 1. the calls that a site with a content unwraps answer
 module _ (g : Given) where

@@ -5,16 +5,16 @@ use Rattle.isle_model.specs.rules.Meaning.{look}
 use Rattle.isle_model.specs.rules.Outcome.{then_option}
 use Rattle.isle_model.specs.lists.Tables.{Flags, TermEntry}
 use Rattle.isle_model.specs.rules.Program.{Program, Kind, a_variant, a_struct, a_call, unknown, kind, flags_of}
-use Rattle.isle_model.specs.sites.Sites.{SiteTerm, bool_term, int_term, prim_term, constructor_call, variant_made, struct_made, no_site, SiteTerms, site_term_and}
+use Rattle.isle_model.specs.sites.Sites.{SiteTerm, constructor_call, variant_made, struct_made, no_site, SiteTerms, site_term_and}
 use Rattle.isle_model.specs.rules.Typed.{TypedExpr, make_term, make_var, make_bool, make_int, make_prim, make_let, TypedExprs, no_typed_expr, typed_expr_and, TypedLets, no_typed_let, typed_let_and}
-use Rattle.isle_model.specs.sites.Demands.{Visit, making, iterating, calling, binding, or_no_site, var_site, Valued, ValuedAll, call_result, call_sites, where_multi, visit_call, visit_term, visit_expr, visit_exprs, visit_lets}
+use Rattle.isle_model.specs.sites.Demands.{Visit, making, iterating, binding, or_no_site, ValuedAll, call_result, call_sites, where_multi, visit_call, visit_term, visit_expr, visit_exprs, visit_lets}
 use Rattle.isle_model.specs.lists.Setting.{expr_type, has_constructor}
 use Rattle.isle_model.specs.lists.Formed.{var_type, with_new, of_entry, is_formed_expr, are_formed_args, formed_lets}
 use Rattle.isle_model.specs.sites.DemandedGates.{IsPureExpr, ArePureExprs, ArePureLets}
 use Rattle.isle_model.proofs.Elements.{some_is}
 use Rattle.isle_laws_demands.proofs.visits.Visited.{Same, then_same, same_binding}
 use Rattle.isle_laws_demands.proofs.visits.Patterns.{from_if, from_then, from_new, is_there}
-use Rattle.isle_laws_demands.proofs.visits.Exprs.{from_entry, from_vars}
+use Rattle.isle_laws_demands.proofs.visits.Exprs.{from_vars}
 use Rattle.isle_laws_demands.proofs.matching.Grown.{either}
 
 -- 1. an expression's visit names variables as before

@@ -1,5 +1,5 @@
 -- The terms of variants and structs take their fields, at the types of these.
-use Rattle.std.proofs.Common.{◌≡◌, ℕ, Bool, List, map, Some, None, Option, slice_get, flat_map, refl, sym, ap, subst, inl, inr, ◌∙◌}
+use Rattle.std.proofs.Common.{◌≡◌, ℕ, Bool, List, map, Some, None, Option, slice_get, flat_map, sym, ap, subst, inl, inr, ◌∙◌}
 use Rattle.std.specs.List.{enumerate_from}
 use Rattle.isle_model.specs.lists.Syntax.{Definition}
 use Rattle.isle_model.specs.lists.Tables.{VariantEntry, TypeEntry, builtin_type, primitive_type, enum_type, struct_type, TermEntry, TermKindEntry, variant_term, struct_term, declared_term}
@@ -7,7 +7,7 @@ use Rattle.isle_model.specs.lists.TermTable.{decl_trees, term_names_met, variant
 use Rattle.isle_model.specs.lists.KnownTypes.{KnownTypes, entry_id}
 use Rattle.isle_model.specs.lists.Elaborated.{TypedRules}
 use Rattle.isle_model.specs.rules.Values.{field_types, variant_types, struct_types}
-use Rattle.isle_model.specs.rules.Program.{Program, Kind, a_variant, a_struct, a_call, unknown, kind_of, always_answers}
+use Rattle.isle_model.specs.rules.Program.{Program, Kind, a_variant, a_struct, a_call, kind_of, always_answers}
 use Rattle.isle_model.specs.claims.Environments.{TypesRead, HasVariantsAtIds, IsElaborated, program_of}
 use Rattle.isle_model.proofs.Elements.{In, in_either, in_slice, in_map, from_flat_map, slice_in}
 use Rattle.isle_laws_demands.proofs.visits.Declared.{in_numbered}

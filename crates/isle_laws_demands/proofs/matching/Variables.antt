@@ -1,5 +1,5 @@
 -- Variables of a match and of a visit: both name one site for each, and the value is the site's.
-use Rattle.std.proofs.Common.{◌≡◌, ℕ, ◌==◌, Bool, true, false, List, [], ◌∷◌, Option, Some, None, is_some, refl, sym, ap, subst, inl, inr, ◌∙◌, eq-eqb, eqb-true}
+use Rattle.std.proofs.Common.{◌≡◌, ℕ, ◌==◌, true, false, List, ◌∷◌, Option, Some, is_some, refl, sym, ap, subst, inl, inr, ◌∙◌, eq-eqb, eqb-true}
 use Rattle.std.proofs.lemmas.Bool.{cases_Bool, cond-true, cond-false, false≢true}
 use Rattle.isle_model.specs.rules.Values.{Value, well_typed}
 use Rattle.isle_model.specs.rules.Meaning.{Content, just, look}

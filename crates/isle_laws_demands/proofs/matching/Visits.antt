@@ -1,5 +1,5 @@
 -- A rule that elaborates matches under a pick exactly where its demands hold.
-use Rattle.std.proofs.Common.{◌≡◌, ◌==◌, ℕ, Bool, true, List, Contains, filter, sym, subst, ◌∙◌, eqb-true}
+use Rattle.std.proofs.Common.{◌≡◌, ◌==◌, ℕ, Bool, true, List, Contains, sym, subst, ◌∙◌, eqb-true}
 use Rattle.isle_model.specs.lists.Syntax.{Definition}
 use Rattle.isle_model.specs.lists.Elaborated.{TypedRules}
 use Rattle.isle_model.specs.lists.Formed.{is_formed_rule}

@@ -1,5 +1,5 @@
 -- The test of shadows is exact; limits and sites agree with those of a whole program where rules have no equalities.
-use Rattle.std.proofs.Common.{◌≡◌, ◌<◌, Bool, true, false, T, ◌&&◌, ℤ, ◌<ℤ◌, int_lt, nat_le, refl, leb-true, le-leb}
+use Rattle.std.proofs.Common.{◌≡◌, Bool, true, false, T, ◌&&◌, ℤ, ◌<ℤ◌, int_lt, nat_le, refl, leb-true, le-leb}
 use Rattle.std.proofs.lemmas.Bool.{and_parts, and_from, false≢true}
 use Rattle.std.specs.Bool.{Decides}
 use Rattle.isle_model.specs.sites.Overlap.{is_subset_pair, constraints_of_closed, BuiltRule, Shadows, shadows}

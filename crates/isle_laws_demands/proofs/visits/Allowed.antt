@@ -50,21 +50,21 @@ allowed_entry flags t c = by t.kind c
     by (declared_term own k x) q = (and_parts (is_some k) (allow flags own) q).1
 
 -- the flags of a term allow a call of this one
-abbrev IsAllowed : Program → Flags → ℕ → Type 0
+abbrev pub IsAllowed : Program → Flags → ℕ → Type 0
 IsAllowed p flags t = allow flags (flags_of (kind p t)) ≡ true
 
 module _ (e : Setting) (rules : List TypedRule) (at_ids : (k : ℕ) (t : TermEntry) → slice_get e.terms k ≡ Some t → t.id ≡ k) where
   abbrev p : Program
   p = program_in e rules
 
-  entry_at_id : (name : ℕ) (t : TermEntry) → entry_named name e.terms ≡ Some t → kind p t.id ≡ kind_of t
+  pub entry_at_id : (name : ℕ) (t : TermEntry) → entry_named name e.terms ≡ Some t → kind p t.id ≡ kind_of t
   entry_at_id name t n =
       let r = named_at name e.terms t n in
       ap (λ o. elim o as (λ _. Kind) [ None ↦ unknown | Some x ↦ kind_of x ]) (subst (λ k. slice_get e.terms k ≡ Some t) (sym (at_ids r.0 t r.1)) r.1)
 
   module _ (flags : Flags) where
     mutual
-      expr_allowed : {d n : ℕ} {ty : Option ℕ} {x : ExprTree} {s t : Scope} {q : TypedExpr} → ElaboratesExpr e flags d x ty s q t n → CallsAlone (IsAllowed p flags) q
+      pub expr_allowed : {d n : ℕ} {ty : Option ℕ} {x : ExprTree} {s t : Scope} {q : TypedExpr} → ElaboratesExpr e flags d x ty s q t n → CallsAlone (IsAllowed p flags) q
       expr_allowed (a_call {entry = entry} i j k g) = (ap (λ m. allow flags (flags_of m)) (entry_at_id _ entry i) ∙ allowed_entry flags entry k, args_allowed g)
       expr_allowed (converted_call i j k g) = expr_allowed g
       expr_allowed (a_variable i j) = tt
@@ -115,7 +115,7 @@ none_allowed true own h e = absurd (false≢true (sym e))
 none_allowed false true h e = absurd (false≢true h)
 none_allowed false false h e = refl
 
-single_allowed : (p : Program) (flags : Flags) → flags.multi ≡ false → (t : ℕ) → IsAllowed p flags t → IsSingle p t
+pub single_allowed : (p : Program) (flags : Flags) → flags.multi ≡ false → (t : ℕ) → IsAllowed p flags t → IsSingle p t
 single_allowed p flags e t h =
     let own = flags_of (kind p t) in
     let a = (and_parts (not flags.pure || own.pure) ((flags.multi || not own.multi) && (flags.partial || not own.partial)) h).1 in

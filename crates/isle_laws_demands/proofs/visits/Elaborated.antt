@@ -1,5 +1,5 @@
 -- Rules that elaborate demand their gates: they hang together, and their if-lets call pure terms alone.
-use Rattle.std.proofs.Common.{◌≡◌, ℕ, ℤ, pos, unwrap_or, zero, suc, Bool, true, false, not, ◌&&◌, ◌||◌, cond, eqb, List, [], ◌∷◌, map, Option, Some, None, option_map, is_some, slice_get, Contains, refl, sym, ap, subst, inl, inr, ◌∙◌}
+use Rattle.std.proofs.Common.{◌≡◌, ℕ, ℤ, pos, unwrap_or, Bool, true, not, ◌&&◌, ◌||◌, List, map, Option, Some, None, option_map, is_some, slice_get, Contains, refl, sym, ap, subst, inl, inr, ◌∙◌}
 use Rattle.std.proofs.lemmas.Bool.{and_parts, false≢true}
 use Rattle.std.proofs.lemmas.Option.{none-some, same_Some}
 use Rattle.isle_model.specs.lists.Syntax.{Definition, ExprTree, ExprTrees, LetTrees, IfLetTree, RuleTree}

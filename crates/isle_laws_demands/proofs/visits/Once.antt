@@ -1,18 +1,16 @@
 -- The sites of a term stand once among those made, and so the sites of a built set.
-use Rattle.std.proofs.Common.{◌≡◌, ◌⊎◌, ℕ, zero, suc, ◌<◌, Bool, true, false, if◌then◌else◌, List, [], ◌∷◌, ◌++◌, length, take, flat_map, Option, Some, None, slice_get, refl, sym, ap, subst, inl, inr, ◌∙◌}
-use Rattle.std.proofs.lemmas.Bool.{cases_Bool, cond-true, cond-false, false≢true}
+use Rattle.std.proofs.Common.{◌≡◌, ℕ, zero, suc, ◌<◌, Bool, true, false, if◌then◌else◌, List, [], ◌∷◌, length, take, flat_map, Option, Some, None, slice_get, sym, ap, ◌∙◌}
 use Rattle.std.proofs.lemmas.Option.{slice_get_within}
 use Rattle.isle_model.specs.lists.Names.{IsDistinct}
 use Rattle.isle_model.specs.rules.Program.{Program, rules_of}
 use Rattle.isle_model.specs.rules.Typed.{TypedRule}
 use Rattle.isle_model.specs.sites.Sites.{Constraint, SiteSet, SiteTerm, unfold_site}
-use Rattle.isle_model.specs.sites.Demands.{Demands, demands_of, has_site, with_sites}
+use Rattle.isle_model.specs.sites.Demands.{Demands, demands_of, with_sites}
 use Rattle.isle_model.specs.sites.Closure.{is_unreachable, field_terms, Closed, class_at, ascending, next_constrained, taken, closing, before_closing, most_closing_steps, closed}
 use Rattle.isle_model.specs.sites.Limits.{most_sites, walked_rule, made_walking, sites_wanted, sites_reached, sites_after_rule, sites_after_rules}
 use Rattle.isle_model.specs.sites.RuleSets.{IsBuilt}
-use Rattle.isle_model.proofs.Elements.{In, some_is, none_some, in_slice}
-use Rattle.isle_model.proofs.Positions.{get_push_cases, distinct_push}
-use Rattle.isle_model.proofs.SitesMade.{in_has, once_with}
+use Rattle.isle_model.proofs.Elements.{none_some}
+use Rattle.isle_model.proofs.SitesMade.{once_with}
 use Rattle.isle_laws_demands.proofs.visits.Unfolding.{one_site}
 
 taken_from : {X : Type 0} (n : ℕ) (xs : List X) (k : ℕ) (x : X) → slice_get (take n xs) k ≡ Some x → slice_get xs k ≡ Some x

@@ -19,7 +19,7 @@ use Rattle.isle_model.proofs.Members.{in_head, in_tail}
 use Rattle.isle_laws_runs.specs.Exact.{GiveSamePlaces}
 use Rattle.isle_laws_runs.specs.Orders.{Covered, OrderedFrom, IsOfPlaces, CallsCanComeFirst, ResultsAreOfPlaces}
 use Rattle.isle_model.proofs.SameSites.{term_means}
-use Rattle.isle_laws_runs.proofs.picks.SamePlaces.{content_same, only_places_matter_lem}
+use Rattle.isle_laws_runs.proofs.picks.SamePlaces.{content_same, matching_same, ends_same}
 use Rattle.isle_laws_runs.proofs.picks.Grown.{keys, keys_push, content_kept}
 
 -- 1. places
@@ -102,10 +102,10 @@ calls_can_come_first_lem m args f k before after call g o v d = first m args f g
 module _ (p : Program) (m : Meaning) (args : List Value) (r : TypedRule) (k l : Pick) (g : GiveSamePlaces k l) where
   with_same : (o : Option SitedVars) → results_with p m k r o ≡ results_with p m l r o
   with_same None = refl
-  with_same (Some e) = ap (λ o. o.results) ((only_places_matter_lem p m args r k l g).ends e)
+  with_same (Some e) = ap (λ o. o.results) (ends_same p m k l g r e)
 
   rule_same : results_under p m args r k ≡ results_under p m args r l
-  rule_same = ap (results_with p m k r) (only_places_matter_lem p m args r k l g).matching ∙ with_same (matches_under p m l r args)
+  rule_same = ap (results_with p m k r) (matching_same p m k l g r args) ∙ with_same (matches_under p m l r args)
 
 module _ (w : World) (r : SetRule) (k l : Pick) (g : GiveSamePlaces k l) where
   at_same : (s : ℕ) → content_at w k s ≡ content_at w l s

@@ -5,10 +5,10 @@ use Rattle.isle_model.specs.rules.Program.{Program, Kind, a_variant, a_struct, a
 use Rattle.isle_model.specs.sites.Sites.{SiteTerm, argument, extractor_call, constructor_call, SiteTerms}
 use Rattle.isle_model.specs.sites.Demands.{site_term_eq, pattern_count, Visit, visit_start, making, iterating, binding, var_site, Opened, open_call, open_term, visit_pattern, visit_each, visit_all, Valued, ValuedAll, call_sites, visit_call, visit_term, visit_expr, visit_exprs, visit_lets, unwraps, asking_all, visit_args, visit_iflets, demands_of}
 use Rattle.isle_model.specs.rules.Typed.{TypedPattern, match_bind, match_var, match_bool, match_int, match_prim, match_term, match_any, match_and, TypedPatterns, no_typed_pattern, typed_pattern_and, TypedExpr, make_term, make_var, make_bool, make_int, make_prim, make_let, TypedExprs, no_typed_expr, typed_expr_and, TypedLets, no_typed_let, typed_let_and, TypedIfLet, TypedRule}
-use Rattle.isle_laws_runs.specs.WithoutMulti.{WhereKnown, PatternCallsNoMulti, PatternsCallNoMulti, ExprCallsNoMulti, ExprsCallNoMulti, LetsCallNoMulti, ArgsCallNoMulti, IfLetsCallNoMulti, CallsNoMulti, NoMultiIsNoIterators}
+use Rattle.isle_laws_runs.specs.WithoutMulti.{WhereKnown, PatternCallsNoMulti, PatternsCallNoMulti, ExprCallsNoMulti, ExprsCallNoMulti, LetsCallNoMulti, ArgsCallNoMulti, IfLetsCallNoMulti, CallsNoMulti}
 use Rattle.isle_laws_runs.proofs.picks.Ordered.{met, either}
 use Rattle.isle_laws_runs.proofs.picks.Plain.{from_to_count, output_count, either_count}
-use Rattle.isle_laws_runs.proofs.picks.OnePick.{asking_met, finished_met, no_iterators}
+use Rattle.isle_laws_runs.proofs.picks.OnePick.{asking_met, finished_met}
 
 -- 1. a call that is gone over stays in the list
 not_empty : (ss : List SiteTerm) (s : SiteTerm) → ss ++ s ∷ [] ≡ [] → ⊥
@@ -134,7 +134,7 @@ module _ (p : Program) where
       let c = expr_none i.rhs v (sym (asking_met (unwraps w.site) w.visit) ∙ b.0) in
       (c.0, (b.1, c.1, a.1))
 
-  calls_no_multi : (r : TypedRule) → (demands_of p r).iterators ≡ [] → CallsNoMulti p r
+  pub calls_no_multi : (r : TypedRule) → (demands_of p r).iterators ≡ [] → CallsNoMulti p r
   calls_no_multi r h =
       let v = visit_args p 0 r.args visit_start in
       let w = visit_iflets p r.iflets v in
@@ -142,6 +142,3 @@ module _ (p : Program) where
       let b = iflets_none r.iflets v a.0 in
       let c = args_none 0 r.args visit_start b.0 in
       record { patterns = c.1; conditions = b.1; right = a.1 }
-
-pub no_multi_is_no_iterators_lem : NoMultiIsNoIterators
-no_multi_is_no_iterators_lem p r = (no_iterators p r, calls_no_multi p r)

@@ -7,9 +7,9 @@ use Rattle.isle_model.specs.rules.Program.{Program, Kind, a_variant, a_struct, a
 use Rattle.isle_model.specs.rules.Matching.{single}
 use Rattle.isle_model.specs.rules.RightSide.{gives, EvalAll, gives_all, ends_all, or_end, then_rest, outcome_of}
 use Rattle.isle_model.specs.sites.Sites.{SiteTerm, argument, extractor_call, constructor_call, SiteTerms}
-use Rattle.isle_model.specs.rules.Picks.{Pick, taken_answer, site_content, sited, SitedVars, expr_site, expr_sites, input_sites, parts_under, holds_under, each_holds_under, all_hold_under, term_under, value_under, values_under, lets_under, args_hold_under, iflets_hold_under, impure_under, apply_under, then_sited_lets, then_sited_body, eval_under, eval_all_under, eval_lets_under}
-use Rattle.isle_model.specs.rules.Typed.{TypedPattern, match_bind, match_var, match_bool, match_int, match_prim, match_term, match_any, match_and, TypedPatterns, no_typed_pattern, typed_pattern_and, TypedExpr, make_term, make_var, make_bool, make_int, make_prim, make_let, TypedExprs, no_typed_expr, typed_expr_and, TypedLets, no_typed_let, typed_let_and, TypedIfLet}
-use Rattle.isle_laws_runs.specs.Exact.{GiveSamePlaces, OnlyPlacesMatter}
+use Rattle.isle_model.specs.rules.Picks.{Pick, taken_answer, site_content, sited, SitedVars, expr_site, expr_sites, input_sites, parts_under, holds_under, each_holds_under, all_hold_under, term_under, value_under, values_under, lets_under, args_hold_under, iflets_hold_under, impure_under, apply_under, then_sited_lets, then_sited_body, eval_under, eval_all_under, eval_lets_under, matches_under, right_side_under}
+use Rattle.isle_model.specs.rules.Typed.{TypedPattern, match_bind, match_var, match_bool, match_int, match_prim, match_term, match_any, match_and, TypedPatterns, no_typed_pattern, typed_pattern_and, TypedExpr, make_term, make_var, make_bool, make_int, make_prim, make_let, TypedExprs, no_typed_expr, typed_expr_and, TypedLets, no_typed_let, typed_let_and, TypedIfLet, TypedRule}
+use Rattle.isle_laws_runs.specs.Exact.{GiveSamePlaces}
 use Rattle.isle_laws_runs.proofs.picks.Grown.{picked_alike, content_alike}
 
 module _ (m : Meaning) (k l : Pick) (g : GiveSamePlaces k l) where
@@ -128,9 +128,9 @@ module _ (p : Program) (m : Meaning) (k l : Pick) (g : GiveSamePlaces k l) where
     eval_lets_same (typed_let_and x ty value rest) e calls =
         λ j. then_sited_lets (eval_same value e calls j) (λ o calls'. eval_lets_same rest ((x, sited (expr_site p value e (length calls)) o) ∷ e) calls' j)
 
-pub only_places_matter_lem : OnlyPlacesMatter
-only_places_matter_lem p m args r k l g = record {
-  contents = content_same m k l g args;
-  matching = λ j. then_option (args_same p m k l g 0 r.args args [] j) (λ e. iflets_same p m k l g r.iflets e j);
-  ends = λ e. ap (outcome_of (is_partial p r.root_term)) (eval_same p m k l g r.rhs e []);
-}
+  -- 7. rules
+  pub matching_same : (r : TypedRule) (args : List Value) → matches_under p m k r args ≡ matches_under p m l r args
+  matching_same r args = λ j. then_option (args_same 0 r.args args [] j) (λ e. iflets_same r.iflets e j)
+
+  pub ends_same : (r : TypedRule) (e : SitedVars) → right_side_under p m k r e ≡ right_side_under p m l r e
+  ends_same r e = ap (outcome_of (is_partial p r.root_term)) (eval_same r.rhs e [])

@@ -55,6 +55,29 @@ module _ (sites : List Site) (before : SourcesBefore sites) where
             omega (arith, l, m)
       ]
 
+  -- what is below something that is below a site is below the site
+  below_deeper : (n s u t : ℕ) → s < n → Contains (below n sites s) u → Contains (below (suc u) sites u) t → Contains (below n sites s) t
+  below_deeper zero s u t l c k = absurd (nothing_in u c)
+  below_deeper (suc n) s u t l c k =
+      elim (in_cases s u (flat_map (below n sites) (sources_at sites s)) c) [
+        | inl e ↦ subst (λ xs. Contains xs t) (sym (below_enough (suc n) s l)) (subst (λ x. Contains (below (suc x) sites x) t) (sym e) k)
+        | inr d ↦
+            let r = from_flat_map (below n sites) (sources_at sites s) u d in
+            let m = before s r.0 r.1 in
+            below_source sites n s r.0 t r.1 (below_deeper n r.0 u t (omega (arith, l, m)) r.2 k)
+      ]
+
+  -- so all that is below pure sites has only pure ones below it
+  pub pure_deeper : (ss : List ℕ) → ((u : ℕ) → Contains (all_below sites ss) u → IsPureAt sites u) → (s : ℕ) → Contains (all_below sites ss) s → IsPureBelow sites s
+  pure_deeper ss pure s c u k =
+      let a = from_flat_map (λ x. below (suc x) sites x) ss s c in
+      pure u (in_flat_map (λ x. below (suc x) sites x) ss a.0 u a.1 (below_deeper (suc a.0) a.0 s u (omega arith) a.2 k))
+
+  pub pure_sources : (s x : ℕ) → Contains (sources_at sites s) x → IsPureBelow sites s → IsPureBelow sites x
+  pure_sources s x c pure u k =
+      let l = before s x c in
+      pure u (below_source sites s s x u c (subst (λ xs. Contains xs u) (sym (below_enough s x l)) k))
+
   -- below a call stands the call, and what is under it
   pub call_or_under : (source t : ℕ) → Contains (all_below sites (source ∷ [])) t → (source ≡ t) ⊎ Contains (under sites (source ∷ [])) t
   call_or_under source t c =

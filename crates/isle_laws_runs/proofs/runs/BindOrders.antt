@@ -12,6 +12,7 @@ use Rattle.isle_model.proofs.Members.{nothing_in, in_head, in_tail, in_cases, in
 use Rattle.isle_model.specs.rules.Picks.{Pick}
 use Rattle.isle_model.specs.trees.Collects.{content_at}
 use Rattle.isle_laws_runs.proofs.runs.Contents.{SourcesBefore}
+use Rattle.isle_laws_runs.proofs.runs.Below.{IsPureBelow, pure_deeper, pure_sources}
 use Rattle.isle_laws_runs.proofs.runs.Binding.{content_of, Held, held_as, kept_below, binds_now, keeps_bound, keeps_in_place}
 
 -- 1. one bind order after another
@@ -39,9 +40,10 @@ bind_last w env env' env'' listed s h k =
     ∙ ap (λ b. then_bind b (λ e calls. bind_all w e calls (to_bind w.sites (s ∷ [])))) h
     ∙ k
 
--- 2. under a pick, each site without impure calls that waits for nothing and whose sources have contents has one
+-- 2. under a pick, each site that waits for nothing, that no impure call stands at or below, and whose sources have contents
+-- has one
 abbrev pub Finds : World → Pick → Type 0
-Finds w pick = (s : ℕ) → IsPureAt w.sites s → waits (slice_get w.sites s) ≡ false
+Finds w pick = (s : ℕ) → IsPureBelow w.sites s → waits (slice_get w.sites s) ≡ false
     → All (λ a. IsTrue (is_some (content_at w pick a))) (sources_at w.sites s) → IsTrue (is_some (content_at w pick s))
 
 -- what a bind order of these sites comes to: all below them is kept as well
@@ -82,7 +84,7 @@ module _ (w : World) (pick : Pick) (before : SourcesBefore w.sites) (finds : Fin
   put : (done : List ℕ) (env' : Env) → Binds done env' → (s : ℕ) → Below s → waits (slice_get w.sites s) ≡ false → ((u : ℕ) → Contains (sources_at w.sites s) u → In done u)
       → (env'' : Env) × Binds (done ++ s ∷ []) env''
   put done env' b s f n sources =
-      let found = finds s (pure s f) n (all_members (λ a. IsTrue (is_some (content_at w pick a))) (sources_at w.sites s) (λ a k. let h = b.held.there a (sources a k) in ap is_some h.1)) in
+      let found = finds s (pure_deeper w.sites before ss pure s f) n (all_members (λ a. IsTrue (is_some (content_at w pick a))) (sources_at w.sites s) (λ a k. let h = b.held.there a (sources a k) in ap is_some h.1)) in
       let c = content_of (content_at w pick s) found in
       elim (cases_Bool (is_in_place (slice_get w.sites s))) [
         | inl p ↦
@@ -179,17 +181,17 @@ module _ (w : World) (pick : Pick) (before : SourcesBefore w.sites) (finds : Fin
       (m.0, m.1.binds, held_as w pick m.0 (In listed) (λ t. Below t ⊎ Base t) (to m) (from m) m.1.held)
 
 -- an available site has a content
-pub available_found : (w : World) (pick : Pick) → Finds w pick → (ar : Around) → ((s : ℕ) → IsTrue (is_in s ar.brought) → IsTrue (is_some (content_at w pick s)))
-    → (n s : ℕ) → is_available n w.sites ar.brought s ≡ true → ((u : ℕ) → Contains (below n w.sites s) u → IsPureAt w.sites u) → IsTrue (is_some (content_at w pick s))
-available_found w pick finds ar there zero s a pure = absurd (false≢true a)
-available_found w pick finds ar there (suc n) s a pure =
+pub available_found : (w : World) (pick : Pick) → SourcesBefore w.sites → Finds w pick → (ar : Around) → ((s : ℕ) → IsTrue (is_in s ar.brought) → IsTrue (is_some (content_at w pick s)))
+    → (n s : ℕ) → is_available n w.sites ar.brought s ≡ true → IsPureBelow w.sites s → IsTrue (is_some (content_at w pick s))
+available_found w pick before finds ar there zero s a pure = absurd (false≢true a)
+available_found w pick before finds ar there (suc n) s a pure =
     elim (or_cases (is_in s ar.brought) (not (waits (slice_get w.sites s)) && list_all (is_available n w.sites ar.brought) (sources_at w.sites s)) a) [
       | inl i ↦ there s i
       | inr r ↦
           let q = and_parts (not (waits (slice_get w.sites s))) (list_all (is_available n w.sites ar.brought) (sources_at w.sites s)) r in
-          finds s (pure s (in_head s (flat_map (below n w.sites) (sources_at w.sites s)))) (now (waits (slice_get w.sites s)) q.0)
+          finds s pure (now (waits (slice_get w.sites s)) q.0)
           (all_members (λ x. IsTrue (is_some (content_at w pick x))) (sources_at w.sites s)
-          (λ x c. available_found w pick finds ar there n x (each_passes (is_available n w.sites ar.brought) (sources_at w.sites s) q.1 x c) (λ u k. pure u (in_tail s u (flat_map (below n w.sites) (sources_at w.sites s)) (in_flat_map (below n w.sites) (sources_at w.sites s) x u c k)))))
+          (λ x c. available_found w pick before finds ar there n x (each_passes (is_available n w.sites ar.brought) (sources_at w.sites s) q.1 x c) (pure_sources w.sites before s x c pure)))
     ]
   where
     now : (b : Bool) → not b ≡ true → b ≡ false

@@ -106,8 +106,8 @@ module _ (w : World) (rules : List SetRule) (clear : IsClearSet w rules) where
   -- a call that no loop around goes over is one that the pick doesn't name
   pub call_free : (ar : Around) (pick : Pick) (env : Env) → At w rules ar pick env → (source : ℕ) → IsGoneOver rules source → is_in source ar.looped ≡ false → Contains (keys pick) (unfold_site w.sites source) → ⊥
   call_free ar pick env at source gone out k =
-      let r = at.names (unfold_site w.sites source) k in
-      let e = unfold_once w.sites clear.sources source r.0 clear.once (call_known w rules clear source gone) (call_known w rules clear r.0 (at.around r.0 r.1)) r.2 in
+      let r = at.picked.names (unfold_site w.sites source) k in
+      let e = unfold_once w.sites clear.sources source r.0 clear.once (call_known w rules clear source gone) (call_known w rules clear r.0 (at.picked.around r.0 r.1)) r.2 in
       both_ways (is_in source ar.looped) out (member_is_in source ar.looped (subst (Contains ar.looped) (sym e) r.1))
 
   -- 4. the run
@@ -121,7 +121,7 @@ module _ (w : World) (rules : List SetRule) (clear : IsClearSet w rules) where
       steps_run (m_step binds (m_match source arms) rest) ar pick env known sound at =
           let inside = sound.1 in
           let here = known_left rules (marks_arms arms) (marks rest) known in
-          let s = match_step w rules clear ar pick env at binds source (plain_arms rules arms) (plain rules rest) (sound.0 refl) (inside.0 refl) (asked_pure arms ar source None inside.1 here inside.2) in
+          let s = match_step w rules clear ar pick env at binds source (plain_arms rules arms) (plain rules rest) (sound.0 refl) (record { available = inside.0 refl; pure = asked_pure arms ar source None inside.1 here inside.2 }) in
           kept.alike ar.looped pick (marks_arms arms ++ marks rest) (run_tree (step binds (match_at source (plain_arms rules arms)) (plain rules rest)) w env) (λ t. or_next (run_arms (plain_arms rules arms) w s.0 s.1 t) (run_tree (plain rules rest) w s.1)) s.4
           (kept.next ar.looped pick (marks_arms arms) (marks rest) (run_arms (plain_arms rules arms) w s.0 s.1) (run_tree (plain rules rest) w s.1) sound.2
           (arms_run arms ar pick s.1 source None s.0 here inside.2 s.2 s.3)
@@ -133,8 +133,8 @@ module _ (w : World) (rules : List SetRule) (clear : IsClearSet w rules) where
           let member = member_from_get rules m.0 m.1 m.3 in
           let join = inside.2 m.0 m.1 m.2 m.3 in
           let s = equal_step w rules clear ar pick env at binds a b (plain rules body) (plain rules rest) m.1 member join (sound.0 refl)
-          (inside.0 refl).0 (clear.tested m.1 member a (class_tested m.1 a b join)).pure
-          (inside.0 refl).1 (clear.tested m.1 member b (class_tested m.1 b a (joined_back m.1.classes a b join))).pure in
+          (record { available = (inside.0 refl).0; pure = (clear.tested m.1 member a (class_tested m.1 a b join)).pure })
+          (record { available = (inside.0 refl).1; pure = (clear.tested m.1 member b (class_tested m.1 b a (joined_back m.1.classes a b join))).pure }) in
           kept.alike ar.looped pick (marks body ++ marks rest) (run_tree (step binds (equal_at a b (plain rules body)) (plain rules rest)) w env) (λ t. or_next (on_equal (Some s.0) (Some s.1) t (run_tree (plain rules body) w s.2 t)) (run_tree (plain rules rest) w s.2)) s.6
           (kept.next ar.looped pick (marks body) (marks rest) (λ t. on_equal (Some s.0) (Some s.1) t (run_tree (plain rules body) w s.2 t)) (run_tree (plain rules rest) w s.2) sound.2
           (elim (values_cases s.0 s.1) [
@@ -204,23 +204,25 @@ module _ (w : World) (rules : List SetRule) (clear : IsClearSet w rules) where
     at_root : ServesUnder w rules [] → At w rules nothing_around [] []
     at_root served = record {
       calls = [];
+      picked = record {
+        served = served;
+        over = λ s k. absurd (nothing_in s k);
+        around = λ s k. absurd (nothing_in s k);
+        named = λ s k. absurd (nothing_in s k);
+        names = λ c k. absurd (nothing_in c k);
+      };
       held = record {
         there = λ t k. absurd (none_kept t k);
         bound = λ t k n. absurd (none_kept t k);
         right = λ t c e. absurd (none-some c e);
         closed = λ t u k c. absurd (none_kept t k);
       };
-      served = served;
       pure = λ s k. absurd (false≢true k);
       brought = λ s k. absurd (false≢true k);
       brings = λ s c x k l. absurd (nothing_in (s, c) k);
       loops = λ source s k e. absurd (nothing_in source k);
       tested = λ s c k. absurd (nothing_in (s, c) k);
       joined = tt;
-      over = λ s k. absurd (nothing_in s k);
-      around = λ s k. absurd (nothing_in s k);
-      named = λ s k. absurd (nothing_in s k);
-      names = λ c k. absurd (nothing_in c k);
     }
       where
         none_kept : (t : ℕ) → Kept nothing_around [] t → ⊥

@@ -13,7 +13,7 @@ use Rattle.isle_model.specs.rules.Picks.{Pick, picks_over}
 use Rattle.isle_model.specs.sites.Sites.{Site, constructor_site, SetRule, unfold_site}
 use Rattle.isle_model.specs.sites.Gates.{gate_demanded}
 use Rattle.isle_model.specs.trees.Trees.{Tree, step, return_at, Marked, marks}
-use Rattle.isle_model.specs.trees.Places.{Around, is_in, available, below, all_below, bind_order, return_uses}
+use Rattle.isle_model.specs.trees.Places.{Around, is_in, below, all_below, bind_order, return_uses}
 use Rattle.isle_model.specs.trees.Run.{World, Env, Trace, returned, ending_at, with_content, or_next, for_each, run_tree, run}
 use Rattle.isle_model.specs.trees.Sound.{IsTested, ReturnsEach, IsSound}
 use Rattle.isle_model.specs.trees.Collects.{Collects, content_at, demands_hold, as_list, result_in, sites_of_rule, calls_nothing, IsPureSite, calls_gone_over, set_bag, IsCollectedRule, IsCollectedSet, ServesSet, SoundTreesCollect}
@@ -21,9 +21,9 @@ use Rattle.isle_model.specs.trees.SetRuns.{tested_sites}
 use Rattle.isle_model.proofs.Bags.{as_numbers, of_numbers}
 use Rattle.isle_model.proofs.Members.{in_head, in_alone, some_member, member_from_get, get_within, in_flat_map}
 use Rattle.isle_model.proofs.Numbers.{none_pass, filters_same}
-use Rattle.isle_laws_runs.proofs.runs.Below.{IsPureBelow, below_within}
+use Rattle.isle_laws_runs.proofs.runs.Below.{IsPureBelow, below_itself, below_within}
 use Rattle.isle_laws_runs.proofs.runs.BindOrders.{Finds}
-use Rattle.isle_laws_runs.proofs.runs.Standing.{IsClear, IsClearSet, ServesUnder, IsGoneOver, At, wider, set_of, found_at, binds_at, ready_here, holds_here}
+use Rattle.isle_laws_runs.proofs.runs.Standing.{IsClear, IsClearSet, ServesUnder, IsGoneOver, At, IsReady, wider, set_of, found_at, binds_at, ready_here, holds_here}
 use Rattle.isle_laws_runs.proofs.runs.Steps.{trace, step_runs}
 use Rattle.isle_laws_runs.proofs.runs.Claims.{IsKept, says_of_run}
 use Rattle.isle_laws_runs.proofs.runs.Added.{Adds, adds_none, adds_then, adds_as, each_adds}
@@ -75,7 +75,9 @@ module _ (w : World) (rules : List SetRule) (built : IsCollectedSet (set_of w ru
   result_clear r known = site_clear r known r.result (Contains-append_right (tested_sites r ++ r.iterators) (r.result ∷ []) r.result (in_head r.result []))
 
   finds : (k : Pick) → Finds w k
-  finds k s p n all = served.found k s (slice_get_within w.sites s p.0 p.1) n (ap calls_nothing p.1 ∙ nothing_called p.0 p.2) all
+  finds k s pure n all =
+      let p = pure s (below_itself w.sites s) in
+      served.found k s (slice_get_within w.sites s p.0 p.1) n (ap calls_nothing p.1 ∙ nothing_called p.0 p.2) all
 
   serves : (k : Pick) → ServesUnder w rules k
   serves k = record { found = finds k; lists = served.lists k; values = served.values k; fields = served.fields k; apart = served.apart k }
@@ -98,12 +100,11 @@ module _ (w : World) (rules : List SetRule) (built : IsCollectedSet (set_of w ru
       → Says ar.looped pick (i ∷ later) (run_tree (step (bind_order w.sites ar (return_uses (Some r))) (return_at r.at r.result) rest) w env)
   return_adds ar pick env at i r get all rest later next done =
       let known = member_from_get rules i r get in
-      let ready = result_clear r known in
-      let avail = ready_here w rules clear ar pick env at r known all r.result ready in
-      let x = found_at w rules clear ar pick env at r.result avail ready.pure in
+      let ready = ready_here w rules clear ar pick env at r known all r.result (result_clear r known) in
+      let x = found_at w rules clear ar pick env at r.result ready in
       let only : return_uses (Some r) ≡ r.result ∷ [] = ap (λ l. l ++ r.result ∷ []) (rule_of r known).no_calls in
       let alone : (s : ℕ) → Contains (return_uses (Some r)) s → r.result ≡ s = λ s c. in_alone r.result s (subst (λ l. Contains l s) only c) in
-      let b = binds_at w rules clear ar pick env at (return_uses (Some r)) (λ s c. subst (λ t. IsTrue (available w.sites ar t)) (alone s c) avail) (λ s c. subst (IsPureBelow w.sites) (alone s c) ready.pure) in
+      let b = binds_at w rules clear ar pick env at (return_uses (Some r)) (λ s c. subst (IsReady w.sites ar) (alone s c) ready) in
       let read = b.3 r.result (subst (λ l. Contains l r.result) (sym only) (in_head r.result [])) ∙ x.1 in
       let one_left : left_of w rules ar.looped pick (slice_get rules i) ≡ x.0 ∷ [] =
       ap (left_of w rules ar.looped pick) get

@@ -130,7 +130,7 @@ module _ (w : World) (rules : List SetRule) where
             let source_less = clear.sources b.0 b.1 (subst (λ o. Contains (sources_in o) b.1) (sym b.3) (in_head b.1 [])) in
             let gate : is_in b.1 r.iterators ≡ true = sym (ap (gate_demanded r) b.3) ∙ (clear.gone_over r known s i).gates b.0 b.2 in
             elim (cases_Bool (is_in b.1 ar.looped)) [
-              | inl t ↦ inl (subst (Contains (keys pick)) (sym b.4) (at.named b.1 (member_found b.1 ar.looped t)))
+              | inl t ↦ inl (subst (Contains (keys pick)) (sym b.4) (at.picked.named b.1 (member_found b.1 ar.looped t)))
               | inr f ↦ inr (b.1, and_from (is_in b.1 r.iterators) (not (is_in b.1 ar.looped)) gate (ap not f), omega arith, omega (arith, under_s, source_less), b.4)
             ]
 

@@ -62,18 +62,20 @@ module _ (w : World) (rules : List SetRule) (clear : IsClearSet w rules) (ar : A
   at_after_loop brought at = (
     record {
       calls = source ∷ at.calls;
+      picked = record {
+        served = at.picked.served;
+        over = λ s k. elim (in_cases source s at.calls k) [ inl e ↦ subst (IsGoneOver rules) e gone_over | inr l ↦ at.picked.over s l ];
+        around = at.picked.around;
+        named = at.picked.named;
+        names = at.picked.names;
+      };
       held = held_as w pick env (Kept (wider w.sites ar (source ∷ [])) at.calls) (Kept After (source ∷ at.calls)) to from at.held;
-      served = at.served;
       pure = λ s i. at.pure s (above s i);
       brought = λ s i. in_second s beneath ar.emitted (brought s i);
       brings = at.brings;
       loops = at.loops;
       tested = at.tested;
       joined = at.joined;
-      over = λ s k. elim (in_cases source s at.calls k) [ inl e ↦ subst (IsGoneOver rules) e gone_over | inr l ↦ at.over s l ];
-      around = at.around;
-      named = at.named;
-      names = at.names;
     },
     in_head source at.calls,
   )
@@ -131,13 +133,13 @@ module _ (w : World) (rules : List SetRule) (clear : IsClearSet w rules) (ar : A
         subst (λ l. Contains l (unfold_site w.sites s)) (keys_push pick (unfold_site w.sites source, n))
         (elim (in_cases source s ar.looped k) [
           | inl e ↦ Contains-append_right (keys pick) (unfold_site w.sites source ∷ []) (unfold_site w.sites s) (subst (λ x. Contains (unfold_site w.sites source ∷ []) (unfold_site w.sites x)) e (in_head (unfold_site w.sites source) []))
-          | inr l ↦ Contains-append_left (keys pick) (unfold_site w.sites source ∷ []) (unfold_site w.sites s) (at.named s l)
+          | inr l ↦ Contains-append_left (keys pick) (unfold_site w.sites source ∷ []) (unfold_site w.sites s) (at.picked.named s l)
         ])
 
     names_now : (x : SiteTerm) → Contains (keys longer) x → (s : ℕ) × Contains (source ∷ ar.looped) s × (x ≡ unfold_site w.sites s)
     names_now x k =
         elim (Contains-append_cases (keys pick) (unfold_site w.sites source ∷ []) x (subst (λ l. Contains l x) (sym (keys_push pick (unfold_site w.sites source, n))) k)) [
-          | inl a ↦ let r = at.names x a in (r.0, in_tail source r.0 ar.looped r.1, r.2)
+          | inl a ↦ let r = at.picked.names x a in (r.0, in_tail source r.0 ar.looped r.1, r.2)
           | inr b ↦ (source, in_head source ar.looped, sym (in_alone (unfold_site w.sites source) x b))
         ]
 
@@ -153,9 +155,15 @@ module _ (w : World) (rules : List SetRule) (clear : IsClearSet w rules) (ar : A
     pub at_loop : ServesUnder w rules longer → At w rules Body longer ((result, c) ∷ env)
     at_loop served = record {
       calls = at.calls;
+      picked = record {
+        served = served;
+        over = at.picked.over;
+        around = λ s k. elim (in_cases source s ar.looped k) [ inl e ↦ subst (IsGoneOver rules) e gone_over | inr l ↦ at.picked.around s l ];
+        named = named_now;
+        names = names_now;
+      };
       held = held_as w longer ((result, c) ∷ env) (λ t. Kept After at.calls t ⊎ (result ≡ t)) (Kept Body at.calls) to from
           (keeps_bound w longer clear.sources env (Kept After at.calls) (held_grown w pick one_more env (Kept After at.calls) at.held) result c answer_content source_of_result);
-      served = served;
       pure = λ s i. elim (or_cases (result == s) (is_in s (beneath ++ ar.emitted)) i) [
         | inl q ↦ (iterator_site source, ap (slice_get w.sites) (sym (eqb-true result s q)) ∙ here, tt)
         | inr e ↦ at.pure s e
@@ -171,8 +179,4 @@ module _ (w : World) (rules : List SetRule) (clear : IsClearSet w rules) (ar : A
       ];
       tested = λ s d k. meets_grown w pick one_more s d (at.tested s d k);
       joined = joined_grown w pick one_more ar.joined at.joined;
-      over = at.over;
-      around = λ s k. elim (in_cases source s ar.looped k) [ inl e ↦ subst (IsGoneOver rules) e gone_over | inr l ↦ at.around s l ];
-      named = named_now;
-      names = names_now;
     }

@@ -24,7 +24,7 @@ use Rattle.isle_laws_runs.proofs.runs.Contents.{SourcesBefore}
 use Rattle.isle_laws_runs.proofs.runs.Below.{IsPureBelow, below_itself, below_source, all_below_itself, all_below_pure}
 use Rattle.isle_laws_runs.proofs.runs.Binding.{content_of, Held, held_as, reads}
 use Rattle.isle_laws_runs.proofs.runs.BindOrders.{Finds, binds_order, available_found}
-use Rattle.isle_laws_runs.proofs.runs.Fields.{gate_brought}
+use Rattle.isle_laws_runs.proofs.runs.FieldSites.{gate_brought}
 use Rattle.isle_laws_runs.proofs.runs.Demanded.{joined_in, demands_from}
 
 -- 1. sets and worlds
@@ -69,22 +69,32 @@ joined_at : (w : World) (pick : Pick) (ps : List (ℕ × ℕ)) → Joined w pick
 joined_at w pick [] h = tt
 joined_at w pick (p ∷ ps) h = (let c = h.0 in (c.1 ∙ sym c.2, joined_at w pick ps h.1))
 
+-- a pick at a place: the world serves it, and it names the calls of the loops around; what these and loops before went
+-- over, some rules go over
+pub record PickedAt (w : World) (rules : List SetRule) (looped calls : List ℕ) (pick : Pick) : Type 0 where
+  pub served : ServesUnder w rules pick
+  pub over : (s : ℕ) → Contains calls s → IsGoneOver rules s
+  pub around : (s : ℕ) → Contains looped s → IsGoneOver rules s
+  pub named : (s : ℕ) → Contains looped s → Contains (keys pick) (unfold_site w.sites s)
+  pub names : (c : SiteTerm) → Contains (keys pick) c → (s : ℕ) × Contains looped s × (c ≡ unfold_site w.sites s)
+
 -- on the path to a place: kept is what is emitted, which makes no impure call, and the calls that loops went over, around
--- or before; brought sites are emitted, the tests around have passed, and the pick names the calls of the loops around
+-- or before; brought sites are emitted, and the tests and loops around have passed
 pub record At (w : World) (rules : List SetRule) (ar : Around) (pick : Pick) (env : Env) : Type 0 where
   pub calls : List ℕ
+  pub picked : PickedAt w rules ar.looped calls pick
   pub held : Held w pick env (Kept ar calls)
-  pub served : ServesUnder w rules pick
   pub pure : (s : ℕ) → IsTrue (is_in s ar.emitted) → IsPureAt w.sites s
   pub brought : (s : ℕ) → IsTrue (is_in s ar.brought) → IsTrue (is_in s ar.emitted)
   pub brings : (s : ℕ) (c : Constraint) (x : ℕ) → Contains ar.tested (s, c) → Contains (field_sites (fields_of w.sites s c)) x → Contains ar.brought x
   pub loops : (source s : ℕ) → Contains ar.looped source → slice_get w.sites s ≡ Some (iterator_site source) → Contains ar.brought s
   pub tested : (s : ℕ) (c : Constraint) → Contains ar.tested (s, c) → meets w.meaning c (content_at w pick s) ≡ true
   pub joined : Joined w pick ar.joined
-  pub over : (s : ℕ) → Contains calls s → IsGoneOver rules s
-  pub around : (s : ℕ) → Contains ar.looped s → IsGoneOver rules s
-  pub named : (s : ℕ) → Contains ar.looped s → Contains (keys pick) (unfold_site w.sites s)
-  pub names : (c : SiteTerm) → Contains (keys pick) c → (s : ℕ) × Contains ar.looped s × (c ≡ unfold_site w.sites s)
+
+-- a site that a step at a place can use
+pub record IsReady (sites : List Site) (ar : Around) (s : ℕ) : Type 0 where
+  pub available : IsTrue (available sites ar s)
+  pub pure : IsPureBelow sites s
 
 -- the set of these rules over the world's sites
 abbrev pub set_of : World → List SetRule → SiteSet
@@ -109,33 +119,29 @@ module _ (w : World) (rules : List SetRule) (clear : IsClearSet w rules) where
 
   -- 3. available sites at a place
   module _ (ar : Around) (pick : Pick) (env : Env) (at : At w rules ar pick env) where
-    pub found_at : (s : ℕ) → IsTrue (available w.sites ar s) → IsPureBelow w.sites s → (c : Content) × (content_at w pick s ≡ Some c)
-    found_at s a pure =
+    pub found_at : (s : ℕ) → IsReady w.sites ar s → (c : Content) × (content_at w pick s ≡ Some c)
+    found_at s ready =
         content_of (content_at w pick s)
-        (available_found w pick at.served.found ar (λ u i. let h = at.held.there u (inl (at.brought u i)) in ap is_some h.1) (suc s) s a pure)
+        (available_found w pick clear.sources at.picked.served.found ar (λ u i. let h = at.held.there u (inl (at.brought u i)) in ap is_some h.1) (suc s) s ready.available ready.pure)
 
     -- bound, they can be used, and the place is wider
-    pub binds_at : (ss : List ℕ) → ((s : ℕ) → Contains ss s → IsTrue (available w.sites ar s)) → ((s : ℕ) → Contains ss s → IsPureBelow w.sites s)
+    pub binds_at : (ss : List ℕ) → ((s : ℕ) → Contains ss s → IsReady w.sites ar s)
         → (env' : Env) × (bind_all w env [] (bind_order w.sites ar ss) ≡ all_bound env' []) × At w rules (wider w.sites ar ss) pick env' × ((s : ℕ) → Contains ss s → used w env' s ≡ content_at w pick s)
-    binds_at ss avail pure =
-        let fine = all_below_pure w.sites ss pure in
-        let b = binds_order w pick clear.sources at.served.found ar at.brought (Kept ar at.calls) (λ s i. inl i) env at.held ss avail fine in (
+    binds_at ss ready =
+        let fine = all_below_pure w.sites ss (λ s c. (ready s c).pure) in
+        let b = binds_order w pick clear.sources at.picked.served.found ar at.brought (Kept ar at.calls) (λ s i. inl i) env at.held ss (λ s c. (ready s c).available) fine in (
           b.0,
           b.1,
           record {
             calls = at.calls;
+            picked = at.picked;
             held = held_as w pick b.0 (λ t. Contains (all_below w.sites ss) t ⊎ Kept ar at.calls t) (Kept (wider w.sites ar ss) at.calls) to from b.2;
-            served = at.served;
             pure = λ s i. elim (in_either s (all_below w.sites ss) ar.emitted i) [ inl c ↦ fine s c | inr e ↦ at.pure s e ];
             brought = λ s i. in_second s (all_below w.sites ss) ar.emitted (at.brought s i);
             brings = at.brings;
             loops = at.loops;
             tested = at.tested;
             joined = at.joined;
-            over = at.over;
-            around = at.around;
-            named = at.named;
-            names = at.names;
           },
           λ s c. reads w pick clear.sources b.0 (λ t. Contains (all_below w.sites ss) t ⊎ Kept ar at.calls t) b.2 s (inl (all_below_itself w.sites ss s c)),
         )
@@ -158,9 +164,9 @@ module _ (w : World) (rules : List SetRule) (clear : IsClearSet w rules) where
             | inr i ↦ member_is_in s ar.brought (at.loops i.0 s (all.iterators i.0 i.2) (e ∙ ap Some i.1))
           ]
 
-      ready : (n s : ℕ) → s < n → ((u : ℕ) → Contains (below n w.sites s) u → IsPureAt w.sites u × IsTrue (gate_demanded r (slice_get w.sites u))) → is_available n w.sites ar.brought s ≡ true
-      ready zero s l fine = absurd (omega arith)
-      ready (suc n) s l fine =
+      available_here : (n s : ℕ) → s < n → ((u : ℕ) → Contains (below n w.sites s) u → IsPureAt w.sites u × IsTrue (gate_demanded r (slice_get w.sites u))) → is_available n w.sites ar.brought s ≡ true
+      available_here zero s l fine = absurd (omega arith)
+      available_here (suc n) s l fine =
           let rest = not (waits (slice_get w.sites s)) && list_all (is_available n w.sites ar.brought) (sources_at w.sites s) in
           let h = fine s (in_head s (flat_map (below n w.sites) (sources_at w.sites s))) in
           elim (cases_Bool (waits (slice_get w.sites s))) [
@@ -169,19 +175,18 @@ module _ (w : World) (rules : List SetRule) (clear : IsClearSet w rules) where
                 or_right (is_in s ar.brought) rest
                 (and_from (not (waits (slice_get w.sites s))) (list_all (is_available n w.sites ar.brought) (sources_at w.sites s)) (ap not f)
                 (all_pass (is_available n w.sites ar.brought) (sources_at w.sites s)
-                (λ x c. let m = clear.sources s x c in ready n x (omega (arith, l, m)) (λ u k. fine u (below_source w.sites n s x u c k)))))
+                (λ x c. let m = clear.sources s x c in available_here n x (omega (arith, l, m)) (λ u k. fine u (below_source w.sites n s x u c k)))))
           ]
 
-      pub ready_here : (s : ℕ) → IsClear w.sites r s → IsTrue (available w.sites ar s)
-      ready_here s c = ready (suc s) s (omega arith) (λ u k. (c.pure u k, c.gates u k))
+      pub ready_here : (s : ℕ) → IsClear w.sites r s → IsReady w.sites ar s
+      ready_here s c = record { available = available_here (suc s) s (omega arith) (λ u k. (c.pure u k, c.gates u k)); pure = c.pure }
 
       pub holds_here : demands_hold w pick r ≡ true
       holds_here =
           demands_from w pick r (λ s c k. at.tested s c (all.constraints s c k))
           (λ a b j.
-          let k = clear.tested r known a (class_tested r a b j) in
-          let c = found_at a (ready_here a k) k.pure in
-          let v = at.served.values r a b c.0 known j c.1 in
+          let c = found_at a (ready_here a (clear.tested r known a (class_tested r a b j))) in
+          let v = at.picked.served.values r a b c.0 known j c.1 in
           let here = c.1 ∙ ap Some v.1 in
           (v.0, here, sym (joined_same (content_at w pick) ar.joined (joined_at w pick ar.joined at.joined) a b (all.equalities a b j)) ∙ here))
 
@@ -189,18 +194,14 @@ module _ (w : World) (rules : List SetRule) (clear : IsClearSet w rules) where
   pub at_equal : (ar : Around) (a b : ℕ) (pick : Pick) (env : Env) (c : Content) → At w rules (wider w.sites ar (a ∷ (b ∷ []))) pick env → content_at w pick a ≡ Some c → content_at w pick b ≡ Some c → At w rules (in_equal (set_of w rules) ar a b) pick env
   at_equal ar a b pick env c at x y = record {
     calls = at.calls;
+    picked = at.picked;
     held = at.held;
-    served = at.served;
     pure = at.pure;
     brought = at.brought;
     brings = at.brings;
     loops = at.loops;
     tested = at.tested;
     joined = ((c, x, y), at.joined);
-    over = at.over;
-    around = at.around;
-    named = at.named;
-    names = at.names;
   }
 
   pub at_arm : (ar : Around) (s : ℕ) (c : Constraint) (fields : List (Option ℕ)) (pick : Pick) (env env' : Env) → (at : At w rules (wider w.sites ar (s ∷ [])) pick env) → fields ≡ fields_of w.sites s c
@@ -208,8 +209,8 @@ module _ (w : World) (rules : List SetRule) (clear : IsClearSet w rules) where
       → Held w pick env' (λ t. Kept (wider w.sites ar (s ∷ [])) at.calls t ⊎ Contains (field_sites fields) t) → At w rules (in_arm (set_of w rules) ar s c fields) pick env'
   at_arm ar s c fields pick env env' at same met fine held = record {
     calls = at.calls;
+    picked = at.picked;
     held = held_as w pick env' (λ t. Kept (wider w.sites ar (s ∷ [])) at.calls t ⊎ Contains (field_sites fields) t) (Kept (in_arm (set_of w rules) ar s c fields) at.calls) to from held;
-    served = at.served;
     pure = λ t i. elim (from t (inl i)) [ inl (inl a) ↦ at.pure t a | inl (inr l) ↦ pure_call t l | inr k ↦ fine t k ];
     brought = λ t i. elim (in_either t (field_sites fields) ar.brought i) [ inl a ↦ emit t (inr a) | inr b ↦ emit t (inl (at.brought t b)) ];
     brings = λ t d x k m. elim (in_cases (s, c) (t, d) ar.tested k) [
@@ -222,14 +223,10 @@ module _ (w : World) (rules : List SetRule) (clear : IsClearSet w rules) where
       | inr l ↦ at.tested t d l
     ];
     joined = at.joined;
-    over = at.over;
-    around = at.around;
-    named = at.named;
-    names = at.names;
   }
     where
       pure_call : (t : ℕ) → Contains at.calls t → IsPureAt w.sites t
-      pure_call t l = (let g = at.over t l in (clear.gone_over g.0 g.1 t g.2).pure t (below_itself w.sites t))
+      pure_call t l = (let g = at.picked.over t l in (clear.gone_over g.0 g.1 t g.2).pure t (below_itself w.sites t))
 
       three : (t : ℕ) → is_in t (field_sites fields ++ all_below w.sites (s ∷ []) ++ ar.emitted) ≡ is_in t (field_sites fields ++ (all_below w.sites (s ∷ []) ++ ar.emitted))
       three t = ap (is_in t) (append_assoc (field_sites fields) (all_below w.sites (s ∷ [])) ar.emitted)

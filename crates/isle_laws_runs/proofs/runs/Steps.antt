@@ -14,10 +14,10 @@ use Rattle.isle_model.specs.trees.SetRuns.{IsPureAt}
 use Rattle.isle_model.proofs.ValuesEqual.{eq_means, eq_same}
 use Rattle.isle_model.proofs.Members.{in_head, in_tail, in_cases, in_alone}
 use Rattle.isle_model.proofs.Numbers.{in_first}
-use Rattle.isle_laws_runs.proofs.runs.Below.{IsPureBelow, all_below_itself}
+use Rattle.isle_laws_runs.proofs.runs.Below.{all_below_itself}
 use Rattle.isle_laws_runs.proofs.runs.Demanded.{joined_back}
 use Rattle.isle_laws_runs.proofs.runs.Fields.{FieldsHold, fields_hold, fields_bound, fields_pure}
-use Rattle.isle_laws_runs.proofs.runs.Standing.{IsClearSet, Kept, At, wider, set_of, found_at, binds_at, at_arm}
+use Rattle.isle_laws_runs.proofs.runs.Standing.{IsClearSet, Kept, At, IsReady, wider, set_of, found_at, binds_at, at_arm}
 
 -- where a run stands that made no impure call
 abbrev pub trace : List Content → Trace
@@ -47,12 +47,12 @@ module _ (w : World) (rules : List SetRule) (clear : IsClearSet w rules) (ar : A
   RunsAs run go = (done : List Content) → run (trace done) ≡ go (trace done)
 
   -- 1. a match of an available site
-  pub match_step : At w rules ar pick env → (binds : List ℕ) (source : ℕ) (arms : Arms) (rest : Tree) → binds ≡ bind_order w.sites ar (source ∷ []) → IsTrue (available w.sites ar source) → IsPureBelow w.sites source
+  pub match_step : At w rules ar pick env → (binds : List ℕ) (source : ℕ) (arms : Arms) (rest : Tree) → binds ≡ bind_order w.sites ar (source ∷ []) → IsReady w.sites ar source
       → (x : Content) × (env' : Env) × (content_at w pick source ≡ Some x) × At w rules (wider w.sites ar (source ∷ [])) pick env'
       × RunsAs (run_tree (step binds (match_at source arms) rest) w env) (λ t. or_next (run_arms arms w x env' t) (run_tree rest w env'))
-  match_step at binds source arms rest same avail pure =
-      let x = found_at w rules clear ar pick env at source avail pure in
-      let b = binds_at w rules clear ar pick env at (source ∷ []) (λ s c. subst (λ t. IsTrue (available w.sites ar t)) (in_alone source s c) avail) (λ s c. subst (IsPureBelow w.sites) (in_alone source s c) pure) in (
+  match_step at binds source arms rest same ready =
+      let x = found_at w rules clear ar pick env at source ready in
+      let b = binds_at w rules clear ar pick env at (source ∷ []) (λ s c. subst (IsReady w.sites ar) (in_alone source s c) ready) in (
         x.0,
         b.0,
         x.1,
@@ -64,19 +64,18 @@ module _ (w : World) (rules : List SetRule) (clear : IsClearSet w rules) (ar : A
 
   -- 2. an equality of available sites
   pub equal_step : At w rules ar pick env → (binds : List ℕ) (a b : ℕ) (body rest : Tree) (r : SetRule) → Contains rules r → IsTrue (joins_in r.classes a b)
-      → binds ≡ bind_order w.sites ar (a ∷ (b ∷ [])) → IsTrue (available w.sites ar a) → IsPureBelow w.sites a → IsTrue (available w.sites ar b) → IsPureBelow w.sites b
+      → binds ≡ bind_order w.sites ar (a ∷ (b ∷ [])) → IsReady w.sites ar a → IsReady w.sites ar b
       → (u : Value) × (v : Value) × (env' : Env) × (content_at w pick a ≡ Some (one u)) × (content_at w pick b ≡ Some (one v)) × At w rules (wider w.sites ar (a ∷ (b ∷ []))) pick env'
       × RunsAs (run_tree (step binds (equal_at a b body) rest) w env) (λ t. or_next (on_equal (Some u) (Some v) t (run_tree body w env' t)) (run_tree rest w env'))
-  equal_step at binds a b body rest r known join same avail_a pure_a avail_b pure_b =
-      let x = found_at w rules clear ar pick env at a avail_a pure_a in
-      let y = found_at w rules clear ar pick env at b avail_b pure_b in
-      let u = at.served.values r a b x.0 known join x.1 in
-      let v = at.served.values r b a y.0 known (joined_back r.classes a b join) y.1 in
+  equal_step at binds a b body rest r known join same ready_a ready_b =
+      let x = found_at w rules clear ar pick env at a ready_a in
+      let y = found_at w rules clear ar pick env at b ready_b in
+      let u = at.picked.served.values r a b x.0 known join x.1 in
+      let v = at.picked.served.values r b a y.0 known (joined_back r.classes a b join) y.1 in
       let e = x.1 ∙ ap Some u.1 in
       let f = y.1 ∙ ap Some v.1 in
       let m = binds_at w rules clear ar pick env at (a ∷ (b ∷ []))
-      (λ s c. elim (in_cases a s (b ∷ []) c) [ inl e ↦ subst (λ t. IsTrue (available w.sites ar t)) e avail_a | inr d ↦ subst (λ t. IsTrue (available w.sites ar t)) (in_alone b s d) avail_b ])
-      (λ s c. elim (in_cases a s (b ∷ []) c) [ inl e ↦ subst (IsPureBelow w.sites) e pure_a | inr d ↦ subst (IsPureBelow w.sites) (in_alone b s d) pure_b ]) in (
+      (λ s c. elim (in_cases a s (b ∷ []) c) [ inl e ↦ subst (IsReady w.sites ar) e ready_a | inr d ↦ subst (IsReady w.sites ar) (in_alone b s d) ready_b ]) in (
         u.0,
         v.0,
         m.0,
@@ -95,11 +94,11 @@ module _ (w : World) (rules : List SetRule) (clear : IsClearSet w rules) (ar : A
       → (cs : Contents) × (env' : Env) × (content_at w pick source ≡ Some (many cs)) × At w rules (wider w.sites ar (source ∷ [])) pick env'
       × RunsAs (run_tree (step binds (loop_at result body) rest) w env) (λ t. or_next (for_each (contents cs) (λ c t'. run_tree body w ((result, c) ∷ env') t') t) (run_tree rest w env'))
   loop_step at binds result source body rest r known over site same avail =
-      let pure = (clear.gone_over r known source over).pure in
-      let x = found_at w rules clear ar pick env at source avail pure in
-      let l = at.served.lists r source x.0 known over x.1 in
+      let ready : IsReady w.sites ar source = record { available = avail; pure = (clear.gone_over r known source over).pure } in
+      let x = found_at w rules clear ar pick env at source ready in
+      let l = at.picked.served.lists r source x.0 known over x.1 in
       let e = x.1 ∙ ap Some l.1 in
-      let b = binds_at w rules clear ar pick env at (source ∷ []) (λ s c. subst (λ t. IsTrue (available w.sites ar t)) (in_alone source s c) avail) (λ s c. subst (IsPureBelow w.sites) (in_alone source s c) pure) in (
+      let b = binds_at w rules clear ar pick env at (source ∷ []) (λ s c. subst (IsReady w.sites ar) (in_alone source s c) ready) in (
         l.0,
         b.0,
         e,
@@ -115,7 +114,7 @@ module _ (w : World) (rules : List SetRule) (clear : IsClearSet w rules) (ar : A
       → Contains rules r → Contains r.constraints (s, c) → fields ≡ fields_of w.sites s c → content_at w pick s ≡ Some x → content_fields w.meaning c x ≡ Some cs
       → (env' : Env) × At w rules (in_arm (set_of w rules) ar s c fields) pick env' × RunsAs (run_arms (arm c fields body rest) w x env) (run_tree body w env')
   arm_step s c fields body rest x cs r at known asks same e met =
-      let hold = fields_hold w pick clear.sources s c x cs e met (at.served.fields r s c x cs known asks e met) in
+      let hold = fields_hold w pick clear.sources s c x cs e met (at.picked.served.fields r s c x cs known asks e met) in
       let kept : Kept (wider w.sites ar (s ∷ [])) at.calls s = inl (in_first s (all_below w.sites (s ∷ [])) ar.emitted (all_below_itself w.sites (s ∷ []) s (in_head s []))) in
       let b = fields_bound w pick clear.sources s fields cs env (Kept (wider w.sites ar (s ∷ [])) at.calls) at.held kept (subst (λ l. FieldsHold w pick clear.sources s l cs) (sym same) hold) in
       let fine = subst (λ l. (t : ℕ) → Contains (field_sites l) t → IsPureAt w.sites t) (sym same) (fields_pure w pick clear.sources s (fields_of w.sites s c) cs hold) in

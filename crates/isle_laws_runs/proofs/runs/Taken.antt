@@ -48,7 +48,7 @@ module _ (w : World) (single : w.multi ≡ false) where
 module _ (w : World) (rules : List SetRule) (clear : IsClearSet w rules) (no_calls : (s : ℕ) → IsGoneOver rules s → ⊥) (ar : Around) (env : Env) (at : At w rules ar [] env) where
   emitted_here : (t : ℕ) → Kept ar at.calls t → IsTrue (is_in t ar.emitted)
   emitted_here t (inl i) = i
-  emitted_here t (inr k) = absurd (no_calls t (at.over t k))
+  emitted_here t (inr k) = absurd (no_calls t (at.picked.over t k))
 
   reached_at : IsReached w ar env
   reached_at = record {

@@ -19,15 +19,16 @@ use Rattle.isle_model.specs.lists.TypeTable.{IsValidTypes, type_table, constant_
 use Rattle.isle_model.specs.lists.Elaborated.{TypedRules}
 use Rattle.isle_model.specs.claims.Environments.{types_read, HasTypedRules, IsRead, program_of, AnswerAlike, AreRulesOf}
 use Rattle.isle_model.specs.sites.RuleSets.{IsBuilt}
-use Rattle.isle_model.specs.claims.SetMeanings.{CanBeServed, MeansItsRules}
+use Rattle.isle_model.specs.claims.SetMeanings.{CanBeServed, MeansItsRules, TellsRulesApart}
 
 -- each term with rules, ascending, also where every rule is left out, with its built set: what those who use it rest on
--- holds of it, and it means what its typed rules do
+-- holds of it, it means what its typed rules do, and overlaps and shadows tell its rules apart
 pub record AreBuiltSets (p : Program) (sets : List (ℕ × SiteSet)) : Type 0 where
   pub terms : map (λ s. s.0) sets ≡ terms_with_rules p
   pub built : All (λ s. IsBuilt p s.0 s.1) sets
   pub served : All (λ s. CanBeServed p s.0 s.1) sets
   pub meaning : All (λ s. MeansItsRules p s.0 s.1) sets
+  pub apart : All (λ s. TellsRulesApart p s.0) sets
 
 -- what building gives: the built sets, and what there is to report of the rules left out, in rule order
 pub record BuildAnswers (p : Program) (sets : List (ℕ × SiteSet)) (reports : List RuleReport) : Type 0 where

@@ -11,11 +11,10 @@ use Rattle.isle_model.specs.rules.RightSide.{right_side}
 use Rattle.isle_model.specs.rules.Typed.{TypedIfLet, TypedRule}
 use Rattle.isle_model.specs.rules.Program.{Program, is_multi, arg_types, rules_of}
 use Rattle.isle_model.specs.sites.Sites.{Site, Constraint, SetRule, SiteSet, sources_at, SiteTerm, unfold_site}
-use Rattle.isle_model.specs.sites.Demands.{Visit, visit_start, visit_args, visit_pattern, visit_expr, has_site}
+use Rattle.isle_model.specs.sites.Demands.{demands_of, Visit, visit_start, visit_args, visit_pattern, visit_expr, has_site}
 use Rattle.isle_model.specs.trees.Places.{joins_in, all_below}
 use Rattle.isle_model.specs.sites.Gates.{gate_demanded}
 use Rattle.isle_model.specs.sites.Serves.{Serves, TellsConstantsApart}
-use Rattle.isle_model.specs.claims.Headline.{IsWithoutMulti}
 use Rattle.isle_model.specs.trees.Run.{world_of}
 use Rattle.isle_model.specs.rules.Picks.{Pick, picks, SitedVars, matches_under, right_side_under}
 use Rattle.isle_model.specs.trees.Collects.{afresh, calls_in, content_at, demands_hold, as_list, HasCollectedResults, IsCollectedSet}
@@ -113,10 +112,26 @@ pub record MeansItsRules (p : Program) (t : ℕ) (set : SiteSet) : Type 0 where
   pub outcome : TakenGivesOutcome p t set
   pub results : ResultsAreHeld p t set
 
--- of rules of a term that isn't multi and uses no multi extractor: those that don't overlap never match together, and a
--- shadowed rule matches only where its mask does
+-- two built rules of a term, which go over no calls. A third rule of the term may use a multi extractor
+pub record AreRulesWithoutCalls (p : Program) (t : ℕ) (a b : BuiltRule) : Type 0 where
+  pub one_of : Contains (built_rules p t) a
+  pub other_of : Contains (built_rules p t) b
+  pub one_goes_over_none : (demands_of p a.rule).iterators ≡ []
+  pub other_goes_over_none : (demands_of p b.rule).iterators ≡ []
+
+-- of two rules of a term that isn't multi, which use no multi extractor: those that don't overlap never match together, and
+-- a shadowed rule matches only where its mask does
 pub record TellsRulesApart (p : Program) (t : ℕ) : Type 0 where
-  pub overlap : IsWithoutMulti p t → WhereServed p t (λ m args. (a b : BuiltRule) → Contains (built_rules p t) a → Contains (built_rules p t) b
+  pub overlap : is_multi p t ≡ false → WhereServed p t (λ m args. (a b : BuiltRule) → AreRulesWithoutCalls p t a b
       → (Overlaps a.demands b.demands → ⊥) → IsTrue (is_some (matches p m a.rule args)) → IsTrue (is_some (matches p m b.rule args)) → ⊥)
-  pub shadow : IsWithoutMulti p t → WhereServed p t (λ m args. (mask b : BuiltRule) → Contains (built_rules p t) mask → Contains (built_rules p t) b
+  pub shadow : is_multi p t ≡ false → WhereServed p t (λ m args. (mask b : BuiltRule) → AreRulesWithoutCalls p t mask b
+      → Shadows mask b → IsTrue (is_some (matches p m b.rule args)) → IsTrue (is_some (matches p m mask.rule args)))
+
+-- so of any two rules that go over no calls, whatever else the term is and whatever its other rules do
+pub record TellsRulesWithoutCallsApart (p : Program) (t : ℕ) : Type 0 where
+  pub overlap : WhereServed p t (λ m args. (a b : BuiltRule) → Contains (built_rules p t) a → Contains (built_rules p t) b
+      → (demands_of p a.rule).iterators ≡ [] → (demands_of p b.rule).iterators ≡ []
+      → (Overlaps a.demands b.demands → ⊥) → IsTrue (is_some (matches p m a.rule args)) → IsTrue (is_some (matches p m b.rule args)) → ⊥)
+  pub shadow : WhereServed p t (λ m args. (mask b : BuiltRule) → Contains (built_rules p t) mask → Contains (built_rules p t) b
+      → (demands_of p mask.rule).iterators ≡ [] → (demands_of p b.rule).iterators ≡ []
       → Shadows mask b → IsTrue (is_some (matches p m b.rule args)) → IsTrue (is_some (matches p m mask.rule args)))

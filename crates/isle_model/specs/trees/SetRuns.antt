@@ -41,12 +41,12 @@ pub record IsTestedSet (set : SiteSet) : Type 0 where
   pub sources : (s a : ℕ) → Contains (sources_at set.sites s) a → a < s
   pub rules : All (IsTestedRule set.sites) set.rules
 
--- the world has a content for each site without impure calls that waits for nothing and whose sources have one; equal
--- sites have values, and a content that meets a constraint has its number of fields and meets no other constraint
--- that rules ask of the site
+-- the world has a content for each site that waits for nothing, that no impure call stands at or below, and whose sources
+-- have one: what an impure call answers is asked of rules that match alone. Equal sites have values, and a content that
+-- meets a constraint has its number of fields and meets no other constraint that rules ask of the site
 pub record ServesTests (set : SiteSet) (w : World) : Type 0 where
   pub sites : w.sites ≡ set.sites
-  pub found : (s : ℕ) → IsPureAt set.sites s → waits (slice_get set.sites s) ≡ false
+  pub found : (s : ℕ) → All (IsPureAt set.sites) (all_below set.sites (s ∷ [])) → waits (slice_get set.sites s) ≡ false
       → All (λ a. IsTrue (is_some (content_at w [] a))) (sources_at set.sites s) → IsTrue (is_some (content_at w [] s))
   pub values : (r : SetRule) (a b : ℕ) (c : Content) → Contains set.rules r → IsTrue (joins_in r.classes a b) → content_at w [] a ≡ Some c → (v : Value) × (c ≡ one v)
   pub fields : (r : SetRule) (s : ℕ) (d : Constraint) (c : Content) (cs : List Content) → Contains set.rules r → Contains r.constraints (s, d)

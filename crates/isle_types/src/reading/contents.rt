@@ -6,7 +6,7 @@ ghost use Rattle.isle_model.specs.lists.Syntax.{enum_value, struct_value};
 ghost use Rattle.isle_base.specs.SyntaxViews.{name_view, fields_view, variant_view, type_view, definition_view, definition_views};
 ghost use Rattle.isle_types.specs.Envs.{names_of, IsInterned};
 ghost use Rattle.isle_types.specs.Reading.{Reports, MayReport};
-ghost use Rattle.isle_types.specs.Promises.{TypeIsRead, PrimitiveIsRead, ValueIsRead, VariantsAreRead, VariantIsRead, DefinitionIsFilled};
+ghost use Rattle.isle_types.specs.Promises.{TypeIsRead, PrimitiveIsRead, ValueIsRead, VariantsAreRead, OneVariantIsRead, DefinitionIsFilled};
 ghost use Rattle.isle_types.specs.Stages.{NamesTypes, FillsTypes};
 ghost use Rattle.isle_types.specs.VariantReading.{ReportsIf, IsNumberOf};
 
@@ -168,7 +168,7 @@ impl TypeEnv {
         requires { IsInterned self.old }
         ensures inverse { IsInterned self.new }
         ensures noted { OnOk result (MayReport errors.old.items errors.new.items) }
-        ensures reads { IfOk result (λ o. VariantIsRead (string_bytes ty.now.0) id.0 (variant_view variant.now) o
+        ensures reads { IfOk result (λ o. OneVariantIsRead (string_bytes ty.now.0) id.0 (variant_view variant.now) o
             self.old errors.old.items seen.old self.new errors.new.items seen.new) }
     {
         let full_name = syntax::Variant::full_name(ty, &variant.name)?;

@@ -9,7 +9,7 @@ use Rattle.isle_model.specs.rules.Typed.{TypedRule}
 use Rattle.isle_model.specs.first.Elaboration.{carried_program_of}
 use Rattle.isle_model.specs.first.Accepted.{IsCarriedAccepted}
 use Rattle.isle_sets.specs.Buildings.{env_program, term_set_views, IsPassed}
-use Rattle.cranelift_isle.specs.Lowerings.{term_views, IsLowered, ChoosesAsSource, LimitPassed}
+use Rattle.cranelift_isle.specs.Lowerings.{lowered_views, IsLowered, ChoosesAsSource, LimitPassed}
 use Rattle.cranelift_isle.proofs.Lowered.{simple, known, accepted, buildable, lowered, chooses, limits_passed, refused_so, limits_so, same_rules}
 use Rattle.cranelift_isle.proofs.lower.lower.Goals as goal
 
@@ -49,7 +49,7 @@ returns-clause-accepted c =
         record {
           types = a.2;
           rules = a.3;
-          terms = lowered (definition_views c.args.defs.now) a.0 c.args.expand c.in_ok-termenv.termenv a.1 a.3 (term_set_views c.in_ok-sets.sets.items) (term_views c.in_ok-terms.terms.items) s.1 c.in_ok-terms.ensures.same c.in_ok-terms.ensures.sound;
+          terms = lowered (definition_views c.args.defs.now) a.0 c.args.expand c.in_ok-termenv.termenv a.1 a.3 (term_set_views c.in_ok-sets.sets.items) (lowered_views c.in_ok-terms.terms.items) s.1 c.in_ok-terms.ensures.same c.in_ok-terms.ensures.sound;
         },
       ),
     )
@@ -59,5 +59,5 @@ returns-clause-chosen c typed is =
     let a = c.in_ok-termenv.ensures.answers.1 in
     let s = c.in_ok-sets.ensures.answers in
     let same : a.0 ≡ typed = same_rules a.0 typed (sym a.1.elaborated.typed ∙ is) in
-    subst (λ r. ChoosesAsSource (carried_program_of (definition_views c.args.defs.now) r) (term_views c.in_ok-terms.terms.items)) same
-    (chooses (definition_views c.args.defs.now) a.0 c.args.expand c.in_ok-termenv.termenv a.1 a.3 (term_set_views c.in_ok-sets.sets.items) (term_views c.in_ok-terms.terms.items) s.1 c.in_ok-terms.ensures.same c.in_ok-terms.ensures.sound s.0)
+    subst (λ r. ChoosesAsSource (carried_program_of (definition_views c.args.defs.now) r) (lowered_views c.in_ok-terms.terms.items)) same
+    (chooses (definition_views c.args.defs.now) a.0 c.args.expand c.in_ok-termenv.termenv a.1 a.3 (term_set_views c.in_ok-sets.sets.items) (lowered_views c.in_ok-terms.terms.items) s.1 c.in_ok-terms.ensures.same c.in_ok-terms.ensures.sound s.0)

@@ -7,7 +7,7 @@ use Rattle.isle_model.specs.first.Building.{IsSimpleSet}
 use Rattle.isle_sets.specs.SiteViews.{set_view}
 use Rattle.isle_serialize.specs.TreeViews.{tree_view}
 use Rattle.isle_sets.specs.Buildings.{term_set_view, term_set_views}
-use Rattle.cranelift_isle.specs.Lowerings.{TermView, term_view, term_views}
+use Rattle.cranelift_isle.specs.Lowerings.{TermView, lowered_view, lowered_views}
 use Rattle.cranelift_isle.proofs.PlainSets.{plain_set}
 use Rattle.cranelift_isle.proofs.TreesSoFar.{moved}
 use Rattle.cranelift_isle.proofs.lower.trees_of.Goals as goal
@@ -16,8 +16,8 @@ pub loop-id-init : goal.loop-id-init
 loop-id-init c =
     let h = c.into_iter-id-iterator.ensures.into_iter_gives.0 in
     let n = c.new-terms.ensures.items in (
-      ap (λ ts. map (λ t. (t.id, t.set)) (term_views ts) ++ term_set_views c.into_iter-id-iterator.result.rest.items) n ∙ ap term_set_views h,
-      subst (λ ts. All (λ t. IsSound t.set false t.tree) (term_views ts)) (sym n) (All-nil (λ t. IsSound t.set false t.tree)),
+      ap (λ ts. map (λ t. (t.id, t.set)) (lowered_views ts) ++ term_set_views c.into_iter-id-iterator.result.rest.items) n ∙ ap term_set_views h,
+      subst (λ ts. All (λ t. IsSound t.set false t.tree) (lowered_views ts)) (sym n) (All-nil (λ t. IsSound t.set false t.tree)),
       subst (λ l. All (λ b. IsSimpleSet b.1) (term_set_views l)) (sym h) c.requires.simple,
     )
 
@@ -31,9 +31,9 @@ pub loop-id-preserved : goal.loop-id-preserved
 loop-id-preserved c =
     let s = c.in-Some.ensures.steps.0 in
     let one : TermView = record { id = c.in-Some.id.0; set = set_view c.in-Some.rules; tree = tree_view c.in_ok-block.block } in
-    let more : term_views c.push.new.self.items ≡ term_views c.loop-id.terms.items ++ one ∷ [] = ap term_views c.in_ok-push.ensures.items ∙ map-append term_view c.loop-id.terms.items _ in
+    let more : lowered_views c.push.new.self.items ≡ lowered_views c.loop-id.terms.items ++ one ∷ [] = ap lowered_views c.in_ok-push.ensures.items ∙ map-append lowered_view c.loop-id.terms.items _ in
     let all = subst (λ l. All (λ b. IsSimpleSet b.1) (term_set_views l)) s c.loop-id.invariant.2 in (
-      moved (λ t. (t.id, t.set)) term_set_view (term_views c.loop-id.terms.items) (term_views c.push.new.self.items) one c.loop-id.id-iterator.rest.items c.next.new.self.rest.items (c.in-Some.id, c.in-Some.rules) (term_set_views c.args.sets.items) s more refl c.loop-id.invariant.0,
-      subst (All (λ t. IsSound t.set false t.tree)) (sym more) (All-push (λ t. IsSound t.set false t.tree) (term_views c.loop-id.terms.items) one c.loop-id.invariant.1 c.in_ok-block.ensures.sound),
+      moved (λ t. (t.id, t.set)) term_set_view (lowered_views c.loop-id.terms.items) (lowered_views c.push.new.self.items) one c.loop-id.id-iterator.rest.items c.next.new.self.rest.items (c.in-Some.id, c.in-Some.rules) (term_set_views c.args.sets.items) s more refl c.loop-id.invariant.0,
+      subst (All (λ t. IsSound t.set false t.tree)) (sym more) (All-push (λ t. IsSound t.set false t.tree) (lowered_views c.loop-id.terms.items) one c.loop-id.invariant.1 c.in_ok-block.ensures.sound),
       All-tail (λ b. IsSimpleSet b.1) (term_set_view (c.in-Some.id, c.in-Some.rules)) (term_set_views c.next.new.self.rest.items) all,
     )

@@ -1,0 +1,85 @@
+-- The smallest inputs behind choices of statements do what is said of them.
+use Rattle.std.proofs.Common.{◌≡◌, ◌⊎◌, ℕ, zero, suc, pos, true, false, List, [], ◌∷◌, length, Option, Some, None, is_some, slice_get, Contains, All, IsTrue, refl, sym, ap, ◌∙◌, subst, inl, inr, arith}
+use Rattle.std.proofs.lemmas.Bool.{false≢true}
+use Rattle.std.proofs.lemmas.Option.{none-some, same_Some}
+use Rattle.std.proofs.lemmas.List.Elements.{All-nil, All-cons, All-contains}
+use Rattle.isle_model.specs.rules.Meaning.{Content, one}
+use Rattle.isle_model.specs.rules.Values.{Value}
+use Rattle.isle_model.specs.sites.Sites.{Constraint, SetRule, constructor_site, make_variant_site, sources_at, argument}
+use Rattle.isle_model.specs.trees.Collects.{IsPureSite, content_at}
+use Rattle.isle_model.specs.trees.Places.{all_below, joins_in, waits}
+use Rattle.isle_model.specs.trees.Run.{content_fields}
+use Rattle.isle_model.specs.trees.SetRuns.{IsPureAt, ServesTests}
+use Rattle.isle_model.proofs.Members.{nothing_in, in_alone, in_cases, in_head, in_tail}
+use Rattle.isle_model.specs.sites.Overlap.{built_rules}
+use Rattle.isle_model.specs.sites.Demands.{constraint_eq}
+use Rattle.isle_examples.specs.MeaningForms.{v}
+use Rattle.isle_examples.specs.SetForms.{is_byte}
+use Rattle.isle_examples.specs.TypedForms.{own}
+use Rattle.isle_examples.specs.Mended.{wrapped_call, wrapped_two, wrapped_sites, wrapped_set, wrapped_meaning, wrapped_world, AboveCallsNothingIsAsked, third_program, third_rule, built_one, built_two, ThirdRulesDontCount}
+
+-- 1. above an impure call
+-- the one constraint of the rules
+wrapped_asked : (r : SetRule) → Contains wrapped_set.rules r → (s : ℕ) (d : Constraint) → Contains r.constraints (s, d) → (s ≡ 0) × (d ≡ is_byte 1)
+wrapped_asked r k s d c =
+    elim (in_cases wrapped_call r (wrapped_two ∷ []) k) [
+      | inl e ↦
+          let same : ◌≡◌ {A = ℕ × Constraint} (0, is_byte 1) (s, d) = in_alone (0, is_byte 1) (s, d) (subst (λ q. Contains q.constraints (s, d)) (sym e) c) in
+          (sym (ap (λ (x : ℕ × Constraint). x.0) same), sym (ap (λ (x : ℕ × Constraint). x.1) same))
+      | inr b ↦ absurd (nothing_in (s, d) (subst (λ q. Contains q.constraints (s, d)) (sym (in_alone wrapped_two r b)) c))
+    ]
+
+wrapped_classes : (r : SetRule) → Contains wrapped_set.rules r → r.classes ≡ []
+wrapped_classes r k =
+    elim (in_cases wrapped_call r (wrapped_two ∷ []) k) [
+      | inl e ↦ ap (λ q. q.classes) (sym e)
+      | inr b ↦ ap (λ q. q.classes) (sym (in_alone wrapped_two r b))
+    ]
+
+-- the impure call stands at and below itself, and below what is made of it
+not_pure : (s : ℕ) → Contains (all_below wrapped_sites (s ∷ [])) 2 → All (IsPureAt wrapped_sites) (all_below wrapped_sites (s ∷ [])) → ⊥
+not_pure s c all = refused (All-contains (IsPureAt wrapped_sites) (all_below wrapped_sites (s ∷ [])) 2 all c)
+  where
+    refused : IsPureAt wrapped_sites 2 → ⊥
+    refused p = subst IsPureSite (sym (same_Some (constructor_site 0 (1 ∷ []) 1) p.0 p.1)) p.2
+
+wrapped_found : (s : ℕ) → All (IsPureAt wrapped_sites) (all_below wrapped_sites (s ∷ [])) → waits (slice_get wrapped_sites s) ≡ false → IsTrue (is_some (content_at wrapped_world [] s))
+wrapped_found zero p n = refl
+wrapped_found (suc zero) p n = refl
+wrapped_found (suc (suc zero)) p n = refl
+wrapped_found (suc (suc (suc zero))) p n = absurd (not_pure 3 (in_tail 3 2 (2 ∷ (1 ∷ [])) (in_head 2 (1 ∷ []))) p)
+wrapped_found (suc (suc (suc (suc zero)))) p n = refl
+wrapped_found (suc (suc (suc (suc (suc zero))))) p n = refl
+wrapped_found (suc (suc (suc (suc (suc (suc s)))))) p n = absurd (false≢true (sym n))
+
+wrapped_served : ServesTests wrapped_set wrapped_world
+wrapped_served = record {
+  sites = refl;
+  found = λ s p n all. wrapped_found s p n;
+  values = λ r a b x k j e. absurd (false≢true (sym (ap (λ l. joins_in l a b) (wrapped_classes r k)) ∙ j));
+  fields = λ r s d c cs k m e f.
+      let a = wrapped_asked r k s d m in
+      let held : one (v (pos 2)) ≡ c = same_Some (one (v (pos 2))) c (sym (ap (content_at wrapped_world []) a.0) ∙ e) in
+      absurd (none-some cs (subst (λ x. content_fields wrapped_meaning (is_byte 1) x ≡ Some cs) (sym held) (subst (λ x. content_fields wrapped_meaning x c ≡ Some cs) a.1 f)));
+  apart = λ r q s d f k l m n h g. (wrapped_asked r k s d m).1 ∙ sym (wrapped_asked q l s f n).1;
+}
+
+pub above_calls_nothing_is_asked_lem : AboveCallsNothingIsAsked
+above_calls_nothing_is_asked_lem = (
+  (make_variant_site own 0 (2 ∷ []), refl, tt),
+  refl,
+  All-cons (λ a. IsTrue (is_some (content_at wrapped_world [] a))) 2 [] refl (All-nil (λ a. IsTrue (is_some (content_at wrapped_world [] a)))),
+  refl,
+  wrapped_served,
+)
+
+-- 2. a third rule
+pub third_rules_dont_count_lem : ThirdRulesDontCount
+third_rules_dont_count_lem = (
+  (λ w. absurd (false≢true (sym (w.extractors 0 (argument 0) (1, omega arith, refl))))),
+  record { one_of = (1, omega arith, refl); other_of = (2, omega arith, refl); one_goes_over_none = refl; other_goes_over_none = refl },
+  (λ o. one_two (o (argument 0) (is_byte 1) (is_byte 2) (0, omega arith, refl) (0, omega arith, refl))),
+)
+  where
+    one_two : is_byte 1 ≡ is_byte 2 → ⊥
+    one_two e = false≢true (ap (constraint_eq (is_byte 2)) e)

@@ -1,0 +1,108 @@
+-- The multi sample: its rules and its set are collected, the world serves it, and the run of its tree collects the bag.
+use Rattle.std.proofs.Common.{◌≡◌, ◌∷◌, [], ◌<◌, ◌∙◌, ℕ, pos, zero, suc, false, List, Some, length, slice_get, All, Contains, IsTrue, refl, sym, ap, subst, inl, inr, arith, is_some}
+use Rattle.std.proofs.lemmas.Bool.{false≢true}
+use Rattle.std.proofs.lemmas.List.Elements.{All-nil, All-cons}
+use Rattle.std.proofs.lemmas.List.Sorted.{IsPermutation-refl, length_permutation, sum_by-IsPermutation}
+use Rattle.std.proofs.lemmas.Option.{same_Some}
+use Rattle.std.specs.Prelude.{IsPermutation}
+use Rattle.isle_model.proofs.Members.{in_alone, in_cases, nothing_in}
+use Rattle.isle_model.specs.rules.Meaning.{Content, one}
+use Rattle.isle_model.specs.rules.Picks.{Pick}
+use Rattle.isle_model.specs.rules.Values.{atom}
+use Rattle.isle_model.specs.sites.Sites.{Constraint, SetRule, is_int}
+use Rattle.isle_model.specs.trees.Collects.{HasCollectedResults, IsCollectedSet, ServesSet, content_at}
+use Rattle.isle_model.specs.trees.Places.{fields_of, joins_in, waits}
+use Rattle.isle_model.specs.trees.Run.{content_fields}
+use Rattle.isle_laws_runs.proofs.runs.Collected.{sound_trees_collect_lem}
+use Rattle.isle_examples.proofs.SampleStages.{multi_stages}
+use Rattle.isle_examples.proofs.SetStages.{collected}
+use Rattle.isle_examples.specs.MeaningForms.{each, v}
+use Rattle.isle_examples.specs.Multi.{LoopsMayBindAgain, MultiCollects, MultiIsCollected, MultiIsNot, MultiSetCollects, each_m, each_of_m, multi_meaning, multi_program, multi_rules, multi_set, multi_tree, multi_world, nine, nine_for_one}
+
+-- 1. collected
+rules_collected : All (HasCollectedResults multi_program) multi_rules.rules
+rules_collected =
+    All-cons (HasCollectedResults multi_program) each_m (nine ∷ []) (record { no_calls = refl; no_call_unused = refl })
+    (All-cons (HasCollectedResults multi_program) nine [] (record { no_calls = refl; no_call_unused = refl }) (All-nil (HasCollectedResults multi_program)))
+
+set_collected : IsCollectedSet multi_set
+set_collected = collected multi_set refl refl
+
+-- 2. served
+found : (k : Pick) (s : ℕ) → s < 4 → waits (slice_get multi_set.sites s) ≡ false → IsTrue (is_some (content_at (multi_world (pos 1)) k s))
+found k zero l w = refl
+found k (suc zero) l w = refl
+found k (suc (suc zero)) l w = absurd (false≢true (sym w))
+found k (suc (suc (suc zero))) l w = refl
+found k (suc (suc (suc (suc s)))) l w = absurd (omega (arith, l))
+
+abbrev SameTest : ℕ × Constraint → Type 0
+SameTest x = ◌≡◌ {A = ℕ × Constraint} (0, is_int (pos 1) 1) x
+
+only_constraint : (r : SetRule) (s : ℕ) (d : Constraint) → Contains multi_set.rules r → Contains r.constraints (s, d) → SameTest (s, d)
+only_constraint r s d h c =
+    elim (in_cases each_of_m r (nine_for_one ∷ []) h) [
+      | inl e ↦ absurd (nothing_in (s, d) (subst (λ q. Contains q.constraints (s, d)) (sym e) c))
+      | inr b ↦ in_alone (0, is_int (pos 1) 1) (s, d) (subst (λ q. Contains q.constraints (s, d)) (sym (in_alone nine_for_one r b)) c)
+    ]
+
+only_iterator : (r : SetRule) (s : ℕ) → Contains multi_set.rules r → Contains r.iterators s → 1 ≡ s
+only_iterator r s h c =
+    elim (in_cases each_of_m r (nine_for_one ∷ []) h) [
+      | inl e ↦ in_alone 1 s (subst (λ q. Contains q.iterators s) (sym e) c)
+      | inr b ↦ absurd (nothing_in s (subst (λ q. Contains q.iterators s) (sym (in_alone nine_for_one r b)) c))
+    ]
+
+no_joins : (r : SetRule) → Contains multi_set.rules r → r.classes ≡ []
+no_joins r h = elim (in_cases each_of_m r (nine_for_one ∷ []) h) [ inl e ↦ ap (λ q. q.classes) (sym e) | inr b ↦ ap (λ q. q.classes) (sym (in_alone nine_for_one r b)) ]
+
+fields_as_many : (k : Pick) (c : Content) (cs : List Content) (x : ℕ × Constraint) → SameTest x → content_at (multi_world (pos 1)) k x.0 ≡ Some c
+    → content_fields multi_meaning x.1 c ≡ Some cs → length cs ≡ length (fields_of multi_set.sites x.0 x.1)
+fields_as_many k c cs x e =
+    subst (λ (y : ℕ × Constraint). content_at (multi_world (pos 1)) k y.0 ≡ Some c → content_fields multi_meaning y.1 c ≡ Some cs → length cs ≡ length (fields_of multi_set.sites y.0 y.1)) e
+    (λ g h. ap length (sym (same_Some [] cs (ap (content_fields multi_meaning (is_int (pos 1) 1)) (same_Some (one (v (pos 1))) c g) ∙ h))))
+
+set_served : ServesSet multi_set (multi_world (pos 1))
+set_served = record {
+  sites = refl;
+  found = λ k s l w n h. found k s l w;
+  lists = λ k r s c hr hs e. (_, sym (same_Some _ c (subst (λ n. content_at (multi_world (pos 1)) k n ≡ Some c) (sym (only_iterator r s hr hs)) e)));
+  values = λ k r a b c hr j e. absurd (false≢true (subst (λ l. IsTrue (joins_in l a b)) (no_joins r hr) j));
+  fields = λ k r s d c cs hr hd e f. fields_as_many k c cs (s, d) (only_constraint r s d hr hd) e f;
+  apart = λ k r q s d f hr hq hd hf m n. ap (λ x. x.1) (sym (only_constraint r s d hr hd) ∙ only_constraint q s f hq hf);
+}
+
+pub multi_is_collected : MultiIsCollected
+multi_is_collected = (rules_collected, set_collected, set_served)
+
+pub multi_set_collects : MultiSetCollects
+multi_set_collects = sound_trees_collect_lem multi_set multi_tree (multi_world (pos 1)) multi_is_collected.1 multi_is_collected.2 refl multi_stages.judged.sound
+
+-- 3. what the run collects
+-- 9 stands last in the bag, and first in the run
+nine_moved : IsPermutation (each (pos 4 ∷ (pos 4 ∷ (pos 9 ∷ [])))) (each (pos 9 ∷ (pos 4 ∷ (pos 4 ∷ []))))
+nine_moved = record { moves = (0, 2) ∷ []; below = (omega arith, omega arith, tt); is = refl }
+
+pub on_one : MultiCollects (pos 1)
+on_one = record { calls = refl; ending = refl; same = nine_moved }
+
+pub on_two : MultiCollects (pos 2)
+on_two = record { calls = refl; ending = refl; same = IsPermutation-refl (each (pos 7 ∷ [])) }
+
+pub on_three : MultiCollects (pos 3)
+on_three = record { calls = refl; ending = refl; same = IsPermutation-refl (each []) }
+
+-- one answer of the two, and 9 twice: fewer results, and a greater sum
+pub stopped : MultiIsNot (pos 9 ∷ (pos 4 ∷ []))
+stopped c = let n = length_permutation (each (pos 4 ∷ (pos 4 ∷ (pos 9 ∷ [])))) (each (pos 9 ∷ (pos 4 ∷ []))) c.same in omega (arith, n)
+
+abbrev size : Content → ℕ
+size (one (atom ty (pos n))) = n
+size _ = 0
+
+pub exchanged : MultiIsNot (pos 9 ∷ (pos 9 ∷ (pos 4 ∷ [])))
+exchanged c =
+    let n = sum_by-IsPermutation size (each (pos 4 ∷ (pos 4 ∷ (pos 9 ∷ [])))) (each (pos 9 ∷ (pos 9 ∷ (pos 4 ∷ [])))) c.same in omega (arith, n)
+
+pub loops_may_bind_again : LoopsMayBindAgain
+loops_may_bind_again = (refl, λ h. false≢true h)

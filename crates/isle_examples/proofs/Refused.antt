@@ -1,0 +1,57 @@
+-- Lists that have no typed rules, and samples that lowering refuses.
+use Rattle.std.proofs.Common.{◌≡◌, ◌∷◌, [], ◌++◌, Bool, true, false, List, codes, length, refl, sym, ap, arith}
+use Rattle.isle_model.specs.claims.Layers.{CheckReports, is_left_out, by_types, by_rules, by_check}
+use Rattle.std.proofs.lemmas.List.Elements.{All-from_recursion}
+use Rattle.isle_model.specs.claims.Environments.{HasTypedRules, IsRead, types_read}
+use Rattle.isle_model.specs.lists.Elaborated.{TypedRules}
+use Rattle.isle_model.specs.lists.Syntax.{Definition}
+use Rattle.isle_model.specs.lists.TypeTable.{IsValidTypes}
+use Rattle.isle_model.specs.rules.Program.{Program}
+use Rattle.isle_model.specs.sites.Overlap.{RuleReport, build_reports, overlap_and_shadow_reports, rule_shadows, rules_overlap}
+use Rattle.isle_laws_lists.proofs.JudgedTypes.{types_are_judged_lem}
+use Rattle.isle_examples.proofs.AcceptedLists.{overlap_not_accepted, shadow_not_accepted}
+use Rattle.isle_examples.proofs.ListStages.{not_read}
+use Rattle.isle_examples.specs.Overlap.{overlap_defs, overlap_program, overlap_rules}
+use Rattle.isle_examples.specs.Refused.{RefusedAreNotRead, SamplesAreRefused, unbound}
+use Rattle.isle_examples.specs.Shadow.{shadow_defs, shadow_program, shadow_rules}
+use Rattle.isle_examples.specs.Stages.{IsReadBoth}
+use Rattle.isle_examples.specs.TermLists.{term_twice}
+use Rattle.isle_examples.specs.Written.{at}
+
+pub refused_are_not_read : RefusedAreNotRead
+refused_are_not_read = (not_read term_twice refl refl, not_read unbound refl refl)
+
+-- internal extractors expanded or not
+read_with : (defs : List Definition) (rules : TypedRules) → IsReadBoth defs rules → (expand : Bool) → IsRead defs expand rules
+read_with defs rules r true = r.0
+read_with defs rules r false = r.1
+
+unbound_types : IsValidTypes unbound
+unbound_types = (types_are_judged_lem unbound).0 refl
+
+unbound_elaborates_not : (expand : Bool) → HasTypedRules (types_read unbound) unbound expand → ⊥
+unbound_elaborates_not expand h = refused_are_not_read.1 expand h.0 (record { types = unbound_types; elaborated = h.1 })
+
+-- one report of rules that are built
+one_reported : (p : Program) (r : RuleReport) → is_left_out r ≡ false → build_reports p ≡ [] → overlap_and_shadow_reports p ≡ r ∷ [] → CheckReports p (r ∷ [])
+one_reported p r late none all = record {
+  later = r ∷ [];
+  all = ap (λ rs. rs ++ r ∷ []) (sym none);
+  others = All-from_recursion (λ q. is_left_out q ≡ false) (r ∷ []) (late, tt);
+  some_report = λ e. (let l : 1 ≡ 0 = ap length e in omega (arith, l));
+  fixed = λ _. sym all;
+}
+
+pub samples_are_refused : SamplesAreRefused
+samples_are_refused = (
+  (λ expand. by_types (λ v. (let e = v.distinct 13 14 (codes "T") refl refl in omega (arith, e)))),
+  (λ expand. by_rules unbound_types (unbound_elaborates_not expand)),
+  (λ expand.
+      let p = overlap_program in
+      let r = rules_overlap (record { first = at 2; others = at 1 ∷ [] }) in
+      by_check overlap_rules (r ∷ []) (read_with overlap_defs overlap_rules overlap_not_accepted.0 expand) overlap_not_accepted.1 (one_reported p r refl refl refl)),
+  (λ expand.
+      let p = shadow_program in
+      let r = rule_shadows (record { mask = at 1; shadowed = at 2 ∷ [] }) in
+      by_check shadow_rules (r ∷ []) (read_with shadow_defs shadow_rules shadow_not_accepted.0 expand) shadow_not_accepted.1 (one_reported p r refl refl refl)),
+)

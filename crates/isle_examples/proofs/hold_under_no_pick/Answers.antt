@@ -1,5 +1,0 @@
-use Rattle.isle_examples.proofs.PickedAnswers.{hold_under_no_pick_lem}
-use Rattle.isle_examples.proofs.hold_under_no_pick.Goals as goal
-
-pub returns : goal.returns
-returns c = hold_under_no_pick_lem

@@ -1,5 +1,0 @@
-use Rattle.isle_examples.proofs.SamplesReached.{samples_are_reachable_lem}
-use Rattle.isle_examples.proofs.samples_are_reachable.Goals as goal
-
-pub returns : goal.returns
-returns c = samples_are_reachable_lem

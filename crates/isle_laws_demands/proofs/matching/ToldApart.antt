@@ -1,0 +1,101 @@
+-- Built rules that go over no calls are told apart by their closed demands: they never match together where they don't
+-- overlap, and where one is shadowed it matches only where its mask does.
+use Rattle.std.proofs.Common.{◌≡◌, ◌+◌, ◌≤◌, ℕ, List, [], ◌∷◌, length, sum_by, Option, Some, None, is_some, Contains, sym, ap, subst, ◌∙◌, inl, inr, refl, arith}
+use Rattle.isle_model.specs.rules.Values.{Value}
+use Rattle.isle_model.specs.rules.Meaning.{Meaning}
+use Rattle.isle_model.specs.rules.Matching.{matches}
+use Rattle.isle_model.specs.rules.Program.{Program, rules_of}
+use Rattle.isle_model.specs.rules.Typed.{TypedRule}
+use Rattle.isle_model.specs.rules.Picks.{picks, SitedVars, matches_under}
+use Rattle.isle_model.specs.sites.Demands.{demands_of}
+use Rattle.isle_model.specs.sites.Closure.{Closed, ClosedDemandsHold}
+use Rattle.isle_model.specs.sites.Overlap.{BuiltRule, built_rules, AreAmong}
+use Rattle.isle_model.specs.claims.Environments.{program_of}
+use Rattle.isle_model.proofs.Elements.{in_from_contains, contains_from_in}
+use Rattle.isle_laws_runs.specs.WithoutMulti.{without_sites}
+use Rattle.isle_laws_runs.proofs.picks.NoIterators.{no_multi_is_no_iterators_lem}
+use Rattle.isle_laws_runs.proofs.picks.OnePick.{bag_as_plain_lem}
+use Rattle.isle_laws_runs.proofs.picks.Plain.{matches_as_plain_lem}
+use Rattle.isle_laws_demands.specs.BuiltLaws.{BuiltDemandsAreWhole}
+use Rattle.isle_laws_demands.specs.MatchLaws.{IsTried, BuiltRulesAreToldApart}
+use Rattle.isle_laws_demands.proofs.closure.Closing.{FollowsSoFar, closed_follows}
+use Rattle.isle_laws_demands.proofs.visits.Built.{was_built}
+use Rattle.isle_laws_demands.proofs.matching.BuiltMatches.{built_demands_hold_alike_lem, built_listed}
+use Rattle.isle_laws_demands.proofs.matching.ConstrainedOnce.{StandOnce, closed_once, all_among}
+use Rattle.isle_laws_demands.proofs.matching.Contents.{content_of}
+use Rattle.isle_laws_demands.proofs.matching.FormedDemands.{rule_formed}
+use Rattle.isle_laws_demands.proofs.matching.NeverMatches.{program_has_types}
+use Rattle.isle_laws_demands.proofs.matching.TypedParts.{program_has_typed_parts}
+use Rattle.isle_laws_demands.proofs.matching.Unreachable.{shape_there, same_shape}
+use Rattle.isle_laws_demands.proofs.matching.Visits.{given, tried, visits_match_lem}
+
+-- 1. without calls, under the empty pick
+still_there : (o : Option SitedVars) → is_some (without_sites o) ≡ is_some o
+still_there None = refl
+still_there (Some e) = refl
+
+empty_pick : (p : Program) (m : Meaning) (args : List Value) (r : TypedRule) → (demands_of p r).iterators ≡ [] → Contains (picks p m args r) []
+empty_pick p m args r h =
+    subst (λ l. Contains l []) (sym (bag_as_plain_lem p m args r ((no_multi_is_no_iterators_lem p r).1 h)).0) (contains_from_in ([] ∷ []) [] (inl refl))
+
+same_match : (p : Program) (m : Meaning) (args : List Value) (r : TypedRule) → (demands_of p r).iterators ≡ [] → is_some (matches_under p m [] r args) ≡ is_some (matches p m r args)
+same_match p m args r h = sym (still_there (matches_under p m [] r args)) ∙ ap is_some (matches_as_plain_lem p m [] r args ((no_multi_is_no_iterators_lem p r).1 h))
+
+-- 2. the closed demands of built rules
+built_follows : (p : Program) (t : ℕ) (b : BuiltRule) → Contains (built_rules p t) b → FollowsSoFar (demands_of p b.rule) b.demands
+built_follows p t b i =
+    let w = was_built p [] (rules_of p t) b (in_from_contains (built_rules p t) b i) in
+    subst (λ (x : BuiltRule). FollowsSoFar (demands_of p x.rule) x.demands) w.same (closed_follows (demands_of p w.rule) w.before)
+
+built_once : (p : Program) (t : ℕ) (b : BuiltRule) → Contains (built_rules p t) b → StandOnce b.demands.constraints
+built_once p t b i =
+    let w = was_built p [] (rules_of p t) b (in_from_contains (built_rules p t) b i) in
+    subst (λ (x : BuiltRule). StandOnce x.demands.constraints) w.same (closed_once w.before (demands_of p w.rule))
+
+-- fewer demands hold too
+fewer_hold : (m : Meaning) (args : List Value) (a b : Closed) → a.classes ≡ [] → AreAmong a.constraints b.constraints → ClosedDemandsHold m args [] b → ClosedDemandsHold m args [] a
+fewer_hold m args a b none among h = record {
+  constraints = λ s c i. h.constraints s c (among s c i);
+  classes = λ l u v i. absurd (in_from_contains [] l (subst (λ k. Contains k l) none i));
+}
+
+-- of closed demands without classes, as many constraints among others are all of them
+among_back : (a b : Closed) → StandOnce b.constraints → a.classes ≡ [] → b.classes ≡ [] → length a.constraints + sum_by length a.classes ≤ length b.constraints + sum_by length b.classes
+    → AreAmong b.constraints a.constraints → AreAmong a.constraints b.constraints
+among_back a b once na nb few among s c i =
+    let x : sum_by length a.classes ≡ 0 = ap (sum_by length) na in
+    let y : sum_by length b.classes ≡ 0 = ap (sum_by length) nb in
+    let l : length a.constraints ≤ length b.constraints = omega (arith, x, y, few) in
+    contains_from_in b.constraints (s, c)
+    (all_among b.constraints a.constraints once (λ w j. in_from_contains a.constraints w (among w.0 w.1 (contains_from_in b.constraints w j))) l (s, c) (in_from_contains a.constraints (s, c) i))
+
+pub built_rules_are_told_apart_lem : BuiltDemandsAreWhole → BuiltRulesAreToldApart
+built_rules_are_told_apart_lem whole e defs expand rules t h = record {
+  overlap = λ m args typed served apart a b i j na nb no ma mb.
+      (let g = given (program_of e defs rules.rules) m args [] in
+      let types = program_has_types e defs expand rules h in
+      let fields = program_has_typed_parts e defs expand rules h in
+      let ta : IsTried (program_of e defs rules.rules) t m args a.rule [] = record { typed = typed; served = served; rule = built_listed (program_of e defs rules.rules) t a i; pick = empty_pick (program_of e defs rules.rules) m args a.rule na } in
+      let tb : IsTried (program_of e defs rules.rules) t m args b.rule [] = record { typed = typed; served = served; rule = built_listed (program_of e defs rules.rules) t b j; pick = empty_pick (program_of e defs rules.rules) m args b.rule nb } in
+      let ka = tried e defs expand rules h t m args a.rule [] ta in
+      let kb = tried e defs expand rules h t m args b.rule [] tb in
+      let xa = ka.matches.met (same_match (program_of e defs rules.rules) m args a.rule na ∙ ma) in
+      let xb = kb.matches.met (same_match (program_of e defs rules.rules) m args b.rule nb ∙ mb) in
+      no (λ s c d u v.
+      same_shape g (rules_of (program_of e defs rules.rules) t) types apart (content_of g s) c d
+      (shape_there g a.rule (rules_of (program_of e defs rules.rules) t) ta.rule served types (rule_formed (program_of e defs rules.rules) fields a.rule ka.formed) xa apart s c ((built_follows (program_of e defs rules.rules) t a i).constraints (s, c) (in_from_contains a.demands.constraints (s, c) u)))
+      (shape_there g b.rule (rules_of (program_of e defs rules.rules) t) tb.rule served types (rule_formed (program_of e defs rules.rules) fields b.rule kb.formed) xb apart s d ((built_follows (program_of e defs rules.rules) t b j).constraints (s, d) (in_from_contains b.demands.constraints (s, d) v)))));
+  shadow = λ m args typed served apart mask b i j na nb x mb.
+      (let ta : IsTried (program_of e defs rules.rules) t m args mask.rule [] = record { typed = typed; served = served; rule = built_listed (program_of e defs rules.rules) t mask i; pick = empty_pick (program_of e defs rules.rules) m args mask.rule na } in
+      let tb : IsTried (program_of e defs rules.rules) t m args b.rule [] = record { typed = typed; served = served; rule = built_listed (program_of e defs rules.rules) t b j; pick = empty_pick (program_of e defs rules.rules) m args b.rule nb } in
+      let va = visits_match_lem e defs expand rules t m args mask.rule [] h ta in
+      let vb = visits_match_lem e defs expand rules t m args b.rule [] h tb in
+      let ca = built_demands_hold_alike_lem whole e defs expand rules t m args mask [] h i ta in
+      let cb = built_demands_hold_alike_lem whole e defs expand rules t m args b [] h j tb in
+      let among : AreAmong mask.demands.constraints b.demands.constraints = elim x.subset.among [
+        | inl k ↦ k
+        | inr k ↦ among_back mask.demands b.demands (built_once (program_of e defs rules.rules) t b j) x.subset.first_has_none x.subset.second_has_none x.no_more k
+      ] in
+      let holds = fewer_hold m args mask.demands b.demands x.subset.first_has_none among (cb.0 (vb.matching.0 (same_match (program_of e defs rules.rules) m args b.rule nb ∙ mb))) in
+      sym (same_match (program_of e defs rules.rules) m args mask.rule na) ∙ va.matching.1 (ca.1 holds));
+}
