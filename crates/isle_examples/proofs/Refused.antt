@@ -2,13 +2,12 @@
 use Rattle.std.proofs.Common.{◌≡◌, ◌∷◌, [], ◌++◌, ◌∙◌, Bool, true, false, List, codes, length, refl, sym, ap, arith}
 use Rattle.isle_model.proofs.Members.{in_alone}
 use Rattle.std.proofs.lemmas.Bool.{false≢true}
-use Rattle.isle_model.specs.lists.Syntax.{Position}
+use Rattle.isle_model.specs.lists.Syntax.{Position, Definition}
 use Rattle.isle_model.specs.claims.Refusals.{NamedLimit, Refusal, ill_typed, past_limit, refusal_of, NamesOnlyPassed, PassedInBuilding, PassedInReading, IsIllTyped, IsOfReading}
 use Rattle.isle_model.specs.claims.Layers.{IsCheckable, CheckReports, is_left_out, by_types, by_rules, by_check}
 use Rattle.std.proofs.lemmas.List.Elements.{All-from_recursion}
 use Rattle.isle_model.specs.claims.Environments.{HasTypedRules, IsRead, types_read}
 use Rattle.isle_model.specs.lists.Elaborated.{TypedRules}
-use Rattle.isle_model.specs.lists.Syntax.{Definition}
 use Rattle.isle_model.specs.lists.TypeTable.{IsValidTypes}
 use Rattle.isle_model.specs.rules.Program.{Program}
 use Rattle.isle_model.specs.sites.Overlap.{RuleReport, build_reports, overlap_and_shadow_reports, rule_shadows, rules_overlap}
