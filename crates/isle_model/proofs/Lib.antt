@@ -10,6 +10,7 @@ pub mod Names
 pub mod Numbers
 pub mod Options
 pub mod Positions
+pub mod Priorities
 pub mod SameSites
 pub mod SitesMade
 pub mod TypeNames
