@@ -18,6 +18,7 @@ pub mod PatternCalls
 pub mod Patterns
 pub mod Priorities
 pub mod RightSides
+pub mod RuleParts
 pub mod Rules
 pub mod Served
 pub mod Sets

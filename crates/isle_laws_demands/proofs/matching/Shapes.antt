@@ -1,22 +1,14 @@
 -- What a content is that meets a constraint of a rule that matches, and that one content meets one constraint.
-use Rattle.std.proofs.Common.{◌≡◌, ◌≢◌, ◌==◌, ℕ, ℤ, zero, suc, ◌+◌, ◌<◌, Bool, true, false, ◌&&◌, cond, List, [], ◌∷◌, ◌++◌, length, take, Option, Some, None, is_some, slice_get, IsSomeAnd, IsTrue, Contains, flat_map, refl, sym, ap, subst, ◌∙◌, inl, inr, eqb-true, arith}
-use Rattle.std.proofs.lemmas.Bool.{and_parts, cases_Bool, cond-true, cond-false, false≢true}
+use Rattle.std.proofs.Common.{◌≡◌, ◌==◌, ℕ, zero, suc, Bool, true, false, ◌&&◌, cond, List, [], ◌∷◌, length, Option, Some, None, is_some, slice_get, refl, sym, ap, ◌∙◌, eqb-true}
+use Rattle.std.proofs.lemmas.Bool.{and_parts, false≢true}
 use Rattle.isle_model.specs.lists.Tables.{TypeEntry, builtin_type, primitive_type, enum_type, struct_type}
-use Rattle.isle_model.specs.lists.KnownTypes.{entry_id, StandAtIds}
-use Rattle.isle_model.specs.rules.Values.{Value, truth, atom, of_variant, of_struct, Values, no_value, value_and, value_eq, listed, is_truth_type, is_atom_type, variant_types, struct_types, well_typed, all_well_typed}
+use Rattle.isle_model.specs.lists.KnownTypes.{StandAtIds}
+use Rattle.isle_model.specs.rules.Values.{Value, truth, atom, of_variant, of_struct, Values, no_value, value_and, listed, is_truth_type, is_atom_type, variant_types, struct_types, well_typed, all_well_typed}
 use Rattle.isle_model.specs.rules.Meaning.{Content, one, parts, nothing, just, many, Meaning, bool_literal, int_literal, literal_value, constant_value}
-use Rattle.isle_model.specs.rules.Program.{Program}
-use Rattle.isle_model.specs.rules.Typed.{TypedRule}
-use Rattle.isle_model.specs.trees.Run.{content_fields, where_constant, all_one}
-use Rattle.isle_model.specs.sites.Sites.{Constraint, is_variant, is_struct, is_bool, is_int, is_prim, is_present, SiteTerm, bool_term, int_term, prim_term, no_site}
-use Rattle.isle_model.specs.sites.Demands.{Demands, demands_of}
-use Rattle.isle_model.specs.sites.Serves.{asked_by, asked, constant_site, constant_type, typed_as, written_type, written_value, has_parts, tested_constants, Serves, TellsConstantsApart}
-use Rattle.isle_model.proofs.Elements.{In, in_from_contains, contains_from_in, in_right, in_flat_map, some_is, none_some}
-use Rattle.isle_model.proofs.ValuesEqual.{eq_means}
-use Rattle.isle_laws_demands.proofs.visits.Patterns.{from_if}
-use Rattle.isle_laws_demands.proofs.matching.Contents.{Given, content_of}
-use Rattle.isle_laws_demands.proofs.matching.Demanded.{Meets, IsTyped, AreMet, one_is}
-use Rattle.isle_laws_demands.proofs.matching.FormedDemands.{IsFormed, AreFormed}
+use Rattle.isle_model.specs.trees.Run.{content_fields, all_one}
+use Rattle.isle_model.specs.sites.Sites.{Constraint, is_variant, is_struct, is_bool, is_int, is_prim, is_present}
+use Rattle.isle_model.specs.sites.Serves.{has_parts}
+use Rattle.isle_laws_demands.proofs.matching.Demanded.{constant_found}
 
 -- the first type is that of booleans, and each type stands at its id
 pub record HasTypes (types : List TypeEntry) : Type 0 where
@@ -81,14 +73,6 @@ as_many_values types (ty ∷ tys) no_value h = absurd (false≢true h)
 as_many_values types (ty ∷ tys) (value_and v vs) h = ap suc (as_many_values types tys vs (and_parts (well_typed types ty v) (all_well_typed types (Some tys) vs) h).1)
 
 -- 2. contents that meet constraints
-constant_found : (o : Option Value) (v : Value) → is_some (where_constant o v) ≡ true → o ≡ Some v
-constant_found None v h = absurd (false≢true h)
-constant_found (Some w) v h =
-    elim (cases_Bool (value_eq w v)) [
-      | inl t ↦ ap Some (eq_means w v t)
-      | inr f ↦ absurd (false≢true (sym (ap is_some (cond-false (value_eq w v) (Some []) None f)) ∙ h))
-    ]
-
 -- by the value of the constant that it names, if it names one
 abbrev pub HasForm : Meaning → Content → Constraint → Type 0
 HasForm m c (is_variant ty i n) = (fs : Values) × (c ≡ one (of_variant ty i fs))
