@@ -10,6 +10,7 @@ pub mod Collected
 pub mod Constrained
 pub mod Declared
 pub mod Elaborated
+pub mod ElaboratedCalls
 pub mod Exprs
 pub mod Gates
 pub mod GoneOver
