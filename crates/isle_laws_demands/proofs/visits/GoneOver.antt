@@ -19,7 +19,7 @@ use Rattle.isle_laws_demands.proofs.visits.Exprs.{IsTotal, expr_valued_by, expr_
 use Rattle.isle_laws_demands.proofs.visits.Gates.{unpurified, gates_of_taken}
 use Rattle.isle_laws_demands.proofs.visits.PatternCalls.{Adds, still_tested, pattern_adds, args_add}
 use Rattle.isle_laws_demands.proofs.visits.RightSides.{IsSingle, expr_single, expr_quiet}
-use Rattle.isle_laws_demands.proofs.visits.Rules.{IsPast, args_past, less_good, iflet_tested, iflet_past, iflets_past}
+use Rattle.isle_laws_demands.proofs.visits.Rules.{IsPast, sides_past, less_good, iflet_tested, iflet_past, iflets_past}
 use Rattle.isle_laws_demands.proofs.visits.Visited.{Good, MayTest, good_stays, AreGood}
 use Rattle.isle_laws_demands.proofs.visits.RuleParts.{iflet_parts, rule_parts}
 
@@ -114,14 +114,13 @@ is_before_right p r f h =
     let a = rule_parts p r f in
     let u = visit_args p 0 r.args visit_start in
     let w = visit_iflets p r.iflets u in
-    let d = args_past p 0 r.args a.entry.arg_tys visit_start [] a.mid a.args (λ x k. absurd (false≢true k)) in
-    let e = iflets_past p r.iflets u a.mid a.vars a.iflets h d.good in
+    let sides = sides_past p r a h in
     record {
       vars = a.vars;
       formed = a.right;
-      good = e.good;
-      calls = λ s i. elim (iflets_calls p r.iflets u u a.mid a.vars a.iflets h d.good (record { vars = refl; impure_calls = refl }) s i) [
-        | inl j ↦ elim ((args_add p 0 r.args visit_start).fresh s j) [ inl n ↦ absurd n | inr m ↦ inr (good_stays u w e.later true true s m) ]
+      good = sides.iflets.good;
+      calls = λ s i. elim (iflets_calls p r.iflets u u a.mid a.vars a.iflets h sides.args.good (record { vars = refl; impure_calls = refl }) s i) [
+        | inl j ↦ elim ((args_add p 0 r.args visit_start).fresh s j) [ inl n ↦ absurd n | inr m ↦ inr (good_stays u w sides.iflets.later true true s m) ]
         | inr j ↦ j
       ];
     }

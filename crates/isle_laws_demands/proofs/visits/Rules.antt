@@ -14,7 +14,7 @@ use Rattle.isle_laws_demands.proofs.visits.Gates.{gates_stay, weaker, stronger, 
 use Rattle.isle_laws_demands.proofs.visits.Visited.{Good, MayTest, IsSound, Later, good_stays, now, then_later, later_making, asked_binds, asked_more, asked_calls, all_asked, later_asked, AreGood}
 use Rattle.isle_laws_demands.proofs.visits.Patterns.{from_if, from_then, pattern_after}
 use Rattle.isle_laws_demands.proofs.visits.Exprs.{IsValued, expr_valued}
-use Rattle.isle_laws_demands.proofs.visits.RuleParts.{iflet_parts, rule_parts}
+use Rattle.isle_laws_demands.proofs.visits.RuleParts.{iflet_parts, RuleParts, rule_parts}
 
 -- after some patterns and if-lets: nothing less is asked, and variables that can be used may be tested
 pub record IsPast (v w : Visit) (more : List (ℕ × ℕ)) : Type 0 where
@@ -84,6 +84,16 @@ iflets_past p (i ∷ is) v vars more f h g =
     let w = visit_pattern p i.lhs (visit_expr p i.rhs v).site (asking_all (unwraps (visit_expr p i.rhs v).site) (visit_expr p i.rhs v).visit) in
     then_past v w (visit_iflets p is w) more r.later (iflets_past p is w a.mid more a.rest h.1 r.good)
 
+-- the visit of a rule before its right side: its arguments, then its if-lets
+pub record IsPastSides (p : Program) (r : TypedRule) (a : RuleParts p r) : Type 0 where
+  pub args : IsPast visit_start (visit_args p 0 r.args visit_start) a.mid
+  pub iflets : IsPast (visit_args p 0 r.args visit_start) (visit_iflets p r.iflets (visit_args p 0 r.args visit_start)) a.vars
+
+pub sides_past : (p : Program) (r : TypedRule) (a : RuleParts p r) → ArePureIfLets p r.iflets → IsPastSides p r a
+sides_past p r a h =
+    let args = args_past p 0 r.args a.entry.arg_tys visit_start [] a.mid a.args (λ x k. absurd (false≢true k)) in
+    record { args = args; iflets = iflets_past p r.iflets (visit_args p 0 r.args visit_start) a.mid a.vars a.iflets h args.good }
+
 -- the whole visit
 record IsDone (a : Valued) : Type 0 where
   sound : IsSound a.visit
@@ -101,11 +111,10 @@ rule_done p r f h =
     let a = rule_parts p r f in
     let u = visit_args p 0 r.args visit_start in
     let w = visit_iflets p r.iflets u in
-    let d = args_past p 0 r.args a.entry.arg_tys visit_start [] a.mid a.args (λ x k. absurd (false≢true k)) in
-    let e = iflets_past p r.iflets u a.mid a.vars a.iflets h d.good in
-    let x = expr_valued false p r.rhs w a.vars a.right (λ q. absurd (false≢true q)) (less_good false a.vars w e.good) in
+    let sides = sides_past p r a h in
+    let x = expr_valued false p r.rhs w a.vars a.right (λ q. absurd (false≢true q)) (less_good false a.vars w sides.iflets.good) in
     finished_done (is_partial p r.root_term) (visit_expr p r.rhs w)
-    (record { sound = x.later.sound (e.later.sound (d.later.sound start_sound)); site = x.site })
+    (record { sound = x.later.sound (sides.iflets.later.sound (sides.args.later.sound start_sound)); site = x.site })
 
 pub formed_rules_demand_gates_lem : (p : Program) (r : TypedRule) → is_formed_rule p r ≡ true → ArePureIfLets p r.iflets → DemandsGates p r
 formed_rules_demand_gates_lem p r f h =
