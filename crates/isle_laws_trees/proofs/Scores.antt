@@ -14,6 +14,9 @@ use Rattle.isle_laws_trees.proofs.OpenTests.{open_listed, listed_open}
 below_itself : (n : ℕ) → nat_lt n n ≡ true → ⊥
 below_itself n h = (let l = ltb-true n n h in omega arith)
 
+less_less : (a b c : ℕ) → nat_lt a b ≡ true → nat_lt b c ≡ true → nat_lt a c ≡ true
+less_less a b c h k = (let l = ltb-true a b h in let m = ltb-true b c k in lt-ltb a c (omega arith))
+
 module _ (a : ℕ) (t : Bool) where
   pub one_itself : or_later (nat_lt a a) (a == a) t ≡ true → t ≡ true
   one_itself h = elim (or_cases (nat_lt a a) ((a == a) && t) h) [ inl l ↦ absurd (below_itself a l) | inr r ↦ (and_parts (a == a) t r).1 ]
@@ -46,16 +49,16 @@ module _ (a b c : ℕ) (t t' t'' : Bool) (next : t ≡ true → t' ≡ true → 
   chain_up : or_later (nat_lt a b) (a == b) t ≡ true → or_later (nat_lt b c) (b == c) t' ≡ true → or_later (nat_lt a c) (a == c) t'' ≡ true
   chain_up =
       chain (nat_lt a b) (nat_lt b c) (nat_lt a c)
-      (λ x y. let m = ltb-true a b x in let n = ltb-true b c y in lt-ltb a c (omega arith))
-      (λ x e. let m = ltb-true a b x in lt-ltb a c (omega arith))
-      (λ e y. let n = ltb-true b c y in lt-ltb a c (omega arith))
+      (less_less a b c)
+      (λ x e. subst (λ n. nat_lt a n ≡ true) e x)
+      (λ e y. subst (λ n. nat_lt n c ≡ true) (sym e) y)
 
   chain_down : or_later (nat_lt b a) (a == b) t ≡ true → or_later (nat_lt c b) (b == c) t' ≡ true → or_later (nat_lt c a) (a == c) t'' ≡ true
   chain_down =
       chain (nat_lt b a) (nat_lt c b) (nat_lt c a)
-      (λ x y. let m = ltb-true b a x in let n = ltb-true c b y in lt-ltb c a (omega arith))
-      (λ x e. let m = ltb-true b a x in lt-ltb c a (omega arith))
-      (λ e y. let n = ltb-true c b y in lt-ltb c a (omega arith))
+      (λ x y. less_less c b a y x)
+      (λ x e. subst (λ n. nat_lt n a ≡ true) e x)
+      (λ e y. subst (λ n. nat_lt c n ≡ true) (sym e) y)
 
 module _ (a b : ℕ) (t t' : Bool) (next : a ≡ b → (t ≡ true) ⊎ (t' ≡ true)) where
   first : a < b → or_later (nat_lt a b) (a == b) t ≡ true
