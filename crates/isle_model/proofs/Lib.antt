@@ -11,6 +11,7 @@ pub mod Numbers
 pub mod NumbersOf
 pub mod Options
 pub mod Positions
+pub mod Priorities
 pub mod SameSites
 pub mod SitesMade
 pub mod TypeNames
