@@ -63,7 +63,7 @@ module _ (e : Setting) (rules : List TypedRule) (at_ids : (k : ℕ) (t : TermEnt
       let r = named_at name e.terms t n in
       ap (λ o. elim o as (λ _. Kind) [ None ↦ unknown | Some x ↦ kind_of x ]) (subst (λ k. slice_get e.terms k ≡ Some t) (sym (at_ids r.0 t r.1)) r.1)
 
-  expr_allowed : (flags : Flags) {d n : ℕ} {ty : Option ℕ} {x : ExprTree} {s t : Scope} {q : TypedExpr} → ElaboratesExpr e flags d x ty s q t n → CallsAlone (IsAllowed p flags) q
+  pub expr_allowed : (flags : Flags) {d n : ℕ} {ty : Option ℕ} {x : ExprTree} {s t : Scope} {q : TypedExpr} → ElaboratesExpr e flags d x ty s q t n → CallsAlone (IsAllowed p flags) q
   expr_allowed flags g = expr_calls e flags (IsAllowed p flags) (λ name t n c. ap (λ m. allow flags (flags_of m)) (entry_at_id name t n) ∙ allowed_entry flags t c) g
 
   abbrev CallsAllowed : TypedRule → Type 0
