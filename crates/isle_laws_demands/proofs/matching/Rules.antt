@@ -15,6 +15,7 @@ use Rattle.isle_model.specs.sites.DemandedGates.{IsPureExpr, ArePureIfLets, HasN
 use Rattle.isle_model.specs.lists.Setting.{expr_type}
 use Rattle.isle_model.specs.lists.Formed.{pattern_type, where_bound, of_entry, formed_pattern, is_formed_expr, formed_list, formed_iflets, is_formed_rule}
 use Rattle.isle_model.proofs.Elements.{In, in_from_contains, in_either, some_is, none_some}
+use Rattle.isle_model.proofs.Options.{is_there, some_then}
 use Rattle.isle_laws_demands.proofs.visits.Visited.{all_asked, asked_binds}
 use Rattle.isle_laws_demands.proofs.visits.Patterns.{from_if, from_then}
 use Rattle.isle_laws_demands.proofs.visits.Exprs.{from_vars}
@@ -91,7 +92,7 @@ then_past g mid more e u v w o f a l b = record {
   found = λ h.
       (let r = a.found (enough_before g v w l h) in
       let s = (b r.0 r.1).found h in
-      (s.0, ap (λ y. then_option y f) r.1 ∙ s.1));
+      (s.0, some_then o f r.0 s.0 r.1 s.1));
   agree = λ e' q. (let r = from_then o f e' q in (b r.0 r.1).agree e' r.2);
 }
 
@@ -183,7 +184,7 @@ module _ (g : Given) (z : Visit) (h : IsAnswered g z.demands) (parts : HasTypedP
             (let before = enough_before g u w (pattern_grown p i.lhs a.site u) m in
             let c = r.reached (λ n j. meets_present g n (before.asked (n, is_present) (in_from_contains u.demands.constraints (n, is_present) (all_asked (unwraps a.site) a.visit n j)))) in
             let d = (rest c.0 c.1).found m in
-            (d.0, ap (λ o. then_option o (holds_in i e)) c.1 ∙ d.1));
+            (d.0, some_then (value_in i e) (holds_in i e) c.0 d.0 c.1 d.1));
         agree = λ e' k. (let c = from_then (value_in i e) (holds_in i e) e' k in (rest c.0 c.1).agree e' c.2);
       }
 
@@ -232,10 +233,6 @@ rule_parts p r f = by (slice_get p.terms r.root_term) refl f
         let c = from_then (formed_list p r.args t.arg_tys []) (formed_iflets p r.iflets) b.0 b.1 in
         record { entry = t; there = q; mid = c.0; args = c.1; vars = b.0; iflets = c.2 }
 
-some_there : (o : Option SitedVars) → is_some o ≡ true → (e : SitedVars) × (o ≡ Some e)
-some_there None h = absurd (false≢true h)
-some_there (Some e) h = (e, refl)
-
 pub rule_matches : (g : Given) (r : TypedRule) → is_formed_rule g.program r ≡ true → ArePureIfLets g.program r.iflets → args_well_typed g.program.types (arg_types g.program r.root_term) g.args ≡ true
     → HasTypedParts g.program → HasNoPartialMulti g.program → IsAnswered g (demands_of g.program r) → Matches g r
 rule_matches g r f y t fields neither h =
@@ -253,7 +250,7 @@ rule_matches g r f y t fields neither h =
     (λ e i. iflets_past g z h fields neither r.iflets u a.mid a.vars e a.iflets y (first.agree e i) adds.grown) in
     record {
       met = λ m.
-          (let e = some_there (matches_under p g.meaning g.pick r g.args) m in
+          (let e = is_there (matches_under p g.meaning g.pick r g.args) m in
           let n = all.met (record { asked = λ x i. absurd i; equal = λ x i. absurd i }) e.0 e.1 in
           record { asked = λ x i. n.asked x (subst (λ l. In l x) adds.constraints i); equal = λ x i. n.equal x (subst (λ l. In l x) adds.equalities i) });
       found = λ m. (let e = all.found (enough_before g w z adds.grown m) in ap is_some e.1);

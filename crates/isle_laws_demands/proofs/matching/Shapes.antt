@@ -1,14 +1,14 @@
 -- What a content is that meets a constraint of a rule that matches, and that one content meets one constraint.
-use Rattle.std.proofs.Common.{◌≡◌, ◌==◌, ℕ, zero, suc, Bool, true, false, ◌&&◌, cond, List, [], ◌∷◌, length, Option, Some, None, is_some, slice_get, refl, sym, ap, ◌∙◌, inl, inr, eqb-true}
-use Rattle.std.proofs.lemmas.Bool.{and_parts, cases_Bool, cond-false, false≢true}
+use Rattle.std.proofs.Common.{◌≡◌, ◌==◌, ℕ, zero, suc, Bool, true, false, ◌&&◌, cond, List, [], ◌∷◌, length, Option, Some, None, is_some, slice_get, refl, sym, ap, ◌∙◌, eqb-true}
+use Rattle.std.proofs.lemmas.Bool.{and_parts, false≢true}
 use Rattle.isle_model.specs.lists.Tables.{TypeEntry, builtin_type, primitive_type, enum_type, struct_type}
 use Rattle.isle_model.specs.lists.KnownTypes.{StandAtIds}
-use Rattle.isle_model.specs.rules.Values.{Value, truth, atom, of_variant, of_struct, Values, no_value, value_and, value_eq, listed, is_truth_type, is_atom_type, variant_types, struct_types, well_typed, all_well_typed}
+use Rattle.isle_model.specs.rules.Values.{Value, truth, atom, of_variant, of_struct, Values, no_value, value_and, listed, is_truth_type, is_atom_type, variant_types, struct_types, well_typed, all_well_typed}
 use Rattle.isle_model.specs.rules.Meaning.{Content, one, parts, nothing, just, many, Meaning, bool_literal, int_literal, literal_value, constant_value}
-use Rattle.isle_model.specs.trees.Run.{content_fields, where_constant, all_one}
+use Rattle.isle_model.specs.trees.Run.{content_fields, all_one}
 use Rattle.isle_model.specs.sites.Sites.{Constraint, is_variant, is_struct, is_bool, is_int, is_prim, is_present}
 use Rattle.isle_model.specs.sites.Serves.{has_parts}
-use Rattle.isle_model.proofs.ValuesEqual.{eq_means}
+use Rattle.isle_laws_demands.proofs.matching.Demanded.{constant_found}
 
 -- the first type is that of booleans, and each type stands at its id
 pub record HasTypes (types : List TypeEntry) : Type 0 where
@@ -73,14 +73,6 @@ as_many_values types (ty ∷ tys) no_value h = absurd (false≢true h)
 as_many_values types (ty ∷ tys) (value_and v vs) h = ap suc (as_many_values types tys vs (and_parts (well_typed types ty v) (all_well_typed types (Some tys) vs) h).1)
 
 -- 2. contents that meet constraints
-constant_found : (o : Option Value) (v : Value) → is_some (where_constant o v) ≡ true → o ≡ Some v
-constant_found None v h = absurd (false≢true h)
-constant_found (Some w) v h =
-    elim (cases_Bool (value_eq w v)) [
-      | inl t ↦ ap Some (eq_means w v t)
-      | inr f ↦ absurd (false≢true (sym (ap is_some (cond-false (value_eq w v) (Some []) None f)) ∙ h))
-    ]
-
 -- by the value of the constant that it names, if it names one
 abbrev pub HasForm : Meaning → Content → Constraint → Type 0
 HasForm m c (is_variant ty i n) = (fs : Values) × (c ≡ one (of_variant ty i fs))
