@@ -9,14 +9,14 @@ use Rattle.isle_model.specs.sites.Sites.{Constraint, SetRule, constructor_site, 
 use Rattle.isle_model.specs.trees.Collects.{IsPureSite, content_at}
 use Rattle.isle_model.specs.trees.Places.{all_below, joins_in, waits}
 use Rattle.isle_model.specs.trees.Run.{content_fields}
-use Rattle.isle_model.specs.trees.SetRuns.{IsPureAt, ServesTests}
+use Rattle.isle_model.specs.trees.SetRuns.{IsPureAt, ServesTests, HasNoWrongOverlap, OverlapInSet}
 use Rattle.isle_model.proofs.Members.{nothing_in, in_alone, in_cases, in_head, in_tail}
 use Rattle.isle_model.specs.sites.Overlap.{built_rules}
 use Rattle.isle_model.specs.sites.Demands.{constraint_eq}
 use Rattle.isle_examples.specs.MeaningForms.{v}
 use Rattle.isle_examples.specs.SetForms.{is_byte}
 use Rattle.isle_examples.specs.TypedForms.{own}
-use Rattle.isle_examples.specs.Mended.{wrapped_call, wrapped_two, wrapped_sites, wrapped_set, wrapped_meaning, wrapped_world, AboveCallsNothingIsAsked, third_program, third_rule, built_one, built_two, ThirdRulesDontCount}
+use Rattle.isle_examples.specs.Mended.{wrapped_call, wrapped_two, wrapped_sites, wrapped_set, wrapped_meaning, wrapped_world, AboveCallsNothingIsAsked, third_program, third_rule, built_one, built_two, ThirdRulesDontCount, at_one, at_any, at_two, OverlapsMayHoldTwice}
 
 -- 1. above an impure call
 -- the one constraint of the rules
@@ -83,3 +83,33 @@ third_rules_dont_count_lem = (
   where
     one_two : is_byte 1 ≡ is_byte 2 → ⊥
     one_two e = false≢true (ap (constraint_eq (is_byte 2)) e)
+
+-- 7. wrong overlaps
+zero_one : ◌≡◌ {A = ℕ} 0 1 → ⊥
+zero_one e = omega (arith, e)
+
+-- a rule without constraints overlaps every other one
+any_overlaps : OverlapInSet at_one at_any
+any_overlaps s c d k l = absurd (nothing_in (s, d) l)
+
+apart_one_two : OverlapInSet at_one at_two → ⊥
+apart_one_two o = false≢true (ap (constraint_eq (is_byte 2)) (o 0 (is_byte 1) (is_byte 2) (in_head (0, is_byte 1) []) (in_head (0, is_byte 2) [])))
+
+apart_two_one : OverlapInSet at_two at_one → ⊥
+apart_two_one o = false≢true (ap (constraint_eq (is_byte 1)) (o 0 (is_byte 2) (is_byte 1) (in_head (0, is_byte 2) []) (in_head (0, is_byte 1) [])))
+
+apart_here : HasNoWrongOverlap (at_one ∷ at_two ∷ [])
+apart_here zero zero r q a b same o = refl
+apart_here zero (suc zero) r q a b same o = absurd (apart_one_two (subst (λ x. OverlapInSet x at_two) (sym (same_Some at_one r a)) (subst (OverlapInSet r) (sym (same_Some at_two q b)) o)))
+apart_here (suc zero) zero r q a b same o = absurd (apart_two_one (subst (λ x. OverlapInSet x at_one) (sym (same_Some at_two r a)) (subst (OverlapInSet r) (sym (same_Some at_one q b)) o)))
+apart_here (suc zero) (suc zero) r q a b same o = refl
+apart_here (suc (suc i)) j r q a b same o = absurd (none-some r a)
+apart_here zero (suc (suc j)) r q a b same o = absurd (none-some q b)
+apart_here (suc zero) (suc (suc j)) r q a b same o = absurd (none-some q b)
+
+pub overlaps_may_hold_twice_lem : OverlapsMayHoldTwice
+overlaps_may_hold_twice_lem = (
+  (λ none. zero_one (none 0 1 at_one at_any refl refl refl any_overlaps)),
+  (λ once. zero_one (once 0 1 at_one at_any refl refl refl refl refl)),
+  apart_here,
+)

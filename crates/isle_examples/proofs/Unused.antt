@@ -3,6 +3,9 @@ use Rattle.std.proofs.Common.{◌∷◌, [], refl, sym}
 use Rattle.std.proofs.lemmas.Bool.{false≢true}
 use Rattle.std.proofs.lemmas.List.Elements.{All-from_recursion, All-contains}
 use Rattle.isle_model.proofs.Members.{in_head}
+use Rattle.isle_model.proofs.Names.{distinct_if}
+use Rattle.isle_model.proofs.NumbersOf.{environments_are_read}
+use Rattle.isle_model.specs.claims.Environments.{types_read, with_read_names}
 use Rattle.isle_model.specs.claims.Layers.{IsLoweredTerm}
 use Rattle.isle_model.specs.rules.Program.{rules_of}
 use Rattle.isle_model.specs.trees.Best.{IsBestTree}
@@ -39,8 +42,13 @@ unused_is_lowered =
     let accepted = unused_accepted.0 in
     record {
       accepted = accepted;
-      type_rows = refl;
-      of_constants = λ k. refl;
-      rule_rows = record { elaborated = accepted.read.elaborated; table = refl; look_ups = λ k. refl; rules_look_up = λ k. refl; conversions = λ i o. refl };
+      environments = record {
+        elaborated = accepted.read.elaborated;
+        rows = record { table = refl; look_ups = λ k. refl; conversions = λ i o. refl };
+        typed = refl;
+        look_ups = λ k. refl;
+        flag = refl;
+        types = environments_are_read (with_read_names (types_read unused_defs) unused_rules.names) (distinct_if unused_rules.names refl);
+      };
       trees = record { each = refl; lowered = All-from_recursion (IsLoweredTerm (unused_program)) (unused_term ∷ []) (unused_lowered, tt) };
     }

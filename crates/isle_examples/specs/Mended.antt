@@ -1,24 +1,28 @@
 -- Samples that tell apart what a statement asks from what it might ask: the smallest inputs behind choices of statements.
-use Rattle.std.specs.Prelude.{◌≡◌, ◌∷◌, [], pos, false, List, None, All, IsTrue, is_some, slice_get, ℕ, true, codes}
-use Rattle.isle_model.specs.rules.Meaning.{Meaning, nothing}
-use Rattle.isle_model.specs.sites.Sites.{SetRule, Site, SiteSet, argument_site, constructor_site, make_variant_site, sources_at}
+use Rattle.std.specs.Prelude.{◌≡◌, ◌∷◌, [], pos, false, List, None, All, IsTrue, is_some, slice_get, ℕ, true, codes, Some, option_map}
+use Rattle.isle_model.specs.rules.Meaning.{Meaning, nothing, many}
+use Rattle.isle_model.specs.sites.Sites.{SetRule, Site, SiteSet, argument_site, constructor_site, make_variant_site, sources_at, extractor_site, iterator_site, make_some_site, match_some_site, extractor_call}
 use Rattle.isle_model.specs.trees.Collects.{content_at}
 use Rattle.isle_model.specs.trees.Places.{waits}
-use Rattle.isle_model.specs.trees.Run.{World}
-use Rattle.isle_model.specs.trees.SetRuns.{IsPureAt, ServesTests}
+use Rattle.isle_model.specs.trees.Run.{World, run, world_of}
+use Rattle.isle_model.specs.trees.SetRuns.{IsPureAt, ServesTests, HasNoWrongOverlap, HoldsOnce}
 use Rattle.isle_model.specs.claims.Headline.{IsWithoutMulti}
 use Rattle.isle_model.specs.claims.Layers.{own_program}
-use Rattle.isle_model.specs.claims.SetMeanings.{AreRulesWithoutCalls}
+use Rattle.isle_model.specs.claims.SetMeanings.{AreRulesWithoutCalls, returning_once}
 use Rattle.isle_model.specs.lists.Elaborated.{TypedRules}
 use Rattle.isle_model.specs.lists.Syntax.{Definition, declaration}
 use Rattle.isle_model.specs.rules.Program.{Program}
-use Rattle.isle_model.specs.rules.Typed.{TypedRule, make_int, make_var, match_int, match_term}
+use Rattle.isle_model.specs.rules.Typed.{TypedRule, make_int, make_var, match_int, match_term, make_term, match_any}
 use Rattle.isle_model.specs.sites.Limits.{sites_after_rules}
 use Rattle.isle_model.specs.sites.Overlap.{BuiltRule, Overlaps, built_rule}
-use Rattle.isle_examples.specs.MeaningForms.{given, literal, mute}
-use Rattle.isle_examples.specs.SetForms.{a_rule, byte, is_byte}
-use Rattle.isle_examples.specs.TypedForms.{own, bind_any, q_list, rules_and_names, typed, typed_var, u8}
-use Rattle.isle_examples.specs.Written.{extractor_by, f_of_bytes, int, number, numbers, of_f, rule_first, rule_to, term, var, variable}
+use Rattle.isle_model.specs.rules.Outcome.{Outcome, failed, ran_through}
+use Rattle.isle_model.specs.rules.Picks.{Pick, matches_under, right_side_under}
+use Rattle.isle_model.specs.rules.RightSide.{right_side}
+use Rattle.isle_model.specs.trees.Trees.{Tree, loop_at, no_step, step}
+use Rattle.isle_examples.specs.MeaningForms.{given, literal, mute, all_of, alone, answers, v}
+use Rattle.isle_examples.specs.SetForms.{a_rule, byte, is_byte, a0, returning}
+use Rattle.isle_examples.specs.TypedForms.{own, bind_any, q_list, rules_and_names, typed, typed_var, u8, e_list}
+use Rattle.isle_examples.specs.Written.{extractor_by, f_of_bytes, int, number, numbers, of_f, rule_first, rule_to, term, var, variable, any, call, constructor_by}
 
 -- 1. What stands above an impure call is asked of rules that match alone.
 --   (type T (enum (P (a u8))))
@@ -90,3 +94,100 @@ built_two = built_rule third_program (sites_after_rules third_program [] (third_
 -- the term uses a multi extractor; the two rules go over no calls, and don't overlap
 abbrev pub ThirdRulesDontCount : Type 0
 ThirdRulesDontCount = (IsWithoutMulti third_program 1 → ⊥) × AreRulesWithoutCalls third_program 1 built_one built_two × (Overlaps built_one.demands built_two.demands → ⊥)
+
+-- 3. Binding one rule's sites doesn't depend on whether the term is multi.
+--   (decl multi f (u8) u8)
+--   (rule (f _) 7)
+abbrev pub seven_defs : List Definition
+seven_defs = declaration (record (numbers 0 (codes "f")) { multi = true }) ∷ rule_to 1 (of_f 1 (any 1 ∷ [])) (number 1 (pos 7)) ∷ []
+
+abbrev pub seven_rule : TypedRule
+seven_rule = typed 0 1 0 (pos 0) (Some 13) [] (match_any u8 ∷ []) (make_int u8 (pos 7))
+
+abbrev pub seven_program : Program
+seven_program = own_program seven_defs (rules_and_names (seven_rule ∷ []) (codes "f" ∷ []))
+
+abbrev pub seven_meaning : Meaning
+seven_meaning = mute (literal (pos 7) ∷ [])
+
+abbrev pub seven_world : World
+seven_world = world_of seven_program 0 (argument_site 0 ∷ byte 7 ∷ []) seven_meaning (given (pos 1))
+
+abbrev pub seven_tree : Tree
+seven_tree = returning [] 1 1 no_step
+
+-- the right side's outcome ends with its result; the run of the term goes on after the return, and one that returns once
+-- does not
+abbrev pub ReturnsOfMultiTermsGoOn : Type 0
+ReturnsOfMultiTermsGoOn =
+    (right_side seven_program seven_meaning seven_rule [] ≡ answers (pos 7))
+    × (run seven_tree (returning_once seven_world) ≡ answers (pos 7))
+    × ((run seven_tree seven_world).ending ≡ ran_through)
+
+-- And under a pick, a right side may fail.
+--   (decl multi me (u8) u8)
+--   (extern extractor me me_fn)
+--   (decl pure partial pp (u8) u8)
+--   (extern constructor pp pp_fn)
+--   (decl partial f (u8) u8)
+--   (rule (f (me x)) (pp x))
+abbrev pub picked_defs : List Definition
+picked_defs =
+    declaration (record (numbers 0 (codes "me")) { multi = true }) ∷ extractor_by 1 (codes "me") (codes "me_fn")
+    ∷ declaration (record (numbers 2 (codes "pp")) { pure = true; partial = true }) ∷ constructor_by 3 (codes "pp") (codes "pp_fn")
+    ∷ declaration (record (numbers 4 (codes "f")) { partial = true })
+    ∷ rule_to 5 (of_f 5 (term 5 (codes "me") (var 5 (codes "x") ∷ []) ∷ [])) (call 5 (codes "pp") (variable 5 (codes "x") ∷ [])) ∷ []
+
+abbrev pub picked_rule : TypedRule
+picked_rule = typed 0 5 2 (pos 0) (Some 15) (typed_var 0 18 u8 ∷ []) (match_term u8 0 (q_list (bind_any u8 0 ∷ [])) ∷ []) (make_term u8 1 (e_list (make_var u8 0 ∷ [])))
+
+abbrev pub picked_program : Program
+picked_program = own_program picked_defs (rules_and_names (picked_rule ∷ []) (codes "me" ∷ codes "pp" ∷ codes "f" ∷ codes "me_fn" ∷ codes "pp_fn" ∷ codes "x" ∷ []))
+
+abbrev pub picked_sites : List Site
+picked_sites = argument_site 0 ∷ extractor_site 0 0 ∷ iterator_site 1 ∷ constructor_site 1 (2 ∷ []) 0 ∷ match_some_site 3 ∷ make_some_site 4 ∷ []
+
+-- the extractor answers 5 on 1, and on 5 the constructor answers nothing
+abbrev pub picked_meaning : Meaning
+picked_meaning = record (mute []) { extractor_calls = ((0, v (pos 1)), many (all_of (pos 5 ∷ []))) ∷ []; pure_calls = ((1, alone (pos 5)), nothing) ∷ [] }
+
+abbrev pub picked_world : World
+picked_world = world_of picked_program 2 picked_sites picked_meaning (given (pos 1))
+
+abbrev pub picked_first : Pick
+picked_first = (extractor_call 0 a0, 0) ∷ []
+
+-- the call is gone over, and the rule returns
+abbrev pub picked_tree : Tree
+picked_tree = step (1 ∷ []) (loop_at 2 (returning (3 ∷ 4 ∷ 5 ∷ []) 5 5 no_step)) no_step
+
+abbrev pub ends_in_failure : Outcome
+ends_in_failure = record { calls = []; results = []; ending = failed }
+
+-- under the pick the right side fails, and so does binding the result after the call is gone over: it isn't stuck
+abbrev pub RightSidesFailUnderPicks : Type 0
+RightSidesFailUnderPicks =
+    (option_map (right_side_under picked_program picked_meaning picked_first picked_rule) (matches_under picked_program picked_meaning picked_first picked_rule (given (pos 1))) ≡ Some ends_in_failure)
+    × (run picked_tree (returning_once picked_world) ≡ ends_in_failure)
+
+-- 7. In a set with a wrong overlap two rules of one priority may be taken; else at most one.
+--   (decl f (u8) u8)
+--   (rule (f 1) 1)
+--   (rule (f _) 2), or (rule (f 2) 2)
+abbrev pub at_one : SetRule
+at_one = a_rule 0 1 (pos 0) ((0, is_byte 1) ∷ []) [] 1
+
+abbrev pub at_any : SetRule
+at_any = a_rule 1 2 (pos 0) [] [] 2
+
+abbrev pub at_two : SetRule
+at_two = a_rule 1 2 (pos 0) ((0, is_byte 2) ∷ []) [] 2
+
+abbrev pub one_or_two_world : World
+one_or_two_world = record { sites = argument_site 0 ∷ byte 1 ∷ byte 2 ∷ []; args = given (pos 1); meaning = mute (literal (pos 1) ∷ literal (pos 2) ∷ []); multi = false }
+
+abbrev pub OverlapsMayHoldTwice : Type 0
+OverlapsMayHoldTwice =
+    (HasNoWrongOverlap (at_one ∷ at_any ∷ []) → ⊥)
+    × (HoldsOnce (at_one ∷ at_any ∷ []) one_or_two_world → ⊥)
+    × HasNoWrongOverlap (at_one ∷ at_two ∷ [])

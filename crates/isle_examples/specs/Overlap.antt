@@ -7,11 +7,11 @@ use Rattle.isle_model.specs.claims.Layers.{own_program}
 use Rattle.isle_model.specs.lists.Elaborated.{TypedRules}
 use Rattle.isle_model.specs.lists.Syntax.{Definition}
 use Rattle.isle_model.specs.rules.Program.{Program}
-use Rattle.isle_model.specs.rules.Typed.{TypedRule, make_int, make_var, match_any, match_int}
+use Rattle.isle_model.specs.rules.Typed.{TypedRule, make_int, match_any, match_int}
 use Rattle.isle_model.specs.sites.Overlap.{BuiltRule, built_rule, check_reports, clash, overlaps, rules_overlap, wrong_overlaps}
 use Rattle.isle_examples.specs.Fall.{fall_any, fall_one, fall_program}
 use Rattle.isle_examples.specs.Prio.{any_and_two, one_and_five, prio_program}
-use Rattle.isle_examples.specs.TypedForms.{bind_any, rules_and_names, typed, typed_var, u8}
+use Rattle.isle_examples.specs.TypedForms.{rules_and_names, typed, u8}
 use Rattle.isle_examples.specs.Written.{any, at, f_of_bytes, int, number, of_f, rule_to, var, variable}
 
 abbrev pub overlap_defs : List Definition
@@ -20,11 +20,8 @@ overlap_defs = f_of_bytes 0 1 ∷ rule_to 1 (of_f 1 (int 1 (pos 1) ∷ [])) (num
 abbrev pub overlap_one : TypedRule
 overlap_one = typed 0 1 0 (pos 0) None [] (match_int u8 (pos 1) ∷ []) (make_int u8 (pos 10))
 
-abbrev pub overlap_any : TypedRule
-overlap_any = typed 1 2 0 (pos 0) None (typed_var 0 14 u8 ∷ []) (bind_any u8 0 ∷ []) (make_var u8 0)
-
 abbrev pub overlap_rules : TypedRules
-overlap_rules = rules_and_names (overlap_one ∷ overlap_any ∷ []) (codes "f" ∷ codes "x" ∷ [])
+overlap_rules = rules_and_names (overlap_one ∷ fall_any ∷ []) (codes "f" ∷ codes "x" ∷ [])
 
 abbrev pub overlap_program : Program
 overlap_program = own_program overlap_defs overlap_rules
@@ -44,7 +41,7 @@ OverlapReported =
 -- the test of two rules: another priority, or different constants, tell them apart
 abbrev pub OverlapsFound : Type 0
 OverlapsFound =
-    (clash (built_alone overlap_program overlap_one) (built_alone overlap_program overlap_any) ≡ true)
+    (clash (built_alone overlap_program overlap_one) (built_alone overlap_program fall_any) ≡ true)
     × (clash (built_alone fall_program fall_one) (built_alone fall_program fall_any) ≡ false)
     × (overlaps (built_alone fall_program fall_one).demands (built_alone overlap_program overlap_one).demands ≡ true)
     × (overlaps (built_alone prio_program one_and_five).demands (built_alone prio_program any_and_two).demands ≡ false)

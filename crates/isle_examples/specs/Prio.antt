@@ -47,24 +47,31 @@ prio_set = record {
   sites = argument_site 0 ∷ argument_site 1 ∷ byte 12 ∷ byte 11 ∷ byte 10 ∷ [];
 }
 
+-- a tree's end, where the lowest rule alone is left, and an arm's, where the highest is
+abbrev prio_last : Tree
+prio_last = step [] (match_at 0 (one_arm (is_byte 1) [] (returning [] 3 4 no_step))) no_step
+
+abbrev prio_first : Tree
+prio_first = step [] (match_at 0 (one_arm (is_byte 1) [] (returning [] 1 2 no_step))) no_step
+
 -- the second argument's test covers two rules, so it goes first
 abbrev pub prio_tree : Tree
 prio_tree =
-    step [] (match_at 1 (arm (is_byte 2) [] (returning [] 2 3 no_step) (one_arm (is_byte 5) [] (step [] (match_at 0 (one_arm (is_byte 1) [] (returning [] 1 2 no_step))) no_step))))
-    (step [] (match_at 0 (one_arm (is_byte 1) [] (returning [] 3 4 no_step))) no_step)
+    step [] (match_at 1 (arm (is_byte 2) [] (returning [] 2 3 no_step) (one_arm (is_byte 5) [] prio_first)))
+    prio_last
 
 -- trees that are no best ones: the test of the first argument goes first, though it covers one rule and the other one two
 abbrev pub prio_exchanged : Tree
 prio_exchanged =
     step [] (match_at 0 (one_arm (is_byte 1) [] (returning [] 3 4 no_step)))
-    (step [] (match_at 1 (arm (is_byte 2) [] (returning [] 2 3 no_step) (one_arm (is_byte 5) [] (step [] (match_at 0 (one_arm (is_byte 1) [] (returning [] 1 2 no_step))) no_step)))) no_step)
+    (step [] (match_at 1 (arm (is_byte 2) [] (returning [] 2 3 no_step) (one_arm (is_byte 5) [] prio_first))) no_step)
 
 -- the first test is the greatest, and leaves one of its two rules to a step of its own
 abbrev pub prio_leaves_out : Tree
 prio_leaves_out =
-    step [] (match_at 1 (one_arm (is_byte 5) [] (step [] (match_at 0 (one_arm (is_byte 1) [] (returning [] 1 2 no_step))) no_step)))
+    step [] (match_at 1 (one_arm (is_byte 5) [] prio_first))
     (step [] (match_at 1 (one_arm (is_byte 2) [] (returning [] 2 3 no_step)))
-    (step [] (match_at 0 (one_arm (is_byte 1) [] (returning [] 3 4 no_step))) no_step))
+    prio_last)
 
 -- the first test takes a third rule with it, which is lower than one that doesn't need it
 abbrev pub prio_takes_in : Tree
@@ -77,21 +84,21 @@ prio_takes_in =
 -- the greater constraint's arm stands first
 abbrev pub prio_arms_exchanged : Tree
 prio_arms_exchanged =
-    step [] (match_at 1 (arm (is_byte 5) [] (step [] (match_at 0 (one_arm (is_byte 1) [] (returning [] 1 2 no_step))) no_step) (one_arm (is_byte 2) [] (returning [] 2 3 no_step))))
-    (step [] (match_at 0 (one_arm (is_byte 1) [] (returning [] 3 4 no_step))) no_step)
+    step [] (match_at 1 (arm (is_byte 5) [] prio_first (one_arm (is_byte 2) [] (returning [] 2 3 no_step))))
+    prio_last
 
 -- an arm has another rule's constraint
 abbrev pub prio_other_arm : Tree
 prio_other_arm =
-    step [] (match_at 1 (arm (is_byte 3) [] (returning [] 2 3 no_step) (one_arm (is_byte 5) [] (step [] (match_at 0 (one_arm (is_byte 1) [] (returning [] 1 2 no_step))) no_step))))
-    (step [] (match_at 0 (one_arm (is_byte 1) [] (returning [] 3 4 no_step))) no_step)
+    step [] (match_at 1 (arm (is_byte 3) [] (returning [] 2 3 no_step) (one_arm (is_byte 5) [] prio_first)))
+    prio_last
 
 -- each rule alone, by descending priority; only the first test isn't the greatest
 abbrev pub prio_alone : Tree
 prio_alone =
     step [] (match_at 0 (one_arm (is_byte 1) [] (step [] (match_at 1 (one_arm (is_byte 5) [] (returning [] 1 2 no_step))) no_step)))
     (step [] (match_at 1 (one_arm (is_byte 2) [] (returning [] 2 3 no_step)))
-    (step [] (match_at 0 (one_arm (is_byte 1) [] (returning [] 3 4 no_step))) no_step))
+    prio_last)
 
 abbrev pub prio_near_trees : List Tree
 prio_near_trees = prio_exchanged ∷ prio_leaves_out ∷ prio_takes_in ∷ prio_arms_exchanged ∷ prio_other_arm ∷ prio_alone ∷ []

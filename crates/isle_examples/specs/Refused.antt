@@ -2,7 +2,7 @@
 use Rattle.std.specs.Prelude.{◌∷◌, [], pos, Bool, List, codes}
 use Rattle.isle_model.specs.claims.Layers.{RefusedBy}
 use Rattle.isle_model.specs.lists.Syntax.{Definition}
-use Rattle.isle_model.specs.sites.Overlap.{rule_shadows, rules_overlap}
+use Rattle.isle_model.specs.claims.Refusals.{ill_typed, overlapping, shadowing}
 use Rattle.isle_examples.specs.Overlap.{overlap_defs}
 use Rattle.isle_examples.specs.Shadow.{shadow_defs}
 use Rattle.isle_examples.specs.Stages.{IsNotRead}
@@ -23,7 +23,7 @@ two_of_one_name = enum_of_one 0 (codes "T") (codes "A") (field 0 (codes "v") (co
 -- lowering is refused by two types of one name, by a variable that nothing binds, by a wrong overlap, by a shadowed rule
 abbrev pub SamplesAreRefused : Type 0
 SamplesAreRefused =
-    ((expand : Bool) → RefusedBy two_of_one_name expand [])
-    × ((expand : Bool) → RefusedBy unbound expand [])
-    × ((expand : Bool) → RefusedBy overlap_defs expand (rules_overlap (record { first = at 2; others = at 1 ∷ [] }) ∷ []))
-    × ((expand : Bool) → RefusedBy shadow_defs expand (rule_shadows (record { mask = at 1; shadowed = at 2 ∷ [] }) ∷ []))
+    ((expand : Bool) → RefusedBy two_of_one_name expand (ill_typed (at 1) ∷ []))
+    × ((expand : Bool) → RefusedBy unbound expand (ill_typed (at 1) ∷ []))
+    × ((expand : Bool) → RefusedBy overlap_defs expand (overlapping (at 2 ∷ (at 1 ∷ [])) ∷ []))
+    × ((expand : Bool) → RefusedBy shadow_defs expand (shadowing (at 2 ∷ []) (at 1) ∷ []))

@@ -6,12 +6,11 @@
 --   (decl multi f (u8) u8)
 --   (rule (f x) (if-let _ (let ((y u8 (m (pp x)))) x)) 7)
 use Rattle.std.specs.Prelude.{◌≡◌, ◌∷◌, [], pos, true, false, List, Some, codes, slice_get}
-use Rattle.isle_model.specs.claims.Environments.{rules_by_name, terms_by_name}
+use Rattle.isle_model.specs.claims.Environments.{environment_of, term_environment_of, types_read, with_read_names}
 use Rattle.isle_model.specs.claims.Layers.{LoweredTerm, LoweringAnswers, own_program}
 use Rattle.isle_model.specs.lists.Elaborated.{TypedRules}
 use Rattle.isle_model.specs.lists.Syntax.{Definition, declaration}
 use Rattle.isle_model.specs.lists.Tables.{TermEntry}
-use Rattle.isle_model.specs.lists.TypeTable.{type_table}
 use Rattle.isle_model.specs.rules.Program.{Program}
 use Rattle.isle_model.specs.rules.Typed.{TypedRule, make_int, make_term, make_var, match_any}
 use Rattle.isle_model.specs.sites.Gates.{gate_demanded}
@@ -68,4 +67,5 @@ unused_term = record { term = 2; set = unused_set; tree = unused_tree }
 -- the list is lowered to that tree
 abbrev pub UnusedIsLowered : Type 0
 UnusedIsLowered =
-    LoweringAnswers unused_defs true (type_table unused_defs) [] unused_terms (terms_by_name unused_terms) (rules_by_name unused_rules.rules) [] unused_rules (unused_term ∷ [])
+    LoweringAnswers unused_defs true (environment_of (with_read_names (types_read unused_defs) unused_rules.names))
+    (term_environment_of (types_read unused_defs) unused_defs true unused_rules.rules) unused_rules (unused_term ∷ [])

@@ -488,7 +488,7 @@ pub fn lists_refused()
     ensures lowering { SamplesAreRefused }
 {}
 
-ghost use Rattle.isle_examples.specs.Mended.{AboveCallsNothingIsAsked, ThirdRulesDontCount};
+ghost use Rattle.isle_examples.specs.Mended.{AboveCallsNothingIsAsked, ThirdRulesDontCount, ReturnsOfMultiTermsGoOn, RightSidesFailUnderPicks, OverlapsMayHoldTwice};
 
 /// A world that has what tests ask may have no content for a construction above an impure call that is never made.
 #[tactic(auto, using(crate::proofs::Mended::above_calls_nothing_is_asked_lem))]
@@ -500,4 +500,20 @@ pub fn above_calls_nothing_is_asked()
 #[tactic(auto, using(crate::proofs::Mended::third_rules_dont_count_lem))]
 pub fn third_rules_dont_count()
     ensures { ThirdRulesDontCount }
+{}
+
+/// The run of a multi term goes on after a return, where the right side ends with its result.
+pub fn returns_of_multi_terms_go_on()
+    ensures { ReturnsOfMultiTermsGoOn }
+{}
+
+/// Under a pick a right side may fail, and so does binding the result.
+pub fn right_sides_fail_under_picks()
+    ensures { RightSidesFailUnderPicks }
+{}
+
+/// The demands of two rules of one priority may both hold where they overlap.
+#[tactic(auto, using(crate::proofs::Mended::overlaps_may_hold_twice_lem))]
+pub fn overlaps_may_hold_twice()
+    ensures { OverlapsMayHoldTwice }
 {}

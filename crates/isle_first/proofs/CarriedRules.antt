@@ -24,6 +24,7 @@ use Rattle.isle_laws_lists.specs.TypingLaws.{typing}
 use Rattle.isle_model.specs.first.CarriedRules.{carried_setting_of, rule_and_count, without_expansion, CarriedRulesAgree}
 use Rattle.isle_model.proofs.Bytes.{same_bytes, same_self}
 use Rattle.isle_model.proofs.Names.{same_test, number_new, known_name, has_kept, number_kept, has_met, has_left, has_right}
+use Rattle.isle_model.proofs.FirstPlaces.{place_next}
 
 has_tail : (y : List ℕ) (ys : List (List ℕ)) (x : List ℕ) → has_name ys x ≡ true → has_name (y ∷ ys) x ≡ true
 has_tail y ys x h = has_right (y ∷ []) ys x h
@@ -36,14 +37,6 @@ AllIn ns (x ∷ xs) = (has_name ns x ≡ true) × AllIn ns xs
 all_in : (ns xs : List (List ℕ)) → ((x : List ℕ) → has_name xs x ≡ true → has_name ns x ≡ true) → AllIn ns xs
 all_in ns [] f = tt
 all_in ns (x ∷ xs) f = (f x (rw (same_self x) refl), all_in ns xs (λ y h. f y (has_tail x xs y h)))
-
-place_suc : (n : ℕ) (x : List ℕ) (xs : List (List ℕ)) → place_from (suc n) x xs ≡ option_map suc (place_from n x xs)
-place_suc n x [] = refl
-place_suc n x (y ∷ ys) =
-    elim (bytes_eq y x) as (λ b. cond b (Some (suc n)) (place_from (suc (suc n)) x ys) ≡ option_map suc (cond b (Some n) (place_from (suc n) x ys))) [
-      | true ↦ refl
-      | false ↦ place_suc (suc n) x ys
-    ]
 
 then_suc : {A : Type 0} (o : Option ℕ) (a : A) (rest : List A) → then_option (option_map suc o) (slice_get (a ∷ rest)) ≡ then_option o (slice_get rest)
 then_suc None a rest = refl
@@ -69,7 +62,7 @@ entries_agree defs x k (d ∷ ds) h =
     (elim (bytes_eq y x) as (λ b. cond b (Some here) (entry_named (number all x) rest) ≡ then_option (cond b (Some 0) (place_from 1 x texts)) (slice_get (here ∷ rest))) [
       | true ↦ refl
       | false ↦
-          entries_agree defs x (suc k) ds h.1 ∙ sym (then_suc (place_from 0 x texts) here rest) ∙ ap (λ o. then_option o (slice_get (here ∷ rest))) (sym (place_suc 0 x texts))
+          entries_agree defs x (suc k) ds h.1 ∙ sym (then_suc (place_from 0 x texts) here rest) ∙ ap (λ o. then_option o (slice_get (here ∷ rest))) (sym (place_next 0 x texts))
     ])
 
 term_agrees : (defs : List Definition) (x : List ℕ) → entry_named (number (all_names defs) x) (term_entries defs) ≡ then_option (term_id defs x) (slice_get (term_entries defs))

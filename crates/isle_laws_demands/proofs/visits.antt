@@ -10,6 +10,7 @@ pub mod Collected
 pub mod Constrained
 pub mod Declared
 pub mod Elaborated
+pub mod ElaboratedCalls
 pub mod Exprs
 pub mod Gates
 pub mod GoneOver
@@ -18,6 +19,7 @@ pub mod PatternCalls
 pub mod Patterns
 pub mod Priorities
 pub mod RightSides
+pub mod RuleParts
 pub mod Rules
 pub mod Served
 pub mod Sets

@@ -1,2 +1,3 @@
 pub mod picks
 pub mod runs
+pub mod taking

@@ -13,6 +13,7 @@ pub mod Demanded
 pub mod FieldSites
 pub mod Fields
 pub mod Finding
+pub mod HoldsOnce
 pub mod Left
 pub mod Loops
 pub mod Order

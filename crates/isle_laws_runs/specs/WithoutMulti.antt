@@ -3,12 +3,13 @@ use Rattle.std.specs.Prelude.{◌≡◌, false, List, [], ◌∷◌, Option, Som
 use Rattle.isle_model.specs.rules.Values.{Value}
 use Rattle.isle_model.specs.rules.Meaning.{Meaning}
 use Rattle.isle_model.specs.rules.Program.{Program, Kind, a_variant, a_struct, a_call, unknown, kind, is_multi}
+use Rattle.isle_model.specs.rules.CalledTerms.{CallsAlone, CallAlone, LetsCallAlone}
 use Rattle.isle_model.specs.rules.Matching.{Vars, matches}
 use Rattle.isle_model.specs.rules.RightSide.{right_side}
 use Rattle.isle_model.specs.rules.Choice.{with_vars}
 use Rattle.isle_model.specs.sites.Demands.{demands_of}
 use Rattle.isle_model.specs.rules.Picks.{Pick, picks, SitedVars, values_in, matches_under, right_side_under, bag}
-use Rattle.isle_model.specs.rules.Typed.{TypedPattern, match_bind, match_term, match_and, TypedPatterns, no_typed_pattern, typed_pattern_and, TypedExpr, make_term, make_let, TypedExprs, no_typed_expr, typed_expr_and, TypedLets, no_typed_let, typed_let_and, TypedIfLet, TypedRule}
+use Rattle.isle_model.specs.rules.Typed.{TypedPattern, match_bind, match_term, match_and, TypedPatterns, no_typed_pattern, typed_pattern_and, TypedExpr, TypedExprs, TypedLets, TypedIfLet, TypedRule}
 
 -- what is asked of the parts of a term's pattern, where the term is one of the program: others have no parts
 abbrev pub WhereKnown : Kind → Type 0 → Type 0
@@ -30,19 +31,14 @@ abbrev mutual
   PatternsCallNoMulti p (typed_pattern_and q qs) = PatternCallsNoMulti p q × PatternsCallNoMulti p qs
 
 -- no term of an expression is
-abbrev mutual
-  pub ExprCallsNoMulti : Program → TypedExpr → Type 0
-  ExprCallsNoMulti p (make_term ty t args) = (is_multi p t ≡ false) × ExprsCallNoMulti p args
-  ExprCallsNoMulti p (make_let ty defs body) = LetsCallNoMulti p defs × ExprCallsNoMulti p body
-  ExprCallsNoMulti p _ = Unit {0}
+abbrev pub ExprCallsNoMulti : Program → TypedExpr → Type 0
+ExprCallsNoMulti p x = CallsAlone (λ t. is_multi p t ≡ false) x
 
-  pub ExprsCallNoMulti : Program → TypedExprs → Type 0
-  ExprsCallNoMulti p no_typed_expr = Unit {0}
-  ExprsCallNoMulti p (typed_expr_and x xs) = ExprCallsNoMulti p x × ExprsCallNoMulti p xs
+abbrev pub ExprsCallNoMulti : Program → TypedExprs → Type 0
+ExprsCallNoMulti p xs = CallAlone (λ t. is_multi p t ≡ false) xs
 
-  pub LetsCallNoMulti : Program → TypedLets → Type 0
-  LetsCallNoMulti p no_typed_let = Unit {0}
-  LetsCallNoMulti p (typed_let_and x ty value rest) = ExprCallsNoMulti p value × LetsCallNoMulti p rest
+abbrev pub LetsCallNoMulti : Program → TypedLets → Type 0
+LetsCallNoMulti p ds = LetsCallAlone (λ t. is_multi p t ≡ false) ds
 
 -- none of a rule's argument patterns, none of its if-lets
 abbrev pub ArgsCallNoMulti : Program → List TypedPattern → Type 0

@@ -10,7 +10,7 @@ ghost use Rattle.isle_laws_runs.specs.Exact.{PicksAreExact, OnlyPlacesMatter, Co
 ghost use Rattle.isle_laws_runs.specs.Orders.{CallsCanComeFirst, ResultsAreOfPlaces};
 ghost use Rattle.isle_model.specs.rules.Values.{Value, value_eq};
 ghost use Rattle.std.specs.Prelude.{◌≡◌, Decides};
-ghost use Rattle.isle_model.specs.trees.SetRuns.{SoundTreesChoose};
+ghost use Rattle.isle_model.specs.trees.SetRuns.{SoundTreesChoose, RulesHoldOnce, TakenOnce};
 
 /// The run of a sound tree of any set of a multi term, whose rules make no impure call and demand every gate below their
 /// sites, collects the bag of the rules' results under each pick under which their demands hold.
@@ -87,4 +87,15 @@ pub fn value_eq_is_exact()
 /// The run of a sound tree of any set whose rules go over no calls is a choice by priority.
 pub fn sound_trees_choose()
     ensures { SoundTreesChoose }
+{}
+
+/// In a set without a wrong overlap, the demands of at most one rule of a priority hold.
+#[tactic(auto, using(crate::proofs::runs::HoldsOnce::rules_hold_once_lem))]
+pub fn rules_hold_once()
+    ensures { RulesHoldOnce }
+{}
+
+/// Taking a rule comes to one outcome, whatever the place that it is taken from.
+pub fn taken_once()
+    ensures { TakenOnce }
 {}

@@ -1,7 +1,7 @@
 -- Priorities, and what a cover that is a step's rules says of them.
 use Rattle.std.proofs.Common.{◌≡◌, ℕ, ℤ, Bool, true, false, not, ◌&&◌, ◌||◌, nat_lt, List, [], ◌∷◌, ◌++◌, Some, slice_get, Contains, filter, refl, sym, ap, ◌∙◌, subst, inl, inr, arith, int_cmp, int_eq, is_lt, Ordering, Less, Equal, Greater, ◌≤ℤ◌, ◌<ℤ◌}
 use Rattle.std.specs.List.{list_all}
-use Rattle.std.proofs.lemmas.Bool.{cases_Bool, cond-true, and_parts, and_from, or_cases, or_right, false≢true, both_ways}
+use Rattle.std.proofs.lemmas.Bool.{cases_Bool, cond-true, and_parts, and_from, or_cases, or_right, false≢true}
 use Rattle.std.proofs.lemmas.Bool.Decides.{Decides-int_eq}
 use Rattle.std.proofs.lemmas.Int.{ints}
 use Rattle.std.proofs.lemmas.List.Elements.{Contains-append_right}
@@ -13,21 +13,9 @@ use Rattle.isle_model.specs.trees.Tests.{Test, priority, needs_at, is_lower, is_
 use Rattle.isle_model.specs.trees.Best.{comes_first, descend}
 use Rattle.isle_model.proofs.Members.{nothing_in, in_head, in_tail, in_cases, in_filter, from_filter, each_passes, all_pass}
 use Rattle.isle_laws_trees.proofs.Exact.{not_exact}
+use Rattle.isle_model.proofs.Priorities.{at_most, at_least}
 
 -- 1. priorities
-at_most : (x y : ℤ) (o : Ordering) → MatchOrdering o (x <ℤ y) (x ≡ y) (y <ℤ x) → is_lt o ≡ true → x ≤ℤ y
-at_most x y Less h e = omega (arith, ints)
-at_most x y Equal h e = absurd (false≢true e)
-at_most x y Greater h e = absurd (false≢true e)
-
-at_least : (x y : ℤ) (o : Ordering) → MatchOrdering o (x <ℤ y) (x ≡ y) (y <ℤ x) → is_lt o ≡ false → y ≤ℤ x
-at_least x y Less h e = absurd (both_ways true e refl)
-at_least x y Equal h e = subst (λ z. z ≤ℤ x) h (itself x)
-  where
-    itself : (z : ℤ) → z ≤ℤ z
-    itself z = omega (arith, ints)
-at_least x y Greater h e = omega (arith, ints)
-
 not_lower_of : (x y : ℤ) (o : Ordering) → MatchOrdering o (x <ℤ y) (x ≡ y) (y <ℤ x) → y ≤ℤ x → is_lt o ≡ false
 not_lower_of x y Less h l = absurd (omega (arith, ints))
 not_lower_of x y Equal h l = refl

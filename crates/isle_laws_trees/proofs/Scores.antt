@@ -14,55 +14,51 @@ use Rattle.isle_laws_trees.proofs.OpenTests.{open_listed, listed_open}
 below_itself : (n : ℕ) → nat_lt n n ≡ true → ⊥
 below_itself n h = (let l = ltb-true n n h in omega arith)
 
+less_less : (a b c : ℕ) → nat_lt a b ≡ true → nat_lt b c ≡ true → nat_lt a c ≡ true
+less_less a b c h k = (let l = ltb-true a b h in let m = ltb-true b c k in lt-ltb a c (omega arith))
+
 module _ (a : ℕ) (t : Bool) where
   pub one_itself : or_later (nat_lt a a) (a == a) t ≡ true → t ≡ true
   one_itself h = elim (or_cases (nat_lt a a) ((a == a) && t) h) [ inl l ↦ absurd (below_itself a l) | inr r ↦ (and_parts (a == a) t r).1 ]
 
 module _ (a b c : ℕ) (t t' t'' : Bool) (next : t ≡ true → t' ≡ true → t'' ≡ true) where
-  less : a < c → or_later (nat_lt a c) (a == c) t'' ≡ true
-  less l = or_left (nat_lt a c) ((a == c) && t'') (lt-ltb a c l)
-
-  more : c < a → or_later (nat_lt c a) (a == c) t'' ≡ true
-  more l = or_left (nat_lt c a) ((a == c) && t'') (lt-ltb c a l)
-
-  same : (x : Bool) → a ≡ c → t'' ≡ true → or_later x (a == c) t'' ≡ true
-  same x e h = or_right x ((a == c) && t'') (and_from (a == c) t'' (eq-eqb a c e) h)
+  -- whatever compares the numbers
+  chain : (p q r : Bool) → (p ≡ true → q ≡ true → r ≡ true) → (p ≡ true → b ≡ c → r ≡ true) → (a ≡ b → q ≡ true → r ≡ true)
+      → or_later p (a == b) t ≡ true → or_later q (b == c) t' ≡ true → or_later r (a == c) t'' ≡ true
+  chain p q r both left right h k =
+      elim (or_cases p ((a == b) && t) h) [
+        | inl x ↦
+            elim (or_cases q ((b == c) && t') k) [
+              | inl y ↦ strictly (both x y)
+              | inr y ↦ strictly (left x (eqb-true b c (and_parts (b == c) t' y).0))
+            ]
+        | inr x ↦
+            let d = and_parts (a == b) t x in
+            let same = eqb-true a b d.0 in
+            elim (or_cases q ((b == c) && t') k) [
+              | inl y ↦ strictly (right same y)
+              | inr y ↦
+                  let e = and_parts (b == c) t' y in
+                  or_right r ((a == c) && t'') (and_from (a == c) t'' (eq-eqb a c (same ∙ eqb-true b c e.0)) (next d.1 e.1))
+            ]
+      ]
+    where
+      strictly : r ≡ true → or_later r (a == c) t'' ≡ true
+      strictly l = or_left r ((a == c) && t'') l
 
   chain_up : or_later (nat_lt a b) (a == b) t ≡ true → or_later (nat_lt b c) (b == c) t' ≡ true → or_later (nat_lt a c) (a == c) t'' ≡ true
-  chain_up h k =
-      elim (or_cases (nat_lt a b) ((a == b) && t) h) [
-        | inl x ↦
-            let p = ltb-true a b x in
-            elim (or_cases (nat_lt b c) ((b == c) && t') k) [
-              | inl y ↦ let q = ltb-true b c y in less (omega arith)
-              | inr y ↦ let q = eqb-true b c (and_parts (b == c) t' y).0 in less (omega arith)
-            ]
-        | inr x ↦
-            let d = and_parts (a == b) t x in
-            let p = eqb-true a b d.0 in
-            elim (or_cases (nat_lt b c) ((b == c) && t') k) [
-              | inl y ↦ let q = ltb-true b c y in less (omega arith)
-              | inr y ↦ let e = and_parts (b == c) t' y in same (nat_lt a c) (p ∙ eqb-true b c e.0) (next d.1 e.1)
-            ]
-      ]
+  chain_up =
+      chain (nat_lt a b) (nat_lt b c) (nat_lt a c)
+      (less_less a b c)
+      (λ x e. subst (λ n. nat_lt a n ≡ true) e x)
+      (λ e y. subst (λ n. nat_lt n c ≡ true) (sym e) y)
 
   chain_down : or_later (nat_lt b a) (a == b) t ≡ true → or_later (nat_lt c b) (b == c) t' ≡ true → or_later (nat_lt c a) (a == c) t'' ≡ true
-  chain_down h k =
-      elim (or_cases (nat_lt b a) ((a == b) && t) h) [
-        | inl x ↦
-            let p = ltb-true b a x in
-            elim (or_cases (nat_lt c b) ((b == c) && t') k) [
-              | inl y ↦ let q = ltb-true c b y in more (omega arith)
-              | inr y ↦ let q = eqb-true b c (and_parts (b == c) t' y).0 in more (omega arith)
-            ]
-        | inr x ↦
-            let d = and_parts (a == b) t x in
-            let p = eqb-true a b d.0 in
-            elim (or_cases (nat_lt c b) ((b == c) && t') k) [
-              | inl y ↦ let q = ltb-true c b y in more (omega arith)
-              | inr y ↦ let e = and_parts (b == c) t' y in same (nat_lt c a) (p ∙ eqb-true b c e.0) (next d.1 e.1)
-            ]
-      ]
+  chain_down =
+      chain (nat_lt b a) (nat_lt c b) (nat_lt c a)
+      (λ x y. less_less c b a y x)
+      (λ x e. subst (λ n. nat_lt n a ≡ true) e x)
+      (λ e y. subst (λ n. nat_lt c n ≡ true) (sym e) y)
 
 module _ (a b : ℕ) (t t' : Bool) (next : a ≡ b → (t ≡ true) ⊎ (t' ≡ true)) where
   first : a < b → or_later (nat_lt a b) (a == b) t ≡ true

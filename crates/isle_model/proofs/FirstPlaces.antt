@@ -1,5 +1,5 @@
 -- The first place of a text among texts.
-use Rattle.std.proofs.Common.{◌≡◌, ℕ, zero, suc, ◌+◌, ◌<◌, ◌||◌, true, false, cond, List, [], ◌∷◌, ◌++◌, length, Some, None, slice_get, refl, sym, ap, ◌∙◌, arith}
+use Rattle.std.proofs.Common.{◌≡◌, ℕ, zero, suc, ◌+◌, ◌<◌, ◌||◌, true, false, cond, List, [], ◌∷◌, ◌++◌, length, Some, None, option_map, slice_get, refl, sym, ap, ◌∙◌, arith}
 use Rattle.std.specs.Str.{bytes_eq}
 use Rattle.std.proofs.lemmas.Bool.{false≢true}
 use Rattle.isle_model.specs.lists.Names.{has_name, IsDistinct}
@@ -7,6 +7,15 @@ use Rattle.isle_model.specs.lists.TypeTable.{place_from}
 use Rattle.isle_model.proofs.Bytes.{same_bytes, same_self}
 use Rattle.isle_model.proofs.Names.{absent}
 use Rattle.isle_model.proofs.Positions as positions
+
+-- counted from one further
+pub place_next : (n : ℕ) (x : List ℕ) (ts : List (List ℕ)) → place_from (suc n) x ts ≡ option_map suc (place_from n x ts)
+place_next n x [] = refl
+place_next n x (y ∷ ys) =
+    elim (bytes_eq y x) as (λ b. cond b (Some (suc n)) (place_from (suc (suc n)) x ys) ≡ option_map suc (cond b (Some n) (place_from (suc n) x ys))) [
+      | true ↦ refl
+      | false ↦ place_next (suc n) x ys
+    ]
 
 -- a text that isn't among texts has no place, and the other way round
 pub place_absent : (n : ℕ) (ts : List (List ℕ)) (x : List ℕ) → has_name ts x ≡ false → place_from n x ts ≡ None

@@ -8,8 +8,10 @@ pub mod Joined
 pub mod Members
 pub mod Names
 pub mod Numbers
+pub mod NumbersOf
 pub mod Options
 pub mod Positions
+pub mod Priorities
 pub mod SameSites
 pub mod SitesMade
 pub mod TypeNames

@@ -17,6 +17,13 @@ pub beq_same : (a : Bool) → beq a a ≡ true
 beq_same true = refl
 beq_same false = refl
 
+-- two numbers and a rest
+pub parts_mean : (a b c d : ℕ) (rest : Bool) → (((a == b) && (c == d)) && rest) ≡ true → (a ≡ b) × (c ≡ d) × (rest ≡ true)
+parts_mean a b c d rest h =
+    let p = and_parts ((a == b) && (c == d)) rest h in
+    let q = and_parts (a == b) (c == d) p.0 in
+    (eqb-true a b q.0, eqb-true c d q.1, p.1)
+
 pub number_same : (n : ℕ) → (n == n) ≡ true
 number_same n = eq-eqb n n refl
 
@@ -37,12 +44,9 @@ mutual
       λ k. constructor_call (e k) (f k) (g k)
   term_means (pick_of a) (pick_of b) h = ap pick_of (term_means a b h)
   term_means (variant_made s i xs) (variant_made t j ys) h =
-      let p = and_parts ((s == t) && (i == j)) (site_terms_eq xs ys) h in
-      let q = and_parts (s == t) (i == j) p.0 in
-      let e = eqb-true s t q.0 in
-      let f = eqb-true i j q.1 in
-      let g = terms_mean xs ys p.1 in
-      λ k. variant_made (e k) (f k) (g k)
+      let p = parts_mean s t i j (site_terms_eq xs ys) h in
+      let rest = terms_mean xs ys p.2 in
+      λ k. variant_made (p.0 k) (p.1 k) (rest k)
   term_means (variant_field a i f) (variant_field b j g) h =
       let p = and_parts (site_term_eq a b && (i == j)) (f == g) h in
       let q = and_parts (site_term_eq a b) (i == j) p.0 in
@@ -97,12 +101,9 @@ same_term a b e = ap (site_term_eq a) (sym e) ∙ term_same a
 
 pub constraint_means : (a b : Constraint) → constraint_eq a b ≡ true → a ≡ b
 constraint_means (is_variant s i n) (is_variant t j m) h =
-    let p = and_parts ((s == t) && (i == j)) (n == m) h in
-    let q = and_parts (s == t) (i == j) p.0 in
-    let e = eqb-true s t q.0 in
-    let f = eqb-true i j q.1 in
-    let g = eqb-true n m p.1 in
-    λ k. is_variant (e k) (f k) (g k)
+    let p = parts_mean s t i j (n == m) h in
+    let count = eqb-true n m p.2 in
+    λ k. is_variant (p.0 k) (p.1 k) (count k)
 constraint_means (is_struct s n) (is_struct t m) h = let p = and_parts (s == t) (n == m) h in ap₂ is_struct (eqb-true s t p.0) (eqb-true n m p.1)
 constraint_means (is_bool a s) (is_bool b t) h = let p = and_parts (beq a b) (s == t) h in ap₂ is_bool (beq_means a b p.0) (eqb-true s t p.1)
 constraint_means (is_int y s) (is_int z t) h = let p = and_parts (int_eq y z) (s == t) h in ap₂ is_int ((Decides-int_eq y z).0 p.0) (eqb-true s t p.1)

@@ -4,7 +4,7 @@ use Rattle.std.proofs.lemmas.Bool.{and_parts, and_from, false≢true}
 use Rattle.std.proofs.lemmas.Bool.Decides.{Decides-int_eq}
 use Rattle.std.specs.Bool.{Decides}
 use Rattle.std.specs.Ordering.{int_eq}
-use Rattle.isle_model.proofs.SameSites.{beq_means, beq_same}
+use Rattle.isle_model.proofs.SameSites.{beq_means, beq_same, parts_mean}
 use Rattle.isle_model.specs.rules.Values.{Value, truth, atom, of_variant, of_struct, Values, no_value, value_and, value_eq, values_eq}
 
 mutual
@@ -14,12 +14,9 @@ mutual
       let p = and_parts (s == t) (int_eq a b) h in
       ap₂ atom (eqb-true s t p.0) ((Decides-int_eq a b).0 p.1)
   eq_means (of_variant s i a) (of_variant t j b) h =
-      let p = and_parts ((s == t) && (i == j)) (values_eq a b) h in
-      let q = and_parts (s == t) (i == j) p.0 in
-      let e = eqb-true s t q.0 in
-      let f = eqb-true i j q.1 in
-      let g = eq_all_means a b p.1 in
-      λ k. of_variant (e k) (f k) (g k)
+      let p = parts_mean s t i j (values_eq a b) h in
+      let rest = eq_all_means a b p.2 in
+      λ k. of_variant (p.0 k) (p.1 k) (rest k)
   eq_means (of_struct s a) (of_struct t b) h =
       let p = and_parts (s == t) (values_eq a b) h in
       ap₂ of_struct (eqb-true s t p.0) (eq_all_means a b p.1)

@@ -4,4 +4,5 @@ pub mod Environments
 pub mod Headline
 pub mod Layers
 pub mod ReadJudge
+pub mod Refusals
 pub mod SetMeanings

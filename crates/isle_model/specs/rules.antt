@@ -1,4 +1,5 @@
 -- What typed rules mean: values, meanings, matching, right sides, choice, picks and bags.
+pub mod CalledTerms
 pub mod Choice
 pub mod Matching
 pub mod Meaning

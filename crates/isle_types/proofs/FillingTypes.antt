@@ -21,6 +21,7 @@ use Rattle.isle_types.proofs.EntriesStay.{AllMet, met_more, met_self, type_stays
 use Rattle.isle_types.proofs.NamesMet.{sees_after}
 use Rattle.isle_types.proofs.RightTypes.{all_left, all_right, types_right}
 use Rattle.isle_model.proofs.Names.{with_names_append}
+use Rattle.isle_types.proofs.SoFar.{reads_on}
 
 -- one more entry, where what follows depends on how many there are
 push_entry : (es es' : List TypeEntry) (p q : TypeEntry) (G : ℕ → List TypeEntry) (whole : List TypeEntry) → es' ≡ es ++ p ∷ [] → p ≡ q → es ++ (q ∷ G (length es + 1)) ≡ whole → es' ++ G (length es') ≡ whole
@@ -182,8 +183,4 @@ start defs env n =
 
 -- before the first definition
 pub first_type : (defs : List Definition) (env : TypeEnv) (es : List Error) → NamesTypes defs [] env es → FillsTypes defs defs env es
-first_type defs env es s = record {
-  inverse = s.inverse;
-  plain = s.plain;
-  so_far = ⊎_elim (λ right. inl (right.0, start defs env right.1)) (λ wrong. inr wrong) s.so_far;
-}
+first_type defs env es s = reads_on defs (Naming defs []) (Filling defs defs) env env es es s.inverse refl (start defs env) s

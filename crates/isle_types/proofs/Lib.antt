@@ -7,6 +7,7 @@ pub mod Naming
 pub mod Reports
 pub mod TypeMaps
 pub mod SeenNames
+pub mod SoFar
 pub mod FieldSteps
 pub mod LastTypes
 pub mod TypingConstants

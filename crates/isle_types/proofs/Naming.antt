@@ -1,5 +1,5 @@
 -- Reading the names of the types, one definition after another.
-use Rattle.std.proofs.Common.{◌≡◌, ℕ, ◌+◌, ◌<◌, length, drop, get_or, List, [], ◌∷◌, ◌++◌, false, slice_get, refl, sym, ap, subst, ◌∙◌, inl, inr, ◌⊎◌, ⊎_elim}
+use Rattle.std.proofs.Common.{◌≡◌, ℕ, ◌+◌, ◌<◌, length, drop, get_or, List, [], ◌∷◌, ◌++◌, false, slice_get, refl, sym, ap, subst, ◌∙◌, inl, inr, ◌⊎◌}
 use Rattle.std.proofs.lemmas.List.{append_assoc, at_drop_more}
 use Rattle.std.proofs.lemmas.List.Elements.{All-nil}
 use Rattle.isle_model.specs.lists.Syntax.{TypeTree, Definition, type_definition, declaration, extractor_definition, converter_definition, rule_definition, extern_definition, other_definition}
@@ -20,6 +20,7 @@ use Rattle.isle_types.specs.TypeViews.{type_views}
 use Rattle.isle_types.proofs.Seen.{type_of_text, was_free, sees_type}
 use Rattle.isle_model.proofs.Names.{distinct_if}
 use Rattle.isle_model.proofs.FirstPlaces.{distinct_push, place_absent, twice}
+use Rattle.isle_types.proofs.SoFar.{reads_on, reads_wrong}
 
 module _ (defs rest : List Definition) (t : TypeTree) (old : TypeEnv) (n : Naming defs (type_definition t ∷ rest) old) where
   pub name_right : (new : TypeEnv) → IsInterned new → NamesType t.name.text old new → new.types ≡ old.types → Naming defs rest new
@@ -38,39 +39,24 @@ module _ (defs rest : List Definition) (t : TypeTree) (old : TypeEnv) (n : Namin
 
 -- after a definition of a type
 step_type : (defs rest : List Definition) (t : TypeTree) (old new : TypeEnv) (es es' : List Error) → IsInterned new → NamesTypes defs (type_definition t ∷ rest) old es → ((es' ≡ es) × NamesType t.name.text old new × (new.types ≡ old.types)) ⊎ (Reports es es' × IsTakenByType t.name.text old) → NamesTypes defs rest new es'
-step_type defs rest t old new es es' i s (inl a) = record {
-  inverse = i;
-  plain = rw a.0 s.plain;
-  so_far = ⊎_elim
-      (λ right. inl (a.0 ∙ right.0, name_right defs rest t old right.1 new i a.1 a.2))
-      (λ wrong. inr (rw a.0 wrong.0, wrong.1)) s.so_far;
-}
-step_type defs rest t old new es es' i s (inr a) = record {
-  inverse = i;
-  plain = a.0.plain s.plain;
-  so_far = inr (a.0.some, ⊎_elim (λ right. name_wrong defs rest t old right.1 a.1) (λ wrong. wrong.1) s.so_far);
-}
+step_type defs rest t old new es es' i s (inl a) =
+    reads_on defs (Naming defs (type_definition t ∷ rest)) (Naming defs rest) old new es es' i a.0 (λ n. name_right defs rest t old n new i a.1 a.2) s
+step_type defs rest t old new es es' i s (inr a) =
+    reads_wrong defs (Naming defs (type_definition t ∷ rest)) (Naming defs rest) old new es es' i a.0 (λ n. name_wrong defs rest t old n a.1) s
 
 -- after another one
 step_other : (defs rest rest' : List Definition) (old new : TypeEnv) (es es' : List Error) → type_names rest' ≡ type_names rest → NamesTypes defs rest old es → (es' ≡ es) × (new ≡ old) → NamesTypes defs rest' new es'
 step_other defs rest rest' old new es es' same s a =
-    subst (λ env. NamesTypes defs rest' env es') (sym a.1) (record {
-      inverse = s.inverse;
-      plain = rw a.0 s.plain;
-      so_far = ⊎_elim
-          (λ right. inl (
-            a.0 ∙ right.0,
-            record {
-              named = right.1.named;
-              sees = right.1.sees;
-              distinct = right.1.distinct;
-              whole = ap (λ xs. right.1.named ++ xs) same ∙ right.1.whole;
-              names = ap (λ xs. with_names (names_of old) xs) same ∙ right.1.names;
-              types = right.1.types;
-            },
-          ))
-          (λ wrong. inr (rw a.0 wrong.0, wrong.1)) s.so_far;
-    })
+    subst (λ env. NamesTypes defs rest' env es') (sym a.1)
+    (reads_on defs (Naming defs rest) (Naming defs rest') old old es es' s.inverse a.0
+    (λ n. record {
+      named = n.named;
+      sees = n.sees;
+      distinct = n.distinct;
+      whole = ap (λ xs. n.named ++ xs) same ∙ n.whole;
+      names = ap (λ xs. with_names (names_of old) xs) same ∙ n.names;
+      types = n.types;
+    }) s)
 
 pub step_name : (defs rest : List Definition) (d : Definition) (old new : TypeEnv) (es es' : List Error) → IsInterned new → NamesTypes defs (d ∷ rest) old es → NamesDefinition d old es new es' → NamesTypes defs rest new es'
 step_name defs rest (type_definition t) old new es es' i s a = step_type defs rest t old new es es' i s a

@@ -1,5 +1,5 @@
 -- Reading the constants, one definition after another.
-use Rattle.std.proofs.Common.{◌≡◌, ℕ, ◌+◌, ◌<◌, length, drop, get_or, List, [], ◌∷◌, ◌++◌, false, cond, Some, None, is_some, option_map, slice_get, map, All, refl, sym, ap, subst, ◌∙◌, inl, inr, ⊎_elim}
+use Rattle.std.proofs.Common.{◌≡◌, ℕ, ◌+◌, ◌<◌, length, drop, get_or, List, [], ◌∷◌, ◌++◌, false, cond, Some, None, is_some, option_map, slice_get, map, All, refl, sym, ap, subst, ◌∙◌, inl, inr}
 use Rattle.std.proofs.lemmas.Bool.{false≢true}
 use Rattle.std.proofs.lemmas.List.{append_assoc, append-nil, at_drop_more}
 use Rattle.std.proofs.lemmas.List.Elements.{All-nil, All-cons, All-head, All-tail}
@@ -21,6 +21,7 @@ use Rattle.isle_types.specs.TypeViews.{type_views}
 use Rattle.isle_types.proofs.LastTypes.{last_read}
 use Rattle.isle_model.proofs.ByNumber.{by_text, then_with}
 use Rattle.isle_model.proofs.Names.{with_missing, number_stays}
+use Rattle.isle_types.proofs.SoFar.{reads_on, reads_wrong}
 
 module _ (defs rest : List Definition) (name ty : Name) (at : Position) (old : TypeEnv) (i : IsInterned old) (n : TypingConstants defs (extern_definition (extern_const name ty at) ∷ rest) old) where
   abbrev constant : ConstantTree
@@ -58,45 +59,30 @@ module _ (defs rest : List Definition) (name ty : Name) (at : Position) (old : T
 
 -- after the definition of a constant
 step_read : (defs rest : List Definition) (name ty : Name) (at : Position) (old new : TypeEnv) (es es' : List Error) → IsInterned old → IsInterned new → ReadsConstants defs (extern_definition (extern_const name ty at) ∷ rest) old es → ReadsConstant name ty old es new es' → ReadsConstants defs rest new es'
-step_read defs rest name ty at old new es es' i i' s (inl a) = record {
-  inverse = i';
-  plain = rw a.0 s.plain;
-  so_far = ⊎_elim
-      (λ right. inl (a.0 ∙ right.0, constant_right defs rest name ty at old i right.1 new a.1))
-      (λ wrong. inr (rw a.0 wrong.0, wrong.1)) s.so_far;
-}
-step_read defs rest name ty at old new es es' i i' s (inr a) = record {
-  inverse = i';
-  plain = a.0.plain s.plain;
-  so_far = inr (a.0.some, ⊎_elim (λ right. constant_wrong defs rest name ty at old i right.1 a.1) (λ wrong. wrong.1) s.so_far);
-}
+step_read defs rest name ty at old new es es' i i' s (inl a) =
+    reads_on defs (TypingConstants defs (extern_definition (extern_const name ty at) ∷ rest)) (TypingConstants defs rest) old new es es' i' a.0 (λ n. constant_right defs rest name ty at old i n new a.1) s
+step_read defs rest name ty at old new es es' i i' s (inr a) =
+    reads_wrong defs (TypingConstants defs (extern_definition (extern_const name ty at) ∷ rest)) (TypingConstants defs rest) old new es es' i' a.0 (λ n. constant_wrong defs rest name ty at old i n a.1) s
 
 -- after another one
 step_other : (defs rest rest' : List Definition) (old new : TypeEnv) (es es' : List Error) → constant_trees rest' ≡ constant_trees rest → ReadsConstants defs rest old es → (es' ≡ es) × (new ≡ old) → ReadsConstants defs rest' new es'
 step_other defs rest rest' old new es es' same s a =
-    subst (λ env. ReadsConstants defs rest' env es') (sym a.1) (record {
-      inverse = s.inverse;
-      plain = rw a.0 s.plain;
-      so_far = ⊎_elim
-          (λ right. inl (
-            a.0 ∙ right.0,
-            record {
-              ids = right.1.ids;
-              known = right.1.known;
-              errors = right.1.errors;
-              distinct = right.1.distinct;
-              names = ap (λ cs. with_names (names_of old) (map (λ c. c.name.text) cs)) same ∙ right.1.names;
-              types = right.1.types;
-              right = right.1.right;
-              read = right.1.read;
-              whole = ap (λ cs. right.1.read ++ cs) same ∙ right.1.whole;
-              constants = right.1.constants;
-              of_known = λ h. right.1.of_known (subst (All (IsOfKnownType defs)) same h);
-              left = λ v. subst (All (IsOfKnownType defs)) (sym same) (right.1.left v);
-            },
-          ))
-          (λ wrong. inr (rw a.0 wrong.0, wrong.1)) s.so_far;
-    })
+    subst (λ env. ReadsConstants defs rest' env es') (sym a.1)
+    (reads_on defs (TypingConstants defs rest) (TypingConstants defs rest') old old es es' s.inverse a.0
+    (λ n. record {
+      ids = n.ids;
+      known = n.known;
+      errors = n.errors;
+      distinct = n.distinct;
+      names = ap (λ cs. with_names (names_of old) (map (λ c. c.name.text) cs)) same ∙ n.names;
+      types = n.types;
+      right = n.right;
+      read = n.read;
+      whole = ap (λ cs. n.read ++ cs) same ∙ n.whole;
+      constants = n.constants;
+      of_known = λ h. n.of_known (subst (All (IsOfKnownType defs)) same h);
+      left = λ v. subst (All (IsOfKnownType defs)) (sym same) (n.left v);
+    }) s)
 
 step_constant : (defs rest : List Definition) (d : Definition) (old new : TypeEnv) (es es' : List Error) → IsInterned old → IsInterned new → ReadsConstants defs (d ∷ rest) old es → ReadsDefinition d old es new es' → ReadsConstants defs rest new es'
 step_constant defs rest (type_definition t) old new es es' i i' s a = step_other defs (type_definition t ∷ rest) rest old new es es' refl s a
@@ -134,8 +120,4 @@ start defs env n = record {
 
 -- before the first definition
 pub first_constant : (defs : List Definition) (env : TypeEnv) (es : List Error) → FillsTypes defs [] env es → ReadsConstants defs defs env es
-first_constant defs env es s = record {
-  inverse = s.inverse;
-  plain = s.plain;
-  so_far = ⊎_elim (λ right. inl (right.0, start defs env right.1)) (λ wrong. inr wrong) s.so_far;
-}
+first_constant defs env es s = reads_on defs (Filling defs []) (TypingConstants defs defs) env env es es s.inverse refl (start defs env) s

@@ -33,6 +33,12 @@ ArePlain es = All (λ e. limit_of e ≡ None) es
 abbrev pub SoFarOfTypes : List Definition → List Error → Type 0 → Type 0
 SoFarOfTypes defs es Right = ((es ≡ []) × Right) ⊎ ((es ≢ []) × (IsValidTypes defs → ⊥))
 
+-- each name has its number, no limit was passed, and where there is no error the environment is right so far
+pub record ReadsSoFar (defs : List Definition) (Right : TypeEnv → Type 0) (env : TypeEnv) (es : List Error) : Type 0 where
+  pub inverse : IsInterned env
+  pub plain : ArePlain es
+  pub so_far : SoFarOfTypes defs es (Right env)
+
 -- these built-in types are left to be added
 pub record Booting (env : TypeEnv) (rest : List BuiltinType) : Type 0 where
   pub inverse : IsInterned env
@@ -49,10 +55,9 @@ pub record Naming (defs rest : List Definition) (env : TypeEnv) : Type 0 where
   pub names : with_names (names_of env) (type_names rest) ≡ with_names builtin_names (type_names defs)
   pub types : type_views env.types.items ≡ builtin_from 0 builtin_names
 
-pub record NamesTypes (defs rest : List Definition) (env : TypeEnv) (es : List Error) : Type 0 where
-  pub inverse : IsInterned env
-  pub plain : ArePlain es
-  pub so_far : SoFarOfTypes defs es (Naming defs rest env)
+-- such names of types are read
+abbrev pub NamesTypes : List Definition → List Definition → TypeEnv → List Error → Type 0
+NamesTypes defs rest env es = ReadsSoFar defs (Naming defs rest) env es
 
 -- the names inside these types, in order
 abbrev pub names_in_types : List Definition → List (List ℕ)
@@ -80,10 +85,9 @@ pub record Filling (defs rest : List Definition) (env : TypeEnv) : Type 0 where
   pub right : All (IsRightType defs) (type_trees rest) → All (IsRightType defs) (type_trees defs)
   pub left : All (IsRightType defs) (type_trees defs) → All (IsRightType defs) (type_trees rest)
 
-pub record FillsTypes (defs rest : List Definition) (env : TypeEnv) (es : List Error) : Type 0 where
-  pub inverse : IsInterned env
-  pub plain : ArePlain es
-  pub so_far : SoFarOfTypes defs es (Filling defs rest env)
+-- such types are read
+abbrev pub FillsTypes : List Definition → List Definition → TypeEnv → List Error → Type 0
+FillsTypes defs rest env es = ReadsSoFar defs (Filling defs rest) env es
 
 -- the type of the last of these definitions of a constant
 abbrev pub last_type : List Definition → List ConstantTree → List ℕ → Option ℕ
@@ -104,7 +108,6 @@ pub record TypingConstants (defs rest : List Definition) (env : TypeEnv) : Type 
   pub of_known : All (IsOfKnownType defs) (constant_trees rest) → All (IsOfKnownType defs) (constant_trees defs)
   pub left : All (IsOfKnownType defs) (constant_trees defs) → All (IsOfKnownType defs) (constant_trees rest)
 
-pub record ReadsConstants (defs rest : List Definition) (env : TypeEnv) (es : List Error) : Type 0 where
-  pub inverse : IsInterned env
-  pub plain : ArePlain es
-  pub so_far : SoFarOfTypes defs es (TypingConstants defs rest env)
+-- such constants are read
+abbrev pub ReadsConstants : List Definition → List Definition → TypeEnv → List Error → Type 0
+ReadsConstants defs rest env es = ReadsSoFar defs (TypingConstants defs rest) env es

@@ -150,8 +150,12 @@ impl TypeEnv {
     }
 }
 
-// Notes an error in the definition at a place.
-pub(crate) fn report(errors: &mut Vec<Error>, pos: Pos, msg: &str) -> Result<(), AllocError>
+/// Notes an error in the definition at a place: one more, and it says nothing of a limit.
+///
+/// # Errors
+///
+/// Where memory is refused.
+pub fn report(errors: &mut Vec<Error>, pos: Pos, msg: &str) -> Result<(), AllocError>
     ensures { OnOk result (Reports errors.old.items errors.new.items) }
 {
     let msg = String::from_str(*errors.allocator(), msg)?;

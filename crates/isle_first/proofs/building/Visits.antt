@@ -7,6 +7,7 @@ use Rattle.isle_model.specs.sites.Sites.{Constraint, is_int, SiteTerm, int_term,
 use Rattle.isle_model.specs.sites.Demands.{Visit, visit_start, making, valued, or_no_site, visit_pattern, visit_args, visit_iflets, visit_expr, finished, visit_rule, demands_of, result_of}
 use Rattle.isle_model.specs.rules.Typed.{TypedPattern, match_bind, match_var, match_bool, match_int, match_prim, match_term, match_any, match_and, TypedExpr, make_term, make_var, make_bool, make_int, make_prim, make_let, TypedRule}
 use Rattle.isle_model.specs.first.Simple.{IsSimplePattern, simple_int, simple_any, simple_var, AreSimplePatterns, binds_var, var_place, IsSimpleExpr, simple_literal, simple_use, BindsOnce, IsSimpleRule}
+use Rattle.std.proofs.lemmas.List.{append_assoc, append-nil}
 
 -- the demands of the arguments from i on
 abbrev pub asks_of : ℕ → TypedPattern → List (SiteTerm × Constraint)
@@ -39,21 +40,13 @@ visit_with v cs ms vars = record {
 abbrev pub visited : ℕ → List TypedPattern → Visit → Visit
 visited i qs v = visit_with v (v.demands.constraints ++ asks i qs) (v.demands.made ++ makes i qs) (binds i qs v.vars)
 
-append_none : {X : Type 0} (xs : List X) → xs ≡ xs ++ []
-append_none [] = refl
-append_none (x ∷ xs) = ap (λ l. x ∷ l) (append_none xs)
-
-append_one : {X : Type 0} (xs : List X) (x : X) (ys : List X) → (xs ++ x ∷ []) ++ ys ≡ xs ++ x ∷ ys
-append_one [] x ys = refl
-append_one (z ∷ xs) x ys = ap (λ l. z ∷ l) (append_one xs x ys)
-
 one_visited : (p : Program) (i ty : ℕ) (q : TypedPattern) (qs : List TypedPattern) (v : Visit) → IsSimplePattern ty q → visited (suc i) qs (visit_pattern p q (argument i) (making (argument i ∷ []) v)) ≡ visited i (q ∷ qs) v
 one_visited p i ty (match_int _ _) qs v (simple_int z) =
-    λ k. visit_with v (append_one v.demands.constraints (argument i, is_int z ty) (asks (suc i) qs) k) (append_one v.demands.made (argument i) (makes (suc i) qs) k) (binds (suc i) qs v.vars)
+    λ k. visit_with v (append_assoc v.demands.constraints ((argument i, is_int z ty) ∷ []) (asks (suc i) qs) k) (append_assoc v.demands.made ((argument i) ∷ []) (makes (suc i) qs) k) (binds (suc i) qs v.vars)
 one_visited p i ty (match_any _) qs v simple_any =
-    λ k. visit_with v (v.demands.constraints ++ asks (suc i) qs) (append_one v.demands.made (argument i) (makes (suc i) qs) k) (binds (suc i) qs v.vars)
+    λ k. visit_with v (v.demands.constraints ++ asks (suc i) qs) (append_assoc v.demands.made ((argument i) ∷ []) (makes (suc i) qs) k) (binds (suc i) qs v.vars)
 one_visited p i ty (match_bind _ _ _) qs v (simple_var x) =
-    λ k. visit_with v (v.demands.constraints ++ asks (suc i) qs) (append_one v.demands.made (argument i) (makes (suc i) qs) k) (binds (suc i) qs ((x, argument i) ∷ v.vars))
+    λ k. visit_with v (v.demands.constraints ++ asks (suc i) qs) (append_assoc v.demands.made ((argument i) ∷ []) (makes (suc i) qs) k) (binds (suc i) qs ((x, argument i) ∷ v.vars))
 one_visited p i ty (match_var _ _) qs v h = elim h [ ]
 one_visited p i ty (match_bool _ _) qs v h = elim h [ ]
 one_visited p i ty (match_prim _ _) qs v h = elim h [ ]
@@ -61,7 +54,7 @@ one_visited p i ty (match_term _ _ _) qs v h = elim h [ ]
 one_visited p i ty (match_and _ _) qs v h = elim h [ ]
 
 args_visited : (p : Program) (i : ℕ) (tys : List ℕ) (qs : List TypedPattern) (v : Visit) → AreSimplePatterns tys qs → visit_args p i qs v ≡ visited i qs v
-args_visited p i [] [] v h = λ k. visit_with v (append_none v.demands.constraints k) (append_none v.demands.made k) v.vars
+args_visited p i [] [] v h = λ k. visit_with v (sym (append-nil v.demands.constraints) k) (sym (append-nil v.demands.made) k) v.vars
 args_visited p i (ty ∷ tys) (q ∷ qs) v h =
     args_visited p (suc i) tys qs (visit_pattern p q (argument i) (making (argument i ∷ []) v)) h.1 ∙ one_visited p i ty q qs v h.0
 args_visited p i [] (q ∷ qs) v h = absurd h
@@ -85,7 +78,7 @@ value_site args _ = no_site
 value_visited : (p : Program) (args : List TypedPattern) (e : TypedExpr) → IsSimpleExpr args e → visit_expr p e (visited 0 args visit_start) ≡ valued (value_site args e) (making (makes_value e) (visited 0 args visit_start))
 value_visited p args (make_int _ _) (simple_literal z) = refl
 value_visited p args (make_var ty x) (simple_use h) =
-    λ k. valued (value_site args (make_var ty x)) (visit_with (visited 0 args visit_start) (asks 0 args) (append_none (makes 0 args) k) (binds 0 args []))
+    λ k. valued (value_site args (make_var ty x)) (visit_with (visited 0 args visit_start) (asks 0 args) (sym (append-nil (makes 0 args)) k) (binds 0 args []))
 value_visited p args (make_term _ _ _) h = elim h [ ]
 value_visited p args (make_bool _ _) h = elim h [ ]
 value_visited p args (make_prim _ _) h = elim h [ ]

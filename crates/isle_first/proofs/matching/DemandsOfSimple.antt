@@ -1,11 +1,12 @@
 -- The demands of a rule of the carried forms, computed.
-use Rattle.std.proofs.Common.{◌≡◌, ◌==◌, ℕ, suc, List, [], ◌∷◌, ◌++◌, refl, ap, ◌∙◌}
+use Rattle.std.proofs.Common.{◌≡◌, ◌==◌, ℕ, suc, List, [], ◌∷◌, ◌++◌, refl, sym, ap, ◌∙◌}
 use Rattle.isle_model.specs.rules.Meaning.{look}
 use Rattle.isle_model.specs.rules.Program.{Program}
 use Rattle.isle_model.specs.sites.Sites.{Constraint, is_int, SiteTerm, int_term, argument}
 use Rattle.isle_model.specs.sites.Demands.{Visit, visit_start, making, valued, or_no_site, visit_args, visit_iflets, visit_expr, finished, visit_rule, demands_of, result_of}
 use Rattle.isle_model.specs.rules.Typed.{TypedRule}
 use Rattle.isle_first.proofs.matching.Simple.{Arg, literal, anything, variable, Right, number, named, expr_of, patterns, IsSimple}
+use Rattle.std.proofs.lemmas.List.{append_assoc, append-nil}
 
 -- the demands of arguments from the i-th on
 abbrev pub asks : ℕ → List Arg → List (SiteTerm × Constraint)
@@ -37,14 +38,6 @@ visited i as' v = record {
   };
 }
 
-append_none : {X : Type 0} (xs : List X) → xs ≡ xs ++ []
-append_none [] = refl
-append_none (x ∷ xs) = ap (λ l. x ∷ l) (append_none xs)
-
-append_one : {X : Type 0} (xs : List X) (x : X) (ys : List X) → (xs ++ x ∷ []) ++ ys ≡ xs ++ x ∷ ys
-append_one [] x ys = refl
-append_one (z ∷ xs) x ys = ap (λ l. z ∷ l) (append_one xs x ys)
-
 abbrev visit_with : Visit → List (SiteTerm × Constraint) → List SiteTerm → List (ℕ × SiteTerm) → Visit
 visit_with v cs ms vars = record {
   vars = vars;
@@ -53,16 +46,16 @@ visit_with v cs ms vars = record {
 }
 
 pub args_visited : (p : Program) (i : ℕ) (as' : List Arg) (v : Visit) → visit_args p i (patterns as') v ≡ visited i as' v
-args_visited p i [] v = λ k. visit_with v (append_none v.demands.constraints k) (append_none v.demands.made k) v.vars
+args_visited p i [] v = λ k. visit_with v (sym (append-nil v.demands.constraints) k) (sym (append-nil v.demands.made) k) v.vars
 args_visited p i (literal ty z ∷ as') v =
     args_visited p (suc i) as' _
-    ∙ (λ k. visit_with v (append_one v.demands.constraints (argument i, is_int z ty) (asks (suc i) as') k) (append_one v.demands.made (argument i) (makes (suc i) as') k) (binds (suc i) as' v.vars))
+    ∙ (λ k. visit_with v (append_assoc v.demands.constraints ((argument i, is_int z ty) ∷ []) (asks (suc i) as') k) (append_assoc v.demands.made ((argument i) ∷ []) (makes (suc i) as') k) (binds (suc i) as' v.vars))
 args_visited p i (anything ty ∷ as') v =
     args_visited p (suc i) as' _
-    ∙ (λ k. visit_with v (v.demands.constraints ++ asks (suc i) as') (append_one v.demands.made (argument i) (makes (suc i) as') k) (binds (suc i) as' v.vars))
+    ∙ (λ k. visit_with v (v.demands.constraints ++ asks (suc i) as') (append_assoc v.demands.made ((argument i) ∷ []) (makes (suc i) as') k) (binds (suc i) as' v.vars))
 args_visited p i (variable ty x ∷ as') v =
     args_visited p (suc i) as' _
-    ∙ (λ k. visit_with v (v.demands.constraints ++ asks (suc i) as') (append_one v.demands.made (argument i) (makes (suc i) as') k) (binds (suc i) as' ((x, argument i) ∷ v.vars)))
+    ∙ (λ k. visit_with v (v.demands.constraints ++ asks (suc i) as') (append_assoc v.demands.made ((argument i) ∷ []) (makes (suc i) as') k) (binds (suc i) as' ((x, argument i) ∷ v.vars)))
 
 -- the whole rule
 pub rule_visited : (p : Program) (r : TypedRule) (s : IsSimple p r) → visit_rule p r ≡ visit_expr p (expr_of s.right) (visited 0 s.args visit_start)
@@ -80,7 +73,7 @@ right_site as' (named ty x) = or_no_site (look (λ k. k == x) (binds 0 as' []))
 
 right_valued : (p : Program) (as' : List Arg) (e : Right) → visit_expr p (expr_of e) (visited 0 as' visit_start) ≡ valued (right_site as' e) (making (makes_right e) (visited 0 as' visit_start))
 right_valued p as' (number ty z) = refl
-right_valued p as' (named ty x) = λ k. valued (right_site as' (named ty x)) (visit_with (visited 0 as' visit_start) (asks 0 as') (append_none (makes 0 as') k) (binds 0 as' []))
+right_valued p as' (named ty x) = λ k. valued (right_site as' (named ty x)) (visit_with (visited 0 as' visit_start) (asks 0 as') (sym (append-nil (makes 0 as')) k) (binds 0 as' []))
 
 pub simple_visited : (p : Program) (r : TypedRule) (s : IsSimple p r) → visit_rule p r ≡ valued (right_site s.args s.right) (making (makes_right s.right) (visited 0 s.args visit_start))
 simple_visited p r s = rule_visited p r s ∙ right_valued p s.args s.right

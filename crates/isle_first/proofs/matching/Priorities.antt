@@ -1,6 +1,6 @@
 -- The chosen rule is a matching one that no matching one is above.
 use Rattle.std.proofs.Common.{◌≡◌, ℕ, ℤ, suc, true, false, List, [], ◌∷◌, Some, None, is_some, slice_get, IsTrue, refl, sym, ap, ◌∙◌, subst, inl, inr, arith, int_cmp, is_lt, Ordering, Less, Equal, Greater, ◌≤ℤ◌, ◌<ℤ◌}
-use Rattle.std.proofs.lemmas.Bool.{cases_Bool, cond-true, cond-false, false≢true, both_ways}
+use Rattle.std.proofs.lemmas.Bool.{cases_Bool, cond-true, cond-false, both_ways}
 use Rattle.std.proofs.lemmas.Int.{ints}
 use Rattle.std.specs.Cmp.{int_ranks}
 use Rattle.std.specs.Ordering.{MatchOrdering}
@@ -11,19 +11,7 @@ use Rattle.isle_model.specs.rules.Typed.{TypedRule}
 use Rattle.isle_model.specs.rules.Matching.{matches}
 use Rattle.isle_model.specs.rules.Choice.{higher, chosen}
 use Rattle.isle_model.proofs.Elements.{In}
-
-below : (x y : ℤ) (o : Ordering) → MatchOrdering o (x <ℤ y) (x ≡ y) (y <ℤ x) → is_lt o ≡ true → x ≤ℤ y
-below x y Less h e = omega (arith, ints)
-below x y Equal h e = absurd (false≢true e)
-below x y Greater h e = absurd (false≢true e)
-
-not_below : (x y : ℤ) (o : Ordering) → MatchOrdering o (x <ℤ y) (x ≡ y) (y <ℤ x) → is_lt o ≡ false → y ≤ℤ x
-not_below x y Less h e = absurd (both_ways true e refl)
-not_below x y Equal h e = subst (λ z. z ≤ℤ x) h (itself x)
-  where
-    itself : (z : ℤ) → z ≤ℤ z
-    itself z = omega (arith, ints)
-not_below x y Greater h e = omega (arith, ints)
+use Rattle.isle_model.proofs.Priorities.{at_most, at_least}
 
 pub one_number : (x y : ℤ) → x ≤ℤ y → y ≤ℤ x → x ≡ y
 one_number x y a b = by (int_cmp x y) (int_ranks x y)
@@ -67,9 +55,9 @@ module _ (p : Program) (m : Meaning) (args : List Value) where
       elim (cases_Bool (is_lt (int_cmp r.prio s.prio))) [
         | inl l ↦
             matching s (suc i) (here ∙ cond-true (is_lt (int_cmp r.prio s.prio)) (Some s) (Some r) l) at v
-            (λ q j u. elim j [ inl g ↦ subst (λ x. x.prio ≤ℤ s.prio) g (below r.prio s.prio (int_cmp r.prio s.prio) (int_ranks r.prio s.prio) l) | inr k ↦ n q k u ])
+            (λ q j u. elim j [ inl g ↦ subst (λ x. x.prio ≤ℤ s.prio) g (at_most r.prio s.prio (int_cmp r.prio s.prio) (int_ranks r.prio s.prio) l) | inr k ↦ n q k u ])
         | inr l ↦
-            let above = not_below r.prio s.prio (int_cmp r.prio s.prio) (int_ranks r.prio s.prio) l in
+            let above = at_least r.prio s.prio (int_cmp r.prio s.prio) (int_ranks r.prio s.prio) l in
             matching r 0 (here ∙ cond-false (is_lt (int_cmp r.prio s.prio)) (Some s) (Some r) l) refl t
             (λ q j u. elim j [ inl g ↦ subst (λ x. x.prio ≤ℤ r.prio) g (itself r.prio) | inr k ↦ through q.prio s.prio r.prio (n q k u) above ])
       ]

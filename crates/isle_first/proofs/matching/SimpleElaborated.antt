@@ -1,27 +1,23 @@
 -- The typed rules of an accepted list are simple, and of known terms.
-use Rattle.std.proofs.Common.{◌≡◌, ◌==◌, ℕ, zero, suc, ◌+◌, ◌<◌, ◌≤◌, Bool, true, false, not, List, [], ◌∷◌, ◌++◌, length, Option, Some, None, slice_get, IsTrue, All, refl, sym, ap, ◌∙◌, subst, inl, inr, arith, eqb-true, eq-eqb, option_map}
+use Rattle.std.proofs.Common.{◌≡◌, ◌==◌, ℕ, zero, suc, ◌+◌, ◌<◌, ◌≤◌, true, false, not, List, [], ◌∷◌, ◌++◌, length, Some, slice_get, IsTrue, All, refl, sym, ap, ◌∙◌, subst, inl, inr, arith, eqb-true, eq-eqb, option_map}
 use Rattle.std.specs.Prelude.{is_some, slice_index_or}
 use Rattle.std.proofs.lemmas.Bool.{cases_Bool, cond-true, cond-false, and_parts, false≢true}
 use Rattle.std.proofs.lemmas.List.{length_push}
-use Rattle.std.proofs.lemmas.List.Elements.{All-contains}
 use Rattle.std.proofs.lemmas.Option.{slice_get-get_or, slice_get_within}
-use Rattle.isle_model.specs.lists.Syntax.{PatternTree, var_pattern, int_pattern, wildcard_pattern, RuleTree, DeclTree, Definition, declaration}
+use Rattle.isle_model.specs.lists.Syntax.{PatternTree, var_pattern, int_pattern, wildcard_pattern, RuleTree, Definition}
 use Rattle.isle_model.specs.lists.Names.{number as number_of}
 use Rattle.isle_model.specs.lists.Tables.{TypeEntry, TermEntry}
 use Rattle.isle_model.specs.rules.Values.{is_atom_type}
 use Rattle.isle_model.specs.rules.Typed.{TypedPattern, match_bind, match_int, match_any, TypedVar, TypedRule}
-use Rattle.isle_model.specs.rules.Program.{Program, unknown, kind_of, flags_of, is_multi, arg_types}
+use Rattle.isle_model.specs.rules.Program.{Program, is_multi, arg_types}
 use Rattle.isle_model.specs.first.Simple.{simple_int, simple_any, simple_var, AreSimplePatterns, binds_var, var_place, IsSimpleExpr, simple_literal, simple_use, BindsOnce, IsSimpleRule}
 use Rattle.isle_model.specs.lists.TypeTable.{type_table}
-use Rattle.isle_model.specs.lists.TermTable.{decl_of, decl_trees, rule_trees}
-use Rattle.isle_model.specs.first.TermTable.{is_carried_term, IsValidCarriedTerms, term_entries}
-use Rattle.isle_model.specs.first.Elaboration.{root_args, Elaborated, elaborate_pattern, ElaboratedArgs, with_first, elaborate_args, elaborate_expr, rule_with, elaborate_at, all_names, root_id, elaborate_rule, elaborate_rules, AreElaborated, carried_program_of}
+use Rattle.isle_model.specs.first.TermTable.{IsValidCarriedTerms, term_entries}
+use Rattle.isle_model.specs.first.Elaboration.{root_args, Elaborated, elaborate_pattern, ElaboratedArgs, with_first, elaborate_args, elaborate_expr, rule_with, elaborate_at, all_names, elaborate_rule, AreElaborated, carried_program_of}
 use Rattle.isle_model.specs.lists.Setting.{new_var}
-use Rattle.isle_model.specs.lists.Elaborated.{named_rule, named_rules}
-use Rattle.isle_model.specs.rules.Outcome.{then_option}
-use Rattle.isle_model.proofs.Elements.{In, some_is, in_map, in_slice, contains_from_in, from_flat_map}
+use Rattle.isle_model.proofs.Elements.{In, some_is, in_slice}
 use Rattle.isle_first.proofs.matching.Simple.{Arg, literal, anything, variable, Right, number, named, patterns, types_of, expr_of, IsBoundIn, IsKnown, IsSimple}
-use Rattle.isle_first.proofs.matching.SimpleRules.{none_some, then_some, map_some, if_some, first_of_all, entry_at, with_both, simple_rules}
+use Rattle.isle_first.proofs.matching.SimpleRules.{none_some, then_some, map_some, if_some, first_of_all, not_false, all_unset, rule_at, of_each, simple_rules}
 
 -- 1. a new variable's number is that of the variables before it
 record IsNext (q : TypedPattern) (before after : List TypedVar) : Type 0 where
@@ -87,19 +83,6 @@ of_term p names types r id root term q there h =
     let a = fresh_args names types (root_args r.pattern) term.arg_tys [] t.0 t.1 in
     subst (IsOfTerm p) m.2 (record { once = a.once; known = slice_get_within p.terms root term there })
 
-not_false : (b : Bool) → not b ≡ true → b ≡ false
-not_false true h = sym h
-not_false false h = refl
-
-single_decl : (x : Definition) (d : DeclTree) → IsTrue (is_carried_term x) → In (decl_of x) d → d.multi ≡ false
-single_decl (declaration c) d carried (inl e) = sym (ap (λ y. y.multi) e) ∙ not_false c.multi (and_parts (not c.multi) (not c.partial) carried).0
-single_decl (declaration c) d carried (inr n) = absurd n
-single_decl _ d carried n = absurd n
-
-single_option : (o : Option TermEntry) → ((e : TermEntry) → o ≡ Some e → (flags_of (kind_of e)).multi ≡ false) → (flags_of (elim o [ None ↦ unknown | Some e ↦ kind_of e ])).multi ≡ false
-single_option None h = refl
-single_option (Some e) h = h e refl
-
 -- 4. arguments and right side, one by one
 simple_patterns : (as' : List Arg) → AreSimplePatterns (types_of as') (patterns as')
 simple_patterns [] = tt
@@ -133,36 +116,16 @@ simple_rule_of p r s o m = record {
 }
 
 module _ (defs : List Definition) (rules : List TypedRule) (valid : IsValidCarriedTerms defs) where
-  single_entry : (e : TermEntry) (k : ℕ) → slice_get (term_entries defs) k ≡ Some e → (flags_of (kind_of e)).multi ≡ false
-  single_entry e k h =
-      let a = entry_at defs 0 (decl_trees defs) k e h in
-      let f = from_flat_map decl_of defs a.0 a.2 in
-      ap (λ x. (flags_of (kind_of x)).multi) a.3 ∙ single_decl f.0 a.0 (All-contains (λ d. IsTrue (is_carried_term d)) defs f.0 valid.carried (contains_from_in defs f.0 f.1)) f.2
-
   pub all_single : (t : ℕ) → is_multi (carried_program_of defs rules) t ≡ false
-  all_single t = single_option (slice_get (term_entries defs) t) (λ e h. single_entry e t h)
+  all_single t = all_unset defs rules valid (λ f. f.multi) (λ c h. not_false c.multi (and_parts (not c.multi) (not c.partial) h).0) refl t
 
   rule_of_term : (id : ℕ) (r : RuleTree) (q : TypedRule) → elaborate_rule defs id r ≡ Some q → IsOfTerm (carried_program_of defs rules) q
   rule_of_term id r q h =
-      let a = then_some (root_id defs r) (λ root. then_option (slice_get (term_entries defs) root) (λ term. elaborate_at (all_names defs) (type_table defs) r id root term)) q h in
-      let b = then_some (slice_get (term_entries defs) a.0) (λ term. elaborate_at (all_names defs) (type_table defs) r id a.0 term) q a.2 in
-      of_term (carried_program_of defs rules) (all_names defs) (type_table defs) r id a.0 b.0 q b.1 b.2
-
-  list_of_terms : (id : ℕ) (rs : List RuleTree) (qs : List TypedRule) (q : TypedRule) → elaborate_rules defs id rs ≡ Some qs → In qs q → IsOfTerm (carried_program_of defs rules) q
-  list_of_terms id [] qs q h i = absurd (subst (λ l. In l q) (sym (some_is [] qs h)) i)
-  list_of_terms id (r ∷ rs) qs q h i =
-      let b = with_both defs rules valid (elaborate_rule defs id r) (elaborate_rules defs (suc id) rs) qs h in
-      elim (subst (λ l. In l q) b.4 i) [
-        | inl e ↦ subst (IsOfTerm (carried_program_of defs rules)) e (rule_of_term id r b.0 b.2)
-        | inr j ↦ list_of_terms (suc id) rs b.1 q b.3 j
-      ]
+      let a = rule_at defs rules valid id r q h in
+      of_term (carried_program_of defs rules) (all_names defs) (type_table defs) r id a.0 a.1 q a.2 a.3
 
   rules_of_terms : AreElaborated defs rules → (r : TypedRule) → In rules r → IsOfTerm (carried_program_of defs rules) r
-  rules_of_terms e r i =
-      let m = map_some (named_rules (term_entries defs)) (elaborate_rules defs 0 (rule_trees defs)) rules e.typed in
-      let n = in_map (named_rule (term_entries defs) m.0) m.0 r (subst (λ l. In l r) (sym m.2) i) in
-      let o = list_of_terms 0 (rule_trees defs) m.0 n.0 m.1 n.1 in
-      subst (IsOfTerm (carried_program_of defs rules)) n.2 (record { once = o.once; known = o.known })
+  rules_of_terms = of_each defs rules valid (IsOfTerm (carried_program_of defs rules)) rule_of_term (λ terms qs q o. record { once = o.once; known = o.known })
 
   among : (k : ℕ) (d : TypedRule) → k < length rules → In rules (slice_index_or rules k d)
   among k d h = in_slice rules k (slice_index_or rules k d) (slice_get-get_or rules k d h)

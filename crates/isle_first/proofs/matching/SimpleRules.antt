@@ -5,12 +5,12 @@ use Rattle.std.proofs.lemmas.List.Elements.{All-contains}
 use Rattle.isle_model.specs.lists.Syntax.{PatternTree, var_pattern, int_pattern, wildcard_pattern, ExprTree, var_expr, int_expr, RuleTree, DeclTree, Definition, declaration}
 use Rattle.isle_model.specs.lists.Names.{number as number_of}
 use Rattle.isle_model.specs.rules.Outcome.{then_option}
-use Rattle.isle_model.specs.lists.Tables.{TypeEntry, TermEntry}
+use Rattle.isle_model.specs.lists.Tables.{Flags, TypeEntry, TermEntry}
 use Rattle.isle_model.specs.rules.Values.{is_atom_type}
 use Rattle.isle_model.specs.rules.Typed.{TypedPattern, TypedExpr, make_var, make_int, TypedVar, TypedRule}
 use Rattle.isle_model.specs.rules.Program.{Program, unknown, kind_of, flags_of, is_partial, rules_of}
 use Rattle.isle_model.specs.lists.TypeTable.{type_table}
-use Rattle.isle_model.specs.lists.TermTable.{decl_of, decl_trees, rule_trees}
+use Rattle.isle_model.specs.lists.TermTable.{decl_of, decl_trees, rule_trees, decl_flags}
 use Rattle.isle_model.specs.first.TermTable.{is_carried_term, IsValidCarriedTerms, decl_entry, decl_entries, term_entries}
 use Rattle.isle_model.specs.first.Elaboration.{root_args, Elaborated, elaborate_pattern, ElaboratedArgs, with_first, elaborate_args, var_at_type, elaborate_expr, rule_with, elaborate_at, all_names, root_id, elaborate_rule, with_typed_rule, elaborate_rules, AreElaborated, carried_program_of}
 use Rattle.isle_model.specs.lists.Setting.{new_var, var_named}
@@ -152,48 +152,69 @@ entry_at defs id [] k e h = absurd (none_some e h)
 entry_at defs id (d ∷ ds) zero e h = (d, id, inl refl, sym (some_is (decl_entry defs id d) e h))
 entry_at defs id (d ∷ ds) (suc k) e h = let r = entry_at defs (suc id) ds k e h in (r.0, r.1, inr r.2, r.3)
 
-not_false : (b : Bool) → not b ≡ true → b ≡ false
+pub not_false : (b : Bool) → not b ≡ true → b ≡ false
 not_false true h = sym h
 not_false false h = refl
 
-whole_decl : (x : Definition) (d : DeclTree) → IsTrue (is_carried_term x) → In (decl_of x) d → d.partial ≡ false
-whole_decl (declaration c) d carried (inl e) = sym (ap (λ y. y.partial) e) ∙ not_false c.partial (and_parts (not c.multi) (not c.partial) carried).1
-whole_decl (declaration c) d carried (inr n) = absurd n
-whole_decl _ d carried n = absurd n
+carried_decl : (P : DeclTree → Type 0) → ((c : DeclTree) → IsTrue (is_carried_term (declaration c)) → P c) → (x : Definition) (d : DeclTree) → IsTrue (is_carried_term x) → In (decl_of x) d → P d
+carried_decl P h (declaration c) d carried (inl e) = subst P e (h c carried)
+carried_decl P h (declaration c) d carried (inr n) = absurd n
+carried_decl P h _ d carried n = absurd n
 
-whole_option : (o : Option TermEntry) → ((e : TermEntry) → o ≡ Some e → (flags_of (kind_of e)).partial ≡ false) → (flags_of (elim o [ None ↦ unknown | Some e ↦ kind_of e ])).partial ≡ false
-whole_option None h = refl
-whole_option (Some e) h = h e refl
+flag_of_option : (flag : Flags → Bool) → flag (flags_of unknown) ≡ false → (o : Option TermEntry) → ((e : TermEntry) → o ≡ Some e → flag (flags_of (kind_of e)) ≡ false) → flag (flags_of (elim o [ None ↦ unknown | Some e ↦ kind_of e ])) ≡ false
+flag_of_option flag none None h = none
+flag_of_option flag none (Some e) h = h e refl
 
 module _ (defs : List Definition) (rules : List TypedRule) (valid : IsValidCarriedTerms defs) where
-  whole_entry : (e : TermEntry) (k : ℕ) → slice_get (term_entries defs) k ≡ Some e → (flags_of (kind_of e)).partial ≡ false
-  whole_entry e k h =
-      let a = entry_at defs 0 (decl_trees defs) k e h in
-      let f = from_flat_map decl_of defs a.0 a.2 in
-      ap (λ x. (flags_of (kind_of x)).partial) a.3 ∙ whole_decl f.0 a.0 (All-contains (λ d. IsTrue (is_carried_term d)) defs f.0 valid.carried (contains_from_in defs f.0 f.1)) f.2
+  -- a flag that no declaration sets, no term has
+  module _ (flag : Flags → Bool) (unset : (c : DeclTree) → IsTrue (is_carried_term (declaration c)) → flag (decl_flags c) ≡ false) where
+    unset_entry : (e : TermEntry) (k : ℕ) → slice_get (term_entries defs) k ≡ Some e → flag (flags_of (kind_of e)) ≡ false
+    unset_entry e k h =
+        let a = entry_at defs 0 (decl_trees defs) k e h in
+        let f = from_flat_map decl_of defs a.0 a.2 in
+        let carried = All-contains (λ d. IsTrue (is_carried_term d)) defs f.0 valid.carried (contains_from_in defs f.0 f.1) in
+        ap (λ x. flag (flags_of (kind_of x))) a.3 ∙ carried_decl (λ d. flag (decl_flags d) ≡ false) unset f.0 a.0 carried f.2
+
+    pub all_unset : flag (flags_of unknown) ≡ false → (t : ℕ) → flag (flags_of (elim (slice_get (term_entries defs) t) [ None ↦ unknown | Some e ↦ kind_of e ])) ≡ false
+    all_unset none t = flag_of_option flag none (slice_get (term_entries defs) t) (λ e h. unset_entry e t h)
 
   pub all_whole : (t : ℕ) → is_partial (carried_program_of defs rules) t ≡ false
-  all_whole t = whole_option (slice_get (term_entries defs) t) (λ e h. whole_entry e t h)
+  all_whole t = all_unset (λ f. f.partial) (λ c h. not_false c.partial (and_parts (not c.multi) (not c.partial) h).1) refl t
 
   -- 7. all rules
-  simple_rule : (id : ℕ) (r : RuleTree) (q : TypedRule) → elaborate_rule defs id r ≡ Some q → IsSimple (carried_program_of defs rules) q
-  simple_rule id r q h =
+  -- a rule's term, and how the rule elaborates there
+  pub rule_at : (id : ℕ) (r : RuleTree) (q : TypedRule) → elaborate_rule defs id r ≡ Some q
+      → (root : ℕ) × (term : TermEntry) × (slice_get (term_entries defs) root ≡ Some term) × (elaborate_at (all_names defs) (type_table defs) r id root term ≡ Some q)
+  rule_at id r q h =
       let a = then_some (root_id defs r) (λ root. then_option (slice_get (term_entries defs) root) (λ term. elaborate_at (all_names defs) (type_table defs) r id root term)) q h in
       let b = then_some (slice_get (term_entries defs) a.0) (λ term. elaborate_at (all_names defs) (type_table defs) r id a.0 term) q a.2 in
-      (simple_at (carried_program_of defs rules) (all_names defs) (type_table defs) r id a.0 b.0 q b.1 (all_whole a.0) b.2).0
+      (a.0, b.0, b.1, b.2)
+
+  simple_rule : (id : ℕ) (r : RuleTree) (q : TypedRule) → elaborate_rule defs id r ≡ Some q → IsSimple (carried_program_of defs rules) q
+  simple_rule id r q h =
+      let a = rule_at id r q h in
+      (simple_at (carried_program_of defs rules) (all_names defs) (type_table defs) r id a.0 a.1 q a.2 (all_whole a.0) a.3).0
 
   pub with_both : (o : Option TypedRule) (rest : Option (List TypedRule)) (qs : List TypedRule) → with_typed_rule o rest ≡ Some qs → (q : TypedRule) × (ps : List TypedRule) × (o ≡ Some q) × (rest ≡ Some ps) × (qs ≡ q ∷ ps)
   with_both None rest qs h = absurd (none_some qs h)
   with_both (Some q) rest qs h = let m = map_some (λ rs. q ∷ rs) rest qs h in (q, m.0, refl, m.1, sym m.2)
 
-  simple_list : (id : ℕ) (rs : List RuleTree) (qs : List TypedRule) (q : TypedRule) → elaborate_rules defs id rs ≡ Some qs → In qs q → IsSimple (carried_program_of defs rules) q
-  simple_list id [] qs q h i = absurd (subst (λ l. In l q) (sym (some_is [] qs h)) i)
-  simple_list id (r ∷ rs) qs q h i =
-      let b = with_both (elaborate_rule defs id r) (elaborate_rules defs (suc id) rs) qs h in
-      elim (subst (λ l. In l q) b.4 i) [
-        | inl e ↦ subst (IsSimple (carried_program_of defs rules)) e (simple_rule id r b.0 b.2)
-        | inr j ↦ simple_list (suc id) rs b.1 q b.3 j
-      ]
+  -- what holds of each rule where it elaborates, named or not, holds of the list's rules
+  module _ (P : TypedRule → Type 0) (of_rule : (id : ℕ) (r : RuleTree) (q : TypedRule) → elaborate_rule defs id r ≡ Some q → P q) (of_named : (terms : List TermEntry) (qs : List TypedRule) (q : TypedRule) → P q → P (named_rule terms qs q)) where
+    of_list : (id : ℕ) (rs : List RuleTree) (qs : List TypedRule) (q : TypedRule) → elaborate_rules defs id rs ≡ Some qs → In qs q → P q
+    of_list id [] qs q h i = absurd (subst (λ l. In l q) (sym (some_is [] qs h)) i)
+    of_list id (r ∷ rs) qs q h i =
+        let b = with_both (elaborate_rule defs id r) (elaborate_rules defs (suc id) rs) qs h in
+        elim (subst (λ l. In l q) b.4 i) [
+          | inl e ↦ subst P e (of_rule id r b.0 b.2)
+          | inr j ↦ of_list (suc id) rs b.1 q b.3 j
+        ]
+
+    pub of_each : AreElaborated defs rules → (r : TypedRule) → In rules r → P r
+    of_each e r i =
+        let m = map_some (named_rules (term_entries defs)) (elaborate_rules defs 0 (rule_trees defs)) rules e.typed in
+        let n = in_map (named_rule (term_entries defs) m.0) m.0 r (subst (λ l. In l r) (sym m.2) i) in
+        subst P n.2 (of_named (term_entries defs) m.0 n.0 (of_list 0 (rule_trees defs) m.0 n.0 m.1 n.1))
 
   renamed : (terms : List TermEntry) (qs : List TypedRule) (q : TypedRule) → IsSimple (carried_program_of defs rules) q → IsSimple (carried_program_of defs rules) (named_rule terms qs q)
   renamed terms qs q s = record {
@@ -208,10 +229,7 @@ module _ (defs : List Definition) (rules : List TypedRule) (valid : IsValidCarri
   }
 
   pub simple_rules : AreElaborated defs rules → (r : TypedRule) → In rules r → IsSimple (carried_program_of defs rules) r
-  simple_rules e r i =
-      let m = map_some (named_rules (term_entries defs)) (elaborate_rules defs 0 (rule_trees defs)) rules e.typed in
-      let n = in_map (named_rule (term_entries defs) m.0) m.0 r (subst (λ l. In l r) (sym m.2) i) in
-      subst (IsSimple (carried_program_of defs rules)) n.2 (renamed (term_entries defs) m.0 n.0 (simple_list 0 (rule_trees defs) m.0 n.0 m.1 n.1))
+  simple_rules = of_each (IsSimple (carried_program_of defs rules)) simple_rule renamed
 
   -- the rules of a term, and their term
   pub simple_of_term : AreElaborated defs rules → (t : ℕ) (r : TypedRule) → In (rules_of (carried_program_of defs rules) t) r → IsSimple (carried_program_of defs rules) r × (r.root_term ≡ t)

@@ -118,24 +118,10 @@ merged_apart ks apart e =
 added_keeps : (ks : List (List SiteTerm)) → IsApart ks → (e : SiteTerm × SiteTerm) (a b : SiteTerm) → InOne ks a b → InOne (joint ks e ∷ others ks e) a b
 added_keeps ks apart e a b o =
     elim (cases_Bool (has_site o.class e.0)) [
-      | inl t ↦
-          let same = class_is ks apart o.class e.0 o.there (has_in o.class e.0 t) in
-          record {
-            class = joint ks e;
-            there = inl refl;
-            first = in_left (class_at ks e.0) (class_at ks e.1) a (subst (λ l. In l a) (sym same) o.first);
-            second = in_left (class_at ks e.0) (class_at ks e.1) b (subst (λ l. In l b) (sym same) o.second);
-          }
+      | inl t ↦ moved e.0 (in_left (class_at ks e.0) (class_at ks e.1)) t
       | inr f ↦
           elim (cases_Bool (has_site o.class e.1)) [
-            | inl t ↦
-                let same = class_is ks apart o.class e.1 o.there (has_in o.class e.1 t) in
-                record {
-                  class = joint ks e;
-                  there = inl refl;
-                  first = in_right (class_at ks e.0) (class_at ks e.1) a (subst (λ l. In l a) (sym same) o.first);
-                  second = in_right (class_at ks e.0) (class_at ks e.1) b (subst (λ l. In l b) (sym same) o.second);
-                }
+            | inl t ↦ moved e.1 (in_right (class_at ks e.0) (class_at ks e.1)) t
             | inr g ↦
                 record {
                   class = o.class;
@@ -145,6 +131,16 @@ added_keeps ks apart e a b o =
                 }
           ]
     ]
+  where
+    moved : (x : SiteTerm) → ((s : SiteTerm) → In (class_at ks x) s → In (joint ks e) s) → has_site o.class x ≡ true → InOne (joint ks e ∷ others ks e) a b
+    moved x into t =
+        let same = class_is ks apart o.class x o.there (has_in o.class x t) in
+        record {
+          class = joint ks e;
+          there = inl refl;
+          first = into a (subst (λ l. In l a) (sym same) o.first);
+          second = into b (subst (λ l. In l b) (sym same) o.second);
+        }
 
 merged_keeps : (ks : List (List SiteTerm)) → IsApart ks → (e : SiteTerm × SiteTerm) (a b : SiteTerm) → InOne ks a b → InOne (merged_classes ks e) a b
 merged_keeps ks apart e a b o =

@@ -13,7 +13,7 @@ use Rattle.isle_model.specs.lists.Formed.{var_type}
 use Rattle.isle_model.proofs.Elements.{In, in_right, in_either, some_is, none_some}
 use Rattle.isle_model.proofs.SameSites.{term_means}
 use Rattle.isle_model.proofs.ValuesEqual.{eq_means, eq_same}
-use Rattle.isle_model.proofs.Options.{is_there, some_then}
+use Rattle.isle_model.proofs.Options.{is_there}
 use Rattle.isle_laws_demands.proofs.visits.Visited.{equating_binds}
 use Rattle.isle_laws_demands.proofs.visits.Patterns.{from_if, from_then}
 use Rattle.isle_laws_demands.proofs.matching.Contents.{Given, content_of, Here, is_value}
@@ -136,12 +136,32 @@ bound_kept g x y ty a s e vs n b = record {
   there = ap (λ (q : Option Sited). then_option q (λ c. c.value)) (cond-false (x == y) (Some a) (look (λ k. k == y) e) n) ∙ b.there;
 }
 
--- after a part of a match and of a visit: what was met is met, enough was asked, and variables agree
+-- after some parts of a match and of a visit: what was met is met, enough was asked, and variables agree
+pub record Past (g : Given) (more : List (ℕ × ℕ)) (e : SitedVars) (v w : Visit) (o : Option SitedVars) : Type 0 where
+  pub met : AreMet g v.demands → (e' : SitedVars) → o ≡ Some e' → AreMet g w.demands
+  pub found : AskEnough g w.demands → (e' : SitedVars) × (o ≡ Some e')
+  pub agree : (e' : SitedVars) → o ≡ Some e' → AreBound g more e' w.vars
+
+pub then_past : (g : Given) (mid more : List (ℕ × ℕ)) (e : SitedVars) (u v w : Visit) (o : Option SitedVars) (f : SitedVars → Option SitedVars)
+    → Past g mid e u v o → Grown v w → ((e' : SitedVars) → o ≡ Some e' → Past g more e' v w (f e')) → Past g more e u w (then_option o f)
+then_past g mid more e u v w o f a l b = record {
+  met = λ h e' q. (let r = from_then o f e' q in (b r.0 r.1).met (a.met h r.0 r.1) e' r.2);
+  found = λ h.
+      (let r = a.found (enough_before g v w l h) in
+      let s = (b r.0 r.1).found h in
+      (s.0, ap (λ y. then_option y f) r.1 ∙ s.1));
+  agree = λ e' q. (let r = from_then o f e' q in (b r.0 r.1).agree e' r.2);
+}
+
+-- likewise, and other variables stay
 pub record After (g : Given) (more : List (ℕ × ℕ)) (e : SitedVars) (v w : Visit) (o : Option SitedVars) : Type 0 where
   pub met : AreMet g v.demands → (e' : SitedVars) → o ≡ Some e' → AreMet g w.demands
   pub found : AskEnough g w.demands → (e' : SitedVars) × (o ≡ Some e')
   pub agree : (e' : SitedVars) → o ≡ Some e' → AreBound g more e' w.vars
   pub kept : (e' : SitedVars) → o ≡ Some e' → (y t : ℕ) → is_some (var_type more y) ≡ false → IsBound g e v.vars y t → IsBound g e' w.vars y t
+
+past_of : (g : Given) (more : List (ℕ × ℕ)) (e : SitedVars) (v w : Visit) (o : Option SitedVars) → After g more e v w o → Past g more e v w o
+past_of g more e v w o a = record { met = a.met; found = a.found; agree = a.agree }
 
 -- what isn't among more isn't among less
 pub outside : (vars more : List (ℕ × ℕ)) → AreWithin vars more → (y : ℕ) → is_some (var_type more y) ≡ false → is_some (var_type vars y) ≡ false
@@ -153,15 +173,14 @@ outside vars more f y n =
 
 pub then_after : (g : Given) (mid more : List (ℕ × ℕ)) (e : SitedVars) (u v w : Visit) (o : Option SitedVars) (f : SitedVars → Option SitedVars)
     → After g mid e u v o → Grown v w → AreWithin mid more → ((e' : SitedVars) → o ≡ Some e' → After g more e' v w (f e')) → After g more e u w (then_option o f)
-then_after g mid more e u v w o f a l n b = record {
-  met = λ h e' q. (let r = from_then o f e' q in (b r.0 r.1).met (a.met h r.0 r.1) e' r.2);
-  found = λ h.
-      (let r = a.found (enough_before g v w l h) in
-      let s = (b r.0 r.1).found h in
-      (s.0, some_then o f r.0 s.0 r.1 s.1));
-  agree = λ e' q. (let r = from_then o f e' q in (b r.0 r.1).agree e' r.2);
-  kept = λ e' q y t i h. (let r = from_then o f e' q in (b r.0 r.1).kept e' r.2 y t i (a.kept r.0 r.1 y t (outside mid more n y i) h));
-}
+then_after g mid more e u v w o f a l n b =
+    let past = then_past g mid more e u v w o f (past_of g mid e u v o a) l (λ e' q. past_of g more e' v w (f e') (b e' q)) in
+    record {
+      met = past.met;
+      found = past.found;
+      agree = past.agree;
+      kept = λ e' q y t i h. (let r = from_then o f e' q in (b r.0 r.1).kept e' r.2 y t i (a.kept r.0 r.1 y t (outside mid more n y i) h));
+    }
 
 -- where nothing is bound
 pub unbound : (g : Given) (vars : List (ℕ × ℕ)) (e : SitedVars) (v w : Visit) (o : Option SitedVars) → w.vars ≡ v.vars → AreBound g vars e v.vars → ((e' : SitedVars) → o ≡ Some e' → e ≡ e')

@@ -1,7 +1,6 @@
 -- A rule that hangs together matches exactly where what its visit asks is met.
-use Rattle.std.proofs.Common.{◌≡◌, ℕ, suc, ◌+◌, ◌==◌, true, ◌&&◌, List, [], ◌∷◌, Option, Some, None, is_some, slice_get, refl, sym, ap, subst, ◌∙◌, inl, inr, eqb-true, arith}
+use Rattle.std.proofs.Common.{◌≡◌, ℕ, suc, ◌+◌, true, List, [], ◌∷◌, Option, Some, None, is_some, slice_get, refl, sym, ap, subst, ◌∙◌, inl, inr, eqb-true, arith}
 use Rattle.std.proofs.lemmas.Bool.{and_parts, false≢true}
-use Rattle.isle_model.specs.lists.Tables.{TermEntry}
 use Rattle.isle_model.specs.rules.Values.{Value, of_variant, of_struct, Values, value_and, of_list, well_typed, all_well_typed, args_well_typed}
 use Rattle.isle_model.specs.rules.Meaning.{Content, one, parts, nothing, just, many, extractor_answer}
 use Rattle.isle_model.specs.rules.Outcome.{then_option}
@@ -13,20 +12,21 @@ use Rattle.isle_model.specs.sites.Sites.{is_present, SiteTerm, bool_term, int_te
 use Rattle.isle_model.specs.sites.Demands.{demands_of, Visit, visit_start, making, visit_pattern, Valued, visit_expr, unwraps, unwraps_all, asking_all, visit_args, visit_iflets, visit_rule}
 use Rattle.isle_model.specs.sites.DemandedGates.{IsPureExpr, ArePureIfLets, HasNoPartialMulti}
 use Rattle.isle_model.specs.lists.Setting.{expr_type}
-use Rattle.isle_model.specs.lists.Formed.{pattern_type, where_bound, of_entry, formed_pattern, is_formed_expr, formed_list, formed_iflets, is_formed_rule}
+use Rattle.isle_model.specs.lists.Formed.{pattern_type, formed_pattern, is_formed_expr, formed_list, formed_iflets, is_formed_rule}
 use Rattle.isle_model.proofs.Elements.{In, in_from_contains, in_either, some_is, none_some}
 use Rattle.isle_model.proofs.Options.{is_there, some_then}
 use Rattle.isle_laws_demands.proofs.visits.Visited.{all_asked, asked_binds}
-use Rattle.isle_laws_demands.proofs.visits.Patterns.{from_if, from_then}
-use Rattle.isle_laws_demands.proofs.visits.Exprs.{from_vars}
+use Rattle.isle_laws_demands.proofs.visits.Patterns.{from_then}
 use Rattle.isle_laws_demands.proofs.matching.Contents.{Given, content_of, value_of, values_of, Here, IsAnswered, is_value}
-use Rattle.isle_laws_demands.proofs.matching.Demanded.{AreMet, AskEnough, enough_before, met_all, meets_present, AreBound, bound_vars, After}
+use Rattle.isle_laws_demands.proofs.matching.Demanded.{AreMet, AskEnough, enough_before, met_all, meets_present, AreBound, bound_vars, Past, then_past, After}
 use Rattle.isle_laws_demands.proofs.matching.Exprs.{expr_valued}
 use Rattle.isle_laws_demands.proofs.matching.Grown.{Grown, then_grown, grown_all, expr_adds, pattern_grown, iflets_grown, args_grown, rule_adds}
 use Rattle.isle_laws_demands.proofs.matching.Patterns.{from_part, pattern_after}
 use Rattle.isle_laws_demands.proofs.matching.SameExprs.{expr_keeps}
 use Rattle.isle_laws_demands.proofs.matching.TypedParts.{HasTypedParts}
 use Rattle.isle_laws_demands.proofs.matching.Variables.{named, IsPresent, AllPresent, var_moved}
+use Rattle.isle_laws_demands.proofs.visits.RuleParts.{iflet_parts}
+pub use Rattle.isle_laws_demands.proofs.visits.RuleParts.{RuleParts, rule_parts}
 
 -- 1. the calls that a site with a content unwraps answer
 module _ (g : Given) where
@@ -79,23 +79,6 @@ module _ (g : Given) where
         ]
 
 -- 2. arguments and if-lets
--- after some of them: what was met is met, enough was asked, and variables agree
-pub record Past (g : Given) (more : List (ℕ × ℕ)) (e : SitedVars) (v w : Visit) (o : Option SitedVars) : Type 0 where
-  pub met : AreMet g v.demands → (e' : SitedVars) → o ≡ Some e' → AreMet g w.demands
-  pub found : AskEnough g w.demands → (e' : SitedVars) × (o ≡ Some e')
-  pub agree : (e' : SitedVars) → o ≡ Some e' → AreBound g more e' w.vars
-
-then_past : (g : Given) (mid more : List (ℕ × ℕ)) (e : SitedVars) (u v w : Visit) (o : Option SitedVars) (f : SitedVars → Option SitedVars)
-    → Past g mid e u v o → Grown v w → ((e' : SitedVars) → o ≡ Some e' → Past g more e' v w (f e')) → Past g more e u w (then_option o f)
-then_past g mid more e u v w o f a l b = record {
-  met = λ h e' q. (let r = from_then o f e' q in (b r.0 r.1).met (a.met h r.0 r.1) e' r.2);
-  found = λ h.
-      (let r = a.found (enough_before g v w l h) in
-      let s = (b r.0 r.1).found h in
-      (s.0, some_then o f r.0 s.0 r.1 s.1));
-  agree = λ e' q. (let r = from_then o f e' q in (b r.0 r.1).agree e' r.2);
-}
-
 nothing_past : (g : Given) (vars more : List (ℕ × ℕ)) (e : SitedVars) (v : Visit) → Some vars ≡ Some more → AreBound g vars e v.vars → Past g more e v v (Some e)
 nothing_past g vars more e v f b = record {
   met = λ h e' q. h;
@@ -197,41 +180,18 @@ module _ (g : Given) (z : Visit) (h : IsAnswered g z.demands) (parts : HasTypedP
       → Past g more e v (visit_iflets p is v) (iflets_hold_under p g.meaning g.pick is e)
   iflets_past [] v vars more e f y b l = nothing_past g vars more e v f b
   iflets_past (i ∷ is) v vars more e f y b l =
-      let a = from_if (is_formed_expr p i.rhs vars && (pattern_type i.lhs == expr_type i.rhs)) (then_option (formed_pattern p i.lhs vars) (λ mid. formed_iflets p is mid)) more f in
-      let c = from_then (formed_pattern p i.lhs vars) (λ mid. formed_iflets p is mid) more a.1 in
-      let d = and_parts (is_formed_expr p i.rhs vars) (pattern_type i.lhs == expr_type i.rhs) a.0 in
+      let c = iflet_parts p i is vars more f in
       let u = after_iflet i v in
       let w = visit_iflets p is u in
       let k = iflets_grown p is u in
-      let r = iflet_past i v vars c.0 e d.0 y.0 (eqb-true (pattern_type i.lhs) (expr_type i.rhs) d.1) c.1 b (then_grown u w z k l) in
+      let r = iflet_past i v vars c.mid e c.value y.0 (eqb-true (pattern_type i.lhs) (expr_type i.rhs) c.typed) c.pattern b (then_grown u w z k l) in
       subst (Past g more e v w) (regroup (value_in i e) (holds_in i e) (λ e'. iflets_hold_under p g.meaning g.pick is e'))
-      (then_past g c.0 more e v u w (then_option (value_in i e) (holds_in i e)) (λ e'. iflets_hold_under p g.meaning g.pick is e') r k (λ e' n. iflets_past is u c.0 more e' c.2 y.1 (r.agree e' n) l))
+      (then_past g c.mid more e v u w (then_option (value_in i e) (holds_in i e)) (λ e'. iflets_hold_under p g.meaning g.pick is e') r k (λ e' n. iflets_past is u c.mid more e' c.rest y.1 (r.agree e' n) l))
 
 -- 3. rules
 pub record Matches (g : Given) (r : TypedRule) : Type 0 where
   pub met : is_some (matches_under g.program g.meaning g.pick r g.args) ≡ true → AreMet g (demands_of g.program r)
   pub found : AskEnough g (demands_of g.program r) → is_some (matches_under g.program g.meaning g.pick r g.args) ≡ true
-
--- what a rule is that hangs together
-pub record RuleParts (p : Program) (r : TypedRule) : Type 0 where
-  pub entry : TermEntry
-  pub there : slice_get p.terms r.root_term ≡ Some entry
-  pub mid : List (ℕ × ℕ)
-  pub args : formed_list p r.args entry.arg_tys [] ≡ Some mid
-  pub vars : List (ℕ × ℕ)
-  pub iflets : formed_iflets p r.iflets mid ≡ Some vars
-
-pub rule_parts : (p : Program) (r : TypedRule) → is_formed_rule p r ≡ true → RuleParts p r
-rule_parts p r f = by (slice_get p.terms r.root_term) refl f
-  where
-    by : (o : Option TermEntry) → slice_get p.terms r.root_term ≡ o
-        → of_entry o (λ (t : TermEntry). where_bound (then_option (formed_list p r.args t.arg_tys []) (formed_iflets p r.iflets)) (λ vars. (expr_type r.rhs == t.ret_ty) && is_formed_expr p r.rhs vars)) ≡ true
-        → RuleParts p r
-    by None q h = absurd (false≢true h)
-    by (Some t) q h =
-        let b = from_vars (then_option (formed_list p r.args t.arg_tys []) (formed_iflets p r.iflets)) (λ vars. (expr_type r.rhs == t.ret_ty) && is_formed_expr p r.rhs vars) h in
-        let c = from_then (formed_list p r.args t.arg_tys []) (formed_iflets p r.iflets) b.0 b.1 in
-        record { entry = t; there = q; mid = c.0; args = c.1; vars = b.0; iflets = c.2 }
 
 pub rule_matches : (g : Given) (r : TypedRule) → is_formed_rule g.program r ≡ true → ArePureIfLets g.program r.iflets → args_well_typed g.program.types (arg_types g.program r.root_term) g.args ≡ true
     → HasTypedParts g.program → HasNoPartialMulti g.program → IsAnswered g (demands_of g.program r) → Matches g r

@@ -316,8 +316,8 @@ module _ (g : Given) (r : TypedRule) (rs : List TypedRule) (here : Contains rs r
       omega arith
 
   module _ (apart : TellsConstantsApart g.program g.meaning rs) where
-    abbrev Shape_of : Option Content → Constraint → Type 0
-    Shape_of = Shape g rs types apart
+    abbrev IsOfShape : Option Content → Constraint → Type 0
+    IsOfShape = Shape g rs types apart
 
     is_tested : (s : SiteTerm) (c : Constraint) (u : SiteTerm) → In d.constraints (s, c) → In (constant_site c) u → Contains (tested_constants p rs) u
     is_tested s c u i j =
@@ -335,57 +335,50 @@ module _ (g : Given) (r : TypedRule) (rs : List TypedRule) (here : Contains rs r
     value_typed : (o : Option Value) (f : Value → Bool) (v : Value) → o ≡ Some v → IsSomeAnd o (λ w. IsTrue (f w)) → f v ≡ true
     value_typed o f v e h = subst (λ q. IsSomeAnd q (λ w. IsTrue (f w))) e h
 
-    asked_shape : (s : SiteTerm) (c : Constraint) → In d.constraints (s, c) → Shape_of (content_of g s) c
+    -- the content of a site that is asked to be a constant
+    constant_at : (s : SiteTerm) (c : Constraint) (u : SiteTerm) (k : In d.constraints (s, c)) → In (constant_site c) u → (ty : ℕ) (v : Value) → (met.asked (s, c) k).0.content ≡ one v
+        → written_value m u ≡ Some v → written_type p u ≡ Some ty → well_typed p.types ty v ≡ true → has_parts (slice_get p.types ty) ≡ false → IsConstant g rs types apart (content_of g s) u
+    constant_at s c u k i ty v same worth written typed atomic = record {
+      value = v;
+      there = (met.asked (s, c) k).0.held ∙ ap Some same;
+      ty = ty;
+      written = written;
+      worth = worth;
+      typed = typed;
+      atomic = atomic;
+      tested = is_tested s c u k i;
+    }
+
+    asked_shape : (s : SiteTerm) (c : Constraint) → In d.constraints (s, c) → IsOfShape (content_of g s) c
     asked_shape s (is_variant ty i n) k = asked_parts s (is_variant ty i n) k
     asked_shape s (is_struct ty n) k = asked_parts s (is_struct ty n) k
     asked_shape s (is_bool b ty) k =
-        let a = met.asked (s, is_bool b ty) k in
-        let f = has_form m (is_bool b ty) a.0.content a.0.meets in
-        record {
-          value = f.0;
-          there = a.0.held ∙ ap Some f.1;
-          ty = ty;
-          written = refl;
-          worth = f.2;
-          typed = value_typed (literal_value m (bool_literal b ty)) (well_typed p.types ty) f.0 f.2 (served.bools b ty (is_asked s (is_bool b ty) (bool_term b ty) k (inl refl)));
-          atomic = ap (λ n. has_parts (slice_get p.types n)) (formed (s, is_bool b ty) k) ∙ ap has_parts types.first;
-          tested = is_tested s (is_bool b ty) (bool_term b ty) k (inl refl);
-        }
+        let a = (met.asked (s, is_bool b ty) k).0 in
+        let f = has_form m (is_bool b ty) a.content a.meets in
+        constant_at s (is_bool b ty) (bool_term b ty) k (inl refl) ty f.0 f.1 f.2 refl
+        (value_typed (literal_value m (bool_literal b ty)) (well_typed p.types ty) f.0 f.2 (served.bools b ty (is_asked s (is_bool b ty) (bool_term b ty) k (inl refl))))
+        (ap (λ n. has_parts (slice_get p.types n)) (formed (s, is_bool b ty) k) ∙ ap has_parts types.first)
     asked_shape s (is_int z ty) k =
-        let a = met.asked (s, is_int z ty) k in
-        let f = has_form m (is_int z ty) a.0.content a.0.meets in
-        record {
-          value = f.0;
-          there = a.0.held ∙ ap Some f.1;
-          ty = ty;
-          written = refl;
-          worth = f.2;
-          typed = value_typed (literal_value m (int_literal z ty)) (well_typed p.types ty) f.0 f.2 (served.ints z ty (is_asked s (is_int z ty) (int_term z ty) k (inl refl)));
-          atomic = atom_without_parts (slice_get p.types ty) (formed (s, is_int z ty) k);
-          tested = is_tested s (is_int z ty) (int_term z ty) k (inl refl);
-        }
+        let a = (met.asked (s, is_int z ty) k).0 in
+        let f = has_form m (is_int z ty) a.content a.meets in
+        constant_at s (is_int z ty) (int_term z ty) k (inl refl) ty f.0 f.1 f.2 refl
+        (value_typed (literal_value m (int_literal z ty)) (well_typed p.types ty) f.0 f.2 (served.ints z ty (is_asked s (is_int z ty) (int_term z ty) k (inl refl))))
+        (atom_without_parts (slice_get p.types ty) (formed (s, is_int z ty) k))
     asked_shape s (is_prim name) k =
-        let a = met.asked (s, is_prim name) k in
-        let f = has_form m (is_prim name) a.0.content a.0.meets in
+        let a = (met.asked (s, is_prim name) k).0 in
+        let f = has_form m (is_prim name) a.content a.meets in
         let t = formed (s, is_prim name) k in
-        record {
-          value = f.0;
-          there = a.0.held ∙ ap Some f.1;
-          ty = t.0;
-          written = t.1;
-          worth = f.2;
-          typed = subst (λ o. typed_as p o f.0 ≡ true) t.1
-              (value_typed (constant_value m name) (typed_as p (constant_type p name)) f.0 f.2 (served.prims name (is_asked s (is_prim name) (prim_term name) k (inl refl))));
-          atomic = apart.without_parts r s name t.0 here (contains_from_in d.constraints (s, is_prim name) k) t.1;
-          tested = is_tested s (is_prim name) (prim_term name) k (inl refl);
-        }
+        constant_at s (is_prim name) (prim_term name) k (inl refl) t.0 f.0 f.1 f.2 t.1
+        (subst (λ o. typed_as p o f.0 ≡ true) t.1
+        (value_typed (constant_value m name) (typed_as p (constant_type p name)) f.0 f.2 (served.prims name (is_asked s (is_prim name) (prim_term name) k (inl refl)))))
+        (apart.without_parts r s name t.0 here (contains_from_in d.constraints (s, is_prim name) k) t.1)
     asked_shape s is_present k =
         let a = met.asked (s, is_present) k in
         let f = has_form m is_present a.0.content a.0.meets in
         (f.0, a.0.held ∙ ap Some f.1)
 
-    pub shape_there : (s : SiteTerm) (c : Constraint) → HasConstraint d s c → Shape_of (content_of g s) c
-    shape_there s c h = subst (λ o. Shape_of o c) (same_contents h.source s h.joined) (asked_shape h.source c (in_from_contains d.constraints (h.source, c) h.asked))
+    pub shape_there : (s : SiteTerm) (c : Constraint) → HasConstraint d s c → IsOfShape (content_of g s) c
+    shape_there s c h = subst (λ o. IsOfShape o c) (same_contents h.source s h.joined) (asked_shape h.source c (in_from_contains d.constraints (h.source, c) h.asked))
 
     pub can_be_met : IsUnreachable d → ⊥
     can_be_met (two_at_a_site s a b i j n) =

@@ -3,13 +3,13 @@
 use Rattle.std.proofs.Common.{◌≡◌, ℕ, Bool, true, false, not, ◌&&◌, ◌||◌, List, map, Option, Some, None, option_map, is_some, slice_get, refl, sym, ap, subst, inl, inr, ◌∙◌}
 use Rattle.std.proofs.lemmas.Bool.{cases_Bool, and_parts, false≢true}
 use Rattle.std.proofs.lemmas.Option.{none-some, same_Some}
-use Rattle.isle_model.specs.lists.Syntax.{Definition, ExprTree, ExprTrees, LetTrees, RuleTree}
+use Rattle.isle_model.specs.lists.Syntax.{Definition, ExprTree, RuleTree}
 use Rattle.isle_model.specs.lists.Tables.{Flags, TermEntry, TermKindEntry, variant_term, struct_term, declared_term}
 use Rattle.isle_model.specs.lists.Elaborated.{named_rule, TypedRules, typed_rules, named}
 use Rattle.isle_model.specs.rules.Program.{Program, Kind, a_variant, a_struct, a_call, unknown, kind_of, kind, always_answers, flags_of, is_multi, is_partial}
-use Rattle.isle_model.specs.rules.Typed.{TypedExpr, TypedExprs, TypedLets, TypedRule}
+use Rattle.isle_model.specs.rules.Typed.{TypedExpr, TypedRule}
 use Rattle.isle_model.specs.lists.Setting.{Setting, Scope, entry_named, is_callable, allow}
-use Rattle.isle_model.specs.lists.Elaborates.{ElaboratesExpr, ElaboratesArgs, ElaboratesLets, a_call, converted_call, a_variable, converted_variable, truth_expr, integer_expr, constant_expr, let_in, no_arg, an_arg, no_def, a_def, ElaboratesRule, a_rule, ElaboratesRules, no_rule, one_rule}
+use Rattle.isle_model.specs.lists.Elaborates.{ElaboratesExpr, a_call, ElaboratesRule, a_rule, ElaboratesRules, no_rule, one_rule}
 use Rattle.isle_laws_lists.specs.TypingLaws.{ListsAgree}
 use Rattle.isle_model.specs.lists.Formed.{program_in}
 use Rattle.isle_laws_lists.proofs.TermLaws.{terms_stand_at_ids_lem}
@@ -17,11 +17,12 @@ use Rattle.isle_model.specs.lists.TermTable.{term_names_met, rule_trees}
 use Rattle.isle_model.specs.claims.Environments.{TypesRead, setting_of, IsElaborated, program_of}
 use Rattle.isle_model.proofs.Elements.{In, in_map}
 use Rattle.isle_model.specs.sites.DemandedGates.{HasNoPartialMulti}
-use Rattle.isle_laws_demands.proofs.visits.Calls.{CallsAlone, CallAlone, LetsCallAlone, calls_such}
+use Rattle.isle_laws_demands.proofs.visits.Calls.{CallsAlone, calls_such}
 use Rattle.isle_laws_lists.proofs.FormedRules.{named_at}
 use Rattle.isle_laws_demands.proofs.visits.Elaborated.{declared_are}
 use Rattle.isle_laws_demands.proofs.visits.Exprs.{IsTotal}
 use Rattle.isle_laws_demands.proofs.visits.RightSides.{IsSingle}
+use Rattle.isle_laws_demands.proofs.visits.ElaboratedCalls.{expr_calls}
 
 -- what variants and structs need is always allowed
 allows_made : (flags : Flags) → allow flags (record { pure = true; multi = false; partial = false; rec = false }) ≡ true
@@ -62,25 +63,8 @@ module _ (e : Setting) (rules : List TypedRule) (at_ids : (k : ℕ) (t : TermEnt
       let r = named_at name e.terms t n in
       ap (λ o. elim o as (λ _. Kind) [ None ↦ unknown | Some x ↦ kind_of x ]) (subst (λ k. slice_get e.terms k ≡ Some t) (sym (at_ids r.0 t r.1)) r.1)
 
-  module _ (flags : Flags) where
-    mutual
-      pub expr_allowed : {d n : ℕ} {ty : Option ℕ} {x : ExprTree} {s t : Scope} {q : TypedExpr} → ElaboratesExpr e flags d x ty s q t n → CallsAlone (IsAllowed p flags) q
-      expr_allowed (a_call {entry = entry} i j k g) = (ap (λ m. allow flags (flags_of m)) (entry_at_id _ entry i) ∙ allowed_entry flags entry k, args_allowed g)
-      expr_allowed (converted_call i j k g) = expr_allowed g
-      expr_allowed (a_variable i j) = tt
-      expr_allowed (converted_variable i j k g) = expr_allowed g
-      expr_allowed (truth_expr i) = tt
-      expr_allowed (integer_expr i) = tt
-      expr_allowed (constant_expr i j) = tt
-      expr_allowed (let_in g i) = (lets_allowed g, expr_allowed i)
-
-      args_allowed : {d n : ℕ} {tys : List ℕ} {xs : ExprTrees} {s t : Scope} {qs : TypedExprs} → ElaboratesArgs e flags d xs tys s qs t n → CallAlone (IsAllowed p flags) qs
-      args_allowed no_arg = tt
-      args_allowed (an_arg g i) = (expr_allowed g, args_allowed i)
-
-      lets_allowed : {d n : ℕ} {ls : LetTrees} {s t : Scope} {ds : TypedLets} → ElaboratesLets e flags d ls s ds t n → LetsCallAlone (IsAllowed p flags) ds
-      lets_allowed no_def = tt
-      lets_allowed (a_def i g k) = (expr_allowed g, lets_allowed k)
+  pub expr_allowed : (flags : Flags) {d n : ℕ} {ty : Option ℕ} {x : ExprTree} {s t : Scope} {q : TypedExpr} → ElaboratesExpr e flags d x ty s q t n → CallsAlone (IsAllowed p flags) q
+  expr_allowed flags g = expr_calls e flags (IsAllowed p flags) (λ name t n c. ap (λ m. allow flags (flags_of m)) (entry_at_id name t n) ∙ allowed_entry flags t c) g
 
   abbrev CallsAllowed : TypedRule → Type 0
   CallsAllowed q = CallsAlone (IsAllowed p (flags_of (kind p q.root_term))) q.rhs

@@ -9,7 +9,7 @@ use Rattle.isle_model.specs.lists.Tables.{Flags, TermEntry}
 use Rattle.isle_model.specs.rules.Values.{is_atom_type}
 use Rattle.isle_model.specs.sites.Serves.{constant_type}
 use Rattle.isle_model.specs.lists.Setting.{bool_type, expr_type, has_constructor, has_extractor}
-use Rattle.isle_model.specs.lists.Formed.{pattern_type, var_type, is_type, with_new, of_entry, where_bound, formed_pattern, formed_parts, formed_each, is_formed_expr, are_formed_args, formed_lets, formed_list, formed_iflets, is_formed_rule}
+use Rattle.isle_model.specs.lists.Formed.{pattern_type, var_type, is_type, with_new, of_entry, formed_pattern, formed_parts, formed_each, is_formed_expr, are_formed_args, formed_lets, formed_list, formed_iflets, is_formed_rule}
 use Rattle.isle_model.specs.rules.Typed.{TypedPattern, match_bind, match_var, match_bool, match_int, match_prim, match_term, match_any, match_and, TypedPatterns, no_typed_pattern, typed_pattern_and, TypedExpr, make_term, make_var, make_bool, make_int, make_prim, make_let, TypedExprs, no_typed_expr, typed_expr_and, TypedLets, no_typed_let, typed_let_and, TypedIfLet, TypedRule}
 use Rattle.isle_model.specs.sites.Sites.{is_present, SiteTerm, argument, extractor_call, constructor_call, pick_of, variant_field, struct_field, some_part, tuple_part, no_site, SiteTerms}
 use Rattle.isle_model.specs.sites.Demands.{demands_of, site_term_eq, Visit, visit_start, making, asking, equating, binding, or_no_site, var_site, Opened, output_sites, open_call, open_term, visit_pattern, visit_each, visit_all, Valued, ValuedAll, call_result, visit_call, visit_term, visit_expr, visit_exprs, visit_lets, unwraps, asking_all, visit_args, visit_iflets, finished, visit_rule}
@@ -19,6 +19,7 @@ use Rattle.isle_laws_demands.proofs.closure.VisitedRules.{visits_make_lem}
 use Rattle.isle_laws_demands.proofs.visits.Exprs.{from_vars}
 use Rattle.isle_laws_demands.proofs.visits.Patterns.{from_if, from_then, is_there, from_new, AsMany, as_many, in_numbers, output_count, term_known}
 use Rattle.isle_laws_demands.proofs.visits.Visited.{equated}
+use Rattle.isle_laws_demands.proofs.visits.RuleParts.{iflet_parts, rule_parts}
 
 abbrev IsSite : SiteTerm → Type 0
 IsSite u = u ≡ no_site → ⊥
@@ -301,18 +302,16 @@ args_bind p i (q ∷ qs) (ty ∷ tys) v vars more f h g =
 iflets_bind : (p : Program) (is : List TypedIfLet) (v : Visit) (vars more : List (ℕ × ℕ)) → formed_iflets p is vars ≡ Some more → BindsSites v → AreBound vars v → HasBound v (visit_iflets p is v) more
 iflets_bind p [] v vars more f h g = same_vars v v vars more (still_here v h) g f
 iflets_bind p (i ∷ is) v vars more f h g =
-    let a = from_if (is_formed_expr p i.rhs vars && (pattern_type i.lhs == expr_type i.rhs)) (then_option (formed_pattern p i.lhs vars) (λ after. formed_iflets p is after)) more f in
-    let c = and_parts (is_formed_expr p i.rhs vars) (pattern_type i.lhs == expr_type i.rhs) a.0 in
-    let b = from_then (formed_pattern p i.lhs vars) (λ after. formed_iflets p is after) more a.1 in
-    let x = expr_is_site p i.rhs v vars c.0 h g in
+    let a = iflet_parts p i is vars more f in
+    let x = expr_is_site p i.rhs v vars a.value h g in
     let s = (visit_expr p i.rhs v).site in
     let u = (visit_expr p i.rhs v).visit in
     let w = asking_all (unwraps s) u in
     let o = on_asking (unwraps s) u x.onward.sound in
     let l = then_on v u w x.onward o in
     let z = visit_pattern p i.lhs s w in
-    let r = pattern_binds p i.lhs s w vars b.0 b.1 x.site o.sound (bound_stay vars v w l g) in
-    then_bound v z (visit_iflets p is z) more (then_on v w z l r.onward) (iflets_bind p is z b.0 more b.2 r.onward.sound r.bound)
+    let r = pattern_binds p i.lhs s w vars a.mid a.pattern x.site o.sound (bound_stay vars v w l g) in
+    then_bound v z (visit_iflets p is z) more (then_on v w z l r.onward) (iflets_bind p is z a.mid more a.rest r.onward.sound r.bound)
 
 finished_binds : (b : Bool) (a : Valued) → BindsSites a.visit → BindsSites (finished b a).visit
 finished_binds false a h = h
@@ -320,16 +319,12 @@ finished_binds true a h = record { vars = h.vars; equal = h.equal }
 
 rule_binds : (p : Program) (r : TypedRule) → is_formed_rule p r ≡ true → BindsSites (visit_rule p r).visit
 rule_binds p r f =
-    let a = entry_there (slice_get p.terms r.root_term) (λ (t : TermEntry).
-    where_bound (then_option (formed_list p r.args t.arg_tys []) (formed_iflets p r.iflets)) (λ vars. (expr_type r.rhs == t.ret_ty) && is_formed_expr p r.rhs vars)) f in
-    let b = from_vars (then_option (formed_list p r.args a.0.arg_tys []) (formed_iflets p r.iflets)) (λ vars. (expr_type r.rhs == a.0.ret_ty) && is_formed_expr p r.rhs vars) a.2 in
-    let c = from_then (formed_list p r.args a.0.arg_tys []) (formed_iflets p r.iflets) b.0 b.1 in
-    let formed = and_parts (expr_type r.rhs == a.0.ret_ty) (is_formed_expr p r.rhs b.0) b.2 in
+    let a = rule_parts p r f in
     let u = visit_args p 0 r.args visit_start in
     let w = visit_iflets p r.iflets u in
-    let d = args_bind p 0 r.args a.0.arg_tys visit_start [] c.0 c.1 (record { vars = λ e i. absurd i; equal = λ e i. absurd i }) (λ x k. absurd (false≢true k)) in
-    let e = iflets_bind p r.iflets u c.0 b.0 c.2 d.onward.sound d.bound in
-    let x = expr_is_site p r.rhs w b.0 formed.1 e.onward.sound e.bound in
+    let d = args_bind p 0 r.args a.entry.arg_tys visit_start [] a.mid a.args (record { vars = λ e i. absurd i; equal = λ e i. absurd i }) (λ x k. absurd (false≢true k)) in
+    let e = iflets_bind p r.iflets u a.mid a.vars a.iflets d.onward.sound d.bound in
+    let x = expr_is_site p r.rhs w a.vars a.right e.onward.sound e.bound in
     finished_binds (is_partial p r.root_term) (visit_expr p r.rhs w) x.onward.sound
 
 only_made : (v : Visit) (s : SiteTerm) → Contains v.demands.made s ⊎ (s ≡ no_site) → IsSite s → Contains v.demands.made s

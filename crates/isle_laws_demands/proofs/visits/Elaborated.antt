@@ -1,23 +1,24 @@
 -- Rules that elaborate demand their gates: they hang together, and their if-lets call pure terms alone.
-use Rattle.std.proofs.Common.{◌≡◌, ℕ, ℤ, pos, unwrap_or, Bool, true, not, ◌&&◌, ◌||◌, List, map, Option, Some, None, option_map, is_some, slice_get, Contains, refl, sym, ap, subst, inl, inr, ◌∙◌}
+use Rattle.std.proofs.Common.{◌≡◌, ℕ, ℤ, pos, unwrap_or, Bool, true, not, ◌&&◌, ◌||◌, List, map, Option, Some, None, option_map, is_some, slice_get, IsTrue, Contains, refl, sym, ap, subst, inl, inr, ◌∙◌}
 use Rattle.std.proofs.lemmas.Bool.{and_parts, false≢true}
 use Rattle.std.proofs.lemmas.Option.{none-some, same_Some}
-use Rattle.isle_model.specs.lists.Syntax.{Definition, ExprTree, ExprTrees, LetTrees, IfLetTree, RuleTree}
+use Rattle.isle_model.specs.lists.Syntax.{Definition, IfLetTree, RuleTree}
 use Rattle.isle_model.specs.lists.Tables.{Flags, TermEntry, TermKindEntry, variant_term, struct_term, declared_term}
 use Rattle.isle_model.specs.lists.Elaborated.{named_rule, TypedRules, may_have_priority, typed_rules, named}
 use Rattle.isle_model.specs.rules.Program.{Program, Kind, a_variant, a_struct, a_call, unknown, kind_of, always_answers, flags_of, is_multi, is_pure}
-use Rattle.isle_model.specs.rules.Typed.{TypedExpr, TypedExprs, TypedLets, TypedIfLet, TypedRule}
+use Rattle.isle_model.specs.rules.Typed.{TypedIfLet, TypedRule}
 use Rattle.isle_model.specs.lists.Setting.{Setting, Scope, entry_named, is_callable, on_lhs, allow, declared_flags}
-use Rattle.isle_model.specs.lists.Elaborates.{ElaboratesExpr, ElaboratesArgs, ElaboratesLets, a_call, converted_call, a_variable, converted_variable, truth_expr, integer_expr, constant_expr, let_in, no_arg, an_arg, no_def, a_def, ElaboratesIfLets, no_iflet, an_iflet, ElaboratesRule, a_rule, ElaboratesRules, no_rule, one_rule}
+use Rattle.isle_model.specs.lists.Elaborates.{a_call, ElaboratesIfLets, no_iflet, an_iflet, ElaboratesRule, a_rule, ElaboratesRules, no_rule, one_rule}
 use Rattle.isle_laws_lists.specs.TypingLaws.{ListsAgree}
 use Rattle.isle_model.specs.lists.Formed.{is_formed_rule, program_in, RulesAreFormed}
 use Rattle.isle_laws_lists.proofs.TermLaws.{terms_stand_at_ids_lem}
 use Rattle.isle_model.specs.lists.TermTable.{term_names_met, rule_trees}
 use Rattle.isle_model.specs.claims.Environments.{TypesRead, setting_of, IsElaborated, program_of}
 use Rattle.isle_model.proofs.Elements.{In, in_from_contains, in_map}
-use Rattle.isle_model.specs.sites.DemandedGates.{IsPureExpr, ArePureExprs, ArePureLets, ArePureIfLets, DemandsGates}
+use Rattle.isle_model.specs.sites.DemandedGates.{ArePureIfLets, DemandsGates}
 use Rattle.isle_laws_lists.proofs.FormedRules.{named_at}
 use Rattle.isle_laws_demands.proofs.visits.Rules.{formed_rules_demand_gates_lem}
+use Rattle.isle_laws_demands.proofs.visits.ElaboratedCalls.{expr_calls}
 
 -- what pure flags allow is pure
 allowed_pure : (flags : Flags) → flags.pure ≡ true → (t : TermEntry) → is_callable flags t.kind ≡ true → (flags_of (kind_of t)).pure ≡ true
@@ -64,29 +65,9 @@ module _ (e : Setting) (rules : List TypedRule) (at_ids : (k : ℕ) (t : TermEnt
       let at : slice_get e.terms t.id ≡ Some t = subst (λ k. slice_get e.terms k ≡ Some t) (sym (at_ids r.0 t r.1)) r.1 in
       ap (λ o. (flags_of (elim o as (λ _. Kind) [ None ↦ unknown | Some x ↦ kind_of x ])).pure) at ∙ allowed_pure flags h t c
 
-  module _ (flags : Flags) (h : flags.pure ≡ true) where
-    mutual
-      expr_pure : {d n : ℕ} {ty : Option ℕ} {x : ExprTree} {s t : Scope} {q : TypedExpr} → ElaboratesExpr e flags d x ty s q t n → IsPureExpr p q
-      expr_pure (a_call {entry = entry} i j k g) = (pure_at_id flags h _ entry i k, args_pure g)
-      expr_pure (converted_call i j k g) = expr_pure g
-      expr_pure (a_variable i j) = tt
-      expr_pure (converted_variable i j k g) = expr_pure g
-      expr_pure (truth_expr i) = tt
-      expr_pure (integer_expr i) = tt
-      expr_pure (constant_expr i j) = tt
-      expr_pure (let_in g i) = (lets_pure g, expr_pure i)
-
-      args_pure : {d n : ℕ} {tys : List ℕ} {xs : ExprTrees} {s t : Scope} {qs : TypedExprs} → ElaboratesArgs e flags d xs tys s qs t n → ArePureExprs p qs
-      args_pure no_arg = tt
-      args_pure (an_arg g i) = (expr_pure g, args_pure i)
-
-      lets_pure : {d n : ℕ} {ls : LetTrees} {s t : Scope} {ds : TypedLets} → ElaboratesLets e flags d ls s ds t n → ArePureLets p ds
-      lets_pure no_def = tt
-      lets_pure (a_def i g k) = (expr_pure g, lets_pure k)
-
   iflets_pure : (flags : Flags) {d n : ℕ} {is : List IfLetTree} {s t : Scope} {qs : List TypedIfLet} → ElaboratesIfLets e flags d is s qs t n → ArePureIfLets p qs
   iflets_pure flags no_iflet = tt
-  iflets_pure flags (an_iflet g i k) = (expr_pure (on_lhs flags) refl g, iflets_pure flags k)
+  iflets_pure flags (an_iflet g i k) = (expr_calls e (on_lhs flags) (λ t. IsTrue (is_pure p t)) (pure_at_id (on_lhs flags) refl) g, iflets_pure flags k)
 
   rule_pure : {d id n : ℕ} {r : RuleTree} {names : List (List ℕ)} {q : TypedRule} {t : Scope} → ElaboratesRule e d id r names q t n → ArePureIfLets p q.iflets
   rule_pure (a_rule {flags = flags} i j k l f g x) = iflets_pure flags g

@@ -60,26 +60,27 @@ no_answer : (asked : Bool) (w : Visit) (call : SiteTerm) → (asked ≡ true →
 no_answer true w call h = absurd (false≢true (sym (h refl)))
 no_answer false w call h = tt
 
+-- a call that is gone over, and what its answers are taken by
+taken_over : (asked pure : Bool) (call result : SiteTerm) (sites : List SiteTerm) (v : Visit) → Good asked pure v call
+    → (Good asked pure (iterating call (making sites v)) call → Good asked pure (iterating call (making sites v)) result)
+    → IsCalled asked pure v (valued result (iterating call (making sites v)))
+taken_over asked pure call result sites v g taken =
+    let w = making sites v in
+    let good = good_stays w (iterating call w) (later_iterating call w) asked pure call g in
+    record {
+      later = then_later v w (iterating call w) (later_making sites v) (later_iterating call w);
+      binds = refl;
+      site = taken good;
+      calls = one_call asked pure call w good;
+    }
+
 gone_over : (asked pure p m q r : Bool) (call : SiteTerm) (v : Visit) → (asked ≡ true → q ≡ false) → Good asked pure v call
     → IsCalled asked pure v (valued (call_result (record { pure = p; multi = m; partial = q; rec = r }) call) (where_multi (record { pure = p; multi = m; partial = q; rec = r }) call (making (call_sites (record { pure = p; multi = m; partial = q; rec = r }) call) v)))
 gone_over asked pure p true true r call v h g =
-    let w = making (call ∷ (some_part call ∷ [])) v in
-    let good = good_stays w (iterating call w) (later_iterating call w) asked pure call g in
-    record {
-      later = then_later v w (iterating call w) (later_making (call ∷ (some_part call ∷ [])) v) (later_iterating call w);
-      binds = refl;
-      site = (no_answer asked (iterating call w) call h, good);
-      calls = one_call asked pure call w good;
-    }
+    let sites = call ∷ (some_part call ∷ []) in
+    taken_over asked pure call (some_part call) sites v g (λ good. (no_answer asked (iterating call (making sites v)) call h, good))
 gone_over asked pure p true false r call v h g =
-    let w = making (call ∷ (pick_of call ∷ [])) v in
-    let good = good_stays w (iterating call w) (later_iterating call w) asked pure call g in
-    record {
-      later = then_later v w (iterating call w) (later_making (call ∷ (pick_of call ∷ [])) v) (later_iterating call w);
-      binds = refl;
-      site = (at_right v.demands.iterators call, good);
-      calls = one_call asked pure call w good;
-    }
+    taken_over asked pure call (pick_of call) (call ∷ (pick_of call ∷ [])) v g (λ good. (at_right v.demands.iterators call, good))
 gone_over asked pure p false true r call v h g =
     record { later = later_making (call ∷ (some_part call ∷ [])) v; binds = refl; site = (no_answer asked v call h, g); calls = no_call asked pure v }
 gone_over asked pure p false false r call v h g = record { later = later_making (call ∷ []) v; binds = refl; site = g; calls = no_call asked pure v }

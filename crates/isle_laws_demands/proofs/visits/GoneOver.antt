@@ -1,52 +1,47 @@
 -- The calls that a rule goes over: their gates are demanded, but for multi calls of if-lets whose values take no answer
 -- of them.
-use Rattle.std.proofs.Common.{◌≡◌, ◌⊎◌, ℕ, ◌==◌, Bool, true, false, not, ◌&&◌, List, [], ◌∷◌, ◌++◌, Some, slice_get, filter, refl, sym, ap, subst, inl, inr, ◌∙◌}
+use Rattle.std.proofs.Common.{◌≡◌, ◌⊎◌, ℕ, Bool, true, false, not, List, [], ◌∷◌, ◌++◌, Some, filter, refl, sym, ap, subst, inl, inr, ◌∙◌}
 use Rattle.std.proofs.lemmas.Bool.{cases_Bool, and_parts, false≢true}
 use Rattle.std.specs.List.{list_all}
-use Rattle.isle_model.specs.rules.Outcome.{then_option}
-use Rattle.isle_model.specs.lists.Tables.{TermEntry}
 use Rattle.isle_model.specs.rules.Program.{Program, is_partial}
 use Rattle.isle_model.specs.sites.Sites.{SiteTerm}
 use Rattle.isle_model.specs.rules.Typed.{TypedIfLet, TypedRule}
 use Rattle.isle_model.specs.sites.Demands.{demands_of, result_of, Visit, visit_start, visit_pattern, Valued, visit_expr, unwraps, asking_all, visit_args, visit_iflets, finished, has_site, var_site}
 use Rattle.isle_model.specs.trees.Collects.{afresh, calls_in, iflets_need_calls}
 use Rattle.isle_model.specs.claims.SetMeanings.{calls_left, calls_left_by}
-use Rattle.isle_model.specs.lists.Setting.{expr_type}
-use Rattle.isle_model.specs.lists.Formed.{pattern_type, where_bound, formed_pattern, is_formed_expr, formed_list, formed_iflets, is_formed_rule}
+use Rattle.isle_model.specs.lists.Formed.{is_formed_expr, formed_iflets, is_formed_rule}
 use Rattle.isle_model.proofs.Elements.{In, in_left, in_right, in_either, all_in, in_filter, filter_from, passed_filter}
 use Rattle.isle_model.specs.sites.DemandedGates.{GatesDemanded, IsPureExpr, ArePureIfLets}
 use Rattle.isle_model.proofs.SitesMade.{has_in}
 use Rattle.isle_laws_demands.proofs.visits.Afresh.{AreAlike, asked_alike, asked_iterators, pattern_alike, AreValuedAlike, expr_alike}
 use Rattle.isle_laws_demands.proofs.visits.Calls.{CallsAlone}
-use Rattle.isle_laws_demands.proofs.visits.Exprs.{from_entry, from_vars, IsTotal, expr_valued_by, expr_valued}
+use Rattle.isle_laws_demands.proofs.visits.Exprs.{IsTotal, expr_valued_by, expr_valued}
 use Rattle.isle_laws_demands.proofs.visits.Gates.{unpurified, gates_of_taken}
 use Rattle.isle_laws_demands.proofs.visits.PatternCalls.{Adds, still_tested, pattern_adds, args_add}
-use Rattle.isle_laws_demands.proofs.visits.Patterns.{from_if, from_then}
 use Rattle.isle_laws_demands.proofs.visits.RightSides.{IsSingle, expr_single, expr_quiet}
-use Rattle.isle_laws_demands.proofs.visits.Rules.{IsPast, args_past, less_good, iflet_tested, iflet_past, iflets_past}
+use Rattle.isle_laws_demands.proofs.visits.Rules.{IsPast, sides_past, less_good, iflet_tested, iflet_past, iflets_past}
 use Rattle.isle_laws_demands.proofs.visits.Visited.{Good, MayTest, good_stays, AreGood}
+use Rattle.isle_laws_demands.proofs.visits.RuleParts.{iflet_parts, rule_parts}
 
 -- 1. if-lets
 iflets_calls : (p : Program) (is : List TypedIfLet) (v v' : Visit) (vars more : List (ℕ × ℕ)) → formed_iflets p is vars ≡ Some more → ArePureIfLets p is → AreGood true true vars v → AreAlike v v'
     → (u : SiteTerm) → In (visit_iflets p is v).demands.iterators u → In v.demands.iterators u ⊎ (In (calls_left p is v') u ⊎ MayTest (visit_iflets p is v) u)
 iflets_calls p [] v v' vars more f h g alike u k = inl k
 iflets_calls p (i ∷ is) v v' vars more f h g alike u k =
-    let a = from_if (is_formed_expr p i.rhs vars && (pattern_type i.lhs == expr_type i.rhs)) (then_option (formed_pattern p i.lhs vars) (λ after. formed_iflets p is after)) more f in
-    let c = and_parts (is_formed_expr p i.rhs vars) (pattern_type i.lhs == expr_type i.rhs) a.0 in
-    let b = from_then (formed_pattern p i.lhs vars) (λ after. formed_iflets p is after) more a.1 in
+    let a = iflet_parts p i is vars more f in
     let x = visit_expr p i.rhs v in
     let y = visit_expr p i.rhs (afresh v') in
     let w = asking_all (unwraps x.site) x.visit in
     let z = visit_pattern p i.lhs x.site w in
     let z' = visit_pattern p i.lhs y.site y.visit in
-    let r = iflet_past p i v vars b.0 c.0 h.0 b.1 g in
+    let r = iflet_past p i v vars a.value h.0 g a.mid a.pattern in
     let same : AreValuedAlike v (afresh v') x y = expr_alike p i.rhs v (afresh v') (record { vars = alike.vars; impure_calls = alike.impure_calls }) in
     let after : AreAlike z z' =
     subst (λ t. AreAlike z (visit_pattern p i.lhs t y.visit)) same.site (pattern_alike p i.lhs x.site w y.visit (asked_alike (unwraps x.site) x.visit y.visit same.same.after)) in
-    in_rest p i is v v' x y same w (iflet_tested p i v vars c.0 h.0 g) u
+    in_rest p i is v v' x y same w (iflet_tested p i v vars a.value h.0 g) u
     (subst (λ l. In l u) (asked_iterators (unwraps x.site) x.visit))
-    (iflets_past p is z b.0 more b.2 h.1 r.good)
-    (iflets_calls p is z z' b.0 more b.2 h.1 r.good after u k)
+    (iflets_past p is z a.mid more a.rest h.1 r.good)
+    (iflets_calls p is z z' a.mid more a.rest h.1 r.good after u k)
   where
     in_rest : (p : Program) (i : TypedIfLet) (is : List TypedIfLet) (v v' : Visit) (x y : Valued) → AreValuedAlike v (afresh v') x y
         → (w : Visit) → MayTest w x.site → (u : SiteTerm) → (In w.demands.iterators u → In x.visit.demands.iterators u)
@@ -116,20 +111,16 @@ record IsBeforeRight (p : Program) (r : TypedRule) : Type 0 where
 
 is_before_right : (p : Program) (r : TypedRule) → is_formed_rule p r ≡ true → ArePureIfLets p r.iflets → IsBeforeRight p r
 is_before_right p r f h =
-    let a = from_entry (slice_get p.terms r.root_term) (λ (t : TermEntry).
-    where_bound (then_option (formed_list p r.args t.arg_tys []) (formed_iflets p r.iflets)) (λ vars. (expr_type r.rhs == t.ret_ty) && is_formed_expr p r.rhs vars)) f in
-    let b = from_vars (then_option (formed_list p r.args a.0.arg_tys []) (formed_iflets p r.iflets)) (λ vars. (expr_type r.rhs == a.0.ret_ty) && is_formed_expr p r.rhs vars) a.1 in
-    let c = from_then (formed_list p r.args a.0.arg_tys []) (formed_iflets p r.iflets) b.0 b.1 in
+    let a = rule_parts p r f in
     let u = visit_args p 0 r.args visit_start in
     let w = visit_iflets p r.iflets u in
-    let d = args_past p 0 r.args a.0.arg_tys visit_start [] c.0 c.1 (λ x k. absurd (false≢true k)) in
-    let e = iflets_past p r.iflets u c.0 b.0 c.2 h d.good in
+    let sides = sides_past p r a h in
     record {
-      vars = b.0;
-      formed = (and_parts (expr_type r.rhs == a.0.ret_ty) (is_formed_expr p r.rhs b.0) b.2).1;
-      good = e.good;
-      calls = λ s i. elim (iflets_calls p r.iflets u u c.0 b.0 c.2 h d.good (record { vars = refl; impure_calls = refl }) s i) [
-        | inl j ↦ elim ((args_add p 0 r.args visit_start).fresh s j) [ inl n ↦ absurd n | inr m ↦ inr (good_stays u w e.later true true s m) ]
+      vars = a.vars;
+      formed = a.right;
+      good = sides.iflets.good;
+      calls = λ s i. elim (iflets_calls p r.iflets u u a.mid a.vars a.iflets h sides.args.good (record { vars = refl; impure_calls = refl }) s i) [
+        | inl j ↦ elim ((args_add p 0 r.args visit_start).fresh s j) [ inl n ↦ absurd n | inr m ↦ inr (good_stays u w sides.iflets.later true true s m) ]
         | inr j ↦ j
       ];
     }

@@ -1,12 +1,12 @@
 -- What patterns constrain and equate may be tested, and so may what their variables stand for.
-use Rattle.std.proofs.Common.{◌≡◌, ℕ, suc, ◌+◌, ◌==◌, ◌<◌, Bool, true, false, ◌&&◌, if◌then◌else◌, List, [], ◌∷◌, Option, Some, None, is_some, is_none, slice_get, refl, sym, ap, subst, inl, inr, ◌∙◌, arith}
+use Rattle.std.proofs.Common.{◌≡◌, ℕ, suc, ◌+◌, ◌==◌, ◌<◌, Bool, true, false, ◌&&◌, if◌then◌else◌, List, [], ◌∷◌, Option, Some, None, is_some, is_none, slice_get, Contains, refl, sym, ap, subst, inl, inr, ◌∙◌, arith}
 use Rattle.std.proofs.lemmas.Bool.{false≢true}
 use Rattle.isle_model.specs.rules.Outcome.{then_option}
 use Rattle.isle_model.specs.rules.Values.{is_atom_type}
 use Rattle.isle_model.specs.lists.Tables.{TermEntry, TermKindEntry, variant_term, struct_term, declared_term}
 use Rattle.isle_model.specs.rules.Program.{Program, Kind, a_variant, a_struct, a_call, unknown, kind_of, kind, always_answers}
 use Rattle.isle_model.specs.sites.Serves.{constant_type}
-use Rattle.isle_model.specs.sites.Sites.{is_variant, is_struct, is_bool, is_int, is_prim, is_present, SiteTerm, extractor_call, pick_of, variant_field, struct_field, some_part, tuple_part}
+use Rattle.isle_model.specs.sites.Sites.{Constraint, is_variant, is_struct, is_bool, is_int, is_prim, is_present, SiteTerm, extractor_call, pick_of, variant_field, struct_field, some_part, tuple_part}
 use Rattle.isle_model.specs.rules.Typed.{TypedPattern, match_bind, match_var, match_bool, match_int, match_prim, match_term, match_any, match_and, TypedPatterns, no_typed_pattern, typed_pattern_and}
 use Rattle.isle_model.specs.sites.Demands.{Visit, making, asking, equating, iterating, binding, var_site, from_to, pattern_count, Opened, opened, output_sites, part_sites, open_call, open_term, visit_pattern, visit_each, visit_all}
 use Rattle.isle_model.specs.lists.Setting.{bool_type, has_extractor}
@@ -96,35 +96,31 @@ call_opened pure false partial rec false t s args v m =
     (then_later v made (asking call is_present made) (later_making (call ∷ (some_part call ∷ [])) v) (later_asking call is_present made m)) refl
     (at_right v.demands.constraints (call, is_present), good_stays made (asking call is_present made) (later_asking call is_present made m) true true call m)
 
+-- a site that is asked for fields
+fields_opened : (field : ℕ → SiteTerm) (c : Constraint) (s : SiteTerm) (args : TypedPatterns) (v : Visit) → MayTest v s
+    → ((w : Visit) (i : ℕ) → Contains w.demands.constraints (s, c) → i < pattern_count args → MayTest w s → MayTest w (field i))
+    → IsOpened v (opened (from_to field 0 args) (asking s c (making (from_to field 0 args) v))) args
+fields_opened field c s args v m tested =
+    let fields = from_to field 0 args in
+    let w = asking s c (making fields v) in
+    let l = later_asking s c (making fields v) m in
+    record {
+      later = then_later v (making fields v) w (later_making fields v) l;
+      binds = refl;
+      inputs = λ u i.
+          let k = in_numbers field 0 args u i in
+          subst (MayTest w) k.2
+          (tested w k.0 (at_right v.demands.constraints (s, c)) (let l : k.0 < 0 + pattern_count args = k.1 in omega arith) (good_stays (making fields v) w l true true s m));
+      count = as_many field 0 args;
+    }
+
 pub term_opened : (k : Kind) (t : ℕ) (s : SiteTerm) (args : TypedPatterns) (v : Visit) → (k ≡ unknown → ⊥) → MayTest v s → IsOpened v (open_term k t s args v) args
 term_opened (a_variant ty variant) t s args v known m =
-    let fields = from_to (variant_field s variant) 0 args in
-    let c = is_variant ty variant (pattern_count args) in
-    let w = asking s c (making fields v) in
-    let l = later_asking s c (making fields v) m in
-    record {
-      later = then_later v (making fields v) w (later_making fields v) l;
-      binds = refl;
-      inputs = λ u i.
-          let k = in_numbers (variant_field s variant) 0 args u i in
-          subst (MayTest w) k.2
-          (record { ty = ty; fields = pattern_count args; asked = at_right v.demands.constraints (s, c); many = let l : k.0 < 0 + pattern_count args = k.1 in omega arith }, good_stays (making fields v) w l true true s m);
-      count = as_many (variant_field s variant) 0 args;
-    }
+    fields_opened (variant_field s variant) (is_variant ty variant (pattern_count args)) s args v m
+    (λ w i asked many good. (record { ty = ty; fields = pattern_count args; asked = asked; many = many }, good))
 term_opened (a_struct ty) t s args v known m =
-    let fields = from_to (struct_field s) 0 args in
-    let c = is_struct ty (pattern_count args) in
-    let w = asking s c (making fields v) in
-    let l = later_asking s c (making fields v) m in
-    record {
-      later = then_later v (making fields v) w (later_making fields v) l;
-      binds = refl;
-      inputs = λ u i.
-          let k = in_numbers (struct_field s) 0 args u i in
-          subst (MayTest w) k.2
-          (record { ty = ty; fields = pattern_count args; asked = at_right v.demands.constraints (s, c); many = let l : k.0 < 0 + pattern_count args = k.1 in omega arith }, good_stays (making fields v) w l true true s m);
-      count = as_many (struct_field s) 0 args;
-    }
+    fields_opened (struct_field s) (is_struct ty (pattern_count args)) s args v m
+    (λ w i asked many good. (record { ty = ty; fields = pattern_count args; asked = asked; many = many }, good))
 term_opened (a_call flags infallible) t s args v known m = call_opened flags.pure flags.multi flags.partial flags.rec infallible t s args v m
 term_opened unknown t s args v known m = absurd (known refl)
 

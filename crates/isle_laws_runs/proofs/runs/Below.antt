@@ -35,7 +35,7 @@ module _ (sites : List Site) (before : SourcesBefore sites) where
   below_more zero u l = absurd (omega arith)
   below_more (suc n) u l = ap (λ xs. u ∷ xs) (flat_map_same (below (suc n) sites) (below n sites) (sources_at sites u) (λ x c. let m = before u x c in below_more n x (omega arith)))
 
-  below_enough : (n u : ℕ) → u < n → below n sites u ≡ below (suc u) sites u
+  pub below_enough : (n u : ℕ) → u < n → below n sites u ≡ below (suc u) sites u
   below_enough zero u l = absurd (omega arith)
   below_enough (suc n) u l =
       elim (cases_lt u n) [

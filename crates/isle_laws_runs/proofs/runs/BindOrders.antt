@@ -23,7 +23,7 @@ after_bound w ss ts (all_bound env calls) go h = h env calls
 after_bound w ss ts (unwrap_failed calls) go h = refl
 after_bound w ss ts (no_content_there calls) go h = refl
 
-bind_append : (w : World) (ss ts : List ℕ) (env : Env) (calls : List Call) → bind_all w env calls (ss ++ ts) ≡ then_bind (bind_all w env calls ss) (λ env' calls'. bind_all w env' calls' ts)
+pub bind_append : (w : World) (ss ts : List ℕ) (env : Env) (calls : List Call) → bind_all w env calls (ss ++ ts) ≡ then_bind (bind_all w env calls ss) (λ env' calls'. bind_all w env' calls' ts)
 bind_append w [] ts env calls = refl
 bind_append w (s ∷ ss) ts env calls =
     after_bound w ss ts (bind_site w env calls s (slice_get w.sites s)) (λ env' calls'. bind_all w env' calls' (ss ++ ts)) (λ env' calls'. bind_append w ss ts env' calls')

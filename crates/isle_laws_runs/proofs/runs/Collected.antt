@@ -37,12 +37,12 @@ zero_plus : (n : ℕ) → 0 + n ≡ n
 zero_plus n = omega arith
 
 -- pure sites
-pure_site : (b : Site) → calls_nothing (Some b) ≡ true → IsPureSite b
+pub pure_site : (b : Site) → calls_nothing (Some b) ≡ true → IsPureSite b
 pure_site (constructor_site term sources zero) h = tt
 pure_site (constructor_site term sources (suc instance)) h = absurd (false≢true h)
 pure_site _ h = tt
 
-nothing_called : (b : Site) → IsPureSite b → calls_nothing (Some b) ≡ true
+pub nothing_called : (b : Site) → IsPureSite b → calls_nothing (Some b) ≡ true
 nothing_called (constructor_site term sources zero) h = refl
 nothing_called (constructor_site term sources (suc instance)) h = absurd h
 nothing_called _ h = refl

@@ -7,6 +7,7 @@ use Rattle.isle_model.specs.sites.Sites.{Site, iterator_site, match_variant_site
 use Rattle.isle_model.specs.trees.Places.{waits, is_variant_field, is_struct_field, is_part_of, site_from, each_field, fields_of, field_sites}
 use Rattle.isle_model.proofs.Members.{in_head, in_tail, one_passes, member_found}
 use Rattle.isle_model.specs.sites.Gates.{asks_answer, asks_struct, asks_variant, gate_demanded}
+use Rattle.isle_model.proofs.SameSites.{parts_mean}
 
 -- 1. the first site that passes
 plus_zero : (n : ℕ) → n ≡ n + 0
@@ -56,12 +57,9 @@ module _ (p : Site → Bool) where
 -- 2. which site a field's is
 pub variant_field_same : (s v i : ℕ) (b : Site) → is_variant_field s v i b ≡ true → b ≡ match_variant_site s v i
 variant_field_same s v i (match_variant_site source w field) h =
-    let q = and_parts ((source == s) && (w == v)) (field == i) h in
-    let r = and_parts (source == s) (w == v) q.0 in
-    let x = eqb-true source s r.0 in
-    let y = eqb-true w v r.1 in
-    let z = eqb-true field i q.1 in
-    λ k. match_variant_site (x k) (y k) (z k)
+    let q = parts_mean source s w v (field == i) h in
+    let z = eqb-true field i q.2 in
+    λ k. match_variant_site (q.0 k) (q.1 k) (z k)
 variant_field_same s v i _ h = absurd (false≢true h)
 
 pub struct_field_same : (s i : ℕ) (b : Site) → is_struct_field s i b ≡ true → b ≡ extract_struct_site s i

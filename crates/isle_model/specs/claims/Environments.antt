@@ -1,10 +1,10 @@
 -- What a list of definitions becomes before its rules are compared: the tables and the typed rules, and which lists
 -- have them.
-use Rattle.std.specs.Prelude.{◌≡◌, ℕ, ◌<◌, Bool, true, ◌&&◌, List, [], length, Option, Some, None, option_map, All, map, slice_get, take}
+use Rattle.std.specs.Prelude.{◌≡◌, ℕ, ◌<◌, Bool, true, ◌&&◌, List, [], ◌++◌, length, Option, Some, None, option_map, All, map, slice_get}
 use Rattle.std.specs.Bool.{◌==◌}
 use Rattle.std.specs.List.{enumerate_from, filter_map}
 use Rattle.isle_model.specs.lists.Syntax.{Definition, RuleTree}
-use Rattle.isle_model.specs.lists.Names.{number}
+use Rattle.isle_model.specs.lists.Names.{number, number_if_met, AreNumbersOf}
 use Rattle.isle_model.specs.rules.Meaning.{look}
 use Rattle.isle_model.specs.lists.Tables.{VariantEntry, TypeEntry, builtin_type, primitive_type, enum_type, struct_type, TermEntry}
 use Rattle.isle_model.specs.rules.Typed.{TypedRule}
@@ -13,7 +13,7 @@ use Rattle.isle_model.specs.lists.TermTable.{rule_trees, IsValidTerms, AllDefine
 use Rattle.isle_model.specs.lists.TypeTable.{IsValidTypes, all_type_names, type_table, type_names_met, constant_types}
 use Rattle.isle_model.specs.lists.KnownTypes.{KnownTypes, types_of, IsWellFormed}
 use Rattle.isle_model.specs.lists.Setting.{Setting}
-use Rattle.isle_model.specs.lists.Elaborated.{TypedRules, RulesElaborate, typed_rules, few_enough, elaborated_rule, most_nested}
+use Rattle.isle_model.specs.lists.Elaborated.{TypedRules, RulesElaborate, few_enough, elaborated_rule, most_nested}
 
 -- the types that terms and rules are read with, and the types of the constants by the numbers of their names
 pub record TypesRead : Type 0 where
@@ -75,23 +75,14 @@ pub record IsRead (defs : List Definition) (expand : Bool) (rules : TypedRules) 
 abbrev pub program_of : TypesRead → List Definition → List TypedRule → Program
 program_of e defs rules = record { types = e.known.types; constants = e.constants; terms = term_table e.known defs; rules = rules }
 
--- the names met before the rule at a place of a list. Where a rule before has no typed rule, the names of the terms:
--- more names change the numbers of later ones, and nothing else
-abbrev pub names_of_read : List (List ℕ) → Option TypedRules → List (List ℕ)
-names_of_read none None = none
-names_of_read none (Some l) = l.names
-
-abbrev pub names_before : TypesRead → List Definition → Bool → ℕ → List (List ℕ)
-names_before e defs expand id =
-    names_of_read (term_names_met e.known defs) (typed_rules (setting_of e defs expand) 0 (take id (rule_trees defs)) (term_names_met e.known defs))
-
 -- the limit on nesting is passed only where the terms are valid, in a rule that has no typed rule with at most 256
--- expansions nested in one another. A rule that has none at all counts too
+-- expansions nested in one another. A rule that has none at all counts too. Names that rules before it met change the
+-- numbers of later ones, and nothing else, so it is read from the names of the terms
 pub record PassesNesting (e : TypesRead) (defs : List Definition) (expand : Bool) (id : ℕ) : Type 0 where
   pub terms : IsValidTerms e.known defs
   pub rule : RuleTree
   pub here : slice_get (rule_trees defs) id ≡ Some rule
-  pub none : elaborated_rule (setting_of e defs expand) most_nested id rule (names_before e defs expand id) ≡ None
+  pub none : elaborated_rule (setting_of e defs expand) most_nested id rule (term_names_met e.known defs) ≡ None
 
 -- the limit on expansions is passed only where the terms are valid, in a rule that has no typed rule of at most 65,536
 -- expansions, however many may nest
@@ -99,26 +90,58 @@ pub record PassesExpansions (e : TypesRead) (defs : List Definition) (expand : B
   pub terms : IsValidTerms e.known defs
   pub rule : RuleTree
   pub here : slice_get (rule_trees defs) id ≡ Some rule
-  pub none : (d : ℕ) → few_enough (elaborated_rule (setting_of e defs expand) d id rule (names_before e defs expand id)) ≡ None
+  pub none : (d : ℕ) → few_enough (elaborated_rule (setting_of e defs expand) d id rule (term_names_met e.known defs)) ≡ None
 
--- two lists of entries answer alike at every key
-abbrev pub AnswerAlike : List (ℕ × ℕ) → List (ℕ × ℕ) → Type 0
-AnswerAlike xs ys = (k : ℕ) → look (λ n. n == k) xs ≡ look (λ n. n == k) ys
+-- a look-up answers at every key as the first entry of a list
+abbrev pub AnswersBy : (ℕ → Option ℕ) → List (ℕ × ℕ) → Type 0
+AnswersBy answer xs = (k : ℕ) → answer k ≡ look (λ n. n == k) xs
 
-abbrev pub ConvertAlike : List ((ℕ × ℕ) × ℕ) → List ((ℕ × ℕ) × ℕ) → Type 0
-ConvertAlike xs ys = (i o : ℕ) → look (λ k. (k.0 == i) && (k.1 == o)) xs ≡ look (λ k. (k.0 == i) && (k.1 == o)) ys
+abbrev pub ConvertsBy : (ℕ → ℕ → Option ℕ) → List ((ℕ × ℕ) × ℕ) → Type 0
+ConvertsBy answer xs = (i o : ℕ) → answer i o ≡ look (λ k. (k.0 == i) && (k.1 == o)) xs
 
 -- the number of the name of each type, with its id
 abbrev pub numbered : List (List ℕ) → List (List ℕ) → List (ℕ × ℕ)
 numbered names xs = map (λ p. (number names p.1, p.0)) (enumerate_from 0 xs)
 
+-- what a type environment shows: the names by number, and the number that is looked up for a text; the types by id; the
+-- type and the constant's type that are looked up for the number of a name; how many errors it keeps
+pub record TypeEnvironment : Type 0 where
+  pub names : List (List ℕ)
+  pub number_of : List ℕ → Option ℕ
+  pub types : List TypeEntry
+  pub type_of : ℕ → Option ℕ
+  pub constant_type_of : ℕ → Option ℕ
+  pub errors : ℕ
+
+-- it is one that terms and rules are read with as these types: its look-ups of names find each one at its place and no other
+-- text, those of types and constants answer by them, and it keeps no error
+pub record IsReadAs (env : TypeEnvironment) (e : TypesRead) : Type 0 where
+  pub names : env.names ≡ e.known.names
+  pub inverse : AreNumbersOf env.names env.number_of
+  pub types : env.types ≡ e.known.types
+  pub look_ups : AnswersBy env.type_of (numbered e.known.names e.known.type_names)
+  pub constants : AnswersBy env.constant_type_of e.constants
+  pub no_errors : env.errors ≡ 0
+
+-- one that shows them
+abbrev pub environment_of : TypesRead → TypeEnvironment
+environment_of e = record {
+  names = e.known.names;
+  number_of = number_if_met e.known.names;
+  types = e.known.types;
+  type_of = λ k. look (λ n. n == k) (numbered e.known.names e.known.type_names);
+  constant_type_of = λ k. look (λ n. n == k) e.constants;
+  errors = 0;
+}
+
+-- the same types and constants with these names: the names go on, and all else stays as it was
+abbrev pub with_read_names : TypesRead → List (List ℕ) → TypesRead
+with_read_names e names = record e { known = record e.known { names = names } }
+
 -- what reading the types of a list gives. It is refused exactly where the list isn't valid
-pub record AreTypesOf (defs : List Definition) (types : List TypeEntry) (names : List (List ℕ)) (type_map constants : List (ℕ × ℕ)) : Type 0 where
+pub record AreTypesOf (defs : List Definition) (env : TypeEnvironment) : Type 0 where
   pub valid : IsValidTypes defs
-  pub table : types ≡ type_table defs
-  pub numbers : names ≡ type_names_met defs
-  pub look_ups : AnswerAlike type_map (numbered (type_names_met defs) (all_type_names defs))
-  pub of_constants : AnswerAlike constants (constant_types defs)
+  pub shown : IsReadAs env (types_read defs)
 
 -- the terms by the numbers of their names, the rules by those of theirs
 abbrev pub terms_by_name : List TermEntry → List (ℕ × ℕ)
@@ -130,19 +153,57 @@ named_id r = option_map (λ n. (n, r.id)) r.name
 abbrev pub rules_by_name : List TypedRule → List (ℕ × ℕ)
 rules_by_name rules = filter_map named_id rules
 
--- what reading the terms of a list gives, by types that are handed in. It is refused exactly where they aren't valid
-pub record AreTermsOf (e : TypesRead) (defs : List Definition) (terms : List TermEntry) (term_map : List (ℕ × ℕ)) (convert : List ((ℕ × ℕ) × ℕ)) (names : List (List ℕ)) : Type 0 where
+-- what a term table shows: the terms by id, the term that is looked up for the number of a name, and the term that converts
+-- an inner type into an outer one
+pub record TermsShown : Type 0 where
+  pub terms : List TermEntry
+  pub term_of : ℕ → Option ℕ
+  pub converter_of : ℕ → ℕ → Option ℕ
+
+-- it shows the terms of a list, read with these types
+pub record ShowsTerms (e : TypesRead) (defs : List Definition) (shown : TermsShown) : Type 0 where
+  pub table : shown.terms ≡ term_table e.known defs
+  pub look_ups : AnswersBy shown.term_of (terms_by_name (term_table e.known defs))
+  pub conversions : ConvertsBy shown.converter_of (converters e.known defs)
+
+-- one that does
+abbrev pub shown_terms : TypesRead → List Definition → TermsShown
+shown_terms e defs = record {
+  terms = term_table e.known defs;
+  term_of = λ k. look (λ n. n == k) (terms_by_name (term_table e.known defs));
+  converter_of = λ i o. look (λ k. (k.0 == i) && (k.1 == o)) (converters e.known defs);
+}
+
+-- what reading the terms of a list gives, by types that are handed in: the table, and in the type environment the names that
+-- they meet, where all else stays. It is refused exactly where they aren't valid
+pub record AreTermsOf (e : TypesRead) (defs : List Definition) (shown : TermsShown) (env : TypeEnvironment) : Type 0 where
   pub valid : IsValidTerms e.known defs
-  pub table : terms ≡ term_table e.known defs
-  pub look_ups : AnswerAlike term_map (terms_by_name (term_table e.known defs))
-  pub conversions : ConvertAlike convert (converters e.known defs)
-  pub numbers : names ≡ term_names_met e.known defs
+  pub rows : ShowsTerms e defs shown
+  pub types : IsReadAs env (with_read_names e (term_names_met e.known defs))
+
+-- what a term environment shows: terms, the rules by id, the rule that is looked up for the number of a name, and whether
+-- internal extractors are expanded
+pub record TermEnvironment : Type 0 where
+  pub terms : TermsShown
+  pub rules : List TypedRule
+  pub rule_of : ℕ → Option ℕ
+  pub expand : Bool
+
+-- one that shows these typed rules of a list
+abbrev pub term_environment_of : TypesRead → List Definition → Bool → List TypedRule → TermEnvironment
+term_environment_of e defs expand rules = record { terms = shown_terms e defs; rules = rules; rule_of = λ k. look (λ n. n == k) (rules_by_name rules); expand = expand }
 
 -- what reading the rules of a list gives, by types that are handed in: with what the terms give, the typed rules and all
 -- names. It is refused exactly where the list has no typed rules
-pub record AreRulesOf (e : TypesRead) (defs : List Definition) (expand : Bool) (terms : List TermEntry) (term_map rule_map : List (ℕ × ℕ)) (convert : List ((ℕ × ℕ) × ℕ)) (rules : TypedRules) : Type 0 where
+pub record AreRulesOf (e : TypesRead) (defs : List Definition) (expand : Bool) (rules : TypedRules) (shown : TermEnvironment) (env : TypeEnvironment) : Type 0 where
   pub elaborated : IsElaborated e defs expand rules
-  pub table : terms ≡ term_table e.known defs
-  pub look_ups : AnswerAlike term_map (terms_by_name (term_table e.known defs))
-  pub rules_look_up : AnswerAlike rule_map (rules_by_name rules.rules)
-  pub conversions : ConvertAlike convert (converters e.known defs)
+  pub rows : ShowsTerms e defs shown.terms
+  pub typed : shown.rules ≡ rules.rules
+  pub look_ups : AnswersBy shown.rule_of (rules_by_name rules.rules)
+  pub flag : shown.expand ≡ expand
+  pub types : IsReadAs env (with_read_names e rules.names)
+
+-- what a refusal to read terms or rules leaves of the type environment: more names, and all else as it was
+pub record IsLeftByRefusal (e : TypesRead) (env : TypeEnvironment) : Type 0 where
+  pub more : List (List ℕ)
+  pub types : IsReadAs env (with_read_names e (e.known.names ++ more))

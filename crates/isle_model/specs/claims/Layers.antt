@@ -2,7 +2,6 @@
 use Rattle.std.specs.Prelude.{◌≡◌, ◌≢◌, ℕ, Bool, true, false, not, ◌&&◌, ◌||◌, List, [], ◌∷◌, ◌++◌, map, slice_get, All, IsTrue, if◌then◌else◌}
 use Rattle.std.specs.List.{list_all}
 use Rattle.isle_model.specs.lists.Syntax.{Definition}
-use Rattle.isle_model.specs.lists.Tables.{TypeEntry, TermEntry}
 use Rattle.isle_model.specs.rules.Program.{Program, is_multi, rules_of, terms_with_rules}
 use Rattle.isle_model.specs.sites.Sites.{Site, SiteSet, sources_at}
 use Rattle.isle_model.specs.trees.Trees.{Marked, Tree, no_step, step, Check, match_at, equal_at, loop_at, return_at, Arms, no_arm, arm}
@@ -13,11 +12,12 @@ use Rattle.isle_model.specs.trees.Best.{are_distinct, IsBestTree, SharesMost}
 use Rattle.isle_model.specs.trees.WellBuilt.{HasOnePriority}
 use Rattle.isle_model.specs.claims.Headline.{RunsAsChosen}
 use Rattle.isle_model.specs.trees.Collects.{Collects, CollectsTheBag, IsCollectedSet, ServesSet, set_bag}
-use Rattle.isle_model.specs.trees.SetRuns.{IsTestedSet, ServesTests, ChoosesFrom}
+use Rattle.isle_model.specs.trees.SetRuns.{IsTestedSet, ServesTests, ChoosesFrom, HasNoWrongOverlap, HoldsOnce}
 use Rattle.isle_model.specs.sites.Overlap.{built_rules, OverlapsWrongly, IsShadowed, HasDistinctPositions, RuleReport, limit_passed, not_reached, rules_overlap, rule_shadows, build_reports, overlap_and_shadow_reports}
-use Rattle.isle_model.specs.lists.TypeTable.{IsValidTypes, type_table, constant_types}
+use Rattle.isle_model.specs.lists.TypeTable.{IsValidTypes}
 use Rattle.isle_model.specs.lists.Elaborated.{TypedRules}
-use Rattle.isle_model.specs.claims.Environments.{types_read, HasTypedRules, IsRead, program_of, AnswerAlike, AreRulesOf}
+use Rattle.isle_model.specs.claims.Environments.{types_read, TypesRead, IsElaborated, IsRead, program_of, TypeEnvironment, TermEnvironment, AreRulesOf}
+use Rattle.isle_model.specs.claims.Refusals.{Refusal, refusal_of, NamesOnlyPassed, PassedInBuilding, RefusesTypes, RefusesRules}
 use Rattle.isle_model.specs.sites.RuleSets.{IsBuilt}
 use Rattle.isle_model.specs.claims.SetMeanings.{CanBeServed, MeansItsRules, TellsRulesApart}
 
@@ -34,6 +34,7 @@ pub record AreBuiltSets (p : Program) (sets : List (ℕ × SiteSet)) : Type 0 wh
 pub record BuildAnswers (p : Program) (sets : List (ℕ × SiteSet)) (reports : List RuleReport) : Type 0 where
   pub given : AreBuiltSets p sets
   pub reported : reports ≡ build_reports p
+  pub limits : NamesOnlyPassed (PassedInBuilding p) (map refusal_of reports)
 
 -- the rules of a program can be told apart: each one is reachable and passes no limit, no two of a term that isn't multi
 -- overlap wrongly, and none is shadowed
@@ -57,18 +58,33 @@ is_left_out (rule_shadows report) = false
 -- what is reported where they can't, and it is something: what building reports, then overlaps and shadows, which are
 -- fixed if no two rules stand at one position
 pub record CheckReports (p : Program) (reports : List RuleReport) : Type 0 where
+  pub refused : IsCheckable p → ⊥
   pub later : List RuleReport
   pub all : reports ≡ build_reports p ++ later
   pub others : All (λ r. is_left_out r ≡ false) later
   pub some_report : reports ≢ []
   pub fixed : HasDistinctPositions p → later ≡ overlap_and_shadow_reports p
+  pub limits : NamesOnlyPassed (PassedInBuilding p) (map refusal_of reports)
 
 -- the run of a tree means what its set does. In a term that isn't multi, where the rules go over no calls, it takes a rule
--- of greatest priority among those whose demands hold; in a multi term whose rules have one priority, make no impure
+-- of greatest priority among those whose demands hold, the only one of that priority where no two rules of the set overlap
+-- wrongly; in a multi term whose rules have one priority, make no impure
 -- call and demand the gates below their sites, it collects the bag of their results
 pub record MeansItsSet (set : SiteSet) (tree : Tree) : Type 0 where
   pub chooses : IsTestedSet set → (w : World) → ServesTests set w → w.multi ≡ false → ChoosesFrom set w (run tree w)
+  pub once : HasNoWrongOverlap set.rules → (w : World) → ServesTests set w → w.multi ≡ false → HoldsOnce set.rules w
   pub collects : HasOnePriority set.rules → IsCollectedSet set → (w : World) → ServesSet set w → w.multi ≡ true → Collects (run tree w) (set_bag set w)
+
+-- a set is built for some list of definitions that is read with some types: what serializing asks of it. It needn't be free
+-- of wrong overlaps, and a set without rules is one too
+pub record IsBuiltForSome (set : SiteSet) : Type 0 where
+  pub types : TypesRead
+  pub defs : List Definition
+  pub expand : Bool
+  pub rules : TypedRules
+  pub term : ℕ
+  pub elaborated : IsElaborated types defs expand rules
+  pub built : IsBuilt (program_of types defs rules.rules) term set
 
 -- what serializing a built set gives: a best tree, which means what its set does
 pub record IsSerialized (set : SiteSet) (tree : Tree) : Type 0 where
@@ -177,19 +193,17 @@ pub record AreLowered (p : Program) (terms : List LoweredTerm) : Type 0 where
   pub lowered : All (IsLoweredTerm p) terms
 
 -- what lowering gives: the environments and the trees of accepted definitions
-pub record LoweringAnswers (defs : List Definition) (expand : Bool) (types : List TypeEntry) (constants : List (ℕ × ℕ)) (terms : List TermEntry) (term_map rule_map : List (ℕ × ℕ)) (convert : List ((ℕ × ℕ) × ℕ)) (rules : TypedRules) (lowered : List LoweredTerm) : Type 0 where
+pub record LoweringAnswers (defs : List Definition) (expand : Bool) (types : TypeEnvironment) (terms : TermEnvironment) (rules : TypedRules) (lowered : List LoweredTerm) : Type 0 where
   pub accepted : IsAccepted defs expand rules
-  pub type_rows : types ≡ type_table defs
-  pub of_constants : AnswerAlike constants (constant_types defs)
-  pub rule_rows : AreRulesOf (types_read defs) defs expand terms term_map rule_map convert rules
+  pub environments : AreRulesOf (types_read defs) defs expand rules terms types
   pub trees : AreLowered (own_program defs rules) lowered
 
--- why lowering is refused, by the first layer that refuses; the reports are those of checking
-pub data RefusedBy (defs : List Definition) (expand : Bool) : List RuleReport → Type 0 where
-  by_types : (IsValidTypes defs → ⊥) → RefusedBy defs expand []
-  by_rules : IsValidTypes defs → (HasTypedRules (types_read defs) defs expand → ⊥) → RefusedBy defs expand []
-  by_check : (rules : TypedRules) (reports : List RuleReport) → IsRead defs expand rules → (IsCheckable (own_program defs rules) → ⊥)
-      → CheckReports (own_program defs rules) reports → RefusedBy defs expand reports
+-- why lowering is refused, by the first layer that refuses, with its errors
+pub data RefusedBy (defs : List Definition) (expand : Bool) : List Refusal → Type 0 where
+  by_types : (errors : List Refusal) → RefusesTypes defs errors → RefusedBy defs expand errors
+  by_rules : (errors : List Refusal) → IsValidTypes defs → RefusesRules (types_read defs) defs expand errors → RefusedBy defs expand errors
+  by_check : (rules : TypedRules) (reports : List RuleReport) → IsRead defs expand rules → CheckReports (own_program defs rules) reports
+      → RefusedBy defs expand (map refusal_of reports)
 
 -- what theory has to show of them: the best trees of built sets of accepted definitions keep the headline, whatever body
 -- of code made them

@@ -15,10 +15,10 @@ use Rattle.isle_model.specs.sites.Demands.{demands_of, Visit, visit_start, visit
 use Rattle.isle_model.specs.trees.Places.{joins_in, all_below}
 use Rattle.isle_model.specs.sites.Gates.{gate_demanded}
 use Rattle.isle_model.specs.sites.Serves.{Serves, TellsConstantsApart}
-use Rattle.isle_model.specs.trees.Run.{world_of}
+use Rattle.isle_model.specs.trees.Run.{World, world_of}
 use Rattle.isle_model.specs.rules.Picks.{Pick, picks, SitedVars, matches_under, right_side_under}
 use Rattle.isle_model.specs.trees.Collects.{afresh, calls_in, content_at, demands_hold, as_list, HasCollectedResults, IsCollectedSet}
-use Rattle.isle_model.specs.trees.SetRuns.{tested_sites, IsTestedSet, IsTaken}
+use Rattle.isle_model.specs.trees.SetRuns.{tested_sites, IsTestedSet, IsTaken, IsTakenUnder}
 use Rattle.isle_model.specs.sites.Overlap.{BuiltRule, built_rules, Overlaps, Shadows}
 use Rattle.isle_model.specs.trees.WellBuilt.{HasOnePriority}
 use Rattle.isle_model.specs.lists.Elaborated.{TypedRules}
@@ -94,11 +94,22 @@ abbrev pub MatchesByDemands : Program → ℕ → SiteSet → Type 0
 MatchesByDemands p t set = WhereServed p t (λ m args. (b : BuiltRule) (r : SetRule) (k : Pick) → AreOneRule p t set b r
     → Contains (picks p m args b.rule) k → is_some (matches_under p m k b.rule args) ≡ demands_hold (world_of p t set.sites m args) k r)
 
+-- the same world, in which a return ends the run: binding one rule's sites doesn't depend on whether the term is multi
+abbrev pub returning_once : World → World
+returning_once w = record w { multi = false }
+
 -- taking a rule that matches and goes over no call gives its right side's outcome
 abbrev pub TakenGivesOutcome : Program → ℕ → SiteSet → Type 0
 TakenGivesOutcome p t set = WhereServed p t (λ m args. (b : BuiltRule) (r : SetRule) (e : Vars) (o : Outcome) → AreOneRule p t set b r
-    → is_multi p t ≡ false → r.iterators ≡ [] → matches p m b.rule args ≡ Some e → IsTaken (world_of p t set.sites m args) r o
+    → r.iterators ≡ [] → matches p m b.rule args ≡ Some e → IsTaken (returning_once (world_of p t set.sites m args)) r o
     → o ≡ right_side p m b.rule e)
+
+-- and of a rule that goes over calls and makes no impure one, under each of its picks: a result, or a failure where an
+-- unwrap finds nothing, and never stuck
+abbrev pub TakenUnderPickGivesOutcome : Program → ℕ → SiteSet → Type 0
+TakenUnderPickGivesOutcome p t set = WhereServed p t (λ m args. (b : BuiltRule) (r : SetRule) (k : Pick) (e : SitedVars) (o : Outcome) → AreOneRule p t set b r
+    → r.impure ≡ [] → Contains (picks p m args b.rule) k → matches_under p m k b.rule args ≡ Some e → IsTakenUnder (returning_once (world_of p t set.sites m args)) k r o
+    → o ≡ right_side_under p m k b.rule e)
 
 -- of a rule that makes no impure call, the result's site holds under a pick what the right side gives
 abbrev pub ResultsAreHeld : Program → ℕ → SiteSet → Type 0
@@ -110,6 +121,7 @@ ResultsAreHeld p t set = WhereServed p t (λ m args. (b : BuiltRule) (r : SetRul
 pub record MeansItsRules (p : Program) (t : ℕ) (set : SiteSet) : Type 0 where
   pub match : MatchesByDemands p t set
   pub outcome : TakenGivesOutcome p t set
+  pub outcome_under_picks : TakenUnderPickGivesOutcome p t set
   pub results : ResultsAreHeld p t set
 
 -- two built rules of a term, which go over no calls. A third rule of the term may use a multi extractor

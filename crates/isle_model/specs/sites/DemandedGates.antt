@@ -1,7 +1,8 @@
 -- The gates of sites, on trees: what demands must ask for so that a site can be reached.
 use Rattle.std.specs.Prelude.{◌≡◌, ℕ, zero, suc, ◌<◌, Bool, true, false, List, [], ◌∷◌, Contains, IsTrue}
 use Rattle.isle_model.specs.rules.Program.{Program, is_multi, is_partial, is_pure}
-use Rattle.isle_model.specs.rules.Typed.{TypedExpr, make_term, make_var, make_bool, make_int, make_prim, make_let, TypedExprs, no_typed_expr, typed_expr_and, TypedLets, no_typed_let, typed_let_and, TypedIfLet, TypedRule}
+use Rattle.isle_model.specs.rules.CalledTerms.{CallsAlone, CallAlone, LetsCallAlone}
+use Rattle.isle_model.specs.rules.Typed.{TypedExpr, TypedExprs, TypedLets, TypedIfLet, TypedRule}
 use Rattle.isle_model.specs.sites.Sites.{Constraint, is_variant, is_struct, is_present, SiteTerm, bool_term, int_term, prim_term, argument, extractor_call, constructor_call, pick_of, variant_made, variant_field, struct_made, struct_field, some_made, some_part, tuple_part, no_site, SiteTerms, no_site_term, site_term_and}
 use Rattle.isle_model.specs.sites.Demands.{Demands, demands_of, result_of}
 use Rattle.isle_model.specs.sites.Closure.{Closed}
@@ -57,22 +58,14 @@ abbrev mutual
   AllGatesDemanded asked pure cs calls (site_term_and a rest) = GatesDemanded asked pure cs calls a × AllGatesDemanded asked pure cs calls rest
 
 -- an expression calls pure terms alone
-abbrev mutual
-  pub IsPureExpr : Program → TypedExpr → Type 0
-  IsPureExpr p (make_term ty t args) = IsTrue (is_pure p t) × ArePureExprs p args
-  IsPureExpr p (make_var ty x) = Unit {0}
-  IsPureExpr p (make_bool ty b) = Unit {0}
-  IsPureExpr p (make_int ty z) = Unit {0}
-  IsPureExpr p (make_prim ty name) = Unit {0}
-  IsPureExpr p (make_let ty defs body) = ArePureLets p defs × IsPureExpr p body
+abbrev pub IsPureExpr : Program → TypedExpr → Type 0
+IsPureExpr p x = CallsAlone (λ t. IsTrue (is_pure p t)) x
 
-  pub ArePureExprs : Program → TypedExprs → Type 0
-  ArePureExprs p no_typed_expr = Unit {0}
-  ArePureExprs p (typed_expr_and x rest) = IsPureExpr p x × ArePureExprs p rest
+abbrev pub ArePureExprs : Program → TypedExprs → Type 0
+ArePureExprs p xs = CallAlone (λ t. IsTrue (is_pure p t)) xs
 
-  pub ArePureLets : Program → TypedLets → Type 0
-  ArePureLets p no_typed_let = Unit {0}
-  ArePureLets p (typed_let_and x ty value rest) = IsPureExpr p value × ArePureLets p rest
+abbrev pub ArePureLets : Program → TypedLets → Type 0
+ArePureLets p ds = LetsCallAlone (λ t. IsTrue (is_pure p t)) ds
 
 -- the expressions of if-lets do
 abbrev pub ArePureIfLets : Program → List TypedIfLet → Type 0

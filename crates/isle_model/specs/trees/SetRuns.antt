@@ -10,6 +10,7 @@ use Rattle.isle_model.specs.trees.Trees.{Tree, no_step, step, return_at}
 use Rattle.isle_model.specs.trees.Run.{World, Env, bound_to, used, content_fields, at_start, run_tree, run}
 use Rattle.isle_model.specs.trees.Places.{Around, is_in, joins_in, waits, all_below, fields_of, bind_order, return_uses}
 use Rattle.isle_model.specs.trees.Sound.{IsSound}
+use Rattle.isle_model.specs.rules.Picks.{Pick}
 use Rattle.isle_model.specs.trees.Collects.{content_at, meets, demands_hold, IsPureSite}
 use Rattle.isle_model.specs.sites.Gates.{gate_demanded}
 
@@ -54,23 +55,31 @@ pub record ServesTests (set : SiteSet) (w : World) : Type 0 where
   pub apart : (r q : SetRule) (s : ℕ) (d f : Constraint) → Contains set.rules r → Contains set.rules q → Contains r.constraints (s, d) → Contains q.constraints (s, f)
       → IsTrue (meets w.meaning d (content_at w [] s)) → IsTrue (meets w.meaning f (content_at w [] s)) → d ≡ f
 
--- a place that a run reached: what is emitted there can be used; what is emitted, and all below it, makes no impure call,
--- so none was made before; and what is bound is emitted and holds its content
-pub record IsReached (w : World) (ar : Around) (env : Env) : Type 0 where
-  pub emitted : (s : ℕ) → IsTrue (is_in s ar.emitted) → IsTrue (is_some (content_at w [] s)) × (used w env s ≡ content_at w [] s)
+-- a place that a run reached under a pick: what is emitted there can be used; what is emitted, and all below it, makes no
+-- impure call, so none was made before; and what is bound is emitted and holds its content
+pub record IsReachedUnder (w : World) (k : Pick) (ar : Around) (env : Env) : Type 0 where
+  pub emitted : (s : ℕ) → IsTrue (is_in s ar.emitted) → IsTrue (is_some (content_at w k s)) × (used w env s ≡ content_at w k s)
   pub pure : (s : ℕ) → IsTrue (is_in s ar.emitted) → All (IsPureAt w.sites) (all_below w.sites (s ∷ []))
-  pub bound : (s : ℕ) (c : Content) → bound_to env s ≡ Some c → IsTrue (is_in s ar.emitted) × (content_at w [] s ≡ Some c)
+  pub bound : (s : ℕ) (c : Content) → bound_to env s ≡ Some c → IsTrue (is_in s ar.emitted) × (content_at w k s ≡ Some c)
 
--- a rule is taken: from some place where the gates that it demands are emitted, its impure calls are bound in order,
--- then its result, and it returns
-pub record IsTaken (w : World) (r : SetRule) (o : Outcome) : Type 0 where
+-- where no calls are gone over, it is reached under the empty pick
+abbrev pub IsReached : World → Around → Env → Type 0
+IsReached w ar env = IsReachedUnder w [] ar env
+
+-- a rule is taken under a pick: from some place where the gates that it demands are emitted, its impure calls are bound in
+-- order, then its result, and it returns
+pub record IsTakenUnder (w : World) (k : Pick) (r : SetRule) (o : Outcome) : Type 0 where
   pub around : Around
   pub env : Env
-  pub reached : IsReached w around env
+  pub reached : IsReachedUnder w k around env
   pub gates : (s : ℕ) → Contains (all_below w.sites (return_uses (Some r))) s → waits (slice_get w.sites s) ≡ false ⊎ IsUnwrap (slice_get w.sites s) ⊎ IsTrue (is_in s around.emitted)
   pub demanded : (s source : ℕ) → slice_get w.sites s ≡ Some (match_some_site source) → Contains (all_below w.sites (return_uses (Some r))) s
       → IsTrue (gate_demanded r (slice_get w.sites s)) → IsTrue (is_in s around.emitted)
   pub outcome : o ≡ run_tree (step (bind_order w.sites around (return_uses (Some r))) (return_at r.at r.result) no_step) w env at_start
+
+-- of a rule that goes over no calls, it is taken under the empty pick
+abbrev pub IsTaken : World → SetRule → Outcome → Type 0
+IsTaken w r o = IsTakenUnder w [] r o
 
 -- a rule of greatest priority among those whose demands hold is taken; or there is none, and no impure call is made
 abbrev pub ChoosesFrom : SiteSet → World → Outcome → Type 0
@@ -78,6 +87,25 @@ ChoosesFrom set w o =
     ((r : SetRule) × Contains set.rules r × IsTrue (demands_hold w [] r)
     × ((q : SetRule) → Contains set.rules q → IsTrue (demands_hold w [] q) → q.prio ≤ℤ r.prio) × IsTaken w r o)
     ⊎ (((q : SetRule) → Contains set.rules q → demands_hold w [] q ≡ false) × (o ≡ no_rule))
+
+-- two rules of a set overlap: no site has different constraints in them
+abbrev pub OverlapInSet : SetRule → SetRule → Type 0
+OverlapInSet r q = (s : ℕ) (c d : Constraint) → Contains r.constraints (s, c) → Contains q.constraints (s, d) → c ≡ d
+
+-- no two different rules of a set overlap wrongly: with one priority
+abbrev pub HasNoWrongOverlap : List SetRule → Type 0
+HasNoWrongOverlap rules =
+    (i j : ℕ) (r q : SetRule) → slice_get rules i ≡ Some r → slice_get rules j ≡ Some q → r.prio ≡ q.prio → OverlapInSet r q → i ≡ j
+
+-- of two different rules of one priority, the demands of at most one hold
+abbrev pub HoldsOnce : List SetRule → World → Type 0
+HoldsOnce rules w =
+    (i j : ℕ) (r q : SetRule) → slice_get rules i ≡ Some r → slice_get rules j ≡ Some q → r.prio ≡ q.prio
+    → IsTrue (demands_hold w [] r) → IsTrue (demands_hold w [] q) → i ≡ j
+
+-- so in a set without a wrong overlap the rule that is taken is the only one of its priority whose demands hold
+abbrev pub RulesHoldOnce : Type 0
+RulesHoldOnce = (set : SiteSet) (w : World) → ServesTests set w → HasNoWrongOverlap set.rules → HoldsOnce set.rules w
 
 -- the run of a sound tree of such a set, in a term that isn't multi, chooses by priority
 abbrev pub SoundTreesChoose : Type 0

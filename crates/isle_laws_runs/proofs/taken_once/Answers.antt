@@ -1,0 +1,5 @@
+use Rattle.isle_laws_runs.proofs.taking.Once.{taken_once_lem}
+use Rattle.isle_laws_runs.proofs.taken_once.Goals as goal
+
+pub returns : goal.returns
+returns c = taken_once_lem

@@ -1,0 +1,4 @@
+-- Taking a rule: binding what it returns for, from whatever place.
+pub mod Once
+pub mod Settled
+pub mod Used
