@@ -27,8 +27,8 @@ conflict_is d h =
     (λ e. false≢true (sym (not_same (constraint_eq a.0.1 b.0.1) p.1) ∙ same_constraint a.0.1 b.0.1 e))
 
 -- a list without one place of an element
-dropped : (xs : List SiteTerm) (x : SiteTerm) → In xs x
-    → (ys : List SiteTerm) × (length xs ≡ suc (length ys)) × ((y : SiteTerm) → In xs y → (x ≡ y) ⊎ In ys y)
+pub dropped : {X : Type 0} (xs : List X) (x : X) → In xs x
+    → (ys : List X) × (length xs ≡ suc (length ys)) × ((y : X) → In xs y → (x ≡ y) ⊎ In ys y)
 dropped [] x i = absurd i
 dropped (z ∷ xs) x (inl e) = (xs, refl, λ y j. elim j [ inl f ↦ inl (sym e ∙ f) | inr k ↦ inr k ])
 dropped (z ∷ xs) x (inr i) =

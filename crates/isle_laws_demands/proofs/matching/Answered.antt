@@ -1,5 +1,5 @@
 -- A meaning that serves the rules of a term answers the sites of each of them, under its picks.
-use Rattle.std.proofs.Common.{◌≡◌, ℕ, zero, suc, ◌<◌, Bool, true, false, List, [], ◌∷◌, map, length, Option, Some, None, slice_get, IsSomeAnd, Contains, IsTrue, flat_map, refl, sym, ap, subst, ◌∙◌, inl, inr, arith}
+use Rattle.std.proofs.Common.{◌≡◌, ℕ, ◌<◌, Bool, true, false, List, [], ◌∷◌, map, length, Option, Some, None, slice_get, IsSomeAnd, Contains, IsTrue, flat_map, refl, sym, ap, subst, ◌∙◌, inl, inr}
 use Rattle.std.proofs.lemmas.Bool.{cases_Bool, cond-true, cond-false}
 use Rattle.isle_model.specs.rules.Values.{Value, of_struct, Values, well_typed}
 use Rattle.isle_model.specs.rules.Meaning.{Content, one, many, Contents, contents, Meaning, bool_literal, int_literal, literal_value, constant_value, extractor_answer, pure_answer}
@@ -12,6 +12,7 @@ use Rattle.isle_model.specs.sites.Demands.{demands_of, site_term_eq}
 use Rattle.isle_model.specs.sites.Serves.{asked_by, asked, constant_site, constant_type, typed_as, fits_extractor, fits_constructor, Holds, holds_bool, holds_int, holds_prim, holds_argument, holds_extractor, holds_pure, holds_impure, holds_pick, holds_variant, holds_variant_field, holds_struct, holds_struct_field, holds_some, holds_part, holds_tuple_part, HoldsAll, Serves}
 use Rattle.isle_model.proofs.Elements.{In, in_from_contains, contains_from_in, in_left, in_flat_map}
 use Rattle.isle_model.proofs.SameSites.{term_means, same_term}
+use Rattle.isle_model.proofs.Members.{get_within}
 use Rattle.isle_laws_runs.proofs.picks.Held.{contents_are_held_lem}
 use Rattle.isle_laws_demands.proofs.closure.Classes.{in_with_sites}
 use Rattle.isle_laws_demands.proofs.matching.Contents.{Given, content_of, IsValueOf, Fits, IsAnswered}
@@ -71,11 +72,6 @@ place_there (e ∷ k) call i =
         false_true h = cc
     later (inr j) f = j
 
-element_there : (cs : List Content) (n : ℕ) → n < length cs → (c : Content) × (slice_get cs n ≡ Some c)
-element_there [] n l = absurd (omega (arith, l))
-element_there (c ∷ cs) zero l = (c, refl)
-element_there (c ∷ cs) (suc n) l = element_there cs n (omega (arith, l))
-
 module _ (p : Program) (m : Meaning) (args : List Value) (r : TypedRule) (k : Pick) where
   abbrev g : Given
   g = record { program = p; meaning = m; args = args; pick = k }
@@ -101,7 +97,7 @@ module _ (p : Program) (m : Meaning) (args : List Value) (r : TypedRule) (k : Pi
     call_picked : (call : SiteTerm) → In (demands_of p r).iterators call → (c : Content) × (content_of g (pick_of call) ≡ Some c)
     call_picked call i =
         let t = call_taken call i in
-        let e = element_there (contents t.answers) t.place t.few in
+        let e = get_within (contents t.answers) t.place t.few in
         (e.0, ap (λ o. then_option o (picked k call)) t.list ∙ ap (λ o. then_option o (slice_get (contents t.answers))) t.here ∙ e.1)
 
     pub is_answered : (rs : List TypedRule) → Serves p m args rs → Contains rs r → IsAnswered g (demands_of p r)

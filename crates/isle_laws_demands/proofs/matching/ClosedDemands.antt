@@ -2,22 +2,23 @@
 use Rattle.std.proofs.Common.{◌≡◌, ◌⊎◌, ◌==◌, ℕ, zero, suc, ◌+◌, ◌<◌, true, List, [], ◌∷◌, map, length, Option, Some, None, is_some, slice_get, Contains, filter, refl, sym, ap, ap₂, subst, ◌∙◌, inl, inr, arith, eq-eqb, eqb-true}
 use Rattle.std.proofs.lemmas.Bool.{and_parts, cond-true, false≢true}
 use Rattle.isle_model.specs.rules.Values.{Value, truth, atom, of_variant, of_struct, Values, no_value, value_and, listed, variant_types, struct_types, well_typed, all_well_typed}
-use Rattle.isle_model.specs.rules.Meaning.{Content, one, just, Meaning, bool_literal, int_literal, literal_value, constant_value}
+use Rattle.isle_model.specs.rules.Meaning.{one, Meaning, bool_literal, int_literal, literal_value, constant_value}
 use Rattle.isle_model.specs.rules.Outcome.{then_option}
 use Rattle.isle_model.specs.rules.Program.{Program}
 use Rattle.isle_model.specs.rules.Picks.{field_of_variant, field_of_struct}
 use Rattle.isle_model.specs.trees.Run.{as_value, from_value, content_fields}
 use Rattle.isle_model.specs.sites.Sites.{Constraint, is_variant, is_struct, is_bool, is_int, is_prim, is_present, SiteTerm, variant_field, struct_field}
 use Rattle.isle_model.specs.sites.Demands.{Demands, has_site}
-use Rattle.isle_model.specs.sites.Closure.{fields_from, field_terms, Joined, given, itself, at_field, HasConstraint, Closed, class_at, without_class_of, begins_with, ascending, next_constrained, field_equalities, taken, closing, before_closing, in_order, most_closing_steps, closed, ClosedDemandsHold}
+use Rattle.isle_model.specs.sites.Closure.{fields_from, field_terms, Joined, given, itself, at_field, HasConstraint, Closed, class_at, without_class_of, begins_with, ascending, field_equalities, taken, closing, before_closing, in_order, most_closing_steps, closed, ClosedDemandsHold}
 use Rattle.isle_model.proofs.Elements.{In, in_from_contains, contains_from_in, in_map, in_filter, passed_filter, from_flat_map, some_is}
 use Rattle.isle_model.proofs.SameSites.{term_cases}
 use Rattle.isle_laws_demands.specs.ClosureLaws.{ClosedIsWhole}
 use Rattle.isle_model.proofs.SitesMade.{has_in}
 use Rattle.isle_laws_demands.proofs.closure.Closing.{FollowsSoFar, constraint_carried, in_class_joined, next_asked, taken_follows, before_closing_follows, in_order_follows}
+use Rattle.isle_laws_demands.proofs.closure.EachTake.{closing_keeps}
 use Rattle.isle_laws_demands.proofs.closure.Whole.{AllIn, each_all_in, without_in, equality_members}
 use Rattle.isle_laws_demands.proofs.matching.Contents.{Given, content_of}
-use Rattle.isle_laws_demands.proofs.matching.Demanded.{AreMet, AskEnough, one_is, same_content}
+use Rattle.isle_laws_demands.proofs.matching.Demanded.{one_not_just, AreMet, AskEnough, one_is, same_content}
 use Rattle.isle_laws_demands.proofs.matching.FormedDemands.{IsFormed, AreFormed}
 use Rattle.isle_laws_demands.proofs.matching.Shapes.{HasForm, has_form}
 
@@ -44,13 +45,7 @@ module _ (d : Demands) (P : SiteTerm → Type 0) (equal : (e : SiteTerm × SiteT
           (in_class_joined d k.classes f.follows.classes c.0 s (has_in (class_at k.classes c.0) s (passed_filter (has_site (class_at k.classes c.0)) k.made s j))) (f.follows.constraints c i)
 
   closing_members : (n : ℕ) (k : Closed) → HasMembers k → HasMembers (closing n k)
-  closing_members zero k f = f
-  closing_members (suc n) k f = go_on (next_constrained k.classes k.constraints k.made) refl (closing_members n)
-    where
-      go_on : (o : Option (SiteTerm × Constraint)) → next_constrained k.classes k.constraints k.made ≡ o → ((j : Closed) → HasMembers j → HasMembers (closing n j))
-          → HasMembers (elim o [ None ↦ k | Some c ↦ closing n (taken k c (ascending k.made (class_at k.classes c.0))) ])
-      go_on None e later = f
-      go_on (Some c) e later = later (taken k c (ascending k.made (class_at k.classes c.0))) (taken_members k f c (next_asked d k.classes k.constraints k.made c e))
+  closing_members = closing_keeps HasMembers (λ k f c e. taken_members k f c (next_asked d k.classes k.constraints k.made c e))
 
   before_members : (before : List SiteTerm) → HasMembers (before_closing before d)
   before_members before = record { follows = before_closing_follows d before; members = each_all_in P d.equalities [] (λ l s i n. absurd i) equal }
@@ -131,9 +126,6 @@ data Compared (c : Constraint) (v w : Value) : Type 0 where
 same_constant : (o : Option Value) (v w : Value) → ((x : Value) × (one v ≡ one x) × (o ≡ Some x)) → ((x : Value) × (one w ≡ one x) × (o ≡ Some x)) → v ≡ w
 same_constant o v w a b = one_is v a.0 a.1 ∙ some_is a.0 b.0 (sym a.2 ∙ b.2) ∙ sym (one_is w b.0 b.1)
 
-not_just : (v : Value) (c : Content) → one v ≡ just c → ⊥
-not_just v c e = cc
-
 by_form : (m : Meaning) (c : Constraint) (v w : Value) → HasForm m (one v) c → HasForm m (one w) c → Compared c v w
 by_form m (is_variant ty i n) v w a b =
     two_variants (record { ty = ty; variant = i; count = n; first_fields = a.0; second_fields = b.0; constraint = refl; first = one_is v (of_variant ty i a.0) a.1; second = one_is w (of_variant ty i b.0) b.1 })
@@ -142,7 +134,7 @@ by_form m (is_struct ty n) v w a b =
 by_form m (is_bool b ty) v w x y = one_value (same_constant (literal_value m (bool_literal b ty)) v w x y)
 by_form m (is_int z ty) v w x y = one_value (same_constant (literal_value m (int_literal z ty)) v w x y)
 by_form m (is_prim name) v w x y = one_value (same_constant (constant_value m name) v w x y)
-by_form m is_present v w x y = absurd (not_just v x.0 x.1)
+by_form m is_present v w x y = absurd (one_not_just v x.0 x.1)
 
 variant_parts : (s n : ℕ) (fs : Values) (t l : ℕ) (hs : Values) → of_variant s n fs ≡ of_variant t l hs → fs ≡ hs
 variant_parts s n fs t l hs e = cc

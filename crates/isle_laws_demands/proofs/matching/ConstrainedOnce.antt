@@ -1,11 +1,13 @@
 -- Closed demands list each constrained site once, so that as many constraints among others are all of them.
-use Rattle.std.proofs.Common.{◌≡◌, ◌⊎◌, ◌≤◌, ℕ, zero, suc, false, List, [], ◌∷◌, ◌++◌, map, length, Option, Some, None, is_some, refl, sym, ap, subst, ◌∙◌, inl, inr, arith}
+use Rattle.std.proofs.Common.{◌≡◌, ◌≤◌, ℕ, false, List, [], ◌∷◌, ◌++◌, map, length, Option, Some, None, is_some, refl, sym, ap, subst, ◌∙◌, inl, inr, arith}
 use Rattle.std.proofs.lemmas.Bool.{cases_Bool, cond-true, cond-false, false≢true}
 use Rattle.isle_model.specs.sites.Sites.{Constraint, SiteTerm}
 use Rattle.isle_model.specs.sites.Demands.{Demands, site_term_eq}
-use Rattle.isle_model.specs.sites.Closure.{constraint_of, Closed, class_at, with_constraint, with_constraints, ascending, next_constrained, taken, closing, before_closing, most_closing_steps, closed}
+use Rattle.isle_model.specs.sites.Closure.{constraint_of, Closed, class_at, with_constraint, with_constraints, ascending, closing, before_closing, most_closing_steps, closed}
 use Rattle.isle_model.proofs.Elements.{In, in_either, none_some}
 use Rattle.isle_model.proofs.SameSites.{same_term}
+use Rattle.isle_laws_demands.proofs.closure.EachTake.{closing_keeps}
+use Rattle.isle_laws_demands.proofs.closure.Verdict.{dropped}
 
 -- each site stands once
 abbrev pub StandOnce : List (SiteTerm × Constraint) → Type 0
@@ -55,26 +57,10 @@ each_once cs [] h = h
 each_once cs (x ∷ ds) h = each_once (with_constraint cs x) ds (one_once cs x h)
 
 closing_once : (n : ℕ) (k : Closed) → StandOnce k.constraints → StandOnce (closing n k).constraints
-closing_once zero k h = h
-closing_once (suc n) k h = go_on (next_constrained k.classes k.constraints k.made) (closing_once n)
-  where
-    go_on : (o : Option (SiteTerm × Constraint)) → ((j : Closed) → StandOnce j.constraints → StandOnce (closing n j).constraints)
-        → StandOnce (elim o as (λ _. Closed) [ None ↦ k | Some c ↦ closing n (taken k c (ascending k.made (class_at k.classes c.0))) ]).constraints
-    go_on None later = h
-    go_on (Some c) later =
-        later (taken k c (ascending k.made (class_at k.classes c.0))) (each_once k.constraints (map (λ m. (m, c.1)) (ascending k.made (class_at k.classes c.0))) h)
+closing_once = closing_keeps (λ k. StandOnce k.constraints) (λ k h c e. each_once k.constraints (map (λ m. (m, c.1)) (ascending k.made (class_at k.classes c.0))) h)
 
 pub closed_once : (before : List SiteTerm) (d : Demands) → StandOnce (closed before d).constraints
 closed_once before d = closing_once most_closing_steps (before_closing before d) (each_once [] d.constraints tt)
-
--- a list without one place of an element
-dropped : (xs : List (SiteTerm × Constraint)) (x : SiteTerm × Constraint) → In xs x
-    → (ys : List (SiteTerm × Constraint)) × (length xs ≡ suc (length ys)) × ((y : SiteTerm × Constraint) → In xs y → (x ≡ y) ⊎ In ys y)
-dropped [] x i = absurd i
-dropped (z ∷ xs) x (inl e) = (xs, refl, λ y j. elim j [ inl f ↦ inl (sym e ∙ f) | inr k ↦ inr k ])
-dropped (z ∷ xs) x (inr i) =
-    let r = dropped xs x i in
-    (z ∷ r.0, ap suc r.1, λ y j. elim j [ inl f ↦ inr (inl f) | inr k ↦ elim (r.2 y k) [ inl e ↦ inl e | inr l ↦ inr (inr l) ] ])
 
 -- constraints among others that are no more are all of these
 pub all_among : (bs cs : List (SiteTerm × Constraint)) → StandOnce bs → ((x : SiteTerm × Constraint) → In bs x → In cs x) → length cs ≤ length bs → (x : SiteTerm × Constraint) → In cs x → In bs x

@@ -13,11 +13,12 @@ use Rattle.isle_model.specs.lists.Formed.{var_type}
 use Rattle.isle_model.proofs.Elements.{In, in_right, in_either, some_is, none_some}
 use Rattle.isle_model.proofs.SameSites.{term_means}
 use Rattle.isle_model.proofs.ValuesEqual.{eq_means, eq_same}
+use Rattle.isle_model.proofs.Options.{is_there}
 use Rattle.isle_laws_demands.proofs.visits.Visited.{equating_binds}
 use Rattle.isle_laws_demands.proofs.visits.Patterns.{from_if, from_then}
 use Rattle.isle_laws_demands.proofs.matching.Contents.{Given, content_of, Here, is_value}
 use Rattle.isle_laws_demands.proofs.matching.Grown.{Grown, either, equated}
-use Rattle.isle_laws_demands.proofs.matching.SameExprs.{AreWithin, type_there}
+use Rattle.isle_laws_demands.proofs.matching.SameExprs.{AreWithin}
 use Rattle.isle_laws_demands.proofs.matching.Variables.{named, IsPresent, AllPresent, IsVar, AreVars, var_kept}
 
 -- the content of a site meets a constraint
@@ -51,6 +52,9 @@ same_content g s c d e f = some_is c d (sym e ∙ f)
 pub one_is : (v w : Value) → one v ≡ one w → v ≡ w
 one_is v w e = cc
 
+pub one_not_just : (v : Value) (c : Content) → one v ≡ just c → ⊥
+one_not_just v c e = cc
+
 pub here_typed : (g : Given) (s : SiteTerm) (ty : ℕ) (v : Value) → Here g s ty v → IsTyped g s
 here_typed g s ty v h w e = (ty, subst (λ u. well_typed g.program.types ty u ≡ true) (one_is v w (same_content g s (one v) (one w) h.content e)) h.typed)
 
@@ -74,11 +78,8 @@ met_all g (s ∷ ss) v p a = met_all g ss (asking s is_present v) (λ u i. p u (
     present_meets : IsPresent g s → Meets g s is_present
     present_meets h = record { content = just h.0; held = h.1; meets = refl }
 
-    not_one : (c : Content) (w : Value) → just c ≡ one w → ⊥
-    not_one c w e = cc
-
     present_typed : IsPresent g s → IsTyped g s
-    present_typed h w e = absurd (not_one h.0 w (same_content g s (just h.0) (one w) h.1 e))
+    present_typed h w e = absurd (one_not_just w h.0 (same_content g s (one w) (just h.0) e h.1))
 
 -- what is asked to answer does
 pub meets_present : (g : Given) (s : SiteTerm) → Meets g s is_present → IsPresent g s
@@ -166,7 +167,7 @@ past_of g more e v w o a = record { met = a.met; found = a.found; agree = a.agre
 pub outside : (vars more : List (ℕ × ℕ)) → AreWithin vars more → (y : ℕ) → is_some (var_type more y) ≡ false → is_some (var_type vars y) ≡ false
 outside vars more f y n =
     elim (cases_Bool (is_some (var_type vars y))) [
-      | inl t ↦ let a = type_there (var_type vars y) t in absurd (false≢true (sym n ∙ ap is_some (f y a.0 a.1)))
+      | inl t ↦ let a = is_there (var_type vars y) t in absurd (false≢true (sym n ∙ ap is_some (f y a.0 a.1)))
       | inr k ↦ k
     ]
 

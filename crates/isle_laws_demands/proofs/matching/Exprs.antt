@@ -17,11 +17,12 @@ use Rattle.isle_model.specs.sites.DemandedGates.{IsPureExpr, ArePureExprs, ArePu
 use Rattle.isle_model.specs.lists.Setting.{expr_type}
 use Rattle.isle_model.specs.lists.Formed.{var_type, is_type, is_formed_expr, are_formed_args, formed_lets}
 use Rattle.isle_model.proofs.Elements.{In, in_left, in_right, some_is, none_some}
+use Rattle.isle_model.proofs.Options.{is_there}
 use Rattle.isle_laws_demands.proofs.visits.Visited.{Same}
 use Rattle.isle_laws_demands.proofs.visits.Patterns.{from_then, term_known}
 use Rattle.isle_laws_demands.proofs.matching.Contents.{Given, content_of, value_of, values_of, IsValueOf, Fits, IsAnswered, one_fits, maybe_fits, picked_fits}
 use Rattle.isle_laws_demands.proofs.matching.Grown.{Grown, then_grown, grown_binding, expr_adds, exprs_add, lets_add, term_adds}
-use Rattle.isle_laws_demands.proofs.matching.SameExprs.{type_there, from_let, from_term, from_args, from_body, expr_keeps, term_site, pure_site, expr_alike, exprs_alike}
+use Rattle.isle_laws_demands.proofs.matching.SameExprs.{from_let, from_term, from_args, from_body, expr_keeps, term_site, pure_site, expr_alike, exprs_alike}
 use Rattle.isle_laws_demands.proofs.matching.TypedParts.{HasTypedParts}
 use Rattle.isle_laws_demands.proofs.matching.Variables.{AllPresent, IsValued, AreVars, var_moved, vars_and}
 
@@ -44,7 +45,7 @@ vars_moved g vars e v w s f x ty h = var_moved g e v.vars w.vars x ty (s x (ap i
 
 -- the visits name variables alike
 vars_same : (g : Given) (vars : List (ℕ × ℕ)) (e : SitedVars) (v : Visit) → AreVars g vars e v.vars → Same vars (visit_at e 0) v
-vars_same g vars e v f x h = let t = type_there (var_type vars x) h in sym (f x t.0 t.1).site
+vars_same g vars e v f x h = let t = is_there (var_type vars x) h in sym (f x t.0 t.1).site
 
 -- arguments' values
 record AreValued (g : Given) (own : SiteTerms) (o : Option Values) (tys : List ℕ) (ss : SiteTerms) : Type 0 where

@@ -21,14 +21,11 @@ use Rattle.isle_laws_runs.specs.WithoutMulti.{WhereKnown, PatternCallsNoMulti, P
 use Rattle.isle_laws_runs.proofs.picks.OnePick.{no_iterators}
 use Rattle.isle_laws_runs.proofs.picks.Plain.{from_to_count, output_count}
 use Rattle.isle_laws_demands.specs.MatchLaws.{RulesWithoutMultiGoOverNoCalls}
-use Rattle.isle_laws_demands.specs.BuiltLaws.{BuiltDemandsAreWhole}
 use Rattle.isle_laws_demands.proofs.visits.Allowed.{IsAllowed, entry_at_id, expr_allowed, single_allowed}
 use Rattle.isle_laws_demands.proofs.visits.Calls.{CallsAlone, CallAlone, LetsCallAlone, calls_such}
 use Rattle.isle_laws_demands.proofs.visits.Elaborated.{declared_are}
 use Rattle.isle_laws_demands.proofs.visits.RightSides.{IsSingle}
-use Rattle.isle_laws_demands.proofs.matching.BuiltMatches.{built_listed}
 use Rattle.isle_laws_demands.proofs.matching.Grown.{Grown, then_grown, each_grown, all_grown, iflets_grown, args_grown, rule_adds}
-use Rattle.isle_laws_demands.proofs.matching.ToldApart.{built_rules_are_told_apart_lem}
 use Rattle.isle_laws_demands.proofs.matching.Visits.{of_term}
 
 -- 1. expressions

@@ -12,13 +12,14 @@ use Rattle.isle_model.specs.rules.Picks.{picked, taken_answer, field_of_variant,
 use Rattle.isle_model.specs.trees.Run.{from_value, content_fields, all_one}
 use Rattle.isle_model.specs.sites.Sites.{Constraint, is_variant, is_struct, is_bool, is_int, is_prim, is_present, SiteTerm, extractor_call, pick_of, variant_field, struct_field, some_part}
 use Rattle.isle_model.specs.sites.Demands.{Visit, visit_start, making, asking, iterating, binding, from_to, pattern_count, Opened, opened, output_sites, part_sites, open_call, open_term, visit_pattern, visit_each, visit_all}
-use Rattle.isle_model.specs.sites.Serves.{constant_type, term_args, fits_answer, fits_extractor}
+use Rattle.isle_model.specs.sites.Serves.{constant_type, term_args, fits_one, fits_answer, fits_extractor}
 use Rattle.isle_model.specs.lists.Setting.{bool_type, has_extractor}
 use Rattle.isle_model.specs.lists.Formed.{pattern_type, var_type, is_type, with_new, formed_pattern, formed_parts, formed_each}
 use Rattle.isle_model.proofs.Elements.{In, in_right, some_is, none_some}
+use Rattle.isle_model.proofs.Options.{is_there, some_then}
 use Rattle.isle_laws_demands.proofs.visits.Patterns.{from_if, from_then, from_new, term_known}
 use Rattle.isle_laws_demands.proofs.matching.Contents.{Given, content_of, Here, AreHere, AsMany, IsAnswered, has_value, maybe_fits, picked_fits, fits_answered, fields_here, PutOut, put_out}
-use Rattle.isle_laws_demands.proofs.matching.Demanded.{AreMet, AskEnough, same_content, here_typed, met_asking, asked_now, IsBound, AreBound, bound_kept, After, outside, then_after, unbound, constant_after, var_after}
+use Rattle.isle_laws_demands.proofs.matching.Demanded.{one_not_just, AreMet, AskEnough, same_content, here_typed, met_asking, asked_now, IsBound, AreBound, bound_kept, After, outside, then_after, unbound, constant_after, var_after}
 use Rattle.isle_laws_demands.proofs.matching.Exprs.{type_is}
 use Rattle.isle_laws_demands.proofs.matching.Grown.{Grown, then_grown, grown_making, grown_asking, grown_iterating, each_grown, all_grown}
 use Rattle.isle_laws_demands.proofs.matching.SameExprs.{AreWithin, within_new}
@@ -98,10 +99,6 @@ record Opens (g : Given) (v : Visit) (o : Opened) (tys : List ℕ) (seen : Optio
   met : AreMet g v.demands → (ws : Values) → seen ≡ Some ws → AreMet g o.visit.demands
   found : AskEnough g o.visit.demands → (ws : Values) × (seen ≡ Some ws)
   inputs : (ws : Values) → seen ≡ Some ws → AreHere g o.inputs tys ws
-
-is_there : {X : Type 0} (o : Option X) → is_some o ≡ true → (x : X) × (o ≡ Some x)
-is_there None h = absurd (false≢true h)
-is_there (Some x) h = (x, refl)
 
 both_there : {X Y : Type 0} (b : Bool) (x : X) (y : Y) → is_some (cond b (Some x) None) ≡ is_some (cond b (Some y) None)
 both_there true x y = refl
@@ -208,9 +205,13 @@ module _ (g : Given) (z : Visit) (h : IsAnswered g z.demands) (parts : HasTypedP
     fits_multi pure partial rec false c q f = (true, fits_maybe (record { pure = pure; multi = true; partial = partial; rec = rec }) c q f)
 
     -- the outputs of a call's answer
-    from_outputs : (multi : Bool) (u : SiteTerm) (d : Content) (w : PutOut g u args e.arg_tys d) → then_option (extractor_answer g.meaning t x) (taken_answer multi g.pick call) ≡ Some d → answered d ≡ Some w.values
+    from_outputs : (multi : Bool) (u : SiteTerm) (d : Content) (w : PutOut g u args e.arg_tys d) → then_option (extractor_answer g.meaning t x) (taken_answer multi g.pick call) ≡ Some d → fits_one p e.arg_tys d ≡ true
         → call_parts multi t s x ≡ Some w.values
-    from_outputs multi u d w q a = ap (λ o. then_option o answered) q ∙ a
+    from_outputs multi u d w q f = ap (λ o. then_option o answered) q ∙ fits_answered p e.arg_tys d f ∙ w.out
+
+    -- the outputs of what a call that may answer nothing has answered
+    from_just : (u : SiteTerm) (c d : Content) (w : PutOut g u args e.arg_tys d) → extractor_answer g.meaning t x ≡ Some c → c ≡ just d → call_parts false t s x ≡ Some w.values
+    from_just u c d w q j = ap (λ o. then_option (then_option o (taken_answer false g.pick call)) answered) (q ∙ ap Some j) ∙ w.out
 
     call_opens : (pure multi partial rec infallible : Bool) → kind p t ≡ a_call (record { pure = pure; multi = multi; partial = partial; rec = rec }) infallible
         → Grown (open_call (record { pure = pure; multi = multi; partial = partial; rec = rec }) infallible call args v).visit z
@@ -226,7 +227,7 @@ module _ (g : Given) (z : Visit) (h : IsAnswered g z.demands) (parts : HasTypedP
         let f = picked_fits p m.0 e.arg_tys g.pick call c.answer d.0 m.1 taken in
         let w = put_out g (pick_of call) args e.arg_tys d.0 n f d.1 in
         sure_opens g v o e.arg_tys (call_parts true t s x) w.values refl refl refl
-        (from_outputs true (pick_of call) d.0 w (ap (λ y. then_option y (taken_answer true g.pick call)) c.there ∙ taken) (fits_answered p e.arg_tys d.0 f ∙ w.out)) w.here
+        (from_outputs true (pick_of call) d.0 w (ap (λ y. then_option y (taken_answer true g.pick call)) c.there ∙ taken) f) w.here
     call_opens pure false partial rec true q l =
         let made = making (call ∷ []) v in
         let o = opened (output_sites call args) (making (part_sites call args) made) in
@@ -235,7 +236,7 @@ module _ (g : Given) (z : Visit) (h : IsAnswered g z.demands) (parts : HasTypedP
         let f = fits_sure (record { pure = pure; multi = false; partial = partial; rec = rec }) c.answer q c.right in
         let w = put_out g call args e.arg_tys c.answer n f (call_content c.answer c.there) in
         sure_opens g v o e.arg_tys (call_parts false t s x) w.values refl refl refl
-        (from_outputs false call c.answer w (ap (λ y. then_option y (taken_answer false g.pick call)) c.there) (fits_answered p e.arg_tys c.answer f ∙ w.out)) w.here
+        (from_outputs false call c.answer w (ap (λ y. then_option y (taken_answer false g.pick call)) c.there) f) w.here
     call_opens pure false partial rec false q l =
         let made = making (call ∷ (some_part call ∷ [])) v in
         let asked = asking call is_present made in
@@ -258,22 +259,19 @@ module _ (g : Given) (z : Visit) (h : IsAnswered g z.demands) (parts : HasTypedP
           | inr d ↦
               let part : content_of g (some_part call) ≡ Some d.0 = ap (λ y. then_option y part_of_some) (call_content c.answer c.there ∙ ap Some d.1) in
               let w = put_out g (some_part call) args e.arg_tys d.0 n d.2 part in
-              let seen : call_parts false t s x ≡ Some w.values = ap (λ y. then_option (then_option y (taken_answer false g.pick call)) answered) (c.there ∙ ap Some d.1) ∙ w.out in
+              let seen : call_parts false t s x ≡ Some w.values = from_just (some_part call) c.answer d.0 w c.there d.1 in
               record {
                 binds = refl;
                 met = λ a ws j.
                     (let b = met_asking g call is_present made
                     (record { content = just d.0; held = call_content c.answer c.there ∙ ap Some d.1; meets = refl })
-                    (λ y i. absurd (not_one d.0 y (same_content g call (just d.0) (one y) (call_content c.answer c.there ∙ ap Some d.1) i)))
+                    (λ y i. absurd (one_not_just y d.0 (same_content g call (one y) (just d.0) i (call_content c.answer c.there ∙ ap Some d.1))))
                     (record { asked = a.asked; equal = a.equal }) in
                     record { asked = b.asked; equal = b.equal });
                 found = λ a. (w.values, seen);
                 inputs = λ ws j. subst (AreHere g (output_sites (some_part call) args) e.arg_tys) (some_is w.values ws (sym seen ∙ j)) w.here;
               }
         ]
-      where
-        not_one : (c : Content) (y : Value) → just c ≡ one y → ⊥
-        not_one c y i = cc
 
     term_opens : (k : Kind) → kind p t ≡ k → kind_of e ≡ k → e.ret_ty ≡ ty → Grown (open_term k t s args v).visit z → Opens g v (open_term k t s args v) e.arg_tys (parts_under k g.meaning g.pick t s x)
     term_opens (a_variant u i) q w r l =
@@ -307,7 +305,7 @@ module _ (g : Given) (z : Visit) (h : IsAnswered g z.demands) (parts : HasTypedP
     found = λ m.
         (let r = a.found (record { asked = λ y i. m.asked y (l.asked y i); equal = λ y i. m.equal y (l.equal y i) }) in
         let c = (b r.0 r.1).found m in
-        (c.0, ap (λ y. then_option y f) r.1 ∙ c.1));
+        (c.0, some_then seen f r.0 c.0 r.1 c.1));
     agree = λ e' q. (let r = from_then seen f e' q in (b r.0 r.1).agree e' r.2);
     kept = λ e' q y u i k. (let r = from_then seen f e' q in (b r.0 r.1).kept e' r.2 y u i (subst (λ vs. IsBound g e vs y u) (sym a.binds) k));
   }

@@ -14,6 +14,7 @@ use Rattle.isle_model.specs.sites.DemandedGates.{IsPureExpr, ArePureIfLets, HasN
 use Rattle.isle_model.specs.lists.Setting.{expr_type}
 use Rattle.isle_model.specs.lists.Formed.{pattern_type, formed_pattern, is_formed_expr, formed_list, formed_iflets, is_formed_rule}
 use Rattle.isle_model.proofs.Elements.{In, in_from_contains, in_either, some_is, none_some}
+use Rattle.isle_model.proofs.Options.{is_there, some_then}
 use Rattle.isle_laws_demands.proofs.visits.Visited.{all_asked, asked_binds}
 use Rattle.isle_laws_demands.proofs.visits.Patterns.{from_then}
 use Rattle.isle_laws_demands.proofs.matching.Contents.{Given, content_of, value_of, values_of, Here, IsAnswered, is_value}
@@ -166,7 +167,7 @@ module _ (g : Given) (z : Visit) (h : IsAnswered g z.demands) (parts : HasTypedP
             (let before = enough_before g u w (pattern_grown p i.lhs a.site u) m in
             let c = r.reached (λ n j. meets_present g n (before.asked (n, is_present) (in_from_contains u.demands.constraints (n, is_present) (all_asked (unwraps a.site) a.visit n j)))) in
             let d = (rest c.0 c.1).found m in
-            (d.0, ap (λ o. then_option o (holds_in i e)) c.1 ∙ d.1));
+            (d.0, some_then (value_in i e) (holds_in i e) c.0 d.0 c.1 d.1));
         agree = λ e' k. (let c = from_then (value_in i e) (holds_in i e) e' k in (rest c.0 c.1).agree e' c.2);
       }
 
@@ -192,10 +193,6 @@ pub record Matches (g : Given) (r : TypedRule) : Type 0 where
   pub met : is_some (matches_under g.program g.meaning g.pick r g.args) ≡ true → AreMet g (demands_of g.program r)
   pub found : AskEnough g (demands_of g.program r) → is_some (matches_under g.program g.meaning g.pick r g.args) ≡ true
 
-some_there : (o : Option SitedVars) → is_some o ≡ true → (e : SitedVars) × (o ≡ Some e)
-some_there None h = absurd (false≢true h)
-some_there (Some e) h = (e, refl)
-
 pub rule_matches : (g : Given) (r : TypedRule) → is_formed_rule g.program r ≡ true → ArePureIfLets g.program r.iflets → args_well_typed g.program.types (arg_types g.program r.root_term) g.args ≡ true
     → HasTypedParts g.program → HasNoPartialMulti g.program → IsAnswered g (demands_of g.program r) → Matches g r
 rule_matches g r f y t fields neither h =
@@ -213,7 +210,7 @@ rule_matches g r f y t fields neither h =
     (λ e i. iflets_past g z h fields neither r.iflets u a.mid a.vars e a.iflets y (first.agree e i) adds.grown) in
     record {
       met = λ m.
-          (let e = some_there (matches_under p g.meaning g.pick r g.args) m in
+          (let e = is_there (matches_under p g.meaning g.pick r g.args) m in
           let n = all.met (record { asked = λ x i. absurd i; equal = λ x i. absurd i }) e.0 e.1 in
           record { asked = λ x i. n.asked x (subst (λ l. In l x) adds.constraints i); equal = λ x i. n.equal x (subst (λ l. In l x) adds.equalities i) });
       found = λ m. (let e = all.found (enough_before g w z adds.grown m) in ap is_some e.1);

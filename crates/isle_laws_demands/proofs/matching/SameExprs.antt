@@ -12,8 +12,9 @@ use Rattle.isle_model.specs.lists.Setting.{expr_type, has_constructor}
 use Rattle.isle_model.specs.lists.Formed.{var_type, with_new, of_entry, is_formed_expr, are_formed_args, formed_lets}
 use Rattle.isle_model.specs.sites.DemandedGates.{IsPureExpr, ArePureExprs, ArePureLets}
 use Rattle.isle_model.proofs.Elements.{some_is}
+use Rattle.isle_model.proofs.Options.{is_there}
 use Rattle.isle_laws_demands.proofs.visits.Visited.{Same, then_same, same_binding}
-use Rattle.isle_laws_demands.proofs.visits.Patterns.{from_if, from_then, from_new, is_there}
+use Rattle.isle_laws_demands.proofs.visits.Patterns.{from_if, from_then, from_new, is_there as type_there}
 use Rattle.isle_laws_demands.proofs.visits.Exprs.{from_vars}
 use Rattle.isle_laws_demands.proofs.matching.Grown.{either}
 
@@ -35,10 +36,6 @@ term_binds unknown t a = refl
 abbrev pub AreWithin : List (ℕ × ℕ) → List (ℕ × ℕ) → Type 0
 AreWithin vars more = (x ty : ℕ) → var_type vars x ≡ Some ty → var_type more x ≡ Some ty
 
-pub type_there : (o : Option ℕ) → is_some o ≡ true → (ty : ℕ) × (o ≡ Some ty)
-type_there None h = absurd (false≢true h)
-type_there (Some ty) h = (ty, refl)
-
 pub within_new : (x ty : ℕ) (vars : List (ℕ × ℕ)) → is_some (var_type vars x) ≡ false → AreWithin vars ((x, ty) ∷ vars)
 within_new x ty vars new y u h =
     elim (cases_Bool (x == y)) [
@@ -50,7 +47,7 @@ within_new x ty vars new y u h =
     same t = eqb-true x y t
 
 same_within : (vars more : List (ℕ × ℕ)) (v w : Visit) → AreWithin vars more → Same more v w → Same vars v w
-same_within vars more v w f s x h = let t = type_there (var_type vars x) h in s x (ap is_some (f x t.0 t.1))
+same_within vars more v w f s x h = let t = is_there (var_type vars x) h in s x (ap is_some (f x t.0 t.1))
 
 -- what a let's definition is
 pub from_let : (p : Program) (x ty : ℕ) (value : TypedExpr) (rest : TypedLets) (vars more : List (ℕ × ℕ)) → formed_lets p (typed_let_and x ty value rest) vars ≡ Some more
@@ -175,7 +172,7 @@ mutual
       pure_site (kind p t) t (visit_exprs p args w) h.0
       ∙ ap (term_site (kind p t) t) (exprs_alike p args v w a.entry.arg_tys vars a.formed h.1 s)
       ∙ sym (pure_site (kind p t) t (visit_exprs p args v) h.0)
-  expr_alike p (make_var ty x) v w vars f h s = s x (is_there (var_type vars x) ty f)
+  expr_alike p (make_var ty x) v w vars f h s = s x (type_there (var_type vars x) ty f)
   expr_alike p (make_bool ty b) v w vars f h s = refl
   expr_alike p (make_int ty z) v w vars f h s = refl
   expr_alike p (make_prim ty name) v w vars f h s = refl

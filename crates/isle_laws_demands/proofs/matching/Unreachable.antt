@@ -1,5 +1,5 @@
 -- Where a rule matches, its demands can be met: an unreachable rule never matches.
-use Rattle.std.proofs.Common.{◌≡◌, ◌==◌, ℕ, zero, suc, ◌+◌, ◌<◌, ◌≤◌, Bool, true, false, List, [], ◌∷◌, length, Option, Some, None, slice_get, IsSomeAnd, IsTrue, Contains, flat_map, refl, sym, ap, subst, ◌∙◌, inl, arith, eq-eqb, eqb-true}
+use Rattle.std.proofs.Common.{◌≡◌, ◌==◌, ℕ, zero, suc, ◌+◌, ◌<◌, ◌≤◌, Bool, true, false, List, length, Option, Some, None, slice_get, IsSomeAnd, IsTrue, Contains, flat_map, refl, sym, ap, subst, ◌∙◌, inl, arith, eq-eqb, eqb-true}
 use Rattle.std.proofs.lemmas.Bool.{and_parts, cond-true}
 use Rattle.isle_model.specs.rules.Values.{Value, truth, atom, of_variant, of_struct, Values, no_value, value_and, listed, variant_types, struct_types, well_typed, all_well_typed}
 use Rattle.isle_model.specs.rules.Meaning.{Content, one, just, Meaning, bool_literal, int_literal, literal_value, constant_value}
@@ -13,8 +13,9 @@ use Rattle.isle_model.specs.sites.Demands.{Demands, demands_of}
 use Rattle.isle_model.specs.sites.Closure.{fields_from, field_terms, Joined, given, itself, turned, chained, at_field, HasConstraint, IsPartOf, IsProperPart, directly, deeper, IsUnreachable, two_at_a_site, two_in_a_class, part_of_itself}
 use Rattle.isle_model.specs.sites.Serves.{asked_by, asked, constant_site, constant_type, typed_as, written_type, written_value, has_parts, tested_constants, Serves, TellsConstantsApart}
 use Rattle.isle_model.proofs.Elements.{In, in_from_contains, contains_from_in, in_right, in_flat_map, slice_in, some_is, none_some}
+use Rattle.isle_model.proofs.Members.{get_within}
 use Rattle.isle_laws_demands.proofs.matching.Contents.{Given, content_of}
-use Rattle.isle_laws_demands.proofs.matching.Demanded.{Equal, AreMet, one_is}
+use Rattle.isle_laws_demands.proofs.matching.Demanded.{one_not_just, Equal, AreMet, one_is}
 use Rattle.isle_laws_demands.proofs.matching.FormedDemands.{AreFormed}
 use Rattle.isle_laws_demands.proofs.matching.Shapes.{HasTypes, one_type, no_variant, no_struct, atom_without_parts, as_many_values, has_form}
 
@@ -76,11 +77,6 @@ struct_size : (ty : ℕ) (fs : Values) (j : ℕ) (v : Value) → slice_get (list
 unfolding size
 struct_size ty fs j v e = let l : size v ≤ sizes fs = field_size fs j v e in omega arith
 
-element : (vs : List Value) (j : ℕ) → j < length vs → (v : Value) × (slice_get vs j ≡ Some v)
-element [] j l = absurd (omega (arith, l))
-element (v ∷ vs) zero l = (v, refl)
-element (v ∷ vs) (suc j) l = element vs j (omega (arith, l))
-
 -- a content that is a variant or a struct with all its fields
 abbrev pub HasParts : Option Content → Constraint → Type 0
 HasParts o (is_variant ty i n) = (fs : Values) × (o ≡ Some (one (of_variant ty i fs))) × (length (listed fs) ≡ n)
@@ -131,10 +127,7 @@ module _ (g : Given) (rs : List TypedRule) (types : HasTypes g.program.types) (a
       no_struct q.types (slice_get q.types x.ty) fs x.atomic (and_parts (ty == x.ty) (all_well_typed q.types (struct_types (slice_get q.types x.ty)) fs) w).1
 
   not_just : (o : Option Content) (v : Value) (c : Content) → o ≡ Some (one v) → o ≡ Some (just c) → ⊥
-  not_just o v c e f = by (sym e ∙ f)
-    where
-      by : Some (one v) ≡ Some (just c) → ⊥
-      by q = cc
+  not_just o v c e f = one_not_just v c (some_is (one v) (just c) (sym e ∙ f))
 
   variant_struct : (o : Option Content) (s i t : ℕ) (fs hs : Values) → o ≡ Some (one (of_variant s i fs)) → o ≡ Some (one (of_struct t hs)) → ⊥
   variant_struct o s i t fs hs e f = by (sym e ∙ f)
@@ -250,7 +243,7 @@ module _ (g : Given) (r : TypedRule) (rs : List TypedRule) (here : Contains rs r
   field_there (is_variant ty n fields) s x h i =
       let k = slice_in (field_terms (is_variant ty n fields) s) x i in
       let f = field_is (variant_field s n) 0 fields k.0 x k.1 in
-      let e = element (listed h.0) (0 + k.0) (let l : k.0 < fields = f.1 in let c : length (listed h.0) ≡ fields = h.2 in omega arith) in
+      let e = get_within (listed h.0) (0 + k.0) (let l : k.0 < fields = f.1 in let c : length (listed h.0) ≡ fields = h.2 in omega arith) in
       record {
         whole = of_variant ty n h.0;
         there = h.1;
@@ -264,7 +257,7 @@ module _ (g : Given) (r : TypedRule) (rs : List TypedRule) (here : Contains rs r
   field_there (is_struct ty fields) s x h i =
       let k = slice_in (field_terms (is_struct ty fields) s) x i in
       let f = field_is (struct_field s) 0 fields k.0 x k.1 in
-      let e = element (listed h.0) (0 + k.0) (let l : k.0 < fields = f.1 in let c : length (listed h.0) ≡ fields = h.2 in omega arith) in
+      let e = get_within (listed h.0) (0 + k.0) (let l : k.0 < fields = f.1 in let c : length (listed h.0) ≡ fields = h.2 in omega arith) in
       record {
         whole = of_struct ty h.0;
         there = h.1;
@@ -323,8 +316,8 @@ module _ (g : Given) (r : TypedRule) (rs : List TypedRule) (here : Contains rs r
       omega arith
 
   module _ (apart : TellsConstantsApart g.program g.meaning rs) where
-    abbrev Shape_of : Option Content → Constraint → Type 0
-    Shape_of = Shape g rs types apart
+    abbrev IsOfShape : Option Content → Constraint → Type 0
+    IsOfShape = Shape g rs types apart
 
     is_tested : (s : SiteTerm) (c : Constraint) (u : SiteTerm) → In d.constraints (s, c) → In (constant_site c) u → Contains (tested_constants p rs) u
     is_tested s c u i j =
@@ -342,7 +335,21 @@ module _ (g : Given) (r : TypedRule) (rs : List TypedRule) (here : Contains rs r
     value_typed : (o : Option Value) (f : Value → Bool) (v : Value) → o ≡ Some v → IsSomeAnd o (λ w. IsTrue (f w)) → f v ≡ true
     value_typed o f v e h = subst (λ q. IsSomeAnd q (λ w. IsTrue (f w))) e h
 
-    asked_shape : (s : SiteTerm) (c : Constraint) → In d.constraints (s, c) → Shape_of (content_of g s) c
+    -- the content of a site that is asked to be a constant
+    constant_at : (s : SiteTerm) (c : Constraint) (u : SiteTerm) (k : In d.constraints (s, c)) → In (constant_site c) u → (ty : ℕ) (v : Value) → (met.asked (s, c) k).0.content ≡ one v
+        → written_value m u ≡ Some v → written_type p u ≡ Some ty → well_typed p.types ty v ≡ true → has_parts (slice_get p.types ty) ≡ false → IsConstant g rs types apart (content_of g s) u
+    constant_at s c u k i ty v same worth written typed atomic = record {
+      value = v;
+      there = (met.asked (s, c) k).0.held ∙ ap Some same;
+      ty = ty;
+      written = written;
+      worth = worth;
+      typed = typed;
+      atomic = atomic;
+      tested = is_tested s c u k i;
+    }
+
+    asked_shape : (s : SiteTerm) (c : Constraint) → In d.constraints (s, c) → IsOfShape (content_of g s) c
     asked_shape s (is_variant ty i n) k = asked_parts s (is_variant ty i n) k
     asked_shape s (is_struct ty n) k = asked_parts s (is_struct ty n) k
     asked_shape s (is_bool b ty) k =
@@ -391,8 +398,8 @@ module _ (g : Given) (r : TypedRule) (rs : List TypedRule) (here : Contains rs r
         let f = has_form m is_present a.0.content a.0.meets in
         (f.0, a.0.held ∙ ap Some f.1)
 
-    pub shape_there : (s : SiteTerm) (c : Constraint) → HasConstraint d s c → Shape_of (content_of g s) c
-    shape_there s c h = subst (λ o. Shape_of o c) (same_contents h.source s h.joined) (asked_shape h.source c (in_from_contains d.constraints (h.source, c) h.asked))
+    pub shape_there : (s : SiteTerm) (c : Constraint) → HasConstraint d s c → IsOfShape (content_of g s) c
+    shape_there s c h = subst (λ o. IsOfShape o c) (same_contents h.source s h.joined) (asked_shape h.source c (in_from_contains d.constraints (h.source, c) h.asked))
 
     pub can_be_met : IsUnreachable d → ⊥
     can_be_met (two_at_a_site s a b i j n) =
