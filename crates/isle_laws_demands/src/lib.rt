@@ -1,5 +1,4 @@
-//! Laws of demands: their closure, unreachable rules, overlap, shadow, limits, what visits of typed rules demand, and that
-//! rules match exactly where their demands hold.
+//! Laws of demands: their closure, unreachable rules, overlap, shadow, limits, and what visits of typed rules demand.
 //!
 //! A function here has no code, or calls the laws that its proof rests on: its clause is a law, and its proof stands in
 //! `proofs/`.
