@@ -1,6 +1,7 @@
 pub mod Acyclic
 pub mod Converters
 pub mod FormedRules
+pub mod FurtherNames
 pub mod JudgedKnown
 pub mod JudgedReading
 pub mod JudgedTerms
