@@ -6,6 +6,7 @@ pub mod JudgedKnown
 pub mod JudgedReading
 pub mod JudgedTerms
 pub mod JudgedTypes
+pub mod NamesOfTables
 pub mod OwnTypes
 pub mod TermLaws
 pub mod TermTypes

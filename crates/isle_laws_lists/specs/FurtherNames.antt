@@ -1,11 +1,13 @@
 -- That having a typed rule doesn't depend on further names: they change the numbers of later names, and nothing else.
-use Rattle.std.specs.Prelude.{◌≡◌, ℕ, ◌<◌, List, ◌++◌, length, Option, Some, None, slice_get}
-use Rattle.isle_model.specs.lists.Syntax.{RuleTree}
+use Rattle.std.specs.Prelude.{◌≡◌, ℕ, ◌<◌, List, ◌++◌, length, Option, Some, None, slice_get, Bool}
+use Rattle.isle_model.specs.lists.Syntax.{RuleTree, Definition}
 use Rattle.isle_model.specs.lists.Names.{IsDistinct}
 use Rattle.isle_model.specs.lists.Tables.{TermEntry}
 use Rattle.isle_model.specs.lists.Setting.{Setting}
 use Rattle.isle_model.specs.lists.Typings.{Typing}
 use Rattle.isle_model.specs.lists.Elaborated.{elaborated_rule, few_enough}
+use Rattle.isle_model.specs.lists.TermTable.{term_names_met}
+use Rattle.isle_model.specs.claims.Environments.{TypesRead, AreReadable, setting_of}
 
 -- tables speak of the first names alone, so many
 pub record SpeaksOfNames (e : Setting) (n : ℕ) : Type 0 where
@@ -26,3 +28,11 @@ FurtherNamesDontMatter =
     (e : Setting) (d id : ℕ) (r : RuleTree) (names more : List (List ℕ)) → SpeaksOfNames e (length names) → IsDistinct (names ++ more)
     → AreThereAlike (elaborated_rule e d id r names) (elaborated_rule e d id r (names ++ more))
     × AreThereAlike (few_enough (elaborated_rule e d id r names)) (few_enough (elaborated_rule e d id r (names ++ more)))
+
+-- so the rules of a list are read from the names of its terms, whatever names the rules before them met
+abbrev pub NamesOfRulesDontMatter : Type 0
+NamesOfRulesDontMatter =
+    (e : TypesRead) (defs : List Definition) (expand : Bool) (d id : ℕ) (r : RuleTree) (more : List (List ℕ))
+    → AreReadable e → IsDistinct (term_names_met e.known defs ++ more)
+    → AreThereAlike (elaborated_rule (setting_of e defs expand) d id r (term_names_met e.known defs)) (elaborated_rule (setting_of e defs expand) d id r (term_names_met e.known defs ++ more))
+    × AreThereAlike (few_enough (elaborated_rule (setting_of e defs expand) d id r (term_names_met e.known defs))) (few_enough (elaborated_rule (setting_of e defs expand) d id r (term_names_met e.known defs ++ more)))
