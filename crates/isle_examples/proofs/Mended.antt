@@ -1,5 +1,5 @@
 -- The smallest inputs behind choices of statements do what is said of them.
-use Rattle.std.proofs.Common.{◌≡◌, ◌⊎◌, ℕ, zero, suc, pos, true, false, List, [], ◌∷◌, length, Option, Some, None, is_some, slice_get, Contains, All, IsTrue, refl, sym, ap, ◌∙◌, subst, inl, inr, arith}
+use Rattle.std.proofs.Common.{◌≡◌, ◌==◌, ◌⊎◌, ℕ, zero, suc, pos, true, false, List, [], ◌∷◌, length, Option, Some, None, is_some, slice_get, Contains, All, IsTrue, refl, sym, ap, ◌∙◌, subst, inl, inr, arith, Bool, cond, codes}
 use Rattle.std.proofs.lemmas.Bool.{false≢true}
 use Rattle.std.proofs.lemmas.Option.{none-some, same_Some}
 use Rattle.std.proofs.lemmas.List.Elements.{All-nil, All-cons, All-contains}
@@ -13,10 +13,19 @@ use Rattle.isle_model.specs.trees.SetRuns.{IsPureAt, ServesTests, HasNoWrongOver
 use Rattle.isle_model.proofs.Members.{nothing_in, in_alone, in_cases, in_head, in_tail}
 use Rattle.isle_model.specs.sites.Overlap.{built_rules}
 use Rattle.isle_model.specs.sites.Demands.{constraint_eq}
+use Rattle.isle_model.specs.lists.TypeTable.{IsValidTypes}
+use Rattle.isle_model.specs.claims.Environments.{types_read}
+use Rattle.isle_model.specs.claims.Refusals.{Refusal, past_limit, of_nesting, IsIllTyped}
+use Rattle.isle_model.specs.claims.Layers.{RefusedBy, by_types, by_rules, by_check, IsAccepted}
+use Rattle.isle_laws_demands.proofs.overlaps.Judged.{lists_are_accepted_lem}
+use Rattle.isle_laws_lists.proofs.JudgedTerms.{terms_are_judged_lem}
 use Rattle.isle_examples.specs.MeaningForms.{v}
 use Rattle.isle_examples.specs.SetForms.{is_byte}
 use Rattle.isle_examples.specs.TypedForms.{own}
-use Rattle.isle_examples.specs.Mended.{wrapped_call, wrapped_two, wrapped_sites, wrapped_set, wrapped_meaning, wrapped_world, AboveCallsNothingIsAsked, third_program, third_rule, built_one, built_two, ThirdRulesDontCount, at_one, at_any, at_two, OverlapsMayHoldTwice}
+use Rattle.isle_examples.specs.Mended.{wrapped_call, wrapped_two, wrapped_sites, wrapped_set, wrapped_meaning, wrapped_world, AboveCallsNothingIsAsked, third_program, third_rule, built_one, built_two, ThirdRulesDontCount, at_one, at_any, at_two, OverlapsMayHoldTwice, NamelessIsNotAnswered, LookUpsHaveNoList, LimitsAreNamedWherePassed, two_unbound, SecondIsReadAlone, EmptySetsAreBuilt}
+use Rattle.isle_examples.specs.Written.{at}
+use Rattle.isle_examples.specs.Fall.{fall_defs, fall_rules}
+use Rattle.isle_examples.specs.Refused.{two_of_one_name}
 
 -- 1. above an impure call
 -- the one constraint of the rules
@@ -113,3 +122,61 @@ overlaps_may_hold_twice_lem = (
   (λ once. zero_one (once 0 1 at_one at_any refl refl refl refl refl)),
   apart_here,
 )
+
+-- 4. names
+is_nothing : List (List ℕ) → Bool
+is_nothing [] = true
+is_nothing (x ∷ xs) = false
+
+pub nameless_is_not_answered_lem : NamelessIsNotAnswered
+unfolding is_nothing
+nameless_is_not_answered_lem types terms lowered none h = false≢true (sym (ap is_nothing (sym none ∙ h.environments.types.names)))
+
+-- 5. look-ups
+first_counts : (b : Bool) (x y : ℕ) → cond b (Some x) (cond b (Some y) None) ≡ cond b (Some x) None
+first_counts true x y = refl
+first_counts false x y = refl
+
+pub look_ups_have_no_list_lem : LookUpsHaveNoList
+look_ups_have_no_list_lem k = first_counts (1 == k) 10 11
+
+-- 6. refusals
+not_valid : IsValidTypes two_of_one_name → ⊥
+not_valid v = (let e = v.distinct 13 14 (codes "T") refl refl in omega (arith, e))
+
+only_ill_typed : (expand : Bool) (errors : List Refusal) → RefusedBy two_of_one_name expand errors → All IsIllTyped errors
+only_ill_typed expand errors (by_types es r) = r.forms
+only_ill_typed expand errors (by_rules es v r) = absurd (not_valid v)
+only_ill_typed expand errors (by_check rules reports r c) = absurd (not_valid r.types)
+
+fall_is_accepted : IsAccepted fall_defs true fall_rules
+fall_is_accepted = (lists_are_accepted_lem fall_defs true fall_rules).0 refl
+
+pub limits_are_named_where_passed_lem : LimitsAreNamedWherePassed
+limits_are_named_where_passed_lem = (
+  (λ expand r. All-contains IsIllTyped (past_limit of_nesting (at 0) ∷ []) (past_limit of_nesting (at 0)) (only_ill_typed expand (past_limit of_nesting (at 0) ∷ []) r) (in_head (past_limit of_nesting (at 0)) [])),
+  (λ reports c. c.refused fall_is_accepted.checkable),
+)
+
+-- 8. limits of reading
+pub second_is_read_alone_lem : SecondIsReadAlone
+second_is_read_alone_lem =
+    let terms = (terms_are_judged_lem (types_read two_unbound).known two_unbound).0 refl in
+    (record { terms = terms; rule = _; here = refl; none = refl }, record { terms = terms; rule = _; here = refl; none = refl })
+
+-- 10. a set without rules
+pub empty_sets_are_built_lem : EmptySetsAreBuilt
+empty_sets_are_built_lem = record {
+  types = types_read fall_defs;
+  defs = fall_defs;
+  expand = true;
+  rules = fall_rules;
+  term = 1;
+  elaborated = fall_is_accepted.read.elaborated;
+  built = record {
+    rules = tt;
+    sites = record { exact = λ s l. absurd (omega (arith, l)); count = refl };
+    few = omega arith;
+    sources = λ s a c. absurd (nothing_in a c);
+  };
+}

@@ -1,28 +1,40 @@
 -- Samples that tell apart what a statement asks from what it might ask: the smallest inputs behind choices of statements.
-use Rattle.std.specs.Prelude.{◌≡◌, ◌∷◌, [], pos, false, List, None, All, IsTrue, is_some, slice_get, ℕ, true, codes, Some, option_map}
-use Rattle.isle_model.specs.rules.Meaning.{Meaning, nothing, many}
-use Rattle.isle_model.specs.sites.Sites.{SetRule, Site, SiteSet, argument_site, constructor_site, make_variant_site, sources_at, extractor_site, iterator_site, make_some_site, match_some_site, extractor_call}
+use Rattle.std.specs.Prelude.{◌≡◌, ◌∷◌, [], pos, false, List, None, All, IsTrue, is_some, slice_get, ℕ, true, codes, Some, option_map, Bool}
+use Rattle.isle_model.specs.rules.Meaning.{Meaning, nothing, many, look}
+use Rattle.isle_model.specs.sites.Sites.{SetRule, Site, SiteSet, argument_site, constructor_site, make_variant_site, sources_at, extractor_site, iterator_site, make_some_site, match_some_site, extractor_call, is_present, is_variant, match_variant_site}
 use Rattle.isle_model.specs.trees.Collects.{content_at}
 use Rattle.isle_model.specs.trees.Places.{waits}
 use Rattle.isle_model.specs.trees.Run.{World, run, world_of}
 use Rattle.isle_model.specs.trees.SetRuns.{IsPureAt, ServesTests, HasNoWrongOverlap, HoldsOnce}
 use Rattle.isle_model.specs.claims.Headline.{IsWithoutMulti}
-use Rattle.isle_model.specs.claims.Layers.{own_program}
+use Rattle.isle_model.specs.claims.Layers.{own_program, CheckReports, IsBuiltForSome, LoweredTerm, LoweringAnswers, RefusedBy}
 use Rattle.isle_model.specs.claims.SetMeanings.{AreRulesWithoutCalls, returning_once}
 use Rattle.isle_model.specs.lists.Elaborated.{TypedRules}
 use Rattle.isle_model.specs.lists.Syntax.{Definition, declaration}
 use Rattle.isle_model.specs.rules.Program.{Program}
 use Rattle.isle_model.specs.rules.Typed.{TypedRule, make_int, make_var, match_int, match_term, make_term, match_any}
 use Rattle.isle_model.specs.sites.Limits.{sites_after_rules}
-use Rattle.isle_model.specs.sites.Overlap.{BuiltRule, Overlaps, built_rule}
-use Rattle.isle_model.specs.rules.Outcome.{Outcome, failed, ran_through}
+use Rattle.isle_model.specs.sites.Overlap.{BuiltRule, Overlaps, built_rule, RuleReport}
+use Rattle.isle_model.specs.rules.Outcome.{Outcome, failed, ran_through, no_rule}
 use Rattle.isle_model.specs.rules.Picks.{Pick, matches_under, right_side_under}
 use Rattle.isle_model.specs.rules.RightSide.{right_side}
 use Rattle.isle_model.specs.trees.Trees.{Tree, loop_at, no_step, step}
+use Rattle.std.specs.Bool.{◌==◌}
+use Rattle.isle_model.specs.claims.Environments.{AnswersBy, PassesNesting, TermEnvironment, TypeEnvironment, types_read}
+use Rattle.isle_model.specs.claims.Refusals.{of_nesting, past_limit}
+use Rattle.isle_model.specs.lists.Signatures.{Signature, constructor_signature, extractor_signature, gives_one, gives_one_or_none}
+use Rattle.isle_model.specs.lists.Tables.{TermEntry}
+use Rattle.isle_model.specs.rules.Choice.{choice}
+use Rattle.isle_model.specs.sites.SetRules.{IsFoundAs, may_fit, sites_brought}
+use Rattle.isle_model.specs.trees.Judge.{is_best_tree}
 use Rattle.isle_examples.specs.MeaningForms.{given, literal, mute, all_of, alone, answers, v}
 use Rattle.isle_examples.specs.SetForms.{a_rule, byte, is_byte, a0, returning}
-use Rattle.isle_examples.specs.TypedForms.{own, bind_any, q_list, rules_and_names, typed, typed_var, u8, e_list}
-use Rattle.isle_examples.specs.Written.{extractor_by, f_of_bytes, int, number, numbers, of_f, rule_first, rule_to, term, var, variable, any, call, constructor_by}
+use Rattle.isle_examples.specs.TypedForms.{own, bind_any, q_list, rules_and_names, typed, typed_var, u8, e_list, by_constructor, by_extractor, entry, make_let_one, no_flags, number_term, typed_iflet}
+use Rattle.isle_examples.specs.Written.{extractor_by, f_of_bytes, int, number, numbers, of_f, rule_first, rule_to, term, var, variable, any, call, constructor_by, let_one, name, rule_if, at}
+use Rattle.isle_examples.specs.Fall.{fall_defs, fall_rules}
+use Rattle.isle_examples.specs.Refused.{two_of_one_name}
+use Rattle.isle_examples.specs.Stages.{Becomes}
+use Rattle.isle_examples.specs.Used.{used_rule, used_rules, used_defs, used_set, used_tree}
 
 -- 1. What stands above an impure call is asked of rules that match alone.
 --   (type T (enum (P (a u8))))
@@ -191,3 +203,102 @@ OverlapsMayHoldTwice =
     (HasNoWrongOverlap (at_one ∷ at_any ∷ []) → ⊥)
     × (HoldsOnce (at_one ∷ at_any ∷ []) one_or_two_world → ⊥)
     × HasNoWrongOverlap (at_one ∷ at_two ∷ [])
+
+-- 4. What lowering gives has the names that were met.
+abbrev pub NamelessIsNotAnswered : Type 0
+NamelessIsNotAnswered =
+    (types : TypeEnvironment) (terms : TermEnvironment) (lowered : List LoweredTerm) → types.names ≡ [] → LoweringAnswers fall_defs true types terms fall_rules lowered → ⊥
+
+-- 5. A look-up has no list: two lists may be behind one.
+abbrev pub LookUpsHaveNoList : Type 0
+LookUpsHaveNoList = AnswersBy (λ k. look (λ n. n == k) ((1, 10) ∷ ((1, 11) ∷ []))) ((1, 10) ∷ [])
+
+-- 6. Of types that aren't valid no error names a limit; and nothing is reported of rules that can be told apart, whatever
+-- stands at one position.
+abbrev pub LimitsAreNamedWherePassed : Type 0
+LimitsAreNamedWherePassed =
+    ((expand : Bool) → RefusedBy two_of_one_name expand (past_limit of_nesting (at 0) ∷ []) → ⊥)
+    × ((reports : List RuleReport) → CheckReports (own_program fall_defs fall_rules) reports → ⊥)
+
+-- 8. Behind a rule that has no typed rule the limits are those of the names of the terms.
+--   (decl f (u8) u8)
+--   (rule (f _) y)
+--   (rule (f _) z)
+abbrev pub two_unbound : List Definition
+two_unbound = f_of_bytes 0 1 ∷ rule_to 1 (of_f 1 (any 1 ∷ [])) (variable 1 (codes "y")) ∷ rule_to 2 (of_f 2 (any 2 ∷ [])) (variable 2 (codes "z")) ∷ []
+
+abbrev pub SecondIsReadAlone : Type 0
+SecondIsReadAlone = PassesNesting (types_read two_unbound) two_unbound true 0 × PassesNesting (types_read two_unbound) two_unbound true 1
+
+-- 10. A set without rules and sites is built for some list: of a term that has no rules.
+abbrev pub EmptySetsAreBuilt : Type 0
+EmptySetsAreBuilt = IsBuiltForSome (record { rules = []; sites = [] })
+
+-- 14. Signatures, and what constraints and sets answer of sites.
+--   (decl w (u8) T), (extern constructor w w_fn), (extern extractor w w_ex)
+abbrev pub names_of_w : List (List ℕ)
+names_of_w = codes "w" ∷ codes "w_fn" ∷ codes "w_ex" ∷ []
+
+abbrev pub signed : List ℕ → List ℕ → Signature
+signed params rets = record { func_name = codes "w_fn"; full_name = codes "C::w_fn"; param_tys = params; ret_tys = rets; ret_kind = gives_one }
+
+abbrev pub SignaturesOfW : Type 0
+SignaturesOfW =
+    (constructor_signature names_of_w (entry 0 0 0 (u8 ∷ []) own (by_constructor no_flags 1)) ≡ Some (signed (u8 ∷ []) (own ∷ [])))
+    × (extractor_signature names_of_w (entry 0 0 0 (u8 ∷ []) own (by_constructor no_flags 1)) ≡ None)
+    × (extractor_signature names_of_w (entry 0 0 0 (u8 ∷ []) own (by_extractor no_flags 2 0))
+    ≡ Some (record { func_name = codes "w_ex"; full_name = codes "C::w_ex"; param_tys = own ∷ []; ret_tys = u8 ∷ []; ret_kind = gives_one_or_none }))
+
+abbrev pub SitesAreBrought : Type 0
+SitesAreBrought =
+    (sites_brought is_present 0 ≡ match_some_site 0 ∷ [])
+    × (sites_brought (is_variant own 1 2) 0 ≡ match_variant_site 0 1 0 ∷ (match_variant_site 0 1 1 ∷ []))
+    × (sites_brought (is_byte 1) 0 ≡ [])
+    × (may_fit (is_variant own 1 1) (make_variant_site own 0 (2 ∷ [])) ≡ false)
+    × (may_fit (is_byte 1) (byte 2) ≡ false)
+    × (may_fit (is_byte 1) (argument_site 0) ≡ true)
+
+-- 15. A partial call that an if-let leaves unused demands nothing, and one that it uses does.
+--   (decl pure partial pp (u8) u8)
+--   (extern constructor pp pp_fn)
+--   (decl f (u8) u8)
+--   (rule (f x) (if-let _ (let ((y u8 (pp x))) x)) 7), or with y in the place of the last x
+abbrev pub idle_defs : List Definition
+idle_defs =
+    declaration (record (numbers 0 (codes "pp")) { pure = true; partial = true }) ∷ constructor_by 1 (codes "pp") (codes "pp_fn") ∷ f_of_bytes 2 1
+    ∷ rule_if 3 (of_f 3 (var 3 (codes "x") ∷ [])) (any 3)
+    (let_one 3 (codes "y") (codes "u8") (call 3 (codes "pp") (variable 3 (codes "x") ∷ [])) (variable 3 (codes "x"))) (number 3 (pos 7)) ∷ []
+
+abbrev pub idle_rule : TypedRule
+idle_rule = record used_rule { iflets = typed_iflet (match_any u8) (make_let_one u8 1 u8 (make_term u8 0 (e_list (make_var u8 0 ∷ []))) (make_var u8 0)) ∷ [] }
+
+abbrev pub idle_rules : TypedRules
+idle_rules = record used_rules { rules = idle_rule ∷ [] }
+
+abbrev pub idle_set : SiteSet
+idle_set = record { rules = record (a_rule 0 3 (pos 0) [] [] 3) { name = Some 14 } ∷ []; sites = used_set.sites }
+
+abbrev pub idle_tree : Tree
+idle_tree = returning [] 3 3 no_step
+
+-- the call answers nothing
+abbrev pub pp_fails : Meaning
+pp_fails = record (mute (literal (pos 7) ∷ [])) { pure_calls = ((0, alone (pos 1)), nothing) ∷ [] }
+
+abbrev pub idle_program : Program
+idle_program = own_program idle_defs idle_rules
+
+abbrev pub used_program : Program
+used_program = own_program used_defs used_rules
+
+-- where the call answers nothing the one rule's result is still 7, and the other rule doesn't match
+abbrev pub UnusedCallsDemandNothing : Type 0
+UnusedCallsDemandNothing =
+    Becomes idle_defs true (Some idle_rules)
+    × Becomes used_defs true (Some used_rules)
+    × (is_best_tree idle_set idle_tree ≡ true)
+    × (is_best_tree used_set used_tree ≡ true)
+    × (choice idle_program pp_fails idle_rules.rules (given (pos 1)) ≡ answers (pos 7))
+    × (run idle_tree (world_of idle_program 1 idle_set.sites pp_fails (given (pos 1))) ≡ answers (pos 7))
+    × (choice used_program pp_fails used_rules.rules (given (pos 1)) ≡ no_rule)
+    × (run used_tree (world_of used_program 1 used_set.sites pp_fails (given (pos 1))) ≡ no_rule)

@@ -488,7 +488,7 @@ pub fn lists_refused()
     ensures lowering { SamplesAreRefused }
 {}
 
-ghost use Rattle.isle_examples.specs.Mended.{AboveCallsNothingIsAsked, ThirdRulesDontCount, ReturnsOfMultiTermsGoOn, RightSidesFailUnderPicks, OverlapsMayHoldTwice};
+ghost use Rattle.isle_examples.specs.Mended.{AboveCallsNothingIsAsked, ThirdRulesDontCount, ReturnsOfMultiTermsGoOn, RightSidesFailUnderPicks, OverlapsMayHoldTwice, NamelessIsNotAnswered, LookUpsHaveNoList, LimitsAreNamedWherePassed, SecondIsReadAlone, EmptySetsAreBuilt, SignaturesOfW, SitesAreBrought, UnusedCallsDemandNothing};
 
 /// A world that has what tests ask may have no content for a construction above an impure call that is never made.
 #[tactic(auto, using(crate::proofs::Mended::above_calls_nothing_is_asked_lem))]
@@ -516,4 +516,49 @@ pub fn right_sides_fail_under_picks()
 #[tactic(auto, using(crate::proofs::Mended::overlaps_may_hold_twice_lem))]
 pub fn overlaps_may_hold_twice()
     ensures { OverlapsMayHoldTwice }
+{}
+
+/// What lowering gives has the names that were met.
+#[tactic(auto, using(crate::proofs::Mended::nameless_is_not_answered_lem))]
+pub fn nameless_is_not_answered()
+    ensures { NamelessIsNotAnswered }
+{}
+
+/// One look-up answers by two lists.
+#[tactic(auto, using(crate::proofs::Mended::look_ups_have_no_list_lem))]
+pub fn look_ups_have_no_list()
+    ensures { LookUpsHaveNoList }
+{}
+
+/// No error names a limit of a list whose types aren't valid, and nothing is reported of rules that can be told apart.
+#[tactic(auto, using(crate::proofs::Mended::limits_are_named_where_passed_lem))]
+pub fn limits_are_named_where_passed()
+    ensures { LimitsAreNamedWherePassed }
+{}
+
+/// A rule behind one that has no typed rule is read from the names of the terms.
+#[tactic(auto, using(crate::proofs::Mended::second_is_read_alone_lem))]
+pub fn second_is_read_alone()
+    ensures { SecondIsReadAlone }
+{}
+
+/// A set without rules is built for some list.
+#[tactic(auto, using(crate::proofs::Mended::empty_sets_are_built_lem))]
+pub fn empty_sets_are_built()
+    ensures { EmptySetsAreBuilt }
+{}
+
+/// The signatures of a term with external functions.
+pub fn signatures_of_w()
+    ensures { SignaturesOfW }
+{}
+
+/// The sites that matching brings, and which constraints may fit a site.
+pub fn sites_are_brought()
+    ensures { SitesAreBrought }
+{}
+
+/// A partial call that an if-let leaves unused demands nothing, and one that it uses does.
+pub fn unused_calls_demand_nothing()
+    ensures { UnusedCallsDemandNothing }
 {}

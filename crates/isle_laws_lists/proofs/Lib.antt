@@ -1,10 +1,12 @@
 pub mod Acyclic
 pub mod Converters
 pub mod FormedRules
+pub mod FurtherNames
 pub mod JudgedKnown
 pub mod JudgedReading
 pub mod JudgedTerms
 pub mod JudgedTypes
+pub mod NamesOfTables
 pub mod OwnTypes
 pub mod TermLaws
 pub mod TermTypes

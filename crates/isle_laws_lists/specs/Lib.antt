@@ -1,3 +1,4 @@
+pub mod FurtherNames
 pub mod JudgeLaws
 pub mod OwnTypes
 pub mod TableLaws

@@ -3,6 +3,7 @@
 //! A function here has an empty body: its clause is a law, and its proof stands in `proofs/`.
 #![tactic(auto)]
 
+ghost use Rattle.isle_laws_lists.specs.FurtherNames.{FurtherNamesDontMatter, NamesOfRulesDontMatter};
 ghost use Rattle.isle_laws_lists.specs.TypingLaws.{PatternsAgree, ExprsAgree, RulesAgree, TypedWithinLimits, ListsAgree, MoreMayNest, PatternsOneWay, ExprsOneWay, RulesOneWay};
 ghost use Rattle.isle_laws_lists.specs.TypingResults.{TypesAreExpected, VariablesAtPlaces, NamesStay, NamesStayInLists};
 ghost use Rattle.isle_model.specs.lists.Formed.{RulesAreFormed};
@@ -209,4 +210,14 @@ pub fn lists_are_read()
 /// It gives nothing exactly where a list isn't read.
 pub fn lists_are_refused()
     ensures { ListsAreRefused }
+{}
+
+/// Having a typed rule doesn't depend on further names.
+pub fn further_names_dont_matter()
+    ensures { FurtherNamesDontMatter }
+{}
+
+/// So a rule of a list is read from the names of the list's terms, whatever names the rules before it met.
+pub fn names_of_rules_dont_matter()
+    ensures { NamesOfRulesDontMatter }
 {}

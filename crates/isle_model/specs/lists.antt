@@ -8,6 +8,7 @@ pub mod KnownTypes
 pub mod ListJudge
 pub mod Names
 pub mod Setting
+pub mod Signatures
 pub mod Syntax
 pub mod Tables
 pub mod TermTable

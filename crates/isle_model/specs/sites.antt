@@ -7,4 +7,5 @@ pub mod Limits
 pub mod Overlap
 pub mod RuleSets
 pub mod Serves
+pub mod SetRules
 pub mod Sites
