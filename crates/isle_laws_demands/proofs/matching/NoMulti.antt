@@ -18,7 +18,7 @@ use Rattle.isle_model.proofs.Elements.{In, in_from_contains, contains_from_in, i
 use Rattle.isle_laws_lists.proofs.TermLaws.{terms_stand_at_ids_lem}
 use Rattle.isle_laws_lists.proofs.TypedRules as typed
 use Rattle.isle_laws_runs.specs.WithoutMulti.{WhereKnown, PatternCallsNoMulti, PatternsCallNoMulti, ExprCallsNoMulti, ExprsCallNoMulti, LetsCallNoMulti, ArgsCallNoMulti, IfLetsCallNoMulti}
-use Rattle.isle_laws_runs.proofs.picks.NoIterators.{no_multi_is_no_iterators_lem}
+use Rattle.isle_laws_runs.proofs.picks.OnePick.{no_iterators}
 use Rattle.isle_laws_runs.proofs.picks.Plain.{from_to_count, output_count}
 use Rattle.isle_laws_demands.specs.MatchLaws.{RulesWithoutMultiGoOverNoCalls, RulesWithoutMultiAreToldApart}
 use Rattle.isle_laws_demands.specs.BuiltLaws.{BuiltDemandsAreWhole}
@@ -183,7 +183,7 @@ rules_without_multi_go_over_no_calls_lem e defs expand rules t h without r c =
     (contains_from_in (asked p (rules_of p t)) (extractor_call n y)
     (in_flat_map (λ (q : TypedRule). asked_by (demands_of p q)) (rules_of p t) r (extractor_call n y) (in_from_contains (rules_of p t) r c)
     (in_left (demands_of p r).made (flat_map (λ (x : SiteTerm × Constraint). constant_site x.1) (demands_of p r).constraints) (extractor_call n y) i))) in
-    (no_multi_is_no_iterators_lem p r).0
+    no_iterators p r
     (record {
       patterns = args_single p z none 0 r.args visit_start (then_grown u w z (iflets_grown p r.iflets u) adds.grown);
       conditions = conditions_single p z none r.iflets u s.0 adds.grown;

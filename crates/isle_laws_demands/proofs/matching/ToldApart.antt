@@ -13,7 +13,7 @@ use Rattle.isle_model.specs.sites.Overlap.{BuiltRule, built_rules, AreAmong}
 use Rattle.isle_model.specs.claims.Environments.{program_of}
 use Rattle.isle_model.proofs.Elements.{in_from_contains, contains_from_in}
 use Rattle.isle_laws_runs.specs.WithoutMulti.{without_sites}
-use Rattle.isle_laws_runs.proofs.picks.NoIterators.{no_multi_is_no_iterators_lem}
+use Rattle.isle_laws_runs.proofs.picks.NoIterators.{calls_no_multi}
 use Rattle.isle_laws_runs.proofs.picks.OnePick.{bag_as_plain_lem}
 use Rattle.isle_laws_runs.proofs.picks.Plain.{matches_as_plain_lem}
 use Rattle.isle_laws_demands.specs.BuiltLaws.{BuiltDemandsAreWhole}
@@ -36,10 +36,10 @@ still_there (Some e) = refl
 
 empty_pick : (p : Program) (m : Meaning) (args : List Value) (r : TypedRule) → (demands_of p r).iterators ≡ [] → Contains (picks p m args r) []
 empty_pick p m args r h =
-    subst (λ l. Contains l []) (sym (bag_as_plain_lem p m args r ((no_multi_is_no_iterators_lem p r).1 h)).0) (contains_from_in ([] ∷ []) [] (inl refl))
+    subst (λ l. Contains l []) (sym (bag_as_plain_lem p m args r (calls_no_multi p r h)).0) (contains_from_in ([] ∷ []) [] (inl refl))
 
 same_match : (p : Program) (m : Meaning) (args : List Value) (r : TypedRule) → (demands_of p r).iterators ≡ [] → is_some (matches_under p m [] r args) ≡ is_some (matches p m r args)
-same_match p m args r h = sym (still_there (matches_under p m [] r args)) ∙ ap is_some (matches_as_plain_lem p m [] r args ((no_multi_is_no_iterators_lem p r).1 h))
+same_match p m args r h = sym (still_there (matches_under p m [] r args)) ∙ ap is_some (matches_as_plain_lem p m [] r args (calls_no_multi p r h))
 
 -- 2. the closed demands of built rules
 built_follows : (p : Program) (t : ℕ) (b : BuiltRule) → Contains (built_rules p t) b → FollowsSoFar (demands_of p b.rule) b.demands
