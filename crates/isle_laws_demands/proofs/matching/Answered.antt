@@ -39,7 +39,7 @@ parts_held m args _ _ (holds_some a) = tt
 parts_held m args _ _ (holds_part a) = tt
 parts_held m args _ _ (holds_tuple_part a e) = tt
 
-struct_holds : (m : Meaning) (args : List Value) (ty : ℕ) (ss : SiteTerms) (vs : Values) → Holds m args (struct_made ty ss) (one (of_struct ty vs)) → HoldsAll m args ss vs
+pub struct_holds : (m : Meaning) (args : List Value) (ty : ℕ) (ss : SiteTerms) (vs : Values) → Holds m args (struct_made ty ss) (one (of_struct ty vs)) → HoldsAll m args ss vs
 struct_holds m args ty ss vs h = parts_held m args (struct_made ty ss) (one (of_struct ty vs)) h
 
 -- what is there
