@@ -1,5 +1,5 @@
 pub mod closure
 pub mod matching
 pub mod overlaps
-pub mod visits
 pub mod taken
+pub mod visits
