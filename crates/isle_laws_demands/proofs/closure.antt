@@ -2,7 +2,6 @@
 pub mod BuiltRules
 pub mod Classes
 pub mod Closing
-pub mod EachTake
 pub mod Ending
 pub mod LimitsPassed
 pub mod Names
