@@ -21,7 +21,7 @@ use Rattle.isle_types.specs.TypeViews.{type_views}
 use Rattle.isle_types.proofs.LastTypes.{last_read}
 use Rattle.isle_model.proofs.ByNumber.{by_text, then_with}
 use Rattle.isle_model.proofs.Names.{with_missing, number_stays}
-use Rattle.isle_types.proofs.SoFar.{reads_on, reads_wrong}
+use Rattle.isle_types.proofs.SoFar.{reads_on, reads_wrong, reads_same}
 
 module _ (defs rest : List Definition) (name ty : Name) (at : Position) (old : TypeEnv) (i : IsInterned old) (n : TypingConstants defs (extern_definition (extern_const name ty at) ∷ rest) old) where
   abbrev constant : ConstantTree
@@ -67,8 +67,7 @@ step_read defs rest name ty at old new es es' i i' s (inr a) =
 -- after another one
 step_other : (defs rest rest' : List Definition) (old new : TypeEnv) (es es' : List Error) → constant_trees rest' ≡ constant_trees rest → ReadsConstants defs rest old es → (es' ≡ es) × (new ≡ old) → ReadsConstants defs rest' new es'
 step_other defs rest rest' old new es es' same s a =
-    subst (λ env. ReadsConstants defs rest' env es') (sym a.1)
-    (reads_on defs (TypingConstants defs rest) (TypingConstants defs rest') old old es es' s.inverse a.0
+    reads_same defs (TypingConstants defs rest) (TypingConstants defs rest') old new es es' a
     (λ n. record {
       ids = n.ids;
       known = n.known;
@@ -82,7 +81,7 @@ step_other defs rest rest' old new es es' same s a =
       constants = n.constants;
       of_known = λ h. n.of_known (subst (All (IsOfKnownType defs)) same h);
       left = λ v. subst (All (IsOfKnownType defs)) (sym same) (n.left v);
-    }) s)
+    }) s
 
 step_constant : (defs rest : List Definition) (d : Definition) (old new : TypeEnv) (es es' : List Error) → IsInterned old → IsInterned new → ReadsConstants defs (d ∷ rest) old es → ReadsDefinition d old es new es' → ReadsConstants defs rest new es'
 step_constant defs rest (type_definition t) old new es es' i i' s a = step_other defs (type_definition t ∷ rest) rest old new es es' refl s a
