@@ -37,14 +37,7 @@ module _ (defs rest : List Definition) (t : TypeTree) (old : TypeEnv) (n : Namin
   name_wrong a v =
       twice n.named (type_names rest) (builtin_names ++ type_names defs) t.name.text a.id v.distinct n.whole (sym (type_of_text old n.named n.sees t.name.text) ∙ a.taken)
 
--- after a definition of a type
-step_type : (defs rest : List Definition) (t : TypeTree) (old new : TypeEnv) (es es' : List Error) → IsInterned new → NamesTypes defs (type_definition t ∷ rest) old es → ((es' ≡ es) × NamesType t.name.text old new × (new.types ≡ old.types)) ⊎ (Reports es es' × IsTakenByType t.name.text old) → NamesTypes defs rest new es'
-step_type defs rest t old new es es' i s (inl a) =
-    reads_on defs (Naming defs (type_definition t ∷ rest)) (Naming defs rest) old new es es' i a.0 (λ n. name_right defs rest t old n new i a.1 a.2) s
-step_type defs rest t old new es es' i s (inr a) =
-    reads_wrong defs (Naming defs (type_definition t ∷ rest)) (Naming defs rest) old new es es' i a.0 (λ n. name_wrong defs rest t old n a.1) s
-
--- after another one
+-- after a definition of something else
 step_other : (defs rest rest' : List Definition) (old new : TypeEnv) (es es' : List Error) → type_names rest' ≡ type_names rest → NamesTypes defs rest old es → (es' ≡ es) × (new ≡ old) → NamesTypes defs rest' new es'
 step_other defs rest rest' old new es es' same s a =
     reads_same defs (Naming defs rest) (Naming defs rest') old new es es' a
@@ -58,7 +51,10 @@ step_other defs rest rest' old new es es' same s a =
     }) s
 
 pub step_name : (defs rest : List Definition) (d : Definition) (old new : TypeEnv) (es es' : List Error) → IsInterned new → NamesTypes defs (d ∷ rest) old es → NamesDefinition d old es new es' → NamesTypes defs rest new es'
-step_name defs rest (type_definition t) old new es es' i s a = step_type defs rest t old new es es' i s a
+step_name defs rest (type_definition t) old new es es' i s (inl a) =
+    reads_on defs (Naming defs (type_definition t ∷ rest)) (Naming defs rest) old new es es' i a.0 (λ n. name_right defs rest t old n new i a.1 a.2) s
+step_name defs rest (type_definition t) old new es es' i s (inr a) =
+    reads_wrong defs (Naming defs (type_definition t ∷ rest)) (Naming defs rest) old new es es' i a.0 (λ n. name_wrong defs rest t old n a.1) s
 step_name defs rest (declaration d) old new es es' i s a = step_other defs (declaration d ∷ rest) rest old new es es' refl s a
 step_name defs rest (extractor_definition d) old new es es' i s a = step_other defs (extractor_definition d ∷ rest) rest old new es es' refl s a
 step_name defs rest (converter_definition d) old new es es' i s a = step_other defs (converter_definition d ∷ rest) rest old new es es' refl s a

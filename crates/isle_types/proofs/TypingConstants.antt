@@ -57,14 +57,7 @@ module _ (defs rest : List Definition) (name ty : Name) (at : Position) (old : T
         left = λ v. All-tail (IsOfKnownType defs) constant (constant_trees rest) (n.left v);
       }
 
--- after the definition of a constant
-step_read : (defs rest : List Definition) (name ty : Name) (at : Position) (old new : TypeEnv) (es es' : List Error) → IsInterned old → IsInterned new → ReadsConstants defs (extern_definition (extern_const name ty at) ∷ rest) old es → ReadsConstant name ty old es new es' → ReadsConstants defs rest new es'
-step_read defs rest name ty at old new es es' i i' s (inl a) =
-    reads_on defs (TypingConstants defs (extern_definition (extern_const name ty at) ∷ rest)) (TypingConstants defs rest) old new es es' i' a.0 (λ n. constant_right defs rest name ty at old i n new a.1) s
-step_read defs rest name ty at old new es es' i i' s (inr a) =
-    reads_wrong defs (TypingConstants defs (extern_definition (extern_const name ty at) ∷ rest)) (TypingConstants defs rest) old new es es' i' a.0 (λ n. constant_wrong defs rest name ty at old i n a.1) s
-
--- after another one
+-- after a definition of something else
 step_other : (defs rest rest' : List Definition) (old new : TypeEnv) (es es' : List Error) → constant_trees rest' ≡ constant_trees rest → ReadsConstants defs rest old es → (es' ≡ es) × (new ≡ old) → ReadsConstants defs rest' new es'
 step_other defs rest rest' old new es es' same s a =
     reads_same defs (TypingConstants defs rest) (TypingConstants defs rest') old new es es' a
@@ -91,7 +84,10 @@ step_constant defs rest (converter_definition d) old new es es' i i' s a = step_
 step_constant defs rest (rule_definition d) old new es es' i i' s a = step_other defs (rule_definition d ∷ rest) rest old new es es' refl s a
 step_constant defs rest (extern_definition (extern_constructor term function at)) old new es es' i i' s a = step_other defs (extern_definition (extern_constructor term function at) ∷ rest) rest old new es es' refl s a
 step_constant defs rest (extern_definition (extern_extractor term function at infallible)) old new es es' i i' s a = step_other defs (extern_definition (extern_extractor term function at infallible) ∷ rest) rest old new es es' refl s a
-step_constant defs rest (extern_definition (extern_const name ty at)) old new es es' i i' s a = step_read defs rest name ty at old new es es' i i' s a
+step_constant defs rest (extern_definition (extern_const name ty at)) old new es es' i i' s (inl a) =
+    reads_on defs (TypingConstants defs (extern_definition (extern_const name ty at) ∷ rest)) (TypingConstants defs rest) old new es es' i' a.0 (λ n. constant_right defs rest name ty at old i n new a.1) s
+step_constant defs rest (extern_definition (extern_const name ty at)) old new es es' i i' s (inr a) =
+    reads_wrong defs (TypingConstants defs (extern_definition (extern_const name ty at) ∷ rest)) (TypingConstants defs rest) old new es es' i' a.0 (λ n. constant_wrong defs rest name ty at old i n a.1) s
 step_constant defs rest other_definition old new es es' i i' s a = step_other defs (other_definition ∷ rest) rest old new es es' refl s a
 
 -- after the definition at i
