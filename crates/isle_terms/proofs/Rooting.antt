@@ -11,10 +11,10 @@ use Rattle.std.proofs.lemmas.Slice.Eq.{bytes_eq-Decides}
 use Rattle.isle_model.specs.lists.Syntax.{Name, DeclTree, RuleTree, Definition, type_definition, declaration, extractor_definition, converter_definition, rule_definition, extern_definition, other_definition}
 use Rattle.isle_model.specs.lists.Names.{number, has_name, IsDistinct}
 use Rattle.isle_model.specs.rules.Outcome.{then_option}
-use Rattle.isle_model.specs.lists.Tables.{ConstructorEntry, internal_constructor, TermEntry, declared_term}
-use Rattle.isle_model.specs.lists.TypeTable.{place_from, type_or_first}
-use Rattle.isle_model.specs.lists.TermTable.{decl_trees, rule_trees, decl_names, term_id, root_name, has_root, is_rule_of, is_declared, decl_flags}
-use Rattle.isle_model.specs.first.TermTable.{term_table_names, IsValidCarriedTerms, decl_entry, decl_entries}
+use Rattle.isle_model.specs.lists.Tables.{internal_constructor}
+use Rattle.isle_model.specs.lists.TypeTable.{place_from}
+use Rattle.isle_model.specs.lists.TermTable.{decl_trees, rule_trees, decl_names, term_id, root_name, has_root, is_rule_of, is_declared}
+use Rattle.isle_model.specs.first.TermTable.{term_table_names, IsValidCarriedTerms, decl_entry, decl_entries, entry_made}
 use Rattle.isle_base.specs.declared.syntax.Def.{Def}
 use Rattle.isle_base.specs.declared.syntax.Error.{Error}
 use Rattle.isle_base.specs.Stable.{look_up}
@@ -100,16 +100,13 @@ module _ (defs : List Definition) (read : List RuleTree) (r : RuleTree) (n : Nam
       let this : is_rule_of x r ≡ true = is_rule x ∙ turned x n.text e in
       sym (ap (λ b. cond b (Some internal_constructor) None) (any_push (is_rule_of x) read r ∙ ap (λ b. list_any (is_rule_of x) read || b) this ∙ or-true (list_any (is_rule_of x) read)))
 
-  abbrev with_constructor : ℕ → DeclTree → Option ConstructorEntry → TermEntry
-  with_constructor id d c = record { id = id; at = d.at; name = number (term_table_names defs) d.term.text; arg_tys = map (type_or_first defs) d.arg_tys; ret_ty = type_or_first defs d.ret_ty; kind = declared_term (decl_flags d) c None }
-
   unmarked : (id : ℕ) (ds : List DeclTree) → has_name (map text_of ds) n.text ≡ false → stage_entries defs read id ds ≡ stage_entries defs (read ++ r ∷ []) id ds
   unmarked id [] e = refl
   unmarked id (d ∷ ds) e =
       elim (bytes_eq d.term.text n.text) as (λ b. bytes_eq d.term.text n.text ≡ b → b || has_name (map text_of ds) n.text ≡ false → stage_entries defs read id (d ∷ ds) ≡ stage_entries defs (read ++ r ∷ []) id (d ∷ ds)) [
         | true ↦ λ _ h. absurd (false≢true (sym h))
         | false ↦ λ other h.
-            ap (λ c. with_constructor id d c ∷ stage_entries defs read (suc id) ds) (same_constructor d.term.text other)
+            ap (λ c. entry_made defs c id d ∷ stage_entries defs read (suc id) ds) (same_constructor d.term.text other)
             ∙ ap (λ es. stage_entry defs (read ++ r ∷ []) id d ∷ es) (unmarked (suc id) ds h)
       ] refl e
 
@@ -122,13 +119,13 @@ module _ (defs : List Definition) (read : List RuleTree) (r : RuleTree) (n : Nam
             let first : k ≡ 0 = cc in
             let none : has_name (map text_of ds) n.text ≡ false = subst (λ x. has_name (map text_of ds) x ≡ false) (same_bytes d.term.text n.text this) (distinct_first d.term.text (map text_of ds) once) in
             ap (λ m. mark m (stage_entries defs read id (d ∷ ds))) first
-            ∙ ap (λ c. with_constructor id d c ∷ stage_entries defs read (suc id) ds) (new_constructor d.term.text this)
+            ∙ ap (λ c. entry_made defs c id d ∷ stage_entries defs read (suc id) ds) (new_constructor d.term.text this)
             ∙ ap (λ es. stage_entry defs (read ++ r ∷ []) id d ∷ es) (unmarked (suc id) ds none)
         | false ↦ λ other h.
             let before = one_before (place_among (map text_of ds) n.text) k (sym (place_next 0 n.text (map text_of ds)) ∙ h) in
             ap (λ m. mark m (stage_entries defs read id (d ∷ ds))) before.1
             ∙ ap (λ es. stage_entry defs read id d ∷ es) (marked (suc id) before.0 ds (distinct_rest d.term.text (map text_of ds) once) before.2)
-            ∙ ap (λ c. with_constructor id d c ∷ stage_entries defs (read ++ r ∷ []) (suc id) ds) (same_constructor d.term.text other)
+            ∙ ap (λ c. entry_made defs c id d ∷ stage_entries defs (read ++ r ∷ []) (suc id) ds) (same_constructor d.term.text other)
       ] refl e
 
 module _ (defs rest : List Definition) (r : RuleTree) (env : TypeEnv) (old : TermTable) (s : Rooting defs (rule_definition r ∷ rest) env old) where
