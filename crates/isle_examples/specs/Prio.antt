@@ -9,7 +9,7 @@ use Rattle.isle_model.specs.lists.Elaborated.{TypedRules}
 use Rattle.isle_model.specs.lists.Syntax.{Definition}
 use Rattle.isle_model.specs.rules.Program.{Program}
 use Rattle.isle_model.specs.rules.Typed.{TypedRule, make_int, match_any, match_int}
-use Rattle.isle_model.specs.sites.Sites.{SiteSet, argument_site}
+use Rattle.isle_model.specs.sites.Sites.{Constraint, SiteSet, argument_site}
 use Rattle.isle_model.specs.trees.Trees.{Tree, arm, match_at, no_step, step}
 use Rattle.isle_examples.specs.SetForms.{a_rule, byte, is_byte, one_arm, returning}
 use Rattle.isle_examples.specs.Stages.{Sample}
@@ -54,11 +54,13 @@ prio_last = step [] (match_at 0 (one_arm (is_byte 1) [] (returning [] 3 4 no_ste
 abbrev prio_first : Tree
 prio_first = step [] (match_at 0 (one_arm (is_byte 1) [] (returning [] 1 2 no_step))) no_step
 
+-- the test of the second argument first, with this constraint in the lower rule's arm
+abbrev prio_under : Constraint → Tree
+prio_under lower = step [] (match_at 1 (arm lower [] (returning [] 2 3 no_step) (one_arm (is_byte 5) [] prio_first))) prio_last
+
 -- the second argument's test covers two rules, so it goes first
 abbrev pub prio_tree : Tree
-prio_tree =
-    step [] (match_at 1 (arm (is_byte 2) [] (returning [] 2 3 no_step) (one_arm (is_byte 5) [] prio_first)))
-    prio_last
+prio_tree = prio_under (is_byte 2)
 
 -- trees that are no best ones: the test of the first argument goes first, though it covers one rule and the other one two
 abbrev pub prio_exchanged : Tree
@@ -89,9 +91,7 @@ prio_arms_exchanged =
 
 -- an arm has another rule's constraint
 abbrev pub prio_other_arm : Tree
-prio_other_arm =
-    step [] (match_at 1 (arm (is_byte 3) [] (returning [] 2 3 no_step) (one_arm (is_byte 5) [] prio_first)))
-    prio_last
+prio_other_arm = prio_under (is_byte 3)
 
 -- each rule alone, by descending priority; only the first test isn't the greatest
 abbrev pub prio_alone : Tree

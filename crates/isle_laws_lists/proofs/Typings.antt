@@ -9,6 +9,7 @@ use Rattle.isle_model.specs.lists.Setting.{Setting, Scope, is_expected, expr_con
 use Rattle.isle_model.specs.lists.Typings.{Typing, made_into, scoped, joined_typing, followed, counted}
 use Rattle.isle_model.specs.lists.Elaborated.{or_expanded, as_expected}
 use Rattle.isle_laws_lists.specs.TypingLaws.{typing}
+use Rattle.isle_model.proofs.Options.{then_some}
 
 pub ne-eqb : (a b : ℕ) → (a ≡ b → ⊥) → eqb a b ≡ false
 ne-eqb a b h = elim (eqb a b) as (λ v. eqb a b ≡ v → v ≡ false) [ true ↦ λ k. absurd (h ((Decides-eqb a b).0 k)) | false ↦ λ k. refl ] refl
@@ -17,8 +18,7 @@ pub eqb-ne : (a b : ℕ) → eqb a b ≡ false → a ≡ b → ⊥
 eqb-ne a b h k = absurd (let j = (Decides-eqb a b).1 k in cc)
 
 pub then_gives : {X Y : Type 0} (o : Option X) (f : X → Option Y) {y : Y} → then_option o f ≡ Some y → (x : X) × (o ≡ Some x) × (f x ≡ Some y)
-then_gives None f h = absurd (cc)
-then_gives (Some x) f h = (x, refl, h)
+then_gives o f {y} h = then_some o f y h
 
 pub made_gives : {X Y : Type 0} (f : X → Y) (o : Option (Typing X)) {r : Typing Y} → made_into f o ≡ Some r → (a : Typing X) × (o ≡ Some a) × (typing (f a.made) a.scope a.expansions ≡ r)
 made_gives f None h = absurd (cc)

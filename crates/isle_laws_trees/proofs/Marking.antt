@@ -1,9 +1,9 @@
 -- A tree's marks are found again from its returns, where no two rules return at one position with one result.
-use Rattle.std.proofs.Common.{◌≡◌, ℕ, zero, suc, ◌<◌, ◌==◌, true, not, ◌&&◌, List, [], ◌∷◌, ◌++◌, length, Some, slice_get, Contains, refl, sym, ap, ◌∙◌, subst, inl, inr, arith, eqb-true, eq-eqb}
+use Rattle.std.proofs.Common.{◌≡◌, ℕ, zero, suc, ◌<◌, ◌==◌, true, not, ◌&&◌, List, [], ◌∷◌, length, Some, slice_get, refl, sym, ap, ◌∙◌, subst, inl, inr, arith, eqb-true, eq-eqb}
 use Rattle.std.specs.List.{list_all}
 use Rattle.std.proofs.lemmas.Bool.{cases_Bool, cond-true, cond-false, and_parts, and_from}
 use Rattle.std.proofs.lemmas.Option.{none-some, same_Some}
-use Rattle.std.proofs.lemmas.List.Elements.{All-contains, Contains-append_left, Contains-append_right}
+use Rattle.std.proofs.lemmas.List.Elements.{All-contains}
 use Rattle.isle_model.specs.lists.Syntax.{Position}
 use Rattle.isle_model.specs.sites.Sites.{SetRule}
 use Rattle.isle_model.specs.trees.Trees.{Tree, no_step, step, Check, match_at, equal_at, loop_at, return_at, Arms, no_arm, arm, Marked, m_no_step, m_step, MarkedCheck, m_match, m_equal, m_loop, m_return, MarkedArms, m_no_arm, m_arm, marks, marks_check, marks_arms, return_of, plain, plain_check, plain_arms}
@@ -12,6 +12,8 @@ use Rattle.isle_model.specs.trees.Judge.{returns_as, rule_returned, marking, mar
 use Rattle.isle_model.proofs.Members.{in_head, get_within, member_from_get, each_passes}
 use Rattle.isle_laws_trees.specs.BestLaws.{IsBestMarked, TreeJudgeIsExact}
 use Rattle.isle_laws_trees.proofs.Exact.{judge_exact, not_exact}
+use Rattle.isle_model.proofs.SameSites.{parts_mean}
+use Rattle.isle_laws_runs.proofs.runs.Claims.{Known, known_left, known_right}
 
 returns_itself : (r : SetRule) → returns_as r r.at r.result ≡ true
 returns_itself r =
@@ -20,12 +22,9 @@ returns_itself r =
 
 returns_same : (r : SetRule) (at : Position) (result : ℕ) → returns_as r at result ≡ true → return_at r.at r.result ≡ return_at at result
 returns_same r at result h =
-    let q = and_parts ((r.at.file == at.file) && (r.at.offset == at.offset)) (r.result == result) h in
-    let p = and_parts (r.at.file == at.file) (r.at.offset == at.offset) q.0 in
-    let a = eqb-true r.at.file at.file p.0 in
-    let b = eqb-true r.at.offset at.offset p.1 in
-    let c = eqb-true r.result result q.1 in
-    λ k. return_at (record { file = a k; offset = b k }) (c k)
+    let p = parts_mean r.at.file at.file r.at.offset at.offset (r.result == result) h in
+    let c = eqb-true r.result result p.2 in
+    λ k. return_at (record { file = p.0 k; offset = p.1 k }) (c k)
 
 rule_found : (rules : List SetRule) (at : Position) (result : ℕ) → rule_returned rules at result < length rules → return_of (slice_get rules (rule_returned rules at result)) ≡ return_at at result
 rule_found [] at result l = absurd (omega arith)
@@ -50,34 +49,25 @@ rule_again (q ∷ rules) h (suc i) r e =
     cond-false (returns_as q r.at r.result) 0 (suc (rule_returned rules r.at r.result)) n ∙ ap suc (rule_again rules b.1 i r e)
 
 module _ (rules : List SetRule) where
-  abbrev Known : List ℕ → Type 0
-  Known ids = (i : ℕ) → Contains ids i → i < length rules
-
-  left : (xs ys : List ℕ) → Known (xs ++ ys) → Known xs
-  left xs ys k i c = k i (Contains-append_left xs ys i c)
-
-  right : (xs ys : List ℕ) → Known (xs ++ ys) → Known ys
-  right xs ys k i c = k i (Contains-append_right xs ys i c)
-
   mutual
-    plain_marking : (t : Tree) → Known (marks (marking rules t)) → plain rules (marking rules t) ≡ t
+    plain_marking : (t : Tree) → Known rules (marks (marking rules t)) → plain rules (marking rules t) ≡ t
     plain_marking no_step k = refl
     plain_marking (step binds check rest) k =
-        let a = plain_marking_check check (left (marks_check (marking_check rules check)) (marks (marking rules rest)) k) in
-        let b = plain_marking rest (right (marks_check (marking_check rules check)) (marks (marking rules rest)) k) in
+        let a = plain_marking_check check (known_left rules (marks_check (marking_check rules check)) (marks (marking rules rest)) k) in
+        let b = plain_marking rest (known_right rules (marks_check (marking_check rules check)) (marks (marking rules rest)) k) in
         λ j. step binds (a j) (b j)
 
-    plain_marking_check : (c : Check) → Known (marks_check (marking_check rules c)) → plain_check rules (marking_check rules c) ≡ c
+    plain_marking_check : (c : Check) → Known rules (marks_check (marking_check rules c)) → plain_check rules (marking_check rules c) ≡ c
     plain_marking_check (match_at source arms) k = ap (match_at source) (plain_marking_arms arms k)
     plain_marking_check (equal_at a b body) k = ap (equal_at a b) (plain_marking body k)
     plain_marking_check (loop_at result body) k = ap (loop_at result) (plain_marking body k)
     plain_marking_check (return_at at result) k = rule_found rules at result (k (rule_returned rules at result) (in_head (rule_returned rules at result) []))
 
-    plain_marking_arms : (a : Arms) → Known (marks_arms (marking_arms rules a)) → plain_arms rules (marking_arms rules a) ≡ a
+    plain_marking_arms : (a : Arms) → Known rules (marks_arms (marking_arms rules a)) → plain_arms rules (marking_arms rules a) ≡ a
     plain_marking_arms no_arm k = refl
     plain_marking_arms (arm constraint fields body rest) k =
-        let a = plain_marking body (left (marks (marking rules body)) (marks_arms (marking_arms rules rest)) k) in
-        let b = plain_marking_arms rest (right (marks (marking rules body)) (marks_arms (marking_arms rules rest)) k) in
+        let a = plain_marking body (known_left rules (marks (marking rules body)) (marks_arms (marking_arms rules rest)) k) in
+        let b = plain_marking_arms rest (known_right rules (marks (marking rules body)) (marks_arms (marking_arms rules rest)) k) in
         λ j. arm constraint fields (a j) (b j)
 
   module _ (apart : returns_apart rules ≡ true) where
@@ -87,24 +77,24 @@ module _ (rules : List SetRule) where
         ap (λ o. marking_check rules (return_of o)) g.1 ∙ ap m_return (rule_again rules apart i g.0 g.1)
 
     mutual
-      pub marking_plain : (m : Marked) → Known (marks m) → marking rules (plain rules m) ≡ m
+      pub marking_plain : (m : Marked) → Known rules (marks m) → marking rules (plain rules m) ≡ m
       marking_plain m_no_step k = refl
       marking_plain (m_step binds check rest) k =
-          let a = marking_plain_check check (left (marks_check check) (marks rest) k) in
-          let b = marking_plain rest (right (marks_check check) (marks rest) k) in
+          let a = marking_plain_check check (known_left rules (marks_check check) (marks rest) k) in
+          let b = marking_plain rest (known_right rules (marks_check check) (marks rest) k) in
           λ j. m_step binds (a j) (b j)
 
-      marking_plain_check : (c : MarkedCheck) → Known (marks_check c) → marking_check rules (plain_check rules c) ≡ c
+      marking_plain_check : (c : MarkedCheck) → Known rules (marks_check c) → marking_check rules (plain_check rules c) ≡ c
       marking_plain_check (m_match source arms) k = ap (m_match source) (marking_plain_arms arms k)
       marking_plain_check (m_equal a b body) k = ap (m_equal a b) (marking_plain body k)
       marking_plain_check (m_loop result body) k = ap (m_loop result) (marking_plain body k)
       marking_plain_check (m_return rule) k = return_again rule (k rule (in_head rule []))
 
-      marking_plain_arms : (a : MarkedArms) → Known (marks_arms a) → marking_arms rules (plain_arms rules a) ≡ a
+      marking_plain_arms : (a : MarkedArms) → Known rules (marks_arms a) → marking_arms rules (plain_arms rules a) ≡ a
       marking_plain_arms m_no_arm k = refl
       marking_plain_arms (m_arm constraint fields body rest) k =
-          let a = marking_plain body (left (marks body) (marks_arms rest) k) in
-          let b = marking_plain_arms rest (right (marks body) (marks_arms rest) k) in
+          let a = marking_plain body (known_left rules (marks body) (marks_arms rest) k) in
+          let b = marking_plain_arms rest (known_right rules (marks body) (marks_arms rest) k) in
           λ j. m_arm constraint fields (a j) (b j)
 
 pub tree_judge_is_exact_lem : TreeJudgeIsExact

@@ -23,12 +23,12 @@ ghost use Rattle.isle_rules.specs.Elaborating.{AreKnown, definition_names, Check
 use crate::exprs::Expr;
 use crate::forms::{args_of, is_carried};
 use crate::patterns::Pattern;
-use crate::reports::{report, type_text};
+use crate::reports::type_text;
 use crate::rules::{BoundVar, Rule};
 use isle_base::syntax;
 use isle_base::syntax::{Def, Error, Ident, Pos};
 use isle_terms::{Term, TermTable};
-use isle_types::{RuleId, Sym, TermId, TypeEnv, TypeId, VarId};
+use isle_types::{RuleId, Sym, TermId, TypeEnv, TypeId, VarId, report};
 use std::alloc::{AllocError, Global};
 
 // The id of a name that has one.

@@ -8,13 +8,13 @@ use Rattle.std.proofs.lemmas.List.{append_assoc, append-nil, at_drop_more}
 use Rattle.std.proofs.lemmas.List.Folds.{list_any-append}
 use Rattle.std.proofs.lemmas.List.Elements.{All-nil, All-cons, All-head, All-tail}
 use Rattle.std.proofs.lemmas.Slice.Eq.{bytes_eq-Decides}
-use Rattle.isle_model.specs.lists.Syntax.{Name, PatternTree, var_pattern, bind_pattern, bool_pattern, int_pattern, prim_pattern, term_pattern, wildcard_pattern, and_pattern, macro_arg, DeclTree, RuleTree, Definition, type_definition, declaration, extractor_definition, converter_definition, rule_definition, extern_definition, other_definition}
+use Rattle.isle_model.specs.lists.Syntax.{Name, DeclTree, RuleTree, Definition, type_definition, declaration, extractor_definition, converter_definition, rule_definition, extern_definition, other_definition}
 use Rattle.isle_model.specs.lists.Names.{number, has_name, IsDistinct}
 use Rattle.isle_model.specs.rules.Outcome.{then_option}
-use Rattle.isle_model.specs.lists.Tables.{ConstructorEntry, internal_constructor, TermEntry, declared_term}
-use Rattle.isle_model.specs.lists.TypeTable.{place_from, type_or_first}
-use Rattle.isle_model.specs.lists.TermTable.{decl_trees, rule_trees, decl_names, term_id, root_name, has_root, is_rule_of, is_declared, decl_flags}
-use Rattle.isle_model.specs.first.TermTable.{term_table_names, IsValidCarriedTerms, decl_entry, decl_entries}
+use Rattle.isle_model.specs.lists.Tables.{internal_constructor}
+use Rattle.isle_model.specs.lists.TypeTable.{place_from}
+use Rattle.isle_model.specs.lists.TermTable.{decl_trees, rule_trees, decl_names, term_id, root_name, has_root, is_rule_of, is_declared}
+use Rattle.isle_model.specs.first.TermTable.{term_table_names, IsValidCarriedTerms, decl_entry, decl_entries, entry_made}
 use Rattle.isle_base.specs.declared.syntax.Def.{Def}
 use Rattle.isle_base.specs.declared.syntax.Error.{Error}
 use Rattle.isle_base.specs.Stable.{look_up}
@@ -33,17 +33,8 @@ use Rattle.isle_terms.specs.TermViews.{term_view, term_views}
 use Rattle.isle_terms.specs.Reading.{IsWithin, internal_entry, mark, root_term_id, term_of_name, MarksRoot, ReadsRule, ReadsRoot}
 use Rattle.isle_terms.specs.Stages.{Finds, place_among, constructor_after, stage_entry, stage_entries, SoFarOfTerms, IsCarried, IsTyped, IsRooted, Signing, ReadsSignatures, IsSigned, Rooting, ReadsRoots}
 use Rattle.isle_terms.proofs.Finding.{by_name}
-
-pub same_root : (p : PatternTree) → root_name p ≡ root_name p
-same_root (var_pattern v p) = refl
-same_root (bind_pattern v q p) = refl
-same_root (bool_pattern b p) = refl
-same_root (int_pattern z p) = refl
-same_root (prim_pattern v p) = refl
-same_root (term_pattern s qs p) = refl
-same_root (wildcard_pattern p) = refl
-same_root (and_pattern qs p) = refl
-same_root (macro_arg i p) = refl
+use Rattle.isle_model.proofs.FirstPlaces.{place_next}
+use Rattle.isle_model.proofs.Options.{then_some}
 
 pub nothing : (es : List Error) → length es ≡ 0 → es ≡ []
 nothing [] e = refl
@@ -59,14 +50,6 @@ pub marks : (ts : List Term) (k : ℕ) (t d : Term) → k < length ts → term_v
 marks [] k t d within is = absurd (omega (arith, within))
 marks (u ∷ us) zero t d within is = ap (λ e. e ∷ map term_view us) is
 marks (u ∷ us) (suc k) t d within is = ap (λ es. term_view u ∷ es) (marks us k t d (omega (arith, within)) is)
-
-place_next : (n : ℕ) (x : List ℕ) (ts : List (List ℕ)) → place_from (suc n) x ts ≡ option_map suc (place_from n x ts)
-place_next n x [] = refl
-place_next n x (y ∷ ys) =
-    elim (bytes_eq y x) as (λ b. cond b (Some (suc n)) (place_from (suc (suc n)) x ys) ≡ option_map suc (cond b (Some n) (place_from (suc n) x ys))) [
-      | true ↦ refl
-      | false ↦ place_next (suc n) x ys
-    ]
 
 turned : (x y : List ℕ) → bytes_eq x y ≡ true → bytes_eq y x ≡ true
 turned x y e = (bytes_eq-Decides y x).1 (sym (same_bytes x y e))
@@ -117,16 +100,13 @@ module _ (defs : List Definition) (read : List RuleTree) (r : RuleTree) (n : Nam
       let this : is_rule_of x r ≡ true = is_rule x ∙ turned x n.text e in
       sym (ap (λ b. cond b (Some internal_constructor) None) (any_push (is_rule_of x) read r ∙ ap (λ b. list_any (is_rule_of x) read || b) this ∙ or-true (list_any (is_rule_of x) read)))
 
-  abbrev with_constructor : ℕ → DeclTree → Option ConstructorEntry → TermEntry
-  with_constructor id d c = record { id = id; at = d.at; name = number (term_table_names defs) d.term.text; arg_tys = map (type_or_first defs) d.arg_tys; ret_ty = type_or_first defs d.ret_ty; kind = declared_term (decl_flags d) c None }
-
   unmarked : (id : ℕ) (ds : List DeclTree) → has_name (map text_of ds) n.text ≡ false → stage_entries defs read id ds ≡ stage_entries defs (read ++ r ∷ []) id ds
   unmarked id [] e = refl
   unmarked id (d ∷ ds) e =
       elim (bytes_eq d.term.text n.text) as (λ b. bytes_eq d.term.text n.text ≡ b → b || has_name (map text_of ds) n.text ≡ false → stage_entries defs read id (d ∷ ds) ≡ stage_entries defs (read ++ r ∷ []) id (d ∷ ds)) [
         | true ↦ λ _ h. absurd (false≢true (sym h))
         | false ↦ λ other h.
-            ap (λ c. with_constructor id d c ∷ stage_entries defs read (suc id) ds) (same_constructor d.term.text other)
+            ap (λ c. entry_made defs c id d ∷ stage_entries defs read (suc id) ds) (same_constructor d.term.text other)
             ∙ ap (λ es. stage_entry defs (read ++ r ∷ []) id d ∷ es) (unmarked (suc id) ds h)
       ] refl e
 
@@ -139,18 +119,14 @@ module _ (defs : List Definition) (read : List RuleTree) (r : RuleTree) (n : Nam
             let first : k ≡ 0 = cc in
             let none : has_name (map text_of ds) n.text ≡ false = subst (λ x. has_name (map text_of ds) x ≡ false) (same_bytes d.term.text n.text this) (distinct_first d.term.text (map text_of ds) once) in
             ap (λ m. mark m (stage_entries defs read id (d ∷ ds))) first
-            ∙ ap (λ c. with_constructor id d c ∷ stage_entries defs read (suc id) ds) (new_constructor d.term.text this)
+            ∙ ap (λ c. entry_made defs c id d ∷ stage_entries defs read (suc id) ds) (new_constructor d.term.text this)
             ∙ ap (λ es. stage_entry defs (read ++ r ∷ []) id d ∷ es) (unmarked (suc id) ds none)
         | false ↦ λ other h.
             let before = one_before (place_among (map text_of ds) n.text) k (sym (place_next 0 n.text (map text_of ds)) ∙ h) in
             ap (λ m. mark m (stage_entries defs read id (d ∷ ds))) before.1
             ∙ ap (λ es. stage_entry defs read id d ∷ es) (marked (suc id) before.0 ds (distinct_rest d.term.text (map text_of ds) once) before.2)
-            ∙ ap (λ c. with_constructor id d c ∷ stage_entries defs (read ++ r ∷ []) (suc id) ds) (same_constructor d.term.text other)
+            ∙ ap (λ c. entry_made defs c id d ∷ stage_entries defs (read ++ r ∷ []) (suc id) ds) (same_constructor d.term.text other)
       ] refl e
-
-has_some : (o : Option Name) (g : Name → Option ℕ) (id : ℕ) → then_option o g ≡ Some id → (n : Name) × (o ≡ Some n) × (g n ≡ Some id)
-has_some None g id h = absurd (cc)
-has_some (Some n) g id h = (n, refl, h)
 
 module _ (defs rest : List Definition) (r : RuleTree) (env : TypeEnv) (old : TermTable) (s : Rooting defs (rule_definition r ∷ rest) env old) where
   term_is : (n : Name) → term_of_name env old n ≡ term_id defs n.text
@@ -168,7 +144,7 @@ module _ (defs rest : List Definition) (r : RuleTree) (env : TypeEnv) (old : Ter
 
   pub root_right : (new : TermTable) → MarksRoot r env old new → Rooting defs rest env new
   root_right new m =
-      let named = has_some (root_name r.pattern) (term_of_name env old) m.id m.root in
+      let named = then_some (root_name r.pattern) (term_of_name env old) m.id m.root in
       let found : term_id defs named.0.text ≡ Some m.id = sym (term_is named.0) ∙ named.2 in
       let rooted : IsRooted defs r = ap (is_declared defs) named.1 ∙ ap is_some found in
       record {

@@ -1,13 +1,13 @@
 -- How far the reading of a list of definitions is.
-use Rattle.std.specs.Prelude.{◌≡◌, ◌≢◌, ℕ, suc, false, List, [], ◌∷◌, ◌++◌, ◌⊎◌, length, map, Option, Some, None, is_some, slice_get, All, IsTrue, if◌then◌else◌}
+use Rattle.std.specs.Prelude.{◌≡◌, ◌≢◌, ℕ, suc, false, List, [], ◌∷◌, ◌++◌, ◌⊎◌, length, Option, Some, None, is_some, slice_get, All, IsTrue, if◌then◌else◌}
 use Rattle.std.specs.List.{list_any}
 use Rattle.isle_model.specs.lists.Syntax.{Name, DeclTree, RuleTree, Definition}
-use Rattle.isle_model.specs.lists.Names.{number, has_name, with_names, IsDistinct}
+use Rattle.isle_model.specs.lists.Names.{has_name, with_names, IsDistinct}
 use Rattle.isle_model.specs.rules.Outcome.{then_option}
-use Rattle.isle_model.specs.lists.Tables.{ConstructorEntry, internal_constructor, declared_term, TermEntry}
-use Rattle.isle_model.specs.lists.TypeTable.{type_id, place_from, type_or_first}
-use Rattle.isle_model.specs.lists.TermTable.{decl_trees, rule_trees, decl_names, term_id, root_name, is_rule_of, is_declared, decl_flags}
-use Rattle.isle_model.specs.first.TermTable.{term_table_names, is_carried_term, IsValidCarriedTerms}
+use Rattle.isle_model.specs.lists.Tables.{ConstructorEntry, internal_constructor, TermEntry}
+use Rattle.isle_model.specs.lists.TypeTable.{type_id, place_from}
+use Rattle.isle_model.specs.lists.TermTable.{decl_trees, rule_trees, decl_names, term_id, root_name, is_rule_of, is_declared}
+use Rattle.isle_model.specs.first.TermTable.{term_table_names, is_carried_term, IsValidCarriedTerms, entry_made}
 use Rattle.isle_base.specs.declared.syntax.Error.{Error}
 use Rattle.isle_base.specs.Stable.{look_up}
 use Rattle.isle_types.specs.declared.ids.TypeId.{TypeId}
@@ -40,14 +40,7 @@ constructor_after rules x = if list_any (is_rule_of x) rules then Some internal_
 
 -- a term's entry when these rules are read
 abbrev pub stage_entry : List Definition → List RuleTree → ℕ → DeclTree → TermEntry
-stage_entry defs rules id d = record {
-  id = id;
-  at = d.at;
-  name = number (term_table_names defs) d.term.text;
-  arg_tys = map (type_or_first defs) d.arg_tys;
-  ret_ty = type_or_first defs d.ret_ty;
-  kind = declared_term (decl_flags d) (constructor_after rules d.term.text) None;
-}
+stage_entry defs rules id d = entry_made defs (constructor_after rules d.term.text) id d
 
 abbrev pub stage_entries : List Definition → List RuleTree → ℕ → List DeclTree → List TermEntry
 stage_entries defs rules id [] = []

@@ -12,8 +12,8 @@ ghost use Rattle.isle_terms.specs.Stages.{ReadsSignatures, ReadsRoots};
 
 use crate::term::{ConstructorKind, Term, TermFlags, TermKind};
 use crate::term_table::TermTable;
-use isle_base::syntax::{Decl, Def, Error, Extern, Ident, Pos, Rule, Span};
-use isle_types::{Sym, TermId, TypeEnv, TypeId};
+use isle_base::syntax::{Decl, Def, Error, Extern, Ident, Pos, Rule};
+use isle_types::{Sym, TermId, TypeEnv, TypeId, report};
 use std::alloc::AllocError;
 
 impl TermTable {
@@ -250,16 +250,6 @@ fn arg_types(
         arg_tys.push(ty)?;
     }
     Ok(Some(arg_tys))
-}
-
-// Notes an error at a place.
-fn report(errors: &mut Vec<Error>, pos: Pos, msg: &str) -> Result<(), AllocError>
-    ensures { OnOk result (Reports errors.old.items errors.new.items) }
-{
-    let msg = String::from_str(*errors.allocator(), msg)?;
-    let span = Span::new_single(pos);
-    errors.push(Error::TypeError { msg, span })?;
-    Ok(())
 }
 
 // Notes at a place what is wrong with a name.

@@ -20,7 +20,7 @@ use Rattle.isle_types.specs.TypeViews.{type_views}
 use Rattle.isle_types.proofs.Seen.{type_of_text, was_free, sees_type}
 use Rattle.isle_model.proofs.Names.{distinct_if}
 use Rattle.isle_model.proofs.FirstPlaces.{distinct_push, place_absent, twice}
-use Rattle.isle_types.proofs.SoFar.{reads_on, reads_wrong}
+use Rattle.isle_types.proofs.SoFar.{reads_on, reads_wrong, reads_same}
 
 module _ (defs rest : List Definition) (t : TypeTree) (old : TypeEnv) (n : Naming defs (type_definition t ∷ rest) old) where
   pub name_right : (new : TypeEnv) → IsInterned new → NamesType t.name.text old new → new.types ≡ old.types → Naming defs rest new
@@ -37,18 +37,10 @@ module _ (defs rest : List Definition) (t : TypeTree) (old : TypeEnv) (n : Namin
   name_wrong a v =
       twice n.named (type_names rest) (builtin_names ++ type_names defs) t.name.text a.id v.distinct n.whole (sym (type_of_text old n.named n.sees t.name.text) ∙ a.taken)
 
--- after a definition of a type
-step_type : (defs rest : List Definition) (t : TypeTree) (old new : TypeEnv) (es es' : List Error) → IsInterned new → NamesTypes defs (type_definition t ∷ rest) old es → ((es' ≡ es) × NamesType t.name.text old new × (new.types ≡ old.types)) ⊎ (Reports es es' × IsTakenByType t.name.text old) → NamesTypes defs rest new es'
-step_type defs rest t old new es es' i s (inl a) =
-    reads_on defs (Naming defs (type_definition t ∷ rest)) (Naming defs rest) old new es es' i a.0 (λ n. name_right defs rest t old n new i a.1 a.2) s
-step_type defs rest t old new es es' i s (inr a) =
-    reads_wrong defs (Naming defs (type_definition t ∷ rest)) (Naming defs rest) old new es es' i a.0 (λ n. name_wrong defs rest t old n a.1) s
-
--- after another one
+-- after a definition of something else
 step_other : (defs rest rest' : List Definition) (old new : TypeEnv) (es es' : List Error) → type_names rest' ≡ type_names rest → NamesTypes defs rest old es → (es' ≡ es) × (new ≡ old) → NamesTypes defs rest' new es'
 step_other defs rest rest' old new es es' same s a =
-    subst (λ env. NamesTypes defs rest' env es') (sym a.1)
-    (reads_on defs (Naming defs rest) (Naming defs rest') old old es es' s.inverse a.0
+    reads_same defs (Naming defs rest) (Naming defs rest') old new es es' a
     (λ n. record {
       named = n.named;
       sees = n.sees;
@@ -56,10 +48,13 @@ step_other defs rest rest' old new es es' same s a =
       whole = ap (λ xs. n.named ++ xs) same ∙ n.whole;
       names = ap (λ xs. with_names (names_of old) xs) same ∙ n.names;
       types = n.types;
-    }) s)
+    }) s
 
 pub step_name : (defs rest : List Definition) (d : Definition) (old new : TypeEnv) (es es' : List Error) → IsInterned new → NamesTypes defs (d ∷ rest) old es → NamesDefinition d old es new es' → NamesTypes defs rest new es'
-step_name defs rest (type_definition t) old new es es' i s a = step_type defs rest t old new es es' i s a
+step_name defs rest (type_definition t) old new es es' i s (inl a) =
+    reads_on defs (Naming defs (type_definition t ∷ rest)) (Naming defs rest) old new es es' i a.0 (λ n. name_right defs rest t old n new i a.1 a.2) s
+step_name defs rest (type_definition t) old new es es' i s (inr a) =
+    reads_wrong defs (Naming defs (type_definition t ∷ rest)) (Naming defs rest) old new es es' i a.0 (λ n. name_wrong defs rest t old n a.1) s
 step_name defs rest (declaration d) old new es es' i s a = step_other defs (declaration d ∷ rest) rest old new es es' refl s a
 step_name defs rest (extractor_definition d) old new es es' i s a = step_other defs (extractor_definition d ∷ rest) rest old new es es' refl s a
 step_name defs rest (converter_definition d) old new es es' i s a = step_other defs (converter_definition d ∷ rest) rest old new es es' refl s a

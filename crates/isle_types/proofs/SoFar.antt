@@ -1,5 +1,5 @@
 -- Reading goes on from one environment to the next: nothing was noted, or an error was.
-use Rattle.std.proofs.Common.{◌≡◌, List, ◌∙◌, inl, inr, ⊎_elim}
+use Rattle.std.proofs.Common.{◌≡◌, List, sym, subst, ◌∙◌, inl, inr, ⊎_elim}
 use Rattle.isle_model.specs.lists.Syntax.{Definition}
 use Rattle.isle_model.specs.lists.TypeTable.{IsValidTypes}
 use Rattle.isle_base.specs.declared.syntax.Error.{Error}
@@ -24,3 +24,7 @@ module _ (defs : List Definition) (A B : TypeEnv → Type 0) (old new : TypeEnv)
     plain = noted.plain s.plain;
     so_far = inr (noted.some, ⊎_elim (λ r. wrong r.1) (λ w. w.1) s.so_far);
   }
+
+-- nothing was noted, and the environment is the same
+pub reads_same : (defs : List Definition) (A B : TypeEnv → Type 0) (old new : TypeEnv) (es es' : List Error) → (es' ≡ es) × (new ≡ old) → (A old → B old) → ReadsSoFar defs A old es → ReadsSoFar defs B new es'
+reads_same defs A B old new es es' same right s = subst (λ env. ReadsSoFar defs B env es') (sym same.1) (reads_on defs A B old old es es' s.inverse same.0 right s)

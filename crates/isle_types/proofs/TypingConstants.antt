@@ -21,7 +21,7 @@ use Rattle.isle_types.specs.TypeViews.{type_views}
 use Rattle.isle_types.proofs.LastTypes.{last_read}
 use Rattle.isle_model.proofs.ByNumber.{by_text, then_with}
 use Rattle.isle_model.proofs.Names.{with_missing, number_stays}
-use Rattle.isle_types.proofs.SoFar.{reads_on, reads_wrong}
+use Rattle.isle_types.proofs.SoFar.{reads_on, reads_wrong, reads_same}
 
 module _ (defs rest : List Definition) (name ty : Name) (at : Position) (old : TypeEnv) (i : IsInterned old) (n : TypingConstants defs (extern_definition (extern_const name ty at) ∷ rest) old) where
   abbrev constant : ConstantTree
@@ -57,18 +57,10 @@ module _ (defs rest : List Definition) (name ty : Name) (at : Position) (old : T
         left = λ v. All-tail (IsOfKnownType defs) constant (constant_trees rest) (n.left v);
       }
 
--- after the definition of a constant
-step_read : (defs rest : List Definition) (name ty : Name) (at : Position) (old new : TypeEnv) (es es' : List Error) → IsInterned old → IsInterned new → ReadsConstants defs (extern_definition (extern_const name ty at) ∷ rest) old es → ReadsConstant name ty old es new es' → ReadsConstants defs rest new es'
-step_read defs rest name ty at old new es es' i i' s (inl a) =
-    reads_on defs (TypingConstants defs (extern_definition (extern_const name ty at) ∷ rest)) (TypingConstants defs rest) old new es es' i' a.0 (λ n. constant_right defs rest name ty at old i n new a.1) s
-step_read defs rest name ty at old new es es' i i' s (inr a) =
-    reads_wrong defs (TypingConstants defs (extern_definition (extern_const name ty at) ∷ rest)) (TypingConstants defs rest) old new es es' i' a.0 (λ n. constant_wrong defs rest name ty at old i n a.1) s
-
--- after another one
+-- after a definition of something else
 step_other : (defs rest rest' : List Definition) (old new : TypeEnv) (es es' : List Error) → constant_trees rest' ≡ constant_trees rest → ReadsConstants defs rest old es → (es' ≡ es) × (new ≡ old) → ReadsConstants defs rest' new es'
 step_other defs rest rest' old new es es' same s a =
-    subst (λ env. ReadsConstants defs rest' env es') (sym a.1)
-    (reads_on defs (TypingConstants defs rest) (TypingConstants defs rest') old old es es' s.inverse a.0
+    reads_same defs (TypingConstants defs rest) (TypingConstants defs rest') old new es es' a
     (λ n. record {
       ids = n.ids;
       known = n.known;
@@ -82,7 +74,7 @@ step_other defs rest rest' old new es es' same s a =
       constants = n.constants;
       of_known = λ h. n.of_known (subst (All (IsOfKnownType defs)) same h);
       left = λ v. subst (All (IsOfKnownType defs)) (sym same) (n.left v);
-    }) s)
+    }) s
 
 step_constant : (defs rest : List Definition) (d : Definition) (old new : TypeEnv) (es es' : List Error) → IsInterned old → IsInterned new → ReadsConstants defs (d ∷ rest) old es → ReadsDefinition d old es new es' → ReadsConstants defs rest new es'
 step_constant defs rest (type_definition t) old new es es' i i' s a = step_other defs (type_definition t ∷ rest) rest old new es es' refl s a
@@ -92,7 +84,10 @@ step_constant defs rest (converter_definition d) old new es es' i i' s a = step_
 step_constant defs rest (rule_definition d) old new es es' i i' s a = step_other defs (rule_definition d ∷ rest) rest old new es es' refl s a
 step_constant defs rest (extern_definition (extern_constructor term function at)) old new es es' i i' s a = step_other defs (extern_definition (extern_constructor term function at) ∷ rest) rest old new es es' refl s a
 step_constant defs rest (extern_definition (extern_extractor term function at infallible)) old new es es' i i' s a = step_other defs (extern_definition (extern_extractor term function at infallible) ∷ rest) rest old new es es' refl s a
-step_constant defs rest (extern_definition (extern_const name ty at)) old new es es' i i' s a = step_read defs rest name ty at old new es es' i i' s a
+step_constant defs rest (extern_definition (extern_const name ty at)) old new es es' i i' s (inl a) =
+    reads_on defs (TypingConstants defs (extern_definition (extern_const name ty at) ∷ rest)) (TypingConstants defs rest) old new es es' i' a.0 (λ n. constant_right defs rest name ty at old i n new a.1) s
+step_constant defs rest (extern_definition (extern_const name ty at)) old new es es' i i' s (inr a) =
+    reads_wrong defs (TypingConstants defs (extern_definition (extern_const name ty at) ∷ rest)) (TypingConstants defs rest) old new es es' i' a.0 (λ n. constant_wrong defs rest name ty at old i n a.1) s
 step_constant defs rest other_definition old new es es' i i' s a = step_other defs (other_definition ∷ rest) rest old new es es' refl s a
 
 -- after the definition at i

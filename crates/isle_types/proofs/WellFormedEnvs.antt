@@ -21,12 +21,9 @@ use Rattle.isle_types.specs.TypeTables.{SeesTypes}
 use Rattle.isle_types.specs.WellFormed.{HasOneName, AreInRange, VariantsStandAtIds, IsWellFormedEnv}
 use Rattle.isle_types.proofs.Ending.{last_types}
 use Rattle.isle_model.proofs.FirstPlaces.{place_there}
+use Rattle.isle_model.proofs.Options.{then_some}
 
 -- what an optional answer comes from
-then_some : {X Y : Type 0} (o : Option X) (f : X → Option Y) (y : Y) → then_option o f ≡ Some y → (x : X) × (o ≡ Some x) × (f x ≡ Some y)
-then_some None f y e = absurd (cc)
-then_some (Some x) f y e = (x, refl, e)
-
 mapped_some : {X Y : Type 0} (f : X → Y) (o : Option X) (y : Y) → option_map f o ≡ Some y → (x : X) × (f x ≡ y)
 mapped_some f None y e = absurd (cc)
 mapped_some f (Some x) y e = (x, same_Some (f x) y e)

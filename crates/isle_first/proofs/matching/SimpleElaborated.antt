@@ -17,7 +17,8 @@ use Rattle.isle_model.specs.first.Elaboration.{root_args, Elaborated, elaborate_
 use Rattle.isle_model.specs.lists.Setting.{new_var}
 use Rattle.isle_model.proofs.Elements.{In, some_is, in_slice}
 use Rattle.isle_first.proofs.matching.Simple.{Arg, literal, anything, variable, Right, number, named, patterns, types_of, expr_of, IsBoundIn, IsKnown, IsSimple}
-use Rattle.isle_first.proofs.matching.SimpleRules.{none_some, then_some, map_some, if_some, first_of_all, not_false, all_unset, rule_at, of_each, simple_rules}
+use Rattle.isle_first.proofs.matching.SimpleRules.{none_some, map_some, if_some, first_of_all, not_false, all_unset, rule_at, of_each, simple_rules}
+use Rattle.isle_model.proofs.Options.{then_some}
 
 -- 1. a new variable's number is that of the variables before it
 record IsNext (q : TypedPattern) (before after : List TypedVar) : Type 0 where

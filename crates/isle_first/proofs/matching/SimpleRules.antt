@@ -18,15 +18,12 @@ use Rattle.isle_model.specs.lists.Elaborated.{named_rule, named_rules}
 use Rattle.isle_model.proofs.Elements.{In, some_is, in_either, in_map, contains_from_in, from_flat_map}
 use Rattle.isle_first.proofs.matching.Elements.{in_filter}
 use Rattle.isle_first.proofs.matching.Simple.{Arg, literal, anything, variable, Right, number, named, pattern_of, type_of_arg, expr_of, patterns, types_of, IsBoundIn, IsKnown, IsSimple}
+use Rattle.isle_model.proofs.Options.{then_some}
 
 pub none_some : {X : Type 0} (x : X) → None ≡ Some x → ⊥
 none_some x e = cc
 
 -- 1. what steps that may fail say
-pub then_some : {X Y : Type 0} (o : Option X) (f : X → Option Y) (y : Y) → then_option o f ≡ Some y → (x : X) × (o ≡ Some x) × (f x ≡ Some y)
-then_some None f y e = absurd (none_some y e)
-then_some (Some x) f y e = (x, refl, e)
-
 pub map_some : {X Y : Type 0} (f : X → Y) (o : Option X) (y : Y) → option_map f o ≡ Some y → (x : X) × (o ≡ Some x) × (f x ≡ y)
 map_some f None y e = absurd (none_some y e)
 map_some f (Some x) y e = (x, refl, some_is (f x) y e)

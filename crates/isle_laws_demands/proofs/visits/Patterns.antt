@@ -13,15 +13,12 @@ use Rattle.isle_model.specs.lists.Setting.{bool_type, has_extractor}
 use Rattle.isle_model.specs.lists.Formed.{pattern_type, var_type, is_type, with_new, formed_pattern, formed_parts, formed_each}
 use Rattle.isle_model.proofs.Elements.{In, some_is, none_some}
 use Rattle.isle_laws_demands.proofs.visits.Visited.{MayTest, Later, good_stays, now, then_later, later_making, later_binding, later_iterating, later_asking, later_equating, equating_binds, at_right, AreGood, Keeps, keeps_vars, then_keeps, keeps_binding, bound_good, good_and}
+pub use Rattle.isle_model.proofs.Options.{then_some as from_then}
 
 -- 1. answers
 pub from_if : {X : Type 0} (b : Bool) (o : Option X) (y : X) → (if b then o else None) ≡ Some y → (b ≡ true) × (o ≡ Some y)
 from_if true o y e = (refl, e)
 from_if false o y e = absurd (none_some y e)
-
-pub from_then : {X Y : Type 0} (o : Option X) (f : X → Option Y) (y : Y) → then_option o f ≡ Some y → (x : X) × (o ≡ Some x) × (f x ≡ Some y)
-from_then None f y e = absurd (none_some y e)
-from_then (Some x) f y e = (x, refl, e)
 
 pub is_there : (o : Option ℕ) (ty : ℕ) → is_type o ty ≡ true → is_some o ≡ true
 is_there None ty h = absurd (false≢true h)

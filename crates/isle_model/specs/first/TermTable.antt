@@ -43,15 +43,19 @@ AllCarriedDefined defs = All (λ d. IsTrue (list_any (is_rule_of d.term.text) (r
 abbrev pub constructor_of : List Definition → List ℕ → Option ConstructorEntry
 constructor_of defs x = if list_any (is_rule_of x) (rule_trees defs) then Some internal_constructor else None
 
-abbrev pub decl_entry : List Definition → ℕ → DeclTree → TermEntry
-decl_entry defs id d = record {
+-- a term's entry, where this makes the term
+abbrev pub entry_made : List Definition → Option ConstructorEntry → ℕ → DeclTree → TermEntry
+entry_made defs made id d = record {
   id = id;
   at = d.at;
   name = number (term_table_names defs) d.term.text;
   arg_tys = map (type_or_first defs) d.arg_tys;
   ret_ty = type_or_first defs d.ret_ty;
-  kind = declared_term (decl_flags d) (constructor_of defs d.term.text) None;
+  kind = declared_term (decl_flags d) made None;
 }
+
+abbrev pub decl_entry : List Definition → ℕ → DeclTree → TermEntry
+decl_entry defs id d = entry_made defs (constructor_of defs d.term.text) id d
 
 abbrev pub decl_entries : List Definition → ℕ → List DeclTree → List TermEntry
 decl_entries defs id [] = []

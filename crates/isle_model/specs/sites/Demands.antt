@@ -206,24 +206,40 @@ abbrev mutual
   visit_lets p no_typed_let v = v
   visit_lets p (typed_let_and x ty value rest) v = let a = visit_expr p value v in visit_lets p rest (binding x a.site a.visit)
 
--- the calls whose answers a site unwraps, at any depth
+-- the calls whose answers a site takes, at any depth, where this says which call a site takes the answer of
 abbrev mutual
-  pub unwraps : SiteTerm → List SiteTerm
-  unwraps (some_part a) = a ∷ unwraps a
-  unwraps (extractor_call t a) = unwraps a
-  unwraps (constructor_call t args i) = unwraps_all args
-  unwraps (pick_of a) = unwraps a
-  unwraps (variant_made ty variant fields) = unwraps_all fields
-  unwraps (variant_field a variant f) = unwraps a
-  unwraps (struct_made ty fields) = unwraps_all fields
-  unwraps (struct_field a f) = unwraps a
-  unwraps (some_made a) = unwraps a
-  unwraps (tuple_part a f) = unwraps a
-  unwraps _ = []
+  pub taken_by : (SiteTerm → List SiteTerm) → SiteTerm → List SiteTerm
+  taken_by taken (pick_of a) = taken (pick_of a) ++ taken_by taken a
+  taken_by taken (some_part a) = taken (some_part a) ++ taken_by taken a
+  taken_by taken (extractor_call t a) = taken_by taken a
+  taken_by taken (constructor_call t args i) = taken_by_all taken args
+  taken_by taken (variant_made ty variant fields) = taken_by_all taken fields
+  taken_by taken (variant_field a variant f) = taken_by taken a
+  taken_by taken (struct_made ty fields) = taken_by_all taken fields
+  taken_by taken (struct_field a f) = taken_by taken a
+  taken_by taken (some_made a) = taken_by taken a
+  taken_by taken (tuple_part a f) = taken_by taken a
+  taken_by taken _ = []
 
-  pub unwraps_all : SiteTerms → List SiteTerm
-  unwraps_all no_site_term = []
-  unwraps_all (site_term_and a rest) = unwraps a ++ unwraps_all rest
+  pub taken_by_all : (SiteTerm → List SiteTerm) → SiteTerms → List SiteTerm
+  taken_by_all taken no_site_term = []
+  taken_by_all taken (site_term_and a rest) = taken_by taken a ++ taken_by_all taken rest
+
+-- the call whose answer a site unwraps, and the one of whose answers it is one
+abbrev pub unwrapped_call : SiteTerm → List SiteTerm
+unwrapped_call (some_part a) = a ∷ []
+unwrapped_call _ = []
+
+abbrev pub picked_call : SiteTerm → List SiteTerm
+picked_call (pick_of a) = a ∷ []
+picked_call _ = []
+
+-- the calls whose answers a site unwraps, at any depth
+abbrev pub unwraps : SiteTerm → List SiteTerm
+unwraps s = taken_by unwrapped_call s
+
+abbrev pub unwraps_all : SiteTerms → List SiteTerm
+unwraps_all ss = taken_by_all unwrapped_call ss
 
 abbrev pub asking_all : List SiteTerm → Visit → Visit
 asking_all [] v = v

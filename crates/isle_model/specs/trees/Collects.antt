@@ -6,8 +6,8 @@ use Rattle.isle_model.specs.rules.Meaning.{Content, one, many, Contents, Meaning
 use Rattle.isle_model.specs.rules.Outcome.{Outcome, ran_through, then_option}
 use Rattle.isle_model.specs.rules.Program.{Program, is_multi, arg_types, rules_of, numbers_from}
 use Rattle.isle_model.specs.lists.Names.{IsDistinct}
-use Rattle.isle_model.specs.sites.Sites.{Site, constructor_site, Constraint, SetRule, SiteSet, sources_at, SiteTerm, extractor_call, constructor_call, pick_of, variant_made, variant_field, struct_made, struct_field, some_made, some_part, tuple_part, SiteTerms, no_site_term, site_term_and, unfold_site}
-use Rattle.isle_model.specs.sites.Demands.{Visit, visit_start, with_demands, visit_args, visit_pattern, visit_expr, has_site, demands_of}
+use Rattle.isle_model.specs.sites.Sites.{Site, constructor_site, Constraint, SetRule, SiteSet, sources_at, SiteTerm, SiteTerms, unfold_site}
+use Rattle.isle_model.specs.sites.Demands.{Visit, visit_start, with_demands, visit_args, visit_pattern, visit_expr, has_site, demands_of, picked_call, taken_by, taken_by_all}
 use Rattle.isle_model.specs.sites.Serves.{Serves, TellsConstantsApart}
 use Rattle.isle_model.specs.trees.Trees.{Tree}
 use Rattle.isle_model.specs.trees.Run.{World, as_value, content_fields, run, world_of}
@@ -24,23 +24,11 @@ pub record Collects (o : Outcome) (expected : List Content) : Type 0 where
   pub same : IsPermutation expected o.results
 
 -- the multi calls that a site takes answers of, at any depth
-abbrev mutual
-  pub calls_in : SiteTerm → List SiteTerm
-  calls_in (pick_of a) = a ∷ calls_in a
-  calls_in (extractor_call t a) = calls_in a
-  calls_in (constructor_call t args i) = calls_in_all args
-  calls_in (variant_made ty variant fields) = calls_in_all fields
-  calls_in (variant_field a variant f) = calls_in a
-  calls_in (struct_made ty fields) = calls_in_all fields
-  calls_in (struct_field a f) = calls_in a
-  calls_in (some_made a) = calls_in a
-  calls_in (some_part a) = calls_in a
-  calls_in (tuple_part a f) = calls_in a
-  calls_in _ = []
+abbrev pub calls_in : SiteTerm → List SiteTerm
+calls_in s = taken_by picked_call s
 
-  pub calls_in_all : SiteTerms → List SiteTerm
-  calls_in_all no_site_term = []
-  calls_in_all (site_term_and a rest) = calls_in a ++ calls_in_all rest
+abbrev pub calls_in_all : SiteTerms → List SiteTerm
+calls_in_all ss = taken_by_all picked_call ss
 
 -- the same place of a visit, with no demands met so far
 abbrev pub afresh : Visit → Visit

@@ -6,12 +6,12 @@ use Rattle.isle_base.specs.SyntaxViews.{name_view, rule_view, pattern_view}
 use Rattle.isle_types.specs.Envs.{symbol_of}
 use Rattle.isle_terms.specs.TermViews.{term_view, term_views}
 use Rattle.isle_terms.specs.Reading.{internal_entry, root_term_id, term_of_name}
-use Rattle.isle_terms.proofs.Rooting.{same_root, is_within, marks}
+use Rattle.isle_terms.proofs.Rooting.{is_within, marks}
 use Rattle.isle_terms.proofs.term_table.TermTable.collect_rule.Goals as goal
 
 pub returns-clause-reads : goal.returns-clause-reads
 returns-clause-reads c =
-    let name : root_name (pattern_view c.args.rule.now.pattern) ≡ Some (name_view c.in-Some.root.now) = sym (same_root (pattern_view c.args.rule.now.pattern)) ∙ sym c.in-Some.ensures in
+    let name : root_name (pattern_view c.args.rule.now.pattern) ≡ Some (name_view c.in-Some.root.now) = sym c.in-Some.ensures in
     let root : root_term_id c.args.tyenv.now c.args.self.now (rule_view c.args.rule.now) ≡ Some c.in-Some-find_term.term.0 =
     ap (λ o. then_option o (term_of_name c.args.tyenv.now c.args.self.now)) name ∙ sym c.in-Some-find_term.ensures in
     let within : c.in-Some-find_term.term.0 < length c.args.self.now.terms.items = is_within c.args.self.now c.requires (symbol_of c.args.tyenv.now (name_view c.in-Some.root.now).text) c.in-Some-find_term.term.0 c.in-Some-find_term.ensures in
