@@ -4,6 +4,7 @@
 //! `proofs/`.
 #![tactic(auto)]
 
+ghost use Rattle.isle_laws_demands.specs.RefusalLaws.{ReportsNamePassedLimits};
 ghost use Rattle.isle_laws_demands.specs.ClosureLaws.{JoinedIsEquivalence, ClassesBoundJoined, VerdictIsExact, NamesAreExact, ClosingAddsNothing, ConstraintsAreKept, ClosingIsSound, OverlapIsSymmetric, OverlapIsExact, ClashIsExact, FirstLimitIsPassed, PassedLimitIsMet, ClosingIsWhole, ReportsAreExact, ShadowsAreExact, VisitsMakeEqualSites, PlainClosingEnds, ClosingEnds};
 ghost use Rattle.isle_laws_demands.specs.AcceptLaws.{ElaboratedRulesHaveTerms, RulesAreJudged, ListsAreAccepted, ListsAreNotAccepted};
 ghost use Rattle.isle_laws_demands.specs.ReportLaws.{CheckIsExact, OverlapsAreListedOnce, ListedRulesOverlap, MasksAreReportedOnce, ReportedMasksShadow};
@@ -285,4 +286,9 @@ pub fn built_demands_are_whole()
 /// A rule that elaborates matches under a pick exactly where the demands of its visit hold.
 pub fn visits_match()
     ensures { VisitsMatch }
+{}
+
+/// An error of building names a limit only where a rule at that position passes it.
+pub fn reports_name_passed_limits()
+    ensures { ReportsNamePassedLimits }
 {}
