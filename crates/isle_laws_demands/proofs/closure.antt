@@ -4,6 +4,7 @@ pub mod Classes
 pub mod Closing
 pub mod Ending
 pub mod LimitsPassed
+pub mod LimitsReported
 pub mod Names
 pub mod Reports
 pub mod Settled
