@@ -4,7 +4,6 @@
 //! `proofs/`.
 #![tactic(auto)]
 
-ghost use Rattle.isle_laws_demands.specs.RefusalLaws.{ReportsNamePassedLimits};
 ghost use Rattle.isle_laws_demands.specs.ClosureLaws.{JoinedIsEquivalence, ClassesBoundJoined, VerdictIsExact, NamesAreExact, ClosingAddsNothing, ConstraintsAreKept, ClosingIsSound, OverlapIsSymmetric, OverlapIsExact, ClashIsExact, FirstLimitIsPassed, PassedLimitIsMet, ClosingIsWhole, ReportsAreExact, ShadowsAreExact, VisitsMakeEqualSites, PlainClosingEnds, ClosingEnds};
 ghost use Rattle.isle_laws_demands.specs.AcceptLaws.{ElaboratedRulesHaveTerms, RulesAreJudged, ListsAreAccepted, ListsAreNotAccepted};
 ghost use Rattle.isle_laws_demands.specs.ReportLaws.{CheckIsExact, OverlapsAreListedOnce, ListedRulesOverlap, MasksAreReportedOnce, ReportedMasksShadow};
@@ -12,6 +11,7 @@ ghost use Rattle.isle_laws_demands.specs.VisitLaws.{SitesStandOnce, FormedRulesD
 ghost use Rattle.isle_model.specs.claims.SetMeanings.{BuiltSetsAreTested, BuiltSetsCanBeServed, BuiltSetsAreCollected};
 ghost use Rattle.isle_laws_demands.specs.BuiltLaws.{ClosingsOfBuiltRulesAreWhole, ConstrainedSitesStandInNoClass, BuiltRulesConstrainOrEquate, FormedRulesMakeEqualSites, BuiltDemandsAreWhole};
 ghost use Rattle.isle_laws_demands.specs.MatchLaws.{VisitsMatch, UnreachableRulesNeverMatch, ClosedDemandsHoldAlike, BuiltDemandsHoldAlike, BuiltSetsMatchByDemands, BuiltRulesAreToldApart, RulesWithoutMultiGoOverNoCalls};
+ghost use Rattle.isle_laws_demands.specs.RefusalLaws.{ReportsNamePassedLimits};
 
 use isle_laws_lists::{lists_agree, rules_are_formed};
 
@@ -286,6 +286,43 @@ pub fn built_demands_are_whole()
 /// A rule that elaborates matches under a pick exactly where the demands of its visit hold.
 pub fn visits_match()
     ensures { VisitsMatch }
+{}
+
+/// An unreachable rule never matches.
+pub fn unreachable_rules_never_match()
+    ensures { UnreachableRulesNeverMatch }
+{}
+
+/// The closed demands of a rule hold exactly where its demands do, if they are all that follows.
+pub fn closed_demands_hold_alike()
+    ensures { ClosedDemandsHoldAlike }
+{}
+
+/// So those of each rule that is built of elaborated rules do.
+pub fn built_demands_hold_alike()
+    ensures { BuiltDemandsHoldAlike }
+{
+    built_demands_are_whole();
+}
+
+/// And so, under each of its picks, a rule of a set that is built of elaborated rules matches exactly where its demands hold.
+pub fn built_sets_match_by_demands()
+    ensures { BuiltSetsMatchByDemands }
+{
+    built_demands_are_whole();
+}
+
+/// Of two rules that are built of elaborated rules and go over no calls, those that don't overlap never match together, and
+/// a shadowed one matches only where its mask does.
+pub fn built_rules_are_told_apart()
+    ensures { BuiltRulesAreToldApart }
+{
+    built_demands_are_whole();
+}
+
+/// The rules of a term that isn't multi and uses no multi extractor go over no calls.
+pub fn rules_without_multi_go_over_no_calls()
+    ensures { RulesWithoutMultiGoOverNoCalls }
 {}
 
 /// An error of building names a limit only where a rule at that position passes it.
