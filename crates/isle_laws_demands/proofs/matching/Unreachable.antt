@@ -353,46 +353,25 @@ module _ (g : Given) (r : TypedRule) (rs : List TypedRule) (here : Contains rs r
     asked_shape s (is_variant ty i n) k = asked_parts s (is_variant ty i n) k
     asked_shape s (is_struct ty n) k = asked_parts s (is_struct ty n) k
     asked_shape s (is_bool b ty) k =
-        let a = met.asked (s, is_bool b ty) k in
-        let f = has_form m (is_bool b ty) a.0.content a.0.meets in
-        record {
-          value = f.0;
-          there = a.0.held ∙ ap Some f.1;
-          ty = ty;
-          written = refl;
-          worth = f.2;
-          typed = value_typed (literal_value m (bool_literal b ty)) (well_typed p.types ty) f.0 f.2 (served.bools b ty (is_asked s (is_bool b ty) (bool_term b ty) k (inl refl)));
-          atomic = ap (λ n. has_parts (slice_get p.types n)) (formed (s, is_bool b ty) k) ∙ ap has_parts types.first;
-          tested = is_tested s (is_bool b ty) (bool_term b ty) k (inl refl);
-        }
+        let a = (met.asked (s, is_bool b ty) k).0 in
+        let f = has_form m (is_bool b ty) a.content a.meets in
+        constant_at s (is_bool b ty) (bool_term b ty) k (inl refl) ty f.0 f.1 f.2 refl
+        (value_typed (literal_value m (bool_literal b ty)) (well_typed p.types ty) f.0 f.2 (served.bools b ty (is_asked s (is_bool b ty) (bool_term b ty) k (inl refl))))
+        (ap (λ n. has_parts (slice_get p.types n)) (formed (s, is_bool b ty) k) ∙ ap has_parts types.first)
     asked_shape s (is_int z ty) k =
-        let a = met.asked (s, is_int z ty) k in
-        let f = has_form m (is_int z ty) a.0.content a.0.meets in
-        record {
-          value = f.0;
-          there = a.0.held ∙ ap Some f.1;
-          ty = ty;
-          written = refl;
-          worth = f.2;
-          typed = value_typed (literal_value m (int_literal z ty)) (well_typed p.types ty) f.0 f.2 (served.ints z ty (is_asked s (is_int z ty) (int_term z ty) k (inl refl)));
-          atomic = atom_without_parts (slice_get p.types ty) (formed (s, is_int z ty) k);
-          tested = is_tested s (is_int z ty) (int_term z ty) k (inl refl);
-        }
+        let a = (met.asked (s, is_int z ty) k).0 in
+        let f = has_form m (is_int z ty) a.content a.meets in
+        constant_at s (is_int z ty) (int_term z ty) k (inl refl) ty f.0 f.1 f.2 refl
+        (value_typed (literal_value m (int_literal z ty)) (well_typed p.types ty) f.0 f.2 (served.ints z ty (is_asked s (is_int z ty) (int_term z ty) k (inl refl))))
+        (atom_without_parts (slice_get p.types ty) (formed (s, is_int z ty) k))
     asked_shape s (is_prim name) k =
-        let a = met.asked (s, is_prim name) k in
-        let f = has_form m (is_prim name) a.0.content a.0.meets in
+        let a = (met.asked (s, is_prim name) k).0 in
+        let f = has_form m (is_prim name) a.content a.meets in
         let t = formed (s, is_prim name) k in
-        record {
-          value = f.0;
-          there = a.0.held ∙ ap Some f.1;
-          ty = t.0;
-          written = t.1;
-          worth = f.2;
-          typed = subst (λ o. typed_as p o f.0 ≡ true) t.1
-              (value_typed (constant_value m name) (typed_as p (constant_type p name)) f.0 f.2 (served.prims name (is_asked s (is_prim name) (prim_term name) k (inl refl))));
-          atomic = apart.without_parts r s name t.0 here (contains_from_in d.constraints (s, is_prim name) k) t.1;
-          tested = is_tested s (is_prim name) (prim_term name) k (inl refl);
-        }
+        constant_at s (is_prim name) (prim_term name) k (inl refl) t.0 f.0 f.1 f.2 t.1
+        (subst (λ o. typed_as p o f.0 ≡ true) t.1
+        (value_typed (constant_value m name) (typed_as p (constant_type p name)) f.0 f.2 (served.prims name (is_asked s (is_prim name) (prim_term name) k (inl refl)))))
+        (apart.without_parts r s name t.0 here (contains_from_in d.constraints (s, is_prim name) k) t.1)
     asked_shape s is_present k =
         let a = met.asked (s, is_present) k in
         let f = has_form m is_present a.0.content a.0.meets in
