@@ -20,7 +20,7 @@ use Rattle.isle_model.specs.rules.Picks.{Pick, matches_under, right_side_under}
 use Rattle.isle_model.specs.rules.RightSide.{right_side}
 use Rattle.isle_model.specs.trees.Trees.{Tree, loop_at, no_step, step}
 use Rattle.std.specs.Bool.{◌==◌}
-use Rattle.isle_model.specs.claims.Environments.{AnswersBy, PassesNesting, TermEnvironment, TypeEnvironment, types_read}
+use Rattle.isle_model.specs.claims.Environments.{AnswersBy, PassesNesting, TermEnvironment, TypeEnvironment, types_read, environment_of, term_environment_of, with_read_names}
 use Rattle.isle_model.specs.claims.Refusals.{of_nesting, past_limit}
 use Rattle.isle_model.specs.lists.Signatures.{Signature, constructor_signature, extractor_signature, gives_one, gives_one_or_none}
 use Rattle.isle_model.specs.lists.Tables.{TermEntry}
@@ -302,3 +302,13 @@ UnusedCallsDemandNothing =
     × (run idle_tree (world_of idle_program 1 idle_set.sites pp_fails (given (pos 1))) ≡ answers (pos 7))
     × (choice used_program pp_fails used_rules.rules (given (pos 1)) ≡ no_rule)
     × (run used_tree (world_of used_program 1 used_set.sites pp_fails (given (pos 1))) ≡ no_rule)
+
+abbrev pub idle_term : LoweredTerm
+idle_term = record { term = 1; set = idle_set; tree = idle_tree }
+
+-- what lowering gives of a term that isn't multi: on each argument, and under every meaning, the tree runs as the rule is
+-- chosen
+abbrev pub IdleIsLowered : Type 0
+IdleIsLowered =
+    LoweringAnswers idle_defs true (environment_of (with_read_names (types_read idle_defs) idle_rules.names)) (term_environment_of (types_read idle_defs) idle_defs true idle_rules.rules) idle_rules
+    (idle_term ∷ [])

@@ -488,7 +488,7 @@ pub fn lists_refused()
     ensures lowering { SamplesAreRefused }
 {}
 
-ghost use Rattle.isle_examples.specs.Mended.{AboveCallsNothingIsAsked, ThirdRulesDontCount, ReturnsOfMultiTermsGoOn, RightSidesFailUnderPicks, OverlapsMayHoldTwice, NamelessIsNotAnswered, LookUpsHaveNoList, LimitsAreNamedWherePassed, SecondIsReadAlone, EmptySetsAreBuilt, SignaturesOfW, SitesAreBrought, UnusedCallsDemandNothing};
+ghost use Rattle.isle_examples.specs.Mended.{AboveCallsNothingIsAsked, ThirdRulesDontCount, ReturnsOfMultiTermsGoOn, RightSidesFailUnderPicks, OverlapsMayHoldTwice, NamelessIsNotAnswered, LookUpsHaveNoList, LimitsAreNamedWherePassed, SecondIsReadAlone, EmptySetsAreBuilt, SignaturesOfW, SitesAreBrought, UnusedCallsDemandNothing, IdleIsLowered};
 
 /// A world that has what tests ask may have no content for a construction above an impure call that is never made.
 #[tactic(auto, using(crate::proofs::Mended::above_calls_nothing_is_asked_lem))]
@@ -561,4 +561,10 @@ pub fn sites_are_brought()
 /// A partial call that an if-let leaves unused demands nothing, and one that it uses does.
 pub fn unused_calls_demand_nothing()
     ensures { UnusedCallsDemandNothing }
+{}
+
+/// The list with a partial call that is left unused is lowered, with the headline.
+#[tactic(auto, using(crate::proofs::Mended::idle_is_lowered_lem))]
+pub fn idle_is_lowered()
+    ensures { IdleIsLowered }
 {}

@@ -16,6 +16,7 @@ pub mod TypedExprs
 pub mod TypedPatterns
 pub mod TypedResults
 pub mod TypedRules
+pub mod TypesStay
 pub mod Typings
 pub mod UsesFound
 pub mod WellFormed

@@ -3,6 +3,8 @@
 //! A function here has an empty body: its clause is a law, and its proof stands in `proofs/`.
 #![tactic(auto)]
 
+ghost use Rattle.isle_laws_lists.specs.ReadEnvironments.{TypesAreShown, TypesStay};
+ghost use Rattle.isle_laws_lists.specs.FurtherNames.{FurtherNamesDontMatter, NamesOfRulesDontMatter};
 ghost use Rattle.isle_laws_lists.specs.TypingLaws.{PatternsAgree, ExprsAgree, RulesAgree, TypedWithinLimits, ListsAgree, MoreMayNest, PatternsOneWay, ExprsOneWay, RulesOneWay};
 ghost use Rattle.isle_laws_lists.specs.TypingResults.{TypesAreExpected, VariablesAtPlaces, NamesStay, NamesStayInLists};
 ghost use Rattle.isle_model.specs.lists.Formed.{RulesAreFormed};
@@ -220,4 +222,14 @@ pub fn further_names_dont_matter()
 /// So a rule of a list is read from the names of the list's terms, whatever names the rules before it met.
 pub fn names_of_rules_dont_matter()
     ensures { NamesOfRulesDontMatter }
+{}
+
+/// Types that can be read are shown by some environment.
+pub fn types_are_shown()
+    ensures { TypesAreShown }
+{}
+
+/// With more names, types and their look-ups stay as they were.
+pub fn types_stay()
+    ensures { TypesStay }
 {}
