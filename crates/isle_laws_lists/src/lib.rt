@@ -3,8 +3,6 @@
 //! A function here has an empty body: its clause is a law, and its proof stands in `proofs/`.
 #![tactic(auto)]
 
-ghost use Rattle.isle_laws_lists.specs.ReadEnvironments.{TypesAreShown, TypesStay};
-ghost use Rattle.isle_laws_lists.specs.FurtherNames.{FurtherNamesDontMatter, NamesOfRulesDontMatter};
 ghost use Rattle.isle_laws_lists.specs.TypingLaws.{PatternsAgree, ExprsAgree, RulesAgree, TypedWithinLimits, ListsAgree, MoreMayNest, PatternsOneWay, ExprsOneWay, RulesOneWay};
 ghost use Rattle.isle_laws_lists.specs.TypingResults.{TypesAreExpected, VariablesAtPlaces, NamesStay, NamesStayInLists};
 ghost use Rattle.isle_model.specs.lists.Formed.{RulesAreFormed};
@@ -12,6 +10,7 @@ ghost use Rattle.isle_laws_lists.specs.OwnTypes.{OwnTypesAreReadable};
 ghost use Rattle.isle_laws_lists.specs.JudgeLaws.{TypesAreJudged, CyclesAreFound, TermsAreJudged, DefinedAreJudged, KnownTypesAreJudged, ReadTypesAreJudged, ListsAreElaborated, TypedRulesAreFound, ListsAreRead, ListsAreRefused};
 ghost use Rattle.isle_laws_lists.specs.TableLaws.{OwnTypesAreWellFormed, NamesStandOnce, NumbersStay, TypesStandAtIds, TypesAreFound, LastDefinitionCounts, TermsStandAtIds, TermsAreOfTypes, TermsHaveNames, TermsAreFound, TypesMakeTerms, ConvertersStandOnce};
 ghost use Rattle.isle_laws_lists.specs.FurtherNames.{FurtherNamesDontMatter, NamesOfRulesDontMatter};
+ghost use Rattle.isle_laws_lists.specs.ReadEnvironments.{TypesAreShown, TypesStay};
 
 /// A pattern becomes by the rules of typing what the function gives, and nothing where it gives nothing.
 pub fn patterns_agree()
