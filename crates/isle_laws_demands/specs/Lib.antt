@@ -4,3 +4,4 @@ pub mod ClosureLaws
 pub mod MatchLaws
 pub mod ReportLaws
 pub mod VisitLaws
+pub mod ServeLaws
