@@ -1,3 +1,6 @@
 -- From what a meaning has to what runs rest on.
 pub mod Fits
 pub mod Forms
+pub mod ServesRuns
+pub mod SitesKnown
+pub mod Walked

@@ -5,3 +5,4 @@ pub mod MatchLaws
 pub mod RefusalLaws
 pub mod ReportLaws
 pub mod VisitLaws
+pub mod ServeLaws

@@ -9,6 +9,7 @@ ghost use Rattle.isle_laws_demands.specs.AcceptLaws.{ElaboratedRulesHaveTerms, R
 ghost use Rattle.isle_laws_demands.specs.ReportLaws.{CheckIsExact, OverlapsAreListedOnce, ListedRulesOverlap, MasksAreReportedOnce, ReportedMasksShadow};
 ghost use Rattle.isle_laws_demands.specs.VisitLaws.{SitesStandOnce, FormedRulesDemandGates, ClosingKeepsGates, ElaboratedRulesDemandGates, BuiltRulesDemandGates, BuiltSetsAreWellBuilt, NoneAskedAndGoneOver, MultiCallsAreGoneOver, NoRuleAsksAndGoesOver, MultiTermsHaveOnePriority};
 ghost use Rattle.isle_model.specs.claims.SetMeanings.{BuiltSetsAreTested, BuiltSetsCanBeServed, BuiltSetsAreCollected};
+ghost use Rattle.isle_laws_demands.specs.ServeLaws.{ServedSetsServeTests};
 ghost use Rattle.isle_laws_demands.specs.BuiltLaws.{ClosingsOfBuiltRulesAreWhole, ConstrainedSitesStandInNoClass, BuiltRulesConstrainOrEquate, FormedRulesMakeEqualSites, BuiltDemandsAreWhole};
 ghost use Rattle.isle_laws_demands.specs.MatchLaws.{VisitsMatch, UnreachableRulesNeverMatch, ClosedDemandsHoldAlike, BuiltDemandsHoldAlike, BuiltSetsMatchByDemands, BuiltRulesAreToldApart, RulesWithoutMultiGoOverNoCalls};
 ghost use Rattle.isle_laws_demands.specs.RefusalLaws.{ReportsNamePassedLimits};
@@ -325,7 +326,15 @@ pub fn rules_without_multi_go_over_no_calls()
     ensures { RulesWithoutMultiGoOverNoCalls }
 {}
 
-/// An error of building names a limit only where a rule at that position passes it.
-pub fn reports_name_passed_limits()
-    ensures { ReportsNamePassedLimits }
+/// So their closed demands tell them apart.
+pub fn rules_without_multi_are_told_apart()
+    ensures { RulesWithoutMultiAreToldApart }
+{
+    built_demands_are_whole();
+}
+
+/// For a built set of elaborated rules, a meaning that serves the term's rules and tells constants apart has what the tests
+/// of trees ask.
+pub fn served_sets_serve_tests()
+    ensures { ServedSetsServeTests }
 {}

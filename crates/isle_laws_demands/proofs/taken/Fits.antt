@@ -11,7 +11,7 @@ use Rattle.isle_model.specs.rules.Outcome.{then_option}
 use Rattle.isle_model.specs.rules.Program.{Program, Kind, a_call, kind}
 use Rattle.isle_model.specs.rules.Picks.{Pick, picked, place_of, part_of_some, field_of_variant, field_of_struct, site_content, site_values, call_answer}
 use Rattle.isle_model.specs.rules.Typed.{TypedRule}
-use Rattle.isle_model.specs.sites.Sites.{Site, bool_site, int_site, prim_site, argument_site, extractor_site, constructor_site, iterator_site, make_variant_site, match_variant_site, make_struct_site, extract_struct_site, make_some_site, match_some_site, match_tuple_site, SiteTerm, bool_term, int_term, prim_term, extractor_call, constructor_call, struct_made, SiteTerms, no_site_term, site_term_and, each_term, layer, unfold_site, sources_of, sources_at}
+use Rattle.isle_model.specs.sites.Sites.{Site, bool_site, int_site, prim_site, argument_site, extractor_site, constructor_site, iterator_site, make_variant_site, match_variant_site, make_struct_site, extract_struct_site, make_some_site, match_some_site, match_tuple_site, SiteTerm, bool_term, int_term, prim_term, extractor_call, constructor_call, variant_field, struct_made, struct_field, SiteTerms, no_site_term, site_term_and, each_term, layer, unfold_site, sources_of, sources_at}
 use Rattle.isle_model.specs.sites.Serves.{Serves, asked, fits_one, fits_answer, fits_extractor, fits_constructor, constant_type, typed_as, term_args, term_results, Holds, HoldsAll}
 use Rattle.isle_model.specs.trees.Places.{below, waits}
 use Rattle.isle_model.specs.trees.Run.{World, as_value, from_value, part_at}
@@ -53,7 +53,7 @@ typed_fields types None (value_and v vs) h = absurd (false≢true h)
 typed_fields types (Some tys) vs h = (tys, refl, as_many_typed types tys vs h)
 
 mutual
-  typed_whole : (types : List TypeEntry) (ty : ℕ) (v : Value) → well_typed types ty v ≡ true → IsWhole types v
+  pub typed_whole : (types : List TypeEntry) (ty : ℕ) (v : Value) → well_typed types ty v ≡ true → IsWhole types v
   typed_whole types ty (truth b) h = tt
   typed_whole types ty (atom s n) h = tt
   typed_whole types ty (of_variant s i vs) h =
@@ -254,12 +254,23 @@ tuple_part_there types n i nothing h l = absurd h
 tuple_part_there types n i (just d) h l = absurd h
 tuple_part_there types n i (many cs) h l = absurd h
 
+-- a field of a value
+abbrev pub IsField : SiteTerm → Type 0
+IsField (variant_field s variant i) = Unit {0}
+IsField (struct_field s i) = Unit {0}
+IsField _ = ⊥
+
+only_asked : {P : Type 0} → P ⊎ ⊥ → P
+only_asked (inl a) = a
+only_asked (inr n) = absurd n
+
 -- 3. sites
--- a world whose sites stand after their sources, have forms and are asked by rules that the meaning serves, and whose arguments are whole
+-- a world whose sites stand after their sources, have forms, and are asked by rules that the meaning serves or are fields, and
+-- whose arguments are whole
 pub record IsServed (p : Program) (n : ℕ) (rs : List TypedRule) (w : World) : Type 0 where
   pub before : SourcesBefore w.sites
   pub forms : (s : ℕ) → s < length w.sites → (q : Form) × IsOfForm p n (unfold_site w.sites s) q
-  pub asks : (s : ℕ) → s < length w.sites → Contains (asked p rs) (unfold_site w.sites s)
+  pub asks : (s : ℕ) → s < length w.sites → Contains (asked p rs) (unfold_site w.sites s) ⊎ IsField (unfold_site w.sites s)
   pub serves : Serves p w.meaning w.args rs
   pub args : (i : ℕ) → i < n → (v : Value) × (slice_get w.args i ≡ Some v) × IsWhole p.types v
 
@@ -298,25 +309,25 @@ module _ (p : Program) (n : ℕ) (rs : List TypedRule) (w : World) (k : Pick) (h
   call_fits : (o : Option Content) (f : Content → Bool) → IsSomeAnd o (λ c. IsTrue (f c)) → (c : Content) → o ≡ Some c → f c ≡ true
   call_fits o f s c e = subst (λ x. IsSomeAnd x (λ y. IsTrue (f y))) e s
 
-  site_fits : (b : Site) → IsPureSite b → Contains (asked p rs) (layer U b) → ((a : ℕ) → Contains (sources_of b) a → Fit a)
+  site_fits : (b : Site) → IsPureSite b → Contains (asked p rs) (layer U b) ⊎ IsField (layer U b) → ((a : ℕ) → Contains (sources_of b) a → Fit a)
       → (q : Form) → IsOfForm p n (layer U b) q → (c : Content) → site_content w.meaning w.args k (layer U b) ≡ Some c → FitsForm p.types q c
   site_fits (bool_site x ty) pure ask fit q f c e =
-      subst (λ y. FitsForm p.types y c) (sym f) (value_fits p.types (literal_value w.meaning (bool_literal x ty)) (well_typed p.types ty) (typed_whole p.types ty) (h.serves.bools x ty ask) c e)
+      subst (λ y. FitsForm p.types y c) (sym f) (value_fits p.types (literal_value w.meaning (bool_literal x ty)) (well_typed p.types ty) (typed_whole p.types ty) (h.serves.bools x ty (only_asked ask)) c e)
   site_fits (int_site z ty) pure ask fit q f c e =
-      subst (λ y. FitsForm p.types y c) (sym f) (value_fits p.types (literal_value w.meaning (int_literal z ty)) (well_typed p.types ty) (typed_whole p.types ty) (h.serves.ints z ty ask) c e)
+      subst (λ y. FitsForm p.types y c) (sym f) (value_fits p.types (literal_value w.meaning (int_literal z ty)) (well_typed p.types ty) (typed_whole p.types ty) (h.serves.ints z ty (only_asked ask)) c e)
   site_fits (prim_site name) pure ask fit q f c e =
-      subst (λ y. FitsForm p.types y c) (sym f) (value_fits p.types (constant_value w.meaning name) (typed_as p (constant_type p name)) (constant_whole p (constant_type p name)) (h.serves.prims name ask) c e)
+      subst (λ y. FitsForm p.types y c) (sym f) (value_fits p.types (constant_value w.meaning name) (typed_as p (constant_type p name)) (constant_whole p (constant_type p name)) (h.serves.prims name (only_asked ask)) c e)
   site_fits (argument_site i) pure ask fit q f c e =
       let a = h.args i f.0 in
       let b = from_value_is (slice_get w.args i) c e in
       subst (λ y. FitsForm p.types y c) (sym f.1) (subst (FitsForm p.types a_value) (sym b.2) (refl, subst (IsWhole p.types) (some_is a.0 b.0 (sym a.1 ∙ b.1)) a.2))
   site_fits (extractor_site t source) pure ask fit q f c e =
       let a = from_then (then_option (content_at w k source) as_value) (extractor_answer w.meaning t) c e in
-      let s = h.serves.extractors t (U source) a.0 ask (contents_are_held_lem w.meaning w.args k (U source) (one a.0) (as_value_is (content_at w k source) a.0 a.1)) in
+      let s = h.serves.extractors t (U source) a.0 (only_asked ask) (contents_are_held_lem w.meaning w.args k (U source) (one a.0) (as_value_is (content_at w k source) a.0 a.1)) in
       subst (λ y. FitsForm p.types y c) (sym f.2) (extractor_fits p t f.0 c (call_fits (extractor_answer w.meaning t a.0) (fits_extractor p t (kind p t)) s c a.2))
   site_fits (constructor_site t ss zero) pure ask fit q f c e =
       let a = from_then (site_values w.meaning w.args k (each_term U ss)) (call_answer w.meaning t 0) c e in
-      let s = h.serves.pures t (each_term U ss) a.0 ask (all_hold (each_term U ss) a.0 a.1) in
+      let s = h.serves.pures t (each_term U ss) a.0 (only_asked ask) (all_hold (each_term U ss) a.0 a.1) in
       subst (λ y. FitsForm p.types y c) (sym f.2) (constructor_fits p t f.0 c (call_fits (pure_answer w.meaning t a.0) (fits_constructor p t (kind p t)) s c a.2))
   site_fits (constructor_site t ss (suc i)) pure ask fit q f c e = absurd pure
   site_fits (iterator_site source) pure ask fit q f c e =
@@ -348,8 +359,8 @@ module _ (p : Program) (n : ℕ) (rs : List TypedRule) (w : World) (k : Pick) (h
       let a = from_then (content_at w k source) (λ x. part_at x i) c e in
       subst (λ y. FitsForm p.types y c) (sym f.3) (tuple_part_fits p.types f.0 i a.0 c (fit source (in_head source []) (form false false (suc (suc f.0))) f.1 a.0 a.1) a.2)
 
-  asked_layer : (s : ℕ) (b : Site) → slice_get w.sites s ≡ Some b → Contains (asked p rs) (layer U b)
-  asked_layer s b at = subst (Contains (asked p rs)) (unfolded_layer w.sites h.before s b at) (h.asks s (slice_get_within w.sites s b at))
+  asked_layer : (s : ℕ) (b : Site) → slice_get w.sites s ≡ Some b → Contains (asked p rs) (layer U b) ⊎ IsField (layer U b)
+  asked_layer s b at = subst (λ u. Contains (asked p rs) u ⊎ IsField u) (unfolded_layer w.sites h.before s b at) (h.asks s (slice_get_within w.sites s b at))
 
   pure_here : (s : ℕ) (b : Site) → slice_get w.sites s ≡ Some b → IsPureBelow w.sites s → IsPureSite b
   pure_here s b at pure = (let a = pure s (below_itself w.sites s) in subst IsPureSite (some_is a.0 b (sym a.1 ∙ at)) a.2)
@@ -372,21 +383,21 @@ module _ (p : Program) (n : ℕ) (rs : List TypedRule) (w : World) (k : Pick) (h
   fits s = fits_below (suc s) s (omega arith)
 
   -- 4. and something is there
-  site_there : (b : Site) → IsPureSite b → waits (Some b) ≡ false → Contains (asked p rs) (layer U b) → ((a : ℕ) → Contains (sources_of b) a → Fit a) → ((a : ℕ) → Contains (sources_of b) a → IsTrue (is_some (content_at w k a)))
+  site_there : (b : Site) → IsPureSite b → waits (Some b) ≡ false → Contains (asked p rs) (layer U b) ⊎ IsField (layer U b) → ((a : ℕ) → Contains (sources_of b) a → Fit a) → ((a : ℕ) → Contains (sources_of b) a → IsTrue (is_some (content_at w k a)))
       → (q : Form) → IsOfForm p n (layer U b) q → IsTrue (is_some (site_content w.meaning w.args k (layer U b)))
-  site_there (bool_site x ty) pure wait ask fit t q f = (let a = some_and (literal_value w.meaning (bool_literal x ty)) _ (h.serves.bools x ty ask) in ap (λ o. is_some (from_value o)) a.1)
-  site_there (int_site z ty) pure wait ask fit t q f = (let a = some_and (literal_value w.meaning (int_literal z ty)) _ (h.serves.ints z ty ask) in ap (λ o. is_some (from_value o)) a.1)
-  site_there (prim_site name) pure wait ask fit t q f = (let a = some_and (constant_value w.meaning name) _ (h.serves.prims name ask) in ap (λ o. is_some (from_value o)) a.1)
+  site_there (bool_site x ty) pure wait ask fit t q f = (let a = some_and (literal_value w.meaning (bool_literal x ty)) _ (h.serves.bools x ty (only_asked ask)) in ap (λ o. is_some (from_value o)) a.1)
+  site_there (int_site z ty) pure wait ask fit t q f = (let a = some_and (literal_value w.meaning (int_literal z ty)) _ (h.serves.ints z ty (only_asked ask)) in ap (λ o. is_some (from_value o)) a.1)
+  site_there (prim_site name) pure wait ask fit t q f = (let a = some_and (constant_value w.meaning name) _ (h.serves.prims name (only_asked ask)) in ap (λ o. is_some (from_value o)) a.1)
   site_there (argument_site i) pure wait ask fit t q f = (let a = h.args i f.0 in ap (λ o. is_some (from_value o)) a.1)
   site_there (extractor_site x source) pure wait ask fit t q f =
       let a = there_is (content_at w k source) (t source (in_head source [])) in
       let v = the_value p.types a.0 (fit source (in_head source []) a_value f.1 a.0 a.1) in
       let e : content_at w k source ≡ Some (one v.0) = a.1 ∙ ap Some v.1 in
-      let s = some_and (extractor_answer w.meaning x v.0) _ (h.serves.extractors x (U source) v.0 ask (contents_are_held_lem w.meaning w.args k (U source) (one v.0) e)) in
+      let s = some_and (extractor_answer w.meaning x v.0) _ (h.serves.extractors x (U source) v.0 (only_asked ask) (contents_are_held_lem w.meaning w.args k (U source) (one v.0) e)) in
       ap (λ o. is_some (then_option (then_option o as_value) (extractor_answer w.meaning x))) e ∙ ap is_some s.1
   site_there (constructor_site x ss zero) pure wait ask fit t q f =
       let a = values_there ss fit f.1 t in
-      let s = some_and (pure_answer w.meaning x a.0) _ (h.serves.pures x (each_term U ss) a.0 ask (all_hold (each_term U ss) a.0 a.1)) in
+      let s = some_and (pure_answer w.meaning x a.0) _ (h.serves.pures x (each_term U ss) a.0 (only_asked ask) (all_hold (each_term U ss) a.0 a.1)) in
       ap (λ o. is_some (then_option o (call_answer w.meaning x 0))) a.1 ∙ ap is_some s.1
   site_there (constructor_site x ss (suc i)) pure wait ask fit t q f = absurd pure
   site_there (make_variant_site ty i ss) pure wait ask fit t q f = (let a = values_there ss fit f.3 t in ap (λ o. is_some (then_option o (λ vs. Some (one (of_variant ty i vs))))) a.1)

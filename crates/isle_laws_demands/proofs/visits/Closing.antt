@@ -15,10 +15,10 @@ use Rattle.isle_laws_demands.proofs.visits.Gates.{gates_stay}
 -- 1. members of classes
 module _ (P : SiteTerm → Type 0) where
   -- a fact holds of all members
-  abbrev Members : List (List SiteTerm) → Type 0
+  abbrev pub Members : List (List SiteTerm) → Type 0
   Members ks = (k : List SiteTerm) (u : SiteTerm) → In ks k → In k u → P u
 
-  in_class_at : (ks : List (List SiteTerm)) → Members ks → (s : SiteTerm) → P s → (u : SiteTerm) → In (class_at ks s) u → P u
+  pub in_class_at : (ks : List (List SiteTerm)) → Members ks → (s : SiteTerm) → P s → (u : SiteTerm) → In (class_at ks s) u → P u
   in_class_at [] h s g u i = elim i [ inl e ↦ subst P e g | inr n ↦ absurd n ]
   in_class_at (k ∷ ks) h s g u i =
       elim (cases_Bool (has_site k s)) [
@@ -26,7 +26,7 @@ module _ (P : SiteTerm → Type 0) where
         | inr f ↦ in_class_at ks (λ l w j. h l w (inr j)) s g u (subst (λ l. In l u) (cond-false (has_site k s) k (class_at ks s) f) i)
       ]
 
-  without_members : (ks : List (List SiteTerm)) → Members ks → (s : SiteTerm) → Members (without_class_of ks s)
+  pub without_members : (ks : List (List SiteTerm)) → Members ks → (s : SiteTerm) → Members (without_class_of ks s)
   without_members ks h s k u i = h k u (in_filter (λ l. not (has_site l s)) ks k i)
 
   merged_members : (ks : List (List SiteTerm)) → Members ks → (e : SiteTerm × SiteTerm) → P e.0 × P e.1 → Members (merged_classes ks e)
@@ -44,7 +44,7 @@ module _ (P : SiteTerm → Type 0) where
           ]
       both k u (inr i) m = without_members (without_class_of ks e.0) (without_members ks h e.0) e.1 k u i m
 
-  all_merged_members : (es : List (SiteTerm × SiteTerm)) (ks : List (List SiteTerm)) → Members ks → ((e : SiteTerm × SiteTerm) → In es e → P e.0 × P e.1) → Members (merged_all ks es)
+  pub all_merged_members : (es : List (SiteTerm × SiteTerm)) (ks : List (List SiteTerm)) → Members ks → ((e : SiteTerm × SiteTerm) → In es e → P e.0 × P e.1) → Members (merged_all ks es)
   all_merged_members [] ks h f = h
   all_merged_members (e ∷ es) ks h f = all_merged_members es (merged_classes ks e) (merged_members ks h e (f e (inl refl))) (λ x i. f x (inr i))
 

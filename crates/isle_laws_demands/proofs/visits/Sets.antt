@@ -74,15 +74,15 @@ module _ (p : Program) (t : ℕ) (set : SiteSet) (h : IsBuilt p t set) (b : Buil
     pub known : s < length set.sites
     pub good : GatesDemanded true true b.demands.constraints (demands_of p b.rule).iterators (unfold_site set.sites s)
 
-  constrained_tested : (s : ℕ) (c : Constraint) → In r.constraints (s, c) → IsTested s
+  pub constrained_tested : (s : ℕ) (c : Constraint) → In r.constraints (s, c) → IsTested s
   constrained_tested s c i =
       let a = q.constraints.asked s c (contains_from_in r.constraints (s, c) i) in record { known = a.0; good = g.tested.asked (unfold_site set.sites s) c a.1 }
 
-  joined_tested : (s : ℕ) → joins_in r.classes s s ≡ true → IsTested s
+  pub joined_tested : (s : ℕ) → joins_in r.classes s s ≡ true → IsTested s
   joined_tested s j =
       let a = q.classes.joined s s j in record { known = a.0; good = g.tested.equal a.2 (unfold_site set.sites s) a.3 a.4 }
 
-  tested_good : (s u : ℕ) → IsTested s → In (below (suc s) set.sites s) u → IsGood true true set.sites r u
+  pub tested_good : (s u : ℕ) → IsTested s → In (below (suc s) set.sites s) u → IsGood true true set.sites r u
   tested_good s u k i = below_good p t set h b r q true true (suc s) s k.known k.good u i
 
   gate_of : (u : ℕ) → IsGood true true set.sites r u → IsTrue (gate_demanded r (slice_get set.sites u))

@@ -1,0 +1,308 @@
+-- A meaning that serves the rules of a term has what the runs of trees of the built set rest on.
+use Rattle.std.proofs.Common.{◌≡◌, ◌⊎◌, ℕ, zero, suc, ◌+◌, ◌<◌, ◌==◌, Bool, true, false, ◌&&◌, List, [], ◌∷◌, length, Option, Some, None, is_some, slice_get, IsSomeAnd, Contains, All, IsTrue, flat_map, refl, sym, ap, subst, ◌∙◌, inl, inr, arith, eq-eqb}
+use Rattle.std.proofs.lemmas.Bool.{and_parts, and_from, cases_Bool, cond-true, cond-false, false≢true}
+use Rattle.std.proofs.lemmas.List.Elements.{All-contains}
+use Rattle.isle_model.specs.lists.Syntax.{Definition}
+use Rattle.isle_model.specs.lists.Tables.{TypeEntry}
+use Rattle.isle_model.specs.lists.Elaborated.{TypedRules}
+use Rattle.isle_model.specs.rules.Values.{Value, value_eq, of_variant, of_struct, Values, listed, of_list, well_typed, all_well_typed, args_well_typed, variant_types, struct_types}
+use Rattle.isle_model.specs.rules.Meaning.{Content, one, just, Meaning, bool_literal, int_literal, literal_value, constant_value}
+use Rattle.isle_model.specs.rules.Program.{Program, rules_of, arg_types}
+use Rattle.isle_model.specs.rules.Picks.{Pick}
+use Rattle.isle_model.specs.rules.Typed.{TypedRule}
+use Rattle.isle_model.specs.sites.Sites.{Site, Constraint, is_variant, is_struct, is_bool, is_int, is_prim, is_present, SetRule, SiteSet, SiteTerm, bool_term, int_term, prim_term, sources_at, unfold_site}
+use Rattle.isle_model.specs.sites.Demands.{demands_of}
+use Rattle.isle_model.specs.sites.Closure.{HasConstraint, closed}
+use Rattle.isle_model.specs.sites.Limits.{sites_after_rules}
+use Rattle.isle_model.specs.sites.Overlap.{BuiltRule, built_rules}
+use Rattle.isle_model.specs.sites.RuleSets.{IsRuleOf, IsBuilt}
+use Rattle.isle_model.specs.sites.Serves.{asked_by, asked, constant_site, constant_type, typed_as, has_parts, tested_constants, Serves, TellsConstantsApart}
+use Rattle.isle_model.specs.claims.Environments.{TypesRead, IsElaborated, program_of}
+use Rattle.isle_model.specs.trees.Places.{is_in, joins_in, below, all_below, waits, each_field, fields_of}
+use Rattle.isle_model.specs.trees.Run.{World, all_one, where_constant, content_fields, world_of}
+use Rattle.isle_model.specs.trees.Collects.{content_at, meets}
+use Rattle.isle_model.specs.trees.SetRuns.{tested_sites, IsPureAt, ServesTests}
+use Rattle.isle_model.proofs.Elements.{In, in_from_contains, contains_from_in, in_left, in_right, in_flat_map, in_slice, in_any, any_in, none_some, some_is}
+use Rattle.isle_model.proofs.Members.{in_head, in_alone, all_members, from_flat_map}
+use Rattle.isle_model.proofs.Members as members
+use Rattle.isle_laws_lists.proofs.FormedRules.{rules_are_formed}
+use Rattle.isle_laws_lists.proofs.TypedRules as typed_rules
+use Rattle.isle_laws_runs.proofs.runs.Below.{IsPureBelow}
+use Rattle.isle_laws_demands.specs.ServeLaws.{ServedSetsServeTests}
+use Rattle.isle_laws_demands.proofs.closure.Closing.{closing_is_sound_lem}
+use Rattle.isle_laws_demands.proofs.visits.Built.{rule_at, BuiltGates, built_gates}
+use Rattle.isle_laws_demands.proofs.visits.Declared.{program_not_both}
+use Rattle.isle_laws_demands.proofs.visits.Elaborated.{elaborated_rules_hang, elaborated_rules_demand_gates_lem}
+use Rattle.isle_laws_demands.proofs.visits.Sets.{IsTested, constrained_tested, joined_tested, tested_good}
+use Rattle.isle_laws_demands.proofs.matching.FormedDemands.{IsFormed, rule_formed}
+use Rattle.isle_laws_demands.proofs.matching.NeverMatches.{program_has_types}
+use Rattle.isle_laws_demands.proofs.matching.Shapes.{HasTypes, has_form, atom_without_parts}
+use Rattle.isle_laws_demands.proofs.matching.TypedParts.{program_has_typed_parts}
+use Rattle.isle_laws_demands.proofs.matching.Unreachable.{Shape, same_shape}
+use Rattle.isle_laws_demands.proofs.matching.Visits.{given, of_term}
+use Rattle.isle_laws_demands.proofs.taken.Fits.{IsWhole, AsManyFields, typed_whole, FitsAs, FitsForm, the_value, IsServed, fits, found}
+use Rattle.isle_laws_demands.proofs.taken.Forms.{Form, a_value, IsOfForm, AreKnown, rule_known}
+use Rattle.isle_laws_demands.proofs.taken.SitesKnown.{Stands, made_stands, closed_known, rules_stand, before_stands}
+
+-- 1. arguments
+arg_there : (types : List TypeEntry) (tys : List ℕ) (args : List Value) → all_well_typed types (Some tys) (of_list args) ≡ true → (i : ℕ) → i < length tys → (v : Value) × (slice_get args i ≡ Some v) × IsWhole types v
+arg_there types [] args h i l = absurd (omega (arith, l))
+arg_there types (ty ∷ tys) [] h i l = absurd (false≢true h)
+arg_there types (ty ∷ tys) (v ∷ args) h zero l = (v, refl, typed_whole types ty v (and_parts (well_typed types ty v) (all_well_typed types (Some tys) (of_list args)) h).0)
+arg_there types (ty ∷ tys) (v ∷ args) h (suc i) l = arg_there types tys args (and_parts (well_typed types ty v) (all_well_typed types (Some tys) (of_list args)) h).1 i (omega (arith, l))
+
+-- 2. the fields that a constraint brings
+one_each : (vs : List Value) → length (all_one vs) ≡ length vs
+one_each [] = refl
+one_each (v ∷ vs) = ap suc (one_each vs)
+
+each_counted : (f : ℕ → Site → Bool) (sites : List Site) (i n : ℕ) → length (each_field f sites i n) ≡ n
+each_counted f sites i zero = refl
+each_counted f sites i (suc n) = ap suc (each_counted f sites (suc i) n)
+
+value_whole : (types : List TypeEntry) (q : Form) (v : Value) → FitsForm types q (one v) → IsWhole types v
+value_whole types q v h = by q.multi q.optional h
+  where
+    by : (a b : Bool) → FitsAs types a b q.count (one v) → IsWhole types v
+    by true b h = absurd h
+    by false true h = absurd h
+    by false false h = h.1
+
+-- a content that meets it
+meets_some : (m : Meaning) (c : Constraint) (o : Option Content) → IsTrue (meets m c o) → (x : Content) × (o ≡ Some x) × (is_some (content_fields m c x) ≡ true)
+meets_some m c None h = absurd (false≢true h)
+meets_some m c (Some x) h = (x, refl, h)
+
+value_typed : (o : Option Value) (f : Value → Bool) (v : Value) → o ≡ Some v → IsSomeAnd o (λ w. IsTrue (f w)) → f v ≡ true
+value_typed o f v e h = subst (λ q. IsSomeAnd q (λ w. IsTrue (f w))) e h
+
+module _ (e : TypesRead) (defs : List Definition) (expand : Bool) (rules : TypedRules) (t : ℕ) (set : SiteSet) (h : IsElaborated e defs expand rules) (b : IsBuilt (program_of e defs rules.rules) t set)
+    (m : Meaning) (args : List Value) (typed : IsTrue (args_well_typed (program_of e defs rules.rules).types (arg_types (program_of e defs rules.rules) t) args))
+    (served : Serves (program_of e defs rules.rules) m args (rules_of (program_of e defs rules.rules) t)) (apart : TellsConstantsApart (program_of e defs rules.rules) m (rules_of (program_of e defs rules.rules) t)) (k : Pick) where
+  abbrev p : Program
+  p = program_of e defs rules.rules
+
+  abbrev n : ℕ
+  n = length (arg_types p t)
+
+  abbrev rs : List TypedRule
+  rs = rules_of p t
+
+  abbrev w : World
+  w = world_of p t set.sites m args
+
+  known : (r : TypedRule) → In rs r → AreKnown p n (demands_of p r)
+  known r i =
+      let o = of_term e defs expand rules h t r (contains_from_in rs r i) in
+      let f = elaborated_rules_hang rules_are_formed typed_rules.lists_agree e defs expand rules h r o.0 in
+      rule_known p n (program_not_both e defs expand rules h) (program_has_typed_parts e defs expand rules h) r f.0 (ap (λ x. length (arg_types p x)) o.1)
+
+  stands : (s : ℕ) → s < length set.sites → Stands p n rs (unfold_site set.sites s)
+  stands s l =
+      rules_stand p n rs [] (λ u i. absurd i) rs (λ r i. (i, known r i)) (unfold_site set.sites s)
+      (in_slice (sites_after_rules p [] rs) s (unfold_site set.sites s) (b.sites.exact s l))
+
+  is_served : IsServed p n rs w
+  is_served = record {
+    before = b.sources;
+    forms = λ s l. (stands s l).form;
+    asks = λ s l. (stands s l).asks;
+    serves = served;
+    args = arg_there p.types (arg_types p t) args typed;
+  }
+
+  -- 3. rules of the set
+  record OfSet (r : SetRule) : Type 0 where
+    built : BuiltRule
+    listed : In (built_rules p t) built
+    is : IsRuleOf p set.sites built r
+    gates : BuiltGates p built
+
+  of_set : (r : SetRule) → Contains set.rules r → OfSet r
+  of_set r c =
+      let a = rule_at p set.sites (built_rules p t) set.rules b.rules r (in_from_contains set.rules r c) in
+      record { built = a.0; listed = a.1; is = a.2; gates = built_gates p t (elaborated_rules_demand_gates_lem rules_are_formed typed_rules.lists_agree e defs expand rules h) a.0 a.1 }
+
+  pure_tested : (r : SetRule) (o : OfSet r) (s : ℕ) → IsTested p t set b o.built r o.is o.gates s → IsPureBelow set.sites s
+  pure_tested r o s x u i = (let g = tested_good p t set b o.built r o.is o.gates s u x (in_from_contains (below (suc s) set.sites s) u i) in (g.site, g.there, g.pure_site))
+
+  -- a constrained site holds what fits, and its constraint is one of a rule's, of a site that must be equal
+  record IsAsked (s : ℕ) (c : Constraint) : Type 0 where
+    known_site : s < length set.sites
+    pure : IsPureBelow set.sites s
+    rule : TypedRule
+    listed : In rs rule
+    constrained : HasConstraint (demands_of p rule) (unfold_site set.sites s) c
+
+  is_asked : (r : SetRule) → Contains set.rules r → (s : ℕ) (c : Constraint) → Contains r.constraints (s, c) → IsAsked s c
+  is_asked r i s c j =
+      let o = of_set r i in
+      let x = constrained_tested p t set b o.built r o.is o.gates s c (in_from_contains r.constraints (s, c) j) in
+      let a = o.is.constraints.asked s c j in
+      let f = before_stands p n rs [] (λ u y. absurd y) rs (λ q y. (y, known q y)) o.built o.listed in
+      record {
+        known_site = a.0;
+        pure = pure_tested r o s x;
+        rule = f.1;
+        listed = f.3;
+        constrained = (closing_is_sound_lem f.0 (demands_of p f.1)).constraints (unfold_site set.sites s) c
+            (subst (λ (y : BuiltRule). Contains y.demands.constraints (unfold_site set.sites s, c)) (sym f.5) a.1);
+      }
+
+  asked_formed : (s : ℕ) (c : Constraint) → IsAsked s c → IsFormed p c
+  asked_formed s c a =
+      let o = of_term e defs expand rules h t a.rule (contains_from_in rs a.rule a.listed) in
+      let f = elaborated_rules_hang rules_are_formed typed_rules.lists_agree e defs expand rules h a.rule o.0 in
+      rule_formed p (program_has_typed_parts e defs expand rules h) a.rule f.0 (a.constrained.source, c) (in_from_contains (demands_of p a.rule).constraints (a.constrained.source, c) a.constrained.asked)
+
+  whole_here : (s : ℕ) (c : Constraint) → IsAsked s c → (v : Value) → content_at w k s ≡ Some (one v) → IsWhole p.types v
+  whole_here s c a v x = (let f = is_served.forms s a.known_site in value_whole p.types f.0 v (fits p n rs w k is_served s a.pure f.0 f.1 (one v) x))
+
+  constant_count : (o : Option Value) (v : Value) (cs : List Content) → where_constant o v ≡ Some cs → length cs ≡ 0
+  constant_count None v cs e = absurd (none_some cs e)
+  constant_count (Some u) v cs e =
+      elim (cases_Bool (value_eq u v)) [
+        | inl t ↦ ap length (some_is cs [] (sym e ∙ cond-true (value_eq u v) (Some []) None t))
+        | inr f ↦ absurd (none_some cs (sym (cond-false (value_eq u v) (Some []) None f) ∙ e))
+      ]
+
+  -- as many values as the constraint has fields
+  same_count : (o : Option (List ℕ)) (vs : Values) (c : ℕ) → AsManyFields o vs → (tys : List ℕ) × (o ≡ Some tys) × (length tys ≡ c) → length (listed vs) ≡ c
+  same_count o vs c f g = f.2 ∙ ap length (some_is f.0 g.0 (sym f.1 ∙ g.1)) ∙ g.2
+
+  fields_counted : (s : ℕ) (d : Constraint) → IsAsked s d → (c : Content) (cs : List Content) → content_at w k s ≡ Some c → content_fields m d c ≡ Some cs → length cs ≡ length (fields_of set.sites s d)
+  fields_counted s (is_variant ty i f) a c cs x y =
+      let g = has_form m (is_variant ty i f) c (ap is_some y) in
+      let z = whole_here s (is_variant ty i f) a (of_variant ty i g.0) (x ∙ ap Some g.1) in
+      variant_count ty i f g.0 c cs g.1 y ∙ same_count (variant_types (slice_get p.types ty) i) g.0 f z.0 (asked_formed s (is_variant ty i f) a) ∙ sym (each_counted _ set.sites 0 f)
+    where
+      variant_count : (ty i f : ℕ) (vs : Values) (c : Content) (cs : List Content) → c ≡ one (of_variant ty i vs) → content_fields m (is_variant ty i f) c ≡ Some cs → length cs ≡ length (listed vs)
+      variant_count ty i f vs c cs e q =
+          let here : content_fields m (is_variant ty i f) (one (of_variant ty i vs)) ≡ Some (all_one (listed vs)) =
+          cond-true ((ty == ty) && (i == i)) (Some (all_one (listed vs))) None (and_from (ty == ty) (i == i) (eq-eqb ty ty refl) (eq-eqb i i refl)) in
+          ap length (some_is cs (all_one (listed vs)) (sym q ∙ ap (content_fields m (is_variant ty i f)) e ∙ here)) ∙ one_each (listed vs)
+  fields_counted s (is_struct ty f) a c cs x y =
+      let g = has_form m (is_struct ty f) c (ap is_some y) in
+      let z = whole_here s (is_struct ty f) a (of_struct ty g.0) (x ∙ ap Some g.1) in
+      struct_count ty f g.0 c cs g.1 y ∙ same_count (struct_types (slice_get p.types ty)) g.0 f z.0 (asked_formed s (is_struct ty f) a) ∙ sym (each_counted _ set.sites 0 f)
+    where
+      struct_count : (ty f : ℕ) (vs : Values) (c : Content) (cs : List Content) → c ≡ one (of_struct ty vs) → content_fields m (is_struct ty f) c ≡ Some cs → length cs ≡ length (listed vs)
+      struct_count ty f vs c cs e q =
+          let here : content_fields m (is_struct ty f) (one (of_struct ty vs)) ≡ Some (all_one (listed vs)) = cond-true (ty == ty) (Some (all_one (listed vs))) None (eq-eqb ty ty refl) in
+          ap length (some_is cs (all_one (listed vs)) (sym q ∙ ap (content_fields m (is_struct ty f)) e ∙ here)) ∙ one_each (listed vs)
+  fields_counted s (is_bool v ty) a c cs x y =
+      let g = has_form m (is_bool v ty) c (ap is_some y) in constant_count (literal_value m (bool_literal v ty)) g.0 cs (sym (ap (content_fields m (is_bool v ty)) g.1) ∙ y)
+  fields_counted s (is_int z ty) a c cs x y =
+      let g = has_form m (is_int z ty) c (ap is_some y) in constant_count (literal_value m (int_literal z ty)) g.0 cs (sym (ap (content_fields m (is_int z ty)) g.1) ∙ y)
+  fields_counted s (is_prim name) a c cs x y =
+      let g = has_form m (is_prim name) c (ap is_some y) in constant_count (constant_value m name) g.0 cs (sym (ap (content_fields m (is_prim name)) g.1) ∙ y)
+  fields_counted s is_present a c cs x y =
+      let g = has_form m is_present c (ap is_some y) in ap length (some_is cs (g.0 ∷ []) (sym y ∙ ap (content_fields m is_present) g.1))
+
+  -- 4. what a constraint's content is
+  constant_asked : (s : ℕ) (c : Constraint) (a : IsAsked s c) (u : SiteTerm) → In (constant_site c) u → Contains (asked p rs) u
+  constant_asked s c a u i =
+      contains_from_in (asked p rs) u
+      (in_flat_map (λ (q : TypedRule). asked_by (demands_of p q)) rs a.rule u a.listed
+      (in_right (demands_of p a.rule).made (flat_map (λ (x : SiteTerm × Constraint). constant_site x.1) (demands_of p a.rule).constraints) u
+      (in_flat_map (λ (x : SiteTerm × Constraint). constant_site x.1) (demands_of p a.rule).constraints (a.constrained.source, c) u (in_from_contains (demands_of p a.rule).constraints (a.constrained.source, c) a.constrained.asked) i)))
+
+  constant_tested : (s : ℕ) (c : Constraint) (a : IsAsked s c) (u : SiteTerm) → In (constant_site c) u → Contains (tested_constants p rs) u
+  constant_tested s c a u i =
+      contains_from_in (tested_constants p rs) u
+      (in_flat_map (λ (q : TypedRule). flat_map (λ (x : SiteTerm × Constraint). constant_site x.1) (demands_of p q).constraints) rs a.rule u a.listed
+      (in_flat_map (λ (x : SiteTerm × Constraint). constant_site x.1) (demands_of p a.rule).constraints (a.constrained.source, c) u (in_from_contains (demands_of p a.rule).constraints (a.constrained.source, c) a.constrained.asked) i))
+
+  types : HasTypes e.known.types
+  types = program_has_types e defs expand rules h
+
+  abbrev ShapeAt : ℕ → Constraint → Type 0
+  ShapeAt s d = Shape (given p m args k) rs types apart (content_at w k s) d
+
+  shape_at : (s : ℕ) (d : Constraint) → IsAsked s d → (c : Content) → content_at w k s ≡ Some c → is_some (content_fields m d c) ≡ true → ShapeAt s d
+  shape_at s (is_variant ty i f) a c x y =
+      let g = has_form m (is_variant ty i f) c y in
+      let z = whole_here s (is_variant ty i f) a (of_variant ty i g.0) (x ∙ ap Some g.1) in
+      (g.0, x ∙ ap Some g.1, same_count (variant_types (slice_get p.types ty) i) g.0 f z.0 (asked_formed s (is_variant ty i f) a))
+  shape_at s (is_struct ty f) a c x y =
+      let g = has_form m (is_struct ty f) c y in
+      let z = whole_here s (is_struct ty f) a (of_struct ty g.0) (x ∙ ap Some g.1) in
+      (g.0, x ∙ ap Some g.1, same_count (struct_types (slice_get p.types ty)) g.0 f z.0 (asked_formed s (is_struct ty f) a))
+  shape_at s (is_bool v ty) a c x y =
+      let g = has_form m (is_bool v ty) c y in
+      record {
+        value = g.0;
+        there = x ∙ ap Some g.1;
+        ty = ty;
+        written = refl;
+        worth = g.2;
+        typed = value_typed (literal_value m (bool_literal v ty)) (well_typed p.types ty) g.0 g.2 (served.bools v ty (constant_asked s (is_bool v ty) a (bool_term v ty) (inl refl)));
+        atomic = ap (λ i. has_parts (slice_get p.types i)) (asked_formed s (is_bool v ty) a) ∙ ap has_parts types.first;
+        tested = constant_tested s (is_bool v ty) a (bool_term v ty) (inl refl);
+      }
+  shape_at s (is_int z ty) a c x y =
+      let g = has_form m (is_int z ty) c y in
+      record {
+        value = g.0;
+        there = x ∙ ap Some g.1;
+        ty = ty;
+        written = refl;
+        worth = g.2;
+        typed = value_typed (literal_value m (int_literal z ty)) (well_typed p.types ty) g.0 g.2 (served.ints z ty (constant_asked s (is_int z ty) a (int_term z ty) (inl refl)));
+        atomic = atom_without_parts (slice_get p.types ty) (asked_formed s (is_int z ty) a);
+        tested = constant_tested s (is_int z ty) a (int_term z ty) (inl refl);
+      }
+  shape_at s (is_prim name) a c x y =
+      let g = has_form m (is_prim name) c y in
+      let f = asked_formed s (is_prim name) a in
+      record {
+        value = g.0;
+        there = x ∙ ap Some g.1;
+        ty = f.0;
+        written = f.1;
+        worth = g.2;
+        typed = subst (λ o. typed_as p o g.0 ≡ true) f.1 (value_typed (constant_value m name) (typed_as p (constant_type p name)) g.0 g.2 (served.prims name (constant_asked s (is_prim name) a (prim_term name) (inl refl))));
+        atomic = apart.without_parts a.rule a.constrained.source name f.0 (contains_from_in rs a.rule a.listed) a.constrained.asked f.1;
+        tested = constant_tested s (is_prim name) a (prim_term name) (inl refl);
+      }
+  shape_at s is_present a c x y = (let g = has_form m is_present c y in (g.0, x ∙ ap Some g.1))
+
+  one_constraint : (s : ℕ) (d f : Constraint) → IsAsked s d → IsAsked s f → IsTrue (meets m d (content_at w k s)) → IsTrue (meets m f (content_at w k s)) → d ≡ f
+  one_constraint s d f a c x y =
+      let u = meets_some m d (content_at w k s) x in
+      let v = meets_some m f (content_at w k s) y in
+      same_shape (given p m args k) rs types apart (content_at w k s) d f (shape_at s d a u.0 u.1 u.2) (shape_at s f c v.0 v.1 v.2)
+
+  -- 5. equal sites
+  joins_itself : (classes : List (List ℕ)) (a c : ℕ) → joins_in classes a c ≡ true → joins_in classes a a ≡ true
+  joins_itself classes a c j =
+      let l = in_any (λ x. is_in a x && is_in c x) classes j in
+      let i = (and_parts (is_in a l.0) (is_in c l.0) l.2).0 in
+      any_in (λ x. is_in a x && is_in a x) classes l.0 l.1 (and_from (is_in a l.0) (is_in a l.0) i i)
+
+  equal_value : (r : SetRule) → Contains set.rules r → (a c : ℕ) → IsTrue (joins_in r.classes a c) → (x : Content) → content_at w k a ≡ Some x → (v : Value) × (x ≡ one v)
+  equal_value r i a c j x z =
+      let o = of_set r i in
+      let q = o.is.classes.joined a c j in
+      let f = before_stands p n rs [] (λ u y. absurd y) rs (λ s y. (y, known s y)) o.built o.listed in
+      let l = closed_known p n rs f.0 f.2 (demands_of p f.1) (made_stands p n rs f.1 f.3 f.4) f.4 in
+      let v = l.members q.2 (unfold_site set.sites a) (in_from_contains (closed f.0 (demands_of p f.1)).classes q.2 (subst (λ (y : BuiltRule). Contains y.demands.classes q.2) (sym f.5) q.3)) (in_from_contains q.2 (unfold_site set.sites a) q.4) in
+      let g = the_value p.types x (fits p n rs w k is_served a (pure_tested r o a (joined_tested p t set b o.built r o.is o.gates a (joins_itself r.classes a c j))) a_value v x z) in
+      (g.0, g.1)
+
+  -- 6. sites that wait for nothing
+  pure_below : (s : ℕ) → All (IsPureAt set.sites) (all_below set.sites (s ∷ [])) → IsPureBelow set.sites s
+  pure_below s f u i = All-contains (IsPureAt set.sites) (all_below set.sites (s ∷ [])) u f (members.in_flat_map (λ x. below (suc x) set.sites x) (s ∷ []) s u (in_head s []) i)
+
+  found_there : (s : ℕ) → IsPureBelow set.sites s → waits (slice_get set.sites s) ≡ false → All (λ a. IsTrue (is_some (content_at w k a))) (sources_at set.sites s) → IsTrue (is_some (content_at w k s))
+  found_there s pure wait f = found p n rs w k is_served s pure wait (λ a c. All-contains (λ x. IsTrue (is_some (content_at w k x))) (sources_at set.sites s) a f c)
+
+pub served_sets_serve_tests_lem : ServedSetsServeTests
+served_sets_serve_tests_lem e defs expand rules t set h b m args typed served apart = record {
+  sites = refl;
+  found = λ s pure wait f. found_there e defs expand rules t set h b m args typed served apart [] s (pure_below e defs expand rules t set h b m args typed served apart [] s pure) wait f;
+  values = λ r a c x i j z. equal_value e defs expand rules t set h b m args typed served apart [] r i a c j x z;
+  fields = λ r s d c cs i j x y. fields_counted e defs expand rules t set h b m args typed served apart [] s d (is_asked e defs expand rules t set h b m args typed served apart [] r i s d j) c cs x y;
+  apart = λ r q s d f i j x y u v. one_constraint e defs expand rules t set h b m args typed served apart [] s d f
+      (is_asked e defs expand rules t set h b m args typed served apart [] r i s d x) (is_asked e defs expand rules t set h b m args typed served apart [] q j s f y) u v;
+}
