@@ -4,5 +4,5 @@ pub mod ClosureLaws
 pub mod MatchLaws
 pub mod RefusalLaws
 pub mod ReportLaws
-pub mod VisitLaws
 pub mod ServeLaws
+pub mod VisitLaws

@@ -9,10 +9,10 @@ ghost use Rattle.isle_laws_demands.specs.AcceptLaws.{ElaboratedRulesHaveTerms, R
 ghost use Rattle.isle_laws_demands.specs.ReportLaws.{CheckIsExact, OverlapsAreListedOnce, ListedRulesOverlap, MasksAreReportedOnce, ReportedMasksShadow};
 ghost use Rattle.isle_laws_demands.specs.VisitLaws.{SitesStandOnce, FormedRulesDemandGates, ClosingKeepsGates, ElaboratedRulesDemandGates, BuiltRulesDemandGates, BuiltSetsAreWellBuilt, NoneAskedAndGoneOver, MultiCallsAreGoneOver, NoRuleAsksAndGoesOver, MultiTermsHaveOnePriority};
 ghost use Rattle.isle_model.specs.claims.SetMeanings.{BuiltSetsAreTested, BuiltSetsCanBeServed, BuiltSetsAreCollected};
-ghost use Rattle.isle_laws_demands.specs.ServeLaws.{ServedSetsServeTests};
 ghost use Rattle.isle_laws_demands.specs.BuiltLaws.{ClosingsOfBuiltRulesAreWhole, ConstrainedSitesStandInNoClass, BuiltRulesConstrainOrEquate, FormedRulesMakeEqualSites, BuiltDemandsAreWhole};
-ghost use Rattle.isle_laws_demands.specs.MatchLaws.{VisitsMatch, UnreachableRulesNeverMatch, ClosedDemandsHoldAlike, BuiltDemandsHoldAlike, BuiltSetsMatchByDemands, BuiltRulesAreToldApart, RulesWithoutMultiGoOverNoCalls};
+ghost use Rattle.isle_laws_demands.specs.MatchLaws.{VisitsMatch, UnreachableRulesNeverMatch, ClosedDemandsHoldAlike, BuiltDemandsHoldAlike, BuiltSetsMatchByDemands, BuiltRulesAreToldApart, RulesWithoutMultiGoOverNoCalls, RulesWithoutMultiAreToldApart};
 ghost use Rattle.isle_laws_demands.specs.RefusalLaws.{ReportsNamePassedLimits};
+ghost use Rattle.isle_laws_demands.specs.ServeLaws.{ServedSetsServeTests};
 
 use isle_laws_lists::{lists_agree, rules_are_formed};
 
@@ -324,6 +324,11 @@ pub fn built_rules_are_told_apart()
 /// The rules of a term that isn't multi and uses no multi extractor go over no calls.
 pub fn rules_without_multi_go_over_no_calls()
     ensures { RulesWithoutMultiGoOverNoCalls }
+{}
+
+/// An error of building names a limit only where a rule at that position passes it.
+pub fn reports_name_passed_limits()
+    ensures { ReportsNamePassedLimits }
 {}
 
 /// So their closed demands tell them apart.
