@@ -25,7 +25,7 @@ use Rattle.isle_laws_demands.proofs.visits.Sets.{built_sets_are_tested_lem}
 use Rattle.isle_laws_lists.proofs.FormedRules.{rules_are_formed}
 use Rattle.isle_laws_lists.proofs.TypedRules.{lists_agree}
 use Rattle.isle_laws_trees.proofs.Exact.{not_exact}
-use Rattle.isle_laws_trees.proofs.JudgedSets.{are_below, asks, calls_pass, each_of, equates, goes_over, multi_can_be_served, only_sites, serves, stand, unfolded_demand}
+use Rattle.isle_laws_trees.proofs.JudgedSets.{are_below, asks, calls_pass, can_be_served, each_of, equates, goes_over, multi_can_be_served, only_sites, serves, stand, unfolded_demand}
 use Rattle.isle_laws_trees.proofs.WellBuilt.{passes_well_built, set_passes}
 use Rattle.isle_examples.proofs.TreeStages.{has_no_priorities}
 use Rattle.isle_examples.specs.Stages.{IsAcceptedBoth, IsBuiltOf}
@@ -156,10 +156,15 @@ is_built p t set rows once sites few passes = record {
   sources = (passes_well_built (only_sites set) passes).sources;
 }
 
--- the set of a multi term is built, and can be served
+-- a set is built, and can be served: of a term that isn't multi, and of one that is
 module _ (defs : List Definition) (rules : TypedRules) (t : ℕ) (set : SiteSet) where
   abbrev p : Program
   p = own_program defs rules
+
+  pub built : map (row_in set.sites) set.rules ≡ map (built_row p) (built_rules p t) → list_all (stands_once (length set.sites)) set.rules ≡ true
+      → map (unfold_site set.sites) (numbers_from 0 set.sites) ≡ sites_after_rules p [] (rules_of p t) → nat_le (length set.sites) most_sites ≡ true → set_passes (only_sites set) ≡ true
+      → is_multi p t ≡ false → list_all (serves set.sites) set.rules ≡ true → calls_pass p set.sites (built_rules p t) set.rules ≡ true → IsBuiltOf defs rules t set
+  built rows once sites few passes m each calls = (is_built p t set rows once sites few passes, can_be_served p t set m passes each calls)
 
   pub built_multi : map (row_in set.sites) set.rules ≡ map (built_row p) (built_rules p t) → list_all (stands_once (length set.sites)) set.rules ≡ true
       → map (unfold_site set.sites) (numbers_from 0 set.sites) ≡ sites_after_rules p [] (rules_of p t) → nat_le (length set.sites) most_sites ≡ true → set_passes (only_sites set) ≡ true

@@ -34,7 +34,7 @@ use Rattle.isle_examples.specs.Written.{extractor_by, f_of_bytes, int, number, n
 use Rattle.isle_examples.specs.Fall.{fall_defs, fall_rules}
 use Rattle.isle_examples.specs.Refused.{two_of_one_name}
 use Rattle.isle_examples.specs.Stages.{Becomes}
-use Rattle.isle_examples.specs.Used.{used_rule, used_rules, used_defs, used_set, used_tree}
+use Rattle.isle_examples.specs.Used.{ending_with, used_rule, used_rules, used_defs, used_set, used_tree}
 
 -- 1. What stands above an impure call is asked of rules that match alone.
 --   (type T (enum (P (a u8))))
@@ -264,10 +264,7 @@ SitesAreBrought =
 --   (decl f (u8) u8)
 --   (rule (f x) (if-let _ (let ((y u8 (pp x))) x)) 7), or with y in the place of the last x
 abbrev pub idle_defs : List Definition
-idle_defs =
-    declaration (record (numbers 0 (codes "pp")) { pure = true; partial = true }) ∷ constructor_by 1 (codes "pp") (codes "pp_fn") ∷ f_of_bytes 2 1
-    ∷ rule_if 3 (of_f 3 (var 3 (codes "x") ∷ [])) (any 3)
-    (let_one 3 (codes "y") (codes "u8") (call 3 (codes "pp") (variable 3 (codes "x") ∷ [])) (variable 3 (codes "x"))) (number 3 (pos 7)) ∷ []
+idle_defs = ending_with (codes "x")
 
 abbrev pub idle_rule : TypedRule
 idle_rule = record used_rule { iflets = typed_iflet (match_any u8) (make_let_one u8 1 u8 (make_term u8 0 (e_list (make_var u8 0 ∷ []))) (make_var u8 0)) ∷ [] }

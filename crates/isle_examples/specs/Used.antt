@@ -3,7 +3,7 @@
 --   (extern constructor pp pp_fn)
 --   (decl f (u8) u8)
 --   (rule (f x) (if-let _ (let ((y u8 (pp x))) y)) 7)
-use Rattle.std.specs.Prelude.{◌∷◌, [], ℕ, pos, true, false, List, Some, codes}
+use Rattle.std.specs.Prelude.{ℕ, ◌∷◌, [], ℕ, pos, true, false, List, Some, codes}
 use Rattle.isle_model.specs.claims.Layers.{BindsBeforeUse}
 use Rattle.isle_model.specs.lists.Elaborated.{TypedRules}
 use Rattle.isle_model.specs.lists.Syntax.{Definition, declaration}
@@ -15,11 +15,15 @@ use Rattle.isle_examples.specs.Stages.{Sample}
 use Rattle.isle_examples.specs.TypedForms.{bind_any, e_list, make_let_one, rules_and_names, typed, typed_iflet, typed_var, u8}
 use Rattle.isle_examples.specs.Written.{any, call, constructor_by, f_of_bytes, let_one, number, numbers, of_f, rule_if, var, variable}
 
-abbrev pub used_defs : List Definition
-used_defs =
+-- the variable that the if-let's let ends with is y, or another
+abbrev pub ending_with : List ℕ → List Definition
+ending_with body =
     declaration (record (numbers 0 (codes "pp")) { pure = true; partial = true }) ∷ constructor_by 1 (codes "pp") (codes "pp_fn") ∷ f_of_bytes 2 1
     ∷ rule_if 3 (of_f 3 (var 3 (codes "x") ∷ [])) (any 3)
-    (let_one 3 (codes "y") (codes "u8") (call 3 (codes "pp") (variable 3 (codes "x") ∷ [])) (variable 3 (codes "y"))) (number 3 (pos 7)) ∷ []
+    (let_one 3 (codes "y") (codes "u8") (call 3 (codes "pp") (variable 3 (codes "x") ∷ [])) (variable 3 body)) (number 3 (pos 7)) ∷ []
+
+abbrev pub used_defs : List Definition
+used_defs = ending_with (codes "y")
 
 abbrev pub used_rule : TypedRule
 used_rule = record (typed 0 3 1 (pos 0) (Some 14) (typed_var 0 16 u8 ∷ typed_var 1 17 u8 ∷ []) (bind_any u8 0 ∷ []) (make_int u8 (pos 7))) {

@@ -10,7 +10,7 @@ ghost use Rattle.isle_laws_demands.specs.ReportLaws.{CheckIsExact, OverlapsAreLi
 ghost use Rattle.isle_laws_demands.specs.VisitLaws.{SitesStandOnce, FormedRulesDemandGates, ClosingKeepsGates, ElaboratedRulesDemandGates, BuiltRulesDemandGates, BuiltSetsAreWellBuilt, NoneAskedAndGoneOver, MultiCallsAreGoneOver, NoRuleAsksAndGoesOver, MultiTermsHaveOnePriority};
 ghost use Rattle.isle_model.specs.claims.SetMeanings.{BuiltSetsAreTested, BuiltSetsCanBeServed, BuiltSetsAreCollected};
 ghost use Rattle.isle_laws_demands.specs.BuiltLaws.{ClosingsOfBuiltRulesAreWhole, ConstrainedSitesStandInNoClass, BuiltRulesConstrainOrEquate, FormedRulesMakeEqualSites, BuiltDemandsAreWhole};
-ghost use Rattle.isle_laws_demands.specs.MatchLaws.{VisitsMatch, UnreachableRulesNeverMatch, ClosedDemandsHoldAlike, BuiltDemandsHoldAlike, BuiltSetsMatchByDemands, BuiltRulesAreToldApart, RulesWithoutMultiGoOverNoCalls, RulesWithoutMultiAreToldApart};
+ghost use Rattle.isle_laws_demands.specs.MatchLaws.{VisitsMatch, UnreachableRulesNeverMatch, ClosedDemandsHoldAlike, BuiltDemandsHoldAlike, BuiltSetsMatchByDemands, BuiltRulesAreToldApart, RulesWithoutMultiGoOverNoCalls};
 ghost use Rattle.isle_laws_demands.specs.RefusalLaws.{ReportsNamePassedLimits};
 ghost use Rattle.isle_laws_demands.specs.ServeLaws.{ServedSetsServeTests};
 
@@ -330,13 +330,6 @@ pub fn rules_without_multi_go_over_no_calls()
 pub fn reports_name_passed_limits()
     ensures { ReportsNamePassedLimits }
 {}
-
-/// So their closed demands tell them apart.
-pub fn rules_without_multi_are_told_apart()
-    ensures { RulesWithoutMultiAreToldApart }
-{
-    built_demands_are_whole();
-}
 
 /// For a built set of elaborated rules, a meaning that serves the term's rules and tells constants apart has what the tests
 /// of trees ask.
