@@ -1,13 +1,15 @@
 // Rows of definitions and what is answered to them; what the program prints; containers; trees of syntax; refused memory.
 mod answers;
+mod broken;
 mod last_digit;
 mod partition;
 mod printing;
 mod program;
 mod refused;
+mod shapes;
 mod stable;
 mod syntax;
-mod terms;
+mod text;
 mod trees;
 mod type_rows;
 mod type_tables;
