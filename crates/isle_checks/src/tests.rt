@@ -1,15 +1,13 @@
 // Rows of definitions and what is answered to them; what the program prints; containers; trees of syntax; refused memory.
 mod answers;
-mod broken;
 mod last_digit;
 mod partition;
 mod printing;
 mod program;
 mod refused;
-mod shapes;
 mod stable;
 mod syntax;
-mod text;
+mod terms;
 mod trees;
 mod type_rows;
 mod type_tables;

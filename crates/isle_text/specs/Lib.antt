@@ -1,5 +1,0 @@
-pub mod Within
-pub mod Faults
-pub mod Forms
-pub mod Tokens
-pub mod Lets
