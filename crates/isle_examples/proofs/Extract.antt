@@ -10,7 +10,7 @@ use Rattle.isle_model.specs.sites.Sites.{Constraint, SetRule, is_int, is_present
 use Rattle.isle_model.specs.trees.Collects.{content_at}
 use Rattle.isle_model.specs.trees.Places.{fields_of, joins_in, waits}
 use Rattle.isle_model.specs.trees.Run.{content_fields, where_constant}
-use Rattle.isle_model.specs.trees.SetRuns.{IsPureAt, IsTestedSet, ServesTests}
+use Rattle.isle_model.specs.trees.SetRuns.{IsTestedSet, ServesTests}
 use Rattle.isle_laws_runs.proofs.runs.Fields.{present_met}
 use Rattle.isle_examples.proofs.SampleStages.{extract_stages}
 use Rattle.isle_examples.proofs.SetStages.{tested}

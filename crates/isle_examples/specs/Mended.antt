@@ -23,14 +23,13 @@ use Rattle.std.specs.Bool.{◌==◌}
 use Rattle.isle_model.specs.claims.Environments.{AnswersBy, PassesNesting, TermEnvironment, TypeEnvironment, types_read, environment_of, term_environment_of, with_read_names}
 use Rattle.isle_model.specs.claims.Refusals.{of_nesting, past_limit}
 use Rattle.isle_model.specs.lists.Signatures.{Signature, constructor_signature, extractor_signature, gives_one, gives_one_or_none}
-use Rattle.isle_model.specs.lists.Tables.{TermEntry}
 use Rattle.isle_model.specs.rules.Choice.{choice}
-use Rattle.isle_model.specs.sites.SetRules.{IsFoundAs, may_fit, sites_brought}
+use Rattle.isle_model.specs.sites.SetRules.{may_fit, sites_brought}
 use Rattle.isle_model.specs.trees.Judge.{is_best_tree}
 use Rattle.isle_examples.specs.MeaningForms.{given, literal, mute, all_of, alone, answers, v}
 use Rattle.isle_examples.specs.SetForms.{a_rule, byte, is_byte, a0, returning}
-use Rattle.isle_examples.specs.TypedForms.{own, bind_any, q_list, rules_and_names, typed, typed_var, u8, e_list, by_constructor, by_extractor, entry, make_let_one, no_flags, number_term, typed_iflet}
-use Rattle.isle_examples.specs.Written.{extractor_by, f_of_bytes, int, number, numbers, of_f, rule_first, rule_to, term, var, variable, any, call, constructor_by, let_one, name, rule_if, at}
+use Rattle.isle_examples.specs.TypedForms.{own, bind_any, q_list, rules_and_names, typed, typed_var, u8, e_list, by_constructor, by_extractor, entry, make_let_one, no_flags, typed_iflet}
+use Rattle.isle_examples.specs.Written.{extractor_by, f_of_bytes, int, number, numbers, of_f, rule_first, rule_to, term, var, variable, any, call, constructor_by, at}
 use Rattle.isle_examples.specs.Fall.{fall_defs, fall_rules}
 use Rattle.isle_examples.specs.Refused.{two_of_one_name}
 use Rattle.isle_examples.specs.Stages.{Becomes}

@@ -7,15 +7,14 @@ use Rattle.isle_model.specs.rules.Meaning.{many, Contents, Meaning}
 use Rattle.isle_model.specs.rules.Program.{Program, arg_types, rules_of}
 use Rattle.isle_model.specs.rules.Typed.{TypedRule}
 use Rattle.isle_model.specs.rules.Picks.{Pick, site_content, picks, matches_under}
-use Rattle.isle_model.specs.sites.Sites.{SiteTerm, SiteSet}
+use Rattle.isle_model.specs.sites.Sites.{SiteTerm}
 use Rattle.isle_model.specs.sites.Demands.{demands_of}
 use Rattle.isle_model.specs.sites.Closure.{IsUnreachable, DemandsHold, closed, ClosedDemandsHold}
 use Rattle.isle_model.specs.sites.Overlap.{BuiltRule, built_rules}
-use Rattle.isle_model.specs.sites.RuleSets.{IsBuilt}
 use Rattle.isle_model.specs.sites.Serves.{Serves, TellsConstantsApart}
 use Rattle.isle_model.specs.claims.Environments.{TypesRead, IsElaborated, program_of}
 use Rattle.isle_model.specs.claims.Headline.{IsWithoutMulti}
-use Rattle.isle_model.specs.claims.SetMeanings.{MatchesByDemands, TellsRulesApart}
+use Rattle.isle_model.specs.claims.SetMeanings.{OfBuiltSets, MatchesByDemands, TellsRulesApart}
 use Rattle.isle_laws_demands.specs.ClosureLaws.{ClosedIsWhole}
 
 -- a rule on arguments of its term's types, a meaning that serves the rules of the term, and one of the rule's picks
@@ -59,9 +58,7 @@ BuiltDemandsHoldAlike =
 
 -- and under each of its picks a rule of a set that is built of elaborated rules matches exactly where its demands hold
 abbrev pub BuiltSetsMatchByDemands : Type 0
-BuiltSetsMatchByDemands =
-    (e : TypesRead) (defs : List Definition) (expand : Bool) (rules : TypedRules) (t : ℕ) (set : SiteSet)
-    → IsElaborated e defs expand rules → IsBuilt (program_of e defs rules.rules) t set → MatchesByDemands (program_of e defs rules.rules) t set
+BuiltSetsMatchByDemands = OfBuiltSets MatchesByDemands
 
 -- the closed demands of rules that are built of elaborated rules tell those apart that go over no calls
 abbrev pub BuiltRulesAreToldApart : Type 0

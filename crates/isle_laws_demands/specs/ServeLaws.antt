@@ -1,11 +1,9 @@
 -- From what a meaning must have to what the runs of trees rest on.
-use Rattle.std.specs.Prelude.{ℕ, Bool, List, IsTrue}
+use Rattle.std.specs.Prelude.{ℕ, Bool, List}
 use Rattle.isle_model.specs.lists.Syntax.{Definition}
 use Rattle.isle_model.specs.lists.Elaborated.{TypedRules}
 use Rattle.isle_model.specs.claims.Environments.{TypesRead, IsElaborated, program_of}
 use Rattle.isle_model.specs.claims.SetMeanings.{WhereServed}
-use Rattle.isle_model.specs.rules.Meaning.{Meaning}
-use Rattle.isle_model.specs.rules.Values.{Value}
 use Rattle.isle_model.specs.sites.Sites.{SiteSet}
 use Rattle.isle_model.specs.sites.RuleSets.{IsBuilt}
 use Rattle.isle_model.specs.trees.Run.{world_of}

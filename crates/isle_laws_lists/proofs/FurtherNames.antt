@@ -1,6 +1,6 @@
 -- A tree elaborates alike in two scopes that begin with the names that the tables speak of, and whose variables have the
 -- same texts, places and types.
-use Rattle.std.proofs.Common.{◌≡◌, ℕ, zero, suc, ◌+◌, ◌<◌, Bool, true, false, cond, List, [], ◌∷◌, ◌++◌, length, Option, Some, None, slice_get, refl, sym, ap, ◌∙◌, subst, eqb-true, nat_le, arith, inl, inr}
+use Rattle.std.proofs.Common.{◌≡◌, ℕ, suc, ◌+◌, ◌<◌, Bool, true, false, cond, List, [], ◌∷◌, ◌++◌, length, Option, Some, None, slice_get, refl, sym, ap, ◌∙◌, subst, eqb-true, nat_le, inl, inr}
 use Rattle.std.proofs.Math.Path.{ap₂}
 use Rattle.std.specs.List.{position_from}
 use Rattle.std.specs.Prelude.{unwrap_or, ◌==◌}
@@ -8,15 +8,15 @@ use Rattle.std.specs.Str.{bytes_eq}
 use Rattle.std.proofs.lemmas.Bool.{cases_Bool, cond-false, false≢true}
 use Rattle.std.proofs.lemmas.List.{length-append}
 use Rattle.std.proofs.lemmas.Option.{none-some, same_Some}
-use Rattle.isle_model.specs.lists.Syntax.{Position, Name, PatternTree, PatternTrees, ExprTree, ExprTrees, LetTrees, IfLetTree, RuleTree, var_pattern, bind_pattern, prim_pattern, term_pattern, var_expr, prim_expr, term_expr, let_and, pattern_and, no_pattern, expr_and, no_expr}
+use Rattle.isle_model.specs.lists.Syntax.{Position, PatternTree, PatternTrees, ExprTree, ExprTrees, LetTrees, IfLetTree, RuleTree, var_pattern, bind_pattern, prim_pattern, term_pattern, var_expr, prim_expr, term_expr, let_and, pattern_and, no_pattern, expr_and, no_expr}
 use Rattle.isle_model.specs.lists.Names.{number, with_name, IsDistinct}
 use Rattle.isle_model.specs.lists.Tables.{Flags, TermEntry}
 use Rattle.isle_model.specs.rules.Meaning.{look}
 use Rattle.isle_model.specs.rules.Typed.{TypedPattern, match_bind, match_var, match_prim, match_any, TypedPatterns, TypedExpr, make_var, make_prim, TypedExprs, TypedLets, typed_let_and, TypedVar, TypedIfLet, TypedRule}
-use Rattle.isle_model.specs.lists.Setting.{Setting, Scope, new_scope, new_var, met, bound, after_let, var_named, var_of, entry_named, term_of, type_of_name, type_of_constant, on_lhs, that, converter, pattern_converter, expr_converter, has_extractor, has_constructor, expr_type, is_expected}
+use Rattle.isle_model.specs.lists.Setting.{Setting, Scope, new_scope, new_var, met, bound, after_let, var_named, var_of, entry_named, term_of, type_of_name, type_of_constant, on_lhs, that, converter, expr_converter, has_extractor, has_constructor, is_expected}
 use Rattle.isle_model.specs.lists.Typings.{Typing}
-use Rattle.isle_model.specs.lists.Expansions.{term_name_at, wrapped_pattern, wrapped_expr}
-use Rattle.isle_model.specs.lists.Elaborated.{elaborated_rule, few_enough, most_expansions, with_own_name}
+use Rattle.isle_model.specs.lists.Expansions.{term_name_at}
+use Rattle.isle_model.specs.lists.Elaborated.{elaborated_rule, few_enough, most_expansions}
 use Rattle.isle_model.specs.lists.Elaborates.{ElaboratesPattern, ElaboratesParts, ElaboratesEach, new_name, bound_name, binding, a_truth, an_integer, a_constant, a_term, a_template, a_conversion, anything, all_of, no_part, part, no_more, one_more, ElaboratesExpr, ElaboratesArgs, ElaboratesLets, a_call, converted_call, a_variable, converted_variable, truth_expr, integer_expr, constant_expr, let_in, no_arg, an_arg, no_def, a_def, ElaboratesIfLets, no_iflet, an_iflet, ElaboratesRule, a_rule}
 use Rattle.isle_laws_lists.specs.FurtherNames.{SpeaksOfNames, AreThereAlike, FurtherNamesDontMatter}
 use Rattle.isle_model.proofs.Members.{get_within}

@@ -1,5 +1,5 @@
 -- The tables that rules are read with speak of names that the terms have met, so the names of rules before don't matter.
-use Rattle.std.proofs.Common.{◌≡◌, ◌⊎◌, ℕ, zero, suc, ◌<◌, Bool, true, false, ◌||◌, List, [], ◌∷◌, ◌++◌, length, map, Option, Some, None, slice_get, option_map, refl, sym, ap, ◌∙◌, subst, inl, inr}
+use Rattle.std.proofs.Common.{◌≡◌, ℕ, ◌<◌, Bool, true, List, [], ◌∷◌, ◌++◌, length, map, Option, Some, None, slice_get, option_map, refl, sym, ap, ◌∙◌, subst, inl, inr}
 use Rattle.std.specs.List.{cons_option, filter_map, flat_map}
 use Rattle.std.specs.Str.{bytes_eq}
 use Rattle.std.proofs.lemmas.Bool.{or_cases}
@@ -14,7 +14,7 @@ use Rattle.isle_model.specs.claims.Environments.{TypesRead, AreReadable, setting
 use Rattle.isle_laws_lists.specs.FurtherNames.{SpeaksOfNames, NamesOfRulesDontMatter}
 use Rattle.isle_model.proofs.Members.{get_within, member_from_get}
 use Rattle.isle_model.proofs.Bytes.{same_bytes}
-use Rattle.isle_model.proofs.Names.{found, has_at, has_append, has_left, has_kept, has_met, get_kept, number_below}
+use Rattle.isle_model.proofs.Names.{has_at, has_append, has_left, has_kept, has_met, get_kept, number_below}
 use Rattle.isle_laws_lists.proofs.TermLaws.{terms_have_names_lem}
 use Rattle.isle_laws_lists.proofs.FurtherNames.{further_names_dont_matter_lem}
 

@@ -1,5 +1,5 @@
 -- More names leave the numbers of the names of types, and so the look-ups of types.
-use Rattle.std.proofs.Common.{◌≡◌, ◌==◌, ℕ, zero, suc, ◌+◌, Bool, true, false, cond, ◌||◌, List, [], ◌∷◌, ◌++◌, map, All, Contains, IsTrue, refl, sym, ap, ◌∙◌, subst}
+use Rattle.std.proofs.Common.{◌≡◌, ◌==◌, ℕ, suc, ◌+◌, true, false, cond, ◌||◌, List, [], ◌∷◌, ◌++◌, map, Contains, IsTrue, refl, sym, ap, ◌∙◌}
 use Rattle.std.proofs.Math.Path.{ap₂}
 use Rattle.std.specs.List.{enumerate_from}
 use Rattle.std.specs.Str.{bytes_eq}
@@ -7,7 +7,6 @@ use Rattle.std.proofs.lemmas.Bool.{false≢true}
 use Rattle.std.proofs.lemmas.List.Elements.{All-contains}
 use Rattle.isle_model.specs.lists.Names.{number, has_name}
 use Rattle.isle_model.specs.rules.Meaning.{look}
-use Rattle.isle_model.specs.claims.Environments.{TypesRead, numbered}
 use Rattle.isle_laws_lists.specs.ReadEnvironments.{TypesAreShown, TypesStay}
 use Rattle.isle_model.proofs.Members.{in_head, in_tail}
 use Rattle.isle_model.proofs.NumbersOf.{environments_are_read}

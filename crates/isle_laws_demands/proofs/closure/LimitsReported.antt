@@ -1,5 +1,5 @@
 -- A limit that building reports is one that the rule at the report's position passes.
-use Rattle.std.proofs.Common.{◌≡◌, ◌⊎◌, ◌==◌, ℕ, Bool, true, false, List, [], ◌∷◌, ◌++◌, length, map, take, filter, Option, Some, None, slice_get, Contains, All, refl, sym, ap, ◌∙◌, subst, inl, inr}
+use Rattle.std.proofs.Common.{◌≡◌, ◌==◌, Bool, true, false, List, [], ◌∷◌, ◌++◌, length, map, take, filter, Option, Some, None, slice_get, refl, sym, ap, ◌∙◌, subst, inl, inr}
 use Rattle.std.proofs.Math.Seq.{take-append_seam}
 use Rattle.std.proofs.lemmas.Bool.{false≢true}
 use Rattle.std.proofs.lemmas.List.Elements.{All-contains}
@@ -8,10 +8,10 @@ use Rattle.isle_model.specs.rules.Typed.{TypedRule}
 use Rattle.isle_model.specs.rules.Program.{Program}
 use Rattle.isle_model.specs.sites.Sites.{SiteTerm}
 use Rattle.isle_model.specs.sites.Demands.{demands_of}
-use Rattle.isle_model.specs.sites.Closure.{Unreachability, reported}
-use Rattle.isle_model.specs.sites.Limits.{RuleLimit, fields_limit, PassesLimit, first_limit, sites_wanted, sites_after_rules}
+use Rattle.isle_model.specs.sites.Closure.{reported}
+use Rattle.isle_model.specs.sites.Limits.{RuleLimit, PassesLimit, first_limit, sites_wanted, sites_after_rules}
 use Rattle.isle_model.specs.sites.Overlap.{RuleReport, limit_passed, not_reached, rules_overlap, rule_shadows, build_reports, build_reports_after, build_reports_of}
-use Rattle.isle_model.specs.claims.Refusals.{NamedLimit, of_rule, of_nesting, Refusal, past_limit, refusal_of, NamesOnlyPassed, PassedInBuilding, rule_passes, sites_before}
+use Rattle.isle_model.specs.claims.Refusals.{NamedLimit, of_rule, of_nesting, Refusal, past_limit, refusal_of, PassedInBuilding, rule_passes, sites_before}
 use Rattle.isle_model.specs.claims.Layers.{is_left_out}
 use Rattle.isle_laws_demands.specs.RefusalLaws.{ReportsNamePassedLimits}
 use Rattle.isle_model.proofs.Elements.{In, in_from_contains, contains_from_in, in_either, in_map}

@@ -1,27 +1,27 @@
 -- Under a meaning that serves a term's rules, what a site holds at or below which no impure call stands fits the site's form; and
 -- such a site holds something where it waits for nothing and its sources hold something.
-use Rattle.std.proofs.Common.{◌≡◌, ◌≢◌, ◌⊎◌, ℕ, zero, suc, ◌==◌, ◌<◌, Bool, true, false, not, ◌&&◌, List, [], ◌∷◌, length, Option, Some, None, is_some, slice_get, IsSomeAnd, Contains, All, IsTrue, flat_map, refl, sym, ap, subst, ◌∙◌, inl, inr, arith, eqb-true}
+use Rattle.std.proofs.Common.{◌≡◌, ◌≢◌, ◌⊎◌, ℕ, zero, suc, ◌==◌, ◌<◌, Bool, true, false, not, List, [], ◌∷◌, length, Option, Some, None, is_some, slice_get, IsSomeAnd, Contains, IsTrue, refl, sym, ap, subst, ◌∙◌, inl, inr, arith, eqb-true}
 use Rattle.std.specs.List.{list_all}
 use Rattle.std.proofs.lemmas.Bool.{and_parts, cases_Bool, cond-true, cond-false, false≢true}
 use Rattle.std.proofs.lemmas.Option.{slice_get_within}
 use Rattle.isle_model.specs.lists.Tables.{TypeEntry}
 use Rattle.isle_model.specs.rules.Values.{Value, truth, atom, of_variant, of_struct, Values, no_value, value_and, listed, variant_types, struct_types, well_typed, all_well_typed}
-use Rattle.isle_model.specs.rules.Meaning.{Content, one, parts, nothing, just, many, Contents, no_content, content_and, contents, Meaning, bool_literal, int_literal, literal_value, constant_value, extractor_answer, pure_answer}
+use Rattle.isle_model.specs.rules.Meaning.{Content, one, parts, nothing, just, many, contents, bool_literal, int_literal, literal_value, constant_value, extractor_answer, pure_answer}
 use Rattle.isle_model.specs.rules.Outcome.{then_option}
-use Rattle.isle_model.specs.rules.Program.{Program, Kind, a_call, kind}
+use Rattle.isle_model.specs.rules.Program.{Program, a_call, kind}
 use Rattle.isle_model.specs.rules.Picks.{Pick, picked, place_of, part_of_some, field_of_variant, field_of_struct, site_content, site_values, call_answer}
 use Rattle.isle_model.specs.rules.Typed.{TypedRule}
-use Rattle.isle_model.specs.sites.Sites.{Site, bool_site, int_site, prim_site, argument_site, extractor_site, constructor_site, iterator_site, make_variant_site, match_variant_site, make_struct_site, extract_struct_site, make_some_site, match_some_site, match_tuple_site, SiteTerm, bool_term, int_term, prim_term, extractor_call, constructor_call, variant_field, struct_made, struct_field, SiteTerms, no_site_term, site_term_and, each_term, layer, unfold_site, sources_of, sources_at}
-use Rattle.isle_model.specs.sites.Serves.{Serves, asked, fits_one, fits_answer, fits_extractor, fits_constructor, constant_type, typed_as, term_args, term_results, Holds, HoldsAll}
-use Rattle.isle_model.specs.trees.Places.{below, waits}
+use Rattle.isle_model.specs.sites.Sites.{Site, bool_site, int_site, prim_site, argument_site, extractor_site, constructor_site, iterator_site, make_variant_site, match_variant_site, make_struct_site, extract_struct_site, make_some_site, match_some_site, match_tuple_site, SiteTerm, variant_field, struct_made, struct_field, SiteTerms, each_term, layer, unfold_site, sources_of, sources_at}
+use Rattle.isle_model.specs.sites.Serves.{Serves, asked, fits_one, fits_answer, fits_extractor, fits_constructor, constant_type, typed_as, term_args, term_results, HoldsAll}
+use Rattle.isle_model.specs.trees.Places.{waits}
 use Rattle.isle_model.specs.trees.Run.{World, as_value, from_value, part_at}
 use Rattle.isle_model.specs.trees.Collects.{content_at, IsPureSite}
-use Rattle.isle_model.specs.trees.SetRuns.{IsPureAt}
-use Rattle.isle_model.proofs.Elements.{In, none_some, some_is, in_slice, slice_in}
+use Rattle.isle_model.proofs.Elements.{none_some, some_is}
 use Rattle.isle_model.proofs.Members.{in_head, in_tail}
 use Rattle.isle_laws_runs.proofs.picks.Held.{contents_are_held_lem}
 use Rattle.isle_laws_runs.proofs.runs.Below.{IsPureBelow, below_itself, below_source, below_enough}
 use Rattle.isle_laws_runs.proofs.runs.Contents.{SourcesBefore, sources_in, content_layer, unfolded_layer}
+use Rattle.isle_laws_demands.proofs.matching.Contents.{is_value}
 use Rattle.isle_laws_demands.proofs.taken.Forms.{Form, form, a_value, IsCall, term_count, IsOfForm, AreValues}
 use Rattle.isle_laws_demands.proofs.matching.Answered.{struct_holds}
 use Rattle.isle_laws_demands.proofs.visits.Patterns.{from_then}
@@ -170,14 +170,6 @@ from_value_is : (o : Option Value) (c : Content) → from_value o ≡ Some c →
 from_value_is None c e = absurd (none_some c e)
 from_value_is (Some v) c e = (v, refl, sym (some_is (one v) c e))
 
-as_value_is : (o : Option Content) (v : Value) → then_option o as_value ≡ Some v → o ≡ Some (one v)
-as_value_is None v e = absurd (none_some v e)
-as_value_is (Some (one w)) v e = ap (λ (x : Value). Some (one x)) (some_is w v e)
-as_value_is (Some (parts vs)) v e = absurd (none_some v e)
-as_value_is (Some nothing) v e = absurd (none_some v e)
-as_value_is (Some (just c)) v e = absurd (none_some v e)
-as_value_is (Some (many cs)) v e = absurd (none_some v e)
-
 -- parts of values and of contents
 value_fits : (types : List TypeEntry) (o : Option Value) (f : Value → Bool) → ((v : Value) → f v ≡ true → IsWhole types v) → IsSomeAnd o (λ v. IsTrue (f v)) → (c : Content) → from_value o ≡ Some c → FitsForm types a_value c
 value_fits types o f whole h c e =
@@ -288,7 +280,7 @@ module _ (p : Program) (n : ℕ) (rs : List TypedRule) (w : World) (k : Pick) (h
   values_fit (s ∷ ss) f g vs e =
       let a = from_then (then_option (content_at w k s) as_value) (λ v. then_option (site_values w.meaning w.args k (each_term U ss)) (λ us. Some (value_and v us))) vs e in
       let b = from_then (site_values w.meaning w.args k (each_term U ss)) (λ us. Some (value_and a.0 us)) vs a.2 in
-      let x = f s (in_head s ss) a_value g.0 (one a.0) (as_value_is (content_at w k s) a.0 a.1) in
+      let x = f s (in_head s ss) a_value g.0 (one a.0) (is_value (content_at w k s) a.0 a.1) in
       let r = values_fit ss (λ u c. f u (in_tail s u ss c)) g.1 b.0 b.1 in
       subst (λ us. AreWhole p.types us × (length (listed us) ≡ suc (term_count (each_term U ss)))) (some_is (value_and a.0 b.0) vs b.2) ((x.1, r.0), ap suc r.1)
 
@@ -298,10 +290,11 @@ module _ (p : Program) (n : ℕ) (rs : List TypedRule) (w : World) (k : Pick) (h
   values_there (s ∷ ss) f g t =
       let a = there_is (content_at w k s) (t s (in_head s ss)) in
       let v = the_value p.types a.0 (f s (in_head s ss) a_value g.0 a.0 a.1) in
-      let r = values_there ss (λ u c. f u (in_tail s u ss c)) g.1 (λ u c. t u (in_tail s u ss c)) in
-      (value_and v.0 r.0,
-      ap (λ o. then_option (then_option o as_value) (λ x. then_option (site_values w.meaning w.args k (each_term U ss)) (λ us. Some (value_and x us)))) (a.1 ∙ ap Some v.1)
-      ∙ ap (λ o. then_option o (λ us. Some (value_and v.0 us))) r.1)
+      let r = values_there ss (λ u c. f u (in_tail s u ss c)) g.1 (λ u c. t u (in_tail s u ss c)) in (
+        value_and v.0 r.0,
+        ap (λ o. then_option (then_option o as_value) (λ x. then_option (site_values w.meaning w.args k (each_term U ss)) (λ us. Some (value_and x us)))) (a.1 ∙ ap Some v.1)
+            ∙ ap (λ o. then_option o (λ us. Some (value_and v.0 us))) r.1,
+      )
 
   all_hold : (ss : SiteTerms) (vs : Values) → site_values w.meaning w.args k ss ≡ Some vs → HoldsAll w.meaning w.args ss vs
   all_hold ss vs e = struct_holds w.meaning w.args 0 ss vs (contents_are_held_lem w.meaning w.args k (struct_made 0 ss) (one (of_struct 0 vs)) (ap (λ o. then_option o (λ us. Some (one (of_struct 0 us)))) e))
@@ -323,7 +316,7 @@ module _ (p : Program) (n : ℕ) (rs : List TypedRule) (w : World) (k : Pick) (h
       subst (λ y. FitsForm p.types y c) (sym f.1) (subst (FitsForm p.types a_value) (sym b.2) (refl, subst (IsWhole p.types) (some_is a.0 b.0 (sym a.1 ∙ b.1)) a.2))
   site_fits (extractor_site t source) pure ask fit q f c e =
       let a = from_then (then_option (content_at w k source) as_value) (extractor_answer w.meaning t) c e in
-      let s = h.serves.extractors t (U source) a.0 (only_asked ask) (contents_are_held_lem w.meaning w.args k (U source) (one a.0) (as_value_is (content_at w k source) a.0 a.1)) in
+      let s = h.serves.extractors t (U source) a.0 (only_asked ask) (contents_are_held_lem w.meaning w.args k (U source) (one a.0) (is_value (content_at w k source) a.0 a.1)) in
       subst (λ y. FitsForm p.types y c) (sym f.2) (extractor_fits p t f.0 c (call_fits (extractor_answer w.meaning t a.0) (fits_extractor p t (kind p t)) s c a.2))
   site_fits (constructor_site t ss zero) pure ask fit q f c e =
       let a = from_then (site_values w.meaning w.args k (each_term U ss)) (call_answer w.meaning t 0) c e in
@@ -339,7 +332,7 @@ module _ (p : Program) (n : ℕ) (rs : List TypedRule) (w : World) (k : Pick) (h
       subst (λ y. FitsForm p.types y c) (sym f.4) (subst (FitsForm p.types a_value) (some_is (one (of_variant ty i a.0)) c a.2) (refl, ((f.0, f.1, r.1 ∙ f.2), r.0)))
   site_fits (match_variant_site source variant i) pure ask fit q f c e =
       let a = from_then (then_option (content_at w k source) as_value) (field_of_variant variant i) c e in
-      let v = fit source (in_head source []) a_value f.0 (one a.0) (as_value_is (content_at w k source) a.0 a.1) in
+      let v = fit source (in_head source []) a_value f.0 (one a.0) (is_value (content_at w k source) a.0 a.1) in
       subst (λ y. FitsForm p.types y c) (sym f.1) (variant_field_fits p.types variant i a.0 c v.1 a.2)
   site_fits (make_struct_site ty ss) pure ask fit q f c e =
       let a = from_then (site_values w.meaning w.args k (each_term U ss)) (λ vs. Some (one (of_struct ty vs))) c e in
@@ -347,7 +340,7 @@ module _ (p : Program) (n : ℕ) (rs : List TypedRule) (w : World) (k : Pick) (h
       subst (λ y. FitsForm p.types y c) (sym f.4) (subst (FitsForm p.types a_value) (some_is (one (of_struct ty a.0)) c a.2) (refl, ((f.0, f.1, r.1 ∙ f.2), r.0)))
   site_fits (extract_struct_site source i) pure ask fit q f c e =
       let a = from_then (then_option (content_at w k source) as_value) (field_of_struct i) c e in
-      let v = fit source (in_head source []) a_value f.0 (one a.0) (as_value_is (content_at w k source) a.0 a.1) in
+      let v = fit source (in_head source []) a_value f.0 (one a.0) (is_value (content_at w k source) a.0 a.1) in
       subst (λ y. FitsForm p.types y c) (sym f.1) (struct_field_fits p.types i a.0 c v.1 a.2)
   site_fits (make_some_site source) pure ask fit q f c e =
       let a = from_then (content_at w k source) (λ x. Some (just x)) c e in

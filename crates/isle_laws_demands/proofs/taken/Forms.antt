@@ -1,6 +1,6 @@
 -- What sites hold by their form: one value, or what a call answers. Each site that the visit of a rule makes that hangs together
 -- has a form, and the sites that it equates are values.
-use Rattle.std.proofs.Common.{if◌then◌else◌, ◌≡◌, ◌⊎◌, ℕ, zero, suc, ◌+◌, ◌==◌, ◌<◌, Bool, true, false, not, ◌&&◌, List, [], ◌∷◌, ◌++◌, length, Option, Some, None, is_some, slice_get, refl, sym, ap, subst, ◌∙◌, inl, inr, eqb-true, eq-eqb, arith}
+use Rattle.std.proofs.Common.{◌≡◌, ℕ, suc, ◌+◌, ◌==◌, ◌<◌, Bool, true, false, not, ◌&&◌, List, [], ◌∷◌, length, Some, None, is_some, slice_get, refl, sym, ap, subst, ◌∙◌, inl, inr, eqb-true, eq-eqb, arith}
 use Rattle.std.proofs.lemmas.Bool.{and_parts, cases_Bool, cond-true, cond-false, false≢true}
 use Rattle.isle_model.specs.lists.Tables.{Flags, TermEntry}
 use Rattle.isle_model.specs.rules.Values.{variant_types, struct_types, is_atom_type}
@@ -9,16 +9,15 @@ use Rattle.isle_model.specs.rules.Outcome.{then_option}
 use Rattle.isle_model.specs.rules.Program.{Program, Kind, a_variant, a_struct, a_call, unknown, kind, kind_of, flags_of, is_partial, arg_types}
 use Rattle.isle_model.specs.rules.Typed.{TypedPattern, match_bind, match_var, match_bool, match_int, match_prim, match_term, match_any, match_and, TypedPatterns, no_typed_pattern, typed_pattern_and, TypedExpr, make_term, make_var, make_bool, make_int, make_prim, make_let, TypedExprs, no_typed_expr, typed_expr_and, TypedLets, no_typed_let, typed_let_and, TypedIfLet, TypedRule}
 use Rattle.isle_model.specs.sites.Sites.{Constraint, is_variant, is_struct, is_bool, is_int, is_prim, is_present, SiteTerm, bool_term, int_term, prim_term, argument, extractor_call, constructor_call, pick_of, variant_made, variant_field, struct_made, struct_field, some_made, some_part, tuple_part, no_site, SiteTerms, no_site_term, site_term_and}
-use Rattle.isle_model.specs.sites.Demands.{Demands, demands_of, site_term_eq, Visit, visit_start, making, asking, equating, iterating, calling, binding, or_no_site, var_site, from_to, pattern_count, Opened, output_sites, part_sites, open_call, open_term, visit_pattern, visit_each, visit_all, Valued, ValuedAll, call_result, call_sites, where_multi, visit_call, visit_term, visit_expr, visit_exprs, visit_lets, unwraps, asking_all, visit_args, visit_iflets, finished, visit_rule}
+use Rattle.isle_model.specs.sites.Demands.{Demands, demands_of, site_term_eq, Visit, visit_start, making, asking, equating, iterating, calling, binding, or_no_site, var_site, from_to, pattern_count, Opened, output_sites, part_sites, open_call, open_term, visit_pattern, visit_each, visit_all, Valued, ValuedAll, visit_call, visit_term, visit_expr, visit_exprs, visit_lets, unwraps, asking_all, visit_args, visit_iflets, finished}
 use Rattle.isle_model.specs.sites.DemandedGates.{HasNoPartialMulti}
 use Rattle.isle_model.specs.sites.Serves.{constant_type}
 use Rattle.isle_model.specs.lists.Setting.{bool_type, expr_type}
-use Rattle.isle_model.specs.lists.Formed.{pattern_type, var_type, is_type, of_entry, where_bound, formed_pattern, formed_parts, formed_each, is_formed_expr, are_formed_args, formed_lets, formed_list, formed_iflets, is_formed_rule}
+use Rattle.isle_model.specs.lists.Formed.{pattern_type, var_type, is_type, formed_pattern, formed_parts, formed_each, is_formed_expr, are_formed_args, formed_lets, formed_list, formed_iflets, is_formed_rule}
 use Rattle.isle_model.proofs.Elements.{In, in_either, none_some, some_is}
+use Rattle.isle_laws_demands.proofs.visits.RuleParts.{rule_parts}
 use Rattle.isle_laws_demands.proofs.visits.Patterns.{AsMany as AsManySites, as_many as numbers_as_many, from_if, from_then, is_there, term_known, in_numbers}
-use Rattle.isle_laws_demands.proofs.visits.Exprs.{from_vars}
 use Rattle.isle_laws_demands.proofs.matching.Contents.{AsMany}
-use Rattle.isle_laws_demands.proofs.matching.Exprs.{type_is}
 use Rattle.isle_laws_demands.proofs.matching.Grown.{either, equated}
 use Rattle.isle_laws_demands.proofs.matching.Patterns.{from_term as pattern_parts, from_part, from_bind, as_many}
 use Rattle.isle_laws_demands.proofs.matching.Rules.{rule_parts}
@@ -441,31 +440,9 @@ module _ (p : Program) (n : ℕ) where
     finished_onto false a f = onto_now a.visit
     finished_onto true a f = onto_making (some_made a.site ∷ []) a.visit ((form false true 1, (1, f, refl)), tt)
 
--- what a rule is that hangs together
-record RuleWhole (p : Program) (r : TypedRule) : Type 0 where
-  entry : TermEntry
-  there : slice_get p.terms r.root_term ≡ Some entry
-  mid : List (ℕ × ℕ)
-  args : formed_list p r.args entry.arg_tys [] ≡ Some mid
-  vars : List (ℕ × ℕ)
-  iflets : formed_iflets p r.iflets mid ≡ Some vars
-  right : is_formed_expr p r.rhs vars ≡ true
-
-rule_whole : (p : Program) (r : TypedRule) → is_formed_rule p r ≡ true → RuleWhole p r
-rule_whole p r f = by (slice_get p.terms r.root_term) refl f
-  where
-    by : (o : Option TermEntry) → slice_get p.terms r.root_term ≡ o
-        → of_entry o (λ (t : TermEntry). where_bound (then_option (formed_list p r.args t.arg_tys []) (formed_iflets p r.iflets)) (λ vars. (expr_type r.rhs == t.ret_ty) && is_formed_expr p r.rhs vars)) ≡ true
-        → RuleWhole p r
-    by None q h = absurd (false≢true h)
-    by (Some t) q h =
-        let b = from_vars (then_option (formed_list p r.args t.arg_tys []) (formed_iflets p r.iflets)) (λ vars. (expr_type r.rhs == t.ret_ty) && is_formed_expr p r.rhs vars) h in
-        let c = from_then (formed_list p r.args t.arg_tys []) (formed_iflets p r.iflets) b.0 b.1 in
-        record { entry = t; there = q; mid = c.0; args = c.1; vars = b.0; iflets = c.2; right = (and_parts (expr_type r.rhs == t.ret_ty) (is_formed_expr p r.rhs b.0) b.2).1 }
-
 pub rule_known : (p : Program) (n : ℕ) → HasNoPartialMulti p → HasTypedParts p → (r : TypedRule) → is_formed_rule p r ≡ true → length (arg_types p r.root_term) ≡ n → AreKnown p n (demands_of p r)
 rule_known p n neither fields r f e =
-    let a = rule_whole p r f in
+    let a = rule_parts p r f in
     let u = visit_args p 0 r.args visit_start in
     let w = visit_iflets p r.iflets u in
     let x = visit_expr p r.rhs w in

@@ -1,12 +1,12 @@
 -- A meaning that serves the rules of a term has what the runs of trees of the built set rest on.
-use Rattle.std.proofs.Common.{◌≡◌, ◌⊎◌, ℕ, zero, suc, ◌+◌, ◌<◌, ◌==◌, Bool, true, false, ◌&&◌, List, [], ◌∷◌, length, Option, Some, None, is_some, slice_get, IsSomeAnd, Contains, All, IsTrue, flat_map, refl, sym, ap, subst, ◌∙◌, inl, inr, arith, eq-eqb}
+use Rattle.std.proofs.Common.{◌≡◌, ℕ, zero, suc, ◌<◌, ◌==◌, Bool, true, false, ◌&&◌, List, [], ◌∷◌, length, Option, Some, None, is_some, slice_get, IsSomeAnd, Contains, All, IsTrue, flat_map, refl, sym, ap, subst, ◌∙◌, inl, inr, arith, eq-eqb}
 use Rattle.std.proofs.lemmas.Bool.{and_parts, and_from, cases_Bool, cond-true, cond-false, false≢true}
 use Rattle.std.proofs.lemmas.List.Elements.{All-contains}
 use Rattle.isle_model.specs.lists.Syntax.{Definition}
 use Rattle.isle_model.specs.lists.Tables.{TypeEntry}
 use Rattle.isle_model.specs.lists.Elaborated.{TypedRules}
 use Rattle.isle_model.specs.rules.Values.{Value, value_eq, of_variant, of_struct, Values, listed, of_list, well_typed, all_well_typed, args_well_typed, variant_types, struct_types}
-use Rattle.isle_model.specs.rules.Meaning.{Content, one, just, Meaning, bool_literal, int_literal, literal_value, constant_value}
+use Rattle.isle_model.specs.rules.Meaning.{Content, one, Meaning, bool_literal, int_literal, literal_value, constant_value}
 use Rattle.isle_model.specs.rules.Program.{Program, rules_of, arg_types}
 use Rattle.isle_model.specs.rules.Picks.{Pick}
 use Rattle.isle_model.specs.rules.Typed.{TypedRule}
@@ -21,8 +21,8 @@ use Rattle.isle_model.specs.claims.Environments.{TypesRead, IsElaborated, progra
 use Rattle.isle_model.specs.trees.Places.{is_in, joins_in, below, all_below, waits, each_field, fields_of}
 use Rattle.isle_model.specs.trees.Run.{World, all_one, where_constant, content_fields, world_of}
 use Rattle.isle_model.specs.trees.Collects.{content_at, meets}
-use Rattle.isle_model.specs.trees.SetRuns.{tested_sites, IsPureAt, ServesTests}
-use Rattle.isle_model.proofs.Elements.{In, in_from_contains, contains_from_in, in_left, in_right, in_flat_map, in_slice, in_any, any_in, none_some, some_is}
+use Rattle.isle_model.specs.trees.SetRuns.{IsPureAt}
+use Rattle.isle_model.proofs.Elements.{In, in_from_contains, contains_from_in, in_right, in_flat_map, in_slice, in_any, any_in, none_some, some_is}
 use Rattle.isle_model.proofs.Members.{in_head, in_alone, all_members, from_flat_map}
 use Rattle.isle_model.proofs.Members as members
 use Rattle.isle_laws_lists.proofs.FormedRules.{rules_are_formed}
@@ -41,7 +41,7 @@ use Rattle.isle_laws_demands.proofs.matching.TypedParts.{program_has_typed_parts
 use Rattle.isle_laws_demands.proofs.matching.Unreachable.{Shape, same_shape}
 use Rattle.isle_laws_demands.proofs.matching.Visits.{given, of_term}
 use Rattle.isle_laws_demands.proofs.taken.Fits.{IsWhole, AsManyFields, typed_whole, FitsAs, FitsForm, the_value, IsServed, fits, found}
-use Rattle.isle_laws_demands.proofs.taken.Forms.{Form, a_value, IsOfForm, AreKnown, rule_known}
+use Rattle.isle_laws_demands.proofs.taken.Forms.{Form, a_value, AreKnown, rule_known}
 use Rattle.isle_laws_demands.proofs.taken.SitesKnown.{Stands, made_stands, closed_known, rules_stand, before_stands}
 
 -- 1. arguments

@@ -1,23 +1,23 @@
 -- The sites of a built set have forms, and those of classes are values: what visits make, and what closing adds to it.
-use Rattle.std.proofs.Common.{◌≡◌, ◌⊎◌, ℕ, zero, suc, ◌<◌, ◌==◌, Bool, true, false, cond, List, [], ◌∷◌, ◌++◌, map, length, take, Option, Some, None, is_some, slice_get, Contains, IsTrue, filter, flat_map, refl, sym, ap, subst, ◌∙◌, inl, inr}
-use Rattle.std.proofs.lemmas.Bool.{cases_Bool, cond-true, cond-false, false≢true}
+use Rattle.std.proofs.Common.{◌≡◌, ◌⊎◌, ℕ, zero, suc, Bool, true, false, cond, List, [], ◌∷◌, map, take, Option, Some, None, Contains, filter, flat_map, refl, sym, subst, ◌∙◌, inl, inr}
+use Rattle.std.proofs.lemmas.Bool.{cases_Bool, cond-true, cond-false}
 use Rattle.std.specs.List.{zip}
-use Rattle.isle_model.specs.rules.Program.{Program, rules_of}
+use Rattle.isle_model.specs.rules.Program.{Program}
 use Rattle.isle_model.specs.rules.Typed.{TypedRule}
-use Rattle.isle_model.specs.sites.Sites.{Constraint, is_variant, is_struct, is_bool, is_int, is_prim, is_present, SiteTerm, variant_field, struct_field, SiteSet, unfold_site}
+use Rattle.isle_model.specs.sites.Sites.{Constraint, is_variant, is_struct, is_bool, is_int, is_prim, is_present, SiteTerm, variant_field, struct_field}
 use Rattle.isle_model.specs.sites.Demands.{Demands, demands_of, has_site, with_sites}
-use Rattle.isle_model.specs.sites.Closure.{fields_from, field_terms, constraint_of, Closed, class_at, is_in_class, next_constrained, ascending, field_equalities, taken, closing, before_closing, begins_with, in_order, most_closing_steps, closed, is_unreachable}
+use Rattle.isle_model.specs.sites.Closure.{field_terms, constraint_of, Closed, class_at, is_in_class, next_constrained, ascending, field_equalities, taken, closing, before_closing, begins_with, in_order, most_closing_steps, closed, is_unreachable}
 use Rattle.isle_model.specs.sites.Limits.{most_sites, walked_rule, made_walking, sites_wanted, sites_reached, sites_after_rule, sites_after_rules}
-use Rattle.isle_model.specs.sites.Overlap.{BuiltRule, is_built, built_rule, built_from, built_rules}
+use Rattle.isle_model.specs.sites.Overlap.{BuiltRule, is_built, built_rule, built_from}
 use Rattle.isle_model.specs.sites.Serves.{asked_by, asked, constant_site}
-use Rattle.isle_model.proofs.Elements.{In, in_from_contains, contains_from_in, in_left, in_right, in_either, in_slice, in_any, in_map, in_flat_map, from_flat_map, in_zip, in_filter, passed_filter, none_some, some_is}
+use Rattle.isle_model.proofs.Elements.{In, contains_from_in, in_left, in_either, in_slice, in_any, in_map, in_flat_map, from_flat_map, in_zip, in_filter, passed_filter, none_some, some_is}
 use Rattle.isle_model.proofs.SitesMade.{has_in}
 use Rattle.isle_laws_demands.proofs.closure.Classes.{with_sites_in}
 use Rattle.isle_laws_demands.proofs.closure.Closing.{closing_keeps}
 use Rattle.isle_laws_demands.proofs.visits.Closing.{Members, in_class_at, without_members, all_merged_members, in_fields}
 use Rattle.isle_laws_demands.proofs.taken.Fits.{IsField}
 use Rattle.isle_laws_demands.proofs.taken.Walked.{walked_made}
-use Rattle.isle_laws_demands.proofs.taken.Forms.{a_value, IsOfForm, IsValue, HasForm, AreKnown}
+use Rattle.isle_laws_demands.proofs.taken.Forms.{a_value, IsValue, HasForm, AreKnown}
 
 module _ (p : Program) (n : ℕ) (rs : List TypedRule) where
   -- a site that has a form, and is asked by the rules or is a field

@@ -1,14 +1,13 @@
 -- A visit that ends at a limit makes no other sites than the whole visit.
-use Rattle.std.proofs.Common.{◌≡◌, ℕ, zero, suc, Bool, true, false, cond, nat_lt, List, [], ◌∷◌, ◌++◌, Option, Some, None, refl, sym, ap, subst, ◌∙◌, inl, inr, arith}
+use Rattle.std.proofs.Common.{◌≡◌, ℕ, suc, Bool, true, false, nat_lt, List, [], ◌∷◌, ◌++◌, refl, sym, ap, subst, ◌∙◌, inl, inr, arith}
 use Rattle.std.proofs.lemmas.Bool.{cases_Bool, cond-true, cond-false, false≢true}
-use Rattle.isle_model.specs.lists.Tables.{Flags}
-use Rattle.isle_model.specs.rules.Program.{Program, Kind, a_variant, a_struct, a_call, unknown, kind, is_partial}
+use Rattle.isle_model.specs.rules.Program.{Program, Kind, a_variant, a_struct, a_call, unknown, kind}
 use Rattle.isle_model.specs.rules.Typed.{TypedPattern, match_bind, match_var, match_bool, match_int, match_prim, match_term, match_any, match_and, TypedPatterns, no_typed_pattern, typed_pattern_and, TypedIfLet, TypedRule}
 use Rattle.isle_model.specs.sites.Sites.{is_variant, is_struct, is_present, SiteTerm, argument, extractor_call, pick_of, variant_field, struct_field, some_part, tuple_part}
 use Rattle.isle_model.specs.sites.Demands.{demands_of, Visit, visit_start, making, asking, iterating, binding, from_to, pattern_count, Opened, opened, output_sites, part_sites, open_call, open_term, visit_pattern, visit_each, visit_all, visit_expr, unwraps, asking_all, visit_args, visit_iflets}
-use Rattle.isle_model.specs.sites.Limits.{most_arguments, width_of, Walked, WalkedAll, passes_width, unwalked, walked_term, walked_and, walked, walked_all, WalkedRule, ended_at, after_arg, after_iflet, walked_iflets, walked_args, walked_rule, made_walking}
+use Rattle.isle_model.specs.sites.Limits.{most_arguments, width_of, Walked, WalkedAll, passes_width, unwalked, walked_term, walked_and, walked, walked_all, WalkedRule, ended_at, after_arg, walked_iflets, walked_args, walked_rule, made_walking}
 use Rattle.isle_model.proofs.Elements.{In, in_left, in_either}
-use Rattle.isle_laws_demands.proofs.matching.Grown.{Grown, each_grown, all_grown, iflets_grown, args_grown, rule_adds}
+use Rattle.isle_laws_demands.proofs.matching.Grown.{each_grown, all_grown, iflets_grown, args_grown, rule_adds}
 
 -- 1. terms without parts, and with as many others
 from_to_alike : (f : ℕ → SiteTerm) (i : ℕ) (as' bs : TypedPatterns) → pattern_count as' ≡ pattern_count bs → from_to f i as' ≡ from_to f i bs

@@ -21,7 +21,7 @@ use Rattle.isle_model.specs.trees.SetRuns.{tested_sites}
 use Rattle.isle_model.proofs.Bags.{as_numbers, of_numbers}
 use Rattle.isle_model.proofs.Members.{in_head, in_alone, some_member, member_from_get, get_within, in_flat_map}
 use Rattle.isle_model.proofs.Numbers.{none_pass, filters_same}
-use Rattle.isle_laws_runs.proofs.runs.Below.{IsPureBelow, below_itself, below_within}
+use Rattle.isle_laws_runs.proofs.runs.Below.{below_itself, below_within}
 use Rattle.isle_laws_runs.proofs.runs.BindOrders.{Finds}
 use Rattle.isle_laws_runs.proofs.runs.Standing.{IsClear, IsClearSet, ServesUnder, IsGoneOver, At, IsReady, wider, set_of, found_at, binds_at, ready_here, holds_here}
 use Rattle.isle_laws_runs.proofs.runs.Steps.{trace, step_runs}

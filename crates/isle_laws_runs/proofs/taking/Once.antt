@@ -1,24 +1,24 @@
 -- Taking a rule comes to one outcome from every place that a run reaches: only critical sites are bound anew, the same ones in
 -- the same order, and each of them alike.
-use Rattle.std.proofs.Common.{◌≡◌, ◌⊎◌, ℕ, zero, suc, ◌<◌, Bool, true, false, not, ◌||◌, cond, List, [], ◌∷◌, ◌++◌, Option, Some, None, is_some, slice_get, Contains, All, IsTrue, filter, flat_map, refl, sym, ap, ◌∙◌, subst, inl, inr, arith}
+use Rattle.std.proofs.Common.{◌≡◌, ◌⊎◌, ℕ, zero, suc, ◌<◌, true, false, not, ◌||◌, cond, List, [], ◌∷◌, ◌++◌, Option, Some, None, slice_get, Contains, IsTrue, filter, flat_map, refl, sym, ap, ◌∙◌, subst, inl, inr, arith}
 use Rattle.std.proofs.lemmas.Bool.{cases_Bool, cases_eq, cond-true, cond-false, or_cases, or_parts, false≢true}
 use Rattle.std.proofs.lemmas.Option.{none-some, same_Some}
 use Rattle.std.proofs.lemmas.List.Elements.{Contains-append_left, Contains-append_right, Contains-append_cases, filter-append}
 use Rattle.isle_model.specs.rules.Meaning.{Content, one, parts, nothing, just, many}
 use Rattle.isle_model.specs.rules.Outcome.{Call, Outcome, then_option}
 use Rattle.isle_model.specs.rules.Picks.{part_of_some}
-use Rattle.isle_model.specs.sites.Sites.{Site, match_some_site, SetRule, SiteSet, sources_at}
+use Rattle.isle_model.specs.sites.Sites.{Site, match_some_site, SetRule, sources_at}
 use Rattle.isle_model.specs.trees.Places.{Around, is_in, waits, is_in_place, below, all_below, each_after, listed_below, return_uses}
 use Rattle.isle_model.specs.trees.Trees.{no_step, return_at}
-use Rattle.isle_model.specs.trees.Run.{World, Env, bound_to, used, Bound, all_bound, unwrap_failed, no_content_there, unwrapped, bind_site, then_bind, bind_all, Trace, at_start, with_bound, or_next, with_content, returned, run_tree, run_check}
+use Rattle.isle_model.specs.trees.Run.{World, Env, bound_to, used, Bound, all_bound, unwrap_failed, no_content_there, unwrapped, bind_site, then_bind, bind_all, at_start, with_bound, or_next, with_content, returned, run_tree, run_check}
 use Rattle.isle_model.specs.trees.Collects.{content_at}
-use Rattle.isle_model.specs.trees.SetRuns.{IsUnwrap, IsTestedSet, ServesTests, IsReached, IsTaken, TakenOnce}
+use Rattle.isle_model.specs.trees.SetRuns.{IsUnwrap, IsReached, IsTaken, TakenOnce}
 use Rattle.isle_model.proofs.Members.{nothing_in, in_head, in_tail, in_cases, in_alone, in_flat_map, member_found, member_is_in}
 use Rattle.isle_laws_runs.proofs.runs.BindOrders.{to_bind, bind_append}
 use Rattle.isle_laws_runs.proofs.runs.Binding.{Held, reads, binds_now}
 use Rattle.isle_laws_runs.proofs.runs.Contents.{SourcesBefore, sources_in, content_layer}
 use Rattle.isle_laws_runs.proofs.taking.Settled.{settled, critical, settled_content, settled_pure, settled_source, emitted_settled, stock, critical_below, critical_order}
-use Rattle.isle_laws_runs.proofs.taking.Used.{used_placed, placed_same, content_placed, bound_here, bound_elsewhere, used_here, used_elsewhere, used_stays, AreAlike, bind_alike, alike_bound}
+use Rattle.isle_laws_runs.proofs.taking.Used.{used_placed, placed_same, content_placed, bound_elsewhere, used_here, used_elsewhere, used_stays, AreAlike, bind_alike, alike_bound}
 
 -- an unwrap of what has a part is bound to it
 just_there : (o : Option Content) (c : Content) → then_option o part_of_some ≡ Some c → o ≡ Some (just c)

@@ -1,6 +1,6 @@
 -- Sites that taking a rule needs nothing new for: they and all below them make no impure call and have contents. What is
 -- emitted at a place that a run reached is so, and what isn't so is bound alike from every such place.
-use Rattle.std.proofs.Common.{◌≡◌, ◌⊎◌, ℕ, zero, suc, ◌==◌, ◌<◌, Bool, true, false, not, ◌&&◌, ◌||◌, cond, List, [], ◌∷◌, ◌++◌, length, Option, Some, None, if◌then◌else◌, is_some, slice_get, Contains, IsTrue, filter, flat_map, refl, sym, ap, ◌∙◌, subst, inl, inr, arith, append-nil}
+use Rattle.std.proofs.Common.{◌≡◌, ◌⊎◌, ℕ, zero, suc, ◌<◌, Bool, true, false, not, ◌&&◌, ◌||◌, cond, List, [], ◌∷◌, ◌++◌, length, Option, Some, None, if◌then◌else◌, is_some, slice_get, Contains, IsTrue, filter, flat_map, refl, sym, ap, ◌∙◌, subst, inl, inr, arith, append-nil}
 use Rattle.std.specs.List.{list_all}
 use Rattle.std.proofs.lemmas.Bool.{cases_Bool, cases_lt, cond-true, cond-false, and_parts, and_from, or_left, or_right, or_from, false_from_ne_true, false≢true}
 use Rattle.std.proofs.lemmas.Option.{none-some, slice_get_within}
@@ -11,8 +11,8 @@ use Rattle.isle_model.specs.rules.Outcome.{then_option}
 use Rattle.isle_model.specs.rules.Picks.{Pick, site_content, site_values}
 use Rattle.isle_model.specs.sites.Sites.{Site, bool_site, int_site, prim_site, argument_site, extractor_site, constructor_site, iterator_site, make_variant_site, match_variant_site, make_struct_site, extract_struct_site, make_some_site, match_some_site, match_tuple_site, sources_of, sources_at, each_term, layer, layer_at, unfolded, unfold_site}
 use Rattle.isle_model.specs.trees.Places.{Around, is_in, is_in_place, below, all_below, each_after, listed_below}
-use Rattle.isle_model.specs.trees.Run.{World, Env, bound_to, as_value, used}
-use Rattle.isle_model.specs.trees.Collects.{content_at, calls_nothing, IsPureSite}
+use Rattle.isle_model.specs.trees.Run.{World, Env, as_value}
+use Rattle.isle_model.specs.trees.Collects.{content_at, calls_nothing}
 use Rattle.isle_model.specs.trees.SetRuns.{IsPureAt, IsReached}
 use Rattle.isle_model.proofs.Members.{nothing_in, in_head, in_tail, in_cases, in_alone, each_passes, all_pass, in_flat_map, from_flat_map, member_found, member_is_in, in_filter, from_filter}
 use Rattle.isle_laws_runs.proofs.runs.Below.{below_itself, below_source, below_enough}

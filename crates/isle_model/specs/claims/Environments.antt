@@ -10,7 +10,7 @@ use Rattle.isle_model.specs.lists.Tables.{VariantEntry, TypeEntry, builtin_type,
 use Rattle.isle_model.specs.rules.Typed.{TypedRule}
 use Rattle.isle_model.specs.rules.Program.{Program}
 use Rattle.isle_model.specs.lists.TermTable.{rule_trees, IsValidTerms, AllDefined, term_table, term_names_met, converters}
-use Rattle.isle_model.specs.lists.TypeTable.{IsValidTypes, all_type_names, type_table, type_names_met, constant_types}
+use Rattle.isle_model.specs.lists.TypeTable.{IsValidTypes, constant_types}
 use Rattle.isle_model.specs.lists.KnownTypes.{KnownTypes, types_of, IsWellFormed}
 use Rattle.isle_model.specs.lists.Setting.{Setting}
 use Rattle.isle_model.specs.lists.Elaborated.{TypedRules, RulesElaborate, few_enough, elaborated_rule, most_nested}

@@ -64,24 +64,22 @@ pub record CanBeServed (p : Program) (t : ℕ) (set : SiteSet) : Type 0 where
   pub gates_of_calls : (b : BuiltRule) (r : SetRule) → AreOneRule p t set b r → All (DemandsGatesOfCall p set.sites b r) r.iterators
   pub one_priority : is_multi p t ≡ true → HasOnePriority set.rules
 
--- the sets that are built of elaborated rules are such
-abbrev pub BuiltSetsCanBeServed : Type 0
-BuiltSetsCanBeServed =
+-- what holds of every set that is built of elaborated rules
+abbrev pub OfBuiltSets : (Program → ℕ → SiteSet → Type 0) → Type 0
+OfBuiltSets P =
     (e : TypesRead) (defs : List Definition) (expand : Bool) (rules : TypedRules) (t : ℕ) (set : SiteSet)
-    → IsElaborated e defs expand rules → IsBuilt (program_of e defs rules.rules) t set → CanBeServed (program_of e defs rules.rules) t set
+    → IsElaborated e defs expand rules → IsBuilt (program_of e defs rules.rules) t set → P (program_of e defs rules.rules) t set
+
+-- they are such
+abbrev pub BuiltSetsCanBeServed : Type 0
+BuiltSetsCanBeServed = OfBuiltSets CanBeServed
 
 -- and they meet what choosing from them, and collecting of them, asks
 abbrev pub BuiltSetsAreTested : Type 0
-BuiltSetsAreTested =
-    (e : TypesRead) (defs : List Definition) (expand : Bool) (rules : TypedRules) (t : ℕ) (set : SiteSet)
-    → IsElaborated e defs expand rules → IsBuilt (program_of e defs rules.rules) t set → is_multi (program_of e defs rules.rules) t ≡ false
-    → All (λ r. r.iterators ≡ []) set.rules → IsTestedSet set
+BuiltSetsAreTested = OfBuiltSets (λ p t set. is_multi p t ≡ false → All (λ r. r.iterators ≡ []) set.rules → IsTestedSet set)
 
 abbrev pub BuiltSetsAreCollected : Type 0
-BuiltSetsAreCollected =
-    (e : TypesRead) (defs : List Definition) (expand : Bool) (rules : TypedRules) (t : ℕ) (set : SiteSet)
-    → IsElaborated e defs expand rules → IsBuilt (program_of e defs rules.rules) t set → is_multi (program_of e defs rules.rules) t ≡ true
-    → All (λ b. HasCollectedResults (program_of e defs rules.rules) b.rule) (built_rules (program_of e defs rules.rules) t) → IsCollectedSet set
+BuiltSetsAreCollected = OfBuiltSets (λ p t set. is_multi p t ≡ true → All (λ b. HasCollectedResults p b.rule) (built_rules p t) → IsCollectedSet set)
 
 -- what holds on all well-typed arguments, under every meaning that serves a term's rules and tells constants apart
 abbrev pub WhereServed : Program → ℕ → (Meaning → List Value → Type 0) → Type 0
