@@ -5,4 +5,5 @@ pub mod MatchLaws
 pub mod RefusalLaws
 pub mod ReportLaws
 pub mod ServeLaws
+pub mod SetOverlapLaws
 pub mod VisitLaws

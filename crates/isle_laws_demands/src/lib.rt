@@ -12,6 +12,7 @@ ghost use Rattle.isle_model.specs.claims.SetMeanings.{BuiltSetsAreTested, BuiltS
 ghost use Rattle.isle_laws_demands.specs.BuiltLaws.{ClosingsOfBuiltRulesAreWhole, ConstrainedSitesStandInNoClass, BuiltRulesConstrainOrEquate, FormedRulesMakeEqualSites, BuiltDemandsAreWhole};
 ghost use Rattle.isle_laws_demands.specs.MatchLaws.{VisitsMatch, UnreachableRulesNeverMatch, ClosedDemandsHoldAlike, BuiltDemandsHoldAlike, BuiltSetsMatchByDemands, BuiltRulesAreToldApart, RulesWithoutMultiGoOverNoCalls};
 ghost use Rattle.isle_laws_demands.specs.RefusalLaws.{ReportsNamePassedLimits};
+ghost use Rattle.isle_laws_demands.specs.SetOverlapLaws.{SetRulesOverlapAsTheirDemands, OverlapOfSetRulesIsSymmetric, SetRulesConstrainAsTheirDemands};
 ghost use Rattle.isle_laws_demands.specs.ServeLaws.{ServedSetsServeTests};
 
 use isle_laws_lists::{lists_agree, rules_are_formed};
@@ -335,4 +336,20 @@ pub fn reports_name_passed_limits()
 /// of trees ask.
 pub fn served_sets_serve_tests()
     ensures { ServedSetsServeTests }
+{}
+
+/// Two rules of one built set overlap, and are a subset pair, where their closed demands are.
+pub fn set_rules_overlap_as_their_demands()
+    ensures { SetRulesOverlapAsTheirDemands }
+{}
+
+/// What is told of two rules of a set is the same in either order.
+#[tactic(auto, using(crate::proofs::overlaps::SetRules::overlap_of_set_rules_is_symmetric_lem))]
+pub fn overlap_of_set_rules_is_symmetric()
+    ensures { OverlapOfSetRulesIsSymmetric }
+{}
+
+/// A rule of a built set has as many constraints and equated sites as its closed demands.
+pub fn set_rules_constrain_as_their_demands()
+    ensures { SetRulesConstrainAsTheirDemands }
 {}
