@@ -5,6 +5,7 @@ pub mod HandedIn
 pub mod Impure
 pub mod LeftOver
 pub mod ListStages
+pub mod Lowered
 pub mod Marked
 pub mod Matchable
 pub mod Mended
@@ -19,5 +20,6 @@ pub mod SetStages
 pub mod TermLists
 pub mod TreeStages
 pub mod TypeLists
+pub mod Unasked
 pub mod Unused
 pub mod Used
