@@ -1,6 +1,7 @@
 pub mod AcceptedLists
 pub mod Expansions
 pub mod Extract
+pub mod ExtractLowered
 pub mod HandedIn
 pub mod Impure
 pub mod LeftOver
@@ -12,6 +13,7 @@ pub mod Mended
 pub mod Multi
 pub mod MultiCalls
 pub mod NoRules
+pub mod PartialLowered
 pub mod PickedAnswers
 pub mod Refused
 pub mod SampleStages

@@ -196,8 +196,8 @@ pub fn nested_sample()
     ensures can_match { CanMatch nested_program nested_rule }
 {}
 
-/// An external extractor: a call that is asked to answer, and its answer to be a literal.
-#[tactic(auto, using(crate::proofs::SampleStages::extract_stages, crate::proofs::Matchable::extract_one_matches, crate::proofs::Matchable::extract_any_matches, crate::proofs::Extract::near_sets_are_not_built))]
+/// An external extractor: a call that is asked to answer, and its answer to be a literal. Lowering gives its tree.
+#[tactic(auto, using(crate::proofs::SampleStages::extract_stages, crate::proofs::Matchable::extract_one_matches, crate::proofs::Matchable::extract_any_matches, crate::proofs::Extract::near_sets_are_not_built, crate::proofs::ExtractLowered::extract_is_lowered))]
 pub fn extract_sample()
     ensures stages { HasStages extract_sample }
     ensures tables { ExtractTables }
@@ -206,6 +206,7 @@ pub fn extract_sample()
     ensures any_matches { CanMatch extract_program extract_any }
     ensures limits { PassesNoLimit extract_program extract_one }
     ensures near_sets { NearSetsAreNotBuilt }
+    ensures lowered { IsLoweredTo extract_sample }
 {}
 
 /// Where the extractor answers 1 the higher rule gives 10, where it answers 5 the lower rule gives it, and where it
@@ -226,12 +227,13 @@ pub fn extract_is_served()
     ensures without_calls { DoesNotServe extract_program extract_mute (pos 7) }
 {}
 
-/// A partial call on the right side is made and unwrapped, and nothing is asked of it.
-#[tactic(auto, using(crate::proofs::SampleStages::partial_stages))]
+/// A partial call on the right side is made and unwrapped, and nothing is asked of it. Lowering gives its tree.
+#[tactic(auto, using(crate::proofs::SampleStages::partial_stages, crate::proofs::PartialLowered::partial_is_lowered))]
 pub fn partial_sample()
     ensures stages { HasStages partial_sample }
     ensures tables { HasTermTable partial_defs partial_terms }
     ensures demands { PartialDemands }
+    ensures lowered { IsLoweredTo partial_sample }
 {}
 
 /// Where the partial call answers nothing, the one call is made and then all fails: the lower rule isn't tried. Where
