@@ -1,5 +1,5 @@
 -- Samples that tell apart what a statement asks from what it might ask: the smallest inputs behind choices of statements.
-use Rattle.std.specs.Prelude.{◌≡◌, ◌∷◌, [], pos, false, List, None, All, IsTrue, is_some, slice_get, ℕ, true, codes, Some, option_map, Bool}
+use Rattle.std.specs.Prelude.{◌≡◌, ◌∷◌, [], pos, false, List, None, All, IsTrue, is_some, slice_get, ℕ, true, codes, Some, option_map, Bool, map}
 use Rattle.isle_model.specs.rules.Meaning.{Meaning, nothing, many, look}
 use Rattle.isle_model.specs.sites.Sites.{SetRule, Site, SiteSet, argument_site, constructor_site, make_variant_site, sources_at, extractor_site, iterator_site, make_some_site, match_some_site, extractor_call, is_present, is_variant, match_variant_site}
 use Rattle.isle_model.specs.trees.Collects.{content_at}
@@ -20,11 +20,15 @@ use Rattle.isle_model.specs.rules.Picks.{Pick, matches_under, right_side_under}
 use Rattle.isle_model.specs.rules.RightSide.{right_side}
 use Rattle.isle_model.specs.trees.Trees.{Tree, loop_at, no_step, step}
 use Rattle.std.specs.Bool.{◌==◌}
-use Rattle.isle_model.specs.claims.Environments.{AnswersBy, PassesNesting, TermEnvironment, TypeEnvironment, types_read, environment_of, term_environment_of, with_read_names}
+use Rattle.isle_model.specs.claims.Environments.{AnswersBy, PassesNesting, TermEnvironment, TypeEnvironment, types_read, shown_terms, environment_of, term_environment_of, with_read_names}
 use Rattle.isle_model.specs.claims.Refusals.{of_nesting, past_limit}
 use Rattle.isle_model.specs.lists.Signatures.{Signature, constructor_signature, extractor_signature, gives_one, gives_one_or_none}
 use Rattle.isle_model.specs.rules.Choice.{choice}
-use Rattle.isle_model.specs.sites.SetRules.{may_fit, sites_brought}
+use Rattle.isle_model.specs.sites.SetRules.{may_fit, sites_brought, no_overlap, overlap_between, some_overlap}
+use Rattle.isle_model.specs.claims.Questions.{identifier, term_of_site}
+use Rattle.isle_model.specs.lists.TypeTable.{type_table}
+use Rattle.isle_model.specs.trees.Best.{total_constraints}
+use Rattle.isle_examples.specs.Effects.{effects_defs, effects_rule, effects_rules, effects_set}
 use Rattle.isle_model.specs.trees.Judge.{is_best_tree}
 use Rattle.isle_examples.specs.MeaningForms.{given, literal, mute, all_of, alone, answers, v}
 use Rattle.isle_examples.specs.SetForms.{a_rule, byte, is_byte, a0, returning}
@@ -256,3 +260,31 @@ SitesAreBrought =
     × (may_fit (is_variant own 1 1) (make_variant_site own 0 (2 ∷ [])) ≡ false)
     × (may_fit (is_byte 1) (byte 2) ≡ false)
     × (may_fit (is_byte 1) (argument_site 0) ≡ true)
+
+-- What is told of two rules of a set: other constraints of one site, constraints that are the other's too, those of
+-- different sites, and an equality.
+abbrev pub at_second : SetRule
+at_second = a_rule 3 4 (pos 0) ((1, is_byte 2) ∷ []) [] 0
+
+abbrev pub at_equal : SetRule
+at_equal = a_rule 4 5 (pos 0) [] ((0 ∷ 1 ∷ []) ∷ []) 0
+
+abbrev pub OverlapsAreTold : Type 0
+OverlapsAreTold =
+    (overlap_between at_one at_two ≡ no_overlap)
+    × (overlap_between at_one at_any ≡ some_overlap true)
+    × (overlap_between at_one at_second ≡ some_overlap false)
+    × (overlap_between at_equal at_any ≡ some_overlap false)
+    × (total_constraints at_one ≡ 1)
+    × (total_constraints at_equal ≡ 2)
+
+-- The terms of sites in `effects`, whose term 3 is the variant; and what a rule is called, with a name and without.
+abbrev pub TermsOfSites : Type 0
+TermsOfSites =
+    map (term_of_site (type_table effects_defs) (shown_terms (types_read effects_defs) effects_defs).term_of) effects_set.sites
+    ≡ None ∷ Some 0 ∷ None ∷ Some 1 ∷ Some 3 ∷ None ∷ []
+
+abbrev pub IdentifiersOfRules : Type 0
+IdentifiersOfRules =
+    (identifier effects_rules.names (λ p. codes "here") effects_rule ≡ codes "f")
+    × (identifier effects_rules.names (λ p. codes "here") (record effects_rule { name = None }) ≡ codes "here")

@@ -522,7 +522,7 @@ pub fn lists_refused()
     ensures lowering { SamplesAreRefused }
 {}
 
-ghost use Rattle.isle_examples.specs.Mended.{AboveCallsNothingIsAsked, ThirdRulesDontCount, ReturnsOfMultiTermsGoOn, RightSidesFailUnderPicks, OverlapsMayHoldTwice, NamelessIsNotAnswered, LookUpsHaveNoList, LimitsAreNamedWherePassed, SecondIsReadAlone, EmptySetsAreBuilt, SignaturesOfW, SitesAreBrought};
+ghost use Rattle.isle_examples.specs.Mended.{AboveCallsNothingIsAsked, ThirdRulesDontCount, ReturnsOfMultiTermsGoOn, RightSidesFailUnderPicks, OverlapsMayHoldTwice, NamelessIsNotAnswered, LookUpsHaveNoList, LimitsAreNamedWherePassed, SecondIsReadAlone, EmptySetsAreBuilt, SignaturesOfW, SitesAreBrought, OverlapsAreTold, TermsOfSites, IdentifiersOfRules};
 
 /// A world that has what tests ask may have no content for a construction above an impure call that is never made.
 #[tactic(auto, using(crate::proofs::Mended::above_calls_nothing_is_asked_lem))]
@@ -590,4 +590,20 @@ pub fn signatures_of_w()
 /// The sites that matching brings, and which constraints may fit a site.
 pub fn sites_are_brought()
     ensures { SitesAreBrought }
+{}
+
+/// Two rules have no overlap where one site has different constraints in them; else they have one, and a subset where
+/// the constraints of one are the other's too and neither has an equality.
+pub fn overlaps_are_told()
+    ensures { OverlapsAreTold }
+{}
+
+/// The terms of the sites of a set: those of its calls and of the variant that it makes.
+pub fn terms_of_sites()
+    ensures { TermsOfSites }
+{}
+
+/// A rule's identifier is its name, or its place where it has none.
+pub fn identifiers_of_rules()
+    ensures { IdentifiersOfRules }
 {}
