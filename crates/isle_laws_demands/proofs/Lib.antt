@@ -1,5 +1,6 @@
 pub mod closure
 pub mod matching
 pub mod overlaps
+pub mod results
 pub mod taken
 pub mod visits
