@@ -2,5 +2,6 @@ pub mod closure
 pub mod matching
 pub mod overlaps
 pub mod results
+pub mod served
 pub mod taken
 pub mod visits

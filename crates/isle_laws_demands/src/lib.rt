@@ -12,7 +12,7 @@ ghost use Rattle.isle_model.specs.claims.SetMeanings.{BuiltSetsAreTested, BuiltS
 ghost use Rattle.isle_laws_demands.specs.BuiltLaws.{ClosingsOfBuiltRulesAreWhole, ConstrainedSitesStandInNoClass, BuiltRulesConstrainOrEquate, FormedRulesMakeEqualSites, BuiltDemandsAreWhole};
 ghost use Rattle.isle_laws_demands.specs.MatchLaws.{VisitsMatch, UnreachableRulesNeverMatch, ClosedDemandsHoldAlike, BuiltDemandsHoldAlike, BuiltSetsMatchByDemands, BuiltRulesAreToldApart, RulesWithoutMultiGoOverNoCalls, BuiltSetsHoldResults};
 ghost use Rattle.isle_laws_demands.specs.RefusalLaws.{ReportsNamePassedLimits};
-ghost use Rattle.isle_laws_demands.specs.ServeLaws.{ServedSetsServeTests};
+ghost use Rattle.isle_laws_demands.specs.ServeLaws.{ServedSetsServeTests, ServedMultiSetsServe};
 
 use isle_laws_lists::{lists_agree, rules_are_formed};
 
@@ -340,4 +340,9 @@ pub fn served_sets_serve_tests()
 /// Under each of its picks, what the right side of a rule gives that makes no impure call is what the result's site holds.
 pub fn results_are_held()
     ensures { BuiltSetsHoldResults }
+{}
+
+/// And where none of the term's rules makes an impure call, it has what collecting the results of a multi term asks.
+pub fn served_multi_sets_serve()
+    ensures { ServedMultiSetsServe }
 {}
