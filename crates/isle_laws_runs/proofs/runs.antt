@@ -5,6 +5,7 @@ pub mod Below
 pub mod BindOrders
 pub mod Binding
 pub mod Choice
+pub mod ChosenRules
 pub mod Claims
 pub mod Classes
 pub mod Collected

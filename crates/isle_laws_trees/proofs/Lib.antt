@@ -6,6 +6,7 @@ pub mod Ends
 pub mod Exact
 pub mod Few
 pub mod Gates
+pub mod headline
 pub mod JudgedSets
 pub mod Marking
 pub mod Once

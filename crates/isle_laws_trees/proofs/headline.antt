@@ -1,0 +1,3 @@
+-- Best trees keep the headline.
+pub mod Choosing
+pub mod Places
