@@ -1,3 +1,4 @@
 -- Best trees keep the headline.
 pub mod Choosing
+pub mod Collecting
 pub mod Places
