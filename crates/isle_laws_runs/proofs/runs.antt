@@ -16,6 +16,7 @@ pub mod Fields
 pub mod Finding
 pub mod HoldsOnce
 pub mod Left
+pub mod Listing
 pub mod Loops
 pub mod Order
 pub mod Standing

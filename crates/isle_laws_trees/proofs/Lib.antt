@@ -1,4 +1,5 @@
 pub mod Available
+pub mod binding
 pub mod Constraints
 pub mod Counting
 pub mod Covers

@@ -1,0 +1,2 @@
+-- Best trees bind sites before they use them.
+pub mod BindOnce
