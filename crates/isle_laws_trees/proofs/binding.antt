@@ -1,2 +1,4 @@
 -- Best trees bind sites before they use them.
 pub mod BindOnce
+pub mod Brought
+pub mod InPlace

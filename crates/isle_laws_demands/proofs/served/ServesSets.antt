@@ -27,9 +27,10 @@ use Rattle.isle_laws_runs.proofs.runs.Contents.{unfolded_layer}
 use Rattle.isle_laws_demands.specs.ServeLaws.{ServedMultiSetsServe}
 use Rattle.isle_laws_demands.proofs.visits.Apart.{multi_calls_are_gone_over_lem}
 use Rattle.isle_laws_demands.proofs.visits.Declared.{program_not_both}
+use Rattle.isle_laws_demands.proofs.taken.BuiltSites.{sites_stand}
 use Rattle.isle_laws_demands.proofs.taken.Fits.{FitsAs, IsField, fits, found}
 use Rattle.isle_laws_demands.proofs.taken.Forms.{Form, IsOfForm}
-use Rattle.isle_laws_demands.proofs.taken.ServesRuns.{stands, is_served, of_set, is_asked, fields_counted, one_constraint, equal_value}
+use Rattle.isle_laws_demands.proofs.taken.ServesRuns.{is_served, of_set, is_asked, fields_counted, one_constraint, equal_value}
 use Rattle.isle_laws_demands.proofs.served.PureMade.{IsNoImpureCall, rule_makes_none}
 
 -- 1. sites of no impure call
@@ -95,7 +96,7 @@ module _ (e : TypesRead) (defs : List Definition) (expand : Bool) (rules : Typed
   pure_at : (s : ℕ) → s < length set.sites → IsPureAt set.sites s
   pure_at s l =
       let x = get_within set.sites s l in
-      let a = stands e defs expand rules t set h b m args typed served apart k s l in
+      let a = sites_stand e defs expand rules t set h b s l in
       (x.0, x.1, pure_site_of (unfold_site set.sites) x.0 (subst IsNoImpureCall (unfolded_layer set.sites b.sources s x.0 x.1) (asked_none (unfold_site set.sites s) a.asks)))
 
   pure_below : (s : ℕ) → s < length set.sites → IsPureBelow set.sites s
@@ -111,7 +112,7 @@ module _ (e : TypesRead) (defs : List Definition) (expand : Bool) (rules : Typed
       let o = of_set e defs expand rules t set h b m args typed served apart k r i in
       let g = o.is.iterators.gone_over s j in
       let multi = (multi_calls_are_gone_over_lem p o.built.rule (program_not_both e defs expand rules h)).calls (unfold_site set.sites s) g.1 in
-      let a = (stands e defs expand rules t set h b m args typed served apart k s g.0).form in
+      let a = (sites_stand e defs expand rules t set h b s g.0).form in
       many_fit p.types a.0.multi a.0.optional a.0.count c (multi_form p n (unfold_site set.sites s) a.0 a.1 multi)
       (fits p n rs w k (is_served e defs expand rules t set h b m args typed served apart k) s (pure_below s g.0) a.0 a.1 c q)
 

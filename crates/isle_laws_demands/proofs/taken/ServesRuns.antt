@@ -40,6 +40,7 @@ use Rattle.isle_laws_demands.proofs.matching.Shapes.{HasTypes, has_form, atom_wi
 use Rattle.isle_laws_demands.proofs.matching.TypedParts.{program_has_typed_parts}
 use Rattle.isle_laws_demands.proofs.matching.Unreachable.{Shape, same_shape}
 use Rattle.isle_laws_demands.proofs.matching.Visits.{given, of_term}
+use Rattle.isle_laws_demands.proofs.taken.BuiltSites.{rules_known, sites_stand}
 use Rattle.isle_laws_demands.proofs.taken.Fits.{IsWhole, AsManyFields, typed_whole, FitsAs, FitsForm, the_value, IsServed, fits, found}
 use Rattle.isle_laws_demands.proofs.taken.Forms.{Form, a_value, AreKnown, rule_known}
 use Rattle.isle_laws_demands.proofs.taken.SitesKnown.{Stands, made_stands, closed_known, rules_stand, before_stands}
@@ -92,15 +93,10 @@ module _ (e : TypesRead) (defs : List Definition) (expand : Bool) (rules : Typed
   w = world_of p t set.sites m args
 
   known : (r : TypedRule) → In rs r → AreKnown p n (demands_of p r)
-  known r i =
-      let o = of_term e defs expand rules h t r (contains_from_in rs r i) in
-      let f = elaborated_rules_hang rules_are_formed typed_rules.lists_agree e defs expand rules h r o.0 in
-      rule_known p n (program_not_both e defs expand rules h) (program_has_typed_parts e defs expand rules h) r f.0 (ap (λ x. length (arg_types p x)) o.1)
+  known = rules_known e defs expand rules t set h b
 
-  pub stands : (s : ℕ) → s < length set.sites → Stands p n rs (unfold_site set.sites s)
-  stands s l =
-      rules_stand p n rs [] (λ u i. absurd i) rs (λ r i. (i, known r i)) (unfold_site set.sites s)
-      (in_slice (sites_after_rules p [] rs) s (unfold_site set.sites s) (b.sites.exact s l))
+  stands : (s : ℕ) → s < length set.sites → Stands p n rs (unfold_site set.sites s)
+  stands = sites_stand e defs expand rules t set h b
 
   pub is_served : IsServed p n rs w
   is_served = record {
