@@ -2,3 +2,5 @@
 pub mod BindOnce
 pub mod Brought
 pub mod InPlace
+pub mod Scopes
+pub mod Trees
