@@ -5,7 +5,6 @@ pub mod BuiltRules
 pub mod DemandsOfSimple
 pub mod Elements
 pub mod PlainSites
-pub mod Priorities
 pub mod SampleServed
 pub mod ServedWorlds
 pub mod Simple

@@ -1,5 +1,7 @@
 pub mod closure
 pub mod matching
 pub mod overlaps
+pub mod results
+pub mod served
 pub mod taken
 pub mod visits

@@ -1,4 +1,5 @@
 -- From what a meaning has to what runs rest on.
+pub mod BuiltSites
 pub mod Fits
 pub mod Forms
 pub mod ServesRuns

@@ -14,7 +14,7 @@ use Rattle.isle_model.specs.sites.Overlap.{BuiltRule, built_rules}
 use Rattle.isle_model.specs.sites.Serves.{Serves, TellsConstantsApart}
 use Rattle.isle_model.specs.claims.Environments.{TypesRead, IsElaborated, program_of}
 use Rattle.isle_model.specs.claims.Headline.{IsWithoutMulti}
-use Rattle.isle_model.specs.claims.SetMeanings.{OfBuiltSets, MatchesByDemands, TellsRulesApart}
+use Rattle.isle_model.specs.claims.SetMeanings.{OfBuiltSets, MatchesByDemands, ResultsAreHeld, TellsRulesApart}
 use Rattle.isle_laws_demands.specs.ClosureLaws.{ClosedIsWhole}
 
 -- a rule on arguments of its term's types, a meaning that serves the rules of the term, and one of the rule's picks
@@ -72,3 +72,8 @@ RulesWithoutMultiGoOverNoCalls =
     (e : TypesRead) (defs : List Definition) (expand : Bool) (rules : TypedRules) (t : ℕ)
     → IsElaborated e defs expand rules → IsWithoutMulti (program_of e defs rules.rules) t
     → (r : TypedRule) → Contains (rules_of (program_of e defs rules.rules) t) r → (demands_of (program_of e defs rules.rules) r).iterators ≡ []
+
+-- under each of its picks the result's site of a rule that makes no impure call, of a set that is built of elaborated rules,
+-- holds what its right side gives
+abbrev pub BuiltSetsHoldResults : Type 0
+BuiltSetsHoldResults = OfBuiltSets ResultsAreHeld

@@ -10,10 +10,10 @@ ghost use Rattle.isle_laws_demands.specs.ReportLaws.{CheckIsExact, OverlapsAreLi
 ghost use Rattle.isle_laws_demands.specs.VisitLaws.{SitesStandOnce, FormedRulesDemandGates, ClosingKeepsGates, ElaboratedRulesDemandGates, BuiltRulesDemandGates, BuiltSetsAreWellBuilt, NoneAskedAndGoneOver, MultiCallsAreGoneOver, NoRuleAsksAndGoesOver, MultiTermsHaveOnePriority};
 ghost use Rattle.isle_model.specs.claims.SetMeanings.{BuiltSetsAreTested, BuiltSetsCanBeServed, BuiltSetsAreCollected};
 ghost use Rattle.isle_laws_demands.specs.BuiltLaws.{ClosingsOfBuiltRulesAreWhole, ConstrainedSitesStandInNoClass, BuiltRulesConstrainOrEquate, FormedRulesMakeEqualSites, BuiltDemandsAreWhole};
-ghost use Rattle.isle_laws_demands.specs.MatchLaws.{VisitsMatch, UnreachableRulesNeverMatch, ClosedDemandsHoldAlike, BuiltDemandsHoldAlike, BuiltSetsMatchByDemands, BuiltRulesAreToldApart, RulesWithoutMultiGoOverNoCalls};
+ghost use Rattle.isle_laws_demands.specs.MatchLaws.{VisitsMatch, UnreachableRulesNeverMatch, ClosedDemandsHoldAlike, BuiltDemandsHoldAlike, BuiltSetsMatchByDemands, BuiltRulesAreToldApart, RulesWithoutMultiGoOverNoCalls, BuiltSetsHoldResults};
 ghost use Rattle.isle_laws_demands.specs.RefusalLaws.{ReportsNamePassedLimits};
 ghost use Rattle.isle_laws_demands.specs.SetOverlapLaws.{SetRulesOverlapAsTheirDemands, OverlapOfSetRulesIsSymmetric, SetRulesConstrainAsTheirDemands};
-ghost use Rattle.isle_laws_demands.specs.ServeLaws.{ServedSetsServeTests};
+ghost use Rattle.isle_laws_demands.specs.ServeLaws.{ServedSetsServeTests, ServedMultiSetsServe};
 
 use isle_laws_lists::{lists_agree, rules_are_formed};
 
@@ -352,4 +352,14 @@ pub fn overlap_of_set_rules_is_symmetric()
 /// A rule of a built set has as many constraints and equated sites as its closed demands.
 pub fn set_rules_constrain_as_their_demands()
     ensures { SetRulesConstrainAsTheirDemands }
+{}
+
+/// Under each of its picks, what the right side of a rule gives that makes no impure call is what the result's site holds.
+pub fn results_are_held()
+    ensures { BuiltSetsHoldResults }
+{}
+
+/// And where none of the term's rules makes an impure call, it has what collecting the results of a multi term asks.
+pub fn served_multi_sets_serve()
+    ensures { ServedMultiSetsServe }
 {}

@@ -8,4 +8,5 @@ pub mod NoIterators
 pub mod OnePick
 pub mod Ordered
 pub mod Plain
+pub mod Reordered
 pub mod SamePlaces

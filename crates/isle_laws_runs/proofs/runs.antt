@@ -5,6 +5,7 @@ pub mod Below
 pub mod BindOrders
 pub mod Binding
 pub mod Choice
+pub mod ChosenRules
 pub mod Claims
 pub mod Classes
 pub mod Collected
@@ -15,6 +16,7 @@ pub mod Fields
 pub mod Finding
 pub mod HoldsOnce
 pub mod Left
+pub mod Listing
 pub mod Loops
 pub mod Order
 pub mod Standing

@@ -1,4 +1,5 @@
 pub mod Available
+pub mod binding
 pub mod Constraints
 pub mod Counting
 pub mod Covers
@@ -6,6 +7,7 @@ pub mod Ends
 pub mod Exact
 pub mod Few
 pub mod Gates
+pub mod headline
 pub mod JudgedSets
 pub mod Marking
 pub mod Once

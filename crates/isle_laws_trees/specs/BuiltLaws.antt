@@ -8,6 +8,8 @@ use Rattle.isle_model.specs.trees.Best.{IsBestTree}
 use Rattle.isle_model.specs.trees.WellBuilt.{HasOnePriority}
 use Rattle.isle_model.specs.lists.Elaborated.{TypedRules}
 use Rattle.isle_model.specs.claims.Environments.{TypesRead, IsElaborated, program_of}
+use Rattle.isle_model.specs.claims.Layers.{BindsBeforeUse, BestTreesKeepTheHeadline}
+use Rattle.isle_model.specs.claims.SetMeanings.{OfBuiltSets, TakenGivesOutcome}
 use Rattle.isle_model.specs.sites.RuleSets.{IsBuilt}
 
 -- so its best trees are sound
@@ -16,3 +18,11 @@ BestTreesOfBuiltSetsAreSound =
     (e : TypesRead) (defs : List Definition) (expand : Bool) (rules : TypedRules) (t : ℕ) (set : SiteSet) (multi : Bool) (tree : Tree)
     → IsElaborated e defs expand rules → IsBuilt (program_of e defs rules.rules) t set → All (λ r. r.iterators ≡ []) set.rules
     → (multi ≡ true → HasOnePriority set.rules) → IsBestTree set tree → IsSound set multi tree
+
+-- they bind sites before they use them, in each step, whether a run reaches it or not
+abbrev pub BestTreesBindBeforeUse : Type 0
+BestTreesBindBeforeUse = OfBuiltSets (λ p t set. (multi : Bool) (tree : Tree) → IsBestTree set tree → BindsBeforeUse set multi tree)
+
+-- where taking a rule of a built set gives its right side's outcome, they keep the headline
+abbrev pub OutcomesKeepTheHeadline : Type 0
+OutcomesKeepTheHeadline = OfBuiltSets TakenGivesOutcome → BestTreesKeepTheHeadline

@@ -7,9 +7,13 @@
 ghost use Rattle.isle_laws_trees.specs.BestLaws.{OpenTestsAreListed, BestTreesShareMost, SitesAreTestedOnce, StepsAreFew, StepsMakeBestTrees, JudgeIsExact, TreeJudgeIsExact};
 ghost use Rattle.isle_laws_trees.specs.Scores.{ScoresAreOrdered, OneTestIsGreatest};
 ghost use Rattle.isle_model.specs.trees.WellBuilt.{BestTreesAreSound};
-ghost use Rattle.isle_laws_trees.specs.BuiltLaws.{BestTreesOfBuiltSetsAreSound};
+ghost use Rattle.isle_laws_trees.specs.BuiltLaws.{BestTreesOfBuiltSetsAreSound, BestTreesBindBeforeUse, OutcomesKeepTheHeadline};
 
-use isle_laws_demands::built_sets_are_well_built;
+use isle_laws_demands::{
+    built_rules_are_told_apart, built_sets_are_collected, built_sets_are_tested, built_sets_are_well_built, built_sets_match_by_demands,
+    multi_terms_have_one_priority, no_rule_asks_and_goes_over, results_are_held, rules_without_multi_go_over_no_calls, served_multi_sets_serve,
+    served_sets_serve_tests,
+};
 
 /// The list of a place's open tests holds exactly the tests that are open there.
 #[tactic(auto, using(crate::proofs::OpenTests::open_tests_are_listed_lem))]
@@ -75,4 +79,28 @@ pub fn best_trees_of_built_sets_are_sound()
     ensures { BestTreesOfBuiltSetsAreSound }
 {
     built_sets_are_well_built();
+}
+
+/// A best tree of a set that is built of elaborated rules binds each site before it is used, and none twice in one scope but for
+/// the calls of loops.
+pub fn best_trees_bind_before_use()
+    ensures { BestTreesBindBeforeUse }
+{}
+
+/// Where taking a rule of a built set gives its right side's outcome, the best trees of accepted definitions keep the headline:
+/// they run as the choice by priority, share tests, collect the bag of a multi term, and bind before use.
+pub fn best_trees_keep_the_headline()
+    ensures { OutcomesKeepTheHeadline }
+{
+    built_sets_are_tested();
+    served_sets_serve_tests();
+    best_trees_of_built_sets_are_sound();
+    built_sets_match_by_demands();
+    built_rules_are_told_apart();
+    rules_without_multi_go_over_no_calls();
+    built_sets_are_collected();
+    served_multi_sets_serve();
+    multi_terms_have_one_priority();
+    no_rule_asks_and_goes_over();
+    results_are_held();
 }

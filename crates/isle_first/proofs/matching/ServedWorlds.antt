@@ -26,7 +26,7 @@ use Rattle.isle_first.proofs.matching.SimpleMatches.{equals, meets, simple_is_so
 use Rattle.isle_first.proofs.matching.AskedOfSimple.{asked_from_start, asks_at, type_at, types_length, tested_constant, asked_made, IsPlain, plain_site}
 use Rattle.isle_first.proofs.matching.PlainSites.{IsArgumentOrInt, flat_sites, int_met}
 use Rattle.isle_first.proofs.matching.BuiltRules.{as_many, set_rule_at, typed_rule_of, constraint_is, demands_met, met_by_demands, right_taken}
-use Rattle.isle_first.proofs.matching.Priorities.{MatchesWith, no_match, matching, chosen_is, one_number}
+use Rattle.isle_laws_runs.proofs.runs.ChosenRules.{MatchesWith, no_match, matching, chosen_is, one_number}
 
 some_of : {X : Type 0} (o : Option X) (P : X → Type 0) → IsSomeAnd o P → (x : X) × (o ≡ Some x)
 some_of None P h = absurd h

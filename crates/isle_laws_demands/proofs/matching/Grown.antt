@@ -201,7 +201,7 @@ args_grown p i (q ∷ qs) v =
     let w = visit_pattern p q (argument i) u in
     then_grown v u (visit_args p (suc i) qs w) (grown_making (argument i ∷ []) v) (then_grown u w (visit_args p (suc i) qs w) (pattern_grown p q (argument i) u) (args_grown p (suc i) qs w))
 
-finished_adds : (b : Bool) (a : Valued) → Adds a.visit (finished b a).visit
+pub finished_adds : (b : Bool) (a : Valued) → Adds a.visit (finished b a).visit
 finished_adds false a = adds_nothing a.visit
 finished_adds true a = adds_making (some_made a.site ∷ []) a.visit
 

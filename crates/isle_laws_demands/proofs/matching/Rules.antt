@@ -193,25 +193,38 @@ pub record Matches (g : Given) (r : TypedRule) : Type 0 where
   pub met : is_some (matches_under g.program g.meaning g.pick r g.args) ≡ true → AreMet g (demands_of g.program r)
   pub found : AskEnough g (demands_of g.program r) → is_some (matches_under g.program g.meaning g.pick r g.args) ≡ true
 
-pub rule_matches : (g : Given) (r : TypedRule) → is_formed_rule g.program r ≡ true → ArePureIfLets g.program r.iflets → args_well_typed g.program.types (arg_types g.program r.root_term) g.args ≡ true
-    → HasTypedParts g.program → HasNoPartialMulti g.program → IsAnswered g (demands_of g.program r) → Matches g r
-rule_matches g r f y t fields neither h =
+-- the visit before the right side
+abbrev pub before_result : Program → TypedRule → Visit
+before_result p r = visit_iflets p r.iflets (visit_args p 0 r.args visit_start)
+
+-- a rule's arguments and if-lets, past all of them
+pub rule_past : (g : Given) (r : TypedRule) (a : RuleParts g.program r) → ArePureIfLets g.program r.iflets → args_well_typed g.program.types (arg_types g.program r.root_term) g.args ≡ true
+    → HasTypedParts g.program → HasNoPartialMulti g.program → IsAnswered g (demands_of g.program r)
+    → Past g a.vars [] visit_start (before_result g.program r) (matches_under g.program g.meaning g.pick r g.args)
+rule_past g r a y t fields neither h =
     let p = g.program in
     let z = (visit_rule p r).visit in
-    let a = rule_parts p r f in
     let u = visit_args p 0 r.args visit_start in
-    let w = visit_iflets p r.iflets u in
+    let w = before_result p r in
     let adds = rule_adds p r w in
     let typed : all_well_typed p.types (Some a.entry.arg_tys) (of_list g.args) ≡ true =
     subst (λ o. args_well_typed p.types (elim o as (λ _. List ℕ) [ None ↦ [] | Some e ↦ e.arg_tys ]) g.args ≡ true) a.there t in
     let first = args_past g z h fields neither 0 r.args a.entry.arg_tys g.args visit_start [] a.mid [] a.args typed
     (λ j x s. (let same : 0 + j ≡ j = omega arith in ap (slice_get g.args) same ∙ s)) (λ x ty i. absurd (none_some ty i)) (then_grown u w z (iflets_grown p r.iflets u) adds.grown) in
-    let all = then_past g a.mid a.vars [] visit_start u w (args_hold_under p g.meaning g.pick 0 r.args g.args []) (λ e. iflets_hold_under p g.meaning g.pick r.iflets e) first (iflets_grown p r.iflets u)
-    (λ e i. iflets_past g z h fields neither r.iflets u a.mid a.vars e a.iflets y (first.agree e i) adds.grown) in
+    then_past g a.mid a.vars [] visit_start u w (args_hold_under p g.meaning g.pick 0 r.args g.args []) (λ e. iflets_hold_under p g.meaning g.pick r.iflets e) first (iflets_grown p r.iflets u)
+    (λ e i. iflets_past g z h fields neither r.iflets u a.mid a.vars e a.iflets y (first.agree e i) adds.grown)
+
+pub rule_matches : (g : Given) (r : TypedRule) → is_formed_rule g.program r ≡ true → ArePureIfLets g.program r.iflets → args_well_typed g.program.types (arg_types g.program r.root_term) g.args ≡ true
+    → HasTypedParts g.program → HasNoPartialMulti g.program → IsAnswered g (demands_of g.program r) → Matches g r
+rule_matches g r f y t fields neither h =
+    let p = g.program in
+    let w = before_result p r in
+    let adds = rule_adds p r w in
+    let all = rule_past g r (rule_parts p r f) y t fields neither h in
     record {
       met = λ m.
           (let e = is_there (matches_under p g.meaning g.pick r g.args) m in
           let n = all.met (record { asked = λ x i. absurd i; equal = λ x i. absurd i }) e.0 e.1 in
           record { asked = λ x i. n.asked x (subst (λ l. In l x) adds.constraints i); equal = λ x i. n.equal x (subst (λ l. In l x) adds.equalities i) });
-      found = λ m. (let e = all.found (enough_before g w z adds.grown m) in ap is_some e.1);
+      found = λ m. (let e = all.found (enough_before g w (visit_rule p r).visit adds.grown m) in ap is_some e.1);
     }

@@ -34,11 +34,11 @@ still_there : (o : Option SitedVars) → is_some (without_sites o) ≡ is_some o
 still_there None = refl
 still_there (Some e) = refl
 
-empty_pick : (p : Program) (m : Meaning) (args : List Value) (r : TypedRule) → (demands_of p r).iterators ≡ [] → Contains (picks p m args r) []
+pub empty_pick : (p : Program) (m : Meaning) (args : List Value) (r : TypedRule) → (demands_of p r).iterators ≡ [] → Contains (picks p m args r) []
 empty_pick p m args r h =
     subst (λ l. Contains l []) (sym (bag_as_plain_lem p m args r (calls_no_multi p r h)).0) (contains_from_in ([] ∷ []) [] (inl refl))
 
-same_match : (p : Program) (m : Meaning) (args : List Value) (r : TypedRule) → (demands_of p r).iterators ≡ [] → is_some (matches_under p m [] r args) ≡ is_some (matches p m r args)
+pub same_match : (p : Program) (m : Meaning) (args : List Value) (r : TypedRule) → (demands_of p r).iterators ≡ [] → is_some (matches_under p m [] r args) ≡ is_some (matches p m r args)
 same_match p m args r h = sym (still_there (matches_under p m [] r args)) ∙ ap is_some (matches_as_plain_lem p m [] r args (calls_no_multi p r h))
 
 -- 2. the closed demands of built rules

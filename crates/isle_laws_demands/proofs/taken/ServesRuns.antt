@@ -40,6 +40,7 @@ use Rattle.isle_laws_demands.proofs.matching.Shapes.{HasTypes, has_form, atom_wi
 use Rattle.isle_laws_demands.proofs.matching.TypedParts.{program_has_typed_parts}
 use Rattle.isle_laws_demands.proofs.matching.Unreachable.{Shape, same_shape}
 use Rattle.isle_laws_demands.proofs.matching.Visits.{given, of_term}
+use Rattle.isle_laws_demands.proofs.taken.BuiltSites.{rules_known, sites_stand}
 use Rattle.isle_laws_demands.proofs.taken.Fits.{IsWhole, AsManyFields, typed_whole, FitsAs, FitsForm, the_value, IsServed, fits, found}
 use Rattle.isle_laws_demands.proofs.taken.Forms.{Form, a_value, AreKnown, rule_known}
 use Rattle.isle_laws_demands.proofs.taken.SitesKnown.{Stands, made_stands, closed_known, rules_stand, before_stands}
@@ -92,17 +93,12 @@ module _ (e : TypesRead) (defs : List Definition) (expand : Bool) (rules : Typed
   w = world_of p t set.sites m args
 
   known : (r : TypedRule) → In rs r → AreKnown p n (demands_of p r)
-  known r i =
-      let o = of_term e defs expand rules h t r (contains_from_in rs r i) in
-      let f = elaborated_rules_hang rules_are_formed typed_rules.lists_agree e defs expand rules h r o.0 in
-      rule_known p n (program_not_both e defs expand rules h) (program_has_typed_parts e defs expand rules h) r f.0 (ap (λ x. length (arg_types p x)) o.1)
+  known = rules_known e defs expand rules t set h b
 
   stands : (s : ℕ) → s < length set.sites → Stands p n rs (unfold_site set.sites s)
-  stands s l =
-      rules_stand p n rs [] (λ u i. absurd i) rs (λ r i. (i, known r i)) (unfold_site set.sites s)
-      (in_slice (sites_after_rules p [] rs) s (unfold_site set.sites s) (b.sites.exact s l))
+  stands = sites_stand e defs expand rules t set h b
 
-  is_served : IsServed p n rs w
+  pub is_served : IsServed p n rs w
   is_served = record {
     before = b.sources;
     forms = λ s l. (stands s l).form;
@@ -112,13 +108,13 @@ module _ (e : TypesRead) (defs : List Definition) (expand : Bool) (rules : Typed
   }
 
   -- 3. rules of the set
-  record OfSet (r : SetRule) : Type 0 where
-    built : BuiltRule
-    listed : In (built_rules p t) built
-    is : IsRuleOf p set.sites built r
-    gates : BuiltGates p built
+  pub record OfSet (r : SetRule) : Type 0 where
+    pub built : BuiltRule
+    pub listed : In (built_rules p t) built
+    pub is : IsRuleOf p set.sites built r
+    pub gates : BuiltGates p built
 
-  of_set : (r : SetRule) → Contains set.rules r → OfSet r
+  pub of_set : (r : SetRule) → Contains set.rules r → OfSet r
   of_set r c =
       let a = rule_at p set.sites (built_rules p t) set.rules b.rules r (in_from_contains set.rules r c) in
       record { built = a.0; listed = a.1; is = a.2; gates = built_gates p t (elaborated_rules_demand_gates_lem rules_are_formed typed_rules.lists_agree e defs expand rules h) a.0 a.1 }
@@ -127,14 +123,14 @@ module _ (e : TypesRead) (defs : List Definition) (expand : Bool) (rules : Typed
   pure_tested r o s x u i = (let g = tested_good p t set b o.built r o.is o.gates s u x (in_from_contains (below (suc s) set.sites s) u i) in (g.site, g.there, g.pure_site))
 
   -- a constrained site holds what fits, and its constraint is one of a rule's, of a site that must be equal
-  record IsAsked (s : ℕ) (c : Constraint) : Type 0 where
+  pub record IsAsked (s : ℕ) (c : Constraint) : Type 0 where
     known_site : s < length set.sites
     pure : IsPureBelow set.sites s
     rule : TypedRule
     listed : In rs rule
     constrained : HasConstraint (demands_of p rule) (unfold_site set.sites s) c
 
-  is_asked : (r : SetRule) → Contains set.rules r → (s : ℕ) (c : Constraint) → Contains r.constraints (s, c) → IsAsked s c
+  pub is_asked : (r : SetRule) → Contains set.rules r → (s : ℕ) (c : Constraint) → Contains r.constraints (s, c) → IsAsked s c
   is_asked r i s c j =
       let o = of_set r i in
       let x = constrained_tested p t set b o.built r o.is o.gates s c (in_from_contains r.constraints (s, c) j) in
@@ -170,7 +166,7 @@ module _ (e : TypesRead) (defs : List Definition) (expand : Bool) (rules : Typed
   same_count : (o : Option (List ℕ)) (vs : Values) (c : ℕ) → AsManyFields o vs → (tys : List ℕ) × (o ≡ Some tys) × (length tys ≡ c) → length (listed vs) ≡ c
   same_count o vs c f g = f.2 ∙ ap length (some_is f.0 g.0 (sym f.1 ∙ g.1)) ∙ g.2
 
-  fields_counted : (s : ℕ) (d : Constraint) → IsAsked s d → (c : Content) (cs : List Content) → content_at w k s ≡ Some c → content_fields m d c ≡ Some cs → length cs ≡ length (fields_of set.sites s d)
+  pub fields_counted : (s : ℕ) (d : Constraint) → IsAsked s d → (c : Content) (cs : List Content) → content_at w k s ≡ Some c → content_fields m d c ≡ Some cs → length cs ≡ length (fields_of set.sites s d)
   fields_counted s (is_variant ty i f) a c cs x y =
       let g = has_form m (is_variant ty i f) c (ap is_some y) in
       let z = whole_here s (is_variant ty i f) a (of_variant ty i g.0) (x ∙ ap Some g.1) in
@@ -267,7 +263,7 @@ module _ (e : TypesRead) (defs : List Definition) (expand : Bool) (rules : Typed
       }
   shape_at s is_present a c x y = (let g = has_form m is_present c y in (g.0, x ∙ ap Some g.1))
 
-  one_constraint : (s : ℕ) (d f : Constraint) → IsAsked s d → IsAsked s f → IsTrue (meets m d (content_at w k s)) → IsTrue (meets m f (content_at w k s)) → d ≡ f
+  pub one_constraint : (s : ℕ) (d f : Constraint) → IsAsked s d → IsAsked s f → IsTrue (meets m d (content_at w k s)) → IsTrue (meets m f (content_at w k s)) → d ≡ f
   one_constraint s d f a c x y =
       let u = meets_some m d (content_at w k s) x in
       let v = meets_some m f (content_at w k s) y in
@@ -280,7 +276,7 @@ module _ (e : TypesRead) (defs : List Definition) (expand : Bool) (rules : Typed
       let i = (and_parts (is_in a l.0) (is_in c l.0) l.2).0 in
       any_in (λ x. is_in a x && is_in a x) classes l.0 l.1 (and_from (is_in a l.0) (is_in a l.0) i i)
 
-  equal_value : (r : SetRule) → Contains set.rules r → (a c : ℕ) → IsTrue (joins_in r.classes a c) → (x : Content) → content_at w k a ≡ Some x → (v : Value) × (x ≡ one v)
+  pub equal_value : (r : SetRule) → Contains set.rules r → (a c : ℕ) → IsTrue (joins_in r.classes a c) → (x : Content) → content_at w k a ≡ Some x → (v : Value) × (x ≡ one v)
   equal_value r i a c j x z =
       let o = of_set r i in
       let q = o.is.classes.joined a c j in

@@ -22,7 +22,7 @@ use Rattle.isle_laws_demands.proofs.visits.Once.{sites_stand_once_lem}
 use Rattle.isle_laws_demands.proofs.visits.Served.{IsSoundRule, elaborated_rules_are_sound, built_calls, built_result, gate_at}
 use Rattle.isle_laws_demands.proofs.visits.Sets.{all_from_in, in_from_all, each_tested}
 
-nothing_mapped : {X Y : Type 0} (f : X → Y) (xs : List X) → map f xs ≡ [] → xs ≡ []
+pub nothing_mapped : {X Y : Type 0} (f : X → Y) (xs : List X) → map f xs ≡ [] → xs ≡ []
 nothing_mapped f [] e = refl
 nothing_mapped f (x ∷ xs) e = cc
 

@@ -57,7 +57,7 @@ quiet_before : (flags : Bool) (c : SiteTerm) (v : Visit) → IsQuiet (if flags t
 quiet_before true c v h = h
 quiet_before false c v h = h
 
-not_nothing : (xs : List SiteTerm) (x : SiteTerm) → xs ++ x ∷ [] ≡ [] → ⊥
+pub not_nothing : (xs : List SiteTerm) (x : SiteTerm) → xs ++ x ∷ [] ≡ [] → ⊥
 not_nothing xs x e = subst (λ l. In l x) e (in_right xs (x ∷ []) x (inl refl))
 
 call_quiet : (pure multi partial rec : Bool) (t : ℕ) (args : SiteTerms) (v : Visit) → IsQuiet (visit_call (record { pure = pure; multi = multi; partial = partial; rec = rec }) t args v).visit → IsTrue pure × IsQuiet v

@@ -34,7 +34,7 @@ later_distinct : {X : Type 0} (x : X) (xs : List X) → IsDistinct (x ∷ xs) �
 later_distinct x xs d j k y e f = let s : suc j ≡ suc k = d (suc j) (suc k) y e f in omega (arith, s)
 
 -- where no site is constrained twice, the first constraint of a site is its constraint
-first_constraint : (ds : List (ℕ × Constraint)) → IsDistinct (map (λ d. d.0) ds) → (s : ℕ) (c : Constraint) → In ds (s, c) → constraint_at ds s ≡ Some c
+pub first_constraint : (ds : List (ℕ × Constraint)) → IsDistinct (map (λ d. d.0) ds) → (s : ℕ) (c : Constraint) → In ds (s, c) → constraint_at ds s ≡ Some c
 first_constraint [] h s c i = absurd i
 first_constraint (d ∷ ds) h s c (inl e) =
     cond-true (d.0 == s) (Some d.1) (constraint_at ds s) (eq-eqb d.0 s (ap (λ (x : ℕ × Constraint). x.0) e)) ∙ ap (λ (x : ℕ × Constraint). Some x.1) e

@@ -56,7 +56,7 @@ module _ (sites : List Site) (before : SourcesBefore sites) where
       ]
 
   -- what is below something that is below a site is below the site
-  below_deeper : (n s u t : ℕ) → s < n → Contains (below n sites s) u → Contains (below (suc u) sites u) t → Contains (below n sites s) t
+  pub below_deeper : (n s u t : ℕ) → s < n → Contains (below n sites s) u → Contains (below (suc u) sites u) t → Contains (below n sites s) t
   below_deeper zero s u t l c k = absurd (nothing_in u c)
   below_deeper (suc n) s u t l c k =
       elim (in_cases s u (flat_map (below n sites) (sources_at sites s)) c) [

@@ -17,6 +17,7 @@ use Rattle.isle_model.proofs.Members.{nothing_in, in_head, in_tail, in_cases, in
 use Rattle.isle_laws_runs.proofs.runs.BindOrders.{to_bind, bind_append}
 use Rattle.isle_laws_runs.proofs.runs.Binding.{Held, reads, binds_now}
 use Rattle.isle_laws_runs.proofs.runs.Contents.{SourcesBefore, sources_in, content_layer}
+use Rattle.isle_laws_runs.proofs.runs.Listing.{sources_within}
 use Rattle.isle_laws_runs.proofs.taking.Settled.{settled, critical, settled_content, settled_pure, settled_source, emitted_settled, stock, critical_below, critical_order}
 use Rattle.isle_laws_runs.proofs.taking.Used.{used_placed, placed_same, content_placed, bound_elsewhere, used_here, used_elsewhere, used_stays, AreAlike, bind_alike, alike_bound}
 
@@ -37,39 +38,7 @@ module _ (w : World) (before : SourcesBefore w.sites) where
   abbrev Settled : ℕ → Type 0
   Settled t = settled w t ≡ true
 
-  -- 1. what is listed below the sources of a site has smaller numbers
-  each_within : (f : List ℕ → ℕ → List ℕ) (m : ℕ) (xs : List ℕ) → ((x : ℕ) → Contains xs x → (done : List ℕ) (u : ℕ) → Contains (f done x) u → Contains done u ⊎ (u < m))
-      → (done : List ℕ) (u : ℕ) → Contains (each_after f done xs) u → Contains done u ⊎ (u < m)
-  each_within f m [] h done u c = inl c
-  each_within f m (x ∷ xs) h done u c =
-      elim (each_within f m xs (λ y d. h y (in_tail x y xs d)) (f done x) u c) [ inl d ↦ h x (in_head x xs) done u d | inr l ↦ inr l ]
-
-  below_source : (x y u : ℕ) (P : Type 0) → y < x → P ⊎ (u < suc y) → P ⊎ (u < x)
-  below_source x y u P l (inl p) = inl p
-  below_source x y u P l (inr k) = inr (omega (arith, l, k))
-
-  listed_within : (emitted : List ℕ) (n x : ℕ) (done : List ℕ) (u : ℕ) → Contains (listed_below n w.sites emitted done x) u → Contains done u ⊎ (u < suc x)
-  listed_within emitted zero x done u c = inl c
-  listed_within emitted (suc n) x done u c =
-      let rest = each_after (listed_below n w.sites emitted) done (sources_at w.sites x) in
-      elim (cases_Bool (is_in x emitted || is_in x done)) [
-        | inl t ↦ inl (subst (λ l. Contains l u) (cond-true (is_in x emitted || is_in x done) done (rest ++ x ∷ []) t) c)
-        | inr f ↦ elim (Contains-append_cases rest (x ∷ []) u (subst (λ l. Contains l u) (cond-false (is_in x emitted || is_in x done) done (rest ++ x ∷ []) f) c)) [
-          | inl d ↦
-              below_source (suc x) x u (Contains done u) (omega arith)
-              (elim (each_within (listed_below n w.sites emitted) x (sources_at w.sites x) (λ y k d v m. below_source x y v (Contains d v) (before x y k) (listed_within emitted n y d v m)) done u d) [
-                | inl k ↦ inl k
-                | inr l ↦ inr (omega (arith, l))
-              ])
-          | inr d ↦ let e = in_alone x u d in inr (omega (arith, e))
-        ]
-      ]
-
-  sources_within : (emitted : List ℕ) (n x : ℕ) (done : List ℕ) (u : ℕ) → Contains (each_after (listed_below n w.sites emitted) done (sources_at w.sites x)) u → Contains done u ⊎ (u < x)
-  sources_within emitted n x done u c =
-      each_within (listed_below n w.sites emitted) x (sources_at w.sites x) (λ y k d v m. below_source x y v (Contains d v) (before x y k) (listed_within emitted n y d v m)) done u c
-
-  -- 2. a settled site that doesn't wait is bound to its content
+  -- 1. a settled site that doesn't wait is bound to its content
   module _ (start : Env) (held : Held w [] start Settled) (e : Env) (calls : List Call) (s : ℕ) (h : Settled s) where
     settled_binds : (o : Option Site) → slice_get w.sites s ≡ o → (waits o ≡ false) ⊎ IsUnwrap o → is_in_place o ≡ false → ((a : ℕ) → Contains (sources_in o) a → used w e a ≡ content_at w [] a)
         → bind_site w e calls s o ≡ all_bound ((s, (settled_content w before s h).0) ∷ e) calls
@@ -93,7 +62,7 @@ module _ (w : World) (before : SourcesBefore w.sites) where
     emitted_is : (t : ℕ) → is_in t ar.emitted ≡ true → Settled t
     emitted_is t i = emitted_settled w before ar env reached t i
 
-    -- 3. two environments agree on what is emitted or listed: settled sites can be read, others are read alike; and they bind
+    -- 2. two environments agree on what is emitted or listed: settled sites can be read, others are read alike; and they bind
     -- nothing else
     record Agree (done : List ℕ) (e e' : Env) : Type 0 where
       reads_one : (u : ℕ) → In done u → Settled u → used w e u ≡ content_at w [] u
@@ -116,7 +85,7 @@ module _ (w : World) (before : SourcesBefore w.sites) where
     Alike done (no_content_there calls) (no_content_there calls') = calls ≡ calls'
     Alike done _ _ = ⊥
 
-    -- 4. one more site
+    -- 3. one more site
     module _ (done : List ℕ) (s : ℕ) (fresh : In done s → ⊥) (closed : (u a : ℕ) → Contains done u → Contains (sources_at w.sites u) a → In done a) (sources : (a : ℕ) → Contains (sources_at w.sites s) a → In done a) where
       abbrev more : List ℕ
       more = done ++ s ∷ []
@@ -263,7 +232,7 @@ module _ (w : World) (before : SourcesBefore w.sites) where
                   (bound_settled h, refl))
             ]
 
-      -- 5. or not at all
+      -- 4. or not at all
       step_on : (waits (slice_get w.sites s) ≡ false) ⊎ IsUnwrap (slice_get w.sites s) → (b b' : Bound) → Alike done b b'
           → Alike more (then_bind b (λ e k. bind_all w e k (to_bind w.sites (s ∷ [])))) (then_bind b' (λ e k. bind_all w e k (to_bind w.sites (filter (critical w) (s ∷ [])))))
       step_on g (all_bound e k) (all_bound e' k') (a, r) =
@@ -281,7 +250,7 @@ module _ (w : World) (before : SourcesBefore w.sites) where
       step_on g (no_content_there k) (all_bound x' k') r = absurd r
       step_on g (no_content_there k) (unwrap_failed k') r = absurd r
 
-    -- 6. all that is listed
+    -- 5. all that is listed
     module _ (ss : List ℕ) (gates : (s : ℕ) → Contains (all_below w.sites ss) s → (waits (slice_get w.sites s) ≡ false) ⊎ (IsUnwrap (slice_get w.sites s) ⊎ IsTrue (is_in s ar.emitted))) where
       abbrev Below : ℕ → Type 0
       Below t = Contains (all_below w.sites ss) t
@@ -364,7 +333,7 @@ module _ (w : World) (before : SourcesBefore w.sites) where
               let rest = each_after (listed_below n w.sites ar.emitted) done (sources_at w.sites s) in
               elim (or_cases (is_in s ar.emitted) (is_in s rest) t) [
                 | inl i ↦ false≢true (sym p.0 ∙ i)
-                | inr i ↦ elim (sources_within ar.emitted n s done s (member_found s rest i)) [ inl c ↦ false≢true (sym p.1 ∙ member_is_in s done c) | inr l ↦ omega (arith, l) ]
+                | inr i ↦ elim (sources_within w.sites before ar.emitted n s done s (member_found s rest i)) [ inl c ↦ false≢true (sym p.1 ∙ member_is_in s done c) | inr l ↦ omega (arith, l) ]
               ]
 
       abbrev list_one : List ℕ → ℕ → List ℕ
@@ -385,7 +354,7 @@ module _ (w : World) (before : SourcesBefore w.sites) where
         closed = λ u a c k. absurd (nothing_in u c);
       }
 
-  -- 7. the outcome, from the one place that all others are compared with
+  -- 6. the outcome, from the one place that all others are compared with
   abbrev order : List ℕ → List ℕ
   order ss = each_after (λ done s. critical_below w before (suc s) done s) [] ss
 

@@ -1,0 +1,6 @@
+-- Best trees bind sites before they use them.
+pub mod BindOnce
+pub mod Brought
+pub mod InPlace
+pub mod Scopes
+pub mod Trees

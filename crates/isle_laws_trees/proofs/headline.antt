@@ -1,0 +1,5 @@
+-- Best trees keep the headline.
+pub mod Choosing
+pub mod Collecting
+pub mod Kept
+pub mod Places

@@ -1,0 +1,184 @@
+-- In a term that isn't multi and uses no multi extractor, the run of a best tree is the choice by priority.
+use Rattle.std.proofs.Common.{◌≡◌, ◌<◌, ℕ, ℤ, Bool, true, false, List, [], ◌∷◌, map, Some, None, is_some, slice_get, Contains, All, IsTrue, ◌≤ℤ◌, refl, sym, ap, subst, ◌∙◌, inl, inr, arith}
+use Rattle.std.proofs.lemmas.Bool.{both_ways, false≢true, cases_lt}
+use Rattle.isle_model.specs.lists.Syntax.{Definition}
+use Rattle.isle_model.specs.lists.Elaborated.{TypedRules}
+use Rattle.isle_model.specs.rules.Values.{Value, args_well_typed}
+use Rattle.isle_model.specs.rules.Meaning.{Meaning}
+use Rattle.isle_model.specs.rules.Outcome.{Outcome, no_rule}
+use Rattle.isle_model.specs.rules.Program.{Program, arg_types, rules_of, is_multi}
+use Rattle.isle_model.specs.rules.Matching.{Vars, matches}
+use Rattle.isle_model.specs.rules.RightSide.{right_side}
+use Rattle.isle_model.specs.rules.Choice.{with_vars, outcome_of_rule, choice, MatchesOnce}
+use Rattle.isle_model.specs.rules.Typed.{TypedRule}
+use Rattle.isle_model.specs.sites.Sites.{SetRule, SiteSet, unfold_site}
+use Rattle.isle_model.specs.sites.Demands.{demands_of}
+use Rattle.isle_model.specs.sites.Overlap.{BuiltRule, built_rules}
+use Rattle.isle_model.specs.sites.RuleSets.{IsRuleOf, IsBuilt}
+use Rattle.isle_model.specs.sites.Serves.{Serves, TellsConstantsApart}
+use Rattle.isle_model.specs.trees.Trees.{Tree}
+use Rattle.isle_model.specs.trees.Run.{World, run, world_of}
+use Rattle.isle_model.specs.trees.Collects.{demands_hold}
+use Rattle.isle_model.specs.trees.SetRuns.{IsTaken, ChoosesFrom}
+use Rattle.isle_model.specs.trees.Best.{IsBestTree}
+use Rattle.isle_model.specs.claims.Environments.{TypesRead, IsElaborated, program_of}
+use Rattle.isle_model.specs.claims.Headline.{IsWithoutMulti, RunsAsChosen}
+use Rattle.isle_model.specs.claims.Layers.{IsCheckable}
+use Rattle.isle_model.specs.claims.SetMeanings.{BuiltSetsAreTested, OfBuiltSets, TakenGivesOutcome, returning_once, AreRulesWithoutCalls}
+use Rattle.isle_model.proofs.Elements.{In, contains_from_in, in_slice, some_is}
+use Rattle.isle_model.proofs.Members.{nothing_in, all_members, member_from_get, get_from_member}
+use Rattle.isle_model.proofs.Options.{is_there}
+use Rattle.isle_laws_runs.proofs.runs.Choice.{sound_trees_choose_lem}
+use Rattle.isle_laws_runs.proofs.runs.ChosenRules.{Chosen, no_match, matching, chosen_is, one_number}
+use Rattle.isle_laws_demands.specs.MatchLaws.{BuiltSetsMatchByDemands, BuiltRulesAreToldApart, RulesWithoutMultiGoOverNoCalls}
+use Rattle.isle_laws_demands.specs.ServeLaws.{ServedSetsServeTests}
+use Rattle.isle_laws_demands.proofs.matching.BuiltMatches.{one_rule, built_listed}
+use Rattle.isle_laws_demands.proofs.matching.ToldApart.{empty_pick, same_match}
+use Rattle.isle_laws_trees.specs.BuiltLaws.{BestTreesOfBuiltSetsAreSound}
+use Rattle.isle_laws_trees.proofs.headline.Places.{Pair, of_set_rule, of_typed_rule, typed_here}
+
+none_listed : (xs : List ℕ) → ((s : ℕ) → Contains xs s → ⊥) → xs ≡ []
+none_listed [] h = refl
+none_listed (x ∷ xs) h = absurd (h x (member_from_get (x ∷ xs) 0 x refl))
+
+-- a world in which a return ends the run
+once_world : (w : World) → w.multi ≡ false → w ≡ returning_once w
+once_world w e = λ i. record { sites = w.sites; args = w.args; meaning = w.meaning; multi = e i }
+
+-- what the choice rests on: laws of built sets and of sound trees
+pub record ChoosingLaws : Type 0 where
+  pub tested : BuiltSetsAreTested
+  pub serve : ServedSetsServeTests
+  pub sound : BestTreesOfBuiltSetsAreSound
+  pub match : BuiltSetsMatchByDemands
+  pub apart : BuiltRulesAreToldApart
+  pub no_calls : RulesWithoutMultiGoOverNoCalls
+  pub taken : OfBuiltSets TakenGivesOutcome
+
+module _ (laws : ChoosingLaws) (e : TypesRead) (defs : List Definition) (expand : Bool) (rules : TypedRules) (t : ℕ) (set : SiteSet) (h : IsElaborated e defs expand rules) (b : IsBuilt (program_of e defs rules.rules) t set)
+    (check : IsCheckable (program_of e defs rules.rules)) (without : IsWithoutMulti (program_of e defs rules.rules) t)
+    (m : Meaning) (args : List Value) (typed : IsTrue (args_well_typed (program_of e defs rules.rules).types (arg_types (program_of e defs rules.rules) t) args))
+    (served : Serves (program_of e defs rules.rules) m args (rules_of (program_of e defs rules.rules) t)) (apart : TellsConstantsApart (program_of e defs rules.rules) m (rules_of (program_of e defs rules.rules) t)) where
+  abbrev p : Program
+  p = program_of e defs rules.rules
+
+  abbrev rs : List TypedRule
+  rs = rules_of p t
+
+  abbrev w : World
+  w = world_of p t set.sites m args
+
+  -- 1. no rule goes over calls
+  typed_none : (k : BuiltRule) → Contains (built_rules p t) k → (demands_of p k.rule).iterators ≡ []
+  typed_none k c = laws.no_calls e defs expand rules t h without k.rule (built_listed p t k c)
+
+  listed : (i : ℕ) (x : Pair p t set i) → Contains (built_rules p t) x.typed
+  listed i x = member_from_get (built_rules p t) i x.typed x.here
+
+  pair_none : (i : ℕ) (x : Pair p t set i) → x.built.iterators ≡ []
+  pair_none i x =
+      let q = one_rule p t set x.typed x.built b x.one in
+      none_listed x.built.iterators (λ s c. nothing_in (unfold_site set.sites s) (subst (λ l. Contains l (unfold_site set.sites s)) (typed_none x.typed (listed i x)) (q.iterators.gone_over s c).1))
+
+  none : All (λ r. r.iterators ≡ []) set.rules
+  none =
+      all_members (λ r. r.iterators ≡ []) set.rules
+      (λ r c.
+      let g = get_from_member set.rules r c in
+      let x = of_set_rule p t set b g.0 r g.1 in
+      subst (λ (q : SetRule). q.iterators ≡ []) x.1 (pair_none g.0 x.0))
+
+  -- 2. a rule matches exactly where its demands hold
+  abbrev Matches : TypedRule → Type 0
+  Matches r = IsTrue (is_some (matches p m r args))
+
+  alike : (i : ℕ) (x : Pair p t set i) → is_some (matches p m x.typed.rule args) ≡ demands_hold w [] x.built
+  alike i x =
+      let n = typed_none x.typed (listed i x) in
+      sym (same_match p m args x.typed.rule n) ∙ laws.match e defs expand rules t set h b m args typed served apart x.typed x.built [] x.one (empty_pick p m args x.typed.rule n)
+
+  prio_same : (i : ℕ) (x : Pair p t set i) → x.built.prio ≡ x.typed.rule.prio
+  prio_same i x = (one_rule p t set x.typed x.built b x.one).prio
+
+  all : map (λ (k : BuiltRule). k.rule) (built_rules p t) ≡ rs
+  all = check.built t
+
+  -- 3. of two rules of one priority one matches at most
+  never_both : (i j : ℕ) (x : Pair p t set i) (y : Pair p t set j) → i < j → x.typed.rule.prio ≡ y.typed.rule.prio → Matches x.typed.rule → Matches y.typed.rule → ⊥
+  never_both i j x y l same mx my =
+      (laws.apart e defs expand rules t h).overlap m args typed served apart x.typed y.typed
+      (record { one_of = listed i x; other_of = listed j y; one_goes_over_none = typed_none x.typed (listed i x); other_goes_over_none = typed_none y.typed (listed j y) })
+      (λ o. check.overlaps t i j (record { first = x.typed; second = y.typed; one_result = without.term; here = x.here; there = y.here; before = l; one_priority = same; overlap = o })) mx my
+
+  pub once : MatchesOnce p m rs args
+  once i j r q ri qj same mr mq =
+      let x = of_typed_rule p t set b all i r ri in
+      let y = of_typed_rule p t set b all j q qj in
+      let mx = subst Matches (sym x.1) mr in
+      let my = subst Matches (sym y.1) mq in
+      let prios : x.0.typed.rule.prio ≡ y.0.typed.rule.prio = ap (λ (k : TypedRule). k.prio) x.1 ∙ same ∙ sym (ap (λ (k : TypedRule). k.prio) y.1) in
+      elim (cases_lt i j) [
+        | inl l ↦ absurd (never_both i j x.0 y.0 l prios mx my)
+        | inr l ↦
+            elim (cases_lt j i) [
+              | inl k ↦ absurd (never_both j i y.0 x.0 k (sym prios) my mx)
+              | inr k ↦ omega (arith, l, k)
+            ]
+      ]
+
+  -- 4. what the run chooses
+  taken_gives : (i : ℕ) (x : Pair p t set i) (o : Outcome) → Matches x.typed.rule → IsTaken w x.built o → o ≡ with_vars p m x.typed.rule (matches p m x.typed.rule args)
+  taken_gives i x o mx taken =
+      let v = is_there (matches p m x.typed.rule args) mx in
+      laws.taken e defs expand rules t set h b m args typed served apart x.typed x.built v.0 o x.one (pair_none i x) v.1 (subst (λ u. IsTaken u x.built o) (once_world w without.term) taken)
+      ∙ sym (ap (with_vars p m x.typed.rule) v.1)
+
+  chosen_here : (i : ℕ) (x : Pair p t set i) → Matches x.typed.rule → ((q : TypedRule) → In rs q → Matches q → q.prio ≤ℤ x.typed.rule.prio) → choice p m rs args ≡ with_vars p m x.typed.rule (matches p m x.typed.rule args)
+  chosen_here i x mx most = by (chosen_is p m args rs)
+    where
+      here : slice_get rs i ≡ Some x.typed.rule
+      here = typed_here p t set b all i x
+
+      by : Chosen p m rs args → choice p m rs args ≡ with_vars p m x.typed.rule (matches p m x.typed.rule args)
+      by (no_match q never) = absurd (never x.typed.rule (in_slice rs i x.typed.rule here) mx)
+      by (matching s j q at ms top) =
+          let same = one_number s.prio x.typed.rule.prio (most s (in_slice rs j s at) ms) (top x.typed.rule (in_slice rs i x.typed.rule here) mx) in
+          let place = once j i s x.typed.rule at here same ms mx in
+          let rule : s ≡ x.typed.rule = some_is s x.typed.rule (sym at ∙ ap (slice_get rs) place ∙ here) in
+          ap (outcome_of_rule p m args) q ∙ ap (λ k. with_vars p m k (matches p m k args)) rule
+
+  none_chosen : ((q : SetRule) → Contains set.rules q → demands_hold w [] q ≡ false) → choice p m rs args ≡ no_rule
+  none_chosen never = by (chosen_is p m args rs)
+    where
+      by : Chosen p m rs args → choice p m rs args ≡ no_rule
+      by (no_match q n) = ap (outcome_of_rule p m args) q
+      by (matching s j q at ms top) =
+          let x = of_typed_rule p t set b all j s at in
+          let member = member_from_get set.rules j x.0.built x.0.there in
+          absurd (both_ways (demands_hold w [] x.0.built) (never x.0.built member) (sym (alike j x.0) ∙ subst Matches (sym x.1) ms))
+
+  chosen_from : (o : Outcome) → ChoosesFrom set w o → o ≡ choice p m rs args
+  chosen_from o (inr (never, same)) = same ∙ sym (none_chosen never)
+  chosen_from o (inl (r, c, holds, most, taken)) =
+      let g = get_from_member set.rules r c in
+      let x = of_set_rule p t set b g.0 r g.1 in
+      let mx : Matches x.0.typed.rule = alike g.0 x.0 ∙ ap (demands_hold w []) x.1 ∙ holds in
+      taken_gives g.0 x.0 o mx (subst (λ q. IsTaken w q o) (sym x.1) taken)
+      ∙ sym (chosen_here g.0 x.0 mx (λ q i mq.
+      let k = get_from_member rs q (contains_from_in rs q i) in
+      let y = of_typed_rule p t set b all k.0 q k.1 in
+      let member = member_from_get set.rules k.0 y.0.built y.0.there in
+      let less = most y.0.built member (sym (alike k.0 y.0) ∙ subst Matches (sym y.1) mq) in
+      let mine : y.0.built.prio ≡ q.prio = prio_same k.0 y.0 ∙ ap (λ (z : TypedRule). z.prio) y.1 in
+      let chosen : r.prio ≡ x.0.typed.rule.prio = ap (λ (z : SetRule). z.prio) (sym x.1) ∙ prio_same g.0 x.0 in
+      subst (λ z. z ≤ℤ x.0.typed.rule.prio) mine (subst (λ z. y.0.built.prio ≤ℤ z) chosen less)))
+
+  pub runs_as_chosen : (tree : Tree) → IsBestTree set tree → run tree w ≡ choice p m rs args
+  runs_as_chosen tree best =
+      chosen_from (run tree w)
+      (sound_trees_choose_lem set tree w (laws.tested e defs expand rules t set h b without.term none) (laws.serve e defs expand rules t set h b m args typed served apart) without.term
+      (laws.sound e defs expand rules t set false tree h b none (λ q. absurd (false≢true q)) best))
+
+pub best_trees_run_as_chosen : ChoosingLaws → OfBuiltSets (λ p t set. IsCheckable p → (tree : Tree) → IsBestTree set tree → RunsAsChosen p t set.sites tree)
+best_trees_run_as_chosen laws e defs expand rules t set h b check tree best without m args typed served apart =
+    (runs_as_chosen laws e defs expand rules t set h b check without m args typed served apart tree best, once laws e defs expand rules t set h b check without m args typed served apart)

@@ -1,0 +1,252 @@
+-- In a multi term whose rules make no impure call and leave no multi call unused, the run of a best tree collects the bag of their
+-- results.
+use Rattle.std.proofs.Common.{◌≡◌, ◌<◌, ◌≤◌, ◌==◌, ◌&&◌, ◌||◌, ℕ, zero, suc, ◌+◌, Bool, true, false, List, [], ◌∷◌, ◌++◌, length, map, filter, flat_map, Option, Some, None, is_some, slice_get, Contains, All, IsTrue, refl, sym, ap, subst, ◌∙◌, inl, inr, arith}
+use Rattle.std.specs.Prelude.{IsPermutation}
+use Rattle.std.proofs.lemmas.Bool.{cond-true, cond-false, false≢true, and_parts, or_cases}
+use Rattle.std.proofs.lemmas.Option.{none-some, same_Some}
+use Rattle.std.proofs.lemmas.List.Elements.{All-contains, Contains-append_left, Contains-append_right}
+use Rattle.std.proofs.lemmas.List.Sorted.{IsPermutation-refl, IsPermutation-trans, IsPermutation-append}
+use Rattle.isle_model.specs.lists.Names.{IsDistinct}
+use Rattle.isle_model.specs.lists.Syntax.{Definition}
+use Rattle.isle_model.specs.lists.Elaborated.{TypedRules}
+use Rattle.isle_model.specs.rules.Values.{Value, args_well_typed}
+use Rattle.isle_model.specs.rules.Meaning.{Content, Meaning}
+use Rattle.isle_model.specs.rules.Program.{Program, arg_types, rules_of, is_multi, numbers_from}
+use Rattle.isle_model.specs.rules.Picks.{Pick, SitedVars, multi_calls, picks_over, picks, matches_under, right_side_under, results_with, results_under, bag}
+use Rattle.isle_model.specs.rules.Typed.{TypedRule}
+use Rattle.isle_model.specs.sites.Sites.{iterator_site, Constraint, SetRule, SiteSet, SiteTerm, unfold_site}
+use Rattle.isle_model.specs.sites.Demands.{demands_of}
+use Rattle.isle_model.specs.sites.Gates.{gate_demanded}
+use Rattle.isle_model.specs.sites.Overlap.{BuiltRule, built_rules}
+use Rattle.isle_model.specs.sites.RuleSets.{IsRuleOf, IsBuilt}
+use Rattle.isle_model.specs.sites.Serves.{Serves, TellsConstantsApart}
+use Rattle.isle_model.specs.trees.Trees.{Tree}
+use Rattle.isle_model.specs.trees.Places.{is_in, joins_in, below, all_below}
+use Rattle.isle_model.specs.trees.Run.{World, run, world_of}
+use Rattle.isle_model.specs.trees.Tests.{match_test, equal_test, loop_test, needs}
+use Rattle.isle_model.specs.trees.WellBuilt.{tests_site, IsWellBuiltRule, IsWellBuilt}
+use Rattle.isle_model.specs.trees.Collects.{calls_in, content_at, demands_hold, as_list, result_in, sites_of_rule, calls_gone_over, set_bag, IsCollectedRule, IsCollectedSet, ServesSet, Collects, HasCollectedResults, CollectsTheBag}
+use Rattle.isle_model.specs.trees.SetRuns.{tested_sites}
+use Rattle.isle_model.specs.trees.Best.{IsBestTree}
+use Rattle.isle_model.specs.claims.Environments.{TypesRead, IsElaborated, program_of}
+use Rattle.isle_model.specs.claims.Layers.{IsCheckable}
+use Rattle.isle_model.specs.claims.SetMeanings.{BuiltSetsAreCollected, OfBuiltSets}
+use Rattle.isle_model.proofs.Elements.{in_from_contains, contains_from_in}
+use Rattle.isle_model.proofs.Bags.{flat_map_same}
+use Rattle.isle_model.proofs.DistinctJoined.{distinct_filter, distinct_map}
+use Rattle.isle_model.proofs.Members.{nothing_in, in_head, all_members, one_passes, member_found, member_is_in, member_from_get, constraint_in, in_filter, from_filter, in_map, from_map, in_flat_map}
+use Rattle.isle_model.proofs.Numbers.{numbers_below, numbers_all, numbers_distinct}
+use Rattle.isle_model.proofs.Options.{is_there}
+use Rattle.isle_model.proofs.Positions.{distinct_nil}
+use Rattle.isle_model.proofs.SitesMade.{once_with}
+use Rattle.isle_laws_runs.specs.Orders.{Within, OrderedFrom}
+use Rattle.isle_laws_runs.proofs.picks.Calls.{unfold_once, calls_below, IsEarlier, numbers_ordered}
+use Rattle.isle_laws_runs.proofs.picks.FirstCall.{results_are_of_places_lem}
+use Rattle.isle_laws_runs.proofs.picks.Ordered.{calls_ordered}
+use Rattle.isle_laws_runs.proofs.picks.Reordered.{reordered}
+use Rattle.isle_laws_runs.proofs.runs.Below.{below_within}
+use Rattle.isle_laws_runs.proofs.runs.Collected.{sound_trees_collect_lem}
+use Rattle.isle_laws_runs.proofs.runs.Contents.{sources_in}
+use Rattle.isle_laws_demands.specs.MatchLaws.{BuiltSetsMatchByDemands, BuiltSetsHoldResults}
+use Rattle.isle_laws_demands.specs.ServeLaws.{ServedMultiSetsServe}
+use Rattle.isle_laws_demands.specs.VisitLaws.{NoRuleAsksAndGoesOver, MultiTermsHaveOnePriority}
+use Rattle.isle_laws_demands.proofs.closure.Classes.{with_sites_in, in_with_sites}
+use Rattle.isle_laws_demands.proofs.matching.BuiltMatches.{one_rule, built_listed}
+use Rattle.isle_laws_demands.proofs.visits.Built.{rule_at}
+use Rattle.isle_laws_demands.proofs.visits.Sets.{first_constraint}
+use Rattle.isle_laws_trees.proofs.Soundness.{best_trees_are_sound_lem}
+use Rattle.isle_laws_trees.proofs.headline.Places.{Pair, of_set_rule, of_typed_rule, typed_here}
+
+-- 1. lists whose elements, place by place, make one bag each
+module _ {X Y Z : Type 0} (f : X → List Z) (g : Y → List Z) where
+  pub same_bags : (xs : List X) (ys : List Y) → ((i : ℕ) (x : X) → slice_get xs i ≡ Some x → (y : Y) × (slice_get ys i ≡ Some y) × IsPermutation (f x) (g y))
+      → ((i : ℕ) (y : Y) → slice_get ys i ≡ Some y → (x : X) × (slice_get xs i ≡ Some x)) → IsPermutation (flat_map f xs) (flat_map g ys)
+  same_bags [] [] h k = IsPermutation-refl []
+  same_bags [] (y ∷ ys) h k = (let r = k 0 y refl in absurd (none-some r.0 r.1))
+  same_bags (x ∷ xs) [] h k = (let r = h 0 x refl in absurd (none-some r.0 r.1))
+  same_bags (x ∷ xs) (y ∷ ys) h k =
+      let r = h 0 x refl in
+      IsPermutation-append (f x) (g y) (flat_map f xs) (flat_map g ys) (subst (λ z. IsPermutation (f x) (g z)) (sym (same_Some y r.0 r.1)) r.2)
+      (same_bags xs ys (λ i z e. h (suc i) z e) (λ i z e. k (suc i) z e))
+
+-- what collecting rests on: laws of built sets
+pub record CollectingLaws : Type 0 where
+  pub collected : BuiltSetsAreCollected
+  pub serve : ServedMultiSetsServe
+  pub one_priority : MultiTermsHaveOnePriority
+  pub apart : NoRuleAsksAndGoesOver
+  pub match : BuiltSetsMatchByDemands
+  pub results : BuiltSetsHoldResults
+
+module _ (laws : CollectingLaws) (e : TypesRead) (defs : List Definition) (expand : Bool) (rules : TypedRules) (t : ℕ) (set : SiteSet) (h : IsElaborated e defs expand rules) (b : IsBuilt (program_of e defs rules.rules) t set)
+    (check : IsCheckable (program_of e defs rules.rules)) (multi : is_multi (program_of e defs rules.rules) t ≡ true) (results : All (HasCollectedResults (program_of e defs rules.rules)) (rules_of (program_of e defs rules.rules) t))
+    (m : Meaning) (args : List Value) (typed : IsTrue (args_well_typed (program_of e defs rules.rules).types (arg_types (program_of e defs rules.rules) t) args))
+    (served : Serves (program_of e defs rules.rules) m args (rules_of (program_of e defs rules.rules) t)) (apart : TellsConstantsApart (program_of e defs rules.rules) m (rules_of (program_of e defs rules.rules) t)) where
+  abbrev p : Program
+  p = program_of e defs rules.rules
+
+  abbrev rs : List TypedRule
+  rs = rules_of p t
+
+  abbrev w : World
+  w = world_of p t set.sites m args
+
+  -- 2. the set, its world and its best trees
+  collected : IsCollectedSet set
+  collected =
+      laws.collected e defs expand rules t set h b multi
+      (all_members (λ (k : BuiltRule). HasCollectedResults p k.rule) (built_rules p t) (λ k c. All-contains (HasCollectedResults p) rs k.rule results (built_listed p t k c)))
+
+  serves : ServesSet set w
+  serves = laws.serve e defs expand rules t set h b (λ r c. (All-contains (HasCollectedResults p) rs r results c).no_calls) m args typed served apart
+
+  rule_of : (r : SetRule) → Contains set.rules r → IsCollectedRule set.sites r
+  rule_of r c = All-contains (IsCollectedRule set.sites) set.rules r collected.rules c
+
+  gate_at : (r : SetRule) → Contains set.rules r → (s u : ℕ) → Contains (sites_of_rule r) s → Contains (below (suc s) set.sites s) u → IsTrue (gate_demanded r (slice_get set.sites u))
+  gate_at r c s u i k = All-contains (λ x. IsTrue (gate_demanded r (slice_get set.sites x))) (all_below set.sites (sites_of_rule r)) u (rule_of r c).gates (in_flat_map (λ x. below (suc x) set.sites x) (sites_of_rule r) s u i k)
+
+  of_tested : (r : SetRule) (s : ℕ) → Contains (tested_sites r) s → Contains (sites_of_rule r) s
+  of_tested r s c = Contains-append_left (tested_sites r ++ r.iterators) (r.result ∷ []) s (Contains-append_left (tested_sites r) r.iterators s c)
+
+  of_calls : (r : SetRule) (s : ℕ) → Contains r.iterators s → Contains (sites_of_rule r) s
+  of_calls r s c = Contains-append_left (tested_sites r ++ r.iterators) (r.result ∷ []) s (Contains-append_right (tested_sites r) r.iterators s c)
+
+  tested_site : (r : SetRule) (s : ℕ) → tests_site r s ≡ true → Contains (sites_of_rule r) s
+  tested_site r s k =
+      elim (or_cases (needs (match_test s) r || needs (equal_test s s) r) (needs (loop_test s) r) k) [
+        | inr a ↦ of_calls r s (member_found s r.iterators a)
+        | inl a ↦
+            elim (or_cases (needs (match_test s) r) (needs (equal_test s s) r) a) [
+              | inl x ↦
+                  let c = is_there _ x in
+                  of_tested r s (Contains-append_left (map (λ (d : ℕ × Constraint). d.0) r.constraints) (flat_map (λ (c : List ℕ). c) r.classes) s
+                  (in_map (λ (d : ℕ × Constraint). d.0) r.constraints (s, c.0) (constraint_in r.constraints s c.0 c.1)))
+              | inr x ↦
+                  let c = one_passes (λ (k : List ℕ). is_in s k && is_in s k) r.classes x in
+                  of_tested r s (Contains-append_right (map (λ (d : ℕ × Constraint). d.0) r.constraints) (flat_map (λ (c : List ℕ). c) r.classes) s
+                  (in_flat_map (λ (c : List ℕ). c) r.classes c.0 s c.1 (member_found s c.0 (and_parts (is_in s c.0) (is_in s c.0) c.2).0)))
+            ]
+      ]
+
+  well_built_rule : (r : SetRule) → Contains set.rules r → IsWellBuiltRule set.sites r
+  well_built_rule r c =
+      let a = rule_at p set.sites (built_rules p t) set.rules b.rules r (in_from_contains set.rules r c) in
+      record {
+        asks_once = λ s d i. first_constraint r.constraints a.2.constraints.once s d (in_from_contains r.constraints (s, d) i);
+        asks_or_goes_over = laws.apart e defs expand rules t set h b r c;
+        gates = λ s u k i. gate_at r c s u (tested_site r s k) i;
+      }
+
+  well_built : IsWellBuilt set
+  well_built = record { sources = b.sources; sites_once = collected.once; each = λ i r at. well_built_rule r (member_from_get set.rules i r at) }
+
+  collects_set : (tree : Tree) → IsBestTree set tree → Collects (run tree w) (set_bag set w)
+  collects_set tree best =
+      sound_trees_collect_lem set tree w collected serves multi (best_trees_are_sound_lem set true tree well_built (λ q. laws.one_priority e defs expand rules t set h b multi) best)
+
+  -- 3. the calls that a rule goes over, in the order of the set
+  abbrev term_at : ℕ → SiteTerm
+  term_at = unfold_site set.sites
+
+  module _ (i : ℕ) (x : Pair p t set i) where
+    abbrev r : SetRule
+    r = x.built
+
+    abbrev over : ℕ → Bool
+    over s = is_in s r.iterators
+
+    member : Contains set.rules r
+    member = member_from_get set.rules i r x.there
+
+    is_rule : IsRuleOf p set.sites x.typed r
+    is_rule = one_rule p t set x.typed r b x.one
+
+    ordered : OrderedFrom [] (calls_gone_over set r)
+    ordered = numbers_ordered term_at over [] 0 set.sites earlier
+      where
+        earlier : (s : ℕ) → 0 ≤ s → over s ≡ true → (c : SiteTerm) → Contains (calls_in (term_at s)) c → IsEarlier term_at over [] 0 s c
+        earlier s l o c k =
+            let d = calls_below set.sites b.sources s c k in
+            let within = below_within set.sites b.sources (suc s) s d.0 d.2 in
+            let less = b.sources d.0 d.1 (subst (λ q. Contains (sources_in q) d.1) (sym d.3) (in_head d.1 [])) in
+            let gate : over d.1 ≡ true = sym (ap (gate_demanded r) d.3) ∙ gate_at r member s d.0 (of_calls r s (member_found s r.iterators o)) d.2 in
+            inr (d.1, gate, omega arith, omega (arith, within, less), d.4)
+
+    known : (s : ℕ) → Contains (filter over (numbers_from 0 set.sites)) s → s < length set.sites
+    known s c = let l = numbers_below 0 set.sites s (from_filter over (numbers_from 0 set.sites) s c).0 in omega (arith, l.1)
+
+    distinct : IsDistinct (calls_gone_over set r)
+    distinct =
+        distinct_map term_at (filter over (numbers_from 0 set.sites)) (distinct_filter over (numbers_from 0 set.sites) (numbers_distinct 0 set.sites))
+        (λ a c j k same. unfold_once set.sites b.sources a c collected.once (known a j) (known c k) same)
+
+    of_set : Within (calls_gone_over set r) (multi_calls p x.typed.rule)
+    of_set c k =
+        let s = from_map term_at (filter over (numbers_from 0 set.sites)) c k in
+        let f = from_filter over (numbers_from 0 set.sites) s.0 s.1 in
+        let g = is_rule.iterators.gone_over s.0 (member_found s.0 r.iterators f.1) in
+        contains_from_in (multi_calls p x.typed.rule) c
+        (in_with_sites [] (demands_of p x.typed.rule).iterators c (inr (in_from_contains (demands_of p x.typed.rule).iterators c (subst (Contains (demands_of p x.typed.rule).iterators) s.2 g.1))))
+
+    of_rule : Within (multi_calls p x.typed.rule) (calls_gone_over set r)
+    of_rule c k =
+        elim (with_sites_in [] (demands_of p x.typed.rule).iterators c (in_from_contains (multi_calls p x.typed.rule) c k)) [
+          | inl n ↦ absurd n
+          | inr j ↦
+              let s = is_rule.iterators.all_gone_over c (contains_from_in (demands_of p x.typed.rule).iterators c j) in
+              let l = (is_rule.iterators.gone_over s.0 s.1).0 in
+              let zero_plus : 0 + s.0 ≡ s.0 = omega arith in
+              let there = subst (Contains (numbers_from 0 set.sites)) zero_plus (numbers_all 0 set.sites s.0 l) in
+              subst (Contains (calls_gone_over set r)) s.2 (in_map term_at (filter over (numbers_from 0 set.sites)) s.0 (in_filter over (numbers_from 0 set.sites) s.0 there (member_is_in s.0 r.iterators s.1)))
+        ]
+
+    -- 4. the results of a rule
+    result_same : (k : Pick) → Contains (picks p m args x.typed.rule) k → results_under p m args x.typed.rule k ≡ result_in w r k
+    result_same k c = by (matches_under p m k x.typed.rule args) refl
+      where
+        matched : is_some (matches_under p m k x.typed.rule args) ≡ demands_hold w k r
+        matched = laws.match e defs expand rules t set h b m args typed served apart x.typed r k x.one c
+
+        by : (o : Option SitedVars) → matches_under p m k x.typed.rule args ≡ o → results_under p m args x.typed.rule k ≡ result_in w r k
+        by None q =
+            ap (results_with p m k x.typed.rule) q
+            ∙ sym (cond-false (demands_hold w k r) (as_list (content_at w k r.result)) [] (sym matched ∙ ap is_some q))
+        by (Some vars) q =
+            ap (results_with p m k x.typed.rule) q
+            ∙ laws.results e defs expand rules t set h b m args typed served apart x.typed r k vars x.one (rule_of r member).no_calls c q
+            ∙ sym (cond-true (demands_hold w k r) (as_list (content_at w k r.result)) [] (sym matched ∙ ap is_some q))
+
+    rule_bag : IsPermutation (flat_map (results_under p m args x.typed.rule) (picks p m args x.typed.rule)) (flat_map (result_in w r) (picks_over m args [] (calls_gone_over set r)))
+    rule_bag =
+        subst (λ l. IsPermutation l (flat_map (result_in w r) (picks_over m args [] (calls_gone_over set r))))
+        (sym (flat_map_same (results_under p m args x.typed.rule) (result_in w r) (picks p m args x.typed.rule) result_same))
+        (reordered m args (result_in w r) (λ k l g. results_are_of_places_lem.1 w r k l g) (calls_gone_over set r) (multi_calls p x.typed.rule) []
+        (calls_ordered p x.typed.rule) ordered (once_with [] (demands_of p x.typed.rule).iterators distinct_nil) distinct of_rule of_set)
+
+  -- 5. those of all rules
+  all : map (λ (k : BuiltRule). k.rule) (built_rules p t) ≡ rs
+  all = check.built t
+
+  abbrev typed_results : TypedRule → List Content
+  typed_results r = flat_map (results_under p m args r) (picks p m args r)
+
+  abbrev built_results : SetRule → List Content
+  built_results r = flat_map (result_in w r) (picks_over m args [] (calls_gone_over set r))
+
+  same_bag : IsPermutation (bag p m rs args) (set_bag set w)
+  same_bag =
+      same_bags typed_results built_results rs set.rules
+      (λ i r at.
+      let x = of_typed_rule p t set b all i r at in
+      (x.0.built, x.0.there, subst (λ q. IsPermutation (typed_results q) (built_results x.0.built)) x.1 (rule_bag i x.0)))
+      (λ i r at. let x = of_set_rule p t set b i r at in (x.0.typed.rule, typed_here p t set b all i x.0))
+
+  pub collects : (tree : Tree) → IsBestTree set tree → Collects (run tree w) (bag p m rs args)
+  collects tree best =
+      let c = collects_set tree best in
+      record { calls = c.calls; ending = c.ending; same = IsPermutation-trans (bag p m rs args) (set_bag set w) (run tree w).results same_bag c.same }
+
+pub best_trees_collect_the_bag : CollectingLaws → OfBuiltSets (λ p t set. IsCheckable p → (tree : Tree) → IsBestTree set tree → CollectsTheBag p t set.sites tree)
+best_trees_collect_the_bag laws e defs expand rules t set h b check tree best multi results m args typed served apart =
+    collects laws e defs expand rules t set h b check multi results m args typed served apart tree best
