@@ -1,9 +1,10 @@
 -- Lists in which nothing stands twice, from their parts.
-use Rattle.std.proofs.Common.{◌≡◌, zero, suc, List, [], ◌∷◌, ◌++◌, Contains, flat_map, refl, sym, ap, subst, inl, inr, arith}
+use Rattle.std.proofs.Common.{◌≡◌, zero, suc, Bool, List, [], ◌∷◌, ◌++◌, map, filter, Contains, flat_map, refl, sym, ap, subst, inl, inr, arith}
+use Rattle.std.proofs.lemmas.Bool.{cases_Bool, cond-true, cond-false}
 use Rattle.std.proofs.lemmas.Option.{same_Some}
 use Rattle.std.proofs.lemmas.List.Elements.{Contains-append_cases}
 use Rattle.isle_model.specs.lists.Names.{IsDistinct}
-use Rattle.isle_model.proofs.Members.{in_head, in_tail, member_from_get, get_from_member, from_flat_map}
+use Rattle.isle_model.proofs.Members.{in_head, in_tail, member_from_get, get_from_member, from_filter, from_map, from_flat_map}
 use Rattle.isle_model.proofs.Positions.{distinct_nil}
 
 module _ {X : Type 0} where
@@ -32,3 +33,21 @@ distinct_flat f [] d each apart = distinct_nil
 distinct_flat f (x ∷ xs) d each apart =
     distinct_append (f x) (flat_map f xs) (each x) (distinct_flat f xs (distinct_tail x xs d) each apart)
     (λ y a b. let r = from_flat_map f xs y b in not_in_tail x xs d (subst (Contains xs) (sym (apart x r.0 y a r.2)) r.1))
+
+pub distinct_filter : {X : Type 0} (p : X → Bool) (xs : List X) → IsDistinct xs → IsDistinct (filter p xs)
+distinct_filter p [] d = distinct_nil
+distinct_filter p (x ∷ xs) d =
+    elim (cases_Bool (p x)) [
+      | inl t ↦
+          subst IsDistinct (sym (cond-true (p x) (x ∷ filter p xs) (filter p xs) t))
+          (distinct_cons x (filter p xs) (λ h. not_in_tail x xs d (from_filter p xs x h).0) (distinct_filter p xs (distinct_tail x xs d)))
+      | inr n ↦ subst IsDistinct (sym (cond-false (p x) (x ∷ filter p xs) (filter p xs) n)) (distinct_filter p xs (distinct_tail x xs d))
+    ]
+
+-- where a function tells the elements apart
+pub distinct_map : {X Y : Type 0} (f : X → Y) (xs : List X) → IsDistinct xs → ((a b : X) → Contains xs a → Contains xs b → f a ≡ f b → a ≡ b) → IsDistinct (map f xs)
+distinct_map f [] d apart = distinct_nil
+distinct_map f (x ∷ xs) d apart =
+    distinct_cons (f x) (map f xs)
+    (λ h. let r = from_map f xs (f x) h in not_in_tail x xs d (subst (Contains xs) (apart r.0 x (in_tail x r.0 xs r.1) (in_head x xs) r.2) r.1))
+    (distinct_map f xs (distinct_tail x xs d) (λ a b i j e. apart a b (in_tail x a xs i) (in_tail x b xs j) e))
