@@ -7,6 +7,7 @@
 ghost use Rattle.isle_laws_demands.specs.ClosureLaws.{JoinedIsEquivalence, ClassesBoundJoined, VerdictIsExact, NamesAreExact, ClosingAddsNothing, ConstraintsAreKept, ClosingIsSound, OverlapIsSymmetric, OverlapIsExact, ClashIsExact, FirstLimitIsPassed, PassedLimitIsMet, ClosingIsWhole, ReportsAreExact, ShadowsAreExact, VisitsMakeEqualSites, PlainClosingEnds, ClosingEnds};
 ghost use Rattle.isle_laws_demands.specs.AcceptLaws.{ElaboratedRulesHaveTerms, RulesAreJudged, ListsAreAccepted, ListsAreNotAccepted};
 ghost use Rattle.isle_laws_demands.specs.ReportLaws.{CheckIsExact, OverlapsAreListedOnce, ListedRulesOverlap, MasksAreReportedOnce, ReportedMasksShadow};
+ghost use Rattle.isle_laws_demands.specs.SetOverlapLaws.{SetRulesOverlapAsTheirDemands, OverlapOfSetRulesIsSymmetric, SetRulesConstrainAsTheirDemands};
 ghost use Rattle.isle_laws_demands.specs.VisitLaws.{SitesStandOnce, FormedRulesDemandGates, ClosingKeepsGates, ElaboratedRulesDemandGates, BuiltRulesDemandGates, BuiltSetsAreWellBuilt, NoneAskedAndGoneOver, MultiCallsAreGoneOver, NoRuleAsksAndGoesOver, MultiTermsHaveOnePriority};
 ghost use Rattle.isle_model.specs.claims.SetMeanings.{BuiltSetsAreTested, BuiltSetsCanBeServed, BuiltSetsAreCollected};
 ghost use Rattle.isle_laws_demands.specs.BuiltLaws.{ClosingsOfBuiltRulesAreWhole, ConstrainedSitesStandInNoClass, BuiltRulesConstrainOrEquate, FormedRulesMakeEqualSites, BuiltDemandsAreWhole};
@@ -98,6 +99,22 @@ pub fn reports_are_exact()
 #[tactic(auto, using(crate::proofs::overlaps::Agreements::shadows_decides))]
 pub fn shadows_are_exact()
     ensures { ShadowsAreExact }
+{}
+
+/// Two rules of one built set overlap, and are a subset pair, where their closed demands are.
+pub fn set_rules_overlap_as_their_demands()
+    ensures { SetRulesOverlapAsTheirDemands }
+{}
+
+/// What is told of two rules of a set is the same in either order.
+#[tactic(auto, using(crate::proofs::overlaps::SetRules::overlap_of_set_rules_is_symmetric_lem))]
+pub fn overlap_of_set_rules_is_symmetric()
+    ensures { OverlapOfSetRulesIsSymmetric }
+{}
+
+/// A rule of a built set has as many constraints and equated sites as its closed demands.
+pub fn set_rules_constrain_as_their_demands()
+    ensures { SetRulesConstrainAsTheirDemands }
 {}
 
 /// The sites that a visit equates are made by it, but for variables that nothing binds.
@@ -363,3 +380,5 @@ pub fn results_are_held()
 pub fn served_multi_sets_serve()
     ensures { ServedMultiSetsServe }
 {}
+{}
+

@@ -1,4 +1,3 @@
-pub mod Acyclic
 pub mod Converters
 pub mod EnvironmentsRead
 pub mod FormedRules

@@ -13,8 +13,8 @@ use Rattle.isle_model.specs.sites.Limits.{sites_after_rule}
 use Rattle.isle_model.specs.sites.Overlap.{BuiltRule, is_built, built_rule, built_from, built_rules}
 use Rattle.isle_model.specs.sites.RuleSets.{IsRuleOf, IsBuilt}
 use Rattle.isle_model.specs.trees.Places.{is_in, joins_in}
-use Rattle.isle_model.proofs.DistinctCounts.{distinct_filter, distinct_map, no_more_distinct}
-use Rattle.isle_model.proofs.DistinctJoined.{distinct_cons, distinct_tail, not_in_tail, distinct_append}
+use Rattle.isle_model.proofs.DistinctCounts.{no_more_distinct}
+use Rattle.isle_model.proofs.DistinctJoined.{distinct_cons, distinct_tail, not_in_tail, distinct_append, distinct_filter, distinct_map}
 use Rattle.isle_model.proofs.Elements.{In, in_from_contains, contains_from_in, in_either, in_slice, in_filter, passed_filter, in_map, map_in, in_flat_map, from_flat_map, any_in, in_any}
 use Rattle.isle_model.proofs.Positions.{distinct_nil, distinct_one}
 use Rattle.isle_model.proofs.SameSites.{term_means}
@@ -199,7 +199,7 @@ module _ (p : Program) (t : ℕ) (set : SiteSet) (h : IsBuilt p t set) (b : Buil
   as_many ns us d e f g =
       let same = length-map ns (unfold_site set.sites) in
       let few = no_more_distinct (map (unfold_site set.sites) ns) us
-      (distinct_map (unfold_site set.sites) ns (λ x y i j k. one_number p t set h x y (f x i).0 (f y j).0 k) d)
+      (distinct_map (unfold_site set.sites) ns d (λ x y i j k. one_number p t set h x y (f x (in_from_contains ns x i)).0 (f y (in_from_contains ns y j)).0 k))
       (λ u i. let m = in_map (unfold_site set.sites) ns u i in subst (In us) m.2 (f m.0 m.1).1) in
       let many = no_more_distinct us (map (unfold_site set.sites) ns) e
       (λ u i. let m = g u i in subst (In (map (unfold_site set.sites) ns)) m.2 (map_in (unfold_site set.sites) ns m.0 m.1)) in
