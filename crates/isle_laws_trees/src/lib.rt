@@ -10,9 +10,10 @@ ghost use Rattle.isle_model.specs.trees.WellBuilt.{BestTreesAreSound};
 ghost use Rattle.isle_laws_trees.specs.BuiltLaws.{BestTreesOfBuiltSetsAreSound, BestTreesBindBeforeUse, OutcomesKeepTheHeadline};
 
 use isle_laws_demands::{
-    built_rules_are_told_apart, built_sets_are_collected, built_sets_are_tested, built_sets_are_well_built, built_sets_match_by_demands,
-    multi_terms_have_one_priority, no_rule_asks_and_goes_over, results_are_held, rules_without_multi_go_over_no_calls, served_multi_sets_serve,
-    served_sets_serve_tests,
+    built_rules_are_told_apart, built_sets_are_collected, built_sets_are_tested,
+    built_sets_are_well_built, built_sets_match_by_demands, multi_terms_have_one_priority,
+    no_rule_asks_and_goes_over, results_are_held, rules_without_multi_go_over_no_calls,
+    served_multi_sets_serve, served_sets_serve_tests,
 };
 
 /// The list of a place's open tests holds exactly the tests that are open there.

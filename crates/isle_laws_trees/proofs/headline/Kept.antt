@@ -1,6 +1,6 @@
 -- For each accepted list, the best trees of its terms' built sets keep the headline.
-use Rattle.isle_model.specs.rules.Program.{Program, is_multi}
-use Rattle.isle_model.specs.claims.Environments.{TypesRead, types_read}
+use Rattle.isle_model.specs.rules.Program.{is_multi}
+use Rattle.isle_model.specs.claims.Environments.{types_read}
 use Rattle.isle_model.specs.claims.Layers.{own_program, BestTreesKeepTheHeadline}
 use Rattle.isle_laws_trees.proofs.Shares.{best_trees_share_most_lem}
 use Rattle.isle_laws_trees.proofs.binding.InPlace.{places_apart}
