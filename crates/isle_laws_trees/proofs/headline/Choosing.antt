@@ -178,6 +178,6 @@ module _ (laws : ChoosingLaws) (e : TypesRead) (defs : List Definition) (expand 
       (sound_trees_choose_lem set tree w (laws.tested e defs expand rules t set h b without.term none) (laws.serve e defs expand rules t set h b m args typed served apart) without.term
       (laws.sound e defs expand rules t set false tree h b none (λ q. absurd (false≢true q)) best))
 
-pub best_trees_run_as_chosen : ChoosingLaws → OfBuiltSets (λ p t set. IsCheckable p → (tree : Tree) → IsBestTree set tree → RunsAsChosen p t set.sites tree)
-best_trees_run_as_chosen laws e defs expand rules t set h b check tree best without m args typed served apart =
+pub best_trees_run_as_chosen_lem : ChoosingLaws → OfBuiltSets (λ p t set. IsCheckable p → (tree : Tree) → IsBestTree set tree → RunsAsChosen p t set.sites tree)
+best_trees_run_as_chosen_lem laws e defs expand rules t set h b check tree best without m args typed served apart =
     (runs_as_chosen laws e defs expand rules t set h b check without m args typed served apart tree best, once laws e defs expand rules t set h b check without m args typed served apart)

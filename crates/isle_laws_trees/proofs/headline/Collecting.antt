@@ -54,6 +54,7 @@ use Rattle.isle_laws_demands.proofs.closure.Classes.{with_sites_in, in_with_site
 use Rattle.isle_laws_demands.proofs.matching.BuiltMatches.{one_rule, built_listed}
 use Rattle.isle_laws_demands.proofs.visits.Built.{rule_at}
 use Rattle.isle_laws_demands.proofs.visits.Sets.{first_constraint}
+use Rattle.isle_laws_trees.specs.BuiltLaws.{BestTreesCollectTheBag}
 use Rattle.isle_laws_trees.proofs.Soundness.{best_trees_are_sound_lem}
 use Rattle.isle_laws_trees.proofs.headline.Places.{Pair, of_set_rule, of_typed_rule, typed_here}
 
@@ -247,6 +248,6 @@ module _ (laws : CollectingLaws) (e : TypesRead) (defs : List Definition) (expan
       let c = collects_set tree best in
       record { calls = c.calls; ending = c.ending; same = IsPermutation-trans (bag p m rs args) (set_bag set w) (run tree w).results same_bag c.same }
 
-pub best_trees_collect_the_bag : CollectingLaws → OfBuiltSets (λ p t set. IsCheckable p → (tree : Tree) → IsBestTree set tree → CollectsTheBag p t set.sites tree)
-best_trees_collect_the_bag laws e defs expand rules t set h b check tree best multi results m args typed served apart =
+pub best_trees_collect_the_bag_lem : CollectingLaws → BestTreesCollectTheBag
+best_trees_collect_the_bag_lem laws e defs expand rules t set h b check tree best multi results m args typed served apart =
     collects laws e defs expand rules t set h b check multi results m args typed served apart tree best
