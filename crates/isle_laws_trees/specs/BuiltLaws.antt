@@ -5,10 +5,11 @@ use Rattle.isle_model.specs.sites.Sites.{SiteSet}
 use Rattle.isle_model.specs.trees.Trees.{Tree}
 use Rattle.isle_model.specs.trees.Sound.{IsSound}
 use Rattle.isle_model.specs.trees.Best.{IsBestTree}
+use Rattle.isle_model.specs.trees.Collects.{CollectsTheBag}
 use Rattle.isle_model.specs.trees.WellBuilt.{HasOnePriority}
 use Rattle.isle_model.specs.lists.Elaborated.{TypedRules}
 use Rattle.isle_model.specs.claims.Environments.{TypesRead, IsElaborated, program_of}
-use Rattle.isle_model.specs.claims.Layers.{BindsBeforeUse, BestTreesKeepTheHeadline}
+use Rattle.isle_model.specs.claims.Layers.{BindsBeforeUse, IsCheckable, BestTreesKeepTheHeadline}
 use Rattle.isle_model.specs.claims.SetMeanings.{OfBuiltSets, TakenGivesOutcome}
 use Rattle.isle_model.specs.sites.RuleSets.{IsBuilt}
 
@@ -22,6 +23,10 @@ BestTreesOfBuiltSetsAreSound =
 -- they bind sites before they use them, in each step, whether a run reaches it or not
 abbrev pub BestTreesBindBeforeUse : Type 0
 BestTreesBindBeforeUse = OfBuiltSets (λ p t set. (multi : Bool) (tree : Tree) → IsBestTree set tree → BindsBeforeUse set multi tree)
+
+-- those of a multi term whose rules can be told apart collect the bag of the rules' results
+abbrev pub BestTreesCollectTheBag : Type 0
+BestTreesCollectTheBag = OfBuiltSets (λ p t set. IsCheckable p → (tree : Tree) → IsBestTree set tree → CollectsTheBag p t set.sites tree)
 
 -- where taking a rule of a built set gives its right side's outcome, they keep the headline
 abbrev pub OutcomesKeepTheHeadline : Type 0

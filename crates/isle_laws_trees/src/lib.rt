@@ -7,12 +7,13 @@
 ghost use Rattle.isle_laws_trees.specs.BestLaws.{OpenTestsAreListed, BestTreesShareMost, SitesAreTestedOnce, StepsAreFew, StepsMakeBestTrees, JudgeIsExact, TreeJudgeIsExact};
 ghost use Rattle.isle_laws_trees.specs.Scores.{ScoresAreOrdered, OneTestIsGreatest};
 ghost use Rattle.isle_model.specs.trees.WellBuilt.{BestTreesAreSound};
-ghost use Rattle.isle_laws_trees.specs.BuiltLaws.{BestTreesOfBuiltSetsAreSound, BestTreesBindBeforeUse, OutcomesKeepTheHeadline};
+ghost use Rattle.isle_laws_trees.specs.BuiltLaws.{BestTreesOfBuiltSetsAreSound, BestTreesBindBeforeUse, BestTreesCollectTheBag, OutcomesKeepTheHeadline};
 
 use isle_laws_demands::{
-    built_rules_are_told_apart, built_sets_are_collected, built_sets_are_tested, built_sets_are_well_built, built_sets_match_by_demands,
-    multi_terms_have_one_priority, no_rule_asks_and_goes_over, results_are_held, rules_without_multi_go_over_no_calls, served_multi_sets_serve,
-    served_sets_serve_tests,
+    built_rules_are_told_apart, built_sets_are_collected, built_sets_are_tested,
+    built_sets_are_well_built, built_sets_match_by_demands, multi_terms_have_one_priority,
+    no_rule_asks_and_goes_over, results_are_held, rules_without_multi_go_over_no_calls,
+    served_multi_sets_serve, served_sets_serve_tests,
 };
 
 /// The list of a place's open tests holds exactly the tests that are open there.
@@ -87,6 +88,19 @@ pub fn best_trees_bind_before_use()
     ensures { BestTreesBindBeforeUse }
 {}
 
+/// In a multi term whose rules can be told apart, make no impure call and leave no multi call of an if-let unused, the run of a
+/// best tree collects the bag of the rules' results.
+pub fn best_trees_collect_the_bag()
+    ensures { BestTreesCollectTheBag }
+{
+    built_sets_are_collected();
+    served_multi_sets_serve();
+    multi_terms_have_one_priority();
+    no_rule_asks_and_goes_over();
+    built_sets_match_by_demands();
+    results_are_held();
+}
+
 /// Where taking a rule of a built set gives its right side's outcome, the best trees of accepted definitions keep the headline:
 /// they run as the choice by priority, share tests, collect the bag of a multi term, and bind before use.
 pub fn best_trees_keep_the_headline()
@@ -98,9 +112,6 @@ pub fn best_trees_keep_the_headline()
     built_sets_match_by_demands();
     built_rules_are_told_apart();
     rules_without_multi_go_over_no_calls();
-    built_sets_are_collected();
-    served_multi_sets_serve();
-    multi_terms_have_one_priority();
-    no_rule_asks_and_goes_over();
-    results_are_held();
+    best_trees_collect_the_bag();
+    best_trees_bind_before_use();
 }

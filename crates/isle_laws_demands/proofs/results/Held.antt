@@ -1,9 +1,9 @@
 -- The result of a rule that makes no impure call is what its site holds.
-use Rattle.std.proofs.Common.{◌≡◌, ℕ, Bool, true, false, List, [], map, Option, Some, None, Contains, refl, sym, ap, subst, ◌∙◌}
+use Rattle.std.proofs.Common.{◌≡◌, ℕ, Bool, true, false, [], map, Option, Some, None, refl, sym, ap, subst, ◌∙◌}
 use Rattle.isle_model.specs.rules.Values.{Value, args_well_typed}
 use Rattle.isle_model.specs.rules.Meaning.{Content, just}
 use Rattle.isle_model.specs.rules.Outcome.{then_option}
-use Rattle.isle_model.specs.rules.Program.{Program, arg_types, is_partial, rules_of}
+use Rattle.isle_model.specs.rules.Program.{arg_types, is_partial, rules_of}
 use Rattle.isle_model.specs.rules.RightSide.{gives, outcome_of}
 use Rattle.isle_model.specs.rules.Typed.{TypedRule}
 use Rattle.isle_model.specs.rules.Picks.{SitedVars, matches_under, value_under, right_side_under}
@@ -21,7 +21,6 @@ use Rattle.isle_laws_runs.proofs.picks.Enumerated.{picks_are_exact_lem}
 use Rattle.isle_laws_lists.proofs.FormedRules.{rules_are_formed}
 use Rattle.isle_laws_lists.proofs.TypedRules as typed_rules
 use Rattle.isle_laws_demands.specs.MatchLaws.{BuiltSetsHoldResults}
-use Rattle.isle_laws_demands.proofs.visits.Collected.{nothing_mapped}
 use Rattle.isle_laws_demands.proofs.visits.Declared.{program_not_both}
 use Rattle.isle_laws_demands.proofs.visits.Elaborated.{elaborated_rules_hang}
 use Rattle.isle_laws_demands.proofs.visits.GoneOver.{pure_right_side}

@@ -1,5 +1,5 @@
 -- An expression that calls pure terms alone gives its value, and makes no call.
-use Rattle.std.proofs.Common.{◌≡◌, ℕ, Bool, true, List, [], ◌∷◌, Option, Some, refl, ap, ◌∙◌}
+use Rattle.std.proofs.Common.{◌≡◌, ℕ, true, List, [], ◌∷◌, Option, Some, refl, ap, ◌∙◌}
 use Rattle.std.proofs.lemmas.Bool.{cond-true, false≢true}
 use Rattle.isle_model.specs.lists.Formed.{is_formed_expr, are_formed_args, formed_lets}
 use Rattle.isle_model.specs.rules.Values.{Value, Values}

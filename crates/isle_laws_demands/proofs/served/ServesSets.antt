@@ -1,5 +1,5 @@
 -- A meaning that serves the rules of a term has what collecting from the built set rests on, where no rule makes an impure call.
-use Rattle.std.proofs.Common.{◌≡◌, ◌⊎◌, ℕ, zero, suc, ◌<◌, Bool, true, false, List, [], ◌∷◌, length, Some, is_some, slice_get, Contains, All, IsTrue, refl, sym, ap, subst, ◌∙◌, inl, inr, arith, flat_map}
+use Rattle.std.proofs.Common.{◌≡◌, ◌⊎◌, ℕ, zero, suc, ◌<◌, Bool, true, false, List, [], length, Some, is_some, slice_get, Contains, All, IsTrue, refl, sym, ap, subst, ◌∙◌, inl, inr, arith, flat_map}
 use Rattle.std.proofs.lemmas.Bool.{false≢true}
 use Rattle.std.proofs.lemmas.List.Elements.{All-contains}
 use Rattle.isle_model.specs.lists.Syntax.{Definition}
@@ -10,15 +10,15 @@ use Rattle.isle_model.specs.rules.Meaning.{Content, many, Contents, Meaning}
 use Rattle.isle_model.specs.rules.Program.{Program, flags_of, rules_of, arg_types}
 use Rattle.isle_model.specs.rules.Picks.{Pick}
 use Rattle.isle_model.specs.rules.Typed.{TypedRule}
-use Rattle.isle_model.specs.sites.Sites.{Site, bool_site, int_site, prim_site, argument_site, extractor_site, constructor_site, iterator_site, make_variant_site, match_variant_site, make_struct_site, extract_struct_site, make_some_site, match_some_site, match_tuple_site, Constraint, is_variant, is_struct, is_bool, is_int, is_prim, is_present, SetRule, SiteSet, SiteTerm, extractor_call, constructor_call, variant_field, struct_field, layer, sources_at, unfold_site}
+use Rattle.isle_model.specs.sites.Sites.{Site, constructor_site, Constraint, is_variant, is_struct, is_bool, is_int, is_prim, is_present, SetRule, SiteSet, SiteTerm, extractor_call, constructor_call, variant_field, struct_field, layer, sources_at, unfold_site}
 use Rattle.isle_model.specs.sites.Demands.{demands_of}
 use Rattle.isle_model.specs.sites.DemandedGates.{IsMultiCall}
 use Rattle.isle_model.specs.sites.RuleSets.{IsBuilt}
 use Rattle.isle_model.specs.sites.Serves.{asked_by, asked, constant_site, Serves, TellsConstantsApart}
 use Rattle.isle_model.specs.claims.Environments.{TypesRead, IsElaborated, program_of}
-use Rattle.isle_model.specs.trees.Places.{waits, below}
+use Rattle.isle_model.specs.trees.Places.{waits}
 use Rattle.isle_model.specs.trees.Run.{World, world_of}
-use Rattle.isle_model.specs.trees.Collects.{content_at, IsPureSite, ServesSet}
+use Rattle.isle_model.specs.trees.Collects.{content_at, IsPureSite}
 use Rattle.isle_model.specs.trees.SetRuns.{IsPureAt}
 use Rattle.isle_model.proofs.Elements.{In, in_from_contains, contains_from_in, in_either, from_flat_map}
 use Rattle.isle_model.proofs.Members.{get_within}

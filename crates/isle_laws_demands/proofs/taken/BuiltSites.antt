@@ -1,5 +1,5 @@
 -- The sites of a set that is built of elaborated rules have forms.
-use Rattle.std.proofs.Common.{◌≡◌, ℕ, ◌<◌, Bool, true, List, [], length, slice_get, ap, inl, inr}
+use Rattle.std.proofs.Common.{ℕ, ◌<◌, Bool, List, [], length, ap}
 use Rattle.isle_model.specs.lists.Syntax.{Definition}
 use Rattle.isle_model.specs.lists.Elaborated.{TypedRules}
 use Rattle.isle_model.specs.rules.Program.{Program, rules_of, arg_types}

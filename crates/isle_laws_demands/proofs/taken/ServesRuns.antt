@@ -13,7 +13,6 @@ use Rattle.isle_model.specs.rules.Typed.{TypedRule}
 use Rattle.isle_model.specs.sites.Sites.{Site, Constraint, is_variant, is_struct, is_bool, is_int, is_prim, is_present, SetRule, SiteSet, SiteTerm, bool_term, int_term, prim_term, sources_at, unfold_site}
 use Rattle.isle_model.specs.sites.Demands.{demands_of}
 use Rattle.isle_model.specs.sites.Closure.{HasConstraint, closed}
-use Rattle.isle_model.specs.sites.Limits.{sites_after_rules}
 use Rattle.isle_model.specs.sites.Overlap.{BuiltRule, built_rules}
 use Rattle.isle_model.specs.sites.RuleSets.{IsRuleOf, IsBuilt}
 use Rattle.isle_model.specs.sites.Serves.{asked_by, asked, constant_site, constant_type, typed_as, written_type, written_value, has_parts, tested_constants, Serves, TellsConstantsApart}
@@ -22,7 +21,7 @@ use Rattle.isle_model.specs.trees.Places.{is_in, joins_in, below, all_below, wai
 use Rattle.isle_model.specs.trees.Run.{World, all_one, where_constant, content_fields, world_of}
 use Rattle.isle_model.specs.trees.Collects.{content_at, meets}
 use Rattle.isle_model.specs.trees.SetRuns.{IsPureAt}
-use Rattle.isle_model.proofs.Elements.{In, in_from_contains, contains_from_in, in_right, in_flat_map, in_slice, in_any, any_in, none_some, some_is}
+use Rattle.isle_model.proofs.Elements.{In, in_from_contains, contains_from_in, in_right, in_flat_map, in_any, any_in, none_some, some_is}
 use Rattle.isle_model.proofs.Members.{in_head, in_alone, all_members, from_flat_map}
 use Rattle.isle_model.proofs.Members as members
 use Rattle.isle_laws_lists.proofs.FormedRules.{rules_are_formed}
@@ -31,7 +30,6 @@ use Rattle.isle_laws_runs.proofs.runs.Below.{IsPureBelow}
 use Rattle.isle_laws_demands.specs.ServeLaws.{ServedSetsServeTests}
 use Rattle.isle_laws_demands.proofs.closure.Closing.{closing_is_sound_lem}
 use Rattle.isle_laws_demands.proofs.visits.Built.{rule_at, BuiltGates, built_gates}
-use Rattle.isle_laws_demands.proofs.visits.Declared.{program_not_both}
 use Rattle.isle_laws_demands.proofs.visits.Elaborated.{elaborated_rules_hang, elaborated_rules_demand_gates_lem}
 use Rattle.isle_laws_demands.proofs.visits.Sets.{IsTested, constrained_tested, joined_tested, tested_good}
 use Rattle.isle_laws_demands.proofs.matching.FormedDemands.{IsFormed, rule_formed}
@@ -42,8 +40,8 @@ use Rattle.isle_laws_demands.proofs.matching.Unreachable.{IsConstant, Shape, sam
 use Rattle.isle_laws_demands.proofs.matching.Visits.{given, of_term}
 use Rattle.isle_laws_demands.proofs.taken.BuiltSites.{rules_known, sites_stand}
 use Rattle.isle_laws_demands.proofs.taken.Fits.{IsWhole, AsManyFields, typed_whole, FitsAs, FitsForm, the_value, IsServed, fits, found}
-use Rattle.isle_laws_demands.proofs.taken.Forms.{Form, a_value, AreKnown, rule_known}
-use Rattle.isle_laws_demands.proofs.taken.SitesKnown.{Stands, made_stands, closed_known, rules_stand, before_stands}
+use Rattle.isle_laws_demands.proofs.taken.Forms.{Form, a_value, AreKnown}
+use Rattle.isle_laws_demands.proofs.taken.SitesKnown.{Stands, made_stands, closed_known, before_stands}
 
 -- 1. arguments
 arg_there : (types : List TypeEntry) (tys : List ℕ) (args : List Value) → all_well_typed types (Some tys) (of_list args) ≡ true → (i : ℕ) → i < length tys → (v : Value) × (slice_get args i ≡ Some v) × IsWhole types v

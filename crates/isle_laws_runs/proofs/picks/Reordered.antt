@@ -1,5 +1,5 @@
 -- Calls can be gone over in every order in which each comes after those that its arguments take answers of.
-use Rattle.std.proofs.Common.{◌≡◌, List, [], ◌∷◌, ◌++◌, Contains, flat_map, refl, sym, ap, subst, subst₂, inl, inr}
+use Rattle.std.proofs.Common.{◌≡◌, List, [], ◌∷◌, ◌++◌, Contains, flat_map, sym, ap, subst, subst₂, inl, inr}
 use Rattle.std.specs.Prelude.{IsPermutation}
 use Rattle.std.proofs.lemmas.List.Elements.{Contains-append_left, Contains-append_right, Contains-append_cases}
 use Rattle.std.proofs.lemmas.List.Sorted.{IsPermutation-refl, IsPermutation-trans}
@@ -10,7 +10,7 @@ use Rattle.isle_model.specs.rules.Picks.{Pick, site_content, places_in, picks_ov
 use Rattle.isle_model.specs.sites.Sites.{SiteTerm}
 use Rattle.isle_model.proofs.Bags.{flat_flat, each_moved}
 use Rattle.isle_model.proofs.DistinctJoined.{distinct_cons, distinct_tail, not_in_tail}
-use Rattle.isle_model.proofs.Members.{nothing_in, in_head, in_tail, in_cases, in_alone}
+use Rattle.isle_model.proofs.Members.{nothing_in, in_head, in_tail, in_cases}
 use Rattle.isle_laws_runs.specs.Orders.{Within, OrderedFrom, IsOfPlaces}
 use Rattle.isle_laws_runs.proofs.picks.Calls.{ordered_prefix}
 use Rattle.isle_laws_runs.proofs.picks.FirstCall.{calls_can_come_first_lem}

@@ -1,9 +1,9 @@
-use Rattle.isle_laws_trees.proofs.headline.Kept.{kept_lem}
+use Rattle.isle_laws_trees.proofs.headline.Kept.{best_trees_keep_the_headline_lem}
 use Rattle.isle_laws_trees.proofs.best_trees_keep_the_headline.Goals as goal
 
 pub returns : goal.returns
 returns c = λ taken.
-    kept_lem
+    best_trees_keep_the_headline_lem
     (record {
       tested = c.built_sets_are_tested.ensures;
       serve = c.served_sets_serve_tests.ensures;
@@ -13,11 +13,5 @@ returns c = λ taken.
       no_calls = c.rules_without_multi_go_over_no_calls.ensures;
       taken = taken;
     })
-    (record {
-      collected = c.built_sets_are_collected.ensures;
-      serve = c.served_multi_sets_serve.ensures;
-      one_priority = c.multi_terms_have_one_priority.ensures;
-      apart = c.no_rule_asks_and_goes_over.ensures;
-      match = c.built_sets_match_by_demands.ensures;
-      results = c.results_are_held.ensures;
-    })
+    c.best_trees_collect_the_bag.ensures
+    c.best_trees_bind_before_use.ensures

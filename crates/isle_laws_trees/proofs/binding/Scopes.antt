@@ -1,15 +1,15 @@
 -- The scopes of best trees: what they hold after a step, in an arm and in a loop.
-use Rattle.std.proofs.Common.{◌≡◌, ◌⊎◌, ℕ, suc, Bool, true, false, not, ◌&&◌, List, [], ◌∷◌, ◌++◌, map, Option, Some, slice_get, Contains, refl, sym, ap, ◌∙◌, subst, inl, inr, arith}
+use Rattle.std.proofs.Common.{◌≡◌, ℕ, suc, true, false, not, List, [], ◌∷◌, ◌++◌, map, Option, Some, slice_get, Contains, refl, sym, ap, ◌∙◌, subst, inl, inr, arith}
 use Rattle.std.proofs.lemmas.Bool.{cases_Bool, and_from, false≢true}
 use Rattle.std.specs.List.{list_all}
 use Rattle.std.proofs.lemmas.List.{append_assoc}
 use Rattle.std.proofs.lemmas.List.Elements.{Contains-append_left, Contains-append_right, Contains-append_cases}
 use Rattle.isle_model.specs.sites.Sites.{Site, iterator_site, Constraint, SiteSet, sources_at}
-use Rattle.isle_model.specs.trees.Places.{Around, is_in, waits, available, is_in_place, below, all_below, bind_order, fields_of, field_sites, in_arm, in_equal, in_loop}
+use Rattle.isle_model.specs.trees.Places.{Around, is_in, waits, available, is_in_place, below, all_below, bind_order, fields_of, field_sites, in_arm, in_loop}
 use Rattle.isle_model.specs.trees.Tests.{sources_around}
 use Rattle.isle_model.specs.trees.Best.{are_distinct}
 use Rattle.isle_model.specs.claims.Layers.{brings_new}
-use Rattle.isle_model.proofs.Members.{nothing_in, in_head, in_tail, in_cases, in_alone, all_pass, in_flat_map, from_flat_map, member_found, member_is_in}
+use Rattle.isle_model.proofs.Members.{in_head, in_tail, in_cases, in_alone, all_pass, in_flat_map, from_flat_map, member_found, member_is_in}
 use Rattle.isle_laws_runs.proofs.runs.Below.{under, below_enough, below_deeper, call_or_under, under_below}
 use Rattle.isle_laws_runs.proofs.runs.Contents.{SourcesBefore}
 use Rattle.isle_laws_trees.proofs.binding.BindOnce.{PlacesApart, Scoped, below_is_bound, binds_within, none_waits}

@@ -1,14 +1,14 @@
 -- In a best tree each site that is used was bound before, and none is bound twice in one scope but for the calls of loops.
-use Rattle.std.proofs.Common.{◌≡◌, ℕ, ◌<◌, Bool, true, false, not, ◌&&◌, cond, List, [], ◌∷◌, ◌++◌, length, Option, Some, None, slice_get, Contains, All, refl, sym, ap, ◌∙◌, subst, inl, inr}
+use Rattle.std.proofs.Common.{◌≡◌, ℕ, ◌<◌, Bool, true, false, not, ◌&&◌, cond, List, [], ◌∷◌, ◌++◌, length, Option, slice_get, Contains, refl, sym, subst, inl, inr}
 use Rattle.std.specs.List.{list_all}
 use Rattle.std.proofs.lemmas.Bool.{and_parts, and_from, false≢true}
 use Rattle.std.proofs.lemmas.List.Elements.{All-contains, Contains-append_left, Contains-append_right}
-use Rattle.isle_model.specs.sites.Sites.{Site, iterator_site, Constraint, SetRule, SiteSet, sources_at}
-use Rattle.isle_model.specs.trees.Trees.{Tree, step, Check, match_at, equal_at, loop_at, return_at, Marked, m_no_step, m_step, MarkedCheck, m_match, m_equal, m_loop, m_return, MarkedArms, m_no_arm, m_arm, marks, marks_arms, return_of, plain, plain_check, plain_arms}
-use Rattle.isle_model.specs.trees.Places.{Around, nothing_around, is_in, available, bind_order, return_uses, uses, all_below, field_sites, in_arm, in_equal, in_loop, after_step}
-use Rattle.isle_model.specs.trees.Tests.{Test, match_test, equal_test, loop_test, IsOpen, sources_around, is_at_hand}
+use Rattle.isle_model.specs.sites.Sites.{Site, Constraint, SiteSet, sources_at}
+use Rattle.isle_model.specs.trees.Trees.{Tree, step, match_at, equal_at, loop_at, Marked, m_no_step, m_step, m_match, m_equal, m_loop, m_return, MarkedArms, m_no_arm, m_arm, marks, marks_arms, return_of, plain, plain_arms}
+use Rattle.isle_model.specs.trees.Places.{Around, nothing_around, is_in, available, bind_order, return_uses, field_sites, in_arm, in_equal, in_loop, after_step}
+use Rattle.isle_model.specs.trees.Tests.{match_test, IsOpen, sources_around, is_at_hand}
 use Rattle.isle_model.specs.trees.Best.{BestSteps, BestArms, IsBestTree}
-use Rattle.isle_model.specs.claims.Layers.{used_by, can_be_used, brings_new, binds_once, binds_before_use, binds_in_check, binds_in_arms, BindsBeforeUse}
+use Rattle.isle_model.specs.claims.Layers.{can_be_used, brings_new, binds_once, binds_before_use, binds_in_arms, BindsBeforeUse}
 use Rattle.isle_model.proofs.Members.{nothing_in, in_head, in_tail, in_cases, in_alone, get_within}
 use Rattle.isle_laws_runs.proofs.runs.Below.{under}
 use Rattle.isle_laws_runs.proofs.runs.Contents.{SourcesBefore}

@@ -1,20 +1,19 @@
 -- In a term that isn't multi and uses no multi extractor, the run of a best tree is the choice by priority.
-use Rattle.std.proofs.Common.{◌≡◌, ◌<◌, ℕ, ℤ, Bool, true, false, List, [], ◌∷◌, map, Some, None, is_some, slice_get, Contains, All, IsTrue, ◌≤ℤ◌, refl, sym, ap, subst, ◌∙◌, inl, inr, arith}
+use Rattle.std.proofs.Common.{◌≡◌, ◌<◌, ℕ, Bool, false, List, [], ◌∷◌, map, Some, is_some, slice_get, Contains, All, IsTrue, ◌≤ℤ◌, refl, sym, ap, subst, ◌∙◌, inl, inr, arith}
 use Rattle.std.proofs.lemmas.Bool.{both_ways, false≢true, cases_lt}
 use Rattle.isle_model.specs.lists.Syntax.{Definition}
 use Rattle.isle_model.specs.lists.Elaborated.{TypedRules}
 use Rattle.isle_model.specs.rules.Values.{Value, args_well_typed}
 use Rattle.isle_model.specs.rules.Meaning.{Meaning}
 use Rattle.isle_model.specs.rules.Outcome.{Outcome, no_rule}
-use Rattle.isle_model.specs.rules.Program.{Program, arg_types, rules_of, is_multi}
-use Rattle.isle_model.specs.rules.Matching.{Vars, matches}
-use Rattle.isle_model.specs.rules.RightSide.{right_side}
+use Rattle.isle_model.specs.rules.Program.{Program, arg_types, rules_of}
+use Rattle.isle_model.specs.rules.Matching.{matches}
 use Rattle.isle_model.specs.rules.Choice.{with_vars, outcome_of_rule, choice, MatchesOnce}
 use Rattle.isle_model.specs.rules.Typed.{TypedRule}
 use Rattle.isle_model.specs.sites.Sites.{SetRule, SiteSet, unfold_site}
 use Rattle.isle_model.specs.sites.Demands.{demands_of}
 use Rattle.isle_model.specs.sites.Overlap.{BuiltRule, built_rules}
-use Rattle.isle_model.specs.sites.RuleSets.{IsRuleOf, IsBuilt}
+use Rattle.isle_model.specs.sites.RuleSets.{IsBuilt}
 use Rattle.isle_model.specs.sites.Serves.{Serves, TellsConstantsApart}
 use Rattle.isle_model.specs.trees.Trees.{Tree}
 use Rattle.isle_model.specs.trees.Run.{World, run, world_of}
@@ -24,7 +23,7 @@ use Rattle.isle_model.specs.trees.Best.{IsBestTree}
 use Rattle.isle_model.specs.claims.Environments.{TypesRead, IsElaborated, program_of}
 use Rattle.isle_model.specs.claims.Headline.{IsWithoutMulti, RunsAsChosen}
 use Rattle.isle_model.specs.claims.Layers.{IsCheckable}
-use Rattle.isle_model.specs.claims.SetMeanings.{BuiltSetsAreTested, OfBuiltSets, TakenGivesOutcome, returning_once, AreRulesWithoutCalls}
+use Rattle.isle_model.specs.claims.SetMeanings.{BuiltSetsAreTested, OfBuiltSets, TakenGivesOutcome, returning_once}
 use Rattle.isle_model.proofs.Elements.{In, contains_from_in, in_slice, some_is}
 use Rattle.isle_model.proofs.Members.{nothing_in, all_members, member_from_get, get_from_member}
 use Rattle.isle_model.proofs.Options.{is_there}
@@ -179,6 +178,6 @@ module _ (laws : ChoosingLaws) (e : TypesRead) (defs : List Definition) (expand 
       (sound_trees_choose_lem set tree w (laws.tested e defs expand rules t set h b without.term none) (laws.serve e defs expand rules t set h b m args typed served apart) without.term
       (laws.sound e defs expand rules t set false tree h b none (λ q. absurd (false≢true q)) best))
 
-pub best_trees_run_as_chosen : ChoosingLaws → OfBuiltSets (λ p t set. IsCheckable p → (tree : Tree) → IsBestTree set tree → RunsAsChosen p t set.sites tree)
-best_trees_run_as_chosen laws e defs expand rules t set h b check tree best without m args typed served apart =
+pub best_trees_run_as_chosen_lem : ChoosingLaws → OfBuiltSets (λ p t set. IsCheckable p → (tree : Tree) → IsBestTree set tree → RunsAsChosen p t set.sites tree)
+best_trees_run_as_chosen_lem laws e defs expand rules t set h b check tree best without m args typed served apart =
     (runs_as_chosen laws e defs expand rules t set h b check without m args typed served apart tree best, once laws e defs expand rules t set h b check without m args typed served apart)

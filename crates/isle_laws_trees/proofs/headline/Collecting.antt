@@ -1,8 +1,8 @@
 -- In a multi term whose rules make no impure call and leave no multi call unused, the run of a best tree collects the bag of their
 -- results.
-use Rattle.std.proofs.Common.{◌≡◌, ◌<◌, ◌≤◌, ◌==◌, ◌&&◌, ◌||◌, ℕ, zero, suc, ◌+◌, Bool, true, false, List, [], ◌∷◌, ◌++◌, length, map, filter, flat_map, Option, Some, None, is_some, slice_get, Contains, All, IsTrue, refl, sym, ap, subst, ◌∙◌, inl, inr, arith}
+use Rattle.std.proofs.Common.{◌≡◌, ◌<◌, ◌≤◌, ◌&&◌, ◌||◌, ℕ, suc, ◌+◌, Bool, true, List, [], ◌∷◌, ◌++◌, length, map, filter, flat_map, Option, Some, None, is_some, slice_get, Contains, All, IsTrue, refl, sym, ap, subst, ◌∙◌, inl, inr, arith}
 use Rattle.std.specs.Prelude.{IsPermutation}
-use Rattle.std.proofs.lemmas.Bool.{cond-true, cond-false, false≢true, and_parts, or_cases}
+use Rattle.std.proofs.lemmas.Bool.{cond-true, cond-false, and_parts, or_cases}
 use Rattle.std.proofs.lemmas.Option.{none-some, same_Some}
 use Rattle.std.proofs.lemmas.List.Elements.{All-contains, Contains-append_left, Contains-append_right}
 use Rattle.std.proofs.lemmas.List.Sorted.{IsPermutation-refl, IsPermutation-trans, IsPermutation-append}
@@ -12,16 +12,16 @@ use Rattle.isle_model.specs.lists.Elaborated.{TypedRules}
 use Rattle.isle_model.specs.rules.Values.{Value, args_well_typed}
 use Rattle.isle_model.specs.rules.Meaning.{Content, Meaning}
 use Rattle.isle_model.specs.rules.Program.{Program, arg_types, rules_of, is_multi, numbers_from}
-use Rattle.isle_model.specs.rules.Picks.{Pick, SitedVars, multi_calls, picks_over, picks, matches_under, right_side_under, results_with, results_under, bag}
+use Rattle.isle_model.specs.rules.Picks.{Pick, SitedVars, multi_calls, picks_over, picks, matches_under, results_with, results_under, bag}
 use Rattle.isle_model.specs.rules.Typed.{TypedRule}
-use Rattle.isle_model.specs.sites.Sites.{iterator_site, Constraint, SetRule, SiteSet, SiteTerm, unfold_site}
+use Rattle.isle_model.specs.sites.Sites.{Constraint, SetRule, SiteSet, SiteTerm, unfold_site}
 use Rattle.isle_model.specs.sites.Demands.{demands_of}
 use Rattle.isle_model.specs.sites.Gates.{gate_demanded}
 use Rattle.isle_model.specs.sites.Overlap.{BuiltRule, built_rules}
 use Rattle.isle_model.specs.sites.RuleSets.{IsRuleOf, IsBuilt}
 use Rattle.isle_model.specs.sites.Serves.{Serves, TellsConstantsApart}
 use Rattle.isle_model.specs.trees.Trees.{Tree}
-use Rattle.isle_model.specs.trees.Places.{is_in, joins_in, below, all_below}
+use Rattle.isle_model.specs.trees.Places.{is_in, below, all_below}
 use Rattle.isle_model.specs.trees.Run.{World, run, world_of}
 use Rattle.isle_model.specs.trees.Tests.{match_test, equal_test, loop_test, needs}
 use Rattle.isle_model.specs.trees.WellBuilt.{tests_site, IsWellBuiltRule, IsWellBuilt}
@@ -34,7 +34,7 @@ use Rattle.isle_model.specs.claims.SetMeanings.{BuiltSetsAreCollected, OfBuiltSe
 use Rattle.isle_model.proofs.Elements.{in_from_contains, contains_from_in}
 use Rattle.isle_model.proofs.Bags.{flat_map_same}
 use Rattle.isle_model.proofs.DistinctJoined.{distinct_filter, distinct_map}
-use Rattle.isle_model.proofs.Members.{nothing_in, in_head, all_members, one_passes, member_found, member_is_in, member_from_get, constraint_in, in_filter, from_filter, in_map, from_map, in_flat_map}
+use Rattle.isle_model.proofs.Members.{in_head, all_members, one_passes, member_found, member_is_in, member_from_get, constraint_in, in_filter, from_filter, in_map, from_map, in_flat_map}
 use Rattle.isle_model.proofs.Numbers.{numbers_below, numbers_all, numbers_distinct}
 use Rattle.isle_model.proofs.Options.{is_there}
 use Rattle.isle_model.proofs.Positions.{distinct_nil}
@@ -54,6 +54,7 @@ use Rattle.isle_laws_demands.proofs.closure.Classes.{with_sites_in, in_with_site
 use Rattle.isle_laws_demands.proofs.matching.BuiltMatches.{one_rule, built_listed}
 use Rattle.isle_laws_demands.proofs.visits.Built.{rule_at}
 use Rattle.isle_laws_demands.proofs.visits.Sets.{first_constraint}
+use Rattle.isle_laws_trees.specs.BuiltLaws.{BestTreesCollectTheBag}
 use Rattle.isle_laws_trees.proofs.Soundness.{best_trees_are_sound_lem}
 use Rattle.isle_laws_trees.proofs.headline.Places.{Pair, of_set_rule, of_typed_rule, typed_here}
 
@@ -247,6 +248,6 @@ module _ (laws : CollectingLaws) (e : TypesRead) (defs : List Definition) (expan
       let c = collects_set tree best in
       record { calls = c.calls; ending = c.ending; same = IsPermutation-trans (bag p m rs args) (set_bag set w) (run tree w).results same_bag c.same }
 
-pub best_trees_collect_the_bag : CollectingLaws → OfBuiltSets (λ p t set. IsCheckable p → (tree : Tree) → IsBestTree set tree → CollectsTheBag p t set.sites tree)
-best_trees_collect_the_bag laws e defs expand rules t set h b check tree best multi results m args typed served apart =
+pub best_trees_collect_the_bag_lem : CollectingLaws → BestTreesCollectTheBag
+best_trees_collect_the_bag_lem laws e defs expand rules t set h b check tree best multi results m args typed served apart =
     collects laws e defs expand rules t set h b check multi results m args typed served apart tree best

@@ -1,24 +1,22 @@
 -- For each accepted list, the best trees of its terms' built sets keep the headline.
-use Rattle.isle_model.specs.rules.Program.{Program, is_multi}
-use Rattle.isle_model.specs.claims.Environments.{TypesRead, types_read}
+use Rattle.isle_model.specs.rules.Program.{is_multi}
+use Rattle.isle_model.specs.claims.Environments.{types_read}
 use Rattle.isle_model.specs.claims.Layers.{own_program, BestTreesKeepTheHeadline}
+use Rattle.isle_laws_trees.specs.BuiltLaws.{BestTreesBindBeforeUse, BestTreesCollectTheBag}
 use Rattle.isle_laws_trees.proofs.Shares.{best_trees_share_most_lem}
-use Rattle.isle_laws_trees.proofs.binding.InPlace.{places_apart}
-use Rattle.isle_laws_trees.proofs.binding.Trees.{best_tree_binds}
-use Rattle.isle_laws_trees.proofs.headline.Choosing.{ChoosingLaws, best_trees_run_as_chosen}
-use Rattle.isle_laws_trees.proofs.headline.Collecting.{CollectingLaws, best_trees_collect_the_bag}
+use Rattle.isle_laws_trees.proofs.headline.Choosing.{ChoosingLaws, best_trees_run_as_chosen_lem}
 
-pub kept_lem : ChoosingLaws → CollectingLaws → BestTreesKeepTheHeadline
-kept_lem choosing collecting defs expand rules l accepted built best =
+pub best_trees_keep_the_headline_lem : ChoosingLaws → BestTreesCollectTheBag → BestTreesBindBeforeUse → BestTreesKeepTheHeadline
+best_trees_keep_the_headline_lem choosing collect bind defs expand rules l accepted built best =
     let e = types_read defs in
     let h = accepted.read.elaborated in
     record {
       built = built;
       best = best;
       headline = record {
-        runs = best_trees_run_as_chosen choosing e defs expand rules l.term l.set h built accepted.checkable l.tree best;
+        runs = best_trees_run_as_chosen_lem choosing e defs expand rules l.term l.set h built accepted.checkable l.tree best;
         shares = record { marked = best.marked; returns = best.returns; most = best_trees_share_most_lem l.set best.marked best.steps };
       };
-      collects = best_trees_collect_the_bag collecting e defs expand rules l.term l.set h built accepted.checkable l.tree best;
-      binds = best_tree_binds l.set built.sources (places_apart e defs expand rules l.term l.set h built) (is_multi (own_program defs rules) l.term) l.tree best;
+      collects = collect e defs expand rules l.term l.set h built accepted.checkable l.tree best;
+      binds = bind e defs expand rules l.term l.set h built (is_multi (own_program defs rules) l.term) l.tree best;
     }
