@@ -65,7 +65,7 @@ module _ (w : World) (before : SourcesBefore w.sites) where
         ]
       ]
 
-  sources_within : (emitted : List ℕ) (n x : ℕ) (done : List ℕ) (u : ℕ) → Contains (each_after (listed_below n w.sites emitted) done (sources_at w.sites x)) u → Contains done u ⊎ (u < x)
+  pub sources_within : (emitted : List ℕ) (n x : ℕ) (done : List ℕ) (u : ℕ) → Contains (each_after (listed_below n w.sites emitted) done (sources_at w.sites x)) u → Contains done u ⊎ (u < x)
   sources_within emitted n x done u c =
       each_within (listed_below n w.sites emitted) x (sources_at w.sites x) (λ y k d v m. below_source x y v (Contains d v) (before x y k) (listed_within emitted n y d v m)) done u c
 
@@ -159,7 +159,7 @@ module _ (w : World) (before : SourcesBefore w.sites) where
             here =
                 used_placed w e s unbound_one
                 ∙ placed_same w (used w e) (content_at w []) (slice_get w.sites s) (reads_sources h)
-                ∙ sym (content_placed w before s (slice_get w.sites s) refl p)
+                ∙ sym (content_placed w [] before s (slice_get w.sites s) refl p)
 
         placed_critical : settled w s ≡ false → Agree more e e'
         placed_critical h = record {
