@@ -2,6 +2,7 @@
 use Rattle.std.proofs.Common.{◌≡◌, ◌⊎◌, ℕ, zero, suc, ◌<◌, ◌≤◌, true, false, not, ◌||◌, cond, List, [], ◌∷◌, ◌++◌, map, length, Option, Some, None, is_some, slice_get, Contains, IsTrue, filter, flat_map, refl, sym, ap, ◌∙◌, subst, inl, inr, arith, append-nil, append_assoc}
 use Rattle.std.proofs.lemmas.Bool.{cases_Bool, cases_eq, cond-true, cond-false, or_cases, or_parts, or_from, false_from_ne_true, false≢true}
 use Rattle.std.proofs.lemmas.Option.{none-some, same_Some}
+use Rattle.std.proofs.lemmas.List.{length_push}
 use Rattle.std.proofs.lemmas.List.Elements.{Contains-append_left, Contains-append_right, Contains-append_cases, filter-append, All-contains}
 use Rattle.isle_model.specs.rules.Values.{Values, value_and, of_variant, of_struct}
 use Rattle.isle_model.specs.rules.Meaning.{Content, one, nothing, just, extractor_answer, impure_answer}
@@ -14,7 +15,7 @@ use Rattle.isle_model.specs.trees.Collects.{content_at, calls_nothing, IsPureSit
 use Rattle.isle_model.specs.trees.SetRuns.{IsPureAt, IsUnwrap, IsReachedUnder}
 use Rattle.isle_model.proofs.Members.{nothing_in, in_head, in_tail, in_cases, in_alone, in_flat_map, member_found, member_is_in}
 use Rattle.isle_model.proofs.Options.{then_some}
-use Rattle.isle_laws_runs.proofs.runs.Below.{below_itself, below_source}
+use Rattle.isle_laws_runs.proofs.runs.Below.{below_itself, below_source, below_enough}
 use Rattle.isle_laws_runs.proofs.runs.BindOrders.{to_bind, bind_append}
 use Rattle.isle_laws_runs.proofs.runs.Binding.{content_of}
 use Rattle.isle_laws_runs.proofs.runs.Collected.{pure_site}
@@ -72,6 +73,9 @@ module _ (w : World) (k : Pick) (before : SourcesBefore w.sites) (e : Env) (call
 is_none : {X : Type 0} (o : Option X) → (IsTrue (is_some o) → ⊥) → o ≡ None
 is_none None h = refl
 is_none (Some x) h = absurd (h refl)
+
+one_more : {X : Type 0} (xs : List X) (x : X) → length (xs ++ x ∷ []) ≡ suc (length xs)
+one_more xs x = let l = length_push xs x in omega (arith, l)
 
 -- 2. bind orders only grow
 abbrev Extends : List ℕ → List ℕ → Type 0
@@ -233,3 +237,241 @@ module _ (w : World) (k : Pick) (before : SourcesBefore w.sites) (ar : Around) (
               used_placed w e s unbound
               ∙ placed_same w (used w e) (content_at w k) (slice_get w.sites s) read_sources
               ∙ sym (content_placed w k before s (slice_get w.sites s) refl p)
+
+  -- 5. sites whose contents are there or nothing
+  still_unlisted : (n s : ℕ) (done : List ℕ) → (is_in s ar.emitted || is_in s done) ≡ false → (is_in s ar.emitted || is_in s (each_after (listed_below n w.sites ar.emitted) done (sources_at w.sites s))) ≡ false
+  still_unlisted n s done f =
+      let p = or_parts (is_in s ar.emitted) (is_in s done) f in
+      let rest = each_after (listed_below n w.sites ar.emitted) done (sources_at w.sites s) in
+      false_from_ne_true (is_in s ar.emitted || is_in s rest)
+      (λ t. elim (or_cases (is_in s ar.emitted) (is_in s rest) t) [
+        | inl i ↦ false≢true (sym p.0 ∙ i)
+        | inr i ↦ elim (sources_within w before ar.emitted n s done s (member_found s rest i)) [ inl c ↦ false≢true (sym p.1 ∙ member_is_in s done c) | inr l ↦ omega (arith, l) ]
+      ])
+
+  module _ (ss : List ℕ)
+      (gates : (s : ℕ) → Contains (all_below w.sites ss) s → (waits (slice_get w.sites s) ≡ false) ⊎ (IsUnwrap (slice_get w.sites s) ⊎ IsTrue (is_in s ar.emitted)))
+      (found : (s : ℕ) → Contains (all_below w.sites ss) s → waits (slice_get w.sites s) ≡ false → ((a : ℕ) → Contains (sources_at w.sites s) a → IsTrue (is_some (content_at w k a))) → IsTrue (is_some (content_at w k s)))
+      (maybe : (s source : ℕ) → Contains (all_below w.sites ss) s → slice_get w.sites s ≡ Some (match_some_site source) → (c : Content) → content_at w k source ≡ Some c → (c ≡ nothing) ⊎ ((d : Content) × (c ≡ just d))) where
+    abbrev Below : ℕ → Type 0
+    Below t = Contains (all_below w.sites ss) t
+
+    free : (s : ℕ) → Below s → is_in s ar.emitted ≡ false → (waits (slice_get w.sites s) ≡ false) ⊎ IsUnwrap (slice_get w.sites s)
+    free s f n = elim (gates s f) [ inl a ↦ inl a | inr (inl u) ↦ inr u | inr (inr i) ↦ absurd (false≢true (sym n ∙ i)) ]
+
+    -- a site that makes no call was put
+    abbrev Put : List ℕ → List Call → ℕ → Type 0
+    Put more calls s = ((e' : Env) × Listed more e' calls) ⊎ ((bound_so_far more ≡ unwrap_failed calls) × (content_at w k s ≡ None))
+
+    put_pure : (done : List ℕ) (e : Env) (calls : List Call) → Listed done e calls → (s : ℕ) → Below s → (is_in s ar.emitted || is_in s done) ≡ false → ((a : ℕ) → Contains (sources_at w.sites s) a → Here done a)
+        → calls_nothing (slice_get w.sites s) ≡ true → Put (done ++ s ∷ []) calls s
+    put_pure done e calls l s f n sources q =
+        elim (free s f (or_parts (is_in s ar.emitted) (is_in s done) n).0) [
+          | inl wait ↦
+              let c = content_of (content_at w k s) (found s f wait (λ a i. ap is_some (l.kept.reads a (sources a i)).1)) in
+              inl (put_there c.0 c.1 (λ p. binds c.0 c.1 (slice_get w.sites s) refl wait q) (cases_Bool (is_in_place (slice_get w.sites s))))
+          | inr u ↦ put_unwrap (slice_get w.sites s) refl u
+        ]
+      where
+        own : (t : ℕ) (ss : List ℕ) (n : ℕ) → slice_get w.sites s ≡ Some (constructor_site t ss (suc n)) → n < length calls
+        own t ss n e = absurd (false≢true (sym (ap calls_nothing e) ∙ q))
+
+        put_there : (c : Content) → content_at w k s ≡ Some c → (is_in_place (slice_get w.sites s) ≡ false → bind_site w e calls s (slice_get w.sites s) ≡ all_bound ((s, c) ∷ e) calls)
+            → (is_in_place (slice_get w.sites s) ≡ true) ⊎ (is_in_place (slice_get w.sites s) ≡ false) → (e' : Env) × Listed (done ++ s ∷ []) e' calls
+        put_there c there b (inl p) = (e, record { bound = bind_none done e calls s l.bound p; kept = keeps_placed done s n sources e calls l.kept c there p })
+        put_there c there b (inr p) = (
+          (s, c) ∷ e,
+          record {
+            bound = bind_next done e calls s (all_bound ((s, c) ∷ e) calls) l.bound p (b p);
+            kept = keeps_bound_more done s n sources e calls l.kept c there calls (omega arith) own;
+          },
+        )
+
+        binds : (c : Content) → content_at w k s ≡ Some c → (o : Option Site) → slice_get w.sites s ≡ o → waits o ≡ false → calls_nothing o ≡ true → bind_site w e calls s o ≡ all_bound ((s, c) ∷ e) calls
+        binds c there None at wait p = absurd (false≢true (sym wait))
+        binds c there (Some b) at wait p =
+            binds_content w k before e calls s b at wait (pure_site b p) (λ u i. read_sources done s n sources e calls l.kept u (subst (λ x. Contains (sources_in x) u) (sym at) i))
+            ∙ ap (now_bound e calls s) there
+
+        put_unwrap : (o : Option Site) → slice_get w.sites s ≡ o → IsUnwrap o → Put (done ++ s ∷ []) calls s
+        put_unwrap (Some (match_some_site source)) at u =
+            let x = l.kept.reads source (sources source (subst (λ x. Contains (sources_in x) source) (sym at) (in_head source []))) in
+            let layer = content_layer w k before s (match_some_site source) at in
+            let p = ap is_in_place at in
+            elim (maybe s source f at x.0 x.1) [
+              | inl q ↦
+                  inr (
+                    bind_next done e calls s (unwrap_failed calls) l.bound p (ap (bind_site w e calls s) at ∙ ap (unwrapped e calls s) (x.2 ∙ ap Some q)),
+                    layer ∙ ap (λ o. then_option o part_of_some) (x.1 ∙ ap Some q),
+                  )
+              | inr d ↦
+                  inl (put_there d.0 (layer ∙ ap (λ o. then_option o part_of_some) (x.1 ∙ ap Some d.1)) (λ p. ap (bind_site w e calls s) at ∙ ap (unwrapped e calls s) (x.2 ∙ ap Some d.1)) (inr p))
+            ]
+        put_unwrap _ at u = absurd u
+
+    -- 6. sites below which all impure calls are listed
+    abbrev Ready : ℕ → List ℕ → ℕ → Type 0
+    Ready n done s = (u : ℕ) → Contains (below n w.sites s) u → IsImpureAt w.sites before u → Here done u
+
+    -- some were listed, or one of them has no content
+    abbrev Gone : List ℕ → List ℕ → List Call → (ℕ → Type 0) → Type 0
+    Gone done more calls Now =
+        ((e' : Env) × Listed more e' calls × ((t : ℕ) → Here done t → Here more t) × ((s : ℕ) → Now s → Here more s))
+        ⊎ ((bound_so_far more ≡ unwrap_failed calls) × (x : ℕ) × Now x × (content_at w k x ≡ None))
+
+    each_goes : (n : ℕ) (f : List ℕ → ℕ → List ℕ) → ((done : List ℕ) (s : ℕ) → Extends done (f done s)) → (calls : List Call) (xs : List ℕ)
+        → ((s : ℕ) → Contains xs s → (done : List ℕ) (e : Env) → Listed done e calls → Ready n done s → Gone done (f done s) calls (λ t. s ≡ t))
+        → (done : List ℕ) (e : Env) → Listed done e calls → ((s : ℕ) → Contains xs s → Ready n done s) → Gone done (each_after f done xs) calls (Contains xs)
+    each_goes n f ext calls [] go done e l ready = inl (e, l, λ t i. i, λ s c. absurd (nothing_in s c))
+    each_goes n f ext calls (s ∷ xs) go done e l ready =
+        elim (go s (in_head s xs) done e l (ready s (in_head s xs))) [
+          | inl g ↦ later g.2 (g.3 s refl) (each_goes n f ext calls xs (λ u c. go u (in_tail s u xs c)) (f done s) g.0 g.1 (λ u c x i m. g.2 x (ready u (in_tail s u xs c) x i m)))
+          | inr b ↦ inr (fails_on (f done s) (each_after f (f done s) xs) calls (each_extends f ext xs (f done s)) b.0, b.1, subst (Contains (s ∷ xs)) b.2 (in_head s xs), b.3)
+        ]
+      where
+        later : ((t : ℕ) → Here done t → Here (f done s) t) → Here (f done s) s → Gone (f done s) (each_after f (f done s) xs) calls (Contains xs) → Gone done (each_after f (f done s) xs) calls (Contains (s ∷ xs))
+        later grow here (inl r) = inl (r.0, r.1, λ t i. r.2 t (grow t i), λ t c. elim (in_cases s t xs c) [ inl q ↦ subst (Here (each_after f (f done s) xs)) q (r.2 s here) | inr d ↦ r.3 t d ])
+        later grow here (inr b) = inr (b.0, b.1, in_tail s b.1 xs b.2, b.3)
+
+    impure_form : (o : Option Site) → calls_nothing o ≡ false → (t : ℕ) × (ss : List ℕ) × (n : ℕ) × (o ≡ Some (constructor_site t ss (suc n)))
+    impure_form None h = absurd (false≢true (sym h))
+    impure_form (Some (constructor_site t ss zero)) h = absurd (false≢true (sym h))
+    impure_form (Some (constructor_site t ss (suc n))) h = (t, ss, n, refl)
+    impure_form (Some _) h = absurd (false≢true (sym h))
+
+    no_source : (s x : ℕ) → Contains (sources_at w.sites s) x → content_at w k x ≡ None → content_at w k s ≡ None
+    no_source s x c none = is_none (content_at w k s) (λ h. false≢true (sym (ap is_some none) ∙ by (slice_get w.sites s) refl h c))
+      where
+        by : (o : Option Site) → slice_get w.sites s ≡ o → IsTrue (is_some (content_at w k s)) → Contains (sources_in o) x → is_some (content_at w k x) ≡ true
+        by None at h i = absurd (nothing_in x i)
+        by (Some b) at h i = sources_there w k before s b at h x i
+
+    there_already : (done : List ℕ) (s : ℕ) → (is_in s ar.emitted || is_in s done) ≡ true → Here done s
+    there_already done s h = elim (or_cases (is_in s ar.emitted) (is_in s done) h) [ inl a ↦ inl a | inr d ↦ inr (member_found s done d) ]
+
+    one_goes : (n s : ℕ) → s < n → ((u : ℕ) → Contains (below n w.sites s) u → Below u) → (calls : List Call) (done : List ℕ) (e : Env) → Listed done e calls → Ready n done s
+        → Gone done (listed_below n w.sites ar.emitted done s) calls (λ t. s ≡ t)
+    one_goes zero s l fine calls done e listed ready = absurd (omega (arith, l))
+    one_goes (suc n) s l fine calls done e listed ready =
+        let rest = each_after (listed_below n w.sites ar.emitted) done (sources_at w.sites s) in
+        elim (cases_Bool (is_in s ar.emitted || is_in s done)) [
+          | inl t ↦
+              subst (λ x. Gone done x calls (λ t. s ≡ t)) (sym (cond-true (is_in s ar.emitted || is_in s done) done (rest ++ s ∷ []) t))
+              (inl (e, listed, λ u i. i, λ u q. subst (Here done) q (there_already done s t)))
+          | inr f ↦
+              subst (λ x. Gone done x calls (λ t. s ≡ t)) (sym (cond-false (is_in s ar.emitted || is_in s done) done (rest ++ s ∷ []) f))
+              (then_put f
+              (each_goes n (listed_below n w.sites ar.emitted) (listed_extends w.sites ar.emitted n) calls (sources_at w.sites s)
+              (λ x c done' e' l' r. (let m = before s x c in one_goes n x (omega (arith, l, m)) (λ u i. fine u (in_tail s u (flat_map (below n w.sites) (sources_at w.sites s)) (in_flat_map (below n w.sites) (sources_at w.sites s) x u c i))) calls done' e' l' r))
+              done e listed
+              (λ x c u i m. ready u (in_tail s u (flat_map (below n w.sites) (sources_at w.sites s)) (in_flat_map (below n w.sites) (sources_at w.sites s) x u c i)) m)))
+        ]
+      where
+        here_of : (u : ℕ) → u ≡ s → Contains (s ∷ flat_map (below n w.sites) (sources_at w.sites s)) s
+        here_of u q = in_head s (flat_map (below n w.sites) (sources_at w.sites s))
+
+        pure_here : (is_in s ar.emitted || is_in s done) ≡ false → calls_nothing (slice_get w.sites s) ≡ true
+        pure_here f = elim (cases_Bool (calls_nothing (slice_get w.sites s))) [
+          | inl t ↦ t
+          | inr i ↦ absurd (not_here (ready s (here_of s refl) (impure_form (slice_get w.sites s) i)))
+        ]
+          where
+            not_here : Here done s → ⊥
+            not_here (inl i) = false≢true (sym (or_parts (is_in s ar.emitted) (is_in s done) f).0 ∙ i)
+            not_here (inr c) = false≢true (sym (or_parts (is_in s ar.emitted) (is_in s done) f).1 ∙ member_is_in s done c)
+
+        then_put : (is_in s ar.emitted || is_in s done) ≡ false → Gone done (each_after (listed_below n w.sites ar.emitted) done (sources_at w.sites s)) calls (Contains (sources_at w.sites s))
+            → Gone done (each_after (listed_below n w.sites ar.emitted) done (sources_at w.sites s) ++ s ∷ []) calls (λ t. s ≡ t)
+        then_put f (inr b) = let after = each_after (listed_below n w.sites ar.emitted) done (sources_at w.sites s) in inr (fails_on after (after ++ s ∷ []) calls (s ∷ [], refl) b.0, s, refl, no_source s b.1 b.2 b.3)
+        then_put f (inl g) =
+            let after = each_after (listed_below n w.sites ar.emitted) done (sources_at w.sites s) in
+            let u = still_unlisted n s done f in
+            elim (put_pure after g.0 calls g.1 s (fine s (here_of s refl)) u g.3 (pure_here f)) [
+              | inl p ↦ inl (p.0, p.1, λ t i. grown after s u g.3 t (g.2 t i), λ t q. last_here after s u g.3 t q)
+              | inr b ↦ inr (b.0, s, refl, b.1)
+            ]
+
+    -- 7. an impure call, where all calls in its arguments are listed
+    record CallMade (done more : List ℕ) (calls : List Call) (s t : ℕ) (sources : List ℕ) : Type 0 where
+      env : Env
+      values : Values
+      answer : Content
+      held : site_values w.meaning w.args k (each_term (unfold_site w.sites) sources) ≡ Some values
+      there : content_at w k s ≡ Some answer
+      listed : Listed more env (calls ++ record { term = t; args = values } ∷ [])
+      grows : (u : ℕ) → Here done u → Here more u
+      here : Here more s
+
+    abbrev CallGone : List ℕ → List ℕ → List Call → ℕ → ℕ → List ℕ → Type 0
+    CallGone done more calls s t sources = CallMade done more calls s t sources ⊎ ((bound_so_far more ≡ unwrap_failed calls) × (site_values w.meaning w.args k (each_term (unfold_site w.sites) sources) ≡ None))
+
+    -- no impure call is emitted, nor is one below what is emitted
+    not_emitted : (s x : ℕ) → Contains (below (suc s) w.sites s) x → IsImpureAt w.sites before x → is_in s ar.emitted ≡ true → ⊥
+    not_emitted s x c (t, sources, i, at) m =
+        let a = All-contains (IsPureAt w.sites) (all_below w.sites (s ∷ [])) x (reached.pure s m) (in_flat_map (λ x. below (suc x) w.sites x) (s ∷ []) s x (in_head s []) c) in
+        subst IsPureSite (same_Some a.0 (constructor_site t sources (suc i)) (sym a.1 ∙ at)) a.2
+
+    call_fresh : (s t i : ℕ) (sources : List ℕ) → slice_get w.sites s ≡ Some (constructor_site t sources (suc i)) → (done : List ℕ) (e : Env) (calls : List Call) → Kept done e calls → length calls ≡ i → Here done s → ⊥
+    call_fresh s t i sources at done e calls kept q (inl m) = not_emitted s s (below_itself w.sites s) (t, sources, i, at) m
+    call_fresh s t i sources at done e calls kept q (inr c) = (let l = kept.counted s t sources i c at in omega (arith, l, q))
+
+    not_listed : (done : List ℕ) (s : ℕ) → (Here done s → ⊥) → (is_in s ar.emitted || is_in s done) ≡ false
+    not_listed done s n = or_from (is_in s ar.emitted) (is_in s done) (false_from_ne_true (is_in s ar.emitted) (λ t. n (inl t))) (false_from_ne_true (is_in s done) (λ t. n (inr (member_found s done t))))
+
+    call_goes : (n s : ℕ) → s < n → ((u : ℕ) → Contains (below n w.sites s) u → Below u) → (t i : ℕ) (sources : List ℕ) → slice_get w.sites s ≡ Some (constructor_site t sources (suc i))
+        → (done : List ℕ) (e : Env) (calls : List Call) → Listed done e calls → length calls ≡ i → ((x : ℕ) → Contains sources x → Ready (suc x) done x) → CallGone done (listed_below n w.sites ar.emitted done s) calls s t sources
+    call_goes zero s l fine t i sources at done e calls listed q ready = absurd (omega (arith, l))
+    call_goes (suc n) s l fine t i sources at done e calls listed q ready =
+        let f = not_listed done s (call_fresh s t i sources at done e calls listed.kept q) in
+        let rest = each_after (listed_below n w.sites ar.emitted) done (sources_at w.sites s) in
+        subst (λ x. CallGone done x calls s t sources) (sym (cond-false (is_in s ar.emitted || is_in s done) done (rest ++ s ∷ []) f))
+        (then_call f
+        (each_goes n (listed_below n w.sites ar.emitted) (listed_extends w.sites ar.emitted n) calls (sources_at w.sites s)
+        (λ x c done' e' l' r. (let m = before s x c in one_goes n x (omega (arith, l, m)) (λ u j. fine u (in_tail s u (flat_map (below n w.sites) (sources_at w.sites s)) (in_flat_map (below n w.sites) (sources_at w.sites s) x u c j))) calls done' e' l' r))
+        done e listed
+        (λ x c u j m. let k = before s x c in ready x (of_site x c) u (subst (λ y. Contains y u) (below_enough w.sites before n x (omega (arith, l, k))) j) m)))
+      where
+        of_site : (x : ℕ) → Contains (sources_at w.sites s) x → Contains sources x
+        of_site x c = subst (λ o. Contains (sources_in o) x) at c
+
+        to_site : (x : ℕ) → Contains sources x → Contains (sources_at w.sites s) x
+        to_site x c = subst (λ o. Contains (sources_in o) x) (sym at) c
+
+        values_gone : (x : ℕ) → Contains sources x → content_at w k x ≡ None → site_values w.meaning w.args k (each_term (unfold_site w.sites) sources) ≡ None
+        values_gone x c none = is_none (site_values w.meaning w.args k (each_term (unfold_site w.sites) sources)) (λ h. false≢true (sym (ap is_some none) ∙ values_there w k sources h x c))
+
+        own : (calls' : List Call) → length calls' ≡ suc (length calls) → (t' : ℕ) (ss : List ℕ) (m : ℕ) → slice_get w.sites s ≡ Some (constructor_site t' ss (suc m)) → m < length calls'
+        own calls' len t' ss m e = (let same : i ≡ m = one_instance (sym at ∙ e) in omega (arith, same, len, q))
+          where
+            one_instance : Some (constructor_site t sources (suc i)) ≡ Some (constructor_site t' ss (suc m)) → i ≡ m
+            one_instance h = cc
+
+        then_call : (is_in s ar.emitted || is_in s done) ≡ false → Gone done (each_after (listed_below n w.sites ar.emitted) done (sources_at w.sites s)) calls (Contains (sources_at w.sites s))
+            → CallGone done (each_after (listed_below n w.sites ar.emitted) done (sources_at w.sites s) ++ s ∷ []) calls s t sources
+        then_call f (inr b) =
+            let after = each_after (listed_below n w.sites ar.emitted) done (sources_at w.sites s) in
+            inr (fails_on after (after ++ s ∷ []) calls (s ∷ [], refl) b.0, values_gone b.1 (of_site b.1 b.2) b.3)
+        then_call f (inl g) =
+            let after = each_after (listed_below n w.sites ar.emitted) done (sources_at w.sites s) in
+            let u = still_unlisted n s done f in
+            let c = content_of (content_at w k s) (found s (fine s (in_head s (flat_map (below n w.sites) (sources_at w.sites s)))) (ap waits at) (λ a j. ap is_some (g.1.kept.reads a (g.3 a j)).1)) in
+            let v = then_some (site_values w.meaning w.args k (each_term (unfold_site w.sites) sources)) (call_answer w.meaning t (suc i)) c.0 (sym (content_layer w k before s (constructor_site t sources (suc i)) at) ∙ c.1) in
+            let calls' = calls ++ record { term = t; args = v.0 } ∷ [] in
+            let len : length calls' ≡ suc (length calls) = one_more calls (record { term = t; args = v.0 }) in
+            inl record {
+              env = (s, c.0) ∷ g.0;
+              values = v.0;
+              answer = c.0;
+              held = v.1;
+              there = c.1;
+              listed = record {
+                bound = bind_next after g.0 calls s (all_bound ((s, c.0) ∷ g.0) calls') g.1.bound (ap is_in_place at)
+                    (ap (bind_site w g.0 calls s) at
+                    ∙ ap (constructed w g.0 calls s t (suc i)) (values_read w k before g.0 calls sources (λ x j. let y = g.1.kept.reads x (g.3 x (to_site x j)) in y.2 ∙ sym y.1) ∙ v.1)
+                    ∙ ap (λ j. now_bound g.0 calls' s (impure_answer w.meaning t j)) q
+                    ∙ ap (now_bound g.0 calls' s) v.2);
+                kept = keeps_bound_more after s u g.3 g.0 calls g.1.kept c.0 c.1 calls' (omega (arith, len)) (own calls' len);
+              };
+              grows = λ x j. grown after s u g.3 x (g.2 x j);
+              here = last_here after s u g.3 s refl;
+            }

@@ -89,7 +89,7 @@ module _ (sites : List Site) (sources_before : SourcesBefore sites) where
   abbrev U : ℕ → SiteTerm
   U = unfold_site sites
 
-  each_only : (P : SiteTerm → Type 0) (ss : List ℕ) → CallOnly P (each_term U ss) → (a : ℕ) → Contains ss a → CallsOnly P (U a)
+  pub each_only : (P : SiteTerm → Type 0) (ss : List ℕ) → CallOnly P (each_term U ss) → (a : ℕ) → Contains ss a → CallsOnly P (U a)
   each_only P [] h a c = absurd (nothing_in a c)
   each_only P (s ∷ ss) h a c = elim (in_cases s a ss c) [ inl e ↦ subst (λ x. CallsOnly P (U x)) e h.0 | inr d ↦ each_only P ss h.1 a d ]
 
