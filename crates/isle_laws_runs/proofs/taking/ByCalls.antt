@@ -1,26 +1,30 @@
 -- Taking a rule binds its impure calls in order, then its result: it comes to what following the contents of their sites does.
 use Rattle.std.proofs.Common.{◌≡◌, ◌⊎◌, ℕ, zero, suc, ◌<◌, ◌≤◌, true, false, not, ◌||◌, cond, List, [], ◌∷◌, ◌++◌, map, length, Option, Some, None, is_some, slice_get, Contains, IsTrue, filter, flat_map, refl, sym, ap, ◌∙◌, subst, inl, inr, arith, append-nil, append_assoc}
 use Rattle.std.proofs.lemmas.Bool.{cases_Bool, cases_eq, cond-true, cond-false, or_cases, or_parts, or_from, false_from_ne_true, false≢true}
-use Rattle.std.proofs.lemmas.Option.{none-some, same_Some}
+use Rattle.std.proofs.lemmas.Option.{none-some, same_Some, slice_get_within}
 use Rattle.std.proofs.lemmas.List.{length_push}
 use Rattle.std.proofs.lemmas.List.Elements.{Contains-append_left, Contains-append_right, Contains-append_cases, filter-append, All-contains}
+use Rattle.isle_model.specs.lists.Syntax.{Position}
 use Rattle.isle_model.specs.rules.Values.{Values, value_and, of_variant, of_struct}
 use Rattle.isle_model.specs.rules.Meaning.{Content, one, nothing, just, extractor_answer, impure_answer}
 use Rattle.isle_model.specs.rules.Outcome.{Call, Outcome, then_option}
-use Rattle.isle_model.specs.rules.Picks.{Pick, part_of_some, call_answer, site_values}
-use Rattle.isle_model.specs.sites.Sites.{Site, bool_site, int_site, prim_site, argument_site, extractor_site, constructor_site, iterator_site, make_variant_site, match_variant_site, make_struct_site, extract_struct_site, make_some_site, match_some_site, match_tuple_site, each_term, unfold_site, sources_of, sources_at}
+use Rattle.isle_model.specs.rules.Picks.{Pick, part_of_some, call_answer, site_content, site_values}
+use Rattle.isle_model.specs.sites.Sites.{Site, bool_site, int_site, prim_site, argument_site, extractor_site, constructor_site, iterator_site, make_variant_site, match_variant_site, make_struct_site, extract_struct_site, make_some_site, match_some_site, match_tuple_site, SiteTerm, constructor_call, some_part, SiteTerms, each_term, unfold_site, sources_of, sources_at}
 use Rattle.isle_model.specs.trees.Places.{Around, is_in, waits, is_in_place, below, all_below, each_after, listed_below}
-use Rattle.isle_model.specs.trees.Run.{World, Env, bound_to, used, used_values, as_value, part_at, Bound, all_bound, unwrap_failed, no_content_there, now_bound, unwrapped, constructed, bind_site, then_bind, bind_all}
+use Rattle.isle_model.specs.trees.Run.{World, Env, bound_to, used, used_values, as_value, part_at, Bound, all_bound, unwrap_failed, no_content_there, now_bound, unwrapped, constructed, bind_site, then_bind, bind_all, at_start, with_bound, or_next, with_content, returned, run_tree, run_check}
+use Rattle.isle_model.specs.trees.Trees.{no_step, return_at}
 use Rattle.isle_model.specs.trees.Collects.{content_at, calls_nothing, IsPureSite}
 use Rattle.isle_model.specs.trees.SetRuns.{IsPureAt, IsUnwrap, IsReachedUnder}
-use Rattle.isle_model.proofs.Members.{nothing_in, in_head, in_tail, in_cases, in_alone, in_flat_map, member_found, member_is_in}
+use Rattle.isle_model.proofs.Members.{nothing_in, in_head, in_tail, in_cases, in_alone, get_within, in_flat_map, member_found, member_is_in}
+use Rattle.isle_model.proofs.Elements.{In, in_either}
 use Rattle.isle_model.proofs.Options.{then_some}
 use Rattle.isle_laws_runs.proofs.runs.Below.{below_itself, below_source, below_enough}
 use Rattle.isle_laws_runs.proofs.runs.BindOrders.{to_bind, bind_append}
 use Rattle.isle_laws_runs.proofs.runs.Binding.{content_of}
 use Rattle.isle_laws_runs.proofs.runs.Collected.{pure_site}
 use Rattle.isle_laws_runs.proofs.runs.Contents.{SourcesBefore, sources_in, content_layer}
-use Rattle.isle_laws_runs.proofs.taking.CallsIn.{IsImpureAt}
+use Rattle.isle_laws_runs.proofs.taking.CallsIn.{CallsOnly, CallOnly, Known, IsNext, InOrder, each_only, IsImpureAt, below_only, call_number, unwrap_number}
+use Rattle.isle_laws_runs.proofs.taking.Followed.{Followed, goes_on, stops, then_follow, follow_with, answered_call, follow_call, follow, result_after}
 use Rattle.isle_laws_runs.proofs.taking.Once.{sources_within}
 use Rattle.isle_laws_runs.proofs.taking.Settled.{values_there, sources_there}
 use Rattle.isle_laws_runs.proofs.taking.Used.{used_placed, placed_same, content_placed, bound_elsewhere, used_here, used_stays}
@@ -475,3 +479,199 @@ module _ (w : World) (k : Pick) (before : SourcesBefore w.sites) (ar : Around) (
               grows = λ x j. grown after s u g.3 x (g.2 x j);
               here = last_here after s u g.3 s refl;
             }
+
+    -- 8. and its answer, unwrapped or not
+    module _ (once : (a b : ℕ) → a < length w.sites → b < length w.sites → unfold_site w.sites a ≡ unfold_site w.sites b → a ≡ b) (made : List SiteTerm) where
+      abbrev U : ℕ → SiteTerm
+      U = unfold_site w.sites
+
+      abbrev follow_one : SiteTerm → List Call → Followed
+      follow_one u calls = follow_call w.meaning w.args k u (answered_call u) calls
+
+      record IsAnswered (done more : List ℕ) (calls : List Call) (x : ℕ) : Type 0 where
+        env : Env
+        after : List Call
+        listed : Listed more env after
+        followed : follow_one (U x) calls ≡ goes_on after
+        count : length after ≡ suc (length calls)
+        grows : (u : ℕ) → Here done u → Here more u
+        here : Here more x
+        call_here : (c : ℕ) → c < length w.sites → U c ≡ answered_call (U x) → Here more c
+
+      abbrev Answer : List ℕ → List ℕ → List Call → ℕ → Type 0
+      Answer done more calls x = IsAnswered done more calls x ⊎ ((after : List Call) × (bound_so_far more ≡ unwrap_failed after) × (follow_one (U x) calls ≡ stops after))
+
+      -- the calls in these answers are listed
+      abbrev AreListed : List SiteTerm → List ℕ → Type 0
+      AreListed us done = (c : ℕ) → IsImpureAt w.sites before c → Known us (U c) → Here done c
+
+      followed_with : (u : SiteTerm) (t i : ℕ) (args : SiteTerms) (calls : List Call) → answered_call u ≡ constructor_call t args i → follow_one u calls ≡ follow_with t (site_values w.meaning w.args k args) (site_content w.meaning w.args k u) calls
+      followed_with u t i args calls e = ap (λ c. follow_call w.meaning w.args k u c calls) e
+
+      module _ (earlier : List SiteTerm) (x : ℕ) (known : x < length w.sites) (n : IsNext made earlier (U x)) (fine : (u : ℕ) → Contains (below (suc x) w.sites x) u → Below u)
+          (done : List ℕ) (e : Env) (calls : List Call) (l : Listed done e calls) (q : length earlier ≡ length calls) (listed : AreListed earlier done) where
+        abbrev step_of : ℕ → SiteTerms → ℕ → Type 0
+        step_of s args i = (ss : List ℕ) × (slice_get w.sites s ≡ Some (constructor_site n.term ss (suc i))) × (each_term U ss ≡ args)
+
+        number : (s : ℕ) → s < length w.sites → U s ≡ answered_call (U x) → step_of s n.args (length earlier)
+        number s m same = (let b = get_within w.sites s m in call_number w.sites before s n.term n.args (length earlier) b.0 b.1 (same ∙ n.call))
+
+        ready_sources : (ss : List ℕ) → each_term U ss ≡ n.args → (a : ℕ) → Contains ss a → Ready (suc a) done a
+        ready_sources ss same a c u i m =
+            listed u m (below_only w.sites before (Known earlier) (suc a) a (each_only w.sites before (Known earlier) ss (subst (CallOnly (Known earlier)) (sym same) n.earlier) a c) u i m)
+
+        content_same : (s : ℕ) → U s ≡ U x → content_at w k s ≡ site_content w.meaning w.args k (U x)
+        content_same s same = ap (site_content w.meaning w.args k) same
+
+        followed_made : (ss : List ℕ) → each_term U ss ≡ n.args → (vs : Values) (o : Option Content) → site_values w.meaning w.args k (each_term U ss) ≡ Some vs → content_at w k x ≡ o → follow_one (U x) calls ≡ follow_with n.term (Some vs) o calls
+        followed_made ss same vs o v c =
+            followed_with (U x) n.term (suc (length earlier)) n.args calls n.call
+            ∙ ap (λ y. follow_with n.term y (content_at w k x) calls) (ap (site_values w.meaning w.args k) (sym same) ∙ v)
+            ∙ ap (λ y. follow_with n.term (Some vs) y calls) c
+
+        followed_gone : (ss : List ℕ) → each_term U ss ≡ n.args → site_values w.meaning w.args k (each_term U ss) ≡ None → follow_one (U x) calls ≡ stops calls
+        followed_gone ss same v =
+            followed_with (U x) n.term (suc (length earlier)) n.args calls n.call
+            ∙ ap (λ y. follow_with n.term y (content_at w k x) calls) (ap (site_values w.meaning w.args k) (sym same) ∙ v)
+
+        plain : U x ≡ answered_call (U x) → Answer done (listed_below (suc x) w.sites ar.emitted done x) calls x
+        plain same =
+            let m = number x known same in
+            elim (call_goes (suc x) x (omega arith) fine n.term (length earlier) m.0 m.1 done e calls l (sym q) (ready_sources m.0 m.2)) [
+              | inl g ↦ inl (record {
+                env = g.env;
+                after = calls ++ record { term = n.term; args = g.values } ∷ [];
+                listed = g.listed;
+                followed = followed_made m.0 m.2 g.values (Some g.answer) g.held g.there;
+                count = one_more calls (record { term = n.term; args = g.values });
+                grows = g.grows;
+                here = g.here;
+                call_here = λ c lt r. subst (Here (listed_below (suc x) w.sites ar.emitted done x)) (sym (once c x lt known (r ∙ sym same))) g.here;
+              })
+              | inr b ↦ inr (calls, b.0, followed_gone m.0 m.2 b.1)
+            ]
+
+        unwrapped_answer : U x ≡ some_part (answered_call (U x)) → Answer done (listed_below (suc x) w.sites ar.emitted done x) calls x
+        unwrapped_answer same =
+            let b = get_within w.sites x known in
+            let y = unwrap_number w.sites before x (answered_call (U x)) b.0 b.1 same in
+            of_call y.0 y.1 y.2
+          where
+            of_call : (y : ℕ) → slice_get w.sites x ≡ Some (match_some_site y) → U y ≡ answered_call (U x) → Answer done (listed_below (suc x) w.sites ar.emitted done x) calls x
+            of_call y at part =
+                let source : Contains (sources_at w.sites x) y = subst (λ o. Contains (sources_in o) y) (sym at) (in_head y []) in
+                let less = before x y source in
+                let lt : y < length w.sites = omega (arith, less, known) in
+                let m = number y lt part in
+                let impure : IsImpureAt w.sites before y = (n.term, m.0, length earlier, m.1) in
+                let under : Contains (below (suc x) w.sites x) y = below_source w.sites x x y y source (subst (λ z. Contains z y) (sym (below_enough w.sites before x y less)) (below_itself w.sites y)) in
+                let not_here : Here done x → ⊥ = λ i. elim i [
+                  | inl k ↦ not_emitted x y under impure k
+                  | inr c ↦ call_fresh y n.term (length earlier) m.0 m.1 done e calls l.kept (sym q) (l.kept.closed x y c source)
+                ] in
+                let f = not_listed done x not_here in
+                let rest = each_after (listed_below x w.sites ar.emitted) done (sources_at w.sites x) in
+                let one_source : sources_at w.sites x ≡ y ∷ [] = ap sources_in at in
+                let g = call_goes x y less
+                (λ u i. fine u (below_source w.sites x x y u source i))
+                n.term (length earlier) m.0 m.1 done e calls l (sym q) (ready_sources m.0 m.2) in
+                let h : CallGone done rest calls y n.term m.0 = subst (λ z. CallGone done (each_after (listed_below x w.sites ar.emitted) done z) calls y n.term m.0) (sym one_source) g in
+                subst (λ z. Answer done z calls x) (sym (cond-false (is_in x ar.emitted || is_in x done) done (rest ++ x ∷ []) f))
+                (elim h [
+                  | inl r ↦ then_unwrap y at part lt m f one_source r
+                  | inr r ↦ inr (calls, fails_on rest (rest ++ x ∷ []) calls (x ∷ [], refl) r.0, followed_gone m.0 m.2 r.1)
+                ])
+              where
+                then_unwrap : (y : ℕ) → slice_get w.sites x ≡ Some (match_some_site y) → U y ≡ answered_call (U x) → y < length w.sites → (m : step_of y n.args (length earlier)) → (is_in x ar.emitted || is_in x done) ≡ false → sources_at w.sites x ≡ y ∷ []
+                    → CallMade done (each_after (listed_below x w.sites ar.emitted) done (sources_at w.sites x)) calls y n.term m.0 → Answer done (each_after (listed_below x w.sites ar.emitted) done (sources_at w.sites x) ++ x ∷ []) calls x
+                then_unwrap y at part lt m f one_source r =
+                    let rest = each_after (listed_below x w.sites ar.emitted) done (sources_at w.sites x) in
+                    let u = still_unlisted x x done f in
+                    let calls' = calls ++ record { term = n.term; args = r.values } ∷ [] in
+                    let sources : (a : ℕ) → Contains (sources_at w.sites x) a → Here rest a = λ a c. subst (Here rest) (in_alone y a (subst (λ z. Contains z a) one_source c)) r.here in
+                    elim (put_pure rest r.env calls' r.listed x (fine x (below_itself w.sites x)) u sources (ap calls_nothing at)) [
+                      | inl p ↦
+                          let c = p.1.kept.reads x (last_here rest x u sources x refl) in
+                          inl (record {
+                            env = p.0;
+                            after = calls';
+                            listed = p.1;
+                            followed = followed_made m.0 m.2 r.values (Some c.0) r.held c.1;
+                            count = one_more calls (record { term = n.term; args = r.values });
+                            grows = λ t i. grown rest x u sources t (r.grows t i);
+                            here = last_here rest x u sources x refl;
+                            call_here = λ c lc s. subst (Here (rest ++ x ∷ [])) (sym (once c y lc lt (s ∙ sym part))) (grown rest x u sources y r.here);
+                          })
+                      | inr p ↦ inr (calls', p.0, followed_made m.0 m.2 r.values None r.held p.1)
+                    ]
+
+        answer_goes : Answer done (listed_below (suc x) w.sites ar.emitted done x) calls x
+        answer_goes = elim n.answer [ inl same ↦ plain same | inr same ↦ unwrapped_answer same ]
+
+      -- 9. all answers in order, then the result
+      module _ (at : Position) (result : ℕ) (multi : w.multi ≡ false) where
+        abbrev ends : Bound → Outcome
+        ends b = with_bound b at_start (λ env t. or_next (run_check (return_at at result) w env t) (run_tree no_step w env))
+
+        abbrev list_one : List ℕ → ℕ → List ℕ
+        list_one done s = listed_below (suc s) w.sites ar.emitted done s
+
+        list_extends : (done : List ℕ) (s : ℕ) → Extends done (list_one done s)
+        list_extends done s = listed_extends w.sites ar.emitted (suc s) done s
+
+        ends_there : (e : Env) (calls : List Call) (c : Content) → used w e result ≡ Some c → ends (all_bound e calls) ≡ result_after (Some c) (goes_on calls)
+        ends_there e calls c h =
+            ap (λ o. or_next (with_content o (record { calls = calls; results = [] }) (returned w.multi (record { calls = calls; results = [] }))) (run_tree no_step w e)) h
+            ∙ ap (λ b. or_next (returned b (record { calls = calls; results = [] }) c) (run_tree no_step w e)) multi
+
+        walk : (ns : List ℕ) (earlier : List SiteTerm) → ((x : ℕ) → Contains ns x → x < length w.sites) → ((x : ℕ) → Contains (ns ++ result ∷ []) x → (u : ℕ) → Contains (below (suc x) w.sites x) u → Below u)
+            → InOrder made earlier (map U ns) → CallsOnly (Known (earlier ++ map U ns)) (U result)
+            → (done : List ℕ) (e : Env) (calls : List Call) → Listed done e calls → length earlier ≡ length calls → AreListed earlier done
+            → ends (bound_so_far (each_after list_one done (ns ++ result ∷ []))) ≡ result_after (content_at w k result) (follow w.meaning w.args k (map U ns) calls)
+        walk [] earlier known fine order only done e calls l q listed =
+            elim (one_goes (suc result) result (omega arith) (fine result (in_head result [])) calls done e l
+            (λ u i m. listed u m (subst (λ us. Known us (U u)) (append-nil earlier) (below_only w.sites before (Known (earlier ++ [])) (suc result) result only u i m)))) [
+              | inl g ↦
+                  let c = g.1.kept.reads result (g.3 result refl) in
+                  ap ends g.1.bound ∙ ends_there g.0 calls c.0 c.2 ∙ ap (λ o. result_after o (goes_on calls)) (sym c.1)
+              | inr b ↦ ap ends b.0 ∙ ap (λ o. result_after o (goes_on calls)) (sym (ap (content_at w k) b.2 ∙ b.3))
+            ]
+        walk (x ∷ ns) earlier known fine order only done e calls l q listed =
+            let go = follow w.meaning w.args k (map U ns) in
+            elim (answer_goes earlier x (known x (in_head x ns)) order.0 (fine x (in_head x (ns ++ result ∷ []))) done e calls l q listed) [
+              | inl a ↦
+                  walk ns (earlier ++ U x ∷ []) (λ y c. known y (in_tail x y ns c)) (λ y c. fine y (in_tail x y (ns ++ result ∷ []) c)) order.1
+                  (subst (λ us. CallsOnly (Known us) (U result)) (sym (append_assoc earlier (U x ∷ []) (map U ns))) only)
+                  (list_one done x) a.env a.after a.listed (more_counted a.after a.count) (more_listed (list_one done x) a.grows a.here a.call_here)
+                  ∙ ap (λ f. result_after (content_at w k result) (then_follow f go)) (sym a.followed)
+              | inr b ↦
+                  ap ends (fails_on (list_one done x) (each_after list_one (list_one done x) (ns ++ result ∷ [])) b.0 (each_extends list_one list_extends (ns ++ result ∷ []) (list_one done x)) b.1)
+                  ∙ stopped (content_at w k result) b.0
+                  ∙ ap (λ f. result_after (content_at w k result) (then_follow f go)) (sym b.2)
+            ]
+          where
+            stopped : (o : Option Content) (calls' : List Call) → ends (unwrap_failed calls') ≡ result_after o (stops calls')
+            stopped o calls' = refl
+
+            more_counted : (after : List Call) → length after ≡ suc (length calls) → length (earlier ++ U x ∷ []) ≡ length after
+            more_counted after p = one_more earlier (U x) ∙ ap suc q ∙ sym p
+
+            more_listed : (more : List ℕ) → ((u : ℕ) → Here done u → Here more u) → Here more x → ((c : ℕ) → c < length w.sites → U c ≡ answered_call (U x) → Here more c) → AreListed (earlier ++ U x ∷ []) more
+            more_listed more grows here call_here c m (inl i) =
+                elim (in_either earlier (U x ∷ []) (U c) i) [
+                  | inl j ↦ grows c (listed c m (inl j))
+                  | inr j ↦ subst (Here more) (once x c (known x (in_head x ns)) (slice_get_within w.sites c (constructor_site m.0 m.1 (suc m.2)) m.3) (alone (U x) (U c) j)) here
+                ]
+              where
+                alone : (a b : SiteTerm) → In (a ∷ []) b → a ≡ b
+                alone a b (inl e) = e
+                alone a b (inr n) = absurd n
+            more_listed more grows here call_here c m (inr i) =
+                elim (in_either earlier (U x ∷ []) (some_part (U c)) i) [
+                  | inl j ↦ grows c (listed c m (inr j))
+                  | inr j ↦ call_here c (slice_get_within w.sites c (constructor_site m.0 m.1 (suc m.2)) m.3) (sym (ap answered_call (only_one (U x) (some_part (U c)) j)))
+                ]
+              where
+                only_one : (a b : SiteTerm) → In (a ∷ []) b → a ≡ b
+                only_one a b (inl e) = e
+                only_one a b (inr n) = absurd n
