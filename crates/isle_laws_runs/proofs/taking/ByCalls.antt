@@ -1,7 +1,7 @@
 -- Taking a rule binds its impure calls in order, then its result: it comes to what following the contents of their sites does.
-use Rattle.std.proofs.Common.{◌≡◌, ◌⊎◌, ℕ, zero, suc, ◌<◌, ◌≤◌, true, false, not, ◌||◌, cond, List, [], ◌∷◌, ◌++◌, map, length, Option, Some, None, is_some, slice_get, Contains, IsTrue, filter, flat_map, refl, sym, ap, ◌∙◌, subst, inl, inr, arith, append-nil, append_assoc}
+use Rattle.std.proofs.Common.{◌≡◌, ◌⊎◌, ℕ, zero, suc, ◌<◌, ◌≤◌, true, false, not, ◌||◌, cond, List, [], ◌∷◌, ◌++◌, map, length, Option, Some, None, is_some, slice_get, Contains, IsTrue, flat_map, refl, sym, ap, ◌∙◌, subst, inl, inr, arith, append-nil, append_assoc}
 use Rattle.std.proofs.lemmas.Bool.{cases_Bool, cases_eq, cond-true, cond-false, or_cases, or_parts, or_from, false_from_ne_true, false≢true}
-use Rattle.std.proofs.lemmas.Option.{none-some, same_Some, slice_get_within}
+use Rattle.std.proofs.lemmas.Option.{same_Some, slice_get_within}
 use Rattle.std.proofs.lemmas.List.{length_push}
 use Rattle.std.proofs.lemmas.List.Elements.{Contains-append_left, Contains-append_right, Contains-append_cases, filter-append, All-contains}
 use Rattle.isle_model.specs.lists.Syntax.{Position}
@@ -9,12 +9,12 @@ use Rattle.isle_model.specs.rules.Values.{Values, value_and, of_variant, of_stru
 use Rattle.isle_model.specs.rules.Meaning.{Content, one, nothing, just, extractor_answer, impure_answer}
 use Rattle.isle_model.specs.rules.Outcome.{Call, Outcome, then_option}
 use Rattle.isle_model.specs.rules.Picks.{Pick, part_of_some, call_answer, site_content, site_values}
-use Rattle.isle_model.specs.sites.Sites.{Site, bool_site, int_site, prim_site, argument_site, extractor_site, constructor_site, iterator_site, make_variant_site, match_variant_site, make_struct_site, extract_struct_site, make_some_site, match_some_site, match_tuple_site, SiteTerm, constructor_call, some_part, SiteTerms, each_term, unfold_site, sources_of, sources_at}
-use Rattle.isle_model.specs.trees.Places.{Around, is_in, waits, is_in_place, below, all_below, each_after, listed_below}
-use Rattle.isle_model.specs.trees.Run.{World, Env, bound_to, used, used_values, as_value, part_at, Bound, all_bound, unwrap_failed, no_content_there, now_bound, unwrapped, constructed, bind_site, then_bind, bind_all, at_start, with_bound, or_next, with_content, returned, run_tree, run_check}
+use Rattle.isle_model.specs.sites.Sites.{Site, bool_site, int_site, prim_site, argument_site, extractor_site, constructor_site, iterator_site, make_variant_site, match_variant_site, make_struct_site, extract_struct_site, make_some_site, match_some_site, match_tuple_site, SiteTerm, constructor_call, some_part, SiteTerms, each_term, unfold_site, SetRule, sources_of, sources_at}
+use Rattle.isle_model.specs.trees.Places.{Around, is_in, waits, is_in_place, below, all_below, each_after, listed_below, return_uses}
+use Rattle.isle_model.specs.trees.Run.{World, Env, bound_to, used, used_values, as_value, part_at, Bound, all_bound, unwrap_failed, now_bound, unwrapped, constructed, bind_site, then_bind, bind_all, at_start, with_bound, or_next, with_content, returned, run_tree, run_check}
 use Rattle.isle_model.specs.trees.Trees.{no_step, return_at}
 use Rattle.isle_model.specs.trees.Collects.{content_at, calls_nothing, IsPureSite}
-use Rattle.isle_model.specs.trees.SetRuns.{IsPureAt, IsUnwrap, IsReachedUnder}
+use Rattle.isle_model.specs.trees.SetRuns.{IsPureAt, IsUnwrap, IsReachedUnder, IsTakenUnder}
 use Rattle.isle_model.proofs.Members.{nothing_in, in_head, in_tail, in_cases, in_alone, get_within, in_flat_map, member_found, member_is_in}
 use Rattle.isle_model.proofs.Elements.{In, in_either}
 use Rattle.isle_model.proofs.Options.{then_some}
@@ -675,3 +675,17 @@ module _ (w : World) (k : Pick) (before : SourcesBefore w.sites) (ar : Around) (
                 only_one : (a b : SiteTerm) → In (a ∷ []) b → a ≡ b
                 only_one a b (inl e) = e
                 only_one a b (inr n) = absurd n
+
+-- 10. the outcome of a rule that is taken, where all that stands below what it returns for and waits for nothing has a content
+-- if its sources have, and all that is unwrapped may answer nothing
+pub taken_follows : (w : World) (k : Pick) (before : SourcesBefore w.sites) (r : SetRule) (o : Outcome) → IsTakenUnder w k r o → w.multi ≡ false
+    → ((a b : ℕ) → a < length w.sites → b < length w.sites → unfold_site w.sites a ≡ unfold_site w.sites b → a ≡ b)
+    → ((s : ℕ) → Contains (all_below w.sites (return_uses (Some r))) s → waits (slice_get w.sites s) ≡ false → ((a : ℕ) → Contains (sources_at w.sites s) a → IsTrue (is_some (content_at w k a))) → IsTrue (is_some (content_at w k s)))
+    → ((s source : ℕ) → Contains (all_below w.sites (return_uses (Some r))) s → slice_get w.sites s ≡ Some (match_some_site source) → (c : Content) → content_at w k source ≡ Some c → (c ≡ nothing) ⊎ ((d : Content) × (c ≡ just d)))
+    → (made : List SiteTerm) → ((x : ℕ) → Contains r.impure x → x < length w.sites) → InOrder made [] (map (unfold_site w.sites) r.impure) → CallsOnly (Known (map (unfold_site w.sites) r.impure)) (unfold_site w.sites r.result)
+    → o ≡ result_after (content_at w k r.result) (follow w.meaning w.args k (map (unfold_site w.sites) r.impure) [])
+taken_follows w k before r o t multi once found maybe made known order only =
+    t.outcome
+    ∙ walk w k before t.around t.env t.reached (return_uses (Some r)) t.gates found maybe once made r.at r.result multi r.impure [] known
+    (λ x c u i. in_flat_map (λ s. below (suc s) w.sites s) (return_uses (Some r)) x u c i)
+    order only [] t.env [] (nothing_listed w k before t.around t.env t.reached) refl (λ c m i. elim i [ inl n ↦ absurd n | inr n ↦ absurd n ])

@@ -1,8 +1,8 @@
 -- The impure calls that stand in sites: in trees, and by the numbers of sites.
-use Rattle.std.proofs.Common.{◌≡◌, ◌⊎◌, ℕ, zero, suc, List, [], ◌∷◌, ◌++◌, length, Option, Some, None, slice_get, Contains, flat_map, refl, sym, ap, ◌∙◌, subst, inl, inr}
+use Rattle.std.proofs.Common.{◌≡◌, ◌⊎◌, ℕ, zero, suc, List, [], ◌∷◌, ◌++◌, length, Option, Some, None, slice_get, Contains, flat_map, refl, sym, ◌∙◌, subst, inl, inr}
 use Rattle.isle_model.specs.sites.Sites.{Site, bool_site, int_site, prim_site, argument_site, extractor_site, constructor_site, iterator_site, make_variant_site, match_variant_site, make_struct_site, extract_struct_site, make_some_site, match_some_site, match_tuple_site, SiteTerm, bool_term, int_term, prim_term, argument, extractor_call, constructor_call, pick_of, variant_made, variant_field, struct_made, struct_field, some_made, some_part, tuple_part, no_site, SiteTerms, no_site_term, site_term_and, each_term, layer, unfold_site, sources_of, sources_at}
 use Rattle.isle_model.specs.trees.Places.{below}
-use Rattle.isle_model.proofs.Elements.{In, in_left, none_some, some_is}
+use Rattle.isle_model.proofs.Elements.{In, in_left}
 use Rattle.isle_model.proofs.Members.{nothing_in, in_cases, in_alone, from_flat_map}
 use Rattle.isle_laws_runs.proofs.runs.Contents.{SourcesBefore, sources_in, unfolded_layer}
 use Rattle.isle_laws_runs.proofs.taking.Followed.{answered_call}

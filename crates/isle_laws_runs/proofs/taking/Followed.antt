@@ -1,5 +1,5 @@
 -- What taking a rule comes to by the contents of its sites: its impure calls in order, then its result.
-use Rattle.std.proofs.Common.{◌≡◌, ℕ, List, [], ◌∷◌, ◌++◌, Option, Some, None, refl, ap, ◌∙◌}
+use Rattle.std.proofs.Common.{◌≡◌, ℕ, List, [], ◌∷◌, ◌++◌, Option, Some, None, refl}
 use Rattle.isle_model.specs.rules.Values.{Value, Values}
 use Rattle.isle_model.specs.rules.Meaning.{Content, Meaning}
 use Rattle.isle_model.specs.rules.Outcome.{Call, ended, failed, Outcome}
