@@ -102,7 +102,7 @@ module _ (e : TypesRead) (defs : List Definition) (expand : Bool) (rules : Typed
       rules_stand p n rs [] (λ u i. absurd i) rs (λ r i. (i, known r i)) (unfold_site set.sites s)
       (in_slice (sites_after_rules p [] rs) s (unfold_site set.sites s) (b.sites.exact s l))
 
-  is_served : IsServed p n rs w
+  pub is_served : IsServed p n rs w
   is_served = record {
     before = b.sources;
     forms = λ s l. (stands s l).form;
