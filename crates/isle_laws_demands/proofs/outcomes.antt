@@ -3,3 +3,4 @@ pub mod Quiet
 pub mod Sited
 pub mod Ordered
 pub mod Evals
+pub mod RightSides

@@ -201,17 +201,18 @@ made_comes g s n t vs calls None h q = refl
 made_comes g s n t vs calls (Some v) h q = (let l = length_push calls (record { term = t; args = vs }) in (refl, omega (arith, l, q), h))
 
 -- 5. terms
+-- an impure call of this term that a visit makes is answered, where its arguments have values
+abbrev pub IsServedCall : Given → Visit → ℕ → Type 0
+IsServedCall g z t =
+    (ss : SiteTerms) (n : ℕ) (vs : Values) → In z.demands.made (constructor_call t ss (suc n)) → values_of g ss ≡ Some vs → Fits (impure_answer g.meaning t n) (fits_constructor g.program t (kind g.program t))
+
+-- a term is pure, or answers once and is answered
+abbrev pub MayBeCalled : Given → Visit → ℕ → Type 0
+MayBeCalled g z t = IsTrue (is_pure g.program t) ⊎ ((is_multi g.program t ≡ false) × IsServedCall g z t)
+
 module _ (g : Given) (z : Visit) (h : IsAnswered g z.demands) (neither : HasNoPartialMulti g.program) where
   abbrev p : Program
   p = g.program
-
-  -- an impure call of this term is answered, where its arguments have values
-  abbrev pub IsServedCall : ℕ → Type 0
-  IsServedCall t = (ss : SiteTerms) (n : ℕ) (vs : Values) → In z.demands.made (constructor_call t ss (suc n)) → values_of g ss ≡ Some vs → Fits (impure_answer g.meaning t n) (fits_constructor p t (kind p t))
-
-  -- a term is pure, or answers once and is answered
-  abbrev pub MayBeCalled : ℕ → Type 0
-  MayBeCalled t = IsTrue (is_pure p t) ⊎ ((is_multi p t ≡ false) × IsServedCall t)
 
   -- a term, after its arguments
   abbrev TermCame : ValuedAll → Valued → Followed → Eval → Type 0
@@ -235,7 +236,7 @@ module _ (g : Given) (z : Visit) (h : IsAnswered g z.demands) (neither : HasNoPa
         (fits_here (record { pure = true; multi = multi; partial = partial; rec = rec }) infallible c.answer q c.right)
         ∙ ap (λ r. from_value (then_option (then_option r (taken_answer multi g.pick (constructor_call t ss 0))) single)) (sym c.there)
 
-    impure_comes : (partial rec infallible : Bool) → kind p t ≡ a_call (record { pure = false; multi = false; partial = partial; rec = rec }) infallible → IsServedCall t → (ss own : SiteTerms) (n : ℕ) (o : Option Values) → values_of g ss ≡ o
+    impure_comes : (partial rec infallible : Bool) → kind p t ≡ a_call (record { pure = false; multi = false; partial = partial; rec = rec }) infallible → IsServedCall g z t → (ss own : SiteTerms) (n : ℕ) (o : Option Values) → values_of g ss ≡ o
         → In z.demands.made (constructor_call t ss (suc n)) → (calls : List Call) → length calls ≡ n
         → Comes g (call_result (record { pure = false; multi = false; partial = partial; rec = rec }) (constructor_call t ss (suc n))) (suc n)
         (then_follow (follow_with t (values_of g ss) (content_of g (call_result (record { pure = false; multi = false; partial = partial; rec = rec }) (constructor_call t ss (suc n)))) calls) goes_on)
@@ -256,7 +257,7 @@ module _ (g : Given) (z : Visit) (h : IsAnswered g z.demands) (neither : HasNoPa
         (subst (λ r. Comes g u (suc n) (then_follow (follow_with t (Some vs) (from_value (single c.answer)) calls) goes_on) (or_end (then_option (then_option r (taken_answer false g.pick (constructor_call t own (suc (length calls))))) single) after)) (sym answered)
         (made_comes g u n t vs calls (single c.answer) holds len)))
 
-    call_came : (pure multi partial rec infallible : Bool) → kind p t ≡ a_call (record { pure = pure; multi = multi; partial = partial; rec = rec }) infallible → (pure ≡ true) ⊎ ((multi ≡ false) × IsServedCall t) → (a : ValuedAll) (o : Option Values) → values_of g a.sites ≡ o
+    call_came : (pure multi partial rec infallible : Bool) → kind p t ≡ a_call (record { pure = pure; multi = multi; partial = partial; rec = rec }) infallible → (pure ≡ true) ⊎ ((multi ≡ false) × IsServedCall g z t) → (a : ValuedAll) (o : Option Values) → values_of g a.sites ≡ o
         → Grown (visit_call (record { pure = pure; multi = multi; partial = partial; rec = rec }) t a.sites a.visit).visit z → (calls : List Call) → length calls ≡ a.visit.impure_calls
         → TermCame a (visit_call (record { pure = pure; multi = multi; partial = partial; rec = rec }) t a.sites a.visit) (goes_on calls) (applied_under (a_call (record { pure = pure; multi = multi; partial = partial; rec = rec }) infallible) g.meaning g.pick t a.sites o calls)
     call_came true true true rec infallible q s a o e l calls len = absurd (not_both true true true rec infallible q refl refl)
@@ -290,7 +291,7 @@ module _ (g : Given) (z : Visit) (h : IsAnswered g z.demands) (neither : HasNoPa
           impure_comes false rec infallible q s.1 a.sites a.sites n o e (l.made call (in_right a.visit.demands.made (call ∷ []) call (inl refl))) calls len,
         )
 
-    goes_came : (k : Kind) → kind p t ≡ k → IsTrue (flags_of k).pure ⊎ (((flags_of k).multi ≡ false) × IsServedCall t) → (a : ValuedAll) (o : Option Values) → values_of g a.sites ≡ o → Grown (visit_term k t a).visit z → (calls : List Call) → length calls ≡ a.visit.impure_calls
+    goes_came : (k : Kind) → kind p t ≡ k → IsTrue (flags_of k).pure ⊎ (((flags_of k).multi ≡ false) × IsServedCall g z t) → (a : ValuedAll) (o : Option Values) → values_of g a.sites ≡ o → Grown (visit_term k t a).visit z → (calls : List Call) → length calls ≡ a.visit.impure_calls
         → TermCame a (visit_term k t a) (goes_on calls) (applied_under k g.meaning g.pick t a.sites o calls)
     goes_came (a_variant ty variant) q s a o e l calls len =
         (adds_kept a.visit (visit_term (a_variant ty variant) t a).visit refl, (refl, len, ap (λ r. then_option r (λ vs. Some (one (of_variant ty variant vs)))) e ∙ made_holds o (of_variant ty variant)))
@@ -299,7 +300,7 @@ module _ (g : Given) (z : Visit) (h : IsAnswered g z.demands) (neither : HasNoPa
     goes_came (a_call flags infallible) q s a o e l calls len = call_came flags.pure flags.multi flags.partial flags.rec infallible q s a o e l calls len
     goes_came unknown q s a o e l calls len = absurd (term_known p t x there q)
 
-    term_came : MayBeCalled t → (a : ValuedAll) (own : SiteTerms) → own ≡ a.sites → Grown (visit_term (kind p t) t a).visit z → (f : Followed) (ev : EvalAll) → ComesAll g a.sites a.visit.impure_calls f ev
+    term_came : MayBeCalled g z t → (a : ValuedAll) (own : SiteTerms) → own ≡ a.sites → Grown (visit_term (kind p t) t a).visit z → (f : Followed) (ev : EvalAll) → ComesAll g a.sites a.visit.impure_calls f ev
         → TermCame a (visit_term (kind p t) t a) f (apply_under (kind p t) g.meaning g.pick t own ev)
     term_came s a own same l (goes_on c) (gives_all o c') k =
         subst (λ ss. TermCame a (visit_term (kind p t) t a) (goes_on c) (applied_under (kind p t) g.meaning g.pick t ss o c')) (sym same)
@@ -311,7 +312,7 @@ module _ (g : Given) (z : Visit) (h : IsAnswered g z.demands) (neither : HasNoPa
 
   -- 6. expressions
   mutual
-    pub expr_came : (x : TypedExpr) (v : Visit) (vars : List (ℕ × ℕ)) (e : SitedVars) (calls : List Call) → is_formed_expr p x vars ≡ true → CallsAlone MayBeCalled x → AreWorth g vars e v.vars → length calls ≡ v.impure_calls → Grown (visit_expr p x v).visit z
+    pub expr_came : (x : TypedExpr) (v : Visit) (vars : List (ℕ × ℕ)) (e : SitedVars) (calls : List Call) → is_formed_expr p x vars ≡ true → CallsAlone (MayBeCalled g z) x → AreWorth g vars e v.vars → length calls ≡ v.impure_calls → Grown (visit_expr p x v).visit z
         → Came g v (visit_expr p x v) calls (eval_under p g.meaning g.pick x e calls)
     expr_came (make_term ty t args) v vars e calls f s w n l =
         let a = from_term p ty t args vars f in
@@ -335,7 +336,7 @@ module _ (g : Given) (z : Visit) (h : IsAnswered g z.demands) (neither : HasNoPa
         then_the_body g v a.0 u (visit_expr p body u) calls r.adds (follow_in g r.adds.new calls) (eval_lets_under p g.meaning g.pick ds e calls) refl r.comes (expr_adds_calls p body u) (λ e' c. eval_under p g.meaning g.pick body e' c)
         (λ e' c k y. expr_came body u a.0 e' c a.3 s.1 y k l)
 
-    exprs_came : (xs : TypedExprs) (v : Visit) (tys : List ℕ) (vars : List (ℕ × ℕ)) (e : SitedVars) (calls : List Call) → are_formed_args p xs tys vars ≡ true → CallAlone MayBeCalled xs → AreWorth g vars e v.vars → length calls ≡ v.impure_calls → Grown (visit_exprs p xs v).visit z
+    exprs_came : (xs : TypedExprs) (v : Visit) (tys : List ℕ) (vars : List (ℕ × ℕ)) (e : SitedVars) (calls : List Call) → are_formed_args p xs tys vars ≡ true → CallAlone (MayBeCalled g z) xs → AreWorth g vars e v.vars → length calls ≡ v.impure_calls → Grown (visit_exprs p xs v).visit z
         → CameAll g v (visit_exprs p xs v) calls (eval_all_under p g.meaning g.pick xs e calls)
     exprs_came no_typed_expr v [] vars e calls f s w n l = record { adds = adds_kept v v refl; comes = (refl, n, refl) }
     exprs_came no_typed_expr v (ty ∷ tys) vars e calls f s w n l = absurd (false≢true f)
@@ -348,7 +349,7 @@ module _ (g : Given) (z : Visit) (h : IsAnswered g z.demands) (neither : HasNoPa
         then_args g v b (visit_exprs p xs u) calls r.adds (follow_in g r.adds.new calls) (eval_under p g.meaning g.pick x e calls) refl r.comes (exprs_add_calls p xs u) (λ c. eval_all_under p g.meaning g.pick xs e c)
         (λ c k. exprs_came xs u tys vars e c a.2 s.1 (worth_moved g vars e v u (expr_keeps p x v vars a.1) w) k l)
 
-    lets_came : (ds : TypedLets) (v : Visit) (vars more : List (ℕ × ℕ)) (e : SitedVars) (calls : List Call) → formed_lets p ds vars ≡ Some more → LetsCallAlone MayBeCalled ds → AreWorth g vars e v.vars → length calls ≡ v.impure_calls → Grown (visit_lets p ds v) z
+    lets_came : (ds : TypedLets) (v : Visit) (vars more : List (ℕ × ℕ)) (e : SitedVars) (calls : List Call) → formed_lets p ds vars ≡ Some more → LetsCallAlone (MayBeCalled g z) ds → AreWorth g vars e v.vars → length calls ≡ v.impure_calls → Grown (visit_lets p ds v) z
         → CameLets g v more (visit_lets p ds v) calls (eval_lets_under p g.meaning g.pick ds e calls)
     lets_came no_typed_let v vars more e calls f s w n l = record { adds = adds_kept v v refl; comes = (refl, n, subst (λ vs. AreWorth g vs e v.vars) (some_is vars more f) w) }
     lets_came (typed_let_and x ty value rest) v vars more e calls f s w n l =

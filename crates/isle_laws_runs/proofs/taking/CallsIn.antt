@@ -1,8 +1,8 @@
 -- The impure calls that stand in sites: in trees, and by the numbers of sites.
-use Rattle.std.proofs.Common.{◌≡◌, ◌⊎◌, ℕ, zero, suc, List, [], ◌∷◌, ◌++◌, length, Option, Some, None, slice_get, Contains, flat_map, refl, sym, ◌∙◌, subst, inl, inr}
+use Rattle.std.proofs.Common.{◌≡◌, ◌⊎◌, ℕ, zero, suc, List, [], ◌∷◌, ◌++◌, length, Option, Some, None, slice_get, Contains, flat_map, refl, sym, ◌∙◌, subst, inl, inr, append_assoc}
 use Rattle.isle_model.specs.sites.Sites.{Site, bool_site, int_site, prim_site, argument_site, extractor_site, constructor_site, iterator_site, make_variant_site, match_variant_site, make_struct_site, extract_struct_site, make_some_site, match_some_site, match_tuple_site, SiteTerm, bool_term, int_term, prim_term, argument, extractor_call, constructor_call, pick_of, variant_made, variant_field, struct_made, struct_field, some_made, some_part, tuple_part, no_site, SiteTerms, no_site_term, site_term_and, each_term, layer, unfold_site, sources_of, sources_at}
 use Rattle.isle_model.specs.trees.Places.{below}
-use Rattle.isle_model.proofs.Elements.{In, in_left}
+use Rattle.isle_model.proofs.Elements.{In, in_left, in_right}
 use Rattle.isle_model.proofs.Members.{nothing_in, in_cases, in_alone, from_flat_map}
 use Rattle.isle_laws_runs.proofs.runs.Contents.{SourcesBefore, sources_in, unfolded_layer}
 use Rattle.isle_laws_runs.proofs.taking.Followed.{answered_call}
@@ -85,6 +85,30 @@ abbrev pub InOrder : List SiteTerm → List SiteTerm → List SiteTerm → Type 
 InOrder made before [] = Unit {0}
 InOrder made before (u ∷ us) = IsNext made before u × InOrder made (before ++ u ∷ []) us
 
+-- each of them is one of the sites made, and the impure calls at or in it are among all
+pub order_listed : (made before us : List SiteTerm) → InOrder made before us → (u : SiteTerm) → In us u → In made (answered_call u) × CallsOnly (Known (before ++ us)) u
+order_listed made before [] h u i = absurd i
+order_listed made before (x ∷ us) h u (inl e) = subst (λ y. In made (answered_call y) × CallsOnly (Known (before ++ x ∷ us)) y) e (h.0.listed, all_known h.0.answer)
+  where
+    here : In (before ++ x ∷ us) x
+    here = in_right before (x ∷ us) x (inl refl)
+
+    args_known : CallOnly (Known (before ++ x ∷ us)) h.0.args
+    args_known = call_more (Known before) (Known (before ++ x ∷ us)) (λ y k. known_more before (x ∷ us) y k) h.0.args h.0.earlier
+
+    call_known : Known (before ++ x ∷ us) (answered_call x) → CallsOnly (Known (before ++ x ∷ us)) (answered_call x)
+    call_known k = subst (CallsOnly (Known (before ++ x ∷ us))) (sym h.0.call) (subst (Known (before ++ x ∷ us)) h.0.call k, args_known)
+
+    all_known : (x ≡ answered_call x) ⊎ (x ≡ some_part (answered_call x)) → CallsOnly (Known (before ++ x ∷ us)) x
+    all_known (inl e) = subst (CallsOnly (Known (before ++ x ∷ us))) (sym e) (call_known (inl (subst (In (before ++ x ∷ us)) e here)))
+    all_known (inr e) = subst (CallsOnly (Known (before ++ x ∷ us))) (sym e) (call_known (inr (subst (In (before ++ x ∷ us)) e here)))
+order_listed made before (x ∷ us) h u (inr i) =
+    let r = order_listed made (before ++ x ∷ []) us h.1 u i in (r.0, subst (λ l. CallsOnly (Known l) u) (append_assoc before (x ∷ []) us) r.1)
+
+pub known_made : (made us : List SiteTerm) → InOrder made [] us → (t : ℕ) (args : SiteTerms) (n : ℕ) → Known us (constructor_call t args n) → In made (constructor_call t args n)
+known_made made us h t args n (inl i) = (order_listed made [] us h (constructor_call t args n) i).0
+known_made made us h t args n (inr i) = (order_listed made [] us h (some_part (constructor_call t args n)) i).0
+
 module _ (sites : List Site) (sources_before : SourcesBefore sites) where
   abbrev U : ℕ → SiteTerm
   U = unfold_site sites
@@ -112,26 +136,29 @@ module _ (sites : List Site) (sources_before : SourcesBefore sites) where
   source_only P (match_some_site source) h a c = one_only P source h a c
   source_only P (match_tuple_site source field) h a c = one_only P source h a c
 
-  -- an impure call's site by its number
-  abbrev pub IsImpureAt : ℕ → Type 0
-  IsImpureAt s = (t : ℕ) × (ss : List ℕ) × (n : ℕ) × (slice_get sites s ≡ Some (constructor_site t ss (suc n)))
-
-  pub below_only : (P : SiteTerm → Type 0) (n s : ℕ) → CallsOnly P (U s) → (u : ℕ) → Contains (below n sites s) u → IsImpureAt u → P (U u)
-  below_only P zero s h u c i = absurd (nothing_in u c)
-  below_only P (suc n) s h u c i =
+  -- so are those below it
+  pub below_calls : (P : SiteTerm → Type 0) (n s : ℕ) → CallsOnly P (U s) → (u : ℕ) → Contains (below n sites s) u → CallsOnly P (U u)
+  below_calls P zero s h u c = absurd (nothing_in u c)
+  below_calls P (suc n) s h u c =
       elim (in_cases s u (flat_map (below n sites) (sources_at sites s)) c) [
-        | inl e ↦
-            let l = unfolded_layer sites sources_before u (constructor_site i.0 i.1 (suc i.2)) i.3 in
-            let k : CallsOnly P (U u) = subst (λ x. CallsOnly P (U x)) e h in
-            subst P (sym l) (subst (CallsOnly P) l k).0
+        | inl e ↦ subst (λ x. CallsOnly P (U x)) e h
         | inr d ↦
             let r = from_flat_map (below n sites) (sources_at sites s) u d in
-            below_only P n r.0 (deeper (slice_get sites s) refl r.0 r.1) u r.2 i
+            below_calls P n r.0 (deeper (slice_get sites s) refl r.0 r.1) u r.2
       ]
     where
       deeper : (o : Option Site) → slice_get sites s ≡ o → (a : ℕ) → Contains (sources_in o) a → CallsOnly P (U a)
       deeper None at a k = absurd (nothing_in a k)
       deeper (Some b) at a k = source_only P b (subst (CallsOnly P) (unfolded_layer sites sources_before s b at) h) a k
+
+  -- an impure call's site by its number
+  abbrev pub IsImpureAt : ℕ → Type 0
+  IsImpureAt s = (t : ℕ) × (ss : List ℕ) × (n : ℕ) × (slice_get sites s ≡ Some (constructor_site t ss (suc n)))
+
+  pub below_only : (P : SiteTerm → Type 0) (n s : ℕ) → CallsOnly P (U s) → (u : ℕ) → Contains (below n sites s) u → IsImpureAt u → P (U u)
+  below_only P n s h u c i =
+      let l = unfolded_layer sites sources_before u (constructor_site i.0 i.1 (suc i.2)) i.3 in
+      subst P (sym l) (subst (CallsOnly P) l (below_calls P n s h u c)).0
 
   -- a number that stands for an impure call is one of such a site, and one that stands for an unwrap is one of an unwrap
   pub call_number : (s t : ℕ) (args : SiteTerms) (n : ℕ) (b : Site) → slice_get sites s ≡ Some b → U s ≡ constructor_call t args (suc n)
