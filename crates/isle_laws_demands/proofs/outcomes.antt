@@ -4,3 +4,4 @@ pub mod Sited
 pub mod Ordered
 pub mod Evals
 pub mod RightSides
+pub mod Outcomes

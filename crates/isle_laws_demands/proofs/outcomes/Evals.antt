@@ -1,11 +1,11 @@
 -- A right side does what following the impure calls of its visit does, and gives what its site holds.
-use Rattle.std.proofs.Common.{◌≡◌, ◌⊎◌, ℕ, suc, ◌==◌, Bool, true, false, cond, List, [], ◌∷◌, ◌++◌, length, Option, Some, None, is_some, slice_get, IsTrue, refl, sym, ap, subst, ◌∙◌, inl, inr, eq-eqb, eqb-true, arith}
+use Rattle.std.proofs.Common.{◌≡◌, ◌⊎◌, ℕ, suc, ◌==◌, Bool, true, false, List, [], ◌∷◌, ◌++◌, length, Option, Some, None, is_some, slice_get, IsTrue, refl, sym, ap, subst, ◌∙◌, inl, inr, arith}
 use Rattle.std.proofs.lemmas.Bool.{cases_Bool, cond-true, cond-false, false≢true}
 use Rattle.std.proofs.lemmas.List.{length_push}
 use Rattle.isle_model.specs.lists.Tables.{Flags, TermEntry}
-use Rattle.isle_model.specs.rules.Values.{Value, of_variant, of_struct, Values, no_value, value_and}
-use Rattle.isle_model.specs.rules.Meaning.{Content, one, just, look, bool_literal, int_literal, literal_value, constant_value, pure_answer, impure_answer}
-use Rattle.isle_model.specs.rules.Outcome.{Call, Outcome, then_option}
+use Rattle.isle_model.specs.rules.Values.{Value, of_variant, of_struct, Values, value_and}
+use Rattle.isle_model.specs.rules.Meaning.{Content, one, just, look, pure_answer, impure_answer}
+use Rattle.isle_model.specs.rules.Outcome.{Call, then_option}
 use Rattle.isle_model.specs.rules.Matching.{single}
 use Rattle.isle_model.specs.rules.Program.{Program, Kind, a_variant, a_struct, a_call, unknown, kind, flags_of, is_pure, is_multi}
 use Rattle.isle_model.specs.rules.CalledTerms.{CallsAlone, CallAlone, LetsCallAlone}
@@ -13,12 +13,12 @@ use Rattle.isle_model.specs.rules.RightSide.{Eval, gives, ends, EvalAll, gives_a
 use Rattle.isle_model.specs.rules.Typed.{TypedExpr, make_term, make_var, make_bool, make_int, make_prim, make_let, TypedExprs, no_typed_expr, typed_expr_and, TypedLets, no_typed_let, typed_let_and}
 use Rattle.isle_model.specs.rules.Picks.{picked, taken_answer, part_of_some, call_answer, Sited, SitedVars, sited, sited_value, sites_in, visit_at, expr_site, expr_sites, impure_under, applied_under, apply_under, SitedLets, gives_sited, ends_sited, then_sited_lets, then_sited_body, eval_under, eval_all_under, eval_lets_under}
 use Rattle.isle_model.specs.trees.Run.{as_value, from_value}
-use Rattle.isle_model.specs.sites.Sites.{SiteTerm, bool_term, int_term, prim_term, constructor_call, pick_of, variant_made, struct_made, some_made, some_part, SiteTerms, site_term_and}
+use Rattle.isle_model.specs.sites.Sites.{SiteTerm, constructor_call, pick_of, some_made, some_part, SiteTerms, site_term_and}
 use Rattle.isle_model.specs.sites.Demands.{Visit, binding, or_no_site, Valued, ValuedAll, call_result, visit_call, visit_term, visit_expr, visit_exprs, visit_lets, finished}
 use Rattle.isle_model.specs.sites.DemandedGates.{HasNoPartialMulti}
 use Rattle.isle_model.specs.sites.Serves.{term_results, fits_answer, fits_constructor}
 use Rattle.isle_model.specs.lists.Formed.{var_type, is_formed_expr, are_formed_args, formed_lets}
-use Rattle.isle_model.proofs.Elements.{In, in_right, some_is, none_some}
+use Rattle.isle_model.proofs.Elements.{In, in_right, some_is}
 use Rattle.isle_model.proofs.Options.{is_there}
 use Rattle.isle_laws_runs.proofs.taking.Followed.{Followed, goes_on, stops, then_follow, follow_with, follow, follow_append, result_after}
 use Rattle.isle_laws_demands.proofs.visits.Visited.{Same}
@@ -27,7 +27,7 @@ use Rattle.isle_laws_demands.proofs.matching.Contents.{Given, content_of, values
 use Rattle.isle_laws_demands.proofs.matching.Exprs.{type_is}
 use Rattle.isle_laws_demands.proofs.matching.Grown.{Grown, then_grown, grown_binding, expr_adds, exprs_add, lets_add, term_adds}
 use Rattle.isle_laws_demands.proofs.matching.SameExprs.{from_let, from_term, from_args, from_body, expr_keeps}
-use Rattle.isle_laws_demands.proofs.matching.Variables.{named, not_among}
+use Rattle.isle_laws_demands.proofs.matching.Variables.{named}
 use Rattle.isle_laws_demands.proofs.outcomes.Quiet.{AddsCalls, adds_kept, then_adds_calls, term_adds_calls, expr_adds_calls, exprs_add_calls, lets_add_calls}
 use Rattle.isle_laws_demands.proofs.outcomes.Sited.{expr_sited, exprs_sited}
 

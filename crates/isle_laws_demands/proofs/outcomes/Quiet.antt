@@ -3,8 +3,8 @@ use Rattle.std.proofs.Common.{◌≡◌, ℕ, suc, Bool, true, false, List, [], 
 use Rattle.std.proofs.lemmas.Bool.{false≢true}
 use Rattle.isle_model.specs.rules.Program.{Program, Kind, a_variant, a_struct, a_call, unknown, kind, flags_of}
 use Rattle.isle_model.specs.rules.Typed.{TypedPattern, match_bind, match_var, match_bool, match_int, match_prim, match_term, match_any, match_and, TypedPatterns, no_typed_pattern, typed_pattern_and, TypedExpr, make_term, make_var, make_bool, make_int, make_prim, make_let, TypedExprs, no_typed_expr, typed_expr_and, TypedLets, no_typed_let, typed_let_and, TypedIfLet}
-use Rattle.isle_model.specs.sites.Sites.{is_present, SiteTerm, argument, extractor_call, constructor_call, SiteTerms}
-use Rattle.isle_model.specs.sites.Demands.{Visit, site_term_eq, making, asking, equating, iterating, calling, binding, var_site, Opened, open_call, open_term, visit_pattern, visit_each, visit_all, ValuedAll, call_result, call_sites, where_multi, visit_call, visit_term, visit_expr, visit_exprs, visit_lets, unwraps, asking_all, visit_args, visit_iflets}
+use Rattle.isle_model.specs.sites.Sites.{is_present, SiteTerm, argument, constructor_call, SiteTerms}
+use Rattle.isle_model.specs.sites.Demands.{Visit, site_term_eq, making, asking, equating, binding, var_site, Opened, open_term, visit_pattern, visit_each, visit_all, ValuedAll, call_result, visit_call, visit_term, visit_expr, visit_exprs, visit_lets, unwraps, asking_all, visit_args, visit_iflets}
 use Rattle.isle_model.specs.sites.DemandedGates.{IsPureExpr, ArePureExprs, ArePureLets, ArePureIfLets}
 use Rattle.isle_laws_demands.proofs.visits.Visited.{equated}
 use Rattle.isle_laws_demands.proofs.matching.Grown.{either}

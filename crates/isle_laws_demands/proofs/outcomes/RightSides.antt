@@ -1,16 +1,15 @@
 -- The right side of a rule that matches follows its impure calls in order, then its result.
-use Rattle.std.proofs.Common.{◌≡◌, ◌⊎◌, ℕ, zero, suc, Bool, true, false, List, [], ◌∷◌, ◌++◌, length, Some, is_some, IsTrue, refl, sym, ap, subst, ◌∙◌, inl, inr}
+use Rattle.std.proofs.Common.{◌≡◌, ℕ, zero, suc, Bool, true, false, List, [], ◌∷◌, ◌++◌, length, Some, refl, sym, ap, subst, ◌∙◌, inl, inr}
 use Rattle.isle_model.specs.rules.Values.{args_well_typed}
-use Rattle.isle_model.specs.rules.Program.{Program, arg_types, is_partial}
+use Rattle.isle_model.specs.rules.Program.{arg_types, is_partial}
 use Rattle.isle_model.specs.rules.CalledTerms.{CallsAlone}
 use Rattle.isle_model.specs.rules.Typed.{TypedRule}
-use Rattle.isle_model.specs.rules.Picks.{SitedVars, sited_value, matches_under, eval_under, right_side_under}
+use Rattle.isle_model.specs.rules.Picks.{SitedVars, matches_under, eval_under, right_side_under}
 use Rattle.isle_model.specs.trees.Run.{from_value}
 use Rattle.isle_model.specs.sites.Sites.{Constraint, SiteTerm, bool_term, int_term, prim_term, argument, extractor_call, constructor_call, pick_of, variant_made, variant_field, struct_made, struct_field, some_made, some_part, tuple_part, no_site, SiteTerms, no_site_term, site_term_and}
-use Rattle.isle_model.specs.sites.Demands.{demands_of, result_of, Visit, visit_start, making, Valued, visit_expr, visit_args, finished, visit_rule}
+use Rattle.isle_model.specs.sites.Demands.{demands_of, result_of, visit_start, Valued, visit_expr, visit_args, finished, visit_rule}
 use Rattle.isle_model.specs.sites.DemandedGates.{IsPureCall, GatesDemanded, AllGatesDemanded, ArePureIfLets, HasNoPartialMulti}
-use Rattle.isle_model.specs.lists.Formed.{var_type, is_formed_rule}
-use Rattle.isle_model.proofs.Elements.{In}
+use Rattle.isle_model.specs.lists.Formed.{is_formed_rule}
 use Rattle.isle_laws_runs.proofs.taking.CallsIn.{WhereImpure, CallsOnly, CallOnly, Known, InOrder}
 use Rattle.isle_laws_runs.proofs.taking.Followed.{result_after}
 use Rattle.isle_laws_demands.proofs.visits.Calls.{calls_such}
@@ -23,7 +22,7 @@ use Rattle.isle_laws_demands.proofs.matching.TypedParts.{HasTypedParts}
 use Rattle.isle_laws_demands.proofs.matching.Variables.{named}
 use Rattle.isle_laws_demands.proofs.outcomes.Evals.{AreWorth, MayBeCalled, follow_in, expr_came, outcome_follows}
 use Rattle.isle_laws_demands.proofs.outcomes.Ordered.{IsPureOrSingle, VarsKnownTo, IsOrderly, expr_ordered}
-use Rattle.isle_laws_demands.proofs.outcomes.Quiet.{KeepsCalls, then_keeps_calls, args_keep, iflets_keep}
+use Rattle.isle_laws_demands.proofs.outcomes.Quiet.{then_keeps_calls, args_keep, iflets_keep}
 
 -- 1. no impure call stands in what may be tested
 pure_where : (n : ℕ) (P : Type 0) → IsPureCall true n → WhereImpure n P
@@ -58,7 +57,7 @@ finished_grown : (b : Bool) (a : Valued) → Grown a.visit (finished b a).visit
 finished_grown false a = now a.visit
 finished_grown true a = grown_making (some_made a.site ∷ []) a.visit
 
-finished_impure : (b : Bool) (a : Valued) → (finished b a).visit.demands.impure ≡ a.visit.demands.impure
+pub finished_impure : (b : Bool) (a : Valued) → (finished b a).visit.demands.impure ≡ a.visit.demands.impure
 finished_impure false a = refl
 finished_impure true a = refl
 
