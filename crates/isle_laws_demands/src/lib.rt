@@ -12,6 +12,7 @@ ghost use Rattle.isle_laws_demands.specs.VisitLaws.{SitesStandOnce, FormedRulesD
 ghost use Rattle.isle_model.specs.claims.SetMeanings.{BuiltSetsAreTested, BuiltSetsCanBeServed, BuiltSetsAreCollected};
 ghost use Rattle.isle_laws_demands.specs.BuiltLaws.{ClosingsOfBuiltRulesAreWhole, ConstrainedSitesStandInNoClass, BuiltRulesConstrainOrEquate, FormedRulesMakeEqualSites, BuiltDemandsAreWhole};
 ghost use Rattle.isle_laws_demands.specs.MatchLaws.{VisitsMatch, UnreachableRulesNeverMatch, ClosedDemandsHoldAlike, BuiltDemandsHoldAlike, BuiltSetsMatchByDemands, BuiltRulesAreToldApart, RulesWithoutMultiGoOverNoCalls, BuiltSetsHoldResults};
+ghost use Rattle.isle_laws_demands.specs.OutcomeLaws.{TakenRulesGiveTheirOutcome, TakenRulesGiveTheirOutcomeUnderPicks};
 ghost use Rattle.isle_laws_demands.specs.RefusalLaws.{ReportsNamePassedLimits};
 ghost use Rattle.isle_laws_demands.specs.SetOverlapLaws.{SetRulesOverlapAsTheirDemands, OverlapOfSetRulesIsSymmetric, SetRulesConstrainAsTheirDemands};
 ghost use Rattle.isle_laws_demands.specs.ServeLaws.{ServedSetsServeTests, ServedMultiSetsServe};
@@ -382,3 +383,15 @@ pub fn served_multi_sets_serve()
 {}
 {}
 
+{}
+
+/// For a built set of elaborated rules, taking a rule that matches and goes over no calls gives its right side's outcome: its
+/// impure calls in order, and its result or a failure.
+pub fn taken_rules_give_their_outcome()
+    ensures { TakenRulesGiveTheirOutcome }
+{}
+
+/// And so does, under each of its picks, taking a rule that goes over calls and makes no impure one.
+pub fn taken_rules_give_their_outcome_under_picks()
+    ensures { TakenRulesGiveTheirOutcomeUnderPicks }
+{}
