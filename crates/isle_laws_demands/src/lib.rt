@@ -356,22 +356,6 @@ pub fn served_sets_serve_tests()
     ensures { ServedSetsServeTests }
 {}
 
-/// Two rules of one built set overlap, and are a subset pair, where their closed demands are.
-pub fn set_rules_overlap_as_their_demands()
-    ensures { SetRulesOverlapAsTheirDemands }
-{}
-
-/// What is told of two rules of a set is the same in either order.
-#[tactic(auto, using(crate::proofs::overlaps::SetRules::overlap_of_set_rules_is_symmetric_lem))]
-pub fn overlap_of_set_rules_is_symmetric()
-    ensures { OverlapOfSetRulesIsSymmetric }
-{}
-
-/// A rule of a built set has as many constraints and equated sites as its closed demands.
-pub fn set_rules_constrain_as_their_demands()
-    ensures { SetRulesConstrainAsTheirDemands }
-{}
-
 /// Under each of its picks, what the right side of a rule gives that makes no impure call is what the result's site holds.
 pub fn results_are_held()
     ensures { BuiltSetsHoldResults }
@@ -380,9 +364,6 @@ pub fn results_are_held()
 /// And where none of the term's rules makes an impure call, it has what collecting the results of a multi term asks.
 pub fn served_multi_sets_serve()
     ensures { ServedMultiSetsServe }
-{}
-{}
-
 {}
 
 /// For a built set of elaborated rules, taking a rule that matches and goes over no calls gives its right side's outcome: its

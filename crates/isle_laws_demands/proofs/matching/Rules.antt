@@ -189,25 +189,6 @@ module _ (g : Given) (z : Visit) (h : IsAnswered g z.demands) (parts : HasTypedP
       (then_past g c.mid more e v u w (then_option (value_in i e) (holds_in i e)) (λ e'. iflets_hold_under p g.meaning g.pick is e') r k (λ e' n. iflets_past is u c.mid more e' c.rest y.1 (r.agree e' n) l))
 
 -- 3. rules
--- the visit of a rule before its right side
-abbrev pub before_right : Program → TypedRule → Visit
-before_right p r = visit_iflets p r.iflets (visit_args p 0 r.args visit_start)
-
-pub rule_past : (g : Given) (r : TypedRule) (a : RuleParts g.program r) → ArePureIfLets g.program r.iflets → args_well_typed g.program.types (arg_types g.program r.root_term) g.args ≡ true
-    → HasTypedParts g.program → HasNoPartialMulti g.program → IsAnswered g (demands_of g.program r) → Past g a.vars [] visit_start (before_right g.program r) (matches_under g.program g.meaning g.pick r g.args)
-rule_past g r a y t fields neither h =
-    let p = g.program in
-    let z = (visit_rule p r).visit in
-    let u = visit_args p 0 r.args visit_start in
-    let w = before_right p r in
-    let adds = rule_adds p r w in
-    let typed : all_well_typed p.types (Some a.entry.arg_tys) (of_list g.args) ≡ true =
-    subst (λ o. args_well_typed p.types (elim o as (λ _. List ℕ) [ None ↦ [] | Some e ↦ e.arg_tys ]) g.args ≡ true) a.there t in
-    let first = args_past g z h fields neither 0 r.args a.entry.arg_tys g.args visit_start [] a.mid [] a.args typed
-    (λ j x s. (let same : 0 + j ≡ j = omega arith in ap (slice_get g.args) same ∙ s)) (λ x ty i. absurd (none_some ty i)) (then_grown u w z (iflets_grown p r.iflets u) adds.grown) in
-    then_past g a.mid a.vars [] visit_start u w (args_hold_under p g.meaning g.pick 0 r.args g.args []) (λ e. iflets_hold_under p g.meaning g.pick r.iflets e) first (iflets_grown p r.iflets u)
-    (λ e i. iflets_past g z h fields neither r.iflets u a.mid a.vars e a.iflets y (first.agree e i) adds.grown)
-
 pub record Matches (g : Given) (r : TypedRule) : Type 0 where
   pub met : is_some (matches_under g.program g.meaning g.pick r g.args) ≡ true → AreMet g (demands_of g.program r)
   pub found : AskEnough g (demands_of g.program r) → is_some (matches_under g.program g.meaning g.pick r g.args) ≡ true
@@ -240,10 +221,6 @@ rule_matches g r f y t fields neither h =
     let w = before_result p r in
     let adds = rule_adds p r w in
     let all = rule_past g r (rule_parts p r f) y t fields neither h in
-    let a = rule_parts p r f in
-    let w = before_right p r in
-    let adds = rule_adds p r w in
-    let all = rule_past g r a y t fields neither h in
     record {
       met = λ m.
           (let e = is_there (matches_under p g.meaning g.pick r g.args) m in

@@ -44,7 +44,7 @@ use Rattle.isle_laws_demands.proofs.visits.Sets.{in_from_all}
 use Rattle.isle_laws_demands.proofs.matching.Answered.{struct_holds, fits_there, is_answered}
 use Rattle.isle_laws_demands.proofs.matching.BuiltMatches.{one_rule, built_listed}
 use Rattle.isle_laws_demands.proofs.matching.Contents.{Given, values_of, Fits}
-use Rattle.isle_laws_demands.proofs.matching.Rules.{before_right}
+use Rattle.isle_laws_demands.proofs.matching.Rules.{before_result}
 use Rattle.isle_laws_demands.proofs.matching.TypedParts.{program_has_typed_parts}
 use Rattle.isle_laws_demands.proofs.matching.Visits.{given, of_term, tried}
 use Rattle.isle_laws_demands.proofs.taken.Fits.{IsServed, IsAnsweredSite, IsAnsweredBelow, found_answered, unwraps_maybe}
@@ -161,8 +161,8 @@ taken_under_picks_lem e defs expand rules t set h b m args typed served apart k'
     let g = given p m args k in
     let q = one_rule p t set k' r b same in
     let none : (demands_of p k'.rule).impure ≡ [] = sym q.impure.1 ∙ ap (map (unfold_site set.sites)) quiet in
-    let still = sym (finished_impure (is_partial p k'.rule.root_term) (visit_expr p k'.rule.rhs (before_right p k'.rule))) ∙ none in
-    let pure = (expr_quiet p k'.rule.rhs (before_right p k'.rule) still).0 in
+    let still = sym (finished_impure (is_partial p k'.rule.root_term) (visit_expr p k'.rule.rhs (before_result p k'.rule))) ∙ none in
+    let pure = (expr_quiet p k'.rule.rhs (before_result p k'.rule) still).0 in
     rule_taken e defs expand rules t set h b m args typed served apart k k' r same pick ev matched
     (calls_such (λ t. IsTrue (is_pure p t)) (MayBeCalled g (visit_rule p k'.rule).visit) (λ t i. inl i) k'.rule.rhs pure)
     (λ t ss i vs known. absurd (no_known (demands_of p k'.rule).impure (constructor_call t ss (suc i)) none known)) o taken

@@ -17,7 +17,7 @@ use Rattle.isle_laws_demands.proofs.visits.Rules.{sides_past}
 use Rattle.isle_laws_demands.proofs.matching.Contents.{Given, content_of, IsAnswered, is_value}
 use Rattle.isle_laws_demands.proofs.matching.Demanded.{AreBound}
 use Rattle.isle_laws_demands.proofs.matching.Grown.{Grown, now, grown_making}
-use Rattle.isle_laws_demands.proofs.matching.Rules.{rule_parts, before_right, rule_past}
+use Rattle.isle_laws_demands.proofs.matching.Rules.{rule_parts, before_result, rule_past}
 use Rattle.isle_laws_demands.proofs.matching.TypedParts.{HasTypedParts}
 use Rattle.isle_laws_demands.proofs.matching.Variables.{named}
 use Rattle.isle_laws_demands.proofs.outcomes.Evals.{AreWorth, MayBeCalled, follow_in, expr_came, outcome_follows}
@@ -85,7 +85,7 @@ right_follows g r f y t fields neither h may e i =
     let z = (visit_rule p r).visit in
     let a = rule_parts p r f in
     let u = visit_args p 0 r.args visit_start in
-    let w = before_right p r in
+    let w = before_result p r in
     let x = visit_expr p r.rhs w in
     let b = is_partial p r.root_term in
     let keeps = then_keeps_calls visit_start u w (args_keep p 0 r.args visit_start) (iflets_keep p r.iflets u y) in

@@ -25,7 +25,7 @@ use Rattle.isle_laws_runs.proofs.runs.Collected.{pure_site}
 use Rattle.isle_laws_runs.proofs.runs.Contents.{SourcesBefore, sources_in, content_layer}
 use Rattle.isle_laws_runs.proofs.taking.CallsIn.{CallsOnly, CallOnly, Known, IsNext, InOrder, each_only, IsImpureAt, below_only, call_number, unwrap_number}
 use Rattle.isle_laws_runs.proofs.taking.Followed.{Followed, goes_on, stops, then_follow, follow_with, answered_call, follow_call, follow, result_after}
-use Rattle.isle_laws_runs.proofs.taking.Once.{sources_within}
+use Rattle.isle_laws_runs.proofs.runs.Listing.{sources_within}
 use Rattle.isle_laws_runs.proofs.taking.Settled.{values_there, sources_there}
 use Rattle.isle_laws_runs.proofs.taking.Used.{used_placed, placed_same, content_placed, bound_elsewhere, used_here, used_stays}
 
@@ -250,7 +250,7 @@ module _ (w : World) (k : Pick) (before : SourcesBefore w.sites) (ar : Around) (
       false_from_ne_true (is_in s ar.emitted || is_in s rest)
       (λ t. elim (or_cases (is_in s ar.emitted) (is_in s rest) t) [
         | inl i ↦ false≢true (sym p.0 ∙ i)
-        | inr i ↦ elim (sources_within w before ar.emitted n s done s (member_found s rest i)) [ inl c ↦ false≢true (sym p.1 ∙ member_is_in s done c) | inr l ↦ omega (arith, l) ]
+        | inr i ↦ elim (sources_within w.sites before ar.emitted n s done s (member_found s rest i)) [ inl c ↦ false≢true (sym p.1 ∙ member_is_in s done c) | inr l ↦ omega (arith, l) ]
       ])
 
   module _ (ss : List ℕ)

@@ -39,39 +39,6 @@ module _ (w : World) (before : SourcesBefore w.sites) where
   Settled t = settled w t ≡ true
 
   -- 1. a settled site that doesn't wait is bound to its content
-  -- 1. what is listed below the sources of a site has smaller numbers
-  each_within : (f : List ℕ → ℕ → List ℕ) (m : ℕ) (xs : List ℕ) → ((x : ℕ) → Contains xs x → (done : List ℕ) (u : ℕ) → Contains (f done x) u → Contains done u ⊎ (u < m))
-      → (done : List ℕ) (u : ℕ) → Contains (each_after f done xs) u → Contains done u ⊎ (u < m)
-  each_within f m [] h done u c = inl c
-  each_within f m (x ∷ xs) h done u c =
-      elim (each_within f m xs (λ y d. h y (in_tail x y xs d)) (f done x) u c) [ inl d ↦ h x (in_head x xs) done u d | inr l ↦ inr l ]
-
-  below_source : (x y u : ℕ) (P : Type 0) → y < x → P ⊎ (u < suc y) → P ⊎ (u < x)
-  below_source x y u P l (inl p) = inl p
-  below_source x y u P l (inr k) = inr (omega (arith, l, k))
-
-  listed_within : (emitted : List ℕ) (n x : ℕ) (done : List ℕ) (u : ℕ) → Contains (listed_below n w.sites emitted done x) u → Contains done u ⊎ (u < suc x)
-  listed_within emitted zero x done u c = inl c
-  listed_within emitted (suc n) x done u c =
-      let rest = each_after (listed_below n w.sites emitted) done (sources_at w.sites x) in
-      elim (cases_Bool (is_in x emitted || is_in x done)) [
-        | inl t ↦ inl (subst (λ l. Contains l u) (cond-true (is_in x emitted || is_in x done) done (rest ++ x ∷ []) t) c)
-        | inr f ↦ elim (Contains-append_cases rest (x ∷ []) u (subst (λ l. Contains l u) (cond-false (is_in x emitted || is_in x done) done (rest ++ x ∷ []) f) c)) [
-          | inl d ↦
-              below_source (suc x) x u (Contains done u) (omega arith)
-              (elim (each_within (listed_below n w.sites emitted) x (sources_at w.sites x) (λ y k d v m. below_source x y v (Contains d v) (before x y k) (listed_within emitted n y d v m)) done u d) [
-                | inl k ↦ inl k
-                | inr l ↦ inr (omega (arith, l))
-              ])
-          | inr d ↦ let e = in_alone x u d in inr (omega (arith, e))
-        ]
-      ]
-
-  pub sources_within : (emitted : List ℕ) (n x : ℕ) (done : List ℕ) (u : ℕ) → Contains (each_after (listed_below n w.sites emitted) done (sources_at w.sites x)) u → Contains done u ⊎ (u < x)
-  sources_within emitted n x done u c =
-      each_within (listed_below n w.sites emitted) x (sources_at w.sites x) (λ y k d v m. below_source x y v (Contains d v) (before x y k) (listed_within emitted n y d v m)) done u c
-
-  -- 2. a settled site that doesn't wait is bound to its content
   module _ (start : Env) (held : Held w [] start Settled) (e : Env) (calls : List Call) (s : ℕ) (h : Settled s) where
     settled_binds : (o : Option Site) → slice_get w.sites s ≡ o → (waits o ≡ false) ⊎ IsUnwrap o → is_in_place o ≡ false → ((a : ℕ) → Contains (sources_in o) a → used w e a ≡ content_at w [] a)
         → bind_site w e calls s o ≡ all_bound ((s, (settled_content w before s h).0) ∷ e) calls
