@@ -1,6 +1,6 @@
 //! Definitions as text, and what is answered to them.
 
-use cranelift_isle::syntax::Def;
+use isle_base::syntax::Def;
 use isle_printing::answers::{Answer, answer_to};
 use isle_printing::places::Places;
 use isle_text::errors::{ReadFault, TextError};
