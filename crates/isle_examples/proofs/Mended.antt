@@ -1,32 +1,22 @@
 -- The smallest inputs behind choices of statements do what is said of them.
-use Rattle.std.proofs.Common.{◌≡◌, ◌==◌, ℕ, zero, suc, pos, true, false, List, [], ◌∷◌, Option, Some, None, is_some, slice_get, Contains, All, IsTrue, refl, sym, ap, ◌∙◌, subst, inl, inr, arith, Bool, cond, codes}
-use Rattle.std.proofs.lemmas.Bool.{false≢true, and_parts}
+use Rattle.std.proofs.Common.{◌≡◌, ◌==◌, ℕ, zero, suc, pos, true, false, List, [], ◌∷◌, Some, None, is_some, slice_get, Contains, All, IsTrue, refl, sym, ap, ◌∙◌, subst, inl, inr, arith, Bool, cond, codes}
+use Rattle.std.proofs.lemmas.Bool.{false≢true}
 use Rattle.std.proofs.lemmas.Option.{none-some, same_Some}
-use Rattle.std.proofs.lemmas.List.Elements.{All-nil, All-cons, All-contains, All-from_recursion}
-use Rattle.isle_model.specs.rules.Meaning.{one, Meaning, int_literal, literal_value}
-use Rattle.isle_model.specs.rules.Values.{Value, args_well_typed, well_typed}
+use Rattle.std.proofs.lemmas.List.Elements.{All-nil, All-cons, All-contains}
+use Rattle.isle_model.specs.rules.Meaning.{one}
 use Rattle.isle_model.specs.sites.Sites.{Constraint, SetRule, constructor_site, make_variant_site, argument}
 use Rattle.isle_model.specs.trees.Collects.{IsPureSite, content_at}
 use Rattle.isle_model.specs.trees.Places.{all_below, joins_in, waits}
-use Rattle.isle_model.specs.trees.Run.{content_fields, run, world_of}
+use Rattle.isle_model.specs.trees.Run.{content_fields}
 use Rattle.isle_model.specs.trees.SetRuns.{IsPureAt, ServesTests, HasNoWrongOverlap, OverlapInSet}
 use Rattle.isle_model.proofs.Members.{nothing_in, in_alone, in_cases, in_head, in_tail}
 use Rattle.isle_model.specs.sites.Demands.{constraint_eq}
 use Rattle.isle_model.specs.lists.TypeTable.{IsValidTypes}
-use Rattle.isle_model.specs.claims.Environments.{types_read, with_read_names}
+use Rattle.isle_model.specs.claims.Environments.{types_read}
 use Rattle.isle_model.specs.claims.Refusals.{Refusal, past_limit, of_nesting, IsIllTyped}
-use Rattle.isle_model.specs.claims.Layers.{RefusedBy, by_types, by_rules, by_check, IsAccepted, IsLoweredTerm}
+use Rattle.isle_model.specs.claims.Layers.{RefusedBy, by_types, by_rules, by_check, IsAccepted}
 use Rattle.isle_laws_demands.proofs.overlaps.Judged.{lists_are_accepted_lem}
 use Rattle.isle_laws_lists.proofs.JudgedTerms.{terms_are_judged_lem}
-use Rattle.std.specs.Prelude.{IsSomeAnd}
-use Rattle.isle_model.specs.rules.Choice.{choice, MatchesOnce}
-use Rattle.isle_model.specs.rules.Program.{rules_of, arg_types}
-use Rattle.isle_model.specs.claims.Headline.{RunsAsChosen}
-use Rattle.isle_model.specs.trees.Best.{IsBestTree}
-use Rattle.isle_model.proofs.Names.{distinct_if}
-use Rattle.isle_model.proofs.NumbersOf.{environments_are_read}
-use Rattle.isle_laws_trees.proofs.Marking.{tree_judge_is_exact_lem}
-use Rattle.isle_laws_trees.proofs.Shares.{best_trees_share_most_lem}
 use Rattle.isle_examples.specs.MeaningForms.{v}
 use Rattle.isle_examples.specs.SetForms.{is_byte}
 use Rattle.isle_examples.specs.TypedForms.{own}
@@ -34,8 +24,6 @@ use Rattle.isle_examples.specs.Mended.{wrapped_call, wrapped_two, wrapped_sites,
 use Rattle.isle_examples.specs.Written.{at}
 use Rattle.isle_examples.specs.Fall.{fall_defs, fall_rules}
 use Rattle.isle_examples.specs.Refused.{two_of_one_name}
-use Rattle.isle_examples.specs.Stages.{IsBuiltOf}
-use Rattle.isle_examples.proofs.SetStages.{built}
 
 -- 1. above an impure call
 -- the one constraint of the rules

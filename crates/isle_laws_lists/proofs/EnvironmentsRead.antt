@@ -1,6 +1,6 @@
 -- A well-formed type environment shows types that can be read: the name of each type is that of its one number, and the
 -- constants are those that its look-up answers.
-use Rattle.std.proofs.Common.{◌≡◌, ◌==◌, ℕ, zero, suc, ◌+◌, ◌<◌, Bool, true, false, if◌then◌else◌, List, [], ◌∷◌, length, map, Option, Some, None, unwrap_or, slice_get, IsTrue, All, refl, sym, ap, ◌∙◌, subst, inl, inr, arith, eq-eqb, eqb-true}
+use Rattle.std.proofs.Common.{◌≡◌, ◌==◌, ℕ, zero, suc, ◌+◌, ◌<◌, Bool, true, false, if◌then◌else◌, List, [], ◌∷◌, length, Option, Some, None, unwrap_or, slice_get, IsTrue, All, refl, sym, ap, ◌∙◌, subst, inl, inr, arith, eq-eqb, eqb-true}
 use Rattle.std.proofs.lemmas.Bool.{cases_Bool, cond-true, cond-false, false≢true}
 use Rattle.std.proofs.lemmas.Option.{same_Some, none-some}
 use Rattle.std.specs.List.{enumerate_from}
@@ -9,10 +9,10 @@ use Rattle.isle_model.specs.lists.Tables.{TypeEntry}
 use Rattle.isle_model.specs.lists.Signatures.{text_of}
 use Rattle.isle_model.specs.rules.Meaning.{look}
 use Rattle.isle_model.specs.claims.Environments.{TypesRead, AreReadable, AnswersBy, numbered, TypeEnvironment, IsReadAs}
-use Rattle.isle_model.specs.claims.Questions.{HasOneNumber, IsWellFormedEnvironment}
+use Rattle.isle_model.specs.claims.Questions.{IsWellFormedEnvironment}
 use Rattle.isle_model.proofs.Elements.{In, in_from_contains, in_map, map_in}
 use Rattle.isle_model.proofs.Members.{get_from_member, get_within, all_members}
-use Rattle.isle_model.proofs.Names.{has_at, found}
+use Rattle.isle_model.proofs.Names.{has_at}
 use Rattle.isle_laws_lists.proofs.TermLaws.{number_back}
 use Rattle.isle_laws_lists.proofs.VariantTerms.{looked_up}
 
@@ -140,14 +140,16 @@ module _ (env : TypeEnvironment) (h : IsWellFormedEnvironment env) where
       let one = h.one_number ty l in
       let known = get_within env.names one.number (h.type_names one.number ty one.of_type).0 in
       let key = key_found env.type_of ty (length env.names) one.number one.of_type (h.type_names one.number ty one.of_type).0 one.only in
-      let text : text_of env.names (key_of env.type_of ty (length env.names)) ≡ known.0 = ap (text_of env.names) key ∙ ap (λ o. unwrap_or o []) known.1 in
-      (known.0, record {
-        key = one.number;
-        of_type = one.of_type;
-        only = one.only;
-        at_key = known.1;
-        listed = name_by 0 ty ty env.types (omega arith) l ∙ ap Some text;
-      })
+      let text : text_of env.names (key_of env.type_of ty (length env.names)) ≡ known.0 = ap (text_of env.names) key ∙ ap (λ o. unwrap_or o []) known.1 in (
+        known.0,
+        record {
+          key = one.number;
+          of_type = one.of_type;
+          only = one.only;
+          at_key = known.1;
+          listed = name_by 0 ty ty env.types (omega arith) l ∙ ap Some text;
+        },
+      )
 
   listed_named : (ty : ℕ) (x : List ℕ) → slice_get (names_by 0 env.types) ty ≡ Some x → IsNamed ty x
   listed_named ty x e =
