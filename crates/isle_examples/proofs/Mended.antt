@@ -12,7 +12,14 @@ use Rattle.isle_model.specs.trees.SetRuns.{IsPureAt, ServesTests, HasNoWrongOver
 use Rattle.isle_model.proofs.Members.{nothing_in, in_alone, in_cases, in_head, in_tail}
 use Rattle.isle_model.specs.sites.Demands.{constraint_eq}
 use Rattle.isle_model.specs.lists.TypeTable.{IsValidTypes}
-use Rattle.isle_model.specs.claims.Environments.{types_read}
+use Rattle.isle_model.specs.claims.Environments.{environment_of, types_read}
+use Rattle.isle_model.specs.lists.KnownTypes.{types_of}
+use Rattle.isle_model.proofs.NumbersOf.{environments_are_read}
+use Rattle.isle_laws_lists.specs.QuestionLaws.{IsVariantsTerm}
+use Rattle.isle_laws_lists.proofs.EnvironmentsShown.{well_formed_environments_are_read_lem}
+use Rattle.isle_laws_lists.proofs.VariantTerms.{variants_have_terms_lem}
+use Rattle.isle_examples.proofs.SampleStages.{effects_stages}
+use Rattle.isle_examples.specs.Effects.{effects_defs}
 use Rattle.isle_model.specs.claims.Refusals.{Refusal, past_limit, of_nesting, IsIllTyped}
 use Rattle.isle_model.specs.claims.Layers.{RefusedBy, by_types, by_rules, by_check, IsAccepted}
 use Rattle.isle_laws_demands.proofs.overlaps.Judged.{lists_are_accepted_lem}
@@ -20,7 +27,7 @@ use Rattle.isle_laws_lists.proofs.JudgedTerms.{terms_are_judged_lem}
 use Rattle.isle_examples.specs.MeaningForms.{v}
 use Rattle.isle_examples.specs.SetForms.{is_byte}
 use Rattle.isle_examples.specs.TypedForms.{own}
-use Rattle.isle_examples.specs.Mended.{wrapped_call, wrapped_two, wrapped_sites, wrapped_set, wrapped_meaning, wrapped_world, AboveCallsNothingIsAsked, ThirdRulesDontCount, at_one, at_any, at_two, OverlapsMayHoldTwice, NamelessIsNotAnswered, LookUpsHaveNoList, LimitsAreNamedWherePassed, two_unbound, SecondIsReadAlone, EmptySetsAreBuilt}
+use Rattle.isle_examples.specs.Mended.{wrapped_call, wrapped_two, wrapped_sites, wrapped_set, wrapped_meaning, wrapped_world, AboveCallsNothingIsAsked, ThirdRulesDontCount, at_one, at_any, at_two, OverlapsMayHoldTwice, NamelessIsNotAnswered, LookUpsHaveNoList, LimitsAreNamedWherePassed, two_unbound, SecondIsReadAlone, EmptySetsAreBuilt, EnvironmentsOfLists, VariantHasItsTerm}
 use Rattle.isle_examples.specs.Written.{at}
 use Rattle.isle_examples.specs.Fall.{fall_defs, fall_rules}
 use Rattle.isle_examples.specs.Refused.{two_of_one_name}
@@ -178,3 +185,19 @@ empty_sets_are_built_lem = record {
     sources = λ s a c. absurd (nothing_in a c);
   };
 }
+
+-- environments
+pub environments_of_lists : EnvironmentsOfLists
+environments_of_lists =
+    let r = fall_is_accepted.read.elaborated.readable in
+    (
+      (well_formed_environments_are_read_lem (environment_of (types_read fall_defs))).1 (types_read fall_defs, r, environments_are_read (types_read fall_defs) r.well_formed.names_distinct),
+      λ h. let n = h.one_number 0 (omega arith) in let z : 0 ≡ 1 = n.only 0 refl ∙ sym (n.only 1 refl) in omega (arith, z),
+    )
+
+-- the variant's term, whose id is found
+pub variant_has_its_term : VariantHasItsTerm
+variant_has_its_term =
+    let read = effects_stages.accepted.0.read in
+    let v = variants_have_terms_lem (types_read effects_defs) effects_defs read.elaborated.readable read.elaborated.terms 13 0 _ refl in
+    subst (IsVariantsTerm (types_of effects_defs) effects_defs 13 0) (same_Some v.0 3 (sym v.1)) v.2

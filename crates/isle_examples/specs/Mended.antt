@@ -19,12 +19,14 @@ use Rattle.isle_model.specs.rules.Picks.{Pick, matches_under, right_side_under}
 use Rattle.isle_model.specs.rules.RightSide.{right_side}
 use Rattle.isle_model.specs.trees.Trees.{Tree, loop_at, no_step, step}
 use Rattle.std.specs.Bool.{◌==◌}
-use Rattle.isle_model.specs.claims.Environments.{AnswersBy, PassesNesting, TermEnvironment, TypeEnvironment, types_read, shown_terms}
+use Rattle.isle_model.specs.claims.Environments.{AnswersBy, PassesNesting, TermEnvironment, TypeEnvironment, types_read, shown_terms, environment_of}
 use Rattle.isle_model.specs.claims.Refusals.{of_nesting, past_limit}
 use Rattle.isle_model.specs.lists.Signatures.{Signature, constructor_signature, extractor_signature, gives_one, gives_one_or_none}
 use Rattle.isle_model.specs.sites.SetRules.{may_fit, sites_brought, no_overlap, overlap_between, some_overlap}
-use Rattle.isle_model.specs.claims.Questions.{identifier, term_of_site}
+use Rattle.isle_model.specs.claims.Questions.{IsWellFormedEnvironment, identifier, term_of_site}
+use Rattle.isle_model.specs.lists.KnownTypes.{types_of}
 use Rattle.isle_model.specs.lists.TypeTable.{type_table}
+use Rattle.isle_laws_lists.specs.QuestionLaws.{IsVariantsTerm}
 use Rattle.isle_model.specs.trees.Best.{total_constraints}
 use Rattle.isle_examples.specs.Effects.{effects_defs, effects_rule, effects_rules, effects_set}
 use Rattle.isle_examples.specs.MeaningForms.{given, literal, mute, all_of, alone, answers, v}
@@ -283,3 +285,13 @@ abbrev pub IdentifiersOfRules : Type 0
 IdentifiersOfRules =
     (identifier effects_rules.names (λ p. codes "here") effects_rule ≡ codes "f")
     × (identifier effects_rules.names (λ p. codes "here") (record effects_rule { name = None }) ≡ codes "here")
+
+-- The types of a list are shown by a well-formed environment; one in which each name is mapped to the first type is none.
+abbrev pub EnvironmentsOfLists : Type 0
+EnvironmentsOfLists =
+    IsWellFormedEnvironment (environment_of (types_read fall_defs))
+    × (IsWellFormedEnvironment (record (environment_of (types_read fall_defs)) { type_of = λ k. Some 0 }) → ⊥)
+
+-- The variant of `effects` has its term.
+abbrev pub VariantHasItsTerm : Type 0
+VariantHasItsTerm = IsVariantsTerm (types_of effects_defs) effects_defs 13 0 3
