@@ -189,8 +189,7 @@ empty_sets_are_built_lem = record {
 -- environments
 pub environments_of_lists : EnvironmentsOfLists
 environments_of_lists =
-    let r = fall_is_accepted.read.elaborated.readable in
-    (
+    let r = fall_is_accepted.read.elaborated.readable in (
       (well_formed_environments_are_read_lem (environment_of (types_read fall_defs))).1 (types_read fall_defs, r, environments_are_read (types_read fall_defs) r.well_formed.names_distinct),
       λ h. let n = h.one_number 0 (omega arith) in let z : 0 ≡ 1 = n.only 0 refl ∙ sym (n.only 1 refl) in omega (arith, z),
     )
