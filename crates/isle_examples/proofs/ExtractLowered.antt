@@ -1,17 +1,15 @@
 -- The sample with an extractor is lowered: under every meaning that serves it, its run is the choice.
-use Rattle.std.proofs.Common.{◌≡◌, ◌∷◌, [], ℕ, ℤ, zero, suc, pos, false, List, Option, Some, None, IsSomeAnd, IsTrue, slice_get, refl, sym, ap, ◌∙◌, inl, inr, arith}
-use Rattle.std.proofs.lemmas.Bool.{cases_Bool, false≢true, and_parts}
-use Rattle.std.proofs.lemmas.Option.{none-some, same_Some}
+use Rattle.std.proofs.Common.{◌≡◌, ◌∷◌, [], ℤ, pos, List, Option, Some, None, IsSomeAnd, IsTrue, refl, inl, inr, arith}
+use Rattle.std.proofs.lemmas.Bool.{cases_Bool, false≢true}
 use Rattle.isle_model.specs.claims.Headline.{RunsAsChosen}
-use Rattle.isle_model.specs.rules.Choice.{MatchesOnce, choice}
+use Rattle.isle_model.specs.rules.Choice.{choice}
 use Rattle.isle_model.specs.rules.Meaning.{Content, one, parts, nothing, just, many, Meaning, extractor_answer, int_literal, literal_value}
-use Rattle.isle_model.specs.rules.Program.{arg_types, kind, rules_of}
-use Rattle.isle_model.specs.rules.Typed.{TypedRule}
-use Rattle.isle_model.specs.rules.Values.{Value, args_well_typed, value_eq, well_typed}
+use Rattle.isle_model.specs.rules.Program.{kind, rules_of}
+use Rattle.isle_model.specs.rules.Values.{Value, value_eq, well_typed}
 use Rattle.isle_model.specs.sites.Serves.{Serves, fits_extractor, holds_argument}
 use Rattle.isle_model.specs.sites.Sites.{argument}
 use Rattle.isle_model.specs.trees.Run.{run, world_of}
-use Rattle.isle_examples.proofs.Lowered.{lowered_to}
+use Rattle.isle_examples.proofs.Lowered.{lowered_to, on_one_argument, two_match_once}
 use Rattle.isle_examples.proofs.SampleStages.{extract_stages}
 use Rattle.isle_examples.specs.Extract.{extract_any, extract_one, extract_program, extract_sample, extract_set, extract_tree}
 use Rattle.isle_examples.specs.Stages.{IsLoweredTo}
@@ -46,28 +44,20 @@ answered_alike m v (Some (one w)) g fits h k = absurd (false≢true fits)
 answered_alike m v (Some (parts vs)) g fits h k = absurd (false≢true fits)
 answered_alike m v (Some (many cs)) g fits h k = absurd (false≢true fits)
 
-runs_alike : (m : Meaning) (args : List Value) → IsTrue (args_well_typed extract_program.types (arg_types extract_program 1) args) → Serves extract_program m args (rules_of extract_program 1) → RunsAlike m args
-runs_alike m [] t s = absurd (false≢true t)
-runs_alike m (v ∷ []) t s =
+value_alike : (m : Meaning) (v : Value) → Serves extract_program m (v ∷ []) (rules_of extract_program 1) → RunsAlike m (v ∷ [])
+value_alike m v s =
     answered_alike m v (extractor_answer m 0 v) refl (s.extractors 0 (argument 0) v (1, omega arith, refl) (holds_argument refl))
     (s.ints (pos 1) 1 (4, omega arith, refl)) (s.ints (pos 10) 1 (3, omega arith, refl))
-runs_alike m (v ∷ (w ∷ vs)) t s = absurd (false≢true (and_parts (well_typed extract_program.types 1 v) false t).1)
 
 -- the rules have two priorities
 one_zero : ◌≡◌ {A = ℤ} (pos 1) (pos 0) → ⊥
 one_zero e = cc
 
-once_matched : (m : Meaning) (args : List Value) → MatchesOnce extract_program m (rules_of extract_program 1) args
-once_matched m args zero zero r s a b same h g = refl
-once_matched m args (suc zero) (suc zero) r s a b same h g = refl
-once_matched m args zero (suc zero) r s a b same h g = absurd (one_zero (ap (λ (x : TypedRule). x.prio) (same_Some extract_one r a) ∙ same ∙ sym (ap (λ (x : TypedRule). x.prio) (same_Some extract_any s b))))
-once_matched m args (suc zero) zero r s a b same h g = absurd (one_zero (ap (λ (x : TypedRule). x.prio) (same_Some extract_one s b) ∙ sym same ∙ sym (ap (λ (x : TypedRule). x.prio) (same_Some extract_any r a))))
-once_matched m args (suc (suc i)) j r s a b same h g = absurd (none-some r a)
-once_matched m args zero (suc (suc j)) r s a b same h g = absurd (none-some s b)
-once_matched m args (suc zero) (suc (suc j)) r s a b same h g = absurd (none-some s b)
-
 extract_runs : RunsAsChosen extract_program 1 extract_set.sites extract_tree
-extract_runs w m args typed served told = (runs_alike m args typed served, once_matched m args)
+extract_runs w m args typed served told = (
+  on_one_argument (λ vs. Serves extract_program m vs (rules_of extract_program 1) → RunsAlike m vs) extract_program.types 1 (value_alike m) args typed served,
+  two_match_once extract_program m args extract_one extract_any one_zero,
+)
 
 pub extract_is_lowered : IsLoweredTo extract_sample
 extract_is_lowered =

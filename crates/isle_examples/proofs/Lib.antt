@@ -2,6 +2,7 @@ pub mod AcceptedLists
 pub mod Expansions
 pub mod Extract
 pub mod ExtractLowered
+pub mod FallOverlap
 pub mod HandedIn
 pub mod Impure
 pub mod LeftOver

@@ -1,41 +1,36 @@
 -- The smallest inputs behind choices of statements do what is said of them.
-use Rattle.std.proofs.Common.{◌≡◌, ◌==◌, ℕ, zero, suc, pos, true, false, List, [], ◌∷◌, Option, Some, None, is_some, slice_get, Contains, All, IsTrue, refl, sym, ap, ◌∙◌, subst, inl, inr, arith, Bool, cond, codes}
-use Rattle.std.proofs.lemmas.Bool.{false≢true, and_parts}
+use Rattle.std.proofs.Common.{◌≡◌, ◌==◌, ℕ, zero, suc, pos, true, false, List, [], ◌∷◌, Some, None, is_some, slice_get, Contains, All, IsTrue, refl, sym, ap, ◌∙◌, subst, inl, inr, arith, Bool, cond, codes}
+use Rattle.std.proofs.lemmas.Bool.{false≢true}
 use Rattle.std.proofs.lemmas.Option.{none-some, same_Some}
-use Rattle.std.proofs.lemmas.List.Elements.{All-nil, All-cons, All-contains, All-from_recursion}
-use Rattle.isle_model.specs.rules.Meaning.{one, Meaning, int_literal, literal_value}
-use Rattle.isle_model.specs.rules.Values.{Value, args_well_typed, well_typed}
+use Rattle.std.proofs.lemmas.List.Elements.{All-nil, All-cons, All-contains}
+use Rattle.isle_model.specs.rules.Meaning.{one}
 use Rattle.isle_model.specs.sites.Sites.{Constraint, SetRule, constructor_site, make_variant_site, argument}
 use Rattle.isle_model.specs.trees.Collects.{IsPureSite, content_at}
 use Rattle.isle_model.specs.trees.Places.{all_below, joins_in, waits}
-use Rattle.isle_model.specs.trees.Run.{content_fields, run, world_of}
+use Rattle.isle_model.specs.trees.Run.{content_fields}
 use Rattle.isle_model.specs.trees.SetRuns.{IsPureAt, ServesTests, HasNoWrongOverlap, OverlapInSet}
 use Rattle.isle_model.proofs.Members.{nothing_in, in_alone, in_cases, in_head, in_tail}
 use Rattle.isle_model.specs.sites.Demands.{constraint_eq}
 use Rattle.isle_model.specs.lists.TypeTable.{IsValidTypes}
-use Rattle.isle_model.specs.claims.Environments.{types_read, with_read_names}
+use Rattle.isle_model.specs.claims.Environments.{environment_of, types_read}
+use Rattle.isle_model.specs.lists.KnownTypes.{types_of}
+use Rattle.isle_model.proofs.NumbersOf.{environments_are_read}
+use Rattle.isle_laws_lists.specs.QuestionLaws.{IsVariantsTerm}
+use Rattle.isle_laws_lists.proofs.EnvironmentsShown.{well_formed_environments_are_read_lem}
+use Rattle.isle_laws_lists.proofs.VariantTerms.{variants_have_terms_lem}
+use Rattle.isle_examples.proofs.SampleStages.{effects_stages}
+use Rattle.isle_examples.specs.Effects.{effects_defs}
 use Rattle.isle_model.specs.claims.Refusals.{Refusal, past_limit, of_nesting, IsIllTyped}
-use Rattle.isle_model.specs.claims.Layers.{RefusedBy, by_types, by_rules, by_check, IsAccepted, IsLoweredTerm}
+use Rattle.isle_model.specs.claims.Layers.{RefusedBy, by_types, by_rules, by_check, IsAccepted}
 use Rattle.isle_laws_demands.proofs.overlaps.Judged.{lists_are_accepted_lem}
 use Rattle.isle_laws_lists.proofs.JudgedTerms.{terms_are_judged_lem}
-use Rattle.std.specs.Prelude.{IsSomeAnd}
-use Rattle.isle_model.specs.rules.Choice.{choice, MatchesOnce}
-use Rattle.isle_model.specs.rules.Program.{rules_of, arg_types}
-use Rattle.isle_model.specs.claims.Headline.{RunsAsChosen}
-use Rattle.isle_model.specs.trees.Best.{IsBestTree}
-use Rattle.isle_model.proofs.Names.{distinct_if}
-use Rattle.isle_model.proofs.NumbersOf.{environments_are_read}
-use Rattle.isle_laws_trees.proofs.Marking.{tree_judge_is_exact_lem}
-use Rattle.isle_laws_trees.proofs.Shares.{best_trees_share_most_lem}
 use Rattle.isle_examples.specs.MeaningForms.{v}
 use Rattle.isle_examples.specs.SetForms.{is_byte}
 use Rattle.isle_examples.specs.TypedForms.{own}
-use Rattle.isle_examples.specs.Mended.{wrapped_call, wrapped_two, wrapped_sites, wrapped_set, wrapped_meaning, wrapped_world, AboveCallsNothingIsAsked, ThirdRulesDontCount, at_one, at_any, at_two, OverlapsMayHoldTwice, NamelessIsNotAnswered, LookUpsHaveNoList, LimitsAreNamedWherePassed, two_unbound, SecondIsReadAlone, EmptySetsAreBuilt}
+use Rattle.isle_examples.specs.Mended.{wrapped_call, wrapped_two, wrapped_sites, wrapped_set, wrapped_meaning, wrapped_world, AboveCallsNothingIsAsked, ThirdRulesDontCount, at_one, at_any, at_two, OverlapsMayHoldTwice, NamelessIsNotAnswered, LookUpsHaveNoList, LimitsAreNamedWherePassed, two_unbound, SecondIsReadAlone, EmptySetsAreBuilt, EnvironmentsOfLists, VariantHasItsTerm}
 use Rattle.isle_examples.specs.Written.{at}
 use Rattle.isle_examples.specs.Fall.{fall_defs, fall_rules}
 use Rattle.isle_examples.specs.Refused.{two_of_one_name}
-use Rattle.isle_examples.specs.Stages.{IsBuiltOf}
-use Rattle.isle_examples.proofs.SetStages.{built}
 
 -- 1. above an impure call
 -- the one constraint of the rules
@@ -190,3 +185,18 @@ empty_sets_are_built_lem = record {
     sources = λ s a c. absurd (nothing_in a c);
   };
 }
+
+-- environments
+pub environments_of_lists : EnvironmentsOfLists
+environments_of_lists =
+    let r = fall_is_accepted.read.elaborated.readable in (
+      (well_formed_environments_are_read_lem (environment_of (types_read fall_defs))).1 (types_read fall_defs, r, environments_are_read (types_read fall_defs) r.well_formed.names_distinct),
+      λ h. let n = h.one_number 0 (omega arith) in let z : 0 ≡ 1 = n.only 0 refl ∙ sym (n.only 1 refl) in omega (arith, z),
+    )
+
+-- the variant's term, whose id is found
+pub variant_has_its_term : VariantHasItsTerm
+variant_has_its_term =
+    let read = effects_stages.accepted.0.read in
+    let v = variants_have_terms_lem (types_read effects_defs) effects_defs read.elaborated.readable read.elaborated.terms 13 0 _ refl in
+    subst (IsVariantsTerm (types_of effects_defs) effects_defs 13 0) (same_Some v.0 3 (sym v.1)) v.2

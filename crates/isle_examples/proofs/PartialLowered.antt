@@ -1,18 +1,16 @@
 -- The sample with a partial call on the right side is lowered: under every meaning that serves it, its run is the choice.
-use Rattle.std.proofs.Common.{◌≡◌, ◌∷◌, [], ℕ, ℤ, zero, suc, pos, true, false, List, Option, Some, None, IsSomeAnd, IsTrue, is_some, slice_get, refl, sym, ap, ◌∙◌, inl, inr, arith}
-use Rattle.std.proofs.lemmas.Bool.{cases_Bool, false≢true, and_parts}
-use Rattle.std.proofs.lemmas.Option.{none-some, same_Some}
+use Rattle.std.proofs.Common.{◌≡◌, ◌∷◌, [], ℤ, pos, true, false, List, Option, Some, None, IsSomeAnd, IsTrue, is_some, refl, inl, inr, arith}
+use Rattle.std.proofs.lemmas.Bool.{cases_Bool, false≢true}
 use Rattle.isle_model.specs.claims.Headline.{RunsAsChosen}
-use Rattle.isle_model.specs.rules.Choice.{MatchesOnce, choice}
+use Rattle.isle_model.specs.rules.Choice.{choice}
 use Rattle.isle_model.specs.rules.Matching.{matches}
 use Rattle.isle_model.specs.rules.Meaning.{Content, one, parts, nothing, just, many, Meaning, impure_answer, int_literal, literal_value}
-use Rattle.isle_model.specs.rules.Program.{arg_types, kind, rules_of}
-use Rattle.isle_model.specs.rules.Typed.{TypedRule}
-use Rattle.isle_model.specs.rules.Values.{Value, args_well_typed, no_value, value_and, value_eq, well_typed}
+use Rattle.isle_model.specs.rules.Program.{kind, rules_of}
+use Rattle.isle_model.specs.rules.Values.{Value, no_value, value_and, value_eq, well_typed}
 use Rattle.isle_model.specs.sites.Serves.{Serves, fits_constructor, holds_and, holds_int, holds_none}
 use Rattle.isle_model.specs.sites.Sites.{int_term, no_site_term, site_term_and}
 use Rattle.isle_model.specs.trees.Run.{run, world_of}
-use Rattle.isle_examples.proofs.Lowered.{lowered_to}
+use Rattle.isle_examples.proofs.Lowered.{lowered_to, on_one_argument, two_match_once}
 use Rattle.isle_examples.proofs.SampleStages.{partial_stages}
 use Rattle.isle_examples.specs.Partial.{partial_any, partial_call, partial_program, partial_sample, partial_set, partial_tree}
 use Rattle.isle_examples.specs.Stages.{IsLoweredTo}
@@ -56,26 +54,19 @@ literal_alike m v (Some x) e h s =
       | inr n ↦ others_alike m v x (literal_value m (int_literal (pos 7) 1)) e n refl (s.ints (pos 7) 1 (7, omega arith, refl))
     ]
 
-runs_alike : (m : Meaning) (args : List Value) → IsTrue (args_well_typed partial_program.types (arg_types partial_program 1) args) → Serves partial_program m args (rules_of partial_program 1) → RunsAlike m args
-runs_alike m [] t s = absurd (false≢true t)
-runs_alike m (v ∷ []) t s = literal_alike m v (literal_value m (int_literal (pos 1) 1)) refl (s.ints (pos 1) 1 (1, omega arith, refl)) s
-runs_alike m (v ∷ (w ∷ vs)) t s = absurd (false≢true (and_parts (well_typed partial_program.types 1 v) false t).1)
+value_alike : (m : Meaning) (v : Value) → Serves partial_program m (v ∷ []) (rules_of partial_program 1) → RunsAlike m (v ∷ [])
+value_alike m v s =
+    literal_alike m v (literal_value m (int_literal (pos 1) 1)) refl (s.ints (pos 1) 1 (1, omega arith, refl)) s
 
 -- the rules have two priorities
 one_zero : ◌≡◌ {A = ℤ} (pos 1) (pos 0) → ⊥
 one_zero e = cc
 
-once_matched : (m : Meaning) (args : List Value) → MatchesOnce partial_program m (rules_of partial_program 1) args
-once_matched m args zero zero r s a b same h g = refl
-once_matched m args (suc zero) (suc zero) r s a b same h g = refl
-once_matched m args zero (suc zero) r s a b same h g = absurd (one_zero (ap (λ (x : TypedRule). x.prio) (same_Some partial_call r a) ∙ same ∙ sym (ap (λ (x : TypedRule). x.prio) (same_Some partial_any s b))))
-once_matched m args (suc zero) zero r s a b same h g = absurd (one_zero (ap (λ (x : TypedRule). x.prio) (same_Some partial_call s b) ∙ sym same ∙ sym (ap (λ (x : TypedRule). x.prio) (same_Some partial_any r a))))
-once_matched m args (suc (suc i)) j r s a b same h g = absurd (none-some r a)
-once_matched m args zero (suc (suc j)) r s a b same h g = absurd (none-some s b)
-once_matched m args (suc zero) (suc (suc j)) r s a b same h g = absurd (none-some s b)
-
 partial_runs : RunsAsChosen partial_program 1 partial_set.sites partial_tree
-partial_runs w m args typed served told = (runs_alike m args typed served, once_matched m args)
+partial_runs w m args typed served told = (
+  on_one_argument (λ vs. Serves partial_program m vs (rules_of partial_program 1) → RunsAlike m vs) partial_program.types 1 (value_alike m) args typed served,
+  two_match_once partial_program m args partial_call partial_any one_zero,
+)
 
 pub partial_is_lowered : IsLoweredTo partial_sample
 partial_is_lowered =

@@ -2,7 +2,7 @@
 --   (decl f (u8) u8)
 --   (rule 1 (f 1) 10)
 --   (rule (f x) x)
-use Rattle.std.specs.Prelude.{◌≡◌, ◌∷◌, [], ℤ, pos, false, List, None, codes}
+use Rattle.std.specs.Prelude.{◌≡◌, ◌∷◌, [], ℤ, pos, false, List, Some, None, slice_get, codes}
 use Rattle.isle_model.specs.claims.Layers.{own_program}
 use Rattle.isle_model.specs.lists.Elaborated.{TypedRules}
 use Rattle.isle_model.specs.lists.Syntax.{Definition}
@@ -10,6 +10,7 @@ use Rattle.isle_model.specs.rules.Meaning.{Meaning}
 use Rattle.isle_model.specs.rules.Program.{Program}
 use Rattle.isle_model.specs.rules.Typed.{TypedRule, make_int, make_var, match_int}
 use Rattle.isle_model.specs.sites.Demands.{demands_of}
+use Rattle.isle_model.specs.sites.Overlap.{BuiltRule, IsSubsetPair, built_rules}
 use Rattle.isle_model.specs.sites.Sites.{SetRule, SiteSet, argument_site}
 use Rattle.isle_model.specs.trees.Run.{World, run}
 use Rattle.isle_model.specs.trees.Trees.{Tree, arm, match_at, no_step, step}
@@ -96,3 +97,8 @@ fall_world z = record { sites = fall_set.sites; args = given z; meaning = fall_m
 -- the tree answers 10 at 1, and 2 at 2
 abbrev pub FallRuns : Type 0
 FallRuns = (run fall_tree (fall_world (pos 1)) ≡ answers (pos 10)) × (run fall_tree (fall_world (pos 2)) ≡ answers (pos 2))
+
+-- the closed demands of the two rules are a subset pair, as the rules of the set tell
+abbrev pub FallIsSubsetPair : Type 0
+FallIsSubsetPair =
+    (a b : BuiltRule) → slice_get (built_rules fall_program 0) 0 ≡ Some a → slice_get (built_rules fall_program 0) 1 ≡ Some b → IsSubsetPair a.demands b.demands

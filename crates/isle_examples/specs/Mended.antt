@@ -9,35 +9,32 @@ use Rattle.isle_model.specs.trees.SetRuns.{IsPureAt, ServesTests, HasNoWrongOver
 use Rattle.isle_model.specs.claims.Headline.{IsWithoutMulti}
 use Rattle.isle_model.specs.claims.Layers.{own_program, CheckReports, IsBuiltForSome, LoweredTerm, LoweringAnswers, RefusedBy}
 use Rattle.isle_model.specs.claims.SetMeanings.{AreRulesWithoutCalls, returning_once}
-use Rattle.isle_model.specs.lists.Elaborated.{TypedRules}
 use Rattle.isle_model.specs.lists.Syntax.{Definition, declaration}
 use Rattle.isle_model.specs.rules.Program.{Program}
 use Rattle.isle_model.specs.rules.Typed.{TypedRule, make_int, make_var, match_int, match_term, make_term, match_any}
 use Rattle.isle_model.specs.sites.Limits.{sites_after_rules}
 use Rattle.isle_model.specs.sites.Overlap.{BuiltRule, Overlaps, built_rule, RuleReport}
-use Rattle.isle_model.specs.rules.Outcome.{Outcome, failed, ran_through, no_rule}
+use Rattle.isle_model.specs.rules.Outcome.{Outcome, failed, ran_through}
 use Rattle.isle_model.specs.rules.Picks.{Pick, matches_under, right_side_under}
 use Rattle.isle_model.specs.rules.RightSide.{right_side}
 use Rattle.isle_model.specs.trees.Trees.{Tree, loop_at, no_step, step}
 use Rattle.std.specs.Bool.{◌==◌}
-use Rattle.isle_model.specs.claims.Environments.{AnswersBy, PassesNesting, TermEnvironment, TypeEnvironment, types_read, shown_terms, environment_of, term_environment_of, with_read_names}
+use Rattle.isle_model.specs.claims.Environments.{AnswersBy, PassesNesting, TermEnvironment, TypeEnvironment, types_read, shown_terms, environment_of}
 use Rattle.isle_model.specs.claims.Refusals.{of_nesting, past_limit}
 use Rattle.isle_model.specs.lists.Signatures.{Signature, constructor_signature, extractor_signature, gives_one, gives_one_or_none}
-use Rattle.isle_model.specs.rules.Choice.{choice}
 use Rattle.isle_model.specs.sites.SetRules.{may_fit, sites_brought, no_overlap, overlap_between, some_overlap}
-use Rattle.isle_model.specs.claims.Questions.{identifier, term_of_site}
+use Rattle.isle_model.specs.claims.Questions.{IsWellFormedEnvironment, identifier, term_of_site}
+use Rattle.isle_model.specs.lists.KnownTypes.{types_of}
 use Rattle.isle_model.specs.lists.TypeTable.{type_table}
+use Rattle.isle_laws_lists.specs.QuestionLaws.{IsVariantsTerm}
 use Rattle.isle_model.specs.trees.Best.{total_constraints}
 use Rattle.isle_examples.specs.Effects.{effects_defs, effects_rule, effects_rules, effects_set}
-use Rattle.isle_model.specs.trees.Judge.{is_best_tree}
 use Rattle.isle_examples.specs.MeaningForms.{given, literal, mute, all_of, alone, answers, v}
 use Rattle.isle_examples.specs.SetForms.{a_rule, byte, is_byte, a0, returning}
-use Rattle.isle_examples.specs.TypedForms.{own, bind_any, q_list, rules_and_names, typed, typed_var, u8, e_list, by_constructor, by_extractor, entry, make_let_one, no_flags, typed_iflet}
+use Rattle.isle_examples.specs.TypedForms.{own, bind_any, q_list, rules_and_names, typed, typed_var, u8, e_list, by_constructor, by_extractor, entry, no_flags}
 use Rattle.isle_examples.specs.Written.{extractor_by, f_of_bytes, int, number, numbers, of_f, rule_first, rule_to, term, var, variable, any, call, constructor_by, at}
 use Rattle.isle_examples.specs.Fall.{fall_defs, fall_rules}
 use Rattle.isle_examples.specs.Refused.{two_of_one_name}
-use Rattle.isle_examples.specs.Stages.{Becomes}
-use Rattle.isle_examples.specs.Used.{ending_with, used_rule, used_rules, used_defs, used_set, used_tree}
 
 -- 1. What stands above an impure call is asked of rules that match alone.
 --   (type T (enum (P (a u8))))
@@ -288,3 +285,13 @@ abbrev pub IdentifiersOfRules : Type 0
 IdentifiersOfRules =
     (identifier effects_rules.names (λ p. codes "here") effects_rule ≡ codes "f")
     × (identifier effects_rules.names (λ p. codes "here") (record effects_rule { name = None }) ≡ codes "here")
+
+-- The types of a list are shown by a well-formed environment; one in which each name is mapped to the first type is none.
+abbrev pub EnvironmentsOfLists : Type 0
+EnvironmentsOfLists =
+    IsWellFormedEnvironment (environment_of (types_read fall_defs))
+    × (IsWellFormedEnvironment (record (environment_of (types_read fall_defs)) { type_of = λ k. Some 0 }) → ⊥)
+
+-- The variant of `effects` has its term.
+abbrev pub VariantHasItsTerm : Type 0
+VariantHasItsTerm = IsVariantsTerm (types_of effects_defs) effects_defs 13 0 3

@@ -18,7 +18,7 @@ ghost use Rattle.isle_examples.specs.EmittedFirst.{emitted_first_sample};
 ghost use Rattle.isle_examples.specs.Equal.{equal_program, equal_same, equal_sample};
 ghost use Rattle.isle_examples.specs.Expansions.{ConversionsNest, DoubledTables, EndlessBecomes, EndlessHasNone, EndlessTables, ExpansionsDouble, LimitIsMet, ManyMayNest, NestedUsesDouble, TemplateVariablesAreTheRules};
 ghost use Rattle.isle_examples.specs.Extract.{ExtractDemands, ExtractEnds, ExtractIsServed, ExtractMeaningServes, ExtractTables, NearSetsAreNotBuilt, extract_any, extract_mute, extract_one, extract_program, extract_sample};
-ghost use Rattle.isle_examples.specs.Fall.{FallDemands, FallRuns, fall_any, fall_one, fall_program, fall_sample};
+ghost use Rattle.isle_examples.specs.Fall.{FallDemands, FallIsSubsetPair, FallRuns, fall_any, fall_one, fall_program, fall_sample};
 ghost use Rattle.isle_examples.specs.FormedRules.{ArgumentsAreLimited, FormedRulesMayTestImpureCalls, OthersAreNotFormed, ResultsMayUnwrap};
 ghost use Rattle.isle_examples.specs.HandedIn.{IllFormed, NamesGoOn, OwnTypesDoNotCount, TypesHandedIn};
 ghost use Rattle.isle_examples.specs.Impure.{ImpureIsCalled, impure_sample};
@@ -98,7 +98,7 @@ pub fn const_eq_sample()
 {}
 
 /// A rule for a literal, and a lower one: the tree answers 10 at 1, and 2 at 2.
-#[tactic(auto, using(crate::proofs::SampleStages::fall_stages, crate::proofs::Matchable::fall_one_matches, crate::proofs::Matchable::fall_any_matches))]
+#[tactic(auto, using(crate::proofs::SampleStages::fall_stages, crate::proofs::Matchable::fall_one_matches, crate::proofs::Matchable::fall_any_matches, crate::proofs::FallOverlap::fall_is_subset_pair))]
 pub fn fall_sample()
     ensures stages { HasStages fall_sample }
     ensures demands { FallDemands }
@@ -106,6 +106,7 @@ pub fn fall_sample()
     ensures one_matches { CanMatch fall_program fall_one }
     ensures any_matches { CanMatch fall_program fall_any }
     ensures runs { FallRuns }
+    ensures overlap { FallIsSubsetPair }
 {}
 
 /// Three priorities: the test that covers two rules goes first.
@@ -522,7 +523,7 @@ pub fn lists_refused()
     ensures lowering { SamplesAreRefused }
 {}
 
-ghost use Rattle.isle_examples.specs.Mended.{AboveCallsNothingIsAsked, ThirdRulesDontCount, ReturnsOfMultiTermsGoOn, RightSidesFailUnderPicks, OverlapsMayHoldTwice, NamelessIsNotAnswered, LookUpsHaveNoList, LimitsAreNamedWherePassed, SecondIsReadAlone, EmptySetsAreBuilt, SignaturesOfW, SitesAreBrought, OverlapsAreTold, TermsOfSites, IdentifiersOfRules};
+ghost use Rattle.isle_examples.specs.Mended.{AboveCallsNothingIsAsked, ThirdRulesDontCount, ReturnsOfMultiTermsGoOn, RightSidesFailUnderPicks, OverlapsMayHoldTwice, NamelessIsNotAnswered, LookUpsHaveNoList, LimitsAreNamedWherePassed, SecondIsReadAlone, EmptySetsAreBuilt, SignaturesOfW, SitesAreBrought, OverlapsAreTold, TermsOfSites, IdentifiersOfRules, EnvironmentsOfLists, VariantHasItsTerm};
 
 /// A world that has what tests ask may have no content for a construction above an impure call that is never made.
 #[tactic(auto, using(crate::proofs::Mended::above_calls_nothing_is_asked_lem))]
@@ -606,4 +607,16 @@ pub fn terms_of_sites()
 /// A rule's identifier is its name, or its place where it has none.
 pub fn identifiers_of_rules()
     ensures { IdentifiersOfRules }
+{}
+
+/// The types of a list are shown by a well-formed environment; where all names are mapped to one type it isn't such.
+#[tactic(auto, using(crate::proofs::Mended::environments_of_lists))]
+pub fn environments_of_lists()
+    ensures { EnvironmentsOfLists }
+{}
+
+/// The variant of a list has its term.
+#[tactic(auto, using(crate::proofs::Mended::variant_has_its_term))]
+pub fn variant_has_its_term()
+    ensures { VariantHasItsTerm }
 {}

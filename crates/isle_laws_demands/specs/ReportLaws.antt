@@ -3,9 +3,9 @@ use Rattle.std.specs.Prelude.{◌≡◌, ◌⊎◌, ◌<◌, ℕ, false, List, [
 use Rattle.std.specs.List.{filter}
 use Rattle.isle_model.specs.lists.Syntax.{Position}
 use Rattle.isle_model.specs.rules.Typed.{TypedRule}
-use Rattle.isle_model.specs.rules.Program.{Program, is_multi, rules_of}
+use Rattle.isle_model.specs.rules.Program.{Program, is_multi}
 use Rattle.isle_model.specs.claims.Layers.{IsCheckable}
-use Rattle.isle_model.specs.sites.Overlap.{HasDistinctPositions, BuiltRule, built_rules, OverlapsWrongly, Shadows, shadows, IsShadowed, wrong_overlaps, OverlapReport, overlap_reports, ShadowReport, shadow_reports, check_reports}
+use Rattle.isle_model.specs.sites.Overlap.{HasDistinctPositions, BuiltRule, built_rules, OverlapsWrongly, Shadows, shadows, wrong_overlaps, OverlapReport, overlap_reports, ShadowReport, shadow_reports, check_reports}
 
 -- each rule's term is one of the program's
 abbrev pub RulesHaveTerms : Program → Type 0

@@ -1,6 +1,6 @@
 -- A well-formed type environment shows types that can be read: the name of each type is that of its one number, and the
 -- constants are those that its look-up answers.
-use Rattle.std.proofs.Common.{◌≡◌, ◌==◌, ℕ, zero, suc, ◌+◌, ◌<◌, Bool, true, false, if◌then◌else◌, List, [], ◌∷◌, length, map, Option, Some, None, unwrap_or, slice_get, IsTrue, All, refl, sym, ap, ◌∙◌, subst, inl, inr, arith, eq-eqb, eqb-true}
+use Rattle.std.proofs.Common.{◌≡◌, ◌==◌, ℕ, zero, suc, ◌+◌, ◌<◌, Bool, true, false, if◌then◌else◌, List, [], ◌∷◌, length, Option, Some, None, unwrap_or, slice_get, IsTrue, All, refl, sym, ap, ◌∙◌, subst, inl, inr, arith, eq-eqb, eqb-true}
 use Rattle.std.proofs.lemmas.Bool.{cases_Bool, cond-true, cond-false, false≢true}
 use Rattle.std.proofs.lemmas.Option.{same_Some, none-some}
 use Rattle.std.specs.List.{enumerate_from}
@@ -9,11 +9,10 @@ use Rattle.isle_model.specs.lists.Tables.{TypeEntry}
 use Rattle.isle_model.specs.lists.Signatures.{text_of}
 use Rattle.isle_model.specs.rules.Meaning.{look}
 use Rattle.isle_model.specs.claims.Environments.{TypesRead, AreReadable, AnswersBy, numbered, TypeEnvironment, IsReadAs}
-use Rattle.isle_model.specs.claims.Questions.{HasOneNumber, IsWellFormedEnvironment}
+use Rattle.isle_model.specs.claims.Questions.{IsWellFormedEnvironment}
 use Rattle.isle_model.proofs.Elements.{In, in_from_contains, in_map, map_in}
 use Rattle.isle_model.proofs.Members.{get_from_member, get_within, all_members}
-use Rattle.isle_model.proofs.Names.{has_at, found}
-use Rattle.isle_laws_lists.specs.QuestionLaws.{WellFormedEnvironmentsAreRead}
+use Rattle.isle_model.proofs.Names.{has_at}
 use Rattle.isle_laws_lists.proofs.TermLaws.{number_back}
 use Rattle.isle_laws_lists.proofs.VariantTerms.{looked_up}
 
@@ -99,12 +98,12 @@ key_found f ty (suc n) k e l only =
           cond-false (is_type (f n) ty) n (key_of f ty n) d ∙ key_found f ty n k e (omega (arith, l, no)) only
     ]
 
-in_enumerated : {X : Type 0} (i m : ℕ) (xs : List X) (e : ℕ × X) → In (enumerate_from i xs) e → (j : ℕ) × (e.0 ≡ i + j) × (slice_get xs j ≡ Some e.1)
+pub in_enumerated : {X : Type 0} (i m : ℕ) (xs : List X) (e : ℕ × X) → In (enumerate_from i xs) e → (j : ℕ) × (e.0 ≡ i + j) × (slice_get xs j ≡ Some e.1)
 in_enumerated i m [] e n = absurd n
 in_enumerated i m (x ∷ xs) e (inl s) = (0, let q : i ≡ e.0 = ap (λ (y : ℕ × _). y.0) s in omega (arith, q), ap Some (ap (λ (y : ℕ × _). y.1) s))
 in_enumerated i m (x ∷ xs) e (inr n) = let r = in_enumerated (i + 1) m xs e n in (suc r.0, let q = r.1 in omega (arith, q), r.2)
 
-enumerated_in : {X : Type 0} (i j m : ℕ) (xs : List X) (x : X) → i + j ≡ m → slice_get xs j ≡ Some x → In (enumerate_from i xs) (m, x)
+pub enumerated_in : {X : Type 0} (i j m : ℕ) (xs : List X) (x : X) → i + j ≡ m → slice_get xs j ≡ Some x → In (enumerate_from i xs) (m, x)
 enumerated_in i j m [] x s e = absurd (cc)
 enumerated_in i zero m (y ∷ xs) x s e = inl (let q : i ≡ m = omega (arith, s) in (λ k. (q k, same_Some y x e k)))
 enumerated_in i (suc j) m (y ∷ xs) x s e = inr (enumerated_in (i + 1) j m xs x (omega (arith, s)) e)
@@ -141,14 +140,16 @@ module _ (env : TypeEnvironment) (h : IsWellFormedEnvironment env) where
       let one = h.one_number ty l in
       let known = get_within env.names one.number (h.type_names one.number ty one.of_type).0 in
       let key = key_found env.type_of ty (length env.names) one.number one.of_type (h.type_names one.number ty one.of_type).0 one.only in
-      let text : text_of env.names (key_of env.type_of ty (length env.names)) ≡ known.0 = ap (text_of env.names) key ∙ ap (λ o. unwrap_or o []) known.1 in
-      (known.0, record {
-        key = one.number;
-        of_type = one.of_type;
-        only = one.only;
-        at_key = known.1;
-        listed = name_by 0 ty ty env.types (omega arith) l ∙ ap Some text;
-      })
+      let text : text_of env.names (key_of env.type_of ty (length env.names)) ≡ known.0 = ap (text_of env.names) key ∙ ap (λ o. unwrap_or o []) known.1 in (
+        known.0,
+        record {
+          key = one.number;
+          of_type = one.of_type;
+          only = one.only;
+          at_key = known.1;
+          listed = name_by 0 ty ty env.types (omega arith) l ∙ ap Some text;
+        },
+      )
 
   listed_named : (ty : ℕ) (x : List ℕ) → slice_get (names_by 0 env.types) ty ≡ Some x → IsNamed ty x
   listed_named ty x e =
@@ -231,5 +232,5 @@ module _ (env : TypeEnvironment) (h : IsWellFormedEnvironment env) where
     no_errors = h.no_errors;
   }
 
-pub well_formed_environments_are_read_lem : WellFormedEnvironmentsAreRead
-well_formed_environments_are_read_lem env h = (shown env h, can_be_read env h, is_shown env h)
+pub read_environment : (env : TypeEnvironment) → IsWellFormedEnvironment env → (e : TypesRead) × AreReadable e × IsReadAs env e
+read_environment env h = (shown env h, can_be_read env h, is_shown env h)

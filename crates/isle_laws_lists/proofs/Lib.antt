@@ -1,5 +1,6 @@
 pub mod Converters
 pub mod EnvironmentsRead
+pub mod EnvironmentsShown
 pub mod FormedRules
 pub mod FurtherNames
 pub mod JudgedKnown

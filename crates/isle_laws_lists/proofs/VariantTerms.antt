@@ -5,7 +5,7 @@ use Rattle.std.proofs.lemmas.List.Elements.{All-contains}
 use Rattle.std.proofs.lemmas.Option.{same_Some, none-some}
 use Rattle.std.specs.List.{enumerate_from, flat_map}
 use Rattle.isle_model.specs.lists.Syntax.{Definition}
-use Rattle.isle_model.specs.lists.Names.{number, IsDistinct}
+use Rattle.isle_model.specs.lists.Names.{number}
 use Rattle.isle_model.specs.lists.Tables.{VariantEntry, TypeEntry, builtin_type, primitive_type, enum_type, struct_type, variant_term, TermEntry}
 use Rattle.isle_model.specs.lists.TermTable.{decl_trees, decl_names, function_of, term_names, term_names_met, IsValidTerms, variant_as_term, terms_made, decl_as_term, terms_in_order, term_table}
 use Rattle.isle_model.specs.lists.KnownTypes.{entry_id, variant_numbers, entry_numbers}
@@ -13,10 +13,10 @@ use Rattle.isle_model.specs.rules.Meaning.{look}
 use Rattle.isle_model.specs.rules.Outcome.{then_option}
 use Rattle.isle_model.specs.claims.Environments.{TypesRead, HasVariantsAtIds, variants_in, AreReadable, terms_by_name}
 use Rattle.isle_model.specs.claims.Questions.{variant_by_id}
-use Rattle.isle_model.proofs.Elements.{In, in_from_contains, contains_from_in, in_left, in_right, in_slice, slice_in, in_map, map_in, in_flat_map}
+use Rattle.isle_model.proofs.Elements.{In, contains_from_in, in_right, in_slice, slice_in, in_map, map_in, in_flat_map}
 use Rattle.isle_model.proofs.Members.{get_within}
 use Rattle.isle_model.proofs.Names.{at_number, get_kept}
-use Rattle.isle_laws_lists.specs.QuestionLaws.{IsVariantsTerm, VariantsHaveTerms}
+use Rattle.isle_laws_lists.specs.QuestionLaws.{VariantsHaveTerms}
 use Rattle.isle_laws_lists.proofs.TermLaws.{terms_have_names_lem, terms_stand_at_ids_lem}
 
 -- 1. lists

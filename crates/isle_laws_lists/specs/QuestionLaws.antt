@@ -1,5 +1,5 @@
 -- What theory proves of single answers: each variant has a term, and a well-formed type environment can be read.
-use Rattle.std.specs.Prelude.{◌≡◌, ℕ, List, Some, slice_get}
+use Rattle.std.specs.Prelude.{◌≡◌, ◌↔◌, ℕ, List, Some, slice_get}
 use Rattle.isle_model.specs.lists.Syntax.{Definition}
 use Rattle.isle_model.specs.lists.Tables.{VariantEntry, variant_term, TermEntry}
 use Rattle.isle_model.specs.lists.KnownTypes.{KnownTypes}
@@ -21,6 +21,6 @@ VariantsHaveTerms =
     → (ty variant : ℕ) (v : VariantEntry) → variant_by_id e.known.types ty variant ≡ Some v
     → (id : ℕ) × (term_of_variant e.known.types (shown_terms e defs).term_of ty variant ≡ Some id) × IsVariantsTerm e.known defs ty variant id
 
--- a well-formed type environment shows types that can be read
+-- a type environment is well formed exactly where it shows types that can be read
 abbrev pub WellFormedEnvironmentsAreRead : Type 0
-WellFormedEnvironmentsAreRead = (env : TypeEnvironment) → IsWellFormedEnvironment env → (e : TypesRead) × AreReadable e × IsReadAs env e
+WellFormedEnvironmentsAreRead = (env : TypeEnvironment) → IsWellFormedEnvironment env ↔ ((e : TypesRead) × AreReadable e × IsReadAs env e)

@@ -239,7 +239,7 @@ pub fn variants_have_terms()
     ensures { VariantsHaveTerms }
 {}
 
-/// A well-formed type environment shows types that can be read.
+/// A type environment is well formed exactly where it shows types that can be read.
 pub fn well_formed_environments_are_read()
     ensures { WellFormedEnvironmentsAreRead }
 {}

@@ -1,5 +1,5 @@
 -- The judge of acceptance gives the typed rules of an accepted list, and nothing where a list isn't accepted.
-use Rattle.std.proofs.Common.{◌≡◌, Bool, true, false, cond, List, [], ◌∷◌, Option, Some, None, slice_get, Decides, refl, sym, ap, ◌∙◌, subst}
+use Rattle.std.proofs.Common.{◌≡◌, Bool, true, cond, List, Option, Some, None, slice_get, Decides, refl, sym, ap, ◌∙◌, subst}
 use Rattle.std.proofs.lemmas.Bool.{cond-true, false≢true}
 use Rattle.std.proofs.lemmas.Bool.Decides.{Decides-like}
 use Rattle.std.proofs.lemmas.Option.{none-some, same_Some, slice_get_within}
@@ -8,7 +8,7 @@ use Rattle.isle_model.specs.lists.Tables.{TermEntry}
 use Rattle.isle_model.specs.lists.Formed.{of_entry, is_formed_rule}
 use Rattle.isle_model.specs.lists.Elaborated.{TypedRules}
 use Rattle.isle_model.specs.rules.Outcome.{then_option}
-use Rattle.isle_model.specs.sites.Overlap.{RuleReport, check_reports}
+use Rattle.isle_model.specs.sites.Overlap.{check_reports}
 use Rattle.isle_model.specs.claims.Environments.{types_read, program_of}
 use Rattle.isle_model.specs.claims.Layers.{own_program, IsCheckable, IsAccepted}
 use Rattle.isle_model.specs.claims.ReadJudge.{read_list}
@@ -21,6 +21,7 @@ use Rattle.isle_laws_lists.proofs.JudgedReading.{lists_are_read_lem}
 use Rattle.isle_laws_demands.specs.AcceptLaws.{ElaboratedRulesHaveTerms, RulesAreJudged, ListsAreAccepted, ListsAreNotAccepted}
 use Rattle.isle_laws_demands.proofs.visits.Elaborated.{elaborated_rules_hang}
 use Rattle.isle_laws_demands.proofs.overlaps.Checked.{check_is_exact_lem}
+use Rattle.isle_laws_demands.proofs.overlaps.Overlaps.{none_listed}
 
 some_entry : (o : Option TermEntry) (f : TermEntry → Bool) → of_entry o f ≡ true → (t : TermEntry) × (o ≡ Some t)
 some_entry None f h = absurd (false≢true h)
@@ -33,14 +34,10 @@ elaborated_rules_have_terms_lem e defs expand rules h r c =
     let t = some_entry (slice_get p.terms r.root_term) _ formed in
     slice_get_within p.terms r.root_term t.0 t.1
 
-none_left : (rs : List RuleReport) → Decides (elim rs [ [] ↦ true | x ∷ xs ↦ false ]) (rs ≡ [])
-none_left [] = (λ _. refl, λ _. refl)
-none_left (x ∷ xs) = (λ h. absurd (false≢true h), λ e. cc)
-
 pub rules_are_judged_lem : RulesAreJudged
 rules_are_judged_lem p terms =
     let exact = check_is_exact_lem p terms in
-    Decides-like (is_checkable p) exact.0 exact.1 (none_left (check_reports p))
+    Decides-like (is_checkable p) exact.0 exact.1 (none_listed (check_reports p))
 
 module _ (defs : List Definition) (expand : Bool) where
   judged : (rules : TypedRules) → read_list defs expand ≡ Some rules → Decides (is_checkable (own_program defs rules)) (IsCheckable (own_program defs rules))

@@ -109,15 +109,10 @@ among_from as' bs h =
     any_in (same_demand a) bs a (in_from_contains bs a (h a.0 a.1 (contains_from_in as' a i)))
     (and_from (site_term_eq a.0 a.0) (constraint_eq a.1 a.1) (term_same a.0) (same_constraint a.1 a.1 refl)))
 
-no_class_means : (k : Closed) → has_no_class k ≡ true → k.classes ≡ []
-no_class_means k h = of k.classes h
-  where
-    of : (cs : List (List SiteTerm)) → elim cs [ [] ↦ true | c ∷ ds ↦ false ] ≡ true → cs ≡ []
-    of [] e = refl
-    of (c ∷ ds) e = absurd (false≢true e)
-
-no_class_from : (k : Closed) → k.classes ≡ [] → has_no_class k ≡ true
-no_class_from k e = ap (λ cs. elim cs as (λ _. Bool) [ [] ↦ true | c ∷ ds ↦ false ]) e
+-- whether a list is empty
+pub none_listed : {X : Type 0} (xs : List X) → Decides (elim xs [ [] ↦ true | x ∷ ys ↦ false ]) (xs ≡ [])
+none_listed [] = (λ _. refl, λ _. refl)
+none_listed (x ∷ xs) = (λ h. absurd (false≢true h), λ e. cc)
 
 pub subset_pair_decides : (a b : Closed) → Decides (is_subset_pair a b) (IsSubsetPair a b)
 subset_pair_decides a b = (
@@ -127,8 +122,8 @@ subset_pair_decides a b = (
       let r = and_parts (overlaps a b) (has_no_class a) q.0 in
       record {
         overlap = (overlaps_decides a b).0 r.0;
-        first_has_none = no_class_means a r.1;
-        second_has_none = no_class_means b q.1;
+        first_has_none = (none_listed a.classes).0 r.1;
+        second_has_none = (none_listed b.classes).0 q.1;
         among = elim (or_split (are_among a.constraints b.constraints) (are_among b.constraints a.constraints) p.1) [
           | inl t ↦ inl (among_means a.constraints b.constraints t)
           | inr t ↦ inr (among_means b.constraints a.constraints t)
@@ -137,7 +132,7 @@ subset_pair_decides a b = (
   λ s.
       and_from (overlaps a b && has_no_class a && has_no_class b) (are_among a.constraints b.constraints || are_among b.constraints a.constraints)
       (and_from (overlaps a b && has_no_class a) (has_no_class b)
-      (and_from (overlaps a b) (has_no_class a) ((overlaps_decides a b).1 s.overlap) (no_class_from a s.first_has_none)) (no_class_from b s.second_has_none))
+      (and_from (overlaps a b) (has_no_class a) ((overlaps_decides a b).1 s.overlap) ((none_listed a.classes).1 s.first_has_none)) ((none_listed b.classes).1 s.second_has_none))
       (elim s.among [
         | inl t ↦ or_left (are_among a.constraints b.constraints) (are_among b.constraints a.constraints) (among_from a.constraints b.constraints t)
         | inr t ↦ or_right (are_among a.constraints b.constraints) (are_among b.constraints a.constraints) (among_from b.constraints a.constraints t)

@@ -1,20 +1,19 @@
 -- Overlap of two rules of a set is symmetric, and in a built set it is that of their closed demands.
-use Rattle.std.proofs.Common.{◌≡◌, ◌↔◌, ◌≤◌, ℕ, ◌==◌, ◌<◌, Bool, true, false, not, ◌&&◌, ◌||◌, if◌then◌else◌, List, [], ◌∷◌, length, map, filter, Contains, IsTrue, All, refl, sym, ap, ◌∙◌, subst, inl, inr, arith, eq-eqb, eqb-true}
+use Rattle.std.proofs.Common.{◌≡◌, ◌≤◌, ℕ, ◌==◌, Bool, true, false, not, ◌&&◌, ◌||◌, if◌then◌else◌, List, [], ◌∷◌, length, map, filter, Contains, All, refl, sym, ap, ◌∙◌, subst, inl, inr, arith, eq-eqb, eqb-true}
 use Rattle.std.proofs.lemmas.Bool.{cases_Bool, cond-true, cond-false, and_parts, and_from, false≢true}
 use Rattle.std.specs.List.{list_any}
 use Rattle.isle_model.specs.rules.Program.{Program, rules_of}
 use Rattle.isle_model.specs.sites.Sites.{Constraint, SetRule, SiteSet, SiteTerm, unfold_site}
-use Rattle.isle_model.specs.sites.Demands.{site_term_eq, constraint_eq, demands_of}
+use Rattle.isle_model.specs.sites.Demands.{constraint_eq, demands_of}
 use Rattle.isle_model.specs.sites.Closure.{Closed, ascending, begins_with, in_order, closing, before_closing, most_closing_steps}
 use Rattle.isle_model.specs.sites.Overlap.{Overlaps, AreAmong, IsSubsetPair, BuiltRule, built_rules}
 use Rattle.isle_model.specs.sites.RuleSets.{IsRuleOf, IsBuilt}
-use Rattle.isle_model.specs.sites.SetRules.{differs_at, sites_differ, agrees_at, all_agree, equates_none, is_subset_of_sites, RuleOverlap, no_overlap, some_overlap, overlap_between}
+use Rattle.isle_model.specs.sites.SetRules.{differs_at, sites_differ, agrees_at, all_agree, equates_none, is_subset_of_sites, no_overlap, some_overlap, overlap_between}
 use Rattle.isle_model.specs.trees.Places.{is_in, joins_in}
-use Rattle.isle_model.specs.claims.SetMeanings.{AreOneRule}
-use Rattle.isle_model.proofs.Elements.{In, in_from_contains, contains_from_in, in_slice, any_in, in_any, all_in, all_from, from_flat_map, in_map, in_filter, passed_filter, or_split, or_left, or_right}
-use Rattle.isle_model.proofs.SameSites.{term_means, constraint_means, same_constraint, constraint_cases}
-use Rattle.isle_laws_demands.specs.SetOverlapLaws.{OverlapsAsDemands, SetRulesOverlapAsTheirDemands, OverlapOfSetRulesIsSymmetric}
-use Rattle.isle_laws_demands.proofs.overlaps.Overlaps.{not_true, bool_same}
+use Rattle.isle_model.proofs.Elements.{In, in_from_contains, contains_from_in, in_slice, any_in, in_any, all_in, all_from, from_flat_map, passed_filter, or_split, or_left, or_right}
+use Rattle.isle_model.proofs.SameSites.{constraint_means, same_constraint, constraint_cases}
+use Rattle.isle_laws_demands.specs.SetOverlapLaws.{SetRulesOverlapAsTheirDemands, OverlapOfSetRulesIsSymmetric}
+use Rattle.isle_laws_demands.proofs.overlaps.Overlaps.{not_true, bool_same, none_listed}
 use Rattle.isle_laws_demands.proofs.visits.Built.{was_built}
 use Rattle.isle_laws_demands.proofs.visits.Once.{one_number}
 use Rattle.isle_laws_demands.proofs.matching.BuiltMatches.{one_rule}
@@ -67,16 +66,6 @@ agree_from : (as' bs : List (ℕ × Constraint)) → ((d : ℕ × Constraint) �
 agree_from as' bs h =
     all_from (λ a. list_any (agrees_at a) bs) as'
     (λ a i. any_in (agrees_at a) bs a (h a i) (and_from (a.0 == a.0) (constraint_eq a.1 a.1) (eq-eqb a.0 a.0 refl) (same_constraint a.1 a.1 refl)))
-
-none_means : (r : SetRule) → equates_none r ≡ true → r.classes ≡ []
-none_means r h = of r.classes h
-  where
-    of : (cs : List (List ℕ)) → elim cs [ [] ↦ true | c ∷ ds ↦ false ] ≡ true → cs ≡ []
-    of [] e = refl
-    of (c ∷ ds) e = absurd (false≢true e)
-
-none_from : (r : SetRule) → r.classes ≡ [] → equates_none r ≡ true
-none_from r e = ap (λ cs. elim cs as (λ _. Bool) [ [] ↦ true | c ∷ ds ↦ false ]) e
 
 -- 2. symmetry
 and_turned : (a b c d : Bool) → (a && b && (c || d)) ≡ (b && a && (d || c))
@@ -236,8 +225,8 @@ set_rules_overlap_as_their_demands_lem p t set h a b r s one other = record {
         let y = and_parts (equates_none r) (equates_none s) x.0 in
         record {
           overlap = overlap_above p t set h a b r s q w k.0;
-          first_has_none = none_closed p t set a a_there r q (none_means r y.0);
-          second_has_none = none_closed p t set b b_there s w (none_means s y.1);
+          first_has_none = none_closed p t set a a_there r q ((none_listed r.classes).0 y.0);
+          second_has_none = none_closed p t set b b_there s w ((none_listed s.classes).0 y.1);
           among = elim (or_split (all_agree r.constraints s.constraints) (all_agree s.constraints r.constraints) x.1) [
             | inl z ↦ inl (among_above p t set h a b r s q w (agree_means r.constraints s.constraints z))
             | inr z ↦ inr (among_above p t set h b a s r w q (agree_means s.constraints r.constraints z))
@@ -248,7 +237,7 @@ set_rules_overlap_as_their_demands_lem p t set h a b r s one other = record {
     below k =
         cond-false (sites_differ r.constraints s.constraints) no_overlap (some_overlap (is_subset_of_sites r s)) (overlap_below p t set h a b r s q w k.overlap)
         ∙ ap some_overlap (and_from (equates_none r && equates_none s) (all_agree r.constraints s.constraints || all_agree s.constraints r.constraints)
-        (and_from (equates_none r) (equates_none s) (none_from r (none_numbered p t set a a_there r q k.first_has_none)) (none_from s (none_numbered p t set b b_there s w k.second_has_none)))
+        (and_from (equates_none r) (equates_none s) ((none_listed r.classes).1 (none_numbered p t set a a_there r q k.first_has_none)) ((none_listed s.classes).1 (none_numbered p t set b b_there s w k.second_has_none)))
         (elim k.among [
           | inl z ↦ or_left (all_agree r.constraints s.constraints) (all_agree s.constraints r.constraints) (agree_from r.constraints s.constraints (among_below p t set h a b r s q w z))
           | inr z ↦ or_right (all_agree r.constraints s.constraints) (all_agree s.constraints r.constraints) (agree_from s.constraints r.constraints (among_below p t set h b a s r w q z))

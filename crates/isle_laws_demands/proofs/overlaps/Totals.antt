@@ -1,5 +1,5 @@
 -- A rule of a built set has as many constraints and equated sites as its closed demands: neither lists a site twice.
-use Rattle.std.proofs.Common.{◌≡◌, ◌⊎◌, ◌+◌, ℕ, ◌==◌, ◌<◌, Bool, true, false, not, ◌&&◌, if◌then◌else◌, List, [], ◌∷◌, ◌++◌, length, map, filter, flat_map, sum_by, Contains, refl, sym, ap, ◌∙◌, subst, inl, inr, arith, eq-eqb, eqb-true}
+use Rattle.std.proofs.Common.{◌≡◌, ◌+◌, ℕ, ◌==◌, ◌<◌, Bool, true, false, not, ◌&&◌, if◌then◌else◌, List, [], ◌∷◌, ◌++◌, length, map, filter, flat_map, Contains, refl, sym, ◌∙◌, subst, inl, inr, arith, eq-eqb, eqb-true}
 use Rattle.std.proofs.lemmas.Bool.{cases_Bool, cond-true, cond-false, and_parts, and_from, false≢true}
 use Rattle.std.proofs.lemmas.List.{length-map}
 use Rattle.std.proofs.lemmas.List.Concat.{length-flat_map}
@@ -7,8 +7,8 @@ use Rattle.isle_model.specs.lists.Names.{IsDistinct}
 use Rattle.isle_model.specs.rules.Program.{Program, rules_of}
 use Rattle.isle_model.specs.rules.Typed.{TypedRule}
 use Rattle.isle_model.specs.sites.Sites.{Constraint, SetRule, SiteSet, SiteTerm, unfold_site}
-use Rattle.isle_model.specs.sites.Demands.{Demands, site_term_eq, has_site, demands_of}
-use Rattle.isle_model.specs.sites.Closure.{Closed, class_at, without_class_of, merged_classes, merged_all, ascending, field_equalities, taken, closing, before_closing, most_closing_steps, begins_with, in_order, closed}
+use Rattle.isle_model.specs.sites.Demands.{Demands, has_site, demands_of}
+use Rattle.isle_model.specs.sites.Closure.{Closed, class_at, without_class_of, merged_classes, merged_all, ascending, field_equalities, closing, before_closing, most_closing_steps, begins_with, closed}
 use Rattle.isle_model.specs.sites.Limits.{sites_after_rule}
 use Rattle.isle_model.specs.sites.Overlap.{BuiltRule, is_built, built_rule, built_from, built_rules}
 use Rattle.isle_model.specs.sites.RuleSets.{IsRuleOf, IsBuilt}
@@ -21,10 +21,9 @@ use Rattle.isle_model.proofs.SameSites.{term_means}
 use Rattle.isle_model.proofs.SitesMade.{in_has, has_in}
 use Rattle.isle_laws_demands.specs.SetOverlapLaws.{SetRulesConstrainAsTheirDemands}
 use Rattle.isle_laws_demands.proofs.closure.Closing.{closing_keeps}
-use Rattle.isle_laws_demands.proofs.closure.Whole.{IsApart, own_class, class_cases, class_found, class_shares, joint_apart}
+use Rattle.isle_laws_demands.proofs.closure.Whole.{IsApart, class_cases, class_found, class_shares, joint_apart}
 use Rattle.isle_laws_demands.proofs.matching.BuiltMatches.{one_rule}
 use Rattle.isle_laws_demands.proofs.matching.ConstrainedOnce.{StandOnce, closed_once}
-use Rattle.isle_laws_demands.proofs.visits.Built.{was_built}
 use Rattle.isle_laws_demands.proofs.visits.Once.{once_closed, once_after_rule, one_number}
 
 -- 1. classes in which no site stands twice
@@ -107,10 +106,9 @@ once_merged ks h e =
     elim (cases_Bool (has_site (class_at ks e.0) e.1)) [
       | inl t ↦ subst ClassesOnce (sym (cond-true (has_site (class_at ks e.0) e.1) ks ((class_at ks e.0 ++ class_at ks e.1) ∷ without_class_of (without_class_of ks e.0) e.1) t)) h
       | inr f ↦
-          subst ClassesOnce (sym (cond-false (has_site (class_at ks e.0) e.1) ks ((class_at ks e.0 ++ class_at ks e.1) ∷ without_class_of (without_class_of ks e.0) e.1) f))
-          (
+          subst ClassesOnce (sym (cond-false (has_site (class_at ks e.0) e.1) ks ((class_at ks e.0 ++ class_at ks e.1) ∷ without_class_of (without_class_of ks e.0) e.1) f)) (
             distinct_append (class_at ks e.0) (class_at ks e.1) (class_distinct ks h e.0) (class_distinct ks h e.1)
-            (λ x a b. two_apart ks h e.0 e.1 x f (in_from_contains (class_at ks e.0) x a) (in_from_contains (class_at ks e.1) x b)),
+                (λ x a b. two_apart ks h e.0 e.1 x f (in_from_contains (class_at ks e.0) x a) (in_from_contains (class_at ks e.1) x b)),
             λ s l i j m. joint_apart ks (once_apart ks h) e l s j m i,
             once_filter (λ k. not (has_site k e.1)) (without_class_of ks e.0) (once_filter (λ k. not (has_site k e.0)) ks h),
           )
