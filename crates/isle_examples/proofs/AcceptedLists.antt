@@ -11,10 +11,10 @@ use Rattle.isle_examples.specs.Overlap.{overlap_defs, overlap_rules, three_defs,
 use Rattle.isle_examples.specs.Scopes.{let_in_let_defs, let_in_let_rules, shadowing_defs, shadowing_rules}
 use Rattle.isle_examples.specs.Shadow.{shadow_defs, shadow_rules}
 use Rattle.isle_examples.specs.Stages.{IsAcceptedBoth, IsNotAccepted}
-use Rattle.isle_examples.specs.Unused.{unused_defs, unused_rules}
+use Rattle.isle_examples.specs.Unasked.{unasked_defs, unasked_rules}
 
-pub unused_accepted : IsAcceptedBoth unused_defs unused_rules
-unused_accepted = accepted_both unused_defs unused_rules refl refl refl
+pub unasked_accepted : IsAcceptedBoth unasked_defs unasked_rules
+unasked_accepted = accepted_both unasked_defs unasked_rules refl refl refl
 
 pub constants_accepted : IsAcceptedBoth constants_defs constants_rules
 constants_accepted = accepted_both constants_defs constants_rules refl refl refl

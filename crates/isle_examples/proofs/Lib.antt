@@ -1,16 +1,19 @@
 pub mod AcceptedLists
 pub mod Expansions
 pub mod Extract
+pub mod ExtractLowered
 pub mod HandedIn
 pub mod Impure
 pub mod LeftOver
 pub mod ListStages
+pub mod Lowered
 pub mod Marked
 pub mod Matchable
 pub mod Mended
 pub mod Multi
 pub mod MultiCalls
 pub mod NoRules
+pub mod PartialLowered
 pub mod PickedAnswers
 pub mod Refused
 pub mod SampleStages
@@ -19,5 +22,6 @@ pub mod SetStages
 pub mod TermLists
 pub mod TreeStages
 pub mod TypeLists
+pub mod Unasked
 pub mod Unused
 pub mod Used

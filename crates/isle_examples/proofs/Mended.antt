@@ -30,7 +30,7 @@ use Rattle.isle_laws_trees.proofs.Shares.{best_trees_share_most_lem}
 use Rattle.isle_examples.specs.MeaningForms.{v}
 use Rattle.isle_examples.specs.SetForms.{is_byte}
 use Rattle.isle_examples.specs.TypedForms.{own}
-use Rattle.isle_examples.specs.Mended.{wrapped_call, wrapped_two, wrapped_sites, wrapped_set, wrapped_meaning, wrapped_world, AboveCallsNothingIsAsked, ThirdRulesDontCount, at_one, at_any, at_two, OverlapsMayHoldTwice, NamelessIsNotAnswered, LookUpsHaveNoList, LimitsAreNamedWherePassed, two_unbound, SecondIsReadAlone, EmptySetsAreBuilt, idle_defs, idle_rules, idle_set, idle_tree, idle_program, idle_term, IdleIsLowered}
+use Rattle.isle_examples.specs.Mended.{wrapped_call, wrapped_two, wrapped_sites, wrapped_set, wrapped_meaning, wrapped_world, AboveCallsNothingIsAsked, ThirdRulesDontCount, at_one, at_any, at_two, OverlapsMayHoldTwice, NamelessIsNotAnswered, LookUpsHaveNoList, LimitsAreNamedWherePassed, two_unbound, SecondIsReadAlone, EmptySetsAreBuilt}
 use Rattle.isle_examples.specs.Written.{at}
 use Rattle.isle_examples.specs.Fall.{fall_defs, fall_rules}
 use Rattle.isle_examples.specs.Refused.{two_of_one_name}
@@ -189,61 +189,4 @@ empty_sets_are_built_lem = record {
     few = omega arith;
     sources = λ s a c. absurd (nothing_in a c);
   };
-}
-
--- 15. a term that isn't multi is lowered
-idle_accepted : IsAccepted idle_defs true idle_rules
-idle_accepted = (lists_are_accepted_lem idle_defs true idle_rules).0 refl
-
-idle_built : IsBuiltOf idle_defs idle_rules 1 idle_set
-idle_built = built idle_defs idle_rules 1 idle_set refl refl refl refl refl refl refl refl
-
-idle_best : IsBestTree idle_set idle_tree
-idle_best = (tree_judge_is_exact_lem idle_set idle_tree refl).0 refl
-
--- the literal has a value, and both ends are it
-ends_alike : (m : Meaning) (v : Value) (o : Option Value) → literal_value m (int_literal (pos 7) 1) ≡ o → IsSomeAnd o (λ u. IsTrue (well_typed idle_program.types 1 u))
-    → run idle_tree (world_of idle_program 1 idle_set.sites m (v ∷ [])) ≡ choice idle_program m (rules_of idle_program 1) (v ∷ [])
-ends_alike m v None e h = absurd h
-ends_alike m v (Some u) e h = rw (e) refl
-
-runs_alike : (m : Meaning) (args : List Value) → IsTrue (args_well_typed idle_program.types (arg_types idle_program 1) args)
-    → IsSomeAnd (literal_value m (int_literal (pos 7) 1)) (λ u. IsTrue (well_typed idle_program.types 1 u))
-    → run idle_tree (world_of idle_program 1 idle_set.sites m args) ≡ choice idle_program m (rules_of idle_program 1) args
-runs_alike m [] t h = absurd (false≢true t)
-runs_alike m (v ∷ []) t h = ends_alike m v (literal_value m (int_literal (pos 7) 1)) refl h
-runs_alike m (v ∷ (w ∷ vs)) t h = absurd (false≢true (and_parts (well_typed idle_program.types 1 v) false t).1)
-
-once_matched : (m : Meaning) (args : List Value) → MatchesOnce idle_program m (rules_of idle_program 1) args
-once_matched m args zero zero r s a b same h g = refl
-once_matched m args (suc i) j r s a b same h g = absurd (none-some r a)
-once_matched m args zero (suc j) r s a b same h g = absurd (none-some s b)
-
-idle_runs : RunsAsChosen idle_program 1 idle_set.sites idle_tree
-idle_runs w m args typed served told = (runs_alike m args typed (served.ints (pos 7) 1 (3, omega arith, refl)), once_matched m args)
-
-idle_lowered : IsLoweredTerm idle_program idle_term
-idle_lowered = record {
-  built = idle_built.0;
-  best = idle_best;
-  headline = record {
-    runs = idle_runs;
-    shares = record { marked = idle_best.marked; returns = idle_best.returns; most = best_trees_share_most_lem idle_set idle_best.marked idle_best.steps };
-  };
-  collects = λ m each. absurd (false≢true m);
-  binds = refl;
-}
-
-pub idle_is_lowered_lem : IdleIsLowered
-idle_is_lowered_lem = record {
-  accepted = idle_accepted;
-  environments = record {
-    elaborated = idle_accepted.read.elaborated;
-    rows = record { table = refl; look_ups = λ k. refl; conversions = λ i o. refl };
-    typed = refl;
-    look_ups = λ k. refl;
-    flag = refl;
-    types = environments_are_read (with_read_names (types_read idle_defs) idle_rules.names) (distinct_if idle_rules.names refl);
-  };
-  trees = record { each = refl; lowered = All-from_recursion (IsLoweredTerm idle_program) (idle_term ∷ []) (idle_lowered, tt) };
 }

@@ -31,6 +31,7 @@ use Rattle.isle_examples.specs.Shared.{shared_sample}
 use Rattle.isle_examples.specs.Stages.{HasStages, Sample}
 use Rattle.isle_examples.specs.Surplus.{surplus_sample}
 use Rattle.isle_examples.specs.Ties.{ties_sample}
+use Rattle.isle_examples.specs.Unused.{unused_sample}
 use Rattle.isle_examples.specs.Used.{used_sample}
 use Rattle.isle_examples.specs.VariantEq.{variant_eq_sample}
 use Rattle.isle_examples.specs.Wrap.{wrap_sample}
@@ -121,6 +122,9 @@ wrap_stages = stages wrap_sample refl refl refl refl refl refl refl refl refl re
 
 pub used_stages : HasStages used_sample
 used_stages = stages used_sample refl refl refl refl refl refl refl refl refl refl
+
+pub unused_stages : HasStages unused_sample
+unused_stages = stages unused_sample refl refl refl refl refl refl refl refl refl refl
 
 pub multi_ext_stages : HasStages multi_ext_sample
 multi_ext_stages = stages multi_ext_sample refl refl refl refl refl refl refl refl refl refl

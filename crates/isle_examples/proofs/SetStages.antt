@@ -3,7 +3,7 @@ use Rattle.std.proofs.Common.{◌≡◌, ◌∷◌, [], ◌<◌, ◌≤◌, ◌�
 use Rattle.std.specs.List.{list_all, flat_map}
 use Rattle.std.proofs.lemmas.Bool.{and_parts, false≢true, leb-true}
 use Rattle.std.proofs.lemmas.Option.{none-some, same_Some}
-use Rattle.isle_model.proofs.Members.{each_passes, member_from_get, member_is_in}
+use Rattle.isle_model.proofs.Members.{all_members, each_passes, member_from_get, member_is_in}
 use Rattle.isle_model.specs.claims.Environments.{types_read}
 use Rattle.isle_model.specs.claims.Layers.{own_program}
 use Rattle.isle_model.specs.lists.Elaborated.{TypedRules}
@@ -25,7 +25,7 @@ use Rattle.isle_laws_demands.proofs.visits.Sets.{built_sets_are_tested_lem}
 use Rattle.isle_laws_lists.proofs.FormedRules.{rules_are_formed}
 use Rattle.isle_laws_lists.proofs.TypedRules.{lists_agree}
 use Rattle.isle_laws_trees.proofs.Exact.{not_exact}
-use Rattle.isle_laws_trees.proofs.JudgedSets.{are_below, asks, calls_pass, can_be_served, each_of, equates, goes_over, multi_can_be_served, only_sites, serves, stand, unfolded_demand}
+use Rattle.isle_laws_trees.proofs.JudgedSets.{are_below, asks, calls_pass, can_be_served, equates, goes_over, multi_can_be_served, only_sites, serves, stand, unfolded_demand}
 use Rattle.isle_laws_trees.proofs.WellBuilt.{passes_well_built, set_passes}
 use Rattle.isle_examples.proofs.TreeStages.{has_no_priorities}
 use Rattle.isle_examples.specs.Stages.{IsAcceptedBoth, IsBuiltOf}
@@ -95,10 +95,10 @@ empty (x ∷ xs) h = absurd (false≢true h)
 
 -- what a test says of each
 each_below : (n : ℕ) (ss : List ℕ) → are_below n ss ≡ true → All (λ s. s < n) ss
-each_below n ss h = each_of (λ s. s < n) ss (λ s c. ltb-true s n (each_passes (λ t. nat_lt t n) ss h s c))
+each_below n ss h = all_members (λ s. s < n) ss (λ s c. ltb-true s n (each_passes (λ t. nat_lt t n) ss h s c))
 
 each_many : (cs : List (List ℕ)) → list_all (λ c. nat_le 2 (length c)) cs ≡ true → All (λ c. 2 ≤ length c) cs
-each_many cs h = each_of (λ c. 2 ≤ length c) cs (λ c i. leb-true 2 (length c) (each_passes (λ c. nat_le 2 (length c)) cs h c i))
+each_many cs h = all_members (λ c. 2 ≤ length c) cs (λ c i. leb-true 2 (length c) (each_passes (λ c. nat_le 2 (length c)) cs h c i))
 
 rule_stands : (p : Program) (sites : List Site) (b : BuiltRule) (r : SetRule) → row_in sites r ≡ built_row p b → stands_once (length sites) r ≡ true → IsRuleOf p sites b r
 rule_stands p sites b r e h =
@@ -176,7 +176,7 @@ pub tested : (defs : List Definition) (rules : TypedRules) (t : ℕ) (set : Site
     → list_all (λ (r : SetRule). is_none_of r.iterators) set.rules ≡ true → IsTestedSet set
 tested defs rules t set a b m none =
     built_sets_are_tested_lem (elaborated_rules_demand_gates_lem rules_are_formed lists_agree) (types_read defs) defs true rules t set a.0.read.elaborated b.0 m
-    (each_of (λ r. r.iterators ≡ []) set.rules (λ r c. empty r.iterators (each_passes (λ (q : SetRule). is_none_of q.iterators) set.rules none r c)))
+    (all_members (λ r. r.iterators ≡ []) set.rules (λ r c. empty r.iterators (each_passes (λ (q : SetRule). is_none_of q.iterators) set.rules none r c)))
 
 -- what must hold of a rule whose results a run collects
 abbrev pub is_collected : List Site → SetRule → Bool
@@ -195,8 +195,8 @@ collected_rule sites r h =
     record {
       known = each_below (length sites) (sites_of_rule r) b.0;
       no_calls = empty r.impure a.0;
-      pure = each_of (λ s. IsTrue (calls_nothing (slice_get sites s))) below (each_passes (λ s. calls_nothing (slice_get sites s)) below c.0);
-      gates = each_of (λ s. IsTrue (gate_demanded r (slice_get sites s))) below (each_passes (λ s. gate_demanded r (slice_get sites s)) below c.1);
+      pure = all_members (λ s. IsTrue (calls_nothing (slice_get sites s))) below (each_passes (λ s. calls_nothing (slice_get sites s)) below c.0);
+      gates = all_members (λ s. IsTrue (gate_demanded r (slice_get sites s))) below (each_passes (λ s. gate_demanded r (slice_get sites s)) below c.1);
     }
 
 -- a set of such rules, whose sites stand once, after their sources
@@ -204,5 +204,5 @@ pub collected : (set : SiteSet) → set_passes (only_sites set) ≡ true → lis
 collected set h each = record {
   once = (passes_well_built (only_sites set) h).sites_once;
   sources = (passes_well_built (only_sites set) h).sources;
-  rules = each_of (IsCollectedRule set.sites) set.rules (λ r c. collected_rule set.sites r (each_passes (is_collected set.sites) set.rules each r c));
+  rules = all_members (IsCollectedRule set.sites) set.rules (λ r c. collected_rule set.sites r (each_passes (is_collected set.sites) set.rules each r c));
 }

@@ -36,6 +36,7 @@ pub mod TermLists
 pub mod Ties
 pub mod TypeLists
 pub mod TypedForms
+pub mod Unasked
 pub mod Unused
 pub mod Used
 pub mod VariantEq

@@ -1,5 +1,5 @@
 -- Samples that tell apart what a statement asks from what it might ask: the smallest inputs behind choices of statements.
-use Rattle.std.specs.Prelude.{◌≡◌, ◌∷◌, [], pos, false, List, None, All, IsTrue, is_some, slice_get, ℕ, true, codes, Some, option_map, Bool}
+use Rattle.std.specs.Prelude.{◌≡◌, ◌∷◌, [], pos, false, List, None, All, IsTrue, is_some, slice_get, ℕ, true, codes, Some, option_map, Bool, map}
 use Rattle.isle_model.specs.rules.Meaning.{Meaning, nothing, many, look}
 use Rattle.isle_model.specs.sites.Sites.{SetRule, Site, SiteSet, argument_site, constructor_site, make_variant_site, sources_at, extractor_site, iterator_site, make_some_site, match_some_site, extractor_call, is_present, is_variant, match_variant_site}
 use Rattle.isle_model.specs.trees.Collects.{content_at}
@@ -20,11 +20,15 @@ use Rattle.isle_model.specs.rules.Picks.{Pick, matches_under, right_side_under}
 use Rattle.isle_model.specs.rules.RightSide.{right_side}
 use Rattle.isle_model.specs.trees.Trees.{Tree, loop_at, no_step, step}
 use Rattle.std.specs.Bool.{◌==◌}
-use Rattle.isle_model.specs.claims.Environments.{AnswersBy, PassesNesting, TermEnvironment, TypeEnvironment, types_read, environment_of, term_environment_of, with_read_names}
+use Rattle.isle_model.specs.claims.Environments.{AnswersBy, PassesNesting, TermEnvironment, TypeEnvironment, types_read, shown_terms, environment_of, term_environment_of, with_read_names}
 use Rattle.isle_model.specs.claims.Refusals.{of_nesting, past_limit}
 use Rattle.isle_model.specs.lists.Signatures.{Signature, constructor_signature, extractor_signature, gives_one, gives_one_or_none}
 use Rattle.isle_model.specs.rules.Choice.{choice}
-use Rattle.isle_model.specs.sites.SetRules.{may_fit, sites_brought}
+use Rattle.isle_model.specs.sites.SetRules.{may_fit, sites_brought, no_overlap, overlap_between, some_overlap}
+use Rattle.isle_model.specs.claims.Questions.{identifier, term_of_site}
+use Rattle.isle_model.specs.lists.TypeTable.{type_table}
+use Rattle.isle_model.specs.trees.Best.{total_constraints}
+use Rattle.isle_examples.specs.Effects.{effects_defs, effects_rule, effects_rules, effects_set}
 use Rattle.isle_model.specs.trees.Judge.{is_best_tree}
 use Rattle.isle_examples.specs.MeaningForms.{given, literal, mute, all_of, alone, answers, v}
 use Rattle.isle_examples.specs.SetForms.{a_rule, byte, is_byte, a0, returning}
@@ -257,54 +261,30 @@ SitesAreBrought =
     × (may_fit (is_byte 1) (byte 2) ≡ false)
     × (may_fit (is_byte 1) (argument_site 0) ≡ true)
 
--- 15. A partial call that an if-let leaves unused demands nothing, and one that it uses does.
---   (decl pure partial pp (u8) u8)
---   (extern constructor pp pp_fn)
---   (decl f (u8) u8)
---   (rule (f x) (if-let _ (let ((y u8 (pp x))) x)) 7), or with y in the place of the last x
-abbrev pub idle_defs : List Definition
-idle_defs = ending_with (codes "x")
+-- What is told of two rules of a set: other constraints of one site, constraints that are the other's too, those of
+-- different sites, and an equality.
+abbrev pub at_second : SetRule
+at_second = a_rule 3 4 (pos 0) ((1, is_byte 2) ∷ []) [] 0
 
-abbrev pub idle_rule : TypedRule
-idle_rule = record used_rule { iflets = typed_iflet (match_any u8) (make_let_one u8 1 u8 (make_term u8 0 (e_list (make_var u8 0 ∷ []))) (make_var u8 0)) ∷ [] }
+abbrev pub at_equal : SetRule
+at_equal = a_rule 4 5 (pos 0) [] ((0 ∷ 1 ∷ []) ∷ []) 0
 
-abbrev pub idle_rules : TypedRules
-idle_rules = record used_rules { rules = idle_rule ∷ [] }
+abbrev pub OverlapsAreTold : Type 0
+OverlapsAreTold =
+    (overlap_between at_one at_two ≡ no_overlap)
+    × (overlap_between at_one at_any ≡ some_overlap true)
+    × (overlap_between at_one at_second ≡ some_overlap false)
+    × (overlap_between at_equal at_any ≡ some_overlap false)
+    × (total_constraints at_one ≡ 1)
+    × (total_constraints at_equal ≡ 2)
 
-abbrev pub idle_set : SiteSet
-idle_set = record { rules = record (a_rule 0 3 (pos 0) [] [] 3) { name = Some 14 } ∷ []; sites = used_set.sites }
+-- The terms of sites in `effects`, whose term 3 is the variant; and what a rule is called, with a name and without.
+abbrev pub TermsOfSites : Type 0
+TermsOfSites =
+    map (term_of_site (type_table effects_defs) (shown_terms (types_read effects_defs) effects_defs).term_of) effects_set.sites
+    ≡ None ∷ Some 0 ∷ None ∷ Some 1 ∷ Some 3 ∷ None ∷ []
 
-abbrev pub idle_tree : Tree
-idle_tree = returning [] 3 3 no_step
-
--- the call answers nothing
-abbrev pub pp_fails : Meaning
-pp_fails = record (mute (literal (pos 7) ∷ [])) { pure_calls = ((0, alone (pos 1)), nothing) ∷ [] }
-
-abbrev pub idle_program : Program
-idle_program = own_program idle_defs idle_rules
-
-abbrev pub used_program : Program
-used_program = own_program used_defs used_rules
-
--- where the call answers nothing the one rule's result is still 7, and the other rule doesn't match
-abbrev pub UnusedCallsDemandNothing : Type 0
-UnusedCallsDemandNothing =
-    Becomes idle_defs true (Some idle_rules)
-    × Becomes used_defs true (Some used_rules)
-    × (is_best_tree idle_set idle_tree ≡ true)
-    × (is_best_tree used_set used_tree ≡ true)
-    × (choice idle_program pp_fails idle_rules.rules (given (pos 1)) ≡ answers (pos 7))
-    × (run idle_tree (world_of idle_program 1 idle_set.sites pp_fails (given (pos 1))) ≡ answers (pos 7))
-    × (choice used_program pp_fails used_rules.rules (given (pos 1)) ≡ no_rule)
-    × (run used_tree (world_of used_program 1 used_set.sites pp_fails (given (pos 1))) ≡ no_rule)
-
-abbrev pub idle_term : LoweredTerm
-idle_term = record { term = 1; set = idle_set; tree = idle_tree }
-
--- what lowering gives of a term that isn't multi: on each argument, and under every meaning, the tree runs as the rule is
--- chosen
-abbrev pub IdleIsLowered : Type 0
-IdleIsLowered =
-    LoweringAnswers idle_defs true (environment_of (with_read_names (types_read idle_defs) idle_rules.names)) (term_environment_of (types_read idle_defs) idle_defs true idle_rules.rules) idle_rules
-    (idle_term ∷ [])
+abbrev pub IdentifiersOfRules : Type 0
+IdentifiersOfRules =
+    (identifier effects_rules.names (λ p. codes "here") effects_rule ≡ codes "f")
+    × (identifier effects_rules.names (λ p. codes "here") (record effects_rule { name = None }) ≡ codes "here")

@@ -4,13 +4,23 @@
 --   (decl multi f (u8) u8)
 --   (rule (f x) (p x))
 --   (rule (f x) (p (p x)))
-use Rattle.std.specs.Prelude.{◌∷◌, [], ℕ, pos, true, List, None, codes}
+use Rattle.std.specs.Prelude.{◌≡◌, ◌∷◌, [], ℕ, ℤ, pos, true, List, None, map, codes}
+use Rattle.isle_model.specs.claims.Layers.{own_program}
 use Rattle.isle_model.specs.lists.Elaborated.{TypedRules}
 use Rattle.isle_model.specs.lists.Syntax.{Definition, ExprTree, declaration}
+use Rattle.isle_model.specs.rules.Meaning.{Content, Meaning, one}
+use Rattle.isle_model.specs.rules.Outcome.{ran_through, stuck}
+use Rattle.isle_model.specs.rules.Picks.{bag}
+use Rattle.isle_model.specs.rules.Program.{Program}
 use Rattle.isle_model.specs.rules.Typed.{TypedExpr, make_term, make_var}
-use Rattle.isle_model.specs.sites.Sites.{SiteSet, argument_site, constructor_site}
+use Rattle.isle_model.specs.rules.Values.{Values}
+use Rattle.isle_model.specs.sites.Demands.{demands_of}
+use Rattle.isle_model.specs.sites.Sites.{SiteSet, SiteTerm, argument_site, constructor_call, constructor_site}
+use Rattle.isle_model.specs.trees.Collects.{set_bag}
+use Rattle.isle_model.specs.trees.Run.{World, run, world_of}
 use Rattle.isle_model.specs.trees.Trees.{Tree, no_step}
-use Rattle.isle_examples.specs.SetForms.{a_rule, returning}
+use Rattle.isle_examples.specs.MeaningForms.{alone, each, given, mute, v}
+use Rattle.isle_examples.specs.SetForms.{a0, a_rule, asking, one_source, returning}
 use Rattle.isle_examples.specs.Stages.{Sample}
 use Rattle.isle_examples.specs.TypedForms.{bind_any, e_list, rules_and_names, typed, typed_var, u8}
 use Rattle.isle_examples.specs.Written.{call, constructor_by, numbers, of_f, rule_to, var, variable}
@@ -47,3 +57,33 @@ shared_tree = returning (1 ∷ []) 3 1 (returning (2 ∷ []) 4 2 no_step)
 
 abbrev pub shared_sample : Sample
 shared_sample = record { defs = shared_defs; rules = shared_rules; term = 1; multi = true; set = shared_set; tree = shared_tree; near_trees = [] }
+
+abbrev pub shared_program : Program
+shared_program = own_program shared_defs shared_rules
+
+abbrev pub call_of_p : SiteTerm → SiteTerm
+call_of_p s = constructor_call 0 (one_source s) 0
+
+-- nothing is asked of the calls, which always answer
+abbrev pub SharedDemands : Type 0
+SharedDemands =
+    map (demands_of shared_program) shared_rules.rules
+    ≡ asking [] [] (a0 ∷ call_of_p a0 ∷ []) ∷ asking [] [] (a0 ∷ call_of_p a0 ∷ call_of_p (call_of_p a0) ∷ []) ∷ []
+
+-- p answers 2 at 1, and this at 2
+abbrev pub shared_meaning : List ((ℕ × Values) × Content) → Meaning
+shared_meaning at_two = record (mute []) { pure_calls = ((0, alone (pos 1)), one (v (pos 2))) ∷ at_two }
+
+abbrev pub shared_world : List ((ℕ × Values) × Content) → World
+shared_world at_two = world_of shared_program 1 shared_set.sites (shared_meaning at_two) (given (pos 1))
+
+-- on 1 the bag of the rules' results, that of the set's rules, and what the run gives are these
+abbrev pub SharedGives : List ((ℕ × Values) × Content) → List ℤ → Type 0
+SharedGives at_two results =
+    (bag shared_program (shared_meaning at_two) shared_rules.rules (given (pos 1)) ≡ each results)
+    × (set_bag shared_set (shared_world at_two) ≡ each results)
+    × (run shared_tree (shared_world at_two) ≡ record { calls = []; results = each results; ending = ran_through })
+
+-- where the meaning lacks the second answer the run is stuck there: it doesn't serve the rules
+abbrev pub SharedIsStuck : Type 0
+SharedIsStuck = run shared_tree (shared_world []) ≡ record { calls = []; results = each (pos 2 ∷ []); ending = stuck }

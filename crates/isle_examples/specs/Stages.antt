@@ -20,8 +20,8 @@ use Rattle.isle_model.specs.trees.Best.{IsBestTree}
 use Rattle.isle_model.specs.trees.Judge.{is_best_tree}
 use Rattle.isle_model.specs.trees.Sound.{IsSound}
 use Rattle.isle_model.specs.trees.WellBuilt.{IsWellBuilt}
-use Rattle.isle_model.specs.claims.Environments.{types_read, setting_of, IsRead}
-use Rattle.isle_model.specs.claims.Layers.{own_program, IsCheckable, IsAccepted, BindsBeforeUse}
+use Rattle.isle_model.specs.claims.Environments.{types_read, setting_of, IsRead, environment_of, term_environment_of, with_read_names}
+use Rattle.isle_model.specs.claims.Layers.{own_program, IsCheckable, IsAccepted, BindsBeforeUse, LoweredTerm, LoweringAnswers}
 use Rattle.isle_model.specs.claims.SetMeanings.{CanBeServed}
 use Rattle.isle_laws_demands.specs.ClosureLaws.{HasEnded}
 
@@ -127,3 +127,13 @@ pub record HasStages (s : Sample) : Type 0 where
   pub built : IsBuiltOf s.defs s.rules s.term s.set
   pub judged : IsJudged s.set s.multi s.tree
   pub refused : AreRefused s.set s.near_trees
+
+-- the term of a sample with its set and its tree
+abbrev pub lowered_term : Sample → LoweredTerm
+lowered_term s = record { term = s.term; set = s.set; tree = s.tree }
+
+-- lowering the list of a sample, internal extractors expanded, gives that term alone, and what was read
+abbrev pub IsLoweredTo : Sample → Type 0
+IsLoweredTo s =
+    LoweringAnswers s.defs true (environment_of (with_read_names (types_read s.defs) s.rules.names)) (term_environment_of (types_read s.defs) s.defs true s.rules.rules) s.rules
+    (lowered_term s ∷ [])

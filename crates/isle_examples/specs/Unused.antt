@@ -1,71 +1,57 @@
--- A sample: a multi call whose answer nothing uses, so no answer of the call inside it is demanded.
+-- A sample: a partial call of an if-let, which is not needed since the value doesn't take its answer. It is the one of
+-- `Used`, but for the variable that the let ends with.
 --   (decl pure partial pp (u8) u8)
 --   (extern constructor pp pp_fn)
---   (decl pure multi m (u8) u8)
---   (extern constructor m m_fn)
---   (decl multi f (u8) u8)
---   (rule (f x) (if-let _ (let ((y u8 (m (pp x)))) x)) 7)
-use Rattle.std.specs.Prelude.{◌≡◌, ◌∷◌, [], pos, true, false, List, Some, codes, slice_get}
-use Rattle.isle_model.specs.claims.Environments.{environment_of, term_environment_of, types_read, with_read_names}
-use Rattle.isle_model.specs.claims.Layers.{LoweredTerm, LoweringAnswers, own_program}
+--   (decl f (u8) u8)
+--   (rule (f x) (if-let _ (let ((y u8 (pp x))) x)) 7)
+use Rattle.std.specs.Prelude.{◌≡◌, ◌∷◌, [], pos, false, List, Some, codes}
+use Rattle.isle_model.specs.claims.Layers.{own_program}
 use Rattle.isle_model.specs.lists.Elaborated.{TypedRules}
-use Rattle.isle_model.specs.lists.Syntax.{Definition, declaration}
-use Rattle.isle_model.specs.lists.Tables.{TermEntry}
+use Rattle.isle_model.specs.lists.Syntax.{Definition}
+use Rattle.isle_model.specs.rules.Choice.{choice}
+use Rattle.isle_model.specs.rules.Meaning.{Content}
+use Rattle.isle_model.specs.rules.Outcome.{Outcome}
 use Rattle.isle_model.specs.rules.Program.{Program}
-use Rattle.isle_model.specs.rules.Typed.{TypedRule, make_int, make_term, make_var, match_any}
-use Rattle.isle_model.specs.sites.Gates.{gate_demanded}
-use Rattle.isle_model.specs.sites.Sites.{SetRule, SiteSet, argument_site, constructor_site, iterator_site, match_some_site}
+use Rattle.isle_model.specs.rules.Typed.{TypedRule, make_term, make_var, match_any}
+use Rattle.isle_model.specs.sites.Demands.{demands_of}
+use Rattle.isle_model.specs.sites.Sites.{SiteSet, some_part}
+use Rattle.isle_model.specs.trees.Run.{run, world_of}
 use Rattle.isle_model.specs.trees.Trees.{Tree, no_step}
-use Rattle.isle_examples.specs.SetForms.{a_rule, byte, returning}
-use Rattle.isle_examples.specs.TypedForms.{bind_any, by_constructor, by_rules, e_list, flags, make_let_one, number_term, rules_and_names, typed, typed_iflet, typed_var, u8}
-use Rattle.isle_examples.specs.Written.{any, call, constructor_by, let_one, number, numbers, of_f, rule_if, var, variable}
+use Rattle.isle_examples.specs.MeaningForms.{given}
+use Rattle.isle_examples.specs.SetForms.{a0, a_rule, asking, byte_term, returning}
+use Rattle.isle_examples.specs.Stages.{Sample}
+use Rattle.isle_examples.specs.TypedForms.{e_list, make_let_one, typed_iflet, u8}
+use Rattle.isle_examples.specs.Used.{call_of_pp, ending_with, pp_answers, used_rule, used_rules, used_set, used_tree}
 
 abbrev pub unused_defs : List Definition
-unused_defs =
-    declaration (record (numbers 0 (codes "pp")) { pure = true; partial = true }) ∷ constructor_by 1 (codes "pp") (codes "pp_fn")
-    ∷ declaration (record (numbers 2 (codes "m")) { pure = true; multi = true }) ∷ constructor_by 3 (codes "m") (codes "m_fn")
-    ∷ declaration (record (numbers 4 (codes "f")) { multi = true })
-    ∷ rule_if 5 (of_f 5 (var 5 (codes "x") ∷ [])) (any 5)
-    (let_one 5 (codes "y") (codes "u8") (call 5 (codes "m") (call 5 (codes "pp") (variable 5 (codes "x") ∷ []) ∷ [])) (variable 5 (codes "x"))) (number 5 (pos 7)) ∷ []
-
-abbrev pub unused_terms : List TermEntry
-unused_terms =
-    number_term 0 0 13 (by_constructor (flags true false true) 16) ∷ number_term 1 2 14 (by_constructor (flags true true false) 17) ∷ number_term 2 4 15 (by_rules (flags false true false)) ∷ []
+unused_defs = ending_with (codes "x")
 
 abbrev pub unused_rule : TypedRule
-unused_rule = record (typed 0 5 2 (pos 0) (Some 15) (typed_var 0 18 u8 ∷ typed_var 1 19 u8 ∷ []) (bind_any u8 0 ∷ []) (make_int u8 (pos 7))) {
-  iflets = typed_iflet (match_any u8) (make_let_one u8 1 u8 (make_term u8 1 (e_list (make_term u8 0 (e_list (make_var u8 0 ∷ [])) ∷ []))) (make_var u8 0)) ∷ [];
-}
+unused_rule = record used_rule { iflets = typed_iflet (match_any u8) (make_let_one u8 1 u8 (make_term u8 0 (e_list (make_var u8 0 ∷ []))) (make_var u8 0)) ∷ [] }
 
 abbrev pub unused_rules : TypedRules
-unused_rules = rules_and_names (unused_rule ∷ []) (codes "pp" ∷ codes "m" ∷ codes "f" ∷ codes "pp_fn" ∷ codes "m_fn" ∷ codes "x" ∷ codes "y" ∷ [])
+unused_rules = record used_rules { rules = unused_rule ∷ [] }
 
 abbrev pub unused_program : Program
 unused_program = own_program unused_defs unused_rules
 
--- the rule goes over the call 3 and uses no answer of it: what stands in the call's argument isn't demanded
-abbrev pub unused_call : SetRule
-unused_call = record (a_rule 0 5 (pos 0) [] [] 5) { name = Some 15; iterators = 3 ∷ [] }
+-- nothing is asked of the call
+abbrev pub UnusedDemands : Type 0
+UnusedDemands = demands_of unused_program unused_rule ≡ asking [] [] (a0 ∷ call_of_pp ∷ some_part call_of_pp ∷ byte_term 7 ∷ [])
 
+-- the sites are those of `Used`
 abbrev pub unused_set : SiteSet
-unused_set = record {
-  rules = unused_call ∷ [];
-  sites = argument_site 0 ∷ constructor_site 0 (0 ∷ []) 0 ∷ match_some_site 1 ∷ constructor_site 1 (2 ∷ []) 0 ∷ iterator_site 3 ∷ byte 7 ∷ [];
-}
+unused_set = record { rules = record (a_rule 0 3 (pos 0) [] [] 3) { name = Some 14 } ∷ []; sites = used_set.sites }
 
-abbrev pub UnusedIsNotDemanded : Type 0
-UnusedIsNotDemanded = gate_demanded unused_call (slice_get unused_set.sites 2) ≡ false
-
--- the call is never at hand, since nothing demands what stands in its argument: the tree doesn't go over it, and returns
--- once. What holds of runs is not said of this term: it is multi, and its rule leaves a call unused
 abbrev pub unused_tree : Tree
-unused_tree = returning [] 5 5 no_step
+unused_tree = returning [] 3 3 no_step
 
-abbrev pub unused_term : LoweredTerm
-unused_term = record { term = 2; set = unused_set; tree = unused_tree }
+-- the tree of `Used` demands the call, and is no best one here
+abbrev pub unused_sample : Sample
+unused_sample = record { defs = unused_defs; rules = unused_rules; term = 1; multi = false; set = unused_set; tree = unused_tree; near_trees = used_tree ∷ [] }
 
--- the list is lowered to that tree
-abbrev pub UnusedIsLowered : Type 0
-UnusedIsLowered =
-    LoweringAnswers unused_defs true (environment_of (with_read_names (types_read unused_defs) unused_rules.names))
-    (term_environment_of (types_read unused_defs) unused_defs true unused_rules.rules) unused_rules (unused_term ∷ [])
+-- where pp answers so, choice and run end so on 1
+abbrev pub UnusedEnds : Content → Outcome → Type 0
+UnusedEnds answer o =
+    (choice unused_program (pp_answers answer) unused_rules.rules (given (pos 1)) ≡ o)
+    × (run unused_tree (world_of unused_program 1 unused_set.sites (pp_answers answer) (given (pos 1))) ≡ o)

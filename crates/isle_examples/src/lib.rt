@@ -5,7 +5,7 @@
 
 ghost use Rattle.std.specs.Prelude.{[], pos, true, ◌∷◌, ◌≡◌};
 ghost use Rattle.isle_model.specs.lists.TypeTable.{IsValidTypes};
-ghost use Rattle.isle_model.specs.rules.Meaning.{nothing};
+ghost use Rattle.isle_model.specs.rules.Meaning.{nothing, one};
 ghost use Rattle.isle_model.specs.rules.Outcome.{ended, failed, no_rule};
 ghost use Rattle.isle_model.specs.trees.Collects.{LeavesNoCallUnused};
 ghost use Rattle.isle_examples.specs.Below.{below_program, below_same, below_sample};
@@ -23,7 +23,7 @@ ghost use Rattle.isle_examples.specs.FormedRules.{ArgumentsAreLimited, FormedRul
 ghost use Rattle.isle_examples.specs.HandedIn.{IllFormed, NamesGoOn, OwnTypesDoNotCount, TypesHandedIn};
 ghost use Rattle.isle_examples.specs.Impure.{ImpureIsCalled, impure_sample};
 ghost use Rattle.isle_examples.specs.LeftOver.{LeftOverCollects, LeftOverIsCollected, left_over_defs, left_over_rules, left_over_set, left_over_tree};
-ghost use Rattle.isle_examples.specs.MeaningForms.{DoesNotServe, answers, blank, ends_with, just_number};
+ghost use Rattle.isle_examples.specs.MeaningForms.{DoesNotServe, alone, answers, blank, ends_with, just_number, v};
 ghost use Rattle.isle_examples.specs.Multi.{LoopsMayBindAgain, MultiCollects, MultiDemands, MultiGives, MultiIsCollected, MultiIsNot, MultiIsServed, MultiResultsAreHeld, MultiSetCollects, MultiTreeCollects, multi_defs, multi_mute, multi_program, multi_sample, multi_terms};
 ghost use Rattle.isle_examples.specs.MultiCalls.{DemandsGatesThough, Gives, LeavesACallUnused, UnusedGateGives, call_in_call, calls_program, extracted_twice, impure_twice, pure_twice, unused_condition, unused_let, used_condition};
 ghost use Rattle.isle_examples.specs.MultiExt.{MultiExtractorsStand, multi_ext_sample};
@@ -37,14 +37,15 @@ ghost use Rattle.isle_examples.specs.Prio.{prio_sample};
 ghost use Rattle.isle_examples.specs.Refused.{RefusedAreNotRead, SamplesAreRefused};
 ghost use Rattle.isle_examples.specs.Scopes.{let_in_let_defs, let_in_let_rules, shadowing_defs, shadowing_rules};
 ghost use Rattle.isle_examples.specs.Shadow.{ShadowReported, ShadowsFound, shadow_defs, shadow_rules};
-ghost use Rattle.isle_examples.specs.Shared.{shared_sample};
-ghost use Rattle.isle_examples.specs.Stages.{CanMatch, CantMatch, ClosingEndsOf, HasStages, HasTermTable, HasTerms, IsAcceptedBoth, IsBuiltOf, IsJudged, IsNotAccepted, NoneOf, PassesNoLimit, verdicts};
+ghost use Rattle.isle_examples.specs.Shared.{SharedDemands, SharedGives, SharedIsStuck, shared_sample};
+ghost use Rattle.isle_examples.specs.Stages.{CanMatch, CantMatch, ClosingEndsOf, HasStages, HasTermTable, HasTerms, IsAcceptedBoth, IsBuiltOf, IsJudged, IsLoweredTo, IsNotAccepted, NoneOf, PassesNoLimit, verdicts};
 ghost use Rattle.isle_examples.specs.Surplus.{surplus_sample};
 ghost use Rattle.isle_examples.specs.TermLists.{Alone, Chained, Early, Infallible, OneFullName, Structs, Templates, refused_terms};
 ghost use Rattle.isle_examples.specs.Ties.{ties_sample};
 ghost use Rattle.isle_examples.specs.TypeLists.{ConstantTypes, ThreeTypes, TwoTypes, refused_types};
-ghost use Rattle.isle_examples.specs.Unused.{UnusedIsLowered, UnusedIsNotDemanded, unused_defs, unused_rules, unused_set};
-ghost use Rattle.isle_examples.specs.Used.{NearTreesDoNotBind, used_sample};
+ghost use Rattle.isle_examples.specs.Unasked.{UnaskedIsNotDemanded, unasked_defs, unasked_rules, unasked_sample, unasked_set};
+ghost use Rattle.isle_examples.specs.Unused.{UnusedDemands, UnusedEnds, unused_sample};
+ghost use Rattle.isle_examples.specs.Used.{NearTreesDoNotBind, UsedDemands, UsedEnds, used_sample};
 ghost use Rattle.isle_examples.specs.VariantEq.{VariantEqClosed, VariantEqDemands, VariantEqTables, variant_eq_program, variant_eq_rule, variant_eq_sample};
 ghost use Rattle.isle_examples.specs.Wrap.{wrap_sample};
 
@@ -195,8 +196,8 @@ pub fn nested_sample()
     ensures can_match { CanMatch nested_program nested_rule }
 {}
 
-/// An external extractor: a call that is asked to answer, and its answer to be a literal.
-#[tactic(auto, using(crate::proofs::SampleStages::extract_stages, crate::proofs::Matchable::extract_one_matches, crate::proofs::Matchable::extract_any_matches, crate::proofs::Extract::near_sets_are_not_built))]
+/// An external extractor: a call that is asked to answer, and its answer to be a literal. Lowering gives its tree.
+#[tactic(auto, using(crate::proofs::SampleStages::extract_stages, crate::proofs::Matchable::extract_one_matches, crate::proofs::Matchable::extract_any_matches, crate::proofs::Extract::near_sets_are_not_built, crate::proofs::ExtractLowered::extract_is_lowered))]
 pub fn extract_sample()
     ensures stages { HasStages extract_sample }
     ensures tables { ExtractTables }
@@ -205,6 +206,7 @@ pub fn extract_sample()
     ensures any_matches { CanMatch extract_program extract_any }
     ensures limits { PassesNoLimit extract_program extract_one }
     ensures near_sets { NearSetsAreNotBuilt }
+    ensures lowered { IsLoweredTo extract_sample }
 {}
 
 /// Where the extractor answers 1 the higher rule gives 10, where it answers 5 the lower rule gives it, and where it
@@ -225,12 +227,13 @@ pub fn extract_is_served()
     ensures without_calls { DoesNotServe extract_program extract_mute (pos 7) }
 {}
 
-/// A partial call on the right side is made and unwrapped, and nothing is asked of it.
-#[tactic(auto, using(crate::proofs::SampleStages::partial_stages))]
+/// A partial call on the right side is made and unwrapped, and nothing is asked of it. Lowering gives its tree.
+#[tactic(auto, using(crate::proofs::SampleStages::partial_stages, crate::proofs::PartialLowered::partial_is_lowered))]
 pub fn partial_sample()
     ensures stages { HasStages partial_sample }
     ensures tables { HasTermTable partial_defs partial_terms }
     ensures demands { PartialDemands }
+    ensures lowered { IsLoweredTo partial_sample }
 {}
 
 /// Where the partial call answers nothing, the one call is made and then all fails: the lower rule isn't tried. Where
@@ -323,7 +326,29 @@ pub fn wrap_sample()
 #[tactic(auto, using(crate::proofs::SampleStages::used_stages, crate::proofs::Used::near_trees_do_not_bind))]
 pub fn used_sample()
     ensures stages { HasStages used_sample }
+    ensures demands { UsedDemands }
     ensures near_trees { NearTreesDoNotBind }
+{}
+
+/// Where the call answers 5 the rule gives 7, and where it answers nothing the rule doesn't match.
+pub fn used_ends()
+    ensures of_one { UsedEnds (just_number (pos 5)) (answers (pos 7)) }
+    ensures of_none { UsedEnds nothing no_rule }
+{}
+
+/// A partial call that an if-let's value doesn't take isn't asked to answer, and no tree goes by its answer. Lowering
+/// gives its tree: under every meaning it runs as the rule is chosen.
+#[tactic(auto, using(crate::proofs::SampleStages::unused_stages, crate::proofs::Unused::unused_is_lowered))]
+pub fn unused_sample()
+    ensures stages { HasStages unused_sample }
+    ensures demands { UnusedDemands }
+    ensures lowered { IsLoweredTo unused_sample }
+{}
+
+/// Whether the call answers 5 or nothing, the rule gives 7.
+pub fn unused_ends()
+    ensures of_one { UnusedEnds (just_number (pos 5)) (answers (pos 7)) }
+    ensures of_none { UnusedEnds nothing (answers (pos 7)) }
 {}
 
 /// A multi extractor may stand in a rule of a multi term, and in others only where that is allowed.
@@ -337,6 +362,15 @@ pub fn multi_ext_sample()
 #[tactic(auto, using(crate::proofs::SampleStages::shared_stages))]
 pub fn shared_sample()
     ensures stages { HasStages shared_sample }
+    ensures demands { SharedDemands }
+{}
+
+/// On 1, where the call answers 2 at 1 and 3 at 2, the results are 2 and 3; where it answers 2 at 2 as well, 2 stands
+/// twice. A meaning without the second answer doesn't serve the rules: the run is stuck there.
+pub fn shared_gives()
+    ensures of_two { SharedGives (((0, alone (pos 2)), one (v (pos 3))) ∷ []) (pos 2 ∷ pos 3 ∷ []) }
+    ensures of_one_twice { SharedGives (((0, alone (pos 2)), one (v (pos 2))) ∷ []) (pos 2 ∷ pos 2 ∷ []) }
+    ensures without { SharedIsStuck }
 {}
 
 /// Of two pairs that must be equal, the one whose sites are emitted goes first.
@@ -353,12 +387,12 @@ pub fn between_sample()
 
 /// A multi call whose answer nothing uses: a set is built that doesn't demand what stands below the call, and the list
 /// is lowered to a tree that doesn't go over it.
-#[tactic(auto, using(crate::proofs::AcceptedLists::unused_accepted, crate::proofs::Unused::unused_built, crate::proofs::Unused::unused_is_lowered))]
-pub fn unused_sample()
-    ensures accepted { IsAcceptedBoth unused_defs unused_rules }
-    ensures built { IsBuiltOf unused_defs unused_rules 2 unused_set }
-    ensures not_demanded { UnusedIsNotDemanded }
-    ensures lowered { UnusedIsLowered }
+#[tactic(auto, using(crate::proofs::AcceptedLists::unasked_accepted, crate::proofs::Unasked::unasked_built, crate::proofs::Unasked::unasked_is_lowered))]
+pub fn unasked_sample()
+    ensures accepted { IsAcceptedBoth unasked_defs unasked_rules }
+    ensures built { IsBuiltOf unasked_defs unasked_rules 2 unasked_set }
+    ensures not_demanded { UnaskedIsNotDemanded }
+    ensures lowered { IsLoweredTo unasked_sample }
 {}
 
 /// An impure call: the rule can be taken, and makes the call from whatever place it is taken.
@@ -490,7 +524,7 @@ pub fn lists_refused()
     ensures lowering { SamplesAreRefused }
 {}
 
-ghost use Rattle.isle_examples.specs.Mended.{AboveCallsNothingIsAsked, ThirdRulesDontCount, ReturnsOfMultiTermsGoOn, RightSidesFailUnderPicks, OverlapsMayHoldTwice, NamelessIsNotAnswered, LookUpsHaveNoList, LimitsAreNamedWherePassed, SecondIsReadAlone, EmptySetsAreBuilt, SignaturesOfW, SitesAreBrought, UnusedCallsDemandNothing, IdleIsLowered};
+ghost use Rattle.isle_examples.specs.Mended.{AboveCallsNothingIsAsked, ThirdRulesDontCount, ReturnsOfMultiTermsGoOn, RightSidesFailUnderPicks, OverlapsMayHoldTwice, NamelessIsNotAnswered, LookUpsHaveNoList, LimitsAreNamedWherePassed, SecondIsReadAlone, EmptySetsAreBuilt, SignaturesOfW, SitesAreBrought, OverlapsAreTold, TermsOfSites, IdentifiersOfRules};
 
 /// A world that has what tests ask may have no content for a construction above an impure call that is never made.
 #[tactic(auto, using(crate::proofs::Mended::above_calls_nothing_is_asked_lem))]
@@ -560,13 +594,18 @@ pub fn sites_are_brought()
     ensures { SitesAreBrought }
 {}
 
-/// A partial call that an if-let leaves unused demands nothing, and one that it uses does.
-pub fn unused_calls_demand_nothing()
-    ensures { UnusedCallsDemandNothing }
+/// Two rules have no overlap where one site has different constraints in them; else they have one, and a subset where
+/// the constraints of one are the other's too and neither has an equality.
+pub fn overlaps_are_told()
+    ensures { OverlapsAreTold }
 {}
 
-/// The list with a partial call that is left unused is lowered, with the headline.
-#[tactic(auto, using(crate::proofs::Mended::idle_is_lowered_lem))]
-pub fn idle_is_lowered()
-    ensures { IdleIsLowered }
+/// The terms of the sites of a set: those of its calls and of the variant that it makes.
+pub fn terms_of_sites()
+    ensures { TermsOfSites }
+{}
+
+/// A rule's identifier is its name, or its place where it has none.
+pub fn identifiers_of_rules()
+    ensures { IdentifiersOfRules }
 {}

@@ -16,7 +16,7 @@ use Rattle.isle_model.specs.lists.KnownTypes.{types_of, known_type}
 use Rattle.isle_model.specs.first.SameTermTables.{MakeNoTerms, AreCarriedTerms, SameTerms, TermsAgree}
 use Rattle.isle_laws_lists.specs.TableLaws.{names_made}
 use Rattle.isle_model.proofs.Positions.{distinct_nil}
-use Rattle.isle_laws_lists.proofs.Acyclic.{plain_acyclic}
+use Rattle.isle_first.proofs.Acyclic.{plain_acyclic}
 use Rattle.isle_first.proofs.NoTerms.{none_of, each_of, IsPrimitiveTree, primitive_trees}
 use Rattle.isle_laws_lists.proofs.TermLaws.{types_make_terms_lem}
 

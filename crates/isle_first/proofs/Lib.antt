@@ -1,3 +1,4 @@
+pub mod Acyclic
 pub mod CarriedRules
 pub mod CarriedTerms
 pub mod EarlyLimits

@@ -1,5 +1,6 @@
 pub mod closure
 pub mod matching
+pub mod outcomes
 pub mod overlaps
 pub mod results
 pub mod served

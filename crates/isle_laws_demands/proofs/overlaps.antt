@@ -6,3 +6,5 @@ pub mod Listed
 pub mod Masks
 pub mod Overlaps
 pub mod Reported
+pub mod SetRules
+pub mod Totals

@@ -2,7 +2,9 @@ pub mod AcceptLaws
 pub mod BuiltLaws
 pub mod ClosureLaws
 pub mod MatchLaws
+pub mod OutcomeLaws
 pub mod RefusalLaws
 pub mod ReportLaws
 pub mod ServeLaws
+pub mod SetOverlapLaws
 pub mod VisitLaws

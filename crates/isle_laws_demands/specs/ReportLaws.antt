@@ -4,21 +4,16 @@ use Rattle.std.specs.List.{filter}
 use Rattle.isle_model.specs.lists.Syntax.{Position}
 use Rattle.isle_model.specs.rules.Typed.{TypedRule}
 use Rattle.isle_model.specs.rules.Program.{Program, is_multi, rules_of}
+use Rattle.isle_model.specs.claims.Layers.{IsCheckable}
 use Rattle.isle_model.specs.sites.Overlap.{HasDistinctPositions, BuiltRule, built_rules, OverlapsWrongly, Shadows, shadows, IsShadowed, wrong_overlaps, OverlapReport, overlap_reports, ShadowReport, shadow_reports, check_reports}
 
 -- each rule's term is one of the program's
 abbrev pub RulesHaveTerms : Program → Type 0
 RulesHaveTerms p = (r : TypedRule) → Contains p.rules r → r.root_term < length p.terms
 
--- every rule of every term is built, no two overlap wrongly, and none is shadowed
-pub record IsFaultless (p : Program) : Type 0 where
-  pub built : (t : ℕ) → map (λ b. b.rule) (built_rules p t) ≡ rules_of p t
-  pub overlaps : (t i j : ℕ) → OverlapsWrongly p t i j → ⊥
-  pub shadowed : (t i : ℕ) → IsShadowed p t i → ⊥
-
--- nothing is reported exactly where all of that holds
+-- nothing is reported exactly where the rules of a program can be told apart
 abbrev pub CheckIsExact : Type 0
-CheckIsExact = (p : Program) → RulesHaveTerms p → (check_reports p ≡ []) ↔ IsFaultless p
+CheckIsExact = (p : Program) → RulesHaveTerms p → (check_reports p ≡ []) ↔ IsCheckable p
 
 -- a report lists two rules, one of them first
 abbrev pub ListsBoth : OverlapReport → Position → Position → Type 0

@@ -7,11 +7,14 @@
 ghost use Rattle.isle_laws_demands.specs.ClosureLaws.{JoinedIsEquivalence, ClassesBoundJoined, VerdictIsExact, NamesAreExact, ClosingAddsNothing, ConstraintsAreKept, ClosingIsSound, OverlapIsSymmetric, OverlapIsExact, ClashIsExact, FirstLimitIsPassed, PassedLimitIsMet, ClosingIsWhole, ReportsAreExact, ShadowsAreExact, VisitsMakeEqualSites, PlainClosingEnds, ClosingEnds};
 ghost use Rattle.isle_laws_demands.specs.AcceptLaws.{ElaboratedRulesHaveTerms, RulesAreJudged, ListsAreAccepted, ListsAreNotAccepted};
 ghost use Rattle.isle_laws_demands.specs.ReportLaws.{CheckIsExact, OverlapsAreListedOnce, ListedRulesOverlap, MasksAreReportedOnce, ReportedMasksShadow};
+ghost use Rattle.isle_laws_demands.specs.SetOverlapLaws.{SetRulesOverlapAsTheirDemands, OverlapOfSetRulesIsSymmetric, SetRulesConstrainAsTheirDemands};
 ghost use Rattle.isle_laws_demands.specs.VisitLaws.{SitesStandOnce, FormedRulesDemandGates, ClosingKeepsGates, ElaboratedRulesDemandGates, BuiltRulesDemandGates, BuiltSetsAreWellBuilt, NoneAskedAndGoneOver, MultiCallsAreGoneOver, NoRuleAsksAndGoesOver, MultiTermsHaveOnePriority};
 ghost use Rattle.isle_model.specs.claims.SetMeanings.{BuiltSetsAreTested, BuiltSetsCanBeServed, BuiltSetsAreCollected};
 ghost use Rattle.isle_laws_demands.specs.BuiltLaws.{ClosingsOfBuiltRulesAreWhole, ConstrainedSitesStandInNoClass, BuiltRulesConstrainOrEquate, FormedRulesMakeEqualSites, BuiltDemandsAreWhole};
 ghost use Rattle.isle_laws_demands.specs.MatchLaws.{VisitsMatch, UnreachableRulesNeverMatch, ClosedDemandsHoldAlike, BuiltDemandsHoldAlike, BuiltSetsMatchByDemands, BuiltRulesAreToldApart, RulesWithoutMultiGoOverNoCalls, BuiltSetsHoldResults};
+ghost use Rattle.isle_laws_demands.specs.OutcomeLaws.{BuiltSetsMeanTheirRules, TakenRulesGiveTheirOutcome, TakenRulesGiveTheirOutcomeUnderPicks};
 ghost use Rattle.isle_laws_demands.specs.RefusalLaws.{ReportsNamePassedLimits};
+ghost use Rattle.isle_laws_demands.specs.SetOverlapLaws.{SetRulesOverlapAsTheirDemands, OverlapOfSetRulesIsSymmetric, SetRulesConstrainAsTheirDemands};
 ghost use Rattle.isle_laws_demands.specs.ServeLaws.{ServedSetsServeTests, ServedMultiSetsServe};
 
 use isle_laws_lists::{lists_agree, rules_are_formed};
@@ -97,6 +100,22 @@ pub fn reports_are_exact()
 #[tactic(auto, using(crate::proofs::overlaps::Agreements::shadows_decides))]
 pub fn shadows_are_exact()
     ensures { ShadowsAreExact }
+{}
+
+/// Two rules of one built set overlap, and are a subset pair, where their closed demands are.
+pub fn set_rules_overlap_as_their_demands()
+    ensures { SetRulesOverlapAsTheirDemands }
+{}
+
+/// What is told of two rules of a set is the same in either order.
+#[tactic(auto, using(crate::proofs::overlaps::SetRules::overlap_of_set_rules_is_symmetric_lem))]
+pub fn overlap_of_set_rules_is_symmetric()
+    ensures { OverlapOfSetRulesIsSymmetric }
+{}
+
+/// A rule of a built set has as many constraints and equated sites as its closed demands.
+pub fn set_rules_constrain_as_their_demands()
+    ensures { SetRulesConstrainAsTheirDemands }
 {}
 
 /// The sites that a visit equates are made by it, but for variables that nothing binds.
@@ -346,3 +365,25 @@ pub fn results_are_held()
 pub fn served_multi_sets_serve()
     ensures { ServedMultiSetsServe }
 {}
+
+/// For a built set of elaborated rules, taking a rule that matches and goes over no calls gives its right side's outcome: its
+/// impure calls in order, and its result or a failure.
+pub fn taken_rules_give_their_outcome()
+    ensures { TakenRulesGiveTheirOutcome }
+{}
+
+/// And so does, under each of its picks, taking a rule that goes over calls and makes no impure one.
+pub fn taken_rules_give_their_outcome_under_picks()
+    ensures { TakenRulesGiveTheirOutcomeUnderPicks }
+{}
+
+/// So a set that is built of elaborated rules means what its typed rules do: each matches exactly where its demands hold, taking
+/// it gives its right side's outcome, and its result is held.
+pub fn built_sets_mean_their_rules()
+    ensures { BuiltSetsMeanTheirRules }
+{
+    built_sets_match_by_demands();
+    taken_rules_give_their_outcome();
+    taken_rules_give_their_outcome_under_picks();
+    results_are_held();
+}

@@ -1,5 +1,5 @@
-pub mod Acyclic
 pub mod Converters
+pub mod EnvironmentsRead
 pub mod FormedRules
 pub mod FurtherNames
 pub mod JudgedKnown
@@ -19,4 +19,5 @@ pub mod TypedRules
 pub mod TypesStay
 pub mod Typings
 pub mod UsesFound
+pub mod VariantTerms
 pub mod WellFormed

@@ -78,7 +78,7 @@ pub terms_stand_at_ids_lem : TermsStandAtIds
 terms_stand_at_ids_lem k defs n e h = ids_are (terms_in_order k defs) (term_numbers k defs) 0 n n e (all_named k defs) (omega arith) h
 
 -- a number of a name that was met, and the number of what stands there
-number_back : (m : List (List ℕ)) (n : ℕ) (x : List ℕ) → IsDistinct m → slice_get m n ≡ Some x → number m x ≡ n
+pub number_back : (m : List (List ℕ)) (n : ℕ) (x : List ℕ) → IsDistinct m → slice_get m n ≡ Some x → number m x ≡ n
 number_back m n x d h = d (number m x) n x (found m x (has_at m n x h)) h
 
 numbers_back : (ns ys : List (List ℕ)) (ms : List ℕ) → IsDistinct ns → AllByRecursion (λ n. n < length ns) ms → map (number (with_names ns ys)) (filter_map (slice_get ns) ms) ≡ ms

@@ -10,6 +10,7 @@ ghost use Rattle.isle_laws_lists.specs.OwnTypes.{OwnTypesAreReadable};
 ghost use Rattle.isle_laws_lists.specs.JudgeLaws.{TypesAreJudged, CyclesAreFound, TermsAreJudged, DefinedAreJudged, KnownTypesAreJudged, ReadTypesAreJudged, ListsAreElaborated, TypedRulesAreFound, ListsAreRead, ListsAreRefused};
 ghost use Rattle.isle_laws_lists.specs.TableLaws.{OwnTypesAreWellFormed, NamesStandOnce, NumbersStay, TypesStandAtIds, TypesAreFound, LastDefinitionCounts, TermsStandAtIds, TermsAreOfTypes, TermsHaveNames, TermsAreFound, TypesMakeTerms, ConvertersStandOnce};
 ghost use Rattle.isle_laws_lists.specs.FurtherNames.{FurtherNamesDontMatter, NamesOfRulesDontMatter};
+ghost use Rattle.isle_laws_lists.specs.QuestionLaws.{VariantsHaveTerms, WellFormedEnvironmentsAreRead};
 ghost use Rattle.isle_laws_lists.specs.ReadEnvironments.{TypesAreShown, TypesStay};
 
 /// A pattern becomes by the rules of typing what the function gives, and nothing where it gives nothing.
@@ -231,4 +232,14 @@ pub fn types_are_shown()
 /// With more names, types and their look-ups stay as they were.
 pub fn types_stay()
     ensures { TypesStay }
+{}
+
+/// In a valid list each variant has its term, and the look-up of its full name finds it.
+pub fn variants_have_terms()
+    ensures { VariantsHaveTerms }
+{}
+
+/// A well-formed type environment shows types that can be read.
+pub fn well_formed_environments_are_read()
+    ensures { WellFormedEnvironmentsAreRead }
 {}

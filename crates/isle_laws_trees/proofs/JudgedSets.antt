@@ -11,7 +11,7 @@ use Rattle.isle_model.specs.sites.Sites.{Site, Constraint, SetRule, SiteSet, Sit
 use Rattle.isle_model.specs.sites.Demands.{has_site}
 use Rattle.isle_model.specs.sites.Closure.{Closed}
 use Rattle.isle_model.specs.sites.Overlap.{BuiltRule, built_rules}
-use Rattle.isle_model.proofs.Members.{nothing_in, in_head, in_tail, member_from_get, each_passes, in_map, from_map, member_found, member_is_in}
+use Rattle.isle_model.proofs.Members.{nothing_in, in_head, in_tail, member_from_get, each_passes, all_members, in_map, from_map, member_found, member_is_in}
 use Rattle.isle_laws_trees.proofs.WellBuilt.{set_passes, passes_well_built}
 use Rattle.isle_laws_trees.proofs.Exact.{not_exact}
 use Rattle.isle_laws_trees.proofs.Few.{members, joined_member}
@@ -90,14 +90,6 @@ two_apart a b l (suc zero) (suc zero) x p q = refl
 two_apart a b l (suc zero) (suc (suc k)) x p q = absurd (none-some x q)
 two_apart a b l (suc (suc j)) k x p q = absurd (none-some x p)
 
--- what holds of each member
-each_member : {X : Type 0} (P : X → Type 0) (xs : List X) → ((x : X) → Contains xs x → P x) → AllByRecursion P xs
-each_member P [] h = tt
-each_member P (x ∷ xs) h = (h x (in_head x xs), each_member P xs (λ y c. h y (in_tail x y xs c)))
-
-pub each_of : {X : Type 0} (P : X → Type 0) (xs : List X) → ((x : X) → Contains xs x → P x) → All P xs
-each_of P xs h = All-from_recursion P xs (each_member P xs h)
-
 -- a constrained site of a rule stands in no class of it
 abbrev pub keeps_apart : SetRule → Bool
 keeps_apart r = list_all (λ (d : ℕ × Constraint). not (is_in d.0 (members r.classes))) r.constraints
@@ -112,7 +104,7 @@ abbrev pub gates_hold : List Site → SetRule → List ℕ → Bool
 gates_hold sites r ss = list_all (λ s. gate_demanded r (slice_get sites s)) (all_below sites ss)
 
 demands_gates : (sites : List Site) (r : SetRule) (ss : List ℕ) → gates_hold sites r ss ≡ true → All (λ s. IsTrue (gate_demanded r (slice_get sites s))) (all_below sites ss)
-demands_gates sites r ss h = each_of (λ s. IsTrue (gate_demanded r (slice_get sites s))) (all_below sites ss) (each_passes (λ s. gate_demanded r (slice_get sites s)) (all_below sites ss) h)
+demands_gates sites r ss h = all_members (λ s. IsTrue (gate_demanded r (slice_get sites s))) (all_below sites ss) (each_passes (λ s. gate_demanded r (slice_get sites s)) (all_below sites ss) h)
 
 -- the rules have the priority of the number 0
 no_priorities : (rules : List SetRule) → list_all (λ (r : SetRule). int_eq r.prio (pos 0)) rules ≡ true → HasOnePriority rules
@@ -164,11 +156,11 @@ served_by : (p : Program) (t : ℕ) (set : SiteSet) → set_passes (only_sites s
 served_by p t set h each calls one = record {
   once = (passes_well_built (only_sites set) h).sites_once;
   sources = (passes_well_built (only_sites set) h).sources;
-  apart = each_of ConstrainsOrEquates set.rules (λ r i. kept_apart r (serving set.sites r (each_passes (serves set.sites) set.rules each r i)).0);
-  gates = each_of (DemandsItsGates set.sites) set.rules (λ r i.
+  apart = all_members ConstrainsOrEquates set.rules (λ r i. kept_apart r (serving set.sites r (each_passes (serves set.sites) set.rules each r i)).0);
+  gates = all_members (DemandsItsGates set.sites) set.rules (λ r i.
       demands_gates set.sites r (tested_sites r) (serving set.sites r (each_passes (serves set.sites) set.rules each r i)).1);
   gates_of_calls = λ b r o.
-      each_of (DemandsGatesOfCall p set.sites b r) r.iterators (λ s i.
+      all_members (DemandsGatesOfCall p set.sites b r) r.iterators (λ s i.
       call_demands p set.sites b r s
       (each_passes (call_passes p set.sites b r) r.iterators (pass_at p set.sites (built_rules p t) set.rules o.place b r o.typed o.built calls) s i));
   one_priority = one;

@@ -9,8 +9,8 @@ use Rattle.isle_model.specs.trees.Collects.{CollectsTheBag}
 use Rattle.isle_model.specs.trees.WellBuilt.{HasOnePriority}
 use Rattle.isle_model.specs.lists.Elaborated.{TypedRules}
 use Rattle.isle_model.specs.claims.Environments.{TypesRead, IsElaborated, program_of}
-use Rattle.isle_model.specs.claims.Layers.{BindsBeforeUse, IsCheckable, BestTreesKeepTheHeadline}
-use Rattle.isle_model.specs.claims.SetMeanings.{OfBuiltSets, TakenGivesOutcome}
+use Rattle.isle_model.specs.claims.Layers.{BindsBeforeUse, IsCheckable}
+use Rattle.isle_model.specs.claims.SetMeanings.{OfBuiltSets}
 use Rattle.isle_model.specs.sites.RuleSets.{IsBuilt}
 
 -- so its best trees are sound
@@ -27,7 +27,3 @@ BestTreesBindBeforeUse = OfBuiltSets (λ p t set. (multi : Bool) (tree : Tree) �
 -- those of a multi term whose rules can be told apart collect the bag of the rules' results
 abbrev pub BestTreesCollectTheBag : Type 0
 BestTreesCollectTheBag = OfBuiltSets (λ p t set. IsCheckable p → (tree : Tree) → IsBestTree set tree → CollectsTheBag p t set.sites tree)
-
--- where taking a rule of a built set gives its right side's outcome, they keep the headline
-abbrev pub OutcomesKeepTheHeadline : Type 0
-OutcomesKeepTheHeadline = OfBuiltSets TakenGivesOutcome → BestTreesKeepTheHeadline

@@ -1,6 +1,7 @@
 pub mod Bags
 pub mod ByNumber
 pub mod Bytes
+pub mod DistinctCounts
 pub mod DistinctJoined
 pub mod Elements
 pub mod FirstPlaces

@@ -9,6 +9,7 @@ use Rattle.isle_model.proofs.Elements.{In, contains_from_in, in_any, in_map, map
 use Rattle.isle_model.proofs.SameSites.{same_constraint}
 use Rattle.isle_laws_demands.proofs.closure.Names.{same_name, named_joined, names_sound, named_alike}
 use Rattle.isle_laws_demands.proofs.closure.Classes.{IsSettled, HasNoConflict, no_conflict, one_constraint, no_cycle, constrained_means}
+use Rattle.isle_model.proofs.DistinctCounts.{dropped}
 
 not_same : (b : Bool) → not b ≡ true → b ≡ false
 not_same true h = absurd (false≢true h)
@@ -25,15 +26,6 @@ conflict_is d h =
     (record { source = a.0.0; joined = j; asked = contains_from_in d.constraints a.0 a.1 })
     (record { source = b.0.0; joined = itself; asked = contains_from_in d.constraints b.0 b.1 })
     (λ e. false≢true (sym (not_same (constraint_eq a.0.1 b.0.1) p.1) ∙ same_constraint a.0.1 b.0.1 e))
-
--- a list without one place of an element
-pub dropped : {X : Type 0} (xs : List X) (x : X) → In xs x
-    → (ys : List X) × (length xs ≡ suc (length ys)) × ((y : X) → In xs y → (x ≡ y) ⊎ In ys y)
-dropped [] x i = absurd i
-dropped (z ∷ xs) x (inl e) = (xs, refl, λ y j. elim j [ inl f ↦ inl (sym e ∙ f) | inr k ↦ inr k ])
-dropped (z ∷ xs) x (inr i) =
-    let r = dropped xs x i in
-    (z ∷ r.0, ap suc r.1, λ y j. elim j [ inl f ↦ inr (inl f) | inr k ↦ elim (r.2 y k) [ inl e ↦ inl e | inr l ↦ inr (inr l) ] ])
 
 module _ (d : Demands) where
   -- the parts of a name are parts of its class

@@ -30,7 +30,7 @@ own_class (k ∷ ks) s =
     ]
 
 -- the class of a site is one of the classes, or the site alone
-class_cases : (ks : List (List SiteTerm)) (s : SiteTerm) → In ks (class_at ks s) ⊎ (class_at ks s ≡ s ∷ [])
+pub class_cases : (ks : List (List SiteTerm)) (s : SiteTerm) → In ks (class_at ks s) ⊎ (class_at ks s ≡ s ∷ [])
 class_cases [] s = inr refl
 class_cases (k ∷ ks) s =
     elim (cases_Bool (has_site k s)) [
@@ -71,10 +71,10 @@ without_in ks s l i = (
 pub in_without : (ks : List (List SiteTerm)) (s : SiteTerm) (l : List SiteTerm) → In ks l → has_site l s ≡ false → In (without_class_of ks s) l
 in_without ks s l i f = filter_from (λ k. not (has_site k s)) ks l i (ap not f)
 
-abbrev joint : List (List SiteTerm) → SiteTerm × SiteTerm → List SiteTerm
+abbrev pub joint : List (List SiteTerm) → SiteTerm × SiteTerm → List SiteTerm
 joint ks e = class_at ks e.0 ++ class_at ks e.1
 
-abbrev others : List (List SiteTerm) → SiteTerm × SiteTerm → List (List SiteTerm)
+abbrev pub others : List (List SiteTerm) → SiteTerm × SiteTerm → List (List SiteTerm)
 others ks e = without_class_of (without_class_of ks e.0) e.1
 
 others_in : (ks : List (List SiteTerm)) (e : SiteTerm × SiteTerm) (l : List SiteTerm) → In (others ks e) l → In ks l × (In l e.0 → ⊥) × (In l e.1 → ⊥)
@@ -84,7 +84,7 @@ others_in ks e l i =
     (b.0, b.1, a.1)
 
 -- a class of a site that shares a site with a class has that site
-class_shares : (ks : List (List SiteTerm)) → IsApart ks → (s : SiteTerm) (l : List SiteTerm) (x : SiteTerm) → In ks l → In l x → In (class_at ks s) x → In l s
+pub class_shares : (ks : List (List SiteTerm)) → IsApart ks → (s : SiteTerm) (l : List SiteTerm) (x : SiteTerm) → In ks l → In l x → In (class_at ks s) x → In l s
 class_shares ks apart s l x i m n =
     elim (class_cases ks s) [
       | inl j ↦ subst (λ q. In q s) (apart (class_at ks s) l x j i n m) (own_class ks s)
@@ -94,7 +94,7 @@ class_shares ks apart s l x i m n =
     alone : In (s ∷ []) x → s ≡ x
     alone h = elim h [ inl p ↦ p | inr q ↦ absurd q ]
 
-joint_apart : (ks : List (List SiteTerm)) → IsApart ks → (e : SiteTerm × SiteTerm) (l : List SiteTerm) (x : SiteTerm) → In (others ks e) l → In l x → In (joint ks e) x → ⊥
+pub joint_apart : (ks : List (List SiteTerm)) → IsApart ks → (e : SiteTerm × SiteTerm) (l : List SiteTerm) (x : SiteTerm) → In (others ks e) l → In l x → In (joint ks e) x → ⊥
 joint_apart ks apart e l x i m n =
     let o = others_in ks e l i in
     elim (in_either (class_at ks e.0) (class_at ks e.1) x n) [

@@ -50,7 +50,7 @@ value_there g ty (Some v) h = record { value = v; there = refl; typed = h }
 constant_there : (g : Given) (ty : ℕ) (t : Option ℕ) (o : Option Value) → t ≡ Some ty → IsSomeAnd o (λ v. IsTrue (typed_as g.program t v)) → IsValueOf g ty o
 constant_there g ty t o e h = value_there g ty o (subst (λ u. IsSomeAnd o (λ v. IsTrue (typed_as g.program u v))) e h)
 
-fits_there : (o : Option Content) (f : Content → Bool) → IsSomeAnd o (λ c. IsTrue (f c)) → Fits o f
+pub fits_there : (o : Option Content) (f : Content → Bool) → IsSomeAnd o (λ c. IsTrue (f c)) → Fits o f
 fits_there None f h = absurd h
 fits_there (Some c) f h = record { answer = c; there = refl; right = h }
 

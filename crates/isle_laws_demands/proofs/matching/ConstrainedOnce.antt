@@ -4,10 +4,10 @@ use Rattle.std.proofs.lemmas.Bool.{cases_Bool, cond-true, cond-false, false≢tr
 use Rattle.isle_model.specs.sites.Sites.{Constraint, SiteTerm}
 use Rattle.isle_model.specs.sites.Demands.{Demands, site_term_eq}
 use Rattle.isle_model.specs.sites.Closure.{constraint_of, Closed, class_at, with_constraint, with_constraints, ascending, closing, before_closing, most_closing_steps, closed}
+use Rattle.isle_model.proofs.DistinctCounts.{dropped}
 use Rattle.isle_model.proofs.Elements.{In, in_either, none_some}
 use Rattle.isle_model.proofs.SameSites.{same_term}
 use Rattle.isle_laws_demands.proofs.closure.Closing.{closing_keeps}
-use Rattle.isle_laws_demands.proofs.closure.Verdict.{dropped}
 
 -- each site stands once
 abbrev pub StandOnce : List (SiteTerm × Constraint) → Type 0

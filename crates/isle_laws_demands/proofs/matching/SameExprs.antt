@@ -151,11 +151,11 @@ pure_site (a_call flags infallible) t a h = call flags.pure flags.multi flags.pa
 pure_site unknown t a h = refl
 
 -- after an expression they still do
-after_alike : (p : Program) (x : TypedExpr) (v w : Visit) (vars : List (ℕ × ℕ)) → is_formed_expr p x vars ≡ true → Same vars v w → Same vars (visit_expr p x v).visit (visit_expr p x w).visit
+pub after_alike : (p : Program) (x : TypedExpr) (v w : Visit) (vars : List (ℕ × ℕ)) → is_formed_expr p x vars ≡ true → Same vars v w → Same vars (visit_expr p x v).visit (visit_expr p x w).visit
 after_alike p x v w vars f s y i = expr_keeps p x w vars f y i ∙ s y i ∙ sym (expr_keeps p x v vars f y i)
 
 -- a binding of one variable to one site in both
-bound_alike : (x ty : ℕ) (s t : SiteTerm) (vars : List (ℕ × ℕ)) (v w : Visit) → t ≡ s → Same vars v w → Same ((x, ty) ∷ vars) (binding x s v) (binding x t w)
+pub bound_alike : (x ty : ℕ) (s t : SiteTerm) (vars : List (ℕ × ℕ)) (v w : Visit) → t ≡ s → Same vars v w → Same ((x, ty) ∷ vars) (binding x s v) (binding x t w)
 bound_alike x ty s t vars v w q f y i =
     elim (cases_Bool (x == y)) [
       | inl h ↦ ap or_no_site (cond-true (x == y) (Some t) (look (λ k. k == y) w.vars) h) ∙ q ∙ sym (ap or_no_site (cond-true (x == y) (Some s) (look (λ k. k == y) v.vars) h))

@@ -10,7 +10,8 @@ use Rattle.isle_model.specs.sites.Demands.{demands_of}
 use Rattle.isle_model.specs.sites.Closure.{is_unreachable, reported}
 use Rattle.isle_model.specs.sites.Limits.{RuleLimit, first_limit, sites_wanted, sites_after_rule, sites_after_rules}
 use Rattle.isle_model.specs.sites.Overlap.{BuiltRule, is_built, built_rule, built_from, built_rules, wrong_overlaps, overlap_reports, shadow_reports, position_lt, RuleReport, limit_passed, not_reached, rules_overlap, rule_shadows, build_reports_of, build_reports_after, build_reports, report_position, with_report, by_position, overlap_and_shadow_reports, check_reports}
-use Rattle.isle_laws_demands.specs.ReportLaws.{RulesHaveTerms, IsFaultless}
+use Rattle.isle_model.specs.claims.Layers.{IsCheckable}
+use Rattle.isle_laws_demands.specs.ReportLaws.{RulesHaveTerms}
 use Rattle.isle_model.proofs.Elements.{In, in_from_contains, contains_from_in, in_slice, slice_in}
 use Rattle.isle_laws_demands.proofs.overlaps.Overlaps.{not_true}
 use Rattle.isle_laws_demands.proofs.closure.Reports.{reports_are_exact_lem}
@@ -165,30 +166,30 @@ module _ (p : Program) where
   sorted_empty [] e = refl
   sorted_empty (r ∷ rs) e = absurd (filled r (by_position rs) e)
 
-  no_overlap : (pairs : _) → overlap_reports pairs ≡ [] → pairs ≡ []
-  no_overlap [] e = refl
-  no_overlap (x ∷ xs) e = absurd (cons_empty _ _ e)
+  none_overlap : (pairs : _) → overlap_reports pairs ≡ [] → pairs ≡ []
+  none_overlap [] e = refl
+  none_overlap (x ∷ xs) e = absurd (cons_empty _ _ e)
 
-  faultless : RulesHaveTerms p → check_reports p ≡ [] → IsFaultless p
-  faultless terms e =
+  checkable : RulesHaveTerms p → check_reports p ≡ [] → IsCheckable p
+  checkable terms e =
       let both = no_parts (build_reports p) (overlap_and_shadow_reports p) e in
       let later = no_parts (map rules_overlap (overlap_reports (wrong_overlaps p))) (map rule_shadows (shadow_reports p)) (sorted_empty (map rules_overlap (overlap_reports (wrong_overlaps p)) ++ map rule_shadows (shadow_reports p)) both.1) in
-      let wrong = no_overlap (wrong_overlaps p) (map_empty rules_overlap (overlap_reports (wrong_overlaps p)) later.0) in
+      let wrong = none_overlap (wrong_overlaps p) (map_empty rules_overlap (overlap_reports (wrong_overlaps p)) later.0) in
       let masks = map_empty rule_shadows (shadow_reports p) later.1 in
       record {
         built = λ t. all_kept [] (rules_of p t) (all_of_term t [] p.rules both.0);
         overlaps = λ t i j o. none_in (wrong_overlaps p) wrong (o.first.rule.at, o.second.rule.at) (wrong_there p terms t i j o);
-        shadowed = λ t i s. none_in (shadow_reports p) masks _ (masked_there p terms t s.mask s.shadowed s.one_result (in_from_contains (built_rules p t) s.mask s.other) (in_slice (built_rules p t) i s.shadowed s.here) s.shadows);
+        shadows = λ t i s. none_in (shadow_reports p) masks _ (masked_there p terms t s.mask s.shadowed s.one_result (in_from_contains (built_rules p t) s.mask s.other) (in_slice (built_rules p t) i s.shadowed s.here) s.shadows);
       }
 
-  unreported : IsFaultless p → check_reports p ≡ []
+  unreported : IsCheckable p → check_reports p ≡ []
   unreported f =
       let wrong = nothing_in (wrong_overlaps p) (λ e i. let w = wrong_means p e i in f.overlaps w.term w.earlier w.later w.overlap) in
       let masks = nothing_in (shadow_reports p)
       (λ s i.
       let w = masked_means p s i in
       let k = slice_in (built_rules p w.term) w.shadowed w.other in
-      f.shadowed w.term k.0 (record {
+      f.shadows w.term k.0 (record {
         mask = w.mask;
         shadowed = w.shadowed;
         one_result = w.one_result;
@@ -200,5 +201,5 @@ module _ (p : Program) where
       (none_reported [] p.rules (λ t. kept_all [] (rules_of p t) (f.built t)))
       (ap (λ w. by_position (map rules_overlap (overlap_reports w) ++ map rule_shadows (shadow_reports p))) wrong ∙ ap (λ s. by_position (map rule_shadows s)) masks)
 
-pub check_is_exact_lem : (p : Program) → RulesHaveTerms p → (check_reports p ≡ []) ↔ IsFaultless p
-check_is_exact_lem p terms = (faultless p terms, unreported p)
+pub check_is_exact_lem : (p : Program) → RulesHaveTerms p → (check_reports p ≡ []) ↔ IsCheckable p
+check_is_exact_lem p terms = (checkable p terms, unreported p)

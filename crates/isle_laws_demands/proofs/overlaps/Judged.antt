@@ -40,10 +40,7 @@ none_left (x ∷ xs) = (λ h. absurd (false≢true h), λ e. cc)
 pub rules_are_judged_lem : RulesAreJudged
 rules_are_judged_lem p terms =
     let exact = check_is_exact_lem p terms in
-    Decides-like (is_checkable p)
-    (λ e. let f = exact.0 e in record { built = f.built; overlaps = f.overlaps; shadows = f.shadowed })
-    (λ c. exact.1 (record { built = c.built; overlaps = c.overlaps; shadowed = c.shadows }))
-    (none_left (check_reports p))
+    Decides-like (is_checkable p) exact.0 exact.1 (none_left (check_reports p))
 
 module _ (defs : List Definition) (expand : Bool) where
   judged : (rules : TypedRules) → read_list defs expand ≡ Some rules → Decides (is_checkable (own_program defs rules)) (IsCheckable (own_program defs rules))

@@ -6,14 +6,14 @@ use Rattle.std.proofs.lemmas.Bool.{and_parts, cases_Bool, cond-true, cond-false,
 use Rattle.std.proofs.lemmas.Option.{slice_get_within}
 use Rattle.isle_model.specs.lists.Tables.{TypeEntry}
 use Rattle.isle_model.specs.rules.Values.{Value, truth, atom, of_variant, of_struct, Values, no_value, value_and, listed, variant_types, struct_types, well_typed, all_well_typed}
-use Rattle.isle_model.specs.rules.Meaning.{Content, one, parts, nothing, just, many, contents, bool_literal, int_literal, literal_value, constant_value, extractor_answer, pure_answer}
+use Rattle.isle_model.specs.rules.Meaning.{Content, one, parts, nothing, just, many, contents, bool_literal, int_literal, literal_value, constant_value, extractor_answer, pure_answer, impure_answer}
 use Rattle.isle_model.specs.rules.Outcome.{then_option}
 use Rattle.isle_model.specs.rules.Program.{Program, a_call, kind}
 use Rattle.isle_model.specs.rules.Picks.{Pick, picked, place_of, part_of_some, field_of_variant, field_of_struct, site_content, site_values, call_answer}
 use Rattle.isle_model.specs.rules.Typed.{TypedRule}
 use Rattle.isle_model.specs.sites.Sites.{Site, bool_site, int_site, prim_site, argument_site, extractor_site, constructor_site, iterator_site, make_variant_site, match_variant_site, make_struct_site, extract_struct_site, make_some_site, match_some_site, match_tuple_site, SiteTerm, variant_field, struct_made, struct_field, SiteTerms, each_term, layer, unfold_site, sources_of, sources_at}
 use Rattle.isle_model.specs.sites.Serves.{Serves, asked, fits_one, fits_answer, fits_extractor, fits_constructor, constant_type, typed_as, term_args, term_results, HoldsAll}
-use Rattle.isle_model.specs.trees.Places.{waits}
+use Rattle.isle_model.specs.trees.Places.{waits, below}
 use Rattle.isle_model.specs.trees.Run.{World, as_value, from_value, part_at}
 use Rattle.isle_model.specs.trees.Collects.{content_at, IsPureSite}
 use Rattle.isle_model.proofs.Elements.{none_some, some_is}
@@ -274,6 +274,22 @@ module _ (p : Program) (n : ℕ) (rs : List TypedRule) (w : World) (k : Pick) (h
   abbrev pub Fit : ℕ → Type 0
   Fit s = (q : Form) → IsOfForm p n (U s) q → (c : Content) → content_at w k s ≡ Some c → FitsForm p.types q c
 
+  -- a site that makes no impure call, or whose call is answered where its arguments have values; and so are all below a site
+  abbrev pub IsAnsweredSite : Site → Type 0
+  IsAnsweredSite (constructor_site t ss (suc i)) = (vs : Values) → site_values w.meaning w.args k (each_term U ss) ≡ Some vs → IsSomeAnd (impure_answer w.meaning t i) (λ c. IsTrue (fits_constructor p t (kind p t) c))
+  IsAnsweredSite _ = Unit {0}
+
+  abbrev pub IsAnsweredBelow : ℕ → Type 0
+  IsAnsweredBelow s = (u : ℕ) → Contains (below (suc s) w.sites s) u → (b : Site) × (slice_get w.sites u ≡ Some b) × IsAnsweredSite b
+
+  pure_answered : (b : Site) → IsPureSite b → IsAnsweredSite b
+  pure_answered (constructor_site t ss zero) h = tt
+  pure_answered (constructor_site t ss (suc i)) h = absurd h
+  pure_answered _ h = tt
+
+  pure_below_answered : (s : ℕ) → IsPureBelow w.sites s → IsAnsweredBelow s
+  pure_below_answered s pure u c = let a = pure u c in (a.0, a.1, pure_answered a.0 a.2)
+
   values_fit : (ss : List ℕ) → ((a : ℕ) → Contains ss a → Fit a) → AreValues p n (each_term U ss) → (vs : Values) → site_values w.meaning w.args k (each_term U ss) ≡ Some vs
       → AreWhole p.types vs × (length (listed vs) ≡ term_count (each_term U ss))
   values_fit [] f g vs e = subst (λ us. AreWhole p.types us × (length (listed us) ≡ 0)) (some_is no_value vs e) (tt, refl)
@@ -302,7 +318,7 @@ module _ (p : Program) (n : ℕ) (rs : List TypedRule) (w : World) (k : Pick) (h
   call_fits : (o : Option Content) (f : Content → Bool) → IsSomeAnd o (λ c. IsTrue (f c)) → (c : Content) → o ≡ Some c → f c ≡ true
   call_fits o f s c e = subst (λ x. IsSomeAnd x (λ y. IsTrue (f y))) e s
 
-  site_fits : (b : Site) → IsPureSite b → Contains (asked p rs) (layer U b) ⊎ IsField (layer U b) → ((a : ℕ) → Contains (sources_of b) a → Fit a)
+  site_fits : (b : Site) → IsAnsweredSite b → Contains (asked p rs) (layer U b) ⊎ IsField (layer U b) → ((a : ℕ) → Contains (sources_of b) a → Fit a)
       → (q : Form) → IsOfForm p n (layer U b) q → (c : Content) → site_content w.meaning w.args k (layer U b) ≡ Some c → FitsForm p.types q c
   site_fits (bool_site x ty) pure ask fit q f c e =
       subst (λ y. FitsForm p.types y c) (sym f) (value_fits p.types (literal_value w.meaning (bool_literal x ty)) (well_typed p.types ty) (typed_whole p.types ty) (h.serves.bools x ty (only_asked ask)) c e)
@@ -322,7 +338,9 @@ module _ (p : Program) (n : ℕ) (rs : List TypedRule) (w : World) (k : Pick) (h
       let a = from_then (site_values w.meaning w.args k (each_term U ss)) (call_answer w.meaning t 0) c e in
       let s = h.serves.pures t (each_term U ss) a.0 (only_asked ask) (all_hold (each_term U ss) a.0 a.1) in
       subst (λ y. FitsForm p.types y c) (sym f.2) (constructor_fits p t f.0 c (call_fits (pure_answer w.meaning t a.0) (fits_constructor p t (kind p t)) s c a.2))
-  site_fits (constructor_site t ss (suc i)) pure ask fit q f c e = absurd pure
+  site_fits (constructor_site t ss (suc i)) pure ask fit q f c e =
+      let a = from_then (site_values w.meaning w.args k (each_term U ss)) (call_answer w.meaning t (suc i)) c e in
+      subst (λ y. FitsForm p.types y c) (sym f.2) (constructor_fits p t f.0 c (call_fits (impure_answer w.meaning t i) (fits_constructor p t (kind p t)) (pure a.0 a.1) c a.2))
   site_fits (iterator_site source) pure ask fit q f c e =
       let a = from_then (content_at w k source) (picked k (U source)) c e in
       subst (λ y. FitsForm p.types y c) (sym f.3) (picked_fits p.types f.0 f.1 k (U source) a.0 c (fit source (in_head source []) (form true f.0 f.1) f.2 a.0 a.1) a.2)
@@ -355,28 +373,28 @@ module _ (p : Program) (n : ℕ) (rs : List TypedRule) (w : World) (k : Pick) (h
   asked_layer : (s : ℕ) (b : Site) → slice_get w.sites s ≡ Some b → Contains (asked p rs) (layer U b) ⊎ IsField (layer U b)
   asked_layer s b at = subst (λ u. Contains (asked p rs) u ⊎ IsField u) (unfolded_layer w.sites h.before s b at) (h.asks s (slice_get_within w.sites s b at))
 
-  pure_here : (s : ℕ) (b : Site) → slice_get w.sites s ≡ Some b → IsPureBelow w.sites s → IsPureSite b
-  pure_here s b at pure = (let a = pure s (below_itself w.sites s) in subst IsPureSite (some_is a.0 b (sym a.1 ∙ at)) a.2)
-
-  pure_source : (s a : ℕ) → IsPureBelow w.sites s → Contains (sources_at w.sites s) a → IsPureBelow w.sites a
-  pure_source s a pure c u i = pure u (below_source w.sites s s a u c (subst (λ l. Contains l u) (sym (below_enough w.sites h.before s a (h.before s a c))) i))
+  answered_source : (s a : ℕ) → IsAnsweredBelow s → Contains (sources_at w.sites s) a → IsAnsweredBelow a
+  answered_source s a pure c u i = pure u (below_source w.sites s s a u c (subst (λ l. Contains l u) (sym (below_enough w.sites h.before s a (h.before s a c))) i))
 
   source_of : (s : ℕ) (b : Site) → slice_get w.sites s ≡ Some b → (a : ℕ) → Contains (sources_of b) a → Contains (sources_at w.sites s) a
   source_of s b at a c = subst (λ o. Contains (sources_in o) a) (sym at) c
 
-  fits_below : (d s : ℕ) → s < d → IsPureBelow w.sites s → Fit s
+  fits_below : (d s : ℕ) → s < d → IsAnsweredBelow s → Fit s
   fits_below zero s l pure q f c e = absurd (omega (arith, l))
   fits_below (suc d) s l pure q f c e =
       let a = pure s (below_itself w.sites s) in
       site_fits a.0 a.2 (asked_layer s a.0 a.1)
-      (λ x k. let m = source_of s a.0 a.1 x k in let less = h.before s x m in fits_below d x (omega (arith, l, less)) (pure_source s x pure m))
+      (λ x k. let m = source_of s a.0 a.1 x k in let less = h.before s x m in fits_below d x (omega (arith, l, less)) (answered_source s x pure m))
       q (subst (λ t. IsOfForm p n t q) (unfolded_layer w.sites h.before s a.0 a.1) f) c (sym (content_layer w k h.before s a.0 a.1) ∙ e)
 
+  pub fits_answered : (s : ℕ) → IsAnsweredBelow s → Fit s
+  fits_answered s = fits_below (suc s) s (omega arith)
+
   pub fits : (s : ℕ) → IsPureBelow w.sites s → Fit s
-  fits s = fits_below (suc s) s (omega arith)
+  fits s pure = fits_answered s (pure_below_answered s pure)
 
   -- 4. and something is there
-  site_there : (b : Site) → IsPureSite b → waits (Some b) ≡ false → Contains (asked p rs) (layer U b) ⊎ IsField (layer U b) → ((a : ℕ) → Contains (sources_of b) a → Fit a) → ((a : ℕ) → Contains (sources_of b) a → IsTrue (is_some (content_at w k a)))
+  site_there : (b : Site) → IsAnsweredSite b → waits (Some b) ≡ false → Contains (asked p rs) (layer U b) ⊎ IsField (layer U b) → ((a : ℕ) → Contains (sources_of b) a → Fit a) → ((a : ℕ) → Contains (sources_of b) a → IsTrue (is_some (content_at w k a)))
       → (q : Form) → IsOfForm p n (layer U b) q → IsTrue (is_some (site_content w.meaning w.args k (layer U b)))
   site_there (bool_site x ty) pure wait ask fit t q f = (let a = some_and (literal_value w.meaning (bool_literal x ty)) _ (h.serves.bools x ty (only_asked ask)) in ap (λ o. is_some (from_value o)) a.1)
   site_there (int_site z ty) pure wait ask fit t q f = (let a = some_and (literal_value w.meaning (int_literal z ty)) _ (h.serves.ints z ty (only_asked ask)) in ap (λ o. is_some (from_value o)) a.1)
@@ -392,7 +410,10 @@ module _ (p : Program) (n : ℕ) (rs : List TypedRule) (w : World) (k : Pick) (h
       let a = values_there ss fit f.1 t in
       let s = some_and (pure_answer w.meaning x a.0) _ (h.serves.pures x (each_term U ss) a.0 (only_asked ask) (all_hold (each_term U ss) a.0 a.1)) in
       ap (λ o. is_some (then_option o (call_answer w.meaning x 0))) a.1 ∙ ap is_some s.1
-  site_there (constructor_site x ss (suc i)) pure wait ask fit t q f = absurd pure
+  site_there (constructor_site x ss (suc i)) pure wait ask fit t q f =
+      let a = values_there ss fit f.1 t in
+      let s = some_and (impure_answer w.meaning x i) _ (pure a.0 a.1) in
+      ap (λ o. is_some (then_option o (call_answer w.meaning x (suc i)))) a.1 ∙ ap is_some s.1
   site_there (make_variant_site ty i ss) pure wait ask fit t q f = (let a = values_there ss fit f.3 t in ap (λ o. is_some (then_option o (λ vs. Some (one (of_variant ty i vs))))) a.1)
   site_there (make_struct_site ty ss) pure wait ask fit t q f = (let a = values_there ss fit f.3 t in ap (λ o. is_some (then_option o (λ vs. Some (one (of_struct ty vs))))) a.1)
   site_there (make_some_site source) pure wait ask fit t q f = (let a = there_is (content_at w k source) (t source (in_head source [])) in ap (λ o. is_some (then_option o (λ c. Some (just c)))) a.1)
@@ -404,10 +425,27 @@ module _ (p : Program) (n : ℕ) (rs : List TypedRule) (w : World) (k : Pick) (h
   site_there (extract_struct_site source i) pure wait ask fit t q f = absurd (false≢true (sym wait))
   site_there (match_some_site source) pure wait ask fit t q f = absurd (false≢true (sym wait))
 
-  pub found : (s : ℕ) → IsPureBelow w.sites s → waits (slice_get w.sites s) ≡ false → ((a : ℕ) → Contains (sources_at w.sites s) a → IsTrue (is_some (content_at w k a))) → IsTrue (is_some (content_at w k s))
-  found s pure wait t =
+  pub found_answered : (s : ℕ) → IsAnsweredBelow s → waits (slice_get w.sites s) ≡ false → ((a : ℕ) → Contains (sources_at w.sites s) a → IsTrue (is_some (content_at w k a))) → IsTrue (is_some (content_at w k s))
+  found_answered s pure wait t =
       let a = pure s (below_itself w.sites s) in
       let f = h.forms s (slice_get_within w.sites s a.0 a.1) in
       ap is_some (content_layer w k h.before s a.0 a.1)
-      ∙ site_there a.0 a.2 (sym (ap waits a.1) ∙ wait) (asked_layer s a.0 a.1) (λ x c. fits x (pure_source s x pure (source_of s a.0 a.1 x c))) (λ x c. t x (source_of s a.0 a.1 x c))
+      ∙ site_there a.0 a.2 (sym (ap waits a.1) ∙ wait) (asked_layer s a.0 a.1) (λ x c. fits_answered x (answered_source s x pure (source_of s a.0 a.1 x c))) (λ x c. t x (source_of s a.0 a.1 x c))
       f.0 (subst (λ u. IsOfForm p n u f.0) (unfolded_layer w.sites h.before s a.0 a.1) f.1)
+
+  pub found : (s : ℕ) → IsPureBelow w.sites s → waits (slice_get w.sites s) ≡ false → ((a : ℕ) → Contains (sources_at w.sites s) a → IsTrue (is_some (content_at w k a))) → IsTrue (is_some (content_at w k s))
+  found s pure wait t = found_answered s (pure_below_answered s pure) wait t
+
+  -- what is unwrapped answers nothing, or something
+  pub unwraps_maybe : (s source : ℕ) → IsAnsweredBelow s → slice_get w.sites s ≡ Some (match_some_site source) → (c : Content) → content_at w k source ≡ Some c → (c ≡ nothing) ⊎ ((d : Content) × (c ≡ just d))
+  unwraps_maybe s source pure at c e =
+      let f = h.forms s (slice_get_within w.sites s (match_some_site source) at) in
+      let g = subst (λ u. IsOfForm p n u f.0) (unfolded_layer w.sites h.before s (match_some_site source) at) f.1 in
+      by g.0 c (fits_answered source (answered_source s source pure (source_of s (match_some_site source) at source (in_head source []))) (form false true g.0) g.1 c e)
+    where
+      by : (count : ℕ) (c : Content) → FitsAs p.types false true count c → (c ≡ nothing) ⊎ ((d : Content) × (c ≡ just d))
+      by count nothing k = inl refl
+      by count (just d) k = inr (d, refl)
+      by count (one v) k = absurd k
+      by count (parts vs) k = absurd k
+      by count (many cs) k = absurd k

@@ -15,7 +15,7 @@ use Rattle.isle_model.specs.sites.Demands.{demands_of}
 use Rattle.isle_model.specs.sites.Closure.{HasConstraint, closed}
 use Rattle.isle_model.specs.sites.Overlap.{BuiltRule, built_rules}
 use Rattle.isle_model.specs.sites.RuleSets.{IsRuleOf, IsBuilt}
-use Rattle.isle_model.specs.sites.Serves.{asked_by, asked, constant_site, constant_type, typed_as, has_parts, tested_constants, Serves, TellsConstantsApart}
+use Rattle.isle_model.specs.sites.Serves.{asked_by, asked, constant_site, constant_type, typed_as, written_type, written_value, has_parts, tested_constants, Serves, TellsConstantsApart}
 use Rattle.isle_model.specs.claims.Environments.{TypesRead, IsElaborated, program_of}
 use Rattle.isle_model.specs.trees.Places.{is_in, joins_in, below, all_below, waits, each_field, fields_of}
 use Rattle.isle_model.specs.trees.Run.{World, all_one, where_constant, content_fields, world_of}
@@ -36,7 +36,7 @@ use Rattle.isle_laws_demands.proofs.matching.FormedDemands.{IsFormed, rule_forme
 use Rattle.isle_laws_demands.proofs.matching.NeverMatches.{program_has_types}
 use Rattle.isle_laws_demands.proofs.matching.Shapes.{HasTypes, has_form, atom_without_parts}
 use Rattle.isle_laws_demands.proofs.matching.TypedParts.{program_has_typed_parts}
-use Rattle.isle_laws_demands.proofs.matching.Unreachable.{Shape, same_shape}
+use Rattle.isle_laws_demands.proofs.matching.Unreachable.{IsConstant, Shape, same_shape}
 use Rattle.isle_laws_demands.proofs.matching.Visits.{given, of_term}
 use Rattle.isle_laws_demands.proofs.taken.BuiltSites.{rules_known, sites_stand}
 use Rattle.isle_laws_demands.proofs.taken.Fits.{IsWhole, AsManyFields, typed_whole, FitsAs, FitsForm, the_value, IsServed, fits, found}
@@ -213,6 +213,22 @@ module _ (e : TypesRead) (defs : List Definition) (expand : Bool) (rules : Typed
   abbrev ShapeAt : ℕ → Constraint → Type 0
   ShapeAt s d = Shape (given p m args k) rs types apart (content_at w k s) d
 
+  -- the content that meets a constant's constraint is its value, of its type, which has no parts
+  constant_shape : (s ty : ℕ) (d : Constraint) (a : IsAsked s d) (u : SiteTerm) → In (constant_site d) u → (c : Content) → content_at w k s ≡ Some c
+      → (v : Value) × (c ≡ one v) × (written_value m u ≡ Some v) → written_type p u ≡ Some ty
+      → (Contains (asked p rs) u → IsSomeAnd (written_value m u) (λ v. IsTrue (well_typed p.types ty v))) → has_parts (slice_get p.types ty) ≡ false
+      → IsConstant (given p m args k) rs types apart (content_at w k s) u
+  constant_shape s ty d a u i c x g written has atomic = record {
+    value = g.0;
+    there = x ∙ ap Some g.1;
+    ty = ty;
+    written = written;
+    worth = g.2;
+    typed = value_typed (written_value m u) (well_typed p.types ty) g.0 g.2 (has (constant_asked s d a u i));
+    atomic = atomic;
+    tested = constant_tested s d a u i;
+  }
+
   shape_at : (s : ℕ) (d : Constraint) → IsAsked s d → (c : Content) → content_at w k s ≡ Some c → is_some (content_fields m d c) ≡ true → ShapeAt s d
   shape_at s (is_variant ty i f) a c x y =
       let g = has_form m (is_variant ty i f) c y in
@@ -223,42 +239,16 @@ module _ (e : TypesRead) (defs : List Definition) (expand : Bool) (rules : Typed
       let z = whole_here s (is_struct ty f) a (of_struct ty g.0) (x ∙ ap Some g.1) in
       (g.0, x ∙ ap Some g.1, same_count (struct_types (slice_get p.types ty)) g.0 f z.0 (asked_formed s (is_struct ty f) a))
   shape_at s (is_bool v ty) a c x y =
-      let g = has_form m (is_bool v ty) c y in
-      record {
-        value = g.0;
-        there = x ∙ ap Some g.1;
-        ty = ty;
-        written = refl;
-        worth = g.2;
-        typed = value_typed (literal_value m (bool_literal v ty)) (well_typed p.types ty) g.0 g.2 (served.bools v ty (constant_asked s (is_bool v ty) a (bool_term v ty) (inl refl)));
-        atomic = ap (λ i. has_parts (slice_get p.types i)) (asked_formed s (is_bool v ty) a) ∙ ap has_parts types.first;
-        tested = constant_tested s (is_bool v ty) a (bool_term v ty) (inl refl);
-      }
+      constant_shape s ty (is_bool v ty) a (bool_term v ty) (inl refl) c x (has_form m (is_bool v ty) c y) refl (served.bools v ty)
+      (ap (λ i. has_parts (slice_get p.types i)) (asked_formed s (is_bool v ty) a) ∙ ap has_parts types.first)
   shape_at s (is_int z ty) a c x y =
-      let g = has_form m (is_int z ty) c y in
-      record {
-        value = g.0;
-        there = x ∙ ap Some g.1;
-        ty = ty;
-        written = refl;
-        worth = g.2;
-        typed = value_typed (literal_value m (int_literal z ty)) (well_typed p.types ty) g.0 g.2 (served.ints z ty (constant_asked s (is_int z ty) a (int_term z ty) (inl refl)));
-        atomic = atom_without_parts (slice_get p.types ty) (asked_formed s (is_int z ty) a);
-        tested = constant_tested s (is_int z ty) a (int_term z ty) (inl refl);
-      }
+      constant_shape s ty (is_int z ty) a (int_term z ty) (inl refl) c x (has_form m (is_int z ty) c y) refl (served.ints z ty)
+      (atom_without_parts (slice_get p.types ty) (asked_formed s (is_int z ty) a))
   shape_at s (is_prim name) a c x y =
-      let g = has_form m (is_prim name) c y in
       let f = asked_formed s (is_prim name) a in
-      record {
-        value = g.0;
-        there = x ∙ ap Some g.1;
-        ty = f.0;
-        written = f.1;
-        worth = g.2;
-        typed = subst (λ o. typed_as p o g.0 ≡ true) f.1 (value_typed (constant_value m name) (typed_as p (constant_type p name)) g.0 g.2 (served.prims name (constant_asked s (is_prim name) a (prim_term name) (inl refl))));
-        atomic = apart.without_parts a.rule a.constrained.source name f.0 (contains_from_in rs a.rule a.listed) a.constrained.asked f.1;
-        tested = constant_tested s (is_prim name) a (prim_term name) (inl refl);
-      }
+      constant_shape s f.0 (is_prim name) a (prim_term name) (inl refl) c x (has_form m (is_prim name) c y) f.1
+      (λ i. subst (λ o. IsSomeAnd (constant_value m name) (λ v. IsTrue (typed_as p o v))) f.1 (served.prims name i))
+      (apart.without_parts a.rule a.constrained.source name f.0 (contains_from_in rs a.rule a.listed) a.constrained.asked f.1)
   shape_at s is_present a c x y = (let g = has_form m is_present c y in (g.0, x ∙ ap Some g.1))
 
   pub one_constraint : (s : ℕ) (d f : Constraint) → IsAsked s d → IsAsked s f → IsTrue (meets m d (content_at w k s)) → IsTrue (meets m f (content_at w k s)) → d ≡ f

@@ -16,23 +16,24 @@ from_to_alike f i no_typed_pattern (typed_pattern_and q qs) e = absurd (cc)
 from_to_alike f i (typed_pattern_and q qs) no_typed_pattern e = absurd (cc)
 from_to_alike f i (typed_pattern_and q qs) (typed_pattern_and r rs) e = (let k : pattern_count qs ≡ pattern_count rs = omega (arith, e) in ap (λ l. f i ∷ l) (from_to_alike f (suc i) qs rs k))
 
+-- sites of one part, and those of several, are as many for as many parts
+sites_alike : (s : SiteTerm) (f : TypedPatterns → List SiteTerm) → ((q r : TypedPattern) → f (typed_pattern_and q no_typed_pattern) ≡ f (typed_pattern_and r no_typed_pattern))
+    → ((q r : TypedPattern) (rs : TypedPatterns) → f (typed_pattern_and q (typed_pattern_and r rs)) ≡ from_to (tuple_part s) 0 (typed_pattern_and q (typed_pattern_and r rs)))
+    → (as' bs : TypedPatterns) → pattern_count as' ≡ pattern_count bs → f as' ≡ f bs
+sites_alike s f alone many no_typed_pattern no_typed_pattern e = refl
+sites_alike s f alone many no_typed_pattern (typed_pattern_and q qs) e = absurd (cc)
+sites_alike s f alone many (typed_pattern_and q qs) no_typed_pattern e = absurd (cc)
+sites_alike s f alone many (typed_pattern_and q no_typed_pattern) (typed_pattern_and r no_typed_pattern) e = alone q r
+sites_alike s f alone many (typed_pattern_and q no_typed_pattern) (typed_pattern_and r (typed_pattern_and x xs)) e = absurd (omega (arith, e))
+sites_alike s f alone many (typed_pattern_and q (typed_pattern_and x xs)) (typed_pattern_and r no_typed_pattern) e = absurd (omega (arith, e))
+sites_alike s f alone many (typed_pattern_and q (typed_pattern_and x xs)) (typed_pattern_and r (typed_pattern_and y ys)) e =
+    many q x xs ∙ from_to_alike (tuple_part s) 0 (typed_pattern_and q (typed_pattern_and x xs)) (typed_pattern_and r (typed_pattern_and y ys)) e ∙ sym (many r y ys)
+
 outputs_alike : (s : SiteTerm) (as' bs : TypedPatterns) → pattern_count as' ≡ pattern_count bs → output_sites s as' ≡ output_sites s bs
-outputs_alike s no_typed_pattern no_typed_pattern e = refl
-outputs_alike s no_typed_pattern (typed_pattern_and q qs) e = absurd (cc)
-outputs_alike s (typed_pattern_and q qs) no_typed_pattern e = absurd (cc)
-outputs_alike s (typed_pattern_and q no_typed_pattern) (typed_pattern_and r no_typed_pattern) e = refl
-outputs_alike s (typed_pattern_and q no_typed_pattern) (typed_pattern_and r (typed_pattern_and x xs)) e = absurd (omega (arith, e))
-outputs_alike s (typed_pattern_and q (typed_pattern_and x xs)) (typed_pattern_and r no_typed_pattern) e = absurd (omega (arith, e))
-outputs_alike s (typed_pattern_and q (typed_pattern_and x xs)) (typed_pattern_and r (typed_pattern_and y ys)) e = from_to_alike (tuple_part s) 0 (typed_pattern_and q (typed_pattern_and x xs)) (typed_pattern_and r (typed_pattern_and y ys)) e
+outputs_alike s = sites_alike s (output_sites s) (λ q r. refl) (λ q r rs. refl)
 
 parts_alike : (s : SiteTerm) (as' bs : TypedPatterns) → pattern_count as' ≡ pattern_count bs → part_sites s as' ≡ part_sites s bs
-parts_alike s no_typed_pattern no_typed_pattern e = refl
-parts_alike s no_typed_pattern (typed_pattern_and q qs) e = absurd (cc)
-parts_alike s (typed_pattern_and q qs) no_typed_pattern e = absurd (cc)
-parts_alike s (typed_pattern_and q no_typed_pattern) (typed_pattern_and r no_typed_pattern) e = refl
-parts_alike s (typed_pattern_and q no_typed_pattern) (typed_pattern_and r (typed_pattern_and x xs)) e = absurd (omega (arith, e))
-parts_alike s (typed_pattern_and q (typed_pattern_and x xs)) (typed_pattern_and r no_typed_pattern) e = absurd (omega (arith, e))
-parts_alike s (typed_pattern_and q (typed_pattern_and x xs)) (typed_pattern_and r (typed_pattern_and y ys)) e = from_to_alike (tuple_part s) 0 (typed_pattern_and q (typed_pattern_and x xs)) (typed_pattern_and r (typed_pattern_and y ys)) e
+parts_alike s = sites_alike s (part_sites s) (λ q r. refl) (λ q r rs. refl)
 
 call_alike : (pure multi partial rec infallible : Bool) (c : SiteTerm) (as' bs : TypedPatterns) (v : Visit) → pattern_count as' ≡ pattern_count bs
     → open_call (record { pure = pure; multi = multi; partial = partial; rec = rec }) infallible c as' v ≡ open_call (record { pure = pure; multi = multi; partial = partial; rec = rec }) infallible c bs v

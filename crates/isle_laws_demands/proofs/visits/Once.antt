@@ -35,7 +35,7 @@ once_closing (suc n) k d = go_on (next_constrained k.classes k.constraints k.mad
     go_on None later = d
     go_on (Some c) later = later (taken k c (ascending k.made (class_at k.classes c.0))) (once_with k.made (flat_map (field_terms c.1) (ascending k.made (class_at k.classes c.0))) d)
 
-once_closed : (before : List SiteTerm) (d : Demands) → IsDistinct before → IsDistinct (closed before d).made
+pub once_closed : (before : List SiteTerm) (d : Demands) → IsDistinct before → IsDistinct (closed before d).made
 once_closed before d h = once_closing most_closing_steps (before_closing before d) (once_with before d.made h)
 
 once_wanted : (p : Program) (before : List SiteTerm) (r : TypedRule) → IsDistinct before → IsDistinct (sites_wanted p before r)
@@ -48,9 +48,12 @@ once_reached p before r h =
     either_way IsDistinct (walked_rule p r).ended (with_sites before (made_walking p (walked_rule p r))) (sites_wanted p before r)
     (once_with before (made_walking p (walked_rule p r)) h) (once_wanted p before r h)
 
+pub once_after_rule : (p : Program) (before : List SiteTerm) (r : TypedRule) → IsDistinct before → IsDistinct (sites_after_rule p before r)
+once_after_rule p before r h = distinct_taken most_sites (sites_reached p before r) (once_reached p before r h)
+
 once_after : (p : Program) (before : List SiteTerm) (rs : List TypedRule) → IsDistinct before → IsDistinct (sites_after_rules p before rs)
 once_after p before [] h = h
-once_after p before (r ∷ rs) h = once_after p (sites_after_rule p before r) rs (distinct_taken most_sites (sites_reached p before r) (once_reached p before r h))
+once_after p before (r ∷ rs) h = once_after p (sites_after_rule p before r) rs (once_after_rule p before r h)
 
 once_of_term : (p : Program) (t : ℕ) → IsDistinct (sites_after_rules p [] (rules_of p t))
 once_of_term p t = once_after p [] (rules_of p t) (λ j k x e f. absurd (none_some x e))

@@ -128,7 +128,7 @@ module _ (w : World) (before : SourcesBefore w.sites) where
             here =
                 used_placed w e s unbound_one
                 ∙ placed_same w (used w e) (content_at w []) (slice_get w.sites s) (reads_sources h)
-                ∙ sym (content_placed w before s (slice_get w.sites s) refl p)
+                ∙ sym (content_placed w [] before s (slice_get w.sites s) refl p)
 
         placed_critical : settled w s ≡ false → Agree more e e'
         placed_critical h = record {

@@ -36,7 +36,7 @@ first_there : {X Y : Type 0} → (o : Option X) (f : X → Option Y) → IsTrue 
 first_there None f h = h
 first_there (Some x) f h = refl
 
-values_there : (w : World) (pick : Pick) (ss : List ℕ) → IsTrue (is_some (site_values w.meaning w.args pick (each_term (unfold_site w.sites) ss))) → (u : ℕ) → Contains ss u → IsTrue (is_some (content_at w pick u))
+pub values_there : (w : World) (pick : Pick) (ss : List ℕ) → IsTrue (is_some (site_values w.meaning w.args pick (each_term (unfold_site w.sites) ss))) → (u : ℕ) → Contains ss u → IsTrue (is_some (content_at w pick u))
 values_there w pick [] h u c = absurd (nothing_in u c)
 values_there w pick (s ∷ ss) h u c =
     let v = then_option (content_at w pick s) as_value in

@@ -8,6 +8,7 @@ use Rattle.isle_model.specs.rules.Outcome.{Call, then_option}
 use Rattle.isle_model.specs.sites.Sites.{Site, bool_site, int_site, prim_site, argument_site, extractor_site, constructor_site, iterator_site, make_variant_site, match_variant_site, make_struct_site, extract_struct_site, make_some_site, match_some_site, match_tuple_site}
 use Rattle.isle_model.specs.trees.Places.{is_in_place}
 use Rattle.isle_model.specs.trees.Run.{World, Env, bound_to, as_value, from_value, part_at, in_place, or_else, used, used_values, Bound, all_bound, unwrap_failed, no_content_there, now_bound, unwrapped, constructed, bind_site}
+use Rattle.isle_model.specs.rules.Picks.{Pick}
 use Rattle.isle_model.specs.trees.Collects.{content_at}
 use Rattle.isle_model.proofs.Members.{in_head, in_tail}
 use Rattle.isle_laws_runs.proofs.runs.Contents.{SourcesBefore, sources_in, content_layer}
@@ -95,15 +96,15 @@ placed_same w f g (Some (extract_struct_site s x)) h = refl
 placed_same w f g (Some (make_some_site s)) h = refl
 placed_same w f g (Some (match_some_site s)) h = refl
 
-pub content_placed : (w : World) → SourcesBefore w.sites → (s : ℕ) (o : Option Site) → slice_get w.sites s ≡ o → is_in_place o ≡ true → content_at w [] s ≡ then_option o (placed w (content_at w []))
-content_placed w before s None at h = absurd (false≢true h)
-content_placed w before s (Some (int_site z ty)) at h = content_layer w [] before s (int_site z ty) at
-content_placed w before s (Some (prim_site name)) at h = content_layer w [] before s (prim_site name) at
-content_placed w before s (Some (argument_site i)) at h = content_layer w [] before s (argument_site i) at
-content_placed w before s (Some (make_variant_site ty variant [])) at h = content_layer w [] before s (make_variant_site ty variant []) at
-content_placed w before s (Some (make_struct_site ty [])) at h = content_layer w [] before s (make_struct_site ty []) at
-content_placed w before s (Some (match_tuple_site source field)) at h = content_layer w [] before s (match_tuple_site source field) at
-content_placed w before s (Some _) at h = absurd (false≢true h)
+pub content_placed : (w : World) (pick : Pick) → SourcesBefore w.sites → (s : ℕ) (o : Option Site) → slice_get w.sites s ≡ o → is_in_place o ≡ true → content_at w pick s ≡ then_option o (placed w (content_at w pick))
+content_placed w pick before s None at h = absurd (false≢true h)
+content_placed w pick before s (Some (int_site z ty)) at h = content_layer w pick before s (int_site z ty) at
+content_placed w pick before s (Some (prim_site name)) at h = content_layer w pick before s (prim_site name) at
+content_placed w pick before s (Some (argument_site i)) at h = content_layer w pick before s (argument_site i) at
+content_placed w pick before s (Some (make_variant_site ty variant [])) at h = content_layer w pick before s (make_variant_site ty variant []) at
+content_placed w pick before s (Some (make_struct_site ty [])) at h = content_layer w pick before s (make_struct_site ty []) at
+content_placed w pick before s (Some (match_tuple_site source field)) at h = content_layer w pick before s (match_tuple_site source field) at
+content_placed w pick before s (Some _) at h = absurd (false≢true h)
 
 -- 2. one more site is bound
 pub bound_here : (env : Env) (s : ℕ) (c : Content) → bound_to ((s, c) ∷ env) s ≡ Some c

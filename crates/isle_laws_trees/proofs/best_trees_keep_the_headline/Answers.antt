@@ -2,7 +2,7 @@ use Rattle.isle_laws_trees.proofs.headline.Kept.{best_trees_keep_the_headline_le
 use Rattle.isle_laws_trees.proofs.best_trees_keep_the_headline.Goals as goal
 
 pub returns : goal.returns
-returns c = λ taken.
+returns c =
     best_trees_keep_the_headline_lem
     (record {
       tested = c.built_sets_are_tested.ensures;
@@ -11,7 +11,7 @@ returns c = λ taken.
       match = c.built_sets_match_by_demands.ensures;
       apart = c.built_rules_are_told_apart.ensures;
       no_calls = c.rules_without_multi_go_over_no_calls.ensures;
-      taken = taken;
+      taken = c.taken_rules_give_their_outcome.ensures;
     })
     c.best_trees_collect_the_bag.ensures
     c.best_trees_bind_before_use.ensures

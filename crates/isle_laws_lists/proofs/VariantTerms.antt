@@ -1,0 +1,145 @@
+-- Each variant of a well-formed type has its term in the table of a valid list, and the look-up of its full name finds it.
+use Rattle.std.proofs.Common.{◌≡◌, ◌==◌, false, ℕ, zero, suc, ◌+◌, ◌<◌, List, [], ◌∷◌, ◌++◌, length, map, Option, Some, None, slice_get, refl, sym, ap, ◌∙◌, subst, inl, inr, arith, eq-eqb, eqb-true}
+use Rattle.std.proofs.lemmas.Bool.{cases_Bool, cond-true, cond-false, false≢true}
+use Rattle.std.proofs.lemmas.List.Elements.{All-contains}
+use Rattle.std.proofs.lemmas.Option.{same_Some, none-some}
+use Rattle.std.specs.List.{enumerate_from, flat_map}
+use Rattle.isle_model.specs.lists.Syntax.{Definition}
+use Rattle.isle_model.specs.lists.Names.{number, IsDistinct}
+use Rattle.isle_model.specs.lists.Tables.{VariantEntry, TypeEntry, builtin_type, primitive_type, enum_type, struct_type, variant_term, TermEntry}
+use Rattle.isle_model.specs.lists.TermTable.{decl_trees, decl_names, function_of, term_names, term_names_met, IsValidTerms, variant_as_term, terms_made, decl_as_term, terms_in_order, term_table}
+use Rattle.isle_model.specs.lists.KnownTypes.{entry_id, variant_numbers, entry_numbers}
+use Rattle.isle_model.specs.rules.Meaning.{look}
+use Rattle.isle_model.specs.rules.Outcome.{then_option}
+use Rattle.isle_model.specs.claims.Environments.{TypesRead, HasVariantsAtIds, variants_in, AreReadable, terms_by_name}
+use Rattle.isle_model.specs.claims.Questions.{variant_by_id}
+use Rattle.isle_model.proofs.Elements.{In, in_from_contains, contains_from_in, in_left, in_right, in_slice, slice_in, in_map, map_in, in_flat_map}
+use Rattle.isle_model.proofs.Members.{get_within}
+use Rattle.isle_model.proofs.Names.{at_number, get_kept}
+use Rattle.isle_laws_lists.specs.QuestionLaws.{IsVariantsTerm, VariantsHaveTerms}
+use Rattle.isle_laws_lists.proofs.TermLaws.{terms_have_names_lem, terms_stand_at_ids_lem}
+
+-- 1. lists
+-- the one entry of a key is looked up
+pub looked_up : (es : List (ℕ × ℕ)) (k v : ℕ) → In es (k, v) → ((w : ℕ) → In es (k, w) → w ≡ v) → look (λ n. n == k) es ≡ Some v
+looked_up [] k v i f = absurd i
+looked_up (e ∷ es) k v i f =
+    elim (cases_Bool (e.0 == k)) [
+      | inl t ↦
+          cond-true (e.0 == k) (Some e.1) (look (λ n. n == k) es) t
+          ∙ ap Some (f e.1 (inl (λ j. (eqb-true e.0 k t j, e.1))))
+      | inr n ↦ cond-false (e.0 == k) (Some e.1) (look (λ n. n == k) es) n ∙ looked_up es k v (later n i) (λ w j. f w (inr j))
+    ]
+  where
+    later : (e.0 == k) ≡ false → In (e ∷ es) (k, v) → In es (k, v)
+    later n (inl q) = absurd (false≢true (sym n ∙ eq-eqb e.0 k (ap (λ (x : ℕ × ℕ). x.0) q)))
+    later n (inr j) = j
+
+-- each entry takes the id of its place
+at_place : (fs : List (ℕ → TermEntry)) (k i m : ℕ) (f : ℕ → TermEntry) → k + i ≡ m → slice_get fs i ≡ Some f → slice_get (map (λ p. p.1 p.0) (enumerate_from k fs)) i ≡ Some (f m)
+at_place [] k i m f z e = absurd (cc)
+at_place (g ∷ fs) k zero m f z e = (let q : k ≡ m = omega arith in ap Some (λ j. same_Some g f e j (q j)))
+at_place (g ∷ fs) k (suc i) m f z e = at_place fs (k + 1) i m f (omega arith) e
+
+mapped_at : {X Y : Type 0} (f : X → Y) (xs : List X) (i : ℕ) (x : X) → slice_get xs i ≡ Some x → slice_get (map f xs) i ≡ Some (f x)
+mapped_at f [] i x e = absurd (cc)
+mapped_at f (y ∷ xs) zero x e = ap Some (ap f (same_Some y x e))
+mapped_at f (y ∷ xs) (suc i) x e = mapped_at f xs i x e
+
+at_mapped : {X Y : Type 0} (f : X → Y) (xs : List X) (i : ℕ) (y : Y) → slice_get (map f xs) i ≡ Some y → (x : X) × (slice_get xs i ≡ Some x) × (f x ≡ y)
+at_mapped f [] i y e = absurd (cc)
+at_mapped f (x ∷ xs) zero y e = (x, refl, same_Some (f x) y e)
+at_mapped f (x ∷ xs) (suc i) y e = at_mapped f xs i y e
+
+-- 2. the variant
+record IsVariantOf (types : List TypeEntry) (ty variant : ℕ) (v : VariantEntry) : Type 0 where
+  entry : TypeEntry
+  there : slice_get types ty ≡ Some entry
+  listed : slice_get (variants_in entry) variant ≡ Some v
+
+variant_is : (types : List TypeEntry) (ty variant : ℕ) (v : VariantEntry) → variant_by_id types ty variant ≡ Some v → IsVariantOf types ty variant v
+variant_is types ty variant v h = of (slice_get types ty) refl h
+  where
+    of : (o : Option TypeEntry) → slice_get types ty ≡ o → then_option o (λ t. slice_get (variants_in t) variant) ≡ Some v → IsVariantOf types ty variant v
+    of None e g = absurd (none-some v g)
+    of (Some t) e g = record { entry = t; there = e; listed = g }
+
+-- it makes a term, of its type, and its full name is one of the type's
+record IsMadeIn (t : TypeEntry) (ty variant : ℕ) (v : VariantEntry) : Type 0 where
+  made : In (terms_made t) (variant_as_term ty v)
+  listed : In (entry_numbers t) v.full_name
+  at_id : v.id ≡ variant
+
+made_in : (t : TypeEntry) (ty variant : ℕ) (v : VariantEntry) → entry_id t ≡ ty → HasVariantsAtIds t → slice_get (variants_in t) variant ≡ Some v → IsMadeIn t ty variant v
+made_in (builtin_type place) ty variant v i a l = absurd (none-some v l)
+made_in (primitive_type id name at) ty variant v i a l = absurd (none-some v l)
+made_in (struct_type name id is_extern is_nodebug fields at) ty variant v i a l = absurd (none-some v l)
+made_in (enum_type name id is_extern is_nodebug variants at) ty variant v i a l =
+    let there = in_slice variants variant v l in
+    record {
+      made = subst (λ n. In (map (variant_as_term id) variants) (variant_as_term n v)) i (map_in (variant_as_term id) variants v there);
+      listed = inr (in_flat_map variant_numbers variants v v.full_name there (inl refl));
+      at_id = a variant v l;
+    }
+
+-- 3. its term
+module _ (e : TypesRead) (defs : List Definition) (r : AreReadable e) (valid : IsValidTerms e.known defs) (ty variant : ℕ) (v : VariantEntry) (h : IsVariantOf e.known.types ty variant v) where
+  type_there : In e.known.types h.entry
+  type_there = in_slice e.known.types ty h.entry h.there
+
+  made_here : IsMadeIn h.entry ty variant v
+  made_here = made_in h.entry ty variant v (r.well_formed.ids ty h.entry h.there) (All-contains HasVariantsAtIds e.known.types h.entry r.variants (contains_from_in e.known.types h.entry type_there)) h.listed
+
+  number_met : v.full_name < length e.known.names
+  number_met =
+      All-contains (λ n. n < length e.known.names) (flat_map entry_numbers e.known.types) v.full_name r.well_formed.numbers_in_range
+      (contains_from_in (flat_map entry_numbers e.known.types) v.full_name (in_flat_map entry_numbers e.known.types h.entry v.full_name type_there made_here.listed))
+
+  -- its place among the terms
+  place : (n : ℕ) × (slice_get (terms_in_order e.known defs) n ≡ Some (variant_as_term ty v))
+  place =
+      slice_in (terms_in_order e.known defs) (variant_as_term ty v)
+      (in_right (map (decl_as_term e.known defs (term_names_met e.known defs)) (decl_trees defs)) (flat_map terms_made e.known.types) (variant_as_term ty v)
+      (in_flat_map terms_made e.known.types h.entry (variant_as_term ty v) type_there made_here.made))
+
+  there : slice_get (term_table e.known defs) place.0 ≡ Some (variant_as_term ty v place.0)
+  there = at_place (terms_in_order e.known defs) 0 place.0 place.0 (variant_as_term ty v) (omega arith) place.1
+
+  -- two terms whose names have its number stand at one place
+  name_at : (n : ℕ) (t : TermEntry) → slice_get (term_table e.known defs) n ≡ Some t → t.name ≡ v.full_name → (z : List ℕ) → slice_get (term_names_met e.known defs) v.full_name ≡ Some z → slice_get (term_names e.known defs) n ≡ Some z
+  name_at n t s same z known =
+      let numbers = terms_have_names_lem.0 e.known defs r.well_formed in
+      let here = sym (ap (λ l. slice_get l n) numbers) ∙ mapped_at (λ (x : TermEntry). x.name) (term_table e.known defs) n t s in
+      let m = at_mapped (number (term_names_met e.known defs)) (term_names e.known defs) n t.name here in
+      let one : slice_get (term_names_met e.known defs) (number (term_names_met e.known defs) m.0) ≡ Some z = ap (slice_get (term_names_met e.known defs)) (m.2 ∙ same) ∙ known in
+      m.1 ∙ ap Some (sym (at_number (term_names_met e.known defs) m.0 z one))
+
+  one_place : (n k : ℕ) (t u : TermEntry) → slice_get (term_table e.known defs) n ≡ Some t → slice_get (term_table e.known defs) k ≡ Some u → t.name ≡ v.full_name → u.name ≡ v.full_name → n ≡ k
+  one_place n k t u s w a b =
+      let z = get_within e.known.names v.full_name number_met in
+      let known = get_kept e.known.names (decl_names defs ++ flat_map function_of defs) v.full_name z.0 z.1 in
+      valid.distinct n k z.0 (name_at n t s a z.0 known) (name_at k u w b z.0 known)
+
+  found_there : look (λ n. n == v.full_name) (terms_by_name (term_table e.known defs)) ≡ Some place.0
+  found_there =
+      looked_up (terms_by_name (term_table e.known defs)) v.full_name place.0
+      (map_in (λ (t : TermEntry). (t.name, t.id)) (term_table e.known defs) (variant_as_term ty v place.0) (in_slice (term_table e.known defs) place.0 (variant_as_term ty v place.0) there))
+      (λ w i.
+      let m = in_map (λ (t : TermEntry). (t.name, t.id)) (term_table e.known defs) (v.full_name, w) i in
+      let s = slice_in (term_table e.known defs) m.0 m.1 in
+      let id : m.0.id ≡ s.0 = terms_stand_at_ids_lem e.known defs s.0 m.0 s.1 in
+      sym (ap (λ (x : ℕ × ℕ). x.1) m.2) ∙ id ∙ one_place s.0 place.0 m.0 (variant_as_term ty v place.0) s.1 there (ap (λ (x : ℕ × ℕ). x.0) m.2) refl)
+
+pub variants_have_terms_lem : VariantsHaveTerms
+variants_have_terms_lem e defs r valid ty variant v h =
+    let q = variant_is e.known.types ty variant v h in
+    let n = place e defs r valid ty variant v q in (
+      n.0,
+      ap (λ o. then_option o (λ (x : VariantEntry). look (λ k. k == x.full_name) (terms_by_name (term_table e.known defs)))) h ∙ found_there e defs r valid ty variant v q,
+      record {
+        term = variant_as_term ty v n.0;
+        there = there e defs r valid ty variant v q;
+        kind = ap variant_term (made_here e defs r valid ty variant v q).at_id;
+        of_type = refl;
+      },
+    )
