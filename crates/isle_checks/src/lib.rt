@@ -1,4 +1,4 @@
-//! Whole runs of `lower` on lists of definitions whose answers a reader knows.
+//! Tests of what rows of text can't say.
 #![tactic(auto)]
 
 #[cfg(test)]

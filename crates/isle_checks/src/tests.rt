@@ -1,16 +1,8 @@
-// Rows of definitions and what is answered to them; what the program prints; containers; trees of syntax; refused memory.
-mod answers;
+// Containers; trees of syntax; tables and typed rules; what programs print, and what they do where output fails.
 mod last_digit;
 mod partition;
 mod printing;
 mod program;
-mod refused;
 mod stable;
 mod syntax;
-mod terms;
-mod trees;
-mod type_rows;
-mod type_tables;
-mod types;
-mod written;
-mod wrong_types;
+mod tables;

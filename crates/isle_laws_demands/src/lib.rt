@@ -12,7 +12,7 @@ ghost use Rattle.isle_laws_demands.specs.VisitLaws.{SitesStandOnce, FormedRulesD
 ghost use Rattle.isle_model.specs.claims.SetMeanings.{BuiltSetsAreTested, BuiltSetsCanBeServed, BuiltSetsAreCollected};
 ghost use Rattle.isle_laws_demands.specs.BuiltLaws.{ClosingsOfBuiltRulesAreWhole, ConstrainedSitesStandInNoClass, BuiltRulesConstrainOrEquate, FormedRulesMakeEqualSites, BuiltDemandsAreWhole};
 ghost use Rattle.isle_laws_demands.specs.MatchLaws.{VisitsMatch, UnreachableRulesNeverMatch, ClosedDemandsHoldAlike, BuiltDemandsHoldAlike, BuiltSetsMatchByDemands, BuiltRulesAreToldApart, RulesWithoutMultiGoOverNoCalls, BuiltSetsHoldResults};
-ghost use Rattle.isle_laws_demands.specs.OutcomeLaws.{BuiltSetsMeanTheirRules, TakenRulesGiveTheirOutcome, TakenRulesGiveTheirOutcomeUnderPicks};
+ghost use Rattle.isle_laws_demands.specs.OutcomeLaws.{TakenRulesGiveTheirOutcome, TakenRulesGiveTheirOutcomeUnderPicks, BuiltSetsMeanTheirRules};
 ghost use Rattle.isle_laws_demands.specs.RefusalLaws.{ReportsNamePassedLimits};
 ghost use Rattle.isle_laws_demands.specs.SetOverlapLaws.{SetRulesOverlapAsTheirDemands, OverlapOfSetRulesIsSymmetric, SetRulesConstrainAsTheirDemands};
 ghost use Rattle.isle_laws_demands.specs.ServeLaws.{ServedSetsServeTests, ServedMultiSetsServe};
@@ -377,8 +377,8 @@ pub fn taken_rules_give_their_outcome_under_picks()
     ensures { TakenRulesGiveTheirOutcomeUnderPicks }
 {}
 
-/// So a set that is built of elaborated rules means what its typed rules do: each matches exactly where its demands hold, taking
-/// it gives its right side's outcome, and its result is held.
+/// A set that is built of elaborated rules means what they do: under each of its picks a rule matches exactly where its demands
+/// hold, taking it gives its right side's outcome, and the result's site holds what the right side gives.
 pub fn built_sets_mean_their_rules()
     ensures { BuiltSetsMeanTheirRules }
 {

@@ -7,13 +7,14 @@
 ghost use Rattle.isle_laws_trees.specs.BestLaws.{OpenTestsAreListed, BestTreesShareMost, SitesAreTestedOnce, StepsAreFew, StepsMakeBestTrees, JudgeIsExact, TreeJudgeIsExact};
 ghost use Rattle.isle_laws_trees.specs.Scores.{ScoresAreOrdered, OneTestIsGreatest};
 ghost use Rattle.isle_model.specs.trees.WellBuilt.{BestTreesAreSound};
-ghost use Rattle.isle_model.specs.claims.Layers.{BestTreesKeepTheHeadline};
 ghost use Rattle.isle_laws_trees.specs.BuiltLaws.{BestTreesOfBuiltSetsAreSound, BestTreesBindBeforeUse, BestTreesCollectTheBag};
+ghost use Rattle.isle_model.specs.claims.Layers.{BestTreesKeepTheHeadline};
 
 use isle_laws_demands::{
-    built_rules_are_told_apart, built_sets_are_collected, built_sets_are_tested, built_sets_are_well_built, built_sets_match_by_demands,
-    multi_terms_have_one_priority, no_rule_asks_and_goes_over, results_are_held, rules_without_multi_go_over_no_calls, served_multi_sets_serve,
-    served_sets_serve_tests, taken_rules_give_their_outcome,
+    built_rules_are_told_apart, built_sets_are_collected, built_sets_are_tested,
+    built_sets_are_well_built, built_sets_match_by_demands, multi_terms_have_one_priority,
+    no_rule_asks_and_goes_over, results_are_held, rules_without_multi_go_over_no_calls,
+    served_multi_sets_serve, served_sets_serve_tests, taken_rules_give_their_outcome,
 };
 
 /// The list of a place's open tests holds exactly the tests that are open there.
@@ -101,8 +102,8 @@ pub fn best_trees_collect_the_bag()
     results_are_held();
 }
 
-/// The best trees of accepted definitions keep the headline: they run as the choice by priority, share tests, collect the bag of
-/// a multi term, and bind before use.
+/// The best trees of accepted definitions keep the headline, whatever code made them: they run as the choice by priority, share
+/// tests, collect the bag of a multi term, and bind before use.
 pub fn best_trees_keep_the_headline()
     ensures { BestTreesKeepTheHeadline }
 {

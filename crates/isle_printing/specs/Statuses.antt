@@ -3,8 +3,8 @@ use Rattle.std.specs.Prelude.{ℕ, ◌≡◌, List}
 use Rattle.isle_model.specs.lists.Syntax.{Definition}
 use Rattle.isle_model.specs.rules.Typed.{TypedRule}
 use Rattle.isle_model.specs.first.Accepted.{IsCarriedAccepted}
-use Rattle.isle_printing.specs.declared.run.Text.{Text}
-use Rattle.isle_printing.specs.declared.run.Text.TheVariants.{Trees, Errors}
+use Rattle.isle_printing.specs.declared.answers.Answer.{Answer}
+use Rattle.isle_printing.specs.declared.answers.Answer.TheVariants.{Trees, Errors}
 
 abbrev pub AreAccepted : List Definition → Type 0
 AreAccepted defs = (typed : List TypedRule) × IsCarriedAccepted defs typed
@@ -16,6 +16,6 @@ pub record IsStatusOf (defs : List Definition) (status : ℕ) : Type 0 where
   pub unwritten : status ≡ 4 → AreAccepted defs
 
 -- the text of trees is made of accepted definitions, that of errors of others
-abbrev pub IsTextOf : List Definition → Text → Type 0
-IsTextOf defs (Trees text) = AreAccepted defs
-IsTextOf defs (Errors text) = AreAccepted defs → ⊥
+abbrev pub IsAnswerTo : List Definition → Answer → Type 0
+IsAnswerTo defs (Trees text) = AreAccepted defs
+IsAnswerTo defs (Errors text) = AreAccepted defs → ⊥

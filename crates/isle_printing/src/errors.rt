@@ -1,75 +1,67 @@
 //! Errors as lines of text.
 
-use isle_base::syntax::{Error, Limit, Pos, Span};
+use crate::places::Places;
+use isle_base::syntax::{Error, Limit, Span};
 use std::alloc::{AllocError, Global};
+use std::slice;
 
-/// One line for each error, in order. A place is the number of its file, a colon and its offset, and a
-/// span stands for the place where it begins.
-pub fn error_lines(alloc: Global, errors: &[Error]) -> Result<String, AllocError> {
+/// One line for each error, in order. A place is shown as `places` says, and a span stands for the place
+/// where it begins.
+pub fn error_lines(
+    alloc: Global,
+    errors: &[Error],
+    places: Places<'_>,
+) -> Result<String, AllocError> {
     let mut out = String::new(alloc);
     for error in errors {
-        push_error(&mut out, error)?;
+        push_error(&mut out, error, places)?;
         out.push('\n')?;
     }
     Ok(out)
 }
 
 // An error without the end of its line.
-fn push_error(out: &mut String, error: &Error) -> Result<(), AllocError> {
-    match error {
-        Error::TypeError { msg, span } => push_single(out, "type error", *span, msg),
-        Error::UnreachableError { msg, span } => push_single(out, "unreachable", *span, msg),
-        Error::OverlapError { msg, rules } => push_overlap(out, rules, msg),
-        Error::ShadowedError { shadowed, mask } => push_shadowed(out, shadowed, *mask),
-        Error::LimitError { limit, msg, span } => push_single(out, limit_word(*limit), *span, msg),
-    }
-}
-
-// What is wrong, at one place, and the message.
-fn push_single(out: &mut String, what: &str, span: Span, msg: &String) -> Result<(), AllocError> {
-    out.push_str(what)?;
-    out.push_str(" at ")?;
-    push_pos(out, span.from)?;
-    push_message(out, msg)
-}
-
-// Rules that overlap, and the message.
-fn push_overlap(out: &mut String, rules: &[Span], msg: &String) -> Result<(), AllocError> {
-    out.push_str("overlap at ")?;
-    push_places(out, rules)?;
-    push_message(out, msg)
+fn push_error(out: &mut String, error: &Error, places: Places<'_>) -> Result<(), AllocError> {
+    let (what, spans, text) = match error {
+        Error::TypeError { msg, span } => ("type error", slice::from_ref(span), msg.as_str()),
+        Error::UnreachableError { msg, span } => {
+            ("unreachable", slice::from_ref(span), msg.as_str())
+        }
+        Error::OverlapError { msg, rules } => ("overlap", rules.as_slice(), msg.as_str()),
+        Error::LimitError { limit, msg, span } => {
+            (limit_word(*limit), slice::from_ref(span), msg.as_str())
+        }
+        Error::ShadowedError { shadowed, mask } => {
+            return push_shadowed(out, shadowed, *mask, places);
+        }
+    };
+    write!(out, "{what} at ")?;
+    push_places(out, spans, places)?;
+    write!(out, ": {text}")
 }
 
 // Rules that another one shadows.
-fn push_shadowed(out: &mut String, shadowed: &[Span], mask: Span) -> Result<(), AllocError> {
+fn push_shadowed(
+    out: &mut String,
+    shadowed: &[Span],
+    mask: Span,
+    places: Places<'_>,
+) -> Result<(), AllocError> {
     out.push_str("shadowed at ")?;
-    push_places(out, shadowed)?;
+    push_places(out, shadowed, places)?;
     out.push_str(" by ")?;
-    push_pos(out, mask.from)
-}
-
-// The message after a place.
-fn push_message(out: &mut String, msg: &String) -> Result<(), AllocError> {
-    out.push_str(": ")?;
-    out.push_str(msg.as_str())
+    places.push(out, mask.from)
 }
 
 // Places with commas between them.
-fn push_places(out: &mut String, spans: &[Span]) -> Result<(), AllocError> {
+fn push_places(out: &mut String, spans: &[Span], places: Places<'_>) -> Result<(), AllocError> {
     for (i, span) in spans.iter().enumerate() {
         if i > 0 {
             out.push_str(", ")?;
         }
-        push_pos(out, span.from)?;
+        places.push(out, span.from)?;
     }
     Ok(())
-}
-
-// A place.
-fn push_pos(out: &mut String, pos: Pos) -> Result<(), AllocError> {
-    let file = pos.file;
-    let offset = pos.offset;
-    write!(out, "{file}:{offset}")
 }
 
 // A limit by its number.

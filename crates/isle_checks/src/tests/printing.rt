@@ -1,13 +1,13 @@
 // The printed form of each form of binding, step and error.
-use super::answers::accepted;
-use super::written::written;
-use cranelift_isle::lower::Lowered;
 use cranelift_isle::serialize::{Block, ControlFlow, EvalStep, MatchArm};
 use cranelift_isle::trie_again::{Binding, BindingId, Constraint, TupleIndex};
 use isle_base::syntax::{Error, Limit, Pos, Span};
 use isle_printing::errors::error_lines;
+use isle_printing::places::Places;
 use isle_printing::print::{Names, print_bindings, print_block};
-use isle_types::{Sym, TermId, TypeId, VariantId};
+use isle_rules::TermEnv;
+use isle_text::read;
+use isle_types::{Sym, TermId, TypeEnv, TypeId, VariantId};
 use std::alloc::{AllocError, Global};
 use std::test::Fail;
 
@@ -59,25 +59,16 @@ shadowed at 0:1, 0:2 by 0:5
 ";
 
 // The names of what the bindings and steps below speak of: the term f, and T, S and P after the 13 built-in types.
-fn named(alloc: Global) -> Result<Lowered, Fail> {
-    let defs = written(
-        alloc,
-        &[
-            ("enum", "T", &["A"], ""),
-            ("struct", "S", &["x"], "u8"),
-            ("type", "P", &[], "P"),
-            ("decl", "f", &["u8"], "u8"),
-            ("rule", "f", &["x"], "x"),
-        ],
-    )?;
-    accepted(alloc, &defs)
-}
+const NAMED: &str = "(type T (enum A)) (type S (struct (x u8))) (type P (primitive P))
+(decl f (u8) u8) (rule (f x) x)";
 
 fn printed(alloc: Global, bindings: &[Binding], block: &Block) -> Result<String, Fail> {
-    let lowered = named(alloc)?;
+    let defs = read(alloc, 0, NAMED)?;
+    let mut tyenv = TypeEnv::from_ast(alloc, &defs)?;
+    let termenv = TermEnv::from_ast(alloc, &mut tyenv, &defs, true)?;
     let names = Names {
-        tyenv: &lowered.tyenv,
-        termenv: &lowered.termenv,
+        tyenv: &tyenv,
+        termenv: &termenv,
     };
     let mut out = String::new(alloc);
     print_bindings(&mut out, names, bindings)?;
@@ -287,7 +278,10 @@ fn errors(alloc: Global) -> Result<Vec<Error>, AllocError> {
 #[test]
 fn prints_each_error(rt: HostRuntime) -> Result<(), Fail> {
     let alloc = rt.alloc();
-    assert_eq!(rt; error_lines(alloc, &errors(alloc)?)?.as_str(), ERRORS);
+    assert_eq!(rt;
+        error_lines(alloc, &errors(alloc)?, Places::Files)?.as_str(),
+        ERRORS
+    );
     for (limit, want) in [
         (Limit::Fields, "limit L1 at 1:2: much\n"),
         (Limit::Outputs, "limit L2 at 1:2: much\n"),
@@ -299,7 +293,7 @@ fn prints_each_error(rt: HostRuntime) -> Result<(), Fail> {
         let msg = String::from_str(alloc, "much")?;
         let span = span(1, 2);
         let errors = vec![in alloc; Error::LimitError { limit, msg, span }]?;
-        assert_eq!(rt; error_lines(alloc, &errors)?.as_str(), want);
+        assert_eq!(rt; error_lines(alloc, &errors, Places::Files)?.as_str(), want);
     }
     Ok(())
 }

@@ -38,7 +38,6 @@ fn sets(rt: HostRuntime) -> Result<(), Fail> {
         (16, true, 7),
         (7, true, 8),
         (8, true, 9),
-        (19, true, 10),
     ] {
         let (val, before) = (LastDigit(number), set_copy(&set)?);
         assert_eq!(rt; inserted(&mut set, val)?, new, "at {number}");

@@ -1,7 +1,6 @@
-// Calls on trees, whose answers a reader knows. A word is a form: `x`, `_`, `7`, `y@_`, `y@7`, and `?0` for an argument of a
-// template.
-use super::written::written;
-use isle_base::syntax::{Expr, Files, Ident, LetDef, Pattern, Pos, Span, Variant};
+// Calls on trees that text spells, whose answers a reader knows.
+use isle_base::syntax::{Def, Files, Ident, Pattern, Pos, Rule, Span, Variant};
+use isle_text::read;
 use std::alloc::{AllocError, Global};
 use std::process::Abort;
 use std::test::Fail;
@@ -14,148 +13,66 @@ fn ident(alloc: Global, text: &str, offset: usize) -> Result<Ident, AllocError> 
     Ok(Ident(String::from_str(alloc, text)?, at(offset)))
 }
 
-fn leaf(alloc: Global, word: &str, offset: usize) -> Result<Pattern, AllocError> {
-    let pos = at(offset);
-    Ok(match word {
-        "_" => Pattern::Wildcard { pos },
-        "7" => Pattern::ConstInt { val: 7, pos },
-        "?0" => Pattern::MacroArg { index: 0, pos },
-        "?1" => Pattern::MacroArg { index: 1, pos },
-        _ => Pattern::Var {
-            var: ident(alloc, word, offset)?,
-            pos,
-        },
-    })
-}
-
-// A leaf, or a binding of a name over one.
-fn form(alloc: Global, word: &str, offset: usize) -> Result<Pattern, AllocError> {
-    let Some((name, of)) = word.split_once("@") else {
-        return leaf(alloc, word, offset);
-    };
-    Ok(Pattern::BindPattern {
-        var: ident(alloc, name, offset)?,
-        subpat: Box::new(alloc, leaf(alloc, of, offset)?)?,
-        pos: at(offset),
-    })
-}
-
-fn forms(alloc: Global, words: &[&str]) -> Result<Vec<Pattern>, AllocError> {
-    let mut forms = Vec::new(alloc);
-    for i in 0..words.len() {
-        forms.push(form(alloc, words[i], i)?)?;
+// The rule that a text spells.
+fn rule(alloc: Global, text: &str) -> Result<Rule, Fail> {
+    match read(alloc, 0, text)?.first() {
+        Some(Def::Rule(rule)) => Ok(rule.clone()?),
+        _ => Err(Fail::from("no rule")),
     }
-    Ok(forms)
 }
 
-// `(t WORDS ..)`
-fn term(alloc: Global, words: &[&str]) -> Result<Pattern, AllocError> {
-    Ok(Pattern::Term {
-        sym: ident(alloc, "t", 21)?,
-        args: forms(alloc, words)?,
-        pos: at(20),
-    })
-}
-
-// `(and (t WORDS ..) _)`
-fn tree(alloc: Global, words: &[&str]) -> Result<Pattern, AllocError> {
-    let mut subpats = Vec::new(alloc);
-    subpats.push(term(alloc, words)?)?;
-    subpats.push(Pattern::Wildcard { pos: at(40) })?;
-    Ok(Pattern::And {
-        subpats,
-        pos: at(10),
-    })
-}
-
-fn names(alloc: Global, words: &[&str]) -> Result<Vec<Ident>, AllocError> {
-    let mut names = Vec::new(alloc);
-    for word in words {
-        names.push(ident(alloc, *word, 50)?)?;
-    }
-    Ok(names)
-}
-
+// What stands for one another stands in one column.
 #[test]
 fn templates(rt: HostRuntime) -> Result<(), Fail> {
     let alloc = rt.alloc();
-    let names = names(alloc, &["x", "y", "x"])?;
-    let template = tree(alloc, &["?0", "?1", "z@7", "y@7", "z"])?;
-    let pattern = tree(alloc, &["x", "y@_", "z@7", "y@7", "z"])?;
-    assert!(rt; pattern.make_macro_template(alloc, &names)? == template);
-    let given = forms(alloc, &["7", "_"])?;
-    let filled = template.subst_macro_args(alloc, &given)?;
-    assert!(rt; filled == Some(tree(alloc, &["7", "_", "z@7", "y@7", "z"])?));
-    let given = forms(alloc, &["7"])?;
-    assert!(rt; template.subst_macro_args(alloc, &given)?.is_none());
+    let names = vec![in alloc;
+        ident(alloc, "x", 0)?,
+        ident(alloc, "y", 1)?,
+        ident(alloc, "x", 2)?,
+    ]?;
+    let written = rule(alloc, "(rule (t x             y@_           z@7 y@7 z) 1)")?;
+    let replaced = rule(alloc, "(rule (t (macro-arg 0) (macro-arg 1) z@7 y@7 z) 1)")?;
+    let filled = rule(alloc, "(rule (t 7             _             z@7 y@7 z) 1)")?;
+    assert!(rt; written.pattern.make_macro_template(alloc, &names)? == replaced.pattern);
+    let Pattern::Term { args, .. } = &filled.pattern else {
+        return Err(Fail::from("no term"));
+    };
+    let both = replaced
+        .pattern
+        .subst_macro_args(alloc, args.get(..2).ok_or("too few")?)?;
+    assert!(rt; both.as_ref() == Some(&filled.pattern));
+    let one = replaced
+        .pattern
+        .subst_macro_args(alloc, args.get(..1).ok_or("too few")?)?;
+    assert!(rt; one.is_none());
     Ok(())
 }
 
+// The terms of a pattern and of an expression, an outer one before its parts, with their offsets.
 #[test]
-fn patterns(rt: HostRuntime) -> Result<(), Fail> {
+fn parts(rt: HostRuntime) -> Result<(), Fail> {
     let alloc = rt.alloc();
-    let tree = tree(alloc, &["x", "?0", "z@7"])?;
-    assert!(rt; tree.root_term().is_none() && tree.pos() == at(10));
-    assert!(rt; tree.clone()? == tree);
-    let term = term(alloc, &["x"])?;
-    assert!(rt; term.root_term() == Some(&ident(alloc, "t", 21)?) && tree != term);
+    let rule = rule(
+        alloc,
+        "(rule (and (t x z@(u 7)) _) (let ((a T (f b))) (g a (h))))",
+    )?;
+    assert!(rt; rule.pattern.root_term().is_none() && rule.pattern.pos() == at(6));
+    assert!(rt; rule.expr.pos() == at(28));
     let mut found = Vec::new(alloc);
-    tree.terms(&mut found)?;
-    assert!(rt; found.len() == 1 && found[0].0 == at(20));
-    Ok(())
-}
-
-// `(NAME ARGS ..)`
-fn call(alloc: Global, name: &str, args: &[&str], offset: usize) -> Result<Expr, AllocError> {
-    let mut parts = Vec::new(alloc);
-    for arg in args {
-        parts.push(Expr::Var {
-            name: ident(alloc, *arg, offset)?,
-            pos: at(offset),
-        })?;
-    }
-    Ok(Expr::Term {
-        sym: ident(alloc, name, offset)?,
-        args: parts,
-        pos: at(offset),
-    })
-}
-
-// `(let ((a T (f b))) (g a b))`
-fn block(alloc: Global) -> Result<Expr, AllocError> {
-    let mut defs = Vec::new(alloc);
-    defs.push(LetDef {
-        var: ident(alloc, "a", 7)?,
-        ty: ident(alloc, "T", 9)?,
-        val: Box::new(alloc, call(alloc, "f", &["b"], 12)?)?,
-        pos: at(6),
-    })?;
-    Ok(Expr::Let {
-        defs,
-        body: Box::new(alloc, call(alloc, "g", &["a", "b"], 20)?)?,
-        pos: at(1),
-    })
-}
-
-#[test]
-fn expressions(rt: HostRuntime) -> Result<(), Fail> {
-    let alloc = rt.alloc();
-    let expr = block(alloc)?;
-    assert!(rt; expr.pos() == at(1) && expr.clone()? == expr);
-    let mut found = Vec::new(alloc);
-    expr.terms(&mut found)?;
+    rule.pattern.terms(&mut found)?;
+    rule.expr.terms(&mut found)?;
     let mut text = String::new(alloc);
     for (pos, name) in &found {
-        text = format!(in alloc; "{text}{} at {}|", name.0, pos.offset)?;
+        text = format!(in alloc; "{text}{} {}|", name.0, pos.offset)?;
     }
-    assert_eq!(rt; text.as_str(), "f at 12|g at 20|");
+    assert_eq!(rt; text.as_str(), "t 11|u 18|f 39|g 47|h 52|");
     Ok(())
 }
 
-fn texts(alloc: Global, words: &[&str]) -> Result<Vec<String>, AllocError> {
+fn texts(alloc: Global, words: [&str; 2]) -> Result<Vec<String>, AllocError> {
     let mut texts = Vec::new(alloc);
     for word in words {
-        texts.push(String::from_str(alloc, *word)?)?;
+        texts.push(String::from_str(alloc, word)?)?;
     }
     Ok(texts)
 }
@@ -164,8 +81,8 @@ fn texts(alloc: Global, words: &[&str]) -> Result<Vec<String>, AllocError> {
 fn lines(rt: HostRuntime) -> Result<(), Fail> {
     let alloc = rt.alloc();
     let files = Files {
-        names: texts(alloc, &["a.isle", "b.isle"])?,
-        texts: texts(alloc, &["\n", "one\ntwo\n\nfour"])?,
+        names: texts(alloc, ["a.isle", "b.isle"])?,
+        texts: texts(alloc, ["\n", "one\ntwo\n\nfour"])?,
     };
     for (file, offset, want) in [
         (0, 0, "a.isle line 1"),
@@ -204,30 +121,19 @@ fn places_and_names(rt: HostRuntime) -> Result<(), Fail> {
     Ok(())
 }
 
+const KINDS: &str = "(type f (primitive u8)) (type f (enum A B)) (type f (struct (x u8)))
+(decl f (u8) u8) (rule 1 (f x) (let () 1)) (rule (f x) (if-let _ 1) (f)) (extractor (f) _)
+(convert u8 u16 f) (extern const $f u8) (extern constructor f g) (extern extractor f g) (pragma)";
+
 // Each clone is its definition, and no two of these are equal.
 #[test]
 fn definitions(rt: HostRuntime) -> Result<(), Fail> {
-    let alloc = rt.alloc();
-    let none = [].as_slice();
-    let rows = [
-        ("type", "f", none, "u8"),
-        ("enum", "f", ["A", "B"].as_slice(), ""),
-        ("struct", "f", ["x"].as_slice(), "u8"),
-        ("decl", "f", ["u8"].as_slice(), "u8"),
-        ("rule 1", "f", ["x"].as_slice(), "let"),
-        ("if-let", "f", ["x"].as_slice(), "(f)"),
-        ("extractor", "f", none, ""),
-        ("convert", "f", none, "u8"),
-        ("const", "f", none, "u8"),
-        ("extern constructor", "f", none, "g"),
-        ("extern extractor", "f", none, "g"),
-        ("other", "", none, ""),
-    ];
-    let defs = written(alloc, &rows)?;
-    for i in 0..defs.len() {
-        let copy = defs[i].clone()?;
-        for j in 0..defs.len() {
-            assert_eq!(rt; copy == defs[j], i == j, "{i} and {j}");
+    let defs = read(rt.alloc(), 0, KINDS)?;
+    assert_eq!(rt; defs.len(), 12);
+    for (i, def) in defs.iter().enumerate() {
+        let copy = def.clone()?;
+        for (j, other) in defs.iter().enumerate() {
+            assert_eq!(rt; copy == *other, i == j, "{i} and {j}");
         }
     }
     Ok(())

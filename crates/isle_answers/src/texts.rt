@@ -1,0 +1,44 @@
+//! Definitions as text, and what is answered to them.
+
+use isle_base::syntax::Def;
+use isle_printing::answers::{Answer, answer_to};
+use isle_printing::places::Places;
+use isle_text::errors::{ReadFault, TextError};
+use isle_text::read;
+use std::alloc::{AllocError, Global};
+
+/// How a text is lowered, and its errors shown.
+#[derive(Clone, Copy)]
+pub struct Asked {
+    /// Whether uses of internal extractors are replaced by their templates.
+    pub expand: bool,
+    /// Whether the place of an error is shown as its line and column. Else it is 0 and the number of the definition
+    /// that it lies in, where the text is read.
+    pub lines: bool,
+}
+
+/// The trees of a text's definitions, or one line for each error: those of lowering, or the one of reading.
+pub fn answer_to_text(alloc: Global, text: &str, asked: Asked) -> Result<Answer, AllocError> {
+    match read(alloc, 0, text) {
+        Ok(defs) => answer_to(alloc, &defs, asked.expand, places(text, &defs, asked)),
+        Err(ReadFault::Text(error)) => Ok(Answer::Errors(error_line(alloc, text, error)?)),
+        Err(ReadFault::Memory(error)) => Err(error),
+    }
+}
+
+// How the places in a text with these definitions are shown.
+fn places<'a>(text: &'a str, defs: &'a [Def], asked: Asked) -> Places<'a> {
+    if asked.lines {
+        Places::Lines(text)
+    } else {
+        Places::Definitions(defs)
+    }
+}
+
+// The line for what keeps a text from being read.
+fn error_line(alloc: Global, text: &str, error: TextError) -> Result<String, AllocError> {
+    let mut line = String::from_str(alloc, "syntax error at ")?;
+    Places::Lines(text).push(&mut line, error.pos)?;
+    write!(line, ": {error}\n")?;
+    Ok(line)
+}

@@ -1,0 +1,18 @@
+//! Prints the trees of definitions on standard input: `isle-lower [--no-expand]`.
+#![tactic(auto)]
+
+use isle_answers::run::run;
+use isle_printing::answers::no_memory;
+use isle_printing::words::words;
+use std::alloc::AllocError;
+use std::process::ExitCode;
+
+fn main(rt: HostRuntime) -> ExitCode {
+    let mut out = rt.stdout();
+    let mut err = rt.stderr();
+    let status = match words(&rt, rt.alloc()) {
+        Ok(words) => run(rt.alloc(), &words, rt.stdin(), &mut out, &mut err),
+        Err(AllocError) => no_memory(&mut err),
+    };
+    ExitCode::from(status)
+}

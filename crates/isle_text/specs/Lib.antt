@@ -1,0 +1,5 @@
+pub mod Within
+pub mod Faults
+pub mod Forms
+pub mod Tokens
+pub mod Lets

@@ -1,0 +1,47 @@
+//! Forms to definitions.
+#![tactic(auto, using(crate::proofs::Rows::definition_parts))]
+
+ghost use Rattle.std.specs.Prelude.{MatchResult};
+ghost use Rattle.isle_base.specs.SyntaxViews.{definition_view, definition_views};
+ghost use Rattle.isle_text.specs.Faults.{FaultIsWithin};
+ghost use Rattle.isle_text.specs.Forms.{FormIsWithin, FormsAreWithin};
+ghost use Rattle.isle_text.specs.Within.{AreWithin, DefinitionIsWithin};
+
+use crate::errors::{Mistake, ReadFault, fault};
+use crate::forms::Form;
+use crate::parts::headed;
+use crate::rules::rule;
+use crate::source::Source;
+use crate::terms::{conversion, declaration, external, extractor};
+use crate::types::type_definition;
+use isle_base::syntax::Def;
+
+/// The definitions that forms are.
+pub fn definitions(at: Source, forms: &[Form]) -> Result<Vec<Def>, ReadFault>
+    requires { FormsAreWithin at.file at.len forms.now }
+    ensures { MatchResult result (λ ds. AreWithin at.file at.len (definition_views ds.items)) (FaultIsWithin at.file at.len) }
+{
+    let mut defs = Vec::new(at.alloc);
+    for form in forms {
+        defs.push(definition(at, form)?)?;
+    }
+    Ok(defs)
+}
+
+// The definition that a form is.
+fn definition(at: Source, form: &Form) -> Result<Def, ReadFault>
+    requires { FormIsWithin at.file at.len form.now }
+    ensures { MatchResult result (λ d. DefinitionIsWithin at.file at.len (definition_view d)) (FaultIsWithin at.file at.len) }
+{
+    let (head, rest, pos, end) = headed(at, form, Mistake::Definition)?;
+    match head {
+        "type" => type_definition(at, rest, pos, end),
+        "decl" => declaration(at, rest, pos),
+        "rule" => rule(at, rest, pos, end),
+        "extractor" => extractor(at, rest, pos, end),
+        "extern" => external(at, rest, pos, end),
+        "convert" => conversion(at, rest, pos, end),
+        "pragma" => Ok(Def::Other),
+        _ => Err(fault(Mistake::Definition, pos)),
+    }
+}
