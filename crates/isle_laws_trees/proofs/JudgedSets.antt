@@ -1,17 +1,17 @@
 -- Rules of sets that name the sites in the order in which they are demanded: what must be computed of them.
 use Rattle.std.proofs.Common.{◌≡◌, ℕ, pos, zero, suc, ◌+◌, ◌<◌, ◌≤◌, Bool, true, false, not, ◌&&◌, ◌||◌, nat_lt, List, [], ◌∷◌, length, map, Some, slice_get, All, Contains, IsTrue, refl, sym, ap, ◌∙◌, subst, inl, inr, int_eq, arith, ltb-true}
-use Rattle.std.specs.List.{AllByRecursion, flat_map, list_all}
+use Rattle.std.specs.List.{flat_map, list_all}
 use Rattle.std.proofs.lemmas.Bool.{and_parts, and_from, or_cases, false≢true}
 use Rattle.std.proofs.lemmas.Bool.Decides.{Decides-int_eq}
 use Rattle.std.proofs.lemmas.Option.{none-some, same_Some}
-use Rattle.std.proofs.lemmas.List.Elements.{All-nil, All-from_recursion}
+use Rattle.std.proofs.lemmas.List.Elements.{All-nil}
 use Rattle.isle_model.specs.rules.Program.{numbers_from, Program, is_multi}
 use Rattle.isle_model.specs.lists.Names.{IsDistinct}
 use Rattle.isle_model.specs.sites.Sites.{Site, Constraint, SetRule, SiteSet, SiteTerm, unfold_site}
 use Rattle.isle_model.specs.sites.Demands.{has_site}
 use Rattle.isle_model.specs.sites.Closure.{Closed}
 use Rattle.isle_model.specs.sites.Overlap.{BuiltRule, built_rules}
-use Rattle.isle_model.proofs.Members.{nothing_in, in_head, in_tail, member_from_get, each_passes, all_members, in_map, from_map, member_found, member_is_in}
+use Rattle.isle_model.proofs.Members.{nothing_in, member_from_get, each_passes, all_members, in_map, from_map, member_found, member_is_in}
 use Rattle.isle_laws_trees.proofs.WellBuilt.{set_passes, passes_well_built}
 use Rattle.isle_laws_trees.proofs.Exact.{not_exact}
 use Rattle.isle_laws_trees.proofs.Few.{members, joined_member}
