@@ -1,5 +1,5 @@
 -- The multi sample: its rules and its set are collected, the world serves it, and the run of its tree collects the bag.
-use Rattle.std.proofs.Common.{◌≡◌, ◌∷◌, [], ◌<◌, ◌∙◌, ℕ, pos, zero, suc, false, List, Some, length, slice_get, All, Contains, IsTrue, refl, sym, ap, subst, inl, inr, arith, is_some}
+use Rattle.std.proofs.Common.{◌≡◌, ◌∷◌, [], ◌<◌, ◌∙◌, ℕ, pos, zero, suc, true, false, List, Some, length, slice_get, All, Contains, IsTrue, refl, sym, ap, subst, inl, inr, arith, is_some}
 use Rattle.std.proofs.lemmas.Bool.{false≢true}
 use Rattle.std.proofs.lemmas.List.Elements.{All-nil, All-cons}
 use Rattle.std.proofs.lemmas.List.Sorted.{IsPermutation-refl, length_permutation, sum_by-IsPermutation}
@@ -13,11 +13,25 @@ use Rattle.isle_model.specs.sites.Sites.{Constraint, SetRule, is_int}
 use Rattle.isle_model.specs.trees.Collects.{HasCollectedResults, IsCollectedSet, ServesSet, content_at}
 use Rattle.isle_model.specs.trees.Places.{fields_of, joins_in, waits}
 use Rattle.isle_model.specs.trees.Run.{content_fields}
+use Rattle.isle_model.specs.claims.Environments.{types_read}
+use Rattle.isle_model.specs.sites.Overlap.{built_rule}
+use Rattle.isle_laws_lists.proofs.FormedRules.{rules_are_formed}
+use Rattle.isle_laws_lists.proofs.TypedRules.{lists_agree}
+use Rattle.isle_laws_demands.proofs.matching.BuiltMatches.{built_sets_match_by_demands_lem}
+use Rattle.isle_laws_demands.proofs.results.Held.{results_are_held_lem}
+use Rattle.isle_laws_demands.proofs.served.ServesSets.{served_multi_sets_serve_lem}
+use Rattle.isle_laws_demands.proofs.visits.Collected.{are_collected_lem}
+use Rattle.isle_laws_demands.proofs.visits.Declared.{no_rule_asks_and_goes_over_lem}
+use Rattle.isle_laws_demands.proofs.visits.Elaborated.{elaborated_rules_demand_gates_lem}
+use Rattle.isle_laws_demands.proofs.visits.Priorities.{one_priority_lem}
+use Rattle.isle_laws_demands.proofs.visits.WholeDemands.{built_demands_are_whole_lem}
 use Rattle.isle_laws_runs.proofs.runs.Collected.{sound_trees_collect_lem}
+use Rattle.isle_laws_trees.proofs.headline.Collecting.{CollectingLaws, best_trees_collect_the_bag_lem}
+use Rattle.isle_examples.proofs.Served.{multi_served}
 use Rattle.isle_examples.proofs.SampleStages.{multi_stages}
 use Rattle.isle_examples.proofs.SetStages.{collected}
-use Rattle.isle_examples.specs.MeaningForms.{each, v}
-use Rattle.isle_examples.specs.Multi.{LoopsMayBindAgain, MultiCollects, MultiIsCollected, MultiIsNot, MultiSetCollects, each_m, each_of_m, multi_meaning, multi_program, multi_rules, multi_set, multi_tree, multi_world, nine, nine_for_one}
+use Rattle.isle_examples.specs.MeaningForms.{each, given, v}
+use Rattle.isle_examples.specs.Multi.{LoopsMayBindAgain, MultiCollects, MultiIsCollected, MultiIsNot, MultiResultsAreHeld, MultiSetCollects, MultiTreeCollects, each_m, each_of_m, multi_defs, multi_meaning, multi_program, multi_rules, multi_set, multi_tree, multi_world, nine, nine_for_one}
 
 -- 1. collected
 rules_collected : All (HasCollectedResults multi_program) multi_rules.rules
@@ -77,6 +91,26 @@ multi_is_collected = (rules_collected, set_collected, set_served)
 
 pub multi_set_collects : MultiSetCollects
 multi_set_collects = sound_trees_collect_lem multi_set multi_tree (multi_world (pos 1)) multi_is_collected.1 multi_is_collected.2 refl multi_stages.judged.sound
+
+-- its best tree collects the bag
+laws : CollectingLaws
+laws = record {
+  collected = are_collected_lem rules_are_formed lists_agree (elaborated_rules_demand_gates_lem rules_are_formed lists_agree);
+  serve = served_multi_sets_serve_lem;
+  one_priority = one_priority_lem rules_are_formed lists_agree;
+  apart = no_rule_asks_and_goes_over_lem;
+  match = built_sets_match_by_demands_lem (built_demands_are_whole_lem rules_are_formed lists_agree);
+  results = results_are_held_lem;
+}
+
+pub multi_tree_collects : MultiTreeCollects
+multi_tree_collects =
+    best_trees_collect_the_bag_lem laws (types_read multi_defs) multi_defs true multi_rules 1 multi_set multi_stages.accepted.0.read.elaborated multi_stages.built.0 multi_stages.accepted.0.checkable multi_tree multi_stages.judged.best
+
+pub multi_results_are_held : MultiResultsAreHeld
+multi_results_are_held k e pick matched =
+    results_are_held_lem (types_read multi_defs) multi_defs true multi_rules 1 multi_set multi_stages.accepted.0.read.elaborated multi_stages.built.0 multi_meaning (given (pos 1)) refl multi_served.0 multi_served.1
+    (built_rule multi_program [] each_m) each_of_m k e (record { place = 0; typed = refl; built = refl }) refl pick matched
 
 -- 3. what the run collects
 -- 9 stands last in the bag, and first in the run

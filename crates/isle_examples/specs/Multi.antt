@@ -4,20 +4,20 @@
 --   (decl multi f (u8) u8)
 --   (rule (f x) (m x))
 --   (rule (f 1) 9)
-use Rattle.std.specs.Prelude.{◌≡◌, ◌∷◌, [], ℕ, ℤ, pos, true, false, List, None, codes, All}
+use Rattle.std.specs.Prelude.{◌≡◌, ◌∷◌, [], ℕ, ℤ, pos, true, false, List, None, Some, codes, All, Contains}
 use Rattle.isle_model.specs.claims.Layers.{BindsBeforeUse, own_program}
 use Rattle.isle_model.specs.lists.Elaborated.{TypedRules}
 use Rattle.isle_model.specs.lists.Syntax.{Definition, declaration}
 use Rattle.isle_model.specs.lists.Tables.{TermEntry}
 use Rattle.isle_model.specs.rules.Meaning.{Meaning, many}
 use Rattle.isle_model.specs.rules.Outcome.{ran_through}
-use Rattle.isle_model.specs.rules.Picks.{bag}
+use Rattle.isle_model.specs.rules.Picks.{Pick, SitedVars, bag, matches_under, picks, right_side_under}
 use Rattle.isle_model.specs.rules.Program.{Program}
 use Rattle.isle_model.specs.rules.Typed.{TypedRule, make_int, make_term, make_var, match_int}
 use Rattle.isle_model.specs.sites.Demands.{demands_of}
 use Rattle.isle_model.specs.sites.Serves.{Serves, TellsConstantsApart}
 use Rattle.isle_model.specs.sites.Sites.{SetRule, SiteSet, SiteTerm, argument_site, constructor_call, constructor_site, iterator_site, pick_of}
-use Rattle.isle_model.specs.trees.Collects.{Collects, HasCollectedResults, IsCollectedSet, ServesSet, set_bag}
+use Rattle.isle_model.specs.trees.Collects.{Collects, CollectsTheBag, HasCollectedResults, IsCollectedSet, ServesSet, as_list, content_at, set_bag}
 use Rattle.isle_model.specs.trees.Run.{World, run, world_of}
 use Rattle.isle_model.specs.trees.Trees.{Tree, loop_at, match_at, no_step, step}
 use Rattle.isle_examples.specs.MeaningForms.{all_of, alone, each, given, literal, mute}
@@ -132,3 +132,13 @@ MultiIsCollected = All (HasCollectedResults multi_program) multi_rules.rules × 
 -- so the law on runs of multi terms applies: on 1, the run of the tree collects the bag of the set
 abbrev pub MultiSetCollects : Type 0
 MultiSetCollects = Collects (run multi_tree (multi_world (pos 1))) (set_bag multi_set (multi_world (pos 1)))
+
+-- and so does the law on best trees: on all well-typed arguments, and under every meaning that serves the rules
+abbrev pub MultiTreeCollects : Type 0
+MultiTreeCollects = CollectsTheBag multi_program 1 multi_set.sites multi_tree
+
+-- under each pick of the first rule on 1, what its right side gives is what the site of its result holds
+abbrev pub MultiResultsAreHeld : Type 0
+MultiResultsAreHeld =
+    (k : Pick) (e : SitedVars) → Contains (picks multi_program multi_meaning (given (pos 1)) each_m) k → matches_under multi_program multi_meaning k each_m (given (pos 1)) ≡ Some e
+    → (right_side_under multi_program multi_meaning k each_m e).results ≡ as_list (content_at (multi_world (pos 1)) k 2)

@@ -24,7 +24,7 @@ ghost use Rattle.isle_examples.specs.HandedIn.{IllFormed, NamesGoOn, OwnTypesDoN
 ghost use Rattle.isle_examples.specs.Impure.{ImpureIsCalled, impure_sample};
 ghost use Rattle.isle_examples.specs.LeftOver.{LeftOverCollects, LeftOverIsCollected, left_over_defs, left_over_rules, left_over_set, left_over_tree};
 ghost use Rattle.isle_examples.specs.MeaningForms.{DoesNotServe, alone, answers, blank, ends_with, just_number, v};
-ghost use Rattle.isle_examples.specs.Multi.{LoopsMayBindAgain, MultiCollects, MultiDemands, MultiGives, MultiIsCollected, MultiIsNot, MultiIsServed, MultiSetCollects, multi_defs, multi_mute, multi_program, multi_sample, multi_terms};
+ghost use Rattle.isle_examples.specs.Multi.{LoopsMayBindAgain, MultiCollects, MultiDemands, MultiGives, MultiIsCollected, MultiIsNot, MultiIsServed, MultiResultsAreHeld, MultiSetCollects, MultiTreeCollects, multi_defs, multi_mute, multi_program, multi_sample, multi_terms};
 ghost use Rattle.isle_examples.specs.MultiCalls.{DemandsGatesThough, Gives, LeavesACallUnused, UnusedGateGives, call_in_call, calls_program, extracted_twice, impure_twice, pure_twice, unused_condition, unused_let, used_condition};
 ghost use Rattle.isle_examples.specs.MultiExt.{MultiExtractorsStand, multi_ext_sample};
 ghost use Rattle.isle_examples.specs.NamedConstants.{constants_defs, constants_rules};
@@ -292,13 +292,15 @@ pub fn multi_gives()
     ensures exchanged { MultiIsNot (pos 9 ∷ pos 9 ∷ pos 4 ∷ []) }
 {}
 
-/// Its meaning has what its rules ask, and its world serves its set, so the law on runs of multi terms applies;
-/// meanings without literals or calls don't serve.
-#[tactic(auto, using(crate::proofs::Served::multi_served, crate::proofs::Served::blank_multi, crate::proofs::Served::mute_multi, crate::proofs::Multi::multi_is_collected, crate::proofs::Multi::multi_set_collects))]
+/// Its meaning has what its rules ask, and its world serves its set, so the laws on runs of multi terms and on best trees
+/// apply, and the results are held; meanings without literals or calls don't serve.
+#[tactic(auto, using(crate::proofs::Served::multi_served, crate::proofs::Served::blank_multi, crate::proofs::Served::mute_multi, crate::proofs::Multi::multi_is_collected, crate::proofs::Multi::multi_set_collects, crate::proofs::Multi::multi_results_are_held))]
 pub fn multi_is_served()
     ensures meaning { MultiIsServed }
     ensures set { MultiIsCollected }
     ensures collects { MultiSetCollects }
+    ensures best_tree { MultiTreeCollects }
+    ensures results { MultiResultsAreHeld }
     ensures without_all { DoesNotServe multi_program blank (pos 1) }
     ensures without_calls { DoesNotServe multi_program multi_mute (pos 1) }
 {}

@@ -25,12 +25,12 @@ use Rattle.isle_model.specs.trees.Places.{is_in, below, all_below}
 use Rattle.isle_model.specs.trees.Run.{World, run, world_of}
 use Rattle.isle_model.specs.trees.Tests.{match_test, equal_test, loop_test, needs}
 use Rattle.isle_model.specs.trees.WellBuilt.{tests_site, IsWellBuiltRule, IsWellBuilt}
-use Rattle.isle_model.specs.trees.Collects.{calls_in, content_at, demands_hold, as_list, result_in, sites_of_rule, calls_gone_over, set_bag, IsCollectedRule, IsCollectedSet, ServesSet, Collects, HasCollectedResults, CollectsTheBag}
+use Rattle.isle_model.specs.trees.Collects.{calls_in, content_at, demands_hold, as_list, result_in, sites_of_rule, calls_gone_over, set_bag, IsCollectedRule, IsCollectedSet, ServesSet, Collects, HasCollectedResults}
 use Rattle.isle_model.specs.trees.SetRuns.{tested_sites}
 use Rattle.isle_model.specs.trees.Best.{IsBestTree}
 use Rattle.isle_model.specs.claims.Environments.{TypesRead, IsElaborated, program_of}
 use Rattle.isle_model.specs.claims.Layers.{IsCheckable}
-use Rattle.isle_model.specs.claims.SetMeanings.{BuiltSetsAreCollected, OfBuiltSets}
+use Rattle.isle_model.specs.claims.SetMeanings.{BuiltSetsAreCollected}
 use Rattle.isle_model.proofs.Elements.{in_from_contains, contains_from_in}
 use Rattle.isle_model.proofs.Bags.{flat_map_same}
 use Rattle.isle_model.proofs.DistinctJoined.{distinct_filter, distinct_map}
