@@ -14,7 +14,6 @@ ghost use Rattle.isle_laws_demands.specs.BuiltLaws.{ClosingsOfBuiltRulesAreWhole
 ghost use Rattle.isle_laws_demands.specs.MatchLaws.{VisitsMatch, UnreachableRulesNeverMatch, ClosedDemandsHoldAlike, BuiltDemandsHoldAlike, BuiltSetsMatchByDemands, BuiltRulesAreToldApart, RulesWithoutMultiGoOverNoCalls, BuiltSetsHoldResults};
 ghost use Rattle.isle_laws_demands.specs.OutcomeLaws.{TakenRulesGiveTheirOutcome, TakenRulesGiveTheirOutcomeUnderPicks, BuiltSetsMeanTheirRules};
 ghost use Rattle.isle_laws_demands.specs.RefusalLaws.{ReportsNamePassedLimits};
-ghost use Rattle.isle_laws_demands.specs.SetOverlapLaws.{SetRulesOverlapAsTheirDemands, OverlapOfSetRulesIsSymmetric, SetRulesConstrainAsTheirDemands};
 ghost use Rattle.isle_laws_demands.specs.ServeLaws.{ServedSetsServeTests, ServedMultiSetsServe};
 
 use isle_laws_lists::{lists_agree, rules_are_formed};
