@@ -3,24 +3,26 @@
 use cranelift_isle::lower::{Lowered, LoweredTerm};
 use cranelift_isle::serialize::{Block, ControlFlow, EvalStep, MatchArm};
 use cranelift_isle::trie_again::{Binding, BindingId, Constraint};
-use isle_rules::TermEnv;
-use isle_types::{Sym, TermId, Type, TypeEnv, TypeId, VariantId};
+use isle_terms::Term;
+use isle_types::{Sym, TermId, Type, TypeId, VariantId};
 use std::alloc::{AllocError, Global};
 
 /// The names of what trees speak of. A number that has no name prints as `?`; no tree of definitions
 /// holds one.
 #[derive(Clone, Copy)]
 pub struct Names<'a> {
-    /// The names and the types.
-    pub tyenv: &'a TypeEnv,
+    /// The names, by their numbers.
+    pub syms: &'a [String],
+    /// The types.
+    pub types: &'a [Type],
     /// The terms.
-    pub termenv: &'a TermEnv,
+    pub terms: &'a [Term],
 }
 
 impl<'a> Names<'a> {
     // A name by its number.
     fn sym(&self, sym: Sym) -> &'a str {
-        match self.tyenv.syms.get(sym.index()) {
+        match self.syms.get(sym.index()) {
             Some(name) => name.as_str(),
             None => "?",
         }
@@ -28,7 +30,7 @@ impl<'a> Names<'a> {
 
     // The name of a type.
     fn ty(&self, ty: TypeId) -> &'a str {
-        match self.tyenv.types.get(ty.index()) {
+        match self.types.get(ty.index()) {
             Some(Type::Builtin(builtin)) => builtin.name(),
             Some(
                 Type::Primitive(_, name, _) | Type::Enum { name, .. } | Type::Struct { name, .. },
@@ -39,7 +41,7 @@ impl<'a> Names<'a> {
 
     // The name of a variant, without that of its enum.
     fn variant(&self, ty: TypeId, variant: VariantId) -> &'a str {
-        match self.tyenv.types.get(ty.index()) {
+        match self.types.get(ty.index()) {
             Some(Type::Enum { variants, .. }) => match variants.get(variant.index()) {
                 Some(variant) => self.sym(variant.name),
                 None => "?",
@@ -50,7 +52,7 @@ impl<'a> Names<'a> {
 
     // The name of a term.
     fn term(&self, term: TermId) -> &'a str {
-        match self.termenv.terms.get(term.index()) {
+        match self.terms.get(term.index()) {
             Some(term) => self.sym(term.name),
             None => "?",
         }
@@ -60,8 +62,9 @@ impl<'a> Names<'a> {
 /// The text of all terms' trees.
 pub fn trees(alloc: Global, lowered: &Lowered) -> Result<String, AllocError> {
     let names = Names {
-        tyenv: &lowered.tyenv,
-        termenv: &lowered.termenv,
+        syms: &lowered.tyenv.syms,
+        types: &lowered.tyenv.types,
+        terms: &lowered.termenv.terms,
     };
     let mut out = String::new(alloc);
     for term in &lowered.terms {

@@ -1,5 +1,5 @@
 // Sets that merges make, of numbers that are equal modulo 10. A picture has for each digit the letter of its set, and a point
-// where it is in none. Each test but `long_runs` passes as it stands, and with `rt try --test --fail-alloc N` for every N: a
+// where it is in none. Each test but the last two passes as it stands, and with `rt try --test --fail-alloc N` for every N: a
 // call that is refused memory must leave the sets as they were, and is then made again.
 ghost use Rattle.std.specs.Prelude.{◌<◌};
 
@@ -77,13 +77,26 @@ fn copy_of<C: Clone>(value: &C) -> Result<C, AllocError> {
     }
 }
 
+// Merges as a row says, and looks at the sets and at a copy made before.
+fn merge_beside_a_copy(
+    rt: &impl Abort,
+    sets: &mut DisjointSets<LastDigit>,
+    before: &[u8; 10],
+    row: (u32, u32, &[u8; 10]),
+) -> Result<(), AllocError> {
+    let copy = copy_of(sets)?;
+    merge(rt, sets, before, row.0, row.1)?;
+    assert!(rt; shows(sets, row.2), "{} and {}", row.0, row.1);
+    assert!(rt; shows(&copy, before), "before {} and {}", row.0, row.1);
+    Ok(())
+}
+
 // Two sets, a merge that adds nothing, one set of both, members on either side, and the shorter set first.
 #[test]
 fn merges(rt: HostRuntime) -> Result<(), Fail> {
     let mut sets = DisjointSets::new(rt.alloc());
     let mut before = b"..........";
-    assert!(rt; shows(&sets, before));
-    for (x, y, picture) in [
+    for row in [
         (1, 2, b".aa......."),
         (3, 4, b".aabb....."),
         (12, 11, b".aabb....."),
@@ -94,14 +107,25 @@ fn merges(rt: HostRuntime) -> Result<(), Fail> {
         (10, 6, b"baaaa.bbbb"),
         (4, 9, b"aaaaa.aaaa"),
     ] {
-        let copy = copy_of(&sets)?;
-        merge(&rt, &mut sets, before, x, y)?;
-        assert!(rt; shows(&sets, picture), "{x} and {y}");
-        assert!(rt; shows(&copy, before), "before {x} and {y}");
-        before = picture;
+        merge_beside_a_copy(&rt, &mut sets, before, row)?;
+        before = row.2;
     }
     assert_eq!(rt; sets.find_mut(LastDigit(3)), sets.find(LastDigit(8)));
     assert_eq!(rt; sets.find_mut(LastDigit(5)), None);
+    Ok(())
+}
+
+// Takes a number's set away, and looks at its members and at the sets that are left.
+fn expect_removed(
+    rt: &impl Abort,
+    sets: &mut DisjointSets<LastDigit>,
+    before: &[u8; 10],
+    row: (u32, &[u32], &[u8; 10]),
+) -> Result<(), AllocError> {
+    let set = removed(rt, sets, before, row.0)?;
+    let members = set.iter().map(|member| member.0);
+    assert!(rt; members.eq(row.1.iter().copied()), "of {}", row.0);
+    assert!(rt; shows(sets, row.2), "without {}", row.0);
     Ok(())
 }
 
@@ -110,48 +134,47 @@ fn merges(rt: HostRuntime) -> Result<(), Fail> {
 fn removals(rt: HostRuntime) -> Result<(), Fail> {
     let mut sets = DisjointSets::new(rt.alloc());
     let mut before = b"..........";
-    for (x, y, picture) in [
+    for row in [
         (1, 2, b".aa......."),
         (5, 6, b".aa..bb..."),
         (2, 5, b".aa..aa..."),
         (7, 9, b".aa..aab.b"),
     ] {
-        merge(&rt, &mut sets, before, x, y)?;
-        before = picture;
+        merge_beside_a_copy(&rt, &mut sets, before, row)?;
+        before = row.2;
     }
-    for (number, members, picture) in [
-        (9, [7, 9].as_slice(), b".aa..aa..."),
-        (19, [].as_slice(), b".aa..aa..."),
-        (16, [1, 2, 5, 6].as_slice(), b".........."),
-    ] {
-        let set = removed(&rt, &mut sets, before, number)?;
-        assert!(rt;
-            set.iter()
-                .map(|member| member.0)
-                .eq(members.iter().copied())
-        );
-        assert!(rt; shows(&sets, picture), "without {number}");
-        before = picture;
-    }
-    merge(&rt, &mut sets, before, 12, 3)?;
-    assert!(rt; shows(&sets, b"..aa......"));
+    expect_removed(&rt, &mut sets, before, (9, &[7, 9], b".aa..aa..."))?;
+    expect_removed(&rt, &mut sets, b".aa..aa...", (19, &[], b".aa..aa..."))?;
+    expect_removed(
+        &rt,
+        &mut sets,
+        b".aa..aa...",
+        (16, &[1, 2, 5, 6], b".........."),
+    )?;
+    merge_beside_a_copy(&rt, &mut sets, b"..........", (12, 3, b"..aa......"))?;
     Ok(())
 }
 
-// Sets that come and go leave one place, and a long chain is one set.
+// Sets that come and go leave one place.
 #[test]
-fn long_runs(rt: HostRuntime) -> Result<(), Fail> {
-    let alloc = rt.alloc();
-    let mut sets: DisjointSets<u32> = DisjointSets::new(alloc);
+fn places_are_used_again(rt: HostRuntime) -> Result<(), Fail> {
+    let mut sets: DisjointSets<u32> = DisjointSets::new(rt.alloc());
     for x in 0..10_000 {
         sets.merge(x, x + 10_000)?;
         assert_eq!(rt; sets.remove_set_of(x)?.len(), 2);
     }
-    let text = format!(in alloc; "{sets:?}")?;
+    let text = format!(in rt.alloc(); "{sets:?}")?;
     assert_eq!(rt;
         text.as_str(),
         "DisjointSets { classes: {}, members: [[]], free: [0] }"
     );
+    Ok(())
+}
+
+// A long chain is one set.
+#[test]
+fn a_long_chain(rt: HostRuntime) -> Result<(), Fail> {
+    let mut sets: DisjointSets<u32> = DisjointSets::new(rt.alloc());
     for x in 0..10_000 {
         sets.merge(x, x + 1)?;
     }

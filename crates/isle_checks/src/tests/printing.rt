@@ -67,8 +67,9 @@ fn printed(alloc: Global, bindings: &[Binding], block: &Block) -> Result<String,
     let mut tyenv = TypeEnv::from_ast(alloc, &defs)?;
     let termenv = TermEnv::from_ast(alloc, &mut tyenv, &defs, true)?;
     let names = Names {
-        tyenv: &tyenv,
-        termenv: &termenv,
+        syms: &tyenv.syms,
+        types: &tyenv.types,
+        terms: &termenv.terms,
     };
     let mut out = String::new(alloc);
     print_bindings(&mut out, names, bindings)?;

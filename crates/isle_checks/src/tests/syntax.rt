@@ -21,30 +21,43 @@ fn rule(alloc: Global, text: &str) -> Result<Rule, Fail> {
     }
 }
 
-// What stands for one another stands in one column.
+// The pattern of the rule that a text spells.
+fn pattern(alloc: Global, text: &str) -> Result<Pattern, Fail> {
+    Ok(rule(alloc, text)?.pattern.clone()?)
+}
+
+// A template, and the pattern that it is made of. What stands for one another stands in one column, here and below.
+const WRITTEN: &str = "(rule (t x             y@_           z@7 y@7 z) 1)";
+
+const TEMPLATE: &str = "(rule (t (macro-arg 0) (macro-arg 1) z@7 y@7 z) 1)";
+
 #[test]
 fn templates(rt: HostRuntime) -> Result<(), Fail> {
     let alloc = rt.alloc();
-    let names = vec![in alloc;
-        ident(alloc, "x", 0)?,
-        ident(alloc, "y", 1)?,
-        ident(alloc, "x", 2)?,
-    ]?;
-    let written = rule(alloc, "(rule (t x             y@_           z@7 y@7 z) 1)")?;
-    let replaced = rule(alloc, "(rule (t (macro-arg 0) (macro-arg 1) z@7 y@7 z) 1)")?;
-    let filled = rule(alloc, "(rule (t 7             _             z@7 y@7 z) 1)")?;
-    assert!(rt; written.pattern.make_macro_template(alloc, &names)? == replaced.pattern);
-    let Pattern::Term { args, .. } = &filled.pattern else {
+    let mut names = Vec::new(alloc);
+    for (offset, name) in ["x", "y", "x"].iter().enumerate() {
+        names.push(ident(alloc, *name, offset)?)?;
+    }
+    let made = rule(alloc, WRITTEN)?
+        .pattern
+        .make_macro_template(alloc, &names)?;
+    assert!(rt; made == pattern(alloc, TEMPLATE)?);
+    Ok(())
+}
+
+#[test]
+fn arguments_of_templates(rt: HostRuntime) -> Result<(), Fail> {
+    let alloc = rt.alloc();
+    let template = pattern(alloc, TEMPLATE)?;
+    let filled = pattern(alloc, "(rule (t 7             _             z@7 y@7 z) 1)")?;
+    let Pattern::Term { args, .. } = &filled else {
         return Err(Fail::from("no term"));
     };
-    let both = replaced
-        .pattern
-        .subst_macro_args(alloc, args.get(..2).ok_or("too few")?)?;
-    assert!(rt; both.as_ref() == Some(&filled.pattern));
-    let one = replaced
-        .pattern
-        .subst_macro_args(alloc, args.get(..1).ok_or("too few")?)?;
-    assert!(rt; one.is_none());
+    for count in 0..3 {
+        let given = args.get(..count).ok_or("too few")?;
+        let made = template.subst_macro_args(alloc, given)?;
+        assert!(rt; made.as_ref() == Some(&filled) || made.is_none() && count < 2);
+    }
     Ok(())
 }
 

@@ -13,6 +13,7 @@ use isle_types::{
     TypeId, VarId, Variant, VariantId,
 };
 use std::alloc::{AllocError, Global};
+use std::process::Abort;
 use std::test::Fail;
 
 fn at(offset: usize) -> Pos {
@@ -23,6 +24,11 @@ fn ident(alloc: Global, text: &str) -> Result<Ident, AllocError> {
     Ok(Ident(String::from_str(alloc, text)?, at(9)))
 }
 
+// The type table of a text.
+fn type_env(alloc: Global, text: &str) -> Result<TypeEnv, Fail> {
+    Ok(TypeEnv::from_ast(alloc, &read(alloc, 0, text)?)?)
+}
+
 #[test]
 fn built_in_types(rt: HostRuntime) -> Result<(), Fail> {
     let alloc = rt.alloc();
@@ -30,14 +36,25 @@ fn built_in_types(rt: HostRuntime) -> Result<(), Fail> {
     assert_eq!(rt; env.types.len(), 13);
     for (number, builtin) in BuiltinType::ALL.iter().enumerate() {
         let name = ident(alloc, builtin.name())?;
-        let ty = Type::Builtin(*builtin);
-        assert_eq!(rt; env.intern(&name), Some(Sym(number)));
-        assert_eq!(rt; env.get_type_by_name(&name), Some(ty.id()));
-        assert_eq!(rt; ty.id(), TypeId(number));
-        assert_eq!(rt; ty.name(&env), builtin.name());
-        assert!(rt; ty.pos().is_none() && !ty.is_prim() && ty.is_int() == (number != 0));
+        expect_builtin(&rt, &env, &name, number, *builtin);
     }
     Ok(())
+}
+
+// What is asked of a built-in type, by its name, its number and itself.
+fn expect_builtin(
+    rt: &impl Abort,
+    env: &TypeEnv,
+    name: &Ident,
+    number: usize,
+    builtin: BuiltinType,
+) {
+    let ty = Type::Builtin(builtin);
+    assert_eq!(rt; env.intern(name), Some(Sym(number)));
+    assert_eq!(rt; env.get_type_by_name(name), Some(ty.id()));
+    assert_eq!(rt; ty.id(), TypeId(number));
+    assert!(rt; ty.name(env) == name.0.as_str() && builtin.name() == name.0.as_str());
+    assert!(rt; ty.pos().is_none() && !ty.is_prim() && ty.is_int() == (number != 0));
 }
 
 // The names after those of the built-in types, in the order of their ids: the first is id 13.
@@ -247,22 +264,28 @@ fn a_term_with_a_rule(rt: HostRuntime) -> Result<(), Fail> {
     Ok(())
 }
 
+// The typed rules of a text.
+fn term_env(alloc: Global, text: &str) -> Result<TermEnv, Fail> {
+    let defs = read(alloc, 0, text)?;
+    let mut tyenv = TypeEnv::from_ast(alloc, &defs)?;
+    Ok(TermEnv::from_ast(alloc, &mut tyenv, &defs, true)?)
+}
+
 // A term's only rule has its name.
 #[test]
 fn typed_rules(rt: HostRuntime) -> Result<(), Fail> {
     let alloc = rt.alloc();
     let text = "(decl f (u8) u8) (rule 1 (f 1) 10) (rule (f x) x) (decl g () u8) (rule (g) 1)";
-    let defs = read(alloc, 0, text)?;
-    let mut tyenv = TypeEnv::from_ast(alloc, &defs)?;
-    let env = TermEnv::from_ast(alloc, &mut tyenv, &defs, true)?;
+    let env = term_env(alloc, text)?;
     let wildcard = Box::new(alloc, Pattern::Wildcard(TypeId::U8))?;
-    let one = env.rules.first().ok_or("no rule")?;
+    let bound = Pattern::BindPattern(TypeId::U8, VarId(0), wildcard);
+    let [one, other, _] = env.rules.as_slice() else {
+        return Err(Fail::from("not three rules"));
+    };
     assert!(rt; one.id == RuleId(0) && one.prio == 1 && one.name.is_none());
     assert!(rt; one.args.first() == Some(&Pattern::ConstInt(TypeId::U8, 1)));
     assert!(rt; one.rhs == Expr::ConstInt(TypeId::U8, 10));
-    let other = env.rules.get(1).ok_or("no rule")?;
     assert!(rt; other.id == RuleId(1) && other.prio == 0 && other.vars.len() == 1);
-    let bound = Pattern::BindPattern(TypeId::U8, VarId(0), wildcard);
     assert!(rt; other.args.first() == Some(&bound));
     assert!(rt; other.rhs == Expr::Var(TypeId::U8, VarId(0)));
     assert!(rt; env.rule_map.len() == 1 && env.rule_map.get(&Sym(14)) == Some(&RuleId(2)));
