@@ -10,3 +10,12 @@ pub mod MapSteps
 pub mod NameSteps
 pub mod EnvEnding
 pub mod FormSteps
+mod UsedTerms
+pub mod BoundVars
+pub mod PatternRunSteps
+pub mod VisitSizes
+pub mod PatternRunForms
+pub mod ExprRunSteps
+pub mod ExprRunForms
+pub mod OrderedVars
+pub mod RuleRunSteps

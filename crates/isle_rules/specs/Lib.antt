@@ -6,3 +6,9 @@ pub mod Numbering
 pub mod Elaborating
 pub mod RuleNaming
 pub mod Forms
+pub mod VisitAnswers
+pub mod VisitRuns
+pub mod PatternRuns
+pub mod ExprRuns
+pub mod RuleRuns
+pub mod Visitable

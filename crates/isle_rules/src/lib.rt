@@ -2,18 +2,24 @@
 #![tactic(auto)]
 
 mod elaboration;
+mod expr_visits;
 mod exprs;
 mod forms;
 mod numbering;
+mod pattern_visits;
 mod patterns;
 mod reports;
 mod rule_names;
+mod rule_visits;
 mod rules;
 mod term_env;
 mod visit_fault;
+mod visited_terms;
+mod visitors;
 
 pub use exprs::Expr;
 pub use patterns::Pattern;
 pub use rules::{BoundVar, IfLet, Rule};
 pub use term_env::TermEnv;
 pub use visit_fault::VisitFault;
+pub use visitors::{Body, ExprVisitor, PatternVisitor, RuleVisitor, VisitedExpr};
