@@ -3,3 +3,4 @@ pub mod TermViews
 pub mod TermTables
 pub mod Reading
 pub mod Stages
+pub mod SignatureViews
