@@ -4,3 +4,5 @@ pub mod TermTables
 pub mod Reading
 pub mod Stages
 pub mod SignatureViews
+pub mod Signing
+pub mod Standing

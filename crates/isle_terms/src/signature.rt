@@ -75,7 +75,9 @@ impl Term {
                 (inside_names(alloc, "extractor_", name)?, false)
             }
             ExtractorKind::ExternalExtractor {
-                name, infallible, ..
+                name,
+                infallible,
+                ..
             } => (outside_names(alloc, tyenv.text_of(*name))?, *infallible),
         };
         let ret_kind = extractor_kind_of(*flags, infallible);
@@ -152,11 +154,11 @@ fn signature(
     ret_kind: ReturnKind,
 ) -> ExternalSig
     ensures { signature_view result ≡ record {
-        func_name = string_bytes names.own;
-        full_name = string_bytes names.full;
-        param_tys = map (λ t. t.0) param_tys.items;
-        ret_tys = map (λ t. t.0) ret_tys.items;
-        ret_kind = giving_view ret_kind;
+      func_name = string_bytes names.own;
+      full_name = string_bytes names.full;
+      param_tys = map (λ t. t.0) param_tys.items;
+      ret_tys = map (λ t. t.0) ret_tys.items;
+      ret_kind = giving_view ret_kind;
     } }
 {
     ExternalSig {
