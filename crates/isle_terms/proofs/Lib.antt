@@ -10,3 +10,4 @@ pub mod Declaring
 pub mod Making
 pub mod Changing
 pub mod RootSteps
+pub mod ConverterSteps

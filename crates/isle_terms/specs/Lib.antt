@@ -6,3 +6,4 @@ pub mod Stages
 pub mod SignatureViews
 pub mod Signing
 pub mod Standing
+pub mod Converting

@@ -11,6 +11,7 @@ ghost use Rattle.isle_terms.specs.TermViews.{term_view, term_views};
 ghost use Rattle.isle_terms.specs.Reading.{IsWithin, Interns, MayIntern, IsKnownInEnv, HaveTypes, IsFreeOrReported, AddsOrReports, ReadsDecl, ReadsSignature, ReadsRule, ReadsRoot, internal_entry, signature_entry, term_of_name};
 ghost use Rattle.isle_terms.specs.Stages.{ReadsSignatures, ReadsRoots};
 
+mod converters;
 mod declarations;
 mod made;
 mod roots;
