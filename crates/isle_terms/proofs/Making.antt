@@ -47,7 +47,7 @@ pub some_mapped : {X Y : Type 0} (f : X → Y) (o : Option X) → is_some o ≡ 
 some_mapped f None h = absurd (cc)
 some_mapped f (Some x) h = (f x, refl)
 
-distinct_left : (xs ys : List (List ℕ)) → IsDistinct (xs ++ ys) → IsDistinct xs
+pub distinct_left : (xs ys : List (List ℕ)) → IsDistinct (xs ++ ys) → IsDistinct xs
 distinct_left xs ys once j k x p q = once j k x (get_front xs ys j x p) (get_front xs ys k x q)
 
 texts_more : (e : TypesRead) (xs ys : List ℕ) → texts_at e (xs ++ ys) ≡ texts_at e xs ++ texts_at e ys

@@ -8,14 +8,12 @@ use Rattle.std.proofs.lemmas.List.Concat.{flat_map-append}
 use Rattle.std.proofs.lemmas.List.Elements.{All-push}
 use Rattle.std.proofs.lemmas.Option.{slice_get_within}
 use Rattle.isle_model.specs.lists.Syntax.{Name, DeclTree, RuleTree, Definition, type_definition, declaration, extractor_definition, converter_definition, rule_definition, extern_definition, other_definition}
-use Rattle.isle_model.specs.lists.Names.{IsDistinct}
 use Rattle.isle_model.specs.rules.Outcome.{then_option}
 use Rattle.isle_model.specs.lists.Tables.{ConstructorEntry, ExtractorEntry, declared_term, TermEntry}
 use Rattle.isle_model.specs.lists.TypeTable.{place_from}
 use Rattle.isle_model.specs.lists.TermTable.{decl_flags, decl_trees, decl_names, rule_of, rule_trees, term_id, term_names, term_names_met, terms_made, made_by, root_name, is_declared, HasDeclaredRoot, IsValidTerms}
 use Rattle.isle_model.specs.claims.Environments.{TypesRead, AreReadable, IsLeftByRefusal}
 use Rattle.isle_model.proofs.Options.{then_some}
-use Rattle.isle_model.proofs.Positions.{get_front}
 use Rattle.isle_base.specs.Stable.{look_up}
 use Rattle.isle_base.specs.declared.syntax.Def.{Def}
 use Rattle.isle_base.specs.declared.syntax.Error.{Error}
@@ -33,12 +31,10 @@ use Rattle.isle_terms.specs.Standing.{Stand, is_declared_kind, change, Changes, 
 use Rattle.isle_terms.proofs.Changing.{changed, entry_of, all_made, place_split, place_at}
 use Rattle.isle_terms.proofs.Declaring.{at_middle, taken_next, around}
 use Rattle.isle_terms.proofs.Finding.{by_name}
+use Rattle.isle_terms.proofs.Making.{distinct_left}
 use Rattle.isle_terms.proofs.Noting.{step}
 use Rattle.isle_terms.proofs.Rooting.{same_constructor, new_constructor}
 use Rattle.isle_terms.proofs.TypesStaying.{left_interned}
-
-distinct_front : (xs ys : List (List ℕ)) → IsDistinct (xs ++ ys) → IsDistinct xs
-distinct_front xs ys once j k x p q = once j k x (get_front xs ys j x p) (get_front xs ys k x q)
 
 no_place : (n : ℕ) (x : List ℕ) (xs ys : List (List ℕ)) → place_from n x (xs ++ ys) ≡ None → place_from n x xs ≡ None
 no_place n x [] ys h = refl
@@ -106,7 +102,7 @@ module _ (e : TypesRead) (defs : List Definition) (met : List (List ℕ)) (made 
     finds = record { ids = λ k. ap (λ m. option_map (λ t. t.0) (look_up same_symbol m (symbol k))) c.term_map ∙ s.finds.ids k; known = s.finds.known };
     distinct = s.distinct;
     right = s.right;
-    terms = c.terms ∙ ap (change g id) s.terms ∙ changed x g entry_so_far (declared_so_far e.known (term_names_met e.known defs) made' taken') same this (flat_map terms_made e.known.types) 0 id (decl_trees defs) (distinct_front (decl_names defs) others s.distinct) place;
+    terms = c.terms ∙ ap (change g id) s.terms ∙ changed x g entry_so_far (declared_so_far e.known (term_names_met e.known defs) made' taken') same this (flat_map terms_made e.known.types) 0 id (decl_trees defs) (distinct_left (decl_names defs) others s.distinct) place;
   }
 
 module _ (e : TypesRead) (defs read rest : List Definition) (r : RuleTree) (whole : defs ≡ read ++ rule_definition r ∷ rest) (env : TypeEnv) (old : TermTable) (left : IsLeftByRefusal e (environment_view env)) (readable : AreReadable e) (s : RootsRead e defs read env old) where

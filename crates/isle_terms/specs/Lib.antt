@@ -7,3 +7,4 @@ pub mod SignatureViews
 pub mod Signing
 pub mod Standing
 pub mod Converting
+pub mod Externing

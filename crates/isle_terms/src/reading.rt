@@ -13,6 +13,7 @@ ghost use Rattle.isle_terms.specs.Stages.{ReadsSignatures, ReadsRoots};
 
 mod converters;
 mod declarations;
+mod externs;
 mod made;
 mod roots;
 
