@@ -5,18 +5,21 @@ ghost use Rattle.isle_base.specs.SyntaxViews.{definition_views};
 ghost use Rattle.isle_model.specs.rules.Typed.{TypedRule};
 ghost use Rattle.isle_model.specs.lists.TypeTable.{IsValidTypes, type_names_met};
 ghost use Rattle.isle_model.specs.first.Elaboration.{IsCarriedElaborated, all_names};
+ghost use Rattle.isle_types.specs.Envs.{symbol_of};
+ghost use Rattle.isle_types.specs.Types.{variant_at};
 ghost use Rattle.isle_types.specs.TypeTables.{SeesTypes};
-ghost use Rattle.isle_rules.specs.TermEnvs.{SeesRules};
-ghost use Rattle.std.specs.Prelude.{List};
+ghost use Rattle.isle_types.specs.TypeViews.{type_views};
+ghost use Rattle.isle_rules.specs.TermEnvs.{term_in_env, variant_term_in, SeesRules};
+ghost use Rattle.std.specs.Prelude.{◌≡◌, List, Some, IsSome, option_map, option_and_then, string_bytes};
 
 use crate::elaboration::elaborate_rules;
 use crate::numbering::number_names;
 use crate::rule_names::{check_defined, map_names, name_rules};
 use crate::rules::Rule;
 use isle_base::stablemapset::StableMap;
-use isle_base::syntax::{Def, Fault};
+use isle_base::syntax::{Def, Fault, Ident};
 use isle_terms::{Term, TermTable};
-use isle_types::{RuleId, Sym, TermId, TypeEnv, TypeId};
+use isle_types::{RuleId, Sym, TermId, TypeEnv, TypeId, VariantId};
 use std::alloc::Global;
 
 /// All terms, and all rules in typed form: what the meaning of a list of definitions is read from.
@@ -86,6 +89,27 @@ impl TermEnv {
             converters,
             expand_internal_extractors,
         })
+    }
+
+    /// The term of a name, or None where the name is no term's. `tyenv` is the environment that the terms
+    /// were read with. Takes no memory. Upstream's `TermEnv::get_term_by_name`.
+    pub fn get_term_by_name(&self, tyenv: &TypeEnv, name: &Ident) -> Option<TermId>
+        ensures { option_map (λ t. t.0) result ≡ option_and_then (term_in_env self.now) (symbol_of tyenv.now (string_bytes name.now.0)) }
+    {
+        let sym = tyenv.intern(name)?;
+        self.term_map.get(&sym).copied()
+    }
+
+    /// The term of a variant, by the ids of the enum and of the variant. Condition: the type is an enum of
+    /// `tyenv` and has that variant, whose full name is a term's here, as in each environment that `tyenv`
+    /// was read with. Takes no memory. Upstream's `TermEnv::get_variant_term`.
+    pub fn get_variant_term(&self, tyenv: &TypeEnv, ty: TypeId, variant: VariantId) -> TermId
+        requires variant { IsSome (variant_at (type_views tyenv.now.types.items) ty.0 variant.0) }
+        requires term { IsSome (variant_term_in self.now tyenv.now ty.0 variant.0) }
+        ensures { Some result.0 ≡ variant_term_in self.now tyenv.now ty.0 variant.0 }
+    {
+        let variant = tyenv.get_variant(ty, variant);
+        self.term_map[&variant.fullname]
     }
 }
 

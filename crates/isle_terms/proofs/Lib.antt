@@ -4,3 +4,10 @@ pub mod Signing
 pub mod Rooting
 pub mod TermMaps
 pub mod Arguments
+pub mod TypesStaying
+pub mod Noting
+pub mod Declaring
+pub mod Making
+pub mod Changing
+pub mod RootSteps
+pub mod ConverterSteps

@@ -69,10 +69,10 @@ or_nothing false false = refl
 any_push : {X : Type 0} (p : X → Bool) (xs : List X) (x : X) → list_any p (xs ++ x ∷ []) ≡ list_any p xs || p x
 any_push p xs x = list_any-append p xs (x ∷ []) ∙ or_nothing (list_any p xs) (p x)
 
-distinct_rest : (y : List ℕ) (ys : List (List ℕ)) → IsDistinct (y ∷ ys) → IsDistinct ys
+pub distinct_rest : (y : List ℕ) (ys : List (List ℕ)) → IsDistinct (y ∷ ys) → IsDistinct ys
 distinct_rest y ys once j k a p q = let h = once (suc j) (suc k) a p q in omega (arith, h)
 
-distinct_first : (y : List ℕ) (ys : List (List ℕ)) → IsDistinct (y ∷ ys) → has_name ys y ≡ false
+pub distinct_first : (y : List ℕ) (ys : List (List ℕ)) → IsDistinct (y ∷ ys) → has_name ys y ≡ false
 distinct_first y ys once =
     elim (has_name ys y) as (λ b. has_name ys y ≡ b → b ≡ false) [
       | true ↦ λ e. let h : 0 ≡ suc (number ys y) = once 0 (suc (number ys y)) y refl (found ys y e) in absurd (omega (arith, h))
@@ -82,7 +82,7 @@ distinct_first y ys once =
 abbrev text_of : DeclTree → List ℕ
 text_of d = d.term.text
 
-one_before : (o : Option ℕ) (k : ℕ) → option_map suc o ≡ Some k → (j : ℕ) × (k ≡ suc j) × (o ≡ Some j)
+pub one_before : (o : Option ℕ) (k : ℕ) → option_map suc o ≡ Some k → (j : ℕ) × (k ≡ suc j) × (o ≡ Some j)
 one_before None k h = absurd (cc)
 one_before (Some j) k h = (j, cc, refl)
 
@@ -90,12 +90,12 @@ module _ (defs : List Definition) (read : List RuleTree) (r : RuleTree) (n : Nam
   is_rule : (x : List ℕ) → is_rule_of x r ≡ bytes_eq n.text x
   is_rule x = ap (has_root x) root
 
-  same_constructor : (x : List ℕ) → bytes_eq x n.text ≡ false → constructor_after read x ≡ constructor_after (read ++ r ∷ []) x
+  pub same_constructor : (x : List ℕ) → bytes_eq x n.text ≡ false → constructor_after read x ≡ constructor_after (read ++ r ∷ []) x
   same_constructor x e =
       let other : is_rule_of x r ≡ false = is_rule x ∙ turned_other x n.text e in
       sym (ap (λ b. cond b (Some internal_constructor) None) (any_push (is_rule_of x) read r ∙ ap (λ b. list_any (is_rule_of x) read || b) other ∙ or-false (list_any (is_rule_of x) read)))
 
-  new_constructor : (x : List ℕ) → bytes_eq x n.text ≡ true → Some internal_constructor ≡ constructor_after (read ++ r ∷ []) x
+  pub new_constructor : (x : List ℕ) → bytes_eq x n.text ≡ true → Some internal_constructor ≡ constructor_after (read ++ r ∷ []) x
   new_constructor x e =
       let this : is_rule_of x r ≡ true = is_rule x ∙ turned x n.text e in
       sym (ap (λ b. cond b (Some internal_constructor) None) (any_push (is_rule_of x) read r ∙ ap (λ b. list_any (is_rule_of x) read || b) this ∙ or-true (list_any (is_rule_of x) read)))

@@ -3,3 +3,8 @@ pub mod TermViews
 pub mod TermTables
 pub mod Reading
 pub mod Stages
+pub mod SignatureViews
+pub mod Signing
+pub mod Standing
+pub mod Converting
+pub mod Externing

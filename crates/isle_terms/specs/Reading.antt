@@ -9,7 +9,7 @@ use Rattle.isle_model.specs.first.TermTable.{is_carried_term}
 use Rattle.isle_base.specs.declared.syntax.Error.{Error}
 use Rattle.isle_types.specs.declared.type_env.TypeEnv.{TypeEnv}
 use Rattle.isle_types.specs.Envs.{names_of, symbol_of, type_of_name, IsInterned}
-use Rattle.isle_types.specs.Reading.{Reports}
+use Rattle.isle_types.specs.Reading.{Reports, MeetsNames}
 use Rattle.isle_terms.specs.declared.term_table.TermTable.{TermTable}
 use Rattle.isle_terms.specs.TermTables.{term_at}
 use Rattle.isle_terms.specs.TermViews.{term_views}
@@ -133,3 +133,9 @@ ReadsRule r env old es new es' = ((es' ≡ es) × MarksRoot r env old new) ⊎ (
 abbrev pub ReadsRoot : Definition → TypeEnv → TermTable → List Error → TermTable → List Error → Type 0
 ReadsRoot (rule_definition r) env old es new es' = ReadsRule r env old es new es'
 ReadsRoot d env old es new es' = (es' ≡ es) × (new ≡ old)
+
+-- names may have been met, and nothing else changed
+pub record MayIntern (old new : TypeEnv) : Type 0 where
+  pub met : List (List ℕ)
+  pub meets : MeetsNames met old new
+  pub inverse : IsInterned new

@@ -3,12 +3,19 @@
 
 ghost use Rattle.std.specs.Prelude.{◌≡◌, ◌⊎◌, ◌++◌, ◌∷◌, [], ℕ, None, Some, All, nat_eq, if◌then◌else◌, length, map, IfOk, OnOk, MatchOption, option_map};
 ghost use Rattle.isle_base.specs.SyntaxViews.{decl_view, definition_view, definition_views, name_view, rule_view};
-ghost use Rattle.isle_types.specs.Envs.{IsInterned};
+ghost use Rattle.isle_types.specs.Envs.{names_of, IsInterned};
+ghost use Rattle.isle_model.specs.lists.Names.{number};
 ghost use Rattle.isle_types.specs.Reading.{Reports};
 ghost use Rattle.isle_terms.specs.TermTables.{term_at};
 ghost use Rattle.isle_terms.specs.TermViews.{term_view, term_views};
-ghost use Rattle.isle_terms.specs.Reading.{IsWithin, IsKnownInEnv, HaveTypes, IsFreeOrReported, AddsOrReports, ReadsDecl, ReadsSignature, ReadsRule, ReadsRoot, internal_entry, signature_entry, term_of_name};
+ghost use Rattle.isle_terms.specs.Reading.{IsWithin, Interns, MayIntern, IsKnownInEnv, HaveTypes, IsFreeOrReported, AddsOrReports, ReadsDecl, ReadsSignature, ReadsRule, ReadsRoot, internal_entry, signature_entry, term_of_name};
 ghost use Rattle.isle_terms.specs.Stages.{ReadsSignatures, ReadsRoots};
+
+mod converters;
+mod declarations;
+mod externs;
+mod made;
+mod roots;
 
 use crate::term::{ConstructorKind, Term, TermFlags, TermKind};
 use crate::term_table::TermTable;
@@ -80,7 +87,12 @@ impl TermTable {
     }
 
     // Notes a declaration whose name is a term's already, and then the earlier one.
-    fn check_free(&self, errors: &mut Vec<Error>, decl: &Decl, name: Sym) -> Result<(), AllocError>
+    pub(crate) fn check_free(
+        &self,
+        errors: &mut Vec<Error>,
+        decl: &Decl,
+        name: Sym,
+    ) -> Result<(), AllocError>
         requires { IsWithin self.now }
         ensures { OnOk result (IsFreeOrReported name.0 self.now errors.old.items errors.new.items) }
     {
@@ -93,7 +105,7 @@ impl TermTable {
     }
 
     // Adds a declared term, if the types that it names are known.
-    fn add_decl(
+    pub(crate) fn add_decl(
         &mut self,
         tyenv: &TypeEnv,
         errors: &mut Vec<Error>,
@@ -210,7 +222,7 @@ impl TermTable {
     }
 
     // The term of a name.
-    fn find_term(&self, tyenv: &TypeEnv, name: &Ident) -> Option<TermId>
+    pub(crate) fn find_term(&self, tyenv: &TypeEnv, name: &Ident) -> Option<TermId>
         ensures { option_map (λ t. t.0) result ≡ term_of_name tyenv.now self.now (name_view name.now) }
     {
         let sym = tyenv.intern(name)?;
@@ -218,8 +230,18 @@ impl TermTable {
     }
 }
 
+// Meets a name: its id, the next one where it wasn't met yet.
+pub(crate) fn meet_name(tyenv: &mut TypeEnv, name: &Ident) -> Result<Sym, AllocError>
+    requires { IsInterned tyenv.old }
+    ensures interns { MayIntern tyenv.old tyenv.new }
+    ensures met { OnOk result (Interns (name_view name.now).text tyenv.old tyenv.new) }
+    ensures number { IfOk result (λ s. s.0 ≡ number (names_of tyenv.old) (name_view name.now).text) }
+{
+    tyenv.intern_mut(name)
+}
+
 // Makes a declared term one that rules make.
-fn set_internal(term: &mut Term)
+pub(crate) fn set_internal(term: &mut Term)
     ensures { term_view term.new ≡ internal_entry (term_view term.old) }
 {
     if let TermKind::Decl {
@@ -253,7 +275,7 @@ fn arg_types(
 }
 
 // Notes at a place what is wrong with a name.
-fn report_name(
+pub(crate) fn report_name(
     errors: &mut Vec<Error>,
     pos: Pos,
     what: &str,

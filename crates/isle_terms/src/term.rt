@@ -2,7 +2,8 @@
 
 ghost use Rattle.std.specs.Prelude.{◌≡◌, true};
 ghost use Rattle.isle_terms.specs.Terms.{is_variant_term, is_struct_term, is_partial_term, is_recursive_term, has_constructor_term, has_extractor_term, has_external_extractor_term, has_external_constructor_term, has_internal_constructor_term};
-ghost use Rattle.isle_terms.specs.TermViews.{term_view};
+ghost use Rattle.isle_terms.specs.Externing.{made_by_this, taken_by_this, with_kind};
+ghost use Rattle.isle_terms.specs.TermViews.{constructor_view, extractor_view, term_view};
 
 use isle_base::syntax::{Pattern, Pos};
 use isle_types::{Sym, TermId, TypeId, VariantId};
@@ -206,6 +207,30 @@ impl Term {
                 ..
             }
         )
+    }
+}
+
+impl Term {
+    // Gives a declared term a constructor.
+    pub(crate) fn set_constructor(&mut self, kind: ConstructorKind)
+        ensures { term_view self.new ≡ with_kind (made_by_this (constructor_view kind)) (term_view self.old) }
+    {
+        if let TermKind::Decl {
+            constructor_kind,
+            ..
+        } = &mut self.kind
+        {
+            *constructor_kind = Some(kind);
+        }
+    }
+
+    // Gives a declared term an extractor.
+    pub(crate) fn set_extractor(&mut self, kind: ExtractorKind)
+        ensures { term_view self.new ≡ with_kind (taken_by_this (extractor_view kind)) (term_view self.old) }
+    {
+        if let TermKind::Decl { extractor_kind, .. } = &mut self.kind {
+            *extractor_kind = Some(kind);
+        }
     }
 }
 

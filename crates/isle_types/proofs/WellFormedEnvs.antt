@@ -1,24 +1,25 @@
 -- The type environment of a list with valid types is well formed.
 use Rattle.std.proofs.Common.{◌≡◌, ℕ, zero, suc, ◌+◌, ◌<◌, true, List, [], ◌∷◌, length, map, take, get_or, Option, Some, None, option_map, unwrap_or, slice_get, All, refl, sym, ap, subst, ◌∙◌, arith}
 use Rattle.std.specs.List.{enumerate_from, flat_map, AllByRecursion}
-use Rattle.std.proofs.lemmas.List.Elements.{All-get_or}
+use Rattle.std.proofs.lemmas.List.Elements.{All-nil, All-get_or}
 use Rattle.std.proofs.lemmas.Option.{same_Some, slice_get_within, slice_get-get_or}
 use Rattle.isle_model.specs.lists.Syntax.{VariantTree, TypeTree, TypeValueTree, primitive_value, enum_value, struct_value, Definition}
 use Rattle.isle_model.specs.lists.Names.{number, has_name, IsDistinct}
 use Rattle.isle_model.specs.rules.Outcome.{then_option}
 use Rattle.isle_model.specs.lists.Tables.{VariantEntry, TypeEntry}
-use Rattle.isle_model.specs.lists.TypeTable.{builtin_names, builtin_from, type_id, type_trees, constant_trees, all_type_names, type_names_met, variant_entry, entry_at, type_entry, type_table, type_or_first, IsValidTypes}
+use Rattle.isle_model.specs.lists.TypeTable.{builtin_names, builtin_from, type_id, type_trees, constant_trees, all_type_names, type_names_met, variant_entry, entry_at, type_entry, type_table, type_or_first, IsUnmarkedIfPrimitive, HasAtMostOneMark, HasDistinctVariants, HasDistinctFields, HasKnownTypes, IsOfKnownType, IsValidTypes}
 use Rattle.isle_model.specs.lists.KnownTypes.{types_of, types_inside, entry_numbers, StandAtIds, IsWellFormed}
 use Rattle.isle_model.proofs.Joined.{all_joined}
-use Rattle.isle_model.proofs.Names.{found}
+use Rattle.isle_model.proofs.Names.{found, distinct_if}
 use Rattle.isle_laws_lists.proofs.WellFormed.{place_below, as_many, types_are_found_lem, own_types_are_well_formed_lem}
 use Rattle.isle_types.specs.declared.type_env.TypeEnv.{TypeEnv}
 use Rattle.isle_types.specs.Envs.{names_of, symbol_of, type_at, constant_at}
 use Rattle.isle_types.specs.Names.{IsInverse}
-use Rattle.isle_types.specs.Stages.{last_type}
+use Rattle.isle_types.specs.Stages.{Booting, last_type}
 use Rattle.isle_types.specs.Types.{entry_variants}
 use Rattle.isle_types.specs.TypeTables.{SeesTypes}
 use Rattle.isle_types.specs.WellFormed.{HasOneName, AreInRange, VariantsStandAtIds, IsWellFormedEnv}
+use Rattle.isle_types.proofs.Booting.{booted}
 use Rattle.isle_types.proofs.Ending.{last_types}
 use Rattle.isle_model.proofs.FirstPlaces.{place_there}
 use Rattle.isle_model.proofs.Options.{then_some}
@@ -136,3 +137,21 @@ module _ (defs : List Definition) (env : TypeEnv) (v : IsValidTypes defs) (s : S
     constants = of_constants;
     errors = s.errors;
   }
+
+-- so is that of the built-in types alone
+abbrev none : List Definition
+none = []
+
+no_types : IsValidTypes none
+no_types = record {
+  distinct = distinct_if (all_type_names none) refl;
+  primitives = All-nil IsUnmarkedIfPrimitive;
+  marks = All-nil HasAtMostOneMark;
+  variants = All-nil HasDistinctVariants;
+  fields = All-nil HasDistinctFields;
+  types_of_fields = All-nil (HasKnownTypes none);
+  types_of_constants = All-nil (IsOfKnownType none);
+}
+
+pub builtins_well_formed : (env : TypeEnv) → Booting env [] → IsWellFormedEnv env
+builtins_well_formed env s = well_formed none env no_types (booted env s)

@@ -11,3 +11,4 @@ pub mod Stages
 pub mod Promises
 pub mod ConstantReading
 pub mod WellFormed
+pub mod EnvViews

@@ -29,11 +29,13 @@ use std::collections::HashMap;
 
 impl TypeEnv {
     /// A table of the built-in types alone, each with its place in `BuiltinType::ALL` as its id and
-    /// as that of its name. An error where memory is refused. Stands for upstream's `Default`.
-    #[tactic(auto, using(crate::proofs::Booting::booted, crate::proofs::Booting::booted_count))]
+    /// as that of its name. It is well formed: terms and rules can be read with it. An error where memory
+    /// is refused. Stands for upstream's `Default`.
+    #[tactic(auto, using(crate::proofs::Booting::booted, crate::proofs::Booting::booted_count, crate::proofs::WellFormedEnvs::builtins_well_formed))]
     pub fn try_default(alloc: Global) -> Result<TypeEnv, AllocError>
         ensures table { IfOk result (λ env. SeesTypes env [] builtin_names) }
         ensures count { IfOk result (λ env. entry_count env.type_map ≡ 13) }
+        ensures well_formed { IfOk result IsWellFormedEnv }
     {
         let mut env = TypeEnv::empty(alloc);
         env.add_builtins(&BuiltinType::ALL)?;

@@ -3,6 +3,7 @@
 ghost use Rattle.std.specs.Prelude.{◌≡◌, ℕ, List, ◌++◌, ◌∷◌, [], map, option_map, option_and_then, IfOk, OnOk, OnErr, string_bytes, length, Some, IsSome, slice_get};
 ghost use Rattle.std.specs.HashMap.{get_by_text};
 ghost use Rattle.isle_model.specs.lists.Names.{number, with_name};
+ghost use Rattle.isle_model.specs.lists.Signatures.{text_of};
 ghost use Rattle.isle_types.specs.Names.{number_if_known};
 ghost use Rattle.isle_types.specs.Envs.{names_of, symbol_of, type_at, IsInterned};
 ghost use Rattle.isle_types.specs.Types.{variant_at};
@@ -85,6 +86,16 @@ impl TypeEnv {
             unreachable!()
         };
         &variants[variant.index()]
+    }
+
+    /// The text of a name, or the empty text where the id is no name's. Takes no memory.
+    pub fn text_of(&self, name: Sym) -> &str
+        ensures { result.now ≡ text_of (names_of self.now) name.0 }
+    {
+        match self.syms.get(name.index()) {
+            Some(text) => text.as_str(),
+            None => "",
+        }
     }
 
     // The id of the name of a text.

@@ -1,0 +1,48 @@
+-- What was noted, and what that says, one step after another.
+use Rattle.std.proofs.Common.{◌≡◌, Bool, true, false, List, ◌⊎◌, refl, sym, subst, ◌∙◌, inl, inr, ⊎_elim}
+use Rattle.isle_model.specs.lists.Syntax.{Definition}
+use Rattle.isle_model.specs.lists.TermTable.{IsValidTerms}
+use Rattle.isle_model.specs.claims.Environments.{TypesRead, IsLeftByRefusal}
+use Rattle.isle_base.specs.declared.syntax.Error.{Error}
+use Rattle.isle_types.specs.declared.type_env.TypeEnv.{TypeEnv}
+use Rattle.isle_types.specs.EnvViews.{environment_view}
+use Rattle.isle_types.specs.Reading.{Reports}
+use Rattle.isle_types.specs.VariantReading.{ReportsIf}
+use Rattle.isle_types.proofs.Reports.{both}
+use Rattle.isle_terms.specs.declared.term_table.TermTable.{TermTable}
+use Rattle.isle_terms.specs.Reading.{IsWithin}
+use Rattle.isle_terms.specs.Signing.{Notes, ReadsTerms}
+
+-- one thing after another
+pub both_note : (A B W V : Type 0) (es mid es' : List Error) → Notes es mid A W → Notes mid es' B V → Notes es es' (A × B) (W ⊎ V)
+both_note A B W V es mid es' (inl a) (inl b) = inl (b.0 ∙ a.0, (a.1, b.1))
+both_note A B W V es mid es' (inl a) (inr b) = inr (subst (λ xs. Reports xs es') a.0 b.0, inr b.1)
+both_note A B W V es mid es' (inr a) (inl b) = inr (subst (Reports es) (sym b.0) a.0, inl a.1)
+both_note A B W V es mid es' (inr a) (inr b) = inr (both es mid es' a.0 b.0, inl a.1)
+
+-- the same, said in other words
+pub notes_as : (A B W V : Type 0) (es es' : List Error) → (A → B) → (W → V) → Notes es es' A W → Notes es es' B V
+notes_as A B W V es es' f g (inl a) = inl (a.0, f a.1)
+notes_as A B W V es es' f g (inr a) = inr (a.0, g a.1)
+
+pub if_noted : (b : Bool) (es es' : List Error) → ReportsIf b es es' → Notes es es' (b ≡ false) (b ≡ true)
+if_noted true es es' h = inr (h, refl)
+if_noted false es es' h = inl (h, refl)
+
+-- what was right so far makes the next thing right, or the definitions have no term table
+pub step : (e : TypesRead) (defs : List Definition) (A B : TypeEnv → TermTable → Type 0) (old new : TypeEnv) (table table' : TermTable) (es es' : List Error) (Right Wrong : Type 0)
+    → IsLeftByRefusal e (environment_view new) → IsWithin table' → Notes es es' Right Wrong
+    → (A old table → Right → B new table') → (A old table → Wrong → IsValidTerms e.known defs → ⊥)
+    → ReadsTerms e defs A old table es → ReadsTerms e defs B new table' es'
+step e defs A B old new table table' es es' Right Wrong left within (inl a) right wrong s = record {
+  left = left;
+  within = within;
+  plain = rw a.0 s.plain;
+  so_far = ⊎_elim (λ r. inl (a.0 ∙ r.0, right r.1 a.1)) (λ w. inr (rw a.0 w.0, w.1)) s.so_far;
+}
+step e defs A B old new table table' es es' Right Wrong left within (inr a) right wrong s = record {
+  left = left;
+  within = within;
+  plain = a.0.plain s.plain;
+  so_far = inr (a.0.some, ⊎_elim (λ r. wrong r.1 a.1) (λ w. w.1) s.so_far);
+}

@@ -1,0 +1,17 @@
+use Rattle.std.proofs.Common.{◌≡◌, ◌≤◌, get_or, length, subst, rules}
+use Rattle.std.proofs.lemmas.List.{take_all}
+use Rattle.isle_terms.specs.Signing.{AddsMade}
+use Rattle.isle_terms.proofs.Making.{next_made, numbers_of, entries_of}
+use Rattle.isle_terms.proofs.term_table.TermTable.add_made_terms.Goals as goal
+
+pub loop-ty-preserved : goal.loop-ty-preserved
+loop-ty-preserved c =
+    let at = subst (λ ts. c.ty-item.result ≡ get_or ts c.loop-ty.ty-index c.ty-item.result) c.deref-ty-items.ensures.value c.ty-item.is in (
+      c.in_ok-add_terms_of.ensures.within,
+      next_made c.args.tyenv.now.types.items c.loop-ty.ty-index c.ty-item.result (search rules) at _ _ _ _ _ _ c.in_ok-add_terms_of.ensures.adds c.loop-ty.invariant.1,
+    )
+
+pub returns-clause-adds : goal.returns-clause-adds
+returns-clause-adds c =
+    let end : length c.args.tyenv.now.types.items ≤ c.loop-ty.ty-index = search rules in
+    subst (λ l. AddsMade (numbers_of l) (entries_of l) c.args.self.now c.args.errors.now.items c.loop-ty.self c.loop-ty.errors.items) (take_all c.loop-ty.ty-index c.args.tyenv.now.types.items end) c.loop-ty.invariant.1

@@ -1,0 +1,40 @@
+use Rattle.std.proofs.Common.{◌≡◌, None, refl, sym, inl, inr, ◌∙◌}
+use Rattle.std.proofs.lemmas.Result.{on_ok_weaker}
+use Rattle.isle_terms.specs.Converting.{converter_at}
+use Rattle.isle_terms.proofs.ConverterSteps.{read_conversions}
+use Rattle.isle_terms.proofs.Making.{none_mapped, some_mapped}
+use Rattle.isle_terms.proofs.term_table.TermTable.read_converter.Goals as goal
+
+pub returns-then-contains_key-clause-reads : goal.returns-then-contains_key-clause-reads
+returns-then-contains_key-clause-reads c =
+    let taken = some_mapped (λ t. t.0) _ (sym c.contains_key.ensures.value ∙ c.if-contains_key.true) in
+    on_ok_weaker c.report_converted.result (λ r. inr (
+      r,
+      inr (inr (inr (record {
+        inner = c.in-Some.inner.0;
+        outer = c.in-Some-get_type_by_name.outer.0;
+        id = taken.0;
+        inner_is = sym c.in-Some.ensures;
+        outer_is = sym c.in-Some-get_type_by_name.ensures;
+        taken = taken.1;
+      }))),
+    )) c.report_converted.ensures
+
+pub returns-clause-reads : goal.returns-clause-reads
+returns-clause-reads c =
+    let free : converter_at c.args.self.now c.in-Some.inner.0 c.in-Some-get_type_by_name.outer.0 ≡ None = none_mapped (λ t. t.0) _ (sym c.contains_key.ensures.value ∙ c.if-contains_key.false) in
+    inl (
+      refl,
+      record {
+        inner = c.in-Some.inner.0;
+        outer = c.in-Some-get_type_by_name.outer.0;
+        term = c.in-Some-find_term.term.0;
+        inner_is = sym c.in-Some.ensures;
+        outer_is = sym c.in-Some-get_type_by_name.ensures;
+        term_is = sym c.in-Some-find_term.ensures;
+        free = free;
+        conversions = read_conversions c.args.self.now.converters c.insert.new.self c.in-Some.inner c.in-Some-get_type_by_name.outer c.in-Some-find_term.term c.in_ok-insert.ensures.has;
+        terms = refl;
+        term_map = refl;
+      },
+    )

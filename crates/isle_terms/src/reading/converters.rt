@@ -1,0 +1,97 @@
+//! How converters are read: each is the term that a conversion from one type to another calls.
+
+ghost use Rattle.std.specs.Prelude.{[], OnOk};
+ghost use Rattle.isle_model.specs.claims.Environments.{TypesRead, AreReadable};
+ghost use Rattle.isle_base.specs.SyntaxViews.{converter_view, definition_view, definition_views};
+ghost use Rattle.isle_types.specs.Reading.{Reports};
+ghost use Rattle.isle_terms.specs.Reading.{IsWithin};
+ghost use Rattle.isle_terms.specs.Signing.{ReadsTerms};
+ghost use Rattle.isle_terms.specs.Converting.{ConvertersRead, ReadsConverter, ReadsIfConverter};
+
+use crate::reading::report_name;
+use crate::term_table::TermTable;
+use isle_base::syntax::{Converter, Def, Error};
+use isle_types::{TypeEnv, report};
+use std::alloc::AllocError;
+
+impl TermTable {
+    // Reads all converters.
+    pub(crate) fn read_converters(
+        &mut self,
+        tyenv: &TypeEnv,
+        errors: &mut Vec<Error>,
+        defs: &[Def],
+    ) -> Result<(), AllocError>
+        ghost read: { TypesRead }
+        requires readable { AreReadable read }
+        requires start { ReadsTerms read (definition_views defs.now) (ConvertersRead read (definition_views defs.now) []) tyenv.now self.old errors.old.items }
+        ensures { OnOk result (ReadsTerms read (definition_views defs.now) (ConvertersRead read (definition_views defs.now) (definition_views defs.now)) tyenv.now self.new errors.new.items) }
+    {
+        for def in defs {
+            self.read_if_converter(tyenv, errors, def)?;
+        }
+        Ok(())
+    }
+
+    // Reads a definition, if it is a converter.
+    fn read_if_converter(
+        &mut self,
+        tyenv: &TypeEnv,
+        errors: &mut Vec<Error>,
+        def: &Def,
+    ) -> Result<(), AllocError>
+        requires { IsWithin self.old }
+        ensures within { OnOk result (IsWithin self.new) }
+        ensures reads { OnOk result (ReadsIfConverter (definition_view def.now) tyenv.now self.old errors.old.items self.new errors.new.items) }
+    {
+        let Def::Converter(converter) = def else {
+            return Ok(());
+        };
+        self.read_converter(tyenv, errors, converter)
+    }
+
+    // Reads a converter: the first one of a pair of types.
+    fn read_converter(
+        &mut self,
+        tyenv: &TypeEnv,
+        errors: &mut Vec<Error>,
+        converter: &Converter,
+    ) -> Result<(), AllocError>
+        requires { IsWithin self.old }
+        ensures within { OnOk result (IsWithin self.new) }
+        ensures reads { OnOk result (ReadsConverter (converter_view converter.now) tyenv.now self.old errors.old.items self.new errors.new.items) }
+    {
+        let Some(inner) = tyenv.get_type_by_name(&converter.inner_ty) else {
+            let what = "Unknown inner type for converter:";
+            let name = &converter.inner_ty;
+            return report_name(errors, name.1, what, name);
+        };
+        let Some(outer) = tyenv.get_type_by_name(&converter.outer_ty) else {
+            let what = "Unknown outer type for converter:";
+            let name = &converter.outer_ty;
+            return report_name(errors, name.1, what, name);
+        };
+        let Some(term) = self.find_term(tyenv, &converter.term) else {
+            let what = "Unknown term for converter:";
+            let name = &converter.term;
+            return report_name(errors, name.1, what, name);
+        };
+        if self.converters.contains_key(&(inner, outer)) {
+            return report_converted(errors, converter);
+        }
+        self.converters.insert((inner, outer), term)?;
+        Ok(())
+    }
+}
+
+// Notes a converter of a pair of types that has one already.
+fn report_converted(errors: &mut Vec<Error>, converter: &Converter) -> Result<(), AllocError>
+    ensures { OnOk result (Reports errors.old.items errors.new.items) }
+{
+    let alloc = *errors.allocator();
+    let msg = format!(in alloc;
+        "Converter already exists for this type pair: '{}', '{}'",
+        converter.inner_ty.0, converter.outer_ty.0
+    )?;
+    report(errors, converter.pos, msg.as_str())
+}

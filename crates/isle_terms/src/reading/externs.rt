@@ -1,0 +1,178 @@
+//! How external constructors and extractors are read: functions from outside that make values of declared
+//! terms or take them apart.
+
+ghost use Rattle.std.specs.Prelude.{◌≡◌, not, IfOk, OnOk};
+ghost use Rattle.isle_model.specs.lists.Tables.{external_constructor};
+ghost use Rattle.isle_base.specs.SyntaxViews.{name_view};
+ghost use Rattle.isle_types.specs.Reading.{Reports};
+ghost use Rattle.isle_types.specs.VariantReading.{ReportsIf};
+ghost use Rattle.isle_terms.specs.Externing.{lacks_constructor, lacks_extractor, made_by_this, taken_by_this, ReadsKind};
+ghost use Rattle.isle_terms.specs.Reading.{IsWithin};
+ghost use Rattle.isle_terms.specs.TermViews.{extractor_view, term_view};
+
+use crate::reading::report_name;
+use crate::term::{ConstructorKind, ExtractorKind, Term, TermKind};
+use crate::term_table::TermTable;
+use isle_base::syntax::{Error, Ident, Pos};
+use isle_types::{Sym, TypeEnv, report};
+use std::alloc::AllocError;
+
+impl TermTable {
+    // Reads the external constructor of a term.
+    fn read_constructor(
+        &mut self,
+        tyenv: &TypeEnv,
+        errors: &mut Vec<Error>,
+        term: &Ident,
+        name: Sym,
+        pos: Pos,
+    ) -> Result<(), AllocError>
+        requires { IsWithin self.old }
+        ensures within { OnOk result (IsWithin self.new) }
+        ensures reads { OnOk result (ReadsKind lacks_constructor (made_by_this (external_constructor name.0)) (name_view term.now) tyenv.now self.old errors.old.items self.new errors.new.items) }
+    {
+        let Some(id) = self.find_term(tyenv, term) else {
+            return report_name(errors, pos, "Constructor declared on undefined term", term);
+        };
+        if !may_have_constructor(errors, &self.terms[id.index()], term, pos)? {
+            return Ok(());
+        }
+        self.terms[id.index()].set_constructor(ConstructorKind::ExternalConstructor { name });
+        Ok(())
+    }
+
+    // Reads the external extractor of a term.
+    fn read_extractor(
+        &mut self,
+        tyenv: &TypeEnv,
+        errors: &mut Vec<Error>,
+        term: &Ident,
+        kind: ExtractorKind,
+        pos: Pos,
+    ) -> Result<(), AllocError>
+        requires { IsWithin self.old }
+        ensures within { OnOk result (IsWithin self.new) }
+        ensures reads { OnOk result (ReadsKind lacks_extractor (taken_by_this (extractor_view kind)) (name_view term.now) tyenv.now self.old errors.old.items self.new errors.new.items) }
+    {
+        let Some(id) = self.find_term(tyenv, term) else {
+            return report_name(errors, pos, "Extractor declared on undefined term", term);
+        };
+        if !may_have_external(errors, &self.terms[id.index()], term, pos)? {
+            return Ok(());
+        }
+        self.terms[id.index()].set_extractor(kind);
+        Ok(())
+    }
+}
+
+// Whether a term can have an external constructor, which stands at this place: what is against it is noted.
+fn may_have_constructor(
+    errors: &mut Vec<Error>,
+    entry: &Term,
+    term: &Ident,
+    pos: Pos,
+) -> Result<bool, AllocError>
+    ensures free { IfOk result (λ b. b ≡ lacks_constructor (term_view entry.now).kind) }
+    ensures noted { IfOk result (λ b. ReportsIf (not b) errors.old.items errors.new.items) }
+{
+    match &entry.kind {
+        TermKind::Decl {
+            constructor_kind: None,
+            ..
+        } => return Ok(true),
+        TermKind::Decl {
+            constructor_kind: Some(ConstructorKind::InternalConstructor),
+            ..
+        } => {
+            let what = "External constructor declared on term that already has rules:";
+            report_after(errors, pos, what, term)?;
+        }
+        TermKind::Decl {
+            constructor_kind: Some(ConstructorKind::ExternalConstructor { .. }),
+            ..
+        } => report(errors, pos, "Duplicate external constructor definition")?,
+        TermKind::EnumVariant { .. } => {
+            let what = "External constructor cannot be defined on enum variant:";
+            report_after(errors, pos, what, term)?;
+        }
+        TermKind::Struct => {
+            let what = "External constructor cannot be defined on a struct:";
+            report_after(errors, pos, what, term)?;
+        }
+    }
+    Ok(false)
+}
+
+// Whether a term can have an external extractor, which stands at this place: what is against it is noted.
+fn may_have_external(
+    errors: &mut Vec<Error>,
+    entry: &Term,
+    term: &Ident,
+    pos: Pos,
+) -> Result<bool, AllocError>
+    ensures free { IfOk result (λ b. b ≡ lacks_extractor (term_view entry.now).kind) }
+    ensures noted { IfOk result (λ b. ReportsIf (not b) errors.old.items errors.new.items) }
+{
+    match &entry.kind {
+        TermKind::Decl {
+            extractor_kind: None,
+            ..
+        } => return Ok(true),
+        TermKind::Decl {
+            extractor_kind: Some(earlier),
+            ..
+        } => report_second(errors, pos, earlier)?,
+        TermKind::EnumVariant { .. } => {
+            let what = "Cannot define extractor for enum variant";
+            report_name(errors, pos, what, term)?;
+        }
+        TermKind::Struct => {
+            report_name(errors, pos, "Cannot define extractor for struct", term)?;
+        }
+    }
+    Ok(false)
+}
+
+// Notes an external extractor of a term that has an extractor already.
+fn report_second(
+    errors: &mut Vec<Error>,
+    pos: Pos,
+    earlier: &ExtractorKind,
+) -> Result<(), AllocError>
+    ensures { OnOk result (Reports errors.old.items errors.new.items) }
+{
+    let (second, first) = match earlier {
+        ExtractorKind::ExternalExtractor { .. } => (
+            "Duplicate external extractor definition",
+            "External extractor already defined",
+        ),
+        ExtractorKind::InternalExtractor { .. } => (
+            "Cannot define external extractor for term that already has an internal extractor macro body defined",
+            "Internal extractor macro body already defined",
+        ),
+    };
+    report(errors, pos, second)?;
+    report(errors, place_of(earlier), first)
+}
+
+// Notes at a place what is wrong with a name, without quotes.
+fn report_after(
+    errors: &mut Vec<Error>,
+    pos: Pos,
+    what: &str,
+    name: &Ident,
+) -> Result<(), AllocError>
+    ensures { OnOk result (Reports errors.old.items errors.new.items) }
+{
+    let alloc = *errors.allocator();
+    let msg = format!(in alloc; "{what} {}", name.0)?;
+    report(errors, pos, msg.as_str())
+}
+
+// Where an extractor is defined: an internal one at its template.
+fn place_of(extractor: &ExtractorKind) -> Pos {
+    match extractor {
+        ExtractorKind::InternalExtractor { template } => template.pos(),
+        ExtractorKind::ExternalExtractor { pos, .. } => *pos,
+    }
+}
