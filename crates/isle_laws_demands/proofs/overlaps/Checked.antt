@@ -165,15 +165,15 @@ module _ (p : Program) where
   sorted_empty [] e = refl
   sorted_empty (r ∷ rs) e = absurd (filled r (by_position rs) e)
 
-  no_overlap : (pairs : _) → overlap_reports pairs ≡ [] → pairs ≡ []
-  no_overlap [] e = refl
-  no_overlap (x ∷ xs) e = absurd (cons_empty _ _ e)
+  none_overlap : (pairs : _) → overlap_reports pairs ≡ [] → pairs ≡ []
+  none_overlap [] e = refl
+  none_overlap (x ∷ xs) e = absurd (cons_empty _ _ e)
 
   faultless : RulesHaveTerms p → check_reports p ≡ [] → IsFaultless p
   faultless terms e =
       let both = no_parts (build_reports p) (overlap_and_shadow_reports p) e in
       let later = no_parts (map rules_overlap (overlap_reports (wrong_overlaps p))) (map rule_shadows (shadow_reports p)) (sorted_empty (map rules_overlap (overlap_reports (wrong_overlaps p)) ++ map rule_shadows (shadow_reports p)) both.1) in
-      let wrong = no_overlap (wrong_overlaps p) (map_empty rules_overlap (overlap_reports (wrong_overlaps p)) later.0) in
+      let wrong = none_overlap (wrong_overlaps p) (map_empty rules_overlap (overlap_reports (wrong_overlaps p)) later.0) in
       let masks = map_empty rule_shadows (shadow_reports p) later.1 in
       record {
         built = λ t. all_kept [] (rules_of p t) (all_of_term t [] p.rules both.0);

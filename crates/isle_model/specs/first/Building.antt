@@ -2,12 +2,11 @@
 -- side's literal follows where it is new.
 use Rattle.std.specs.Prelude.{◌≡◌, ℕ, ℤ, zero, suc, ◌<◌, ◌≤◌, Bool, false, not, ◌&&◌, List, [], ◌∷◌, ◌++◌, length, Option, Some, None, All, IsTrue, slice_get, if◌then◌else◌}
 use Rattle.std.specs.Bool.{◌==◌}
-use Rattle.std.specs.List.{list_any}
 use Rattle.std.specs.Ordering.{int_eq}
 use Rattle.isle_model.specs.rules.Typed.{TypedPattern, match_int, TypedExpr, make_var, make_int, TypedRule}
 use Rattle.isle_model.specs.sites.Sites.{Site, int_site, argument_site, Constraint, is_int, SetRule, SiteSet}
 use Rattle.isle_model.specs.first.Simple.{var_place}
-use Rattle.isle_model.specs.sites.Demands.{constraint_eq}
+pub use Rattle.isle_model.specs.sites.SetRules.{differs_at, sites_differ}
 use Rattle.isle_model.specs.first.Plain.{IsInteger}
 
 -- the sites of n arguments, from i on
@@ -68,13 +67,6 @@ rules_after sites (t ∷ ts) = built_simple_rule sites t ∷ rules_after (with_v
 -- the set of a term with n arguments
 abbrev pub built_set : ℕ → List TypedRule → SiteSet
 built_set n ts = record { rules = rules_after (argument_sites 0 n) ts; sites = sites_after (argument_sites 0 n) ts }
-
--- whether some site has different constraints in two lists
-abbrev pub differs_at : ℕ × Constraint → ℕ × Constraint → Bool
-differs_at a b = (a.0 == b.0) && not (constraint_eq a.1 b.1)
-
-abbrev pub sites_differ : List (ℕ × Constraint) → List (ℕ × Constraint) → Bool
-sites_differ as' bs = list_any (λ a. list_any (differs_at a) bs) as'
 
 -- two rules of a set that have one priority, and that no site tells apart
 abbrev pub simple_clash : SetRule → SetRule → Bool
