@@ -1,3 +1,8 @@
+pub mod Ascending
+pub mod FieldSites
+pub mod FoundSites
+pub mod SameBindings
+pub mod SideBySide
 pub mod SitesIn
 pub mod BuildingSteps
 pub mod BuildingLists

@@ -1,3 +1,5 @@
 pub mod SiteViews
 pub mod Buildings
 pub mod Clashes
+pub mod Listings
+pub mod Overlaps

@@ -2,5 +2,10 @@
 //! overlap.
 #![tactic(auto)]
 
+mod bindings;
 pub mod building;
+mod constraints;
+mod overlaps;
+mod rule_sets;
+mod rules;
 pub mod trie_again;
