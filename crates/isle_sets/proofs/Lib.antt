@@ -3,7 +3,9 @@ pub mod FieldSites
 pub mod FoundSites
 pub mod SameBindings
 pub mod SideBySide
+pub mod SitesGrown
 pub mod SitesIn
+pub mod TablesGrown
 pub mod BuildingSteps
 pub mod BuildingLists
 pub mod BuildingEnds

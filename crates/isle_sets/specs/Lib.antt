@@ -3,3 +3,4 @@ pub mod Buildings
 pub mod Clashes
 pub mod Listings
 pub mod Overlaps
+pub mod SiteTables

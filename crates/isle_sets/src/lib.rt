@@ -8,4 +8,5 @@ mod constraints;
 mod overlaps;
 mod rule_sets;
 mod rules;
+pub mod site_table;
 pub mod trie_again;

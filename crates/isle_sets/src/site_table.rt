@@ -1,0 +1,92 @@
+//! The binding sites of a term, as its rules are read.
+ghost use Rattle.std.specs.Prelude.{◌≡◌, ◌<◌, ℕ, [], length, IfErr, IfOk, OnOk, Contains};
+ghost use Rattle.isle_model.specs.sites.Sites.{sources_of};
+ghost use Rattle.isle_sets.specs.SiteViews.{site_view};
+ghost use Rattle.isle_sets.specs.SiteTables.{AddsSite, HasNoRoom, IsAbsent, IsNumberOf, IsTable, table_sites};
+
+use crate::trie_again::{Binding, BindingId};
+use isle_base::syntax::Limit;
+use isle_rules::VisitFault;
+use std::alloc::{AllocError, Global};
+use std::collections::HashMap;
+
+/// The binding sites of a term: each binding once, found by its equal and not by a walk.
+pub struct SiteTable {
+    // What each site stands for, by its number.
+    bindings: Vec<Binding>,
+    // The number of each binding.
+    numbers: HashMap<Binding, BindingId>,
+}
+
+impl Drop for SiteTable {
+    fn drop(self) {
+        let Self {
+            bindings: _,
+            numbers: _,
+        } = self;
+    }
+}
+
+impl SiteTable {
+    /// No sites.
+    pub fn new(alloc: Global) -> SiteTable
+        ensures sites { table_sites result ≡ [] }
+        ensures table { IsTable result }
+    {
+        SiteTable {
+            bindings: Vec::new(alloc),
+            numbers: HashMap::new(alloc),
+        }
+    }
+
+    /// The number of a binding's site, if it has one.
+    pub fn find(&self, binding: &Binding) -> Option<BindingId>
+        requires { IsTable self.now }
+        ensures { IsNumberOf (table_sites self.now) (site_view binding.now) result }
+    {
+        self.numbers.get(binding).copied()
+    }
+
+    /// The number of a binding's site, which is a new one where it has none. The sites that it is made of are there.
+    ///
+    /// # Errors
+    ///
+    /// `Limit` where a new site would be one past 65,536: the table is then as it was. `Memory` where memory is refused.
+    pub fn add(&mut self, binding: Binding) -> Result<BindingId, VisitFault>
+        requires table { IsTable self.old }
+        requires sources { (a : ℕ) → Contains (sources_of (site_view binding)) a → a < length (table_sites self.old) }
+        ensures number { IfOk result (AddsSite (table_sites self.old) (table_sites self.new) (site_view binding)) }
+        ensures table { OnOk result (IsTable self.new) }
+        ensures err { IfErr result (HasNoRoom (table_sites self.old) (table_sites self.new) (site_view binding)) }
+    {
+        match self.find(&binding) {
+            Some(number) => Ok(number),
+            None => self.push(binding),
+        }
+    }
+
+    // The next number, for a binding that has no site.
+    fn push(&mut self, binding: Binding) -> Result<BindingId, VisitFault>
+        requires table { IsTable self.old }
+        requires sources { (a : ℕ) → Contains (sources_of (site_view binding)) a → a < length (table_sites self.old) }
+        requires absent { IsAbsent (table_sites self.old) (site_view binding) }
+        ensures number { IfOk result (AddsSite (table_sites self.old) (table_sites self.new) (site_view binding)) }
+        ensures table { OnOk result (IsTable self.new) }
+        ensures err { IfErr result (HasNoRoom (table_sites self.old) (table_sites self.new) (site_view binding)) }
+    {
+        let Ok(number) = BindingId::try_from(self.bindings.len()) else {
+            return Err(VisitFault::Limit(Limit::Sites));
+        };
+        let copy = copied(&binding)?;
+        self.numbers.insert(copy, number)?;
+        self.bindings.push(binding)?;
+        Ok(number)
+    }
+}
+
+// The same binding, with lists of its own.
+fn copied(binding: &Binding) -> Result<Binding, AllocError>
+    ensures { IfOk result (λ b. site_view b ≡ site_view binding.now) }
+{
+    binding.clone()
+}
