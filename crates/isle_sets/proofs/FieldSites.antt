@@ -12,12 +12,10 @@ place_push f i (suc n) =
     let e : i + suc n ≡ suc i + n = omega arith in
     ap (λ k. f i ∷ (each_place f (suc i) n ++ f k ∷ [])) e ∙ ap (λ l. f i ∷ l) (place_push f (suc i) n)
 
+pub place_more : (f : ℕ → Site) (i : ℕ) → each_place f 0 (i + 1) ≡ each_place f 0 i ++ f i ∷ []
+place_more f i = let z : 0 + i ≡ i = omega arith in ap (each_place f 0) (add-one i) ∙ sym (place_push f 0 i) ∙ ap (λ k. each_place f 0 i ++ f k ∷ []) z
+
 -- one field more
 pub field_more : (f : ℕ → Site) (old new : List Binding) (b : Binding) (i : ℕ) → new ≡ old ++ b ∷ [] → site_view b ≡ f i → site_views old ≡ each_place f 0 i → site_views new ≡ each_place f 0 (i + 1)
 field_more f old new b i n e h =
-    let z : i ≡ 0 + i = omega arith in
-    ap site_views n
-    ∙ map-append site_view old (b ∷ [])
-    ∙ (λ k. h k ++ (e ∙ ap f z) k ∷ [])
-    ∙ place_push f 0 i
-    ∙ ap (each_place f 0) (sym (add-one i))
+    ap site_views n ∙ map-append site_view old (b ∷ []) ∙ (λ k. h k ++ e k ∷ []) ∙ sym (place_more f i)

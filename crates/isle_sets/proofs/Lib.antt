@@ -3,6 +3,7 @@ pub mod FieldSites
 pub mod FoundSites
 pub mod SameBindings
 pub mod SideBySide
+pub mod SitesAdded
 pub mod SitesGrown
 pub mod SitesIn
 pub mod TablesGrown

@@ -12,7 +12,7 @@ use Rattle.isle_model.proofs.Members.{get_within}
 use Rattle.isle_model.proofs.Positions.{past_end, get_front, get_middle, get_push_cases}
 use Rattle.isle_model.proofs.SitesMade.{in_has, has_in}
 use Rattle.isle_laws_demands.proofs.visits.Unfolding.{SourcesFirst, layer_same, layer_at_same, unfolds}
-use Rattle.isle_sets.specs.SiteTables.{AddsSite}
+use Rattle.isle_sets.specs.SiteTables.{AddsSite, StandsFor}
 
 -- 1. one more site
 front : (sites : List Site) (b : Site) (s : ℕ) → s < length sites → slice_get (sites ++ b ∷ []) s ≡ slice_get sites s
@@ -112,13 +112,6 @@ module _ (sites : List Site) (terms : List SiteTerm) (first : SourcesFirst sites
 
     site_as_term : (s : ℕ) → slice_get sites s ≡ Some b → unfold_site sites s ≡ term
     site_as_term s e = unfolds sites first s ∙ ap (layer_at (unfold_site sites)) e
-
--- a number of a site that is added: the sites stand for the terms with that site's, and the others for what they did
-pub record StandsFor (before after : List Site) (terms : List SiteTerm) (b : Site) (n : ℕ) : Type 0 where
-  pub stand : StandFor after (with_sites terms (layer (unfold_site before) b ∷ []))
-  pub within : n < length after
-  pub number : unfold_site after n ≡ layer (unfold_site before) b
-  pub kept : (s : ℕ) → s < length before → unfold_site after s ≡ unfold_site before s
 
 in_of_get : (ts : List SiteTerm) (s : ℕ) (t : SiteTerm) → slice_get ts s ≡ Some t → In ts t
 in_of_get [] s t e = absurd (none-some t e)

@@ -1,7 +1,11 @@
 -- Tables of the binding sites of a term.
-use Rattle.std.specs.Prelude.{◌≡◌, ◌↔◌, ◌⊎◌, ℕ, ◌<◌, ◌≤◌, List, [], ◌∷◌, ◌++◌, length, Option, Some, slice_get, Contains}
+use Rattle.std.specs.Prelude.{◌≡◌, ◌↔◌, ◌⊎◌, ℕ, ◌<◌, ◌≤◌, List, [], ◌∷◌, ◌++◌, length, map, Option, Some, slice_get, All, Contains}
 use Rattle.std.specs.HashMap.{get}
-use Rattle.isle_model.specs.sites.Sites.{Site, sources_at}
+use Rattle.isle_model.specs.lists.Names.{IsDistinct}
+use Rattle.isle_model.specs.sites.Sites.{Site, Constraint, sources_at, SiteTerm, layer, unfold_site}
+use Rattle.isle_model.specs.sites.Closure.{field_terms}
+use Rattle.isle_model.specs.sites.Demands.{with_sites}
+use Rattle.isle_model.specs.sites.RuleSets.{StandFor}
 use Rattle.isle_base.specs.declared.syntax.Limit.TheVariants as Limits
 use Rattle.isle_rules.specs.declared.visit_fault.VisitFault.{VisitFault}
 use Rattle.isle_rules.specs.declared.visit_fault.VisitFault.TheVariants.{Memory, Limit}
@@ -38,3 +42,36 @@ abbrev pub HasNoRoom : List Site → List Site → Site → VisitFault → Type 
 HasNoRoom before after b (Memory e) = Unit {0}
 HasNoRoom before after b (Limit Limits.Sites) = (length before ≡ 65536) × IsAbsent before b × (after ≡ before)
 HasNoRoom before after b _ = ⊥
+
+-- a number of a site that is added: the sites stand for the terms with that site's, and the others for what they did
+pub record StandsFor (before after : List Site) (terms : List SiteTerm) (b : Site) (n : ℕ) : Type 0 where
+  pub stand : StandFor after (with_sites terms (layer (unfold_site before) b ∷ []))
+  pub within : n < length after
+  pub number : unfold_site after n ≡ layer (unfold_site before) b
+  pub kept : (s : ℕ) → s < length before → unfold_site after s ≡ unfold_site before s
+
+-- sites that are added one after another, with their numbers: the sites stand for the terms with theirs, and the others
+-- for what they did
+pub record StandForEach (before after : List Site) (terms : List SiteTerm) (bs : List Site) (ns : List ℕ) : Type 0 where
+  pub stand : StandFor after (with_sites terms (map (layer (unfold_site before)) bs))
+  pub numbers : map (unfold_site after) ns ≡ map (layer (unfold_site before)) bs
+  pub within : All (λ n. n < length after) ns
+  pub kept : (s : ℕ) → s < length before → unfold_site after s ≡ unfold_site before s
+  pub longer : length before ≤ length after
+
+-- likewise, whatever the sites stood for
+abbrev pub AddsSites : List Site → List Site → List Site → List ℕ → Type 0
+AddsSites before after bs ns = (terms : List SiteTerm) → IsDistinct terms → StandFor before terms → StandForEach before after terms bs ns
+
+-- the sites of a constraint's fields at a site are added, with their numbers: they stand for the fields of what the site
+-- stands for
+pub record StandForFields (before after : List Site) (terms : List SiteTerm) (c : Constraint) (s : ℕ) (ns : List ℕ) : Type 0 where
+  pub stand : StandFor after (with_sites terms (field_terms c (unfold_site before s)))
+  pub numbers : map (unfold_site after) ns ≡ field_terms c (unfold_site before s)
+  pub within : All (λ n. n < length after) ns
+  pub kept : (a : ℕ) → a < length before → unfold_site after a ≡ unfold_site before a
+  pub longer : length before ≤ length after
+
+-- likewise, whatever the sites stood for
+abbrev pub AddsFields : List Site → List Site → Constraint → ℕ → List ℕ → Type 0
+AddsFields before after c s ns = (terms : List SiteTerm) → IsDistinct terms → StandFor before terms → StandForFields before after terms c s ns

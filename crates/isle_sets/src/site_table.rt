@@ -1,12 +1,16 @@
 //! The binding sites of a term, as its rules are read.
-ghost use Rattle.std.specs.Prelude.{◌≡◌, ◌<◌, ℕ, [], length, IfErr, IfOk, OnOk, Contains};
-ghost use Rattle.isle_model.specs.sites.Sites.{sources_of};
-ghost use Rattle.isle_sets.specs.SiteViews.{site_view};
-ghost use Rattle.isle_sets.specs.SiteTables.{AddsSite, HasNoRoom, IsAbsent, IsNumberOf, IsTable, table_sites};
+ghost use Rattle.std.specs.Prelude.{◌≡◌, ◌<◌, ℕ, List, [], length, IfErr, IfOk, OnOk, Contains};
+ghost use Rattle.isle_model.specs.lists.Names.{IsDistinct};
+ghost use Rattle.isle_model.specs.sites.Sites.{sources_of, extract_struct_site, match_variant_site, SiteTerm};
+ghost use Rattle.isle_model.specs.sites.RuleSets.{StandFor};
+ghost use Rattle.isle_model.specs.sites.SetRules.{each_place};
+ghost use Rattle.isle_sets.specs.SiteViews.{constraint_view, site_view};
+ghost use Rattle.isle_sets.specs.SiteTables.{AddsFields, AddsSite, AddsSites, HasNoRoom, IsAbsent, IsNumberOf, IsTable, StandsFor, table_sites};
 
-use crate::trie_again::{Binding, BindingId};
+use crate::trie_again::{Binding, BindingId, Constraint, TupleIndex};
 use isle_base::syntax::Limit;
 use isle_rules::VisitFault;
+use isle_types::VariantId;
 use std::alloc::{AllocError, Global};
 use std::collections::HashMap;
 
@@ -57,11 +61,94 @@ impl SiteTable {
         requires sources { (a : ℕ) → Contains (sources_of (site_view binding)) a → a < length (table_sites self.old) }
         ensures number { IfOk result (AddsSite (table_sites self.old) (table_sites self.new) (site_view binding)) }
         ensures table { OnOk result (IsTable self.new) }
+        ensures stand { (terms : List SiteTerm) → IsDistinct terms → StandFor (table_sites self.old) terms
+            → IfOk result (StandsFor (table_sites self.old) (table_sites self.new) terms (site_view binding)) }
         ensures err { IfErr result (HasNoRoom (table_sites self.old) (table_sites self.new) (site_view binding)) }
     {
         match self.find(&binding) {
             Some(number) => Ok(number),
             None => self.push(binding),
+        }
+    }
+
+    /// The sites of a variant's fields, in order, new ones where they aren't there. The value's site is there.
+    ///
+    /// # Errors
+    ///
+    /// `Limit` where a new site would be one past 65,536, `Memory` where memory is refused.
+    pub fn add_variant_fields(
+        &mut self,
+        alloc: Global,
+        source: BindingId,
+        variant: VariantId,
+        fields: TupleIndex,
+    ) -> Result<Vec<BindingId>, VisitFault>
+        requires table { IsTable self.old }
+        requires source { source < length (table_sites self.old) }
+        ensures table { OnOk result (IsTable self.new) }
+        ensures sites { IfOk result (λ v. AddsSites (table_sites self.old) (table_sites self.new) (each_place (match_variant_site source variant.0) 0 fields) v.items) }
+    {
+        let mut numbers = Vec::new(alloc);
+        for place in 0..fields.0 {
+            let field = TupleIndex(place);
+            let number = self.add(Binding::MatchVariant {
+                source,
+                variant,
+                field,
+            })?;
+            numbers.push(number)?;
+        }
+        Ok(numbers)
+    }
+
+    /// The sites of a struct's fields, likewise.
+    ///
+    /// # Errors
+    ///
+    /// As above.
+    pub fn add_struct_fields(
+        &mut self,
+        alloc: Global,
+        source: BindingId,
+        fields: TupleIndex,
+    ) -> Result<Vec<BindingId>, VisitFault>
+        requires table { IsTable self.old }
+        requires source { source < length (table_sites self.old) }
+        ensures table { OnOk result (IsTable self.new) }
+        ensures sites { IfOk result (λ v. AddsSites (table_sites self.old) (table_sites self.new) (each_place (extract_struct_site source) 0 fields) v.items) }
+    {
+        let mut numbers = Vec::new(alloc);
+        for place in 0..fields.0 {
+            let field = TupleIndex(place);
+            let number = self.add(Binding::ExtractStruct { source, field })?;
+            numbers.push(number)?;
+        }
+        Ok(numbers)
+    }
+
+    /// The sites of the fields that a constraint gives a site, in order, new ones where they aren't there: those of a
+    /// variant or a struct, and of no other constraint. The site itself is there.
+    ///
+    /// # Errors
+    ///
+    /// As above.
+    pub fn add_fields(
+        &mut self,
+        alloc: Global,
+        constraint: Constraint,
+        source: BindingId,
+    ) -> Result<Vec<BindingId>, VisitFault>
+        requires table { IsTable self.old }
+        requires source { source < length (table_sites self.old) }
+        ensures table { OnOk result (IsTable self.new) }
+        ensures sites { IfOk result (λ v. AddsFields (table_sites self.old) (table_sites self.new) (constraint_view constraint) source v.items) }
+    {
+        match constraint {
+            Constraint::Variant {
+                variant, fields, ..
+            } => self.add_variant_fields(alloc, source, variant, fields),
+            Constraint::Struct { fields, .. } => self.add_struct_fields(alloc, source, fields),
+            _ => Ok(Vec::new(alloc)),
         }
     }
 
