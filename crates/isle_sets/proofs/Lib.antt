@@ -1,4 +1,5 @@
 pub mod Ascending
+pub mod Equated
 pub mod FieldSites
 pub mod FoundSites
 pub mod SameBindings

@@ -1,5 +1,5 @@
 -- Two rules' constraints side by side: what is found by going on at the lesser site, where both ascend.
-use Rattle.std.proofs.Common.{◌≡◌, ◌==◌, ℕ, zero, suc, ◌+◌, ◌<◌, ◌≤◌, Bool, true, false, not, ◌&&◌, ◌||◌, List, [], ◌∷◌, length, map, drop, get_or, drop-cons, inl, inr, refl, sym, ap, ap₂, ◌∙◌, subst, arith, nat_lt, eqb-true, add-one, ◌⊎◌}
+use Rattle.std.proofs.Common.{◌≡◌, ◌==◌, ℕ, zero, suc, ◌+◌, ◌<◌, ◌≤◌, Bool, true, false, not, ◌&&◌, ◌||◌, List, [], ◌∷◌, length, map, drop, get_or, inl, inr, refl, sym, ap, ap₂, ◌∙◌, subst, arith, nat_lt, eqb-true, ◌⊎◌}
 use Rattle.std.specs.List.{list_all, list_any}
 use Rattle.std.proofs.lemmas.Bool.{and_parts, cases_Bool, both_ways, eq-eqb}
 use Rattle.std.proofs.lemmas.Bool.Decides.{Decides-ltb}
@@ -8,9 +8,10 @@ use Rattle.isle_model.specs.sites.Demands.{constraint_eq}
 use Rattle.isle_model.specs.sites.SetRules.{differs_at, sites_differ, agrees_at, all_agree}
 use Rattle.isle_model.proofs.SameSites.{constraint_means, same_constraint}
 use Rattle.isle_sets.specs.Listings.{is_below_first, ascends, sites_of}
-use Rattle.isle_sets.specs.Overlaps.{IsMet}
+use Rattle.isle_sets.specs.Overlaps.{IsComparedAs}
 use Rattle.isle_sets.specs.SiteViews.{constraint_view, constraint_views}
 use Rattle.isle_sets.specs.declared.trie_again.Constraint.{Constraint}
+use Rattle.isle_sets.proofs.BuildingLists.{rest_is}
 
 abbrev Demand : Type 0
 Demand = ℕ × Sites.Constraint
@@ -171,7 +172,7 @@ none_differ [] = refl
 none_differ (x ∷ xs) = none_differ xs
 
 -- one of the two lists is walked whole
-pub met_at_end : (as' bs xs ys : List Demand) (first second : Bool) → (xs ≡ []) ⊎ (ys ≡ []) → IsMetSoFar as' bs xs ys first second → IsMet as' bs (first && is_at_end xs) (second && is_at_end ys)
+pub met_at_end : (as' bs xs ys : List Demand) (first second : Bool) → (xs ≡ []) ⊎ (ys ≡ []) → IsMetSoFar as' bs xs ys first second → IsComparedAs as' bs (first && is_at_end xs) (second && is_at_end ys)
 met_at_end as' bs xs ys first second (inl e) m =
     let n = subst (λ l. IsMetSoFar as' bs l ys first second) e m in
     record {
@@ -187,9 +188,6 @@ met_at_end as' bs xs ys first second (inr e) m =
       others_among = ap (λ l. second && is_at_end l) e ∙ sym n.others_among;
     }
 
-rest_from : (xs : List (ℕ × Constraint)) (i : ℕ) (x : ℕ × Constraint) → i < length xs → x ≡ get_or xs i x → drop i xs ≡ x ∷ drop (i + 1) xs
-rest_from xs i x h e = drop-cons xs i x h ∙ (λ k. sym e k ∷ drop (sym (add-one i) k) xs)
-
 -- 4. the same by places of the lists as code holds them
 module _ (as' bs : List (ℕ × Constraint)) (i j : ℕ) (x y : ℕ × Constraint) (p q : Bool) (l : i < length as') (k : j < length bs) (e : x ≡ get_or as' i x) (f : y ≡ get_or bs j y) where
   abbrev MetAt : ℕ → ℕ → Bool → Bool → Type 0
@@ -199,10 +197,10 @@ module _ (as' bs : List (ℕ × Constraint)) (i j : ℕ) (x y : ℕ × Constrain
   MetFrom xs ys r s = IsMetSoFar (constraint_views as') (constraint_views bs) (constraint_views xs) (constraint_views ys) r s
 
   this_rest : drop i as' ≡ x ∷ drop (i + 1) as'
-  this_rest = rest_from as' i x l e
+  this_rest = rest_is as' i x l e
 
   other_rest : drop j bs ≡ y ∷ drop (j + 1) bs
-  other_rest = rest_from bs j y k f
+  other_rest = rest_is bs j y k f
 
   here : MetAt i j p q → MetFrom (x ∷ drop (i + 1) as') (y ∷ drop (j + 1) bs) p q
   here m = subst (λ xs. MetFrom xs (y ∷ drop (j + 1) bs) p q) this_rest (subst (λ ys. MetFrom (drop i as') ys p q) other_rest m)
@@ -253,9 +251,9 @@ nothing_left (c ∷ cs) (suc i) l = nothing_left cs i (omega arith)
 
 pub walked_whole : (as' bs : List (ℕ × Constraint)) (i j : ℕ) (p q r s : Bool) → i ≤ length as' → j ≤ length bs → (length as' ≤ i) ⊎ (length bs ≤ j)
     → IsMetSoFar (constraint_views as') (constraint_views bs) (constraint_views (drop i as')) (constraint_views (drop j bs)) p q
-    → r ≡ (p && (i == length as')) → s ≡ (q && (j == length bs)) → IsMet (constraint_views as') (constraint_views bs) r s
+    → r ≡ (p && (i == length as')) → s ≡ (q && (j == length bs)) → IsComparedAs (constraint_views as') (constraint_views bs) r s
 walked_whole as' bs i j p q r s l k done m e f =
-    let end : IsMet (constraint_views as') (constraint_views bs) (p && is_at_end (constraint_views (drop i as'))) (q && is_at_end (constraint_views (drop j bs))) =
+    let end : IsComparedAs (constraint_views as') (constraint_views bs) (p && is_at_end (constraint_views (drop i as'))) (q && is_at_end (constraint_views (drop j bs))) =
     met_at_end (constraint_views as') (constraint_views bs) (constraint_views (drop i as')) (constraint_views (drop j bs)) p q (one_done as' bs i j done) m in
     record {
       differ = end.differ;

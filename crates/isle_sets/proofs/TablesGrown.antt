@@ -7,7 +7,7 @@ use Rattle.std.proofs.lemmas.Option.{same_Some}
 use Rattle.isle_model.specs.sites.Sites.{Site, sources_at, sources_of}
 use Rattle.isle_model.proofs.Positions.{get_front, get_middle, get_push_cases}
 use Rattle.isle_sets.specs.SiteViews.{site_view, site_views}
-use Rattle.isle_sets.specs.SiteTables.{table_sites, IsNumberOf, IsTable, IsAbsent}
+use Rattle.isle_sets.specs.SiteTables.{table_sites, IsSiteNumber, IsTable, IsAbsent}
 use Rattle.isle_sets.specs.contracts.trie_again.BindingPartialEq.TheImpl.{ghosts}
 use Rattle.isle_sets.specs.declared.trie_again.Binding.{Binding}
 use Rattle.isle_sets.specs.declared.site_table.SiteTable.{SiteTable}
@@ -15,9 +15,9 @@ use Rattle.isle_sets.proofs.SameBindings.{one_view, one_binding}
 use Rattle.isle_sets.proofs.SitesGrown.{sources_first_grown}
 
 module _ (sites : List Site) (f g : Binding → Option ℕ) (copy : Binding) (b : Site) (n : ℕ) (e : site_view copy ≡ b) (len : n ≡ length sites) (absent : IsAbsent sites b)
-    (found : (q : Binding) → IsNumberOf sites (site_view q) (f q)) (updates : (q : Binding) → g q ≡ cond (ghosts.eq copy q) (Some n) (f q)) where
+    (found : (q : Binding) → IsSiteNumber sites (site_view q) (f q)) (updates : (q : Binding) → g q ≡ cond (ghosts.eq copy q) (Some n) (f q)) where
   abbrev IsFound : Binding → Type 0
-  IsFound q = IsNumberOf (sites ++ b ∷ []) (site_view q) (g q)
+  IsFound q = IsSiteNumber (sites ++ b ∷ []) (site_view q) (g q)
 
   found_new : (q : Binding) → ghosts.eq copy q ≡ true → IsFound q
   found_new q t s =
@@ -50,7 +50,7 @@ table_grown old new binding copy n t below absent same len fits items updates =
     let count = ap length sites in
     record {
       found = λ q.
-          subst (λ l. IsNumberOf l (site_view q) (get ghosts.eq new.numbers q)) (sym sites)
+          subst (λ l. IsSiteNumber l (site_view q) (get ghosts.eq new.numbers q)) (sym sites)
           (found_grown (table_sites old) (get ghosts.eq old.numbers) (get ghosts.eq new.numbers) copy (site_view binding) n same len absent t.found updates q);
       few = omega arith;
       sources = subst (λ l. (s a : ℕ) → Contains (sources_at l s) a → a < s) (sym sites) (sources_first_grown (table_sites old) (site_view binding) t.sources below);

@@ -4,3 +4,4 @@ pub mod Clashes
 pub mod Listings
 pub mod Overlaps
 pub mod SiteTables
+pub mod DemandsHeld

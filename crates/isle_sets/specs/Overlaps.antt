@@ -10,7 +10,7 @@ overlap_view O.No = no_overlap
 overlap_view (O.Yes subset) = some_overlap subset
 
 -- no site has different constraints in two lists, and this says whether those of one are among the other's
-pub record IsMet (as' bs : List (ℕ × Constraint)) (first second : Bool) : Type 0 where
+pub record IsComparedAs (as' bs : List (ℕ × Constraint)) (first second : Bool) : Type 0 where
   pub differ : sites_differ as' bs ≡ false
   pub among : first ≡ all_agree as' bs
   pub others_among : second ≡ all_agree bs as'

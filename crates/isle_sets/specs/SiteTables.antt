@@ -19,12 +19,12 @@ abbrev pub table_sites : SiteTable → List Site
 table_sites t = site_views t.bindings.items
 
 -- a number is given for a site exactly where it stands there
-abbrev pub IsNumberOf : List Site → Site → Option ℕ → Type 0
-IsNumberOf sites b o = (s : ℕ) → (o ≡ Some s) ↔ (slice_get sites s ≡ Some b)
+abbrev pub IsSiteNumber : List Site → Site → Option ℕ → Type 0
+IsSiteNumber sites b o = (s : ℕ) → (o ≡ Some s) ↔ (slice_get sites s ≡ Some b)
 
 -- each binding is found at its site, there are no more sites than there may be, and sources have smaller numbers
 pub record IsTable (t : SiteTable) : Type 0 where
-  pub found : (q : Binding) → IsNumberOf (table_sites t) (site_view q) (get ghosts.eq t.numbers q)
+  pub found : (q : Binding) → IsSiteNumber (table_sites t) (site_view q) (get ghosts.eq t.numbers q)
   pub few : length (table_sites t) ≤ 65536
   pub sources : (s a : ℕ) → Contains (sources_at (table_sites t) s) a → a < s
 

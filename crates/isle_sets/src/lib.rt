@@ -5,6 +5,7 @@
 mod bindings;
 pub mod building;
 mod constraints;
+pub mod demanded;
 mod overlaps;
 mod rule_sets;
 mod rules;

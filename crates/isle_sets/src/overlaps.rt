@@ -3,7 +3,7 @@ ghost use Rattle.std.specs.Prelude.{◌≡◌, ◌==◌, ◌&&◌, ◌+◌, IsTr
 ghost use Rattle.isle_model.specs.sites.Demands.{constraint_eq};
 ghost use Rattle.isle_model.specs.sites.SetRules.{equates_none, overlap_between, sites_differ};
 ghost use Rattle.isle_sets.specs.Listings.{ascends, sites_of};
-ghost use Rattle.isle_sets.specs.Overlaps.{overlap_view, IsMet};
+ghost use Rattle.isle_sets.specs.Overlaps.{overlap_view, IsComparedAs};
 ghost use Rattle.isle_sets.specs.SiteViews.{constraint_view, constraint_views, set_rule_view};
 
 use crate::trie_again::{BindingId, Constraint, Overlap, Rule};
@@ -40,7 +40,7 @@ fn has_no_equality(rule: &Rule) -> bool
 }
 
 // Whether two constraints are one.
-fn is_same_constraint(a: &Constraint, b: &Constraint) -> bool
+pub(crate) fn is_same_constraint(a: &Constraint, b: &Constraint) -> bool
     ensures { result ≡ constraint_eq (constraint_view a.now) (constraint_view b.now) }
 {
     a == b
@@ -55,7 +55,7 @@ fn side_by_side(
     requires ascending { IsTrue (ascends (sites_of some.now)) }
     requires others_ascending { IsTrue (ascends (sites_of others.now)) }
     ensures { MatchOption result (IsTrue (sites_differ (constraint_views some.now) (constraint_views others.now)))
-        (λ m. IsMet (constraint_views some.now) (constraint_views others.now) m.0 m.1) }
+        (λ m. IsComparedAs (constraint_views some.now) (constraint_views others.now) m.0 m.1) }
 {
     let mut i = 0;
     let mut j = 0;

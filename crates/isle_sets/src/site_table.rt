@@ -5,7 +5,7 @@ ghost use Rattle.isle_model.specs.sites.Sites.{sources_of, extract_struct_site, 
 ghost use Rattle.isle_model.specs.sites.RuleSets.{StandFor};
 ghost use Rattle.isle_model.specs.sites.SetRules.{each_place};
 ghost use Rattle.isle_sets.specs.SiteViews.{constraint_view, site_view};
-ghost use Rattle.isle_sets.specs.SiteTables.{AddsFields, AddsSite, AddsSites, HasNoRoom, IsAbsent, IsNumberOf, IsTable, StandsFor, table_sites};
+ghost use Rattle.isle_sets.specs.SiteTables.{AddsFields, AddsSite, AddsSites, HasNoRoom, IsAbsent, IsSiteNumber, IsTable, StandsFor, table_sites};
 
 use crate::trie_again::{Binding, BindingId, Constraint, TupleIndex};
 use isle_base::syntax::Limit;
@@ -46,7 +46,7 @@ impl SiteTable {
     /// The number of a binding's site, if it has one.
     pub fn find(&self, binding: &Binding) -> Option<BindingId>
         requires { IsTable self.now }
-        ensures { IsNumberOf (table_sites self.now) (site_view binding.now) result }
+        ensures { IsSiteNumber (table_sites self.now) (site_view binding.now) result }
     {
         self.numbers.get(binding).copied()
     }
