@@ -1,12 +1,11 @@
 -- Sites of constraints that ascend, and those of the arguments' patterns.
-use Rattle.std.proofs.Common.{◌≡◌, ℕ, zero, suc, ◌+◌, ◌<◌, ◌≤◌, Bool, true, ◌&&◌, List, [], ◌∷◌, ◌++◌, map, refl, ap, sym, ◌∙◌, arith, nat_lt}
+use Rattle.std.proofs.Common.{◌≡◌, ℕ, suc, ◌<◌, true, List, [], ◌∷◌, refl, ap, sym, ◌∙◌, arith}
 use Rattle.std.proofs.lemmas.Bool.{and_from}
 use Rattle.std.proofs.lemmas.Bool.Decides.{Decides-ltb}
 use Rattle.isle_model.specs.rules.Typed.{TypedPattern, match_bind, match_var, match_bool, match_int, match_prim, match_term, match_any, match_and}
-use Rattle.isle_model.specs.sites.Sites as Sites
 use Rattle.isle_model.specs.first.Building.{asked_from}
 use Rattle.isle_sets.specs.Listings.{is_below_first, ascends, sites_of}
-use Rattle.isle_sets.specs.SiteViews.{constraint_view, constraint_views}
+use Rattle.isle_sets.specs.SiteViews.{constraint_views}
 use Rattle.isle_sets.specs.declared.trie_again.Constraint.{Constraint}
 
 pub sites_of_views : (cs : List (ℕ × Constraint)) → sites_of (constraint_views cs) ≡ sites_of cs

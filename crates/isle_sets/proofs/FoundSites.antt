@@ -1,5 +1,5 @@
 -- Where a site of a set is found.
-use Rattle.std.proofs.Common.{◌≡◌, ℕ, ◌+◌, ◌<◌, ◌≤◌, ◌==◌, Bool, true, false, List, length, get_or, Some, None, slice_get, option_map, refl, sym, ap, ◌∙◌, subst, inl, inr, arith, eqb-true, eq-eqb}
+use Rattle.std.proofs.Common.{◌≡◌, ℕ, ◌+◌, ◌<◌, ◌≤◌, ◌==◌, List, length, get_or, Some, None, slice_get, option_map, refl, sym, ap, ◌∙◌, subst, inl, inr, arith, eqb-true, eq-eqb}
 use Rattle.std.specs.Prelude.{Option, Result, Ok, Err}
 use Rattle.std.specs.Result.{OkIff, result_ok}
 use Rattle.std.proofs.lemmas.Bool.{cases_Bool, both_ways}
@@ -31,23 +31,21 @@ module _ (bs : List Binding) (v : Site) where
     pub found_here : site_view x ≡ v → IsDistinct (site_views bs) → (o : Option ℕ) → o ≡ Some n → (s : ℕ)
         → (o ≡ Some s → slice_get (site_views bs) s ≡ Some v) × (slice_get (site_views bs) s ≡ Some v → o ≡ Some s)
     found_here is distinct o found s =
-        let at : slice_get (site_views bs) n ≡ Some v = seen_here ∙ ap Some is in
-        (
+        let at : slice_get (site_views bs) n ≡ Some v = seen_here ∙ ap Some is in (
           λ g. subst (λ k. slice_get (site_views bs) k ≡ Some v) (same_Some n s (sym found ∙ g)) at,
           λ h. found ∙ ap Some (distinct n s v at h),
         )
 
   pub found_nowhere : (n : ℕ) (cs : List Binding) → cs ≡ bs → length cs ≤ n → NotBefore n → (s : ℕ)
       → (◌≡◌ {A = Option ℕ} None (Some s) → slice_get (site_views bs) s ≡ Some v) × (slice_get (site_views bs) s ≡ Some v → ◌≡◌ {A = Option ℕ} None (Some s))
-  found_nowhere n cs same l none s =
-      (
-        λ e. absurd (none-some s e),
-        λ h.
-            let m = slice_get_within (site_views bs) s v h in
-            let k = length-map bs site_view in
-            let j : length cs ≡ length bs = ap length same in
-            absurd (none s (omega arith) h),
-      )
+  found_nowhere n cs same l none s = (
+    λ e. absurd (none-some s e),
+    λ h.
+        let m = slice_get_within (site_views bs) s v h in
+        let k = length-map bs site_view in
+        let j : length cs ≡ length bs = ap length same in
+        absurd (none s (omega arith) h),
+  )
 
 pub number_fits : {E : Type 0} (r : Result ℕ E) (n : ℕ) → OkIff r (n < 65536) n → n < 65536 → result_ok r ≡ Some n
 number_fits (Ok x) n h l = ap Some h.1

@@ -1,20 +1,19 @@
 -- Sites that are added one after another, and the fields that a constraint gives a site.
-use Rattle.std.proofs.Common.{◌≡◌, ℕ, zero, suc, ◌+◌, ◌<◌, ◌≤◌, List, [], ◌∷◌, ◌++◌, length, map, All, Contains, Some, inl, inr, refl, sym, ap, ap₂, ◌∙◌, subst, arith, add-one}
+use Rattle.std.proofs.Common.{◌≡◌, ℕ, zero, suc, ◌+◌, ◌<◌, ◌≤◌, List, [], ◌∷◌, ◌++◌, length, map, All, Contains, inl, inr, refl, sym, ap, ap₂, ◌∙◌, subst, arith}
 use Rattle.std.specs.Prelude.{Result, IfOk, Ok, Err, if◌then◌else◌}
 use Rattle.std.proofs.lemmas.List.{length_push, map-append}
 use Rattle.std.proofs.lemmas.List.Elements.{All-push, All-weaker, All-nil}
 use Rattle.isle_model.specs.lists.Names.{IsDistinct}
-use Rattle.isle_model.specs.sites.Sites.{Site, match_variant_site, extract_struct_site, Constraint, is_variant, is_struct, is_bool, is_int, is_prim, is_present, sources_of, SiteTerm, variant_field, struct_field, layer, unfold_site}
+use Rattle.isle_model.specs.sites.Sites.{Site, match_variant_site, extract_struct_site, Constraint, is_variant, is_struct, sources_of, SiteTerm, variant_field, struct_field, layer, unfold_site}
 use Rattle.isle_model.specs.sites.Demands.{has_site, with_sites}
 use Rattle.isle_model.specs.sites.Closure.{fields_from, field_terms}
 use Rattle.isle_model.specs.sites.RuleSets.{StandFor}
 use Rattle.isle_model.specs.sites.SetRules.{each_place}
-use Rattle.isle_model.proofs.Elements.{In, contains_from_in}
+use Rattle.isle_model.proofs.Elements.{contains_from_in}
 use Rattle.isle_model.proofs.SitesMade.{once_with}
 use Rattle.isle_laws_demands.proofs.visits.Unfolding.{SourcesFirst, layer_same}
-use Rattle.isle_sets.specs.SiteTables.{AddsSite, AddsSites, AddsFields, StandsFor, StandForEach, StandForFields}
+use Rattle.isle_sets.specs.SiteTables.{AddsSite, AddsSites, AddsFields, StandsFor}
 use Rattle.isle_sets.proofs.FieldSites.{place_more}
-use Rattle.isle_sets.proofs.SitesGrown.{added_stands}
 
 with_sites_push : (ts xs : List SiteTerm) (x : SiteTerm) → with_sites ts (xs ++ x ∷ []) ≡ with_sites (with_sites ts xs) (x ∷ [])
 with_sites_push ts [] x = refl
@@ -97,11 +96,10 @@ pub field_added : (f : ℕ → Site) (before mid after : List Site) (i : ℕ) (n
     → (length before ≤ length after) × AddsSites before after (each_place f 0 (i + 1)) ns'
 field_added f before mid after i ns ns' b n e added first below longer adds next new =
     let l = no_shorter_by mid after b n adds in
-    let one = one_added before mid after (each_place f 0 i) ns b n added first below l next in
-    (
+    let one = one_added before mid after (each_place f 0 i) ns b n added first below l next in (
       omega arith,
       subst (λ ms. AddsSites before after (each_place f 0 (i + 1)) ms) (sym new)
-      (subst (λ bs. AddsSites before after bs (ns ++ n ∷ [])) (ap (λ x. each_place f 0 i ++ x ∷ []) e ∙ sym (place_more f i)) one),
+          (subst (λ bs. AddsSites before after bs (ns ++ n ∷ [])) (ap (λ x. each_place f 0 i ++ x ∷ []) e ∙ sym (place_more f i)) one),
     )
 
 pub weaker_ok : {T E : Type 0} (P Q : T → Type 0) (r : Result T E) → ((x : T) → P x → Q x) → IfOk r P → IfOk r Q

@@ -1,15 +1,15 @@
 -- A list of sites with one more: what its numbers stand for, where sources have smaller numbers.
-use Rattle.std.proofs.Common.{◌≡◌, ◌⊎◌, ℕ, zero, suc, ◌+◌, ◌<◌, ◌≤◌, ◌==◌, Bool, true, false, List, [], ◌∷◌, ◌++◌, length, Option, Some, None, slice_get, Contains, inl, inr, refl, sym, ap, ap₂, ◌∙◌, subst, arith, eqb-true, eq-eqb}
+use Rattle.std.proofs.Common.{◌≡◌, ◌⊎◌, ℕ, zero, suc, ◌<◌, ◌==◌, false, List, [], ◌∷◌, ◌++◌, length, Some, None, slice_get, Contains, inl, inr, refl, sym, ap, ap₂, ◌∙◌, subst, arith, eqb-true, eq-eqb}
 use Rattle.std.proofs.lemmas.Bool.{cases_Bool, cond-true, cond-false, both_ways}
 use Rattle.std.proofs.lemmas.List.{length_push}
 use Rattle.std.proofs.lemmas.Option.{none-some, same_Some, slice_get_within}
 use Rattle.isle_model.specs.lists.Names.{IsDistinct}
-use Rattle.isle_model.specs.sites.Sites.{Site, bool_site, int_site, prim_site, argument_site, extractor_site, constructor_site, iterator_site, make_variant_site, match_variant_site, make_struct_site, extract_struct_site, make_some_site, match_some_site, match_tuple_site, sources_of, sources_at, SiteTerm, SiteTerms, site_term_and, each_term, layer, layer_at, unfolded, unfold_site}
-use Rattle.isle_model.specs.sites.Demands.{has_site, with_sites}
+use Rattle.isle_model.specs.sites.Sites.{Site, bool_site, int_site, prim_site, argument_site, extractor_site, constructor_site, iterator_site, make_variant_site, match_variant_site, make_struct_site, extract_struct_site, make_some_site, match_some_site, match_tuple_site, sources_of, sources_at, SiteTerm, each_term, layer, layer_at, unfolded, unfold_site}
+use Rattle.isle_model.specs.sites.Demands.{has_site}
 use Rattle.isle_model.specs.sites.RuleSets.{StandFor}
-use Rattle.isle_model.proofs.Elements.{In, contains_from_in, in_slice}
+use Rattle.isle_model.proofs.Elements.{In, contains_from_in}
 use Rattle.isle_model.proofs.Members.{get_within}
-use Rattle.isle_model.proofs.Positions.{past_end, get_front, get_middle, get_push_cases}
+use Rattle.isle_model.proofs.Positions.{get_front, get_middle}
 use Rattle.isle_model.proofs.SitesMade.{in_has, has_in}
 use Rattle.isle_laws_demands.proofs.visits.Unfolding.{SourcesFirst, layer_same, layer_at_same, unfolds}
 use Rattle.isle_sets.specs.SiteTables.{AddsSite, StandsFor}

@@ -1,11 +1,10 @@
 -- What a rule demands of sites, by their numbers.
-use Rattle.std.specs.Prelude.{◌≡◌, ℕ, Bool, ◌&&◌, ◌||◌, List, [], ◌∷◌, Option, Some, None, option_map, if◌then◌else◌, MatchOption, IsTrue, IsFalse, nat_eq}
-use Rattle.std.specs.Bool.{◌==◌}
+use Rattle.std.specs.Prelude.{◌≡◌, ℕ, Bool, ◌&&◌, ◌||◌, List, [], ◌∷◌, Option, Some, None, option_map, if◌then◌else◌, nat_eq}
 use Rattle.std.specs.Ordering.{nat_cmp}
 use Rattle.std.specs.BTreeMap.{get}
 use Rattle.isle_base.specs.Partition.{together}
 use Rattle.isle_model.specs.sites.Sites as Sites
-use Rattle.isle_model.specs.sites.Closure.{Unreachability, conflict, conflict_with}
+use Rattle.isle_model.specs.sites.Closure.{conflict, conflict_with}
 use Rattle.isle_sets.specs.SiteViews.{constraint_view}
 use Rattle.isle_sets.specs.declared.trie_again.Constraint.{Constraint}
 use Rattle.isle_sets.specs.declared.demanded.Demanded.{Demanded}

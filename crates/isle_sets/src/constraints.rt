@@ -24,7 +24,9 @@ impl Constraint {
             | Constraint::ConstPrim { .. } => Ok(Vec::new(alloc)),
             Constraint::Some => answer_of(alloc, source),
             Constraint::Variant {
-                variant, fields, ..
+                variant,
+                fields,
+                ..
             } => variant_fields(alloc, source, variant, fields),
             Constraint::Struct { fields, .. } => struct_fields(alloc, source, fields),
         }
@@ -36,7 +38,9 @@ impl Constraint {
         ensures { result ≡ may_fit (constraint_view self.now) (site_view binding.now) }
     {
         match self {
-            Constraint::Variant { ty, variant, .. } => is_not_another_variant(binding, *ty, *variant),
+            Constraint::Variant { ty, variant, .. } => is_not_another_variant(
+                binding, *ty, *variant,
+            ),
             Constraint::ConstInt { val, ty } => is_not_another_integer(binding, *val, *ty),
             _ => true,
         }

@@ -145,7 +145,9 @@ impl SiteTable {
     {
         match constraint {
             Constraint::Variant {
-                variant, fields, ..
+                variant,
+                fields,
+                ..
             } => self.add_variant_fields(alloc, source, variant, fields),
             Constraint::Struct { fields, .. } => self.add_struct_fields(alloc, source, fields),
             _ => Ok(Vec::new(alloc)),

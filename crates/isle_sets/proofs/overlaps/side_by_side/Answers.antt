@@ -1,6 +1,6 @@
-use Rattle.std.proofs.Common.{◌<◌, ◌≤◌, ◌≡◌, ◌⊎◌, length, inl, inr, rules, arith}
+use Rattle.std.proofs.Common.{◌≤◌, ◌⊎◌, length, inl, inr, rules, arith}
 use Rattle.isle_sets.specs.SiteViews.{constraint_views}
-use Rattle.isle_sets.proofs.SideBySide.{nothing_met, walk_first, walk_second, walk_both, found_to_differ, walked_whole}
+use Rattle.isle_sets.proofs.SideBySide.{nothing_met, walk_first, walk_second, walk_both, walked_whole}
 use Rattle.isle_sets.proofs.Ascending.{views_ascend}
 use Rattle.isle_sets.proofs.overlaps.side_by_side.Goals as goal
 use Rattle.isle_sets.proofs.overlaps.side_by_side.Goals.{then-loop-i-test+else-j-others, else-loop-i-test}

@@ -1,4 +1,4 @@
-use Rattle.std.proofs.Common.{◌≡◌, ◌≤◌, ℕ, length, drop}
+use Rattle.std.proofs.Common.{◌≡◌, ℕ, drop}
 use Rattle.std.specs.List.{zip}
 use Rattle.isle_sets.specs.DemandsHeld.{are_equated, equated_each}
 use Rattle.isle_sets.proofs.demanded.Demanded.equate_each.Given as goal

@@ -1,5 +1,4 @@
 use Rattle.std.proofs.Common.{◌<◌, length, sym, ap, ◌∙◌, arith}
-use Rattle.std.specs.Prelude.{vec_len}
 use Rattle.std.proofs.lemmas.Bool.{false≢true}
 use Rattle.isle_sets.specs.SiteViews.{site_view}
 use Rattle.isle_sets.proofs.FoundSites.{not_before_next, found_here, found_nowhere, number_fits}
