@@ -1,5 +1,5 @@
 //! Sets of items that are apart from each other, each with one of its members as its name: what a rule says is equal.
-ghost use Rattle.std.specs.Prelude.{nat_eq, ◌%◌, Vec, Some, None, true, false, ◌≡◌, ◌≢◌, ◌==◌, ℕ, ◌+◌, ◌<◌, ◌≤◌, ◌||◌, ◌&&◌, cond, not, [], ◌∷◌, ◌++◌, ◌↔◌, List, sum_by, length, count_by, slice_get, slice_index_or, vec_len, vec_capacity, IfOk, IsOkAnd, OnOk, OnErr, IfSome, IsSome, is_some, IsFalse, IsNone, IsTrue};
+ghost use Rattle.std.specs.Prelude.{nat_eq, ◌%◌, ◌^◌, Vec, Some, None, true, false, ◌≡◌, ◌≢◌, ◌==◌, ℕ, ◌+◌, ◌<◌, ◌≤◌, ◌||◌, ◌&&◌, cond, not, [], ◌∷◌, ◌++◌, ◌↔◌, List, sum_by, length, count_by, slice_get, slice_index_or, vec_len, vec_capacity, IfOk, IsOkAnd, OnOk, OnErr, IfSome, IsSome, is_some, IsFalse, IsNone, IsTrue};
 ghost use Rattle.std.proofs.Common.{rules};
 ghost use Rattle.std.specs.Cmp.Rules.{comparing, hashing};
 ghost use Rattle.std.specs.Hash as fed;
@@ -172,6 +172,7 @@ impl<T: Copy + Debug + Eq + Hash> DisjointSets<T> {
     /// The number of items in all sets. Takes no memory. Upstream's `DisjointSets::len`.
     pub fn len(&self) -> usize
         ensures value { result ≡ sum_by length self.now }
+        ensures small { result < 2 ^ 63 }
 
         // as many as a list has that has each of them once
         ensures count { (items : List T) × IsDistinct T.eq items × ((y : T) → in_set T.eq items y ≡ together T.eq self.now y y) × (length items ≡ result) }

@@ -1,4 +1,13 @@
+pub mod Ascending
+pub mod Equated
+pub mod FieldSites
+pub mod FoundSites
+pub mod SameBindings
+pub mod SideBySide
+pub mod SitesAdded
+pub mod SitesGrown
 pub mod SitesIn
+pub mod TablesGrown
 pub mod BuildingSteps
 pub mod BuildingLists
 pub mod BuildingEnds

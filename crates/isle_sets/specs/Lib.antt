@@ -1,3 +1,7 @@
 pub mod SiteViews
 pub mod Buildings
 pub mod Clashes
+pub mod Listings
+pub mod Overlaps
+pub mod SiteTables
+pub mod DemandsHeld

@@ -2,5 +2,12 @@
 //! overlap.
 #![tactic(auto)]
 
+mod bindings;
 pub mod building;
+mod constraints;
+pub mod demanded;
+mod overlaps;
+mod rule_sets;
+mod rules;
+pub mod site_table;
 pub mod trie_again;

@@ -1,18 +1,15 @@
 //! The rules of one term as sets of demands on numbered binding sites, which stand for the values that rules look at
 //! and make. Rules that speak of the same value do so by the same site, so that one test may serve them all.
-ghost use Rattle.std.specs.Prelude.{◌≡◌, ◌<◌, ◌^◌, option_map};
+ghost use Rattle.std.specs.Prelude.{◌≡◌, ◌<◌, ◌^◌, ℕ, IsTrue};
 ghost use Rattle.std.specs.Result.{OkIff};
-ghost use Rattle.isle_model.specs.trees.Places.{constraint_at};
-ghost use Rattle.isle_model.specs.sites.Sites.{sources_of};
-ghost use Rattle.isle_sets.specs.SiteViews.{site_view, constraint_view, set_rule_view, set_view, empty_rule, empty_set};
+ghost use Rattle.isle_model.specs.trees.Places.{joins_in};
+ghost use Rattle.isle_sets.specs.Listings.{are_listed, ascends, class_lists, sites_of};
 
 use isle_base::disjointsets::DisjointSets;
 use isle_base::stablemapset::StableSet;
 use isle_base::syntax::Pos;
 use isle_types::{RuleId, Sym, TermId, TypeId, VariantId};
-use std::alloc::Global;
 use std::marker::Model;
-use std::slice;
 
 /// A number that is too great for an index of its kind.
 #[derive(Clone, Copy, Debug)]
@@ -21,7 +18,7 @@ pub struct OutOfRange;
 /// The place of a field in a tuple, a variant or a struct, or of an argument. Fields go by places, since these are
 /// compared at once; the type table has their names. A contract sees it as the number.
 #[derive(Clone, Copy, PartialEq, Eq, Hash, PartialOrd, Ord, Debug, Default)]
-pub struct TupleIndex(u8);
+pub struct TupleIndex(pub(crate) u8);
 
 impl Model for TupleIndex {
     ghost use Rattle.std.specs.Prelude.{ℕ};
@@ -59,7 +56,7 @@ impl TryFrom<usize> for TupleIndex {
 /// The number of a binding site: its place in `RuleSet::bindings`. It means nothing outside its set. A contract sees
 /// it as the number.
 #[derive(Clone, Copy, PartialEq, Eq, Hash, PartialOrd, Ord, Debug, Default)]
-pub struct BindingId(u16);
+pub struct BindingId(pub(crate) u16);
 
 impl Model for BindingId {
     ghost use Rattle.std.specs.Prelude.{ℕ};
@@ -249,32 +246,6 @@ impl Drop for Binding {
     }
 }
 
-impl Binding {
-    /// The sites that it is made of, left to right.
-    pub fn sources(&self) -> &[BindingId]
-        ensures { result.now ≡ sources_of (site_view self.now) }
-    {
-        match self {
-            Binding::ConstBool { .. }
-            | Binding::ConstInt { .. }
-            | Binding::ConstPrim { .. }
-            | Binding::Argument { .. } => &[],
-            Binding::Constructor { parameters, .. } => parameters,
-            Binding::MakeVariant { fields, .. } | Binding::MakeStruct { fields, .. } => fields,
-            Binding::Extractor {
-                parameter: source,
-                ..
-            }
-            | Binding::Iterator { source }
-            | Binding::MatchVariant { source, .. }
-            | Binding::ExtractStruct { source, .. }
-            | Binding::MakeSome { inner: source }
-            | Binding::MatchSome { source }
-            | Binding::MatchTuple { source, .. } => slice::from_ref(source),
-        }
-    }
-}
-
 /// What a rule asks of a binding site: the tests that a value may fail. Ordered by form, as they stand here, then by
 /// parts.
 #[derive(Clone, Copy, PartialEq, Eq, Hash, PartialOrd, Ord, Debug)]
@@ -341,6 +312,11 @@ pub struct Rule {
     pub impure: Vec<BindingId>,
     /// What the term is where the rule is taken.
     pub result: BindingId,
+    // The classes of `equals`, listed once, since a partition shows no members: each ascending, by their least sites.
+    pub(crate) classes: Vec<Vec<BindingId>>,
+    ghost ascending: { IsTrue (ascends (sites_of constraints.items)) },
+    ghost listed: { IsTrue (are_listed (class_lists classes.items)) },
+    ghost joined: { (a b : ℕ) → joins_in (class_lists classes.items) a b ≡ joins_in equals a b },
 }
 
 impl Drop for Rule {
@@ -355,38 +331,8 @@ impl Drop for Rule {
             name: _,
             impure: _,
             result: _,
+            classes: _,
         } = self;
-    }
-}
-
-impl Rule {
-    /// A rule that demands nothing: zeros, no name and empty parts.
-    pub fn new(alloc: Global) -> Rule
-        ensures { set_rule_view result ≡ empty_rule }
-    {
-        Rule {
-            id: RuleId(0),
-            pos: Pos { file: 0, offset: 0 },
-            constraints: Vec::new(alloc),
-            equals: DisjointSets::new(alloc),
-            iterators: StableSet::new(alloc),
-            prio: 0,
-            name: None,
-            impure: Vec::new(alloc),
-            result: BindingId(0),
-        }
-    }
-
-    /// What the rule asks of a site, where it asks something.
-    pub fn get_constraint(&self, source: BindingId) -> Option<Constraint>
-        ensures { option_map constraint_view result ≡ constraint_at (set_rule_view self.now).constraints source }
-    {
-        for (site, constraint) in &self.constraints {
-            if *site == source {
-                return Some(*constraint);
-            }
-        }
-        None
     }
 }
 
@@ -405,18 +351,6 @@ impl Drop for RuleSet {
             rules: _,
             bindings: _,
         } = self;
-    }
-}
-
-impl RuleSet {
-    /// No rules, and no sites.
-    pub fn new(alloc: Global) -> RuleSet
-        ensures { set_view result ≡ empty_set }
-    {
-        RuleSet {
-            rules: Vec::new(alloc),
-            bindings: Vec::new(alloc),
-        }
     }
 }
 

@@ -11,7 +11,7 @@ each_same : (f g : ℕ → SiteTerm) (xs : List ℕ) → ((a : ℕ) → In xs a 
 each_same f g [] h = refl
 each_same f g (x ∷ xs) h = ap₂ site_term_and (h x (inl refl)) (each_same f g xs (λ a i. h a (inr i)))
 
-layer_same : (f g : ℕ → SiteTerm) (b : Site) → ((a : ℕ) → In (sources_of b) a → f a ≡ g a) → layer f b ≡ layer g b
+pub layer_same : (f g : ℕ → SiteTerm) (b : Site) → ((a : ℕ) → In (sources_of b) a → f a ≡ g a) → layer f b ≡ layer g b
 layer_same f g (bool_site b ty) h = refl
 layer_same f g (int_site z ty) h = refl
 layer_same f g (prim_site name) h = refl
@@ -31,7 +31,7 @@ layer_same f g (match_tuple_site source field) h = ap (λ t. tuple_part t field)
 abbrev sources_in : Option Site → List ℕ
 sources_in o = elim o [ None ↦ [] | Some b ↦ sources_of b ]
 
-layer_at_same : (f g : ℕ → SiteTerm) (o : Option Site) → ((a : ℕ) → In (sources_in o) a → f a ≡ g a) → layer_at f o ≡ layer_at g o
+pub layer_at_same : (f g : ℕ → SiteTerm) (o : Option Site) → ((a : ℕ) → In (sources_in o) a → f a ≡ g a) → layer_at f o ≡ layer_at g o
 layer_at_same f g None h = refl
 layer_at_same f g (Some b) h = layer_same f g b h
 

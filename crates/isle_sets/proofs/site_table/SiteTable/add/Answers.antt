@@ -1,0 +1,19 @@
+use Rattle.std.proofs.Common.{inl, refl}
+use Rattle.isle_sets.specs.SiteViews.{site_view}
+use Rattle.isle_sets.specs.SiteTables.{table_sites, AddsSite, StandsFor}
+use Rattle.isle_sets.proofs.SitesAdded.{weaker_ok}
+use Rattle.isle_sets.proofs.SitesGrown.{added_stands}
+use Rattle.isle_sets.proofs.site_table.SiteTable.add.Goals as goal
+
+pub returns-in-Some-clause-stand : goal.returns-in-Some-clause-stand
+returns-in-Some-clause-stand c terms once stand =
+    added_stands (table_sites c.args.self.now) terms c.requires.table.sources once stand (site_view c.args.binding) c.requires.sources (table_sites c.args.self.now) c.in-Some.number
+    (inl ((c.in-Some.ensures c.in-Some.number).0 refl, refl))
+
+pub returns-in-None-clause-stand : goal.returns-in-None-clause-stand
+returns-in-None-clause-stand c terms once stand =
+    let before = table_sites c.args.self.now in
+    let after = table_sites c.push.new.self in
+    let b = site_view c.args.binding in
+    weaker_ok (AddsSite before after b) (StandsFor before after terms b) c.push.result
+    (λ n h. added_stands before terms c.requires.table.sources once stand b c.requires.sources after n h) c.push.ensures.number

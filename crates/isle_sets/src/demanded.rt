@@ -1,0 +1,111 @@
+//! What a rule demands of sites, as its visit meets it and its closing goes on.
+ghost use Rattle.std.specs.Prelude.{◌≡◌, ℕ, false, None, Some, length, if◌then◌else◌, IfOk, OnOk, nat_eq};
+ghost use Rattle.std.specs.List.{zip};
+ghost use Rattle.isle_sets.specs.DemandsHeld.{constraint_held, first_kept, IsConflict, are_equated, equated_too, equated_each};
+ghost use Rattle.isle_sets.specs.SiteViews.{constraint_view};
+
+use crate::overlaps::is_same_constraint;
+use crate::trie_again::{BindingId, Constraint};
+use isle_base::disjointsets::DisjointSets;
+use std::alloc::{AllocError, Global};
+use std::collections::BTreeMap;
+
+/// What a rule demands of sites.
+pub struct Demanded {
+    // Of each site what is asked first, by its number.
+    constraints: BTreeMap<BindingId, Constraint>,
+    // Sites that must be equal.
+    equals: DisjointSets<BindingId>,
+}
+
+impl Drop for Demanded {
+    fn drop(self) {
+        let Self {
+            constraints: _,
+            equals: _,
+        } = self;
+    }
+}
+
+impl Demanded {
+    /// Nothing.
+    pub fn new(alloc: Global) -> Demanded
+        ensures asked { (s : ℕ) → constraint_held result s ≡ None }
+        ensures equated { (a b : ℕ) → are_equated result a b ≡ false }
+    {
+        Demanded {
+            constraints: BTreeMap::new(alloc),
+            equals: DisjointSets::new(alloc),
+        }
+    }
+
+    /// Asks something of a site, which keeps what was asked first: another constraint than this one is answered.
+    ///
+    /// # Errors
+    ///
+    /// Where memory is refused.
+    pub fn ask(
+        &mut self,
+        site: BindingId,
+        constraint: Constraint,
+    ) -> Result<Option<Constraint>, AllocError>
+        ensures conflict { IfOk result (IsConflict (constraint_held self.old site) (constraint_view constraint)) }
+        ensures asked { OnOk result ((s : ℕ) → constraint_held self.new s
+            ≡ (if nat_eq site s then Some (first_kept (constraint_held self.old site) (constraint_view constraint)) else constraint_held self.old s)) }
+        ensures equated { self.new.equals ≡ self.old.equals }
+    {
+        match self.constraints.get(&site).copied() {
+            Some(before) => Ok(other_than(before, constraint)),
+            None => {
+                self.constraints.insert(site, constraint)?;
+                Ok(None)
+            }
+        }
+    }
+
+    /// Two sites must be equal: nothing new where they are one.
+    ///
+    /// # Errors
+    ///
+    /// Where memory is refused.
+    pub fn equate(&mut self, first: BindingId, second: BindingId) -> Result<(), AllocError>
+        ensures equated { OnOk result ((a b : ℕ) → are_equated self.new a b ≡ equated_too (are_equated self.old) first second a b) }
+        ensures asked { self.new.constraints ≡ self.old.constraints }
+    {
+        if first != second {
+            self.equals.merge(first, second)?;
+        }
+        Ok(())
+    }
+
+    /// The sites of two lists of one length must be equal, place by place.
+    ///
+    /// # Errors
+    ///
+    /// Where memory is refused.
+    pub fn equate_each(
+        &mut self,
+        firsts: &[BindingId],
+        seconds: &[BindingId],
+    ) -> Result<(), AllocError>
+        requires { length firsts.now ≡ length seconds.now }
+        ensures equated { OnOk result ((a b : ℕ) → are_equated self.new a b ≡ equated_each (are_equated self.old) (zip firsts.now seconds.now) a b) }
+        ensures asked { self.new.constraints ≡ self.old.constraints }
+    {
+        for i in 0..firsts.len() {
+            self.equate(firsts[i], seconds[i])?;
+        }
+        Ok(())
+    }
+}
+
+// The constraint that was asked before, where the new one is another.
+fn other_than(before: Constraint, new: Constraint) -> Option<Constraint>
+    ensures { IsConflict (Some (constraint_view before)) (constraint_view new) result }
+{
+    if is_same_constraint(&before, &new) {
+        None
+    } else {
+        Some(before)
+    }
+}

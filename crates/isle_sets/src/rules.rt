@@ -1,0 +1,60 @@
+//! What is asked of one rule of a set.
+ghost use Rattle.std.specs.Prelude.{◌≡◌, ℕ, IsTrue, option_map};
+ghost use Rattle.isle_model.specs.trees.Places.{constraint_at, joins_in};
+ghost use Rattle.isle_sets.specs.Listings.{are_listed, ascends, class_lists, sites_of};
+ghost use Rattle.isle_sets.specs.SiteViews.{constraint_view, empty_rule, set_rule_view};
+
+use crate::trie_again::{BindingId, Constraint, Rule};
+use isle_base::disjointsets::DisjointSets;
+use isle_base::stablemapset::StableSet;
+use isle_base::syntax::Pos;
+use isle_types::RuleId;
+use std::alloc::Global;
+
+impl Rule {
+    /// A rule that demands nothing: zeros, no name and empty parts.
+    pub fn new(alloc: Global) -> Rule
+        ensures { set_rule_view result ≡ empty_rule }
+    {
+        Rule {
+            id: RuleId(0),
+            pos: Pos { file: 0, offset: 0 },
+            constraints: Vec::new(alloc),
+            equals: DisjointSets::new(alloc),
+            iterators: StableSet::new(alloc),
+            prio: 0,
+            name: None,
+            impure: Vec::new(alloc),
+            result: BindingId(0),
+            classes: Vec::new(alloc),
+        }
+    }
+
+    /// What the rule asks of sites, ascending by site, each site once.
+    pub fn constraints(&self) -> &[(BindingId, Constraint)]
+        ensures value { result.now ≡ self.now.constraints.items }
+        ensures ascending { IsTrue (ascends (sites_of result.now)) }
+    {
+        &self.constraints
+    }
+
+    /// The classes of `equals`: each ascending and of two sites or more, by their least sites.
+    pub fn classes(&self) -> &[Vec<BindingId>]
+        ensures joined { (a b : ℕ) → joins_in (class_lists result.now) a b ≡ joins_in (set_rule_view self.now).classes a b }
+        ensures listed { IsTrue (are_listed (class_lists result.now)) }
+    {
+        &self.classes
+    }
+
+    /// What the rule asks of a site, where it asks something.
+    pub fn get_constraint(&self, source: BindingId) -> Option<Constraint>
+        ensures { option_map constraint_view result ≡ constraint_at (set_rule_view self.now).constraints source }
+    {
+        for (site, constraint) in &self.constraints {
+            if *site == source {
+                return Some(*constraint);
+            }
+        }
+        None
+    }
+}

@@ -1,0 +1,181 @@
+//! The binding sites of a term, as its rules are read.
+ghost use Rattle.std.specs.Prelude.{◌≡◌, ◌<◌, ℕ, List, [], length, IfErr, IfOk, OnOk, Contains};
+ghost use Rattle.isle_model.specs.lists.Names.{IsDistinct};
+ghost use Rattle.isle_model.specs.sites.Sites.{sources_of, extract_struct_site, match_variant_site, SiteTerm};
+ghost use Rattle.isle_model.specs.sites.RuleSets.{StandFor};
+ghost use Rattle.isle_model.specs.sites.SetRules.{each_place};
+ghost use Rattle.isle_sets.specs.SiteViews.{constraint_view, site_view};
+ghost use Rattle.isle_sets.specs.SiteTables.{AddsFields, AddsSite, AddsSites, HasNoRoom, IsAbsent, IsSiteNumber, IsTable, StandsFor, table_sites};
+
+use crate::trie_again::{Binding, BindingId, Constraint, TupleIndex};
+use isle_base::syntax::Limit;
+use isle_rules::VisitFault;
+use isle_types::VariantId;
+use std::alloc::{AllocError, Global};
+use std::collections::HashMap;
+
+/// The binding sites of a term: each binding once, found by its equal and not by a walk.
+pub struct SiteTable {
+    // What each site stands for, by its number.
+    bindings: Vec<Binding>,
+    // The number of each binding.
+    numbers: HashMap<Binding, BindingId>,
+}
+
+impl Drop for SiteTable {
+    fn drop(self) {
+        let Self {
+            bindings: _,
+            numbers: _,
+        } = self;
+    }
+}
+
+impl SiteTable {
+    /// No sites.
+    pub fn new(alloc: Global) -> SiteTable
+        ensures sites { table_sites result ≡ [] }
+        ensures table { IsTable result }
+    {
+        SiteTable {
+            bindings: Vec::new(alloc),
+            numbers: HashMap::new(alloc),
+        }
+    }
+
+    /// The number of a binding's site, if it has one.
+    pub fn find(&self, binding: &Binding) -> Option<BindingId>
+        requires { IsTable self.now }
+        ensures { IsSiteNumber (table_sites self.now) (site_view binding.now) result }
+    {
+        self.numbers.get(binding).copied()
+    }
+
+    /// The number of a binding's site, which is a new one where it has none. The sites that it is made of are there.
+    ///
+    /// # Errors
+    ///
+    /// `Limit` where a new site would be one past 65,536: the table is then as it was. `Memory` where memory is refused.
+    pub fn add(&mut self, binding: Binding) -> Result<BindingId, VisitFault>
+        requires table { IsTable self.old }
+        requires sources { (a : ℕ) → Contains (sources_of (site_view binding)) a → a < length (table_sites self.old) }
+        ensures number { IfOk result (AddsSite (table_sites self.old) (table_sites self.new) (site_view binding)) }
+        ensures table { OnOk result (IsTable self.new) }
+        ensures stand { (terms : List SiteTerm) → IsDistinct terms → StandFor (table_sites self.old) terms
+            → IfOk result (StandsFor (table_sites self.old) (table_sites self.new) terms (site_view binding)) }
+        ensures err { IfErr result (HasNoRoom (table_sites self.old) (table_sites self.new) (site_view binding)) }
+    {
+        match self.find(&binding) {
+            Some(number) => Ok(number),
+            None => self.push(binding),
+        }
+    }
+
+    /// The sites of a variant's fields, in order, new ones where they aren't there. The value's site is there.
+    ///
+    /// # Errors
+    ///
+    /// `Limit` where a new site would be one past 65,536, `Memory` where memory is refused.
+    pub fn add_variant_fields(
+        &mut self,
+        alloc: Global,
+        source: BindingId,
+        variant: VariantId,
+        fields: TupleIndex,
+    ) -> Result<Vec<BindingId>, VisitFault>
+        requires table { IsTable self.old }
+        requires source { source < length (table_sites self.old) }
+        ensures table { OnOk result (IsTable self.new) }
+        ensures sites { IfOk result (λ v. AddsSites (table_sites self.old) (table_sites self.new) (each_place (match_variant_site source variant.0) 0 fields) v.items) }
+    {
+        let mut numbers = Vec::new(alloc);
+        for place in 0..fields.0 {
+            let field = TupleIndex(place);
+            let number = self.add(Binding::MatchVariant {
+                source,
+                variant,
+                field,
+            })?;
+            numbers.push(number)?;
+        }
+        Ok(numbers)
+    }
+
+    /// The sites of a struct's fields, likewise.
+    ///
+    /// # Errors
+    ///
+    /// As above.
+    pub fn add_struct_fields(
+        &mut self,
+        alloc: Global,
+        source: BindingId,
+        fields: TupleIndex,
+    ) -> Result<Vec<BindingId>, VisitFault>
+        requires table { IsTable self.old }
+        requires source { source < length (table_sites self.old) }
+        ensures table { OnOk result (IsTable self.new) }
+        ensures sites { IfOk result (λ v. AddsSites (table_sites self.old) (table_sites self.new) (each_place (extract_struct_site source) 0 fields) v.items) }
+    {
+        let mut numbers = Vec::new(alloc);
+        for place in 0..fields.0 {
+            let field = TupleIndex(place);
+            let number = self.add(Binding::ExtractStruct { source, field })?;
+            numbers.push(number)?;
+        }
+        Ok(numbers)
+    }
+
+    /// The sites of the fields that a constraint gives a site, in order, new ones where they aren't there: those of a
+    /// variant or a struct, and of no other constraint. The site itself is there.
+    ///
+    /// # Errors
+    ///
+    /// As above.
+    pub fn add_fields(
+        &mut self,
+        alloc: Global,
+        constraint: Constraint,
+        source: BindingId,
+    ) -> Result<Vec<BindingId>, VisitFault>
+        requires table { IsTable self.old }
+        requires source { source < length (table_sites self.old) }
+        ensures table { OnOk result (IsTable self.new) }
+        ensures sites { IfOk result (λ v. AddsFields (table_sites self.old) (table_sites self.new) (constraint_view constraint) source v.items) }
+    {
+        match constraint {
+            Constraint::Variant {
+                variant,
+                fields,
+                ..
+            } => self.add_variant_fields(alloc, source, variant, fields),
+            Constraint::Struct { fields, .. } => self.add_struct_fields(alloc, source, fields),
+            _ => Ok(Vec::new(alloc)),
+        }
+    }
+
+    // The next number, for a binding that has no site.
+    fn push(&mut self, binding: Binding) -> Result<BindingId, VisitFault>
+        requires table { IsTable self.old }
+        requires sources { (a : ℕ) → Contains (sources_of (site_view binding)) a → a < length (table_sites self.old) }
+        requires absent { IsAbsent (table_sites self.old) (site_view binding) }
+        ensures number { IfOk result (AddsSite (table_sites self.old) (table_sites self.new) (site_view binding)) }
+        ensures table { OnOk result (IsTable self.new) }
+        ensures err { IfErr result (HasNoRoom (table_sites self.old) (table_sites self.new) (site_view binding)) }
+    {
+        let Ok(number) = BindingId::try_from(self.bindings.len()) else {
+            return Err(VisitFault::Limit(Limit::Sites));
+        };
+        let copy = copied(&binding)?;
+        self.numbers.insert(copy, number)?;
+        self.bindings.push(binding)?;
+        Ok(number)
+    }
+}
+
+// The same binding, with lists of its own.
+fn copied(binding: &Binding) -> Result<Binding, AllocError>
+    ensures { IfOk result (λ b. site_view b ≡ site_view binding.now) }
+{
+    binding.clone()
+}
