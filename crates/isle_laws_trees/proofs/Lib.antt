@@ -8,6 +8,7 @@ pub mod Few
 pub mod Gates
 pub mod JudgedSets
 pub mod Marking
+pub mod Meant
 pub mod Once
 pub mod OpenTests
 pub mod Pairs

@@ -8,6 +8,7 @@ ghost use Rattle.isle_laws_trees.specs.BestLaws.{OpenTestsAreListed, BestTreesSh
 ghost use Rattle.isle_laws_trees.specs.Scores.{ScoresAreOrdered, OneTestIsGreatest};
 ghost use Rattle.isle_model.specs.trees.WellBuilt.{BestTreesAreSound};
 ghost use Rattle.isle_laws_trees.specs.BuiltLaws.{BestTreesOfBuiltSetsAreSound};
+ghost use Rattle.isle_laws_trees.specs.Meant.{BestTreesMeanTheirSets};
 
 use isle_laws_demands::built_sets_are_well_built;
 
@@ -75,4 +76,11 @@ pub fn best_trees_of_built_sets_are_sound()
     ensures { BestTreesOfBuiltSetsAreSound }
 {
     built_sets_are_well_built();
+}
+
+/// And they mean what their sets do.
+pub fn best_trees_mean_their_sets()
+    ensures { BestTreesMeanTheirSets }
+{
+    best_trees_of_built_sets_are_sound();
 }
