@@ -88,10 +88,12 @@ module _ (sites : List Site) (sources : (s a : ℕ) → Contains (sources_at sit
   -- those below the sources, then the site
   pushed : (s : ℕ) (d e : List ℕ) → Adds d e (UnderSome (sources_at sites s)) → Adds d (e ++ s ∷ []) (Under s)
   pushed s d e a = record {
-    closed = record { whole = λ t x k u. elim (Contains-append_cases e (s ∷ []) t k) [
-      | inl j ↦ Contains-append_left e (s ∷ []) x (a.closed.whole t x j u)
-      | inr j ↦ under x (subst (λ y. Under y x) (sym (in_alone s t j)) u)
-    ] };
+    closed = record {
+      whole = λ t x k u. elim (Contains-append_cases e (s ∷ []) t k) [
+        | inl j ↦ Contains-append_left e (s ∷ []) x (a.closed.whole t x j u)
+        | inr j ↦ under x (subst (λ y. Under y x) (sym (in_alone s t j)) u)
+      ];
+    };
     from = λ x k. elim (Contains-append_cases e (s ∷ []) x k) [
       | inl j ↦ elim (a.from x j) [
         | inl y ↦ inl y

@@ -151,23 +151,28 @@ module _ (set : SiteSet) (ar : Around) (here : List ℕ) where
   of t = score set ar here (test_view t)
 
   pub greatest_more : (xs : List Test) (best : Option Test) (t : Test) → IsGreatestOf set ar here xs best → IsGreatestOf set ar here (xs ++ t ∷ []) (Some (greater_test set ar here best t))
-  greatest_more xs None t e =
-      (subst (λ l. Contains (l ++ t ∷ []) t) (sym e) (in_head t []),
-      λ u c. let k = in_alone t u (subst (λ l. Contains (l ++ t ∷ []) u) e c) in subst (λ v. is_greater (of v) (of t) ≡ false) k (scores_are_ordered_lem.itself (of t)))
+  greatest_more xs None t e = (
+    subst (λ l. Contains (l ++ t ∷ []) t) (sym e) (in_head t []),
+    λ u c. let k = in_alone t u (subst (λ l. Contains (l ++ t ∷ []) u) e c) in subst (λ v. is_greater (of v) (of t) ≡ false) k (scores_are_ordered_lem.itself (of t)),
+  )
   greatest_more xs (Some b) t g =
       elim (cases_Bool (is_greater (of t) (of b))) [
         | inl y ↦
-            subst (λ v. IsGreatestOf set ar here (xs ++ t ∷ []) (Some v)) (sym (cond-true (is_greater (of t) (of b)) t b y))
-            (Contains-append_right xs (t ∷ []) t (in_head t []), λ u c. elim (Contains-append_cases xs (t ∷ []) u c) [
-              | inl d ↦ below u (g.1 u d) y
-              | inr d ↦ subst (λ v. is_greater (of v) (of t) ≡ false) (in_alone t u d) (scores_are_ordered_lem.itself (of t))
-            ])
+            subst (λ v. IsGreatestOf set ar here (xs ++ t ∷ []) (Some v)) (sym (cond-true (is_greater (of t) (of b)) t b y)) (
+              Contains-append_right xs (t ∷ []) t (in_head t []),
+              λ u c. elim (Contains-append_cases xs (t ∷ []) u c) [
+                | inl d ↦ below u (g.1 u d) y
+                | inr d ↦ subst (λ v. is_greater (of v) (of t) ≡ false) (in_alone t u d) (scores_are_ordered_lem.itself (of t))
+              ],
+            )
         | inr f ↦
-            subst (λ v. IsGreatestOf set ar here (xs ++ t ∷ []) (Some v)) (sym (cond-false (is_greater (of t) (of b)) t b f))
-            (Contains-append_left xs (t ∷ []) b g.0, λ u c. elim (Contains-append_cases xs (t ∷ []) u c) [
-              | inl d ↦ g.1 u d
-              | inr d ↦ subst (λ v. is_greater (of v) (of b) ≡ false) (in_alone t u d) f
-            ])
+            subst (λ v. IsGreatestOf set ar here (xs ++ t ∷ []) (Some v)) (sym (cond-false (is_greater (of t) (of b)) t b f)) (
+              Contains-append_left xs (t ∷ []) b g.0,
+              λ u c. elim (Contains-append_cases xs (t ∷ []) u c) [
+                | inl d ↦ g.1 u d
+                | inr d ↦ subst (λ v. is_greater (of v) (of b) ≡ false) (in_alone t u d) f
+              ],
+            )
       ]
     where
       below : (u : Test) → is_greater (of u) (of b) ≡ false → is_greater (of t) (of b) ≡ true → is_greater (of u) (of t) ≡ false

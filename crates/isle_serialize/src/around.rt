@@ -112,7 +112,11 @@ fn is_available(site: BindingId, binding: &Binding, brought: &[BindingId], table
 }
 
 /// Of each site, whether it is available.
-pub fn available_sites(alloc: Global, set: &RuleSet, around: &Around) -> Result<Vec<bool>, AllocError>
+pub fn available_sites(
+    alloc: Global,
+    set: &RuleSet,
+    around: &Around,
+) -> Result<Vec<bool>, AllocError>
     requires few { length (set_view set.now).sites ≤ 65536 }
     requires sources { (s a : ℕ) → Contains (sources_at (set_view set.now).sites s) a → a < s }
     ensures { IfOk result (λ v. v.items ≡ availability (set_view set.now) (around_view around.now)) }
@@ -143,16 +147,28 @@ fn renamed(name: BindingId, from: BindingId, to: BindingId) -> BindingId
 }
 
 // The names of classes after those of two sites were joined.
-fn joining(alloc: Global, names: &[BindingId], a: BindingId, b: BindingId) -> Result<Vec<BindingId>, AllocError>
+fn joining(
+    alloc: Global,
+    names: &[BindingId],
+    a: BindingId,
+    b: BindingId,
+) -> Result<Vec<BindingId>, AllocError>
     ensures { IfOk result (λ v. v.items ≡ map (λ x. if x == slice_index_or names.now a a then slice_index_or names.now b b else x) names.now) }
 {
     let from = class_of(a, names);
     let to = class_of(b, names);
-    names.iter().map(|name| renamed(*name, from, to)).collect(alloc)
+    names
+        .iter()
+        .map(|name| renamed(*name, from, to))
+        .collect(alloc)
 }
 
 /// Of each site, the name of its class under the pairs that equalities around joined.
-pub fn joined_sites(alloc: Global, set: &RuleSet, around: &Around) -> Result<Vec<BindingId>, AllocError>
+pub fn joined_sites(
+    alloc: Global,
+    set: &RuleSet,
+    around: &Around,
+) -> Result<Vec<BindingId>, AllocError>
     requires few { length (set_view set.now).sites ≤ 65536 }
     requires pairs { ArePairsWithin (length (set_view set.now).sites) around.now.joined.items }
     ensures { IfOk result (λ v. v.items ≡ class_names (set_view set.now) (around_view around.now)) }

@@ -8,7 +8,7 @@ ghost use Rattle.isle_model.specs.trees.Places.{each_after, is_in, is_in_place, 
 ghost use Rattle.isle_sets.specs.SiteViews.{site_view, set_view};
 ghost use Rattle.isle_serialize.specs.AroundViews.{around_view};
 
-use crate::around::{is_among, Around};
+use crate::around::{Around, is_among};
 use isle_sets::trie_again::{Binding, BindingId, RuleSet};
 use std::alloc::{AllocError, Global};
 
@@ -30,7 +30,13 @@ fn is_settled(site: BindingId, emitted: &[BindingId], listed: &[BindingId]) -> b
 }
 
 // Lists the sites below a site that aren't emitted, after those already listed: sources first, left to right, each once.
-fn list_below(alloc: Global, set: &RuleSet, emitted: &[BindingId], site: BindingId, listed: &mut Vec<BindingId>) -> Result<(), AllocError>
+fn list_below(
+    alloc: Global,
+    set: &RuleSet,
+    emitted: &[BindingId],
+    site: BindingId,
+    listed: &mut Vec<BindingId>,
+) -> Result<(), AllocError>
     requires { (s a : ℕ) → Contains (sources_at (set_view set.now).sites s) a → a < s }
     ensures { OnOk result ((n : ℕ) → site < n → listed.new.items ≡ listed_below n (set_view set.now).sites emitted.now listed.old.items site) }
 {
@@ -45,7 +51,12 @@ fn list_below(alloc: Global, set: &RuleSet, emitted: &[BindingId], site: Binding
 }
 
 // The sites below these that aren't emitted, in the order in which they are made of one another.
-fn all_listed(alloc: Global, set: &RuleSet, emitted: &[BindingId], sites: &[BindingId]) -> Result<Vec<BindingId>, AllocError>
+fn all_listed(
+    alloc: Global,
+    set: &RuleSet,
+    emitted: &[BindingId],
+    sites: &[BindingId],
+) -> Result<Vec<BindingId>, AllocError>
     requires { (s a : ℕ) → Contains (sources_at (set_view set.now).sites s) a → a < s }
     ensures { IfOk result (λ v. v.items ≡ each_after (λ done s. listed_below (suc s) (set_view set.now).sites emitted.now done s) [] sites.now) }
 {
@@ -65,7 +76,8 @@ fn stands_in_place(binding: &Binding) -> bool
         | Binding::ConstPrim { .. }
         | Binding::Argument { .. }
         | Binding::MatchTuple { .. } => true,
-        Binding::MakeVariant { fields, .. } | Binding::MakeStruct { fields, .. } => fields.is_empty(),
+        Binding::MakeVariant { fields, .. } | Binding::MakeStruct { fields, .. } =>
+            fields.is_empty(),
         Binding::ConstBool { .. }
         | Binding::Extractor { .. }
         | Binding::Constructor { .. }
@@ -88,7 +100,12 @@ fn is_bound(set: &RuleSet, site: BindingId) -> bool
 }
 
 /// What is bound before a step that uses these sites: what isn't emitted, each once, sources first and left to right.
-pub fn bind_order(alloc: Global, set: &RuleSet, around: &Around, sites: &[BindingId]) -> Result<Vec<BindingId>, AllocError>
+pub fn bind_order(
+    alloc: Global,
+    set: &RuleSet,
+    around: &Around,
+    sites: &[BindingId],
+) -> Result<Vec<BindingId>, AllocError>
     requires { (s a : ℕ) → Contains (sources_at (set_view set.now).sites s) a → a < s }
     ensures { IfOk result (λ v. v.items ≡ Places.bind_order (set_view set.now).sites (around_view around.now) sites.now) }
 {
@@ -102,7 +119,11 @@ pub fn bind_order(alloc: Global, set: &RuleSet, around: &Around, sites: &[Bindin
 
 /// The sites that are emitted once these are used: these, and all that they are made of, each once.
 #[tactic(auto, using(crate::proofs::Listed::listed_are_below))]
-pub fn all_below(alloc: Global, set: &RuleSet, sites: &[BindingId]) -> Result<Vec<BindingId>, AllocError>
+pub fn all_below(
+    alloc: Global,
+    set: &RuleSet,
+    sites: &[BindingId],
+) -> Result<Vec<BindingId>, AllocError>
     requires { (s a : ℕ) → Contains (sources_at (set_view set.now).sites s) a → a < s }
     ensures { IfOk result (λ v. (x : ℕ) → is_in x v.items ≡ is_in x (Places.all_below (set_view set.now).sites sites.now)) }
 {

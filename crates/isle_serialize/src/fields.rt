@@ -53,9 +53,8 @@ fn is_field(binding: &Binding, of: BindingId, constraint: &Constraint, number: u
         Constraint::Variant { variant, .. } => is_variant_field(binding, of, *variant, number),
         Constraint::Struct { .. } => is_struct_field(binding, of, number),
         Constraint::Some => is_part(binding, of),
-        Constraint::ConstBool { .. } | Constraint::ConstInt { .. } | Constraint::ConstPrim { .. } => {
-            false
-        }
+        Constraint::ConstBool { .. } | Constraint::ConstInt { .. } | Constraint::ConstPrim { .. } =>
+            { false }
     }
 }
 
@@ -66,12 +65,18 @@ fn field_count(constraint: &Constraint) -> usize
     match constraint {
         Constraint::Variant { fields, .. } | Constraint::Struct { fields, .. } => fields.index(),
         Constraint::Some => 1,
-        Constraint::ConstBool { .. } | Constraint::ConstInt { .. } | Constraint::ConstPrim { .. } => 0,
+        Constraint::ConstBool { .. } | Constraint::ConstInt { .. } | Constraint::ConstPrim { .. } =>
+            0,
     }
 }
 
 // The site of that field of what a constraint on a source brings.
-fn field_site(set: &RuleSet, of: BindingId, constraint: &Constraint, number: usize) -> Option<BindingId>
+fn field_site(
+    set: &RuleSet,
+    of: BindingId,
+    constraint: &Constraint,
+    number: usize,
+) -> Option<BindingId>
     requires { length (set_view set.now).sites ≤ 65536 }
     ensures { result ≡ site_from 0 (FieldTests.is_field of (constraint_view constraint.now) number) (set_view set.now).sites }
 {
@@ -84,7 +89,12 @@ fn field_site(set: &RuleSet, of: BindingId, constraint: &Constraint, number: usi
 }
 
 /// The sites of the fields that a constraint on a source brings, in order; None where the set has no such site.
-pub fn fields_of(alloc: Global, set: &RuleSet, source: BindingId, constraint: &Constraint) -> Result<Vec<Option<BindingId>>, AllocError>
+pub fn fields_of(
+    alloc: Global,
+    set: &RuleSet,
+    source: BindingId,
+    constraint: &Constraint,
+) -> Result<Vec<Option<BindingId>>, AllocError>
     requires { length (set_view set.now).sites ≤ 65536 }
     ensures { IfOk result (λ v. v.items ≡ Places.fields_of (set_view set.now).sites source (constraint_view constraint.now)) }
 {

@@ -12,7 +12,11 @@ use isle_sets::trie_again::{BindingId, RuleSet};
 use std::alloc::{AllocError, Global};
 
 // One list after another.
-fn chained(alloc: Global, first: &[BindingId], rest: &[BindingId]) -> Result<Vec<BindingId>, AllocError>
+fn chained(
+    alloc: Global,
+    first: &[BindingId],
+    rest: &[BindingId],
+) -> Result<Vec<BindingId>, AllocError>
     ensures { IfOk result (λ v. v.items ≡ first.now ++ rest.now) }
 {
     let mut sites = Vec::from_slice(alloc, first)?;
@@ -34,7 +38,12 @@ fn field_sites(alloc: Global, fields: &[Option<BindingId>]) -> Result<Vec<Bindin
 }
 
 /// Around the steps after one that used these sites.
-pub fn after_step(alloc: Global, set: &RuleSet, around: &Around, used: &[BindingId]) -> Result<Around, AllocError>
+pub fn after_step(
+    alloc: Global,
+    set: &RuleSet,
+    around: &Around,
+    used: &[BindingId],
+) -> Result<Around, AllocError>
     requires { (s a : ℕ) → Contains (sources_at (set_view set.now).sites s) a → a < s }
     ensures { IfOk result (λ r. IsInside (around_view r) (after_uses (set_view set.now) (around_view around.now) used.now)) }
 {
@@ -48,7 +57,13 @@ pub fn after_step(alloc: Global, set: &RuleSet, around: &Around, used: &[Binding
 }
 
 /// Around the body of an arm that brings these fields of a source.
-pub fn in_arm(alloc: Global, set: &RuleSet, around: &Around, source: BindingId, fields: &[Option<BindingId>]) -> Result<Around, AllocError>
+pub fn in_arm(
+    alloc: Global,
+    set: &RuleSet,
+    around: &Around,
+    source: BindingId,
+    fields: &[Option<BindingId>],
+) -> Result<Around, AllocError>
     requires { (s a : ℕ) → Contains (sources_at (set_view set.now).sites s) a → a < s }
     ensures { IfOk result (λ r. IsInside (around_view r) (arm_around (set_view set.now) (around_view around.now) source fields.now)) }
 {
@@ -64,7 +79,13 @@ pub fn in_arm(alloc: Global, set: &RuleSet, around: &Around, source: BindingId, 
 }
 
 /// Around the body of an equality.
-pub fn in_equal(alloc: Global, set: &RuleSet, around: &Around, a: BindingId, b: BindingId) -> Result<Around, AllocError>
+pub fn in_equal(
+    alloc: Global,
+    set: &RuleSet,
+    around: &Around,
+    a: BindingId,
+    b: BindingId,
+) -> Result<Around, AllocError>
     requires { (s a : ℕ) → Contains (sources_at (set_view set.now).sites s) a → a < s }
     ensures { IfOk result (λ r. IsInside (around_view r) (Places.in_equal (set_view set.now) (around_view around.now) a b)) }
 {
@@ -81,7 +102,13 @@ pub fn in_equal(alloc: Global, set: &RuleSet, around: &Around, a: BindingId, b: 
 }
 
 /// Around the body of a loop over a call's answers, each of which a site stands for.
-pub fn in_loop(alloc: Global, set: &RuleSet, around: &Around, call: BindingId, each: BindingId) -> Result<Around, AllocError>
+pub fn in_loop(
+    alloc: Global,
+    set: &RuleSet,
+    around: &Around,
+    call: BindingId,
+    each: BindingId,
+) -> Result<Around, AllocError>
     requires { (s a : ℕ) → Contains (sources_at (set_view set.now).sites s) a → a < s }
     ensures { IfOk result (λ r. IsInside (around_view r) (loop_around (set_view set.now) (around_view around.now) call each)) }
 {

@@ -10,7 +10,9 @@ ghost use Rattle.isle_serialize.specs.AroundViews.{around_view, ArePairsWithin};
 ghost use Rattle.isle_serialize.specs.declared.tests.Test.TheVariants as Test;
 ghost use Rattle.isle_serialize.specs.TestViews.{test_view, test_views, score_view, pairs_at, greater_test, IsGreatestOf, IsChosen};
 
-use crate::around::{class_of, all_sites, available_sites, is_among, is_marked, joined_sites, Around};
+use crate::around::{
+    Around, all_sites, available_sites, class_of, is_among, is_marked, joined_sites,
+};
 use isle_sets::trie_again::{BindingId, Rule, RuleSet};
 use std::alloc::{AllocError, Global};
 
@@ -114,7 +116,8 @@ fn can_follow(set: &RuleSet, test: &Test, number: usize, other: usize) -> bool
 fn can_all_follow(set: &RuleSet, here: &[usize], test: &Test, number: usize) -> bool
     ensures { result ≡ list_all (λ j. Tests.needs_at (set_view set.now).rules (test_view test.now) j || not (Tests.is_lower (set_view set.now).rules number j)) here.now }
 {
-    here.iter().all(|other| can_follow(set, test, number, *other))
+    here.iter()
+        .all(|other| can_follow(set, test, number, *other))
 }
 
 /// Whether a test covers a rule: the rule needs it, and each rule of the place needs it too or isn't above that one.
@@ -125,7 +128,12 @@ pub fn is_covered(set: &RuleSet, here: &[usize], test: &Test, number: usize) -> 
 }
 
 /// The rules of a place that a test covers.
-pub fn cover(alloc: Global, set: &RuleSet, here: &[usize], test: &Test) -> Result<Vec<usize>, AllocError>
+pub fn cover(
+    alloc: Global,
+    set: &RuleSet,
+    here: &[usize],
+    test: &Test,
+) -> Result<Vec<usize>, AllocError>
     ensures { IfOk result (λ v. v.items ≡ Tests.cover (set_view set.now).rules here.now (test_view test.now)) }
 {
     here.iter()
@@ -135,7 +143,12 @@ pub fn cover(alloc: Global, set: &RuleSet, here: &[usize], test: &Test) -> Resul
 }
 
 /// The rules of a place that a test doesn't cover.
-pub fn uncovered(alloc: Global, set: &RuleSet, here: &[usize], test: &Test) -> Result<Vec<usize>, AllocError>
+pub fn uncovered(
+    alloc: Global,
+    set: &RuleSet,
+    here: &[usize],
+    test: &Test,
+) -> Result<Vec<usize>, AllocError>
     ensures { IfOk result (λ v. v.items ≡ filter (λ i. not (Tests.is_covered (set_view set.now).rules here.now (test_view test.now) i)) here.now) }
 {
     here.iter()
@@ -209,7 +222,12 @@ fn is_open_site(around: &Around, available: &[bool], site: BindingId) -> bool
 }
 
 // The open sites among these.
-fn open_sites(alloc: Global, around: &Around, available: &[bool], sites: &[BindingId]) -> Result<Vec<BindingId>, AllocError>
+fn open_sites(
+    alloc: Global,
+    around: &Around,
+    available: &[bool],
+    sites: &[BindingId],
+) -> Result<Vec<BindingId>, AllocError>
     ensures { IfOk result (λ v. v.items ≡ filter (λ s. slice_index_or available.now s false && not (is_in s around.now.sources.items)) sites.now) }
 {
     sites
@@ -223,14 +241,20 @@ fn open_sites(alloc: Global, around: &Around, available: &[bool], sites: &[Bindi
 fn matches_of(alloc: Global, sites: &[BindingId]) -> Result<Vec<Test>, AllocError>
     ensures { IfOk result (λ v. v.items ≡ map Test.Match sites.now) }
 {
-    sites.iter().map(|site| Test::Match { source: *site }).collect(alloc)
+    sites
+        .iter()
+        .map(|site| Test::Match { source: *site })
+        .collect(alloc)
 }
 
 // A loop over the answers of each of these sites.
 fn loops_of(alloc: Global, sites: &[BindingId]) -> Result<Vec<Test>, AllocError>
     ensures { IfOk result (λ v. v.items ≡ map Test.Loop sites.now) }
 {
-    sites.iter().map(|site| Test::Loop { source: *site }).collect(alloc)
+    sites
+        .iter()
+        .map(|site| Test::Loop { source: *site })
+        .collect(alloc)
 }
 
 // Whether two sites are available, and the equalities around don't join them.
@@ -241,7 +265,13 @@ fn is_open_pair(available: &[bool], names: &[BindingId], a: BindingId, b: Bindin
 }
 
 // The open pairs of one of these sites and a greater one.
-fn equalities_of(alloc: Global, available: &[bool], names: &[BindingId], sites: &[BindingId], b: BindingId) -> Result<Vec<Test>, AllocError>
+fn equalities_of(
+    alloc: Global,
+    available: &[bool],
+    names: &[BindingId],
+    sites: &[BindingId],
+    b: BindingId,
+) -> Result<Vec<Test>, AllocError>
     ensures { IfOk result (λ v. v.items ≡ map (λ a. Test.Equal a b) (filter (λ a. slice_index_or available.now a false && slice_index_or available.now b false && not (slice_index_or names.now a a == slice_index_or names.now b b)) sites.now)) }
 {
     sites
@@ -272,7 +302,12 @@ pub fn open_tests(alloc: Global, set: &RuleSet, around: &Around) -> Result<Vec<T
 }
 
 // The open pairs of these sites, by the greater one.
-fn all_equalities(alloc: Global, available: &[bool], names: &[BindingId], sites: &[BindingId]) -> Result<Vec<Test>, AllocError>
+fn all_equalities(
+    alloc: Global,
+    available: &[bool],
+    names: &[BindingId],
+    sites: &[BindingId],
+) -> Result<Vec<Test>, AllocError>
     requires { sites.now ≡ Tests.up_to (length sites.now) }
     ensures { IfOk result (λ v. v.items ≡ flat_map (pairs_at available.now names.now) sites.now) }
 {
@@ -296,12 +331,21 @@ pub fn greatest_of(set: &RuleSet, around: &Around, here: &[usize], tests: &[Test
 }
 
 // The greater one of two tests at a place.
-fn greater_of(set: &RuleSet, around: &Around, here: &[usize], best: Option<Test>, test: Test) -> Test
+fn greater_of(
+    set: &RuleSet,
+    around: &Around,
+    here: &[usize],
+    best: Option<Test>,
+    test: Test,
+) -> Test
     ensures { result ≡ greater_test (set_view set.now) (around_view around.now) here.now best test }
 {
     match best {
         Some(other) => {
-            if is_greater(score_of(set, around, here, &test), score_of(set, around, here, &other)) {
+            if is_greater(
+                score_of(set, around, here, &test),
+                score_of(set, around, here, &other),
+            ) {
                 test
             } else {
                 other
@@ -312,7 +356,12 @@ fn greater_of(set: &RuleSet, around: &Around, here: &[usize], best: Option<Test>
 }
 
 /// The test that is made at a place: the greatest one, where it covers some rule.
-pub fn chosen_test(alloc: Global, set: &RuleSet, around: &Around, here: &[usize]) -> Result<Option<Test>, AllocError>
+pub fn chosen_test(
+    alloc: Global,
+    set: &RuleSet,
+    around: &Around,
+    here: &[usize],
+) -> Result<Option<Test>, AllocError>
     requires few { length (set_view set.now).sites ≤ 65536 }
     requires sources { (s a : ℕ) → Contains (sources_at (set_view set.now).sites s) a → a < s }
     requires pairs { ArePairsWithin (length (set_view set.now).sites) around.now.joined.items }

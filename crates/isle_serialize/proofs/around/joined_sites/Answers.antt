@@ -15,5 +15,5 @@ loop-left-preserved c =
     record {
       within = omega (arith, c.loop-left.invariant.within);
       named = joined_step n c.args.around.now.joined.items c.loop-left.left (c.loop-left.left - 1) c.index.result.now c.loop-left.names.items c.deref.result.now c.in_ok-names-2.names.items
-      c.requires.pairs (omega arith) c.loop-left.invariant.within c.index.ensures c.loop-left.invariant.named c.deref.ensures.value c.in_ok-names-2.ensures;
+          c.requires.pairs (omega arith) c.loop-left.invariant.within c.index.ensures c.loop-left.invariant.named c.deref.ensures.value c.in_ok-names-2.ensures;
     }
