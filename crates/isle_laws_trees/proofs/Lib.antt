@@ -10,6 +10,7 @@ pub mod Gates
 pub mod headline
 pub mod JudgedSets
 pub mod Marking
+pub mod Meant
 pub mod Once
 pub mod OpenTests
 pub mod Pairs

@@ -1,3 +1,4 @@
 pub mod BestLaws
 pub mod BuiltLaws
 pub mod Scores
+pub mod Meant

@@ -9,6 +9,7 @@ ghost use Rattle.isle_laws_trees.specs.Scores.{ScoresAreOrdered, OneTestIsGreate
 ghost use Rattle.isle_model.specs.trees.WellBuilt.{BestTreesAreSound};
 ghost use Rattle.isle_laws_trees.specs.BuiltLaws.{BestTreesOfBuiltSetsAreSound, BestTreesBindBeforeUse, BestTreesCollectTheBag};
 ghost use Rattle.isle_model.specs.claims.Layers.{BestTreesKeepTheHeadline};
+ghost use Rattle.isle_laws_trees.specs.Meant.{BestTreesMeanTheirSets};
 
 use isle_laws_demands::{
     built_rules_are_told_apart, built_sets_are_collected, built_sets_are_tested,
@@ -116,4 +117,11 @@ pub fn best_trees_keep_the_headline()
     taken_rules_give_their_outcome();
     best_trees_collect_the_bag();
     best_trees_bind_before_use();
+}
+
+/// And they mean what their sets do.
+pub fn best_trees_mean_their_sets()
+    ensures { BestTreesMeanTheirSets }
+{
+    best_trees_of_built_sets_are_sound();
 }

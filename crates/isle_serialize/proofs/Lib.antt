@@ -1,3 +1,10 @@
 pub mod TreeLaws
 pub mod AloneSteps
 pub mod AloneOrder
+pub mod Tables
+pub mod AroundSteps
+pub mod TestSteps
+pub mod Alike
+pub mod Growth
+pub mod Listed
+pub mod FieldSteps

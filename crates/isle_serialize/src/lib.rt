@@ -2,4 +2,9 @@
 #![tactic(auto)]
 
 pub mod alone;
+pub mod around;
+pub mod binds;
+pub mod fields;
+pub mod inside;
 pub mod serialize;
+pub mod tests;

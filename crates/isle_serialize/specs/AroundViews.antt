@@ -1,0 +1,54 @@
+-- What stands around a place, as it is kept: the sources of arms and loops in one list.
+use Rattle.std.specs.Prelude.{◌≡◌, ℕ, ◌<◌, Bool, List, [], ◌∷◌, ◌++◌, length, map, Option, Contains}
+use Rattle.isle_model.specs.sites.Sites.{SiteSet, sources_at}
+use Rattle.isle_model.specs.trees.Places as Places
+use Rattle.isle_model.specs.trees.Places.{is_in, class, available, all_below, field_sites}
+use Rattle.isle_model.specs.trees.Tests.{up_to, sources_around}
+use Rattle.isle_serialize.specs.declared.around.Around.{Around}
+
+-- of the arms around only the sources are kept, and they stand with those of the loops: no more is asked of them
+abbrev pub around_view : Around → Places.Around
+around_view a = record { tested = []; joined = a.joined.items; looped = a.sources.items; brought = a.brought.items; emitted = a.emitted.items }
+
+-- of each site of a set, whether it is available
+abbrev pub availability : SiteSet → Places.Around → List Bool
+availability set ar = map (available set.sites ar) (up_to (length set.sites))
+
+-- of each site of a set, its class under the pairs that are joined
+abbrev pub class_names : SiteSet → Places.Around → List ℕ
+class_names set ar = map (class ar.joined) (up_to (length set.sites))
+
+-- pairs of sites below n
+abbrev pub ArePairsWithin : ℕ → List (ℕ × ℕ) → Type 0
+ArePairsWithin n pairs = (p : ℕ × ℕ) → Contains pairs p → (p.0 < n) × (p.1 < n)
+
+-- what is kept of a place says the same as what is around it: only whether a site is emitted is asked, not how often
+pub record IsInside (kept ar : Places.Around) : Type 0 where
+  pub sources : kept.looped ≡ sources_around ar
+  pub joined : kept.joined ≡ ar.joined
+  pub brought : kept.brought ≡ ar.brought
+  pub emitted : (s : ℕ) → is_in s kept.emitted ≡ is_in s ar.emitted
+
+-- around the steps after one that uses these sites
+abbrev pub after_uses : SiteSet → Places.Around → List ℕ → Places.Around
+after_uses set ar used = record { tested = ar.tested; joined = ar.joined; looped = ar.looped; brought = ar.brought; emitted = all_below set.sites used ++ ar.emitted }
+
+-- around the body of an arm, whatever its constraint
+abbrev pub arm_around : SiteSet → Places.Around → ℕ → List (Option ℕ) → Places.Around
+arm_around set ar s fields = record {
+  tested = [];
+  joined = ar.joined;
+  looped = s ∷ ar.looped;
+  brought = field_sites fields ++ ar.brought;
+  emitted = field_sites fields ++ (all_below set.sites (s ∷ []) ++ ar.emitted);
+}
+
+-- around the body of a loop over a call
+abbrev pub loop_around : SiteSet → Places.Around → ℕ → ℕ → Places.Around
+loop_around set ar call result = record {
+  tested = [];
+  joined = ar.joined;
+  looped = call ∷ ar.looped;
+  brought = result ∷ ar.brought;
+  emitted = result ∷ (all_below set.sites (sources_at set.sites call) ++ ar.emitted);
+}

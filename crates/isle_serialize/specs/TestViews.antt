@@ -1,0 +1,43 @@
+-- Tests and scores, sites by their numbers.
+use Rattle.std.specs.Prelude.{◌≡◌, ◌≢◌, ℕ, Bool, false, not, ◌&&◌, ◌==◌, List, [], map, Option, Some, None, Contains, slice_index_or, if◌then◌else◌}
+use Rattle.std.specs.List.{filter}
+use Rattle.isle_model.specs.sites.Sites.{SiteSet}
+use Rattle.isle_model.specs.trees.Places.{Around}
+use Rattle.isle_model.specs.trees.Sound.{as_number}
+use Rattle.isle_model.specs.trees.Tests as Tests
+use Rattle.isle_model.specs.trees.Tests.{match_test, equal_test, loop_test, cover, IsOpen, up_to, score, is_greater}
+use Rattle.isle_model.specs.trees.Best.{IsGreatest}
+use Rattle.isle_serialize.specs.declared.tests.Test.{Test}
+use Rattle.isle_serialize.specs.declared.tests.Test.TheVariants.{Match, Equal, Loop}
+use Rattle.isle_serialize.specs.declared.tests.Score.{Score}
+
+abbrev pub test_view : Test → Tests.Test
+test_view (Match source) = match_test source
+test_view (Equal a b) = equal_test a b
+test_view (Loop source) = loop_test source
+
+abbrev pub test_views : List Test → List Tests.Test
+test_views ts = map test_view ts
+
+abbrev pub score_view : Score → Tests.Score
+score_view s = record { count = s.count; emitted = as_number s.is_emitted; form = s.form; site = s.site; other = s.other }
+
+-- the test that is made at a place: the greatest one, where it covers some rule; and where none does, none
+abbrev pub IsChosen : SiteSet → Around → List ℕ → Option Tests.Test → Type 0
+IsChosen set ar here None = (u : Tests.Test) → IsOpen set ar u → cover set.rules here u ≡ []
+IsChosen set ar here (Some t) = IsGreatest set ar here t × (cover set.rules here t ≢ [])
+
+-- the open pairs of which b is the greater, by tables of the available sites and of the names of classes
+abbrev pub pairs_at : List Bool → List ℕ → ℕ → List Test
+pairs_at available names b =
+    map (λ a. Equal a b) (filter (λ a. slice_index_or available a false && slice_index_or available b false && not (slice_index_or names a a == slice_index_or names b b)) (up_to b))
+
+-- the one of the greater score, the first where there is no other
+abbrev pub greater_test : SiteSet → Around → List ℕ → Option Test → Test → Test
+greater_test set ar here None test = test
+greater_test set ar here (Some best) test = if is_greater (score set ar here (test_view test)) (score set ar here (test_view best)) then test else best
+
+-- one of some tests, which has no lower score than any of them; none where there are none
+abbrev pub IsGreatestOf : SiteSet → Around → List ℕ → List Test → Option Test → Type 0
+IsGreatestOf set ar here tests None = tests ≡ []
+IsGreatestOf set ar here tests (Some t) = Contains tests t × ((u : Test) → Contains tests u → is_greater (score set ar here (test_view u)) (score set ar here (test_view t)) ≡ false)

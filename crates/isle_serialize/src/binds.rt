@@ -1,0 +1,131 @@
+//! What is bound before a step, and what a step emits.
+
+ghost use Rattle.std.specs.Prelude.{◌≡◌, ◌<◌, ◌||◌, ℕ, suc, [], Some, not, Contains, IfOk, OnOk, length, slice_get};
+ghost use Rattle.std.specs.List.{filter};
+ghost use Rattle.isle_model.specs.sites.Sites.{sources_at};
+ghost use Rattle.isle_model.specs.trees.Places as Places;
+ghost use Rattle.isle_model.specs.trees.Places.{each_after, is_in, is_in_place, listed_below};
+ghost use Rattle.isle_sets.specs.SiteViews.{site_view, set_view};
+ghost use Rattle.isle_serialize.specs.AroundViews.{around_view};
+
+use crate::around::{Around, is_among};
+use isle_sets::trie_again::{Binding, BindingId, RuleSet};
+use std::alloc::{AllocError, Global};
+
+/// The sources of a site, and none where there is no such site.
+pub fn sources_of(set: &RuleSet, site: BindingId) -> &[BindingId]
+    ensures { result.now ≡ sources_at (set_view set.now).sites site }
+{
+    match set.bindings.get(site.index()) {
+        Some(binding) => binding.sources(),
+        None => &[],
+    }
+}
+
+// Whether a site needs no listing: it is emitted, or listed already.
+fn is_settled(site: BindingId, emitted: &[BindingId], listed: &[BindingId]) -> bool
+    ensures { result ≡ (is_in site emitted.now || is_in site listed.now) }
+{
+    is_among(site, emitted) || is_among(site, listed)
+}
+
+// Lists the sites below a site that aren't emitted, after those already listed: sources first, left to right, each once.
+fn list_below(
+    alloc: Global,
+    set: &RuleSet,
+    emitted: &[BindingId],
+    site: BindingId,
+    listed: &mut Vec<BindingId>,
+) -> Result<(), AllocError>
+    requires { (s a : ℕ) → Contains (sources_at (set_view set.now).sites s) a → a < s }
+    ensures { OnOk result ((n : ℕ) → site < n → listed.new.items ≡ listed_below n (set_view set.now).sites emitted.now listed.old.items site) }
+{
+    if is_settled(site, emitted, listed) {
+        return Ok(());
+    }
+    for source in sources_of(set, site) {
+        list_below(alloc, set, emitted, *source, listed)?;
+    }
+    listed.push(site)?;
+    Ok(())
+}
+
+// The sites below these that aren't emitted, in the order in which they are made of one another.
+fn all_listed(
+    alloc: Global,
+    set: &RuleSet,
+    emitted: &[BindingId],
+    sites: &[BindingId],
+) -> Result<Vec<BindingId>, AllocError>
+    requires { (s a : ℕ) → Contains (sources_at (set_view set.now).sites s) a → a < s }
+    ensures { IfOk result (λ v. v.items ≡ each_after (λ done s. listed_below (suc s) (set_view set.now).sites emitted.now done s) [] sites.now) }
+{
+    let mut listed = Vec::new(alloc);
+    for site in sites {
+        list_below(alloc, set, emitted, *site, &mut listed)?;
+    }
+    Ok(listed)
+}
+
+// Whether a site is written in place.
+fn stands_in_place(binding: &Binding) -> bool
+    ensures { result ≡ is_in_place (Some (site_view binding.now)) }
+{
+    match binding {
+        Binding::ConstInt { .. }
+        | Binding::ConstPrim { .. }
+        | Binding::Argument { .. }
+        | Binding::MatchTuple { .. } => true,
+        Binding::MakeVariant { fields, .. } | Binding::MakeStruct { fields, .. } =>
+            fields.is_empty(),
+        Binding::ConstBool { .. }
+        | Binding::Extractor { .. }
+        | Binding::Constructor { .. }
+        | Binding::Iterator { .. }
+        | Binding::MatchVariant { .. }
+        | Binding::ExtractStruct { .. }
+        | Binding::MakeSome { .. }
+        | Binding::MatchSome { .. } => false,
+    }
+}
+
+// Whether a site is bound by a step that needs it.
+fn is_bound(set: &RuleSet, site: BindingId) -> bool
+    ensures { result ≡ not (is_in_place (slice_get (set_view set.now).sites site)) }
+{
+    match set.bindings.get(site.index()) {
+        Some(binding) => !stands_in_place(binding),
+        None => true,
+    }
+}
+
+/// What is bound before a step that uses these sites: what isn't emitted, each once, sources first and left to right.
+pub fn bind_order(
+    alloc: Global,
+    set: &RuleSet,
+    around: &Around,
+    sites: &[BindingId],
+) -> Result<Vec<BindingId>, AllocError>
+    requires { (s a : ℕ) → Contains (sources_at (set_view set.now).sites s) a → a < s }
+    ensures { IfOk result (λ v. v.items ≡ Places.bind_order (set_view set.now).sites (around_view around.now) sites.now) }
+{
+    let listed = all_listed(alloc, set, &around.emitted, sites)?;
+    listed
+        .iter()
+        .copied()
+        .filter(|site| is_bound(set, *site))
+        .collect(alloc)
+}
+
+/// The sites that are emitted once these are used: these, and all that they are made of, each once.
+#[tactic(auto, using(crate::proofs::Listed::listed_are_below))]
+pub fn all_below(
+    alloc: Global,
+    set: &RuleSet,
+    sites: &[BindingId],
+) -> Result<Vec<BindingId>, AllocError>
+    requires { (s a : ℕ) → Contains (sources_at (set_view set.now).sites s) a → a < s }
+    ensures { IfOk result (λ v. (x : ℕ) → is_in x v.items ≡ is_in x (Places.all_below (set_view set.now).sites sites.now)) }
+{
+    all_listed(alloc, set, &[], sites)
+}

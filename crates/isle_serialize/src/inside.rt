@@ -1,0 +1,123 @@
+//! What stands around the body of a test, and around the steps after one.
+
+ghost use Rattle.std.specs.Prelude.{◌≡◌, ◌<◌, ◌++◌, ℕ, Contains, IfOk};
+ghost use Rattle.isle_model.specs.sites.Sites.{sources_at};
+ghost use Rattle.isle_model.specs.trees.Places as Places;
+ghost use Rattle.isle_sets.specs.SiteViews.{set_view};
+ghost use Rattle.isle_serialize.specs.AroundViews.{around_view, IsInside, after_uses, arm_around, loop_around};
+
+use crate::around::Around;
+use crate::binds::{all_below, sources_of};
+use isle_sets::trie_again::{BindingId, RuleSet};
+use std::alloc::{AllocError, Global};
+
+// One list after another.
+fn chained(
+    alloc: Global,
+    first: &[BindingId],
+    rest: &[BindingId],
+) -> Result<Vec<BindingId>, AllocError>
+    ensures { IfOk result (λ v. v.items ≡ first.now ++ rest.now) }
+{
+    let mut sites = Vec::from_slice(alloc, first)?;
+    sites.extend_from_slice(rest)?;
+    Ok(sites)
+}
+
+// The sites of some fields.
+fn field_sites(alloc: Global, fields: &[Option<BindingId>]) -> Result<Vec<BindingId>, AllocError>
+    ensures { IfOk result (λ v. v.items ≡ Places.field_sites fields.now) }
+{
+    let mut sites = Vec::new(alloc);
+    for field in fields {
+        if let Some(site) = field {
+            sites.push(*site)?;
+        }
+    }
+    Ok(sites)
+}
+
+/// Around the steps after one that used these sites.
+pub fn after_step(
+    alloc: Global,
+    set: &RuleSet,
+    around: &Around,
+    used: &[BindingId],
+) -> Result<Around, AllocError>
+    requires { (s a : ℕ) → Contains (sources_at (set_view set.now).sites s) a → a < s }
+    ensures { IfOk result (λ r. IsInside (around_view r) (after_uses (set_view set.now) (around_view around.now) used.now)) }
+{
+    let below = all_below(alloc, set, used)?;
+    Ok(Around {
+        sources: Vec::from_slice(alloc, &around.sources)?,
+        joined: Vec::from_slice(alloc, &around.joined)?,
+        brought: Vec::from_slice(alloc, &around.brought)?,
+        emitted: chained(alloc, &below, &around.emitted)?,
+    })
+}
+
+/// Around the body of an arm that brings these fields of a source.
+pub fn in_arm(
+    alloc: Global,
+    set: &RuleSet,
+    around: &Around,
+    source: BindingId,
+    fields: &[Option<BindingId>],
+) -> Result<Around, AllocError>
+    requires { (s a : ℕ) → Contains (sources_at (set_view set.now).sites s) a → a < s }
+    ensures { IfOk result (λ r. IsInside (around_view r) (arm_around (set_view set.now) (around_view around.now) source fields.now)) }
+{
+    let brought = field_sites(alloc, fields)?;
+    let below = all_below(alloc, set, &[source])?;
+    let used = chained(alloc, &below, &around.emitted)?;
+    Ok(Around {
+        sources: chained(alloc, &[source], &around.sources)?,
+        joined: Vec::from_slice(alloc, &around.joined)?,
+        emitted: chained(alloc, &brought, &used)?,
+        brought: chained(alloc, &brought, &around.brought)?,
+    })
+}
+
+/// Around the body of an equality.
+pub fn in_equal(
+    alloc: Global,
+    set: &RuleSet,
+    around: &Around,
+    a: BindingId,
+    b: BindingId,
+) -> Result<Around, AllocError>
+    requires { (s a : ℕ) → Contains (sources_at (set_view set.now).sites s) a → a < s }
+    ensures { IfOk result (λ r. IsInside (around_view r) (Places.in_equal (set_view set.now) (around_view around.now) a b)) }
+{
+    let below = all_below(alloc, set, &[a, b])?;
+    let mut joined = Vec::new(alloc);
+    joined.push((a, b))?;
+    joined.extend_from_slice(&around.joined)?;
+    Ok(Around {
+        sources: Vec::from_slice(alloc, &around.sources)?,
+        joined,
+        brought: Vec::from_slice(alloc, &around.brought)?,
+        emitted: chained(alloc, &below, &around.emitted)?,
+    })
+}
+
+/// Around the body of a loop over a call's answers, each of which a site stands for.
+pub fn in_loop(
+    alloc: Global,
+    set: &RuleSet,
+    around: &Around,
+    call: BindingId,
+    each: BindingId,
+) -> Result<Around, AllocError>
+    requires { (s a : ℕ) → Contains (sources_at (set_view set.now).sites s) a → a < s }
+    ensures { IfOk result (λ r. IsInside (around_view r) (loop_around (set_view set.now) (around_view around.now) call each)) }
+{
+    let below = all_below(alloc, set, sources_of(set, call))?;
+    let used = chained(alloc, &below, &around.emitted)?;
+    Ok(Around {
+        sources: chained(alloc, &[call], &around.sources)?,
+        joined: Vec::from_slice(alloc, &around.joined)?,
+        brought: chained(alloc, &[each], &around.brought)?,
+        emitted: chained(alloc, &[each], &used)?,
+    })
+}
