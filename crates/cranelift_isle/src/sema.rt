@@ -1,6 +1,9 @@
 //! Types, terms and typed rules: what definitions mean.
 
-pub use isle_rules::{BoundVar, Expr, IfLet, Pattern, Rule, TermEnv, VisitFault};
+pub use isle_rules::{
+    Body, BoundVar, Expr, ExprVisitor, IfLet, Pattern, PatternVisitor, Rule, RuleVisitor, TermEnv,
+    VisitFault, VisitedExpr,
+};
 pub use isle_terms::{
     ConstructorKind, ExternalSig, ExtractorKind, ReturnKind, Term, TermFlags, TermKind, TermTable,
 };
