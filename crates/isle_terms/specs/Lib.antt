@@ -8,3 +8,5 @@ pub mod Signing
 pub mod Standing
 pub mod Converting
 pub mod Externing
+pub mod Templating
+pub mod ExternStages

@@ -1,5 +1,10 @@
 //! The table of all terms.
 
+ghost use Rattle.std.specs.Prelude.{OnErr};
+ghost use Rattle.isle_model.specs.claims.Environments.{TypesRead, AreReadable, IsReadAs, AreTermsOf, IsLeftByRefusal};
+ghost use Rattle.isle_model.specs.lists.TermTable.{IsValidTerms};
+ghost use Rattle.isle_types.specs.EnvViews.{environment_view};
+ghost use Rattle.isle_terms.specs.ExternStages.{shown_by};
 ghost use Rattle.isle_base.specs.Answers.{Answers, NoLimit};
 ghost use Rattle.isle_base.specs.SyntaxViews.{definition_views};
 ghost use Rattle.isle_model.specs.first.TermTable.{IsValidCarriedTerms, term_table_names};
@@ -55,6 +60,50 @@ impl TermTable {
             return Err(Fault::Errors(errors));
         }
         table.collect_constructors(tyenv, &mut errors, defs)?;
+        if !errors.is_empty() {
+            return Err(Fault::Errors(errors));
+        }
+        Ok(table)
+    }
+
+    /// The terms of a list of definitions, of all forms, by any types that are handed in as `tyenv`, a
+    /// well-formed environment. The i-th declaration, from 0, is term i; types ascending, each variant of an
+    /// enum and each struct follows. The names of the declared terms and of external functions are added to
+    /// those of `tyenv`, in order, as far as the reading comes; all else of it stays.
+    ///
+    /// `Errors` has all that is wrong in the first of four groups in which something is: declarations and the
+    /// terms that types make; rules' terms and internal extractors; converters; external functions. `Memory`
+    /// where memory is refused.
+    pub fn read(alloc: Global, tyenv: &mut TypeEnv, defs: &[Def]) -> Result<TermTable, Fault>
+        ghost read: { TypesRead }
+        requires readable { AreReadable read }
+        requires types { IsReadAs (environment_view tyenv.old) read }
+        ensures answers { Answers result (IsValidTerms read.known (definition_views defs.now))
+            (λ table. AreTermsOf read (definition_views defs.now) (shown_by table) (environment_view tyenv.new)) }
+        ensures left { OnErr result (IsLeftByRefusal read (environment_view tyenv.new)) }
+        ensures no_limit { NoLimit result }
+    {
+        let mut table = TermTable {
+            terms: Vec::new(alloc),
+            term_map: StableMap::new(alloc),
+            converters: StableMap::new(alloc),
+        };
+        let mut errors = Vec::new(alloc);
+        table.read_declarations(tyenv, &mut errors, defs)?;
+        table.add_made_terms(tyenv, &mut errors)?;
+        if !errors.is_empty() {
+            return Err(Fault::Errors(errors));
+        }
+        table.read_roots(tyenv, &mut errors, defs)?;
+        table.read_templates(tyenv, &mut errors, defs)?;
+        if !errors.is_empty() {
+            return Err(Fault::Errors(errors));
+        }
+        table.read_converters(tyenv, &mut errors, defs)?;
+        if !errors.is_empty() {
+            return Err(Fault::Errors(errors));
+        }
+        table.read_externs(tyenv, &mut errors, defs)?;
         if !errors.is_empty() {
             return Err(Fault::Errors(errors));
         }

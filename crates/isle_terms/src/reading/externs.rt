@@ -1,23 +1,78 @@
 //! How external constructors and extractors are read: functions from outside that make values of declared
 //! terms or take them apart.
 
-ghost use Rattle.std.specs.Prelude.{◌≡◌, not, IfOk, OnOk};
+ghost use Rattle.std.specs.Prelude.{◌≡◌, [], not, IfOk, OnOk};
+ghost use Rattle.isle_model.specs.claims.Environments.{TypesRead, AreReadable, IsLeftByRefusal};
+ghost use Rattle.isle_types.specs.EnvViews.{environment_view};
+ghost use Rattle.isle_terms.specs.ExternStages.{ExternsRead};
+ghost use Rattle.isle_terms.specs.Signing.{ReadsTerms};
 ghost use Rattle.isle_model.specs.lists.Tables.{external_constructor};
-ghost use Rattle.isle_base.specs.SyntaxViews.{name_view};
+ghost use Rattle.isle_base.specs.SyntaxViews.{definition_views, name_view};
 ghost use Rattle.isle_types.specs.Reading.{Reports};
 ghost use Rattle.isle_types.specs.VariantReading.{ReportsIf};
 ghost use Rattle.isle_terms.specs.Externing.{lacks_constructor, lacks_extractor, made_by_this, taken_by_this, ReadsKind};
 ghost use Rattle.isle_terms.specs.Reading.{IsWithin};
 ghost use Rattle.isle_terms.specs.TermViews.{extractor_view, term_view};
 
-use crate::reading::report_name;
+use crate::reading::{meet_name, report_name};
 use crate::term::{ConstructorKind, ExtractorKind, Term, TermKind};
 use crate::term_table::TermTable;
-use isle_base::syntax::{Error, Ident, Pos};
+use isle_base::syntax::{Def, Error, Extern, Ident, Pos};
 use isle_types::{Sym, TypeEnv, report};
 use std::alloc::AllocError;
 
 impl TermTable {
+    // Reads all external constructors and extractors.
+    pub(crate) fn read_externs(
+        &mut self,
+        tyenv: &mut TypeEnv,
+        errors: &mut Vec<Error>,
+        defs: &[Def],
+    ) -> Result<(), AllocError>
+        ghost read: { TypesRead }
+        requires readable { AreReadable read }
+        requires start { ReadsTerms read (definition_views defs.now) (ExternsRead read (definition_views defs.now) []) tyenv.old self.old errors.old.items }
+        ensures left { IsLeftByRefusal read (environment_view tyenv.new) }
+        ensures reads { OnOk result (ReadsTerms read (definition_views defs.now) (ExternsRead read (definition_views defs.now) (definition_views defs.now)) tyenv.new self.new errors.new.items) }
+    {
+        for def in defs {
+            self.read_if_extern(tyenv, errors, def)?;
+        }
+        Ok(())
+    }
+
+    // Reads a definition, if it is an external constructor or extractor.
+    fn read_if_extern(
+        &mut self,
+        tyenv: &mut TypeEnv,
+        errors: &mut Vec<Error>,
+        def: &Def,
+    ) -> Result<(), AllocError> {
+        match def {
+            Def::Extern(Extern::Constructor { term, func, pos }) => {
+                let name = meet_name(tyenv, func)?;
+                self.read_constructor(tyenv, errors, term, name, *pos)
+            }
+            Def::Extern(
+                Extern::Extractor {
+                    term,
+                    func,
+                    pos,
+                    infallible,
+                },
+            ) => {
+                let name = meet_name(tyenv, func)?;
+                let kind = ExtractorKind::ExternalExtractor {
+                    name,
+                    infallible: *infallible,
+                    pos: *pos,
+                };
+                self.read_extractor(tyenv, errors, term, kind, *pos)
+            }
+            _ => Ok(()),
+        }
+    }
+
     // Reads the external constructor of a term.
     fn read_constructor(
         &mut self,
@@ -170,7 +225,7 @@ fn report_after(
 }
 
 // Where an extractor is defined: an internal one at its template.
-fn place_of(extractor: &ExtractorKind) -> Pos {
+pub(crate) fn place_of(extractor: &ExtractorKind) -> Pos {
     match extractor {
         ExtractorKind::InternalExtractor { template } => template.pos(),
         ExtractorKind::ExternalExtractor { pos, .. } => *pos,
