@@ -13,9 +13,9 @@ use std::collections::BTreeMap;
 /// What a rule demands of sites.
 pub struct Demanded {
     // Of each site what is asked first, by its number.
-    constraints: BTreeMap<BindingId, Constraint>,
+    pub(crate) constraints: BTreeMap<BindingId, Constraint>,
     // Sites that must be equal.
-    equals: DisjointSets<BindingId>,
+    pub(crate) equals: DisjointSets<BindingId>,
 }
 
 impl Drop for Demanded {

@@ -4,6 +4,7 @@
 
 mod bindings;
 pub mod building;
+pub mod closing;
 mod constraints;
 pub mod demanded;
 mod overlaps;
