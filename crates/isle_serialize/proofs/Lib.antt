@@ -8,3 +8,4 @@ pub mod Alike
 pub mod Growth
 pub mod Listed
 pub mod FieldSteps
+pub mod EndSteps

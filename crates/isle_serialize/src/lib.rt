@@ -3,7 +3,9 @@
 
 pub mod alone;
 pub mod around;
+pub mod best;
 pub mod binds;
+pub mod ends;
 pub mod fields;
 pub mod inside;
 pub mod serialize;
