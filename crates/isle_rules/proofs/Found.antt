@@ -3,7 +3,7 @@ use Rattle.std.proofs.Common.{◌≡◌, ℕ, List, [], Option, Some, None, opti
 use Rattle.std.specs.List.{flat_map}
 use Rattle.isle_base.specs.Stable.{look_up}
 use Rattle.isle_model.specs.lists.Syntax.{Name, RuleTree, Definition}
-use Rattle.isle_model.specs.lists.Names.{with_names}
+use Rattle.isle_model.specs.lists.Names.{with_names, AreNumbersOf}
 use Rattle.isle_model.specs.rules.Outcome.{then_option}
 use Rattle.isle_model.specs.lists.TypeTable.{type_names_met, type_id}
 use Rattle.isle_model.specs.lists.TermTable.{decl_names, term_id, root_name, rule_trees}
@@ -11,7 +11,6 @@ use Rattle.isle_model.specs.first.TermTable.{term_table_names, term_entries}
 use Rattle.isle_model.specs.first.Elaboration.{all_names, carried_names_of_rule, elaborate_at, root_id, elaborate_rule}
 use Rattle.isle_types.specs.declared.type_env.TypeEnv.{TypeEnv}
 use Rattle.isle_types.specs.Envs.{names_of, symbol_of, same_symbol, symbol}
-use Rattle.isle_types.specs.Names.{IsInverse}
 use Rattle.isle_types.specs.TypeTables.{SeesTypes}
 use Rattle.isle_types.specs.TypeViews.{type_views}
 use Rattle.isle_terms.specs.declared.term_table.TermTable.{TermTable}
@@ -31,7 +30,7 @@ sees_more defs old new s m =
     let names : names_of new ≡ all_names defs = m.names ∙ ap (λ ns. with_names ns (rule_texts defs)) s.names in
     record {
       names = names;
-      inverse = subst (λ ns. IsInverse ns (symbol_of new)) names m.inverse;
+      inverse = subst (λ ns. AreNumbersOf ns (symbol_of new)) names m.inverse;
       types = ap (λ v. type_views v.items) m.types ∙ s.types;
       ids = λ k. ap (λ t. option_map (λ i. i.0) (look_up same_symbol t (symbol k))) m.type_map ∙ s.ids k
           ∙ sym (then_withs (term_table_names defs) (rule_texts defs) (type_id defs) (λ x e. no_type defs x (missing_before (type_names_met defs) (decl_names defs) x e)) k);

@@ -2,7 +2,6 @@
 use Rattle.std.specs.Prelude.{◌≡◌, ℕ, Bool, List, Option, None, option_map}
 use Rattle.isle_base.specs.Stable.{look_up}
 use Rattle.isle_model.specs.lists.Syntax.{Definition}
-use Rattle.isle_model.specs.rules.Outcome.{then_option}
 use Rattle.isle_model.specs.rules.Typed.{TypedRule}
 use Rattle.isle_model.specs.first.TermTable.{term_entries, carried_term_of_number}
 use Rattle.isle_model.specs.first.Elaboration.{all_names}
@@ -10,7 +9,7 @@ use Rattle.isle_model.specs.lists.Elaborated.{rule_named}
 use Rattle.isle_types.specs.declared.ids.TypeId.{TypeId}
 use Rattle.isle_types.specs.declared.type_env.TypeEnv.{TypeEnv}
 use Rattle.isle_types.specs.Envs.{same_symbol, symbol}
-use Rattle.isle_types.specs.Types.{variant_at}
+use Rattle.isle_model.specs.claims.Questions.{term_of_variant}
 use Rattle.isle_types.specs.TypeViews.{type_views}
 use Rattle.isle_terms.specs.TermTables.{same_types}
 use Rattle.isle_terms.specs.TermViews.{term_views}
@@ -26,7 +25,7 @@ rule_in_env env k = option_map (λ r. r.0) (look_up same_symbol env.rule_map (sy
 
 -- the term of a variant of an enum
 abbrev pub variant_term_in : TermEnv → TypeEnv → ℕ → ℕ → Option ℕ
-variant_term_in env types ty variant = then_option (variant_at (type_views types.types.items) ty variant) (λ v. term_in_env env v.full_name)
+variant_term_in env types = term_of_variant (type_views types.types.items) (term_in_env env)
 
 -- the terms are those of the definitions, the rules are these typed rules, both are found by their names, and there is
 -- no converter

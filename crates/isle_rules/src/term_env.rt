@@ -6,7 +6,7 @@ ghost use Rattle.isle_model.specs.rules.Typed.{TypedRule};
 ghost use Rattle.isle_model.specs.lists.TypeTable.{IsValidTypes, type_names_met};
 ghost use Rattle.isle_model.specs.first.Elaboration.{IsCarriedElaborated, all_names};
 ghost use Rattle.isle_types.specs.Envs.{symbol_of};
-ghost use Rattle.isle_types.specs.Types.{variant_at};
+ghost use Rattle.isle_model.specs.claims.Questions.{variant_by_id};
 ghost use Rattle.isle_types.specs.TypeTables.{SeesTypes};
 ghost use Rattle.isle_types.specs.TypeViews.{type_views};
 ghost use Rattle.isle_rules.specs.TermEnvs.{term_in_env, variant_term_in, SeesRules};
@@ -104,7 +104,7 @@ impl TermEnv {
     /// `tyenv` and has that variant, whose full name is a term's here, as in each environment that `tyenv`
     /// was read with. Takes no memory. Upstream's `TermEnv::get_variant_term`.
     pub fn get_variant_term(&self, tyenv: &TypeEnv, ty: TypeId, variant: VariantId) -> TermId
-        requires variant { IsSome (variant_at (type_views tyenv.now.types.items) ty.0 variant.0) }
+        requires variant { IsSome (variant_by_id (type_views tyenv.now.types.items) ty.0 variant.0) }
         requires term { IsSome (variant_term_in self.now tyenv.now ty.0 variant.0) }
         ensures { Some result.0 ≡ variant_term_in self.now tyenv.now ty.0 variant.0 }
     {

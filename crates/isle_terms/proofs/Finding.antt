@@ -1,8 +1,7 @@
 -- What is found by names, after one more name, or one more thing with a name.
 use Rattle.std.proofs.Common.{◌≡◌, ℕ, true, false, cond, nat_eq, List, [], ◌∷◌, ◌++◌, length, Option, Some, None, option_and_then, slice_get, refl, sym, ap, subst, ◌∙◌, arith, eqb-true}
-use Rattle.isle_model.specs.lists.Names.{number, has_name, with_name, IsDistinct}
+use Rattle.isle_model.specs.lists.Names.{number, has_name, with_name, IsDistinct, AreNumbersOf}
 use Rattle.isle_model.specs.rules.Outcome.{then_option}
-use Rattle.isle_types.specs.Names.{IsInverse}
 use Rattle.isle_model.proofs.ByNumber.{by_text, of_text, others, then_with}
 use Rattle.isle_model.proofs.FirstPlaces.{place_push_new, place_push_other}
 use Rattle.isle_model.proofs.Names.{with_missing, with_name_at}
@@ -14,7 +13,7 @@ module _ (names : List (List ℕ)) (at : ℕ → Option ℕ) (has : List ℕ →
   at_number x = f.ids (number names x) ∙ of_text names has x (f.known x)
 
   -- what is looked up by a text is what the text has
-  pub by_name : (look_up : List ℕ → Option ℕ) → IsInverse names look_up → (x : List ℕ) → option_and_then at (look_up x) ≡ has x
+  pub by_name : (look_up : List ℕ → Option ℕ) → AreNumbersOf names look_up → (x : List ℕ) → option_and_then at (look_up x) ≡ has x
   by_name look_up i x = by_text names look_up i.numbered i.named at has f.ids x (f.known x)
 
   -- a name is met, and nothing else
@@ -24,7 +23,7 @@ module _ (names : List (List ℕ)) (at : ℕ → Option ℕ) (has : List ℕ →
     known = λ y e. f.known y (with_missing names x y (subst (λ ns. has_name ns y ≡ false) is e)).0;
   }
 
-module _ (names : List (List ℕ)) (at : ℕ → Option ℕ) (ts : List (List ℕ)) (f : Finds names at (place_among ts)) (x : List ℕ) (names' : List (List ℕ)) (is : names' ≡ with_name names x) (look_up : List ℕ → Option ℕ) (i : IsInverse names' look_up) (free : place_among ts x ≡ None) (at' : ℕ → Option ℕ) (adds : (k : ℕ) → at' k ≡ cond (nat_eq (number names x) k) (Some (length ts)) (at k)) where
+module _ (names : List (List ℕ)) (at : ℕ → Option ℕ) (ts : List (List ℕ)) (f : Finds names at (place_among ts)) (x : List ℕ) (names' : List (List ℕ)) (is : names' ≡ with_name names x) (look_up : List ℕ → Option ℕ) (i : AreNumbersOf names' look_up) (free : place_among ts x ≡ None) (at' : ℕ → Option ℕ) (adds : (k : ℕ) → at' k ≡ cond (nat_eq (number names x) k) (Some (length ts)) (at k)) where
   here_named : slice_get names' (number names x) ≡ Some x
   here_named = subst (λ ns. slice_get ns (number names x) ≡ Some x) (sym is) (with_name_at names x)
 

@@ -9,7 +9,7 @@ use Rattle.std.proofs.lemmas.List.Folds.{list_any-append}
 use Rattle.std.proofs.lemmas.List.Elements.{All-nil, All-cons, All-head, All-tail}
 use Rattle.std.proofs.lemmas.Slice.Eq.{bytes_eq-Decides}
 use Rattle.isle_model.specs.lists.Syntax.{Name, DeclTree, RuleTree, Definition, type_definition, declaration, extractor_definition, converter_definition, rule_definition, extern_definition, other_definition}
-use Rattle.isle_model.specs.lists.Names.{number, has_name, IsDistinct}
+use Rattle.isle_model.specs.lists.Names.{number, has_name, IsDistinct, AreNumbersOf}
 use Rattle.isle_model.specs.rules.Outcome.{then_option}
 use Rattle.isle_model.specs.lists.Tables.{internal_constructor}
 use Rattle.isle_model.specs.lists.TypeTable.{place_from}
@@ -21,7 +21,6 @@ use Rattle.isle_base.specs.Stable.{look_up}
 use Rattle.isle_base.specs.SyntaxViews.{definition_view, definition_views}
 use Rattle.isle_types.specs.declared.type_env.TypeEnv.{TypeEnv}
 use Rattle.isle_types.specs.Envs.{names_of, symbol_of, same_symbol, symbol}
-use Rattle.isle_types.specs.Names.{IsInverse}
 use Rattle.isle_types.specs.TypeTables.{SeesTypes}
 use Rattle.std.proofs.Math.Bool.{or-true, or-false}
 use Rattle.isle_model.proofs.Bytes.{same_bytes}
@@ -131,7 +130,7 @@ module _ (defs : List Definition) (read : List RuleTree) (r : RuleTree) (n : Nam
 module _ (defs rest : List Definition) (r : RuleTree) (env : TypeEnv) (old : TermTable) (s : Rooting defs (rule_definition r ∷ rest) env old) where
   term_is : (n : Name) → term_of_name env old n ≡ term_id defs n.text
   term_is n =
-      by_name (names_of env) (term_at old) (term_id defs) s.finds (symbol_of env) (subst (λ ns. IsInverse ns (symbol_of env)) (sym s.signed.types.names) s.signed.types.inverse) n.text
+      by_name (names_of env) (term_at old) (term_id defs) s.finds (symbol_of env) (subst (λ ns. AreNumbersOf ns (symbol_of env)) (sym s.signed.types.names) s.signed.types.inverse) n.text
 
   root_missing : (o : Option Name) → then_option o (term_of_name env old) ≡ None → is_declared defs o ≡ false
   root_missing None h = refl

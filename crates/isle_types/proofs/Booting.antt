@@ -1,7 +1,7 @@
 -- Adding the built-in types, one after another.
 use Rattle.std.proofs.Common.{◌≡◌, ℕ, ◌+◌, ◌<◌, false, cond, List, [], ◌∷◌, ◌++◌, length, drop, get_or, map, slice_get, sym, ap, subst, ◌∙◌, inl, inr, refl}
 use Rattle.std.proofs.lemmas.List.{append_assoc, append-nil, at_drop_more}
-use Rattle.isle_model.specs.lists.Names.{has_name}
+use Rattle.isle_model.specs.lists.Names.{has_name, AreNumbersOf}
 use Rattle.isle_model.specs.rules.Outcome.{then_option}
 use Rattle.isle_model.specs.lists.Tables.{builtin_type}
 use Rattle.isle_model.specs.lists.TypeTable.{builtin_names, place_from}
@@ -10,7 +10,6 @@ use Rattle.isle_types.specs.declared.builtin.BuiltinType.{BuiltinType}
 use Rattle.isle_types.specs.declared.type_env.TypeEnv.{TypeEnv}
 use Rattle.isle_types.specs.Builtin.{builtin_name, builtin_place}
 use Rattle.isle_types.specs.Envs.{names_of, symbol_of, IsInterned}
-use Rattle.isle_types.specs.Names.{IsInverse}
 use Rattle.isle_types.specs.Reading.{AddsBuiltin}
 use Rattle.isle_types.specs.Stages.{Sees, Booting}
 use Rattle.isle_types.specs.TypeTables.{SeesTypes}
@@ -45,7 +44,7 @@ module _ (env : TypeEnv) (s : Booting env []) where
   pub booted : SeesTypes env [] builtin_names
   booted = record {
     names = all_names;
-    inverse = subst (λ ns. IsInverse ns (symbol_of env)) all_names s.inverse;
+    inverse = subst (λ ns. AreNumbersOf ns (symbol_of env)) all_names s.inverse;
     types = sym (append-nil (type_views env.types.items)) ∙ s.types;
     ids = λ k. s.sees.ids k ∙ ap (λ ns. then_option (slice_get ns k) (λ x. place_from 0 x ns)) all_names;
     constants = s.sees.constants;

@@ -3,7 +3,7 @@ use Rattle.std.proofs.Common.{◌≡◌, ◌≢◌, ℕ, ◌||◌, true, false, 
 use Rattle.std.proofs.lemmas.List.{append-nil}
 use Rattle.std.proofs.lemmas.List.Elements.{All-nil}
 use Rattle.isle_model.specs.lists.Syntax.{Definition}
-use Rattle.isle_model.specs.lists.Names.{number, has_name}
+use Rattle.isle_model.specs.lists.Names.{number, has_name, AreNumbersOf}
 use Rattle.isle_model.specs.rules.Meaning.{look}
 use Rattle.isle_model.specs.rules.Outcome.{then_option}
 use Rattle.isle_model.specs.lists.TypeTable.{builtin_names, type_names, ConstantTree, constant_trees, type_names_met, last_definitions, type_of_number, type_or_first, constant_types, IsOfKnownType, IsValidTypes}
@@ -13,7 +13,6 @@ use Rattle.isle_model.proofs.Names.{found, has_at, has_met, has_right}
 use Rattle.isle_laws_lists.proofs.TypeLaws.{names_later, type_names_distinct, last_definition_counts_lem}
 use Rattle.isle_types.specs.declared.type_env.TypeEnv.{TypeEnv}
 use Rattle.isle_types.specs.Envs.{symbol_of, IsInterned}
-use Rattle.isle_types.specs.Names.{IsInverse}
 use Rattle.isle_types.specs.Stages.{names_in_types, constant_names, last_type, TypingConstants, ReadsConstants}
 use Rattle.isle_types.specs.TypeTables.{SeesTypes}
 use Rattle.isle_types.proofs.RightTypes.{types_valid}
@@ -58,7 +57,7 @@ module _ (defs : List Definition) (env : TypeEnv) where
   sees_of : TypingConstants defs [] env → IsInterned env → SeesTypes env defs (type_names_met defs)
   sees_of n i = record {
     names = n.names;
-    inverse = subst (λ ns. IsInverse ns (symbol_of env)) n.names i;
+    inverse = subst (λ ns. AreNumbersOf ns (symbol_of env)) n.names i;
     types = n.types;
     ids = λ k. n.ids k ∙ ap (λ ns. type_of_number defs ns k) n.names;
     constants = λ k. n.constants k ∙ ap (λ cs. then_option (slice_get (type_names_met defs) k) (last_type defs cs)) (sym (append-nil n.read) ∙ n.whole) ∙ last_types defs k;

@@ -6,7 +6,7 @@ use Rattle.std.proofs.lemmas.Bool.{false≢true}
 use Rattle.std.proofs.lemmas.List.{append_assoc, append-nil, map-append, length_push, at_drop_more, at_drop_all}
 use Rattle.std.proofs.lemmas.List.Elements.{All-nil, All-push, All-head, All-tail}
 use Rattle.isle_model.specs.lists.Syntax.{Name, FieldTree, TupleFieldTree, struct_fields, tuple_fields, Definition}
-use Rattle.isle_model.specs.lists.Names.{number, with_name, with_names, IsDistinct}
+use Rattle.isle_model.specs.lists.Names.{number, with_name, with_names, IsDistinct, AreNumbersOf}
 use Rattle.isle_model.specs.lists.Tables.{FieldEntry, TupleFieldEntry, struct_entries, tuple_entries}
 use Rattle.isle_model.specs.lists.TypeTable.{field_names, all_type_names, place_from, IsKnownType, type_or_first, field_entry, tuple_field_entry}
 use Rattle.isle_base.specs.declared.syntax.Error.{Error}
@@ -21,7 +21,6 @@ use Rattle.isle_types.specs.declared.types.TupleField.{TupleField}
 use Rattle.isle_types.specs.Envs.{names_of, symbol_of, type_at, type_of_name, IsInterned}
 use Rattle.isle_types.specs.VariantReading.{HasSeen}
 use Rattle.isle_types.specs.FieldReading.{was_seen, IsField, ReadsField, IsTupleField, ReadsTupleField}
-use Rattle.isle_types.specs.Names.{IsInverse}
 use Rattle.isle_types.specs.Reading.{MayReport, Reports, MeetsNames, AreRightFields}
 use Rattle.isle_types.specs.Stages.{Sees}
 use Rattle.isle_types.specs.TypeViews.{field_view, tuple_field_view}
@@ -149,7 +148,7 @@ module _ (defs : List Definition) (all rest : List FieldTree) (f : FieldTree) (r
 
     numbers_after : HasSeen (names_of new) seen' (names_in (s.done ++ f ∷ []))
     numbers_after =
-        let inverse = subst (λ ns. IsInverse ns (symbol_of new)) m.names i in
+        let inverse = subst (λ ns. AreNumbersOf ns (symbol_of new)) m.names i in
         let more = one_seen (names_of env) seen (names_in s.done) s.numbers f.name.text seen' (symbol_of new) inverse a.fresh a.more in
         subst (λ ns. HasSeen ns seen' (names_in (s.done ++ f ∷ []))) (sym m.names) (subst (HasSeen (with_name (names_of env) f.name.text) seen') (sym names_after) more)
 

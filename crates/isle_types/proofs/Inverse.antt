@@ -2,8 +2,7 @@
 use Rattle.std.proofs.Common.{◌≡◌, ℕ, true, false, cond, List, [], ◌∷◌, ◌++◌, length, Option, Some, option_map, slice_get, refl, sym, ap, ◌∙◌, ⊎_elim}
 use Rattle.std.specs.Map.{update}
 use Rattle.std.specs.Str.{bytes_eq}
-use Rattle.isle_types.specs.Names.{IsInverse}
-use Rattle.isle_model.specs.lists.Names.{IsDistinct}
+use Rattle.isle_model.specs.lists.Names.{IsDistinct, AreNumbersOf}
 use Rattle.isle_model.proofs.Bytes.{same_bytes, differ}
 use Rattle.isle_model.proofs.Positions.{get_front, get_middle, get_push_cases}
 
@@ -12,14 +11,14 @@ pub update_read : {X Y : Type 0} (f : X → Y) (old new : List ℕ → Option X)
 update_read f old new name w is q =
     ap (option_map f) (is q) ∙ (elim (bytes_eq name q) as (λ b. option_map f (cond b (Some w) (old q)) ≡ cond b (Some (f w)) (option_map f (old q))) [ true ↦ refl | false ↦ refl ])
 
-module _ (names : List (List ℕ)) (old new : List ℕ → Option ℕ) (i : IsInverse names old) (name : List ℕ) (absent : (k : ℕ) → slice_get names k ≡ Some name → ⊥) (is : (q : List ℕ) → new q ≡ update bytes_eq old name (Some (length names)) q) where
+module _ (names : List (List ℕ)) (old new : List ℕ → Option ℕ) (i : AreNumbersOf names old) (name : List ℕ) (absent : (k : ℕ) → slice_get names k ≡ Some name → ⊥) (is : (q : List ℕ) → new q ≡ update bytes_eq old name (Some (length names)) q) where
   at_same : (q : List ℕ) → bytes_eq name q ≡ true → new q ≡ Some (length names)
   at_same q e = is q ∙ rw e refl
 
   at_other : (q : List ℕ) → bytes_eq name q ≡ false → new q ≡ old q
   at_other q e = is q ∙ rw e refl
 
-  pub inverse_push : IsInverse (names ++ name ∷ []) new
+  pub inverse_push : AreNumbersOf (names ++ name ∷ []) new
   inverse_push = record {
     numbered = λ q k h.
         elim (bytes_eq name q) as (λ b. bytes_eq name q ≡ b → new q ≡ Some k) [
@@ -38,5 +37,5 @@ module _ (names : List (List ℕ)) (old new : List ℕ → Option ℕ) (i : IsIn
   }
 
 -- each name stands once
-pub inverse_distinct : (names : List (List ℕ)) (look : List ℕ → Option ℕ) → IsInverse names look → IsDistinct names
+pub inverse_distinct : (names : List (List ℕ)) (look : List ℕ → Option ℕ) → AreNumbersOf names look → IsDistinct names
 inverse_distinct names look i j k x p q = let first = i.numbered x j p in let second = i.numbered x k q in cc

@@ -3,7 +3,7 @@ use Rattle.std.proofs.Common.{◌≡◌, ℕ, ◌+◌, ◌<◌, length, drop, ge
 use Rattle.std.proofs.lemmas.List.{append_assoc, at_drop_more}
 use Rattle.std.proofs.lemmas.List.Elements.{All-nil}
 use Rattle.isle_model.specs.lists.Syntax.{TypeTree, Definition, type_definition, declaration, extractor_definition, converter_definition, rule_definition, extern_definition, other_definition}
-use Rattle.isle_model.specs.lists.Names.{has_name, with_names}
+use Rattle.isle_model.specs.lists.Names.{has_name, with_names, AreNumbersOf}
 use Rattle.isle_model.specs.rules.Outcome.{then_option}
 use Rattle.isle_model.specs.lists.TypeTable.{builtin_names, type_names, place_from, IsValidTypes}
 use Rattle.isle_base.specs.declared.syntax.Def.{Def}
@@ -12,7 +12,6 @@ use Rattle.isle_base.specs.SyntaxViews.{definition_view, definition_views}
 use Rattle.isle_base.specs.Stable.{entry_count}
 use Rattle.isle_types.specs.declared.type_env.TypeEnv.{TypeEnv}
 use Rattle.isle_types.specs.Envs.{names_of, symbol_of, IsInterned}
-use Rattle.isle_types.specs.Names.{IsInverse}
 use Rattle.isle_types.specs.Reading.{NamesType, IsTakenByType, NamesDefinition}
 use Rattle.isle_types.specs.Stages.{ArePlain, Naming, NamesTypes}
 use Rattle.isle_types.specs.TypeTables.{SeesTypes}
@@ -72,7 +71,7 @@ next_name defs i d within at old new es es' inverse s a =
 -- before the first definition
 pub first_name : (defs : List Definition) (env : TypeEnv) (es : List Error) → SeesTypes env [] builtin_names → entry_count env.type_map ≡ 13 → es ≡ [] → NamesTypes defs defs env es
 first_name defs env es s count none = record {
-  inverse = subst (λ ns. IsInverse ns (symbol_of env)) (sym s.names) s.inverse;
+  inverse = subst (λ ns. AreNumbersOf ns (symbol_of env)) (sym s.names) s.inverse;
   plain = subst ArePlain (sym none) (All-nil _);
   so_far = inl (
     none,

@@ -2,14 +2,13 @@
 use Rattle.std.proofs.Common.{◌≡◌, ℕ, nat_eq, true, false, cond, List, [], ◌∷◌, ◌++◌, Option, Some, None, slice_get, refl, sym, ap, ◌∙◌}
 use Rattle.std.specs.Option.{is_some}
 use Rattle.std.proofs.lemmas.Bool.{false≢true}
-use Rattle.isle_model.specs.lists.Names.{number, with_name}
+use Rattle.isle_model.specs.lists.Names.{number, with_name, AreNumbersOf}
 use Rattle.isle_model.specs.rules.Outcome.{then_option}
 use Rattle.isle_model.specs.lists.TypeTable.{place_from}
 use Rattle.isle_base.specs.Stable.{Members}
 use Rattle.isle_types.specs.declared.ids.Sym.{Sym}
 use Rattle.isle_types.specs.FieldReading.{was_seen}
 use Rattle.isle_types.specs.VariantReading.{HasSeen}
-use Rattle.isle_types.specs.Names.{IsInverse}
 use Rattle.isle_model.proofs.ByNumber.{of_text}
 use Rattle.isle_types.proofs.Inverse.{inverse_distinct}
 use Rattle.isle_types.proofs.NumbersSeen.{seen_met, seen_push}
@@ -34,6 +33,6 @@ module _ (names : List (List ℕ)) (seen : Members Sym) (these : List (List ℕ)
       ] (sym seen_text ∙ e)
 
   -- one more name is met and seen
-  pub one_seen : (seen' : Members Sym) (look : List ℕ → Option ℕ) → IsInverse (with_name names x) look → was_seen seen (number names x) ≡ false → ((k : ℕ) → was_seen seen' k ≡ cond (nat_eq (number names x) k) true (was_seen seen k)) → HasSeen (with_name names x) seen' (these ++ x ∷ [])
+  pub one_seen : (seen' : Members Sym) (look : List ℕ → Option ℕ) → AreNumbersOf (with_name names x) look → was_seen seen (number names x) ≡ false → ((k : ℕ) → was_seen seen' k ≡ cond (nat_eq (number names x) k) true (was_seen seen k)) → HasSeen (with_name names x) seen' (these ++ x ∷ [])
   one_seen seen' look i new more =
       seen_push (with_name names x) seen these (seen_met names seen these s (x ∷ [])) (inverse_distinct (with_name names x) look i) (number names x) x (with_name_at names x) (not_seen new) seen' (λ y. more y.0)

@@ -4,9 +4,9 @@ use Rattle.std.specs.List.{enumerate_from, flat_map, AllByRecursion}
 use Rattle.std.proofs.lemmas.List.Elements.{All-nil, All-get_or}
 use Rattle.std.proofs.lemmas.Option.{same_Some, slice_get_within, slice_get-get_or}
 use Rattle.isle_model.specs.lists.Syntax.{VariantTree, TypeTree, TypeValueTree, primitive_value, enum_value, struct_value, Definition}
-use Rattle.isle_model.specs.lists.Names.{number, has_name, IsDistinct}
+use Rattle.isle_model.specs.lists.Names.{number, has_name, IsDistinct, AreNumbersOf}
 use Rattle.isle_model.specs.rules.Outcome.{then_option}
-use Rattle.isle_model.specs.lists.Tables.{VariantEntry, TypeEntry}
+use Rattle.isle_model.specs.lists.Tables.{VariantEntry}
 use Rattle.isle_model.specs.lists.TypeTable.{builtin_names, builtin_from, type_id, type_trees, constant_trees, all_type_names, type_names_met, variant_entry, entry_at, type_entry, type_table, type_or_first, IsUnmarkedIfPrimitive, HasAtMostOneMark, HasDistinctVariants, HasDistinctFields, HasKnownTypes, IsOfKnownType, IsValidTypes}
 use Rattle.isle_model.specs.lists.KnownTypes.{types_of, types_inside, entry_numbers, StandAtIds, IsWellFormed}
 use Rattle.isle_model.proofs.Joined.{all_joined}
@@ -14,9 +14,8 @@ use Rattle.isle_model.proofs.Names.{found, distinct_if}
 use Rattle.isle_laws_lists.proofs.WellFormed.{place_below, as_many, types_are_found_lem, own_types_are_well_formed_lem}
 use Rattle.isle_types.specs.declared.type_env.TypeEnv.{TypeEnv}
 use Rattle.isle_types.specs.Envs.{names_of, symbol_of, type_at, constant_at}
-use Rattle.isle_types.specs.Names.{IsInverse}
+use Rattle.isle_model.specs.claims.Environments.{variants_in, HasVariantsAtIds}
 use Rattle.isle_types.specs.Stages.{Booting, last_type}
-use Rattle.isle_types.specs.Types.{entry_variants}
 use Rattle.isle_types.specs.TypeTables.{SeesTypes}
 use Rattle.isle_types.specs.WellFormed.{HasOneName, AreInRange, VariantsStandAtIds, IsWellFormedEnv}
 use Rattle.isle_types.proofs.Booting.{booted}
@@ -40,29 +39,26 @@ variant_ids defs ns ty n i m [] v e h = absurd (cc)
 variant_ids defs ns ty n zero m (w ∷ ws) v e h = let same : n ≡ m = omega arith in sym (ap (λ x. x.id) (same_Some (variant_entry defs ns ty n w) v h)) ∙ same
 variant_ids defs ns ty n (suc i) m (w ∷ ws) v e h = variant_ids defs ns ty (n + 1) i m ws v (omega arith) h
 
-abbrev StandAtVariantIds : TypeEntry → Type 0
-StandAtVariantIds t = (i : ℕ) (v : VariantEntry) → slice_get (entry_variants t) i ≡ Some v → v.id ≡ i
-
-builtins_without : (n : ℕ) (xs : List (List ℕ)) → AllByRecursion StandAtVariantIds (builtin_from n xs)
+builtins_without : (n : ℕ) (xs : List (List ℕ)) → AllByRecursion HasVariantsAtIds (builtin_from n xs)
 builtins_without n [] = tt
 builtins_without n (x ∷ xs) = ((λ i v h. absurd (cc)), builtins_without (suc n) xs)
 
 module _ (defs : List Definition) where
-  variants_of_entry : (ns : List (List ℕ)) (id : ℕ) (t : TypeTree) (w : TypeValueTree) → StandAtVariantIds (entry_at defs ns id t w)
+  variants_of_entry : (ns : List (List ℕ)) (id : ℕ) (t : TypeTree) (w : TypeValueTree) → HasVariantsAtIds (entry_at defs ns id t w)
   variants_of_entry ns id t (primitive_value name at) i v h = absurd (cc)
   variants_of_entry ns id t (enum_value variants at) i v h = variant_ids defs ns t.name.text 0 i i variants v (omega arith) h
   variants_of_entry ns id t (struct_value fields at) i v h = absurd (cc)
 
-  variants_of_entries : (ns : List (List ℕ)) (n : ℕ) (ts : List TypeTree) → AllByRecursion StandAtVariantIds (map (λ p. type_entry defs ns p.0 p.1) (enumerate_from n ts))
+  variants_of_entries : (ns : List (List ℕ)) (n : ℕ) (ts : List TypeTree) → AllByRecursion HasVariantsAtIds (map (λ p. type_entry defs ns p.0 p.1) (enumerate_from n ts))
   variants_of_entries ns n [] = tt
   variants_of_entries ns n (t ∷ ts) = (variants_of_entry ns n t t.value, variants_of_entries ns (n + 1) ts)
 
   own_variants : VariantsStandAtIds (type_table defs)
   own_variants ty i v h =
-      let all : AllByRecursion StandAtVariantIds (type_table defs) =
-      all_joined StandAtVariantIds (builtin_from 0 builtin_names) (map (λ p. type_entry defs (type_names_met defs) p.0 p.1) (enumerate_from 13 (type_trees defs))) (builtins_without 0 builtin_names) (variants_of_entries (type_names_met defs) 13 (type_trees defs)) in
-      let t = then_some (slice_get (type_table defs) ty) (λ t. slice_get (entry_variants t) i) v h in
-      each_at StandAtVariantIds (type_table defs) ty t.0 all t.1 i v t.2
+      let all : AllByRecursion HasVariantsAtIds (type_table defs) =
+      all_joined HasVariantsAtIds (builtin_from 0 builtin_names) (map (λ p. type_entry defs (type_names_met defs) p.0 p.1) (enumerate_from 13 (type_trees defs))) (builtins_without 0 builtin_names) (variants_of_entries (type_names_met defs) 13 (type_trees defs)) in
+      let t = then_some (slice_get (type_table defs) ty) (λ t. slice_get (variants_in t) i) v h in
+      each_at HasVariantsAtIds (type_table defs) ty t.0 all t.1 i v t.2
 
   -- the type of a name is a type
   id_below : (x : List ℕ) (i : ℕ) → type_id defs x ≡ Some i → i < length (type_table defs)
@@ -126,7 +122,7 @@ module _ (defs : List Definition) (env : TypeEnv) (v : IsValidTypes defs) (s : S
   pub well_formed : IsWellFormedEnv env
   well_formed = record {
     names_distinct = subst IsDistinct (sym s.names) own.names_distinct;
-    inverse = subst (λ ns. IsInverse ns (symbol_of env)) (sym s.names) s.inverse;
+    inverse = subst (λ ns. AreNumbersOf ns (symbol_of env)) (sym s.names) s.inverse;
     builtins = subst (λ ts. take 13 ts ≡ builtin_from 0 builtin_names) (sym s.types) own.builtins;
     ids = subst StandAtIds (sym s.types) own.ids;
     one_name = λ ty l. named_once ty (subst (λ ts. ty < length ts) s.types l);

@@ -4,7 +4,7 @@ use Rattle.std.specs.HashMap.{get_by_text}
 use Rattle.isle_base.specs.Stable.{look_up}
 use Rattle.isle_types.specs.declared.ids.Sym.{Sym}
 use Rattle.isle_types.specs.declared.type_env.TypeEnv.{TypeEnv}
-use Rattle.isle_types.specs.Names.{IsInverse}
+use Rattle.isle_model.specs.lists.Names.{AreNumbersOf}
 
 -- the names, in the order of their numbers
 abbrev pub names_of : TypeEnv → List (List ℕ)
@@ -34,4 +34,4 @@ type_of_name env x = option_and_then (type_at env) (symbol_of env x)
 
 -- no name stands twice, and each is looked up at its place
 abbrev pub IsInterned : TypeEnv → Type 0
-IsInterned env = IsInverse (names_of env) (symbol_of env)
+IsInterned env = AreNumbersOf (names_of env) (symbol_of env)

@@ -1,7 +1,6 @@
 pub mod Builtin
 pub mod Types
 pub mod TypeViews
-pub mod Names
 pub mod Envs
 pub mod TypeTables
 pub mod Reading

@@ -6,14 +6,14 @@ use Rattle.isle_model.specs.rules.Meaning.{look}
 use Rattle.isle_model.specs.lists.TypeTable.{type_table, type_of_number, constant_types}
 use Rattle.isle_types.specs.declared.type_env.TypeEnv.{TypeEnv}
 use Rattle.isle_types.specs.Envs.{names_of, symbol_of, type_at, constant_at}
-use Rattle.isle_types.specs.Names.{IsInverse}
+use Rattle.isle_model.specs.lists.Names.{AreNumbersOf}
 use Rattle.isle_types.specs.TypeViews.{type_views}
 
 -- the types and the constants are those of the definitions, and the names are these, which may go on after those of the
 -- type table
 pub record SeesTypes (env : TypeEnv) (defs : List Definition) (texts : List (List ℕ)) : Type 0 where
   pub names : names_of env ≡ texts
-  pub inverse : IsInverse texts (symbol_of env)
+  pub inverse : AreNumbersOf texts (symbol_of env)
   pub types : type_views env.types.items ≡ type_table defs
   pub ids : (k : ℕ) → type_at env k ≡ type_of_number defs texts k
   pub constants : (k : ℕ) → constant_at env k ≡ look (λ j. j == k) (constant_types defs)

@@ -1,9 +1,8 @@
 -- What a client reads off an entry of the type table.
 use Rattle.std.specs.Prelude.{ℕ, Bool, true, false, List, [], map, Option, Some, None, nat_lt, slice_get}
 use Rattle.isle_model.specs.lists.Syntax.{Position}
-use Rattle.isle_model.specs.rules.Outcome.{then_option}
 use Rattle.isle_model.specs.lists.TypeTable.{builtin_names}
-use Rattle.isle_model.specs.lists.Tables.{FieldEntries, unit_entries, struct_entries, tuple_entries, VariantEntry, TypeEntry, builtin_type, primitive_type, enum_type, struct_type}
+use Rattle.isle_model.specs.lists.Tables.{FieldEntries, unit_entries, struct_entries, tuple_entries, TypeEntry, builtin_type, primitive_type, enum_type, struct_type}
 
 -- the number of a type
 abbrev pub type_id_of : TypeEntry → ℕ
@@ -43,14 +42,3 @@ abbrev pub entry_field_types : FieldEntries → List ℕ
 entry_field_types unit_entries = []
 entry_field_types (struct_entries fields) = map (λ f. f.ty) fields
 entry_field_types (tuple_entries fields) = map (λ f. f.ty) fields
-
--- the variants of a type, in order
-abbrev pub entry_variants : TypeEntry → List VariantEntry
-entry_variants (builtin_type place) = []
-entry_variants (primitive_type id name at) = []
-entry_variants (enum_type name id is_extern is_nodebug variants at) = variants
-entry_variants (struct_type name id is_extern is_nodebug fields at) = []
-
--- the variant of this number of the type of this number
-abbrev pub variant_at : List TypeEntry → ℕ → ℕ → Option VariantEntry
-variant_at types ty variant = then_option (slice_get types ty) (λ t. slice_get (entry_variants t) variant)

@@ -7,7 +7,7 @@ use Rattle.isle_model.specs.lists.TypeTable.{builtin_names, builtin_from}
 use Rattle.isle_model.specs.lists.KnownTypes.{types_inside, entry_numbers, StandAtIds}
 use Rattle.isle_types.specs.declared.type_env.TypeEnv.{TypeEnv}
 use Rattle.isle_types.specs.Envs.{names_of, type_at, constant_at, IsInterned}
-use Rattle.isle_types.specs.Types.{variant_at}
+use Rattle.isle_model.specs.claims.Questions.{variant_by_id}
 use Rattle.isle_types.specs.TypeViews.{type_views}
 
 -- the types, each at its number
@@ -24,7 +24,7 @@ AreInRange env k ty = (k < length (names_of env)) × (ty < length (types_in env)
 
 -- each variant of an enum stands at the number that it says
 abbrev pub VariantsStandAtIds : List TypeEntry → Type 0
-VariantsStandAtIds types = (ty i : ℕ) (v : VariantEntry) → variant_at types ty i ≡ Some v → v.id ≡ i
+VariantsStandAtIds types = (ty i : ℕ) (v : VariantEntry) → variant_by_id types ty i ≡ Some v → v.id ≡ i
 
 -- no name stands twice, and each is looked up at its place; the first 13 types are the built-in ones, in order, and each
 -- type stands at its number; names are mapped one to one onto the types; the types of fields and of constants are types,

@@ -2,11 +2,10 @@
 
 ghost use Rattle.std.specs.Prelude.{◌≡◌, ℕ, List, ◌++◌, ◌∷◌, [], map, option_map, option_and_then, IfOk, OnOk, OnErr, string_bytes, length, Some, IsSome, slice_get};
 ghost use Rattle.std.specs.HashMap.{get_by_text};
-ghost use Rattle.isle_model.specs.lists.Names.{number, with_name};
+ghost use Rattle.isle_model.specs.lists.Names.{number, with_name, number_if_met};
 ghost use Rattle.isle_model.specs.lists.Signatures.{text_of};
-ghost use Rattle.isle_types.specs.Names.{number_if_known};
+ghost use Rattle.isle_model.specs.claims.Questions.{variant_by_id};
 ghost use Rattle.isle_types.specs.Envs.{names_of, symbol_of, type_at, IsInterned};
-ghost use Rattle.isle_types.specs.Types.{variant_at};
 ghost use Rattle.isle_types.specs.TypeViews.{type_views, variant_view};
 
 use crate::ids::{Sym, TypeId, VariantId};
@@ -38,7 +37,7 @@ impl TypeEnv {
     pub fn intern(&self, ident: &Ident) -> Option<Sym>
         ensures looked_up { option_map (λ s. s.0) result ≡ symbol_of self.now (string_bytes ident.now.0) }
         ensures place { IsInterned self.now
-            → option_map (λ s. s.0) result ≡ number_if_known (names_of self.now) (string_bytes ident.now.0) }
+            → option_map (λ s. s.0) result ≡ number_if_met (names_of self.now) (string_bytes ident.now.0) }
     {
         self.look_up_text(ident.0.as_str())
     }
@@ -79,8 +78,8 @@ impl TypeEnv {
     /// The variant of this id of the type of this id. Condition: the type is an enum of this table and
     /// has that variant. Takes no memory. Upstream's `TypeEnv::get_variant`.
     pub fn get_variant(&self, ty: TypeId, variant: VariantId) -> &Variant
-        requires { IsSome (variant_at (type_views self.now.types.items) ty.0 variant.0) }
-        ensures { Some (variant_view result.now) ≡ variant_at (type_views self.now.types.items) ty.0 variant.0 }
+        requires { IsSome (variant_by_id (type_views self.now.types.items) ty.0 variant.0) }
+        ensures { Some (variant_view result.now) ≡ variant_by_id (type_views self.now.types.items) ty.0 variant.0 }
     {
         let Type::Enum { variants, .. } = &self.types[ty.index()] else {
             unreachable!()
@@ -102,7 +101,7 @@ impl TypeEnv {
     fn look_up_text(&self, name: &str) -> Option<Sym>
         ensures looked_up { option_map (λ s. s.0) result ≡ symbol_of self.now name.now }
         ensures place { IsInterned self.now
-            → option_map (λ s. s.0) result ≡ number_if_known (names_of self.now) name.now }
+            → option_map (λ s. s.0) result ≡ number_if_met (names_of self.now) name.now }
     {
         self.sym_map.get(name).copied()
     }

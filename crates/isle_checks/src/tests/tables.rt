@@ -1,7 +1,7 @@
 // The type tables, term tables and typed rules of lists, and each public call on them once.
 ghost use Rattle.std.specs.Prelude.{IfOk, IsSome};
 ghost use Rattle.isle_types.specs.TypeViews.{type_views};
-ghost use Rattle.isle_types.specs.Types.{variant_at};
+ghost use Rattle.isle_model.specs.claims.Questions.{variant_by_id};
 
 use isle_base::syntax::{Def, Ident, Pos, TypeValue};
 use isle_printing::sample;
@@ -187,7 +187,7 @@ fn questions_of_types(rt: HostRuntime) -> Result<(), Fail> {
 
 // A table whose first type is an enum of two variants.
 fn two_variants(alloc: Global) -> Result<TypeEnv, AllocError>
-    ensures { IfOk result (λ env. IsSome (variant_at (type_views env.types.items) 0 1)) }
+    ensures { IfOk result (λ env. IsSome (variant_by_id (type_views env.types.items) 0 1)) }
 {
     let mut env = TypeEnv::try_default(alloc)?;
     let (first, second) = (

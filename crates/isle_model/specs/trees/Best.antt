@@ -133,9 +133,13 @@ pub record IsBestTree (set : SiteSet) (tree : Tree) : Type 0 where
   pub no_site_twice : NoSiteTwice tree
   pub few_steps : HasFewSteps set tree
 
--- no open test of a place covers more rules than the step there holds
-abbrev pub NoneCoversMore : SiteSet → Around → List ℕ → List ℕ → Type 0
-NoneCoversMore set ar held later = (u : Test) → IsOpen set ar u → length (cover set.rules (held ++ later) u) ≤ length held
+-- no open test of a place covers more of these rules than so many
+abbrev pub NoneCoversMore : SiteSet → Around → List ℕ → ℕ → Type 0
+NoneCoversMore set ar here most = (u : Test) → IsOpen set ar u → length (cover set.rules here u) ≤ most
+
+-- nor than the test that is made there, whatever rules its step holds
+abbrev pub CoversMost : SiteSet → Around → List ℕ → Test → Type 0
+CoversMost set ar here t = NoneCoversMore set ar here (length (cover set.rules here t))
 
 -- nowhere would an open test cover more rules than the test made: not at a test, and at the end of a block, where none
 -- is made, it would cover none
@@ -145,10 +149,12 @@ abbrev mutual
   SharesMost set ar closing (m_step binds check rest) = SharesMostIn set ar closing (marks rest) check × SharesMost set (after_step set ar check) (is_return check) rest
 
   pub SharesMostIn : SiteSet → Around → Bool → List ℕ → MarkedCheck → Type 0
-  SharesMostIn set ar closing later (m_match source arms) = NoneCoversMore set ar (marks_arms arms) later × SharesMostAmong set ar source arms
-  SharesMostIn set ar closing later (m_equal a b body) = NoneCoversMore set ar (marks body) later × SharesMost set (in_equal set ar a b) false body
-  SharesMostIn set ar closing later (m_loop result body) = NoneCoversMore set ar (marks body) later × SharesMost set (in_loop set ar result) false body
-  SharesMostIn set ar closing later (m_return rule) = closing ≡ false → NoneCoversMore set ar [] (rule ∷ later)
+  SharesMostIn set ar closing later (m_match source arms) = CoversMost set ar (marks_arms arms ++ later) (match_test source) × SharesMostAmong set ar source arms
+  SharesMostIn set ar closing later (m_equal a b body) = CoversMost set ar (marks body ++ later) (equal_test a b) × SharesMost set (in_equal set ar a b) false body
+  SharesMostIn set ar closing later (m_loop result body) =
+      ((source : ℕ) × (slice_get set.sites result ≡ Some (iterator_site source)) × CoversMost set ar (marks body ++ later) (loop_test source))
+      × SharesMost set (in_loop set ar result) false body
+  SharesMostIn set ar closing later (m_return rule) = closing ≡ false → NoneCoversMore set ar (rule ∷ later) 0
 
   pub SharesMostAmong : SiteSet → Around → ℕ → MarkedArms → Type 0
   SharesMostAmong set ar source m_no_arm = Unit {0}

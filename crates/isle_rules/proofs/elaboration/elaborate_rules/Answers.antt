@@ -3,7 +3,7 @@ use Rattle.std.proofs.lemmas.List.{drop_all}
 use Rattle.isle_base.specs.SyntaxViews.{definition_views}
 use Rattle.isle_model.specs.first.TermTable.{term_table_names}
 use Rattle.isle_types.specs.Envs.{names_of, symbol_of}
-use Rattle.isle_types.specs.Names.{IsInverse}
+use Rattle.isle_model.specs.lists.Names.{AreNumbersOf}
 use Rattle.isle_rules.specs.Elaborating.{AreKnown}
 use Rattle.isle_rules.proofs.MetNames.{all_met}
 use Rattle.isle_rules.proofs.Texts.{known_met}
@@ -18,7 +18,7 @@ loop-def-init c = record {
 
 pub elaborate_definition-requires : goal.elaborate_definition-requires
 elaborate_definition-requires c = record {
-  inverse = subst (λ ns. IsInverse ns (symbol_of c.args.tyenv.now)) (sym c.requires.types.names) c.requires.types.inverse;
+  inverse = subst (λ ns. AreNumbersOf ns (symbol_of c.args.tyenv.now)) (sym c.requires.types.names) c.requires.types.inverse;
   known = (known_at (names_of c.args.tyenv.now) c.args.defs.now c.loop-def.def-index c.def-item.result (search rules) c.def-item.is c.loop-def.invariant.known).0;
 }
 

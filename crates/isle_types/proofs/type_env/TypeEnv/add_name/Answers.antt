@@ -4,7 +4,7 @@ use Rattle.std.specs.HashMap.{get_by_text}
 use Rattle.std.proofs.lemmas.List.{map-append, length-map}
 use Rattle.std.proofs.lemmas.Map.Text.{hash_map_updates_text}
 use Rattle.std.proofs.lemmas.Result.{IfOk-at_ok}
-use Rattle.isle_types.specs.Names.{IsInverse}
+use Rattle.isle_model.specs.lists.Names.{AreNumbersOf}
 use Rattle.isle_types.specs.Envs.{names_of, symbol_of}
 use Rattle.isle_types.proofs.Inverse.{inverse_push, update_read}
 use Rattle.isle_types.proofs.type_env.TypeEnv.add_name.Goals as goal
@@ -20,4 +20,4 @@ returns-clause-inverse c =
     let reads = update_read (λ s. s.0) (get_by_text c.args.self.now.sym_map) (get_by_text c.insert.new.self) (string_bytes c.in_ok-key.key) _ sets in
     let all = inverse_push names (symbol_of c.args.self.now) (λ q. option_map (λ s. s.0) (get_by_text c.insert.new.self q)) c.requires.inverse c.args.name.now c.requires.absent (rw (key, n) at reads) in
     let items : map string_bytes c.push.new.self.items ≡ names ++ c.args.name.now ∷ [] = rw (c.push.ensures.items, ok, c.reserve.ensures.items, map-append, sym') refl in
-    subst (λ ns. IsInverse ns (λ q. option_map (λ s. s.0) (get_by_text c.insert.new.self q))) (sym items) all
+    subst (λ ns. AreNumbersOf ns (λ q. option_map (λ s. s.0) (get_by_text c.insert.new.self q))) (sym items) all
