@@ -6,7 +6,7 @@ use Rattle.isle_model.specs.rules.Choice.{choice}
 use Rattle.isle_model.specs.rules.Meaning.{Content, one, parts, nothing, just, many, Meaning, extractor_answer, int_literal, literal_value}
 use Rattle.isle_model.specs.rules.Program.{kind, rules_of}
 use Rattle.isle_model.specs.rules.Values.{Value, value_eq, well_typed}
-use Rattle.isle_model.specs.sites.Serves.{Serves, fits_extractor, holds_argument}
+use Rattle.isle_model.specs.sites.Serves.{Serves, fits_extractor}
 use Rattle.isle_model.specs.sites.Sites.{argument}
 use Rattle.isle_model.specs.trees.Run.{run, world_of}
 use Rattle.isle_examples.proofs.Lowered.{lowered_to, on_one_argument, two_match_once}
@@ -46,7 +46,7 @@ answered_alike m v (Some (many cs)) g fits h k = absurd (false≢true fits)
 
 value_alike : (m : Meaning) (v : Value) → Serves extract_program m (v ∷ []) (rules_of extract_program 1) → RunsAlike m (v ∷ [])
 value_alike m v s =
-    answered_alike m v (extractor_answer m 0 v) refl (s.extractors 0 (argument 0) v (1, omega arith, refl) (holds_argument refl))
+    answered_alike m v (extractor_answer m 0 v) refl (s.extractors [] 0 (argument 0) v (1, omega arith, refl) refl)
     (s.ints (pos 1) 1 (4, omega arith, refl)) (s.ints (pos 10) 1 (3, omega arith, refl))
 
 -- the rules have two priorities

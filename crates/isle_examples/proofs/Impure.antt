@@ -8,10 +8,10 @@ use Rattle.isle_model.specs.rules.Meaning.{Content, Meaning, impure_answer, one}
 use Rattle.isle_model.specs.rules.Outcome.{Outcome, then_option}
 use Rattle.isle_model.specs.rules.Values.{Value, no_value, value_and}
 use Rattle.isle_model.specs.sites.Sites.{constructor_site}
-use Rattle.isle_model.specs.trees.Collects.{IsPureSite}
+use Rattle.isle_model.specs.trees.Collects.{IsPureSite, IsPureAt}
 use Rattle.isle_model.specs.trees.Places.{all_below, bind_order, is_in, is_in_place, nothing_around, return_uses, waits}
 use Rattle.isle_model.specs.trees.Run.{Bound, Env, World, all_bound, as_value, at_start, bound_to, constructed, now_bound, or_else, or_next, run_check, run_tree, then_bind, used, with_bound}
-use Rattle.isle_model.specs.trees.SetRuns.{IsPureAt, IsTaken}
+use Rattle.isle_model.specs.trees.SetRuns.{IsTaken}
 use Rattle.isle_model.specs.trees.Trees.{no_step, return_at, step}
 use Rattle.isle_examples.specs.Impure.{ImpureIsCalled, after_call, call_on_argument, im_called, impure_set, the_call}
 

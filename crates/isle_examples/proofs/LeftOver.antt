@@ -1,54 +1,121 @@
--- The set with a left-over site: a world where its call answers nothing serves it, and the run of its tree collects its bag.
-use Rattle.std.proofs.Common.{◌≡◌, ◌∷◌, [], ◌<◌, ℕ, pos, zero, suc, true, List, slice_get, Contains, IsTrue, refl, sym, ap, subst, arith, is_some}
+-- The set with left-over sites: a meaning whose call answers what is no number serves its rules, so its world serves the set,
+-- and the run of its tree collects the bag.
+use Rattle.std.proofs.Common.{◌≡◌, ◌⊎◌, ◌∷◌, [], ◌∙◌, ℕ, pos, zero, suc, Bool, true, false, Option, Some, None, Contains, IsSomeAnd, IsTrue, is_some, refl, sym, ap, subst, inl, inr}
 use Rattle.std.proofs.lemmas.Bool.{false≢true}
+use Rattle.std.proofs.lemmas.List.Elements.{All-cons, All-nil}
 use Rattle.std.proofs.lemmas.List.Sorted.{IsPermutation-refl}
-use Rattle.isle_model.proofs.Members.{in_alone, nothing_in}
-use Rattle.isle_model.specs.rules.Picks.{Pick}
-use Rattle.isle_model.specs.sites.Sites.{SetRule}
-use Rattle.isle_model.specs.trees.Collects.{ServesSet, calls_nothing, content_at}
-use Rattle.isle_model.specs.trees.Places.{joins_in}
+use Rattle.std.proofs.lemmas.Option.{none-some, same_Some}
+use Rattle.isle_model.proofs.Members.{in_alone, in_cases}
+use Rattle.isle_model.specs.claims.Environments.{types_read}
+use Rattle.isle_model.specs.rules.Matching.{matches}
+use Rattle.isle_model.specs.rules.Meaning.{pure_answer}
+use Rattle.isle_model.specs.rules.Outcome.{then_option}
+use Rattle.isle_model.specs.rules.Picks.{Pick, call_answer, site_values}
+use Rattle.isle_model.specs.rules.Program.{kind}
+use Rattle.isle_model.specs.rules.Typed.{TypedRule}
+use Rattle.isle_model.specs.rules.Values.{Value, Values, no_value, value_and}
+use Rattle.isle_model.specs.sites.Demands.{demands_of}
+use Rattle.isle_model.specs.sites.Serves.{Serves, TellsConstantsApart, fits_constructor, written_value}
+use Rattle.isle_model.specs.sites.Sites.{SetRule, SiteTerm, SiteTerms, constructor_call, constructor_site, extractor_call, int_term, no_site_term, site_term_and}
+use Rattle.isle_model.specs.trees.Collects.{content_at}
+use Rattle.isle_model.specs.trees.Run.{as_value}
+use Rattle.isle_laws_demands.proofs.served.ServesSets.{served_multi_sets_serve_lem}
+use Rattle.isle_examples.proofs.AcceptedLists.{left_over_not_accepted}
+use Rattle.isle_examples.proofs.Served.{serves_from}
 use Rattle.isle_examples.proofs.SetStages.{built_multi, collected}
 use Rattle.isle_examples.proofs.TreeStages.{judged_multi}
-use Rattle.isle_examples.specs.LeftOver.{LeftOverCollects, LeftOverIsCollected, kept_rule, left_over_defs, left_over_rules, left_over_set, left_over_tree, left_over_world}
-use Rattle.isle_examples.specs.MeaningForms.{each}
+use Rattle.isle_examples.specs.LeftOver.{LeftOverCollects, LeftOverIsCollected, LeftOverIsServed, LeftOverLacksACall, any_rule, kept_rule, left_over_defs, left_over_meaning, left_over_program, left_over_rules, left_over_set, left_over_tree, left_over_world, never_rule}
+use Rattle.isle_examples.specs.MeaningForms.{each, given, v}
+use Rattle.isle_examples.specs.SetForms.{a0}
 use Rattle.isle_examples.specs.Stages.{IsBuiltOf, IsJudged}
 
-pub left_over_built : IsBuiltOf left_over_defs left_over_rules 1 left_over_set
-left_over_built = built_multi left_over_defs left_over_rules 1 left_over_set refl refl refl refl refl refl refl refl
+pub left_over_built : IsBuiltOf left_over_defs left_over_rules 2 left_over_set
+left_over_built = built_multi left_over_defs left_over_rules 2 left_over_set refl refl refl refl refl refl refl refl
 
 pub left_over_judged : IsJudged left_over_set true left_over_tree
 left_over_judged = judged_multi left_over_set left_over_tree refl refl refl refl refl
 
-found : (k : Pick) (s : ℕ) → s < 3 → IsTrue (calls_nothing (slice_get left_over_set.sites s)) → IsTrue (is_some (content_at left_over_world k s))
-found k zero l n = refl
-found k (suc zero) l n = refl
-found k (suc (suc zero)) l n = absurd (false≢true n)
-found k (suc (suc (suc s))) l n = absurd (omega (arith, l))
+-- 1. the meaning serves the rules
+-- the calls of im and of pu
+abbrev left_over_call : SiteTerm → Bool
+left_over_call (constructor_call zero ss (suc zero)) = true
+left_over_call (constructor_call (suc zero) (site_term_and (constructor_call zero ss (suc zero)) no_site_term) zero) = true
+left_over_call (constructor_call t ss i) = false
+left_over_call (extractor_call t s) = false
+left_over_call u = true
 
-no_constraints : (r : SetRule) → Contains left_over_set.rules r → r.constraints ≡ []
-no_constraints r h = ap (λ q. q.constraints) (sym (in_alone kept_rule r h))
+-- what im answers is no value
+no_number : (o : Option Values) → then_option (then_option o (call_answer left_over_meaning 0 1)) as_value ≡ None
+no_number None = refl
+no_number (Some vs) = refl
 
-no_joins : (r : SetRule) → Contains left_over_set.rules r → r.classes ≡ []
-no_joins r h = ap (λ q. q.classes) (sym (in_alone kept_rule r h))
+pures : (k : Pick) (t : ℕ) (ss : SiteTerms) (vs : Values) → left_over_call (constructor_call t ss 0) ≡ true → site_values left_over_meaning (given (pos 7)) k ss ≡ Some vs
+    → IsSomeAnd (pure_answer left_over_meaning t vs) (λ c. IsTrue (fits_constructor left_over_program t (kind left_over_program t) c))
+pures k (suc zero) (site_term_and (constructor_call zero ss (suc zero)) no_site_term) vs h e =
+    absurd (none-some vs (sym (ap (λ o. then_option o (λ y. Some (value_and y no_value))) (no_number (site_values left_over_meaning (given (pos 7)) k ss))) ∙ e))
+pures k _ _ vs h e = absurd (false≢true h)
 
-no_iterators : (r : SetRule) → Contains left_over_set.rules r → r.iterators ≡ []
-no_iterators r h = ap (λ q. q.iterators) (sym (in_alone kept_rule r h))
+-- the rule that calls im doesn't match, and the other one makes no impure call
+none_called : (r : TypedRule) (t before : ℕ) (ss : SiteTerms) → Contains left_over_rules.rules r → IsTrue (is_some (matches left_over_program left_over_meaning r (given (pos 7))))
+    → Contains (demands_of left_over_program r).made (constructor_call t ss (suc before)) → ⊥
+none_called r t before ss i matched made =
+    elim (in_cases never_rule r (any_rule ∷ []) i) [
+      | inl e ↦ false≢true (subst (λ q. IsTrue (is_some (matches left_over_program left_over_meaning q (given (pos 7))))) (sym e) matched)
+      | inr j ↦ argument_is_no_call t ss (suc before) (in_alone a0 (constructor_call t ss (suc before)) (subst (λ q. Contains (demands_of left_over_program q).made (constructor_call t ss (suc before))) (sym (in_alone any_rule r j)) made))
+    ]
+  where
+    argument_is_no_call : (t : ℕ) (ss : SiteTerms) (n : ℕ) → a0 ≡ constructor_call t ss n → ⊥
+    argument_is_no_call t ss n e = cc
 
-none_of : {X : Type 0} (xs : List X) (x : X) → xs ≡ [] → Contains xs x → ⊥
-none_of xs x e h = nothing_in x (subst (λ l. Contains l x) e h)
+serves : Serves left_over_program left_over_meaning (given (pos 7)) left_over_rules.rules
+serves =
+    serves_from left_over_program left_over_meaning (given (pos 7)) left_over_rules.rules left_over_call refl refl
+    (λ k t s w h holds. absurd (false≢true h)) pures (λ k r t before ss i matched made h gave. absurd (none_called r t before ss i matched made))
 
-set_served : ServesSet left_over_set left_over_world
-set_served = record {
-  sites = refl;
-  found = λ k s l w n h. found k s l n;
-  lists = λ k r s c hr hs e. absurd (none_of r.iterators s (no_iterators r hr) hs);
-  values = λ k r a b c hr j e. absurd (false≢true (subst (λ l. IsTrue (joins_in l a b)) (no_joins r hr) j));
-  fields = λ k r s d c cs hr hd e f. absurd (none_of r.constraints (s, d) (no_constraints r hr) hd);
-  apart = λ k r q s d f hr hq hd hf m n. absurd (none_of r.constraints (s, d) (no_constraints r hr) hd);
+-- the two literals have different values
+one_two : v (pos 1) ≡ v (pos 2) → ⊥
+one_two e = cc
+
+tells_apart : TellsConstantsApart left_over_program left_over_meaning left_over_rules.rules
+tells_apart = record {
+  different = λ a b ty w c d s t u x. same a b w (in_cases one_term a (two_term ∷ []) c) (in_cases one_term b (two_term ∷ []) d) u x;
+  without_parts = λ r s name ty c d e. absurd (none-some ty e);
 }
+  where
+    one_term : SiteTerm
+    one_term = int_term (pos 1) 1
 
+    two_term : SiteTerm
+    two_term = int_term (pos 2) 1
+
+    worth : SiteTerm → Value → Type 0
+    worth s w = written_value left_over_meaning s ≡ Some w
+
+    same : (a b : SiteTerm) (w : Value) → (one_term ≡ a) ⊎ Contains (two_term ∷ []) a → (one_term ≡ b) ⊎ Contains (two_term ∷ []) b → worth a w → worth b w → a ≡ b
+    same a b w (inl e) (inl f) x y = sym e ∙ f
+    same a b w (inr i) (inr j) x y = sym (in_alone two_term a i) ∙ in_alone two_term b j
+    same a b w (inl e) (inr j) x y = absurd (one_two (same_Some (v (pos 1)) (v (pos 2)) (subst (λ s. worth s w) (sym e) x ∙ sym (subst (λ s. worth s w) (sym (in_alone two_term b j)) y))))
+    same a b w (inr i) (inl f) x y = absurd (one_two (same_Some (v (pos 1)) (v (pos 2)) (subst (λ s. worth s w) (sym f) y ∙ sym (subst (λ s. worth s w) (sym (in_alone two_term a i)) x))))
+
+pub left_over_is_served : LeftOverIsServed
+left_over_is_served = (serves, tells_apart)
+
+-- 2. so its world serves the set, whose one rule makes no impure call
 pub left_over_is_collected : LeftOverIsCollected
-left_over_is_collected = (collected left_over_set refl refl, set_served)
+left_over_is_collected = (
+  collected left_over_set refl refl,
+  served_multi_sets_serve_lem (types_read left_over_defs) left_over_defs true left_over_rules 2 left_over_set left_over_not_accepted.0.0.elaborated left_over_built.0
+      (All-cons (λ (r : SetRule). r.impure ≡ []) kept_rule [] refl (All-nil (λ (r : SetRule). r.impure ≡ [])))
+      left_over_meaning (given (pos 7)) refl serves tells_apart,
+)
+
+pub left_over_lacks_a_call : LeftOverLacksACall
+left_over_lacks_a_call = (
+  (constructor_site 1 (2 ∷ []) 0, refl, tt),
+  refl,
+  All-cons (λ a. IsTrue (is_some (content_at left_over_world [] a))) 2 [] refl (All-nil (λ a. IsTrue (is_some (content_at left_over_world [] a)))),
+  refl,
+)
 
 pub left_over_collects : LeftOverCollects
 left_over_collects = (refl, record { calls = refl; ending = refl; same = IsPermutation-refl (each (pos 7 ∷ [])) })

@@ -3,7 +3,9 @@ pub mod Expansions
 pub mod Extract
 pub mod ExtractLowered
 pub mod FallOverlap
+pub mod FoundSites
 pub mod HandedIn
+pub mod Hiding
 pub mod Impure
 pub mod LeftOver
 pub mod ListStages
@@ -13,6 +15,7 @@ pub mod Matchable
 pub mod Mended
 pub mod Multi
 pub mod MultiCalls
+pub mod NearRefusals
 pub mod NoRules
 pub mod PartialLowered
 pub mod PickedAnswers
@@ -24,5 +27,8 @@ pub mod TermLists
 pub mod TreeStages
 pub mod TypeLists
 pub mod Unasked
+pub mod Unreached
 pub mod Unused
 pub mod Used
+pub mod VariantIds
+pub mod Wrapped

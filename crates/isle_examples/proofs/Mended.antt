@@ -5,10 +5,10 @@ use Rattle.std.proofs.lemmas.Option.{none-some, same_Some}
 use Rattle.std.proofs.lemmas.List.Elements.{All-nil, All-cons, All-contains}
 use Rattle.isle_model.specs.rules.Meaning.{one}
 use Rattle.isle_model.specs.sites.Sites.{Constraint, SetRule, constructor_site, make_variant_site, argument}
-use Rattle.isle_model.specs.trees.Collects.{IsPureSite, content_at}
+use Rattle.isle_model.specs.trees.Collects.{IsPureSite, IsPureAt, content_at}
 use Rattle.isle_model.specs.trees.Places.{all_below, joins_in, waits}
 use Rattle.isle_model.specs.trees.Run.{content_fields}
-use Rattle.isle_model.specs.trees.SetRuns.{IsPureAt, ServesTests, HasNoWrongOverlap, OverlapInSet}
+use Rattle.isle_model.specs.trees.SetRuns.{ServesTests, HasNoWrongOverlap, OverlapInSet}
 use Rattle.isle_model.proofs.Members.{nothing_in, in_alone, in_cases, in_head, in_tail}
 use Rattle.isle_model.specs.sites.Demands.{constraint_eq}
 use Rattle.isle_model.specs.lists.TypeTable.{IsValidTypes}

@@ -1,5 +1,5 @@
 -- The multi sample: its rules and its set are collected, the world serves it, and the run of its tree collects the bag.
-use Rattle.std.proofs.Common.{◌≡◌, ◌∷◌, [], ◌<◌, ◌∙◌, ℕ, pos, zero, suc, true, false, List, Some, length, slice_get, All, Contains, IsTrue, refl, sym, ap, subst, inl, inr, arith, is_some}
+use Rattle.std.proofs.Common.{◌≡◌, ◌∷◌, [], ◌∙◌, ℕ, pos, zero, suc, true, false, List, Some, length, slice_get, All, Contains, IsTrue, refl, sym, ap, subst, inl, inr, arith, is_some}
 use Rattle.std.proofs.lemmas.Bool.{false≢true}
 use Rattle.std.proofs.lemmas.List.Elements.{All-nil, All-cons}
 use Rattle.std.proofs.lemmas.List.Sorted.{IsPermutation-refl, length_permutation, sum_by-IsPermutation}
@@ -31,7 +31,9 @@ use Rattle.isle_examples.proofs.Served.{multi_served}
 use Rattle.isle_examples.proofs.SampleStages.{multi_stages}
 use Rattle.isle_examples.proofs.SetStages.{collected}
 use Rattle.isle_examples.specs.MeaningForms.{each, given, v}
-use Rattle.isle_examples.specs.Multi.{LoopsMayBindAgain, MultiCollects, MultiIsCollected, MultiIsNot, MultiResultsAreHeld, MultiSetCollects, MultiTreeCollects, each_m, each_of_m, multi_defs, multi_meaning, multi_program, multi_rules, multi_set, multi_tree, multi_world, nine, nine_for_one}
+use Rattle.isle_laws_trees.proofs.binding.Judged.{binding_judge_is_exact_lem}
+use Rattle.isle_examples.proofs.Used.{does_not_bind}
+use Rattle.isle_examples.specs.Multi.{looped_with, LoopsMayBindAgain, MultiCollects, MultiIsCollected, MultiIsNot, MultiResultsAreHeld, MultiSetCollects, MultiTreeCollects, each_m, each_of_m, multi_defs, multi_meaning, multi_program, multi_rules, multi_set, multi_tree, multi_world, nine, nine_for_one}
 
 -- 1. collected
 rules_collected : All (HasCollectedResults multi_program) multi_rules.rules
@@ -43,12 +45,12 @@ set_collected : IsCollectedSet multi_set
 set_collected = collected multi_set refl refl
 
 -- 2. served
-found : (k : Pick) (s : ℕ) → s < 4 → waits (slice_get multi_set.sites s) ≡ false → IsTrue (is_some (content_at (multi_world (pos 1)) k s))
-found k zero l w = refl
-found k (suc zero) l w = refl
-found k (suc (suc zero)) l w = absurd (false≢true (sym w))
-found k (suc (suc (suc zero))) l w = refl
-found k (suc (suc (suc (suc s)))) l w = absurd (omega (arith, l))
+found : (k : Pick) (s : ℕ) → waits (slice_get multi_set.sites s) ≡ false → IsTrue (is_some (content_at (multi_world (pos 1)) k s))
+found k zero w = refl
+found k (suc zero) w = refl
+found k (suc (suc zero)) w = absurd (false≢true (sym w))
+found k (suc (suc (suc zero))) w = refl
+found k (suc (suc (suc (suc s)))) w = absurd (false≢true (sym w))
 
 abbrev SameTest : ℕ × Constraint → Type 0
 SameTest x = ◌≡◌ {A = ℕ × Constraint} (0, is_int (pos 1) 1) x
@@ -79,7 +81,7 @@ fields_as_many k c cs x e =
 set_served : ServesSet multi_set (multi_world (pos 1))
 set_served = record {
   sites = refl;
-  found = λ k s l w n h. found k s l w;
+  found = λ k s p w h. found k s w;
   lists = λ k r s c hr hs e. (_, sym (same_Some _ c (subst (λ n. content_at (multi_world (pos 1)) k n ≡ Some c) (sym (only_iterator r s hr hs)) e)));
   values = λ k r a b c hr j e. absurd (false≢true (subst (λ l. IsTrue (joins_in l a b)) (no_joins r hr) j));
   fields = λ k r s d c cs hr hd e f. fields_as_many k c cs (s, d) (only_constraint r s d hr hd) e f;
@@ -139,4 +141,7 @@ exchanged c =
     let n = sum_by-IsPermutation size (each (pos 4 ∷ (pos 4 ∷ (pos 9 ∷ [])))) (each (pos 9 ∷ (pos 9 ∷ (pos 4 ∷ [])))) c.same in omega (arith, n)
 
 pub loops_may_bind_again : LoopsMayBindAgain
-loops_may_bind_again = (refl, λ h. false≢true h)
+loops_may_bind_again = (
+  (binding_judge_is_exact_lem multi_set true (looped_with (1 ∷ []) (1 ∷ [])) refl).0 refl,
+  does_not_bind multi_set true (looped_with (2 ∷ []) []) refl refl,
+)

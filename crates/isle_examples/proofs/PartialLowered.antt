@@ -1,15 +1,18 @@
 -- The sample with a partial call on the right side is lowered: under every meaning that serves it, its run is the choice.
-use Rattle.std.proofs.Common.{◌≡◌, ◌∷◌, [], ℤ, pos, true, false, List, Option, Some, None, IsSomeAnd, IsTrue, is_some, refl, inl, inr, arith}
+use Rattle.std.proofs.Common.{◌≡◌, ◌∷◌, [], ℤ, pos, true, false, List, Option, Some, None, IsSomeAnd, IsTrue, is_some, refl, ap, inl, inr, arith}
 use Rattle.std.proofs.lemmas.Bool.{cases_Bool, false≢true}
+use Rattle.std.proofs.lemmas.List.Elements.{All-nil}
 use Rattle.isle_model.specs.claims.Headline.{RunsAsChosen}
 use Rattle.isle_model.specs.rules.Choice.{choice}
 use Rattle.isle_model.specs.rules.Matching.{matches}
 use Rattle.isle_model.specs.rules.Meaning.{Content, one, parts, nothing, just, many, Meaning, impure_answer, int_literal, literal_value}
+use Rattle.isle_model.specs.rules.Outcome.{then_option}
+use Rattle.isle_model.specs.rules.Picks.{HasContent}
 use Rattle.isle_model.specs.rules.Program.{kind, rules_of}
 use Rattle.isle_model.specs.rules.Values.{Value, no_value, value_and, value_eq, well_typed}
-use Rattle.isle_model.specs.sites.Serves.{Serves, fits_constructor, holds_and, holds_int, holds_none}
+use Rattle.isle_model.specs.sites.Serves.{Serves, fits_constructor}
 use Rattle.isle_model.specs.sites.Sites.{int_term, no_site_term, site_term_and}
-use Rattle.isle_model.specs.trees.Run.{run, world_of}
+use Rattle.isle_model.specs.trees.Run.{as_value, from_value, run, world_of}
 use Rattle.isle_examples.proofs.Lowered.{lowered_to, on_one_argument, two_match_once}
 use Rattle.isle_examples.proofs.SampleStages.{partial_stages}
 use Rattle.isle_examples.specs.Partial.{partial_any, partial_call, partial_program, partial_sample, partial_set, partial_tree}
@@ -50,7 +53,8 @@ literal_alike m v (Some x) e h s =
     elim (cases_Bool (value_eq x v)) [
       | inl t ↦
           made_alike m v x (impure_answer m 0 0) e t refl
-          (s.impures partial_call 0 0 (site_term_and (int_term (pos 1) 1) no_site_term) (value_and x no_value) (0, omega arith, refl) (first_matches m v x e t) (2, omega arith, refl) (holds_and (holds_int e) holds_none))
+          (s.impures [] partial_call 0 0 (site_term_and (int_term (pos 1) 1) no_site_term) (value_and x no_value) (0, omega arith, refl) (first_matches m v x e t) (2, omega arith, refl) (All-nil (HasContent m (v ∷ []) []))
+          (ap (λ o. then_option (then_option (from_value o) as_value) (λ y. Some (value_and y no_value))) e))
       | inr n ↦ others_alike m v x (literal_value m (int_literal (pos 7) 1)) e n refl (s.ints (pos 7) 1 (7, omega arith, refl))
     ]
 

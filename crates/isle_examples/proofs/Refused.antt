@@ -4,9 +4,9 @@ use Rattle.isle_model.proofs.Members.{in_alone}
 use Rattle.std.proofs.lemmas.Bool.{false≢true}
 use Rattle.isle_model.specs.lists.Syntax.{Position, Definition}
 use Rattle.isle_model.specs.claims.Refusals.{NamedLimit, Refusal, ill_typed, past_limit, refusal_of, NamesOnlyPassed, PassedInBuilding, PassedInReading, IsIllTyped, IsOfReading}
-use Rattle.isle_model.specs.claims.Layers.{IsCheckable, CheckReports, is_left_out, by_types, by_rules, by_check}
+use Rattle.isle_model.specs.claims.Layers.{IsCheckable, CheckReports, RefusedBy, is_left_out, by_types, by_rules, by_check}
 use Rattle.std.proofs.lemmas.List.Elements.{All-from_recursion}
-use Rattle.isle_model.specs.claims.Environments.{HasTypedRules, IsRead, types_read}
+use Rattle.isle_model.specs.claims.Environments.{IsRead, types_read}
 use Rattle.isle_model.specs.lists.Elaborated.{TypedRules}
 use Rattle.isle_model.specs.lists.TypeTable.{IsValidTypes}
 use Rattle.isle_model.specs.rules.Program.{Program}
@@ -17,7 +17,7 @@ use Rattle.isle_examples.proofs.ListStages.{not_read}
 use Rattle.isle_examples.specs.Overlap.{overlap_defs, overlap_program, overlap_rules}
 use Rattle.isle_examples.specs.Refused.{RefusedAreNotRead, SamplesAreRefused, unbound}
 use Rattle.isle_examples.specs.Shadow.{shadow_defs, shadow_program, shadow_rules}
-use Rattle.isle_examples.specs.Stages.{IsReadBoth}
+use Rattle.isle_examples.specs.Stages.{IsNotRead, IsReadBoth}
 use Rattle.isle_examples.specs.TermLists.{term_twice}
 use Rattle.isle_examples.specs.Written.{at}
 
@@ -28,12 +28,6 @@ refused_are_not_read = (not_read term_twice refl refl, not_read unbound refl ref
 read_with : (defs : List Definition) (rules : TypedRules) → IsReadBoth defs rules → (expand : Bool) → IsRead defs expand rules
 read_with defs rules r true = r.0
 read_with defs rules r false = r.1
-
-unbound_types : IsValidTypes unbound
-unbound_types = (types_are_judged_lem unbound).0 refl
-
-unbound_elaborates_not : (expand : Bool) → HasTypedRules (types_read unbound) unbound expand → ⊥
-unbound_elaborates_not expand h = refused_are_not_read.1 expand h.0 (record { types = unbound_types; elaborated = h.1 })
 
 -- an error that names no limit
 abbrev names_no_limit : Refusal → Bool
@@ -56,8 +50,19 @@ one_reported p r late named none all refused = record {
   limits = none_named (PassedInBuilding p) (refusal_of r) named;
 }
 
-some_error : (r : Refusal) → (r ∷ []) ≡ [] → ⊥
+pub some_error : (r : Refusal) → (r ∷ []) ≡ [] → ⊥
 some_error r e = (let l : 1 ≡ 0 = ap length e in omega (arith, l))
+
+-- a list whose types are valid, and that has no typed rules, is refused by one error of a rule
+pub by_one_rule : (defs : List Definition) (p : Position) → IsValidTypes defs → IsNotRead defs → (expand : Bool) → RefusedBy defs expand (ill_typed p ∷ [])
+by_one_rule defs p types none expand =
+    by_rules (ill_typed p ∷ []) types
+    (record {
+      some_error = some_error (ill_typed p);
+      forms = All-from_recursion IsOfReading (ill_typed p ∷ []) (tt, tt);
+      limits = none_named (PassedInReading (types_read defs) defs expand) (ill_typed p) refl;
+      no_rules = λ h. none expand h.0 (record { types = types; elaborated = h.1 });
+    })
 
 pub samples_are_refused : SamplesAreRefused
 samples_are_refused = (
@@ -68,14 +73,7 @@ samples_are_refused = (
         forms = All-from_recursion IsIllTyped (ill_typed (at 1) ∷ []) (tt, tt);
         not_valid = λ v. (let e = v.distinct 13 14 (codes "T") refl refl in omega (arith, e));
       })),
-  (λ expand.
-      by_rules (ill_typed (at 1) ∷ []) unbound_types
-      (record {
-        some_error = some_error (ill_typed (at 1));
-        forms = All-from_recursion IsOfReading (ill_typed (at 1) ∷ []) (tt, tt);
-        limits = none_named (PassedInReading (types_read unbound) unbound expand) (ill_typed (at 1)) refl;
-        no_rules = unbound_elaborates_not expand;
-      })),
+  by_one_rule unbound (at 1) ((types_are_judged_lem unbound).0 refl) refused_are_not_read.1,
   (λ expand.
       let r = rules_overlap (record { first = at 2; others = at 1 ∷ [] }) in
       by_check overlap_rules (r ∷ []) (read_with overlap_defs overlap_rules overlap_not_accepted.0 expand) (one_reported overlap_program r refl refl refl refl overlap_not_accepted.1)),

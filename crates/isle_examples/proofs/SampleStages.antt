@@ -3,7 +3,7 @@ use Rattle.std.proofs.Common.{◌≡◌, [], ◌∙◌, ◌&&◌, ◌||◌, Bool
 use Rattle.std.specs.List.{list_all}
 use Rattle.std.proofs.lemmas.Bool.{and_parts, cases_Bool}
 use Rattle.isle_model.specs.claims.AcceptJudge.{accepted_list}
-use Rattle.isle_model.specs.claims.Layers.{binds_before_use, own_program}
+use Rattle.isle_model.specs.claims.Layers.{own_program}
 use Rattle.isle_model.specs.rules.Program.{Program, is_multi, numbers_from, rules_of}
 use Rattle.isle_model.specs.sites.Limits.{most_sites, sites_after_rules}
 use Rattle.isle_model.specs.sites.Overlap.{built_rules, check_reports}
@@ -11,17 +11,20 @@ use Rattle.isle_model.specs.sites.Sites.{unfold_site}
 use Rattle.isle_model.specs.trees.Judge.{is_best_tree, returns_apart}
 use Rattle.isle_laws_trees.proofs.JudgedSets.{calls_pass, can_be_served, multi_can_be_served, only_sites, serves}
 use Rattle.isle_laws_trees.proofs.WellBuilt.{set_passes}
+use Rattle.isle_laws_trees.specs.BestLaws.{binds_as_marked}
 use Rattle.isle_examples.proofs.ListStages.{accepted_both}
 use Rattle.isle_examples.proofs.SetStages.{built_row, is_built, row_in, stands_once}
 use Rattle.isle_examples.proofs.TreeStages.{has_no_priorities, judged_with, no_priorities, refused}
 use Rattle.isle_examples.specs.Below.{below_sample}
 use Rattle.isle_examples.specs.Between.{between_sample}
 use Rattle.isle_examples.specs.ConstEq.{const_eq_sample}
+use Rattle.isle_examples.specs.Dropped.{dropped_sample}
 use Rattle.isle_examples.specs.Effects.{effects_sample}
 use Rattle.isle_examples.specs.EmittedFirst.{emitted_first_sample}
 use Rattle.isle_examples.specs.Equal.{equal_sample}
 use Rattle.isle_examples.specs.Extract.{extract_sample}
 use Rattle.isle_examples.specs.Fall.{fall_sample}
+use Rattle.isle_examples.specs.Hiding.{hidden_sample}
 use Rattle.isle_examples.specs.Impure.{impure_sample}
 use Rattle.isle_examples.specs.Multi.{multi_sample}
 use Rattle.isle_examples.specs.MultiExt.{multi_ext_sample}
@@ -31,6 +34,7 @@ use Rattle.isle_examples.specs.Shared.{shared_sample}
 use Rattle.isle_examples.specs.Stages.{HasStages, Sample}
 use Rattle.isle_examples.specs.Surplus.{surplus_sample}
 use Rattle.isle_examples.specs.Ties.{ties_sample}
+use Rattle.isle_examples.specs.Unreached.{unreached_sample}
 use Rattle.isle_examples.specs.Unused.{unused_sample}
 use Rattle.isle_examples.specs.Used.{used_sample}
 use Rattle.isle_examples.specs.VariantEq.{variant_eq_sample}
@@ -47,7 +51,7 @@ module _ (s : Sample) where
       && (list_all (serves s.set.sites) s.set.rules && calls_pass p s.set.sites (built_rules p s.term) s.set.rules)))
 
   abbrev tree_tests : Bool
-  tree_tests = is_best_tree s.set s.tree && (returns_apart s.set.rules && (set_passes s.set && binds_before_use s.set.sites s.multi [] [] s.tree))
+  tree_tests = is_best_tree s.set s.tree && (returns_apart s.set.rules && (set_passes s.set && binds_as_marked s.set s.multi s.tree))
 
   -- rules of a multi term have no priorities
   plain_if_multi : not s.multi || has_no_priorities s.set.rules ≡ true → s.multi ≡ true → has_no_priorities s.set.rules ≡ true
@@ -65,9 +69,9 @@ module _ (s : Sample) where
       && (list_all (serves s.set.sites) s.set.rules && calls_pass p s.set.sites (built_rules p s.term) s.set.rules)) a.1 in
       let c = and_parts (set_passes (only_sites s.set)) (list_all (serves s.set.sites) s.set.rules && calls_pass p s.set.sites (built_rules p s.term) s.set.rules) b.1 in
       let d = and_parts (list_all (serves s.set.sites) s.set.rules) (calls_pass p s.set.sites (built_rules p s.term) s.set.rules) c.1 in
-      let e = and_parts (is_best_tree s.set s.tree) (returns_apart s.set.rules && (set_passes s.set && binds_before_use s.set.sites s.multi [] [] s.tree)) best in
-      let f = and_parts (returns_apart s.set.rules) (set_passes s.set && binds_before_use s.set.sites s.multi [] [] s.tree) e.1 in
-      let g = and_parts (set_passes s.set) (binds_before_use s.set.sites s.multi [] [] s.tree) f.1 in
+      let e = and_parts (is_best_tree s.set s.tree) (returns_apart s.set.rules && (set_passes s.set && binds_as_marked s.set s.multi s.tree)) best in
+      let f = and_parts (returns_apart s.set.rules) (set_passes s.set && binds_as_marked s.set s.multi s.tree) e.1 in
+      let g = and_parts (set_passes s.set) (binds_as_marked s.set s.multi s.tree) f.1 in
       record {
         accepted = accepted_both s.defs s.rules h k none;
         built = (
@@ -108,6 +112,9 @@ partial_stages = stages partial_sample refl refl refl refl refl refl refl refl r
 pub effects_stages : HasStages effects_sample
 effects_stages = stages effects_sample refl refl refl refl refl refl refl refl refl refl
 
+pub unreached_stages : HasStages unreached_sample
+unreached_stages = stages unreached_sample refl refl refl refl refl refl refl refl refl refl
+
 pub multi_stages : HasStages multi_sample
 multi_stages = stages multi_sample refl refl refl refl refl refl refl refl refl refl
 
@@ -140,3 +147,9 @@ between_stages = stages between_sample refl refl refl refl refl refl refl refl r
 
 pub impure_stages : HasStages impure_sample
 impure_stages = stages impure_sample refl refl refl refl refl refl refl refl refl refl
+
+pub dropped_stages : HasStages dropped_sample
+dropped_stages = stages dropped_sample refl refl refl refl refl refl refl refl refl refl
+
+pub hidden_stages : HasStages hidden_sample
+hidden_stages = stages hidden_sample refl refl refl refl refl refl refl refl refl refl

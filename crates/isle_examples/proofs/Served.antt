@@ -1,27 +1,32 @@
 -- The samples' meanings serve their rules and tell their constants apart; meanings without literals or calls don't serve.
-use Rattle.std.proofs.Common.{◌≡◌, ◌∷◌, [], ◌∙◌, ◌==◌, ℕ, pos, zero, suc, Bool, true, false, List, Option, Some, None, Contains, IsTrue, refl, sym, ap, subst, arith, IsSomeAnd}
+use Rattle.std.proofs.Common.{◌≡◌, ◌∷◌, [], ◌∙◌, ◌==◌, ℕ, pos, zero, suc, Bool, true, false, List, take, Option, Some, None, All, Contains, IsTrue, is_some, refl, sym, ap, subst, arith, IsSomeAnd}
 use Rattle.std.specs.List.{list_all}
 use Rattle.std.proofs.lemmas.Bool.{false≢true}
+use Rattle.std.proofs.lemmas.List.Elements.{All-nil}
 use Rattle.std.proofs.lemmas.Option.{none-some, same_Some}
 use Rattle.isle_model.proofs.Members.{each_passes, in_alone}
+use Rattle.isle_model.specs.rules.Matching.{matches}
 use Rattle.isle_model.specs.rules.Meaning.{Content, Meaning, extractor_answer, impure_answer, int_literal, literal_value, look, nothing, one, pure_answer}
+use Rattle.isle_model.specs.rules.Outcome.{then_option}
+use Rattle.isle_model.specs.rules.Picks.{HasContent, Pick, site_content, site_values}
 use Rattle.isle_model.specs.rules.Program.{Program, kind}
 use Rattle.isle_model.specs.rules.Typed.{TypedRule}
-use Rattle.isle_model.specs.rules.Values.{Value, Values, no_value, value_and, well_typed}
+use Rattle.isle_model.specs.rules.Values.{Value, Values, well_typed}
 use Rattle.isle_model.specs.sites.Demands.{demands_of}
-use Rattle.isle_model.specs.sites.Serves.{Holds, HoldsAll, Serves, TellsConstantsApart, asked, constant_type, fits_constructor, fits_extractor, holds_and, holds_argument, holds_int, holds_none, tested_constants}
+use Rattle.isle_model.specs.sites.Serves.{Serves, TellsConstantsApart, asked, constant_type, fits_constructor, fits_extractor, tested_constants}
 use Rattle.isle_model.specs.sites.Sites.{SiteTerm, SiteTerms, argument, bool_term, constructor_call, extractor_call, int_term, no_site_term, prim_term, site_term_and}
+use Rattle.isle_model.specs.trees.Run.{as_value}
 use Rattle.isle_examples.specs.Extract.{ExtractMeaningServes, extract_meaning, extract_mute, extract_program, extract_rules}
 use Rattle.isle_examples.specs.MeaningForms.{DoesNotServe, alone, blank, given, just_number, v}
 use Rattle.isle_examples.specs.Multi.{MultiIsServed, multi_meaning, multi_mute, multi_program, multi_rules}
 use Rattle.isle_examples.specs.Partial.{PartialIsServed, partial_call, partial_meaning, partial_mute, partial_program, partial_rules}
 
 -- 1. literals with well-typed values, and calls that a test passes
-abbrev some_and : Option Value → (Value → Bool) → Bool
+abbrev pub some_and : Option Value → (Value → Bool) → Bool
 some_and None f = false
 some_and (Some w) f = f w
 
-some_and_means : (o : Option Value) (f : Value → Bool) → some_and o f ≡ true → IsSomeAnd o (λ w. IsTrue (f w))
+pub some_and_means : (o : Option Value) (f : Value → Bool) → some_and o f ≡ true → IsSomeAnd o (λ w. IsTrue (f w))
 some_and_means None f h = absurd (false≢true h)
 some_and_means (Some w) f h = h
 
@@ -32,26 +37,28 @@ module _ (p : Program) (m : Meaning) (args : List Value) (rs : List TypedRule) (
   passes (prim_term name) = false
   passes u = call u
 
-  serves_from : list_all passes (asked p rs) ≡ true → list_all (λ r. list_all passes (demands_of p r).made) rs ≡ true
-      → ((t : ℕ) (s : SiteTerm) (w : Value) → call (extractor_call t s) ≡ true → Holds m args s (one w) → IsSomeAnd (extractor_answer m t w) (λ c. IsTrue (fits_extractor p t (kind p t) c)))
-      → ((t : ℕ) (ss : SiteTerms) (vs : Values) → call (constructor_call t ss 0) ≡ true → HoldsAll m args ss vs → IsSomeAnd (pure_answer m t vs) (λ c. IsTrue (fits_constructor p t (kind p t) c)))
-      → ((t before : ℕ) (ss : SiteTerms) → call (constructor_call t ss (suc before)) ≡ true → IsSomeAnd (impure_answer m t before) (λ c. IsTrue (fits_constructor p t (kind p t) c)))
+  pub serves_from : list_all passes (asked p rs) ≡ true → list_all (λ r. list_all passes (demands_of p r).made) rs ≡ true
+      → ((k : Pick) (t : ℕ) (s : SiteTerm) (w : Value) → call (extractor_call t s) ≡ true → site_content m args k s ≡ Some (one w) → IsSomeAnd (extractor_answer m t w) (λ c. IsTrue (fits_extractor p t (kind p t) c)))
+      → ((k : Pick) (t : ℕ) (ss : SiteTerms) (vs : Values) → call (constructor_call t ss 0) ≡ true → site_values m args k ss ≡ Some vs → IsSomeAnd (pure_answer m t vs) (λ c. IsTrue (fits_constructor p t (kind p t) c)))
+      → ((k : Pick) (r : TypedRule) (t before : ℕ) (ss : SiteTerms) → Contains rs r → IsTrue (is_some (matches p m r args)) → Contains (demands_of p r).made (constructor_call t ss (suc before))
+      → call (constructor_call t ss (suc before)) ≡ true → All (HasContent m args k) (take before (demands_of p r).impure)
+      → IsSomeAnd (impure_answer m t before) (λ c. IsTrue (fits_constructor p t (kind p t) c)))
       → Serves p m args rs
   serves_from h g extractors pures impures = record {
     bools = λ b ty c. absurd (false≢true (each_passes passes (asked p rs) h (bool_term b ty) c));
     ints = λ z ty c. some_and_means (literal_value m (int_literal z ty)) (λ w. well_typed p.types ty w) (each_passes passes (asked p rs) h (int_term z ty) c);
     prims = λ name c. absurd (false≢true (each_passes passes (asked p rs) h (prim_term name) c));
-    extractors = λ t s w c holds. extractors t s w (each_passes passes (asked p rs) h (extractor_call t s) c) holds;
-    pures = λ t ss vs c holds. pures t ss vs (each_passes passes (asked p rs) h (constructor_call t ss 0) c) holds;
-    impures = λ r t before ss vs i matched made holds.
-        impures t before ss (each_passes passes (demands_of p r).made (each_passes (λ q. list_all passes (demands_of p q).made) rs g r i) (constructor_call t ss (suc before)) made);
+    extractors = λ k t s w c holds. extractors k t s w (each_passes passes (asked p rs) h (extractor_call t s) c) holds;
+    pures = λ k t ss vs c holds. pures k t ss vs (each_passes passes (asked p rs) h (constructor_call t ss 0) c) holds;
+    impures = λ k r t before ss vs i matched made gave holds.
+        impures k r t before ss i matched made (each_passes passes (demands_of p r).made (each_passes (λ q. list_all passes (demands_of p q).made) rs g r i) (constructor_call t ss (suc before)) made) gave;
   }
 
 -- 2. rules whose patterns name the literal 1 of type 1 alone
 no_constants : (p : Program) (name : ℕ) → p.constants ≡ [] → constant_type p name ≡ None
 no_constants p name g = ap (λ l. look (λ k. k == name) l) g
 
-one_constant : (p : Program) (m : Meaning) (rs : List TypedRule) → tested_constants p rs ≡ int_term (pos 1) 1 ∷ [] → p.constants ≡ [] → TellsConstantsApart p m rs
+pub one_constant : (p : Program) (m : Meaning) (rs : List TypedRule) → tested_constants p rs ≡ int_term (pos 1) 1 ∷ [] → p.constants ≡ [] → TellsConstantsApart p m rs
 one_constant p m rs h g = record {
   different = λ a b ty w c d s t u x.
       sym (in_alone (int_term (pos 1) 1) a (subst (λ l. Contains l a) h c)) ∙ in_alone (int_term (pos 1) 1) b (subst (λ l. Contains l b) h d);
@@ -66,16 +73,16 @@ extract_call (constructor_call t ss i) = false
 extract_call u = true
 
 module _ (answer : Content) (fits : IsTrue (fits_extractor extract_program 0 (kind extract_program 0) answer)) where
-  extract_answers : (t : ℕ) (s : SiteTerm) (w : Value) → extract_call (extractor_call t s) ≡ true → Holds (extract_meaning answer) (given (pos 7)) s (one w)
+  extract_answers : (k : Pick) (t : ℕ) (s : SiteTerm) (w : Value) → extract_call (extractor_call t s) ≡ true → site_content (extract_meaning answer) (given (pos 7)) k s ≡ Some (one w)
       → IsSomeAnd (extractor_answer (extract_meaning answer) t w) (λ c. IsTrue (fits_extractor extract_program t (kind extract_program t) c))
-  extract_answers zero (argument zero) w h (holds_argument e) =
-      subst (λ u. IsSomeAnd (extractor_answer (extract_meaning answer) 0 u) (λ c. IsTrue (fits_extractor extract_program 0 (kind extract_program 0) c))) (same_Some (v (pos 7)) w e) fits
-  extract_answers _ _ w h holds = absurd (false≢true h)
+  extract_answers k zero (argument zero) w h e =
+      subst (λ u. IsSomeAnd (extractor_answer (extract_meaning answer) 0 u) (λ c. IsTrue (fits_extractor extract_program 0 (kind extract_program 0) c))) (same_Some (v (pos 7)) w (ap (λ o. then_option o as_value) e)) fits
+  extract_answers k _ _ w h holds = absurd (false≢true h)
 
   extract_serves : Serves extract_program (extract_meaning answer) (given (pos 7)) extract_rules.rules
   extract_serves =
       serves_from extract_program (extract_meaning answer) (given (pos 7)) extract_rules.rules extract_call refl refl
-      extract_answers (λ t ss vs h holds. absurd (false≢true h)) (λ t before ss h. absurd (false≢true h))
+      extract_answers (λ k t ss vs h holds. absurd (false≢true h)) (λ k r t before ss i matched made h gave. absurd (false≢true h))
 
 pub extract_served : ExtractMeaningServes
 extract_served = (
@@ -89,7 +96,7 @@ pub blank_extract : DoesNotServe extract_program blank (pos 7)
 blank_extract s = s.ints (pos 10) 1 (3, omega arith, refl)
 
 pub mute_extract : DoesNotServe extract_program extract_mute (pos 7)
-mute_extract s = s.extractors 0 (argument 0) (v (pos 7)) (1, omega arith, refl) (holds_argument refl)
+mute_extract s = s.extractors [] 0 (argument 0) (v (pos 7)) (1, omega arith, refl) refl
 
 -- 4. an impure call
 abbrev call_of_g : SiteTerm → Bool
@@ -110,7 +117,7 @@ pure_none (suc t) ss h = false≢true h
 pub partial_served : PartialIsServed
 partial_served = (
   serves_from partial_program (partial_meaning nothing) (given (pos 1)) partial_rules.rules call_of_g refl refl
-      (λ t s w h holds. absurd (false≢true h)) (λ t ss vs h holds. absurd (pure_none t ss h)) partial_answers,
+      (λ k t s w h holds. absurd (false≢true h)) (λ k t ss vs h holds. absurd (pure_none t ss h)) (λ k r t before ss i matched made h gave. partial_answers t before ss h),
   one_constant partial_program (partial_meaning nothing) partial_rules.rules refl refl,
 )
 
@@ -119,7 +126,7 @@ blank_partial s = s.ints (pos 1) 1 (1, omega arith, refl)
 
 pub mute_partial : DoesNotServe partial_program partial_mute (pos 1)
 mute_partial s =
-    s.impures partial_call 0 0 (site_term_and (int_term (pos 1) 1) no_site_term) (alone (pos 1)) (0, omega arith, refl) refl (2, omega arith, refl) (holds_and (holds_int refl) holds_none)
+    s.impures [] partial_call 0 0 (site_term_and (int_term (pos 1) 1) no_site_term) (alone (pos 1)) (0, omega arith, refl) refl (2, omega arith, refl) (All-nil (HasContent partial_mute (given (pos 1)) [])) refl
 
 -- 5. a multi call
 abbrev multi_call : SiteTerm → Bool
@@ -128,11 +135,11 @@ multi_call (constructor_call t ss i) = false
 multi_call (extractor_call t s) = false
 multi_call u = true
 
-multi_answers : (t : ℕ) (ss : SiteTerms) (vs : Values) → multi_call (constructor_call t ss 0) ≡ true → HoldsAll multi_meaning (given (pos 1)) ss vs
+multi_answers : (k : Pick) (t : ℕ) (ss : SiteTerms) (vs : Values) → multi_call (constructor_call t ss 0) ≡ true → site_values multi_meaning (given (pos 1)) k ss ≡ Some vs
     → IsSomeAnd (pure_answer multi_meaning t vs) (λ c. IsTrue (fits_constructor multi_program t (kind multi_program t) c))
-multi_answers zero (site_term_and (argument zero) no_site_term) vs h (holds_and {v = w} (holds_argument e) holds_none) =
-    subst (λ u. IsSomeAnd (pure_answer multi_meaning 0 (value_and u no_value)) (λ c. IsTrue (fits_constructor multi_program 0 (kind multi_program 0) c))) (same_Some (v (pos 1)) w e) refl
-multi_answers _ _ vs h holds = absurd (false≢true h)
+multi_answers k zero (site_term_and (argument zero) no_site_term) vs h e =
+    subst (λ u. IsSomeAnd (pure_answer multi_meaning 0 u) (λ c. IsTrue (fits_constructor multi_program 0 (kind multi_program 0) c))) (same_Some (alone (pos 1)) vs e) refl
+multi_answers k _ _ vs h holds = absurd (false≢true h)
 
 impure_none : (t before : ℕ) (ss : SiteTerms) → multi_call (constructor_call t ss (suc before)) ≡ true → ⊥
 impure_none zero before (site_term_and (argument zero) no_site_term) h = false≢true h
@@ -141,7 +148,7 @@ impure_none _ before _ h = false≢true h
 pub multi_served : MultiIsServed
 multi_served = (
   serves_from multi_program multi_meaning (given (pos 1)) multi_rules.rules multi_call refl refl
-      (λ t s w h holds. absurd (false≢true h)) multi_answers (λ t before ss h. absurd (impure_none t before ss h)),
+      (λ k t s w h holds. absurd (false≢true h)) multi_answers (λ k r t before ss i matched made h gave. absurd (impure_none t before ss h)),
   one_constant multi_program multi_meaning multi_rules.rules refl refl,
 )
 
@@ -149,4 +156,4 @@ pub blank_multi : DoesNotServe multi_program blank (pos 1)
 blank_multi s = s.ints (pos 9) 1 (4, omega arith, refl)
 
 pub mute_multi : DoesNotServe multi_program multi_mute (pos 1)
-mute_multi s = s.pures 0 (site_term_and (argument 0) no_site_term) (alone (pos 1)) (1, omega arith, refl) (holds_and (holds_argument refl) holds_none)
+mute_multi s = s.pures [] 0 (site_term_and (argument 0) no_site_term) (alone (pos 1)) (1, omega arith, refl) refl

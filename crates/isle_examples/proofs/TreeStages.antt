@@ -5,15 +5,16 @@ use Rattle.std.specs.Ordering.{int_eq}
 use Rattle.std.proofs.lemmas.Bool.{and_parts}
 use Rattle.std.proofs.lemmas.Bool.Decides.{Decides-int_eq, not_from_Decides}
 use Rattle.isle_model.proofs.Members.{each_passes, member_from_get}
-use Rattle.isle_model.specs.claims.Layers.{BindsBeforeUse}
 use Rattle.isle_model.specs.sites.Sites.{SetRule, SiteSet}
 use Rattle.isle_model.specs.trees.Judge.{is_best_tree, returns_apart}
 use Rattle.isle_model.specs.trees.Trees.{Tree}
 use Rattle.isle_model.specs.trees.WellBuilt.{HasOnePriority}
 use Rattle.isle_laws_trees.proofs.Exact.{not_exact}
+use Rattle.isle_laws_trees.proofs.binding.Judged.{binding_judge_is_exact_lem}
 use Rattle.isle_laws_trees.proofs.Marking.{tree_judge_is_exact_lem}
 use Rattle.isle_laws_trees.proofs.Soundness.{best_trees_are_sound_lem}
 use Rattle.isle_laws_trees.proofs.WellBuilt.{passes_well_built, set_passes}
+use Rattle.isle_laws_trees.specs.BestLaws.{binds_as_marked}
 use Rattle.isle_examples.specs.Stages.{AreRefused, IsJudged}
 
 -- whether the rules have no priority
@@ -26,7 +27,7 @@ no_priorities rules h i j r q e f =
     zero-at i r e ∙ sym (zero-at j q f)
 
 pub judged_with : (set : SiteSet) (multi : Bool) (tree : Tree) → (multi ≡ true → HasOnePriority set.rules) → is_best_tree set tree ≡ true → returns_apart set.rules ≡ true → set_passes set ≡ true
-    → BindsBeforeUse set multi tree → IsJudged set multi tree
+    → binds_as_marked set multi tree ≡ true → IsJudged set multi tree
 judged_with set multi tree same h apart passes binds =
     let best = (tree_judge_is_exact_lem set tree apart).0 h in
     record {
@@ -34,12 +35,12 @@ judged_with set multi tree same h apart passes binds =
       best = best;
       well_built = passes_well_built set passes;
       sound = best_trees_are_sound_lem set multi tree (passes_well_built set passes) same best;
-      binds = binds;
+      binds = (binding_judge_is_exact_lem set multi tree apart).0 binds;
     }
 
 -- in a multi term
 pub judged_multi : (set : SiteSet) (tree : Tree) → has_no_priorities set.rules ≡ true → is_best_tree set tree ≡ true → returns_apart set.rules ≡ true → set_passes set ≡ true
-    → BindsBeforeUse set true tree → IsJudged set true tree
+    → binds_as_marked set true tree ≡ true → IsJudged set true tree
 judged_multi set tree none h apart passes binds = judged_with set true tree (λ e. no_priorities set.rules none) h apart passes binds
 
 -- trees that fail

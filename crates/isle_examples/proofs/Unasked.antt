@@ -1,11 +1,12 @@
 -- The sample whose rule leaves a call unused is lowered: its tree is the best one.
-use Rattle.std.proofs.Common.{[], refl, sym}
+use Rattle.std.proofs.Common.{[], true, refl, sym}
 use Rattle.std.proofs.lemmas.Bool.{false≢true}
 use Rattle.std.proofs.lemmas.List.Elements.{All-contains}
 use Rattle.isle_model.proofs.Members.{in_head}
 use Rattle.isle_model.specs.rules.Program.{rules_of}
 use Rattle.isle_model.specs.trees.Collects.{HasCollectedResults}
 use Rattle.isle_laws_trees.proofs.Marking.{tree_judge_is_exact_lem}
+use Rattle.isle_laws_trees.proofs.binding.Judged.{binding_judge_is_exact_lem}
 use Rattle.isle_examples.proofs.AcceptedLists.{unasked_accepted}
 use Rattle.isle_examples.proofs.Lowered.{lowered_to}
 use Rattle.isle_examples.proofs.SetStages.{built_multi}
@@ -20,4 +21,4 @@ unasked_is_lowered =
     lowered_to unasked_sample unasked_accepted.0 unasked_built ((tree_judge_is_exact_lem unasked_set unasked_tree refl).0 refl) refl refl
     (λ w. absurd (false≢true (sym w.term)))
     (λ m each. absurd (false≢true (All-contains (HasCollectedResults unasked_program) (rules_of unasked_program 2) unasked_rule each (in_head unasked_rule [])).no_call_unused))
-    refl
+    ((binding_judge_is_exact_lem unasked_set true unasked_tree refl).0 refl)

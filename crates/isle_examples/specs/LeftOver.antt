@@ -1,16 +1,23 @@
--- A sample of a set with an impure site left over from a rule that is not in it.
+-- A sample of a set with sites left over from a rule that is not in it: an impure call, and a pure one above it.
 --   (decl im (u8) u8)
 --   (extern constructor im im_fn)
+--   (decl pure pu (u8) u8)
+--   (extern constructor pu pu_fn)
 --   (decl multi f (u8) u8)
---   (rule (f (and 1 2)) (im 1))
+--   (rule (f (and 1 2)) (pu (im 1)))
 --   (rule (f x) x)
-use Rattle.std.specs.Prelude.{◌≡◌, ◌∷◌, [], pos, true, List, None, codes}
+use Rattle.std.specs.Prelude.{◌≡◌, ◌∷◌, [], pos, true, false, List, None, All, IsTrue, codes, is_some, slice_get}
+use Rattle.isle_model.specs.claims.Layers.{own_program}
 use Rattle.isle_model.specs.lists.Elaborated.{TypedRules}
 use Rattle.isle_model.specs.lists.Syntax.{Definition, declaration}
-use Rattle.isle_model.specs.rules.Typed.{make_int, make_term, make_var, match_and, match_int}
-use Rattle.isle_model.specs.sites.Sites.{SetRule, SiteSet, argument_site, constructor_site}
-use Rattle.isle_model.specs.trees.Collects.{Collects, IsCollectedSet, ServesSet, set_bag}
-use Rattle.isle_model.specs.trees.Run.{World, run}
+use Rattle.isle_model.specs.rules.Meaning.{Meaning, nothing}
+use Rattle.isle_model.specs.rules.Program.{Program}
+use Rattle.isle_model.specs.rules.Typed.{TypedRule, make_int, make_term, make_var, match_and, match_int}
+use Rattle.isle_model.specs.sites.Serves.{Serves, TellsConstantsApart}
+use Rattle.isle_model.specs.sites.Sites.{SetRule, SiteSet, argument_site, constructor_site, sources_at}
+use Rattle.isle_model.specs.trees.Collects.{Collects, IsCollectedSet, IsPureAt, ServesSet, content_at, set_bag}
+use Rattle.isle_model.specs.trees.Places.{waits}
+use Rattle.isle_model.specs.trees.Run.{World, run, world_of}
 use Rattle.isle_model.specs.trees.Trees.{Tree, no_step}
 use Rattle.isle_examples.specs.MeaningForms.{each, given, literal, mute}
 use Rattle.isle_examples.specs.SetForms.{a_rule, byte, returning}
@@ -19,32 +26,58 @@ use Rattle.isle_examples.specs.Written.{both, call, constructor_by, int, number,
 
 abbrev pub left_over_defs : List Definition
 left_over_defs =
-    declaration (numbers 0 (codes "im")) ∷ constructor_by 1 (codes "im") (codes "im_fn") ∷ declaration (record (numbers 2 (codes "f")) { multi = true })
-    ∷ rule_to 3 (of_f 3 (both 3 (int 3 (pos 1) ∷ int 3 (pos 2) ∷ []) ∷ [])) (call 3 (codes "im") (number 3 (pos 1) ∷ []))
-    ∷ rule_to 4 (of_f 4 (var 4 (codes "x") ∷ [])) (variable 4 (codes "x")) ∷ []
+    declaration (numbers 0 (codes "im")) ∷ constructor_by 1 (codes "im") (codes "im_fn")
+    ∷ declaration (record (numbers 2 (codes "pu")) { pure = true }) ∷ constructor_by 3 (codes "pu") (codes "pu_fn")
+    ∷ declaration (record (numbers 4 (codes "f")) { multi = true })
+    ∷ rule_to 5 (of_f 5 (both 5 (int 5 (pos 1) ∷ int 5 (pos 2) ∷ []) ∷ [])) (call 5 (codes "pu") (call 5 (codes "im") (number 5 (pos 1) ∷ []) ∷ []))
+    ∷ rule_to 6 (of_f 6 (var 6 (codes "x") ∷ [])) (variable 6 (codes "x")) ∷ []
+
+abbrev pub never_rule : TypedRule
+never_rule =
+    typed 0 5 2 (pos 0) None [] (match_and u8 (q_list (match_int u8 (pos 1) ∷ match_int u8 (pos 2) ∷ [])) ∷ [])
+    (make_term u8 1 (e_list (make_term u8 0 (e_list (make_int u8 (pos 1) ∷ [])) ∷ [])))
+
+abbrev pub any_rule : TypedRule
+any_rule = typed 1 6 2 (pos 0) None (typed_var 0 18 u8 ∷ []) (bind_any u8 0 ∷ []) (make_var u8 0)
 
 abbrev pub left_over_rules : TypedRules
-left_over_rules =
-    rules_and_names
-    (typed 0 3 1 (pos 0) None [] (match_and u8 (q_list (match_int u8 (pos 1) ∷ match_int u8 (pos 2) ∷ [])) ∷ []) (make_term u8 0 (e_list (make_int u8 (pos 1) ∷ [])))
-    ∷ typed 1 4 1 (pos 0) None (typed_var 0 16 u8 ∷ []) (bind_any u8 0 ∷ []) (make_var u8 0) ∷ [])
-    (codes "im" ∷ codes "f" ∷ codes "im_fn" ∷ codes "x" ∷ [])
+left_over_rules = rules_and_names (never_rule ∷ any_rule ∷ []) (codes "im" ∷ codes "pu" ∷ codes "f" ∷ codes "im_fn" ∷ codes "pu_fn" ∷ codes "x" ∷ [])
+
+abbrev pub left_over_program : Program
+left_over_program = own_program left_over_defs left_over_rules
 
 -- the first rule never matches and is left out of the set; its sites stay
 abbrev pub kept_rule : SetRule
-kept_rule = a_rule 1 4 (pos 0) [] [] 0
+kept_rule = a_rule 1 6 (pos 0) [] [] 0
 
 abbrev pub left_over_set : SiteSet
-left_over_set = record { rules = kept_rule ∷ []; sites = argument_site 0 ∷ byte 1 ∷ constructor_site 0 (1 ∷ []) 1 ∷ [] }
+left_over_set = record { rules = kept_rule ∷ []; sites = argument_site 0 ∷ byte 1 ∷ constructor_site 0 (1 ∷ []) 1 ∷ constructor_site 1 (2 ∷ []) 0 ∷ [] }
 
 abbrev pub left_over_tree : Tree
-left_over_tree = returning [] 4 0 no_step
+left_over_tree = returning [] 6 0 no_step
 
--- the world on 7, in which im answers nothing at all
+-- im answers what is no number, as it is never called, and pu answers nothing at all
+abbrev pub left_over_meaning : Meaning
+left_over_meaning = record (mute (literal (pos 1) ∷ literal (pos 2) ∷ [])) { impure_calls = ((0, 0), nothing) ∷ [] }
+
+-- the world on 7
 abbrev pub left_over_world : World
-left_over_world = record { sites = left_over_set.sites; args = given (pos 7); meaning = mute (literal (pos 1) ∷ []); multi = true }
+left_over_world = world_of left_over_program 2 left_over_set.sites left_over_meaning (given (pos 7))
 
--- the set's rules are such as a run collects, and the world serves it
+-- the call of pu makes no impure call itself, waits for nothing, and its source has a content: it has none
+abbrev pub LeftOverLacksACall : Type 0
+LeftOverLacksACall =
+    IsPureAt left_over_set.sites 3
+    × (waits (slice_get left_over_set.sites 3) ≡ false)
+    × All (λ a. IsTrue (is_some (content_at left_over_world [] a))) (sources_at left_over_set.sites 3)
+    × (content_at left_over_world [] 3 ≡ None)
+
+-- the meaning has what the rules ask on 7, and tells constants apart; the set's rules are such as a run collects, and the
+-- world serves it
+abbrev pub LeftOverIsServed : Type 0
+LeftOverIsServed =
+    Serves left_over_program left_over_meaning (given (pos 7)) left_over_rules.rules × TellsConstantsApart left_over_program left_over_meaning left_over_rules.rules
+
 abbrev pub LeftOverIsCollected : Type 0
 LeftOverIsCollected = IsCollectedSet left_over_set × ServesSet left_over_set left_over_world
 

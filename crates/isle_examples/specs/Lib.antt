@@ -3,6 +3,7 @@ pub mod Between
 pub mod Conflict
 pub mod ConstEq
 pub mod Cycle
+pub mod Dropped
 pub mod Effects
 pub mod EmittedFirst
 pub mod Equal
@@ -10,7 +11,9 @@ pub mod Expansions
 pub mod Extract
 pub mod Fall
 pub mod FormedRules
+pub mod FoundSites
 pub mod HandedIn
+pub mod Hiding
 pub mod Impure
 pub mod LeftOver
 pub mod MeaningForms
@@ -19,6 +22,7 @@ pub mod Multi
 pub mod MultiCalls
 pub mod MultiExt
 pub mod NamedConstants
+pub mod NearRefusals
 pub mod Nested
 pub mod NoRules
 pub mod Overlap
@@ -37,8 +41,11 @@ pub mod Ties
 pub mod TypeLists
 pub mod TypedForms
 pub mod Unasked
+pub mod Unreached
 pub mod Unused
 pub mod Used
 pub mod VariantEq
+pub mod VariantIds
 pub mod Wrap
+pub mod Wrapped
 pub mod Written

@@ -2,10 +2,10 @@
 use Rattle.std.specs.Prelude.{◌≡◌, ◌∷◌, [], pos, false, List, None, All, IsTrue, is_some, slice_get, ℕ, true, codes, Some, option_map, Bool, map}
 use Rattle.isle_model.specs.rules.Meaning.{Meaning, nothing, many, look}
 use Rattle.isle_model.specs.sites.Sites.{SetRule, Site, SiteSet, argument_site, constructor_site, make_variant_site, sources_at, extractor_site, iterator_site, make_some_site, match_some_site, extractor_call, is_present, is_variant, match_variant_site}
-use Rattle.isle_model.specs.trees.Collects.{content_at}
+use Rattle.isle_model.specs.trees.Collects.{content_at, IsPureAt}
 use Rattle.isle_model.specs.trees.Places.{waits}
 use Rattle.isle_model.specs.trees.Run.{World, run, world_of}
-use Rattle.isle_model.specs.trees.SetRuns.{IsPureAt, ServesTests, HasNoWrongOverlap, HoldsOnce}
+use Rattle.isle_model.specs.trees.SetRuns.{ServesTests, HasNoWrongOverlap, HoldsOnce}
 use Rattle.isle_model.specs.claims.Headline.{IsWithoutMulti}
 use Rattle.isle_model.specs.claims.Layers.{own_program, CheckReports, IsBuiltForSome, LoweredTerm, LoweringAnswers, RefusedBy}
 use Rattle.isle_model.specs.claims.SetMeanings.{AreRulesWithoutCalls, returning_once}

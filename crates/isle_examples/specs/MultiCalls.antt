@@ -1,11 +1,12 @@
 -- Samples of rules with multi calls: which calls are one, which are two, and what a call without a list comes to.
-use Rattle.std.specs.Prelude.{◌≡◌, ◌∷◌, [], ℕ, ℤ, pos, true, false, List, Some, map}
-use Rattle.isle_model.specs.rules.Meaning.{Content, Meaning, many, nothing, one}
+use Rattle.std.specs.Prelude.{◌≡◌, ◌∷◌, [], ℕ, ℤ, pos, true, false, List, Some, None, map}
+use Rattle.isle_model.specs.rules.Meaning.{Content, Meaning, many, nothing, one, pure_answer}
 use Rattle.isle_model.specs.rules.Picks.{bag}
 use Rattle.isle_model.specs.rules.Program.{Program}
 use Rattle.isle_model.specs.rules.Typed.{TypedExpr, TypedIfLet, TypedPattern, TypedRule, make_int, make_term, make_var, match_and, match_any, match_term}
 use Rattle.isle_model.specs.rules.Values.{Values, value_and}
 use Rattle.isle_model.specs.sites.Demands.{demands_of, result_of}
+use Rattle.isle_model.specs.sites.Serves.{Serves}
 use Rattle.isle_model.specs.sites.Sites.{SetRule, SiteSet, argument_site, constructor_site, iterator_site, unfold_site}
 use Rattle.isle_model.specs.trees.Collects.{IsCollectedRule, LeavesNoCallUnused, set_bag}
 use Rattle.isle_model.specs.trees.Run.{World}
@@ -107,6 +108,13 @@ calls_meaning = record {
 -- the bag of a rule alone on an argument
 abbrev pub Gives : TypedRule → ℤ → List ℤ → Type 0
 Gives r z results = bag calls_program calls_meaning (r ∷ []) (given z) ≡ each results
+
+-- on 1 the meaning has what pure_twice asks, though pr has no answer on two different answers of m: the two calls of m are
+-- one, of which each pick takes one answer
+abbrev pub OneCallIsServed : Type 0
+OneCallIsServed =
+    (pure_answer calls_meaning 2 (value_and (v (pos 4)) (alone (pos 5))) ≡ None)
+    × Serves calls_program calls_meaning (given (pos 1)) (pure_twice ∷ [])
 
 -- some if-let leaves a multi call of its expression unused
 abbrev pub LeavesACallUnused : TypedRule → Type 0

@@ -13,6 +13,7 @@ ghost use Rattle.isle_examples.specs.Between.{between_sample};
 ghost use Rattle.isle_examples.specs.Conflict.{ConflictReported, conflict_defs, conflict_program, conflict_rule, conflict_rules};
 ghost use Rattle.isle_examples.specs.ConstEq.{ConstEqClosed, ConstEqDemands, const_eq_program, const_eq_rule, const_eq_sample};
 ghost use Rattle.isle_examples.specs.Cycle.{CycleTables, CyclesReported, cycle_rules, one_step_defs, one_step_program, one_step_rule, two_step_defs, two_step_program, two_step_rule};
+ghost use Rattle.isle_examples.specs.Dropped.{CallsAreBoundToo, dropped_sample};
 ghost use Rattle.isle_examples.specs.Effects.{EffectsDemands, EffectsEnds, EffectsTables, effects_sample, im_of_one, pair_of};
 ghost use Rattle.isle_examples.specs.EmittedFirst.{emitted_first_sample};
 ghost use Rattle.isle_examples.specs.Equal.{equal_program, equal_same, equal_sample};
@@ -20,14 +21,17 @@ ghost use Rattle.isle_examples.specs.Expansions.{ConversionsNest, DoubledTables,
 ghost use Rattle.isle_examples.specs.Extract.{ExtractDemands, ExtractEnds, ExtractIsServed, ExtractMeaningServes, ExtractTables, NearSetsAreNotBuilt, extract_any, extract_mute, extract_one, extract_program, extract_sample};
 ghost use Rattle.isle_examples.specs.Fall.{FallDemands, FallIsSubsetPair, FallRuns, fall_any, fall_one, fall_program, fall_sample};
 ghost use Rattle.isle_examples.specs.FormedRules.{ArgumentsAreLimited, FormedRulesMayTestImpureCalls, OthersAreNotFormed, ResultsMayUnwrap};
+ghost use Rattle.isle_examples.specs.FoundSites.{SitesAreFound};
 ghost use Rattle.isle_examples.specs.HandedIn.{IllFormed, NamesGoOn, OwnTypesDoNotCount, TypesHandedIn};
+ghost use Rattle.isle_examples.specs.Hiding.{BetterTestsAreNotHidden, hidden_sample};
 ghost use Rattle.isle_examples.specs.Impure.{ImpureIsCalled, impure_sample};
-ghost use Rattle.isle_examples.specs.LeftOver.{LeftOverCollects, LeftOverIsCollected, left_over_defs, left_over_rules, left_over_set, left_over_tree};
+ghost use Rattle.isle_examples.specs.LeftOver.{LeftOverCollects, LeftOverIsCollected, LeftOverIsServed, LeftOverLacksACall, left_over_defs, left_over_rules, left_over_set, left_over_tree};
 ghost use Rattle.isle_examples.specs.MeaningForms.{DoesNotServe, alone, answers, blank, ends_with, just_number, v};
 ghost use Rattle.isle_examples.specs.Multi.{LoopsMayBindAgain, MultiCollects, MultiDemands, MultiGives, MultiIsCollected, MultiIsNot, MultiIsServed, MultiResultsAreHeld, MultiSetCollects, MultiTreeCollects, multi_defs, multi_mute, multi_program, multi_sample, multi_terms};
-ghost use Rattle.isle_examples.specs.MultiCalls.{DemandsGatesThough, Gives, LeavesACallUnused, UnusedGateGives, call_in_call, calls_program, extracted_twice, impure_twice, pure_twice, unused_condition, unused_let, used_condition};
+ghost use Rattle.isle_examples.specs.MultiCalls.{DemandsGatesThough, Gives, LeavesACallUnused, OneCallIsServed, UnusedGateGives, call_in_call, calls_program, extracted_twice, impure_twice, pure_twice, unused_condition, unused_let, used_condition};
 ghost use Rattle.isle_examples.specs.MultiExt.{MultiExtractorsStand, multi_ext_sample};
 ghost use Rattle.isle_examples.specs.NamedConstants.{constants_defs, constants_rules};
+ghost use Rattle.isle_examples.specs.NearRefusals.{NoOverlapOfAcceptedRules, OnlyPassedLimitsAreNamed, TermsAreRefused};
 ghost use Rattle.isle_examples.specs.Nested.{NestedClosed, NestedTables, nested_defs, nested_program, nested_rule, nested_rules};
 ghost use Rattle.isle_examples.specs.NoRules.{BoundTwiceHasNone, ConverterHasNone, IfLetHasNone, LiteralHasNone, LiteralsAreNotConverted, MacroArgHasNone, MultiPriorityHasNone, PartialHasNone, converted_defs, converted_rules, iflet_defs, iflet_rules};
 ghost use Rattle.isle_examples.specs.Overlap.{OverlapReported, OverlapsFound, TwoReports, overlap_defs, overlap_rules, three_defs, three_rules};
@@ -44,10 +48,13 @@ ghost use Rattle.isle_examples.specs.TermLists.{Alone, Chained, Early, Infallibl
 ghost use Rattle.isle_examples.specs.Ties.{ties_sample};
 ghost use Rattle.isle_examples.specs.TypeLists.{ConstantTypes, ThreeTypes, TwoTypes, refused_types};
 ghost use Rattle.isle_examples.specs.Unasked.{UnaskedIsNotDemanded, unasked_defs, unasked_rules, unasked_sample, unasked_set};
+ghost use Rattle.isle_examples.specs.Unreached.{UnreachedCallsAreNotAsked, UnreachedDemands, UnreachedEnds, first_answers, one_im_of_one, unreached_program, unreached_sample};
 ghost use Rattle.isle_examples.specs.Unused.{UnusedDemands, UnusedEnds, unused_sample};
 ghost use Rattle.isle_examples.specs.Used.{NearTreesDoNotBind, UsedDemands, UsedEnds, used_sample};
 ghost use Rattle.isle_examples.specs.VariantEq.{VariantEqClosed, VariantEqDemands, VariantEqTables, variant_eq_program, variant_eq_rule, variant_eq_sample};
+ghost use Rattle.isle_examples.specs.VariantIds.{VariantsStandAtTheirIds};
 ghost use Rattle.isle_examples.specs.Wrap.{wrap_sample};
+ghost use Rattle.isle_examples.specs.Wrapped.{NothingIsAskedAboveCalls, wrapped_defs, wrapped_rules};
 
 /// Lists of types: a primitive type and an extern enum; structs, one of them a tuple, whose types are named before they
 /// are defined; a constant that is defined twice has the type of its last definition. Lists that break one demand on
@@ -253,6 +260,22 @@ pub fn partial_is_served()
     ensures without_calls { DoesNotServe partial_program partial_mute (pos 1) }
 {}
 
+/// Of two impure calls on the right side, both are made and unwrapped in order.
+#[tactic(auto, using(crate::proofs::SampleStages::unreached_stages))]
+pub fn unreached_sample()
+    ensures stages { HasStages unreached_sample }
+    ensures demands { UnreachedDemands }
+{}
+
+/// Where the first call answers nothing, it alone is made and then all fails: no answer is asked of the second one.
+/// Where it answers, one is.
+#[tactic(auto, using(crate::proofs::Unreached::unreached_calls_are_not_asked, crate::proofs::Unreached::reached_calls_are_asked))]
+pub fn unreached_calls_are_not_asked()
+    ensures fails { UnreachedEnds (record { calls = one_im_of_one; results = []; ending = failed }) }
+    ensures unreached { UnreachedCallsAreNotAsked }
+    ensures reached { DoesNotServe unreached_program (first_answers (just_number (pos 5))) (pos 1) }
+{}
+
 /// A pure call that may answer nothing, beside an impure one, inside a variant.
 #[tactic(auto, using(crate::proofs::SampleStages::effects_stages))]
 pub fn effects_sample()
@@ -315,6 +338,14 @@ pub fn surplus_sample()
 #[tactic(auto, using(crate::proofs::SampleStages::ties_stages))]
 pub fn ties_sample()
     ensures stages { HasStages ties_sample }
+{}
+
+/// A tree may choose rightly though it makes a test that covers one rule where another covers two: it isn't a best tree, and
+/// its tests aren't shared.
+#[tactic(auto, using(crate::proofs::SampleStages::hidden_stages, crate::proofs::Hiding::better_tests_are_not_hidden))]
+pub fn hidden_sample()
+    ensures stages { HasStages hidden_sample }
+    ensures hidden { BetterTestsAreNotHidden }
 {}
 
 /// A literal below zero comes before those above.
@@ -403,19 +434,29 @@ pub fn impure_sample()
     ensures called { ImpureIsCalled }
 {}
 
+/// An impure call whose answer nothing takes is a call of its rule all the same: it is bound before the rule returns.
+#[tactic(auto, using(crate::proofs::SampleStages::dropped_stages, crate::proofs::Used::calls_are_bound_too))]
+pub fn dropped_sample()
+    ensures stages { HasStages dropped_sample }
+    ensures bound { CallsAreBoundToo }
+{}
+
 /// Constants, and a boolean literal.
 #[tactic(auto, using(crate::proofs::AcceptedLists::constants_accepted))]
 pub fn named_constants()
     ensures accepted { IsAcceptedBoth constants_defs constants_rules }
 {}
 
-/// A set with an impure site that none of its rules uses: a world where that call answers nothing serves it, and the
-/// run of its tree collects the bag.
-#[tactic(auto, using(crate::proofs::AcceptedLists::left_over_not_accepted, crate::proofs::LeftOver::left_over_built, crate::proofs::LeftOver::left_over_judged, crate::proofs::LeftOver::left_over_is_collected, crate::proofs::LeftOver::left_over_collects))]
+/// A set with an impure call that none of its rules uses, and a pure one above it. A meaning in which the first answers what
+/// is no number serves the rules, so its world, which lacks the second, serves the set, and the run of its tree collects
+/// the bag.
+#[tactic(auto, using(crate::proofs::AcceptedLists::left_over_not_accepted, crate::proofs::LeftOver::left_over_built, crate::proofs::LeftOver::left_over_judged, crate::proofs::LeftOver::left_over_is_served, crate::proofs::LeftOver::left_over_is_collected, crate::proofs::LeftOver::left_over_lacks_a_call, crate::proofs::LeftOver::left_over_collects))]
 pub fn left_over_sample()
     ensures not_accepted { IsNotAccepted left_over_defs left_over_rules }
-    ensures built { IsBuiltOf left_over_defs left_over_rules 1 left_over_set }
+    ensures built { IsBuiltOf left_over_defs left_over_rules 2 left_over_set }
     ensures tree { IsJudged left_over_set true left_over_tree }
+    ensures meaning { LeftOverIsServed }
+    ensures lacks_a_call { LeftOverLacksACall }
     ensures served { LeftOverIsCollected }
     ensures collects { LeftOverCollects }
 {}
@@ -427,6 +468,12 @@ pub fn multi_calls()
     ensures extractors { Gives extracted_twice (pos 1) (pos 44 ∷ pos 55 ∷ []) }
     ensures impure { Gives impure_twice (pos 1) (pos 46 ∷ pos 47 ∷ pos 56 ∷ pos 57 ∷ []) }
     ensures nested { Gives call_in_call (pos 1) (pos 6 ∷ pos 7 ∷ pos 8 ∷ []) }
+{}
+
+/// Of a call that a rule makes twice each pick takes one answer: a meaning serves the rule that answers no two different ones.
+#[tactic(auto, using(crate::proofs::MultiCalls::one_call_is_served))]
+pub fn one_call_is_served()
+    ensures { OneCallIsServed }
 {}
 
 /// A call that a right side or an if-let leaves unused still gives a result for each answer, and its rule may demand
@@ -525,7 +572,7 @@ pub fn lists_refused()
     ensures lowering { SamplesAreRefused }
 {}
 
-ghost use Rattle.isle_examples.specs.Mended.{AboveCallsNothingIsAsked, ThirdRulesDontCount, ReturnsOfMultiTermsGoOn, RightSidesFailUnderPicks, OverlapsMayHoldTwice, NamelessIsNotAnswered, LookUpsHaveNoList, LimitsAreNamedWherePassed, SecondIsReadAlone, EmptySetsAreBuilt, SignaturesOfW, SitesAreBrought, OverlapsAreTold, TermsOfSites, IdentifiersOfRules, EnvironmentsOfLists, VariantHasItsTerm};
+ghost use Rattle.isle_examples.specs.Mended.{wrapped_set, AboveCallsNothingIsAsked, ThirdRulesDontCount, ReturnsOfMultiTermsGoOn, RightSidesFailUnderPicks, OverlapsMayHoldTwice, NamelessIsNotAnswered, LookUpsHaveNoList, LimitsAreNamedWherePassed, SecondIsReadAlone, EmptySetsAreBuilt, SignaturesOfW, SitesAreBrought, OverlapsAreTold, TermsOfSites, IdentifiersOfRules, EnvironmentsOfLists, VariantHasItsTerm};
 
 /// A world that has what tests ask may have no content for a construction above an impure call that is never made.
 #[tactic(auto, using(crate::proofs::Mended::above_calls_nothing_is_asked_lem))]
@@ -621,4 +668,34 @@ pub fn environments_of_lists()
 #[tactic(auto, using(crate::proofs::Mended::variant_has_its_term))]
 pub fn variant_has_its_term()
     ensures { VariantHasItsTerm }
+{}
+
+/// A meaning serves rules though it has nothing for an impure call of a rule that doesn't match, and then the world has what
+/// tests ask, though there is no content above that call.
+#[tactic(auto, using(crate::proofs::Wrapped::wrapped_accepted, crate::proofs::Wrapped::wrapped_built, crate::proofs::Wrapped::nothing_is_asked_above_calls))]
+pub fn nothing_is_asked_above_calls()
+    ensures accepted { IsAcceptedBoth wrapped_defs wrapped_rules }
+    ensures built { IsBuiltOf wrapped_defs wrapped_rules 1 wrapped_set }
+    ensures served { NothingIsAskedAboveCalls }
+{}
+
+/// Answers near right ones that aren't allowed: an overlap of rules that are accepted, both at one position; a limit that
+/// wasn't passed, beside the error that refuses a list. Terms are refused by errors of their definitions alone.
+#[tactic(auto, using(crate::proofs::NearRefusals::no_overlap_of_accepted_rules, crate::proofs::NearRefusals::only_passed_limits_are_named, crate::proofs::NearRefusals::terms_are_refused))]
+pub fn near_refusals()
+    ensures overlap { NoOverlapOfAcceptedRules }
+    ensures limit { OnlyPassedLimitsAreNamed }
+    ensures terms { TermsAreRefused }
+{}
+
+/// Types may be well formed and yet not such as rules are read with: where a variant doesn't stand at the id that it says.
+#[tactic(auto, using(crate::proofs::VariantIds::variants_stand_at_their_ids))]
+pub fn variants_stand_at_their_ids()
+    ensures { VariantsStandAtTheirIds }
+{}
+
+/// What a set finds of a site: its number, or that it isn't there.
+#[tactic(auto, using(crate::proofs::FoundSites::sites_are_found))]
+pub fn sites_are_found()
+    ensures { SitesAreFound }
 {}

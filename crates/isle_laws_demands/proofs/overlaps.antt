@@ -6,5 +6,6 @@ pub mod Listed
 pub mod Masks
 pub mod Overlaps
 pub mod Reported
+pub mod SetReports
 pub mod SetRules
 pub mod Totals

@@ -1,3 +1,3 @@
 -- From what a meaning has to what collecting rests on.
-pub mod PureMade
+pub mod PureCalls
 pub mod ServesSets

@@ -7,4 +7,5 @@ pub mod RefusalLaws
 pub mod ReportLaws
 pub mod ServeLaws
 pub mod SetOverlapLaws
+pub mod SetReportLaws
 pub mod VisitLaws

@@ -1,12 +1,9 @@
 -- From what a meaning must have to what the runs of trees rest on.
-use Rattle.std.specs.Prelude.{◌≡◌, ℕ, Bool, List, [], Contains}
+use Rattle.std.specs.Prelude.{◌≡◌, ℕ, Bool, List, [], All}
 use Rattle.isle_model.specs.lists.Syntax.{Definition}
 use Rattle.isle_model.specs.lists.Elaborated.{TypedRules}
 use Rattle.isle_model.specs.claims.Environments.{TypesRead, IsElaborated, program_of}
 use Rattle.isle_model.specs.claims.SetMeanings.{OfBuiltSets, WhereServed}
-use Rattle.isle_model.specs.rules.Program.{rules_of}
-use Rattle.isle_model.specs.rules.Typed.{TypedRule}
-use Rattle.isle_model.specs.sites.Demands.{demands_of}
 use Rattle.isle_model.specs.sites.Sites.{SiteSet}
 use Rattle.isle_model.specs.sites.RuleSets.{IsBuilt}
 use Rattle.isle_model.specs.trees.Run.{world_of}
@@ -21,8 +18,9 @@ ServedSetsServeTests =
     → IsElaborated e defs expand rules → IsBuilt (program_of e defs rules.rules) t set
     → WhereServed (program_of e defs rules.rules) t (λ m args. ServesTests set (world_of (program_of e defs rules.rules) t set.sites m args))
 
--- and where none of the term's rules makes an impure call, it has what collecting the results of a multi term asks
+-- and where none of the set's rules makes an impure call, it has what collecting their results asks, whatever calls the
+-- rules make that were left out
 abbrev pub ServedMultiSetsServe : Type 0
 ServedMultiSetsServe =
-    OfBuiltSets (λ p t set. ((r : TypedRule) → Contains (rules_of p t) r → (demands_of p r).impure ≡ [])
+    OfBuiltSets (λ p t set. All (λ r. r.impure ≡ []) set.rules
     → WhereServed p t (λ m args. ServesSet set (world_of p t set.sites m args)))

@@ -8,6 +8,7 @@ ghost use Rattle.isle_laws_demands.specs.ClosureLaws.{JoinedIsEquivalence, Class
 ghost use Rattle.isle_laws_demands.specs.AcceptLaws.{ElaboratedRulesHaveTerms, RulesAreJudged, ListsAreAccepted, ListsAreNotAccepted};
 ghost use Rattle.isle_laws_demands.specs.ReportLaws.{CheckIsExact, OverlapsAreListedOnce, ListedRulesOverlap, MasksAreReportedOnce, ReportedMasksShadow};
 ghost use Rattle.isle_laws_demands.specs.SetOverlapLaws.{SetRulesOverlapAsTheirDemands, OverlapOfSetRulesIsSymmetric, SetRulesConstrainAsTheirDemands};
+ghost use Rattle.isle_laws_demands.specs.SetReportLaws.{BuiltSetsAreReported};
 ghost use Rattle.isle_laws_demands.specs.VisitLaws.{SitesStandOnce, FormedRulesDemandGates, ClosingKeepsGates, ElaboratedRulesDemandGates, BuiltRulesDemandGates, BuiltSetsAreWellBuilt, NoneAskedAndGoneOver, MultiCallsAreGoneOver, NoRuleAsksAndGoesOver, MultiTermsHaveOnePriority};
 ghost use Rattle.isle_model.specs.claims.SetMeanings.{BuiltSetsAreTested, BuiltSetsCanBeServed, BuiltSetsAreCollected};
 ghost use Rattle.isle_laws_demands.specs.BuiltLaws.{ClosingsOfBuiltRulesAreWhole, ConstrainedSitesStandInNoClass, BuiltRulesConstrainOrEquate, FormedRulesMakeEqualSites, BuiltDemandsAreWhole};
@@ -360,7 +361,7 @@ pub fn results_are_held()
     ensures { BuiltSetsHoldResults }
 {}
 
-/// And where none of the term's rules makes an impure call, it has what collecting the results of a multi term asks.
+/// And where none of the set's rules makes an impure call, it has what collecting the results of a multi term asks.
 pub fn served_multi_sets_serve()
     ensures { ServedMultiSetsServe }
 {}
@@ -386,3 +387,9 @@ pub fn built_sets_mean_their_rules()
     taken_rules_give_their_outcome_under_picks();
     results_are_held();
 }
+
+/// What is reported of the built sets of a program's terms is what is reported of the program.
+#[tactic(auto, using(crate::proofs::overlaps::SetReports::built_sets_are_reported_lem))]
+pub fn built_sets_are_reported()
+    ensures { BuiltSetsAreReported }
+{}

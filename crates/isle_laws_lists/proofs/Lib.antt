@@ -9,6 +9,7 @@ pub mod JudgedTerms
 pub mod JudgedTypes
 pub mod NamesOfTables
 pub mod OwnTypes
+pub mod RefusedTerms
 pub mod TermLaws
 pub mod TermTypes
 pub mod Twice
@@ -21,4 +22,5 @@ pub mod TypesStay
 pub mod Typings
 pub mod UsesFound
 pub mod VariantTerms
+pub mod VisitableRules
 pub mod WellFormed

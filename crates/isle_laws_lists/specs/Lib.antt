@@ -3,6 +3,7 @@ pub mod JudgeLaws
 pub mod OwnTypes
 pub mod QuestionLaws
 pub mod ReadEnvironments
+pub mod RefusedTerms
 pub mod TableLaws
 pub mod TypingLaws
 pub mod TypingResults

@@ -1,12 +1,14 @@
 -- What is known of all that elaboration makes: types, variables and names.
-use Rattle.std.specs.Prelude.{◌≡◌, ℕ, Bool, List, ◌++◌, Some, slice_get}
+use Rattle.std.specs.Prelude.{◌≡◌, ℕ, Bool, true, List, ◌++◌, Some, slice_get}
 use Rattle.isle_model.specs.lists.Syntax.{PatternTree, ExprTree, RuleTree}
 use Rattle.isle_model.specs.lists.Names.{IsDistinct}
 use Rattle.isle_model.specs.lists.Tables.{Flags}
+use Rattle.isle_model.specs.rules.Program.{Program}
 use Rattle.isle_model.specs.rules.Typed.{TypedPattern, TypedExpr, TypedVar, TypedRule}
 use Rattle.isle_model.specs.lists.Setting.{Setting, Scope, expr_type}
 use Rattle.isle_model.specs.lists.Elaborates.{ElaboratesPattern, ElaboratesExpr, ElaboratesRule, ElaboratesRules}
-use Rattle.isle_model.specs.lists.Formed.{pattern_type}
+use Rattle.isle_model.specs.lists.Formed.{pattern_type, is_formed_rule}
+use Rattle.isle_model.specs.lists.Visitable.{is_visitable_rule}
 
 -- a pattern is made at the type asked for, an expression at the type expected
 abbrev pub TypesAreExpected : Type 0
@@ -31,3 +33,7 @@ abbrev pub NamesStayInLists : Type 0
 NamesStayInLists =
     (e : Setting) (id : ℕ) (rs : List RuleTree) (names : List (List ℕ)) (qs : List TypedRule) (after : List (List ℕ))
     → ElaboratesRules e id rs names qs after → ((more : List (List ℕ)) × (after ≡ names ++ more)) × (IsDistinct names → IsDistinct after)
+
+-- a rule that hangs together can be visited
+abbrev pub FormedRulesCanBeVisited : Type 0
+FormedRulesCanBeVisited = (p : Program) (r : TypedRule) → is_formed_rule p r ≡ true → is_visitable_rule p.terms r ≡ true

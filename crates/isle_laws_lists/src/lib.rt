@@ -4,7 +4,7 @@
 #![tactic(auto)]
 
 ghost use Rattle.isle_laws_lists.specs.TypingLaws.{PatternsAgree, ExprsAgree, RulesAgree, TypedWithinLimits, ListsAgree, MoreMayNest, PatternsOneWay, ExprsOneWay, RulesOneWay};
-ghost use Rattle.isle_laws_lists.specs.TypingResults.{TypesAreExpected, VariablesAtPlaces, NamesStay, NamesStayInLists};
+ghost use Rattle.isle_laws_lists.specs.TypingResults.{TypesAreExpected, VariablesAtPlaces, NamesStay, NamesStayInLists, FormedRulesCanBeVisited};
 ghost use Rattle.isle_model.specs.lists.Formed.{RulesAreFormed};
 ghost use Rattle.isle_laws_lists.specs.OwnTypes.{OwnTypesAreReadable};
 ghost use Rattle.isle_laws_lists.specs.JudgeLaws.{TypesAreJudged, CyclesAreFound, TermsAreJudged, DefinedAreJudged, KnownTypesAreJudged, ReadTypesAreJudged, ListsAreElaborated, TypedRulesAreFound, ListsAreRead, ListsAreRefused};
@@ -12,6 +12,7 @@ ghost use Rattle.isle_laws_lists.specs.TableLaws.{OwnTypesAreWellFormed, NamesSt
 ghost use Rattle.isle_laws_lists.specs.FurtherNames.{FurtherNamesDontMatter, NamesOfRulesDontMatter};
 ghost use Rattle.isle_laws_lists.specs.QuestionLaws.{VariantsHaveTerms, WellFormedEnvironmentsAreRead};
 ghost use Rattle.isle_laws_lists.specs.ReadEnvironments.{TypesAreShown, TypesStay};
+ghost use Rattle.isle_laws_lists.specs.RefusedTerms.{RefusedTermsRefuseRules};
 
 /// A pattern becomes by the rules of typing what the function gives, and nothing where it gives nothing.
 pub fn patterns_agree()
@@ -83,6 +84,12 @@ pub fn names_stay_in_lists()
 #[tactic(auto, using(crate::proofs::FormedRules::rules_are_formed))]
 pub fn rules_are_formed()
     ensures { RulesAreFormed }
+{}
+
+/// A rule that hangs together can be visited: the condition of `Rule::visit` holds of it.
+#[tactic(auto, using(crate::proofs::VisitableRules::formed_rules_can_be_visited))]
+pub fn formed_rules_can_be_visited()
+    ensures { FormedRulesCanBeVisited }
 {}
 
 /// Terms and rules can be read with the types of a list, if these are valid.
@@ -242,4 +249,9 @@ pub fn variants_have_terms()
 /// A type environment is well formed exactly where it shows types that can be read.
 pub fn well_formed_environments_are_read()
     ensures { WellFormedEnvironmentsAreRead }
+{}
+
+/// What refuses the terms of a list refuses its rules, with the same errors.
+pub fn refused_terms_refuse_rules()
+    ensures { RefusedTermsRefuseRules }
 {}

@@ -14,7 +14,7 @@ use Rattle.isle_model.proofs.Members.{each_passes, all_pass}
 pub constraint_exact : (c d : Constraint) → Decides (constraint_eq c d) (c ≡ d)
 constraint_exact c d = (constraint_means c d, same_constraint c d)
 
-that_exact : (o : Option Constraint) (c : Constraint) → Decides (is_that o c) (o ≡ Some c)
+pub that_exact : (o : Option Constraint) (c : Constraint) → Decides (is_that o c) (o ≡ Some c)
 that_exact None c = (λ h. absurd (false≢true h), λ e. absurd (none-some c e))
 that_exact (Some d) c = (λ h. ap Some (constraint_means d c h), λ e. (constraint_exact d c).1 (same_Some d c e))
 

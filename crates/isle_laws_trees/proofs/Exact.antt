@@ -142,7 +142,7 @@ module _ (set : SiteSet) where
         (after_exact before constraint) (some_exact (marks body)) (all_ask_exact set.rules (marks body) source constraint) (fields_exact fields (fields_of set.sites source constraint))
         (steps_exact body (in_arm set ar source constraint fields) false) (arms_exact rest ar source (Some constraint))
 
-  returns_exact : (m : Marked) → Decides (marks_each set.rules m) (ReturnsEach set (plain set.rules m) m)
+  pub returns_exact : (m : Marked) → Decides (marks_each set.rules m) (ReturnsEach set (plain set.rules m) m)
   returns_exact m = (
     λ h.
         let q = and_parts (list_all (is_marked_once m) (up_to (length set.rules))) (list_all (λ i. nat_lt i (length set.rules)) (marks m)) h in

@@ -1,6 +1,7 @@
 pub mod Available
 pub mod binding
 pub mod Constraints
+pub mod ConstraintsTotal
 pub mod Counting
 pub mod Covers
 pub mod Ends
@@ -15,7 +16,9 @@ pub mod Once
 pub mod OpenTests
 pub mod Pairs
 pub mod Passing
+pub mod PicksMade
 pub mod Scores
+pub mod Serialized
 pub mod Shares
 pub mod Soundness
 pub mod Straight

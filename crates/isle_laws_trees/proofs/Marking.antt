@@ -5,8 +5,9 @@ use Rattle.std.proofs.lemmas.Bool.{cases_Bool, cond-true, cond-false, and_parts,
 use Rattle.std.proofs.lemmas.Option.{none-some, same_Some}
 use Rattle.std.proofs.lemmas.List.Elements.{All-contains}
 use Rattle.isle_model.specs.lists.Syntax.{Position}
-use Rattle.isle_model.specs.sites.Sites.{SetRule}
+use Rattle.isle_model.specs.sites.Sites.{SetRule, SiteSet}
 use Rattle.isle_model.specs.trees.Trees.{Tree, no_step, step, Check, match_at, equal_at, loop_at, return_at, Arms, no_arm, arm, Marked, m_no_step, m_step, MarkedCheck, m_match, m_equal, m_loop, m_return, MarkedArms, m_no_arm, m_arm, marks, marks_check, marks_arms, return_of, plain, plain_check, plain_arms}
+use Rattle.isle_model.specs.trees.Sound.{ReturnsEach}
 use Rattle.isle_model.specs.trees.Best.{NoSiteTwice, HasFewSteps, IsBestTree}
 use Rattle.isle_model.specs.trees.Judge.{returns_as, rule_returned, marking, marking_check, marking_arms, is_best, returns_apart}
 use Rattle.isle_model.proofs.Members.{in_head, get_within, member_from_get, each_passes}
@@ -50,7 +51,7 @@ rule_again (q ∷ rules) h (suc i) r e =
 
 module _ (rules : List SetRule) where
   mutual
-    plain_marking : (t : Tree) → Known rules (marks (marking rules t)) → plain rules (marking rules t) ≡ t
+    pub plain_marking : (t : Tree) → Known rules (marks (marking rules t)) → plain rules (marking rules t) ≡ t
     plain_marking no_step k = refl
     plain_marking (step binds check rest) k =
         let a = plain_marking_check check (known_left rules (marks_check (marking_check rules check)) (marks (marking rules rest)) k) in
@@ -97,6 +98,11 @@ module _ (rules : List SetRule) where
           let b = marking_plain_arms rest (known_right rules (marks body) (marks_arms rest) k) in
           λ j. m_arm constraint fields (a j) (b j)
 
+-- the marks that are found from the returns of a tree are those of each marking of it
+pub marks_found : (set : SiteSet) (tree : Tree) (m : Marked) → returns_apart set.rules ≡ true → ReturnsEach set tree m → m ≡ marking set.rules tree
+marks_found set tree m apart r =
+    sym (marking_plain set.rules apart m (λ i c. All-contains (λ j. j < length set.rules) (marks m) i r.known c)) ∙ ap (marking set.rules) r.same
+
 pub tree_judge_is_exact_lem : TreeJudgeIsExact
 tree_judge_is_exact_lem set tree apart = (
   λ h.
@@ -106,7 +112,6 @@ tree_judge_is_exact_lem set tree apart = (
       subst (IsBestTree set) e (record { marked = m; returns = b.returns; steps = b.steps; no_site_twice = b.no_site_twice; few_steps = b.few_steps }),
   λ b.
       let m = b.marked in
-      let e = marking_plain set.rules apart m (λ i c. All-contains (λ j. j < length set.rules) (marks m) i b.returns.known c) in
       let same = b.returns.same in
       let marked : IsBestMarked set m = record {
         returns = record { same = refl; once = b.returns.once; known = b.returns.known };
@@ -114,5 +119,5 @@ tree_judge_is_exact_lem set tree apart = (
         no_site_twice = subst NoSiteTwice (sym same) b.no_site_twice;
         few_steps = subst (HasFewSteps set) (sym same) b.few_steps;
       } in
-      subst (λ x. is_best set x ≡ true) (sym e ∙ ap (marking set.rules) same) ((judge_exact set m).1 marked),
+      subst (λ x. is_best set x ≡ true) (marks_found set tree m apart b.returns) ((judge_exact set m).1 marked),
 )

@@ -2,5 +2,6 @@
 pub mod BindOnce
 pub mod Brought
 pub mod InPlace
+pub mod Judged
 pub mod Scopes
 pub mod Trees

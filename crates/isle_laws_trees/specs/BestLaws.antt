@@ -1,12 +1,13 @@
 -- Laws of the judge, and of open tests.
-use Rattle.std.specs.Prelude.{false, Contains, Decides, IsTrue}
+use Rattle.std.specs.Prelude.{[], Bool, false, ◌&&◌, Contains, Decides, IsTrue}
 use Rattle.isle_model.specs.sites.Sites.{SiteSet}
 use Rattle.isle_model.specs.trees.Trees.{Tree, Marked, plain}
 use Rattle.isle_model.specs.trees.Places.{Around, nothing_around}
 use Rattle.isle_model.specs.trees.Sound.{ReturnsEach}
 use Rattle.isle_model.specs.trees.Tests.{Test, is_open, open_tests}
 use Rattle.isle_model.specs.trees.Best.{SharesMost, BestSteps, NoSiteTwice, HasFewSteps, IsBestTree}
-use Rattle.isle_model.specs.trees.Judge.{is_best, is_best_tree, returns_apart}
+use Rattle.isle_model.specs.trees.Judge.{marking, marks_each, is_best, is_best_tree, returns_apart}
+use Rattle.isle_model.specs.claims.Layers.{binds_before_use, BindsBeforeUse}
 
 -- the list of a place's open tests holds exactly these
 abbrev pub OpenTestsAreListed : Type 0
@@ -26,6 +27,15 @@ JudgeIsExact = (set : SiteSet) (m : Marked) → Decides (is_best set m) (IsBestM
 -- where no two rules return at one position with one result, so does the judge of a tree
 abbrev pub TreeJudgeIsExact : Type 0
 TreeJudgeIsExact = (set : SiteSet) (tree : Tree) → IsTrue (returns_apart set.rules) → Decides (is_best_tree set tree) (IsBestTree set tree)
+
+-- whether a tree returns for each rule and binds sites before it uses them, by the marks that are found from its returns
+abbrev pub binds_as_marked : SiteSet → Bool → Tree → Bool
+binds_as_marked set multi tree = marks_each set.rules (marking set.rules tree) && binds_before_use set multi [] [] (marking set.rules tree)
+
+-- so does the judge of binding before use
+abbrev pub BindingJudgeIsExact : Type 0
+BindingJudgeIsExact =
+    (set : SiteSet) (multi : Bool) (tree : Tree) → IsTrue (returns_apart set.rules) → Decides (binds_as_marked set multi tree) (BindsBeforeUse set multi tree)
 
 -- where the greatest tests are made, nowhere would an open test cover more rules
 abbrev pub BestTreesShareMost : Type 0

@@ -4,7 +4,7 @@
 //! `proofs/`.
 #![tactic(auto)]
 
-ghost use Rattle.isle_laws_trees.specs.BestLaws.{OpenTestsAreListed, BestTreesShareMost, SitesAreTestedOnce, StepsAreFew, StepsMakeBestTrees, JudgeIsExact, TreeJudgeIsExact};
+ghost use Rattle.isle_laws_trees.specs.BestLaws.{OpenTestsAreListed, BestTreesShareMost, SitesAreTestedOnce, StepsAreFew, StepsMakeBestTrees, JudgeIsExact, TreeJudgeIsExact, BindingJudgeIsExact};
 ghost use Rattle.isle_laws_trees.specs.Scores.{ScoresAreOrdered, OneTestIsGreatest};
 ghost use Rattle.isle_model.specs.trees.WellBuilt.{BestTreesAreSound};
 ghost use Rattle.isle_laws_trees.specs.BuiltLaws.{BestTreesOfBuiltSetsAreSound, BestTreesBindBeforeUse, BestTreesCollectTheBag};
@@ -71,6 +71,12 @@ pub fn tree_judge_is_exact()
     ensures { TreeJudgeIsExact }
 {}
 
+/// Likewise the judge of binding before use passes a tree exactly where it binds each site before it is used.
+#[tactic(auto, using(crate::proofs::binding::Judged::binding_judge_is_exact_lem))]
+pub fn binding_judge_is_exact()
+    ensures { BindingJudgeIsExact }
+{}
+
 /// A best tree of a well built set is sound.
 #[tactic(auto, using(crate::proofs::Soundness::best_trees_are_sound_lem))]
 pub fn best_trees_are_sound()
@@ -84,8 +90,8 @@ pub fn best_trees_of_built_sets_are_sound()
     built_sets_are_well_built();
 }
 
-/// A best tree of a set that is built of elaborated rules binds each site before it is used, and none twice in one scope but for
-/// the calls of loops.
+/// A best tree of a set that is built of elaborated rules binds each site before it is used, also the impure calls of a rule before
+/// its return, and none twice in one scope but for the calls of loops.
 pub fn best_trees_bind_before_use()
     ensures { BestTreesBindBeforeUse }
 {}

@@ -14,3 +14,4 @@ pub mod Tables
 pub mod TermTable
 pub mod TypeTable
 pub mod Typings
+pub mod Visitable

@@ -64,9 +64,9 @@ sample_served = (
     bools = λ b ty c. absurd (false≢true (all_given (bool_term b ty) c));
     ints = λ z ty c. serves_ints z ty (all_given (int_term z ty) c);
     prims = λ name c. absurd (false≢true (all_given (prim_term name) c));
-    extractors = λ t s v c h. absurd (false≢true (all_given (extractor_call t s) c));
-    pures = λ t ss vs c h. absurd (false≢true (all_given (constructor_call t ss 0) c));
-    impures = λ r t before ss vs i matched made h.
+    extractors = λ k t s v c h. absurd (false≢true (all_given (extractor_call t s) c));
+    pures = λ k t ss vs c h. absurd (false≢true (all_given (constructor_call t ss 0) c));
+    impures = λ k r t before ss vs i matched made gave h.
         absurd (false≢true (all_given (constructor_call t ss (suc before))
         (asked_made program rules r (constructor_call t ss (suc before)) (in_from_contains rules r i)
         (in_from_contains (demands_of program r).made (constructor_call t ss (suc before)) made))));

@@ -120,7 +120,7 @@ module _ (p : Program) (before : List SiteTerm) (r : TypedRule) (built : is_buil
       (sym (cond-false (nat_lt most_sites (length (sites_reached p before r))) (Some sites_limit) (slice_get (limits_of_shape p r) 0) few_reached) ∙ no_limit)
 
   -- the sites that are reached are those of the closed demands
-  reached_closed : sites_reached p before r ≡ (closed before (demands_of p r)).made
+  pub reached_closed : sites_reached p before r ≡ (closed before (demands_of p r)).made
   reached_closed =
       cond-false (walked_rule p r).ended (with_sites before (made_walking p (walked_rule p r))) (sites_wanted p before r) (rule_goes_on p r shape_passes_none)
       ∙ cond-false (is_unreachable (demands_of p r)) (with_sites before (demands_of p r).made) (closed before (demands_of p r)).made is_reached

@@ -1,46 +1,20 @@
 -- A meaning that serves the rules of a term answers the sites of each of them, under its picks.
 use Rattle.std.proofs.Common.{◌≡◌, ℕ, ◌<◌, Bool, true, false, List, [], ◌∷◌, map, length, Option, Some, None, slice_get, IsSomeAnd, Contains, IsTrue, flat_map, refl, sym, ap, subst, ◌∙◌, inl, inr}
 use Rattle.std.proofs.lemmas.Bool.{cases_Bool, cond-true, cond-false}
-use Rattle.isle_model.specs.rules.Values.{Value, of_struct, Values, well_typed}
-use Rattle.isle_model.specs.rules.Meaning.{Content, one, many, Contents, contents, Meaning, bool_literal, int_literal, literal_value, constant_value, extractor_answer, pure_answer}
+use Rattle.isle_model.specs.rules.Values.{Value, well_typed}
+use Rattle.isle_model.specs.rules.Meaning.{Content, many, Contents, contents, Meaning, bool_literal, int_literal, literal_value, constant_value, extractor_answer, pure_answer}
 use Rattle.isle_model.specs.rules.Outcome.{then_option}
 use Rattle.isle_model.specs.rules.Program.{Program, kind}
 use Rattle.isle_model.specs.rules.Typed.{TypedRule}
 use Rattle.isle_model.specs.rules.Picks.{Pick, place_of, picked, site_content, IsPick}
-use Rattle.isle_model.specs.sites.Sites.{SiteTerm, bool_term, int_term, prim_term, extractor_call, constructor_call, pick_of, struct_made, SiteTerms}
+use Rattle.isle_model.specs.sites.Sites.{SiteTerm, bool_term, int_term, prim_term, extractor_call, constructor_call, pick_of}
 use Rattle.isle_model.specs.sites.Demands.{demands_of, site_term_eq}
-use Rattle.isle_model.specs.sites.Serves.{asked_by, asked, constant_site, constant_type, typed_as, fits_extractor, fits_constructor, Holds, holds_bool, holds_int, holds_prim, holds_argument, holds_extractor, holds_pure, holds_impure, holds_pick, holds_variant, holds_variant_field, holds_struct, holds_struct_field, holds_some, holds_part, holds_tuple_part, HoldsAll, Serves}
+use Rattle.isle_model.specs.sites.Serves.{asked_by, asked, constant_site, constant_type, typed_as, fits_extractor, fits_constructor, Serves}
 use Rattle.isle_model.proofs.Elements.{In, in_from_contains, contains_from_in, in_left, in_flat_map}
 use Rattle.isle_model.proofs.SameSites.{term_means, same_term}
 use Rattle.isle_model.proofs.Members.{get_within}
-use Rattle.isle_laws_runs.proofs.picks.Held.{contents_are_held_lem}
 use Rattle.isle_laws_demands.proofs.closure.Classes.{in_with_sites}
 use Rattle.isle_laws_demands.proofs.matching.Contents.{Given, content_of, IsValueOf, Fits, IsAnswered}
-
--- arguments' values are held
-abbrev HoldsParts : Meaning → List Value → SiteTerm → Content → Type 0
-HoldsParts m args (struct_made ty ss) (one (of_struct u vs)) = HoldsAll m args ss vs
-HoldsParts m args _ _ = Unit {0}
-
-parts_held : (m : Meaning) (args : List Value) (s : SiteTerm) (c : Content) → Holds m args s c → HoldsParts m args s c
-parts_held m args _ _ (holds_bool e) = tt
-parts_held m args _ _ (holds_int e) = tt
-parts_held m args _ _ (holds_prim e) = tt
-parts_held m args _ _ (holds_argument e) = tt
-parts_held m args _ _ (holds_extractor a e) = tt
-parts_held m args _ _ (holds_pure a e) = tt
-parts_held m args _ _ (holds_impure a e) = tt
-parts_held m args _ _ (holds_pick a e) = tt
-parts_held m args _ _ (holds_variant a) = tt
-parts_held m args _ _ (holds_variant_field a e) = tt
-parts_held m args _ _ (holds_struct a) = a
-parts_held m args _ _ (holds_struct_field a e) = tt
-parts_held m args _ _ (holds_some a) = tt
-parts_held m args _ _ (holds_part a) = tt
-parts_held m args _ _ (holds_tuple_part a e) = tt
-
-pub struct_holds : (m : Meaning) (args : List Value) (ty : ℕ) (ss : SiteTerms) (vs : Values) → Holds m args (struct_made ty ss) (one (of_struct ty vs)) → HoldsAll m args ss vs
-struct_holds m args ty ss vs h = parts_held m args (struct_made ty ss) (one (of_struct ty vs)) h
 
 -- what is there
 value_there : (g : Given) (ty : ℕ) (o : Option Value) → IsSomeAnd o (λ v. IsTrue (well_typed g.program.types ty v)) → IsValueOf g ty o
@@ -105,11 +79,10 @@ module _ (p : Program) (m : Meaning) (args : List Value) (r : TypedRule) (k : Pi
       bools = λ b ty i. value_there g ty (literal_value m (bool_literal b ty)) (h.bools b ty (ask (bool_term b ty) i));
       ints = λ z ty i. value_there g ty (literal_value m (int_literal z ty)) (h.ints z ty (ask (int_term z ty) i));
       prims = λ name ty i e. constant_there g ty (constant_type p name) (constant_value m name) e (h.prims name (ask (prim_term name) i));
-      extractors = λ t s v i e. fits_there (extractor_answer m t v) (fits_extractor p t (kind p t)) (h.extractors t s v (ask (extractor_call t s) i) (contents_are_held_lem m args k s (one v) e));
+      extractors = λ t s v i e. fits_there (extractor_answer m t v) (fits_extractor p t (kind p t)) (h.extractors k t s v (ask (extractor_call t s) i) e);
       pures = λ t ss vs i e.
           fits_there (pure_answer m t vs) (fits_constructor p t (kind p t))
-          (h.pures t ss vs (ask (constructor_call t ss 0) i)
-          (struct_holds m args 0 ss vs (contents_are_held_lem m args k (struct_made 0 ss) (one (of_struct 0 vs)) (ap (λ o. then_option o (λ us. Some (one (of_struct 0 us)))) e))));
+          (h.pures k t ss vs (ask (constructor_call t ss 0) i) e);
       picks = call_picked;
     }
       where

@@ -1,18 +1,18 @@
 -- Taking a rule of a built set gives its right side's outcome.
-use Rattle.std.proofs.Common.{◌≡◌, ℕ, zero, suc, ◌<◌, Bool, true, false, List, [], ◌∷◌, map, length, Option, Some, None, slice_get, is_some, IsSomeAnd, Contains, IsTrue, refl, sym, ap, subst, ◌∙◌, inl, inr, arith}
+use Rattle.std.proofs.Common.{◌≡◌, ℕ, zero, suc, ◌<◌, Bool, true, false, List, [], ◌∷◌, map, length, take, Option, Some, None, slice_get, is_some, IsSomeAnd, All, Contains, IsTrue, refl, sym, ap, subst, ◌∙◌, inl, inr, arith}
 use Rattle.std.proofs.lemmas.List.Elements.{Contains-append_left, Contains-append_cases}
 use Rattle.isle_model.specs.lists.Syntax.{Definition}
 use Rattle.isle_model.specs.lists.Elaborated.{TypedRules}
-use Rattle.isle_model.specs.rules.Values.{Value, of_struct, Values, args_well_typed}
-use Rattle.isle_model.specs.rules.Meaning.{Content, one, Meaning, impure_answer}
-use Rattle.isle_model.specs.rules.Outcome.{Outcome, then_option}
+use Rattle.isle_model.specs.rules.Values.{Value, Values, args_well_typed}
+use Rattle.isle_model.specs.rules.Meaning.{Content, Meaning, impure_answer}
+use Rattle.isle_model.specs.rules.Outcome.{Outcome}
 use Rattle.isle_model.specs.rules.Matching.{Vars}
 use Rattle.isle_model.specs.rules.RightSide.{right_side}
 use Rattle.isle_model.specs.rules.Program.{Program, kind, is_pure, is_multi, is_partial, rules_of, arg_types}
 use Rattle.isle_model.specs.rules.CalledTerms.{CallsAlone}
 use Rattle.isle_model.specs.rules.Typed.{TypedRule}
-use Rattle.isle_model.specs.rules.Picks.{Pick, picks, SitedVars, values_in, matches_under, right_side_under, site_content}
-use Rattle.isle_model.specs.sites.Sites.{Site, constructor_site, SetRule, SiteSet, constructor_call, struct_made, some_part, SiteTerm, SiteTerms, each_term, unfold_site}
+use Rattle.isle_model.specs.rules.Picks.{Pick, picks, SitedVars, values_in, matches_under, right_side_under, site_content, HasContent}
+use Rattle.isle_model.specs.sites.Sites.{Site, constructor_site, SetRule, SiteSet, constructor_call, some_part, SiteTerm, SiteTerms, each_term, unfold_site}
 use Rattle.isle_model.specs.sites.Demands.{demands_of, visit_expr, visit_rule}
 use Rattle.isle_model.specs.sites.Overlap.{BuiltRule, built_rules}
 use Rattle.isle_model.specs.sites.RuleSets.{IsRuleOf, IsBuilt}
@@ -26,13 +26,12 @@ use Rattle.isle_model.specs.claims.SetMeanings.{AreOneRule, OfBuiltSets, returni
 use Rattle.isle_model.proofs.Elements.{In, in_from_contains, contains_from_in, in_slice, map_in, none_some, some_is}
 use Rattle.isle_model.proofs.Members.{nothing_in, in_head, in_alone, get_within, from_flat_map}
 use Rattle.isle_laws_runs.specs.WithoutMulti.{without_sites}
-use Rattle.isle_laws_runs.proofs.picks.Held.{contents_are_held_lem}
 use Rattle.isle_laws_runs.proofs.picks.NoIterators.{calls_no_multi}
 use Rattle.isle_laws_runs.proofs.picks.OnePick.{bag_as_plain_lem}
 use Rattle.isle_laws_runs.proofs.picks.Plain.{matches_as_plain_lem, ends_as_plain_lem}
 use Rattle.isle_laws_runs.proofs.runs.Below.{below_within}
 use Rattle.isle_laws_runs.proofs.runs.Contents.{unfolded_layer}
-use Rattle.isle_laws_runs.proofs.taking.ByCalls.{taken_follows}
+use Rattle.isle_laws_runs.proofs.taking.ByCalls.{ComesAfterValues, taken_follows}
 use Rattle.isle_laws_runs.proofs.taking.CallsIn.{CallsOnly, Known, InOrder, order_listed, known_made, below_calls}
 use Rattle.isle_laws_runs.proofs.taking.Followed.{follow, result_after}
 use Rattle.isle_laws_demands.specs.MatchLaws.{IsTried}
@@ -41,7 +40,7 @@ use Rattle.isle_laws_demands.proofs.visits.Declared.{program_not_both}
 use Rattle.isle_laws_demands.proofs.visits.Once.{one_number}
 use Rattle.isle_laws_demands.proofs.visits.RightSides.{expr_quiet}
 use Rattle.isle_laws_demands.proofs.visits.Sets.{in_from_all}
-use Rattle.isle_laws_demands.proofs.matching.Answered.{struct_holds, fits_there, is_answered}
+use Rattle.isle_laws_demands.proofs.matching.Answered.{fits_there, is_answered}
 use Rattle.isle_laws_demands.proofs.matching.BuiltMatches.{one_rule, built_listed}
 use Rattle.isle_laws_demands.proofs.matching.Contents.{Given, values_of, Fits}
 use Rattle.isle_laws_demands.proofs.matching.Rules.{before_result}
@@ -55,10 +54,11 @@ use Rattle.isle_laws_demands.proofs.outcomes.RightSides.{finished_impure, RightF
 some_fits : (o : Option Content) (f : Content → Bool) → Fits o f → IsSomeAnd o (λ c. IsTrue (f c))
 some_fits o f a = subst (λ q. IsSomeAnd q (λ c. IsTrue (f c))) (sym a.there) a.right
 
--- each impure call that a rule's visit met is answered, where its arguments have values
+-- each impure call that a rule's visit met is answered, where those before it gave values and its arguments have some
 abbrev AreServed : Given → TypedRule → Type 0
 AreServed g r =
-    (t : ℕ) (ss : SiteTerms) (i : ℕ) (vs : Values) → Known (demands_of g.program r).impure (constructor_call t ss (suc i)) → In (demands_of g.program r).made (constructor_call t ss (suc i)) → values_of g ss ≡ Some vs
+    (t : ℕ) (ss : SiteTerms) (i : ℕ) (vs : Values) → Known (demands_of g.program r).impure (constructor_call t ss (suc i)) → In (demands_of g.program r).made (constructor_call t ss (suc i))
+    → All (HasContent g.meaning g.args g.pick) (take i (demands_of g.program r).impure) → values_of g ss ≡ Some vs
     → Fits (impure_answer g.meaning t i) (fits_constructor g.program t (kind g.program t))
 
 module _ (e : TypesRead) (defs : List Definition) (expand : Bool) (rules : TypedRules) (t : ℕ) (set : SiteSet) (h : IsElaborated e defs expand rules) (b : IsBuilt (program_of e defs rules.rules) t set)
@@ -106,30 +106,37 @@ module _ (e : TypesRead) (defs : List Definition) (expand : Bool) (rules : Typed
           | inr i ↦ subst (λ s. CallsOnly (Known us) (U s)) (in_alone r.result x i) (subst (CallsOnly (Known us)) (sym q.result.1) f.only)
         ]
 
-    answered_here : (s : Site) (u : ℕ) → slice_get set.sites u ≡ Some s → CallsOnly (Known us) (U u) → IsAnsweredSite p n rs w k once_served s
-    answered_here (constructor_site t' ss zero) u at c = tt
-    answered_here (constructor_site t' ss (suc i)) u at c =
+    -- an impure call of the set comes after calls that gave values
+    abbrev IsReached : Site → Type 0
+    IsReached s = (t' : ℕ) (ss : List ℕ) (i : ℕ) → s ≡ constructor_site t' ss (suc i) → All (HasContent m args k) (take i us)
+
+    answered_here : (s : Site) (u : ℕ) → slice_get set.sites u ≡ Some s → CallsOnly (Known us) (U u) → IsReached s → IsAnsweredSite p n rs w k once_served s
+    answered_here (constructor_site t' ss zero) u at c after = tt
+    answered_here (constructor_site t' ss (suc i)) u at c after =
         λ vs v.
         let l = unfolded_layer set.sites b.sources u (constructor_site t' ss (suc i)) at in
         let known = (subst (CallsOnly (Known us)) l c).0 in
-        some_fits (impure_answer m t' i) (fits_constructor p t' (kind p t')) (answers t' (each_term U ss) i vs known (known_made (demands_of p k'.rule).made us f.order t' (each_term U ss) (suc i) known) v)
-    answered_here _ u at c = tt
+        some_fits (impure_answer m t' i) (fits_constructor p t' (kind p t')) (answers t' (each_term U ss) i vs known (known_made (demands_of p k'.rule).made us f.order t' (each_term U ss) (suc i) known) (after t' ss i refl) v)
+    answered_here _ u at c after = tt
 
-    answered_below : (s : ℕ) → Contains (all_below set.sites (return_uses (Some r))) s → IsAnsweredBelow p n rs w k once_served s
-    answered_below s c u i =
+    answered_below : (s : ℕ) → Contains (all_below set.sites (return_uses (Some r))) s → ComesAfterValues w k (map U r.impure) s → IsAnsweredBelow p n rs w k once_served s
+    answered_below s c after u i =
         let x = from_flat_map (λ y. below (suc y) set.sites y) (return_uses (Some r)) s c in
         let calls = below_calls set.sites b.sources (Known us) (suc s) s (below_calls set.sites b.sources (Known us) (suc x.0) x.0 (number_calls x.0 x.1) s x.2) u i in
         let l = number_known x.0 x.1 in
         let j = below_within set.sites b.sources (suc x.0) x.0 s x.2 in
         let o = below_within set.sites b.sources (suc s) s u i in
-        let z = get_within set.sites u (omega (arith, l, j, o)) in
-        (z.0, z.1, answered_here z.0 u z.1 calls)
+        let z = get_within set.sites u (omega (arith, l, j, o)) in (
+          z.0,
+          z.1,
+          answered_here z.0 u z.1 calls (λ t' ss j e. subst (λ l. All (HasContent m args k) (take j l)) q.impure.1 (after u t' ss j i (z.1 ∙ ap Some e))),
+        )
 
     taken_outcome : (o : Outcome) → IsTakenUnder w k r o → o ≡ right_side_under p m k k'.rule ev
     taken_outcome o taken =
         taken_follows w k b.sources r o taken refl (λ x y l j s. one_number p t set b x y l j s)
-        (λ s c wait there. found_answered p n rs w k once_served s (answered_below s c) wait there)
-        (λ s source c at x s'. unwraps_maybe p n rs w k once_served s source (answered_below s c) at x s')
+        (λ s c after wait there. found_answered p n rs w k once_served s (answered_below s c after) wait there)
+        (λ s source c after at x s'. unwraps_maybe p n rs w k once_served s source (answered_below s c after) at x s')
         (demands_of p k'.rule).made (λ x c. number_known x (Contains-append_left r.impure (r.result ∷ []) x c))
         (subst (InOrder (demands_of p k'.rule).made []) (sym q.impure.1) f.order)
         (subst (λ l. CallsOnly (Known l) (U r.result)) (sym q.impure.1) (subst (CallsOnly (Known us)) (sym q.result.1) f.only))
@@ -186,12 +193,12 @@ taken_lem e defs expand rules t set h b m args typed served apart k' r v o same 
     let pick : Contains (picks p m args k'.rule) [] = subst (λ l. Contains l []) (sym (bag_as_plain_lem p m args k'.rule c).0) (in_head [] []) in
     let sited = with_its_sites (matches_under p m [] k'.rule args) v (matches_as_plain_lem p m [] k'.rule args c ∙ matched) in
     let listed = built_listed p t k' (contains_from_in (built_rules p t) k' (in_slice (built_rules p t) same.place k' same.typed)) in
-    let answers : (t' : ℕ) → IsServedCall g (visit_rule p k'.rule).visit t' = λ t' ss i vs made held.
+    let answers : (t' : ℕ) → IsServedCall g (visit_rule p k'.rule).visit t' = λ t' ss i vs made gave held.
     fits_there (impure_answer m t' i) (fits_constructor p t' (kind p t'))
-    (served.impures k'.rule t' i ss vs listed (ap is_some matched) (contains_from_in (demands_of p k'.rule).made (constructor_call t' ss (suc i)) made)
-    (struct_holds m args 0 ss vs (contents_are_held_lem m args [] (struct_made 0 ss) (one (of_struct 0 vs)) (ap (λ x. then_option x (λ y. Some (one (of_struct 0 y)))) held)))) in
+    (served.impures [] k'.rule t' i ss vs listed (ap is_some matched) (contains_from_in (demands_of p k'.rule).made (constructor_call t' ss (suc i)) made)
+    gave held) in
     rule_taken e defs expand rules t set h b m args typed served apart [] k' r same pick sited.0 sited.1
     (calls_such (λ t. is_multi p t ≡ false) (MayBeCalled g (visit_rule p k'.rule).visit) (λ t' i. inr (i, answers t')) k'.rule.rhs c.right)
-    (λ t' ss i vs known made held. answers t' ss i vs made held) o taken
+    (λ t' ss i vs known made gave held. answers t' ss i vs made gave held) o taken
     ∙ ends_as_plain_lem p m [] k'.rule sited.0 c
     ∙ ap (right_side p m k'.rule) sited.2

@@ -1,10 +1,11 @@
 -- The right side of a rule that matches follows its impure calls in order, then its result.
-use Rattle.std.proofs.Common.{◌≡◌, ℕ, zero, suc, Bool, true, false, List, [], ◌∷◌, ◌++◌, length, Some, refl, sym, ap, subst, ◌∙◌, inl, inr}
+use Rattle.std.proofs.Common.{◌≡◌, ℕ, zero, suc, Bool, true, false, List, [], ◌∷◌, ◌++◌, length, Some, All, refl, sym, ap, subst, ◌∙◌, inl, inr}
+use Rattle.std.proofs.lemmas.List.Elements.{All-nil}
 use Rattle.isle_model.specs.rules.Values.{args_well_typed}
 use Rattle.isle_model.specs.rules.Program.{arg_types, is_partial}
 use Rattle.isle_model.specs.rules.CalledTerms.{CallsAlone}
 use Rattle.isle_model.specs.rules.Typed.{TypedRule}
-use Rattle.isle_model.specs.rules.Picks.{SitedVars, matches_under, eval_under, right_side_under}
+use Rattle.isle_model.specs.rules.Picks.{SitedVars, matches_under, eval_under, right_side_under, HasContent}
 use Rattle.isle_model.specs.trees.Run.{from_value}
 use Rattle.isle_model.specs.sites.Sites.{Constraint, SiteTerm, bool_term, int_term, prim_term, argument, extractor_call, constructor_call, pick_of, variant_made, variant_field, struct_made, struct_field, some_made, some_part, tuple_part, no_site, SiteTerms, no_site_term, site_term_and}
 use Rattle.isle_model.specs.sites.Demands.{demands_of, result_of, visit_start, Valued, visit_expr, visit_args, finished, visit_rule}
@@ -22,7 +23,7 @@ use Rattle.isle_laws_demands.proofs.matching.TypedParts.{HasTypedParts}
 use Rattle.isle_laws_demands.proofs.matching.Variables.{named}
 use Rattle.isle_laws_demands.proofs.outcomes.Evals.{AreWorth, MayBeCalled, follow_in, expr_came, outcome_follows}
 use Rattle.isle_laws_demands.proofs.outcomes.Ordered.{IsPureOrSingle, VarsKnownTo, IsOrderly, expr_ordered}
-use Rattle.isle_laws_demands.proofs.outcomes.Quiet.{then_keeps_calls, args_keep, iflets_keep}
+use Rattle.isle_laws_demands.proofs.outcomes.Quiet.{adds_kept, then_keeps_calls, args_keep, iflets_keep}
 
 -- 1. no impure call stands in what may be tested
 pure_where : (n : ℕ) (P : Type 0) → IsPureCall true n → WhereImpure n P
@@ -90,7 +91,9 @@ right_follows g r f y t fields neither h may e i =
     let b = is_partial p r.root_term in
     let keeps = then_keeps_calls visit_start u w (args_keep p 0 r.args visit_start) (iflets_keep p r.iflets u y) in
     let past = rule_past g r a y t fields neither h in
-    let came = expr_came g z h neither r.rhs w a.vars e [] a.right may (bound_worth g a.vars e w.vars (past.agree e i)) (sym keeps.count) (finished_grown b x) in
+    let came = expr_came g z h neither r.rhs w a.vars e [] a.right may (bound_worth g a.vars e w.vars (past.agree e i))
+    (record { made = sym keeps.count; count = ap length keeps.impure ∙ sym keeps.count; gave = subst (All (HasContent g.meaning g.args g.pick)) (sym keeps.impure) (All-nil (HasContent g.meaning g.args g.pick)) })
+    (finished_grown b x) (adds_kept x.visit z (finished_impure b x)) in
     let good = (sides_past p r a y).iflets.good in
     let known : VarsKnownTo a.vars w = λ n k. tested_calls (Known w.demands.impure) w.demands.constraints w.demands.iterators (named w.vars n) (good n k) in
     let quiet : IsOrderly p z w = record { count = ap length keeps.impure ∙ sym keeps.count; order = subst (InOrder z.demands.made []) (sym keeps.impure) tt } in

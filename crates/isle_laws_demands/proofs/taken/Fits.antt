@@ -11,19 +11,17 @@ use Rattle.isle_model.specs.rules.Outcome.{then_option}
 use Rattle.isle_model.specs.rules.Program.{Program, a_call, kind}
 use Rattle.isle_model.specs.rules.Picks.{Pick, picked, place_of, part_of_some, field_of_variant, field_of_struct, site_content, site_values, call_answer}
 use Rattle.isle_model.specs.rules.Typed.{TypedRule}
-use Rattle.isle_model.specs.sites.Sites.{Site, bool_site, int_site, prim_site, argument_site, extractor_site, constructor_site, iterator_site, make_variant_site, match_variant_site, make_struct_site, extract_struct_site, make_some_site, match_some_site, match_tuple_site, SiteTerm, variant_field, struct_made, struct_field, SiteTerms, each_term, layer, unfold_site, sources_of, sources_at}
-use Rattle.isle_model.specs.sites.Serves.{Serves, asked, fits_one, fits_answer, fits_extractor, fits_constructor, constant_type, typed_as, term_args, term_results, HoldsAll}
+use Rattle.isle_model.specs.sites.Sites.{Site, bool_site, int_site, prim_site, argument_site, extractor_site, constructor_site, iterator_site, make_variant_site, match_variant_site, make_struct_site, extract_struct_site, make_some_site, match_some_site, match_tuple_site, SiteTerm, variant_field, struct_field, each_term, layer, unfold_site, sources_of, sources_at}
+use Rattle.isle_model.specs.sites.Serves.{Serves, asked, fits_one, fits_answer, fits_extractor, fits_constructor, constant_type, typed_as, term_args, term_results}
 use Rattle.isle_model.specs.trees.Places.{waits, below}
 use Rattle.isle_model.specs.trees.Run.{World, as_value, from_value, part_at}
 use Rattle.isle_model.specs.trees.Collects.{content_at, IsPureSite}
 use Rattle.isle_model.proofs.Elements.{none_some, some_is}
 use Rattle.isle_model.proofs.Members.{in_head, in_tail}
-use Rattle.isle_laws_runs.proofs.picks.Held.{contents_are_held_lem}
 use Rattle.isle_laws_runs.proofs.runs.Below.{IsPureBelow, below_itself, below_source, below_enough}
 use Rattle.isle_laws_runs.proofs.runs.Contents.{SourcesBefore, sources_in, content_layer, unfolded_layer}
 use Rattle.isle_laws_demands.proofs.matching.Contents.{is_value}
 use Rattle.isle_laws_demands.proofs.taken.Forms.{Form, form, a_value, IsCall, term_count, IsOfForm, AreValues}
-use Rattle.isle_laws_demands.proofs.matching.Answered.{struct_holds}
 use Rattle.isle_laws_demands.proofs.visits.Patterns.{from_then}
 
 -- 1. values that have as many fields as their variants and structs
@@ -312,9 +310,6 @@ module _ (p : Program) (n : ℕ) (rs : List TypedRule) (w : World) (k : Pick) (h
             ∙ ap (λ o. then_option o (λ us. Some (value_and v.0 us))) r.1,
       )
 
-  all_hold : (ss : SiteTerms) (vs : Values) → site_values w.meaning w.args k ss ≡ Some vs → HoldsAll w.meaning w.args ss vs
-  all_hold ss vs e = struct_holds w.meaning w.args 0 ss vs (contents_are_held_lem w.meaning w.args k (struct_made 0 ss) (one (of_struct 0 vs)) (ap (λ o. then_option o (λ us. Some (one (of_struct 0 us)))) e))
-
   call_fits : (o : Option Content) (f : Content → Bool) → IsSomeAnd o (λ c. IsTrue (f c)) → (c : Content) → o ≡ Some c → f c ≡ true
   call_fits o f s c e = subst (λ x. IsSomeAnd x (λ y. IsTrue (f y))) e s
 
@@ -332,11 +327,11 @@ module _ (p : Program) (n : ℕ) (rs : List TypedRule) (w : World) (k : Pick) (h
       subst (λ y. FitsForm p.types y c) (sym f.1) (subst (FitsForm p.types a_value) (sym b.2) (refl, subst (IsWhole p.types) (some_is a.0 b.0 (sym a.1 ∙ b.1)) a.2))
   site_fits (extractor_site t source) pure ask fit q f c e =
       let a = from_then (then_option (content_at w k source) as_value) (extractor_answer w.meaning t) c e in
-      let s = h.serves.extractors t (U source) a.0 (only_asked ask) (contents_are_held_lem w.meaning w.args k (U source) (one a.0) (is_value (content_at w k source) a.0 a.1)) in
+      let s = h.serves.extractors k t (U source) a.0 (only_asked ask) (is_value (content_at w k source) a.0 a.1) in
       subst (λ y. FitsForm p.types y c) (sym f.2) (extractor_fits p t f.0 c (call_fits (extractor_answer w.meaning t a.0) (fits_extractor p t (kind p t)) s c a.2))
   site_fits (constructor_site t ss zero) pure ask fit q f c e =
       let a = from_then (site_values w.meaning w.args k (each_term U ss)) (call_answer w.meaning t 0) c e in
-      let s = h.serves.pures t (each_term U ss) a.0 (only_asked ask) (all_hold (each_term U ss) a.0 a.1) in
+      let s = h.serves.pures k t (each_term U ss) a.0 (only_asked ask) a.1 in
       subst (λ y. FitsForm p.types y c) (sym f.2) (constructor_fits p t f.0 c (call_fits (pure_answer w.meaning t a.0) (fits_constructor p t (kind p t)) s c a.2))
   site_fits (constructor_site t ss (suc i)) pure ask fit q f c e =
       let a = from_then (site_values w.meaning w.args k (each_term U ss)) (call_answer w.meaning t (suc i)) c e in
@@ -404,11 +399,11 @@ module _ (p : Program) (n : ℕ) (rs : List TypedRule) (w : World) (k : Pick) (h
       let a = there_is (content_at w k source) (t source (in_head source [])) in
       let v = the_value p.types a.0 (fit source (in_head source []) a_value f.1 a.0 a.1) in
       let e : content_at w k source ≡ Some (one v.0) = a.1 ∙ ap Some v.1 in
-      let s = some_and (extractor_answer w.meaning x v.0) _ (h.serves.extractors x (U source) v.0 (only_asked ask) (contents_are_held_lem w.meaning w.args k (U source) (one v.0) e)) in
+      let s = some_and (extractor_answer w.meaning x v.0) _ (h.serves.extractors k x (U source) v.0 (only_asked ask) e) in
       ap (λ o. is_some (then_option (then_option o as_value) (extractor_answer w.meaning x))) e ∙ ap is_some s.1
   site_there (constructor_site x ss zero) pure wait ask fit t q f =
       let a = values_there ss fit f.1 t in
-      let s = some_and (pure_answer w.meaning x a.0) _ (h.serves.pures x (each_term U ss) a.0 (only_asked ask) (all_hold (each_term U ss) a.0 a.1)) in
+      let s = some_and (pure_answer w.meaning x a.0) _ (h.serves.pures k x (each_term U ss) a.0 (only_asked ask) a.1) in
       ap (λ o. is_some (then_option o (call_answer w.meaning x 0))) a.1 ∙ ap is_some s.1
   site_there (constructor_site x ss (suc i)) pure wait ask fit t q f =
       let a = values_there ss fit f.1 t in

@@ -19,8 +19,7 @@ use Rattle.isle_model.specs.sites.Serves.{asked_by, asked, constant_site, typed_
 use Rattle.isle_model.specs.claims.Environments.{TypesRead, IsElaborated, program_of}
 use Rattle.isle_model.specs.trees.Places.{is_in, joins_in, below, all_below, waits, each_field, fields_of}
 use Rattle.isle_model.specs.trees.Run.{World, all_one, where_constant, content_fields, world_of}
-use Rattle.isle_model.specs.trees.Collects.{content_at, meets}
-use Rattle.isle_model.specs.trees.SetRuns.{IsPureAt}
+use Rattle.isle_model.specs.trees.Collects.{content_at, meets, IsPureAt}
 use Rattle.isle_model.proofs.Elements.{In, in_from_contains, contains_from_in, in_right, in_flat_map, in_any, any_in, none_some, some_is}
 use Rattle.isle_model.proofs.Members.{in_head, in_alone, all_members, from_flat_map}
 use Rattle.isle_model.proofs.Members as members
@@ -275,16 +274,17 @@ module _ (e : TypesRead) (defs : List Definition) (expand : Bool) (rules : Typed
       (g.0, g.1)
 
   -- 6. sites that wait for nothing
-  pure_below : (s : ℕ) → All (IsPureAt set.sites) (all_below set.sites (s ∷ [])) → IsPureBelow set.sites s
-  pure_below s f u i = All-contains (IsPureAt set.sites) (all_below set.sites (s ∷ [])) u f (members.in_flat_map (λ x. below (suc x) set.sites x) (s ∷ []) s u (in_head s []) i)
-
-  found_there : (s : ℕ) → IsPureBelow set.sites s → waits (slice_get set.sites s) ≡ false → All (λ a. IsTrue (is_some (content_at w k a))) (sources_at set.sites s) → IsTrue (is_some (content_at w k s))
-  found_there s pure wait f = found p n rs w k is_served s pure wait (λ a c. All-contains (λ x. IsTrue (is_some (content_at w k x))) (sources_at set.sites s) a f c)
+  pub found_there : (s : ℕ) → All (IsPureAt set.sites) (all_below set.sites (s ∷ [])) → waits (slice_get set.sites s) ≡ false
+      → All (λ a. IsTrue (is_some (content_at w k a))) (sources_at set.sites s) → IsTrue (is_some (content_at w k s))
+  found_there s pure wait f =
+      found p n rs w k is_served s
+      (λ u i. All-contains (IsPureAt set.sites) (all_below set.sites (s ∷ [])) u pure (members.in_flat_map (λ x. below (suc x) set.sites x) (s ∷ []) s u (in_head s []) i)) wait
+      (λ a c. All-contains (λ x. IsTrue (is_some (content_at w k x))) (sources_at set.sites s) a f c)
 
 pub served_sets_serve_tests_lem : ServedSetsServeTests
 served_sets_serve_tests_lem e defs expand rules t set h b m args typed served apart = record {
   sites = refl;
-  found = λ s pure wait f. found_there e defs expand rules t set h b m args typed served apart [] s (pure_below e defs expand rules t set h b m args typed served apart [] s pure) wait f;
+  found = λ s pure wait f. found_there e defs expand rules t set h b m args typed served apart [] s pure wait f;
   values = λ r a c x i j z. equal_value e defs expand rules t set h b m args typed served apart [] r i a c j x z;
   fields = λ r s d c cs i j x y. fields_counted e defs expand rules t set h b m args typed served apart [] s d (is_asked e defs expand rules t set h b m args typed served apart [] r i s d j) c cs x y;
   apart = λ r q s d f i j x y u v. one_constraint e defs expand rules t set h b m args typed served apart [] s d f

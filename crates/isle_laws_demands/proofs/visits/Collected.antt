@@ -1,21 +1,22 @@
 -- Built sets of a multi term whose rules make no impure call and leave no multi call unused meet what collecting asks.
-use Rattle.std.proofs.Common.{◌≡◌, ℕ, zero, suc, ◌==◌, ◌<◌, true, List, [], ◌∷◌, ◌++◌, map, Some, slice_get, length, flat_map, IsTrue, refl, sym, ap, ◌∙◌, subst, inl, inr, eqb-true}
+use Rattle.std.proofs.Common.{◌≡◌, ℕ, suc, ◌==◌, ◌<◌, true, List, [], ◌∷◌, ◌++◌, map, slice_get, length, flat_map, IsTrue, refl, sym, ap, ◌∙◌, subst, inl, inr, eqb-true}
 use Rattle.isle_model.specs.lists.Formed.{RulesAreFormed}
 use Rattle.isle_model.specs.claims.Environments.{program_of}
 use Rattle.isle_model.specs.claims.SetMeanings.{BuiltSetsAreCollected}
 use Rattle.isle_model.specs.rules.Program.{Program, rules_of, is_multi}
 use Rattle.isle_model.specs.rules.Typed.{TypedRule}
-use Rattle.isle_model.specs.sites.Sites.{Site, bool_site, int_site, prim_site, argument_site, extractor_site, constructor_site, iterator_site, make_variant_site, match_variant_site, make_struct_site, extract_struct_site, make_some_site, match_some_site, match_tuple_site, Constraint, SetRule, SiteSet, unfold_site}
+use Rattle.isle_model.specs.sites.Sites.{Constraint, SetRule, SiteSet, unfold_site}
 use Rattle.isle_model.specs.sites.Demands.{demands_of, visit_args, visit_start}
 use Rattle.isle_model.specs.sites.DemandedGates.{GatesDemanded, IsPureExpr}
 use Rattle.isle_model.specs.sites.Gates.{gate_demanded}
 use Rattle.isle_model.specs.sites.Overlap.{BuiltRule, built_rules}
 use Rattle.isle_model.specs.sites.RuleSets.{IsRuleOf, IsBuilt}
-use Rattle.isle_model.specs.trees.Collects.{IsPureSite, calls_nothing, HasCollectedResults, sites_of_rule, IsCollectedRule}
+use Rattle.isle_model.specs.trees.Collects.{calls_nothing, HasCollectedResults, sites_of_rule, IsCollectedRule}
 use Rattle.isle_model.specs.trees.Places.{below, all_below}
 use Rattle.isle_laws_lists.specs.TypingLaws.{ListsAgree}
 use Rattle.isle_laws_demands.specs.VisitLaws.{ElaboratedRulesDemandGates}
 use Rattle.isle_model.proofs.Elements.{In, in_from_contains, contains_from_in, in_either, from_flat_map, passed_filter}
+use Rattle.isle_laws_runs.proofs.runs.Collected.{nothing_called}
 use Rattle.isle_laws_demands.proofs.visits.Built.{rule_at, was_built, BuiltGates, built_gates, IsGood, below_good}
 use Rattle.isle_laws_demands.proofs.visits.GoneOver.{none_left, pure_right_side}
 use Rattle.isle_laws_demands.proofs.visits.Once.{sites_stand_once_lem}
@@ -25,23 +26,6 @@ use Rattle.isle_laws_demands.proofs.visits.Sets.{all_from_in, in_from_all, each_
 pub nothing_mapped : {X Y : Type 0} (f : X → Y) (xs : List X) → map f xs ≡ [] → xs ≡ []
 nothing_mapped f [] e = refl
 nothing_mapped f (x ∷ xs) e = cc
-
-pure_calls_nothing : (b : Site) → IsPureSite b → calls_nothing (Some b) ≡ true
-pure_calls_nothing (bool_site x ty) h = refl
-pure_calls_nothing (int_site z ty) h = refl
-pure_calls_nothing (prim_site name) h = refl
-pure_calls_nothing (argument_site i) h = refl
-pure_calls_nothing (extractor_site term source) h = refl
-pure_calls_nothing (constructor_site term sources zero) h = refl
-pure_calls_nothing (constructor_site term sources (suc n)) h = absurd h
-pure_calls_nothing (iterator_site source) h = refl
-pure_calls_nothing (make_variant_site ty variant fields) h = refl
-pure_calls_nothing (match_variant_site source variant field) h = refl
-pure_calls_nothing (make_struct_site ty fields) h = refl
-pure_calls_nothing (extract_struct_site source field) h = refl
-pure_calls_nothing (make_some_site source) h = refl
-pure_calls_nothing (match_some_site source) h = refl
-pure_calls_nothing (match_tuple_site source field) h = refl
 
 -- the rules of a term are built of its typed rules
 root_of_built : (p : Program) (t : ℕ) (b : BuiltRule) → In (built_rules p t) b → b.rule.root_term ≡ t
@@ -99,7 +83,7 @@ module _ (p : Program) (t : ℕ) (f : (r : TypedRule) → In p.rules r → IsSou
     known = all_from_in (λ s. s < length set.sites) (sites_of_rule r) (λ s i. (each_collected s i).known);
     no_calls = nothing_mapped (unfold_site set.sites) r.impure (q.impure.1 ∙ results.no_calls);
     pure = all_from_in (λ s. IsTrue (calls_nothing (slice_get set.sites s))) (all_below set.sites (sites_of_rule r))
-        (λ u i. let k = below_collected u i in subst (λ o. IsTrue (calls_nothing o)) (sym k.there) (pure_calls_nothing k.site k.pure_site));
+        (λ u i. let k = below_collected u i in subst (λ o. IsTrue (calls_nothing o)) (sym k.there) (nothing_called k.site k.pure_site));
     gates = all_from_in (λ s. IsTrue (gate_demanded r (slice_get set.sites s))) (all_below set.sites (sites_of_rule r)) (λ u i. gate_at true set.sites r u (below_collected u i));
   }
 

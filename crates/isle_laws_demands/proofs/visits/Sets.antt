@@ -10,7 +10,8 @@ use Rattle.isle_model.specs.sites.Demands.{demands_of}
 use Rattle.isle_model.specs.trees.Places.{is_in, joins_in, constraint_at, below, all_below, return_uses}
 use Rattle.isle_model.specs.trees.Tests.{match_test, equal_test, loop_test, needs}
 use Rattle.isle_model.specs.sites.Gates.{gate_demanded}
-use Rattle.isle_model.specs.trees.SetRuns.{tested_sites, IsPureAt, IsUnwrap, IsTestedRule, IsTestedSet}
+use Rattle.isle_model.specs.trees.Collects.{IsPureAt}
+use Rattle.isle_model.specs.trees.SetRuns.{tested_sites, IsUnwrap, IsTestedRule, IsTestedSet}
 use Rattle.isle_model.specs.trees.WellBuilt.{tests_site, IsWellBuiltRule, IsWellBuilt}
 use Rattle.isle_model.specs.sites.Overlap.{BuiltRule, built_rules}
 use Rattle.isle_model.specs.lists.Elaborated.{TypedRules}

@@ -1,10 +1,10 @@
 -- What stands below sites: themselves, their sources, and all below those; and what stands below calls without the calls.
-use Rattle.std.proofs.Common.{◌≡◌, ◌⊎◌, ℕ, zero, suc, ◌<◌, ◌≤◌, List, [], ◌∷◌, Contains, flat_map, sym, ap, ◌∙◌, subst, inl, inr, arith}
+use Rattle.std.proofs.Common.{◌≡◌, ◌⊎◌, ℕ, zero, suc, ◌<◌, ◌≤◌, List, [], ◌∷◌, All, Contains, flat_map, sym, ap, ◌∙◌, subst, inl, inr, arith}
 use Rattle.std.proofs.lemmas.Bool.{cases_lt}
 use Rattle.isle_model.specs.sites.Sites.{Site, sources_at}
 use Rattle.isle_model.specs.trees.Places.{below, all_below}
-use Rattle.isle_model.specs.trees.SetRuns.{IsPureAt}
-use Rattle.isle_model.proofs.Members.{nothing_in, in_head, in_tail, in_cases, in_alone, in_flat_map, from_flat_map}
+use Rattle.isle_model.specs.trees.Collects.{IsPureAt}
+use Rattle.isle_model.proofs.Members.{nothing_in, in_head, in_tail, in_cases, in_alone, all_members, in_flat_map, from_flat_map}
 use Rattle.isle_model.proofs.Bags.{flat_map_same}
 use Rattle.isle_laws_runs.proofs.runs.Contents.{SourcesBefore}
 
@@ -29,6 +29,10 @@ module _ (sites : List Site) where
 
   pub all_below_pure : (ss : List ℕ) → ((s : ℕ) → Contains ss s → IsPureBelow sites s) → (u : ℕ) → Contains (all_below sites ss) u → IsPureAt sites u
   all_below_pure ss pure u c = (let r = from_flat_map (λ x. below (suc x) sites x) ss u c in pure r.0 r.1 u r.2)
+
+  -- so is all at and below a single one
+  pub pure_alone : (s : ℕ) → IsPureBelow sites s → All (IsPureAt sites) (all_below sites (s ∷ []))
+  pure_alone s pure = all_members (IsPureAt sites) (all_below sites (s ∷ [])) (all_below_pure (s ∷ []) (λ x c. subst (IsPureBelow sites) (in_alone s x c) pure))
 
 module _ (sites : List Site) (before : SourcesBefore sites) where
   below_more : (n u : ℕ) → u < n → below (suc n) sites u ≡ below n sites u

@@ -7,10 +7,9 @@ use Rattle.isle_model.specs.sites.Sites.{Site, sources_at}
 use Rattle.isle_model.specs.trees.Places.{Around, is_in, waits, is_available, available, is_in_place, below, all_below, each_after, listed_below, bind_order}
 use Rattle.isle_model.specs.rules.Outcome.{Call}
 use Rattle.isle_model.specs.trees.Run.{World, Env, Bound, all_bound, unwrap_failed, no_content_there, bind_site, then_bind, bind_all}
-use Rattle.isle_model.specs.trees.SetRuns.{IsPureAt}
 use Rattle.isle_model.proofs.Members.{nothing_in, in_head, in_tail, in_cases, in_alone, each_passes, all_members, in_flat_map, from_flat_map, member_found}
 use Rattle.isle_model.specs.rules.Picks.{Pick}
-use Rattle.isle_model.specs.trees.Collects.{content_at}
+use Rattle.isle_model.specs.trees.Collects.{content_at, IsPureAt}
 use Rattle.isle_laws_runs.proofs.runs.Contents.{SourcesBefore}
 use Rattle.isle_laws_runs.proofs.runs.Below.{IsPureBelow, pure_deeper, pure_sources}
 use Rattle.isle_laws_runs.proofs.runs.Binding.{content_of, Held, held_as, kept_below, binds_now, keeps_bound, keeps_in_place}

@@ -9,8 +9,7 @@ use Rattle.isle_model.specs.sites.Sites.{Site, bool_site, int_site, prim_site, a
 use Rattle.isle_model.specs.trees.Places.{waits, is_in_place, below}
 use Rattle.isle_model.specs.trees.Run.{World, Env, bound_to, as_value, from_value, part_at, in_place, or_else, used, used_values, all_bound, now_bound, constructed, bind_site}
 use Rattle.isle_model.specs.rules.Picks.{Pick, site_values, call_answer}
-use Rattle.isle_model.specs.trees.Collects.{content_at, IsPureSite}
-use Rattle.isle_model.specs.trees.SetRuns.{IsPureAt}
+use Rattle.isle_model.specs.trees.Collects.{content_at, IsPureSite, IsPureAt}
 use Rattle.isle_model.proofs.Members.{nothing_in, in_head, in_tail, in_cases, from_flat_map}
 use Rattle.isle_laws_runs.proofs.runs.Contents.{SourcesBefore, sources_in, content_layer}
 

@@ -1,5 +1,5 @@
 -- The run of a sound tree of a set of rules that go over no calls chooses by priority.
-use Rattle.std.proofs.Common.{◌≡◌, ℕ, suc, true, false, List, [], ◌∷◌, Some, slice_get, Contains, IsTrue, refl, sym, subst, inl, inr}
+use Rattle.std.proofs.Common.{◌≡◌, ℕ, suc, true, false, List, [], Some, slice_get, Contains, IsTrue, refl, sym, subst, inl, inr}
 use Rattle.std.proofs.lemmas.Bool.{cases_Bool}
 use Rattle.std.proofs.lemmas.Option.{slice_get_within}
 use Rattle.std.proofs.lemmas.List.Elements.{All-contains}
@@ -11,10 +11,10 @@ use Rattle.isle_model.specs.trees.Trees.{Tree, Marked, marks}
 use Rattle.isle_model.specs.trees.Places.{below, all_below}
 use Rattle.isle_model.specs.trees.Run.{World, Trace, at_start, run}
 use Rattle.isle_model.specs.trees.Sound.{ReturnsEach, IsSound}
-use Rattle.isle_model.specs.trees.Collects.{demands_hold}
-use Rattle.isle_model.specs.trees.SetRuns.{tested_sites, IsPureAt, IsTestedRule, IsTestedSet, ServesTests, IsTaken, ChoosesFrom, SoundTreesChoose}
-use Rattle.isle_model.proofs.Members.{nothing_in, in_alone, all_members, some_member, member_from_get, get_from_member, get_within, member_counted, in_flat_map}
-use Rattle.isle_laws_runs.proofs.runs.Below.{IsPureBelow, all_below_pure}
+use Rattle.isle_model.specs.trees.Collects.{demands_hold, IsPureAt}
+use Rattle.isle_model.specs.trees.SetRuns.{tested_sites, IsTestedRule, IsTestedSet, ServesTests, IsTaken, ChoosesFrom, SoundTreesChoose}
+use Rattle.isle_model.proofs.Members.{nothing_in, some_member, member_from_get, get_from_member, get_within, member_counted, in_flat_map}
+use Rattle.isle_laws_runs.proofs.runs.Below.{pure_alone}
 use Rattle.isle_laws_runs.proofs.runs.BindOrders.{Finds}
 use Rattle.isle_laws_runs.proofs.runs.Standing.{IsClear, IsClearSet, ServesUnder, IsGoneOver, At, set_of, holds_here}
 use Rattle.isle_laws_runs.proofs.runs.Finding.{Found, found_left, found_right, next_found, rule_found}
@@ -39,8 +39,7 @@ module _ (w : World) (rules : List SetRule) (built : IsTestedSet (set_of w rules
   clear = record { once = built.once; sources = built.sources; tested = tested_clear; gone_over = λ r known s k. absurd (no_calls s (r, known, k)) }
 
   finds : Finds w []
-  finds s pure n all =
-      served.found s (all_members (IsPureAt w.sites) (all_below w.sites (s ∷ [])) (all_below_pure w.sites (s ∷ []) (λ x c. subst (IsPureBelow w.sites) (in_alone s x c) pure))) n all
+  finds s pure n all = served.found s (pure_alone w.sites s pure) n all
 
   serves : ServesUnder w rules []
   serves = record { found = finds; lists = λ r s c known k e. absurd (no_calls s (r, known, k)); values = served.values; fields = served.fields; apart = served.apart }

@@ -2,7 +2,6 @@
 use Rattle.std.proofs.Common.{◌≡◌, ℕ, zero, suc, ◌+◌, ◌<◌, Bool, true, false, ◌&&◌, List, [], ◌∷◌, ◌++◌, map, flat_map, length, Some, slice_get, Contains, IsTrue, refl, sym, ap, ◌∙◌, subst, arith}
 use Rattle.std.specs.Prelude.{IsPermutation}
 use Rattle.std.proofs.lemmas.Bool.{cond-true, false≢true}
-use Rattle.std.proofs.lemmas.Option.{slice_get_within}
 use Rattle.std.proofs.lemmas.List.{append-nil}
 use Rattle.std.proofs.lemmas.List.Elements.{Contains-append_left, Contains-append_right, All-contains}
 use Rattle.std.proofs.lemmas.List.Sorted.{IsPermutation-refl, IsPermutation-trans}
@@ -21,7 +20,7 @@ use Rattle.isle_model.specs.trees.SetRuns.{tested_sites}
 use Rattle.isle_model.proofs.Bags.{as_numbers, of_numbers}
 use Rattle.isle_model.proofs.Members.{in_head, in_alone, some_member, member_from_get, get_within, in_flat_map}
 use Rattle.isle_model.proofs.Numbers.{none_pass, filters_same}
-use Rattle.isle_laws_runs.proofs.runs.Below.{below_itself, below_within}
+use Rattle.isle_laws_runs.proofs.runs.Below.{pure_alone, below_within}
 use Rattle.isle_laws_runs.proofs.runs.BindOrders.{Finds}
 use Rattle.isle_laws_runs.proofs.runs.Standing.{IsClear, IsClearSet, ServesUnder, IsGoneOver, At, IsReady, wider, set_of, found_at, binds_at, ready_here, holds_here}
 use Rattle.isle_laws_runs.proofs.runs.Steps.{trace, step_runs}
@@ -75,9 +74,7 @@ module _ (w : World) (rules : List SetRule) (built : IsCollectedSet (set_of w ru
   result_clear r known = site_clear r known r.result (Contains-append_right (tested_sites r ++ r.iterators) (r.result ∷ []) r.result (in_head r.result []))
 
   finds : (k : Pick) → Finds w k
-  finds k s pure n all =
-      let p = pure s (below_itself w.sites s) in
-      served.found k s (slice_get_within w.sites s p.0 p.1) n (ap calls_nothing p.1 ∙ nothing_called p.0 p.2) all
+  finds k s pure n all = served.found k s (pure_alone w.sites s pure) n all
 
   serves : (k : Pick) → ServesUnder w rules k
   serves k = record { found = finds k; lists = served.lists k; values = served.values k; fields = served.fields k; apart = served.apart k }

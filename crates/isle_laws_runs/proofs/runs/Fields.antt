@@ -9,8 +9,7 @@ use Rattle.isle_model.specs.sites.Sites.{Site, match_variant_site, extract_struc
 use Rattle.isle_model.specs.trees.Places.{is_variant_field, is_struct_field, is_part_of, site_from, each_field, fields_of, field_sites}
 use Rattle.isle_model.specs.trees.Run.{World, Env, as_value, from_value, all_one, content_fields, bind_fields}
 use Rattle.isle_model.specs.rules.Picks.{Pick, field_of_variant, field_of_struct, part_of_some}
-use Rattle.isle_model.specs.trees.Collects.{content_at}
-use Rattle.isle_model.specs.trees.SetRuns.{IsPureAt}
+use Rattle.isle_model.specs.trees.Collects.{content_at, IsPureAt}
 use Rattle.isle_model.proofs.Members.{nothing_in, in_head, in_tail, in_cases}
 use Rattle.isle_laws_runs.proofs.runs.Contents.{SourcesBefore, sources_in, content_layer}
 use Rattle.isle_laws_runs.proofs.runs.Binding.{Held, held_as, keeps_bound}

@@ -14,8 +14,8 @@ use Rattle.isle_model.specs.trees.Places.{Around, is_in, joins_in, waits, is_ava
 use Rattle.isle_model.specs.trees.Run.{World, Env, used, all_bound, bind_all, content_fields}
 use Rattle.isle_model.specs.trees.Sound.{IsTested}
 use Rattle.isle_model.specs.rules.Picks.{Pick}
-use Rattle.isle_model.specs.trees.Collects.{content_at, meets, demands_hold}
-use Rattle.isle_model.specs.trees.SetRuns.{tested_sites, IsPureAt}
+use Rattle.isle_model.specs.trees.Collects.{content_at, meets, demands_hold, IsPureAt}
+use Rattle.isle_model.specs.trees.SetRuns.{tested_sites}
 use Rattle.isle_model.proofs.Members.{in_head, in_cases, all_pass, in_map, in_flat_map, member_is_in}
 use Rattle.isle_model.proofs.Numbers.{in_either, in_first, in_second}
 use Rattle.isle_laws_runs.proofs.picks.Grown.{keys}

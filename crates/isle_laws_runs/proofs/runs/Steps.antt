@@ -9,8 +9,7 @@ use Rattle.isle_model.specs.sites.Sites.{iterator_site, Constraint, SetRule}
 use Rattle.isle_model.specs.trees.Trees.{Tree, step, Check, match_at, equal_at, loop_at, Arms, arm}
 use Rattle.isle_model.specs.trees.Places.{Around, joins_in, available, all_below, fields_of, field_sites, bind_order, in_arm}
 use Rattle.isle_model.specs.trees.Run.{World, Env, used, as_value, bind_all, all_bound, Trace, content_fields, on_met, on_equal, on_many, iterated, with_env, with_content, with_bound, ending_at, or_next, for_each, run_tree, run_check, run_arms}
-use Rattle.isle_model.specs.trees.Collects.{content_at, meets}
-use Rattle.isle_model.specs.trees.SetRuns.{IsPureAt}
+use Rattle.isle_model.specs.trees.Collects.{content_at, meets, IsPureAt}
 use Rattle.isle_model.proofs.ValuesEqual.{eq_means, eq_same}
 use Rattle.isle_model.proofs.Members.{in_head, in_tail, in_cases, in_alone}
 use Rattle.isle_model.proofs.Numbers.{in_first}

@@ -10,7 +10,8 @@ use Rattle.isle_model.specs.trees.Trees.{Tree, no_step, step, return_at}
 use Rattle.isle_model.specs.trees.Places.{Around, is_in, waits, below, all_below, bind_order, return_uses}
 use Rattle.isle_model.specs.trees.Run.{World, Env, used, Bound, all_bound, unwrap_failed, no_content_there, bind_all, Trace, at_start, with_bound, or_next, with_content, returned, run_tree, run_check}
 use Rattle.isle_model.specs.trees.Sound.{IsTested}
-use Rattle.isle_model.specs.trees.SetRuns.{tested_sites, IsPureAt, IsUnwrap, IsTestedRule, IsReached, IsTaken}
+use Rattle.isle_model.specs.trees.Collects.{IsPureAt}
+use Rattle.isle_model.specs.trees.SetRuns.{tested_sites, IsUnwrap, IsTestedRule, IsReached, IsTaken}
 use Rattle.isle_model.proofs.Members.{in_alone, get_within, all_members, from_flat_map}
 use Rattle.isle_laws_runs.proofs.runs.Below.{below_within}
 use Rattle.isle_laws_runs.proofs.runs.Binding.{kept_below, reads}

@@ -1,21 +1,22 @@
 -- Taking a rule binds its impure calls in order, then its result: it comes to what following the contents of their sites does.
-use Rattle.std.proofs.Common.{◌≡◌, ◌⊎◌, ℕ, zero, suc, ◌<◌, ◌≤◌, true, false, not, ◌||◌, cond, List, [], ◌∷◌, ◌++◌, map, length, Option, Some, None, is_some, slice_get, Contains, IsTrue, flat_map, refl, sym, ap, ◌∙◌, subst, inl, inr, arith, append-nil, append_assoc}
+use Rattle.std.proofs.Common.{◌≡◌, ◌⊎◌, ℕ, zero, suc, ◌<◌, ◌≤◌, true, false, not, ◌||◌, cond, List, [], ◌∷◌, ◌++◌, map, length, take, Option, Some, None, is_some, slice_get, All, Contains, IsTrue, flat_map, refl, sym, ap, ◌∙◌, subst, inl, inr, arith, append-nil, append_assoc}
 use Rattle.std.proofs.lemmas.Bool.{cases_Bool, cases_eq, cond-true, cond-false, or_cases, or_parts, or_from, false_from_ne_true, false≢true}
 use Rattle.std.proofs.lemmas.Option.{same_Some, slice_get_within}
+use Rattle.std.proofs.Math.Seq.{take-append_seam}
 use Rattle.std.proofs.lemmas.List.{length_push}
-use Rattle.std.proofs.lemmas.List.Elements.{Contains-append_left, Contains-append_right, Contains-append_cases, filter-append, All-contains}
+use Rattle.std.proofs.lemmas.List.Elements.{Contains-append_left, Contains-append_right, Contains-append_cases, filter-append, All-nil, All-cons, All-append, All-contains}
 use Rattle.isle_model.specs.lists.Syntax.{Position}
 use Rattle.isle_model.specs.rules.Values.{Values, value_and, of_variant, of_struct}
 use Rattle.isle_model.specs.rules.Meaning.{Content, one, nothing, just, extractor_answer, impure_answer}
 use Rattle.isle_model.specs.rules.Outcome.{Call, Outcome, then_option}
-use Rattle.isle_model.specs.rules.Picks.{Pick, part_of_some, call_answer, site_content, site_values}
+use Rattle.isle_model.specs.rules.Picks.{Pick, part_of_some, call_answer, site_content, site_values, HasContent}
 use Rattle.isle_model.specs.sites.Sites.{Site, bool_site, int_site, prim_site, argument_site, extractor_site, constructor_site, iterator_site, make_variant_site, match_variant_site, make_struct_site, extract_struct_site, make_some_site, match_some_site, match_tuple_site, SiteTerm, constructor_call, some_part, SiteTerms, each_term, unfold_site, SetRule, sources_of, sources_at}
 use Rattle.isle_model.specs.trees.Places.{Around, is_in, waits, is_in_place, below, all_below, each_after, listed_below, return_uses}
 use Rattle.isle_model.specs.trees.Run.{World, Env, bound_to, used, used_values, as_value, part_at, Bound, all_bound, unwrap_failed, now_bound, unwrapped, constructed, bind_site, then_bind, bind_all, at_start, with_bound, or_next, with_content, returned, run_tree, run_check}
 use Rattle.isle_model.specs.trees.Trees.{no_step, return_at}
-use Rattle.isle_model.specs.trees.Collects.{content_at, calls_nothing, IsPureSite}
-use Rattle.isle_model.specs.trees.SetRuns.{IsPureAt, IsUnwrap, IsReachedUnder, IsTakenUnder}
-use Rattle.isle_model.proofs.Members.{nothing_in, in_head, in_tail, in_cases, in_alone, get_within, in_flat_map, member_found, member_is_in}
+use Rattle.isle_model.specs.trees.Collects.{content_at, calls_nothing, IsPureSite, IsPureAt}
+use Rattle.isle_model.specs.trees.SetRuns.{IsUnwrap, IsReachedUnder, IsTakenUnder}
+use Rattle.isle_model.proofs.Members.{nothing_in, in_head, in_tail, in_cases, in_alone, get_within, in_flat_map, from_flat_map, member_found, member_is_in}
 use Rattle.isle_model.proofs.Elements.{In, in_either}
 use Rattle.isle_model.proofs.Options.{then_some}
 use Rattle.isle_laws_runs.proofs.runs.Below.{below_itself, below_source, below_enough}
@@ -106,20 +107,30 @@ listed_extends sites emitted (suc n) done s =
           (then_extends done rest (rest ++ s ∷ []) (each_extends (listed_below n sites emitted) (listed_extends sites emitted n) (sources_at sites s) done) (s ∷ [], refl))
     ]
 
--- 3. what is bound so far
-module _ (w : World) (k : Pick) (before : SourcesBefore w.sites) (ar : Around) (start : Env) (reached : IsReachedUnder w k ar start) where
+-- each impure call at or below a site comes after calls of these that gave values
+abbrev pub ComesAfterValues : World → Pick → List SiteTerm → ℕ → Type 0
+ComesAfterValues w k us s =
+    (u t : ℕ) (ss : List ℕ) (n : ℕ) → Contains (below (suc s) w.sites s) u → slice_get w.sites u ≡ Some (constructor_site t ss (suc n)) → All (HasContent w.meaning w.args k) (take n us)
+
+-- 3. what is bound so far, of a rule with these impure calls
+module _ (w : World) (k : Pick) (before : SourcesBefore w.sites) (ar : Around) (start : Env) (reached : IsReachedUnder w k ar start) (us : List SiteTerm) where
+  -- the first n calls gave values
+  abbrev GaveValues : ℕ → Type 0
+  GaveValues n = All (HasContent w.meaning w.args k) (take n us)
+
   abbrev Here : List ℕ → ℕ → Type 0
   Here done t = (is_in t ar.emitted ≡ true) ⊎ Contains done t
 
   abbrev bound_so_far : List ℕ → Bound
   bound_so_far done = bind_all w start [] (to_bind w.sites done)
 
-  -- what is emitted or listed can be read, nothing else is bound, and fewer impure calls than were made are listed
+  -- what is emitted or listed can be read, nothing else is bound, and an impure call that is listed comes after fewer calls
+  -- than were made, which gave values
   record Kept (done : List ℕ) (e : Env) (calls : List Call) : Type 0 where
     reads : (u : ℕ) → Here done u → (c : Content) × (content_at w k u ≡ Some c) × (used w e u ≡ Some c)
     only : (u : ℕ) (c : Content) → bound_to e u ≡ Some c → Here done u
     closed : (u a : ℕ) → Contains done u → Contains (sources_at w.sites u) a → Here done a
-    counted : (u t : ℕ) (ss : List ℕ) (n : ℕ) → Contains done u → slice_get w.sites u ≡ Some (constructor_site t ss (suc n)) → n < length calls
+    counted : (u t : ℕ) (ss : List ℕ) (n : ℕ) → Contains done u → slice_get w.sites u ≡ Some (constructor_site t ss (suc n)) → (n < length calls) × GaveValues n
 
   record Listed (done : List ℕ) (e : Env) (calls : List Call) : Type 0 where
     bound : bound_so_far done ≡ all_bound e calls
@@ -160,6 +171,35 @@ module _ (w : World) (k : Pick) (before : SourcesBefore w.sites) (ar : Around) (
       bind_more done (s ∷ [])
       ∙ ap (λ x. then_bind x (λ e' calls'. bind_all w e' calls' (to_bind w.sites (s ∷ [])))) h
       ∙ ap (bind_all w e calls) (ap (λ t. cond (not t) (s ∷ []) []) p)
+
+  -- no impure call is emitted, nor is one below what is emitted
+  not_emitted : (s x : ℕ) → Contains (below (suc s) w.sites s) x → IsImpureAt w.sites before x → is_in s ar.emitted ≡ true → ⊥
+  not_emitted s x c (t, sources, i, at) m =
+      let a = All-contains (IsPureAt w.sites) (all_below w.sites (s ∷ [])) x (reached.pure s m) (in_flat_map (λ x. below (suc x) w.sites x) (s ∷ []) s x (in_head s []) c) in
+      subst IsPureSite (same_Some a.0 (constructor_site t sources (suc i)) (sym a.1 ∙ at)) a.2
+
+  -- impure calls below what is here come after calls that gave values, and so it is with a site above such ones
+  below_here : (done : List ℕ) (e : Env) (calls : List Call) → Kept done e calls → (n x : ℕ) → x < n → Here done x
+      → (u t : ℕ) (ss : List ℕ) (m : ℕ) → Contains (below n w.sites x) u → slice_get w.sites u ≡ Some (constructor_site t ss (suc m)) → GaveValues m
+  below_here done e calls kept zero x l h u t ss m c at = absurd (omega (arith, l))
+  below_here done e calls kept (suc n) x l (inl i) u t ss m c at =
+      absurd (not_emitted x u (subst (λ y. Contains y u) (below_enough w.sites before (suc n) x l) c) (t, ss, m, at) i)
+  below_here done e calls kept (suc n) x l (inr i) u t ss m c at =
+      elim (in_cases x u (flat_map (below n w.sites) (sources_at w.sites x)) c) [
+        | inl q ↦ (kept.counted x t ss m i (ap (slice_get w.sites) q ∙ at)).1
+        | inr d ↦
+            let r = from_flat_map (below n w.sites) (sources_at w.sites x) u d in
+            let less = before x r.0 r.1 in
+            below_here done e calls kept n r.0 (omega (arith, l, less)) (kept.closed x r.0 i r.1) u t ss m r.2 at
+      ]
+
+  comes_after : (done : List ℕ) (e : Env) (calls : List Call) → Kept done e calls → (s : ℕ) → ((a : ℕ) → Contains (sources_at w.sites s) a → Here done a)
+      → ((t : ℕ) (ss : List ℕ) (n : ℕ) → slice_get w.sites s ≡ Some (constructor_site t ss (suc n)) → GaveValues n) → ComesAfterValues w k us s
+  comes_after done e calls kept s sources own u t ss n c at =
+      elim (in_cases s u (flat_map (below s w.sites) (sources_at w.sites s)) c) [
+        | inl q ↦ own t ss n (ap (slice_get w.sites) q ∙ at)
+        | inr d ↦ let r = from_flat_map (below s w.sites) (sources_at w.sites s) u d in below_here done e calls kept s r.0 (before s r.0 r.1) (sources r.0 r.1) u t ss n r.2 at
+      ]
 
   -- 4. one more site
   module _ (done : List ℕ) (s : ℕ) (unlisted : (is_in s ar.emitted || is_in s done) ≡ false) (sources : (a : ℕ) → Contains (sources_at w.sites s) a → Here done a) where
@@ -203,7 +243,7 @@ module _ (w : World) (k : Pick) (before : SourcesBefore w.sites) (ar : Around) (
           ]
 
       abbrev IsCounted : List Call → Type 0
-      IsCounted calls' = (t : ℕ) (ss : List ℕ) (n : ℕ) → slice_get w.sites s ≡ Some (constructor_site t ss (suc n)) → n < length calls'
+      IsCounted calls' = (t : ℕ) (ss : List ℕ) (n : ℕ) → slice_get w.sites s ≡ Some (constructor_site t ss (suc n)) → (n < length calls') × GaveValues n
 
       keeps_bound_more : (c : Content) → content_at w k s ≡ Some c → (calls' : List Call) → length calls ≤ length calls' → IsCounted calls' → Kept (done ++ s ∷ []) ((s, c) ∷ e) calls'
       keeps_bound_more c there calls' le own = record {
@@ -217,7 +257,7 @@ module _ (w : World) (k : Pick) (before : SourcesBefore w.sites) (ar : Around) (
         ];
         closed = more_closed;
         counted = λ u t ss n i q. elim (listed_last u i) [
-          | inl d ↦ let l = kept.counted u t ss n d q in omega (arith, l, le)
+          | inl d ↦ let a = kept.counted u t ss n d q in let l = a.0 in (omega (arith, l, le), a.1)
           | inr x ↦ own t ss n (ap (slice_get w.sites) x ∙ q)
         ];
       }
@@ -255,8 +295,8 @@ module _ (w : World) (k : Pick) (before : SourcesBefore w.sites) (ar : Around) (
 
   module _ (ss : List ℕ)
       (gates : (s : ℕ) → Contains (all_below w.sites ss) s → (waits (slice_get w.sites s) ≡ false) ⊎ (IsUnwrap (slice_get w.sites s) ⊎ IsTrue (is_in s ar.emitted)))
-      (found : (s : ℕ) → Contains (all_below w.sites ss) s → waits (slice_get w.sites s) ≡ false → ((a : ℕ) → Contains (sources_at w.sites s) a → IsTrue (is_some (content_at w k a))) → IsTrue (is_some (content_at w k s)))
-      (maybe : (s source : ℕ) → Contains (all_below w.sites ss) s → slice_get w.sites s ≡ Some (match_some_site source) → (c : Content) → content_at w k source ≡ Some c → (c ≡ nothing) ⊎ ((d : Content) × (c ≡ just d))) where
+      (found : (s : ℕ) → Contains (all_below w.sites ss) s → ComesAfterValues w k us s → waits (slice_get w.sites s) ≡ false → ((a : ℕ) → Contains (sources_at w.sites s) a → IsTrue (is_some (content_at w k a))) → IsTrue (is_some (content_at w k s)))
+      (maybe : (s source : ℕ) → Contains (all_below w.sites ss) s → ComesAfterValues w k us s → slice_get w.sites s ≡ Some (match_some_site source) → (c : Content) → content_at w k source ≡ Some c → (c ≡ nothing) ⊎ ((d : Content) × (c ≡ just d))) where
     abbrev Below : ℕ → Type 0
     Below t = Contains (all_below w.sites ss) t
 
@@ -272,13 +312,16 @@ module _ (w : World) (k : Pick) (before : SourcesBefore w.sites) (ar : Around) (
     put_pure done e calls l s f n sources q =
         elim (free s f (or_parts (is_in s ar.emitted) (is_in s done) n).0) [
           | inl wait ↦
-              let c = content_of (content_at w k s) (found s f wait (λ a i. ap is_some (l.kept.reads a (sources a i)).1)) in
+              let c = content_of (content_at w k s) (found s f after wait (λ a i. ap is_some (l.kept.reads a (sources a i)).1)) in
               inl (put_there c.0 c.1 (λ p. binds c.0 c.1 (slice_get w.sites s) refl wait q) (cases_Bool (is_in_place (slice_get w.sites s))))
           | inr u ↦ put_unwrap (slice_get w.sites s) refl u
         ]
       where
-        own : (t : ℕ) (ss : List ℕ) (n : ℕ) → slice_get w.sites s ≡ Some (constructor_site t ss (suc n)) → n < length calls
+        own : (t : ℕ) (ss : List ℕ) (n : ℕ) → slice_get w.sites s ≡ Some (constructor_site t ss (suc n)) → (n < length calls) × GaveValues n
         own t ss n e = absurd (false≢true (sym (ap calls_nothing e) ∙ q))
+
+        after : ComesAfterValues w k us s
+        after = comes_after done e calls l.kept s sources (λ t ss n at. (own t ss n at).1)
 
         put_there : (c : Content) → content_at w k s ≡ Some c → (is_in_place (slice_get w.sites s) ≡ false → bind_site w e calls s (slice_get w.sites s) ≡ all_bound ((s, c) ∷ e) calls)
             → (is_in_place (slice_get w.sites s) ≡ true) ⊎ (is_in_place (slice_get w.sites s) ≡ false) → (e' : Env) × Listed (done ++ s ∷ []) e' calls
@@ -302,7 +345,7 @@ module _ (w : World) (k : Pick) (before : SourcesBefore w.sites) (ar : Around) (
             let x = l.kept.reads source (sources source (subst (λ x. Contains (sources_in x) source) (sym at) (in_head source []))) in
             let layer = content_layer w k before s (match_some_site source) at in
             let p = ap is_in_place at in
-            elim (maybe s source f at x.0 x.1) [
+            elim (maybe s source f after at x.0 x.1) [
               | inl q ↦
                   inr (
                     bind_next done e calls s (unwrap_failed calls) l.bound p (ap (bind_site w e calls s) at ∙ ap (unwrapped e calls s) (x.2 ∙ ap Some q)),
@@ -409,23 +452,17 @@ module _ (w : World) (k : Pick) (before : SourcesBefore w.sites) (ar : Around) (
     abbrev CallGone : List ℕ → List ℕ → List Call → ℕ → ℕ → List ℕ → Type 0
     CallGone done more calls s t sources = CallMade done more calls s t sources ⊎ ((bound_so_far more ≡ unwrap_failed calls) × (site_values w.meaning w.args k (each_term (unfold_site w.sites) sources) ≡ None))
 
-    -- no impure call is emitted, nor is one below what is emitted
-    not_emitted : (s x : ℕ) → Contains (below (suc s) w.sites s) x → IsImpureAt w.sites before x → is_in s ar.emitted ≡ true → ⊥
-    not_emitted s x c (t, sources, i, at) m =
-        let a = All-contains (IsPureAt w.sites) (all_below w.sites (s ∷ [])) x (reached.pure s m) (in_flat_map (λ x. below (suc x) w.sites x) (s ∷ []) s x (in_head s []) c) in
-        subst IsPureSite (same_Some a.0 (constructor_site t sources (suc i)) (sym a.1 ∙ at)) a.2
-
     call_fresh : (s t i : ℕ) (sources : List ℕ) → slice_get w.sites s ≡ Some (constructor_site t sources (suc i)) → (done : List ℕ) (e : Env) (calls : List Call) → Kept done e calls → length calls ≡ i → Here done s → ⊥
     call_fresh s t i sources at done e calls kept q (inl m) = not_emitted s s (below_itself w.sites s) (t, sources, i, at) m
-    call_fresh s t i sources at done e calls kept q (inr c) = (let l = kept.counted s t sources i c at in omega (arith, l, q))
+    call_fresh s t i sources at done e calls kept q (inr c) = (let l = (kept.counted s t sources i c at).0 in omega (arith, l, q))
 
     not_listed : (done : List ℕ) (s : ℕ) → (Here done s → ⊥) → (is_in s ar.emitted || is_in s done) ≡ false
     not_listed done s n = or_from (is_in s ar.emitted) (is_in s done) (false_from_ne_true (is_in s ar.emitted) (λ t. n (inl t))) (false_from_ne_true (is_in s done) (λ t. n (inr (member_found s done t))))
 
     call_goes : (n s : ℕ) → s < n → ((u : ℕ) → Contains (below n w.sites s) u → Below u) → (t i : ℕ) (sources : List ℕ) → slice_get w.sites s ≡ Some (constructor_site t sources (suc i))
-        → (done : List ℕ) (e : Env) (calls : List Call) → Listed done e calls → length calls ≡ i → ((x : ℕ) → Contains sources x → Ready (suc x) done x) → CallGone done (listed_below n w.sites ar.emitted done s) calls s t sources
-    call_goes zero s l fine t i sources at done e calls listed q ready = absurd (omega (arith, l))
-    call_goes (suc n) s l fine t i sources at done e calls listed q ready =
+        → (done : List ℕ) (e : Env) (calls : List Call) → Listed done e calls → length calls ≡ i → GaveValues i → ((x : ℕ) → Contains sources x → Ready (suc x) done x) → CallGone done (listed_below n w.sites ar.emitted done s) calls s t sources
+    call_goes zero s l fine t i sources at done e calls listed q gave ready = absurd (omega (arith, l))
+    call_goes (suc n) s l fine t i sources at done e calls listed q gave ready =
         let f = not_listed done s (call_fresh s t i sources at done e calls listed.kept q) in
         let rest = each_after (listed_below n w.sites ar.emitted) done (sources_at w.sites s) in
         subst (λ x. CallGone done x calls s t sources) (sym (cond-false (is_in s ar.emitted || is_in s done) done (rest ++ s ∷ []) f))
@@ -444,11 +481,17 @@ module _ (w : World) (k : Pick) (before : SourcesBefore w.sites) (ar : Around) (
         values_gone : (x : ℕ) → Contains sources x → content_at w k x ≡ None → site_values w.meaning w.args k (each_term (unfold_site w.sites) sources) ≡ None
         values_gone x c none = is_none (site_values w.meaning w.args k (each_term (unfold_site w.sites) sources)) (λ h. false≢true (sym (ap is_some none) ∙ values_there w k sources h x c))
 
-        own : (calls' : List Call) → length calls' ≡ suc (length calls) → (t' : ℕ) (ss : List ℕ) (m : ℕ) → slice_get w.sites s ≡ Some (constructor_site t' ss (suc m)) → m < length calls'
-        own calls' len t' ss m e = (let same : i ≡ m = one_instance (sym at ∙ e) in omega (arith, same, len, q))
+        number_is : (t' : ℕ) (ss : List ℕ) (m : ℕ) → slice_get w.sites s ≡ Some (constructor_site t' ss (suc m)) → i ≡ m
+        number_is t' ss m e = one_instance (sym at ∙ e)
           where
             one_instance : Some (constructor_site t sources (suc i)) ≡ Some (constructor_site t' ss (suc m)) → i ≡ m
             one_instance h = cc
+
+        gave_own : (t' : ℕ) (ss : List ℕ) (m : ℕ) → slice_get w.sites s ≡ Some (constructor_site t' ss (suc m)) → GaveValues m
+        gave_own t' ss m e = subst GaveValues (number_is t' ss m e) gave
+
+        own : (calls' : List Call) → length calls' ≡ suc (length calls) → (t' : ℕ) (ss : List ℕ) (m : ℕ) → slice_get w.sites s ≡ Some (constructor_site t' ss (suc m)) → (m < length calls') × GaveValues m
+        own calls' len t' ss m e = (let same = number_is t' ss m e in (omega (arith, same, len, q), gave_own t' ss m e))
 
         then_call : (is_in s ar.emitted || is_in s done) ≡ false → Gone done (each_after (listed_below n w.sites ar.emitted) done (sources_at w.sites s)) calls (Contains (sources_at w.sites s))
             → CallGone done (each_after (listed_below n w.sites ar.emitted) done (sources_at w.sites s) ++ s ∷ []) calls s t sources
@@ -458,7 +501,7 @@ module _ (w : World) (k : Pick) (before : SourcesBefore w.sites) (ar : Around) (
         then_call f (inl g) =
             let after = each_after (listed_below n w.sites ar.emitted) done (sources_at w.sites s) in
             let u = still_unlisted n s done f in
-            let c = content_of (content_at w k s) (found s (fine s (in_head s (flat_map (below n w.sites) (sources_at w.sites s)))) (ap waits at) (λ a j. ap is_some (g.1.kept.reads a (g.3 a j)).1)) in
+            let c = content_of (content_at w k s) (found s (fine s (in_head s (flat_map (below n w.sites) (sources_at w.sites s)))) (comes_after after g.0 calls g.1.kept s g.3 gave_own) (ap waits at) (λ a j. ap is_some (g.1.kept.reads a (g.3 a j)).1)) in
             let v = then_some (site_values w.meaning w.args k (each_term (unfold_site w.sites) sources)) (call_answer w.meaning t (suc i)) c.0 (sym (content_layer w k before s (constructor_site t sources (suc i)) at) ∙ c.1) in
             let calls' = calls ++ record { term = t; args = v.0 } ∷ [] in
             let len : length calls' ≡ suc (length calls) = one_more calls (record { term = t; args = v.0 }) in
@@ -493,6 +536,7 @@ module _ (w : World) (k : Pick) (before : SourcesBefore w.sites) (ar : Around) (
         after : List Call
         listed : Listed more env after
         followed : follow_one (U x) calls ≡ goes_on after
+        there : IsTrue (is_some (content_at w k x))
         count : length after ≡ suc (length calls)
         grows : (u : ℕ) → Here done u → Here more u
         here : Here more x
@@ -509,7 +553,7 @@ module _ (w : World) (k : Pick) (before : SourcesBefore w.sites) (ar : Around) (
       followed_with u t i args calls e = ap (λ c. follow_call w.meaning w.args k u c calls) e
 
       module _ (earlier : List SiteTerm) (x : ℕ) (known : x < length w.sites) (n : IsNext made earlier (U x)) (fine : (u : ℕ) → Contains (below (suc x) w.sites x) u → Below u)
-          (done : List ℕ) (e : Env) (calls : List Call) (l : Listed done e calls) (q : length earlier ≡ length calls) (listed : AreListed earlier done) where
+          (done : List ℕ) (e : Env) (calls : List Call) (l : Listed done e calls) (q : length earlier ≡ length calls) (gave : GaveValues (length earlier)) (listed : AreListed earlier done) where
         abbrev step_of : ℕ → SiteTerms → ℕ → Type 0
         step_of s args i = (ss : List ℕ) × (slice_get w.sites s ≡ Some (constructor_site n.term ss (suc i))) × (each_term U ss ≡ args)
 
@@ -537,12 +581,13 @@ module _ (w : World) (k : Pick) (before : SourcesBefore w.sites) (ar : Around) (
         plain : U x ≡ answered_call (U x) → Answer done (listed_below (suc x) w.sites ar.emitted done x) calls x
         plain same =
             let m = number x known same in
-            elim (call_goes (suc x) x (omega arith) fine n.term (length earlier) m.0 m.1 done e calls l (sym q) (ready_sources m.0 m.2)) [
+            elim (call_goes (suc x) x (omega arith) fine n.term (length earlier) m.0 m.1 done e calls l (sym q) gave (ready_sources m.0 m.2)) [
               | inl g ↦ inl (record {
                 env = g.env;
                 after = calls ++ record { term = n.term; args = g.values } ∷ [];
                 listed = g.listed;
                 followed = followed_made m.0 m.2 g.values (Some g.answer) g.held g.there;
+                there = ap is_some g.there;
                 count = one_more calls (record { term = n.term; args = g.values });
                 grows = g.grows;
                 here = g.here;
@@ -574,7 +619,7 @@ module _ (w : World) (k : Pick) (before : SourcesBefore w.sites) (ar : Around) (
                 let one_source : sources_at w.sites x ≡ y ∷ [] = ap sources_in at in
                 let g = call_goes x y less
                 (λ u i. fine u (below_source w.sites x x y u source i))
-                n.term (length earlier) m.0 m.1 done e calls l (sym q) (ready_sources m.0 m.2) in
+                n.term (length earlier) m.0 m.1 done e calls l (sym q) gave (ready_sources m.0 m.2) in
                 let h : CallGone done rest calls y n.term m.0 = subst (λ z. CallGone done (each_after (listed_below x w.sites ar.emitted) done z) calls y n.term m.0) (sym one_source) g in
                 subst (λ z. Answer done z calls x) (sym (cond-false (is_in x ar.emitted || is_in x done) done (rest ++ x ∷ []) f))
                 (elim h [
@@ -597,6 +642,7 @@ module _ (w : World) (k : Pick) (before : SourcesBefore w.sites) (ar : Around) (
                             after = calls';
                             listed = p.1;
                             followed = followed_made m.0 m.2 r.values (Some c.0) r.held c.1;
+                            there = ap is_some c.1;
                             count = one_more calls (record { term = n.term; args = r.values });
                             grows = λ t i. grown rest x u sources t (r.grows t i);
                             here = last_here rest x u sources x refl;
@@ -625,10 +671,10 @@ module _ (w : World) (k : Pick) (before : SourcesBefore w.sites) (ar : Around) (
             ∙ ap (λ b. or_next (returned b (record { calls = calls; results = [] }) c) (run_tree no_step w e)) multi
 
         walk : (ns : List ℕ) (earlier : List SiteTerm) → ((x : ℕ) → Contains ns x → x < length w.sites) → ((x : ℕ) → Contains (ns ++ result ∷ []) x → (u : ℕ) → Contains (below (suc x) w.sites x) u → Below u)
-            → InOrder made earlier (map U ns) → CallsOnly (Known (earlier ++ map U ns)) (U result)
+            → InOrder made earlier (map U ns) → CallsOnly (Known (earlier ++ map U ns)) (U result) → us ≡ earlier ++ map U ns → All (HasContent w.meaning w.args k) earlier
             → (done : List ℕ) (e : Env) (calls : List Call) → Listed done e calls → length earlier ≡ length calls → AreListed earlier done
             → ends (bound_so_far (each_after list_one done (ns ++ result ∷ []))) ≡ result_after (content_at w k result) (follow w.meaning w.args k (map U ns) calls)
-        walk [] earlier known fine order only done e calls l q listed =
+        walk [] earlier known fine order only all gave done e calls l q listed =
             elim (one_goes (suc result) result (omega arith) (fine result (in_head result [])) calls done e l
             (λ u i m. listed u m (subst (λ us. Known us (U u)) (append-nil earlier) (below_only w.sites before (Known (earlier ++ [])) (suc result) result only u i m)))) [
               | inl g ↦
@@ -636,12 +682,13 @@ module _ (w : World) (k : Pick) (before : SourcesBefore w.sites) (ar : Around) (
                   ap ends g.1.bound ∙ ends_there g.0 calls c.0 c.2 ∙ ap (λ o. result_after o (goes_on calls)) (sym c.1)
               | inr b ↦ ap ends b.0 ∙ ap (λ o. result_after o (goes_on calls)) (sym (ap (content_at w k) b.2 ∙ b.3))
             ]
-        walk (x ∷ ns) earlier known fine order only done e calls l q listed =
+        walk (x ∷ ns) earlier known fine order only all gave done e calls l q listed =
             let go = follow w.meaning w.args k (map U ns) in
-            elim (answer_goes earlier x (known x (in_head x ns)) order.0 (fine x (in_head x (ns ++ result ∷ []))) done e calls l q listed) [
+            elim (answer_goes earlier x (known x (in_head x ns)) order.0 (fine x (in_head x (ns ++ result ∷ []))) done e calls l q gave_first listed) [
               | inl a ↦
                   walk ns (earlier ++ U x ∷ []) (λ y c. known y (in_tail x y ns c)) (λ y c. fine y (in_tail x y (ns ++ result ∷ []) c)) order.1
                   (subst (λ us. CallsOnly (Known us) (U result)) (sym (append_assoc earlier (U x ∷ []) (map U ns))) only)
+                  (all ∙ sym (append_assoc earlier (U x ∷ []) (map U ns))) (All-append (HasContent w.meaning w.args k) earlier (U x ∷ []) gave (All-cons (HasContent w.meaning w.args k) (U x) [] a.there (All-nil (HasContent w.meaning w.args k))))
                   (list_one done x) a.env a.after a.listed (more_counted a.after a.count) (more_listed (list_one done x) a.grows a.here a.call_here)
                   ∙ ap (λ f. result_after (content_at w k result) (then_follow f go)) (sym a.followed)
               | inr b ↦
@@ -650,6 +697,9 @@ module _ (w : World) (k : Pick) (before : SourcesBefore w.sites) (ar : Around) (
                   ∙ ap (λ f. result_after (content_at w k result) (then_follow f go)) (sym b.2)
             ]
           where
+            gave_first : GaveValues (length earlier)
+            gave_first = subst (All (HasContent w.meaning w.args k)) (sym (ap (take (length earlier)) all ∙ take-append_seam earlier (map U (x ∷ ns)))) gave
+
             stopped : (o : Option Content) (calls' : List Call) → ends (unwrap_failed calls') ≡ result_after o (stops calls')
             stopped o calls' = refl
 
@@ -677,15 +727,16 @@ module _ (w : World) (k : Pick) (before : SourcesBefore w.sites) (ar : Around) (
                 only_one a b (inr n) = absurd n
 
 -- 10. the outcome of a rule that is taken, where all that stands below what it returns for and waits for nothing has a content
--- if its sources have, and all that is unwrapped may answer nothing
+-- if its sources have, and all that is unwrapped may answer nothing. Both are asked only of what comes after calls that gave
+-- values
 pub taken_follows : (w : World) (k : Pick) (before : SourcesBefore w.sites) (r : SetRule) (o : Outcome) → IsTakenUnder w k r o → w.multi ≡ false
     → ((a b : ℕ) → a < length w.sites → b < length w.sites → unfold_site w.sites a ≡ unfold_site w.sites b → a ≡ b)
-    → ((s : ℕ) → Contains (all_below w.sites (return_uses (Some r))) s → waits (slice_get w.sites s) ≡ false → ((a : ℕ) → Contains (sources_at w.sites s) a → IsTrue (is_some (content_at w k a))) → IsTrue (is_some (content_at w k s)))
-    → ((s source : ℕ) → Contains (all_below w.sites (return_uses (Some r))) s → slice_get w.sites s ≡ Some (match_some_site source) → (c : Content) → content_at w k source ≡ Some c → (c ≡ nothing) ⊎ ((d : Content) × (c ≡ just d)))
+    → ((s : ℕ) → Contains (all_below w.sites (return_uses (Some r))) s → ComesAfterValues w k (map (unfold_site w.sites) r.impure) s → waits (slice_get w.sites s) ≡ false → ((a : ℕ) → Contains (sources_at w.sites s) a → IsTrue (is_some (content_at w k a))) → IsTrue (is_some (content_at w k s)))
+    → ((s source : ℕ) → Contains (all_below w.sites (return_uses (Some r))) s → ComesAfterValues w k (map (unfold_site w.sites) r.impure) s → slice_get w.sites s ≡ Some (match_some_site source) → (c : Content) → content_at w k source ≡ Some c → (c ≡ nothing) ⊎ ((d : Content) × (c ≡ just d)))
     → (made : List SiteTerm) → ((x : ℕ) → Contains r.impure x → x < length w.sites) → InOrder made [] (map (unfold_site w.sites) r.impure) → CallsOnly (Known (map (unfold_site w.sites) r.impure)) (unfold_site w.sites r.result)
     → o ≡ result_after (content_at w k r.result) (follow w.meaning w.args k (map (unfold_site w.sites) r.impure) [])
 taken_follows w k before r o t multi once found maybe made known order only =
     t.outcome
-    ∙ walk w k before t.around t.env t.reached (return_uses (Some r)) t.gates found maybe once made r.at r.result multi r.impure [] known
+    ∙ walk w k before t.around t.env t.reached (map (unfold_site w.sites) r.impure) (return_uses (Some r)) t.gates found maybe once made r.at r.result multi r.impure [] known
     (λ x c u i. in_flat_map (λ s. below (suc s) w.sites s) (return_uses (Some r)) x u c i)
-    order only [] t.env [] (nothing_listed w k before t.around t.env t.reached) refl (λ c m i. elim i [ inl n ↦ absurd n | inr n ↦ absurd n ])
+    order only refl (All-nil (HasContent w.meaning w.args k)) [] t.env [] (nothing_listed w k before t.around t.env t.reached (map (unfold_site w.sites) r.impure)) refl (λ c m i. elim i [ inl n ↦ absurd n | inr n ↦ absurd n ])

@@ -98,11 +98,11 @@ module _ (laws : CollectingLaws) (e : TypesRead) (defs : List Definition) (expan
       laws.collected e defs expand rules t set h b multi
       (all_members (λ (k : BuiltRule). HasCollectedResults p k.rule) (built_rules p t) (λ k c. All-contains (HasCollectedResults p) rs k.rule results (built_listed p t k c)))
 
-  serves : ServesSet set w
-  serves = laws.serve e defs expand rules t set h b (λ r c. (All-contains (HasCollectedResults p) rs r results c).no_calls) m args typed served apart
-
   rule_of : (r : SetRule) → Contains set.rules r → IsCollectedRule set.sites r
   rule_of r c = All-contains (IsCollectedRule set.sites) set.rules r collected.rules c
+
+  serves : ServesSet set w
+  serves = laws.serve e defs expand rules t set h b (all_members (λ (r : SetRule). r.impure ≡ []) set.rules (λ r c. (rule_of r c).no_calls)) m args typed served apart
 
   gate_at : (r : SetRule) → Contains set.rules r → (s u : ℕ) → Contains (sites_of_rule r) s → Contains (below (suc s) set.sites s) u → IsTrue (gate_demanded r (slice_get set.sites u))
   gate_at r c s u i k = All-contains (λ x. IsTrue (gate_demanded r (slice_get set.sites x))) (all_below set.sites (sites_of_rule r)) u (rule_of r c).gates (in_flat_map (λ x. below (suc x) set.sites x) (sites_of_rule r) s u i k)

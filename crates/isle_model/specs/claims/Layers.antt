@@ -4,10 +4,10 @@ use Rattle.std.specs.List.{list_all}
 use Rattle.isle_model.specs.lists.Syntax.{Definition}
 use Rattle.isle_model.specs.rules.Program.{Program, is_multi, rules_of, terms_with_rules}
 use Rattle.isle_model.specs.sites.Sites.{Site, SiteSet, sources_at}
-use Rattle.isle_model.specs.trees.Trees.{Marked, Tree, no_step, step, Check, match_at, equal_at, loop_at, return_at, Arms, no_arm, arm}
+use Rattle.isle_model.specs.trees.Trees.{Tree, Marked, m_no_step, m_step, MarkedCheck, m_match, m_equal, m_loop, m_return, MarkedArms, m_no_arm, m_arm}
 use Rattle.isle_model.specs.trees.Run.{World, run}
-use Rattle.isle_model.specs.trees.Places.{nothing_around, is_in, is_in_place, field_sites}
-use Rattle.isle_model.specs.trees.Sound.{ReturnsEach}
+use Rattle.isle_model.specs.trees.Places.{nothing_around, is_in, is_in_place, uses, field_sites}
+use Rattle.isle_model.specs.trees.Sound.{is_return, ReturnsEach}
 use Rattle.isle_model.specs.trees.Best.{are_distinct, IsBestTree, SharesMost}
 use Rattle.isle_model.specs.trees.WellBuilt.{HasOnePriority}
 use Rattle.isle_model.specs.claims.Headline.{RunsAsChosen}
@@ -91,17 +91,10 @@ pub record IsSerialized (set : SiteSet) (tree : Tree) : Type 0 where
   pub best : IsBestTree set tree
   pub meaning : MeansItsSet set tree
 
--- the sites that a step uses
-abbrev pub used_by : List Site → Check → List ℕ
-used_by sites (match_at source arms) = source ∷ []
-used_by sites (equal_at a b body) = a ∷ (b ∷ [])
-used_by sites (loop_at result body) = sources_at sites result
-used_by sites (return_at at result) = result ∷ []
-
 -- the calls that a step goes over: they may be bound again in its body, and after it
-abbrev pub gone_over : List Site → Check → List ℕ
-gone_over sites (loop_at result body) = sources_at sites result
-gone_over sites _ = []
+abbrev pub gone_over : SiteSet → MarkedCheck → List ℕ
+gone_over set (m_loop result body) = sources_at set.sites result
+gone_over set _ = []
 
 -- a site can be used: it was bound, or it is written in place and what it is a part of was bound
 abbrev pub can_be_used : List Site → List ℕ → ℕ → Bool
@@ -118,36 +111,36 @@ binds_once sites again scope [] = true
 binds_once sites again scope (s ∷ rest) =
     (not (is_in s scope) || is_in s again) && list_all (can_be_used sites scope) (sources_at sites s) && binds_once sites again (s ∷ scope) rest
 
-abbrev pub returns_at : Check → Bool
-returns_at (return_at at result) = true
-returns_at _ = false
-
 -- whether, in each step that a run reaches, each site that is used was bound before it in scope or is written in place,
--- and no site but the source of a loop is bound twice in one scope. A step is reached where no return stands before it
--- in its block, nor before a step around it in that one's block; in a multi term every step is
+-- and no site but the source of a loop is bound twice in one scope. A return uses the impure calls of its rule beside the
+-- result. A step is reached where no return stands before it in its block, nor before a step around it in that one's
+-- block; in a multi term every step is
 abbrev mutual
-  pub binds_before_use : List Site → Bool → List ℕ → List ℕ → Tree → Bool
-  binds_before_use sites multi again scope no_step = true
-  binds_before_use sites multi again scope (step binds check rest) =
-      binds_once sites again scope binds && list_all (can_be_used sites (binds ++ scope)) (used_by sites check)
-      && binds_in_check sites multi again (binds ++ scope) check
-      && (if returns_at check && not multi then true else binds_before_use sites multi (gone_over sites check ++ again) (binds ++ scope) rest)
+  pub binds_before_use : SiteSet → Bool → List ℕ → List ℕ → Marked → Bool
+  binds_before_use set multi again scope m_no_step = true
+  binds_before_use set multi again scope (m_step binds check rest) =
+      binds_once set.sites again scope binds && list_all (can_be_used set.sites (binds ++ scope)) (uses set check)
+      && binds_in_check set multi again (binds ++ scope) check
+      && (if is_return check && not multi then true else binds_before_use set multi (gone_over set check ++ again) (binds ++ scope) rest)
 
-  pub binds_in_check : List Site → Bool → List ℕ → List ℕ → Check → Bool
-  binds_in_check sites multi again scope (match_at source arms) = binds_in_arms sites multi again scope arms
-  binds_in_check sites multi again scope (equal_at a b body) = binds_before_use sites multi again scope body
-  binds_in_check sites multi again scope (loop_at result body) =
-      brings_new scope (result ∷ []) && binds_before_use sites multi (sources_at sites result ++ again) (result ∷ scope) body
-  binds_in_check sites multi again scope (return_at at result) = true
+  pub binds_in_check : SiteSet → Bool → List ℕ → List ℕ → MarkedCheck → Bool
+  binds_in_check set multi again scope (m_match source arms) = binds_in_arms set multi again scope arms
+  binds_in_check set multi again scope (m_equal a b body) = binds_before_use set multi again scope body
+  binds_in_check set multi again scope (m_loop result body) =
+      brings_new scope (result ∷ []) && binds_before_use set multi (sources_at set.sites result ++ again) (result ∷ scope) body
+  binds_in_check set multi again scope (m_return rule) = true
 
-  pub binds_in_arms : List Site → Bool → List ℕ → List ℕ → Arms → Bool
-  binds_in_arms sites multi again scope no_arm = true
-  binds_in_arms sites multi again scope (arm constraint fields body rest) =
-      brings_new scope (field_sites fields) && binds_before_use sites multi again (field_sites fields ++ scope) body
-      && binds_in_arms sites multi again scope rest
+  pub binds_in_arms : SiteSet → Bool → List ℕ → List ℕ → MarkedArms → Bool
+  binds_in_arms set multi again scope m_no_arm = true
+  binds_in_arms set multi again scope (m_arm constraint fields body rest) =
+      brings_new scope (field_sites fields) && binds_before_use set multi again (field_sites fields ++ scope) body
+      && binds_in_arms set multi again scope rest
 
-abbrev pub BindsBeforeUse : SiteSet → Bool → Tree → Type 0
-BindsBeforeUse set multi tree = IsTrue (binds_before_use set.sites multi [] [] tree)
+-- a tree whose returns are those of the set's rules binds what each step uses, and of a return what its rule does
+pub record BindsBeforeUse (set : SiteSet) (multi : Bool) (tree : Tree) : Type 0 where
+  pub marked : Marked
+  pub returns : ReturnsEach set tree marked
+  pub bound : IsTrue (binds_before_use set multi [] [] marked)
 
 -- the program of a list of definitions, by its own types
 abbrev pub own_program : List Definition → TypedRules → Program

@@ -4,6 +4,7 @@ use Rattle.std.specs.Bool.{◌==◌}
 use Rattle.std.specs.List.{filter}
 use Rattle.isle_model.specs.lists.Syntax.{Position, Definition}
 use Rattle.isle_model.specs.lists.TypeTable.{IsValidTypes}
+use Rattle.isle_model.specs.lists.TermTable.{IsValidTerms}
 use Rattle.isle_model.specs.rules.Typed.{TypedRule}
 use Rattle.isle_model.specs.rules.Program.{Program}
 use Rattle.isle_model.specs.sites.Sites.{SiteTerm}
@@ -67,6 +68,12 @@ pub record RefusesTypes (defs : List Definition) (errors : List Refusal) : Type 
   pub some_error : errors ≢ []
   pub forms : All IsIllTyped errors
   pub not_valid : IsValidTypes defs → ⊥
+
+-- why reading terms is refused, by types that are handed in. No limit is named
+pub record RefusesTerms (e : TypesRead) (defs : List Definition) (errors : List Refusal) : Type 0 where
+  pub some_error : errors ≢ []
+  pub forms : All IsIllTyped errors
+  pub not_valid : IsValidTerms e.known defs → ⊥
 
 -- why reading rules is refused, by types that are handed in
 pub record RefusesRules (e : TypesRead) (defs : List Definition) (expand : Bool) (errors : List Refusal) : Type 0 where

@@ -1,5 +1,5 @@
 -- Picks: which answer of each multi call is taken, what a rule does under a pick, and the bag of a term's results.
-use Rattle.std.specs.Prelude.{◌≡◌, ℕ, zero, suc, ◌<◌, Bool, true, false, List, [], ◌∷◌, ◌++◌, length, map, Option, Some, None, if◌then◌else◌, slice_get, Contains}
+use Rattle.std.specs.Prelude.{◌≡◌, ℕ, zero, suc, ◌<◌, Bool, true, false, List, [], ◌∷◌, ◌++◌, length, map, Option, Some, None, if◌then◌else◌, slice_get, is_some, Contains, IsTrue}
 use Rattle.std.specs.Bool.{◌==◌}
 use Rattle.std.specs.List.{flat_map}
 use Rattle.isle_model.specs.rules.Values.{Value, of_variant, of_struct, Values, no_value, value_and, value_eq, listed}
@@ -75,6 +75,10 @@ abbrev mutual
   pub site_values : Meaning → List Value → Pick → SiteTerms → Option Values
   site_values m args k no_site_term = Some no_value
   site_values m args k (site_term_and s rest) = then_option (then_option (site_content m args k s) as_value) (λ v. then_option (site_values m args k rest) (λ vs. Some (value_and v vs)))
+
+-- the site has a content on these arguments under a pick
+abbrev pub HasContent : Meaning → List Value → Pick → SiteTerm → Type 0
+HasContent m args k s = IsTrue (is_some (site_content m args k s))
 
 -- the different multi calls of a rule, in the order met: a call comes after those that its arguments take answers of
 abbrev pub multi_calls : Program → TypedRule → List SiteTerm

@@ -1,11 +1,12 @@
 -- What a meaning must have for the rules of a term, and that it tells constants apart.
-use Rattle.std.specs.Prelude.{◌≡◌, ℕ, ℤ, suc, Bool, true, false, List, [], ◌∷◌, ◌++◌, Option, Some, None, slice_get, is_some, Contains, IsTrue, IsSomeAnd}
+use Rattle.std.specs.Prelude.{◌≡◌, ℕ, ℤ, suc, Bool, true, false, List, [], ◌∷◌, ◌++◌, Option, Some, None, slice_get, is_some, take, All, Contains, IsTrue, IsSomeAnd}
 use Rattle.std.specs.Bool.{◌==◌}
 use Rattle.std.specs.List.{flat_map, list_all}
 use Rattle.isle_model.specs.lists.Tables.{TypeEntry, enum_type, struct_type, TermEntry}
 use Rattle.isle_model.specs.rules.Values.{Value, Values, no_value, value_and, of_variant, of_struct, well_typed, all_well_typed, listed}
 use Rattle.isle_model.specs.rules.Meaning.{Content, one, parts, nothing, just, many, contents, Meaning, look, bool_literal, int_literal, literal_value, constant_value, extractor_answer, pure_answer, impure_answer}
 use Rattle.isle_model.specs.rules.Matching.{matches}
+use Rattle.isle_model.specs.rules.Picks.{Pick, site_content, site_values, HasContent}
 use Rattle.isle_model.specs.rules.Program.{Program, Kind, a_call, kind}
 use Rattle.isle_model.specs.sites.Sites.{Constraint, is_bool, is_int, is_prim, SiteTerm, bool_term, int_term, prim_term, argument, extractor_call, constructor_call, pick_of, variant_made, variant_field, struct_made, struct_field, some_made, some_part, tuple_part, SiteTerms, no_site_term, site_term_and}
 use Rattle.isle_model.specs.sites.Demands.{Demands, demands_of}
@@ -89,15 +90,19 @@ typed_as p None v = false
 typed_as p (Some ty) v = well_typed p.types ty v
 
 -- the meaning has a well-typed entry for each literal and constant of the rules, for each call that a site of
--- them asks on these arguments, and for each impure call of a rule that matches, by the number of impure calls made
--- before it, where its own arguments have values
+-- them asks on these arguments under some pick, and for each impure call that a matching rule reaches, by the number of
+-- impure calls made before it: those before it in its rule gave values, and its own arguments have values
 pub record Serves (p : Program) (m : Meaning) (args : List Value) (rs : List TypedRule) : Type 0 where
   pub bools : (b : Bool) (ty : ℕ) → Contains (asked p rs) (bool_term b ty) → IsSomeAnd (literal_value m (bool_literal b ty)) (λ v. IsTrue (well_typed p.types ty v))
   pub ints : (z : ℤ) (ty : ℕ) → Contains (asked p rs) (int_term z ty) → IsSomeAnd (literal_value m (int_literal z ty)) (λ v. IsTrue (well_typed p.types ty v))
   pub prims : (name : ℕ) → Contains (asked p rs) (prim_term name) → IsSomeAnd (constant_value m name) (λ v. IsTrue (typed_as p (constant_type p name) v))
-  pub extractors : (t : ℕ) (s : SiteTerm) (v : Value) → Contains (asked p rs) (extractor_call t s) → Holds m args s (one v) → IsSomeAnd (extractor_answer m t v) (λ c. IsTrue (fits_extractor p t (kind p t) c))
-  pub pures : (t : ℕ) (ss : SiteTerms) (vs : Values) → Contains (asked p rs) (constructor_call t ss 0) → HoldsAll m args ss vs → IsSomeAnd (pure_answer m t vs) (λ c. IsTrue (fits_constructor p t (kind p t) c))
-  pub impures : (r : TypedRule) (t before : ℕ) (ss : SiteTerms) (vs : Values) → Contains rs r → IsTrue (is_some (matches p m r args)) → Contains (demands_of p r).made (constructor_call t ss (suc before)) → HoldsAll m args ss vs → IsSomeAnd (impure_answer m t before) (λ c. IsTrue (fits_constructor p t (kind p t) c))
+  pub extractors : (k : Pick) (t : ℕ) (s : SiteTerm) (v : Value) → Contains (asked p rs) (extractor_call t s) → site_content m args k s ≡ Some (one v)
+      → IsSomeAnd (extractor_answer m t v) (λ c. IsTrue (fits_extractor p t (kind p t) c))
+  pub pures : (k : Pick) (t : ℕ) (ss : SiteTerms) (vs : Values) → Contains (asked p rs) (constructor_call t ss 0) → site_values m args k ss ≡ Some vs
+      → IsSomeAnd (pure_answer m t vs) (λ c. IsTrue (fits_constructor p t (kind p t) c))
+  pub impures : (k : Pick) (r : TypedRule) (t before : ℕ) (ss : SiteTerms) (vs : Values) → Contains rs r → IsTrue (is_some (matches p m r args))
+      → Contains (demands_of p r).made (constructor_call t ss (suc before)) → All (HasContent m args k) (take before (demands_of p r).impure) → site_values m args k ss ≡ Some vs
+      → IsSomeAnd (impure_answer m t before) (λ c. IsTrue (fits_constructor p t (kind p t) c))
 
 -- a constant as it is written: its type and its value
 abbrev pub written_type : Program → SiteTerm → Option ℕ

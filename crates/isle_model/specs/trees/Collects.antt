@@ -125,6 +125,10 @@ abbrev pub IsPureSite : Site → Type 0
 IsPureSite (constructor_site term sources (suc before)) = ⊥
 IsPureSite _ = Unit {0}
 
+-- there is a site of this number, and it makes no impure call
+abbrev pub IsPureAt : List Site → ℕ → Type 0
+IsPureAt sites s = (b : Site) × (slice_get sites s ≡ Some b) × IsPureSite b
+
 -- a set whose sites stand once, after their sources, with such rules. Sites that none of its rules uses may be anything:
 -- a rule that was left out leaves its sites behind
 pub record IsCollectedSet (set : SiteSet) : Type 0 where
@@ -132,12 +136,12 @@ pub record IsCollectedSet (set : SiteSet) : Type 0 where
   pub sources : (s a : ℕ) → Contains (sources_at set.sites s) a → a < s
   pub rules : All (IsCollectedRule set.sites) set.rules
 
--- under every pick, the world has a content for each site that is no impure call, waits for nothing and whose sources
--- have one; a call that is gone over answers a list, equal sites have values, and a content that meets a constraint has
--- its number of fields and meets no other constraint that rules ask of the site
+-- under every pick, the world has a content for each site that waits for nothing, that no impure call stands at or below,
+-- and whose sources have one; a call that is gone over answers a list, equal sites have values, and a content that meets a
+-- constraint has its number of fields and meets no other constraint that rules ask of the site
 pub record ServesSet (set : SiteSet) (w : World) : Type 0 where
   pub sites : w.sites ≡ set.sites
-  pub found : (k : Pick) (s : ℕ) → s < length set.sites → waits (slice_get set.sites s) ≡ false → IsTrue (calls_nothing (slice_get set.sites s))
+  pub found : (k : Pick) (s : ℕ) → All (IsPureAt set.sites) (all_below set.sites (s ∷ [])) → waits (slice_get set.sites s) ≡ false
       → All (λ a. IsTrue (is_some (content_at w k a))) (sources_at set.sites s) → IsTrue (is_some (content_at w k s))
   pub lists : (k : Pick) (r : SetRule) (s : ℕ) (c : Content) → Contains set.rules r → Contains r.iterators s → content_at w k s ≡ Some c → (cs : Contents) × (c ≡ many cs)
   pub values : (k : Pick) (r : SetRule) (a b : ℕ) (c : Content) → Contains set.rules r → IsTrue (joins_in r.classes a b) → content_at w k a ≡ Some c → (v : Value) × (c ≡ one v)

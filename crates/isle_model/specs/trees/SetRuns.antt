@@ -11,16 +11,12 @@ use Rattle.isle_model.specs.trees.Run.{World, Env, bound_to, used, content_field
 use Rattle.isle_model.specs.trees.Places.{Around, is_in, joins_in, waits, all_below, fields_of, bind_order, return_uses}
 use Rattle.isle_model.specs.trees.Sound.{IsSound}
 use Rattle.isle_model.specs.rules.Picks.{Pick}
-use Rattle.isle_model.specs.trees.Collects.{content_at, meets, demands_hold, IsPureSite}
+use Rattle.isle_model.specs.trees.Collects.{content_at, meets, demands_hold, IsPureAt}
 use Rattle.isle_model.specs.sites.Gates.{gate_demanded}
 
 -- the sites that a rule tests
 abbrev pub tested_sites : SetRule → List ℕ
 tested_sites r = map (λ d. d.0) r.constraints ++ flat_map (λ c. c) r.classes
-
--- there is a site of this number, and it makes no impure call
-abbrev pub IsPureAt : List Site → ℕ → Type 0
-IsPureAt sites s = (b : Site) × (slice_get sites s ≡ Some b) × IsPureSite b
 
 -- an unwrap of a call's answer
 abbrev pub IsUnwrap : Option Site → Type 0

@@ -1,0 +1,283 @@
+-- Each call that a rule of a built set goes over has a site for its answers: the visit that goes over it makes one, and no
+-- site is lost.
+use Rattle.std.proofs.Common.{◌≡◌, ◌≤◌, ◌<◌, ℕ, zero, suc, Bool, true, false, if◌then◌else◌, List, [], ◌∷◌, ◌++◌, length, take, flat_map, Option, Some, None, slice_get, Contains, refl, sym, ap, ◌∙◌, subst, inl, inr, arith}
+use Rattle.std.proofs.lemmas.Option.{same_Some, slice_get_within}
+use Rattle.isle_model.specs.lists.Tables.{Flags}
+use Rattle.isle_model.specs.rules.Program.{Program, Kind, a_variant, a_struct, a_call, unknown, kind, flags_of, is_partial, rules_of}
+use Rattle.isle_model.specs.rules.Typed.{TypedPattern, match_bind, match_var, match_bool, match_int, match_prim, match_term, match_any, match_and, TypedPatterns, no_typed_pattern, typed_pattern_and, TypedExpr, make_term, make_var, make_bool, make_int, make_prim, make_let, TypedExprs, no_typed_expr, typed_expr_and, TypedLets, no_typed_let, typed_let_and, TypedIfLet, TypedRule}
+use Rattle.isle_model.specs.sites.Sites.{Site, bool_site, int_site, prim_site, argument_site, extractor_site, constructor_site, iterator_site, make_variant_site, match_variant_site, make_struct_site, extract_struct_site, make_some_site, match_some_site, match_tuple_site, is_present, SetRule, SiteSet, sources_of, SiteTerm, argument, bool_term, int_term, prim_term, extractor_call, constructor_call, pick_of, variant_made, struct_made, some_made, some_part, SiteTerms, layer_at, unfold_site}
+use Rattle.isle_model.specs.sites.Demands.{demands_of, Visit, visit_start, making, asking, iterating, calling, binding, equating, var_site, site_term_eq, has_site, with_sites, opened, part_sites, output_sites, open_call, open_term, visit_pattern, visit_each, visit_all, Valued, ValuedAll, valued, call_sites, call_result, where_multi, visit_call, visit_term, visit_expr, visit_exprs, visit_lets, unwraps, asking_all, visit_args, visit_iflets, finished, visit_rule}
+use Rattle.isle_model.specs.sites.DemandedGates.{HasNoPartialMulti}
+use Rattle.isle_model.specs.sites.Closure.{Closed, closed, before_closing, most_closing_steps, ascending, class_at, field_terms}
+use Rattle.isle_model.specs.sites.Limits.{most_sites, sites_after_rule, sites_after_rules, sites_reached, sites_wanted, made_walking, walked_rule}
+use Rattle.isle_model.specs.sites.Closure.{is_unreachable}
+use Rattle.isle_model.specs.sites.Overlap.{BuiltRule, is_built, built_rule, built_from, built_rules}
+use Rattle.isle_model.specs.claims.Environments.{program_of}
+use Rattle.isle_model.specs.claims.Layers.{IsBuiltForSome}
+use Rattle.isle_model.proofs.Elements.{In, in_from_contains, in_left, in_right, in_either, slice_in}
+use Rattle.isle_model.proofs.Positions.{get_front}
+use Rattle.isle_laws_demands.proofs.closure.Classes.{in_with_sites}
+use Rattle.isle_laws_demands.proofs.closure.Closing.{closing_keeps}
+use Rattle.isle_laws_demands.proofs.closure.WholeVisits.{reached_closed, few_made}
+use Rattle.isle_laws_demands.proofs.visits.Built.{rule_at}
+use Rattle.isle_laws_demands.proofs.visits.Declared.{program_not_both}
+use Rattle.isle_laws_demands.proofs.visits.Once.{one_number}
+use Rattle.isle_laws_demands.proofs.visits.Unfolding.{unfolds}
+
+-- 1. the visit of a rule makes a pick of each call that it goes over
+abbrev AllPicked : Visit → Type 0
+AllPicked v = (call : SiteTerm) → In v.demands.iterators call → In v.demands.made (pick_of call)
+
+more_made : (ts : List SiteTerm) (v : Visit) → AllPicked v → AllPicked (making ts v)
+more_made ts v h call i = in_left v.demands.made ts (pick_of call) (h call i)
+
+gone_over : (call : SiteTerm) (v : Visit) → AllPicked v → In v.demands.made (pick_of call) → AllPicked (iterating call v)
+gone_over call v h m c i =
+    elim (in_either v.demands.iterators (call ∷ []) c i) [
+      | inl j ↦ h c j
+      | inr j ↦ elim j [ inl e ↦ subst (λ x. In v.demands.made (pick_of x)) e m | inr n ↦ absurd n ]
+    ]
+
+-- a call, made with its pick and gone over
+picked : (call : SiteTerm) (v : Visit) → AllPicked v → AllPicked (iterating call (making (call ∷ (pick_of call ∷ [])) v))
+picked call v h =
+    gone_over call (making (call ∷ (pick_of call ∷ [])) v) (more_made (call ∷ (pick_of call ∷ [])) v h)
+    (in_right v.demands.made (call ∷ (pick_of call ∷ [])) (pick_of call) (inr (inl refl)))
+
+equal_picked : (a b : SiteTerm) (v : Visit) → AllPicked v → AllPicked (equating a b v)
+equal_picked a b v h = of (site_term_eq a b)
+  where
+    of : (q : Bool) → AllPicked (if q then v else (record { vars = v.vars; impure_calls = v.impure_calls; demands = record { constraints = v.demands.constraints; equalities = v.demands.equalities ++ (a, b) ∷ []; iterators = v.demands.iterators; impure = v.demands.impure; made = v.demands.made } }))
+    of true = h
+    of false = h
+
+call_opened : (flags : Flags) (infallible : Bool) (call : SiteTerm) (args : TypedPatterns) (v : Visit) → AllPicked v → AllPicked (open_call flags infallible call args v).visit
+call_opened flags infallible call args v h = of flags.multi infallible
+  where
+    of : (multi certain : Bool) → AllPicked (if multi
+        then opened (output_sites (pick_of call) args) (making (part_sites (pick_of call) args) (iterating call (making (call ∷ (pick_of call ∷ [])) v)))
+        else (if certain
+        then opened (output_sites call args) (making (part_sites call args) (making (call ∷ []) v))
+        else opened (output_sites (some_part call) args) (making (part_sites (some_part call) args) (asking call is_present (making (call ∷ (some_part call ∷ [])) v))))).visit
+    of true certain = more_made (part_sites (pick_of call) args) (iterating call (making (call ∷ (pick_of call ∷ [])) v)) (picked call v h)
+    of false true = more_made (part_sites call args) (making (call ∷ []) v) (more_made (call ∷ []) v h)
+    of false false = more_made (part_sites (some_part call) args) (asking call is_present (making (call ∷ (some_part call ∷ [])) v)) (more_made (call ∷ (some_part call ∷ [])) v h)
+
+term_opened : (k : Kind) (t : ℕ) (s : SiteTerm) (args : TypedPatterns) (v : Visit) → AllPicked v → AllPicked (open_term k t s args v).visit
+term_opened (a_variant ty variant) t s args v h = λ call i. in_left v.demands.made _ (pick_of call) (h call i)
+term_opened (a_struct ty) t s args v h = λ call i. in_left v.demands.made _ (pick_of call) (h call i)
+term_opened (a_call flags infallible) t s args v h = call_opened flags infallible (extractor_call t s) args v h
+term_opened unknown t s args v h = h
+
+module _ (p : Program) where
+  mutual
+    pattern_picked : (q : TypedPattern) (s : SiteTerm) (v : Visit) → AllPicked v → AllPicked (visit_pattern p q s v)
+    pattern_picked (match_bind ty x sub) s v h = pattern_picked sub s (binding x s v) h
+    pattern_picked (match_var ty x) s v h = equal_picked s (var_site v x) v h
+    pattern_picked (match_bool ty b) s v h = h
+    pattern_picked (match_int ty z) s v h = h
+    pattern_picked (match_prim ty name) s v h = h
+    pattern_picked (match_term ty t args) s v h = each_picked args (open_term (kind p t) t s args v).inputs (open_term (kind p t) t s args v).visit (term_opened (kind p t) t s args v h)
+    pattern_picked (match_any ty) s v h = h
+    pattern_picked (match_and ty subs) s v h = all_picked subs s v h
+
+    each_picked : (qs : TypedPatterns) (ss : List SiteTerm) (v : Visit) → AllPicked v → AllPicked (visit_each p qs ss v)
+    each_picked no_typed_pattern ss v h = h
+    each_picked (typed_pattern_and q qs) [] v h = h
+    each_picked (typed_pattern_and q qs) (s ∷ ss) v h = each_picked qs ss (visit_pattern p q s v) (pattern_picked q s v h)
+
+    all_picked : (qs : TypedPatterns) (s : SiteTerm) (v : Visit) → AllPicked v → AllPicked (visit_all p qs s v)
+    all_picked no_typed_pattern s v h = h
+    all_picked (typed_pattern_and q qs) s v h = all_picked qs s (visit_pattern p q s v) (pattern_picked q s v h)
+
+-- a call of a constructor that isn't both multi and partial
+call_picked : (flags : Flags) → (flags.multi ≡ true → flags.partial ≡ true → ⊥) → (call : SiteTerm) (v : Visit) → AllPicked v → AllPicked (where_multi flags call (making (call_sites flags call) v))
+call_picked flags neither call v h = of flags.partial flags.multi neither
+  where
+    of : (partial multi : Bool) → (multi ≡ true → partial ≡ true → ⊥)
+        → AllPicked (if multi
+        then iterating call (making (if partial then call ∷ (some_part call ∷ []) else (if multi then call ∷ (pick_of call ∷ []) else call ∷ [])) v)
+        else making (if partial then call ∷ (some_part call ∷ []) else (if multi then call ∷ (pick_of call ∷ []) else call ∷ [])) v)
+    of true true n = absurd (n refl refl)
+    of false true n = picked call v h
+    of true false n = more_made (call ∷ (some_part call ∷ [])) v h
+    of false false n = more_made (call ∷ []) v h
+
+visited_call : (flags : Flags) → (flags.multi ≡ true → flags.partial ≡ true → ⊥) → (t : ℕ) (args : SiteTerms) (v : Visit) → AllPicked v → AllPicked (visit_call flags t args v).visit
+visited_call flags neither t args v h = of flags.pure
+  where
+    of : (pure : Bool) → AllPicked (if pure
+        then (let call = constructor_call t args 0 in valued (call_result flags call) (where_multi flags call (making (call_sites flags call) v)))
+        else (let call = constructor_call t args (suc v.impure_calls) in valued (call_result flags call) (calling (call_result flags call) (where_multi flags call (making (call_sites flags call) v))))).visit
+    of true = call_picked flags neither (constructor_call t args 0) v h
+    of false = call_picked flags neither (constructor_call t args (suc v.impure_calls)) v h
+
+visited_term : (k : Kind) → ((flags_of k).multi ≡ true → (flags_of k).partial ≡ true → ⊥) → (t : ℕ) (a : ValuedAll) → AllPicked a.visit → AllPicked (visit_term k t a).visit
+visited_term (a_variant ty variant) neither t a h = more_made (variant_made ty variant a.sites ∷ []) a.visit h
+visited_term (a_struct ty) neither t a h = more_made (struct_made ty a.sites ∷ []) a.visit h
+visited_term (a_call flags infallible) neither t a h = visited_call flags neither t a.sites a.visit h
+visited_term unknown neither t a h = h
+
+asked_picked : (ss : List SiteTerm) (v : Visit) → AllPicked v → AllPicked (asking_all ss v)
+asked_picked [] v h = h
+asked_picked (s ∷ ss) v h = asked_picked ss (asking s is_present v) h
+
+finished_picked : (b : Bool) (a : Valued) → AllPicked a.visit → AllPicked (finished b a).visit
+finished_picked false a h = h
+finished_picked true a h = more_made (some_made a.site ∷ []) a.visit h
+
+module _ (p : Program) (neither : HasNoPartialMulti p) where
+  mutual
+    expr_picked : (e : TypedExpr) (v : Visit) → AllPicked v → AllPicked (visit_expr p e v).visit
+    expr_picked (make_term ty t args) v h = visited_term (kind p t) (neither t) t (visit_exprs p args v) (exprs_picked args v h)
+    expr_picked (make_var ty x) v h = h
+    expr_picked (make_bool ty b) v h = more_made (bool_term b ty ∷ []) v h
+    expr_picked (make_int ty z) v h = more_made (int_term z ty ∷ []) v h
+    expr_picked (make_prim ty name) v h = more_made (prim_term name ∷ []) v h
+    expr_picked (make_let ty defs body) v h = expr_picked body (visit_lets p defs v) (lets_picked defs v h)
+
+    exprs_picked : (es : TypedExprs) (v : Visit) → AllPicked v → AllPicked (visit_exprs p es v).visit
+    exprs_picked no_typed_expr v h = h
+    exprs_picked (typed_expr_and x xs) v h = exprs_picked xs (visit_expr p x v).visit (expr_picked x v h)
+
+    lets_picked : (ds : TypedLets) (v : Visit) → AllPicked v → AllPicked (visit_lets p ds v)
+    lets_picked no_typed_let v h = h
+    lets_picked (typed_let_and x ty value rest) v h = lets_picked rest (binding x (visit_expr p value v).site (visit_expr p value v).visit) (expr_picked value v h)
+
+  args_picked : (i : ℕ) (qs : List TypedPattern) (v : Visit) → AllPicked v → AllPicked (visit_args p i qs v)
+  args_picked i [] v h = h
+  args_picked i (q ∷ qs) v h =
+      args_picked (suc i) qs (visit_pattern p q (argument i) (making (argument i ∷ []) v)) (pattern_picked p q (argument i) (making (argument i ∷ []) v) (more_made (argument i ∷ []) v h))
+
+  iflets_picked : (is : List TypedIfLet) (v : Visit) → AllPicked v → AllPicked (visit_iflets p is v)
+  iflets_picked [] v h = h
+  iflets_picked (i ∷ is) v h =
+      let a = visit_expr p i.rhs v in
+      let w = asking_all (unwraps a.site) a.visit in
+      iflets_picked is (visit_pattern p i.lhs a.site w) (pattern_picked p i.lhs a.site w (asked_picked (unwraps a.site) a.visit (expr_picked i.rhs v h)))
+
+  rule_picked : (r : TypedRule) → AllPicked (visit_rule p r).visit
+  rule_picked r =
+      let u = visit_args p 0 r.args visit_start in
+      let w = visit_iflets p r.iflets u in
+      finished_picked (is_partial p r.root_term) (visit_expr p r.rhs w) (expr_picked r.rhs w (iflets_picked r.iflets u (args_picked 0 r.args visit_start (λ call i. absurd i))))
+
+-- 2. no site that is made is lost
+abbrev Keeps : List SiteTerm → List SiteTerm → Type 0
+Keeps ts us = (k : ℕ) (u : SiteTerm) → slice_get ts k ≡ Some u → slice_get us k ≡ Some u
+
+with_keeps : (ts xs : List SiteTerm) → Keeps ts (with_sites ts xs)
+with_keeps ts [] k u e = e
+with_keeps ts (x ∷ xs) k u e =
+    with_keeps (if has_site ts x then ts else ts ++ x ∷ []) xs k u (of (has_site ts x))
+  where
+    of : (q : Bool) → slice_get (if q then ts else ts ++ x ∷ []) k ≡ Some u
+    of true = e
+    of false = get_front ts (x ∷ []) k u e
+
+closing_keeps_made : (before : List SiteTerm) (r : Program) (q : TypedRule) → Keeps (with_sites before (demands_of r q).made) (closed before (demands_of r q)).made
+closing_keeps_made before r q k u e =
+    closing_keeps (λ (c : Closed). slice_get c.made k ≡ Some u)
+    (λ c h d n. with_keeps c.made (flat_map (field_terms d.1) (ascending c.made (class_at c.classes d.0))) k u h) most_closing_steps (before_closing before (demands_of r q)) e
+
+taken_keeps : (n : ℕ) (ts : List SiteTerm) (k : ℕ) (u : SiteTerm) → k < n → slice_get ts k ≡ Some u → slice_get (take n ts) k ≡ Some u
+taken_keeps zero ts k u l e = absurd (omega arith)
+taken_keeps (suc n) [] k u l e = e
+taken_keeps (suc n) (t ∷ ts) zero u l e = e
+taken_keeps (suc n) (t ∷ ts) (suc k) u l e = taken_keeps n ts k u (omega arith) e
+
+few_taken : (n : ℕ) (ts : List SiteTerm) → length (take n ts) ≤ n
+few_taken zero ts = omega arith
+few_taken (suc n) [] = omega arith
+few_taken (suc n) (t ∷ ts) = let l = few_taken n ts in omega arith
+
+module _ (p : Program) where
+  reached_keeps : (before : List SiteTerm) (r : TypedRule) → Keeps before (sites_reached p before r)
+  reached_keeps before r k u e = of (walked_rule p r).ended
+    where
+      wanted : (q : Bool) → slice_get (if q then with_sites before (demands_of p r).made else (closed before (demands_of p r)).made) k ≡ Some u
+      wanted true = with_keeps before (demands_of p r).made k u e
+      wanted false = closing_keeps_made before p r k u (with_keeps before (demands_of p r).made k u e)
+
+      of : (q : Bool) → slice_get (if q then with_sites before (made_walking p (walked_rule p r)) else sites_wanted p before r) k ≡ Some u
+      of true = with_keeps before (made_walking p (walked_rule p r)) k u e
+      of false = wanted (is_unreachable (demands_of p r))
+
+  rule_keeps : (before : List SiteTerm) (r : TypedRule) → length before ≤ most_sites → Keeps before (sites_after_rule p before r)
+  rule_keeps before r l k u e =
+      let w = slice_get_within before k u e in
+      taken_keeps most_sites (sites_reached p before r) k u (omega (arith, l, w)) (reached_keeps before r k u e)
+
+  rules_keep : (before : List SiteTerm) (rs : List TypedRule) → length before ≤ most_sites → Keeps before (sites_after_rules p before rs)
+  rules_keep before [] l k u e = e
+  rules_keep before (r ∷ rs) l k u e = rules_keep (sites_after_rule p before r) rs (few_taken most_sites (sites_reached p before r)) k u (rule_keeps before r l k u e)
+
+  -- what the visit of a built rule makes has a number
+  made_numbered : (before : List SiteTerm) (r : TypedRule) → is_built p before r ≡ true → (u : SiteTerm) → In (demands_of p r).made u → (k : ℕ) × (slice_get (sites_after_rule p before r) k ≡ Some u)
+  made_numbered before r b u i =
+      let all = (closed before (demands_of p r)).made in
+      let at = slice_in (with_sites before (demands_of p r).made) u (in_with_sites before (demands_of p r).made u (inr i)) in
+      let e = closing_keeps_made before p r at.0 u at.1 in
+      let l = few_made p before r b in
+      let w = slice_get_within all at.0 u e in
+      (at.0, taken_keeps most_sites (sites_reached p before r) at.0 u (omega (arith, l, w)) (ap (λ ts. slice_get ts at.0) (reached_closed p before r b) ∙ e))
+
+  all_numbered : (before : List SiteTerm) (rs : List TypedRule) (b : BuiltRule) → In (built_from p before rs) b → (u : SiteTerm) → In (demands_of p b.rule).made u → (k : ℕ) × (slice_get (sites_after_rules p before rs) k ≡ Some u)
+  all_numbered before [] b i u m = absurd i
+  all_numbered before (r ∷ rs) b i u m =
+      elim (in_either (if is_built p before r then built_rule p before r ∷ [] else []) (built_from p (sites_after_rule p before r) rs) b i) [
+        | inl j ↦ here (is_built p before r) refl j
+        | inr j ↦ all_numbered (sites_after_rule p before r) rs b j u m
+      ]
+    where
+      here : (q : Bool) → is_built p before r ≡ q → In (if q then built_rule p before r ∷ [] else []) b → (k : ℕ) × (slice_get (sites_after_rules p (sites_after_rule p before r) rs) k ≡ Some u)
+      here true e (inl s) =
+          let n = made_numbered before r e u (subst (λ (x : BuiltRule). In (demands_of p x.rule).made u) (sym s) m) in
+          (n.0, rules_keep (sites_after_rule p before r) rs (few_taken most_sites (sites_reached p before r)) n.0 u n.1)
+      here true e (inr n) = absurd n
+      here false e j = absurd j
+
+-- 3. in a set
+abbrev Picks : Option Site → ℕ → Type 0
+Picks o s = o ≡ Some (iterator_site s)
+
+module _ (set : SiteSet) (built : IsBuiltForSome set) where
+  abbrev program : Program
+  program = program_of built.types built.defs built.rules.rules
+
+  -- a site that stands for a pick of a call's answers is an iterator of it
+  is_pick : (s k : ℕ) → s < length set.sites → unfold_site set.sites k ≡ pick_of (unfold_site set.sites s) → slice_get set.sites k ≡ Some (iterator_site s)
+  is_pick s k l e = of (slice_get set.sites k) refl (sym (unfolds set.sites built.built.sources k) ∙ e)
+    where
+      of : (o : Option Site) → slice_get set.sites k ≡ o → layer_at (unfold_site set.sites) o ≡ pick_of (unfold_site set.sites s) → slice_get set.sites k ≡ Some (iterator_site s)
+      of None q h = absurd cc
+      of (Some (iterator_site a)) q h =
+          let under : a < k = built.built.sources k a (subst (λ o. Contains (elim o as (λ _. List ℕ) [ None ↦ [] | Some b ↦ sources_of b ]) a) (sym q) (0, omega arith, refl)) in
+          let within = slice_get_within set.sites k (iterator_site a) q in
+          let same : unfold_site set.sites a ≡ unfold_site set.sites s = cc in
+          q ∙ ap (λ x. Some (iterator_site x)) (one_number program built.term set built.built a s (omega (arith, under, within)) l same)
+      of (Some (bool_site b ty)) q h = absurd cc
+      of (Some (int_site z ty)) q h = absurd cc
+      of (Some (prim_site name)) q h = absurd cc
+      of (Some (argument_site i)) q h = absurd cc
+      of (Some (extractor_site term source)) q h = absurd cc
+      of (Some (constructor_site term sources instance)) q h = absurd cc
+      of (Some (make_variant_site ty variant fields)) q h = absurd cc
+      of (Some (match_variant_site source variant field)) q h = absurd cc
+      of (Some (make_struct_site ty fields)) q h = absurd cc
+      of (Some (extract_struct_site source field)) q h = absurd cc
+      of (Some (make_some_site source)) q h = absurd cc
+      of (Some (match_some_site source)) q h = absurd cc
+      of (Some (match_tuple_site source field)) q h = absurd cc
+
+  pub picks_are_made : (r : SetRule) (s : ℕ) → Contains set.rules r → Contains r.iterators s → (k : ℕ) × (slice_get set.sites k ≡ Some (iterator_site s))
+  picks_are_made r s c g =
+      let a = rule_at program set.sites (built_rules program built.term) set.rules built.built.rules r (in_from_contains set.rules r c) in
+      let call = a.2.iterators.gone_over s g in
+      let made = rule_picked program (program_not_both built.types built.defs built.expand built.rules built.elaborated) a.0.rule (unfold_site set.sites s) (in_from_contains (demands_of program a.0.rule).iterators (unfold_site set.sites s) call.1) in
+      let n = all_numbered program [] (rules_of program built.term) a.0 a.1 (pick_of (unfold_site set.sites s)) made in
+      let within = slice_get_within (sites_after_rules program [] (rules_of program built.term)) n.0 (pick_of (unfold_site set.sites s)) n.1 in
+      let count = built.built.sites.count in
+      let l : n.0 < length set.sites = omega (arith, within, count) in
+      let exact = built.built.sites.exact n.0 l in
+      (n.0, is_pick s n.0 call.0 (same_Some (unfold_site set.sites n.0) (pick_of (unfold_site set.sites s)) (sym exact ∙ n.1)))
