@@ -3,3 +3,4 @@ pub mod Faults
 pub mod Forms
 pub mod Tokens
 pub mod Lets
+pub mod Lists

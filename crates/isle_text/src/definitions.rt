@@ -33,15 +33,15 @@ fn definition(at: Source, form: &Form) -> Result<Def, ReadFault>
     requires { FormIsWithin at.file at.len form.now }
     ensures { MatchResult result (λ d. DefinitionIsWithin at.file at.len (definition_view d)) (FaultIsWithin at.file at.len) }
 {
-    let (head, rest, pos, end) = headed(at, form, Mistake::Definition)?;
+    let (head, rest) = headed(at, form, Mistake::Definition)?;
     match head {
-        "type" => type_definition(at, rest, pos, end),
-        "decl" => declaration(at, rest, pos),
-        "rule" => rule(at, rest, pos, end),
-        "extractor" => extractor(at, rest, pos, end),
-        "extern" => external(at, rest, pos, end),
-        "convert" => conversion(at, rest, pos, end),
+        "type" => type_definition(at, rest),
+        "decl" => declaration(at, rest),
+        "rule" => rule(at, rest),
+        "extractor" => extractor(at, rest),
+        "extern" => external(at, rest),
+        "convert" => conversion(at, rest),
         "pragma" => Ok(Def::Other),
-        _ => Err(fault(Mistake::Definition, pos)),
+        _ => Err(fault(Mistake::Definition, rest.pos)),
     }
 }

@@ -4,44 +4,54 @@
 ghost use Rattle.std.specs.Prelude.{MatchResult, ⊤};
 ghost use Rattle.isle_text.specs.Faults.{FaultIsWithin};
 ghost use Rattle.isle_text.specs.Forms.{FormIsWithin, FormsAreWithin, IdentIsWithin, IdentsAreWithin, PosIsWithin};
+ghost use Rattle.isle_text.specs.Lists.{PartsAreWithin};
 
 use crate::errors::{Mistake, ReadFault, fault};
 use crate::forms::Form;
 use crate::source::Source;
 use isle_base::syntax::{Ident, Pos};
 
-/// The next form and those after it. Where the list ends, the mistake stands at its end.
+/// A list of a text: the parts that are left to read.
+#[derive(Clone, Copy)]
+pub struct Parts<'a> {
+    pub forms: &'a [Form],
+    /// Where the list begins.
+    pub pos: Pos,
+    /// Where it ends.
+    pub end: Pos,
+}
+
+/// The next part and the list after it. Where the list ends, the mistake stands at its end.
 pub fn next<'a>(
     at: Source,
-    forms: &'a [Form],
+    parts: Parts<'a>,
     mistake: Mistake,
-    end: Pos,
-) -> Result<(&'a Form, &'a [Form]), ReadFault>
-    requires forms { FormsAreWithin at.file at.len forms.now }
-    requires end { PosIsWithin at.file at.len end }
+) -> Result<(&'a Form, Parts<'a>), ReadFault>
+    requires { PartsAreWithin at.file at.len parts }
     ensures { MatchResult result
-        (λ p. FormIsWithin at.file at.len p.0.now × FormsAreWithin at.file at.len p.1.now)
+        (λ p. FormIsWithin at.file at.len p.0.now × PartsAreWithin at.file at.len p.1)
         (FaultIsWithin at.file at.len) }
 {
-    match forms {
-        [first, rest @ ..] => Ok((first, rest)),
-        [] => Err(fault(mistake, end)),
+    match parts.forms {
+        [first, rest @ ..] => Ok((
+            first,
+            Parts {
+                forms: rest,
+                ..parts
+            },
+        )),
+        [] => Err(fault(mistake, parts.end)),
     }
 }
 
-/// The next form, a name, and the forms after it.
-pub fn next_name<'a>(
-    at: Source,
-    forms: &'a [Form],
-    end: Pos,
-) -> Result<(Ident, &'a [Form]), ReadFault>
-    requires forms { FormsAreWithin at.file at.len forms.now }
-    requires end { PosIsWithin at.file at.len end }
+/// The next part, a name, and the list after it.
+pub fn next_name<'a>(at: Source, parts: Parts<'a>) -> Result<(Ident, Parts<'a>), ReadFault>
+    requires { PartsAreWithin at.file at.len parts }
     ensures { MatchResult result
-        (λ p. IdentIsWithin at.file at.len p.0 × FormsAreWithin at.file at.len p.1.now)
+        (λ p. IdentIsWithin at.file at.len p.0 × PartsAreWithin at.file at.len p.1)
         (FaultIsWithin at.file at.len) }
 {
-    let (form, rest) = next(at, forms, Mistake::Name, end)?;
+    let (form, rest) = next(at, parts, Mistake::Name)?;
     Ok((name(at, form)?, rest))
 }
 
@@ -57,78 +67,88 @@ pub fn name(at: Source, form: &Form) -> Result<Ident, ReadFault>
 }
 
 /// The name that a list begins with.
-pub fn head(at: Source, parts: &[Form], end: Pos) -> Result<Ident, ReadFault>
-    requires parts { FormsAreWithin at.file at.len parts.now }
+pub fn head(at: Source, forms: &[Form], end: Pos) -> Result<Ident, ReadFault>
+    requires forms { FormsAreWithin at.file at.len forms.now }
     requires end { PosIsWithin at.file at.len end }
     ensures { MatchResult result (IdentIsWithin at.file at.len) (FaultIsWithin at.file at.len) }
 {
-    let (form, _) = next(at, parts, Mistake::Name, end)?;
-    name(at, form)
+    match forms {
+        [first, ..] => name(at, first),
+        [] => Err(fault(Mistake::Name, end)),
+    }
 }
 
 /// Does nothing. Called before a call that goes down a form, so that what that one requires of the parts is known beside what
 /// makes the recursion end.
-pub fn seen(at: Source, parts: &[Form])
-    requires { FormsAreWithin at.file at.len parts.now }
-    ensures { FormsAreWithin at.file at.len parts.now }
+pub fn seen(at: Source, forms: &[Form])
+    requires { FormsAreWithin at.file at.len forms.now }
+    ensures { FormsAreWithin at.file at.len forms.now }
 {
-    let _ = (at.len, parts.len());
+    let _ = (at.len, forms.len());
 }
 
-/// Whether the next form is this word, and the forms after it; or all of them, where it isn't.
-pub fn next_if<'a>(at: Source, forms: &'a [Form], word: &str) -> (bool, &'a [Form])
-    requires { FormsAreWithin at.file at.len forms.now }
-    ensures { FormsAreWithin at.file at.len result.1.now }
+/// Whether the next part is this word, and the list after it; or all of the list, where it isn't.
+pub fn next_if<'a>(at: Source, parts: Parts<'a>, word: &str) -> (bool, Parts<'a>)
+    requires { PartsAreWithin at.file at.len parts }
+    ensures { PartsAreWithin at.file at.len result.1 }
 {
-    match forms {
-        [Form::Word(name), rest @ ..] if name.0.as_str() == word => (true, rest),
-        _ => (false, forms),
+    match parts.forms {
+        [Form::Word(name), rest @ ..] if name.0.as_str() == word => (
+            true,
+            Parts {
+                forms: rest,
+                ..parts
+            },
+        ),
+        _ => (false, parts),
     }
 }
 
 /// Nothing comes next.
-pub fn no_more(at: Source, forms: &[Form]) -> Result<(), ReadFault>
-    requires { FormsAreWithin at.file at.len forms.now }
+pub fn no_more(at: Source, parts: Parts<'_>) -> Result<(), ReadFault>
+    requires { PartsAreWithin at.file at.len parts }
     ensures { MatchResult result (λ _. ⊤) (FaultIsWithin at.file at.len) }
 {
-    match forms {
+    match parts.forms {
         [] => Ok(()),
         [first, ..] => Err(fault(Mistake::End, first.pos())),
     }
 }
 
-/// The parts of a list, where it begins and where it ends.
-pub fn list<'a>(
-    at: Source,
-    form: &'a Form,
-    mistake: Mistake,
-) -> Result<(&'a [Form], Pos, Pos), ReadFault>
+/// The list that a form is.
+pub fn list<'a>(at: Source, form: &'a Form, mistake: Mistake) -> Result<Parts<'a>, ReadFault>
     requires { FormIsWithin at.file at.len form.now }
-    ensures { MatchResult result
-        (λ p. FormsAreWithin at.file at.len p.0.now × PosIsWithin at.file at.len p.1 × PosIsWithin at.file at.len p.2)
-        (FaultIsWithin at.file at.len) }
+    ensures { MatchResult result (PartsAreWithin at.file at.len) (FaultIsWithin at.file at.len) }
 {
     match form {
-        Form::Group(parts, pos, end) => Ok((parts, *pos, *end)),
+        Form::Group(forms, pos, end) => Ok(Parts {
+            forms,
+            pos: *pos,
+            end: *end,
+        }),
         _ => Err(fault(mistake, form.pos())),
     }
 }
 
-/// The word that a list begins with, the parts after it, and where the list begins and ends.
+/// The word that a list begins with, and the list after it.
 pub fn headed<'a>(
     at: Source,
     form: &'a Form,
     mistake: Mistake,
-) -> Result<(&'a str, &'a [Form], Pos, Pos), ReadFault>
+) -> Result<(&'a str, Parts<'a>), ReadFault>
     requires { FormIsWithin at.file at.len form.now }
-    ensures { MatchResult result
-        (λ p. FormsAreWithin at.file at.len p.1.now × PosIsWithin at.file at.len p.2 × PosIsWithin at.file at.len p.3)
-        (FaultIsWithin at.file at.len) }
+    ensures { MatchResult result (λ p. PartsAreWithin at.file at.len p.1) (FaultIsWithin at.file at.len) }
 {
-    let (parts, pos, end) = list(at, form, mistake)?;
-    match parts {
-        [Form::Word(head), rest @ ..] => Ok((head.0.as_str(), rest, pos, end)),
-        _ => Err(fault(mistake, pos)),
+    let parts = list(at, form, mistake)?;
+    match parts.forms {
+        [Form::Word(head), rest @ ..] => Ok((
+            head.0.as_str(),
+            Parts {
+                forms: rest,
+                ..parts
+            },
+        )),
+        _ => Err(fault(mistake, parts.pos)),
     }
 }
 

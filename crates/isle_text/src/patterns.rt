@@ -5,11 +5,12 @@ ghost use Rattle.std.specs.Prelude.{All, MatchResult};
 ghost use Rattle.isle_base.specs.SyntaxViews.{pattern_view};
 ghost use Rattle.isle_text.specs.Faults.{FaultIsWithin};
 ghost use Rattle.isle_text.specs.Forms.{FormIsWithin, FormsAreWithin, IdentIsWithin, PosIsWithin};
+ghost use Rattle.isle_text.specs.Lists.{PartsAreWithin};
 ghost use Rattle.isle_text.specs.Within.{PatternIsWithin};
 
 use crate::errors::{Mistake, ReadFault, fault};
 use crate::forms::Form;
-use crate::parts::{head, next, no_more, seen};
+use crate::parts::{Parts, head, next, no_more, seen};
 use crate::source::Source;
 use isle_base::syntax::{Ident, Pattern, Pos};
 
@@ -30,25 +31,30 @@ pub fn pattern(at: Source, form: &Form) -> Result<Pattern, ReadFault>
             pos: *pos,
         }),
         Form::Bound(name, of) => bound(at, name, pattern(at, of)?),
-        Form::Group(parts, pos, end) => {
-            let parts: &[Form] = parts;
-            seen(at, parts);
-            let sym = head(at, parts, *end)?;
-            let args = arguments(at, parts)?;
-            list_pattern(at, parts, sym, args, *pos, *end)
+        Form::Group(forms, pos, end) => {
+            let forms: &[Form] = forms;
+            seen(at, forms);
+            let sym = head(at, forms, *end)?;
+            let args = arguments(at, forms)?;
+            let parts = Parts {
+                forms,
+                pos: *pos,
+                end: *end,
+            };
+            list_pattern(at, parts, sym, args)
         }
     }
 }
 
 // The patterns that a list's parts after its head are.
 #[cycle(pattern)]
-fn arguments(at: Source, parts: &[Form]) -> Result<Vec<Pattern>, ReadFault>
-    requires { FormsAreWithin at.file at.len parts.now }
+fn arguments(at: Source, forms: &[Form]) -> Result<Vec<Pattern>, ReadFault>
+    requires { FormsAreWithin at.file at.len forms.now }
     ensures { MatchResult result (λ ps. All (λ p. PatternIsWithin at.file at.len (pattern_view p)) ps.items) (FaultIsWithin at.file at.len) }
 {
     let mut patterns = Vec::new(at.alloc);
-    for i in 1..parts.len() {
-        patterns.push(pattern(at, &parts[i])?)?;
+    for i in 1..forms.len() {
+        patterns.push(pattern(at, &forms[i])?)?;
     }
     Ok(patterns)
 }
@@ -56,23 +62,19 @@ fn arguments(at: Source, parts: &[Form]) -> Result<Vec<Pattern>, ReadFault>
 // The pattern that a list with this head is, given the patterns of its other parts.
 fn list_pattern(
     at: Source,
-    parts: &[Form],
+    parts: Parts<'_>,
     sym: Ident,
     args: Vec<Pattern>,
-    pos: Pos,
-    end: Pos,
 ) -> Result<Pattern, ReadFault>
-    requires parts { FormsAreWithin at.file at.len parts.now }
+    requires parts { PartsAreWithin at.file at.len parts }
     requires sym { IdentIsWithin at.file at.len sym }
     requires args { All (λ p. PatternIsWithin at.file at.len (pattern_view p)) args.items }
-    requires pos { PosIsWithin at.file at.len pos }
-    requires end { PosIsWithin at.file at.len end }
     ensures { MatchResult result (λ p. PatternIsWithin at.file at.len (pattern_view p)) (FaultIsWithin at.file at.len) }
 {
     if sym.0.as_str() == "macro-arg" {
-        return macro_arg(at, parts, pos, end);
+        return macro_arg(at, parts);
     }
-    Ok(term(at, sym, args, pos))
+    Ok(term(at, sym, args, parts.pos))
 }
 
 // A name that is bound to what a pattern matches.
@@ -120,20 +122,21 @@ fn word_pattern(at: Source, word: &Ident) -> Result<Pattern, ReadFault>
 }
 
 // The argument of a template: the list's second part is its number.
-fn macro_arg(at: Source, parts: &[Form], pos: Pos, end: Pos) -> Result<Pattern, ReadFault>
-    requires parts { FormsAreWithin at.file at.len parts.now }
-    requires pos { PosIsWithin at.file at.len pos }
-    requires end { PosIsWithin at.file at.len end }
+fn macro_arg(at: Source, parts: Parts<'_>) -> Result<Pattern, ReadFault>
+    requires { PartsAreWithin at.file at.len parts }
     ensures { MatchResult result (λ p. PatternIsWithin at.file at.len (pattern_view p)) (FaultIsWithin at.file at.len) }
 {
-    let (_, rest) = next(at, parts, Mistake::Name, end)?;
-    let (form, rest) = next(at, rest, Mistake::Index, end)?;
+    let (_, rest) = next(at, parts, Mistake::Name)?;
+    let (form, rest) = next(at, rest, Mistake::Index)?;
     no_more(at, rest)?;
     let Form::Number(n, at_number) = form else {
         return Err(fault(Mistake::Index, form.pos()));
     };
     match usize::try_from(*n) {
-        Ok(index) => Ok(Pattern::MacroArg { index, pos }),
+        Ok(index) => Ok(Pattern::MacroArg {
+            index,
+            pos: parts.pos,
+        }),
         Err(_) => Err(fault(Mistake::Index, *at_number)),
     }
 }

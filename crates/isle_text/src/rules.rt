@@ -4,29 +4,28 @@
 ghost use Rattle.std.specs.Prelude.{All, MatchResult, option_map};
 ghost use Rattle.isle_base.specs.SyntaxViews.{definition_view, iflet_view, name_view, pattern_view};
 ghost use Rattle.isle_text.specs.Faults.{FaultIsWithin};
-ghost use Rattle.isle_text.specs.Forms.{FormIsWithin, FormsAreWithin, PosIsWithin};
+ghost use Rattle.isle_text.specs.Forms.{FormIsWithin, FormsAreWithin};
+ghost use Rattle.isle_text.specs.Lists.{PartsAreWithin};
 ghost use Rattle.isle_text.specs.Within.{DefinitionIsWithin, IfLetIsWithin, NameIsWithinIfAny, PatternIsWithin};
 
 use crate::errors::{Mistake, ReadFault, fault};
 use crate::expressions::expression;
 use crate::forms::Form;
-use crate::parts::{headed, next, no_more};
+use crate::parts::{Parts, headed, next, next_name, no_more};
 use crate::patterns::pattern;
 use crate::source::Source;
-use isle_base::syntax::{Def, Ident, IfLet, Pattern, Pos, Rule};
+use isle_base::syntax::{Def, Ident, IfLet, Pattern, Rule};
 
 /// The rule with these parts after its head. A word that comes first is its name, and a number that comes next its priority.
-pub fn rule(at: Source, forms: &[Form], pos: Pos, end: Pos) -> Result<Def, ReadFault>
-    requires forms { FormsAreWithin at.file at.len forms.now }
-    requires pos { PosIsWithin at.file at.len pos }
-    requires end { PosIsWithin at.file at.len end }
+pub fn rule(at: Source, parts: Parts<'_>) -> Result<Def, ReadFault>
+    requires { PartsAreWithin at.file at.len parts }
     ensures { MatchResult result (λ d. DefinitionIsWithin at.file at.len (definition_view d)) (FaultIsWithin at.file at.len) }
 {
-    let (name, rest) = rule_name(at, forms)?;
+    let (name, rest) = rule_name(at, parts)?;
     let (prio, rest) = priority(at, rest)?;
-    let (root, rest) = next(at, rest, Mistake::Pattern, end)?;
-    let [statements @ .., last] = rest else {
-        return Err(fault(Mistake::Expression, end));
+    let (root, rest) = next(at, rest, Mistake::Pattern)?;
+    let [statements @ .., last] = rest.forms else {
+        return Err(fault(Mistake::Expression, parts.end));
     };
     let pattern = pattern(at, root)?;
     let iflets = iflets(at, statements)?;
@@ -35,35 +34,44 @@ pub fn rule(at: Source, forms: &[Form], pos: Pos, end: Pos) -> Result<Def, ReadF
         pattern,
         iflets,
         expr,
-        pos,
+        pos: parts.pos,
         prio,
         name,
     }))
 }
 
-// A rule's name, and the forms after it.
-fn rule_name<'a>(at: Source, forms: &'a [Form]) -> Result<(Option<Ident>, &'a [Form]), ReadFault>
-    requires { FormsAreWithin at.file at.len forms.now }
+// A rule's name, and the list after it.
+fn rule_name<'a>(at: Source, parts: Parts<'a>) -> Result<(Option<Ident>, Parts<'a>), ReadFault>
+    requires { PartsAreWithin at.file at.len parts }
     ensures { MatchResult result
-        (λ p. NameIsWithinIfAny at.file at.len (option_map name_view p.0) × FormsAreWithin at.file at.len p.1.now)
+        (λ p. NameIsWithinIfAny at.file at.len (option_map name_view p.0) × PartsAreWithin at.file at.len p.1)
         (FaultIsWithin at.file at.len) }
 {
-    match forms {
-        [Form::Word(name), rest @ ..] => Ok((Some(name.clone()?), rest)),
-        _ => Ok((None, forms)),
+    match parts.forms {
+        [Form::Word(_), ..] => {
+            let (name, rest) = next_name(at, parts)?;
+            Ok((Some(name), rest))
+        }
+        _ => Ok((None, parts)),
     }
 }
 
-// A rule's priority, and the forms after it.
-fn priority<'a>(at: Source, forms: &'a [Form]) -> Result<(Option<i64>, &'a [Form]), ReadFault>
-    requires { FormsAreWithin at.file at.len forms.now }
-    ensures { MatchResult result (λ p. FormsAreWithin at.file at.len p.1.now) (FaultIsWithin at.file at.len) }
+// A rule's priority, and the list after it.
+fn priority<'a>(at: Source, parts: Parts<'a>) -> Result<(Option<i64>, Parts<'a>), ReadFault>
+    requires { PartsAreWithin at.file at.len parts }
+    ensures { MatchResult result (λ p. PartsAreWithin at.file at.len p.1) (FaultIsWithin at.file at.len) }
 {
-    let [Form::Number(n, pos), rest @ ..] = forms else {
-        return Ok((None, forms));
+    let [Form::Number(n, pos), rest @ ..] = parts.forms else {
+        return Ok((None, parts));
     };
     match i64::try_from(*n) {
-        Ok(prio) => Ok((Some(prio), rest)),
+        Ok(prio) => Ok((
+            Some(prio),
+            Parts {
+                forms: rest,
+                ..parts
+            },
+        )),
         Err(_) => Err(fault(Mistake::PriorityRange, *pos)),
     }
 }
@@ -85,41 +93,35 @@ fn statement(at: Source, form: &Form) -> Result<IfLet, ReadFault>
     requires { FormIsWithin at.file at.len form.now }
     ensures { MatchResult result (λ l. IfLetIsWithin at.file at.len (iflet_view l)) (FaultIsWithin at.file at.len) }
 {
-    let (head, rest, pos, end) = headed(at, form, Mistake::Statement)?;
+    let (head, rest) = headed(at, form, Mistake::Statement)?;
     match head {
-        "if-let" => if_let(at, rest, pos, end),
-        "if" => condition(at, rest, pos, end, Pattern::Wildcard { pos: pos }),
-        _ => Err(fault(Mistake::Statement, pos)),
+        "if-let" => if_let(at, rest),
+        "if" => condition(at, rest, Pattern::Wildcard { pos: rest.pos }),
+        _ => Err(fault(Mistake::Statement, rest.pos)),
     }
 }
 
 // `PATTERN EXPR`, after `if-let`.
-fn if_let(at: Source, forms: &[Form], pos: Pos, end: Pos) -> Result<IfLet, ReadFault>
-    requires forms { FormsAreWithin at.file at.len forms.now }
-    requires pos { PosIsWithin at.file at.len pos }
-    requires end { PosIsWithin at.file at.len end }
+fn if_let(at: Source, parts: Parts<'_>) -> Result<IfLet, ReadFault>
+    requires { PartsAreWithin at.file at.len parts }
     ensures { MatchResult result (λ l. IfLetIsWithin at.file at.len (iflet_view l)) (FaultIsWithin at.file at.len) }
 {
-    let (form, rest) = next(at, forms, Mistake::Pattern, end)?;
-    condition(at, rest, pos, end, pattern(at, form)?)
+    let (form, rest) = next(at, parts, Mistake::Pattern)?;
+    condition(at, rest, pattern(at, form)?)
 }
 
 // `EXPR`, whose value a pattern matches.
-fn condition(
-    at: Source,
-    forms: &[Form],
-    pos: Pos,
-    end: Pos,
-    pattern: Pattern,
-) -> Result<IfLet, ReadFault>
-    requires forms { FormsAreWithin at.file at.len forms.now }
-    requires pos { PosIsWithin at.file at.len pos }
-    requires end { PosIsWithin at.file at.len end }
+fn condition(at: Source, parts: Parts<'_>, pattern: Pattern) -> Result<IfLet, ReadFault>
+    requires parts { PartsAreWithin at.file at.len parts }
     requires pattern { PatternIsWithin at.file at.len (pattern_view pattern) }
     ensures { MatchResult result (λ l. IfLetIsWithin at.file at.len (iflet_view l)) (FaultIsWithin at.file at.len) }
 {
-    let (form, rest) = next(at, forms, Mistake::Expression, end)?;
+    let (form, rest) = next(at, parts, Mistake::Expression)?;
     let expr = expression(at, form)?;
     no_more(at, rest)?;
-    Ok(IfLet { pattern, expr, pos })
+    Ok(IfLet {
+        pattern,
+        expr,
+        pos: parts.pos,
+    })
 }

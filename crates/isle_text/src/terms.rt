@@ -4,15 +4,16 @@
 ghost use Rattle.std.specs.Prelude.{MatchResult, ⊤};
 ghost use Rattle.isle_base.specs.SyntaxViews.{definition_view};
 ghost use Rattle.isle_text.specs.Faults.{FaultIsWithin};
-ghost use Rattle.isle_text.specs.Forms.{FormIsWithin, FormsAreWithin, PosIsWithin};
+ghost use Rattle.isle_text.specs.Forms.{FormIsWithin, FormsAreWithin};
+ghost use Rattle.isle_text.specs.Lists.{PartsAreWithin};
 ghost use Rattle.isle_text.specs.Within.{DefinitionIsWithin};
 
 use crate::errors::{Mistake, ReadFault, fault};
 use crate::forms::Form;
-use crate::parts::{list, name, names, next, next_if, next_name, no_more};
+use crate::parts::{Parts, list, name, names, next, next_if, next_name, no_more};
 use crate::patterns::pattern;
 use crate::source::Source;
-use isle_base::syntax::{Converter, Decl, Def, Extern, Extractor, Pos};
+use isle_base::syntax::{Converter, Decl, Def, Extern, Extractor};
 
 // What a declaration's flags say.
 #[derive(Clone, Copy)]
@@ -24,18 +25,17 @@ struct Flags {
 }
 
 /// The declaration with these parts after its head.
-pub fn declaration(at: Source, forms: &[Form], pos: Pos) -> Result<Def, ReadFault>
-    requires forms { FormsAreWithin at.file at.len forms.now }
-    requires pos { PosIsWithin at.file at.len pos }
+pub fn declaration(at: Source, parts: Parts<'_>) -> Result<Def, ReadFault>
+    requires { PartsAreWithin at.file at.len parts }
     ensures { MatchResult result (λ d. DefinitionIsWithin at.file at.len (definition_view d)) (FaultIsWithin at.file at.len) }
 {
-    let [before @ .., term, args, ret] = forms else {
-        return Err(fault(Mistake::Declaration, pos));
+    let [before @ .., term, args, ret] = parts.forms else {
+        return Err(fault(Mistake::Declaration, parts.pos));
     };
     let flags = read_flags(at, before)?;
-    let (args, _, _) = list(at, args, Mistake::Names)?;
+    let args = list(at, args, Mistake::Names)?;
     let term = name(at, term)?;
-    let arg_tys = names(at, args)?;
+    let arg_tys = names(at, args.forms)?;
     let ret_ty = name(at, ret)?;
     Ok(Def::Decl(Decl {
         term,
@@ -45,7 +45,7 @@ pub fn declaration(at: Source, forms: &[Form], pos: Pos) -> Result<Def, ReadFaul
         multi: flags.multi,
         partial: flags.partial,
         rec: flags.rec,
-        pos,
+        pos: parts.pos,
     }))
 }
 
@@ -89,114 +89,109 @@ fn with_flag(at: Source, mut flags: Flags, form: &Form) -> Result<Flags, ReadFau
 }
 
 /// The extractor with these parts after its head.
-pub fn extractor(at: Source, forms: &[Form], pos: Pos, end: Pos) -> Result<Def, ReadFault>
-    requires forms { FormsAreWithin at.file at.len forms.now }
-    requires pos { PosIsWithin at.file at.len pos }
-    requires end { PosIsWithin at.file at.len end }
+pub fn extractor(at: Source, parts: Parts<'_>) -> Result<Def, ReadFault>
+    requires { PartsAreWithin at.file at.len parts }
     ensures { MatchResult result (λ d. DefinitionIsWithin at.file at.len (definition_view d)) (FaultIsWithin at.file at.len) }
 {
-    let (use_of, rest) = next(at, forms, Mistake::Names, end)?;
-    let (parts, _, end_of_use) = list(at, use_of, Mistake::Names)?;
-    let (term, args) = next_name(at, parts, end_of_use)?;
-    let (form, rest) = next(at, rest, Mistake::Pattern, end)?;
-    let args = names(at, args)?;
+    let (use_of, rest) = next(at, parts, Mistake::Names)?;
+    let (term, args) = next_name(at, list(at, use_of, Mistake::Names)?)?;
+    let (form, rest) = next(at, rest, Mistake::Pattern)?;
+    let args = names(at, args.forms)?;
     let template = pattern(at, form)?;
     no_more(at, rest)?;
     Ok(Def::Extractor(Extractor {
         term,
         args,
         template,
-        pos,
+        pos: parts.pos,
     }))
 }
 
 /// The conversion with these parts after its head.
-pub fn conversion(at: Source, forms: &[Form], pos: Pos, end: Pos) -> Result<Def, ReadFault>
-    requires forms { FormsAreWithin at.file at.len forms.now }
-    requires pos { PosIsWithin at.file at.len pos }
-    requires end { PosIsWithin at.file at.len end }
+pub fn conversion(at: Source, parts: Parts<'_>) -> Result<Def, ReadFault>
+    requires { PartsAreWithin at.file at.len parts }
     ensures { MatchResult result (λ d. DefinitionIsWithin at.file at.len (definition_view d)) (FaultIsWithin at.file at.len) }
 {
-    let (inner_ty, rest) = next_name(at, forms, end)?;
-    let (outer_ty, rest) = next_name(at, rest, end)?;
-    let (term, rest) = next_name(at, rest, end)?;
+    let (inner_ty, rest) = next_name(at, parts)?;
+    let (outer_ty, rest) = next_name(at, rest)?;
+    let (term, rest) = next_name(at, rest)?;
     no_more(at, rest)?;
     Ok(Def::Converter(Converter {
         term,
         inner_ty,
         outer_ty,
-        pos,
+        pos: parts.pos,
     }))
 }
 
 /// What these parts after the head `extern` define outside.
-pub fn external(at: Source, forms: &[Form], pos: Pos, end: Pos) -> Result<Def, ReadFault>
-    requires forms { FormsAreWithin at.file at.len forms.now }
-    requires pos { PosIsWithin at.file at.len pos }
-    requires end { PosIsWithin at.file at.len end }
+pub fn external(at: Source, parts: Parts<'_>) -> Result<Def, ReadFault>
+    requires { PartsAreWithin at.file at.len parts }
     ensures { MatchResult result (λ d. DefinitionIsWithin at.file at.len (definition_view d)) (FaultIsWithin at.file at.len) }
 {
-    let (kind, rest) = next(at, forms, Mistake::Extern, end)?;
+    let (kind, rest) = next(at, parts, Mistake::Extern)?;
     let Form::Word(word) = kind else {
         return Err(fault(Mistake::Extern, kind.pos()));
     };
     match word.0.as_str() {
-        "constructor" => external_constructor(at, rest, pos, end),
-        "extractor" => external_extractor(at, rest, pos, end),
-        "const" => external_constant(at, rest, pos, end),
+        "constructor" => external_constructor(at, rest),
+        "extractor" => external_extractor(at, rest),
+        "const" => external_constant(at, rest),
         _ => Err(fault(Mistake::Extern, word.1)),
     }
 }
 
 // `NAME NAME`, after `extern constructor`.
-fn external_constructor(at: Source, forms: &[Form], pos: Pos, end: Pos) -> Result<Def, ReadFault>
-    requires forms { FormsAreWithin at.file at.len forms.now }
-    requires pos { PosIsWithin at.file at.len pos }
-    requires end { PosIsWithin at.file at.len end }
+fn external_constructor(at: Source, parts: Parts<'_>) -> Result<Def, ReadFault>
+    requires { PartsAreWithin at.file at.len parts }
     ensures { MatchResult result (λ d. DefinitionIsWithin at.file at.len (definition_view d)) (FaultIsWithin at.file at.len) }
 {
-    let (term, rest) = next_name(at, forms, end)?;
-    let (func, rest) = next_name(at, rest, end)?;
+    let (term, rest) = next_name(at, parts)?;
+    let (func, rest) = next_name(at, rest)?;
     no_more(at, rest)?;
-    Ok(Def::Extern(Extern::Constructor { term, func, pos }))
+    Ok(Def::Extern(Extern::Constructor {
+        term,
+        func,
+        pos: parts.pos,
+    }))
 }
 
 // `infallible? NAME NAME`, after `extern extractor`. Of two words, the first is a name.
-fn external_extractor(at: Source, forms: &[Form], pos: Pos, end: Pos) -> Result<Def, ReadFault>
-    requires forms { FormsAreWithin at.file at.len forms.now }
-    requires pos { PosIsWithin at.file at.len pos }
-    requires end { PosIsWithin at.file at.len end }
+fn external_extractor(at: Source, parts: Parts<'_>) -> Result<Def, ReadFault>
+    requires { PartsAreWithin at.file at.len parts }
     ensures { MatchResult result (λ d. DefinitionIsWithin at.file at.len (definition_view d)) (FaultIsWithin at.file at.len) }
 {
-    let (infallible, rest) = if forms.len() <= 2 {
-        (false, forms)
+    let (infallible, rest) = if parts.forms.len() <= 2 {
+        (false, parts)
     } else {
-        next_if(at, forms, "infallible")
+        next_if(at, parts, "infallible")
     };
-    let (term, rest) = next_name(at, rest, end)?;
-    let (func, rest) = next_name(at, rest, end)?;
+    let (term, rest) = next_name(at, rest)?;
+    let (func, rest) = next_name(at, rest)?;
     no_more(at, rest)?;
     Ok(Def::Extern(Extern::Extractor {
         term,
         func,
-        pos,
+        pos: parts.pos,
         infallible,
     }))
 }
 
 // `CONST NAME`, after `extern const`.
-fn external_constant(at: Source, forms: &[Form], pos: Pos, end: Pos) -> Result<Def, ReadFault>
-    requires forms { FormsAreWithin at.file at.len forms.now }
-    requires pos { PosIsWithin at.file at.len pos }
-    requires end { PosIsWithin at.file at.len end }
+fn external_constant(at: Source, parts: Parts<'_>) -> Result<Def, ReadFault>
+    requires { PartsAreWithin at.file at.len parts }
     ensures { MatchResult result (λ d. DefinitionIsWithin at.file at.len (definition_view d)) (FaultIsWithin at.file at.len) }
 {
-    let (constant, rest) = next(at, forms, Mistake::Constant, end)?;
+    let (constant, rest) = next(at, parts, Mistake::Constant)?;
     let Form::Constant(name, _) = constant else {
         return Err(fault(Mistake::Constant, constant.pos()));
     };
     let name = name.clone()?;
-    let (ty, rest) = next_name(at, rest, end)?;
+    let (ty, rest) = next_name(at, rest)?;
     no_more(at, rest)?;
-    Ok(Def::Extern(Extern::Const { name, ty, pos }))
+    Ok(Def::Extern(Extern::Const {
+        name,
+        ty,
+        pos: parts.pos,
+    }))
 }

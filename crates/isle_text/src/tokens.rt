@@ -80,10 +80,6 @@ fn next(
         State::Line if c == '\n' => Ok(State::Between),
         State::Line => Ok(State::Line),
         State::Opened(open) if c == ';' => Ok(State::Block(open, 1, ' ')),
-        State::Opened(open) => {
-            add(at, Token::Open(open), tokens)?;
-            begin(at, pos, c, tokens)
-        }
         State::Block(open, depth, last) => next_in_comment(at, open, depth, last, c),
         State::Sign(sign) => {
             if !is_in_word(c) {
@@ -91,56 +87,19 @@ fn next(
             }
             Ok(State::Constant(word_of(at, pos, c)?, sign))
         }
-        State::Word(name) => next_in_word(at, name, pos, c, tokens),
-        State::Constant(name, sign) => next_in_constant(at, name, sign, pos, c, tokens),
+        State::Word(mut name) if is_in_word(c) => {
+            name.0.push(c)?;
+            Ok(State::Word(name))
+        }
+        State::Constant(mut name, sign) if is_in_word(c) => {
+            name.0.push(c)?;
+            Ok(State::Constant(name, sign))
+        }
+        ended => {
+            finish(at, ended, tokens)?;
+            begin(at, pos, c, tokens)
+        }
     }
-}
-
-// Reads one more character of a word.
-fn next_in_word(
-    at: Source,
-    mut name: Ident,
-    pos: Pos,
-    c: char,
-    tokens: &mut Vec<Token>,
-) -> Result<State, ReadFault>
-    requires tokens { TokensAreWithin at.file at.len tokens.old.items }
-    requires name { IdentIsWithin at.file at.len name }
-    requires pos { PosIsWithin at.file at.len pos }
-    ensures result { MatchResult result (StateIsWithin at.file at.len) (FaultIsWithin at.file at.len) }
-    ensures tokens { OnOk result (TokensAreWithin at.file at.len tokens.new.items) }
-{
-    if is_in_word(c) {
-        name.0.push(c)?;
-        return Ok(State::Word(name));
-    }
-    let token = word_or_number(at, name)?;
-    add(at, token, tokens)?;
-    begin(at, pos, c, tokens)
-}
-
-// Reads one more character of a constant.
-fn next_in_constant(
-    at: Source,
-    mut name: Ident,
-    sign: Pos,
-    pos: Pos,
-    c: char,
-    tokens: &mut Vec<Token>,
-) -> Result<State, ReadFault>
-    requires tokens { TokensAreWithin at.file at.len tokens.old.items }
-    requires name { IdentIsWithin at.file at.len name }
-    requires sign { PosIsWithin at.file at.len sign }
-    requires pos { PosIsWithin at.file at.len pos }
-    ensures result { MatchResult result (StateIsWithin at.file at.len) (FaultIsWithin at.file at.len) }
-    ensures tokens { OnOk result (TokensAreWithin at.file at.len tokens.new.items) }
-{
-    if is_in_word(c) {
-        name.0.push(c)?;
-        return Ok(State::Constant(name, sign));
-    }
-    add(at, Token::Constant(name, sign), tokens)?;
-    begin(at, pos, c, tokens)
 }
 
 // Reads one more character of a block comment. A character that began or ended a comment does neither again.

@@ -4,28 +4,27 @@
 ghost use Rattle.std.specs.Prelude.{All, MatchResult};
 ghost use Rattle.isle_base.specs.SyntaxViews.{definition_view, field_view, fields_view, tuple_field_view, type_value_view, variant_view};
 ghost use Rattle.isle_text.specs.Faults.{FaultIsWithin};
-ghost use Rattle.isle_text.specs.Forms.{FormIsWithin, FormsAreWithin, PosIsWithin};
+ghost use Rattle.isle_text.specs.Forms.{FormIsWithin, FormsAreWithin};
+ghost use Rattle.isle_text.specs.Lists.{PartsAreWithin};
 ghost use Rattle.isle_text.specs.Within.{DefinitionIsWithin, FieldIsWithin, FieldsAreWithin, TupleFieldIsWithin, TypeValueIsWithin, VariantIsWithin};
 
 use crate::errors::{Mistake, ReadFault, fault};
 use crate::forms::Form;
-use crate::parts::{headed, list, name, next, next_if, next_name, no_more};
+use crate::parts::{Parts, headed, list, name, next, next_if, next_name, no_more};
 use crate::source::Source;
 use isle_base::syntax::{
-    Def, Fields, Pos, StructField, StructFields, TupleField, TupleFields, Type, TypeValue, Variant,
+    Def, Fields, StructField, StructFields, TupleField, TupleFields, Type, TypeValue, Variant,
 };
 
 /// The type with these parts after the head `type`.
-pub fn type_definition(at: Source, forms: &[Form], pos: Pos, end: Pos) -> Result<Def, ReadFault>
-    requires forms { FormsAreWithin at.file at.len forms.now }
-    requires pos { PosIsWithin at.file at.len pos }
-    requires end { PosIsWithin at.file at.len end }
+pub fn type_definition(at: Source, parts: Parts<'_>) -> Result<Def, ReadFault>
+    requires { PartsAreWithin at.file at.len parts }
     ensures { MatchResult result (λ d. DefinitionIsWithin at.file at.len (definition_view d)) (FaultIsWithin at.file at.len) }
 {
-    let (name, rest) = next_name(at, forms, end)?;
+    let (name, rest) = next_name(at, parts)?;
     let (is_extern, rest) = next_if(at, rest, "extern");
     let (is_nodebug, rest) = next_if(at, rest, "nodebug");
-    let (value, rest) = next(at, rest, Mistake::TypeValue, end)?;
+    let (value, rest) = next(at, rest, Mistake::TypeValue)?;
     let ty = type_value(at, value)?;
     no_more(at, rest)?;
     Ok(Def::TypeDef(Type {
@@ -33,7 +32,7 @@ pub fn type_definition(at: Source, forms: &[Form], pos: Pos, end: Pos) -> Result
         is_extern,
         is_nodebug,
         ty,
-        pos,
+        pos: parts.pos,
     }))
 }
 
@@ -42,35 +41,32 @@ fn type_value(at: Source, form: &Form) -> Result<TypeValue, ReadFault>
     requires { FormIsWithin at.file at.len form.now }
     ensures { MatchResult result (λ v. TypeValueIsWithin at.file at.len (type_value_view v)) (FaultIsWithin at.file at.len) }
 {
-    let (head, rest, pos, end) = headed(at, form, Mistake::TypeValue)?;
+    let (head, rest) = headed(at, form, Mistake::TypeValue)?;
     match head {
-        "primitive" => primitive(at, rest, pos, end),
-        "enum" => enumeration(at, rest, pos),
-        "struct" => Ok(TypeValue::Struct(fields(at, rest)?, pos)),
-        _ => Err(fault(Mistake::TypeValue, pos)),
+        "primitive" => primitive(at, rest),
+        "enum" => enumeration(at, rest),
+        "struct" => Ok(TypeValue::Struct(fields(at, rest.forms)?, rest.pos)),
+        _ => Err(fault(Mistake::TypeValue, rest.pos)),
     }
 }
 
 // Variants, after `enum`.
-fn enumeration(at: Source, forms: &[Form], pos: Pos) -> Result<TypeValue, ReadFault>
-    requires forms { FormsAreWithin at.file at.len forms.now }
-    requires pos { PosIsWithin at.file at.len pos }
+fn enumeration(at: Source, parts: Parts<'_>) -> Result<TypeValue, ReadFault>
+    requires { PartsAreWithin at.file at.len parts }
     ensures { MatchResult result (λ v. TypeValueIsWithin at.file at.len (type_value_view v)) (FaultIsWithin at.file at.len) }
 {
-    let variants = variants(at, forms)?;
-    Ok(TypeValue::Enum(variants, pos))
+    let variants = variants(at, parts.forms)?;
+    Ok(TypeValue::Enum(variants, parts.pos))
 }
 
 // `NAME`, after `primitive`.
-fn primitive(at: Source, forms: &[Form], pos: Pos, end: Pos) -> Result<TypeValue, ReadFault>
-    requires forms { FormsAreWithin at.file at.len forms.now }
-    requires pos { PosIsWithin at.file at.len pos }
-    requires end { PosIsWithin at.file at.len end }
+fn primitive(at: Source, parts: Parts<'_>) -> Result<TypeValue, ReadFault>
+    requires { PartsAreWithin at.file at.len parts }
     ensures { MatchResult result (λ v. TypeValueIsWithin at.file at.len (type_value_view v)) (FaultIsWithin at.file at.len) }
 {
-    let (name, rest) = next_name(at, forms, end)?;
+    let (name, rest) = next_name(at, parts)?;
     no_more(at, rest)?;
-    Ok(TypeValue::Primitive(name, pos))
+    Ok(TypeValue::Primitive(name, parts.pos))
 }
 
 // The variants that forms are.
@@ -105,10 +101,14 @@ fn variant_with_fields(at: Source, form: &Form) -> Result<Variant, ReadFault>
     requires { FormIsWithin at.file at.len form.now }
     ensures { MatchResult result (λ v. VariantIsWithin at.file at.len (variant_view v)) (FaultIsWithin at.file at.len) }
 {
-    let (parts, pos, end) = list(at, form, Mistake::Variant)?;
-    let (name, rest) = next_name(at, parts, end)?;
-    let fields = fields(at, rest)?;
-    Ok(Variant { name, fields, pos })
+    let parts = list(at, form, Mistake::Variant)?;
+    let (name, rest) = next_name(at, parts)?;
+    let fields = fields(at, rest.forms)?;
+    Ok(Variant {
+        name,
+        fields,
+        pos: parts.pos,
+    })
 }
 
 // The fields that forms are: with names if the first is a list, else without.
@@ -140,11 +140,15 @@ fn named_field(at: Source, form: &Form) -> Result<StructField, ReadFault>
     requires { FormIsWithin at.file at.len form.now }
     ensures { MatchResult result (λ f. FieldIsWithin at.file at.len (field_view f)) (FaultIsWithin at.file at.len) }
 {
-    let (parts, pos, end) = list(at, form, Mistake::Field)?;
-    let (name, rest) = next_name(at, parts, end)?;
-    let (ty, rest) = next_name(at, rest, end)?;
+    let parts = list(at, form, Mistake::Field)?;
+    let (name, rest) = next_name(at, parts)?;
+    let (ty, rest) = next_name(at, rest)?;
     no_more(at, rest)?;
-    Ok(StructField { name, ty, pos })
+    Ok(StructField {
+        name,
+        ty,
+        pos: parts.pos,
+    })
 }
 
 // Fields without names, which their places stand for.

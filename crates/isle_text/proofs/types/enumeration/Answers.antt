@@ -3,4 +3,4 @@ use Rattle.isle_text.proofs.types.enumeration.Goals as goal
 
 pub returns : goal.returns
 returns c =
-    (variants-viewed c.args.at.file c.args.at.len c.in_ok-variants.variants.items c.in_ok-variants.ensures, c.requires.pos)
+    (variants-viewed c.args.at.file c.args.at.len c.in_ok-variants.variants.items c.in_ok-variants.ensures, c.requires.1)
