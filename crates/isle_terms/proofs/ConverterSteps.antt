@@ -34,7 +34,7 @@ use Rattle.isle_terms.specs.Signing.{ReadsTerms}
 use Rattle.isle_terms.specs.Converting.{type_by_id, converter_at, pair_of, converter_entry, template_after, ConvertersRead, Converts, IsWrongConverter, ReadsIfConverter}
 use Rattle.isle_terms.proofs.Declaring.{at_middle, taken_next, around}
 use Rattle.isle_terms.proofs.Noting.{step}
-use Rattle.isle_terms.proofs.RootSteps.{term_is}
+use Rattle.isle_terms.proofs.Standing.{term_is}
 use Rattle.isle_terms.proofs.TypesStaying.{left_interned, type_is}
 
 -- what is looked up in a list with one more entry

@@ -77,7 +77,7 @@ decls_more read d = flat_map-append decl_of read (declaration d ∷ [])
 names_more : (read : List Definition) (d : DeclTree) → decl_names (read ++ declaration d ∷ []) ≡ decl_names read ++ d.term.text ∷ []
 names_more read d = ap (map (λ d. d.term.text)) (decls_more read d) ∙ map-append (λ d. d.term.text) (decl_trees read) (d ∷ [])
 
-with_names_push : (ns xs : List (List ℕ)) (x : List ℕ) → with_name (with_names ns xs) x ≡ with_names ns (xs ++ x ∷ [])
+pub with_names_push : (ns xs : List (List ℕ)) (x : List ℕ) → with_name (with_names ns xs) x ≡ with_names ns (xs ++ x ∷ [])
 with_names_push ns xs x = sym (with_names_append ns xs (x ∷ []))
 
 module _ (e : TypesRead) (r : AreReadable e) (env : TypeEnv) (left : IsLeftByRefusal e (environment_view env)) where

@@ -9,5 +9,8 @@ pub mod Noting
 pub mod Declaring
 pub mod Making
 pub mod Changing
+pub mod Standing
+pub mod FirstOfTerm
 pub mod RootSteps
 pub mod ConverterSteps
+pub mod ExternSteps

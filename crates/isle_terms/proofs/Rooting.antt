@@ -53,7 +53,7 @@ marks (u ∷ us) (suc k) t d within is = ap (λ es. term_view u ∷ es) (marks u
 turned : (x y : List ℕ) → bytes_eq x y ≡ true → bytes_eq y x ≡ true
 turned x y e = (bytes_eq-Decides y x).1 (sym (same_bytes x y e))
 
-turned_other : (x y : List ℕ) → bytes_eq x y ≡ false → bytes_eq y x ≡ false
+pub turned_other : (x y : List ℕ) → bytes_eq x y ≡ false → bytes_eq y x ≡ false
 turned_other x y e =
     elim (bytes_eq y x) as (λ b. bytes_eq y x ≡ b → b ≡ false) [
       | true ↦ λ h. absurd (false≢true (sym e ∙ turned y x h))

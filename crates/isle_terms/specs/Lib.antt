@@ -8,3 +8,4 @@ pub mod Signing
 pub mod Standing
 pub mod Converting
 pub mod Externing
+pub mod ExternStages

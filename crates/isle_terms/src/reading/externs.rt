@@ -1,23 +1,97 @@
 //! How external constructors and extractors are read: functions from outside that make values of declared
 //! terms or take them apart.
 
-ghost use Rattle.std.specs.Prelude.{◌≡◌, not, IfOk, OnOk};
-ghost use Rattle.isle_model.specs.lists.Tables.{external_constructor};
-ghost use Rattle.isle_base.specs.SyntaxViews.{name_view};
+ghost use Rattle.std.specs.Prelude.{◌≡◌, [], not, IfOk, OnOk};
+ghost use Rattle.isle_model.specs.claims.Environments.{TypesRead, AreReadable, IsLeftByRefusal};
+ghost use Rattle.isle_model.specs.lists.Tables.{external_constructor, external_extractor};
+ghost use Rattle.isle_base.specs.SyntaxViews.{definition_view, definition_views, extern_view, name_view, position};
+ghost use Rattle.isle_types.specs.Envs.{IsInterned};
+ghost use Rattle.isle_types.specs.EnvViews.{environment_view};
 ghost use Rattle.isle_types.specs.Reading.{Reports};
 ghost use Rattle.isle_types.specs.VariantReading.{ReportsIf};
 ghost use Rattle.isle_terms.specs.Externing.{lacks_constructor, lacks_extractor, made_by_this, taken_by_this, ReadsKind};
-ghost use Rattle.isle_terms.specs.Reading.{IsWithin};
-ghost use Rattle.isle_terms.specs.TermViews.{extractor_view, term_view};
+ghost use Rattle.isle_terms.specs.ExternStages.{ExternsRead, ReadsExtern, ReadsIfExtern};
+ghost use Rattle.isle_terms.specs.Reading.{IsWithin, MayIntern};
+ghost use Rattle.isle_terms.specs.Signing.{ReadsTerms};
+ghost use Rattle.isle_terms.specs.TermViews.{term_view};
 
-use crate::reading::report_name;
+use crate::reading::{meet_name, report_name};
 use crate::term::{ConstructorKind, ExtractorKind, Term, TermKind};
 use crate::term_table::TermTable;
-use isle_base::syntax::{Error, Ident, Pos};
+use isle_base::syntax::{Def, Error, Extern, Ident, Pos};
 use isle_types::{Sym, TypeEnv, report};
 use std::alloc::AllocError;
 
 impl TermTable {
+    // Reads all external constructors and extractors.
+    pub(crate) fn read_externs(
+        &mut self,
+        tyenv: &mut TypeEnv,
+        errors: &mut Vec<Error>,
+        defs: &[Def],
+    ) -> Result<(), AllocError>
+        ghost read: { TypesRead }
+        requires readable { AreReadable read }
+        requires start { ReadsTerms read (definition_views defs.now) (ExternsRead read (definition_views defs.now) []) tyenv.old self.old errors.old.items }
+        ensures left { IsLeftByRefusal read (environment_view tyenv.new) }
+        ensures reads { OnOk result (ReadsTerms read (definition_views defs.now) (ExternsRead read (definition_views defs.now) (definition_views defs.now)) tyenv.new self.new errors.new.items) }
+    {
+        for def in defs {
+            self.read_if_extern(tyenv, errors, def)?;
+        }
+        Ok(())
+    }
+
+    // Reads a definition, if it is an external constructor or extractor.
+    fn read_if_extern(
+        &mut self,
+        tyenv: &mut TypeEnv,
+        errors: &mut Vec<Error>,
+        def: &Def,
+    ) -> Result<(), AllocError>
+        requires inverse { IsInterned tyenv.old }
+        requires within { IsWithin self.old }
+        ensures interns { MayIntern tyenv.old tyenv.new }
+        ensures within { OnOk result (IsWithin self.new) }
+        ensures reads { OnOk result (ReadsIfExtern (definition_view def.now) tyenv.old self.old errors.old.items tyenv.new self.new errors.new.items) }
+    {
+        let Def::Extern(extern_def) = def else {
+            return Ok(());
+        };
+        self.read_extern(tyenv, errors, extern_def)
+    }
+
+    // Reads an external constructor or extractor. Constants are read with the types.
+    fn read_extern(
+        &mut self,
+        tyenv: &mut TypeEnv,
+        errors: &mut Vec<Error>,
+        extern_def: &Extern,
+    ) -> Result<(), AllocError>
+        requires inverse { IsInterned tyenv.old }
+        requires within { IsWithin self.old }
+        ensures interns { MayIntern tyenv.old tyenv.new }
+        ensures within { OnOk result (IsWithin self.new) }
+        ensures reads { OnOk result (ReadsExtern (extern_view extern_def.now) tyenv.old self.old errors.old.items tyenv.new self.new errors.new.items) }
+    {
+        match extern_def {
+            Extern::Constructor { term, func, pos } => {
+                let name = meet_name(tyenv, func)?;
+                self.read_constructor(tyenv, errors, term, name, *pos)
+            }
+            Extern::Extractor {
+                term,
+                func,
+                pos,
+                infallible,
+            } => {
+                let name = meet_name(tyenv, func)?;
+                self.read_extractor(tyenv, errors, term, name, *infallible, *pos)
+            }
+            Extern::Const { .. } => Ok(()),
+        }
+    }
+
     // Reads the external constructor of a term.
     fn read_constructor(
         &mut self,
@@ -47,12 +121,13 @@ impl TermTable {
         tyenv: &TypeEnv,
         errors: &mut Vec<Error>,
         term: &Ident,
-        kind: ExtractorKind,
+        name: Sym,
+        infallible: bool,
         pos: Pos,
     ) -> Result<(), AllocError>
         requires { IsWithin self.old }
         ensures within { OnOk result (IsWithin self.new) }
-        ensures reads { OnOk result (ReadsKind lacks_extractor (taken_by_this (extractor_view kind)) (name_view term.now) tyenv.now self.old errors.old.items self.new errors.new.items) }
+        ensures reads { OnOk result (ReadsKind lacks_extractor (taken_by_this (external_extractor name.0 infallible (position pos))) (name_view term.now) tyenv.now self.old errors.old.items self.new errors.new.items) }
     {
         let Some(id) = self.find_term(tyenv, term) else {
             return report_name(errors, pos, "Extractor declared on undefined term", term);
@@ -60,6 +135,11 @@ impl TermTable {
         if !may_have_external(errors, &self.terms[id.index()], term, pos)? {
             return Ok(());
         }
+        let kind = ExtractorKind::ExternalExtractor {
+            name,
+            infallible,
+            pos,
+        };
         self.terms[id.index()].set_extractor(kind);
         Ok(())
     }

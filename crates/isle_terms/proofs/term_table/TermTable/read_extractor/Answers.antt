@@ -1,9 +1,10 @@
 use Rattle.std.proofs.Common.{◌≡◌, ◌<◌, true, false, not, length, get_or, refl, sym, ap, subst, ◌∙◌, inl, inr, rules}
 use Rattle.std.proofs.Math.ListN.{set}
-use Rattle.isle_base.specs.SyntaxViews.{name_view}
+use Rattle.isle_model.specs.lists.Tables.{external_extractor}
+use Rattle.isle_base.specs.SyntaxViews.{name_view, position}
 use Rattle.isle_types.specs.Envs.{symbol_of}
 use Rattle.isle_types.specs.VariantReading.{ReportsIf}
-use Rattle.isle_terms.specs.TermViews.{extractor_view, term_view, term_views}
+use Rattle.isle_terms.specs.TermViews.{term_view, term_views}
 use Rattle.isle_terms.specs.Externing.{taken_by_this, with_kind}
 use Rattle.isle_terms.proofs.Changing.{changes_one, view_at}
 use Rattle.isle_terms.proofs.Rooting.{is_within}
@@ -43,7 +44,7 @@ returns-clause-reads c =
         passes = sym c.in_ok-may_have_external.ensures.free ∙ free;
         changes = record {
           terms = ap (λ k. term_views (set items k c.set_extractor.new.self)) c.index-3.ensures
-              ∙ changes_one (with_kind (taken_by_this (extractor_view c.args.kind))) items c.in-Some.id.0 c.set_extractor.new.self c.index_mut.result.now within (c.set_extractor.ensures ∙ ap (λ t. with_kind (taken_by_this (extractor_view c.args.kind)) (term_view t)) again);
+              ∙ changes_one (with_kind (taken_by_this (external_extractor c.args.name.0 c.args.infallible (position c.args.pos)))) items c.in-Some.id.0 c.set_extractor.new.self c.index_mut.result.now within (c.set_extractor.ensures ∙ ap (λ t. with_kind (taken_by_this (external_extractor c.args.name.0 c.args.infallible (position c.args.pos))) (term_view t)) again);
           term_map = refl;
           converters = refl;
         };
