@@ -19,7 +19,7 @@ use Rattle.isle_rules.specs.declared.visit_fault.VisitFault.{VisitFault}
 use Rattle.isle_rules.specs.declared.visitors.ExprVisitor.{Ghosts as ExprSteps}
 use Rattle.isle_rules.specs.ExprViews.{expr_view, expr_views, expr_parts, let_views, let_parts}
 use Rattle.isle_rules.specs.ExprRuns.{entry_arg_types, Makes, ExprRun, InputsRun, LetsRun}
-use Rattle.isle_rules.specs.Visitable.{bound_after_lets, is_visitable_expr, are_visitable_args, are_visitable_lets, is_made_of, expr_count}
+use Rattle.isle_model.specs.lists.Visitable.{bound_after_lets, is_visitable_expr, are_visitable_args, are_visitable_lets, is_made_of, expr_count}
 use Rattle.isle_rules.specs.VisitAnswers.{type_numbers}
 use Rattle.isle_rules.specs.VisitRuns.{BoundIds, bound_vars, with_bound}
 use Rattle.isle_rules.proofs.BoundVars.{SameVars, bound_with, expr_same, lets_after_same}

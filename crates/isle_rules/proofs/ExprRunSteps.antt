@@ -13,7 +13,7 @@ use Rattle.isle_rules.specs.declared.visit_fault.VisitFault.TheVariants.{Memory}
 use Rattle.isle_rules.specs.declared.visitors.ExprVisitor.{Ghosts as ExprSteps}
 use Rattle.isle_rules.specs.ExprViews.{expr_view, expr_views, expr_parts, let_views, let_parts}
 use Rattle.isle_rules.specs.ExprRuns.{ExprRun, InputsRun, LetsRun}
-use Rattle.isle_rules.specs.Visitable.{is_visitable_expr, are_visitable_args, are_visitable_lets}
+use Rattle.isle_model.specs.lists.Visitable.{is_visitable_expr, are_visitable_args, are_visitable_lets}
 use Rattle.isle_rules.specs.VisitAnswers.{type_numbers, typed_inputs}
 use Rattle.isle_rules.specs.VisitRuns.{BoundIds, binds, bound_vars, with_bound}
 use Rattle.isle_rules.proofs.BoundVars.{bound_with, lets_same}

@@ -19,3 +19,11 @@ pub mod ExprRunSteps
 pub mod ExprRunForms
 pub mod OrderedVars
 pub mod RuleRunSteps
+pub mod Readings
+pub mod Bindings
+pub mod Scopes
+pub mod PatternLeaves
+pub mod PatternUsing
+pub mod PatternLists
+pub mod PatternSizes
+pub mod PatternForms

@@ -15,7 +15,7 @@ use Rattle.isle_rules.specs.declared.visit_fault.VisitFault.{VisitFault}
 use Rattle.isle_rules.specs.declared.visitors.PatternVisitor.{Ghosts as PatternSteps}
 use Rattle.isle_rules.specs.PatternViews.{pattern_view, pattern_views, pattern_parts}
 use Rattle.isle_rules.specs.PatternRuns.{part_types, Opens, PatternRun, PartsRun, EachRun}
-use Rattle.isle_rules.specs.Visitable.{is_visitable_pattern, are_visitable_parts, opens_into}
+use Rattle.isle_model.specs.lists.Visitable.{is_visitable_pattern, are_visitable_parts, opens_into}
 use Rattle.isle_rules.specs.VisitRuns.{BoundIds, binds, bound_at, bound_vars, with_bound}
 use Rattle.isle_rules.proofs.BoundVars.{bound_with, pattern_same}
 use Rattle.isle_rules.proofs.PatternBridges.{view-Term, view-And}

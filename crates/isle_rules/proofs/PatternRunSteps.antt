@@ -14,7 +14,7 @@ use Rattle.isle_rules.specs.declared.visitors.PatternVisitor.{Ghosts as PatternS
 use Rattle.isle_rules.specs.PatternViews.{pattern_view, pattern_views, pattern_parts}
 use Rattle.isle_rules.specs.PatternRuns.{part_types, PatternRun, PartsRun, EachRun}
 use Rattle.isle_rules.specs.VisitAnswers.{type_numbers}
-use Rattle.isle_rules.specs.Visitable.{bound_after, bound_after_parts, is_visitable_pattern, are_visitable_parts}
+use Rattle.isle_model.specs.lists.Visitable.{bound_after, bound_after_parts, is_visitable_pattern, are_visitable_parts}
 use Rattle.isle_rules.specs.VisitRuns.{VisitRun, BoundIds, and_then, bound_vars, with_bound}
 use Rattle.isle_rules.proofs.BoundVars.{SameVars, bound_with, after_same, parts_after_same, parts_same}
 

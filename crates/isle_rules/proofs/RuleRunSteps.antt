@@ -24,7 +24,7 @@ use Rattle.isle_rules.specs.RuleViews.{iflet_view}
 use Rattle.isle_rules.specs.PatternRuns.{PatternRun}
 use Rattle.isle_rules.specs.RuleRuns.{lent_binding, PatternCall, ExchangeRun, ValueRun, ArgsRun, IfLetsRun, RuleRun}
 use Rattle.isle_rules.specs.ExprRuns.{entry_arg_types}
-use Rattle.isle_rules.specs.Visitable.{is_visitable_rule, bound_after, bound_after_list, bound_after_iflets, is_visitable_pattern, is_visitable_expr, are_visitable_list, are_visitable_iflets}
+use Rattle.isle_model.specs.lists.Visitable.{is_visitable_rule, bound_after, bound_after_list, bound_after_iflets, is_visitable_pattern, is_visitable_expr, are_visitable_list, are_visitable_iflets}
 use Rattle.isle_rules.specs.VisitAnswers.{type_numbers}
 use Rattle.isle_rules.specs.VisitRuns.{BoundIds, answering, binds, bound_vars, taking, var_cmp}
 use Rattle.isle_rules.proofs.BoundVars.{SameVars, after_same, pattern_same, expr_same}

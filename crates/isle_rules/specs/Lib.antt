@@ -11,4 +11,7 @@ pub mod VisitRuns
 pub mod PatternRuns
 pub mod ExprRuns
 pub mod RuleRuns
-pub mod Visitable
+pub mod Progress
+pub mod Translating
+pub mod PatternReadings
+pub mod PatternUses

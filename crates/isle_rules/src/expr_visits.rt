@@ -3,7 +3,7 @@
 ghost use Rattle.std.specs.Prelude.{◌≡◌, IfOk, IsTrue, IfErr, alloc_error, length, slice_get, vec_len};
 ghost use Rattle.isle_rules.specs.ExprRuns.{ExprRun, InputsRun, LetsRun, Makes};
 ghost use Rattle.isle_rules.specs.ExprViews.{expr_view, expr_views, expr_parts, let_views, let_parts};
-ghost use Rattle.isle_rules.specs.Visitable.{is_visitable_expr, are_visitable_args, are_visitable_lets, is_made_of};
+ghost use Rattle.isle_model.specs.lists.Visitable.{is_visitable_expr, are_visitable_args, are_visitable_lets, is_made_of};
 ghost use Rattle.isle_rules.specs.VisitAnswers.{inputs_of, type_numbers, typed_inputs};
 ghost use Rattle.isle_rules.specs.VisitRuns.{answering, bound_vars};
 ghost use Rattle.isle_rules.specs.declared.visit_fault.VisitFault.TheVariants.{Memory};

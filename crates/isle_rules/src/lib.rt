@@ -13,6 +13,7 @@ mod rule_names;
 mod rule_visits;
 mod rules;
 mod term_env;
+mod typing;
 mod visit_fault;
 mod visited_terms;
 mod visitors;

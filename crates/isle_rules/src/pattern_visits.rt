@@ -5,7 +5,7 @@ ghost use Rattle.isle_model.specs.rules.Program.{always_answers};
 ghost use Rattle.isle_model.specs.trees.Places.{is_in};
 ghost use Rattle.isle_rules.specs.PatternRuns.{part_types, PatternRun, PartsRun, EachRun, Opens};
 ghost use Rattle.isle_rules.specs.PatternViews.{pattern_view, pattern_views, pattern_parts};
-ghost use Rattle.isle_rules.specs.Visitable.{is_visitable_pattern, are_visitable_parts, opens_into};
+ghost use Rattle.isle_model.specs.lists.Visitable.{is_visitable_pattern, are_visitable_parts, opens_into};
 ghost use Rattle.isle_rules.specs.VisitAnswers.{listed, type_numbers};
 ghost use Rattle.isle_rules.specs.VisitRuns.{binds, bound_at, bound_vars};
 ghost use Rattle.isle_terms.specs.TermViews.{term_views, flags_view, extractor_view};

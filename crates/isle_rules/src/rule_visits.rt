@@ -8,7 +8,7 @@ ghost use Rattle.isle_rules.specs.PatternRuns.{PatternRun};
 ghost use Rattle.isle_rules.specs.PatternViews.{pattern_view, pattern_views};
 ghost use Rattle.isle_rules.specs.RuleRuns.{lent_binding, lent_valuing, visited_of, PatternCall, ExchangeRun, ExprCall, ValueRun, ArgsRun, IfLetsRun, RuleRun};
 ghost use Rattle.isle_rules.specs.RuleViews.{iflet_view, rule_view};
-ghost use Rattle.isle_rules.specs.Visitable.{is_visitable_pattern, is_visitable_expr, are_visitable_list, are_visitable_iflets, is_visitable_rule};
+ghost use Rattle.isle_model.specs.lists.Visitable.{is_visitable_pattern, is_visitable_expr, are_visitable_list, are_visitable_iflets, is_visitable_rule};
 ghost use Rattle.isle_rules.specs.VisitAnswers.{entries_of, type_numbers};
 ghost use Rattle.isle_rules.specs.VisitRuns.{bound_vars};
 ghost use Rattle.isle_terms.specs.TermViews.{term_views};

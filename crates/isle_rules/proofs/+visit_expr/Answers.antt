@@ -3,7 +3,7 @@ use Rattle.isle_terms.specs.TermViews.{term_views}
 use Rattle.isle_rules.specs.declared.visit_fault.VisitFault.TheVariants.{Memory}
 use Rattle.isle_rules.specs.ExprViews.{expr_view, let_views, let_parts}
 use Rattle.isle_rules.specs.ExprRuns.{LetsRun}
-use Rattle.isle_rules.specs.Visitable.{is_visitable_expr, are_visitable_lets, is_made_of}
+use Rattle.isle_model.specs.lists.Visitable.{is_visitable_expr, are_visitable_lets, is_made_of}
 use Rattle.isle_rules.specs.VisitAnswers.{typed_inputs}
 use Rattle.isle_rules.specs.VisitRuns.{bound_vars}
 use Rattle.isle_rules.proofs.PatternRunSteps.{err_is}

@@ -2,7 +2,7 @@ use Rattle.std.proofs.Common.{IsTrue, drop, ◌≡◌, length}
 use Rattle.isle_terms.specs.TermViews.{term_views}
 use Rattle.isle_rules.specs.ExprRuns.{InputsRun, LetsRun}
 use Rattle.isle_rules.specs.ExprViews.{expr_view, expr_views, expr_parts, let_views, let_parts}
-use Rattle.isle_rules.specs.Visitable.{are_visitable_args, are_visitable_lets}
+use Rattle.isle_model.specs.lists.Visitable.{are_visitable_args, are_visitable_lets}
 use Rattle.isle_rules.specs.VisitAnswers.{type_numbers, typed_inputs}
 use Rattle.isle_rules.specs.VisitRuns.{bound_vars}
 use Rattle.isle_rules.proofs.ExprRunSteps.{after_these}

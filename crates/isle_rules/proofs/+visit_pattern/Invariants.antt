@@ -2,7 +2,7 @@ use Rattle.std.proofs.Common.{IsTrue, drop}
 use Rattle.isle_terms.specs.TermViews.{term_views}
 use Rattle.isle_rules.specs.PatternRuns.{PartsRun, EachRun}
 use Rattle.isle_rules.specs.PatternViews.{pattern_view, pattern_views, pattern_parts}
-use Rattle.isle_rules.specs.Visitable.{are_visitable_parts}
+use Rattle.isle_model.specs.lists.Visitable.{are_visitable_parts}
 use Rattle.isle_rules.specs.VisitRuns.{bound_vars}
 use Rattle.isle_rules.proofs.VisitSizes.{pattern_size, patterns_size}
 use Rattle.isle_rules.proofs.+visit_pattern.Given as goal

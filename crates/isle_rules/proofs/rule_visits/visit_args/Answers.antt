@@ -1,7 +1,7 @@
 use Rattle.std.proofs.Common.{sym, arith, get_or, drop, ◌+◌, ◌∙◌}
 use Rattle.isle_terms.specs.TermViews.{term_views}
 use Rattle.isle_rules.specs.PatternViews.{pattern_view, pattern_views}
-use Rattle.isle_rules.specs.Visitable.{bound_after}
+use Rattle.isle_model.specs.lists.Visitable.{bound_after}
 use Rattle.isle_rules.specs.VisitRuns.{bound_vars}
 use Rattle.isle_rules.proofs.PatternRunSteps.{err_is}
 use Rattle.isle_rules.proofs.RuleRunSteps.{args_step, args_stop, args_stop_arg, next_arg, list_same, call_binds}

@@ -2,7 +2,7 @@ use Rattle.std.proofs.Common.{[], drop, IsTrue}
 use Rattle.isle_terms.specs.TermViews.{term_views}
 use Rattle.isle_rules.specs.PatternViews.{pattern_views}
 use Rattle.isle_rules.specs.RuleRuns.{ArgsRun}
-use Rattle.isle_rules.specs.Visitable.{are_visitable_list}
+use Rattle.isle_model.specs.lists.Visitable.{are_visitable_list}
 use Rattle.isle_rules.specs.VisitAnswers.{type_numbers}
 use Rattle.isle_rules.specs.VisitRuns.{bound_vars}
 use Rattle.isle_rules.proofs.rule_visits.visit_args.Given as goal

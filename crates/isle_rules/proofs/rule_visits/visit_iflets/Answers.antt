@@ -2,7 +2,7 @@ use Rattle.std.proofs.Common.{sym, get_or, drop, map, ◌+◌, ◌∙◌}
 use Rattle.isle_terms.specs.TermViews.{term_views}
 use Rattle.isle_rules.specs.PatternViews.{pattern_view}
 use Rattle.isle_rules.specs.RuleViews.{iflet_view}
-use Rattle.isle_rules.specs.Visitable.{bound_after}
+use Rattle.isle_model.specs.lists.Visitable.{bound_after}
 use Rattle.isle_rules.specs.VisitRuns.{bound_vars}
 use Rattle.isle_rules.proofs.PatternRunSteps.{err_is}
 use Rattle.isle_rules.proofs.RuleRunSteps.{iflets_step, iflets_stop_value, iflets_stop_input, iflets_stop_pattern, next_iflet, iflets_same, call_binds}

@@ -2,7 +2,7 @@ use Rattle.std.proofs.Common.{drop, map, IsTrue}
 use Rattle.isle_terms.specs.TermViews.{term_views}
 use Rattle.isle_rules.specs.RuleRuns.{IfLetsRun}
 use Rattle.isle_rules.specs.RuleViews.{iflet_view}
-use Rattle.isle_rules.specs.Visitable.{are_visitable_iflets}
+use Rattle.isle_model.specs.lists.Visitable.{are_visitable_iflets}
 use Rattle.isle_rules.specs.VisitRuns.{bound_vars}
 use Rattle.isle_rules.proofs.rule_visits.visit_iflets.Given as goal
 

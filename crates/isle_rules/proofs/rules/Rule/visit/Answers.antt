@@ -12,7 +12,7 @@ use Rattle.std.proofs.lemmas.List.{length-map}
 use Rattle.isle_terms.specs.TermViews.{term_view, term_views}
 use Rattle.isle_rules.specs.PatternViews.{pattern_view, pattern_views}
 use Rattle.isle_rules.specs.RuleViews.{iflet_view, rule_view}
-use Rattle.isle_rules.specs.Visitable.{bound_after_list, bound_after_iflets}
+use Rattle.isle_model.specs.lists.Visitable.{bound_after_list, bound_after_iflets}
 use Rattle.isle_rules.specs.VisitAnswers.{type_numbers}
 use Rattle.isle_rules.specs.VisitRuns.{BoundIds, bound_vars}
 use Rattle.isle_rules.proofs.BoundVars.{expr_same}

@@ -1,0 +1,320 @@
+-- The use of a term in a pattern, step by step as it is looked at.
+use Rattle.std.proofs.Common.{◌≡◌, ℕ, zero, suc, ◌+◌, ◌<◌, ◌≤◌, ◌&&◌, Bool, true, false, cond, eqb, List, [], ◌∷◌, length, map, Option, Some, None, is_some, option_and_then, slice_get, unwrap_or, IsTrue, Err, refl, sym, ap, subst, ◌∙◌, inl, inr, ◌⊎◌, ⊎_elim, arith}
+use Rattle.std.proofs.lemmas.Bool.{eq-eqb, eqb-true, cases_Bool, false≢true}
+use Rattle.std.proofs.lemmas.Option.{none-some}
+use Rattle.isle_base.specs.declared.syntax.Error.{Error}
+use Rattle.isle_base.specs.declared.syntax.Pattern.{Pattern}
+use Rattle.isle_base.specs.SyntaxViews as S
+use Rattle.isle_model.specs.lists.Syntax.{Position, Name, PatternTree, PatternTrees, no_pattern, pattern_and, term_pattern, pattern_list}
+use Rattle.isle_model.specs.lists.Names.{number, has_name}
+use Rattle.isle_model.specs.lists.Tables.{TermKindEntry, variant_term, struct_term, declared_term, TermEntry}
+use Rattle.isle_model.specs.lists.Expansions.{substituted, wrapped_pattern}
+use Rattle.isle_model.specs.lists.Setting.{Setting, Scope, term_of, that, has_extractor, is_matchable, kind_template, template_in, pattern_converter}
+use Rattle.isle_model.specs.lists.Typings.{Typing, made_into, followed, counted}
+use Rattle.isle_model.specs.lists.Elaborated.{deeper_pattern, elaborated_pattern, elaborated_parts}
+use Rattle.isle_model.specs.rules.Outcome.{then_option}
+use Rattle.isle_model.specs.rules.Typed.{match_term, typed_pattern_and}
+use Rattle.isle_model.proofs.ByNumber.{looked_up}
+use Rattle.isle_model.proofs.Names.{last}
+use Rattle.isle_model.proofs.Options.{then_some}
+use Rattle.isle_laws_lists.proofs.Typings.{ne-eqb, counted_gives}
+use Rattle.isle_types.specs.Envs.{names_of, symbol_of, IsInterned}
+use Rattle.isle_types.specs.Reading.{Reports}
+use Rattle.isle_terms.specs.Terms.{has_extractor_kind, has_extractor_term}
+use Rattle.isle_terms.specs.TermViews.{term_views}
+use Rattle.isle_rules.specs.declared.term_env.TermEnv.{TermEnv}
+use Rattle.isle_rules.specs.declared.typing.progress.Stop.{Stop}
+use Rattle.isle_rules.specs.declared.typing.progress.Stop.TheVariants.{Memory, Nesting, Expansions}
+use Rattle.isle_rules.specs.Elaborating.{Checks}
+use Rattle.isle_rules.specs.Progress.{Remains, CountsOne, Counts}
+use Rattle.isle_rules.specs.TermEnvs.{term_in_env}
+use Rattle.isle_rules.specs.PatternReadings.{pattern_reading, parts_reading}
+use Rattle.isle_rules.specs.PatternUses.{found_term, found_converter, found_template, inside_term, IsExpansionOf, TakesParts}
+use Rattle.isle_rules.specs.Translating.{Standing, Reading, IsSettingOf, Shows, Wherever, IsReported, Stops, ExpandsTo, converter_in, expanding}
+use Rattle.isle_rules.proofs.Scopes.{still}
+
+-- one fact after another is checked
+pub checks_both : (a b c : List Error) (P Q : Type 0) → Checks a b P → Checks b c Q → Checks a c (P × Q)
+checks_both a b c P Q (inl x) (inl y) = inl (y.0 ∙ x.0, (x.1, y.1))
+checks_both a b c P Q (inl x) (inr y) = inr (subst (λ es. Reports es c) x.0 y.0, λ h. y.1 h.1)
+checks_both a b c P Q (inr x) (inl y) = inr (subst (Reports a) (sym y.0) x.0, λ h. x.1 h.0)
+checks_both a b c P Q (inr x) (inr y) = inr (record { some = y.0.some; plain = λ h. y.0.plain (x.0.plain h) }, λ h. x.1 h.0)
+
+pub remains_both : {p q r : _} → Remains p q → Remains q r → Remains p r
+remains_both x y = record { vars = y.vars ∙ x.vars; names = λ k. y.names k ∙ x.names k; expansions = y.expansions ∙ x.expansions }
+
+-- what an expansion makes takes one at least
+pub takes_one : {Q : Type 0} (o : ℕ → Option (Typing Q)) (c : ℕ) (a : Typing Q) → expanding o c ≡ Some a → 1 ≤ a.expansions
+takes_one o zero a h = absurd (none-some a h)
+takes_one o (suc c) a h = let m = counted_gives (o c) h in let n : suc m.0.expansions ≡ a.expansions = ap (λ v. v.expansions) m.2 in omega (arith, n)
+
+-- where no expansion can be counted the work stops: the whole is nothing, or one expansion more
+module _ {Q : Type 0} (env : TermEnv) (old mid new : Standing) (d : ℕ) (whole : Reading Q) (made : Setting → Bool → Scope → ℕ → Option (Typing Q)) where
+  pub expansion_stops : Wherever env old (λ e multi s. (c : ℕ) → (whole e multi c s ≡ None) ⊎ (whole e multi c s ≡ expanding (made e multi s) c))
+      → mid.work.expansions ≡ old.work.expansions → (stop : Stop) → Counts d mid.work new.work (Err stop) → Stops env old d whole stop
+  expansion_stops law same (Memory a) x = absurd x
+  expansion_stops law same Nesting x = λ e multi s is sh.
+      subst (λ c. whole e multi c s ≡ None) (sym x) (⊎_elim (λ h. h) (λ h. h) (law e multi s is sh 0))
+  expansion_stops law same Expansions x = λ e multi s is sh c a h.
+      ⊎_elim (λ k. absurd (none-some a (sym k ∙ h))) (λ k. let l = takes_one (made e multi s) c a (sym k ∙ h) in omega (arith, l, x, same)) (law e multi s is sh c)
+
+-- lists of patterns
+pub list_is : (ps : List Pattern) → pattern_list (S.pattern_views ps) ≡ map S.pattern_view ps
+list_is [] = refl
+list_is (p ∷ ps) = ap (λ qs. S.pattern_view p ∷ qs) (list_is ps)
+
+pub list_length : (ps : List Pattern) → length (pattern_list (S.pattern_views ps)) ≡ length ps
+list_length [] = refl
+list_length (p ∷ ps) = ap suc (list_length ps)
+
+followed_none : {P Q R : Type 0} (f : P → Q → R) (o : Option (Typing P)) (next : Typing P → Option (Typing Q)) → ((a : Typing P) → next a ≡ None) → followed f o next ≡ None
+followed_none f None next h = refl
+followed_none f (Some a) next h = rw (h a) refl
+
+-- patterns for arguments are as many as these
+parts_count : (e : Setting) (multi : Bool) (c : ℕ) (ps : PatternTrees) (tys : List ℕ) (s : Scope) → (length (pattern_list ps) ≡ length tys → ⊥) → elaborated_parts e multi c ps tys s ≡ None
+parts_count e multi c no_pattern [] s h = absurd (h refl)
+parts_count e multi c no_pattern (ty ∷ tys) s h = refl
+parts_count e multi c (pattern_and p ps) [] s h = refl
+parts_count e multi c (pattern_and p ps) (ty ∷ tys) s h =
+    followed_none typed_pattern_and (elaborated_pattern e multi c p ty s) (λ a. elaborated_parts e multi c ps tys a.scope) (λ a. parts_count e multi c ps tys a.scope (λ k. h (ap suc k)))
+
+-- extractors
+same_extractor : (k : TermKindEntry) → has_extractor k ≡ has_extractor_kind k
+same_extractor (variant_term variant) = refl
+same_extractor struct_term = refl
+same_extractor (declared_term flags constructor_kind extractor_kind) = refl
+
+that_same : (p q : TermEntry → Bool) → ((t : TermEntry) → p t ≡ q t) → (o : Option TermEntry) → that p o ≡ that q o
+that_same p q h None = refl
+that_same p q h (Some t) = ap (λ b. cond b (Some t) None) (h t)
+
+and_true : (b : Bool) → b && true ≡ b
+and_true true = refl
+and_true false = refl
+
+matchable_is : (e : Setting) (multi : Bool) → e.multi_anywhere ≡ true → (k : TermKindEntry) → is_matchable e multi k ≡ has_extractor_kind k
+matchable_is e multi any (variant_term variant) = refl
+matchable_is e multi any struct_term = refl
+matchable_is e multi any (declared_term flags constructor_kind extractor_kind) = rw any (and_true (is_some extractor_kind))
+
+-- what may be expanded still
+counted_deeper : (e : Setting) (multi : Bool) (c : ℕ) (p : PatternTree) (ty : ℕ) (s : Scope) → counted (deeper_pattern e multi c p ty s) ≡ expanding (λ d. elaborated_pattern e multi d p ty s) c
+counted_deeper e multi zero p ty s = refl
+counted_deeper e multi (suc c) p ty s = refl
+
+-- a name is found by its number
+module _ (env : TermEnv) (at : Standing) (inv : IsInterned at.tyenv) (x : List ℕ) where
+  found_so : (o : Option TermEntry) → o ≡ found_term env at.tyenv x → (e : Setting) (s : Scope) → IsSettingOf at.tyenv env e → Shows at s → term_of e s x ≡ o
+  found_so o h e s is sh =
+      sym (is.term_names (number s.names x))
+      ∙ ap (λ ns. then_option (term_in_env env (number ns x)) (slice_get e.terms)) (sym sh.names)
+      ∙ ap (λ i. then_option i (slice_get e.terms)) by_number
+      ∙ ap (λ ts. then_option (option_and_then (term_in_env env) (symbol_of at.tyenv x)) (slice_get ts)) (sym is.terms)
+      ∙ sym h
+    where
+      past : (o : Option ℕ) → term_in_env env (number (names_of at.tyenv) x) ≡ o → has_name (names_of at.tyenv) x ≡ false → o ≡ None
+      past None k none = refl
+      past (Some id) k none = absurd (let l = is.terms_met (number (names_of at.tyenv) x) id k in let m = last (names_of at.tyenv) x none in omega (arith, l, m))
+
+      by_number : term_in_env env (number (names_of at.tyenv) x) ≡ option_and_then (term_in_env env) (symbol_of at.tyenv x)
+      by_number =
+          sym (ap (option_and_then (term_in_env env)) (looked_up (names_of at.tyenv) (symbol_of at.tyenv) inv.numbered inv.named x)
+          ∙ (elim (has_name (names_of at.tyenv) x) as (λ b. has_name (names_of at.tyenv) x ≡ b → option_and_then (term_in_env env) (cond b (Some (number (names_of at.tyenv) x)) None) ≡ term_in_env env (number (names_of at.tyenv) x)) [
+            | true ↦ λ _. refl
+            | false ↦ λ none. sym (past (term_in_env env (number (names_of at.tyenv) x)) refl none)
+          ] refl))
+
+module _ (env : TermEnv) (old : Standing) (inv : IsInterned old.tyenv) (name : Name) (args : PatternTrees) (at : Position) (ty : ℕ) where
+  abbrev whole : PatternTree
+  whole = term_pattern name args at
+
+  -- no term has the name
+  pub unknown_use : (new : Standing) → None ≡ found_term env old.tyenv name.text → Reports old.work.errors.items new.work.errors.items → IsReported env old new (pattern_reading whole ty)
+  unknown_use new none more = record {
+    errors = inr more;
+    noted = λ e multi s is sh. record { reports = more; none = λ c. let h = found_so env old inv name.text None none e s is sh in rw h refl };
+  }
+
+  module _ (t : TermEntry) (known : Some t ≡ found_term env old.tyenv name.text) where
+    found : (e : Setting) (s : Scope) → IsSettingOf old.tyenv env e → Shows old s → term_of e s name.text ≡ Some t
+    found = found_so env old inv name.text (Some t) known
+
+    at_place : (k : ℕ) × (slice_get (term_views env.terms.items) k ≡ Some t)
+    at_place = let p = then_some (option_and_then (term_in_env env) (symbol_of old.tyenv name.text)) (slice_get (term_views env.terms.items)) t (sym known) in (p.0, p.2)
+
+    converter_is : (e : Setting) → IsSettingOf old.tyenv env e → eqb t.ret_ty ty ≡ false → pattern_converter e t.ret_ty ty ≡ found_converter env has_extractor_kind t.ret_ty ty
+    converter_is e is ne =
+        that_same (λ u. has_extractor u.kind) (λ u. has_extractor_kind u.kind) (λ u. same_extractor u.kind) _
+        ∙ ap (λ o. that (λ u. has_extractor_kind u.kind) (then_option o (slice_get e.terms))) (sym (is.converters t.ret_ty ty))
+        ∙ ap (λ ts. that (λ u. has_extractor_kind u.kind) (then_option (converter_in env t.ret_ty ty) (slice_get ts))) (sym is.terms)
+        ∙ sym (rw ne refl)
+
+    -- a use of another type, which a converter brings to this one
+    module _ (by : TermEntry) (converts : Some by ≡ found_converter env has_extractor_kind t.ret_ty ty) where
+      differs : eqb t.ret_ty ty ≡ false
+      differs = elim (cases_Bool (eqb t.ret_ty ty)) [ inr f ↦ f | inl same ↦ absurd (none-some by (sym (rw same refl) ∙ sym converts)) ]
+
+      conversion : (e : Setting) (multi : Bool) (s : Scope) → IsSettingOf old.tyenv env e → Shows old s → (c : ℕ)
+          → pattern_reading whole ty e multi c s ≡ expanding (λ d. pattern_reading (inside_term old.tyenv by at whole) ty e multi d s) c
+      conversion e multi s is sh c =
+          let h = found e s is sh in
+          let k : pattern_converter e t.ret_ty ty ≡ Some by = converter_is e is differs ∙ sym converts in
+          let law : pattern_reading whole ty e multi c s ≡ counted (deeper_pattern e multi c (wrapped_pattern s by at whole) ty s) = rw (h, differs, k) refl in
+          law ∙ counted_deeper e multi c (wrapped_pattern s by at whole) ty s
+          ∙ ap (λ ns. expanding (λ d. elaborated_pattern e multi d (term_pattern (record { text = unwrap_or (slice_get ns by.name) []; at = at }) (pattern_and whole no_pattern) at) ty s) c) (sym sh.names)
+
+      pub converted_use : (new : Standing) → names_of new.tyenv ≡ names_of old.tyenv → CountsOne old.work new.work → ExpandsTo env old new (pattern_reading whole ty) (pattern_reading (inside_term old.tyenv by at whole) ty)
+      converted_use new same one = record {
+        errors = one.errors;
+        expansions = one.expansions;
+        shows = λ e multi s is sh. record {
+          names = same ∙ sh.names;
+          vars = one.vars ∙ sh.vars;
+          visible = λ k. one.names k ∙ sh.visible k;
+          met = λ k v h. subst (λ (ns : List (List ℕ)). k < length ns) (sym same) (sh.met k v (sym (one.names k) ∙ h));
+        };
+        becomes = conversion;
+      }
+
+      pub conversion_stops : (new : Standing) (d : ℕ) (stop : Stop) → Counts d old.work new.work (Err stop) → Stops env old d (pattern_reading whole ty) stop
+      conversion_stops new d stop x =
+          expansion_stops env old old new d (pattern_reading whole ty) (λ e multi s d. pattern_reading (inside_term old.tyenv by at whole) ty e multi d s)
+          (λ e multi s is sh c. inr (conversion e multi s is sh c)) refl stop x
+
+    -- a use without a conversion
+    module _ (none : None ≡ found_converter env has_extractor_kind t.ret_ty ty) where
+      mismatched : (e : Setting) (multi : Bool) (s : Scope) → IsSettingOf old.tyenv env e → Shows old s → eqb t.ret_ty ty ≡ false → (c : ℕ) → pattern_reading whole ty e multi c s ≡ None
+      mismatched e multi s is sh ne c =
+          let h = found e s is sh in
+          let k : pattern_converter e t.ret_ty ty ≡ None = converter_is e is ne ∙ sym none in
+          rw (h, ne, k) refl
+
+      -- of the term itself
+      module _ (no_template : None ≡ found_template env t) where
+        no_template_in : (e : Setting) → IsSettingOf old.tyenv env e → template_in e t.kind ≡ None
+        no_template_in e is = ap (λ b. cond b (kind_template t.kind) None) is.expand ∙ sym no_template
+
+        abbrev Fits : ℕ → Type 0
+        Fits n = ((t.ret_ty ≡ ty) × (n ≡ length t.arg_tys)) × IsTrue (has_extractor_term t)
+
+        unfit : (n : ℕ) → n ≡ length (pattern_list args) → (Fits n → ⊥) → (e : Setting) (multi : Bool) (s : Scope) → IsSettingOf old.tyenv env e → Shows old s → (c : ℕ) → pattern_reading whole ty e multi c s ≡ None
+        unfit n count wrong e multi s is sh c =
+            let h = found e s is sh in
+            let j = no_template_in e is in
+            elim (cases_Bool (eqb t.ret_ty ty)) [
+              | inr ne ↦ mismatched e multi s is sh ne c
+              | inl same ↦ elim (cases_Bool (has_extractor_kind t.kind)) [
+                | inr hasnt ↦ let m = matchable_is e multi is.multi t.kind ∙ hasnt in rw (h, same, j, m) refl
+                | inl has ↦
+                    let m = matchable_is e multi is.multi t.kind ∙ has in
+                    let p = parts_count e multi c args t.arg_tys s (λ k. wrong ((eqb-true t.ret_ty ty same, count ∙ k), has)) in
+                    rw (h, same, j, m, p) refl
+              ]
+            ]
+
+        fit : (n : ℕ) → Fits n → (e : Setting) (multi : Bool) (s : Scope) → IsSettingOf old.tyenv env e → Shows old s → (c : ℕ)
+            → pattern_reading whole ty e multi c s ≡ made_into (match_term t.ret_ty t.id) (parts_reading args t.arg_tys e multi c s)
+        fit n fits e multi s is sh c =
+            let h = found e s is sh in
+            let j = no_template_in e is in
+            let same = eq-eqb t.ret_ty ty fits.0.0 in
+            let m = matchable_is e multi is.multi t.kind ∙ fits.1 in
+            let law : pattern_reading whole ty e multi c s ≡ made_into (match_term ty t.id) (parts_reading args t.arg_tys e multi c s) = rw (h, same, j, m) refl in
+            law ∙ ap (λ (u : ℕ). made_into (match_term u t.id) (parts_reading args t.arg_tys e multi c s)) (sym fits.0.0)
+
+        pub parts_used : (new : Standing) (n : ℕ) → n ≡ length (pattern_list args) → names_of new.tyenv ≡ names_of old.tyenv → Remains old.work new.work → Checks old.work.errors.items new.work.errors.items (Fits n)
+            → TakesParts env old new whole args ty t ⊎ IsReported env old new (pattern_reading whole ty)
+        parts_used new n count same r (inl ok) = inl (record {
+          errors = ok.0;
+          expansions = r.expansions;
+          count = sym count ∙ ok.1.0.1;
+          shows = λ e multi s is sh. still old new s same r sh;
+          becomes = fit n ok.1;
+        })
+        parts_used new n count same r (inr wrong) = inr (record { errors = inr wrong.0; noted = λ e multi s is sh. record { reports = wrong.0; none = unfit n count wrong.1 e multi s is sh } })
+
+      -- of its template
+      module _ (template : PatternTree) (there : Some template ≡ found_template env t) where
+        template_is : (e : Setting) → IsSettingOf old.tyenv env e → template_in e t.kind ≡ Some template
+        template_is e is = ap (λ b. cond b (kind_template t.kind) None) is.expand ∙ sym there
+
+        kind_is : kind_template t.kind ≡ Some template
+        kind_is = elim (env.expand_internal_extractors) as (λ b. Some template ≡ cond b (kind_template t.kind) None → kind_template t.kind ≡ Some template) [ true ↦ λ k. sym k | false ↦ λ k. absurd (none-some template (sym k)) ] there
+
+        unfolded : (e : Setting) (multi : Bool) (s : Scope) → IsSettingOf old.tyenv env e → Shows old s → eqb t.ret_ty ty ≡ true → (c : ℕ)
+            → pattern_reading whole ty e multi c s ≡ then_option (cond (eqb (length (pattern_list args)) (length t.arg_tys)) (substituted (pattern_list args) template) None) (λ p. counted (deeper_pattern e multi c p ty s))
+        unfolded e multi s is sh same c =
+            let h = found e s is sh in
+            let j = template_is e is in
+            rw (h, same, j) refl
+
+        module _ (mid : Standing) (n : ℕ) (count : n ≡ length (pattern_list args)) (checks : Checks old.work.errors.items mid.work.errors.items ((t.ret_ty ≡ ty) × (n ≡ length t.arg_tys))) where
+          abbrev Matches : Type 0
+          Matches = (t.ret_ty ≡ ty) × (n ≡ length t.arg_tys)
+
+          unmatched : (Matches → ⊥) → (e : Setting) (multi : Bool) (s : Scope) → IsSettingOf old.tyenv env e → Shows old s → (c : ℕ) → pattern_reading whole ty e multi c s ≡ None
+          unmatched wrong e multi s is sh c = elim (cases_Bool (eqb t.ret_ty ty)) [
+            | inr ne ↦ mismatched e multi s is sh ne c
+            | inl same ↦
+                unfolded e multi s is sh same c
+                ∙ ap (λ b. then_option (cond b (substituted (pattern_list args) template) None) (λ p. counted (deeper_pattern e multi c p ty s)))
+                (ne-eqb (length (pattern_list args)) (length t.arg_tys) (λ k. wrong (eqb-true t.ret_ty ty same, count ∙ k)))
+          ]
+
+          -- with an argument that isn't given
+          pub nothing_made : None ≡ substituted (pattern_list args) template → IsReported env old mid (pattern_reading whole ty)
+          nothing_made missing = record {
+            errors = ⊎_elim (λ ok. inl ok.0) (λ wrong. inr wrong.0) checks;
+            noted = λ e multi s is sh.
+                ⊎_elim
+                (λ ok.
+                let p = at_place in
+                let given = is.templates p.0 t (subst (λ ts. slice_get ts p.0 ≡ Some t) is.terms p.1) template (pattern_list args) kind_is (sym count ∙ ok.1.1) in
+                absurd (false≢true (ap is_some missing ∙ given)))
+                (λ wrong. record { reports = wrong.0; none = unmatched wrong.1 e multi s is sh })
+                checks;
+          }
+
+          -- as what it makes
+          module _ (made : PatternTree) (is_made : Some made ≡ substituted (pattern_list args) template) where
+            matched : Matches → (e : Setting) (multi : Bool) (s : Scope) → IsSettingOf old.tyenv env e → Shows old s → (c : ℕ) → pattern_reading whole ty e multi c s ≡ expanding (λ d. pattern_reading made ty e multi d s) c
+            matched ok e multi s is sh c =
+                unfolded e multi s is sh (eq-eqb t.ret_ty ty ok.0) c
+                ∙ ap (λ b. then_option (cond b (substituted (pattern_list args) template) None) (λ p. counted (deeper_pattern e multi c p ty s))) (eq-eqb (length (pattern_list args)) (length t.arg_tys) (sym count ∙ ok.1))
+                ∙ ap (λ o. then_option o (λ p. counted (deeper_pattern e multi c p ty s))) (sym is_made)
+                ∙ counted_deeper e multi c made ty s
+
+            pub template_expands : IsExpansionOf env whole args made
+            template_expands = let p = at_place in inr (p.0, t, template, p.1, kind_is, sym is_made)
+
+            pub template_made : (new : Standing) → names_of mid.tyenv ≡ names_of old.tyenv → names_of new.tyenv ≡ names_of mid.tyenv → Remains old.work mid.work → CountsOne mid.work new.work
+                → ExpandsTo env old new (pattern_reading whole ty) (pattern_reading made ty) ⊎ IsReported env old new (pattern_reading whole ty)
+            template_made new same here r one =
+                ⊎_elim
+                (λ ok. inl (record {
+                  errors = one.errors ∙ ok.0;
+                  expansions = one.expansions ∙ ap (λ k. k + 1) r.expansions;
+                  shows = λ e multi s is sh. let m = still old mid s same r sh in record {
+                    names = here ∙ m.names;
+                    vars = one.vars ∙ m.vars;
+                    visible = λ k. one.names k ∙ m.visible k;
+                    met = λ k v h. subst (λ (ns : List (List ℕ)). k < length ns) (sym here) (m.met k v (sym (one.names k) ∙ h));
+                  };
+                  becomes = matched ok.1;
+                }))
+                (λ wrong.
+                let more = subst (Reports old.work.errors.items) (sym one.errors) wrong.0 in
+                inr (record { errors = inr more; noted = λ e multi s is sh. record { reports = more; none = unmatched wrong.1 e multi s is sh } }))
+                checks
+
+            pub template_stops : (new : Standing) (d : ℕ) → Remains old.work mid.work → (stop : Stop) → Counts d mid.work new.work (Err stop) → Stops env old d (pattern_reading whole ty) stop
+            template_stops new d r stop x =
+                expansion_stops env old mid new d (pattern_reading whole ty) (λ e multi s d. pattern_reading made ty e multi d s)
+                (λ e multi s is sh c. elim (cases_Bool (eqb t.ret_ty ty)) [
+                  | inr ne ↦ inl (mismatched e multi s is sh ne c)
+                  | inl same ↦ elim (cases_Bool (eqb (length (pattern_list args)) (length t.arg_tys))) [
+                    | inr other ↦ inl (unmatched (λ ok. false≢true (sym other ∙ eq-eqb (length (pattern_list args)) (length t.arg_tys) (sym count ∙ ok.1))) e multi s is sh c)
+                    | inl alike ↦ inr (matched (eqb-true t.ret_ty ty same, count ∙ eqb-true (length (pattern_list args)) (length t.arg_tys) alike) e multi s is sh c)
+                  ]
+                ]) r.expansions stop x

@@ -1,0 +1,10 @@
+use Rattle.std.proofs.Common.{refl}
+use Rattle.isle_base.specs.SyntaxViews.{position}
+use Rattle.isle_rules.specs.Translating.{standing}
+use Rattle.isle_rules.proofs.PatternLeaves.{truth_used}
+use Rattle.isle_rules.proofs.term_env.TermEnv.translate_bool.Goals as goal
+
+pub returns : goal.returns
+returns c =
+    truth_used c.args.self.now (standing c.args.tyenv.now c.args.work.now) _ refl (position c.args.pos) c.args.expected_ty.0 (record { vars = refl; names = λ k. refl; expansions = refl })
+    c.args.val c.in_ok-check_bool.ensures

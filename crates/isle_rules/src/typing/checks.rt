@@ -1,0 +1,92 @@
+//! What is checked of literals and of counts, in patterns and in expressions alike. What is wrong is noted.
+
+ghost use Rattle.std.specs.Prelude.{◌≡◌, true, OnOk, option_map, slice_get};
+ghost use Rattle.isle_model.specs.rules.Values.{is_atom_type};
+ghost use Rattle.isle_types.specs.Envs.{constant_at};
+ghost use Rattle.isle_types.specs.TypeViews.{type_views};
+ghost use Rattle.isle_rules.specs.Elaborating.{Checks};
+
+use crate::reports::type_text;
+use isle_base::syntax::{Error, Ident, Pos};
+use isle_types::{Sym, TypeEnv, TypeId, report};
+use std::alloc::AllocError;
+
+/// Whether integers stand for values of the type: of a built-in integer type, or of a primitive one.
+pub(crate) fn check_integer(
+    tyenv: &TypeEnv,
+    errors: &mut Vec<Error>,
+    pos: Pos,
+    val: i128,
+    ty: TypeId,
+) -> Result<(), AllocError>
+    ensures { OnOk result (Checks errors.old.items errors.new.items (is_atom_type (slice_get (type_views tyenv.now.types.items) ty.0) ≡ true)) }
+{
+    if has_integers(tyenv, ty) {
+        return Ok(());
+    }
+    let alloc = *errors.allocator();
+    let name = type_text(tyenv, ty);
+    let msg = format!(in alloc;
+        "expected non-integer type {name}, but found integer literal '{val}'"
+    )?;
+    report(errors, pos, msg.as_str())
+}
+
+// Whether integers stand for values of the type.
+fn has_integers(tyenv: &TypeEnv, ty: TypeId) -> bool
+    ensures { result ≡ is_atom_type (slice_get (type_views tyenv.now.types.items) ty.0) }
+{
+    match tyenv.types.get(ty.index()) {
+        Some(known) => known.is_int() || known.is_prim(),
+        None => false,
+    }
+}
+
+/// Whether the type is that of truth values.
+pub(crate) fn check_bool(
+    tyenv: &TypeEnv,
+    errors: &mut Vec<Error>,
+    pos: Pos,
+    val: bool,
+    ty: TypeId,
+) -> Result<(), AllocError>
+    ensures { OnOk result (Checks errors.old.items errors.new.items (ty.0 ≡ 0)) }
+{
+    if ty == TypeId::BOOL {
+        return Ok(());
+    }
+    let alloc = *errors.allocator();
+    let name = type_text(tyenv, ty);
+    let msg = format!(in alloc;
+        "Boolean literal '{val}' has type bool but we need {name} in context"
+    )?;
+    report(errors, pos, msg.as_str())
+}
+
+/// Whether there are as many arguments as the term has.
+pub(crate) fn check_count(
+    errors: &mut Vec<Error>,
+    pos: Pos,
+    term: &Ident,
+    got: usize,
+    expect: usize,
+) -> Result<(), AllocError>
+    ensures { OnOk result (Checks errors.old.items errors.new.items (got ≡ expect)) }
+{
+    if got == expect {
+        return Ok(());
+    }
+    let alloc = *errors.allocator();
+    let msg = format!(in alloc;
+        "Incorrect argument count for term '{}': got {got}, expect {expect}",
+        term.0
+    )?;
+    report(errors, pos, msg.as_str())
+}
+
+/// The type of the constant of a name.
+pub(crate) fn constant_type(tyenv: &TypeEnv, name: Sym) -> Option<TypeId>
+    ensures { option_map (λ t. t.0) result ≡ constant_at tyenv.now name.0 }
+{
+    tyenv.const_types.get(&name).copied()
+}

@@ -1,0 +1,196 @@
+//! How patterns without parts are typed, and how a name is bound around a pattern.
+
+ghost use Rattle.std.specs.Prelude.{◌≡◌, ℕ, None, OnOk, string_bytes};
+ghost use Rattle.isle_base.specs.SyntaxViews.{name_view, position};
+ghost use Rattle.isle_model.specs.lists.Syntax.{var_pattern, bool_pattern, int_pattern, prim_pattern, macro_arg};
+ghost use Rattle.isle_types.specs.Envs.{IsInterned};
+ghost use Rattle.isle_rules.specs.Elaborating.{Checks};
+ghost use Rattle.isle_rules.specs.PatternViews.{pattern_view};
+ghost use Rattle.isle_rules.specs.PatternReadings.{pattern_reading, BindsAround};
+ghost use Rattle.isle_rules.specs.Progress.{newest, Remains};
+ghost use Rattle.isle_rules.specs.Translating.{standing, Keeps, MayTranslate};
+
+use crate::patterns::Pattern;
+use crate::reports::type_text;
+use crate::term_env::TermEnv;
+use crate::typing::checks::{check_bool, check_integer, constant_type};
+use crate::typing::progress::{Progress, Stop};
+use isle_base::syntax::{Error, Ident, Pos};
+use isle_types::{Sym, TypeEnv, TypeId, report};
+use std::alloc::AllocError;
+
+impl TermEnv {
+    // A name that is bound already is a use of its variable, at that one's type; a new name is bound.
+    pub(crate) fn translate_var(
+        &self,
+        tyenv: &mut TypeEnv,
+        work: &mut Progress,
+        var: &Ident,
+        pos: Pos,
+        expected_ty: TypeId,
+    ) -> Result<Option<Pattern>, Stop>
+        requires { IsInterned tyenv.old }
+        ensures keeps { Keeps tyenv.old tyenv.new }
+        ensures made { (d : ℕ) → MayTranslate self.now (standing tyenv.old work.old) (standing tyenv.new work.new) d
+            (pattern_reading (var_pattern (name_view var.now) (position pos)) expected_ty.0) pattern_view result }
+    {
+        let name = tyenv.intern_mut(var)?;
+        let Some(bound) = work.lookup(name) else {
+            let of = Box::new(*work.errors.allocator(), Pattern::Wildcard(expected_ty))?;
+            let id = work.add_var(name, expected_ty)?;
+            return Ok(Some(Pattern::BindPattern(expected_ty, id, of)));
+        };
+        check_bound(tyenv, &mut work.errors, pos, var, bound.ty, expected_ty)?;
+        Ok(Some(Pattern::Var(bound.ty, bound.id)))
+    }
+
+    // A truth value, which only the type of truth values has.
+    pub(crate) fn translate_bool(
+        &self,
+        tyenv: &TypeEnv,
+        work: &mut Progress,
+        val: bool,
+        pos: Pos,
+        expected_ty: TypeId,
+    ) -> Result<Option<Pattern>, Stop>
+        ensures { (d : ℕ) → MayTranslate self.now (standing tyenv.now work.old) (standing tyenv.now work.new) d
+            (pattern_reading (bool_pattern val (position pos)) expected_ty.0) pattern_view result }
+    {
+        check_bool(tyenv, &mut work.errors, pos, val, expected_ty)?;
+        Ok(Some(Pattern::ConstBool(TypeId::BOOL, val)))
+    }
+
+    // An integer, at a type that has integers.
+    pub(crate) fn translate_int(
+        &self,
+        tyenv: &TypeEnv,
+        work: &mut Progress,
+        val: i128,
+        pos: Pos,
+        expected_ty: TypeId,
+    ) -> Result<Option<Pattern>, Stop>
+        ensures { (d : ℕ) → MayTranslate self.now (standing tyenv.now work.old) (standing tyenv.now work.new) d
+            (pattern_reading (int_pattern val (position pos)) expected_ty.0) pattern_view result }
+    {
+        check_integer(tyenv, &mut work.errors, pos, val, expected_ty)?;
+        Ok(Some(Pattern::ConstInt(expected_ty, val)))
+    }
+
+    // A named constant, at its own type.
+    pub(crate) fn translate_prim(
+        &self,
+        tyenv: &mut TypeEnv,
+        work: &mut Progress,
+        val: &Ident,
+        pos: Pos,
+        expected_ty: TypeId,
+    ) -> Result<Option<Pattern>, Stop>
+        requires { IsInterned tyenv.old }
+        ensures keeps { Keeps tyenv.old tyenv.new }
+        ensures made { (d : ℕ) → MayTranslate self.now (standing tyenv.old work.old) (standing tyenv.new work.new) d
+            (pattern_reading (prim_pattern (name_view val.now) (position pos)) expected_ty.0) pattern_view result }
+    {
+        let name = tyenv.intern_mut(val)?;
+        let Some(ty) = constant_type(tyenv, name) else {
+            report(&mut work.errors, pos, "Unknown constant")?;
+            return Ok(None);
+        };
+        check_constant(&mut work.errors, pos, ty, expected_ty)?;
+        Ok(Some(Pattern::ConstPrim(ty, name)))
+    }
+
+    // A pattern under a name, which must be new, and is bound after the pattern: a name that isn't new is noted, and
+    // bound all the same.
+    pub(crate) fn bind_around(
+        &self,
+        tyenv: &mut TypeEnv,
+        work: &mut Progress,
+        var: &Ident,
+        pos: Pos,
+        of: Pattern,
+    ) -> Result<Option<Pattern>, Stop>
+        requires { IsInterned tyenv.old }
+        ensures keeps { Keeps tyenv.old tyenv.new }
+        ensures binds { (d : ℕ) → BindsAround self.now (standing tyenv.old work.old) (standing tyenv.new work.new) d
+            (string_bytes var.now.0) (pattern_view of) result }
+    {
+        let ty = of.ty();
+        let name = tyenv.intern_mut(var)?;
+        let of = Box::new(*work.errors.allocator(), of)?;
+        check_new(work, name, var, pos)?;
+        let id = work.add_var(name, ty)?;
+        Ok(Some(Pattern::BindPattern(ty, id, of)))
+    }
+
+    // A macro argument stands in templates alone.
+    pub(crate) fn refuse_macro_arg(
+        &self,
+        tyenv: &TypeEnv,
+        work: &mut Progress,
+        pos: Pos,
+        index: usize,
+        expected_ty: TypeId,
+    ) -> Result<Option<Pattern>, Stop>
+        ensures { (d : ℕ) → MayTranslate self.now (standing tyenv.now work.old) (standing tyenv.now work.new) d
+            (pattern_reading (macro_arg index (position pos)) expected_ty.0) pattern_view result }
+    {
+        report(
+            &mut work.errors,
+            pos,
+            "macro argument outside of an extractor template",
+        )?;
+        Ok(None)
+    }
+}
+
+// Whether a variable that is bound has the type that is expected; else this is noted.
+fn check_bound(
+    tyenv: &TypeEnv,
+    errors: &mut Vec<Error>,
+    pos: Pos,
+    var: &Ident,
+    has: TypeId,
+    want: TypeId,
+) -> Result<(), AllocError>
+    ensures { OnOk result (Checks errors.old.items errors.new.items (has.0 ≡ want.0)) }
+{
+    if has == want {
+        return Ok(());
+    }
+    let alloc = *errors.allocator();
+    let expects = type_text(tyenv, want);
+    let has = type_text(tyenv, has);
+    let msg = format!(in alloc;
+        "Mismatched types: pattern expects type '{expects}' but already-bound var '{}' has type '{has}'",
+        var.0
+    )?;
+    report(errors, pos, msg.as_str())
+}
+
+// Whether a constant has the type that is expected; else this is noted.
+fn check_constant(
+    errors: &mut Vec<Error>,
+    pos: Pos,
+    has: TypeId,
+    want: TypeId,
+) -> Result<(), AllocError>
+    ensures { OnOk result (Checks errors.old.items errors.new.items (has.0 ≡ want.0)) }
+{
+    if has == want {
+        return Ok(());
+    }
+    report(errors, pos, "Type mismatch for constant")
+}
+
+// Whether a name stands for no variable; else this is noted.
+fn check_new(work: &mut Progress, name: Sym, var: &Ident, pos: Pos) -> Result<(), AllocError>
+    ensures checks { OnOk result (Checks work.old.errors.items work.new.errors.items (newest work.old name.0 ≡ None)) }
+    ensures remains { Remains work.old work.new }
+{
+    if work.lookup(name).is_none() {
+        return Ok(());
+    }
+    let alloc = *work.errors.allocator();
+    let msg = format!(in alloc; "Re-bound variable name in LHS pattern: '{}'", var.0)?;
+    report(&mut work.errors, pos, msg.as_str())
+}

@@ -1,0 +1,157 @@
+//! How patterns are typed.
+
+ghost use Rattle.std.specs.Prelude.{◌≡◌, ◌++◌, OnOk, length, map};
+ghost use Rattle.std.specs.Option.{option_to_list};
+ghost use Rattle.isle_base.specs.SyntaxViews as S;
+ghost use Rattle.isle_types.specs.Envs.{IsInterned};
+ghost use Rattle.isle_types.specs.Reading.{MayReport};
+ghost use Rattle.isle_rules.specs.PatternViews.{pattern_view, pattern_views, pattern_parts};
+ghost use Rattle.isle_rules.specs.PatternReadings.{pattern_reading, parts_reading, each_reading};
+ghost use Rattle.isle_rules.specs.Translating.{standing, Keeps, MayTranslate, Translates};
+
+use crate::patterns::Pattern;
+use crate::term_env::TermEnv;
+use crate::typing::pattern_uses::PatternUse;
+use crate::typing::progress::{Progress, Stop};
+use isle_base::syntax;
+use isle_types::{TypeEnv, TypeId};
+use std::alloc::AllocError;
+
+impl TermEnv {
+    /// A pattern at a type, where so many expansions may nest in one another. What is wrong is noted, and the work goes on
+    /// as upstream's does. Upstream's `TermEnv::translate_pattern`.
+    ///
+    /// # Errors
+    ///
+    /// Where memory is refused, and where the rule passes a limit on expansions.
+    #[cycle(translate_pattern)]
+    pub(crate) fn translate_pattern(
+        &self,
+        tyenv: &mut TypeEnv,
+        work: &mut Progress,
+        pat: &syntax::Pattern,
+        expected_ty: TypeId,
+        nesting: usize,
+    ) -> Result<Option<Pattern>, Stop>
+        requires { IsInterned tyenv.old }
+        ensures keeps { Keeps tyenv.old tyenv.new }
+        ensures made { MayTranslate self.now (standing tyenv.old work.old) (standing tyenv.new work.new) nesting
+            (pattern_reading (S.pattern_view pat.now) expected_ty.0) pattern_view result }
+    {
+        match pat {
+            syntax::Pattern::Var { var, pos } => {
+                self.translate_var(tyenv, work, var, *pos, expected_ty)
+            }
+            syntax::Pattern::BindPattern { var, subpat, pos } => {
+                let made = self.translate_pattern(tyenv, work, subpat, expected_ty, nesting)?;
+                let Some(of) = made else {
+                    return Ok(None);
+                };
+                self.bind_around(tyenv, work, var, *pos, of)
+            }
+            syntax::Pattern::ConstBool { val, pos } => {
+                self.translate_bool(tyenv, work, *val, *pos, expected_ty)
+            }
+            syntax::Pattern::ConstInt { val, pos } => {
+                self.translate_int(tyenv, work, *val, *pos, expected_ty)
+            }
+            syntax::Pattern::ConstPrim { val, pos } => {
+                self.translate_prim(tyenv, work, val, *pos, expected_ty)
+            }
+            syntax::Pattern::Term { sym, args, pos } => {
+                match self.use_in_pattern(
+                    tyenv,
+                    work,
+                    pat,
+                    sym,
+                    args,
+                    *pos,
+                    expected_ty,
+                    nesting,
+                )? {
+                    PatternUse::Wrong => Ok(None),
+                    PatternUse::Expansion(made, left) => {
+                        self.translate_pattern(tyenv, work, &made, expected_ty, left)
+                    }
+                    PatternUse::Parts(term) => {
+                        let tys = term.arg_tys.as_slice();
+                        let parts = self.translate_args(tyenv, work, args, tys, nesting)?;
+                        Ok(Some(Pattern::Term(term.ret_ty, term.id, parts)))
+                    }
+                }
+            }
+            syntax::Pattern::Wildcard { .. } => Ok(Some(Pattern::Wildcard(expected_ty))),
+            syntax::Pattern::And { subpats, .. } => {
+                let parts = self.translate_each(tyenv, work, subpats, expected_ty, nesting)?;
+                Ok(Some(Pattern::And(expected_ty, parts)))
+            }
+            syntax::Pattern::MacroArg { index, pos } => {
+                self.refuse_macro_arg(tyenv, work, *pos, *index, expected_ty)
+            }
+        }
+    }
+
+    /// Patterns for arguments, each at its type, as far as there are both. One for which nothing is made is left out.
+    /// Upstream's `TermEnv::translate_args`.
+    ///
+    /// # Errors
+    ///
+    /// Where memory is refused, and where the rule passes a limit on expansions.
+    #[cycle(translate_pattern)]
+    pub(crate) fn translate_args(
+        &self,
+        tyenv: &mut TypeEnv,
+        work: &mut Progress,
+        args: &[syntax::Pattern],
+        tys: &[TypeId],
+        nesting: usize,
+    ) -> Result<Vec<Pattern>, Stop>
+        requires { IsInterned tyenv.old }
+        ensures keeps { Keeps tyenv.old tyenv.new }
+        ensures made { length args.now ≡ length tys.now
+            → Translates self.now (standing tyenv.old work.old) (standing tyenv.new work.new) nesting
+            (parts_reading (S.pattern_views args.now) (map (λ t. t.0) tys.now)) (λ v. pattern_parts (pattern_views v.items)) result }
+        ensures errors { OnOk result (MayReport work.old.errors.items work.new.errors.items) }
+    {
+        let mut parts = Vec::new(*self.terms.allocator());
+        for i in 0..args.len().min(tys.len()) {
+            let part = self.translate_pattern(tyenv, work, &args[i], tys[i], nesting)?;
+            push_part(&mut parts, part)?;
+        }
+        Ok(parts)
+    }
+
+    // Patterns of one value. One for which nothing is made is left out.
+    #[cycle(translate_pattern)]
+    fn translate_each(
+        &self,
+        tyenv: &mut TypeEnv,
+        work: &mut Progress,
+        subpats: &[syntax::Pattern],
+        expected_ty: TypeId,
+        nesting: usize,
+    ) -> Result<Vec<Pattern>, Stop>
+        requires { IsInterned tyenv.old }
+        ensures keeps { Keeps tyenv.old tyenv.new }
+        ensures made { Translates self.now (standing tyenv.old work.old) (standing tyenv.new work.new) nesting
+            (each_reading (S.pattern_views subpats.now) expected_ty.0) (λ v. pattern_parts (pattern_views v.items)) result }
+    {
+        let mut parts = Vec::new(*self.terms.allocator());
+        for subpat in subpats {
+            let part = self.translate_pattern(tyenv, work, subpat, expected_ty, nesting)?;
+            push_part(&mut parts, part)?;
+        }
+        Ok(parts)
+    }
+}
+
+// One more pattern, where there is one.
+fn push_part(out: &mut Vec<Pattern>, made: Option<Pattern>) -> Result<(), AllocError>
+    ensures { OnOk result (out.new.items ≡ out.old.items ++ option_to_list made) }
+{
+    if let Some(pattern) = made {
+        out.push(pattern)?;
+        return Ok(());
+    }
+    Ok(())
+}
