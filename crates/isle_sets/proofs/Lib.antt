@@ -1,4 +1,9 @@
 pub mod Ascending
+pub mod ClassTests
+pub mod ClosingNumbers
+pub mod ClosingSteps
+pub mod ClosingTaken
+pub mod DueKept
 pub mod Equated
 pub mod FieldSites
 pub mod FoundSites

@@ -19,7 +19,7 @@ with_sites_push : (ts xs : List SiteTerm) (x : SiteTerm) → with_sites ts (xs +
 with_sites_push ts [] x = refl
 with_sites_push ts (y ∷ xs) x = with_sites_push (if has_site ts y then ts else ts ++ y ∷ []) xs x
 
-same_all : (f g : ℕ → SiteTerm) (n : ℕ) (ns : List ℕ) → ((a : ℕ) → a < n → f a ≡ g a) → All (λ a. a < n) ns → map f ns ≡ map g ns
+pub same_all : (f g : ℕ → SiteTerm) (n : ℕ) (ns : List ℕ) → ((a : ℕ) → a < n → f a ≡ g a) → All (λ a. a < n) ns → map f ns ≡ map g ns
 same_all f g n [] h w = refl
 same_all f g n (a ∷ ns) h w =
     let l : a < n = w 0 a (omega arith) in

@@ -5,3 +5,4 @@ pub mod Listings
 pub mod Overlaps
 pub mod SiteTables
 pub mod DemandsHeld
+pub mod Closings

@@ -1,6 +1,7 @@
 //! What a rule demands of sites, as its visit meets it and its closing goes on.
 ghost use Rattle.std.specs.Prelude.{◌≡◌, ℕ, false, None, Some, length, if◌then◌else◌, IfOk, OnOk, nat_eq};
 ghost use Rattle.std.specs.List.{zip};
+ghost use Rattle.isle_sets.specs.Closings.{KeepsDue};
 ghost use Rattle.isle_sets.specs.DemandsHeld.{constraint_held, first_kept, IsConflict, are_equated, equated_too, equated_each};
 ghost use Rattle.isle_sets.specs.SiteViews.{constraint_view};
 
@@ -8,14 +9,17 @@ use crate::overlaps::is_same_constraint;
 use crate::trie_again::{BindingId, Constraint};
 use isle_base::disjointsets::DisjointSets;
 use std::alloc::{AllocError, Global};
-use std::collections::BTreeMap;
+use std::collections::{BTreeMap, BTreeSet};
 
 /// What a rule demands of sites.
 pub struct Demanded {
     // Of each site what is asked first, by its number.
-    constraints: BTreeMap<BindingId, Constraint>,
+    pub(crate) constraints: BTreeMap<BindingId, Constraint>,
     // Sites that must be equal.
-    equals: DisjointSets<BindingId>,
+    pub(crate) equals: DisjointSets<BindingId>,
+    // Sites that the closing has yet to look at: all that have a constraint and must equal another one, and it may be
+    // others.
+    pub(crate) open: BTreeSet<BindingId>,
 }
 
 impl Drop for Demanded {
@@ -23,6 +27,7 @@ impl Drop for Demanded {
         let Self {
             constraints: _,
             equals: _,
+            open: _,
         } = self;
     }
 }
@@ -32,10 +37,12 @@ impl Demanded {
     pub fn new(alloc: Global) -> Demanded
         ensures asked { (s : ℕ) → constraint_held result s ≡ None }
         ensures equated { (a b : ℕ) → are_equated result a b ≡ false }
+        ensures due { KeepsDue result }
     {
         Demanded {
             constraints: BTreeMap::new(alloc),
             equals: DisjointSets::new(alloc),
+            open: BTreeSet::new(alloc),
         }
     }
 
@@ -53,10 +60,12 @@ impl Demanded {
         ensures asked { OnOk result ((s : ℕ) → constraint_held self.new s
             ≡ (if nat_eq site s then Some (first_kept (constraint_held self.old site) (constraint_view constraint)) else constraint_held self.old s)) }
         ensures equated { self.new.equals ≡ self.old.equals }
+        ensures due { KeepsDue self.old → OnOk result (KeepsDue self.new) }
     {
         match self.constraints.get(&site).copied() {
             Some(before) => Ok(other_than(before, constraint)),
             None => {
+                self.open.insert(site)?;
                 self.constraints.insert(site, constraint)?;
                 Ok(None)
             }
@@ -71,8 +80,11 @@ impl Demanded {
     pub fn equate(&mut self, first: BindingId, second: BindingId) -> Result<(), AllocError>
         ensures equated { OnOk result ((a b : ℕ) → are_equated self.new a b ≡ equated_too (are_equated self.old) first second a b) }
         ensures asked { self.new.constraints ≡ self.old.constraints }
+        ensures due { KeepsDue self.old → OnOk result (KeepsDue self.new) }
     {
         if first != second {
+            self.open.insert(first)?;
+            self.open.insert(second)?;
             self.equals.merge(first, second)?;
         }
         Ok(())
@@ -91,6 +103,7 @@ impl Demanded {
         requires { length firsts.now ≡ length seconds.now }
         ensures equated { OnOk result ((a b : ℕ) → are_equated self.new a b ≡ equated_each (are_equated self.old) (zip firsts.now seconds.now) a b) }
         ensures asked { self.new.constraints ≡ self.old.constraints }
+        ensures due { KeepsDue self.old → OnOk result (KeepsDue self.new) }
     {
         for i in 0..firsts.len() {
             self.equate(firsts[i], seconds[i])?;

@@ -4,6 +4,7 @@
 
 mod bindings;
 pub mod building;
+mod closing;
 mod constraints;
 pub mod demanded;
 mod overlaps;
