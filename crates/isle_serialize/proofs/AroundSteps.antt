@@ -1,5 +1,5 @@
 -- One more entry of a table of available sites, and one more pair that is joined.
-use Rattle.std.proofs.Common.{◌≡◌, ℕ, zero, suc, ◌+◌, ◌-◌, ◌<◌, ◌≤◌, ◌==◌, Bool, true, false, not, ◌&&◌, ◌||◌, if◌then◌else◌, List, [], ◌∷◌, ◌++◌, map, length, get_or, drop, Some, None, Option, slice_get, slice_index_or, Contains, refl, sym, ap, ◌∙◌, subst, arith, add-one, drop-cons, drop_of_length-le}
+use Rattle.std.proofs.Common.{◌≡◌, ℕ, zero, suc, ◌<◌, ◌≤◌, ◌==◌, Bool, false, not, ◌&&◌, ◌||◌, if◌then◌else◌, List, [], ◌∷◌, map, length, get_or, drop, Some, None, Option, slice_get, slice_index_or, Contains, refl, sym, ap, ◌∙◌, arith, drop-cons, drop_of_length-le}
 use Rattle.std.specs.List.{list_all}
 use Rattle.isle_model.specs.sites.Sites.{Site, sources_of, sources_at}
 use Rattle.isle_model.specs.trees.Places.{Around, is_in, class, waits, available}
@@ -7,7 +7,7 @@ use Rattle.isle_model.specs.trees.Tests.{up_to}
 use Rattle.isle_sets.specs.declared.trie_again.Binding.{Binding}
 use Rattle.isle_sets.specs.SiteViews.{site_view, site_views}
 use Rattle.isle_serialize.specs.AroundViews.{ArePairsWithin}
-use Rattle.isle_serialize.proofs.Tables.{table_more, available_by, names_start, names_more}
+use Rattle.isle_serialize.proofs.Tables.{available_by, names_start, names_more}
 
 pub site_there : (bs : List Binding) (s : ℕ) (b : Binding) → s < length bs → b ≡ get_or bs s b → slice_get (site_views bs) s ≡ Some (site_view b)
 site_there [] s b l e = absurd (omega arith)

@@ -1,18 +1,18 @@
 -- How best trees grow: by a test that is the greatest of its place, by an arm, and by a return.
-use Rattle.std.proofs.Common.{◌≡◌, ◌≢◌, ℕ, suc, Bool, true, false, not, ◌&&◌, ◌||◌, cond, List, [], ◌∷◌, ◌++◌, length, Option, Some, None, slice_get, Contains, IsTrue, count_by, refl, sym, ap, ◌∙◌, subst, filter, arith}
+use Rattle.std.proofs.Common.{◌≡◌, ◌≢◌, ℕ, Bool, true, false, not, ◌&&◌, ◌||◌, cond, List, [], ◌∷◌, ◌++◌, length, Option, Some, None, slice_get, Contains, IsTrue, refl, sym, ap, ◌∙◌, filter, arith}
 use Rattle.std.specs.Prelude.{IsPermutation}
 use Rattle.std.specs.List.{list_all}
-use Rattle.std.proofs.lemmas.Bool.{cases_Bool, cond-true, cond-false, and_from, false≢true}
+use Rattle.std.proofs.lemmas.Bool.{cond-true, cond-false, and_from, false≢true}
 use Rattle.std.proofs.lemmas.List.Elements.{filter-append}
 use Rattle.std.proofs.lemmas.List.Sums.{length-filter}
 use Rattle.std.proofs.lemmas.List.Sorted.{IsPermutation-refl, IsPermutation-sym, IsPermutation-cons, IsPermutation-trans, IsPermutation-append, IsPermutation-filter_both, Contains-permutation, sum_by-IsPermutation, length_permutation}
-use Rattle.isle_model.specs.sites.Sites.{iterator_site, Constraint, SetRule, SiteSet, sources_at, sources_of}
-use Rattle.isle_model.specs.trees.Trees.{Tree, no_step, step, Check, match_at, equal_at, loop_at, return_of, Arms, no_arm, arm, Marked, m_no_step, m_step, MarkedCheck, m_match, m_equal, m_loop, m_return, MarkedArms, m_no_arm, m_arm, marks, marks_arms, plain, plain_arms}
-use Rattle.isle_model.specs.trees.Places.{Around, uses, return_uses, bind_order, fields_of, constraint_at, in_arm, in_equal, in_loop, after_step}
-use Rattle.isle_model.specs.trees.Sound.{IsAfter, AllAsk}
-use Rattle.isle_model.specs.trees.Tests.{Test, match_test, equal_test, loop_test, needs_at, is_lower, is_covered, cover, IsOpen, Score, score, is_greater}
-use Rattle.isle_model.specs.trees.Best.{IsGreatest, IsMade, IsEnd, comes_first, descend, BestSteps}
-use Rattle.isle_model.proofs.Members.{nothing_in, in_head, in_tail, each_passes, all_pass, from_filter}
+use Rattle.isle_model.specs.sites.Sites.{iterator_site, Constraint, SetRule, SiteSet, sources_at}
+use Rattle.isle_model.specs.trees.Trees.{Tree, no_step, step, match_at, equal_at, loop_at, return_of, Arms, no_arm, arm, Marked, m_no_step, m_step, m_match, m_equal, m_loop, m_return, m_no_arm, m_arm, marks, marks_arms}
+use Rattle.isle_model.specs.trees.Places.{Around, return_uses, bind_order, fields_of, constraint_at, in_arm, in_equal, in_loop, after_step}
+use Rattle.isle_model.specs.trees.Sound.{IsAfter}
+use Rattle.isle_model.specs.trees.Tests.{Test, match_test, equal_test, loop_test, needs_at, is_lower, is_covered, cover, IsOpen, score, is_greater}
+use Rattle.isle_model.specs.trees.Best.{IsGreatest, IsMade, comes_first, descend, BestSteps}
+use Rattle.isle_model.proofs.Members.{in_head, in_tail, each_passes, all_pass, from_filter}
 use Rattle.isle_serialize.specs.Growing.{IsBestFrom, AreEnds, AreBestArms}
 use Rattle.isle_serialize.proofs.Alike.{Alike, steps_alike}
 

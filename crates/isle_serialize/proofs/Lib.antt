@@ -8,3 +8,11 @@ pub mod Alike
 pub mod Growth
 pub mod Listed
 pub mod FieldSteps
+pub mod Ascents
+pub mod StepsJoined
+pub mod InsideSteps
+pub mod EndSteps
+pub mod Untried
+pub mod PlaceSteps
+pub mod ArmSteps
+pub mod WholeTrees

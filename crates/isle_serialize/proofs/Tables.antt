@@ -1,6 +1,6 @@
 -- Tables of a set's sites, and what a rule needs by the look-ups of its parts.
-use Rattle.std.proofs.Common.{◌≡◌, ℕ, zero, suc, ◌+◌, ◌<◌, ◌≤◌, ◌==◌, nat_lt, Bool, true, false, not, ◌&&◌, ◌||◌, cond, List, [], ◌∷◌, ◌++◌, map, length, get_or, drop, Option, Some, None, is_some, option_map, slice_get, slice_index_or, Contains, IsTrue, refl, sym, ap, ◌∙◌, subst, inl, inr, arith, eqb-true, eq-eqb, ltb-true, ltb-false, if◌then◌else◌, length-append}
-use Rattle.std.specs.List.{list_any, list_all}
+use Rattle.std.proofs.Common.{◌≡◌, ℕ, zero, suc, ◌+◌, ◌<◌, ◌≤◌, ◌==◌, nat_lt, Bool, true, false, not, ◌&&◌, ◌||◌, cond, List, [], ◌∷◌, ◌++◌, map, length, Option, Some, None, is_some, option_map, slice_get, slice_index_or, Contains, refl, sym, ap, ◌∙◌, subst, inl, inr, arith, eqb-true, eq-eqb, ltb-true, ltb-false, if◌then◌else◌, length-append}
+use Rattle.std.specs.List.{list_all}
 use Rattle.std.proofs.lemmas.Bool.{cases_Bool, cond-true, cond-false, and_parts, and_from, or_cases, or_left, or_right, false≢true, cases_lt}
 use Rattle.std.proofs.lemmas.List.{get_or_append_left, get_or_push, get_or_past}
 use Rattle.isle_base.specs.Stable.{Members, contains}
@@ -8,7 +8,7 @@ use Rattle.isle_base.specs.Partition.{in_set, set_of, together, IsPartition}
 use Rattle.isle_model.specs.sites.Sites.{Site, sources_at}
 use Rattle.isle_model.specs.trees.Places.{Around, is_in, class, joins_in, waits, is_available, available}
 use Rattle.isle_model.specs.trees.Tests.{up_to}
-use Rattle.isle_model.proofs.Members.{member_found, member_is_in, in_head, in_tail, nothing_in, in_cases, all_pass, each_passes}
+use Rattle.isle_model.proofs.Members.{in_head, in_tail}
 use Rattle.isle_sets.specs.SiteViews.{passing_below, member_sites}
 
 -- 1. tests that agree both ways

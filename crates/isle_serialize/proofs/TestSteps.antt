@@ -1,5 +1,5 @@
 -- The open tests of a place by tables of its sites, and the greatest of them.
-use Rattle.std.proofs.Common.{◌≡◌, ◌≢◌, ℕ, zero, suc, ◌+◌, ◌<◌, ◌≤◌, ◌==◌, nat_lt, Bool, true, false, not, ◌&&◌, cond, List, [], ◌∷◌, ◌++◌, map, length, take, get_or, Option, Some, None, slice_index_or, Contains, refl, sym, ap, ◌∙◌, subst, inl, inr, arith, add-one, ltb-true, ltb-false, lt-ltb, length-append}
+use Rattle.std.proofs.Common.{◌≡◌, ℕ, zero, suc, ◌+◌, ◌<◌, ◌≤◌, ◌==◌, nat_lt, Bool, true, false, not, ◌&&◌, cond, List, [], ◌∷◌, ◌++◌, map, length, take, get_or, Option, Some, None, slice_index_or, Contains, refl, sym, ap, ◌∙◌, subst, inl, inr, arith, ltb-false, lt-ltb, length-append}
 use Rattle.std.specs.List.{filter, flat_map}
 use Rattle.std.proofs.lemmas.Bool.{cases_Bool, cond-true, cond-false, false≢true, cases_lt, or_left}
 use Rattle.std.proofs.lemmas.List.{take_more}
@@ -10,7 +10,7 @@ use Rattle.isle_model.specs.trees.Places.{Around, is_in, class, joins, available
 use Rattle.isle_model.specs.trees.Tests as Tests
 use Rattle.isle_model.specs.trees.Tests.{match_test, equal_test, loop_test, cover, is_at_hand, is_open_site, is_open_pair, IsOpen, up_to, open_sites, open_pairs_at, open_tests, score, is_greater}
 use Rattle.isle_model.specs.trees.Best.{IsGreatest}
-use Rattle.isle_model.proofs.Members.{nothing_in, in_head, in_tail, in_cases, in_alone, from_up_to, in_map, from_map}
+use Rattle.isle_model.proofs.Members.{nothing_in, in_head, in_tail, in_alone, from_up_to, in_map, from_map}
 use Rattle.isle_laws_trees.proofs.OpenTests.{open_listed, listed_open}
 use Rattle.isle_laws_trees.proofs.Scores.{scores_are_ordered_lem}
 use Rattle.isle_serialize.specs.declared.tests.Test.{Test}

@@ -2,9 +2,13 @@
 #![tactic(auto)]
 
 pub mod alone;
+pub mod arms;
 pub mod around;
+pub mod best;
 pub mod binds;
+pub mod ends;
 pub mod fields;
 pub mod inside;
 pub mod serialize;
+pub mod steps;
 pub mod tests;

@@ -1,13 +1,19 @@
 //! The tree of tests that says which of a term's rules is taken: the one that trying them all by descending priority
 //! would take. A tree may make a test once for several rules.
 
-ghost use Rattle.std.specs.Prelude.{◌≡◌};
+ghost use Rattle.std.specs.Prelude.{◌≡◌, IfOk, length};
+ghost use Rattle.isle_model.specs.claims.Layers.{IsBuiltForSome, IsSerialized};
+ghost use Rattle.isle_model.specs.trees.Tests.{up_to};
 ghost use Rattle.isle_model.specs.trees.Trees.{no_step};
+ghost use Rattle.isle_sets.specs.SiteViews.{set_view};
 ghost use Rattle.isle_serialize.specs.TreeViews.{tree_view};
 
+use crate::around::Around;
+use crate::best::block_of;
 use isle_base::syntax::Pos;
-use isle_sets::trie_again::{BindingId, Constraint};
-use std::alloc::Global;
+use isle_laws_trees::best_trees_mean_their_sets;
+use isle_sets::trie_again::{BindingId, Constraint, RuleSet};
+use std::alloc::{AllocError, Global};
 
 /// Steps, tried in order. Where one's test fails or its body runs through, the next one follows, and may rest on no
 /// earlier one having ended the run.
@@ -127,4 +133,31 @@ impl Drop for MatchArm {
             body: _,
         } = self;
     }
+}
+
+/// The best tree of a built set: at each place the test that covers most rules is made, for exactly the rules that it
+/// covers, and it means what the set does. A set without rules gives a block without steps.
+///
+/// # Errors
+///
+/// Where memory is refused, and only there.
+pub fn serialize(alloc: Global, set: &RuleSet) -> Result<Block, AllocError>
+    requires { IsBuiltForSome (set_view set.now) }
+    ensures { IfOk result (λ block. IsSerialized (set_view set.now) (tree_view block)) }
+{
+    // a law, without code: best trees of built sets mean what the sets do
+    best_trees_mean_their_sets();
+    let here = all_rules(alloc, set)?;
+    block_of(alloc, set, here, Around::new(alloc))
+}
+
+// The numbers of all rules of a set, ascending.
+fn all_rules(alloc: Global, set: &RuleSet) -> Result<Vec<usize>, AllocError>
+    ensures { IfOk result (λ v. v.items ≡ up_to (length (set_view set.now).rules)) }
+{
+    let mut rules = Vec::new(alloc);
+    for number in 0..set.rules.len() {
+        rules.push(number)?;
+    }
+    Ok(rules)
 }

@@ -88,8 +88,8 @@ fn needs_at(set: &RuleSet, test: &Test, number: usize) -> bool
     }
 }
 
-// The priority of the rule of a number.
-fn priority(set: &RuleSet, number: usize) -> i64
+/// The priority of the rule of a number, and 0 where there is none.
+pub fn priority(set: &RuleSet, number: usize) -> i64
     ensures { result ≡ Tests.priority (slice_get (set_view set.now).rules number) }
 {
     match set.rules.get(number) {

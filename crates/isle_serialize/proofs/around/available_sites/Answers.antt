@@ -1,4 +1,4 @@
-use Rattle.std.proofs.Common.{◌≡◌, ◌+◌, ◌∙◌, suc, sym, ap, rules, arith, add-one, map, ◌++◌, ◌∷◌, []}
+use Rattle.std.proofs.Common.{◌∙◌, sym, ap, rules, arith, add-one, map, ◌++◌, ◌∷◌, []}
 use Rattle.isle_model.specs.trees.Places.{available}
 use Rattle.isle_model.specs.trees.Tests.{up_to}
 use Rattle.isle_sets.specs.SiteViews.{set_view}

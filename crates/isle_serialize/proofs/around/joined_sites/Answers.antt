@@ -1,4 +1,4 @@
-use Rattle.std.proofs.Common.{◌≡◌, ◌∙◌, rules, arith}
+use Rattle.std.proofs.Common.{arith}
 use Rattle.isle_sets.specs.SiteViews.{set_view}
 use Rattle.isle_serialize.proofs.AroundSteps.{joined_start, joined_step}
 use Rattle.std.proofs.Common.{length, ◌-◌}

@@ -2,7 +2,6 @@ use Rattle.std.proofs.Common.{◌≡◌, ◌≤◌, length, map, drop}
 use Rattle.isle_model.specs.trees.Tests.{up_to}
 use Rattle.isle_model.specs.trees.Places.{class}
 use Rattle.isle_sets.specs.SiteViews.{set_view}
-use Rattle.isle_serialize.specs.AroundViews.{around_view}
 use Rattle.isle_serialize.proofs.around.joined_sites.Given as goal
 
 abbrev pub invariant-loop-left : goal.invariant-loop-left

@@ -1,5 +1,4 @@
-use Rattle.std.proofs.Common.{◌≡◌, ◌<◌, ◌∙◌, sym, ap, subst, rules, arith, Contains}
-use Rattle.isle_model.specs.sites.Sites.{sources_at}
+use Rattle.std.proofs.Common.{◌<◌, ◌∙◌, sym, ap, subst, rules, arith, Contains}
 use Rattle.isle_model.specs.trees.Places.{is_in, each_after, listed_below}
 use Rattle.isle_sets.specs.SiteViews.{set_view}
 use Rattle.std.proofs.Common.{List, ℕ, ◌||◌}

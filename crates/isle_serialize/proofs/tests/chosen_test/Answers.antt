@@ -1,5 +1,4 @@
-use Rattle.std.proofs.Common.{◌≡◌, ◌∙◌, ap}
-use Rattle.isle_model.specs.trees.Tests.{open_tests}
+use Rattle.std.proofs.Common.{◌∙◌, ap}
 use Rattle.isle_sets.specs.SiteViews.{set_view}
 use Rattle.isle_serialize.specs.AroundViews.{around_view}
 use Rattle.isle_serialize.specs.TestViews.{test_views}

@@ -1,4 +1,4 @@
-use Rattle.std.proofs.Common.{◌≡◌, ◌+◌, ◌∙◌, ap, sym, subst, ◌++◌, ◌∷◌, [], take, Some}
+use Rattle.std.proofs.Common.{◌+◌, ◌∙◌, ap, sym, subst, ◌++◌, ◌∷◌, [], take, Some}
 use Rattle.std.proofs.lemmas.List.{take_more}
 use Rattle.isle_sets.specs.SiteViews.{set_view}
 use Rattle.isle_serialize.specs.AroundViews.{around_view}

@@ -1,0 +1,55 @@
+-- What is kept of a place says the same as what is around it, inside tests too.
+use Rattle.std.proofs.Common.{◌≡◌, ℕ, List, [], ◌∷◌, ◌++◌, Option, Some, slice_get, flat_map, refl, sym, ap, ◌∙◌}
+use Rattle.std.proofs.lemmas.List.{append_assoc}
+use Rattle.isle_model.specs.sites.Sites.{iterator_site, Constraint, SiteSet, sources_at}
+use Rattle.isle_model.specs.trees.Trees.{m_loop, m_no_step}
+use Rattle.isle_model.specs.trees.Places as Places
+use Rattle.isle_model.specs.trees.Places.{is_in, all_below, field_sites, in_arm, in_equal, in_loop, after_step}
+use Rattle.isle_laws_trees.proofs.Passing.{sources_there}
+use Rattle.isle_serialize.specs.declared.around.Around.{Around}
+use Rattle.isle_serialize.specs.AroundViews.{around_view, IsInside, after_uses, arm_around, loop_around}
+use Rattle.isle_serialize.proofs.Alike.{Alike}
+
+pub inside_alike : (a : Around) (ar : Places.Around) → IsInside (around_view a) ar → Alike (around_view a) ar
+inside_alike a ar h = record { sources = λ s. ap (is_in s) h.sources; joined = h.joined; brought = h.brought; emitted = h.emitted }
+
+nothing_behind : (xs : List ℕ) → xs ++ [] ≡ xs
+nothing_behind [] = refl
+nothing_behind (x ∷ xs) = ap (λ l. x ∷ l) (nothing_behind xs)
+
+module _ (set : SiteSet) (around : Around) where
+  abbrev ar : Places.Around
+  ar = around_view around
+
+  -- in an arm, whatever its constraint
+  pub arm_inside : (a : Around) (s : ℕ) (c : Constraint) (fields : List (Option ℕ)) → IsInside (around_view a) (arm_around set ar s fields) → Alike (around_view a) (in_arm set ar s c fields)
+  arm_inside a s c fields h = inside_alike a (in_arm set ar s c fields)
+      (record {
+        sources = h.sources;
+        joined = h.joined;
+        brought = h.brought;
+        emitted = λ t. h.emitted t ∙ ap (is_in t) (sym (append_assoc (field_sites fields) (all_below set.sites (s ∷ [])) ar.emitted));
+      })
+
+  -- in a loop over a call, and after it
+  module _ (call result : ℕ) (at : slice_get set.sites result ≡ Some (iterator_site call)) where
+    one_source : sources_at set.sites result ≡ call ∷ []
+    one_source = sources_there set result call at
+
+    below : flat_map (λ s. all_below set.sites (sources_at set.sites s)) (sources_at set.sites result) ≡ all_below set.sites (sources_at set.sites call)
+    below = ap (flat_map (λ s. all_below set.sites (sources_at set.sites s))) one_source ∙ nothing_behind (all_below set.sites (sources_at set.sites call))
+
+    pub loop_inside : (a : Around) → IsInside (around_view a) (loop_around set ar call result) → Alike (around_view a) (in_loop set ar result)
+    loop_inside a h =
+        inside_alike a (in_loop set ar result)
+        (record {
+          sources = h.sources ∙ ap (λ l. l ++ ar.looped) (sym one_source);
+          joined = h.joined;
+          brought = h.brought;
+          emitted = λ s. h.emitted s ∙ ap (λ l. is_in s (result ∷ (l ++ ar.emitted))) (sym below);
+        })
+
+    pub loop_after : (a : Around) → IsInside (around_view a) (after_uses set ar (sources_at set.sites call)) → Alike (around_view a) (after_step set ar (m_loop result m_no_step))
+    loop_after a h =
+        inside_alike a (after_step set ar (m_loop result m_no_step))
+        (record { sources = h.sources; joined = h.joined; brought = h.brought; emitted = λ s. h.emitted s ∙ ap (λ l. is_in s (l ++ ar.emitted)) (sym below) })

@@ -1,0 +1,207 @@
+-- A place and its next test: the places inside it and behind it, and the tree that grows by it.
+use Rattle.std.proofs.Common.{◌≡◌, ◌≢◌, ℕ, ◌<◌, Bool, true, false, not, ◌&&◌, nat_lt, List, [], ◌∷◌, ◌++◌, length, Option, Some, None, slice_get, Contains, filter, refl, sym, ap, ◌∙◌, subst, inl, inr, arith, ltb-true}
+use Rattle.std.proofs.lemmas.Bool.{and_parts, false≢true}
+use Rattle.std.proofs.lemmas.List.Filters.{length-filter_both}
+use Rattle.isle_model.specs.sites.Sites.{iterator_site, SetRule, SiteSet}
+use Rattle.isle_model.specs.trees.Trees.{Tree, step, join, Check, m_match, m_equal, m_loop, m_no_step, m_no_arm}
+use Rattle.isle_model.specs.trees.Places as Places
+use Rattle.isle_model.specs.trees.Places.{is_in, joins, available, bind_order, in_equal, after_step}
+use Rattle.isle_model.specs.trees.Tests.{Test, match_test, equal_test, loop_test, is_needed, needs_at, is_covered, cover, sources_around, is_at_hand, is_open_site, IsOpen}
+use Rattle.isle_model.proofs.Members.{in_cases, from_filter, some_member, member_found, member_from_get}
+use Rattle.isle_laws_trees.proofs.Passing.{sources_there}
+use Rattle.isle_sets.specs.Listings.{ascends}
+use Rattle.isle_serialize.specs.declared.around.Around.{Around}
+use Rattle.isle_serialize.specs.declared.steps.NextTest.{NextTest}
+use Rattle.isle_serialize.specs.declared.serialize.EvalStep.{EvalStep}
+use Rattle.isle_serialize.specs.AroundViews.{around_view, IsInside, ArePairsWithin, after_uses, arm_around, loop_around}
+use Rattle.isle_serialize.specs.Growing.{IsBestFrom, AreEnds, IsBestBody, CanGrow, IsPlace, IsStepOf, test_sites, test_emits, IsNextTest}
+use Rattle.isle_serialize.specs.TestViews.{test_view, IsChosen}
+use Rattle.isle_serialize.specs.TreeViews.{check_view, steps_view}
+use Rattle.isle_serialize.proofs.Ascents.{ascends_kept}
+use Rattle.isle_serialize.proofs.Growth.{match_more, equal_more, loop_more, ends_close, from_alike}
+use Rattle.isle_serialize.proofs.InsideSteps.{inside_alike, loop_after}
+use Rattle.isle_serialize.proofs.StepsJoined.{step_joined, steps_joined}
+use Rattle.isle_serialize.proofs.Untried.{untried, untried_same, untried_source, untried_pair}
+
+not_true : (b : Bool) → not b ≡ true → b ≡ false
+not_true true e = absurd (false≢true e)
+not_true false e = refl
+
+-- the steps of a block so far, and what is left: with what may follow, they are best; and no test that stands around the
+-- steps to come is one more
+pub record BlockGrows (set : SiteSet) (start : Places.Around) (here : List ℕ) (ar : Places.Around) (left : List ℕ) (steps : List EvalStep) : Type 0 where
+  pub place : IsPlace set ar left
+  pub as_many : untried (length set.sites) ar ≡ untried (length set.sites) start
+  pub far : (t : Tree) → IsBestFrom set ar left t → IsBestFrom set start here (join (steps_view steps) t)
+
+module _ (set : SiteSet) where
+  abbrev n : ℕ
+  n = length set.sites
+
+  -- 1. the next test's places
+  module _ (ar : Places.Around) (here : List ℕ) (next : NextTest) (h : IsNextTest set ar here next) where
+    abbrev test : Test
+    test = test_view next.test
+
+    pub covered_place : IsPlace set ar here → IsPlace set ar next.covered.items
+    covered_place p = record { pairs = p.pairs; ascending = subst (λ l. ascends l ≡ true) (sym h.covered) (ascends_kept (is_covered set.rules here test) here p.ascending) }
+
+    pub others_place : IsPlace set ar here → IsPlace set (around_view next.after) next.others.items
+    others_place p = record {
+      pairs = subst (ArePairsWithin n) (sym h.after.joined) p.pairs;
+      ascending = subst (λ l. ascends l ≡ true) (sym h.others) (ascends_kept (λ i. not (is_covered set.rules here test i)) here p.ascending);
+    }
+
+    pub covered_step : IsStepOf set ar test next.covered.items
+    covered_step = record {
+      open_here = h.chosen.0.open_here;
+      need = λ i c. (and_parts (needs_at set.rules test i) _ (from_filter (is_covered set.rules here test) here i (subst (λ l. Contains l i) h.covered c)).1).0;
+      some_rule = λ e. h.chosen.1 (sym h.covered ∙ e);
+    }
+
+    pub fewer_others : length next.others.items < length here
+    fewer_others =
+        let both = length-filter_both (is_covered set.rules here test) (λ i. not (is_covered set.rules here test i)) (λ i. refl) here in
+        let e = ap length h.others in
+        let l = some_length (cover set.rules here test) h.chosen.1 in
+        omega (arith, both, e, l)
+      where
+        some_length : (xs : List ℕ) → xs ≢ [] → 0 < length xs
+        some_length [] g = absurd (g refl)
+        some_length (x ∷ xs) g = omega arith
+
+  pub untried_after : (around : Around) (here : List ℕ) (next : NextTest) → IsNextTest set (around_view around) here next → untried n (around_view next.after) ≡ untried n (around_view around)
+  untried_after around here next h =
+      untried_same n (around_view around) (around_view next.after) (λ s. ap (is_in s) h.after.sources) h.after.joined
+
+  -- 2. the tree that grows by it
+  module _ (around : Around) (here : List ℕ) where
+    abbrev at : Places.Around
+    at = around_view around
+
+    pub test_more : (next : NextTest) (check : Check) (tree : Tree) → IsNextTest set at here next → IsBestBody set at (test_view next.test) next.covered.items check
+        → IsBestFrom set (around_view next.after) next.others.items tree → IsBestFrom set at here (step next.binds.items check tree)
+    test_more next check tree h body rest = by (test_view next.test) refl
+      where
+        left : (t : Test) → test_view next.test ≡ t → IsBestFrom set (around_view next.after) (filter (λ i. not (is_covered set.rules here t i)) here) tree
+        left t e = subst (λ l. IsBestFrom set (around_view next.after) l tree) (h.others ∙ ap (λ u. filter (λ i. not (is_covered set.rules here u i)) here) e) rest
+
+        held : (t : Test) → test_view next.test ≡ t → IsBestBody set at t (cover set.rules here t) check
+        held t e = subst (λ u. IsBestBody set at u (cover set.rules here u) check) e (subst (λ l. IsBestBody set at (test_view next.test) l check) h.covered body)
+
+        binds : (t : Test) → test_view next.test ≡ t → next.binds.items ≡ bind_order set.sites at (test_sites t)
+        binds t e = h.binds ∙ ap (λ u. bind_order set.sites at (test_sites u)) e
+
+        after : (t : Test) → test_view next.test ≡ t → IsInside (around_view next.after) (after_uses set at (test_emits set t))
+        after t e = subst (λ u. IsInside (around_view next.after) (after_uses set at (test_emits set u))) e h.after
+
+        by : (t : Test) → test_view next.test ≡ t → IsBestFrom set at here (step next.binds.items check tree)
+        by (match_test s) e =
+            let b = held (match_test s) e in
+            let chosen = subst (λ u. IsChosen set at here (Some u)) e h.chosen in
+            let behind = from_alike set (around_view next.after) (after_step set at (m_match s m_no_arm)) (filter (λ i. not (is_covered set.rules here (match_test s) i)) here) tree
+            (inside_alike next.after (after_step set at (m_match s m_no_arm)) (inside_match s (after (match_test s) e))) (left (match_test s) e) in
+            subst (λ c. IsBestFrom set at here (step next.binds.items c tree)) (sym b.1)
+            (match_more set at here s next.binds.items b.0 tree chosen.0 chosen.1 (binds (match_test s) e) b.2 behind)
+          where
+            inside_match : (s : ℕ) → IsInside (around_view next.after) (after_uses set at (s ∷ [])) → IsInside (around_view next.after) (after_step set at (m_match s m_no_arm))
+            inside_match s i = record { sources = i.sources; joined = i.joined; brought = i.brought; emitted = i.emitted }
+        by (equal_test x y) e =
+            let b = held (equal_test x y) e in
+            let chosen = subst (λ u. IsChosen set at here (Some u)) e h.chosen in
+            let behind = from_alike set (around_view next.after) (after_step set at (m_equal x y m_no_step)) (filter (λ i. not (is_covered set.rules here (equal_test x y) i)) here) tree
+            (inside_alike next.after (after_step set at (m_equal x y m_no_step)) (inside_pair x y (after (equal_test x y) e))) (left (equal_test x y) e) in
+            subst (λ c. IsBestFrom set at here (step next.binds.items c tree)) (sym b.1)
+            (equal_more set at here x y next.binds.items b.0 tree chosen.0 chosen.1 (binds (equal_test x y) e) b.2 behind)
+          where
+            inside_pair : (x y : ℕ) → IsInside (around_view next.after) (after_uses set at (x ∷ (y ∷ []))) → IsInside (around_view next.after) (after_step set at (m_equal x y m_no_step))
+            inside_pair x y i = record { sources = i.sources; joined = i.joined; brought = i.brought; emitted = i.emitted }
+        by (loop_test s) e =
+            let b = held (loop_test s) e in
+            let chosen = subst (λ u. IsChosen set at here (Some u)) e h.chosen in
+            let there = b.3 in
+            let behind = from_alike set (around_view next.after) (after_step set at (m_loop b.0 m_no_step)) (filter (λ i. not (is_covered set.rules here (loop_test s) i)) here) tree
+            (loop_after set around s b.0 there next.after (after (loop_test s) e)) (left (loop_test s) e) in
+            subst (λ c. IsBestFrom set at here (step next.binds.items c tree)) (sym b.2)
+            (loop_more set at here s b.0 next.binds.items b.1 tree there chosen.0 chosen.1 (binds (loop_test s) e ∙ ap (bind_order set.sites at) (sym (sources_there set b.0 s there))) b.4 behind)
+
+  -- 3. the steps of a block
+  module _ (start : Places.Around) (here : List ℕ) where
+    pub block_start : IsPlace set start here → BlockGrows set start here start here []
+    block_start p = record { place = p; as_many = refl; far = λ t b. b }
+
+    pub block_more : (around : Around) (left : List ℕ) (next : NextTest) (steps more : List EvalStep) (s : EvalStep) → IsNextTest set (around_view around) left next
+        → s.bind_order.items ≡ next.binds.items → IsBestBody set (around_view around) (test_view next.test) next.covered.items (check_view s.check) → more ≡ steps ++ s ∷ []
+        → BlockGrows set start here (around_view around) left steps → BlockGrows set start here (around_view next.after) next.others.items more
+    block_more around left next steps more s h binds body e g = record {
+      place = others_place (around_view around) left next h g.place;
+      as_many = untried_after around left next h ∙ g.as_many;
+      far = λ t b. subst (IsBestFrom set start here) (sym (ap (λ xs. join (steps_view xs) t) e ∙ step_joined steps s t ∙ ap (λ bs. join (steps_view steps) (step bs (check_view s.check) t)) binds))
+          (g.far (step next.binds.items (check_view s.check) t) (test_more around left next (check_view s.check) t h body b));
+    }
+
+    pub block_whole : (ar : Places.Around) (left : List ℕ) (steps ends all : List EvalStep) → IsChosen set ar left None → AreEnds set ar left (steps_view ends) → all ≡ steps ++ ends
+        → BlockGrows set start here ar left steps → IsBestFrom set start here (steps_view all)
+    block_whole ar left steps ends all over a e g =
+        subst (IsBestFrom set start here) (sym (ap steps_view e ∙ steps_joined steps ends)) (g.far (steps_view ends) (ends_close set ar left (steps_view ends) over a))
+
+  -- 4. what is open
+  open_site : (ar : Places.Around) (s : ℕ) → is_open_site set ar s ≡ true → (s < n) × (is_in s (sources_around ar) ≡ false)
+  open_site ar s o =
+      let p = and_parts (is_at_hand set ar s) (not (is_in s (sources_around ar))) o in
+      (ltb-true s n (and_parts (nat_lt s n) (available set.sites ar s) p.0).0, not_true (is_in s (sources_around ar)) p.1)
+
+  open_pair : (ar : Places.Around) (a b : ℕ) → IsOpen set ar (equal_test a b) → (a < b) × (b < n) × (joins ar.joined a b ≡ false)
+  open_pair ar a b o =
+      let p = and_parts (nat_lt a b && is_at_hand set ar a && is_at_hand set ar b) (not (joins ar.joined a b)) o in
+      let q = and_parts (nat_lt a b && is_at_hand set ar a) (is_at_hand set ar b) p.0 in
+      let r = and_parts (nat_lt a b) (is_at_hand set ar a) q.0 in
+      (ltb-true a b r.0, ltb-true b n (and_parts (nat_lt b n) (available set.sites ar b) q.1).0, not_true (joins ar.joined a b) p.1)
+
+  -- 5. inside a test
+  module _ (around inside : Around) (here : List ℕ) where
+    abbrev out : Places.Around
+    out = around_view around
+
+    pub equal_place : (a b : ℕ) → IsPlace set out here → IsOpen set out (equal_test a b) → IsInside (around_view inside) (in_equal set out a b) → IsPlace set (around_view inside) here
+    equal_place a b p o i = record { pairs = subst (ArePairsWithin n) (sym i.joined) within; ascending = p.ascending }
+      where
+        within : ArePairsWithin n ((a, b) ∷ out.joined)
+        within q c =
+            elim (in_cases (a, b) q out.joined c) [
+              | inl e ↦
+                  let k = open_pair out a b o in
+                  let l = k.0 in
+                  let m = k.1 in
+                  subst (λ (x : ℕ × ℕ). (x.0 < n) × (x.1 < n)) e (omega (arith, l, m), m)
+              | inr d ↦ p.pairs q d
+            ]
+
+    pub equal_fewer : (a b : ℕ) → IsOpen set out (equal_test a b) → IsInside (around_view inside) (in_equal set out a b) → untried n (around_view inside) < untried n out
+    equal_fewer a b o i =
+        let k = open_pair out a b o in
+        untried_pair n a b out (around_view inside) k.0 k.1 k.2 (λ x. ap (is_in x) i.sources) i.joined
+
+    pub loop_place : (call result : ℕ) → IsPlace set out here → IsInside (around_view inside) (loop_around set out call result) → IsPlace set (around_view inside) here
+    loop_place call result p i = record { pairs = subst (ArePairsWithin n) (sym i.joined) p.pairs; ascending = p.ascending }
+
+    pub loop_fewer : (call result : ℕ) → IsOpen set out (loop_test call) → IsInside (around_view inside) (loop_around set out call result) → untried n (around_view inside) < untried n out
+    loop_fewer call result o i =
+        let k = open_site out call o in
+        untried_source n call out (around_view inside) k.0 k.1 (λ x. ap (is_in x) i.sources) i.joined
+
+    pub arm_place : (s : ℕ) (fields : List (Option ℕ)) → IsPlace set out here → IsInside (around_view inside) (arm_around set out s fields) → IsPlace set (around_view inside) here
+    arm_place s fields p i = record { pairs = subst (ArePairsWithin n) (sym i.joined) p.pairs; ascending = p.ascending }
+
+    pub arm_fewer : (s : ℕ) (fields : List (Option ℕ)) → IsOpen set out (match_test s) → IsInside (around_view inside) (arm_around set out s fields) → untried n (around_view inside) < untried n out
+    arm_fewer s fields o i =
+        let k = open_site out s o in
+        untried_source n s out (around_view inside) k.0 k.1 (λ x. ap (is_in x) i.sources) i.joined
+
+  -- 6. rules that need a loop go over its call, which has a pick
+  pub pick_made : CanGrow set → (ar : Places.Around) (call : ℕ) (here : List ℕ) → IsStepOf set ar (loop_test call) here → (k : ℕ) × (slice_get set.sites k ≡ Some (iterator_site call))
+  pick_made g ar call here h = let i = some_member here h.some_rule in of (slice_get set.rules i.0) refl (h.need i.0 i.1)
+    where
+      of : (o : Option SetRule) → slice_get set.rules (some_member here h.some_rule).0 ≡ o → is_needed (loop_test call) o ≡ true → (k : ℕ) × (slice_get set.sites k ≡ Some (iterator_site call))
+      of None e t = absurd (false≢true t)
+      of (Some r) e t = g.picks r call (member_from_get set.rules (some_member here h.some_rule).0 r e) (member_found call r.iterators t)

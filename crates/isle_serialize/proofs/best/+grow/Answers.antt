@@ -1,0 +1,164 @@
+use Rattle.std.proofs.Common.{◌≡◌, ◌<◌, None, length, refl, sym, subst, arith, rules}
+use Rattle.isle_model.specs.trees.Places as Places
+use Rattle.isle_sets.specs.SiteViews.{set_view}
+use Rattle.isle_serialize.specs.declared.serialize.ControlFlow.{Match, Equal, Loop}
+use Rattle.isle_serialize.specs.declared.serialize.MatchArm.{roll-MatchArm}
+use Rattle.isle_serialize.specs.AroundViews.{around_view}
+use Rattle.isle_serialize.specs.Growing.{IsBestFrom, IsBestBody, IsStepOf, IsLeastAsked, IsNextTest, IsNext, IsNextArm, IsNextArmOf}
+use Rattle.isle_serialize.specs.TestViews.{test_view, IsChosen}
+use Rattle.isle_serialize.specs.TreeViews.{tree_view, arms_view, check_view}
+use Rattle.isle_serialize.proofs.ArmSteps.{ArmsGrow, arms_start, fewer_left, asking_place, arms_more, arms_whole}
+use Rattle.isle_serialize.proofs.Growth.{from_alike}
+use Rattle.isle_serialize.proofs.InsideSteps.{inside_alike, loop_inside}
+use Rattle.isle_serialize.proofs.PlaceSteps.{covered_place, covered_step, fewer_others, block_more, block_whole, equal_place, equal_fewer, loop_place, loop_fewer, arm_place, arm_fewer, pick_made}
+use Rattle.isle_serialize.proofs.TreeLaws.{block_seen, match_seen, equal_seen, loop_seen, arm_seen}
+use Rattle.isle_serialize.proofs.Untried.{untried}
+use Rattle.isle_serialize.proofs.best.+grow.Goals as goal
+
+-- blocks
+pub block_of-check_of-requires : goal.block_of-check_of-requires
+block_of-check_of-requires t c =
+    let set = set_view c.args.set.now in
+    let ar = around_view c.loop-around.around in
+    let left = c.loop-around.left.items in
+    let next = c.in-Some.next in
+    let h = subst (λ l. IsNextTest set ar l next) c.deref.ensures.value (subst (IsNext set ar c.deref.result.now) c.in-Some.is c.in_ok-next.ensures) in
+    let same : untried (length set.sites) ar ≡ untried (length set.sites) (around_view c.args.around) = c.loop-around.invariant.as_many in
+    (search (rules, arith, same), (c.requires.set, (covered_place set ar left next h c.loop-around.invariant.place, covered_step set ar left next h)))
+
+pub block_of-loop-around-smaller : goal.block_of-loop-around-smaller
+block_of-loop-around-smaller t c =
+    let set = set_view c.args.set.now in
+    let ar = around_view c.loop-around.around in
+    let next = c.in-Some.next in
+    let h = subst (λ l. IsNextTest set ar l next) c.deref.ensures.value (subst (IsNext set ar c.deref.result.now) c.in-Some.is c.in_ok-next.ensures) in
+    fewer_others set ar c.loop-around.left.items next h
+
+pub block_of-loop-around-preserved : goal.block_of-loop-around-preserved
+block_of-loop-around-preserved t c =
+    let set = set_view c.args.set.now in
+    let ar = around_view c.loop-around.around in
+    let next = c.in-Some.next in
+    let h = subst (λ l. IsNextTest set ar l next) c.deref.ensures.value (subst (IsNext set ar c.deref.result.now) c.in-Some.is c.in_ok-next.ensures) in
+    block_more set (around_view c.args.around) c.args.here.items c.loop-around.around c.loop-around.left.items next c.loop-around.steps.items c.push.new.self.items
+    (record { bind_order = next.binds; check = c.in_ok-check.check }) h refl c.in_ok-check.ensures c.in_ok-push.ensures.items c.loop-around.invariant
+
+pub block_of-returns : goal.block_of-returns
+block_of-returns t c =
+    let set = set_view c.args.set.now in
+    let ar = around_view c.loop-around.around in
+    let left = c.loop-around.left.items in
+    let over = subst (λ l. IsChosen set ar l None) c.deref.ensures.value (subst (IsNext set ar c.deref.result.now) c.in_default.is c.in_ok-next.ensures) in
+    subst (IsBestFrom set (around_view c.args.around) c.args.here.items) (sym (block_seen c.append.new.self))
+    (block_whole set (around_view c.args.around) c.args.here.items ar left c.loop-around.steps.items c.in_ok-ends.ends.items c.append.new.self.items over c.in_ok-ends.ensures c.in_ok-append.ensures.items c.loop-around.invariant)
+
+-- tests
+pub check_of-block_of-requires : goal.check_of-block_of-requires
+check_of-block_of-requires t c =
+    let set = set_view c.args.set.now in
+    let around = c.args.around.now in
+    let inside = c.in_ok-inside-in-Equal.inside in
+    let here = c.args.here.items in
+    let h = subst (λ u. IsStepOf set (around_view around) (test_view u) here) c.in-Equal.is c.requires.step in
+    let smaller : untried (length set.sites) (around_view inside) < untried (length set.sites) (around_view around) = equal_fewer set around inside here c.in-Equal.a c.in-Equal.b h.open_here c.in_ok-inside-in-Equal.ensures in
+    (search (rules, arith, smaller), (c.requires.set, equal_place set around inside here c.in-Equal.a c.in-Equal.b c.requires.place h.open_here c.in_ok-inside-in-Equal.ensures))
+
+pub check_of-pick_of-result-requires-clause-made : goal.check_of-pick_of-result-requires-clause-made
+check_of-pick_of-result-requires-clause-made t c =
+    let set = set_view c.args.set.now in
+    let ar = around_view c.args.around.now in
+    pick_made set c.requires.set ar c.in-Loop.source c.args.here.items (subst (λ u. IsStepOf set ar (test_view u) c.args.here.items) c.in-Loop.is c.requires.step)
+
+pub check_of-block_of-requires-in-Loop : goal.check_of-block_of-requires-in-Loop
+check_of-block_of-requires-in-Loop t c =
+    let set = set_view c.args.set.now in
+    let around = c.args.around.now in
+    let inside = c.in_ok-inside-in-Loop.inside in
+    let here = c.args.here.items in
+    let result = c.pick_of-result.result in
+    let h = subst (λ u. IsStepOf set (around_view around) (test_view u) here) c.in-Loop.is c.requires.step in
+    let smaller : untried (length set.sites) (around_view inside) < untried (length set.sites) (around_view around) = loop_fewer set around inside here c.in-Loop.source result h.open_here c.in_ok-inside-in-Loop.ensures in
+    (search (rules, arith, smaller), (c.requires.set, loop_place set around inside here c.in-Loop.source result c.requires.place c.in_ok-inside-in-Loop.ensures))
+
+pub check_of-returns-in_ok-arms_of-in-Match : goal.check_of-returns-in_ok-arms_of-in-Match
+check_of-returns-in_ok-arms_of-in-Match t c =
+    let set = set_view c.args.set.now in
+    let ar = around_view c.args.around.now in
+    let arms = c.in_ok-arms_of-in-Match.field-0 in
+    subst (λ u. IsBestBody set ar (test_view u) c.args.here.items (check_view (Match c.in-Match.source arms))) (sym c.in-Match.is) (arms_view arms.items, match_seen c.in-Match.source arms, c.in_ok-arms_of-in-Match.ensures)
+
+pub check_of-returns-in_ok-block_of-in-Equal : goal.check_of-returns-in_ok-block_of-in-Equal
+check_of-returns-in_ok-block_of-in-Equal t c =
+    let set = set_view c.args.set.now in
+    let around = c.args.around.now in
+    let ar = around_view around in
+    let inside = c.in_ok-inside-in-Equal.inside in
+    let here = c.args.here.items in
+    let body = c.in_ok-block_of-in-Equal.field-0 in
+    let a = c.in-Equal.a in
+    let b = c.in-Equal.b in
+    let best = from_alike set (around_view inside) (Places.in_equal set ar a b) here (tree_view body) (inside_alike inside (Places.in_equal set ar a b) c.in_ok-inside-in-Equal.ensures) c.in_ok-block_of-in-Equal.ensures in
+    subst (λ u. IsBestBody set ar (test_view u) here (check_view (Equal a b body))) (sym c.in-Equal.is) (tree_view body, equal_seen a b body, best)
+
+pub check_of-returns-in_ok-block_of-in-Loop : goal.check_of-returns-in_ok-block_of-in-Loop
+check_of-returns-in_ok-block_of-in-Loop t c =
+    let set = set_view c.args.set.now in
+    let around = c.args.around.now in
+    let ar = around_view around in
+    let inside = c.in_ok-inside-in-Loop.inside in
+    let here = c.args.here.items in
+    let body = c.in_ok-block_of-in-Loop.field-0 in
+    let call = c.in-Loop.source in
+    let result = c.pick_of-result.result in
+    let at = c.pick_of-result.ensures in
+    let best = from_alike set (around_view inside) (Places.in_loop set ar result) here (tree_view body) (loop_inside set around call result at inside c.in_ok-inside-in-Loop.ensures) c.in_ok-block_of-in-Loop.ensures in
+    subst (λ u. IsBestBody set ar (test_view u) here (check_view (Loop result body))) (sym c.in-Loop.is) (result, tree_view body, loop_seen result body, at, best)
+
+-- arms
+pub arms_of-loop-left-init : goal.arms_of-loop-left-init
+arms_of-loop-left-init t c =
+    let here = c.args.here.items in
+    subst (ArmsGrow (set_view c.args.set.now) (around_view c.args.around.now) c.args.source here here) (sym c.new-arms.ensures.items)
+    (arms_start (set_view c.args.set.now) c.args.around.now c.args.source here c.requires.place)
+
+pub arms_of-block_of-requires : goal.arms_of-block_of-requires
+arms_of-block_of-requires t c =
+    let set = set_view c.args.set.now in
+    let around = c.args.around.now in
+    let left = c.loop-left.left.items in
+    let next = c.in-Some.next in
+    let h = subst (λ l. IsNextArm set (around_view around) c.args.source l next) c.deref.ensures.value (subst (IsNextArmOf set (around_view around) c.args.source c.deref.result.now) c.in-Some.is c.in_ok-next.ensures) in
+    let smaller : untried (length set.sites) (around_view next.inside) < untried (length set.sites) (around_view around) = arm_fewer set around next.inside left c.args.source next.fields.items c.requires.step.open_here h.inside in (
+      search (rules, arith, smaller),
+      (
+        c.requires.set,
+        arm_place set around next.inside next.asking.items c.args.source next.fields.items (asking_place set around c.args.source c.args.here.items left next h c.loop-left.invariant.place) h.inside,
+      ),
+    )
+
+pub arms_of-loop-left-smaller : goal.arms_of-loop-left-smaller
+arms_of-loop-left-smaller t c =
+    let set = set_view c.args.set.now in
+    let around = c.args.around.now in
+    let next = c.in-Some.next in
+    let h = subst (λ l. IsNextArm set (around_view around) c.args.source l next) c.deref.ensures.value (subst (IsNextArmOf set (around_view around) c.args.source c.deref.result.now) c.in-Some.is c.in_ok-next.ensures) in
+    fewer_left set around c.args.source c.args.here.items c.loop-left.left.items next h
+
+pub arms_of-loop-left-preserved : goal.arms_of-loop-left-preserved
+arms_of-loop-left-preserved t c =
+    let set = set_view c.args.set.now in
+    let around = c.args.around.now in
+    let next = c.in-Some.next in
+    let body = c.in_ok-block_of.field-0 in
+    let h = subst (λ l. IsNextArm set (around_view around) c.args.source l next) c.deref.ensures.value (subst (IsNextArmOf set (around_view around) c.args.source c.deref.result.now) c.in-Some.is c.in_ok-next.ensures) in
+    arms_more set around c.args.source c.args.here.items c.loop-left.left.items next h c.loop-left.arms.items c.push.new.self.items
+    (roll-MatchArm record { constraint = next.constraint; bindings = next.fields; body = body }) (tree_view body) c.in_ok-push.ensures.items
+    (λ rest. arm_seen next.constraint next.fields body rest) c.in_ok-block_of.ensures c.loop-left.invariant
+
+pub arms_of-returns : goal.arms_of-returns
+arms_of-returns t c =
+    let set = set_view c.args.set.now in
+    let around = c.args.around.now in
+    let left = c.loop-left.left.items in
+    let none = subst (λ l. IsLeastAsked set.rules c.args.source l None) c.deref.ensures.value (subst (IsNextArmOf set (around_view around) c.args.source c.deref.result.now) c.in_default.is c.in_ok-next.ensures) in
+    arms_whole set around c.args.source c.args.here.items left c.loop-left.arms.items none c.requires.step c.loop-left.invariant

@@ -1,0 +1,114 @@
+//! The best tree of a set: at each place the greatest test is made, for exactly the rules that it covers.
+
+ghost use Rattle.std.specs.Prelude.{◌≡◌, ◌≤◌, None, IfOk, length};
+ghost use Rattle.isle_model.specs.trees.Tests as Tests;
+ghost use Rattle.isle_sets.specs.SiteViews.{set_view};
+ghost use Rattle.isle_serialize.specs.AroundViews.{around_view};
+ghost use Rattle.isle_serialize.specs.Growing.{AreBestArms, CanGrow, IsBestBody, IsBestFrom, IsPlace, IsStepOf};
+ghost use Rattle.isle_serialize.specs.TestViews.{test_view};
+ghost use Rattle.isle_serialize.specs.TreeViews.{arms_view, check_view, tree_view};
+
+use crate::arms::next_arm;
+use crate::around::Around;
+use crate::ends::returns_of;
+use crate::inside::{in_equal, in_loop};
+use crate::serialize::{Block, ControlFlow, EvalStep, MatchArm};
+use crate::steps::{next_test, pick_of};
+use crate::tests::Test;
+use isle_sets::trie_again::{BindingId, RuleSet};
+use std::alloc::{AllocError, Global};
+
+/// The best steps from a place on: tests while some open test covers a rule, then the returns of the rules that are
+/// left.
+#[cycle(grow)]
+pub fn block_of(
+    alloc: Global,
+    set: &RuleSet,
+    here: Vec<usize>,
+    around: Around,
+) -> Result<Block, AllocError>
+    requires set { CanGrow (set_view set.now) }
+    requires place { IsPlace (set_view set.now) (around_view around) here.items }
+    ensures { IfOk result (λ b. IsBestFrom (set_view set.now) (around_view around) here.items (tree_view b)) }
+{
+    let mut steps = Vec::new(alloc);
+    let mut left = here;
+    let mut around = around;
+    while let Some(next) = next_test(alloc, set, &around, &left)? {
+        let check = check_of(alloc, set, &around, next.test, next.covered)?;
+        steps.push(EvalStep {
+            bind_order: next.binds,
+            check,
+        })?;
+        around = next.after;
+        left = next.others;
+    }
+    let mut ends = returns_of(alloc, set, left, around)?;
+    steps.append(&mut ends)?;
+    Ok(Block { steps })
+}
+
+// What the step of an open test holds for these rules, which all need it.
+#[cycle(grow)]
+fn check_of(
+    alloc: Global,
+    set: &RuleSet,
+    around: &Around,
+    test: Test,
+    here: Vec<usize>,
+) -> Result<ControlFlow, AllocError>
+    requires set { CanGrow (set_view set.now) }
+    requires place { IsPlace (set_view set.now) (around_view around.now) here.items }
+    requires step { IsStepOf (set_view set.now) (around_view around.now) (test_view test) here.items }
+    ensures { IfOk result (λ check. IsBestBody (set_view set.now) (around_view around.now) (test_view test) here.items (check_view check)) }
+{
+    match test {
+        Test::Match { source } => Ok(ControlFlow::Match {
+            source,
+            arms: arms_of(alloc, set, around, source, here)?,
+        }),
+        Test::Equal { a, b } => {
+            let inside = in_equal(alloc, set, around, a, b)?;
+            Ok(ControlFlow::Equal {
+                a,
+                b,
+                body: block_of(alloc, set, here, inside)?,
+            })
+        }
+        Test::Loop { source } => {
+            let result = pick_of(set, source);
+            let inside = in_loop(alloc, set, around, source, result)?;
+            Ok(ControlFlow::Loop {
+                result,
+                body: block_of(alloc, set, here, inside)?,
+            })
+        }
+    }
+}
+
+// The arms of a match for these rules, which all ask something of its source.
+#[cycle(grow)]
+fn arms_of(
+    alloc: Global,
+    set: &RuleSet,
+    around: &Around,
+    source: BindingId,
+    here: Vec<usize>,
+) -> Result<Vec<MatchArm>, AllocError>
+    requires set { CanGrow (set_view set.now) }
+    requires place { IsPlace (set_view set.now) (around_view around.now) here.items }
+    requires step { IsStepOf (set_view set.now) (around_view around.now) (Tests.match_test source) here.items }
+    ensures { IfOk result (λ v. AreBestArms (set_view set.now) (around_view around.now) source None here.items (arms_view v.items)) }
+{
+    let mut arms = Vec::new(alloc);
+    let mut left = here;
+    while let Some(next) = next_arm(alloc, set, around, source, &left)? {
+        arms.push(MatchArm {
+            constraint: next.constraint,
+            bindings: next.fields,
+            body: block_of(alloc, set, next.asking, next.inside)?,
+        })?;
+        left = next.others;
+    }
+    Ok(arms)
+}

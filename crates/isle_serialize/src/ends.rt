@@ -1,0 +1,103 @@
+//! The end of a block: the rules that no open test covers return one after another.
+
+ghost use Rattle.std.specs.Prelude.{◌≡◌, ◌<◌, ℕ, IsTrue, None, Some, Contains, IfOk, IsPermutation, slice_get};
+ghost use Rattle.isle_model.specs.sites.Sites.{sources_at};
+ghost use Rattle.isle_model.specs.trees.Best.{descend};
+ghost use Rattle.isle_model.specs.trees.Places.{return_uses};
+ghost use Rattle.isle_model.specs.trees.Trees as Trees;
+ghost use Rattle.isle_sets.specs.Listings.{ascends};
+ghost use Rattle.isle_sets.specs.SiteViews.{set_rule_view, set_view};
+ghost use Rattle.isle_serialize.specs.AroundViews.{around_view};
+ghost use Rattle.isle_serialize.specs.Growing.{AreEnds};
+ghost use Rattle.isle_serialize.specs.TreeViews.{check_view, steps_view};
+
+use crate::around::Around;
+use crate::binds::bind_order;
+use crate::inside::after_step;
+use crate::serialize::{ControlFlow, EvalStep};
+use crate::tests::priority;
+use isle_base::syntax::Pos;
+use isle_sets::trie_again::{BindingId, Rule, RuleSet};
+use std::alloc::{AllocError, Global};
+use std::cmp::Reverse;
+
+// These rules by descending priority, those of one priority in rule order.
+fn in_order(set: &RuleSet, here: Vec<usize>) -> Result<Vec<usize>, AllocError>
+    requires { IsTrue (ascends here.items) }
+    ensures permutation { IfOk result (λ v. IsPermutation here.items v.items) }
+    ensures order { IfOk result (λ v. IsTrue (descend (set_view set.now).rules v.items)) }
+{
+    let mut order = here;
+    order.sort_by_key(|number| Reverse(priority(set, *number)))?;
+    Ok(order)
+}
+
+// What the rule of a number uses: its impure calls in order, then its result.
+fn used_by(alloc: Global, set: &RuleSet, number: usize) -> Result<Vec<BindingId>, AllocError>
+    ensures { IfOk result (λ v. v.items ≡ return_uses (slice_get (set_view set.now).rules number)) }
+{
+    let mut used = Vec::new(alloc);
+    if let Some(rule) = set.rules.get(number) {
+        used.extend_from_slice(&rule.impure)?;
+        used.push(rule.result)?;
+    }
+    Ok(used)
+}
+
+// The return of a rule.
+#[tactic(auto, using(crate::proofs::TreeLaws::tree_steps))]
+fn return_from(rule: &Rule) -> ControlFlow
+    ensures { check_view result ≡ Trees.return_of (Some (set_rule_view rule.now)) }
+{
+    ControlFlow::Return {
+        pos: rule.pos,
+        result: rule.result,
+    }
+}
+
+// The return that stands where there is no rule.
+#[tactic(auto, using(crate::proofs::TreeLaws::tree_steps))]
+fn return_from_none() -> ControlFlow
+    ensures { check_view result ≡ Trees.return_of None }
+{
+    ControlFlow::Return {
+        pos: Pos { file: 0, offset: 0 },
+        result: BindingId::from(0),
+    }
+}
+
+// The return of the rule of a number.
+#[tactic(auto, using(crate::proofs::TreeLaws::tree_steps))]
+fn return_of(set: &RuleSet, number: usize) -> ControlFlow
+    ensures { check_view result ≡ Trees.return_of (slice_get (set_view set.now).rules number) }
+{
+    match set.rules.get(number) {
+        Some(rule) => return_from(rule),
+        None => return_from_none(),
+    }
+}
+
+/// The returns of these rules, by descending priority, then rule order, each with its impure calls and its result bound.
+pub fn returns_of(
+    alloc: Global,
+    set: &RuleSet,
+    here: Vec<usize>,
+    around: Around,
+) -> Result<Vec<EvalStep>, AllocError>
+    requires sources { (s a : ℕ) → Contains (sources_at (set_view set.now).sites s) a → a < s }
+    requires ascending { IsTrue (ascends here.items) }
+    ensures { IfOk result (λ v. AreEnds (set_view set.now) (around_view around) here.items (steps_view v.items)) }
+{
+    let mut steps = Vec::new(alloc);
+    let mut around = around;
+    let order = in_order(set, here)?;
+    for number in &order {
+        let used = used_by(alloc, set, *number)?;
+        steps.push(EvalStep {
+            bind_order: bind_order(alloc, set, &around, &used)?,
+            check: return_of(set, *number),
+        })?;
+        around = after_step(alloc, set, &around, &used)?;
+    }
+    Ok(steps)
+}

@@ -1,0 +1,100 @@
+//! The test steps of a place: which test comes next, and what its step binds, covers and leaves.
+
+ghost use Rattle.std.specs.Prelude.{◌≡◌, ◌<◌, ◌≤◌, ℕ, Some, Contains, IfOk, length, slice_get};
+ghost use Rattle.isle_model.specs.sites.Sites.{iterator_site, sources_at};
+ghost use Rattle.isle_sets.specs.SiteViews.{set_view};
+ghost use Rattle.isle_serialize.specs.AroundViews.{around_view, after_uses, ArePairsWithin, IsInside};
+ghost use Rattle.isle_serialize.specs.Growing.{test_sites, test_emits, CanGrow, IsNext};
+ghost use Rattle.isle_serialize.specs.TestViews.{test_view};
+
+use crate::around::Around;
+use crate::binds::{bind_order, sources_of};
+use crate::fields::iterator_of;
+use crate::inside::after_step;
+use crate::tests::{Test, chosen_test, cover, uncovered};
+use isle_sets::trie_again::{BindingId, RuleSet};
+use std::alloc::{AllocError, Global};
+
+/// The test that is made at a place, and what goes with it.
+#[derive(Debug, Drop)]
+pub struct NextTest {
+    /// The test.
+    pub test: Test,
+    /// What its step binds first.
+    pub binds: Vec<BindingId>,
+    /// The rules that it covers: its step holds these.
+    pub covered: Vec<usize>,
+    /// The other rules of the place: they are left for the steps behind it.
+    pub others: Vec<usize>,
+    /// What stands around the steps behind it.
+    pub after: Around,
+}
+
+// The sites that a step of a test uses.
+fn sites_of(alloc: Global, test: &Test) -> Result<Vec<BindingId>, AllocError>
+    ensures { IfOk result (λ v. v.items ≡ test_sites (test_view test.now)) }
+{
+    let mut sites = Vec::new(alloc);
+    match test {
+        Test::Match { source } | Test::Loop { source } => sites.push(*source)?,
+        Test::Equal { a, b } => {
+            sites.push(*a)?;
+            sites.push(*b)?;
+        }
+    }
+    Ok(sites)
+}
+
+// Around the steps after a test's.
+fn after_test(
+    alloc: Global,
+    set: &RuleSet,
+    around: &Around,
+    test: &Test,
+) -> Result<Around, AllocError>
+    requires { (s a : ℕ) → Contains (sources_at (set_view set.now).sites s) a → a < s }
+    ensures { IfOk result (λ r. IsInside (around_view r) (after_uses (set_view set.now) (around_view around.now) (test_emits (set_view set.now) (test_view test.now)))) }
+{
+    match test {
+        Test::Match { source } => after_step(alloc, set, around, &[*source]),
+        Test::Equal { a, b } => after_step(alloc, set, around, &[*a, *b]),
+        // the call itself may be bound again, so that its sources alone are emitted
+        Test::Loop { source } => after_step(alloc, set, around, sources_of(set, *source)),
+    }
+}
+
+/// The test that is made next at a place with these rules, and none where the place is an end.
+pub fn next_test(
+    alloc: Global,
+    set: &RuleSet,
+    around: &Around,
+    here: &[usize],
+) -> Result<Option<NextTest>, AllocError>
+    requires set { CanGrow (set_view set.now) }
+    requires pairs { ArePairsWithin (length (set_view set.now).sites) around.now.joined.items }
+    ensures { IfOk result (λ o. IsNext (set_view set.now) (around_view around.now) here.now o) }
+{
+    let Some(test) = chosen_test(alloc, set, around, here)? else {
+        return Ok(None);
+    };
+    let sites = sites_of(alloc, &test)?;
+    Ok(Some(NextTest {
+        test,
+        binds: bind_order(alloc, set, around, &sites)?,
+        covered: cover(alloc, set, here, &test)?,
+        others: uncovered(alloc, set, here, &test)?,
+        after: after_test(alloc, set, around, &test)?,
+    }))
+}
+
+/// The site that stands for each answer of a call that a rule goes over: a built set has one.
+pub fn pick_of(set: &RuleSet, call: BindingId) -> BindingId
+    requires few { length (set_view set.now).sites ≤ 65536 }
+    requires made { (k : ℕ) × (slice_get (set_view set.now).sites k ≡ Some (iterator_site call)) }
+    ensures { slice_get (set_view set.now).sites result ≡ Some (iterator_site call) }
+{
+    match iterator_of(set, call) {
+        Some(each) => each,
+        None => unreachable!(),
+    }
+}
