@@ -1,5 +1,7 @@
-//! Tests of what rows of text can't say.
+//! Tests of what rows of text can't say, and two visitors that they run.
 #![tactic(auto)]
 
+pub mod counter;
+pub mod recorder;
 #[cfg(test)]
 mod tests;

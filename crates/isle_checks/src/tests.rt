@@ -1,4 +1,5 @@
-// Containers; trees of syntax; tables and typed rules; what programs print, and what they do where output fails.
+// Containers; trees of syntax; tables and typed rules; visits; what programs print, and what they do where output fails.
+mod all_forms;
 mod last_digit;
 mod partition;
 mod printing;
@@ -6,3 +7,4 @@ mod program;
 mod stable;
 mod syntax;
 mod tables;
+mod visits;
