@@ -1,23 +1,26 @@
 -- The multi sample: its rules and its set are collected, the world serves it, and the run of its tree collects the bag.
-use Rattle.std.proofs.Common.{◌≡◌, ◌∷◌, [], ◌∙◌, ℕ, pos, zero, suc, true, false, List, Some, length, slice_get, All, Contains, IsTrue, refl, sym, ap, subst, inl, inr, arith, is_some}
+use Rattle.std.proofs.Common.{◌≡◌, ◌∷◌, [], ◌∙◌, ℕ, pos, zero, suc, true, false, List, Some, length, slice_get, All, Contains, IsTrue, refl, sym, ap, subst, inl, inr, arith, is_some, ◌⊎◌, ◌||◌, ◌==◌, Bool, None, if◌then◌else◌, eqb-true}
 use Rattle.std.proofs.lemmas.Bool.{false≢true}
 use Rattle.std.proofs.lemmas.List.Elements.{All-nil, All-cons}
 use Rattle.std.proofs.lemmas.List.Sorted.{IsPermutation-refl, length_permutation, sum_by-IsPermutation}
-use Rattle.std.proofs.lemmas.Option.{same_Some}
+use Rattle.std.proofs.lemmas.Option.{none-some, same_Some}
 use Rattle.std.specs.Prelude.{IsPermutation}
 use Rattle.isle_model.proofs.Members.{in_alone, in_cases, nothing_in}
-use Rattle.isle_model.specs.rules.Meaning.{Content, one}
+use Rattle.isle_model.specs.claims.SetMeanings.{returning_once}
+use Rattle.isle_model.specs.rules.Meaning.{Content, many, one}
 use Rattle.isle_model.specs.rules.Picks.{Pick}
 use Rattle.isle_model.specs.rules.Values.{atom}
-use Rattle.isle_model.specs.sites.Sites.{Constraint, SetRule, is_int}
-use Rattle.isle_model.specs.trees.Collects.{HasCollectedResults, IsCollectedSet, ServesSet, content_at}
-use Rattle.isle_model.specs.trees.Places.{fields_of, joins_in, waits}
-use Rattle.isle_model.specs.trees.Run.{content_fields}
+use Rattle.isle_model.specs.sites.Sites.{Constraint, SetRule, argument_site, constructor_site, is_int, iterator_site, match_some_site}
+use Rattle.isle_model.specs.trees.Collects.{HasCollectedResults, IsCollectedSet, IsPureAt, ServesSet, content_at}
+use Rattle.isle_model.specs.trees.Places.{Around, all_below, fields_of, is_in, joins_in, nothing_around, waits}
+use Rattle.isle_model.specs.trees.Run.{Env, World, bound_to, content_fields, used}
+use Rattle.isle_model.specs.trees.SetRuns.{IsUnwrap}
 use Rattle.isle_model.specs.claims.Environments.{types_read}
 use Rattle.isle_model.specs.sites.Overlap.{built_rule}
 use Rattle.isle_laws_lists.proofs.FormedRules.{rules_are_formed}
 use Rattle.isle_laws_lists.proofs.TypedRules.{lists_agree}
 use Rattle.isle_laws_demands.proofs.matching.BuiltMatches.{built_sets_match_by_demands_lem}
+use Rattle.isle_laws_demands.proofs.outcomes.Outcomes.{taken_under_picks_lem}
 use Rattle.isle_laws_demands.proofs.results.Held.{results_are_held_lem}
 use Rattle.isle_laws_demands.proofs.served.ServesSets.{served_multi_sets_serve_lem}
 use Rattle.isle_laws_demands.proofs.visits.Collected.{are_collected_lem}
@@ -30,10 +33,10 @@ use Rattle.isle_laws_trees.proofs.headline.Collecting.{CollectingLaws, best_tree
 use Rattle.isle_examples.proofs.Served.{multi_served}
 use Rattle.isle_examples.proofs.SampleStages.{multi_stages}
 use Rattle.isle_examples.proofs.SetStages.{collected}
-use Rattle.isle_examples.specs.MeaningForms.{each, given, v}
+use Rattle.isle_examples.specs.MeaningForms.{all_of, answers, each, given, v}
 use Rattle.isle_laws_trees.proofs.binding.Judged.{binding_judge_is_exact_lem}
 use Rattle.isle_examples.proofs.Used.{does_not_bind}
-use Rattle.isle_examples.specs.Multi.{looped_with, LoopsMayBindAgain, MultiCollects, MultiIsCollected, MultiIsNot, MultiResultsAreHeld, MultiSetCollects, MultiTreeCollects, each_m, each_of_m, multi_defs, multi_meaning, multi_program, multi_rules, multi_set, multi_tree, multi_world, nine, nine_for_one}
+use Rattle.isle_examples.specs.Multi.{looped_with, LoopsMayBindAgain, MultiCollects, MultiIsCollected, MultiIsNot, MultiResultsAreHeld, MultiIsTaken, MultiSetCollects, MultiTakenGives, MultiTreeCollects, each_m, each_of_m, first_answer, multi_defs, multi_meaning, multi_program, multi_rules, multi_set, multi_tree, multi_world, nine, nine_for_one}
 
 -- 1. collected
 rules_collected : All (HasCollectedResults multi_program) multi_rules.rules
@@ -145,3 +148,110 @@ loops_may_bind_again = (
   (binding_judge_is_exact_lem multi_set true (looped_with (1 ∷ []) (1 ∷ [])) refl).0 refl,
   does_not_bind multi_set true (looped_with (2 ∷ []) []) refl refl,
 )
+
+-- 4. what is taken under a pick
+-- inside of the loop over the call's answers
+abbrev in_loop : Around
+in_loop = record nothing_around { looped = 1 ∷ []; brought = 2 ∷ []; emitted = 2 ∷ (1 ∷ []) }
+
+abbrev all_of_m : Content
+all_of_m = many (all_of (pos 4 ∷ (pos 4 ∷ [])))
+
+abbrev first_of_m : Env
+first_of_m = (2, one (v (pos 4))) ∷ ((1, all_of_m) ∷ [])
+
+abbrev in_world : World
+in_world = returning_once (multi_world (pos 1))
+
+abbrev emitted_there : ℕ → Type 0
+emitted_there s = IsTrue (is_in s in_loop.emitted)
+
+one_of_them : (s : ℕ) → emitted_there s → (2 ≡ s) ⊎ (1 ≡ s)
+one_of_them s h = split (2 == s) (1 == s) refl refl h
+  where
+    split : (a b : Bool) → (2 == s) ≡ a → (1 == s) ≡ b → (a || (b || false)) ≡ true → (2 ≡ s) ⊎ (1 ≡ s)
+    split true b e f t = inl (eqb-true 2 s e)
+    split false true e f t = inr (eqb-true 1 s f)
+    split false false e f t = absurd (false≢true t)
+
+abbrev UsedAsHeld : ℕ → Type 0
+UsedAsHeld s = IsTrue (is_some (content_at in_world first_answer s)) × (used in_world first_of_m s ≡ content_at in_world first_answer s)
+
+emitted_holds : (s : ℕ) → emitted_there s → UsedAsHeld s
+emitted_holds s h = elim (one_of_them s h) [ inl e ↦ subst UsedAsHeld e (refl, refl) | inr e ↦ subst UsedAsHeld e (refl, refl) ]
+
+pure_argument : IsPureAt multi_set.sites 0
+pure_argument = (argument_site 0, refl, tt)
+
+pure_call : IsPureAt multi_set.sites 1
+pure_call = (constructor_site 0 (0 ∷ []) 0, refl, tt)
+
+pure_iterator : IsPureAt multi_set.sites 2
+pure_iterator = (iterator_site 1, refl, tt)
+
+below_call : All (IsPureAt multi_set.sites) (1 ∷ (0 ∷ []))
+below_call = All-cons (IsPureAt multi_set.sites) 1 (0 ∷ []) pure_call (All-cons (IsPureAt multi_set.sites) 0 [] pure_argument (All-nil (IsPureAt multi_set.sites)))
+
+abbrev MakesNoImpureCall : ℕ → Type 0
+MakesNoImpureCall s = All (IsPureAt multi_set.sites) (all_below multi_set.sites (s ∷ []))
+
+emitted_pure : (s : ℕ) → emitted_there s → MakesNoImpureCall s
+emitted_pure s h =
+    elim (one_of_them s h) [
+      | inl e ↦ subst MakesNoImpureCall e (All-cons (IsPureAt multi_set.sites) 2 (1 ∷ (0 ∷ [])) pure_iterator below_call)
+      | inr e ↦ subst MakesNoImpureCall e below_call
+    ]
+
+abbrev BoundAsHeld : Content → ℕ → Type 0
+BoundAsHeld c s = emitted_there s × (content_at in_world first_answer s ≡ Some c)
+
+bound_holds : (s : ℕ) (c : Content) → bound_to first_of_m s ≡ Some c → BoundAsHeld c s
+bound_holds s c h = split (2 == s) (1 == s) refl refl h
+  where
+    split : (a b : Bool) → (2 == s) ≡ a → (1 == s) ≡ b → (if a then Some (one (v (pos 4))) else (if b then Some all_of_m else None)) ≡ Some c → BoundAsHeld c s
+    split true b e f t = subst (BoundAsHeld c) (eqb-true 2 s e) (refl, t)
+    split false true e f t = subst (BoundAsHeld c) (eqb-true 1 s f) (refl, t)
+    split false false e f t = absurd (none-some c t)
+
+-- what the return uses: the loop's site, which is emitted, and what never waits
+needed : (s : ℕ) → Contains (2 ∷ (1 ∷ (0 ∷ []))) s → (waits (slice_get multi_set.sites s) ≡ false) ⊎ IsUnwrap (slice_get multi_set.sites s) ⊎ emitted_there s
+needed zero h = inl refl
+needed (suc zero) h = inl refl
+needed (suc (suc zero)) h = inr (inr refl)
+needed (suc (suc (suc s))) h =
+    absurd (elim (in_cases 2 (suc (suc (suc s))) (1 ∷ (0 ∷ [])) h) [
+      | inl e ↦ omega (arith, e)
+      | inr b ↦ elim (in_cases 1 (suc (suc (suc s))) (0 ∷ []) b) [
+        | inl f ↦ omega (arith, f)
+        | inr d ↦ let g = in_alone 0 (suc (suc (suc s))) d in omega (arith, g)
+      ]
+    ])
+
+unwraps_none : (s : ℕ) → IsUnwrap (slice_get multi_set.sites s) → ⊥
+unwraps_none zero u = u
+unwraps_none (suc zero) u = u
+unwraps_none (suc (suc zero)) u = u
+unwraps_none (suc (suc (suc zero))) u = u
+unwraps_none (suc (suc (suc (suc s)))) u = u
+
+no_unwraps : (s source : ℕ) → slice_get multi_set.sites s ≡ Some (match_some_site source) → ⊥
+no_unwraps s source e = unwraps_none s (subst IsUnwrap (sym e) tt)
+
+pub multi_is_taken : MultiIsTaken
+multi_is_taken = (
+  (0, omega arith, refl),
+  refl,
+  record {
+    around = in_loop;
+    env = first_of_m;
+    reached = record { emitted = emitted_holds; pure = emitted_pure; bound = bound_holds };
+    gates = needed;
+    demanded = λ s source e c d. absurd (no_unwraps s source e);
+    outcome = refl;
+  },
+)
+
+pub multi_taken_gives : MultiTakenGives
+multi_taken_gives e matched =
+    taken_under_picks_lem (types_read multi_defs) multi_defs true multi_rules 1 multi_set multi_stages.accepted.0.read.elaborated multi_stages.built.0 multi_meaning (given (pos 1)) refl multi_served.0 multi_served.1
+    (built_rule multi_program [] each_m) each_of_m first_answer e (answers (pos 4)) (record { place = 0; typed = refl; built = refl }) refl multi_is_taken.0 matched multi_is_taken.2

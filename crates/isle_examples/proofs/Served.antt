@@ -1,23 +1,24 @@
 -- The samples' meanings serve their rules and tell their constants apart; meanings without literals or calls don't serve.
-use Rattle.std.proofs.Common.{◌≡◌, ◌∷◌, [], ◌∙◌, ◌==◌, ℕ, pos, zero, suc, Bool, true, false, List, take, Option, Some, None, All, Contains, IsTrue, is_some, refl, sym, ap, subst, arith, IsSomeAnd}
+use Rattle.std.proofs.Common.{◌≡◌, ◌∷◌, [], ◌∙◌, ◌==◌, ℕ, pos, zero, suc, Bool, true, false, List, take, Option, Some, None, All, Contains, IsTrue, is_some, refl, sym, ap, subst, arith, ◌⊎◌, inl, inr, IsSomeAnd}
 use Rattle.std.specs.List.{list_all}
 use Rattle.std.proofs.lemmas.Bool.{false≢true}
 use Rattle.std.proofs.lemmas.List.Elements.{All-nil}
 use Rattle.std.proofs.lemmas.Option.{none-some, same_Some}
-use Rattle.isle_model.proofs.Members.{each_passes, in_alone}
+use Rattle.isle_model.proofs.Members.{each_passes, in_alone, in_cases}
 use Rattle.isle_model.specs.rules.Matching.{matches}
 use Rattle.isle_model.specs.rules.Meaning.{Content, Meaning, extractor_answer, impure_answer, int_literal, literal_value, look, nothing, one, pure_answer}
 use Rattle.isle_model.specs.rules.Outcome.{then_option}
 use Rattle.isle_model.specs.rules.Picks.{HasContent, Pick, site_content, site_values}
-use Rattle.isle_model.specs.rules.Program.{Program, kind}
+use Rattle.isle_model.specs.rules.Program.{Program, kind, rules_of}
 use Rattle.isle_model.specs.rules.Typed.{TypedRule}
-use Rattle.isle_model.specs.rules.Values.{Value, Values, well_typed}
+use Rattle.isle_model.specs.rules.Values.{Value, Values, atom, well_typed}
 use Rattle.isle_model.specs.sites.Demands.{demands_of}
-use Rattle.isle_model.specs.sites.Serves.{Serves, TellsConstantsApart, asked, constant_type, fits_constructor, fits_extractor, tested_constants}
+use Rattle.isle_model.specs.sites.Serves.{Serves, TellsConstantsApart, asked, constant_type, fits_constructor, fits_extractor, tested_constants, written_value}
 use Rattle.isle_model.specs.sites.Sites.{SiteTerm, SiteTerms, argument, bool_term, constructor_call, extractor_call, int_term, no_site_term, prim_term, site_term_and}
 use Rattle.isle_model.specs.trees.Run.{as_value}
 use Rattle.isle_examples.specs.Extract.{ExtractMeaningServes, extract_meaning, extract_mute, extract_program, extract_rules}
 use Rattle.isle_examples.specs.MeaningForms.{DoesNotServe, alone, blank, given, just_number, v}
+use Rattle.isle_examples.specs.Mended.{ThirdIsServed, third_meaning, third_program}
 use Rattle.isle_examples.specs.Multi.{MultiIsServed, multi_meaning, multi_mute, multi_program, multi_rules}
 use Rattle.isle_examples.specs.Partial.{PartialIsServed, partial_call, partial_meaning, partial_mute, partial_program, partial_rules}
 
@@ -157,3 +158,49 @@ blank_multi s = s.ints (pos 9) 1 (4, omega arith, refl)
 
 pub mute_multi : DoesNotServe multi_program multi_mute (pos 1)
 mute_multi s = s.pures [] 0 (site_term_and (argument 0) no_site_term) (alone (pos 1)) (1, omega arith, refl) refl
+
+-- 6. a multi extractor, beside two rules for different numbers
+abbrev number_in : Value → ℕ
+number_in (atom ty (pos n)) = n
+number_in _ = 0
+
+abbrev one_of_two : SiteTerm → Type 0
+one_of_two a = (a ≡ int_term (pos 1) 1) ⊎ (a ≡ int_term (pos 2) 1)
+
+is_one_of_two : (a : SiteTerm) → Contains (tested_constants third_program (rules_of third_program 1)) a → one_of_two a
+is_one_of_two a c =
+    elim (in_cases (int_term (pos 1) 1) a (int_term (pos 2) 1 ∷ []) c) [
+      | inl e ↦ inl (sym e)
+      | inr b ↦ inr (sym (in_alone (int_term (pos 2) 1) a b))
+    ]
+
+-- each number is written by one literal
+written_number : (a : SiteTerm) (w : Value) → one_of_two a → written_value third_meaning a ≡ Some w → a ≡ int_term (pos (number_in w)) 1
+written_number a w (inl e) h =
+    let held : Some (v (pos 1)) ≡ Some w = sym (ap (written_value third_meaning) e) ∙ h in
+    e ∙ ap (λ n. int_term (pos n) 1) (ap number_in (same_Some (v (pos 1)) w held))
+written_number a w (inr e) h =
+    let held : Some (v (pos 2)) ≡ Some w = sym (ap (written_value third_meaning) e) ∙ h in
+    e ∙ ap (λ n. int_term (pos n) 1) (ap number_in (same_Some (v (pos 2)) w held))
+
+abbrev third_call : SiteTerm → Bool
+third_call (extractor_call zero (argument zero)) = true
+third_call (extractor_call t s) = false
+third_call (constructor_call t ss i) = false
+third_call u = true
+
+third_answers : (k : Pick) (t : ℕ) (s : SiteTerm) (w : Value) → third_call (extractor_call t s) ≡ true → site_content third_meaning (given (pos 1)) k s ≡ Some (one w)
+    → IsSomeAnd (extractor_answer third_meaning t w) (λ c. IsTrue (fits_extractor third_program t (kind third_program t) c))
+third_answers k zero (argument zero) w h e =
+    subst (λ u. IsSomeAnd (extractor_answer third_meaning 0 u) (λ c. IsTrue (fits_extractor third_program 0 (kind third_program 0) c))) (same_Some (v (pos 1)) w (ap (λ o. then_option o as_value) e)) refl
+third_answers k _ _ w h holds = absurd (false≢true h)
+
+pub third_served : ThirdIsServed
+third_served = (
+  serves_from third_program third_meaning (given (pos 1)) (rules_of third_program 1) third_call refl refl
+      third_answers (λ k t ss vs h holds. absurd (false≢true h)) (λ k r t before ss i matched made h gave. absurd (false≢true h)),
+  record {
+    different = λ a b ty w c d s t u x. written_number a w (is_one_of_two a c) u ∙ sym (written_number b w (is_one_of_two b d) x);
+    without_parts = λ r s name ty c d e. absurd (none-some ty (sym (no_constants third_program name refl) ∙ e));
+  },
+)

@@ -10,7 +10,8 @@ use Rattle.isle_model.specs.claims.Headline.{IsWithoutMulti}
 use Rattle.isle_model.specs.claims.Layers.{own_program, CheckReports, IsBuiltForSome, LoweredTerm, LoweringAnswers, RefusedBy}
 use Rattle.isle_model.specs.claims.SetMeanings.{AreRulesWithoutCalls, returning_once}
 use Rattle.isle_model.specs.lists.Syntax.{Definition, declaration}
-use Rattle.isle_model.specs.rules.Program.{Program}
+use Rattle.isle_model.specs.rules.Program.{Program, rules_of}
+use Rattle.isle_model.specs.sites.Serves.{Serves, TellsConstantsApart}
 use Rattle.isle_model.specs.rules.Typed.{TypedRule, make_int, make_var, match_int, match_term, make_term, match_any}
 use Rattle.isle_model.specs.sites.Limits.{sites_after_rules}
 use Rattle.isle_model.specs.sites.Overlap.{BuiltRule, Overlaps, built_rule, RuleReport}
@@ -106,6 +107,14 @@ built_two = built_rule third_program (sites_after_rules third_program [] (third_
 -- the term uses a multi extractor; the two rules go over no calls, and don't overlap
 abbrev pub ThirdRulesDontCount : Type 0
 ThirdRulesDontCount = (IsWithoutMulti third_program 1 → ⊥) × AreRulesWithoutCalls third_program 1 built_one built_two × (Overlaps built_one.demands built_two.demands → ⊥)
+
+-- me answers 1 alone at 1
+abbrev pub third_meaning : Meaning
+third_meaning = record (mute (literal (pos 1) ∷ literal (pos 2) ∷ [])) { extractor_calls = ((0, v (pos 1)), many (all_of (pos 1 ∷ []))) ∷ [] }
+
+-- on 1 this meaning has what all three rules ask, and tells 1 and 2 apart; so of these two only the one for 1 matches
+abbrev pub ThirdIsServed : Type 0
+ThirdIsServed = Serves third_program third_meaning (given (pos 1)) (rules_of third_program 1) × TellsConstantsApart third_program third_meaning (rules_of third_program 1)
 
 -- 3. Binding one rule's sites doesn't depend on whether the term is multi.
 --   (decl multi f (u8) u8)

@@ -4,7 +4,8 @@
 --   (decl multi f (u8) u8)
 --   (rule (f x) (m x))
 --   (rule (f 1) 9)
-use Rattle.std.specs.Prelude.{◌≡◌, ◌∷◌, [], ℕ, ℤ, pos, true, false, List, None, Some, codes, All, Contains}
+use Rattle.std.specs.Prelude.{◌≡◌, ◌∷◌, [], ℕ, ℤ, pos, true, false, List, None, Some, codes, is_some, All, Contains, IsTrue}
+use Rattle.isle_model.specs.claims.SetMeanings.{returning_once}
 use Rattle.isle_model.specs.claims.Layers.{BindsBeforeUse, own_program}
 use Rattle.isle_model.specs.lists.Elaborated.{TypedRules}
 use Rattle.isle_model.specs.lists.Syntax.{Definition, declaration}
@@ -19,8 +20,9 @@ use Rattle.isle_model.specs.sites.Serves.{Serves, TellsConstantsApart}
 use Rattle.isle_model.specs.sites.Sites.{SetRule, SiteSet, SiteTerm, argument_site, constructor_call, constructor_site, iterator_site, pick_of}
 use Rattle.isle_model.specs.trees.Collects.{Collects, CollectsTheBag, HasCollectedResults, IsCollectedSet, ServesSet, as_list, content_at, set_bag}
 use Rattle.isle_model.specs.trees.Run.{World, run, world_of}
+use Rattle.isle_model.specs.trees.SetRuns.{IsTakenUnder}
 use Rattle.isle_model.specs.trees.Trees.{Tree, loop_at, match_at, no_step, step}
-use Rattle.isle_examples.specs.MeaningForms.{all_of, alone, each, given, literal, mute}
+use Rattle.isle_examples.specs.MeaningForms.{all_of, alone, answers, each, given, literal, mute}
 use Rattle.isle_examples.specs.SetForms.{a0, a_rule, asking, byte, byte_term, is_byte, one_arm, one_source, returning}
 use Rattle.isle_examples.specs.Stages.{Sample}
 use Rattle.isle_examples.specs.TypedForms.{bind_any, by_constructor, by_rules, e_list, flags, number_term, rules_and_names, typed, typed_var, u8}
@@ -142,3 +144,20 @@ abbrev pub MultiResultsAreHeld : Type 0
 MultiResultsAreHeld =
     (k : Pick) (e : SitedVars) → Contains (picks multi_program multi_meaning (given (pos 1)) each_m) k → matches_under multi_program multi_meaning k each_m (given (pos 1)) ≡ Some e
     → (right_side_under multi_program multi_meaning k each_m e).results ≡ as_list (content_at (multi_world (pos 1)) k 2)
+
+-- the first answer of the call
+abbrev pub first_answer : Pick
+first_answer = (call_m, 0) ∷ []
+
+-- under the pick of it the first rule matches 1, and is taken: its right side's outcome is that answer
+abbrev pub MultiIsTaken : Type 0
+MultiIsTaken =
+    Contains (picks multi_program multi_meaning (given (pos 1)) each_m) first_answer
+    × IsTrue (is_some (matches_under multi_program multi_meaning first_answer each_m (given (pos 1))))
+    × IsTakenUnder (returning_once (multi_world (pos 1))) first_answer each_of_m (answers (pos 4))
+
+-- so the law on rules that are taken applies
+abbrev pub MultiTakenGives : Type 0
+MultiTakenGives =
+    (e : SitedVars) → matches_under multi_program multi_meaning first_answer each_m (given (pos 1)) ≡ Some e
+    → answers (pos 4) ≡ right_side_under multi_program multi_meaning first_answer each_m e

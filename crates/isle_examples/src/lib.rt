@@ -27,7 +27,7 @@ ghost use Rattle.isle_examples.specs.Hiding.{BetterTestsAreNotHidden, hidden_sam
 ghost use Rattle.isle_examples.specs.Impure.{ImpureIsCalled, impure_sample};
 ghost use Rattle.isle_examples.specs.LeftOver.{LeftOverCollects, LeftOverIsCollected, LeftOverIsServed, LeftOverLacksACall, left_over_defs, left_over_rules, left_over_set, left_over_tree};
 ghost use Rattle.isle_examples.specs.MeaningForms.{DoesNotServe, alone, answers, blank, ends_with, just_number, v};
-ghost use Rattle.isle_examples.specs.Multi.{LoopsMayBindAgain, MultiCollects, MultiDemands, MultiGives, MultiIsCollected, MultiIsNot, MultiIsServed, MultiResultsAreHeld, MultiSetCollects, MultiTreeCollects, multi_defs, multi_mute, multi_program, multi_sample, multi_terms};
+ghost use Rattle.isle_examples.specs.Multi.{LoopsMayBindAgain, MultiCollects, MultiDemands, MultiGives, MultiIsCollected, MultiIsNot, MultiIsServed, MultiIsTaken, MultiResultsAreHeld, MultiSetCollects, MultiTakenGives, MultiTreeCollects, multi_defs, multi_mute, multi_program, multi_sample, multi_terms};
 ghost use Rattle.isle_examples.specs.MultiCalls.{DemandsGatesThough, Gives, LeavesACallUnused, OneCallIsServed, UnusedGateGives, call_in_call, calls_program, extracted_twice, impure_twice, pure_twice, unused_condition, unused_let, used_condition};
 ghost use Rattle.isle_examples.specs.MultiExt.{MultiExtractorsStand, multi_ext_sample};
 ghost use Rattle.isle_examples.specs.NamedConstants.{constants_defs, constants_rules};
@@ -328,6 +328,13 @@ pub fn multi_is_served()
     ensures without_calls { DoesNotServe multi_program multi_mute (pos 1) }
 {}
 
+/// Under the pick of the call's first answer the first rule is taken on 1, and so its right side's outcome is that answer.
+#[tactic(auto, using(crate::proofs::Multi::multi_is_taken, crate::proofs::Multi::multi_taken_gives))]
+pub fn multi_rule_is_taken()
+    ensures taken { MultiIsTaken }
+    ensures outcome { MultiTakenGives }
+{}
+
 /// A rule below one that always matches, whose demands nothing tests and whose field nothing brings.
 #[tactic(auto, using(crate::proofs::SampleStages::surplus_stages))]
 pub fn surplus_sample()
@@ -572,7 +579,7 @@ pub fn lists_refused()
     ensures lowering { SamplesAreRefused }
 {}
 
-ghost use Rattle.isle_examples.specs.Mended.{wrapped_set, AboveCallsNothingIsAsked, ThirdRulesDontCount, ReturnsOfMultiTermsGoOn, RightSidesFailUnderPicks, OverlapsMayHoldTwice, NamelessIsNotAnswered, LookUpsHaveNoList, LimitsAreNamedWherePassed, SecondIsReadAlone, EmptySetsAreBuilt, SignaturesOfW, SitesAreBrought, OverlapsAreTold, TermsOfSites, IdentifiersOfRules, EnvironmentsOfLists, VariantHasItsTerm};
+ghost use Rattle.isle_examples.specs.Mended.{wrapped_set, AboveCallsNothingIsAsked, ThirdIsServed, ThirdRulesDontCount, ReturnsOfMultiTermsGoOn, RightSidesFailUnderPicks, OverlapsMayHoldTwice, NamelessIsNotAnswered, LookUpsHaveNoList, LimitsAreNamedWherePassed, SecondIsReadAlone, EmptySetsAreBuilt, SignaturesOfW, SitesAreBrought, OverlapsAreTold, TermsOfSites, IdentifiersOfRules, EnvironmentsOfLists, VariantHasItsTerm};
 
 /// A world that has what tests ask may have no content for a construction above an impure call that is never made.
 #[tactic(auto, using(crate::proofs::Mended::above_calls_nothing_is_asked_lem))]
@@ -580,10 +587,12 @@ pub fn above_calls_nothing_is_asked()
     ensures { AboveCallsNothingIsAsked }
 {}
 
-/// Two rules of a term that use no multi extractor can be told apart though a third one uses one.
-#[tactic(auto, using(crate::proofs::Mended::third_rules_dont_count_lem))]
+/// Two rules of a term that use no multi extractor can be told apart though a third one uses one, and a meaning has what
+/// all three ask.
+#[tactic(auto, using(crate::proofs::Mended::third_rules_dont_count_lem, crate::proofs::Served::third_served))]
 pub fn third_rules_dont_count()
-    ensures { ThirdRulesDontCount }
+    ensures apart { ThirdRulesDontCount }
+    ensures served { ThirdIsServed }
 {}
 
 /// The run of a multi term goes on after a return, where the right side ends with its result.
