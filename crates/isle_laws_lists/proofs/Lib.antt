@@ -7,6 +7,7 @@ pub mod JudgedKnown
 pub mod JudgedReading
 pub mod JudgedTerms
 pub mod JudgedTypes
+pub mod LooksByNumber
 pub mod NamesOfTables
 pub mod OwnTypes
 pub mod RefusedTerms

@@ -1,5 +1,5 @@
 -- The last type of each constant, with one more definition of a constant.
-use Rattle.std.proofs.Common.{◌≡◌, ℕ, ◌||◌, true, false, cond, nat_eq, List, [], ◌∷◌, ◌++◌, Option, Some, None, option_map, reverse, slice_get, unwrap_or, refl, sym, ap, subst, ◌∙◌, eqb-true}
+use Rattle.std.proofs.Common.{◌≡◌, ℕ, ◌||◌, true, false, cond, nat_eq, List, [], ◌∷◌, ◌++◌, Option, Some, None, option_map, reverse, slice_get, unwrap_or, refl, sym, ap, subst, ◌∙◌}
 use Rattle.std.specs.List.{find}
 use Rattle.std.specs.Str.{bytes_eq}
 use Rattle.std.proofs.lemmas.List.{reverse-append}
@@ -8,23 +8,9 @@ use Rattle.isle_model.specs.lists.Names.{number, has_name, with_name, with_names
 use Rattle.isle_model.specs.rules.Outcome.{then_option}
 use Rattle.isle_model.specs.lists.TypeTable.{ConstantTree, type_id, type_or_first, type_names_met}
 use Rattle.isle_model.proofs.Bytes.{same_self}
-use Rattle.isle_model.proofs.Names.{found, has_at, same_test, has_met}
+use Rattle.isle_model.proofs.Names.{has_met}
 use Rattle.isle_types.specs.Stages.{last_type}
-
--- a name with an answer of its own, by its number
-numbered_more : (ns : List (List ℕ)) (x : List ℕ) (id : ℕ) (before : List ℕ → Option ℕ) → IsDistinct ns → has_name ns x ≡ true → (k : ℕ) → cond (nat_eq (number ns x) k) (Some id) (then_option (slice_get ns k) before) ≡ then_option (slice_get ns k) (λ y. cond (bytes_eq x y) (Some id) (before y))
-numbered_more ns x id before once met k =
-    elim (slice_get ns k) as (λ o. slice_get ns k ≡ o → cond (nat_eq (number ns x) k) (Some id) (then_option o before) ≡ then_option o (λ y. cond (bytes_eq x y) (Some id) (before y))) [
-      | None ↦ λ past. elim (nat_eq (number ns x) k) as (λ b. nat_eq (number ns x) k ≡ b → cond b (Some id) None ≡ None) [
-        | true ↦ λ t.
-            let here : slice_get ns k ≡ Some x = subst (λ j. slice_get ns j ≡ Some x) (eqb-true (number ns x) k t) (found ns x met) in
-            absurd (cc)
-        | false ↦ λ _. refl
-      ] refl
-      | Some y ↦ λ here.
-          let same : number ns y ≡ k = once (number ns y) k y (found ns y (has_at ns k y here)) here in
-          ap (λ b. cond b (Some id) (before y)) (ap (nat_eq (number ns x)) (sym same) ∙ same_test ns x y met)
-    ] refl
+use Rattle.isle_laws_lists.proofs.LooksByNumber.{number_looked_up}
 
 -- the type of a constant of one more definition
 last_more : (defs : List Definition) (read : List ConstantTree) (c : ConstantTree) (x : List ℕ) → last_type defs (read ++ c ∷ []) x ≡ cond (bytes_eq c.name.text x) (Some (type_or_first defs c.ty)) (last_type defs read x)
@@ -45,5 +31,5 @@ last_read defs read c ns rest id once whole same known k =
     let met : has_name all x ≡ true = subst (λ l. has_name l x ≡ true) whole (has_met ns (x ∷ rest) x (ap (λ b. b || has_name rest x) (same_self x))) in
     let ty : Some id ≡ Some (type_or_first defs c.ty) = ap (λ o. Some (unwrap_or o 0)) (sym known) in
     ap (λ n. cond (nat_eq n k) (Some id) (then_option (slice_get all k) (last_type defs read))) (sym same)
-    ∙ numbered_more all x id (last_type defs read) once met k
+    ∙ number_looked_up all x id (last_type defs read) once met k
     ∙ each_same (slice_get all k) _ _ (λ y. ap (λ o. cond (bytes_eq x y) o (last_type defs read y)) ty ∙ sym (last_more defs read c y))

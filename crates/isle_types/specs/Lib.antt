@@ -9,5 +9,4 @@ pub mod VariantReading
 pub mod Stages
 pub mod Promises
 pub mod ConstantReading
-pub mod WellFormed
 pub mod EnvViews

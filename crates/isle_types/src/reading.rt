@@ -4,14 +4,16 @@
 ghost use Rattle.std.specs.Prelude.{◌≡◌, ◌⊎◌, [], IfOk, OnOk, MatchOption, Some};
 ghost use Rattle.isle_model.specs.lists.Names.{number};
 ghost use Rattle.isle_model.specs.lists.TypeTable.{IsValidTypes, builtin_names, type_names_met};
+ghost use Rattle.isle_model.specs.claims.Environments.{AreTypesOf};
+ghost use Rattle.isle_model.specs.claims.Questions.{IsWellFormedEnvironment};
 ghost use Rattle.isle_base.specs.Answers.{Answers, NoLimit};
 ghost use Rattle.isle_base.specs.Stable.{entry_count};
 ghost use Rattle.isle_base.specs.SyntaxViews.{definition_view, definition_views, type_view};
+ghost use Rattle.isle_types.specs.EnvViews.{environment_view};
 ghost use Rattle.isle_types.specs.Envs.{names_of, type_at, IsInterned};
 ghost use Rattle.isle_types.specs.Reading.{Reports, AddsBuiltin, NamesType, NamesDefinition};
 ghost use Rattle.isle_types.specs.Stages.{Booting, NamesTypes};
 ghost use Rattle.isle_types.specs.TypeTables.{SeesTypes};
-ghost use Rattle.isle_types.specs.WellFormed.{IsWellFormedEnv};
 
 mod constants;
 mod contents;
@@ -31,11 +33,12 @@ impl TypeEnv {
     /// A table of the built-in types alone, each with its place in `BuiltinType::ALL` as its id and
     /// as that of its name. It is well formed: terms and rules can be read with it. An error where memory
     /// is refused. Stands for upstream's `Default`.
-    #[tactic(auto, using(crate::proofs::Booting::booted, crate::proofs::Booting::booted_count, crate::proofs::WellFormedEnvs::builtins_well_formed))]
+    #[tactic(auto, using(crate::proofs::Booting::booted, crate::proofs::Booting::booted_count))]
     pub fn try_default(alloc: Global) -> Result<TypeEnv, AllocError>
         ensures table { IfOk result (λ env. SeesTypes env [] builtin_names) }
         ensures count { IfOk result (λ env. entry_count env.type_map ≡ 13) }
-        ensures well_formed { IfOk result IsWellFormedEnv }
+        ensures shown { IfOk result (λ env. AreTypesOf [] (environment_view env)) }
+        ensures well_formed { IfOk result (λ env. IsWellFormedEnvironment (environment_view env)) }
     {
         let mut env = TypeEnv::empty(alloc);
         env.add_builtins(&BuiltinType::ALL)?;
@@ -58,7 +61,8 @@ impl TypeEnv {
         ensures answers { Answers result (IsValidTypes (definition_views defs.now))
             (λ env. SeesTypes env (definition_views defs.now) (type_names_met (definition_views defs.now))) }
         ensures no_limit { NoLimit result }
-        ensures well_formed { IfOk result IsWellFormedEnv }
+        ensures shown { IfOk result (λ env. AreTypesOf (definition_views defs.now) (environment_view env)) }
+        ensures well_formed { IfOk result (λ env. IsWellFormedEnvironment (environment_view env)) }
     {
         let mut env = TypeEnv::try_default(alloc)?;
         let mut errors = Vec::new(alloc);

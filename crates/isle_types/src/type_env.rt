@@ -1,11 +1,12 @@
 //! The table of all names and types.
 
-ghost use Rattle.std.specs.Prelude.{◌≡◌, ℕ, List, ◌++◌, ◌∷◌, [], map, option_map, option_and_then, IfOk, OnOk, OnErr, string_bytes, length, Some, IsSome, slice_get};
+ghost use Rattle.std.specs.Prelude.{◌≡◌, ℕ, List, ◌++◌, ◌∷◌, [], map, option_map, IfOk, OnOk, OnErr, string_bytes, length, Some, IsSome, slice_get};
 ghost use Rattle.std.specs.HashMap.{get_by_text};
 ghost use Rattle.isle_model.specs.lists.Names.{number, with_name, number_if_met};
 ghost use Rattle.isle_model.specs.lists.Signatures.{text_of};
-ghost use Rattle.isle_model.specs.claims.Questions.{variant_by_id};
-ghost use Rattle.isle_types.specs.Envs.{names_of, symbol_of, type_at, IsInterned};
+ghost use Rattle.isle_model.specs.claims.Questions.{IsWellFormedEnvironment, variant_by_id};
+ghost use Rattle.isle_types.specs.EnvViews.{environment_view};
+ghost use Rattle.isle_types.specs.Envs.{names_of, symbol_of, type_of_name, IsInterned};
 ghost use Rattle.isle_types.specs.TypeViews.{type_views, variant_view};
 
 use crate::ids::{Sym, TypeId, VariantId};
@@ -48,6 +49,8 @@ impl TypeEnv {
     /// Condition: no name stands twice in `syms`, and `sym_map` has the place of each, as in every
     /// environment of `from_ast` and `try_default`.
     ///
+    /// A well-formed environment stays so.
+    ///
     /// # Errors
     ///
     /// Where memory is refused. Nothing has changed then.
@@ -62,6 +65,7 @@ impl TypeEnv {
         ensures type_map { self.new.type_map ≡ self.old.type_map }
         ensures const_types { self.new.const_types ≡ self.old.const_types }
         ensures errors { self.new.errors ≡ self.old.errors }
+        ensures well_formed { IsWellFormedEnvironment (environment_view self.old) → IsWellFormedEnvironment (environment_view self.new) }
     {
         self.intern_text(ident.0.as_str())
     }
@@ -69,7 +73,7 @@ impl TypeEnv {
     /// The type of a name, or None where it isn't a type's. Takes no memory. Upstream's
     /// `TypeEnv::get_type_by_name`.
     pub fn get_type_by_name(&self, ident: &Ident) -> Option<TypeId>
-        ensures { option_map (λ t. t.0) result ≡ option_and_then (type_at self.now) (symbol_of self.now (string_bytes ident.now.0)) }
+        ensures { option_map (λ t. t.0) result ≡ type_of_name self.now (string_bytes ident.now.0) }
     {
         let sym = self.intern(ident)?;
         self.type_map.get(&sym).copied()

@@ -1,7 +1,7 @@
 use Rattle.std.proofs.Common.{◌≡◌, [], ap, length, rules}
 use Rattle.isle_types.proofs.Naming.{first_name}
 use Rattle.isle_types.proofs.Ending.{nothing, at_ok, at_err}
-use Rattle.isle_types.proofs.WellFormedEnvs.{well_formed}
+use Rattle.isle_types.proofs.WellFormedEnvs.{types_shown, well_formed}
 use Rattle.isle_types.proofs.type_env.TypeEnv.from_ast.Goals as goal
 
 pub name_types-requires : goal.name_types-requires
@@ -11,6 +11,12 @@ pub returns-then-is_empty-clause-answers : goal.returns-then-is_empty-clause-ans
 returns-then-is_empty-clause-answers c =
     let none : length c.read_constants.new.errors.items ≡ 0 = search rules in
     at_ok _ _ _ c.in_ok-read_constants.ensures (nothing _ none)
+
+pub returns-then-is_empty-clause-shown : goal.returns-then-is_empty-clause-shown
+returns-then-is_empty-clause-shown c =
+    let none : length c.read_constants.new.errors.items ≡ 0 = search rules in
+    let ok = at_ok _ _ _ c.in_ok-read_constants.ensures (nothing _ none) in
+    types_shown _ _ ok.0 ok.1
 
 pub returns-then-is_empty-clause-well_formed : goal.returns-then-is_empty-clause-well_formed
 returns-then-is_empty-clause-well_formed c =
