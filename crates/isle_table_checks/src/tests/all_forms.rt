@@ -1,6 +1,6 @@
 // What a recorder is shown of a rule with each form of pattern and of expression, with if-lets and a let.
 ghost use Rattle.std.specs.Prelude.{◌≡◌, IfOk, IsTrue, map};
-ghost use Rattle.isle_checks.specs.AllForms.{two_exprs, two_patterns, binding, forms_args, forms_iflets, forms_value};
+ghost use Rattle.isle_table_checks.specs.AllForms.{two_exprs, two_patterns, binding, forms_args, forms_iflets, forms_value};
 ghost use Rattle.isle_model.specs.lists.Setting.{has_constructor, has_extractor};
 ghost use Rattle.isle_model.specs.rules.Typed.{match_and, match_prim, match_term, match_var, make_term};
 ghost use Rattle.isle_rules.specs.ExprViews.{expr_view};

@@ -3,8 +3,7 @@ ghost use Rattle.std.specs.Prelude.{IfOk, IsSome};
 ghost use Rattle.isle_types.specs.TypeViews.{type_views};
 ghost use Rattle.isle_model.specs.claims.Questions.{variant_by_id};
 
-use isle_base::syntax::{Def, Ident, Pos, TypeValue};
-use isle_printing::sample;
+use isle_base::syntax::{Def, Error, Ident, Pos, TypeValue};
 use isle_rules::{Expr, Pattern, TermEnv};
 use isle_terms::TermTable;
 use isle_text::read;
@@ -106,27 +105,29 @@ fn variant(id: usize, name: usize, fullname: usize, offset: usize, fields: Field
     }
 }
 
+// A type of constants and an enum. The enum's definition begins at offset 31, and its variants at 52 and 74.
 #[test]
-fn types_of_a_sample(rt: HostRuntime) -> Result<(), Fail> {
+fn types_of_a_list(rt: HostRuntime) -> Result<(), Fail> {
     let alloc = rt.alloc();
-    let defs = sample(alloc, "types")?.ok_or("no sample")?;
-    let env = TypeEnv::from_ast(alloc, &defs)?;
+    let text =
+        "(type UImm8 (primitive UImm8)) (type A extern (enum (B (f1 u32) (f2 u32)) (C (f1 u32))))";
+    let env = type_env(alloc, text)?;
     assert_eq!(rt; names(alloc, &env)?.as_str(), "UImm8 A A.B B f1 f2 A.C C ");
     assert!(rt; env.types.len() == 15 && env.const_types.len() == 0);
-    let primitive = Type::Primitive(TypeId(13), Sym(13), at(19));
+    let primitive = Type::Primitive(TypeId(13), Sym(13), at(0));
     assert!(rt; env.types.get(13) == Some(&primitive));
     let (b, c) = (
         fields(alloc, &[(17, 3), (18, 3)])?,
         fields(alloc, &[(17, 3)])?,
     );
-    let variants = vec![in alloc; variant(0, 16, 15, 77, b), variant(1, 20, 19, 99, c)]?;
+    let variants = vec![in alloc; variant(0, 16, 15, 52, b), variant(1, 20, 19, 74, c)]?;
     let enumeration = Type::Enum {
         name: Sym(14),
         id: TypeId(14),
         is_extern: true,
         is_nodebug: false,
         variants,
-        pos: at(62),
+        pos: at(31),
     };
     assert!(rt; env.types.get(14) == Some(&enumeration));
     Ok(())
@@ -228,20 +229,15 @@ fn numbers_of_fields(rt: HostRuntime) -> Result<(), Fail> {
             }
         }
     }
-    let text = match TypeEnv::from_ast(alloc, &defs) {
-        Err(isle_base::syntax::Fault::Errors(errors)) => {
-            isle_printing::errors::error_lines(
-                alloc,
-                &errors,
-                isle_printing::places::Places::Files,
-            )?
-        }
+    let errors = match TypeEnv::from_ast(alloc, &defs) {
+        Err(isle_base::syntax::Fault::Errors(errors)) => errors,
         _ => return Err(Fail::from("no error")),
     };
-    assert_eq!(rt;
-        text.as_str(),
-        "type error at 0:16: Unknown type 'nope' for tuple field '4'\n"
-    );
+    let [Error::TypeError { msg, span }] = errors.as_slice() else {
+        return Err(Fail::from("not one error of types"));
+    };
+    assert_eq!(rt; msg.as_str(), "Unknown type 'nope' for tuple field '4'");
+    assert_eq!(rt; span.from, at(16));
     Ok(())
 }
 

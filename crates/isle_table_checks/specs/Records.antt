@@ -2,9 +2,9 @@
 use Rattle.std.specs.Prelude.{◌≡◌, ◌⊎◌, ◌+◌, ◌<◌, ◌≤◌, ℕ, ℤ, Bool, List, [], ◌∷◌, ◌++◌, map, length, Result, MatchResult, alloc_error}
 use Rattle.isle_rules.specs.declared.visit_fault.VisitFault.{VisitFault}
 use Rattle.isle_rules.specs.declared.visit_fault.VisitFault.TheVariants.{Memory, Stopped}
-use Rattle.isle_checks.specs.declared.recorder.Call.{Call}
-use Rattle.isle_checks.specs.declared.recorder.Call.TheVariants.{AddArg, AddPattern, AddMatchEqual, AddMatchBool, AddMatchInt, AddMatchPrim, AddMatchVariant, AddExtractStruct, AddExtract, AddExpr, AddConstBool, AddConstInt, AddConstPrim, AddCreateVariant, AddCreateStruct, AddConstruct, ExprAsPattern, PatternAsExpr}
-use Rattle.isle_checks.specs.declared.recorder.Recorder.{Recorder}
+use Rattle.isle_table_checks.specs.declared.recorder.Call.{Call}
+use Rattle.isle_table_checks.specs.declared.recorder.Call.TheVariants.{AddArg, AddPattern, AddMatchEqual, AddMatchBool, AddMatchInt, AddMatchPrim, AddMatchVariant, AddExtractStruct, AddExtract, AddExpr, AddConstBool, AddConstInt, AddConstPrim, AddCreateVariant, AddCreateStruct, AddConstruct, ExprAsPattern, PatternAsExpr}
+use Rattle.isle_table_checks.specs.declared.recorder.Recorder.{Recorder}
 
 -- a call of a visitor with its arguments, without where its lists lie in memory
 pub data SeenCall : Type 0 where

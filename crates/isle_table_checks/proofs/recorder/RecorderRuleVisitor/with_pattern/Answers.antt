@@ -1,6 +1,6 @@
 use Rattle.std.proofs.Common.{inr, refl}
-use Rattle.isle_checks.proofs.Taken.{taken}
-use Rattle.isle_checks.proofs.recorder.RecorderRuleVisitor.with_pattern.Goals as goal
+use Rattle.isle_table_checks.proofs.Taken.{taken}
+use Rattle.isle_table_checks.proofs.recorder.RecorderRuleVisitor.with_pattern.Goals as goal
 
 pub returns : goal.returns
 returns g c =

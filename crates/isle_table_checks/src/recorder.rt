@@ -3,7 +3,7 @@
 ghost use Rattle.std.specs.Prelude.{◌≡◌, ◌-◌, IfOk, Ok, length, vec_len};
 ghost use Rattle.std.specs.List.{range_with_len};
 ghost use Rattle.isle_rules.specs.VisitAnswers.{listed, type_numbers, typed_inputs};
-ghost use Rattle.isle_checks.specs.Records.{call_view, seen_arg, seen_pattern, seen_match_equal, seen_match_bool, seen_match_int, seen_match_prim, seen_match_variant, seen_extract_struct, seen_extract, seen_expr, seen_const_bool, seen_const_int, seen_const_prim, seen_create_variant, seen_create_struct, seen_construct, seen_expr_as_pattern, seen_pattern_as_expr, Records};
+ghost use Rattle.isle_table_checks.specs.Records.{call_view, seen_arg, seen_pattern, seen_match_equal, seen_match_bool, seen_match_int, seen_match_prim, seen_match_variant, seen_extract_struct, seen_extract, seen_expr, seen_const_bool, seen_const_int, seen_const_prim, seen_create_variant, seen_create_struct, seen_construct, seen_expr_as_pattern, seen_pattern_as_expr, Records};
 
 use isle_rules::{Body, ExprVisitor, PatternVisitor, RuleVisitor, VisitFault, VisitedExpr};
 use isle_types::{Sym, TermId, TypeId, VariantId};

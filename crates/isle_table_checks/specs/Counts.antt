@@ -2,9 +2,9 @@
 use Rattle.std.specs.Prelude.{◌≡◌, ◌⊎◌, ◌+◌, ◌<◌, ◌≤◌, Result, MatchResult, alloc_error}
 use Rattle.isle_rules.specs.declared.visit_fault.VisitFault.{VisitFault}
 use Rattle.isle_rules.specs.declared.visit_fault.VisitFault.TheVariants.{Memory, Stopped}
-use Rattle.isle_checks.specs.declared.counter.ExprPlace.{ExprPlace}
-use Rattle.isle_checks.specs.declared.counter.PatternPlace.{PatternPlace}
-use Rattle.isle_checks.specs.declared.counter.Tally.{Tally}
+use Rattle.isle_table_checks.specs.declared.counter.ExprPlace.{ExprPlace}
+use Rattle.isle_table_checks.specs.declared.counter.PatternPlace.{PatternPlace}
+use Rattle.isle_table_checks.specs.declared.counter.Tally.{Tally}
 
 -- the place that the next call answers
 abbrev pub next_pattern : Tally → PatternPlace

@@ -1,6 +1,6 @@
 use Rattle.std.proofs.Common.{inr, refl, Ok, Err}
 use Rattle.isle_rules.proofs.PatternRunSteps.{err_is}
-use Rattle.isle_checks.proofs.recorder.RecorderRuleVisitor.with_expr.Goals as goal
+use Rattle.isle_table_checks.proofs.recorder.RecorderRuleVisitor.with_expr.Goals as goal
 
 pub returns-in_err-visited : goal.returns-in_err-visited
 returns-in_err-visited g c =

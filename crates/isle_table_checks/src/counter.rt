@@ -2,7 +2,7 @@
 
 ghost use Rattle.std.specs.Prelude.{◌≡◌, Ok, length, replicate};
 ghost use Rattle.isle_rules.specs.VisitAnswers.{listed};
-ghost use Rattle.isle_checks.specs.Counts.{next_expr, next_pattern, Counts};
+ghost use Rattle.isle_table_checks.specs.Counts.{next_expr, next_pattern, Counts};
 
 use isle_rules::{Body, ExprVisitor, PatternVisitor, RuleVisitor, VisitFault, VisitedExpr};
 use isle_types::{Sym, TermId, TypeId, VariantId};
