@@ -1,7 +1,7 @@
 -- What is taken back of a visitor that was lent, where taking it back changes no answer.
 use Rattle.std.proofs.Common.{◌≡◌, refl, Result, Ok, Err}
 use Rattle.std.specs.Prelude.{MatchResult}
-use Rattle.isle_rules.specs.declared.visit_fault.VisitFault.{VisitFault}
+use Rattle.isle_base.specs.declared.visit_fault.VisitFault.{VisitFault}
 use Rattle.isle_rules.specs.declared.visitors.VisitedExpr.{VisitedExpr}
 use Rattle.isle_rules.specs.VisitRuns.{taking}
 

@@ -1,7 +1,7 @@
 -- What the counter has counted after a call.
 use Rattle.std.specs.Prelude.{◌≡◌, ◌⊎◌, ◌+◌, ◌<◌, ◌≤◌, Result, MatchResult, alloc_error}
-use Rattle.isle_rules.specs.declared.visit_fault.VisitFault.{VisitFault}
-use Rattle.isle_rules.specs.declared.visit_fault.VisitFault.TheVariants.{Memory, Stopped}
+use Rattle.isle_base.specs.declared.visit_fault.VisitFault.{VisitFault}
+use Rattle.isle_base.specs.declared.visit_fault.VisitFault.TheVariants.{Memory, Stopped}
 use Rattle.isle_table_checks.specs.declared.counter.ExprPlace.{ExprPlace}
 use Rattle.isle_table_checks.specs.declared.counter.PatternPlace.{PatternPlace}
 use Rattle.isle_table_checks.specs.declared.counter.Tally.{Tally}

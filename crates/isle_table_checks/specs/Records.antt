@@ -1,7 +1,7 @@
 -- What the recorder has noted after a call.
 use Rattle.std.specs.Prelude.{◌≡◌, ◌⊎◌, ◌+◌, ◌<◌, ◌≤◌, ℕ, ℤ, Bool, List, [], ◌∷◌, ◌++◌, map, length, Result, MatchResult, alloc_error}
-use Rattle.isle_rules.specs.declared.visit_fault.VisitFault.{VisitFault}
-use Rattle.isle_rules.specs.declared.visit_fault.VisitFault.TheVariants.{Memory, Stopped}
+use Rattle.isle_base.specs.declared.visit_fault.VisitFault.{VisitFault}
+use Rattle.isle_base.specs.declared.visit_fault.VisitFault.TheVariants.{Memory, Stopped}
 use Rattle.isle_table_checks.specs.declared.recorder.Call.{Call}
 use Rattle.isle_table_checks.specs.declared.recorder.Call.TheVariants.{AddArg, AddPattern, AddMatchEqual, AddMatchBool, AddMatchInt, AddMatchPrim, AddMatchVariant, AddExtractStruct, AddExtract, AddExpr, AddConstBool, AddConstInt, AddConstPrim, AddCreateVariant, AddCreateStruct, AddConstruct, ExprAsPattern, PatternAsExpr}
 use Rattle.isle_table_checks.specs.declared.recorder.Recorder.{Recorder}

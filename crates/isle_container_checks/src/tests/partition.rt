@@ -4,7 +4,7 @@
 ghost use Rattle.std.specs.Prelude.{◌<◌};
 
 use super::last_digit::LastDigit;
-use isle_base::disjointsets::DisjointSets;
+use isle_disjointsets::disjointsets::DisjointSets;
 use std::alloc::AllocError;
 use std::process::Abort;
 use std::test::Fail;
