@@ -27,8 +27,8 @@ use Rattle.isle_terms.specs.TermViews as Terms
 use Rattle.isle_rules.specs.declared.term_env.TermEnv.{TermEnv}
 use Rattle.isle_rules.specs.RuleViews.{rule_views}
 use Rattle.isle_rules.specs.TermEnvs.{SeesRules}
-use Rattle.isle_sets.specs.Buildings.{env_program, IsPassed, AreSetsOf}
-use Rattle.isle_sets.specs.Clashes.{IsSimplyBuildable}
+use Rattle.isle_building.specs.Buildings.{env_program, IsPassed, AreSetsOf}
+use Rattle.isle_building.specs.Clashes.{IsSimplyBuildable}
 use Rattle.cranelift_isle.specs.Lowerings.{TermView, AreSimplyLowered, ChoosesAsSource, LimitPassed}
 
 -- 1. simple rules, by the terms alone

@@ -16,7 +16,7 @@ use Rattle.cranelift_isle.specs.declared.lower.LoweredTerm.{LoweredTerm}
 use Rattle.cranelift_isle.specs.declared.lower.Lowered.{Lowered}
 use Rattle.isle_sets.specs.SiteViews.{set_view}
 use Rattle.isle_serialize.specs.TreeViews.{tree_view}
-use Rattle.isle_sets.specs.Buildings.{IsPassed}
+use Rattle.isle_building.specs.Buildings.{IsPassed}
 
 -- what each term became: its number, its rule set, its tree
 pub record TermView : Type 0 where

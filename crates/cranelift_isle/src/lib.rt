@@ -2,7 +2,8 @@
 //! upstream crate's modules.
 #![tactic(auto)]
 
-pub use isle_base::{disjointsets, stablemapset, syntax};
+pub use isle_base::{stablemapset, syntax};
+pub use isle_disjointsets::disjointsets;
 pub use isle_serialize::serialize;
 pub use isle_sets::trie_again;
 

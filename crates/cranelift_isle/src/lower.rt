@@ -8,14 +8,14 @@ ghost use Rattle.isle_model.specs.trees.Sound.{IsSound};
 ghost use Rattle.isle_model.specs.first.Elaboration.{carried_typed_rules, carried_program_of};
 ghost use Rattle.isle_model.specs.first.Accepted.{IsCarriedAccepted};
 ghost use Rattle.isle_model.specs.first.Building.{IsSimpleSet};
-ghost use Rattle.isle_sets.specs.Buildings.{term_set_views};
+ghost use Rattle.isle_building.specs.Buildings.{term_set_views};
 ghost use Rattle.cranelift_isle.specs.Lowerings.{lowered_views, IsLowered, ChoosesAsSource, LimitPassed};
 
 use isle_base::syntax::{Def, Fault};
+use isle_building::building::sets_of;
 use isle_rules::TermEnv;
 use isle_serialize::alone::serialize_alone;
 use isle_serialize::serialize::Block;
-use isle_sets::building::sets_of;
 use isle_sets::trie_again::RuleSet;
 use isle_types::{TermId, TypeEnv};
 use std::alloc::{AllocError, Global};

@@ -4,5 +4,3 @@ pub mod Patterns
 pub mod Expressions
 pub mod Places
 pub mod Stable
-pub mod Partition
-pub mod Numbers

@@ -1,6 +1,6 @@
-//! Syntax trees, tables that keep no order, and partitions: what the other crates stand on.
+//! Syntax trees, tables that keep no order, and why a visit ends: what the other crates stand on.
 #![tactic(auto)]
 
-pub mod disjointsets;
 pub mod stablemapset;
 pub mod syntax;
+pub mod visit_fault;

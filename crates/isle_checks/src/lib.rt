@@ -1,7 +1,5 @@
-//! Tests of what rows of text can't say, and two visitors that they run.
+//! Tests of what programs print, and of what they do where output fails.
 #![tactic(auto)]
 
-pub mod counter;
-pub mod recorder;
 #[cfg(test)]
 mod tests;

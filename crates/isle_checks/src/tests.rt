@@ -1,10 +1,3 @@
-// Containers; trees of syntax; tables and typed rules; visits; what programs print, and what they do where output fails.
-mod all_forms;
-mod last_digit;
-mod partition;
+// What is printed; programs whose output fails.
 mod printing;
 mod program;
-mod stable;
-mod syntax;
-mod tables;
-mod visits;

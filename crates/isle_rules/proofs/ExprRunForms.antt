@@ -15,7 +15,7 @@ use Rattle.isle_model.specs.lists.Tables.{TermEntry}
 use Rattle.isle_model.specs.rules.Typed.{make_term, make_let, TypedLets, no_typed_let, typed_let_and}
 use Rattle.isle_model.specs.trees.Places.{is_in}
 use Rattle.isle_rules.specs.declared.exprs.Expr.{Expr, Term, Let}
-use Rattle.isle_rules.specs.declared.visit_fault.VisitFault.{VisitFault}
+use Rattle.isle_base.specs.declared.visit_fault.VisitFault.{VisitFault}
 use Rattle.isle_rules.specs.declared.visitors.ExprVisitor.{Ghosts as ExprSteps}
 use Rattle.isle_rules.specs.ExprViews.{expr_view, expr_views, expr_parts, let_views, let_parts}
 use Rattle.isle_rules.specs.ExprRuns.{entry_arg_types, Makes, ExprRun, InputsRun, LetsRun}

@@ -8,8 +8,8 @@ use Rattle.isle_types.specs.declared.ids.VarId.{VarId}
 use Rattle.isle_model.specs.lists.Tables.{TermEntry}
 use Rattle.isle_model.specs.rules.Typed.{TypedExpr, TypedExprs, typed_expr_and}
 use Rattle.isle_rules.specs.declared.exprs.Expr.{Expr}
-use Rattle.isle_rules.specs.declared.visit_fault.VisitFault.{VisitFault}
-use Rattle.isle_rules.specs.declared.visit_fault.VisitFault.TheVariants.{Memory}
+use Rattle.isle_base.specs.declared.visit_fault.VisitFault.{VisitFault}
+use Rattle.isle_base.specs.declared.visit_fault.VisitFault.TheVariants.{Memory}
 use Rattle.isle_rules.specs.declared.visitors.ExprVisitor.{Ghosts as ExprSteps}
 use Rattle.isle_rules.specs.ExprViews.{expr_view, expr_views, expr_parts, let_views, let_parts}
 use Rattle.isle_rules.specs.ExprRuns.{ExprRun, InputsRun, LetsRun}

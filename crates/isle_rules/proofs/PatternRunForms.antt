@@ -11,7 +11,7 @@ use Rattle.isle_model.specs.rules.Typed.{match_bind, match_term, match_and}
 use Rattle.isle_model.specs.sites.Demands.{pattern_count}
 use Rattle.isle_model.specs.trees.Places.{is_in}
 use Rattle.isle_rules.specs.declared.patterns.Pattern.{Pattern, BindPattern, Var, Term, And}
-use Rattle.isle_rules.specs.declared.visit_fault.VisitFault.{VisitFault}
+use Rattle.isle_base.specs.declared.visit_fault.VisitFault.{VisitFault}
 use Rattle.isle_rules.specs.declared.visitors.PatternVisitor.{Ghosts as PatternSteps}
 use Rattle.isle_rules.specs.PatternViews.{pattern_view, pattern_views, pattern_parts}
 use Rattle.isle_rules.specs.PatternRuns.{part_types, Opens, PatternRun, PartsRun, EachRun}

@@ -9,7 +9,7 @@ use Rattle.isle_model.specs.lists.Tables.{TermEntry}
 use Rattle.isle_model.specs.rules.Typed.{TypedPattern, match_bind, match_var, match_bool, match_int, match_prim, match_term, match_any, match_and, TypedPatterns, no_typed_pattern, typed_pattern_and}
 use Rattle.isle_model.specs.trees.Places.{is_in}
 use Rattle.isle_rules.specs.declared.patterns.Pattern.{Pattern}
-use Rattle.isle_rules.specs.declared.visit_fault.VisitFault.{VisitFault}
+use Rattle.isle_base.specs.declared.visit_fault.VisitFault.{VisitFault}
 use Rattle.isle_rules.specs.declared.visitors.PatternVisitor.{Ghosts as PatternSteps}
 use Rattle.isle_rules.specs.PatternViews.{pattern_view, pattern_views, pattern_parts}
 use Rattle.isle_rules.specs.PatternRuns.{part_types, PatternRun, PartsRun, EachRun}

@@ -13,8 +13,8 @@ use Rattle.isle_model.specs.rules.Typed.{TypedPattern, TypedIfLet, TypedRule}
 use Rattle.isle_model.specs.trees.Places.{is_in}
 use Rattle.isle_rules.specs.declared.patterns.Pattern.{Pattern}
 use Rattle.isle_rules.specs.declared.rules.IfLet.{IfLet}
-use Rattle.isle_rules.specs.declared.visit_fault.VisitFault.{VisitFault}
-use Rattle.isle_rules.specs.declared.visit_fault.VisitFault.TheVariants.{Memory}
+use Rattle.isle_base.specs.declared.visit_fault.VisitFault.{VisitFault}
+use Rattle.isle_base.specs.declared.visit_fault.VisitFault.TheVariants.{Memory}
 use Rattle.isle_rules.specs.declared.visitors.PatternVisitor.{Ghosts as PatternSteps}
 use Rattle.isle_rules.specs.declared.visitors.ExprVisitor.{Ghosts as ExprSteps}
 use Rattle.isle_rules.specs.declared.visitors.RuleVisitor.{Ghosts as RuleSteps}

@@ -3,7 +3,7 @@ use Rattle.std.specs.Prelude.{◌≡◌, ℕ, suc, List, [], ◌∷◌, Result, 
 use Rattle.isle_model.specs.lists.Setting.{expr_type}
 use Rattle.isle_model.specs.lists.Tables.{TermEntry}
 use Rattle.isle_model.specs.rules.Typed.{TypedPattern, TypedExpr, TypedIfLet, TypedRule}
-use Rattle.isle_rules.specs.declared.visit_fault.VisitFault.{VisitFault}
+use Rattle.isle_base.specs.declared.visit_fault.VisitFault.{VisitFault}
 use Rattle.isle_rules.specs.declared.visitors.PatternVisitor.{Ghosts as PatternSteps}
 use Rattle.isle_rules.specs.declared.visitors.ExprVisitor.{Ghosts as ExprSteps}
 use Rattle.isle_rules.specs.declared.visitors.RuleVisitor.{Ghosts as RuleSteps}

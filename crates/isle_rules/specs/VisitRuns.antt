@@ -5,8 +5,8 @@ use Rattle.std.specs.BTreeMap.{insert_entry, is_at}
 use Rattle.std.specs.Map.{lookup}
 use Rattle.std.specs.declared.cmp.Ordering.{Ordering}
 use Rattle.isle_types.specs.declared.ids.VarId.{VarId}
-use Rattle.isle_rules.specs.declared.visit_fault.VisitFault.{VisitFault}
-use Rattle.isle_rules.specs.declared.visit_fault.VisitFault.TheVariants.{Memory}
+use Rattle.isle_base.specs.declared.visit_fault.VisitFault.{VisitFault}
+use Rattle.isle_base.specs.declared.visit_fault.VisitFault.TheVariants.{Memory}
 
 -- the state before, the answer, the state after
 abbrev pub VisitRun : Type 0 → Type 0 → Type 1

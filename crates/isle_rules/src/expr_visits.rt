@@ -6,15 +6,15 @@ ghost use Rattle.isle_rules.specs.ExprViews.{expr_view, expr_views, expr_parts, 
 ghost use Rattle.isle_model.specs.lists.Visitable.{is_visitable_expr, are_visitable_args, are_visitable_lets, is_made_of};
 ghost use Rattle.isle_rules.specs.VisitAnswers.{inputs_of, type_numbers, typed_inputs};
 ghost use Rattle.isle_rules.specs.VisitRuns.{answering, bound_vars};
-ghost use Rattle.isle_rules.specs.declared.visit_fault.VisitFault.TheVariants.{Memory};
+ghost use Rattle.isle_base.specs.declared.visit_fault.VisitFault.TheVariants.{Memory};
 ghost use Rattle.isle_terms.specs.TermViews.{term_views};
 
 use crate::exprs::Expr;
 use crate::pattern_visits::{bind_var, bound_id};
 use crate::term_env::TermEnv;
-use crate::visit_fault::VisitFault;
 use crate::visited_terms::used_term;
 use crate::visitors::ExprVisitor;
+use isle_base::visit_fault::VisitFault;
 use isle_terms::TermKind;
 use isle_types::{TermId, TypeId, VarId};
 use std::alloc::Global;

@@ -14,13 +14,12 @@ mod rule_visits;
 mod rules;
 mod term_env;
 mod typing;
-mod visit_fault;
 mod visited_terms;
 mod visitors;
 
 pub use exprs::Expr;
+pub use isle_base::visit_fault::VisitFault;
 pub use patterns::Pattern;
 pub use rules::{BoundVar, IfLet, Rule};
 pub use term_env::TermEnv;
-pub use visit_fault::VisitFault;
 pub use visitors::{Body, ExprVisitor, PatternVisitor, RuleVisitor, VisitedExpr};

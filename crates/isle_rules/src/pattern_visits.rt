@@ -12,9 +12,9 @@ ghost use Rattle.isle_terms.specs.TermViews.{term_views, flags_view, extractor_v
 
 use crate::patterns::Pattern;
 use crate::term_env::TermEnv;
-use crate::visit_fault::VisitFault;
 use crate::visited_terms::used_term;
 use crate::visitors::PatternVisitor;
+use isle_base::visit_fault::VisitFault;
 use isle_terms::{ExtractorKind, TermFlags, TermKind};
 use isle_types::{TermId, TypeId, VarId};
 use std::alloc::{AllocError, Global};

@@ -7,9 +7,9 @@ ghost use Rattle.std.specs.Prelude.{◌≡◌, ℕ, ℤ, List, Bool, Result, IfO
 ghost use Rattle.std.specs.Fn.{FnOnceReturnsAtMut};
 ghost use Rattle.isle_rules.specs.VisitAnswers.{listed, type_numbers, typed_inputs};
 ghost use Rattle.isle_rules.specs.VisitRuns.{lent_run, taking};
-ghost use Rattle.isle_rules.specs.declared.visit_fault.VisitFault.{VisitFault};
+ghost use Rattle.isle_base.specs.declared.visit_fault.VisitFault.{VisitFault};
 
-use crate::visit_fault::VisitFault;
+use isle_base::visit_fault::VisitFault;
 use isle_types::{Sym, TermId, TypeId, VariantId};
 
 /// Is shown a pattern. Its relations name types, terms, variants and names by their numbers; each speaks of

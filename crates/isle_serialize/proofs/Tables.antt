@@ -4,7 +4,7 @@ use Rattle.std.specs.List.{list_all}
 use Rattle.std.proofs.lemmas.Bool.{cases_Bool, cond-true, cond-false, and_parts, and_from, or_cases, or_left, or_right, false≢true, cases_lt}
 use Rattle.std.proofs.lemmas.List.{get_or_append_left, get_or_push, get_or_past}
 use Rattle.isle_base.specs.Stable.{Members, contains}
-use Rattle.isle_base.specs.Partition.{in_set, set_of, together, IsPartition}
+use Rattle.isle_disjointsets.specs.Partition.{in_set, set_of, together, IsPartition}
 use Rattle.isle_model.specs.sites.Sites.{Site, sources_at}
 use Rattle.isle_model.specs.trees.Places.{Around, is_in, class, joins_in, waits, is_available, available}
 use Rattle.isle_model.specs.trees.Tests.{up_to}

@@ -9,7 +9,6 @@ ghost use Rattle.isle_sets.specs.SiteViews.{constraint_view, set_rule_view, set_
 ghost use Rattle.isle_serialize.specs.TreeViews.{tree_view, step_view};
 
 use crate::serialize::{Block, ControlFlow, EvalStep, MatchArm};
-use isle_sets::building::demands;
 use isle_sets::trie_again::{BindingId, Constraint, Rule, RuleSet};
 use std::alloc::{AllocError, Global};
 use std::cmp::Reverse;
@@ -49,7 +48,7 @@ fn rule_step(alloc: Global, rule: &Rule) -> Result<EvalStep, AllocError>
             result: rule.result,
         },
     };
-    let constraints = demands(rule);
+    let constraints = rule.constraints();
     let mut left = constraints.len();
     while left > 0 {
         left -= 1;

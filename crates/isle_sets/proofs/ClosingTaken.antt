@@ -7,7 +7,7 @@ use Rattle.std.specs.List.Sorted.{IsStrictlySortedBy}
 use Rattle.std.proofs.lemmas.Bool.{and_parts, false_from_ne_true}
 use Rattle.std.proofs.lemmas.List.Elements.{All-weaker}
 use Rattle.std.proofs.lemmas.Option.{same_Some, slice_get_within}
-use Rattle.isle_base.specs.Partition.{in_set}
+use Rattle.isle_disjointsets.specs.Partition.{in_set}
 use Rattle.isle_model.specs.sites.Sites.{Site, Constraint, SiteTerm, unfold_site}
 use Rattle.isle_model.specs.sites.Demands.{has_site, with_sites}
 use Rattle.isle_model.specs.sites.Closure.{Closed, constraint_of, field_terms, class_at, merged_classes, merged_all, ascending, is_in_class, next_constrained, taken, closing}
@@ -23,7 +23,7 @@ use Rattle.isle_sets.specs.declared.demanded.Demanded.{Demanded}
 use Rattle.isle_sets.proofs.ClassTests.{in_one, one_in, in_class_means, class_has}
 use Rattle.isle_sets.proofs.ClosingNumbers.{AreBelow, rises, members_same, in_class_same, next_nowhere, next_is}
 use Rattle.isle_sets.proofs.ClosingSteps.{with_made, with_asked, without_class, told_apart, apart_of, grown, removed, asked_more, held_same, equated_same}
-use Rattle.isle_sets.proofs.BuildingLists.{rest_is}
+use Rattle.isle_sets.proofs.Rests.{rest_is}
 use Rattle.isle_sets.proofs.SitesAdded.{same_all}
 
 -- 1. the same demands, whatever is kept to look at

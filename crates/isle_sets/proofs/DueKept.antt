@@ -6,7 +6,7 @@ use Rattle.std.specs.Ordering.{nat_cmp, is_gt, is_eq}
 use Rattle.std.specs.declared.cmp.Ordering.TheVariants.{Less, Equal, Greater}
 use Rattle.std.specs.BTreeSet.{BTreeSet, contains, Updates, IsLowerBound}
 use Rattle.std.proofs.lemmas.Bool.{cases_Bool, cond-true, cond-false, and_parts, and_from, both_ways, false_from_ne_true, false≢true, true≢false, ltb-true, eqb-true}
-use Rattle.isle_base.specs.Partition.{together, IsPartition}
+use Rattle.isle_disjointsets.specs.Partition.{together, IsPartition}
 use Rattle.isle_model.specs.sites.Sites.{Constraint}
 use Rattle.isle_model.proofs.Elements.{or_split, none_some, some_is}
 use Rattle.isle_sets.specs.Closings.{KeepsDue, is_due_with}

@@ -2,7 +2,7 @@
 use Rattle.std.proofs.Common.{◌≡◌, ℕ, ◌+◌, ◌<◌, Bool, List, length, get_or, drop, sym, ◌∙◌}
 use Rattle.std.specs.List.{zip}
 use Rattle.isle_sets.specs.DemandsHeld.{equated_too, equated_each}
-use Rattle.isle_sets.proofs.BuildingLists.{rest_is}
+use Rattle.isle_sets.proofs.Rests.{rest_is}
 
 -- the pair at a place, then those after it
 pub one_pair_more : (test next : ℕ → ℕ → Bool) (firsts seconds : List ℕ) (i x y : ℕ) → i < length firsts → i < length seconds → x ≡ get_or firsts i x → y ≡ get_or seconds i y

@@ -1,4 +1,5 @@
 pub mod Ascending
+pub mod Rests
 pub mod ClassTests
 pub mod ClosingNumbers
 pub mod ClosingSteps
@@ -13,8 +14,3 @@ pub mod SitesAdded
 pub mod SitesGrown
 pub mod SitesIn
 pub mod TablesGrown
-pub mod BuildingSteps
-pub mod BuildingLists
-pub mod BuildingEnds
-pub mod BuildingTests
-pub mod Refusals

@@ -1,6 +1,4 @@
 pub mod SiteViews
-pub mod Buildings
-pub mod Clashes
 pub mod Listings
 pub mod Overlaps
 pub mod SiteTables

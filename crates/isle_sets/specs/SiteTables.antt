@@ -7,8 +7,8 @@ use Rattle.isle_model.specs.sites.Closure.{field_terms}
 use Rattle.isle_model.specs.sites.Demands.{with_sites}
 use Rattle.isle_model.specs.sites.RuleSets.{StandFor}
 use Rattle.isle_base.specs.declared.syntax.Limit.TheVariants as Limits
-use Rattle.isle_rules.specs.declared.visit_fault.VisitFault.{VisitFault}
-use Rattle.isle_rules.specs.declared.visit_fault.VisitFault.TheVariants.{Memory, Limit}
+use Rattle.isle_base.specs.declared.visit_fault.VisitFault.{VisitFault}
+use Rattle.isle_base.specs.declared.visit_fault.VisitFault.TheVariants.{Memory, Limit}
 use Rattle.isle_sets.specs.SiteViews.{site_view, site_views}
 use Rattle.isle_sets.specs.contracts.trie_again.BindingPartialEq.TheImpl.{ghosts}
 use Rattle.isle_sets.specs.declared.trie_again.Binding.{Binding}

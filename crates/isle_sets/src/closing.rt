@@ -11,7 +11,7 @@ ghost use Rattle.isle_sets.specs.SiteViews.{constraint_view};
 use crate::demanded::Demanded;
 use crate::site_table::SiteTable;
 use crate::trie_again::{BindingId, Constraint};
-use isle_rules::VisitFault;
+use isle_base::visit_fault::VisitFault;
 use std::alloc::{AllocError, Global};
 
 // More than a rule that passes no limit can take: a site is taken for itself or for one whose field it is, and never

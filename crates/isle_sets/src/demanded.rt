@@ -7,7 +7,7 @@ ghost use Rattle.isle_sets.specs.SiteViews.{constraint_view};
 
 use crate::overlaps::is_same_constraint;
 use crate::trie_again::{BindingId, Constraint};
-use isle_base::disjointsets::DisjointSets;
+use isle_disjointsets::disjointsets::DisjointSets;
 use std::alloc::{AllocError, Global};
 use std::collections::{BTreeMap, BTreeSet};
 

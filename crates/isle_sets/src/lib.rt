@@ -1,14 +1,12 @@
-//! The rules of each term as sets of demands on binding sites, how they are built of typed rules, and which of them
-//! overlap.
+//! The rules of each term as sets of demands on binding sites, and which of them overlap.
 #![tactic(auto)]
 
 mod bindings;
-pub mod building;
 mod closing;
 mod constraints;
 pub mod demanded;
 mod overlaps;
 mod rule_sets;
-mod rules;
+pub mod rules;
 pub mod site_table;
 pub mod trie_again;

@@ -2,12 +2,12 @@
 ghost use Rattle.std.specs.Prelude.{◌≡◌, ℕ, IsTrue, option_map};
 ghost use Rattle.isle_model.specs.trees.Places.{constraint_at, joins_in};
 ghost use Rattle.isle_sets.specs.Listings.{are_listed, ascends, class_lists, sites_of};
-ghost use Rattle.isle_sets.specs.SiteViews.{constraint_view, empty_rule, set_rule_view};
+ghost use Rattle.isle_sets.specs.SiteViews.{constraint_view, constraint_views, empty_rule, set_rule_view};
 
 use crate::trie_again::{BindingId, Constraint, Rule};
-use isle_base::disjointsets::DisjointSets;
 use isle_base::stablemapset::StableSet;
 use isle_base::syntax::Pos;
+use isle_disjointsets::disjointsets::DisjointSets;
 use isle_types::RuleId;
 use std::alloc::Global;
 
@@ -57,4 +57,13 @@ impl Rule {
         }
         None
     }
+}
+
+/// The rule with these constraints in place of its own.
+pub fn with_constraints(mut rule: Rule, constraints: Vec<(BindingId, Constraint)>) -> Rule
+    requires ascending { IsTrue (ascends (sites_of constraints.items)) }
+    ensures { set_rule_view result ≡ record (set_rule_view rule) { constraints = constraint_views constraints.items } }
+{
+    rule.constraints = constraints;
+    rule
 }

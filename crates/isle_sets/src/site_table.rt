@@ -9,7 +9,7 @@ ghost use Rattle.isle_sets.specs.SiteTables.{AddsFields, AddsSite, AddsSites, Ha
 
 use crate::trie_again::{Binding, BindingId, Constraint, TupleIndex};
 use isle_base::syntax::Limit;
-use isle_rules::VisitFault;
+use isle_base::visit_fault::VisitFault;
 use isle_types::VariantId;
 use std::alloc::{AllocError, Global};
 use std::collections::HashMap;

@@ -5,9 +5,9 @@ ghost use Rattle.std.specs.Result.{OkIff};
 ghost use Rattle.isle_model.specs.trees.Places.{joins_in};
 ghost use Rattle.isle_sets.specs.Listings.{are_listed, ascends, class_lists, sites_of};
 
-use isle_base::disjointsets::DisjointSets;
 use isle_base::stablemapset::StableSet;
 use isle_base::syntax::Pos;
+use isle_disjointsets::disjointsets::DisjointSets;
 use isle_types::{RuleId, Sym, TermId, TypeId, VariantId};
 use std::marker::Model;
 

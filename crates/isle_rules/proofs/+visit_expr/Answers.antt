@@ -1,6 +1,6 @@
 use Rattle.std.proofs.Common.{[], ◌∷◌, Ok, Err, alloc_error, sym, ap, ◌∙◌, refl, arith, get_or, append-nil, IsTrue, subst}
 use Rattle.isle_terms.specs.TermViews.{term_views}
-use Rattle.isle_rules.specs.declared.visit_fault.VisitFault.TheVariants.{Memory}
+use Rattle.isle_base.specs.declared.visit_fault.VisitFault.TheVariants.{Memory}
 use Rattle.isle_rules.specs.ExprViews.{expr_view, let_views, let_parts}
 use Rattle.isle_rules.specs.ExprRuns.{LetsRun}
 use Rattle.isle_model.specs.lists.Visitable.{is_visitable_expr, are_visitable_lets, is_made_of}

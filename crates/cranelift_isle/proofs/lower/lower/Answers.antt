@@ -8,7 +8,7 @@ use Rattle.isle_base.specs.SyntaxViews.{definition_views}
 use Rattle.isle_model.specs.rules.Typed.{TypedRule}
 use Rattle.isle_model.specs.first.Elaboration.{carried_program_of}
 use Rattle.isle_model.specs.first.Accepted.{IsCarriedAccepted}
-use Rattle.isle_sets.specs.Buildings.{env_program, term_set_views, IsPassed}
+use Rattle.isle_building.specs.Buildings.{env_program, term_set_views, IsPassed}
 use Rattle.cranelift_isle.specs.Lowerings.{lowered_views, IsLowered, ChoosesAsSource, LimitPassed}
 use Rattle.cranelift_isle.proofs.Lowered.{simple, known, accepted, buildable, lowered, chooses, limits_passed, refused_so, limits_so, same_rules}
 use Rattle.cranelift_isle.proofs.lower.lower.Goals as goal

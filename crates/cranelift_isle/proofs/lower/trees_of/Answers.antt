@@ -6,7 +6,7 @@ use Rattle.isle_model.specs.trees.Sound.{IsSound}
 use Rattle.isle_model.specs.first.Building.{IsSimpleSet}
 use Rattle.isle_sets.specs.SiteViews.{set_view}
 use Rattle.isle_serialize.specs.TreeViews.{tree_view}
-use Rattle.isle_sets.specs.Buildings.{term_set_view, term_set_views}
+use Rattle.isle_building.specs.Buildings.{term_set_view, term_set_views}
 use Rattle.cranelift_isle.specs.Lowerings.{TermView, lowered_view, lowered_views}
 use Rattle.cranelift_isle.proofs.PlainSets.{plain_set}
 use Rattle.cranelift_isle.proofs.TreesSoFar.{moved}

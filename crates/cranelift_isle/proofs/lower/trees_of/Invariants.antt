@@ -1,7 +1,7 @@
 use Rattle.std.proofs.Common.{◌≡◌, false, ◌++◌, map, All}
 use Rattle.isle_model.specs.trees.Sound.{IsSound}
 use Rattle.isle_model.specs.first.Building.{IsSimpleSet}
-use Rattle.isle_sets.specs.Buildings.{term_set_views}
+use Rattle.isle_building.specs.Buildings.{term_set_views}
 use Rattle.cranelift_isle.specs.Lowerings.{lowered_views}
 use Rattle.cranelift_isle.proofs.lower.trees_of.Given as goal
 

@@ -1,5 +1,5 @@
 use Rattle.std.proofs.Common.{rules, [], ◌∷◌, Ok, Err, alloc_error, sym, append-nil}
-use Rattle.isle_rules.specs.declared.visit_fault.VisitFault.TheVariants.{Memory}
+use Rattle.isle_base.specs.declared.visit_fault.VisitFault.TheVariants.{Memory}
 use Rattle.isle_rules.proofs.PatternRunSteps.{err_is}
 use Rattle.isle_rules.proofs.ExprRunSteps.{after_these}
 use Rattle.isle_rules.proofs.RuleRunSteps.{exchange_step, exchange_stop, exchange_refused, exchanged_more, exchange_end, binds_fault}

@@ -3,7 +3,7 @@ use Rattle.isle_types.specs.declared.ids.TypeId.{TypeId}
 use Rattle.isle_model.specs.lists.Tables.{TermEntry}
 use Rattle.isle_rules.specs.declared.patterns.Pattern.{Pattern}
 use Rattle.isle_rules.specs.declared.rules.IfLet.{IfLet}
-use Rattle.isle_rules.specs.declared.visit_fault.VisitFault.{VisitFault}
+use Rattle.isle_base.specs.declared.visit_fault.VisitFault.{VisitFault}
 use Rattle.isle_rules.specs.declared.visitors.PatternVisitor.{Ghosts as PatternSteps}
 use Rattle.isle_rules.specs.declared.visitors.ExprVisitor.{Ghosts as ExprSteps}
 use Rattle.isle_rules.specs.declared.visitors.RuleVisitor.{Ghosts as RuleSteps}

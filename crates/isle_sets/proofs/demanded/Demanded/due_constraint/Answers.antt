@@ -1,7 +1,7 @@
 use Rattle.std.proofs.Common.{◌≡◌, false, rules}
 use Rattle.std.specs.Prelude.{is_some, nat_eq}
 use Rattle.std.proofs.lemmas.Bool.{and_right}
-use Rattle.isle_base.specs.Partition.{together}
+use Rattle.isle_disjointsets.specs.Partition.{together}
 use Rattle.isle_sets.specs.DemandsHeld.{constraint_held, are_equated}
 use Rattle.isle_sets.proofs.DueKept.{not_in_class}
 use Rattle.isle_sets.proofs.demanded.Demanded.due_constraint.Goals as goal

@@ -1,6 +1,6 @@
 use Rattle.std.proofs.Common.{◌≡◌, ℕ, false, [], refl, ap, ◌∙◌}
 use Rattle.std.specs.Prelude.{nat_eq}
-use Rattle.isle_base.specs.Partition.{set_of, together}
+use Rattle.isle_disjointsets.specs.Partition.{set_of, together}
 use Rattle.isle_sets.proofs.demanded.Demanded.new.Goals as goal
 
 none_together : (a b : ℕ) → together nat_eq [] a b ≡ false

@@ -1,0 +1,2 @@
+pub mod Buildings
+pub mod Clashes

@@ -1,0 +1,184 @@
+// Sets that merges make, of numbers that are equal modulo 10. A picture has for each digit the letter of its set, and a point
+// where it is in none. Each test but the last two passes as it stands, and with `rt try --test --fail-alloc N` for every N: a
+// call that is refused memory must leave the sets as they were, and is then made again.
+ghost use Rattle.std.specs.Prelude.{◌<◌};
+
+use super::last_digit::LastDigit;
+use isle_disjointsets::disjointsets::DisjointSets;
+use std::alloc::AllocError;
+use std::process::Abort;
+use std::test::Fail;
+
+// Whether the sets are those of the picture, by the calls that take no memory.
+fn shows(sets: &DisjointSets<LastDigit>, picture: &[u8; 10]) -> bool {
+    for digit in 0..10 {
+        if !shows_digit(sets, digit, picture) {
+            return false;
+        }
+    }
+    let count = picture.iter().filter(|letter| **letter != b'.').count();
+    sets.len() == count && sets.is_empty() == (count == 0)
+}
+
+// Whether a digit is with those of its letter, and has one name with them.
+fn shows_digit(sets: &DisjointSets<LastDigit>, digit: usize, picture: &[u8; 10]) -> bool
+    requires { digit < 10 }
+{
+    let x = LastDigit(digit as u32);
+    for other in 0..10 {
+        let y = LastDigit(other as u32 + 10);
+        let together = picture[digit] == picture[other] && picture[digit] != b'.';
+        if sets.in_same_set(x, y) != together || together && sets.find(x) != sets.find(y) {
+            return false;
+        }
+    }
+    sets.find(x).is_some() == (picture[digit] != b'.')
+}
+
+// Merges two numbers whose digits differ. Before, the sets are those of the picture.
+fn merge(
+    rt: &impl Abort,
+    sets: &mut DisjointSets<LastDigit>,
+    before: &[u8; 10],
+    x: u32,
+    y: u32,
+) -> Result<(), AllocError> {
+    let (x, y) = (LastDigit(x), LastDigit(y));
+    assert!(rt; x != y);
+    match sets.merge(x, y) {
+        Ok(()) => Ok(()),
+        Err(_) => {
+            assert!(rt; shows(sets, before), "a refused merge");
+            sets.merge(x, y)
+        }
+    }
+}
+
+// Takes a number's set away. Before, the sets are those of the picture.
+fn removed(
+    rt: &impl Abort,
+    sets: &mut DisjointSets<LastDigit>,
+    before: &[u8; 10],
+    number: u32,
+) -> Result<Vec<LastDigit>, AllocError> {
+    match sets.remove_set_of(LastDigit(number)) {
+        Ok(set) => Ok(set),
+        Err(_) => {
+            assert!(rt; shows(sets, before), "a refused removal");
+            sets.remove_set_of(LastDigit(number))
+        }
+    }
+}
+
+fn copy_of<C: Clone>(value: &C) -> Result<C, AllocError> {
+    match value.clone() {
+        Ok(copy) => Ok(copy),
+        Err(_) => value.clone(),
+    }
+}
+
+// Merges as a row says, and looks at the sets and at a copy made before.
+fn merge_beside_a_copy(
+    rt: &impl Abort,
+    sets: &mut DisjointSets<LastDigit>,
+    before: &[u8; 10],
+    row: (u32, u32, &[u8; 10]),
+) -> Result<(), AllocError> {
+    let copy = copy_of(sets)?;
+    merge(rt, sets, before, row.0, row.1)?;
+    assert!(rt; shows(sets, row.2), "{} and {}", row.0, row.1);
+    assert!(rt; shows(&copy, before), "before {} and {}", row.0, row.1);
+    Ok(())
+}
+
+// Two sets, a merge that adds nothing, one set of both, members on either side, and the shorter set first.
+#[test]
+fn merges(rt: HostRuntime) -> Result<(), Fail> {
+    let mut sets = DisjointSets::new(rt.alloc());
+    let mut before = b"..........";
+    for row in [
+        (1, 2, b".aa......."),
+        (3, 4, b".aabb....."),
+        (12, 11, b".aabb....."),
+        (2, 3, b".aaaa....."),
+        (6, 7, b".aaaa.bb.."),
+        (6, 8, b".aaaa.bbb."),
+        (9, 18, b".aaaa.bbbb"),
+        (10, 6, b"baaaa.bbbb"),
+        (4, 9, b"aaaaa.aaaa"),
+    ] {
+        merge_beside_a_copy(&rt, &mut sets, before, row)?;
+        before = row.2;
+    }
+    assert_eq!(rt; sets.find_mut(LastDigit(3)), sets.find(LastDigit(8)));
+    assert_eq!(rt; sets.find_mut(LastDigit(5)), None);
+    Ok(())
+}
+
+// Takes a number's set away, and looks at its members and at the sets that are left.
+fn expect_removed(
+    rt: &impl Abort,
+    sets: &mut DisjointSets<LastDigit>,
+    before: &[u8; 10],
+    row: (u32, &[u32], &[u8; 10]),
+) -> Result<(), AllocError> {
+    let set = removed(rt, sets, before, row.0)?;
+    let members = set.iter().map(|member| member.0);
+    assert!(rt; members.eq(row.1.iter().copied()), "of {}", row.0);
+    assert!(rt; shows(sets, row.2), "without {}", row.0);
+    Ok(())
+}
+
+// A set that is gone takes its items, and leaves its place to the next one.
+#[test]
+fn removals(rt: HostRuntime) -> Result<(), Fail> {
+    let mut sets = DisjointSets::new(rt.alloc());
+    let mut before = b"..........";
+    for row in [
+        (1, 2, b".aa......."),
+        (5, 6, b".aa..bb..."),
+        (2, 5, b".aa..aa..."),
+        (7, 9, b".aa..aab.b"),
+    ] {
+        merge_beside_a_copy(&rt, &mut sets, before, row)?;
+        before = row.2;
+    }
+    expect_removed(&rt, &mut sets, before, (9, &[7, 9], b".aa..aa..."))?;
+    expect_removed(&rt, &mut sets, b".aa..aa...", (19, &[], b".aa..aa..."))?;
+    expect_removed(
+        &rt,
+        &mut sets,
+        b".aa..aa...",
+        (16, &[1, 2, 5, 6], b".........."),
+    )?;
+    merge_beside_a_copy(&rt, &mut sets, b"..........", (12, 3, b"..aa......"))?;
+    Ok(())
+}
+
+// Sets that come and go leave one place.
+#[test]
+fn places_are_used_again(rt: HostRuntime) -> Result<(), Fail> {
+    let mut sets: DisjointSets<u32> = DisjointSets::new(rt.alloc());
+    for x in 0..10_000 {
+        sets.merge(x, x + 10_000)?;
+        assert_eq!(rt; sets.remove_set_of(x)?.len(), 2);
+    }
+    let text = format!(in rt.alloc(); "{sets:?}")?;
+    assert_eq!(rt;
+        text.as_str(),
+        "DisjointSets { classes: {}, members: [[]], free: [0] }"
+    );
+    Ok(())
+}
+
+// A long chain is one set.
+#[test]
+fn a_long_chain(rt: HostRuntime) -> Result<(), Fail> {
+    let mut sets: DisjointSets<u32> = DisjointSets::new(rt.alloc());
+    for x in 0..10_000 {
+        sets.merge(x, x + 1)?;
+    }
+    assert!(rt; sets.len() == 10_001 && sets.in_same_set(0, 10_000));
+    assert_eq!(rt; sets.remove_set_of(5_000)?.len(), 10_001);
+    Ok(())
+}

@@ -1,0 +1,5 @@
+mod Puts
+mod Classes
+mod Togethers
+mod Merges
+mod Removals

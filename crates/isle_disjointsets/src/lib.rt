@@ -1,0 +1,4 @@
+//! Partitions: sets of items that are apart from each other.
+#![tactic(auto)]
+
+pub mod disjointsets;
