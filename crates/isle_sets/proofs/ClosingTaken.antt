@@ -51,15 +51,15 @@ abbrev pub with_members : Constraint → SiteTerm → Closed → List SiteTerm �
 with_members c least k [] = k
 with_members c least k (m ∷ ms) = with_members c least (with_member c least k m) ms
 
-merged_append : (es gs : List (SiteTerm × SiteTerm)) (ks : List (List SiteTerm)) → merged_all (merged_all ks es) gs ≡ merged_all ks (es ++ gs)
+pub merged_append : (es gs : List (SiteTerm × SiteTerm)) (ks : List (List SiteTerm)) → merged_all (merged_all ks es) gs ≡ merged_all ks (es ++ gs)
 merged_append [] gs ks = refl
 merged_append (e ∷ es) gs ks = merged_append es gs (merged_classes ks e)
 
-sites_append : (us vs ts : List SiteTerm) → with_sites (with_sites ts us) vs ≡ with_sites ts (us ++ vs)
+pub sites_append : (us vs ts : List SiteTerm) → with_sites (with_sites ts us) vs ≡ with_sites ts (us ++ vs)
 sites_append [] vs ts = refl
 sites_append (u ∷ us) vs ts = sites_append us vs (if has_site ts u then ts else ts ++ u ∷ [])
 
-members_at_once : (c : Constraint) (least : SiteTerm) (ms : List SiteTerm) (k : Closed)
+pub members_at_once : (c : Constraint) (least : SiteTerm) (ms : List SiteTerm) (k : Closed)
     → with_members c least k ms ≡ record {
       constraints = k.constraints;
       classes = merged_all k.classes (flat_map (λ m. zip (field_terms c least) (field_terms c m)) ms);

@@ -8,6 +8,7 @@ pub mod DueKept
 pub mod Equated
 pub mod FieldSites
 pub mod FoundSites
+pub mod FullTables
 pub mod SameBindings
 pub mod SideBySide
 pub mod SitesAdded

@@ -61,6 +61,12 @@ fields_are_from : (f : ℕ → SiteTerm) (g : SiteTerm → ℕ → SiteTerm) (b 
 fields_are_from f g b t h i zero = refl
 fields_are_from f g b t h i (suc n) = ap₂ ◌∷◌ (h i) (fields_are_from f g b t h (suc i) n)
 
+pub variant_terms : (f : ℕ → SiteTerm) (ty variant fields s : ℕ) → map (layer f) (each_place (match_variant_site s variant) 0 fields) ≡ field_terms (is_variant ty variant fields) (f s)
+variant_terms f ty variant fields s = fields_are_from f (λ t i. variant_field t variant i) (match_variant_site s variant) (f s) (λ i. refl) 0 fields
+
+pub struct_terms : (f : ℕ → SiteTerm) (ty fields s : ℕ) → map (layer f) (each_place (extract_struct_site s) 0 fields) ≡ field_terms (is_struct ty fields) (f s)
+struct_terms f ty fields s = fields_are_from f (λ t i. struct_field t i) (extract_struct_site s) (f s) (λ i. refl) 0 fields
+
 fields_added : (before after bs : List Site) (c : Constraint) (s : ℕ) (ns : List ℕ) → map (layer (unfold_site before)) bs ≡ field_terms c (unfold_site before s) → AddsSites before after bs ns → AddsFields before after c s ns
 fields_added before after bs c s ns e h terms once stand =
     let k = h terms once stand in
@@ -75,12 +81,12 @@ fields_added before after bs c s ns e h terms once stand =
 pub variant_fields_added : (before after : List Site) (ty variant fields s : ℕ) (ns : List ℕ) → AddsSites before after (each_place (match_variant_site s variant) 0 fields) ns → AddsFields before after (is_variant ty variant fields) s ns
 variant_fields_added before after ty variant fields s ns =
     fields_added before after (each_place (match_variant_site s variant) 0 fields) (is_variant ty variant fields) s ns
-    (fields_are_from (unfold_site before) (λ t i. variant_field t variant i) (match_variant_site s variant) (unfold_site before s) (λ i. refl) 0 fields)
+    (variant_terms (unfold_site before) ty variant fields s)
 
 pub struct_fields_added : (before after : List Site) (ty fields s : ℕ) (ns : List ℕ) → AddsSites before after (each_place (extract_struct_site s) 0 fields) ns → AddsFields before after (is_struct ty fields) s ns
 struct_fields_added before after ty fields s ns =
     fields_added before after (each_place (extract_struct_site s) 0 fields) (is_struct ty fields) s ns
-    (fields_are_from (unfold_site before) (λ t i. struct_field t i) (extract_struct_site s) (unfold_site before s) (λ i. refl) 0 fields)
+    (struct_terms (unfold_site before) ty fields s)
 
 pub no_fields_added : (before : List Site) (c : Constraint) (s : ℕ) → field_terms c (unfold_site before s) ≡ [] → AddsFields before before c s []
 no_fields_added before c s e = fields_added before before [] c s [] (sym e) (none_added before)

@@ -139,7 +139,7 @@ module _ (before : List Site) (terms : List SiteTerm) (first : SourcesFirst befo
         kept = λ s k. refl;
       }
 
-  not_there : ((s : ℕ) → slice_get before s ≡ Some b → ⊥) → has_site terms new_term ≡ false
+  pub not_there : ((s : ℕ) → slice_get before s ≡ Some b → ⊥) → has_site terms new_term ≡ false
   not_there absent =
       elim (cases_Bool (has_site terms new_term)) [
         | inl h ↦

@@ -10,6 +10,8 @@ use Rattle.isle_model.specs.sites.Demands.{has_site, with_sites}
 use Rattle.isle_model.specs.sites.Closure.{Closed, constraint_of, field_equalities, field_terms, merged_all}
 use Rattle.isle_model.specs.sites.RuleSets.{StandFor}
 use Rattle.isle_sets.specs.DemandsHeld.{constraint_held, are_equated, first_kept}
+use Rattle.isle_rules.specs.declared.visit_fault.VisitFault.{VisitFault}
+use Rattle.isle_sets.specs.SiteTables.{AreFirst, ForWantOfRoom}
 use Rattle.isle_sets.specs.SiteViews.{constraint_view}
 use Rattle.isle_sets.specs.declared.trie_again.Constraint.{Constraint}
 use Rattle.isle_sets.specs.declared.demanded.Demanded.{Demanded}
@@ -83,6 +85,10 @@ with_fields c k members = record {
   classes = merged_all k.classes (field_equalities c members);
   made = with_sites k.made (flat_map (field_terms c) members);
 }
+
+-- there was no room for all sites of demands that these become: the table has the first of those that these have
+abbrev pub EndsFull : List Site → Closed → VisitFault → Type 0
+EndsFull after k e = ForWantOfRoom (AreFirst after k.made) e
 
 -- demands over more sites are these, and the sites before stand for what they did
 pub record GoOn (before after : List Site) (d : Demanded) (k : Closed) : Type 0 where

@@ -1,11 +1,12 @@
 -- Tables of the binding sites of a term.
-use Rattle.std.specs.Prelude.{◌≡◌, ◌↔◌, ◌⊎◌, ℕ, ◌<◌, ◌≤◌, List, [], ◌∷◌, ◌++◌, length, map, Option, Some, slice_get, All, Contains}
+use Rattle.std.specs.Prelude.{◌≡◌, ◌↔◌, ◌⊎◌, ℕ, ◌<◌, ◌≤◌, List, [], ◌∷◌, ◌++◌, length, map, Option, Some, slice_get, take, All, Contains}
 use Rattle.std.specs.HashMap.{get}
 use Rattle.isle_model.specs.lists.Names.{IsDistinct}
 use Rattle.isle_model.specs.sites.Sites.{Site, Constraint, sources_at, SiteTerm, layer, unfold_site}
 use Rattle.isle_model.specs.sites.Closure.{field_terms}
 use Rattle.isle_model.specs.sites.Demands.{with_sites}
 use Rattle.isle_model.specs.sites.RuleSets.{StandFor}
+use Rattle.isle_model.specs.sites.Limits.{most_sites}
 use Rattle.isle_base.specs.declared.syntax.Limit.TheVariants as Limits
 use Rattle.isle_base.specs.declared.visit_fault.VisitFault.{VisitFault}
 use Rattle.isle_base.specs.declared.visit_fault.VisitFault.TheVariants.{Memory, Limit}
@@ -42,6 +43,22 @@ abbrev pub HasNoRoom : List Site → List Site → Site → VisitFault → Type 
 HasNoRoom before after b (Memory e) = Unit {0}
 HasNoRoom before after b (Limit Limits.Sites) = (length before ≡ 65536) × IsAbsent before b × (after ≡ before)
 HasNoRoom before after b _ = ⊥
+
+-- these are more than there may be, and the sites stand for the first of them
+pub record AreFirst (sites : List Site) (terms : List SiteTerm) : Type 0 where
+  pub stand : StandFor sites (take most_sites terms)
+  pub many : most_sites < length terms
+
+-- why a call ended: memory was refused, or there was no room for a site, and then P
+abbrev pub ForWantOfRoom : Type 0 → VisitFault → Type 0
+ForWantOfRoom P (Memory e) = Unit {0}
+ForWantOfRoom P (Limit Limits.Sites) = P
+ForWantOfRoom P _ = ⊥
+
+-- there was no room for all of some sites, whatever the sites stood for: they stand for the first of those with theirs
+abbrev pub LacksRoom : List Site → List Site → List SiteTerm → VisitFault → Type 0
+LacksRoom before after us e =
+    ForWantOfRoom ((terms : List SiteTerm) → IsDistinct terms → StandFor before terms → AreFirst after (with_sites terms us)) e
 
 -- a number of a site that is added: the sites stand for the terms with that site's, and the others for what they did
 pub record StandsFor (before after : List Site) (terms : List SiteTerm) (b : Site) (n : ℕ) : Type 0 where

@@ -1,11 +1,11 @@
 //! The closing of a rule's demands: where sites that must be equal have a constraint, each of them gets it, and their
 //! fields must be equal in their place.
-ghost use Rattle.std.specs.Prelude.{◌≡◌, ◌<◌, ℕ, IsTrue, Some, false, length, map, All, OnOk, MatchOption};
+ghost use Rattle.std.specs.Prelude.{◌≡◌, ◌<◌, ℕ, IsTrue, Some, false, length, map, All, IfErr, OnOk, MatchOption};
 ghost use Rattle.isle_model.specs.sites.Sites.{SiteTerm, unfold_site};
 ghost use Rattle.isle_model.specs.sites.Closure.{Closed, ascending, class_at, closing, most_closing_steps, taken};
-ghost use Rattle.isle_sets.specs.Closings.{AreDemandsOf, AreFieldsOf, GoOn, IsNextDue, KeepsDue, SpeakOf, asked_each, is_due, is_due_with, with_fields, with_member};
+ghost use Rattle.isle_sets.specs.Closings.{AreDemandsOf, AreFieldsOf, EndsFull, GoOn, IsNextDue, KeepsDue, SpeakOf, asked_each, is_due, is_due_with, with_fields, with_member};
 ghost use Rattle.isle_sets.specs.DemandsHeld.{constraint_held};
-ghost use Rattle.isle_sets.specs.SiteTables.{IsTable, table_sites};
+ghost use Rattle.isle_sets.specs.SiteTables.{ForWantOfRoom, IsTable, table_sites};
 ghost use Rattle.isle_sets.specs.SiteViews.{constraint_view};
 
 use crate::demanded::Demanded;
@@ -24,7 +24,8 @@ impl Demanded {
     ///
     /// # Errors
     ///
-    /// `Limit` where a new site would be one past 65,536, `Memory` where memory is refused.
+    /// `Limit` where a new site would be one past 65,536: the table then has the first 65,536 of the sites that would
+    /// be made. `Memory` where memory is refused.
     pub fn close(&mut self, alloc: Global, table: &mut SiteTable) -> Result<(), VisitFault>
         requires table { IsTable table.old }
         requires due { KeepsDue self.old }
@@ -32,6 +33,9 @@ impl Demanded {
         ensures table { OnOk result (IsTable table.new) }
         ensures closed { (k : Closed) → AreDemandsOf (table_sites table.old) self.old k
             → OnOk result (GoOn (table_sites table.old) (table_sites table.new) self.new (closing most_closing_steps k)) }
+        ensures kept { IfErr result (ForWantOfRoom (IsTable table.new)) }
+        ensures full { (k : Closed) → AreDemandsOf (table_sites table.old) self.old k
+            → IfErr result (EndsFull (table_sites table.new) (closing most_closing_steps k)) }
     {
         for _ in 0..MOST_CLOSING_STEPS {
             let Some(next) = self.next_due() else {
@@ -89,6 +93,11 @@ impl Demanded {
             → OnOk result (GoOn (table_sites table.old) (table_sites table.new) self.new
             (taken k (unfold_site (table_sites table.old) site, constraint_view constraint)
             (ascending k.made (class_at k.classes (unfold_site (table_sites table.old) site))))) }
+        ensures kept { IfErr result (ForWantOfRoom (IsTable table.new)) }
+        ensures full { (k : Closed) → AreDemandsOf (table_sites table.old) self.old k
+            → IfErr result (EndsFull (table_sites table.new)
+            (taken k (unfold_site (table_sites table.old) site, constraint_view constraint)
+            (ascending k.made (class_at k.classes (unfold_site (table_sites table.old) site))))) }
     {
         let members = self.equals.remove_set_of(site)?;
         self.ask_each(&members, &constraint)?;
@@ -127,6 +136,10 @@ impl Demanded {
         ensures joined { (k : Closed) → AreDemandsOf (table_sites table.old) self.old k
             → OnOk result (GoOn (table_sites table.old) (table_sites table.new) self.new
             (with_fields (constraint_view constraint.now) k (map (unfold_site (table_sites table.old)) members.now))) }
+        ensures kept { IfErr result (ForWantOfRoom (IsTable table.new)) }
+        ensures full { (k : Closed) → AreDemandsOf (table_sites table.old) self.old k
+            → IfErr result (EndsFull (table_sites table.new)
+            (with_fields (constraint_view constraint.now) k (map (unfold_site (table_sites table.old)) members.now))) }
     {
         let Some((least, rest)) = members.split_first() else {
             return Ok(());
@@ -157,6 +170,11 @@ impl Demanded {
         ensures joined { (k : Closed) (least : SiteTerm) → AreDemandsOf (table_sites table.old) self.old k
             → AreFieldsOf (table_sites table.old) (constraint_view constraint.now) fields.now least
             → OnOk result (GoOn (table_sites table.old) (table_sites table.new) self.new
+            (with_member (constraint_view constraint.now) least k (unfold_site (table_sites table.old) member))) }
+        ensures kept { IfErr result (ForWantOfRoom (IsTable table.new)) }
+        ensures full { (k : Closed) (least : SiteTerm) → AreDemandsOf (table_sites table.old) self.old k
+            → AreFieldsOf (table_sites table.old) (constraint_view constraint.now) fields.now least
+            → IfErr result (EndsFull (table_sites table.new)
             (with_member (constraint_view constraint.now) least k (unfold_site (table_sites table.old) member))) }
     {
         let others = table.add_fields(alloc, *constraint, member)?;

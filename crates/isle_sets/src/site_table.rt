@@ -1,11 +1,12 @@
 //! The binding sites of a term, as its rules are read.
-ghost use Rattle.std.specs.Prelude.{◌≡◌, ◌<◌, ℕ, List, [], length, IfErr, IfOk, OnOk, Contains};
+ghost use Rattle.std.specs.Prelude.{◌≡◌, ◌<◌, ℕ, List, [], ◌∷◌, length, map, IfErr, IfOk, OnOk, Contains};
 ghost use Rattle.isle_model.specs.lists.Names.{IsDistinct};
-ghost use Rattle.isle_model.specs.sites.Sites.{sources_of, extract_struct_site, match_variant_site, SiteTerm};
+ghost use Rattle.isle_model.specs.sites.Sites.{sources_of, extract_struct_site, match_variant_site, SiteTerm, layer, unfold_site};
+ghost use Rattle.isle_model.specs.sites.Closure.{field_terms};
 ghost use Rattle.isle_model.specs.sites.RuleSets.{StandFor};
 ghost use Rattle.isle_model.specs.sites.SetRules.{each_place};
 ghost use Rattle.isle_sets.specs.SiteViews.{constraint_view, site_view};
-ghost use Rattle.isle_sets.specs.SiteTables.{AddsFields, AddsSite, AddsSites, HasNoRoom, IsAbsent, IsSiteNumber, IsTable, StandsFor, table_sites};
+ghost use Rattle.isle_sets.specs.SiteTables.{AddsFields, AddsSite, AddsSites, ForWantOfRoom, HasNoRoom, IsAbsent, IsSiteNumber, IsTable, LacksRoom, StandsFor, table_sites};
 
 use crate::trie_again::{Binding, BindingId, Constraint, TupleIndex};
 use isle_base::syntax::Limit;
@@ -64,6 +65,8 @@ impl SiteTable {
         ensures stand { (terms : List SiteTerm) → IsDistinct terms → StandFor (table_sites self.old) terms
             → IfOk result (StandsFor (table_sites self.old) (table_sites self.new) terms (site_view binding)) }
         ensures err { IfErr result (HasNoRoom (table_sites self.old) (table_sites self.new) (site_view binding)) }
+        ensures kept { IfErr result (ForWantOfRoom (IsTable self.new)) }
+        ensures full { IfErr result (LacksRoom (table_sites self.old) (table_sites self.new) (layer (unfold_site (table_sites self.old)) (site_view binding) ∷ [])) }
     {
         match self.find(&binding) {
             Some(number) => Ok(number),
@@ -87,6 +90,8 @@ impl SiteTable {
         requires source { source < length (table_sites self.old) }
         ensures table { OnOk result (IsTable self.new) }
         ensures sites { IfOk result (λ v. AddsSites (table_sites self.old) (table_sites self.new) (each_place (match_variant_site source variant.0) 0 fields) v.items) }
+        ensures kept { IfErr result (ForWantOfRoom (IsTable self.new)) }
+        ensures full { IfErr result (LacksRoom (table_sites self.old) (table_sites self.new) (map (layer (unfold_site (table_sites self.old))) (each_place (match_variant_site source variant.0) 0 fields))) }
     {
         let mut numbers = Vec::new(alloc);
         for place in 0..fields.0 {
@@ -116,6 +121,8 @@ impl SiteTable {
         requires source { source < length (table_sites self.old) }
         ensures table { OnOk result (IsTable self.new) }
         ensures sites { IfOk result (λ v. AddsSites (table_sites self.old) (table_sites self.new) (each_place (extract_struct_site source) 0 fields) v.items) }
+        ensures kept { IfErr result (ForWantOfRoom (IsTable self.new)) }
+        ensures full { IfErr result (LacksRoom (table_sites self.old) (table_sites self.new) (map (layer (unfold_site (table_sites self.old))) (each_place (extract_struct_site source) 0 fields))) }
     {
         let mut numbers = Vec::new(alloc);
         for place in 0..fields.0 {
@@ -142,6 +149,8 @@ impl SiteTable {
         requires source { source < length (table_sites self.old) }
         ensures table { OnOk result (IsTable self.new) }
         ensures sites { IfOk result (λ v. AddsFields (table_sites self.old) (table_sites self.new) (constraint_view constraint) source v.items) }
+        ensures kept { IfErr result (ForWantOfRoom (IsTable self.new)) }
+        ensures full { IfErr result (LacksRoom (table_sites self.old) (table_sites self.new) (field_terms (constraint_view constraint) (unfold_site (table_sites self.old) source))) }
     {
         match constraint {
             Constraint::Variant {
@@ -162,6 +171,7 @@ impl SiteTable {
         ensures number { IfOk result (AddsSite (table_sites self.old) (table_sites self.new) (site_view binding)) }
         ensures table { OnOk result (IsTable self.new) }
         ensures err { IfErr result (HasNoRoom (table_sites self.old) (table_sites self.new) (site_view binding)) }
+        ensures kept { IfErr result (ForWantOfRoom (IsTable self.new)) }
     {
         let Ok(number) = BindingId::try_from(self.bindings.len()) else {
             return Err(VisitFault::Limit(Limit::Sites));

@@ -1,15 +1,17 @@
 use Rattle.std.proofs.Common.{◌≡◌, ◌<◌, not, ℕ, All, length, map, refl, sym, ap, ◌∙◌, subst}
 use Rattle.std.proofs.lemmas.Bool.{and_parts}
-use Rattle.std.proofs.lemmas.Result.{on_ok_weaker}
+use Rattle.std.proofs.lemmas.Result.{on_ok_weaker, IfErr-weaker}
 use Rattle.isle_model.specs.sites.Sites.{unfold_site}
+use Rattle.isle_model.specs.sites.Closure.{ascending, class_at, taken}
 use Rattle.isle_sets.specs.DemandsHeld.{are_equated, constraint_held}
-use Rattle.isle_sets.specs.Closings.{GoOn, asked_each, with_fields}
+use Rattle.isle_sets.specs.Closings.{EndsFull, GoOn, asked_each, with_fields}
 use Rattle.isle_sets.specs.SiteTables.{table_sites}
 use Rattle.isle_sets.specs.SiteViews.{constraint_view}
 use Rattle.isle_sets.specs.declared.demanded.Demanded.{Demanded}
 use Rattle.isle_sets.proofs.ClosingNumbers.{all_from_below}
 use Rattle.isle_sets.proofs.ClosingTaken.{members_below, Asked, class_asked, class_taken}
 use Rattle.isle_sets.proofs.DueKept.{due_removed}
+use Rattle.isle_sets.proofs.FullTables.{class_full}
 use Rattle.isle_sets.proofs.demanded.Demanded.take_class.Goals as goal
 
 pub ask_each-requires : goal.ask_each-requires
@@ -63,3 +65,24 @@ returns-clause-taken c k h =
     c.in_ok-members.ensures.ascending after c.join_fields.new.self
     (subst (λ l. GoOn sites after c.join_fields.new.self (with_fields ask j (map (unfold_site sites) l))) c.deref-2.ensures.value goes))
     (c.join_fields.ensures.joined j demands)
+
+pub returns-clause-full : goal.returns-clause-full
+returns-clause-full c k h =
+    let d = c.args.self.now in
+    let less : Demanded = record { constraints = d.constraints; equals = c.remove_set_of.new.self; «open» = d.open } in
+    let sites = table_sites c.args.table.now in
+    let after = table_sites c.join_fields.new.table in
+    let members = c.in_ok-members.members.items in
+    let ask = constraint_view c.args.constraint in
+    let u = unfold_site sites c.args.site in
+    let asked : (a : ℕ) → constraint_held c.ask_each.new.self a ≡ asked_each (constraint_held less) members ask a =
+    λ a. c.in_ok-ask_each.ensures.asked a ∙ ap (λ l. asked_each (constraint_held less) l ask a) c.deref.ensures.value in
+    let j = Asked sites d k h c.args.site c.requires.next ask members c.in_ok-members.ensures.members less c.ask_each.new.self refl c.in_ok-members.ensures.rest c.ask_each.ensures.equated asked in
+    let demands =
+    class_asked sites d k h c.args.site c.requires.next ask members c.in_ok-members.ensures.members less c.ask_each.new.self refl c.in_ok-members.ensures.rest c.ask_each.ensures.equated asked in
+    IfErr-weaker c.join_fields.result (EndsFull after (with_fields ask j (map (unfold_site sites) c.deref-2.result.now)))
+    (EndsFull after (taken k (u, ask) (ascending k.made (class_at k.classes u))))
+    (λ e full.
+    class_full sites after d k h c.args.site c.requires.next ask members c.in_ok-members.ensures.members c.in_ok-members.ensures.ascending e
+    (subst (λ l. EndsFull after (with_fields ask j (map (unfold_site sites) l)) e) c.deref-2.ensures.value full))
+    (c.join_fields.ensures.full j demands)

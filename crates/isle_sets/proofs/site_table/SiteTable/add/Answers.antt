@@ -1,6 +1,9 @@
-use Rattle.std.proofs.Common.{inl, refl}
+use Rattle.std.proofs.Common.{◌∷◌, [], inl, refl}
+use Rattle.std.proofs.lemmas.Result.{IfErr-weaker}
+use Rattle.isle_model.specs.sites.Sites.{layer, unfold_site}
 use Rattle.isle_sets.specs.SiteViews.{site_view}
-use Rattle.isle_sets.specs.SiteTables.{table_sites, AddsSite, StandsFor}
+use Rattle.isle_sets.specs.SiteTables.{table_sites, AddsSite, HasNoRoom, LacksRoom, StandsFor}
+use Rattle.isle_sets.proofs.FullTables.{site_lacks}
 use Rattle.isle_sets.proofs.SitesAdded.{weaker_ok}
 use Rattle.isle_sets.proofs.SitesGrown.{added_stands}
 use Rattle.isle_sets.proofs.site_table.SiteTable.add.Goals as goal
@@ -17,3 +20,11 @@ returns-in-None-clause-stand c terms once stand =
     let b = site_view c.args.binding in
     weaker_ok (AddsSite before after b) (StandsFor before after terms b) c.push.result
     (λ n h. added_stands before terms c.requires.table.sources once stand b c.requires.sources after n h) c.push.ensures.number
+
+pub returns-in-None-clause-full : goal.returns-in-None-clause-full
+returns-in-None-clause-full c =
+    let before = table_sites c.args.self.now in
+    let after = table_sites c.push.new.self in
+    let b = site_view c.args.binding in
+    IfErr-weaker c.push.result (HasNoRoom before after b) (LacksRoom before after (layer (unfold_site before) b ∷ []))
+    (λ e h. site_lacks before c.requires.table.sources b c.requires.sources after e h) c.push.ensures.err
