@@ -4,4 +4,3 @@ pub mod Overlaps
 pub mod SiteTables
 pub mod DemandsHeld
 pub mod Closings
-pub mod SiteQuestions
