@@ -7,8 +7,8 @@ use Rattle.isle_disjointsets.specs.Partition.{in_set}
 use Rattle.std.proofs.lemmas.Bool.{cases_Bool, cond-true, cond-false}
 use Rattle.std.proofs.lemmas.List.{append-nil, append_assoc, length-append, map-append, take-append-le, take_all}
 use Rattle.isle_base.specs.declared.syntax.Limit.TheVariants as Limits
-use Rattle.isle_rules.specs.declared.visit_fault.VisitFault.{VisitFault}
-use Rattle.isle_rules.specs.declared.visit_fault.VisitFault.TheVariants.{Memory, Limit, Stopped}
+use Rattle.isle_base.specs.declared.visit_fault.VisitFault.{VisitFault}
+use Rattle.isle_base.specs.declared.visit_fault.VisitFault.TheVariants.{Memory, Limit, Stopped}
 use Rattle.isle_model.specs.lists.Names.{IsDistinct}
 use Rattle.isle_model.specs.sites.Sites.{Site, Constraint, sources_of, SiteTerm, layer, unfold_site}
 use Rattle.isle_model.specs.sites.Demands.{has_site, with_sites}

@@ -10,7 +10,7 @@ use Rattle.isle_model.specs.sites.Demands.{has_site, with_sites}
 use Rattle.isle_model.specs.sites.Closure.{Closed, constraint_of, field_equalities, field_terms, merged_all}
 use Rattle.isle_model.specs.sites.RuleSets.{StandFor}
 use Rattle.isle_sets.specs.DemandsHeld.{constraint_held, are_equated, first_kept}
-use Rattle.isle_rules.specs.declared.visit_fault.VisitFault.{VisitFault}
+use Rattle.isle_base.specs.declared.visit_fault.VisitFault.{VisitFault}
 use Rattle.isle_sets.specs.SiteTables.{AreFirst, ForWantOfRoom}
 use Rattle.isle_sets.specs.SiteViews.{constraint_view}
 use Rattle.isle_sets.specs.declared.trie_again.Constraint.{Constraint}
