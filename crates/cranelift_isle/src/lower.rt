@@ -13,8 +13,7 @@ ghost use Rattle.cranelift_isle.specs.Lowerings.{lowered_views, IsLowered, Choos
 
 use isle_base::syntax::{Def, Fault};
 use isle_rules::TermEnv;
-use isle_serialize::alone::serialize_alone;
-use isle_serialize::serialize::Block;
+use isle_serialize::serialize::{serialize, Block};
 use isle_sets::building::sets_of;
 use isle_sets::trie_again::RuleSet;
 use isle_types::{TermId, TypeEnv};
@@ -101,7 +100,7 @@ fn trees_of(alloc: Global, sets: Vec<(TermId, RuleSet)>) -> Result<Vec<LoweredTe
 {
     let mut terms = Vec::new(alloc);
     for (id, rules) in sets {
-        let block = serialize_alone(alloc, &rules)?;
+        let block = serialize(alloc, &rules)?;
         terms.push(LoweredTerm { id, rules, block })?;
     }
     Ok(terms)

@@ -1,4 +1,5 @@
 pub mod Acyclic
+pub mod CarriedLists
 pub mod CarriedRules
 pub mod CarriedTerms
 pub mod EarlyLimits
@@ -6,6 +7,7 @@ pub mod FallSound
 pub mod FlatRuns
 pub mod FlatSites
 pub mod NoTerms
+pub mod PartlessTypes
 pub mod SameTerms
 pub mod SoundRuns
 pub mod alone
