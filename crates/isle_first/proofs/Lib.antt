@@ -1,6 +1,7 @@
 pub mod Acyclic
 pub mod CarriedLists
 pub mod CarriedRules
+pub mod CarriedSets
 pub mod CarriedTerms
 pub mod EarlyLimits
 pub mod FallSound
