@@ -19,7 +19,7 @@ use isle_laws_trees::{
     best_trees_bind_before_use, best_trees_of_built_sets_are_sound, best_trees_share_most,
 };
 use isle_rules::TermEnv;
-use isle_serialize::serialize::{serialize, Block};
+use isle_serialize::serialize::{Block, serialize};
 use isle_sets::building::sets_of;
 use isle_sets::trie_again::RuleSet;
 use isle_types::{TermId, TypeEnv};
