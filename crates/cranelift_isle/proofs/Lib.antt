@@ -1,3 +1,3 @@
-pub mod PlainSets
+pub mod SharedTrees
 pub mod TreesSoFar
 pub mod Lowered

@@ -10,17 +10,18 @@ use Rattle.isle_base.specs.declared.syntax.Fault.{Fault}
 use Rattle.isle_base.specs.declared.syntax.Fault.TheVariants.{Memory, Errors}
 use Rattle.isle_base.specs.Answers.{limit_of, Answers, OnErrors}
 use Rattle.isle_model.specs.lists.Syntax.{Definition}
-use Rattle.isle_model.specs.lists.Tables.{TermEntry}
 use Rattle.isle_model.specs.rules.Typed.{TypedRule}
-use Rattle.isle_model.specs.rules.Program.{Program, Kind, unknown, flags_of, kind_of}
-use Rattle.isle_model.specs.first.Simple.{AreSimplePatterns, IsSimpleRule}
+use Rattle.isle_model.specs.rules.Program.{Program}
+use Rattle.isle_model.specs.first.Simple.{IsSimpleRule}
 use Rattle.isle_model.specs.sites.Sites.{SiteSet}
 use Rattle.isle_model.specs.trees.Sound.{IsSound}
+use Rattle.isle_model.specs.claims.Layers.{IsBuiltForSome}
 use Rattle.isle_model.specs.first.Built.{IsBuiltSet}
 use Rattle.isle_model.specs.first.TermTable.{term_entries}
 use Rattle.isle_model.specs.first.Elaboration.{IsCarriedElaborated, carried_program_of}
 use Rattle.isle_model.specs.first.Accepted.{IsCarriedAccepted}
-use Rattle.isle_first.proofs.SameTerms.{built_set_same, terms_with_rules_same, passes_arguments_same, passes_sites_same, overlaps_same}
+use Rattle.isle_first.proofs.CarriedSets.{carried_sets_are_built_lem}
+use Rattle.isle_first.proofs.SameTerms.{simple_same, built_set_same, terms_with_rules_same, passes_arguments_same, passes_sites_same, overlaps_same}
 use Rattle.isle_first.proofs.matching.Accepted.{accepted_trees_run_lem}
 use Rattle.isle_first.proofs.matching.SimpleElaborated.{all_single, elaborated_simple, elaborated_known}
 use Rattle.isle_terms.specs.TermViews as Terms
@@ -30,17 +31,6 @@ use Rattle.isle_rules.specs.TermEnvs.{SeesRules}
 use Rattle.isle_building.specs.Buildings.{env_program, IsPassed, AreSetsOf}
 use Rattle.isle_building.specs.Clashes.{IsSimplyBuildable}
 use Rattle.cranelift_isle.specs.Lowerings.{TermView, AreSimplyLowered, ChoosesAsSource, LimitPassed}
-
--- 1. simple rules, by the terms alone
-simple_same : (p q : Program) (r : TypedRule) → p.terms ≡ q.terms → IsSimpleRule p r → IsSimpleRule q r
-simple_same p q r e s = record {
-  not_multi = subst (λ ts. (flags_of (elim (slice_get {X = TermEntry} ts r.root_term) as (λ _. Kind) [ None ↦ unknown | Some e ↦ kind_of e ])).multi ≡ false) e s.not_multi;
-  not_partial = subst (λ ts. (flags_of (elim (slice_get {X = TermEntry} ts r.root_term) as (λ _. Kind) [ None ↦ unknown | Some e ↦ kind_of e ])).partial ≡ false) e s.not_partial;
-  args = subst (λ ts. AreSimplePatterns (elim (slice_get {X = TermEntry} ts r.root_term) as (λ _. List ℕ) [ None ↦ [] | Some e ↦ e.arg_tys ]) r.args) e s.args;
-  once = s.once;
-  iflets = s.iflets;
-  rhs = s.rhs;
-}
 
 pub same_rules : {X : Type 0} (x y : X) → Some x ≡ Some y → x ≡ y
 same_rules x y e = cc
@@ -53,7 +43,7 @@ ids_are : (ts : List TermView) → map (λ t. t.id) ts ≡ map (λ b. b.0) (map 
 ids_are [] = refl
 ids_are (t ∷ ts) = ap (λ l. t.id ∷ l) (ids_are ts)
 
--- 2. an environment of elaborated definitions
+-- 1. an environment of elaborated definitions
 module _ (defs : List Definition) (rules : List TypedRule) (expand : Bool) (env : TermEnv) (e : IsCarriedElaborated defs rules) (s : SeesRules env defs rules expand) where
   abbrev p : Program
   p = carried_program_of defs rules
@@ -90,6 +80,13 @@ module _ (defs : List Definition) (rules : List TypedRule) (expand : Bool) (env 
         sites = λ h. a'.sites (passes_sites_same q p s.terms s.rules h);
         overlaps = λ t i j o. a'.overlaps t i j (overlaps_same q p s.terms s.rules t i j o);
       }
+
+  -- 2. its sets are built sets
+  pub built_for_some : (sets : List (ℕ × SiteSet)) → AreSetsOf q sets → All (λ b. IsBuiltForSome b.1) sets
+  built_for_some sets a k d h =
+      let b = slice_index_or sets k d in
+      carried_sets_are_built_lem defs expand rules b.0 b.1 e (λ l. a.few_arguments (passes_arguments_same p q (sym s.terms) (sym s.rules) l)) (λ l. a.few_sites (passes_sites_same p q (sym s.terms) (sym s.rules) l))
+      (a.simple k d h) (built_set_same q p s.terms s.rules b.0 b.1 (a.built k d h))
 
   -- 3. the terms of its sets
   module _ (sets : List (ℕ × SiteSet)) (ts : List TermView) (a : AreSetsOf q sets) (same : map (λ t. let b : ℕ × SiteSet = (t.id, t.set) in b) ts ≡ sets) (sound : All (λ t. IsSound t.set false t.tree) ts) where

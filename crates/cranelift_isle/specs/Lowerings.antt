@@ -7,6 +7,8 @@ use Rattle.isle_model.specs.rules.Program.{Program, is_multi, terms_with_rules}
 use Rattle.isle_model.specs.sites.Sites.{SiteSet}
 use Rattle.isle_model.specs.trees.Trees.{Tree}
 use Rattle.isle_model.specs.trees.Sound.{IsSound}
+use Rattle.isle_model.specs.trees.Best.{IsBestTree}
+use Rattle.isle_model.specs.claims.Layers.{TestsAreShared, MeansItsSet, BindsBeforeUse}
 use Rattle.isle_model.specs.first.Built.{IsBuiltSet}
 use Rattle.isle_model.specs.claims.Headline.{RunsAsChosen}
 use Rattle.isle_model.specs.first.Elaboration.{IsCarriedElaborated, all_names, carried_program_of}
@@ -46,6 +48,15 @@ pub record IsLowered (l : Lowered) (defs : List Definition) (typed : List TypedR
 -- the tree of each term runs as a test of every rule by priority would
 abbrev pub ChoosesAsSource : Program → List TermView → Type 0
 ChoosesAsSource p ts = All (λ t. RunsAsChosen p t.id t.set.sites t.tree) ts
+
+-- a tree shares tests: it is a best tree of its set, at each place the greatest test for exactly the rules that it covers;
+-- so nowhere would an open test cover more rules than the test made; it means what its set does; and it binds each site
+-- before it is used
+pub record SharesTests (set : SiteSet) (tree : Tree) : Type 0 where
+  pub best : IsBestTree set tree
+  pub most : TestsAreShared set tree
+  pub meaning : MeansItsSet set tree
+  pub binds : (multi : Bool) → BindsBeforeUse set multi tree
 
 -- where an error names a limit, some rule of the definitions passes it
 abbrev pub LimitPassed : List Definition → Option Limit → Type 0

@@ -1,11 +1,14 @@
 pub mod Acyclic
+pub mod CarriedLists
 pub mod CarriedRules
+pub mod CarriedSets
 pub mod CarriedTerms
 pub mod EarlyLimits
 pub mod FallSound
 pub mod FlatRuns
 pub mod FlatSites
 pub mod NoTerms
+pub mod PartlessTypes
 pub mod SameTerms
 pub mod SoundRuns
 pub mod alone

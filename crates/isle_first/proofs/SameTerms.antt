@@ -1,13 +1,14 @@
 -- What depends on the terms and rules of a program alone: demands, built sets, limits.
-use Rattle.std.proofs.Common.{◌≡◌, ℕ, suc, ◌<◌, List, [], ◌∷◌, ◌++◌, length, Some, None, slice_get, not, IsTrue, refl, sym, ap, ◌∙◌, subst}
+use Rattle.std.proofs.Common.{◌≡◌, ℕ, suc, ◌<◌, false, List, [], ◌∷◌, ◌++◌, length, Some, None, slice_get, not, IsTrue, refl, sym, ap, ◌∙◌, subst}
 use Rattle.std.specs.Prelude.{Contains}
 use Rattle.std.specs.Bool.{◌==◌}
 use Rattle.std.specs.List.{flat_map, filter, list_any}
 use Rattle.isle_model.specs.lists.Tables.{TermEntry}
 use Rattle.isle_model.specs.rules.Typed.{TypedPattern, match_bind, match_var, match_bool, match_int, match_prim, match_term, match_any, match_and, TypedPatterns, no_typed_pattern, typed_pattern_and, TypedExpr, make_term, make_var, make_bool, make_int, make_prim, make_let, TypedExprs, no_typed_expr, typed_expr_and, TypedLets, no_typed_let, typed_let_and, TypedIfLet, TypedRule}
-use Rattle.isle_model.specs.rules.Program.{Program, unknown, flags_of, kind, kind_of, rules_of, numbers_from, terms_with_rules}
+use Rattle.isle_model.specs.rules.Program.{Program, Kind, unknown, flags_of, kind, kind_of, rules_of, numbers_from, terms_with_rules}
 use Rattle.isle_model.specs.sites.Sites.{Site, SiteTerm, site_term_and, argument, SetRule, SiteSet, unfold_site}
 use Rattle.isle_model.specs.sites.Demands.{Visit, visit_start, Valued, ValuedAll, binding, making, asking_all, unwraps, open_term, visit_term, visit_pattern, visit_each, visit_all, visit_expr, visit_exprs, visit_lets, visit_args, visit_iflets, finished, visit_rule, sites_made, with_sites, differ}
+use Rattle.isle_model.specs.first.Simple.{AreSimplePatterns, IsSimpleRule}
 use Rattle.isle_model.specs.first.Built.{IsBuiltRule, AreBuilt, IsBuiltSet, CarriedOverlapsWrongly}
 use Rattle.isle_model.specs.first.Accepted.{PassesArgumentsOfProgram, PassesSitesOfProgram}
 
@@ -85,6 +86,17 @@ module _ (p q : Program) (same : (t : ℕ) → kind p t ≡ kind q t) where
 
   pub made_same : (ts : List TypedRule) → sites_made p ts ≡ sites_made q ts
   made_same ts = ap (with_sites []) (made_each ts)
+
+-- simple rules, by the terms alone
+pub simple_same : (p q : Program) (r : TypedRule) → p.terms ≡ q.terms → IsSimpleRule p r → IsSimpleRule q r
+simple_same p q r e s = record {
+  not_multi = subst (λ ts. (flags_of (elim (slice_get {X = TermEntry} ts r.root_term) as (λ _. Kind) [ None ↦ unknown | Some e ↦ kind_of e ])).multi ≡ false) e s.not_multi;
+  not_partial = subst (λ ts. (flags_of (elim (slice_get {X = TermEntry} ts r.root_term) as (λ _. Kind) [ None ↦ unknown | Some e ↦ kind_of e ])).partial ≡ false) e s.not_partial;
+  args = subst (λ ts. AreSimplePatterns (elim (slice_get {X = TermEntry} ts r.root_term) as (λ _. List ℕ) [ None ↦ [] | Some e ↦ e.arg_tys ]) r.args) e s.args;
+  once = s.once;
+  iflets = s.iflets;
+  rhs = s.rhs;
+}
 
 -- programs of the same terms and rules
 module _ (p q : Program) (terms : p.terms ≡ q.terms) (rules : p.rules ≡ q.rules) where

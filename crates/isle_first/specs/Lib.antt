@@ -2,3 +2,4 @@ pub mod BuildingLaws
 pub mod EarlyLaws
 pub mod FallLaws
 pub mod Sample
+pub mod WholeLaws

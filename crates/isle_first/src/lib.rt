@@ -7,6 +7,7 @@ ghost use Rattle.isle_model.specs.first.Alone.{AloneIsSound, PlainIsFlat};
 ghost use Rattle.isle_first.specs.BuildingLaws.{BuildsSets, CountsSites, ShowsOverlaps};
 ghost use Rattle.isle_first.specs.EarlyLaws.{EarlyOverlapAgrees, EarlyArgumentsAgree, EarlySitesAgree};
 ghost use Rattle.isle_model.specs.first.CarriedRules.{CarriedRulesAgree};
+ghost use Rattle.isle_first.specs.WholeLaws.{CarriedListsElaborate, CarriedSetsAreBuilt};
 ghost use Rattle.isle_model.specs.first.Statements.{AcceptedTreesRun};
 ghost use Rattle.isle_first.specs.Sample.{rules, program, meaning, arguments, results_in, blank, blurred};
 ghost use Rattle.std.specs.Prelude.{◌≡◌, pos};
@@ -64,6 +65,17 @@ pub fn early_sites_agree()
 /// The rules that the model's first elaboration carries become the same typed rules, without an expansion.
 pub fn carried_rules_agree()
     ensures { CarriedRulesAgree }
+{}
+
+/// A carried list has its typed rules among the lists of all forms too, read with all of its names and with types that make
+/// no terms.
+pub fn carried_lists_elaborate()
+    ensures { CarriedListsElaborate }
+{}
+
+/// The sets that are built of the terms of a carried list are built sets among those of all forms, where no limit is passed.
+pub fn carried_sets_are_built()
+    ensures { CarriedSetsAreBuilt }
 {}
 
 /// A sound tree of the set that is built of a term's rules runs as a test of every rule by priority would.

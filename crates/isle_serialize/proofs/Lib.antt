@@ -1,6 +1,4 @@
 pub mod TreeLaws
-pub mod AloneSteps
-pub mod AloneOrder
 pub mod Tables
 pub mod AroundSteps
 pub mod TestSteps

@@ -1,7 +1,6 @@
 //! The trees of tests that say which of a term's rules is taken, and how they are made of rule sets.
 #![tactic(auto)]
 
-pub mod alone;
 pub mod arms;
 pub mod around;
 pub mod best;

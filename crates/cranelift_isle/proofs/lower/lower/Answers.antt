@@ -10,8 +10,13 @@ use Rattle.isle_model.specs.first.Elaboration.{carried_program_of}
 use Rattle.isle_model.specs.first.Accepted.{IsCarriedAccepted}
 use Rattle.isle_building.specs.Buildings.{env_program, term_set_views, IsPassed}
 use Rattle.cranelift_isle.specs.Lowerings.{lowered_views, IsLowered, ChoosesAsSource, LimitPassed}
-use Rattle.cranelift_isle.proofs.Lowered.{simple, known, accepted, buildable, lowered, chooses, limits_passed, refused_so, limits_so, same_rules}
+use Rattle.cranelift_isle.proofs.Lowered.{simple, known, built_for_some, accepted, buildable, lowered, chooses, limits_passed, refused_so, limits_so, same_rules}
 use Rattle.cranelift_isle.proofs.lower.lower.Goals as goal
+
+pub trees_of-requires-clause-built : goal.trees_of-requires-clause-built
+trees_of-requires-clause-built c =
+    let a = c.in_ok-termenv.ensures.answers.1 in
+    built_for_some (definition_views c.args.defs.now) a.0 c.args.expand c.in_ok-termenv.termenv a.1 a.3 (term_set_views c.in_ok-sets.sets.items) c.in_ok-sets.ensures.answers.1
 
 pub sets_of-requires-clause-simple : goal.sets_of-requires-clause-simple
 sets_of-requires-clause-simple c =
