@@ -26,7 +26,7 @@ use Rattle.isle_sets.specs.DemandsHeld.{are_equated}
 use Rattle.isle_sets.specs.SiteViews.{constraint_view}
 use Rattle.isle_sets.specs.declared.trie_again.Constraint as C
 use Rattle.isle_sets.specs.declared.demanded.Demanded.{Demanded}
-use Rattle.isle_sets.proofs.BuildingLists.{rest_is}
+use Rattle.isle_sets.proofs.Rests.{rest_is}
 use Rattle.isle_sets.proofs.ClosingSteps.{with_made, with_asked, without_class}
 use Rattle.isle_sets.proofs.ClosingTaken.{ClosedSoFar, JoinedSoFar, with_members, members_at_once, members_ascend, fields_at_once, sites_append, same_demands, one_step, due_next}
 use Rattle.isle_sets.proofs.SitesGrown.{not_there}
