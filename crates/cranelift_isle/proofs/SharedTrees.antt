@@ -1,6 +1,5 @@
 -- What the best tree of a built set is besides: sound, where its rules go over no calls; shared; and it binds before use.
-use Rattle.std.proofs.Common.{◌≡◌, true, false, sym, All}
-use Rattle.std.specs.Prelude.{slice_index_or}
+use Rattle.std.proofs.Common.{false}
 use Rattle.std.proofs.lemmas.Bool.{false≢true}
 use Rattle.isle_model.specs.sites.Sites.{SiteSet}
 use Rattle.isle_model.specs.trees.Trees.{Tree}

@@ -1,29 +1,29 @@
 -- Carried lists have their typed rules among the lists of all forms too: all names are met before, and no type has parts.
-use Rattle.std.proofs.Common.{◌≡◌, ℕ, suc, ◌+◌, true, List, [], ◌∷◌, ◌++◌, map, Option, Some, None, option_map, nat_le, slice_get, IsTrue, All, refl, sym, ap, ◌∙◌, subst, arith}
+use Rattle.std.proofs.Common.{◌≡◌, ℕ, suc, ◌+◌, true, List, [], ◌∷◌, ◌++◌, map, Option, Some, None, option_map, nat_le, slice_get, IsTrue, refl, sym, ap, ◌∙◌, subst, arith}
 use Rattle.std.specs.Prelude.{Bool}
-use Rattle.std.specs.List.{flat_map, filter_map, AllByRecursion}
+use Rattle.std.specs.List.{filter_map, AllByRecursion}
 use Rattle.std.proofs.lemmas.Bool.{cond-true}
 use Rattle.std.proofs.lemmas.List.{append-nil}
 use Rattle.std.proofs.lemmas.List.Elements.{recursion_from_All}
 use Rattle.std.proofs.lemmas.Option.{same_Some}
 use Rattle.isle_model.specs.lists.Syntax.{DeclTree, RuleTree, Definition}
-use Rattle.isle_model.specs.lists.Names.{number, has_name, with_name, with_names}
+use Rattle.isle_model.specs.lists.Names.{number, has_name, with_names}
 use Rattle.isle_model.specs.lists.Tables.{TypeEntry}
 use Rattle.isle_model.specs.rules.Outcome.{then_option}
 use Rattle.isle_model.specs.rules.Typed.{TypedRule}
 use Rattle.isle_model.specs.lists.TypeTable.{type_names_met, type_table}
-use Rattle.isle_model.specs.lists.TermTable.{decl_trees, decl_names, rule_trees, function_of, term_names, term_names_met, term_table}
+use Rattle.isle_model.specs.lists.TermTable.{decl_trees, decl_names, rule_trees, term_names, term_names_met, term_table}
 use Rattle.isle_model.specs.lists.Setting.{Setting}
 use Rattle.isle_model.specs.lists.Typings.{Typing}
 use Rattle.isle_model.specs.lists.Elaborated.{TypedRules, most_nested, most_expansions, few_enough, elaborated_rule, with_typed, typed_rules, named, named_rules, elaborated_rules}
 use Rattle.isle_model.specs.first.TermTable.{term_table_names, term_entries}
-use Rattle.isle_model.specs.first.Elaboration.{carried_names_of_rule, all_names, is_carried_rule, elaborate_rule, elaborate_rules, IsCarriedElaborated}
-use Rattle.isle_model.specs.claims.Environments.{setting_of, IsElaborated}
+use Rattle.isle_model.specs.first.Elaboration.{all_names, is_carried_rule, elaborate_rule, elaborate_rules, IsCarriedElaborated}
+use Rattle.isle_model.specs.claims.Environments.{setting_of}
 use Rattle.isle_model.proofs.Bytes.{same_self}
 use Rattle.isle_model.proofs.Names.{known_name, has_kept, has_met, has_right, number_kept}
 use Rattle.isle_first.proofs.CarriedRules.{carried_with, all_of_rule, with_no_more, whole_rules_agree}
 use Rattle.isle_first.proofs.CarriedTerms.{HasNumber, table_with, no_converters_with, valid_with, all_defined, no_functions}
-use Rattle.isle_first.proofs.PartlessTypes.{same_atoms, makes_no_names, makes_no_terms, carried_readable}
+use Rattle.isle_first.proofs.PartlessTypes.{rule_names_met, same_atoms, makes_no_names, makes_no_terms, carried_readable}
 use Rattle.isle_first.proofs.matching.SimpleRules.{map_some, with_both}
 use Rattle.isle_first.specs.WholeLaws.{without_parts, carried_reading, carried_typed, CarriedListsElaborate}
 
@@ -38,9 +38,6 @@ module _ (defs : List Definition) where
   abbrev names : List (List ℕ)
   names = all_names defs
 
-  abbrev rule_names_met : List (List ℕ)
-  rule_names_met = flat_map carried_names_of_rule (rule_trees defs)
-
   abbrev types : List TypeEntry
   types = map without_parts (type_table defs)
 
@@ -53,14 +50,14 @@ module _ (defs : List Definition) where
     met_is =
         ap (λ fs. with_names names (decl_names defs ++ fs)) (no_functions defs e.terms.carried)
         ∙ ap (with_names names) (append-nil (decl_names defs))
-        ∙ nothing_new names (decl_names defs) (λ x h. has_kept (term_table_names defs) rule_names_met x (declared_first x h))
+        ∙ nothing_new names (decl_names defs) (λ x h. has_kept (term_table_names defs) (rule_names_met defs) x (declared_first x h))
 
     numbers_are : (ds : List DeclTree) → ((x : List ℕ) → has_name (map (λ d. d.term.text) ds) x ≡ true → has_name (decl_names defs) x ≡ true)
         → AllByRecursion (HasNumber defs e.terms.carried names types) ds
     numbers_are [] h = tt
     numbers_are (d ∷ ds) h =
         let x = d.term.text in (
-          sym (number_kept (term_table_names defs) rule_names_met x (declared_first x (h x (rw (same_self x) refl)))) ∙ ap (λ ns. number ns x) (sym met_is),
+          sym (number_kept (term_table_names defs) (rule_names_met defs) x (declared_first x (h x (rw (same_self x) refl)))) ∙ ap (λ ns. number ns x) (sym met_is),
           numbers_are ds (λ y i. h y (has_right (x ∷ []) (map (λ d. d.term.text) ds) y i)),
         )
 

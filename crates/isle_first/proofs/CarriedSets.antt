@@ -1,6 +1,6 @@
 -- Sets that are built of simple rules are built sets among those of all forms: a simple rule can be reached and passes no
 -- limit of a pattern, and closing its demands adds nothing.
-use Rattle.std.proofs.Common.{◌≡◌, ◌==◌, ℕ, suc, ◌+◌, ◌<◌, ◌≤◌, true, false, not, ◌&&◌, nat_lt, cond, List, [], ◌∷◌, ◌++◌, length, map, take, Some, None, is_none, slice_get, IsTrue, All, Contains, flat_map, refl, sym, ap, ◌∙◌, subst, arith, inl, inr, lt-ltb, ltb-true, ltb-false}
+use Rattle.std.proofs.Common.{◌≡◌, ◌==◌, ℕ, suc, ◌+◌, ◌<◌, ◌≤◌, true, false, not, ◌&&◌, nat_lt, cond, List, [], ◌∷◌, ◌++◌, length, map, take, Some, None, is_none, slice_get, All, Contains, flat_map, refl, sym, ap, ◌∙◌, subst, arith, inl, inr, lt-ltb, ltb-true, ltb-false}
 use Rattle.std.specs.Prelude.{Option}
 use Rattle.std.proofs.lemmas.Bool.{cases_Bool, cond-true, cond-false, false≢true}
 use Rattle.std.proofs.lemmas.List.{append-nil, take_all}
@@ -9,7 +9,7 @@ use Rattle.std.proofs.lemmas.Option.{none-some}
 use Rattle.isle_model.specs.lists.Names.{IsDistinct}
 use Rattle.isle_model.specs.rules.Typed.{TypedPattern, match_bind, match_var, match_bool, match_int, match_prim, match_term, match_any, match_and, TypedRule}
 use Rattle.isle_model.specs.rules.Program.{Program, arg_types, rules_of}
-use Rattle.isle_model.specs.sites.Sites.{Site, bool_site, int_site, prim_site, argument_site, extractor_site, constructor_site, iterator_site, make_variant_site, match_variant_site, make_struct_site, extract_struct_site, make_some_site, match_some_site, match_tuple_site, Constraint, SetRule, SiteSet, sources_of, sources_at, SiteTerm, argument, unfold_site}
+use Rattle.isle_model.specs.sites.Sites.{Site, bool_site, int_site, prim_site, argument_site, extractor_site, constructor_site, iterator_site, make_variant_site, match_variant_site, make_struct_site, extract_struct_site, make_some_site, match_some_site, match_tuple_site, Constraint, SetRule, SiteSet, sources_of, SiteTerm, argument, unfold_site}
 use Rattle.isle_model.specs.sites.Demands.{Demands, demands_of, with_sites, sites_made}
 use Rattle.isle_model.specs.sites.Closure.{Joined, given, itself, turned, chained, at_field, field_terms, HasConstraint, IsPartOf, IsProperPart, directly, deeper, IsUnreachable, two_at_a_site, two_in_a_class, part_of_itself, is_unreachable, with_constraints, Closed, closed}
 use Rattle.isle_model.specs.sites.Limits.{most_arguments, most_sites, arguments_limit, sites_limit, limits_in, limits_in_args, limits_of_shape, walked, WalkedRule, ended_at, after_arg, walked_args, walked_rule, made_walking, sites_wanted, sites_reached, first_limit, sites_after_rule, sites_after_rules}

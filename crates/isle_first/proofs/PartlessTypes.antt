@@ -101,7 +101,8 @@ stays_below : (ns ys : List (List ℕ)) (n : ℕ) → n < length ns → n < leng
 stays_below ns ys n l = let g = get_within ns n l in slice_get_within (with_names ns ys) n g.0 (get_kept ns ys n g.0 g.1)
 
 module _ (defs : List Definition) where
-  abbrev rule_names_met : List (List ℕ)
+  -- the names of the rules, by which those of the terms go on
+  abbrev pub rule_names_met : List (List ℕ)
   rule_names_met = flat_map carried_names_of_rule (rule_trees defs)
 
   number_still_below : (n : ℕ) → n < length (type_names_met defs) → n < length (all_names defs)
