@@ -35,7 +35,7 @@ same_pos p q = position_eq (position p) (position q)
 
 -- how often a place stands in a list
 abbrev pub times : Pos → List Pos → ℕ
-times q ps = length (filter (same_pos q) ps)
+times q ps = length (filter (λ p. same_pos p q) ps)
 
 -- of two rules, whether the first has more overlaps unreported, or as many and a later position
 abbrev pub counts_before : BTreeMap Pos ℕ → Pos → Pos → Bool

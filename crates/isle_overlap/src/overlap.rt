@@ -313,6 +313,7 @@ fn add_to_both(
 
 // How many overlaps each rule has.
 fn counts_of(alloc: Global, wrong: &[(Pos, Pos)]) -> Result<BTreeMap<Pos, usize>, AllocError>
+    requires { length wrong.now < 2 ^ 64 }
     ensures { IfOk result (λ m. (q : Pos) → count_at m q ≡ degree (pair_views wrong.now) (position q)) }
 {
     let mut counts = BTreeMap::new(alloc);
@@ -370,17 +371,37 @@ fn is_reported_before(counts: &BTreeMap<Pos, usize>, first: Pos, second: Pos) ->
     other < mine || mine == other && second < first
 }
 
+// Of two rules the one that is reported first.
+fn first_of_two(counts: &BTreeMap<Pos, usize>, first: Pos, second: Pos) -> Pos
+    ensures first { counts_before counts.now first result ≡ false }
+    ensures others { (q : Pos) → counts_before counts.now q second ≡ false → counts_before counts.now q result ≡ false }
+{
+    if is_reported_before(counts, first, second) {
+        first
+    } else {
+        second
+    }
+}
+
 // Of rules the one that is reported first.
 fn foremost(counts: &BTreeMap<Pos, usize>, rules: &[Pos]) -> Pos
     ensures { (k : ℕ) (d : Pos) → k < length rules.now → counts_before counts.now (slice_index_or rules.now k d) result ≡ false }
 {
     let mut first = Pos::default();
     for rule in rules {
-        if is_reported_before(counts, *rule, first) {
-            first = *rule;
-        }
+        first = first_of_two(counts, *rule, first);
     }
     first
+}
+
+// The rules that a rule overlaps.
+fn listed(others: &BTreeMap<Pos, Vec<Pos>>, place: Pos) -> &[Pos]
+    ensures { result.now ≡ listed_at others.now place }
+{
+    match others.get(&place) {
+        Some(all) => all,
+        None => &[],
+    }
 }
 
 // The rules that a rule overlaps and that aren't reported, once for each overlap.
@@ -392,24 +413,28 @@ fn unreported(
 ) -> Result<Vec<Pos>, AllocError>
     ensures { IfOk result (λ v. v.items ≡ unreported others.now counts.now place) }
 {
-    let mut found = Vec::new(alloc);
-    if let Some(all) = others.get(&place) {
-        for other in all {
-            if count(counts, *other) > 0 {
-                found.push(*other)?;
-            }
-        }
-    }
-    Ok(found)
+    listed(others, place)
+        .iter()
+        .copied()
+        .filter(|other| count(counts, *other) > 0)
+        .collect(alloc)
 }
 
-// Takes an overlap from each of these rules.
+// Takes an overlap from those of a rule.
+fn take_one(counts: &mut BTreeMap<Pos, usize>, place: Pos) -> Result<(), AllocError>
+    ensures { OnOk result ((q : Pos) → count_at counts.new q ≡ count_at counts.old q - (if same_pos place q then 1 else 0)) }
+{
+    let left = count(counts, place).saturating_sub(1);
+    counts.insert(place, left)?;
+    Ok(())
+}
+
+// Takes an overlap from those of each of these rules.
 fn take_away(counts: &mut BTreeMap<Pos, usize>, found: &[Pos]) -> Result<(), AllocError>
     ensures { OnOk result ((q : Pos) → count_at counts.new q ≡ count_at counts.old q - times q found.now) }
 {
     for other in found {
-        let left = count(counts, *other).saturating_sub(1);
-        counts.insert(*other, left)?;
+        take_one(counts, *other)?;
     }
     Ok(())
 }
@@ -451,15 +476,16 @@ fn report(
 fn overlap_errors(alloc: Global, wrong: &[(Pos, Pos)]) -> Result<Vec<Error>, AllocError>
     ensures { IfOk result (λ v. error_views v.items ≡ report_views (map rules_overlap (overlap_reports (pair_views wrong.now)))) }
 {
+    let most = wrong.len();
     let mut errors = Vec::new(alloc);
     let rules = ascending(ends(alloc, wrong)?)?;
     let others = others_of(alloc, wrong)?;
     let mut counts = counts_of(alloc, wrong)?;
     // Each report takes an overlap away, so there are no more reports than overlaps.
-    for _ in 0..wrong.len() {
+    for _ in 0..most {
         let place = foremost(&counts, &rules);
         if count(&counts, place) == 0 {
-            break;
+            return Ok(errors);
         }
         report(alloc, &others, &mut counts, place, &mut errors)?;
     }

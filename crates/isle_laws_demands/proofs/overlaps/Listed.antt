@@ -147,7 +147,7 @@ first_has e es =
           ]
     ]
 
-no_longer : {X : Type 0} (f : X → Bool) (xs : List X) → length (filter f xs) ≤ length xs
+pub no_longer : {X : Type 0} (f : X → Bool) (xs : List X) → length (filter f xs) ≤ length xs
 no_longer f [] = omega arith
 no_longer f (x ∷ xs) =
     let later = no_longer f xs in

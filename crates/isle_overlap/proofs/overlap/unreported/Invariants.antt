@@ -1,6 +1,0 @@
-use Rattle.std.proofs.Common.{◌≡◌, take, filter, nat_lt}
-use Rattle.isle_overlap.specs.Graphs.{count_at}
-use Rattle.isle_overlap.proofs.overlap.unreported.Given as goal
-
-abbrev pub invariant-loop-other : goal.invariant-loop-other
-invariant-loop-other l = l.found.items ≡ filter (λ o. nat_lt 0 (count_at l.counts o)) (take l.other-index l.other-items)
