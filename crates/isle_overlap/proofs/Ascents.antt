@@ -1,10 +1,10 @@
 -- Positions that ascend, each once: a list of them is known by what it has.
-use Rattle.std.proofs.Common.{◌≡◌, ◌==◌, ◌&&◌, ◌||◌, ◌⊎◌, ℕ, ◌<◌, Bool, true, false, if◌then◌else◌, nat_lt, List, [], ◌∷◌, refl, sym, ap, ap₂, ◌∙◌, subst, inl, inr, arith, eqb-true, eq-eqb, lt-ltb}
-use Rattle.std.proofs.lemmas.Bool.{cases_Bool, cond-true, cond-false, and_parts, and_from, false≢true}
+use Rattle.std.proofs.Common.{◌≡◌, ◌==◌, ◌&&◌, ◌||◌, ℕ, true, false, if◌then◌else◌, nat_lt, List, [], ◌∷◌, refl, sym, ap₂, ◌∙◌, subst, inl, inr, arith}
+use Rattle.std.proofs.lemmas.Bool.{cases_Bool, cond-true, cond-false, false≢true}
 use Rattle.std.proofs.lemmas.Bool.Decides.{nat_tests}
 use Rattle.isle_model.specs.lists.Syntax.{Position}
 use Rattle.isle_model.specs.sites.Overlap.{position_eq, position_lt, with_position, ascending_positions}
-use Rattle.isle_model.proofs.Elements.{In, or_split, or_left, or_right}
+use Rattle.isle_model.proofs.Elements.{In}
 use Rattle.isle_laws_demands.proofs.overlaps.Listed.{position_same, with_in, in_ascending, ascending_in}
 
 -- 1. an order of positions
@@ -51,8 +51,7 @@ with_ascends a (b ∷ bs) u =
                 subst Ascend (sym (cond-true (position_lt a b) (a ∷ (b ∷ bs)) (b ∷ with_position a bs) t))
                 (λ c i. elim i [ inl e ↦ subst (λ x. position_lt a x ≡ true) e t | inr j ↦ lt_chain a b c t (u.0 c j) ], u)
             | inr g ↦
-                subst Ascend (sym (cond-false (position_lt a b) (a ∷ (b ∷ bs)) (b ∷ with_position a bs) g))
-                (
+                subst Ascend (sym (cond-false (position_lt a b) (a ∷ (b ∷ bs)) (b ∷ with_position a bs) g)) (
                   λ c i. elim (with_in a bs c i) [ inl e ↦ subst (λ x. position_lt b x ≡ true) e (after g f) | inr j ↦ u.0 c j ],
                   with_ascends a bs u.1,
                 )

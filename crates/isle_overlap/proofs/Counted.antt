@@ -1,56 +1,26 @@
 -- Counts of unreported overlaps by rule, and the reports that are made by them.
-use Rattle.std.proofs.Common.{◌≡◌, ◌==◌, ◌&&◌, ◌||◌, ℕ, zero, suc, ◌+◌, ◌-◌, ◌<◌, ◌≤◌, Bool, true, false, not, cond, nat_lt, if◌then◌else◌, List, [], ◌∷◌, ◌++◌, length, map, take, get_or, filter, refl, sym, ap, ◌∙◌, subst, inl, inr, arith, append_assoc, eqb-true}
+use Rattle.std.proofs.Common.{◌≡◌, ◌==◌, ◌&&◌, ◌||◌, ℕ, suc, ◌+◌, ◌-◌, ◌<◌, ◌≤◌, Bool, true, false, not, cond, nat_lt, if◌then◌else◌, List, [], ◌∷◌, ◌++◌, length, map, take, get_or, filter, refl, sym, ap, ◌∙◌, subst, inl, inr, arith, append_assoc, eqb-true}
 use Rattle.std.specs.BTreeMap.{BTreeMap}
 use Rattle.std.specs.Global.{Vec}
-use Rattle.std.proofs.lemmas.Bool.{cases_Bool, cond-true, cond-false, false≢true}
+use Rattle.std.proofs.lemmas.Bool.{cases_Bool}
 use Rattle.std.proofs.lemmas.Bool.Decides.{nat_tests}
-use Rattle.std.proofs.lemmas.List.{length-map, map-append, append-nil, get_or-map}
+use Rattle.std.proofs.lemmas.List.{length-map, map-append, append-nil}
 use Rattle.std.proofs.lemmas.List.Elements.{filter_agree}
 use Rattle.std.proofs.lemmas.List.Filters.{length-filter_more}
 use Rattle.isle_model.specs.lists.Syntax.{Position}
-use Rattle.isle_model.specs.sites.Overlap.{position_eq, position_lt, has_end, other_end, degree, is_reported_before, overlap_report, overlap_reports, overlap_reports_in, rules_overlap, ascending_positions}
+use Rattle.isle_model.specs.sites.Overlap.{position_eq, position_lt, has_end, other_end, degree, is_reported_before, overlap_reports, overlap_reports_in, rules_overlap, ascending_positions}
 use Rattle.isle_model.specs.claims.Refusals.{overlapping}
-use Rattle.isle_model.proofs.Elements.{In, slice_in, or_split, or_left, or_right}
+use Rattle.isle_model.proofs.Elements.{In}
 use Rattle.isle_laws_demands.proofs.overlaps.Listed.{position_means, in_ascending, left_over, no_longer}
 use Rattle.isle_base.specs.SyntaxViews.{position}
 use Rattle.isle_base.specs.declared.syntax.Error.{Error}
 use Rattle.isle_base.specs.declared.syntax.Pos.{Pos}
-use Rattle.isle_overlap.specs.Comparisons.{positions, pair_views}
+use Rattle.isle_overlap.specs.Comparisons.{positions}
 use Rattle.isle_overlap.specs.ErrorViews.{error_views, report_views}
 use Rattle.isle_overlap.specs.Graphs.{neighbours, ends_of, count_at, listed_at, same_pos, times, counts_before, unreported, count_left}
-use Rattle.isle_overlap.proofs.Ascents.{lt_chain, lt_one_way}
 use Rattle.isle_overlap.proofs.Reporting.{kept_pairs, stands, filtered_map, kept_from, left_of, left_kept, degree_left, no_reports, one_report, none_left_over, ends_kept, no_more_than}
 
--- 1. the rule that is reported first of two
-chained : (m n k : ℕ) (x y z : Bool) → (x ≡ true → y ≡ true → z ≡ true) → (nat_lt n m || ((m == n) && x)) ≡ true → (nat_lt k n || ((n == k) && y)) ≡ true → (nat_lt k m || ((m == k) && z)) ≡ true
-chained m n k true true z f h g = let e = f refl refl in grind (arith, nat_tests)
-chained m n k true false z f h g = grind (arith, nat_tests)
-chained m n k false y z f h g = grind (arith, nat_tests)
-
-not_twice : (m n : ℕ) (x y : Bool) → (x ≡ true → y ≡ false) → (nat_lt n m || ((m == n) && x)) ≡ true → (nat_lt m n || ((n == m) && y)) ≡ false
-not_twice m n true y f h = let e = f refl in grind (arith, nat_tests)
-not_twice m n false y f h = grind (arith, nat_tests)
-
-module _ (m : BTreeMap Pos ℕ) where
-  pub before_chain : (p q r : Pos) → counts_before m p q ≡ true → counts_before m q r ≡ true → counts_before m p r ≡ true
-  before_chain p q r =
-      chained (count_at m p) (count_at m q) (count_at m r) (position_lt (position q) (position p)) (position_lt (position r) (position q)) (position_lt (position r) (position p))
-      (λ h k. lt_chain (position r) (position q) (position p) k h)
-
-  before_one_way : (p q : Pos) → counts_before m p q ≡ true → counts_before m q p ≡ false
-  before_one_way p q = not_twice (count_at m p) (count_at m q) (position_lt (position q) (position p)) (position_lt (position p) (position q)) (lt_one_way (position q) (position p))
-
-  pub not_before_itself : (p : Pos) → counts_before m p p ≡ false
-  not_before_itself p = elim (cases_Bool (counts_before m p p)) [ inl t ↦ before_one_way p p t | inr f ↦ f ]
-
-  pub still_not_before : (p q r : Pos) → counts_before m p r ≡ true → counts_before m q r ≡ false → counts_before m q p ≡ false
-  still_not_before p q r h k =
-      elim (cases_Bool (counts_before m q p)) [
-        | inl t ↦ absurd (false≢true (sym k ∙ before_chain q p r t h))
-        | inr f ↦ f
-      ]
-
--- 2. sums of counts
+-- 1. sums of counts
 pub times_more : (q : Pos) (ps : List Pos) (k : ℕ) (d : Pos) (was before now : ℕ) → k < length ps → before ≡ was - times q (take k ps) → now ≡ before - cond (same_pos (get_or ps k d) q) 1 0 → now ≡ was - times q (take (k + 1) ps)
 times_more q ps k d was before now l e f =
     let more = length-filter_more (λ p. same_pos p q) ps k d l in
@@ -59,7 +29,7 @@ times_more q ps k d was before now l e f =
 pub degree_few : (ps : List (Position × Position)) (a : Position) → degree ps a ≤ length ps
 degree_few ps a = no_longer (has_end a) ps
 
--- 3. the rules that two overlaps of one rule add
+-- 2. the rules that two overlaps of one rule add
 pub both_listed : (old mid new : List Pos) (first second q : Pos) → (same_pos first second ≡ true → ⊥) → mid ≡ old ++ (if same_pos first q then second ∷ [] else []) → new ≡ mid ++ (if same_pos second q then first ∷ [] else [])
     → positions new ≡ positions old ++ (if has_end (position q) (position first, position second) then other_end (position q) (position first, position second) ∷ [] else [])
 both_listed old mid new first second q apart e f =
@@ -79,7 +49,7 @@ both_listed old mid new first second q apart e f =
     of false true h = ap positions (ap (λ l. l ++ first ∷ []) (append-nil old)) ∙ map-append position old (first ∷ [])
     of false false h = ap positions (append-nil (old ++ []) ∙ append-nil old) ∙ sym (append-nil (positions old))
 
--- 4. reports so far
+-- 3. reports so far
 pub record IsSoFar (pairs : List (Position × Position)) (counts : BTreeMap Pos ℕ) (errors : List Error) (n : ℕ) : Type 0 where
   pub kept : Position → Bool
   pub counted : (q : Pos) → count_at counts q ≡ degree (kept_pairs kept pairs) (position q)
@@ -175,3 +145,13 @@ module _ (pairs : List (Position × Position)) (rules : List Pos) (counts : BTre
 
       left_counts : (q : Pos) → count_left counts at (unreported others counts at) q ≡ (if position_eq (position at) (position q) then 0 else degree (kept_pairs s.kept pairs) (position q) - stands (position q) (neighbours (kept_pairs s.kept pairs) (position at)))
       left_counts q = (λ k. if position_eq (position at) (position q) then 0 else s.counted q k - times_is q k)
+
+no_fuel : (ps : List (Position × Position)) → overlap_reports_in 0 ps ≡ []
+no_fuel [] = refl
+no_fuel (e ∷ ps) = refl
+
+pub so_far_end : (pairs : List (Position × Position)) (counts : BTreeMap Pos ℕ) (errors : List Error) (n : ℕ) → n ≡ 0 → IsSoFar pairs counts errors n → error_views errors ≡ report_views (map rules_overlap (overlap_reports pairs))
+so_far_end pairs counts errors n e s =
+    sym (append-nil (error_views errors))
+    ∙ (λ k. error_views errors ++ report_views (map rules_overlap (sym (ap (λ x. overlap_reports_in x (kept_pairs s.kept pairs)) e ∙ no_fuel (kept_pairs s.kept pairs)) k)))
+    ∙ s.reported

@@ -1,15 +1,15 @@
 -- Overlaps that aren't reported yet: which rules they leave, and how many each rule has.
-use Rattle.std.proofs.Common.{◌≡◌, ◌==◌, ◌&&◌, ◌||◌, ◌⊎◌, ℕ, zero, suc, ◌+◌, ◌-◌, ◌<◌, ◌≤◌, Bool, true, false, not, cond, nat_lt, if◌then◌else◌, List, [], ◌∷◌, ◌++◌, length, map, filter, flat_map, refl, sym, ap, ◌∙◌, subst, inl, inr, arith, lt-ltb, eqb-true, eq-eqb}
+use Rattle.std.proofs.Common.{◌≡◌, ◌==◌, ◌&&◌, ◌||◌, ℕ, zero, suc, ◌+◌, ◌-◌, ◌<◌, ◌≤◌, Bool, true, false, not, cond, nat_lt, if◌then◌else◌, List, [], ◌∷◌, length, map, filter, refl, sym, ap, ◌∙◌, subst, inl, inr, arith, lt-ltb, eq-eqb}
 use Rattle.std.proofs.lemmas.Bool.{cases_Bool, cond-true, cond-false, and_parts, and_from, false≢true}
 use Rattle.std.proofs.lemmas.Bool.Decides.{nat_tests}
 use Rattle.std.proofs.lemmas.List.Elements.{filter_agree}
 use Rattle.isle_model.specs.lists.Syntax.{Position}
-use Rattle.isle_model.specs.sites.Overlap.{position_eq, position_lt, has_end, other_end, degree, is_reported_before, foremost, OverlapReport, overlap_report, overlap_reports_in, ascending_positions}
-use Rattle.isle_model.proofs.Elements.{In, or_split, or_left, or_right, in_filter, filter_from, passed_filter, in_map, map_in, in_flat_map, from_flat_map}
-use Rattle.isle_laws_demands.proofs.overlaps.Listed.{position_means, position_same, first_end, second_end, left_over}
-use Rattle.isle_laws_demands.proofs.overlaps.Overlaps.{bool_same, not_true}
+use Rattle.isle_model.specs.sites.Overlap.{position_eq, position_lt, has_end, other_end, degree, is_reported_before, foremost, overlap_report, overlap_reports_in}
+use Rattle.isle_model.proofs.Elements.{In, or_split, or_right, in_filter, filter_from, passed_filter, in_map, in_flat_map, from_flat_map}
+use Rattle.isle_laws_demands.proofs.overlaps.Listed.{position_means, first_end, second_end, left_over}
+use Rattle.isle_laws_demands.proofs.overlaps.Overlaps.{not_true}
 use Rattle.isle_overlap.specs.Graphs.{neighbours, ends_of}
-use Rattle.isle_overlap.proofs.Ascents.{lt_chain, lt_one_way, lt_total}
+use Rattle.isle_overlap.proofs.Ascents.{lt_total}
 
 abbrev Pair : Type 0
 Pair = Position × Position
@@ -153,7 +153,7 @@ module _ (a : Position) where
         | inl t ↦
             let left = ap (λ l. degree l q) (cond-false (not (has_end a e)) (e ∷ left_over a ps) (left_over a ps) (ap not t)) in
             let more = ap (stands q) (one_yes e t true ps) ∙ length_cond (position_eq (other_end a e) q) (other_end a e) (filter (λ p. position_eq p q) (neighbours ps a)) in
-            let same = ap (λ b. cond b 1 0) (end_is_other a q e n t) in
+            let same = ap {B = ℕ} (λ b. cond b 1 0) (end_is_other a q e n t) in
             omega (arith, later, whole, left, more, same)
         | inr f ↦
             let left = ap (λ l. degree l q) (cond-true (not (has_end a e)) (e ∷ left_over a ps) (left_over a ps) (ap not f)) ∙ length_cond (has_end q e) e (filter (has_end q) (left_over a ps)) in
@@ -217,7 +217,7 @@ then_first : (m n : ℕ) (x : Bool) → m ≡ n → (nat_lt n m || ((m == n) && 
 then_first m n true e h = absurd (false≢true (sym h ∙ or_right (nat_lt n m) ((m == n) && true) (and_from (m == n) true (eq-eqb m n e) refl)))
 then_first m n false e h = refl
 
-no_more_than : (m n : ℕ) (x : Bool) → (nat_lt n m || ((m == n) && x)) ≡ false → m ≤ n
+pub no_more_than : (m n : ℕ) (x : Bool) → (nat_lt n m || ((m == n) && x)) ≡ false → m ≤ n
 no_more_than m n x h = grind (arith, nat_tests)
 
 module _ (ps : List Pair) where

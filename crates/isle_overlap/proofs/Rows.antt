@@ -1,5 +1,5 @@
 -- What is found row by row is what the definitions say of all rules.
-use Rattle.std.proofs.Common.{◌≡◌, ◌==◌, ◌&&◌, nat_le, ℤ, ℕ, zero, suc, ◌+◌, ◌<◌, ◌≤◌, Bool, true, false, if◌then◌else◌, List, [], ◌∷◌, ◌++◌, length, map, get_or, Some, slice_get, filter, flat_map, int_lt, refl, sym, ap, ◌∙◌, subst, inl, inr, arith, eqb-true, eq-eqb, append_assoc, All, take, set}
+use Rattle.std.proofs.Common.{◌≡◌, ◌==◌, ◌&&◌, nat_le, ℤ, ℕ, zero, suc, ◌+◌, ◌<◌, ◌≤◌, Bool, true, false, if◌then◌else◌, List, [], ◌∷◌, ◌++◌, length, map, get_or, Some, slice_get, filter, flat_map, int_lt, refl, sym, ap, ◌∙◌, subst, inl, inr, arith, eqb-true, eq-eqb, All, take, set}
 use Rattle.std.specs.Global.{Vec}
 use Rattle.std.proofs.lemmas.Bool.{cases_Bool, cond-true, cond-false, false≢true}
 use Rattle.std.proofs.lemmas.Int.{ints}
@@ -10,11 +10,11 @@ use Rattle.isle_model.specs.sites.Sites.{SetRule}
 use Rattle.isle_model.specs.sites.Overlap.{each_two, rule_shadows, ShadowReport}
 use Rattle.isle_model.specs.sites.SetRules.{overlap_between, overlap_wrongly, is_mask_of, is_subset, wrong_among, shadow_report_of, shadows_among}
 use Rattle.isle_model.specs.trees.Best.{total_constraints}
-use Rattle.isle_model.specs.claims.Refusals.{Refusal, shadowing, refusal_of}
+use Rattle.isle_model.specs.claims.Refusals.{refusal_of}
 use Rattle.isle_model.proofs.Elements.{some_is}
 use Rattle.isle_base.specs.SyntaxViews.{position}
 use Rattle.isle_base.specs.declared.syntax.Pos.{Pos}
-use Rattle.isle_overlap.specs.Comparisons.{AreGrouped, list_views, masked_view, masked_views, positions, wrong_pair, masked_pair, wrong_behind, masked_behind, wrong_rows, masked_rows, of_mask, shadow_of, shadows_of}
+use Rattle.isle_overlap.specs.Comparisons.{AreGrouped, list_views, masked_view, masked_views, positions, masked_pair, wrong_behind, masked_behind, wrong_rows, masked_rows, of_mask, shadow_of, shadows_of}
 use Rattle.isle_overlap.specs.ErrorViews.{report_views}
 
 -- 1. wrong overlaps

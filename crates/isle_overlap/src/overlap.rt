@@ -296,11 +296,7 @@ fn add_one(counts: &mut BTreeMap<Pos, usize>, place: Pos) -> Result<(), AllocErr
 }
 
 // Adds an overlap to those of both its rules.
-fn add_to_both(
-    counts: &mut BTreeMap<Pos, usize>,
-    first: Pos,
-    second: Pos,
-) -> Result<(), AllocError>
+fn add_to_both(counts: &mut BTreeMap<Pos, usize>, first: Pos, second: Pos) -> Result<(), AllocError>
     requires { (q : Pos) → count_at counts.old q < 2 ^ 64 - 1 }
     ensures { OnOk result ((q : Pos) → count_at counts.new q ≡ count_at counts.old q + (if has_end (position q) (position first, position second) then 1 else 0)) }
 {
@@ -324,11 +320,7 @@ fn counts_of(alloc: Global, wrong: &[(Pos, Pos)]) -> Result<BTreeMap<Pos, usize>
 }
 
 // Adds a rule to those that another one overlaps.
-fn add_other(
-    others: &mut BTreeMap<Pos, Vec<Pos>>,
-    place: Pos,
-    other: Pos,
-) -> Result<(), AllocError>
+fn add_other(others: &mut BTreeMap<Pos, Vec<Pos>>, place: Pos, other: Pos) -> Result<(), AllocError>
     ensures { OnOk result ((q : Pos) → listed_at others.new q ≡ listed_at others.old q ++ (if same_pos place q then other ∷ [] else [])) }
 {
     others.entry(place)?.or_default().push(other)?;
@@ -336,11 +328,7 @@ fn add_other(
 }
 
 // Adds each of two rules to those that the other one overlaps.
-fn add_both(
-    others: &mut BTreeMap<Pos, Vec<Pos>>,
-    first: Pos,
-    second: Pos,
-) -> Result<(), AllocError>
+fn add_both(others: &mut BTreeMap<Pos, Vec<Pos>>, first: Pos, second: Pos) -> Result<(), AllocError>
     ensures { OnOk result ((q : Pos) → positions (listed_at others.new q)
         ≡ positions (listed_at others.old q) ++ (if has_end (position q) (position first, position second) then other_end (position q) (position first, position second) ∷ [] else [])) }
 {

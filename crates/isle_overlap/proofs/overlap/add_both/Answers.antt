@@ -1,4 +1,4 @@
-use Rattle.std.proofs.Common.{not, false, true, sym, ap, ◌∙◌}
+use Rattle.std.proofs.Common.{not, sym, ap, ◌∙◌}
 use Rattle.std.proofs.lemmas.Bool.{false≢true}
 use Rattle.isle_overlap.specs.Graphs.{listed_at}
 use Rattle.isle_overlap.proofs.Counted.{both_listed}

@@ -16,7 +16,7 @@ loop-set-preserved c =
     record {
       wrong = more _ _ _ _ _ _ c.in_ok-check_set.ensures.wrong (ap (λ xs. wrong_in_sets multi (term_set_views xs)) rest) c.loop-set.invariant.wrong;
       shadows = more _ _ _ _ _ _ c.in_ok-check_set.ensures.shadows
-      (ap (λ xs. report_views (map rule_shadows (shadows_in_sets multi (term_set_views xs)))) rest ∙ views_append (shadows_among (compared_in multi here)) _) c.loop-set.invariant.shadows;
+          (ap (λ xs. report_views (map rule_shadows (shadows_in_sets multi (term_set_views xs)))) rest ∙ views_append (shadows_among (compared_in multi here)) _) c.loop-set.invariant.shadows;
     }
 
 pub returns-clause-wrong : goal.returns-clause-wrong

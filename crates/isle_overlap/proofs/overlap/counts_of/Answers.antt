@@ -1,4 +1,4 @@
-use Rattle.std.proofs.Common.{◌≡◌, length, take, arith}
+use Rattle.std.proofs.Common.{take, arith}
 use Rattle.std.proofs.lemmas.List.{length-map, length-take}
 use Rattle.isle_base.specs.SyntaxViews.{position}
 use Rattle.isle_overlap.specs.Comparisons.{pair_view, pair_views}
