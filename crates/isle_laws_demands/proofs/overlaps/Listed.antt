@@ -9,12 +9,12 @@ use Rattle.isle_model.proofs.Elements.{In, in_from_contains, contains_from_in, s
 use Rattle.isle_laws_demands.proofs.overlaps.Overlaps.{not_true}
 use Rattle.isle_laws_demands.proofs.overlaps.Reported.{wrong_means, wrong_there}
 
-position_means : (a b : Position) → position_eq a b ≡ true → a ≡ b
+pub position_means : (a b : Position) → position_eq a b ≡ true → a ≡ b
 position_means a b h =
     let p = and_parts (a.file == b.file) (a.offset == b.offset) h in
     ap₂ (λ f o. record { file = f; offset = o }) (eqb-true a.file b.file p.0) (eqb-true a.offset b.offset p.1)
 
-position_same : (a b : Position) → a ≡ b → position_eq a b ≡ true
+pub position_same : (a b : Position) → a ≡ b → position_eq a b ≡ true
 position_same a b e = subst (λ c. position_eq a c ≡ true) e (and_from (a.file == a.file) (a.offset == a.offset) (eq-eqb a.file a.file refl) (eq-eqb a.offset a.offset refl))
 
 -- ascending positions are the same positions
@@ -38,7 +38,7 @@ in_with a (b ∷ bs) x h =
           ])
     ]
 
-with_in : (a : Position) (bs : List Position) (x : Position) → In (with_position a bs) x → (a ≡ x) ⊎ In bs x
+pub with_in : (a : Position) (bs : List Position) (x : Position) → In (with_position a bs) x → (a ≡ x) ⊎ In bs x
 with_in a [] x i = i
 with_in a (b ∷ bs) x i =
     elim (cases_Bool (position_eq a b)) [
@@ -55,21 +55,21 @@ with_in a (b ∷ bs) x i =
           ]
     ]
 
-in_ascending : (xs : List Position) (x : Position) → In xs x → In (ascending_positions xs) x
+pub in_ascending : (xs : List Position) (x : Position) → In xs x → In (ascending_positions xs) x
 in_ascending [] x i = absurd i
 in_ascending (y ∷ ys) x (inl e) = in_with y (ascending_positions ys) x (inl e)
 in_ascending (y ∷ ys) x (inr i) = in_with y (ascending_positions ys) x (inr (in_ascending ys x i))
 
-ascending_in : (xs : List Position) (x : Position) → In (ascending_positions xs) x → In xs x
+pub ascending_in : (xs : List Position) (x : Position) → In (ascending_positions xs) x → In xs x
 ascending_in [] x i = absurd i
 ascending_in (y ∷ ys) x i = elim (with_in y (ascending_positions ys) x i) [ inl e ↦ inl e | inr j ↦ inr (ascending_in ys x j) ]
 
 -- two rules, in either order
-abbrev AreEnds : Position × Position → Position → Position → Type 0
+abbrev pub AreEnds : Position × Position → Position → Position → Type 0
 AreEnds e a b = ((e.0 ≡ a) × (e.1 ≡ b)) ⊎ ((e.0 ≡ b) × (e.1 ≡ a))
 
 -- an overlap that has a rule is of that rule and the other one
-ends_of : (at : Position) (e : Position × Position) → has_end at e ≡ true → AreEnds e at (other_end at e)
+pub ends_of : (at : Position) (e : Position × Position) → has_end at e ≡ true → AreEnds e at (other_end at e)
 ends_of at e h =
     elim (cases_Bool (position_eq e.0 at)) [
       | inl t ↦ inl (position_means e.0 at t, sym (cond-true (position_eq e.0 at) e.1 e.0 t))
@@ -80,10 +80,10 @@ ends_of at e h =
           ]
     ]
 
-first_end : (at : Position) (e : Position × Position) → e.0 ≡ at → has_end at e ≡ true
+pub first_end : (at : Position) (e : Position × Position) → e.0 ≡ at → has_end at e ≡ true
 first_end at e h = or_left (position_eq e.0 at) (position_eq e.1 at) (position_same e.0 at h)
 
-second_end : (at : Position) (e : Position × Position) → e.1 ≡ at → has_end at e ≡ true
+pub second_end : (at : Position) (e : Position × Position) → e.1 ≡ at → has_end at e ≡ true
 second_end at e h = or_right (position_eq e.0 at) (position_eq e.1 at) (position_same e.1 at h)
 
 -- the report of a rule lists each overlap that has it, and no other
@@ -102,11 +102,11 @@ each_listed pairs at b i =
     (e.0, in_filter (has_end at) pairs e.0 e.1, subst (AreEnds e.0 at) e.2 (ends_of at e.0 (passed_filter (has_end at) pairs e.0 e.1)))
 
 -- the overlaps that are left once a rule is reported
-abbrev left_over : Position → List (Position × Position) → List (Position × Position)
+abbrev pub left_over : Position → List (Position × Position) → List (Position × Position)
 left_over at pairs = filter (λ x. not (has_end at x)) pairs
 
 -- the rule that is reported first
-abbrev rule_first : Position × Position → List (Position × Position) → Position
+abbrev pub rule_first : Position × Position → List (Position × Position) → Position
 rule_first e es = foremost (e ∷ es) e.0 (flat_map (λ x. x.0 ∷ (x.1 ∷ [])) (e ∷ es))
 
 -- what reports list are overlaps
@@ -122,7 +122,7 @@ reports_mean (suc n) (e ∷ es) r b (inr i) j =
     (x.0, in_filter (λ y. not (has_end (rule_first e es) y)) (e ∷ es) x.0 x.1, x.2)
 
 -- a rule that is foremost is one of them
-foremost_in : (pairs : List (Position × Position)) (a : Position) (bs : List Position) → In (a ∷ bs) (foremost pairs a bs)
+pub foremost_in : (pairs : List (Position × Position)) (a : Position) (bs : List Position) → In (a ∷ bs) (foremost pairs a bs)
 foremost_in pairs a [] = inl refl
 foremost_in pairs a (b ∷ bs) =
     elim (cases_Bool (is_reported_before pairs b a)) [
@@ -135,7 +135,7 @@ foremost_in pairs a (b ∷ bs) =
     ]
 
 -- so some overlap has it
-first_has : (e : Position × Position) (es : List (Position × Position)) → (x : Position × Position) × In (e ∷ es) x × (has_end (rule_first e es) x ≡ true)
+pub first_has : (e : Position × Position) (es : List (Position × Position)) → (x : Position × Position) × In (e ∷ es) x × (has_end (rule_first e es) x ≡ true)
 first_has e es =
     elim (foremost_in (e ∷ es) e.0 (flat_map (λ x. x.0 ∷ (x.1 ∷ [])) (e ∷ es))) [
       | inl same ↦ (e, inl refl, first_end (rule_first e es) e same)
@@ -147,7 +147,7 @@ first_has e es =
           ]
     ]
 
-no_longer : {X : Type 0} (f : X → Bool) (xs : List X) → length (filter f xs) ≤ length xs
+pub no_longer : {X : Type 0} (f : X → Bool) (xs : List X) → length (filter f xs) ≤ length xs
 no_longer f [] = omega arith
 no_longer f (x ∷ xs) =
     let later = no_longer f xs in

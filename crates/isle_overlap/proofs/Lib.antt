@@ -1,0 +1,6 @@
+pub mod Gone
+pub mod Rows
+pub mod Ascents
+pub mod Sorted
+pub mod Reporting
+pub mod Counted

@@ -1,0 +1,7 @@
+use Rattle.std.proofs.Common.{◌-◌}
+use Rattle.isle_overlap.specs.Comparisons.{pair_views}
+use Rattle.isle_overlap.proofs.Counted.{IsSoFar}
+use Rattle.isle_overlap.proofs.overlap.overlap_errors.Given as goal
+
+abbrev pub invariant-loop : goal.invariant-loop
+invariant-loop l = IsSoFar (pair_views l.wrong) l.counts l.errors.items (l.most - l.counter)

@@ -1,0 +1,3 @@
+pub mod ErrorViews
+pub mod Comparisons
+pub mod Graphs

@@ -1,0 +1,531 @@
+//! The check of overlaps: rules of one priority that may both match, and rules that others mask.
+ghost use Rattle.std.specs.Prelude.{◌^◌, ◌*◌, List, false, if◌then◌else◌, slice_index_or, ◌≡◌, ◌++◌, ◌∷◌, [], ◌+◌, ◌-◌, ◌<◌, ◌≤◌, ℕ, All, IfOk, OnOk, drop, length, map, nat_lt, vec_len, slice_get, Some};
+ghost use Rattle.std.specs.List.{filter};
+ghost use Rattle.isle_model.specs.rules.Program.{is_multi};
+ghost use Rattle.isle_model.specs.claims.Refusals.{overlapping, refusal_of};
+ghost use Rattle.isle_model.specs.sites.Overlap.{RuleReport, ascending_positions, by_position, degree, has_end, other_end, overlap_reports, position_lt, rule_shadows, rules_overlap};
+ghost use Rattle.isle_model.specs.sites.SetRules.{compared_in, is_mask_of, overlap_wrongly, reports_of_sets, shadows_among, shadows_in_sets, wrong_among, wrong_in_sets};
+ghost use Rattle.isle_base.specs.SyntaxViews.{position};
+ghost use Rattle.isle_building.specs.Buildings.{env_program, term_set_views};
+ghost use Rattle.isle_sets.specs.SiteViews.{set_rule_view, set_rule_views, set_view};
+ghost use Rattle.isle_overlap.specs.Comparisons.{AreGrouped, list_views, masked_behind, masked_pair, masked_rows, masked_views, pair_views, positions, shadow_of, shadows_of, wrong_behind, wrong_pair, wrong_rows};
+ghost use Rattle.isle_overlap.specs.ErrorViews.{error_pos, error_view, error_views, report_views, span_starts};
+ghost use Rattle.isle_overlap.specs.Graphs.{count_at, count_left, counts_before, ends_of, listed_at, neighbours, same_pos, times, unreported};
+
+use isle_base::syntax::{Error, Pos, Span};
+use isle_rules::TermEnv;
+use isle_sets::trie_again::{Overlap, Rule, RuleSet};
+use isle_terms::TermKind;
+use isle_types::TermId;
+use std::alloc::{AllocError, Global};
+use std::collections::BTreeMap;
+
+// Whether two rules have one priority and may both match.
+fn overlap_wrongly(left: &Rule, right: &Rule) -> bool
+    ensures { result ≡ overlap_wrongly (set_rule_view left.now) (set_rule_view right.now) }
+{
+    left.prio == right.prio
+        && match left.may_overlap(right) {
+            Overlap::No => false,
+            Overlap::Yes { subset: _ } => true,
+        }
+}
+
+// Whether a rule of greater priority matches wherever another one does: all that it asks is asked there too.
+fn masks(mask: &Rule, rule: &Rule) -> bool
+    ensures { result ≡ is_mask_of (set_rule_view mask.now) (set_rule_view rule.now) }
+{
+    rule.prio < mask.prio
+        && match mask.may_overlap(rule) {
+            Overlap::No => false,
+            Overlap::Yes { subset } => subset,
+        }
+        && mask.total_constraints() <= rule.total_constraints()
+}
+
+// Adds two rules where they overlap wrongly.
+fn add_wrong(left: &Rule, right: &Rule, wrong: &mut Vec<(Pos, Pos)>) -> Result<(), AllocError>
+    ensures { OnOk result (pair_views wrong.new.items ≡ pair_views wrong.old.items ++ wrong_pair (set_rule_view left.now) (set_rule_view right.now)) }
+{
+    if overlap_wrongly(left, right) {
+        wrong.push((left.pos, right.pos))?;
+    }
+    Ok(())
+}
+
+// Adds the number of a mask and the place of the rule that it masks, where one of two rules masks the other.
+fn add_masked(
+    i: usize,
+    left: &Rule,
+    j: usize,
+    right: &Rule,
+    masked: &mut Vec<(usize, Pos)>,
+) -> Result<(), AllocError>
+    ensures { OnOk result (masked_views masked.new.items ≡ masked_views masked.old.items ++ masked_pair i (set_rule_view left.now) j (set_rule_view right.now)) }
+{
+    if masks(left, right) {
+        masked.push((i, right.pos))?;
+    }
+    if masks(right, left) {
+        masked.push((j, left.pos))?;
+    }
+    Ok(())
+}
+
+// Adds what is found of a rule, the one of this number, and those behind it.
+fn check_behind(
+    i: usize,
+    left: &Rule,
+    rules: &[Rule],
+    wrong: &mut Vec<(Pos, Pos)>,
+    masked: &mut Vec<(usize, Pos)>,
+) -> Result<(), AllocError>
+    requires { i < length rules.now }
+    ensures wrong { OnOk result (pair_views wrong.new.items
+        ≡ pair_views wrong.old.items ++ wrong_behind (set_rule_view left.now) (set_rule_views (drop (i + 1) rules.now))) }
+    ensures masked { OnOk result (masked_views masked.new.items
+        ≡ masked_views masked.old.items ++ masked_behind i (set_rule_view left.now) (i + 1) (set_rule_views (drop (i + 1) rules.now))) }
+{
+    for j in i + 1..rules.len() {
+        let right = &rules[j];
+        add_wrong(left, right, wrong)?;
+        add_masked(i, left, j, right, masked)?;
+    }
+    Ok(())
+}
+
+// Adds what is found of each two rules.
+fn check_pairs(
+    rules: &[Rule],
+    wrong: &mut Vec<(Pos, Pos)>,
+    masked: &mut Vec<(usize, Pos)>,
+) -> Result<(), AllocError>
+    ensures wrong { OnOk result (pair_views wrong.new.items ≡ pair_views wrong.old.items ++ wrong_rows (set_rule_views rules.now)) }
+    ensures masked { OnOk result (masked_views masked.new.items ≡ masked_views masked.old.items ++ masked_rows 0 (set_rule_views rules.now)) }
+{
+    for i in 0..rules.len() {
+        check_behind(i, &rules[i], rules, wrong, masked)?;
+    }
+    Ok(())
+}
+
+// As many empty lists.
+fn empty_lists(alloc: Global, count: usize) -> Result<Vec<Vec<Pos>>, AllocError>
+    ensures { IfOk result (λ v. (vec_len v ≡ count) × AreGrouped v.items []) }
+{
+    let mut lists = Vec::new(alloc);
+    for _ in 0..count {
+        lists.push(Vec::new(alloc))?;
+    }
+    Ok(lists)
+}
+
+// With each rule's number the places of those that it masks.
+fn masked_by_each(
+    alloc: Global,
+    count: usize,
+    masked: &[(usize, Pos)],
+) -> Result<Vec<Vec<Pos>>, AllocError>
+    requires { All (λ m. m.0 < count) masked.now }
+    ensures { IfOk result (λ v. (vec_len v ≡ count) × AreGrouped v.items (masked_views masked.now)) }
+{
+    let mut lists = empty_lists(alloc, count)?;
+    for (mask, place) in masked {
+        lists[*mask].push(*place)?;
+    }
+    Ok(lists)
+}
+
+// Spans at these places.
+fn spans_of(alloc: Global, places: &[Pos]) -> Result<Vec<Span>, AllocError>
+    ensures { IfOk result (λ v. span_starts v.items ≡ positions places.now) }
+{
+    let mut spans = Vec::new(alloc);
+    for place in places {
+        spans.push(Span::new_single(*place))?;
+    }
+    Ok(spans)
+}
+
+// Adds the error of a mask, where it masks any rule.
+fn add_shadow(
+    alloc: Global,
+    mask: &Rule,
+    masked: &[Pos],
+    errors: &mut Vec<Error>,
+) -> Result<(), AllocError>
+    ensures { OnOk result (error_views errors.new.items ≡ error_views errors.old.items ++ shadow_of (set_rule_view mask.now) (positions masked.now)) }
+{
+    if masked.is_empty() {
+        return Ok(());
+    }
+    let shadowed = spans_of(alloc, masked)?;
+    errors.push(Error::ShadowedError {
+        shadowed,
+        mask: Span::new_single(mask.pos),
+    })?;
+    Ok(())
+}
+
+// Adds the errors of masks, in rule order, with the rules that each one masks.
+fn add_shadows(
+    alloc: Global,
+    rules: &[Rule],
+    lists: &[Vec<Pos>],
+    errors: &mut Vec<Error>,
+) -> Result<(), AllocError>
+    requires { length lists.now ≡ length rules.now }
+    ensures { OnOk result (error_views errors.new.items ≡ error_views errors.old.items ++ shadows_of (set_rule_views rules.now) (list_views lists.now)) }
+{
+    for i in 0..rules.len() {
+        add_shadow(alloc, &rules[i], &lists[i], errors)?;
+    }
+    Ok(())
+}
+
+// Adds the wrong overlaps of a term's rules, and the errors of those that mask others.
+fn check_rules(
+    alloc: Global,
+    rules: &[Rule],
+    wrong: &mut Vec<(Pos, Pos)>,
+    errors: &mut Vec<Error>,
+) -> Result<(), AllocError>
+    ensures wrong { OnOk result (pair_views wrong.new.items ≡ pair_views wrong.old.items ++ wrong_among (set_rule_views rules.now)) }
+    ensures shadows { OnOk result (error_views errors.new.items
+        ≡ error_views errors.old.items ++ report_views (map rule_shadows (shadows_among (set_rule_views rules.now)))) }
+{
+    let mut masked = Vec::new(alloc);
+    check_pairs(rules, wrong, &mut masked)?;
+    let lists = masked_by_each(alloc, rules.len(), &masked)?;
+    add_shadows(alloc, rules, &lists, errors)?;
+    Ok(())
+}
+
+// Whether a term may give many values: then no rule stands in the way of another.
+fn is_multi(termenv: &TermEnv, term: TermId) -> bool
+    ensures { result ≡ is_multi (env_program termenv.now) term.0 }
+{
+    match termenv.terms.get(term.index()) {
+        Some(term) => match &term.kind {
+            TermKind::Decl { flags, .. } => flags.multi,
+            TermKind::EnumVariant { .. } | TermKind::Struct => false,
+        },
+        None => false,
+    }
+}
+
+// Adds the wrong overlaps of a set, and the errors of rules that mask others: nothing of a multi term.
+fn check_set(
+    alloc: Global,
+    termenv: &TermEnv,
+    term: TermId,
+    set: &RuleSet,
+    wrong: &mut Vec<(Pos, Pos)>,
+    errors: &mut Vec<Error>,
+) -> Result<(), AllocError>
+    ensures wrong { OnOk result (pair_views wrong.new.items
+        ≡ pair_views wrong.old.items ++ wrong_among (compared_in (is_multi (env_program termenv.now)) (term.0, set_view set.now))) }
+    ensures shadows { OnOk result (error_views errors.new.items
+        ≡ error_views errors.old.items ++ report_views (map rule_shadows (shadows_among (compared_in (is_multi (env_program termenv.now)) (term.0, set_view set.now))))) }
+{
+    if is_multi(termenv, term) {
+        return Ok(());
+    }
+    check_rules(alloc, &set.rules, wrong, errors)?;
+    Ok(())
+}
+
+// Adds the wrong overlaps of sets, and the errors of rules that mask others.
+fn check_sets(
+    alloc: Global,
+    termenv: &TermEnv,
+    sets: &[(TermId, RuleSet)],
+    wrong: &mut Vec<(Pos, Pos)>,
+    errors: &mut Vec<Error>,
+) -> Result<(), AllocError>
+    ensures wrong { OnOk result (pair_views wrong.new.items
+        ≡ pair_views wrong.old.items ++ wrong_in_sets (is_multi (env_program termenv.now)) (term_set_views sets.now)) }
+    ensures shadows { OnOk result (error_views errors.new.items
+        ≡ error_views errors.old.items ++ report_views (map rule_shadows (shadows_in_sets (is_multi (env_program termenv.now)) (term_set_views sets.now)))) }
+{
+    for set in sets {
+        check_set(alloc, termenv, set.0, &set.1, wrong, errors)?;
+    }
+    Ok(())
+}
+
+// Both rules of each overlap.
+fn ends(alloc: Global, wrong: &[(Pos, Pos)]) -> Result<Vec<Pos>, AllocError>
+    ensures { IfOk result (λ v. positions v.items ≡ ends_of (pair_views wrong.now)) }
+{
+    let mut ends = Vec::new(alloc);
+    for (first, second) in wrong {
+        ends.push(*first)?;
+        ends.push(*second)?;
+    }
+    Ok(ends)
+}
+
+// These places ascending, each once.
+fn ascending(mut places: Vec<Pos>) -> Result<Vec<Pos>, AllocError>
+    ensures { IfOk result (λ v. positions v.items ≡ ascending_positions (positions places.items)) }
+{
+    places.sort()?;
+    places.dedup();
+    Ok(places)
+}
+
+// How many overlaps of a rule aren't reported yet.
+fn count(counts: &BTreeMap<Pos, usize>, place: Pos) -> usize
+    ensures { result ≡ count_at counts.now place }
+{
+    match counts.get(&place) {
+        Some(count) => *count,
+        None => 0,
+    }
+}
+
+// Adds one overlap to those of a rule.
+fn add_one(counts: &mut BTreeMap<Pos, usize>, place: Pos) -> Result<(), AllocError>
+    requires { count_at counts.old place < 2 ^ 64 - 1 }
+    ensures { OnOk result ((q : Pos) → count_at counts.new q ≡ count_at counts.old q + (if same_pos place q then 1 else 0)) }
+{
+    let more = count(counts, place) + 1;
+    counts.insert(place, more)?;
+    Ok(())
+}
+
+// Adds an overlap to those of both its rules.
+fn add_to_both(counts: &mut BTreeMap<Pos, usize>, first: Pos, second: Pos) -> Result<(), AllocError>
+    requires { (q : Pos) → count_at counts.old q < 2 ^ 64 - 1 }
+    ensures { OnOk result ((q : Pos) → count_at counts.new q ≡ count_at counts.old q + (if has_end (position q) (position first, position second) then 1 else 0)) }
+{
+    add_one(counts, first)?;
+    if first != second {
+        add_one(counts, second)?;
+    }
+    Ok(())
+}
+
+// How many overlaps each rule has.
+fn counts_of(alloc: Global, wrong: &[(Pos, Pos)]) -> Result<BTreeMap<Pos, usize>, AllocError>
+    requires { length wrong.now < 2 ^ 64 }
+    ensures { IfOk result (λ m. (q : Pos) → count_at m q ≡ degree (pair_views wrong.now) (position q)) }
+{
+    let mut counts = BTreeMap::new(alloc);
+    for (first, second) in wrong {
+        add_to_both(&mut counts, *first, *second)?;
+    }
+    Ok(counts)
+}
+
+// Adds a rule to those that another one overlaps.
+fn add_other(others: &mut BTreeMap<Pos, Vec<Pos>>, place: Pos, other: Pos) -> Result<(), AllocError>
+    ensures { OnOk result ((q : Pos) → listed_at others.new q ≡ listed_at others.old q ++ (if same_pos place q then other ∷ [] else [])) }
+{
+    others.entry(place)?.or_default().push(other)?;
+    Ok(())
+}
+
+// Adds each of two rules to those that the other one overlaps.
+fn add_both(others: &mut BTreeMap<Pos, Vec<Pos>>, first: Pos, second: Pos) -> Result<(), AllocError>
+    ensures { OnOk result ((q : Pos) → positions (listed_at others.new q)
+        ≡ positions (listed_at others.old q) ++ (if has_end (position q) (position first, position second) then other_end (position q) (position first, position second) ∷ [] else [])) }
+{
+    add_other(others, first, second)?;
+    if first != second {
+        add_other(others, second, first)?;
+    }
+    Ok(())
+}
+
+// Which rules each rule overlaps.
+fn others_of(alloc: Global, wrong: &[(Pos, Pos)]) -> Result<BTreeMap<Pos, Vec<Pos>>, AllocError>
+    ensures { IfOk result (λ m. (q : Pos) → positions (listed_at m q) ≡ neighbours (pair_views wrong.now) (position q)) }
+{
+    let mut others = BTreeMap::new(alloc);
+    for (first, second) in wrong {
+        add_both(&mut others, *first, *second)?;
+    }
+    Ok(others)
+}
+
+// Whether the first of two rules is reported before the second: it has more overlaps, or as many and a later place.
+fn is_reported_before(counts: &BTreeMap<Pos, usize>, first: Pos, second: Pos) -> bool
+    ensures { result ≡ counts_before counts.now first second }
+{
+    let mine = count(counts, first);
+    let other = count(counts, second);
+    other < mine || mine == other && second < first
+}
+
+// Of two rules the one that is reported first.
+fn first_of_two(counts: &BTreeMap<Pos, usize>, first: Pos, second: Pos) -> Pos
+    ensures first { counts_before counts.now first result ≡ false }
+    ensures others { (q : Pos) → counts_before counts.now q second ≡ false → counts_before counts.now q result ≡ false }
+{
+    if is_reported_before(counts, first, second) {
+        first
+    } else {
+        second
+    }
+}
+
+// Of rules the one that is reported first.
+fn foremost(counts: &BTreeMap<Pos, usize>, rules: &[Pos]) -> Pos
+    ensures { (k : ℕ) (d : Pos) → k < length rules.now → counts_before counts.now (slice_index_or rules.now k d) result ≡ false }
+{
+    let mut first = Pos::default();
+    for rule in rules {
+        first = first_of_two(counts, *rule, first);
+    }
+    first
+}
+
+// The rules that a rule overlaps.
+fn listed(others: &BTreeMap<Pos, Vec<Pos>>, place: Pos) -> &[Pos]
+    ensures { result.now ≡ listed_at others.now place }
+{
+    match others.get(&place) {
+        Some(all) => all,
+        None => &[],
+    }
+}
+
+// The rules that a rule overlaps and that aren't reported, once for each overlap.
+fn unreported(
+    alloc: Global,
+    others: &BTreeMap<Pos, Vec<Pos>>,
+    counts: &BTreeMap<Pos, usize>,
+    place: Pos,
+) -> Result<Vec<Pos>, AllocError>
+    ensures { IfOk result (λ v. v.items ≡ unreported others.now counts.now place) }
+{
+    listed(others, place)
+        .iter()
+        .copied()
+        .filter(|other| count(counts, *other) > 0)
+        .collect(alloc)
+}
+
+// Takes an overlap from those of a rule.
+fn take_one(counts: &mut BTreeMap<Pos, usize>, place: Pos) -> Result<(), AllocError>
+    ensures { OnOk result ((q : Pos) → count_at counts.new q ≡ count_at counts.old q - (if same_pos place q then 1 else 0)) }
+{
+    let left = count(counts, place).saturating_sub(1);
+    counts.insert(place, left)?;
+    Ok(())
+}
+
+// Takes an overlap from those of each of these rules.
+fn take_away(counts: &mut BTreeMap<Pos, usize>, found: &[Pos]) -> Result<(), AllocError>
+    ensures { OnOk result ((q : Pos) → count_at counts.new q ≡ count_at counts.old q - times q found.now) }
+{
+    for other in found {
+        take_one(counts, *other)?;
+    }
+    Ok(())
+}
+
+// The error of a rule that overlaps others.
+fn overlap_error(alloc: Global, place: Pos, others: &[Pos]) -> Result<Error, AllocError>
+    ensures { IfOk result (λ e. error_view e ≡ overlapping (position place ∷ positions others.now)) }
+{
+    let mut rules = Vec::new(alloc);
+    rules.push(Span::new_single(place))?;
+    let mut others = spans_of(alloc, others)?;
+    rules.append(&mut others)?;
+    let msg = String::from_str(alloc, "rules are overlapping")?;
+    Ok(Error::OverlapError { msg, rules })
+}
+
+// Reports a rule with those that it overlaps and that aren't reported: their overlaps with it are then reported too.
+fn report(
+    alloc: Global,
+    others: &BTreeMap<Pos, Vec<Pos>>,
+    counts: &mut BTreeMap<Pos, usize>,
+    place: Pos,
+    errors: &mut Vec<Error>,
+) -> Result<(), AllocError>
+    ensures counts { OnOk result ((q : Pos) → count_at counts.new q ≡ count_left counts.old place (unreported others.now counts.old place) q) }
+    ensures error { OnOk result (error_views errors.new.items
+        ≡ error_views errors.old.items ++ overlapping (position place ∷ ascending_positions (positions (unreported others.now counts.old place))) ∷ []) }
+{
+    let found = unreported(alloc, others, counts, place)?;
+    take_away(counts, &found)?;
+    counts.insert(place, 0)?;
+    let listed = ascending(found)?;
+    errors.push(overlap_error(alloc, place, &listed)?)?;
+    Ok(())
+}
+
+// The errors of wrong overlaps. The rule with the most of them is reported first, of several the latest, with all that it
+// overlaps; then the same of the overlaps that are left.
+fn overlap_errors(alloc: Global, wrong: &[(Pos, Pos)]) -> Result<Vec<Error>, AllocError>
+    ensures { IfOk result (λ v. error_views v.items ≡ report_views (map rules_overlap (overlap_reports (pair_views wrong.now)))) }
+{
+    let most = wrong.len();
+    let mut errors = Vec::new(alloc);
+    let rules = ascending(ends(alloc, wrong)?)?;
+    let others = others_of(alloc, wrong)?;
+    let mut counts = counts_of(alloc, wrong)?;
+    // Each report takes an overlap away, so there are no more reports than overlaps.
+    for _ in 0..most {
+        let place = foremost(&counts, &rules);
+        if count(&counts, place) == 0 {
+            return Ok(errors);
+        }
+        report(alloc, &others, &mut counts, place, &mut errors)?;
+    }
+    Ok(errors)
+}
+
+// Where an error stands.
+fn place_of(error: &Error) -> Pos
+    ensures { result ≡ error_pos error.now }
+{
+    match error {
+        Error::OverlapError { rules, .. } => match rules.first() {
+            Some(span) => span.from,
+            None => Pos::default(),
+        },
+        Error::ShadowedError { mask, .. } => mask.from,
+        Error::TypeError { span, .. }
+        | Error::UnreachableError { span, .. }
+        | Error::LimitError { span, .. } => span.from,
+    }
+}
+
+// Errors by place, those of one place as they stood.
+fn by_place(mut errors: Vec<Error>) -> Result<Vec<Error>, AllocError>
+    ensures { IfOk result (λ v. (reports : List RuleReport) → error_views errors.items ≡ report_views reports → error_views v.items ≡ report_views (by_position reports)) }
+{
+    errors.sort_by_key(place_of)?;
+    Ok(errors)
+}
+
+/// What is wrong with rule sets: rules of one term and priority that may both match, and rules that are never taken since
+/// another one matches wherever they do. No error where there is nothing.
+///
+/// The errors stand by the place of their first rule or mask, overlaps before shadows at one place. Of the overlaps, the
+/// rule with the most is reported first, of several the latest, with the others of these overlaps by place; then the same
+/// of the overlaps that are left. A shadow lists the rules that its mask masks, in rule order. The rules of multi terms
+/// are not compared: all that match are taken.
+///
+/// # Errors
+///
+/// Where memory is refused.
+pub fn check_overlaps(
+    alloc: Global,
+    termenv: &TermEnv,
+    sets: &[(TermId, RuleSet)],
+) -> Result<Vec<Error>, AllocError>
+    ensures { IfOk result (λ v. error_views v.items ≡ report_views (reports_of_sets (is_multi (env_program termenv.now)) (term_set_views sets.now))) }
+{
+    let mut wrong = Vec::new(alloc);
+    let mut shadows = Vec::new(alloc);
+    check_sets(alloc, termenv, sets, &mut wrong, &mut shadows)?;
+    let mut errors = overlap_errors(alloc, &wrong)?;
+    errors.append(&mut shadows)?;
+    by_place(errors)
+}
