@@ -1,5 +1,5 @@
 -- Each form of expression, from what its parts became.
-use Rattle.std.proofs.Common.{◌≡◌, ℕ, ◌+◌, List, length, Option, Result, Ok, Err, Vec, Box, refl, sym, ap, subst, ◌∙◌, inl, inr, ◌⊎◌, ⊎_elim, arith}
+use Rattle.std.proofs.Common.{◌≡◌, ℕ, List, length, Option, Vec, Box, sym, ap, subst, ◌∙◌, inl, inr, ◌⊎◌, ⊎_elim, arith}
 use Rattle.std.specs.declared.alloc.Global.{Global}
 use Rattle.isle_base.specs.declared.syntax.Ident.{Ident}
 use Rattle.isle_base.specs.declared.syntax.Pos.{Pos}

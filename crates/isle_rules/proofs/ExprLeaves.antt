@@ -1,6 +1,6 @@
 -- What expressions without parts become, but for variables.
-use Rattle.std.proofs.Common.{◌≡◌, ℕ, ℤ, ◌&&◌, Bool, true, false, cond, nat_eq, List, Option, Some, None, option_map, slice_get, refl, sym, ap, ◌∙◌, inl, inr, ◌⊎◌, ⊎_elim}
-use Rattle.std.proofs.lemmas.Bool.{cases_Bool, eq-eqb, eqb-true, false≢true}
+use Rattle.std.proofs.Common.{◌≡◌, ℕ, ℤ, ◌&&◌, Bool, true, false, cond, List, Option, Some, None, slice_get, refl, sym, ap, ◌∙◌, inl, inr, ◌⊎◌}
+use Rattle.std.proofs.lemmas.Bool.{eq-eqb, eqb-true, false≢true}
 use Rattle.isle_base.specs.declared.syntax.Error.{Error}
 use Rattle.isle_model.specs.lists.Syntax.{Position, Name, bool_expr, int_expr, prim_expr}
 use Rattle.isle_model.specs.lists.Names.{number, with_name}
@@ -18,7 +18,7 @@ use Rattle.isle_rules.specs.declared.term_env.TermEnv.{TermEnv}
 use Rattle.isle_rules.specs.Elaborating.{Checks}
 use Rattle.isle_rules.specs.Progress.{Remains}
 use Rattle.isle_rules.specs.ExprReadings.{expr_reading}
-use Rattle.isle_rules.specs.Translating.{Standing, IsSettingOf, Shows, Wherever, IsTranslated, IsReported}
+use Rattle.isle_rules.specs.Translating.{Standing, IsSettingOf, Shows, IsTranslated, IsReported}
 use Rattle.isle_rules.proofs.Scopes.{is_met}
 use Rattle.isle_rules.proofs.PatternLeaves.{tested}
 use Rattle.isle_rules.proofs.PatternUsing.{checks_both}

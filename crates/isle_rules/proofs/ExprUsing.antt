@@ -1,35 +1,32 @@
 -- The use of a name in an expression, step by step as it is looked at.
-use Rattle.std.proofs.Common.{◌≡◌, ℕ, zero, suc, ◌+◌, ◌<◌, ◌≤◌, Bool, true, false, cond, eqb, List, [], ◌∷◌, length, map, Option, Some, None, option_map, option_and_then, slice_get, unwrap_or, Err, refl, sym, ap, subst, ◌∙◌, inl, inr, ◌⊎◌, ⊎_elim, arith}
-use Rattle.std.proofs.lemmas.Bool.{eq-eqb, eqb-true, cases_Bool, false≢true}
+use Rattle.std.proofs.Common.{◌≡◌, ℕ, zero, suc, ◌<◌, Bool, true, false, cond, eqb, List, [], ◌∷◌, length, Option, Some, None, option_and_then, slice_get, unwrap_or, Err, refl, sym, ap, subst, ◌∙◌, inl, inr, ◌⊎◌, arith}
+use Rattle.std.proofs.lemmas.Bool.{cases_Bool, false≢true}
 use Rattle.std.proofs.lemmas.Option.{none-some}
-use Rattle.isle_base.specs.declared.syntax.Error.{Error}
 use Rattle.isle_base.specs.declared.syntax.Expr.{Expr}
 use Rattle.isle_base.specs.SyntaxViews as S
 use Rattle.isle_model.specs.lists.Syntax.{Position, Name, ExprTree, ExprTrees, no_expr, expr_and, term_expr, var_expr}
 use Rattle.isle_model.specs.lists.Names.{number, has_name}
 use Rattle.isle_model.specs.lists.Tables.{Flags, TermKindEntry, variant_term, struct_term, declared_term, TermEntry}
 use Rattle.isle_model.specs.lists.Expansions.{wrapped_expr}
-use Rattle.isle_model.specs.lists.Setting.{Setting, Scope, term_of, var_of, var_named, that, has_constructor, is_callable, is_expected, expr_converter}
+use Rattle.isle_model.specs.lists.Setting.{Setting, Scope, var_of, var_named, that, has_constructor, is_callable, is_expected, expr_converter}
 use Rattle.isle_model.specs.lists.Typings.{Typing, plain, made_into, followed, counted}
 use Rattle.isle_model.specs.lists.Elaborated.{as_expected, deeper_expr, elaborated_expr, args_with}
 use Rattle.isle_model.specs.rules.Outcome.{then_option}
 use Rattle.isle_model.specs.rules.Typed.{TypedExpr, make_term, make_var, typed_expr_and, TypedVar}
 use Rattle.isle_model.proofs.ByNumber.{looked_up}
 use Rattle.isle_model.proofs.Names.{last}
-use Rattle.isle_laws_lists.proofs.Typings.{ne-eqb, expected_itself}
+use Rattle.isle_laws_lists.proofs.Typings.{expected_itself}
 use Rattle.isle_types.specs.Envs.{names_of, symbol_of, IsInterned}
 use Rattle.isle_types.specs.Reading.{Reports}
 use Rattle.isle_terms.specs.Terms.{has_constructor_kind}
-use Rattle.isle_terms.specs.TermViews.{term_views}
 use Rattle.isle_rules.specs.declared.term_env.TermEnv.{TermEnv}
 use Rattle.isle_rules.specs.declared.typing.progress.Stop.{Stop}
-use Rattle.isle_rules.specs.declared.typing.progress.Stop.TheVariants.{Memory, Nesting, Expansions}
 use Rattle.isle_rules.specs.Elaborating.{Checks}
 use Rattle.isle_rules.specs.Progress.{newest, Remains, CountsOne, Counts}
 use Rattle.isle_rules.specs.ExprReadings.{made_entry, all_made, expr_reading, args_reading}
-use Rattle.isle_rules.specs.ExprUses.{found_expr_converter, inside_call, allowed, expr_list, Converts, ReadsAs, TakesArgs}
+use Rattle.isle_rules.specs.ExprUses.{found_expr_converter, inside_call, allowed, expr_list, Converts, TakesArgs}
 use Rattle.isle_rules.specs.PatternUses.{found_term, found_converter, name_at}
-use Rattle.isle_rules.specs.Translating.{Standing, Reading, IsSettingOf, Shows, Wherever, IsTranslated, IsReported, Stops, ExpandsTo, converter_in, expanding}
+use Rattle.isle_rules.specs.Translating.{Standing, IsSettingOf, Shows, Wherever, IsTranslated, IsReported, Stops, converter_in, expanding}
 use Rattle.isle_rules.proofs.MadeSettings.{callable_made, term_made, converter_made}
 use Rattle.isle_rules.proofs.PatternLeaves.{tested}
 use Rattle.isle_rules.proofs.ExprLeaves.{is_false}

@@ -1,9 +1,8 @@
 -- Lets, from what their definitions and their body became.
-use Rattle.std.proofs.Common.{◌≡◌, ℕ, suc, ◌+◌, ◌<◌, ◌≤◌, ◌||◌, Bool, true, false, cond, nat_eq, List, [], ◌∷◌, ◌++◌, length, take, drop, get_or, Option, Some, None, option_and_then, Result, Ok, Err, Box, refl, sym, ap, subst, ◌∙◌, inl, inr, ◌⊎◌, ⊎_elim, arith}
+use Rattle.std.proofs.Common.{◌≡◌, ℕ, suc, ◌+◌, ◌<◌, ◌≤◌, ◌||◌, Bool, true, false, cond, nat_eq, List, [], ◌∷◌, ◌++◌, length, take, drop, get_or, Option, Some, None, option_and_then, Ok, Box, refl, sym, ap, subst, ◌∙◌, inl, inr, ◌⊎◌, ⊎_elim, arith}
 use Rattle.std.specs.Option.{option_to_list}
 use Rattle.std.specs.Str.{bytes_eq}
 use Rattle.std.specs.declared.alloc.Global.{Global}
-use Rattle.std.proofs.lemmas.Bool.{cases_Bool}
 use Rattle.std.proofs.lemmas.List.{take_more, take_all, take-append-drop, length-append}
 use Rattle.std.specs.List.{position_from}
 use Rattle.isle_base.specs.declared.syntax.LetDef.{LetDef}
@@ -12,7 +11,7 @@ use Rattle.isle_model.specs.lists.Syntax.{Position, Name, ExprTree, let_expr, Le
 use Rattle.isle_model.specs.lists.Names.{number, has_name, with_name}
 use Rattle.isle_model.specs.lists.Tables.{Flags}
 use Rattle.isle_model.specs.rules.Outcome.{then_option}
-use Rattle.isle_model.specs.rules.Typed.{TypedExpr, make_let, TypedLets, no_typed_let, typed_let_and, TypedVar}
+use Rattle.isle_model.specs.rules.Typed.{TypedExpr, TypedLets, no_typed_let, typed_let_and}
 use Rattle.isle_model.specs.lists.Setting as M
 use Rattle.isle_model.specs.lists.Setting.{Setting, Scope, met, bound, after_let, var_named}
 use Rattle.isle_model.specs.lists.Typings.{Typing, plain, scoped, joined_typing, followed}
@@ -23,7 +22,6 @@ use Rattle.isle_laws_lists.proofs.Typings.{scoped_gives}
 use Rattle.isle_types.specs.declared.ids.Sym.{Sym}
 use Rattle.isle_types.specs.declared.ids.TypeId.{TypeId}
 use Rattle.isle_types.specs.declared.ids.VarId.{VarId}
-use Rattle.isle_types.specs.declared.type_env.TypeEnv.{TypeEnv}
 use Rattle.isle_types.specs.Envs.{names_of, symbol_of, type_at, type_of_name, IsInterned}
 use Rattle.isle_types.specs.Reading.{Reports, MayReport}
 use Rattle.isle_rules.specs.declared.exprs.Expr.{Expr}
@@ -32,9 +30,9 @@ use Rattle.isle_rules.specs.declared.term_env.TermEnv.{TermEnv}
 use Rattle.isle_rules.specs.declared.typing.progress.Stop.{Stop}
 use Rattle.isle_rules.specs.declared.typing.progress.Stop.TheVariants.{Memory, Nesting, Expansions}
 use Rattle.isle_rules.specs.ExprReadings.{all_made, expr_reading, lets_reading}
-use Rattle.isle_rules.specs.ExprViews.{expr_view, let_view, let_views, let_parts}
+use Rattle.isle_rules.specs.ExprViews.{expr_view, let_views, let_parts}
 use Rattle.isle_rules.specs.Lets.{with_let, before_all, HidesAs, Defines, BindsDef, Closes, DefinesOne}
-use Rattle.isle_rules.specs.Progress.{newest, vars_of, BindsNext, Remains}
+use Rattle.isle_rules.specs.Progress.{newest, BindsNext, Remains}
 use Rattle.isle_rules.specs.Translating.{Standing, Keeps, IsSettingOf, Shows, Reading, Wherever, IsOnlyTyping, IsTranslated, IsReported, Stops}
 use Rattle.isle_rules.proofs.Readings.{becomes_same, keep_setting, reported_then, then_done, then_reported, then_stops, first_stops, may_report}
 use Rattle.isle_rules.proofs.Scopes.{met_shows, bound_shows, as_many, plain_made}
@@ -68,8 +66,7 @@ number_left (n ∷ ns) ys x h =
     or_cond false q h = h
 
 -- one definition
-module _ (env : TermEnv) (old mid : Standing) (name ty : Name) (value : ExprTree) (at : Position) (flags : Flags) (inv : IsInterned old.tyenv) (keeps : Keeps old.tyenv mid.tyenv)
-    (names : names_of mid.tyenv ≡ with_name (names_of old.tyenv) name.text) (r : Remains old.work mid.work) where
+module _ (env : TermEnv) (old mid : Standing) (name ty : Name) (value : ExprTree) (at : Position) (flags : Flags) (inv : IsInterned old.tyenv) where
   abbrev one : Reading TypedLets
   one = lets_reading (let_and name ty value at no_let) flags
 
@@ -96,7 +93,7 @@ module _ (env : TermEnv) (old mid : Standing) (name ty : Name) (value : ExprTree
     noted = λ e multi s is sh. record { reports = more; none = λ c. let h = type_found None none e s is sh in rw h refl };
   }
 
-  module _ (own : ℕ) (there : Some own ≡ type_of_name old.tyenv ty.text) (errors : mid.work.errors.items ≡ old.work.errors.items) where
+  module _ (keeps : Keeps old.tyenv mid.tyenv) (names : names_of mid.tyenv ≡ with_name (names_of old.tyenv) name.text) (r : Remains old.work mid.work) (own : ℕ) (there : Some own ≡ type_of_name old.tyenv ty.text) (errors : mid.work.errors.items ≡ old.work.errors.items) where
     unfolded : (e : Setting) (multi : Bool) (s : Scope) → IsSettingOf old.tyenv env e → Shows old s → (c : ℕ) → one e multi c s ≡ defined own name.text (expr_reading value flags (Some own) e multi c (met s name.text))
     unfolded e multi s is sh c = let h = type_found (Some own) there e s is sh in rw h refl
 
@@ -201,28 +198,27 @@ regroup x own v t n (Some c) second = elim (second c.scope) as (λ o. joined_typ
       | Some f ↦ same_typing (typed_let_and x own v (lets_joined c.made f.made)) f.scope (n + (c.expansions + f.expansions)) (n + c.expansions + f.expansions) (omega arith)
     ]
 
+module _ (x : List ℕ) (whole first second : Scope → Option (Typing TypedLets)) (law : (t : Scope) → whole t ≡ followed lets_joined (first t) (λ a. second a.scope)) where
+  value_before : (own : ℕ) (v : Option (Typing TypedExpr))
+      → followed before_rest (bound_let x own v) (λ a. whole a.scope) ≡ followed lets_joined (followed before_rest (bound_let x own v) (λ a. first a.scope)) (λ a. second a.scope)
+  value_before own None = refl
+  value_before own (Some a) =
+      ap (joined_typing before_rest (record { made = typed_let_and (length a.scope.vars) own a.made; scope = bound a.scope x own; expansions = a.expansions })) (law (bound a.scope x own))
+      ∙ regroup (length a.scope.vars) own a.made (bound a.scope x own) a.expansions (first (bound a.scope x own)) second
+
+  type_before : (o : Option ℕ) (value : ℕ → Option (Typing TypedExpr))
+      → then_option o (λ own. followed before_rest (bound_let x own (value own)) (λ a. whole a.scope))
+      ≡ followed lets_joined (then_option o (λ own. followed before_rest (bound_let x own (value own)) (λ a. first a.scope))) (λ a. second a.scope)
+  type_before None value = refl
+  type_before (Some own) value = value_before own (value own)
+
 module _ (e : Setting) (flags : Flags) (c : ℕ) where
   pub lets_after : (ds es : List LetDef) (s : Scope)
       → lets_with e flags (deeper_expr e flags c) (S.let_views (ds ++ es)) s ≡ followed lets_joined (lets_with e flags (deeper_expr e flags c) (S.let_views ds) s) (λ a. lets_with e flags (deeper_expr e flags c) (S.let_views es) a.scope)
   lets_after [] es s = from_none s (lets_with e flags (deeper_expr e flags c) (S.let_views es) s)
-  lets_after (d ∷ ds) es s = at_type (M.type_of_name e s (S.name_view d.ty).text)
-    where
-      rest : List LetDef → Scope → Option (Typing TypedLets)
-      rest fs t = lets_with e flags (deeper_expr e flags c) (S.let_views fs) t
-
-      at_value : (own : ℕ) (v : Option (Typing TypedExpr))
-          → followed before_rest (bound_let (S.name_view d.var).text own v) (λ a. rest (ds ++ es) a.scope) ≡ followed lets_joined (followed before_rest (bound_let (S.name_view d.var).text own v) (λ a. rest ds a.scope)) (λ a. rest es a.scope)
-      at_value own None = refl
-      at_value own (Some a) =
-          let t : Scope = bound a.scope (S.name_view d.var).text own in
-          ap (joined_typing before_rest (record { made = typed_let_and (length a.scope.vars) own a.made; scope = t; expansions = a.expansions })) (lets_after ds es t)
-          ∙ regroup (length a.scope.vars) own a.made t a.expansions (rest ds t) (rest es)
-
-      at_type : (o : Option ℕ)
-          → then_option o (λ own. followed before_rest (bound_let (S.name_view d.var).text own (elaborated_expr e flags c (S.expr_view d.val.value) (Some own) (met s (S.name_view d.var).text))) (λ a. rest (ds ++ es) a.scope))
-          ≡ followed lets_joined (then_option o (λ own. followed before_rest (bound_let (S.name_view d.var).text own (elaborated_expr e flags c (S.expr_view d.val.value) (Some own) (met s (S.name_view d.var).text))) (λ a. rest ds a.scope))) (λ a. rest es a.scope)
-      at_type None = refl
-      at_type (Some own) = at_value own (elaborated_expr e flags c (S.expr_view d.val.value) (Some own) (met s (S.name_view d.var).text))
+  lets_after (d ∷ ds) es s =
+      type_before (S.name_view d.var).text (lets_with e flags (deeper_expr e flags c) (S.let_views (ds ++ es))) (lets_with e flags (deeper_expr e flags c) (S.let_views ds)) (lets_with e flags (deeper_expr e flags c) (S.let_views es))
+      (λ t. lets_after ds es t) (M.type_of_name e s (S.name_view d.ty).text) (λ own. elaborated_expr e flags c (S.expr_view d.val.value) (Some own) (met s (S.name_view d.var).text))
 
 -- before the first definition
 pub no_def_yet : (env : TermEnv) (old : Standing) (d : ℕ) (flags : Flags) (hidden : List (Sym × Option BoundVar)) (made : List (VarId × TypeId × Box Expr Global)) → made ≡ [] → Defines env old old d (lets_reading no_let flags) (let_parts (let_views made)) hidden hidden
@@ -238,9 +234,13 @@ no_def_yet env old d flags hidden made none = inl (
 -- one more definition
 module _ (env : TermEnv) (old mid new : Standing) (d : ℕ) (flags : Flags) (defs : List LetDef) (i : ℕ) (def : LetDef) (w : i < length defs) (def_is : def ≡ get_or defs i def) (keeps : Keeps old.tyenv mid.tyenv)
     (made : List (VarId × TypeId × Box Expr Global)) (first hidden : List (Sym × Option BoundVar)) (sofar : Defines env old mid d (lets_reading (S.let_views (take i defs)) flags) (let_parts (let_views made)) first hidden) where
-  abbrev before after last_one : Reading TypedLets
+  abbrev before : Reading TypedLets
   before = lets_reading (S.let_views (take i defs)) flags
+
+  abbrev after : Reading TypedLets
   after = lets_reading (S.let_views (take (i + 1) defs)) flags
+
+  abbrev last_one : Reading TypedLets
   last_one = lets_reading (with_let def no_let) flags
 
   further : (e : Setting) (multi : Bool) (c : ℕ) (s : Scope) → after e multi c s ≡ followed lets_joined (before e multi c s) (λ a. last_one e multi c a.scope)
@@ -260,9 +260,12 @@ module _ (env : TermEnv) (old mid new : Standing) (d : ℕ) (flags : Flags) (def
       at_both : Defines env old mid d before (let_parts (let_views made)) first hidden → Defines env old new d after (let_parts (let_views (made ++ b ∷ []))) first now
       at_both (inl x) =
           ⊎_elim
-          (λ z. inl (rw (parts_joined made b) z, λ e multi s is sh k.
-          let a = x.0.made e multi s is sh in
-          y.1 e multi a.typing.scope (keep_setting env old.tyenv mid.tyenv e keeps is) a.shows k ∙ x.1 e multi s is sh k))
+          (λ z. inl (
+            rw (parts_joined made b) z,
+            λ e multi s is sh k.
+                let a = x.0.made e multi s is sh in
+                y.1 e multi a.typing.scope (keep_setting env old.tyenv mid.tyenv e keeps is) a.shows k ∙ x.1 e multi s is sh k,
+          ))
           (λ z. inr z)
           (then_done env old mid new d before (λ q. last_one) after lets_joined further (let_parts (let_views made)) (let_parts (let_views (b ∷ []))) keeps (inl x.0) (inl y.0))
       at_both (inr x) = inr (reported_then env old mid new d before after x (λ e multi c s h. further e multi c s ∙ ap (λ o. followed lets_joined o (λ a. last_one e multi c a.scope)) h) (inl y.0.errors))
@@ -285,10 +288,14 @@ becomes_scoped : (s : Scope) (o : ℕ → Option (Typing TypedExpr)) (d : ℕ) (
 becomes_scoped s o d a y = record { here = ap (scoped (after_let s)) y.here; elsewhere = λ c. ⊎_elim (λ h. inl (ap (scoped (after_let s)) h)) (λ h. inr (ap (scoped (after_let s)) h)) (y.elsewhere c) }
 
 module _ (env : TermEnv) (old mid new : Standing) (d : ℕ) (flags : Flags) (defs : LetTrees) (body : ExprTree) (at : Position) (ty : Option ℕ) where
-  abbrev whole inner bodies : Reading TypedExpr
+  abbrev whole : Reading TypedExpr
   whole = expr_reading (let_expr defs body at) flags ty
-  inner e multi c s = followed typed_let (lets_reading defs flags e multi c s) (λ a. expr_reading body flags ty e multi c a.scope)
+
+  abbrev bodies : Reading TypedExpr
   bodies = expr_reading body flags ty
+
+  abbrev inner : Reading TypedExpr
+  inner e multi c s = followed typed_let (lets_reading defs flags e multi c s) (λ a. expr_reading body flags ty e multi c a.scope)
 
   inner_reported : (last : Standing) → IsReported env old last inner → IsReported env old last whole
   inner_reported last y = record {

@@ -1,12 +1,11 @@
 -- The scopes of lets.
-use Rattle.std.proofs.Common.{◌≡◌, ℕ, zero, suc, ◌+◌, ◌-◌, ◌<◌, ◌≤◌, take, get_or, Bool, true, false, cond, nat_eq, eqb, List, [], ◌∷◌, ◌++◌, length, Option, Some, None, option_map, refl, sym, ap, subst, ◌∙◌, inl, inr, ◌⊎◌, ⊎_elim, arith}
+use Rattle.std.proofs.Common.{◌≡◌, ℕ, ◌+◌, ◌-◌, ◌<◌, ◌≤◌, take, get_or, cond, nat_eq, List, [], ◌∷◌, ◌++◌, length, Option, Some, option_map, refl, sym, ap, ◌∙◌, inl, inr, arith}
 use Rattle.std.proofs.lemmas.Bool.{cases_Bool, eqb-true}
 use Rattle.std.proofs.lemmas.List.{take_more, take_all}
-use Rattle.isle_model.specs.lists.Syntax.{Name, ExprTree, ExprTrees, LetTrees}
+use Rattle.isle_model.specs.lists.Syntax.{ExprTree, ExprTrees}
 use Rattle.isle_model.specs.lists.Tables.{Flags}
 use Rattle.isle_model.specs.rules.Typed.{TypedVar, TypedExpr, TypedExprs}
 use Rattle.isle_model.specs.lists.Setting.{Setting, Scope, var_named}
-use Rattle.isle_model.specs.lists.Typings.{Typing}
 use Rattle.isle_model.specs.lists.Elaborates.{ElaboratesExpr, ElaboratesArgs, a_call, converted_call, a_variable, converted_variable, truth_expr, integer_expr, constant_expr, let_in, no_arg, an_arg}
 use Rattle.isle_laws_lists.proofs.TypedExprs as exprs
 use Rattle.isle_types.specs.declared.ids.Sym.{Sym}
@@ -17,7 +16,7 @@ use Rattle.isle_rules.specs.Lets.{before_all, Closes}
 use Rattle.isle_rules.specs.declared.typing.progress.Progress.{Progress}
 use Rattle.isle_rules.specs.Progress.{newest, vars_of, PutsBack}
 use Rattle.isle_rules.specs.RuleViews.{var_view}
-use Rattle.isle_rules.specs.Translating.{Standing, IsSettingOf, Shows, Wherever, IsTranslated}
+use Rattle.isle_rules.specs.Translating.{Standing, Wherever, IsTranslated}
 
 -- after an expression what can be used is what could be used before it
 module _ (e : Setting) (flags : Flags) where

@@ -1,6 +1,6 @@
 -- How expressions are read, as the function of typing says. Whether each term that an expression names has a constructor is
 -- looked at after all rules: until then it is taken to have one.
-use Rattle.std.specs.Prelude.{ℕ, List, filter, map, Option, Some, None, option_map, is_some}
+use Rattle.std.specs.Prelude.{ℕ, List, filter, map, Option, Some, option_map, is_some}
 use Rattle.isle_model.specs.lists.Syntax.{ExprTree, ExprTrees, LetTrees}
 use Rattle.isle_model.specs.lists.Tables.{Flags, internal_constructor, TermKindEntry, variant_term, struct_term, declared_term, TermEntry}
 use Rattle.isle_model.specs.rules.Typed.{TypedExpr, TypedExprs, TypedLets}

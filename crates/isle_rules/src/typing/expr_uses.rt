@@ -320,9 +320,7 @@ fn report_unknown(
 {
     let alloc = *work.errors.allocator();
     let hint = match find_var(tyenv, work, sym) {
-        Some(_) => {
-            ". Variable binding under this name exists; try removing the parens?"
-        }
+        Some(_) => { ". Variable binding under this name exists; try removing the parens?" }
         None => "",
     };
     let msg = format!(in alloc; "Unknown term in expression: '{}'{hint}", sym.0)?;

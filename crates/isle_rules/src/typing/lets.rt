@@ -42,11 +42,7 @@ fn report_type(errors: &mut Vec<Error>, pos: Pos, def: &LetDef) -> Result<(), Al
     ensures { OnOk result (Reports errors.old.items errors.new.items) }
 {
     let alloc = *errors.allocator();
-    let msg = format!(in alloc;
-        "Unknown type {} for variable '{}'",
-        def.ty.0,
-        def.var.0
-    )?;
+    let msg = format!(in alloc; "Unknown type {} for variable '{}'", def.ty.0, def.var.0)?;
     report(errors, pos, msg.as_str())
 }
 

@@ -1,4 +1,4 @@
-use Rattle.std.proofs.Common.{None, refl, inr, ap, ◌∙◌}
+use Rattle.std.proofs.Common.{refl, inr, ap}
 use mir.Syntax.{w128}
 use Rattle.std.proofs.lemmas.Int.{to_z-of_z}
 use Rattle.isle_base.specs.SyntaxViews.{position}

@@ -4,7 +4,7 @@ use Rattle.isle_base.specs.SyntaxViews.{name_view, position}
 use Rattle.isle_types.specs.Envs.{constant_at, symbol, same_symbol}
 use Rattle.isle_rules.specs.ExprReadings.{expected}
 use Rattle.isle_rules.specs.Translating.{standing}
-use Rattle.isle_rules.proofs.ExprLeaves.{constant_unknown, constant_mistyped, constant_made}
+use Rattle.isle_rules.proofs.ExprLeaves.{constant_unknown, constant_made}
 use Rattle.isle_rules.proofs.term_env.TermEnv.make_prim.Goals as goal
 
 pub returns-in_default-clause-made : goal.returns-in_default-clause-made

@@ -1,4 +1,4 @@
-use Rattle.std.proofs.Common.{◌≡◌, true, ap, sym, subst}
+use Rattle.std.proofs.Common.{◌≡◌, true, sym, subst}
 use Rattle.isle_terms.specs.TermViews.{flags_view, kind_view}
 use Rattle.isle_rules.specs.Elaborating.{Checks}
 use Rattle.isle_rules.specs.ExprUses.{allowed}

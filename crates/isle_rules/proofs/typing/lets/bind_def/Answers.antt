@@ -1,4 +1,4 @@
-use Rattle.std.proofs.Common.{cond, nat_eq, refl, ap, ◌∙◌}
+use Rattle.std.proofs.Common.{cond, nat_eq, ap, ◌∙◌}
 use Rattle.isle_rules.specs.ExprViews.{expr_view}
 use Rattle.isle_rules.specs.Lets.{before_all}
 use Rattle.isle_rules.proofs.LetScopes.{hide_last}
