@@ -27,3 +27,11 @@ pub mod PatternUsing
 pub mod PatternLists
 pub mod PatternSizes
 pub mod PatternForms
+pub mod MadeSettings
+pub mod ExprLeaves
+pub mod ExprUsing
+pub mod LetScopes
+pub mod ExprLists
+pub mod ExprSizes
+pub mod LetForms
+pub mod ExprForms

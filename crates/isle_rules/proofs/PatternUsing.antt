@@ -105,7 +105,7 @@ counted_deeper e multi (suc c) p ty s = refl
 
 -- a name is found by its number
 module _ (env : TermEnv) (at : Standing) (inv : IsInterned at.tyenv) (x : List ℕ) where
-  found_so : (o : Option TermEntry) → o ≡ found_term env at.tyenv x → (e : Setting) (s : Scope) → IsSettingOf at.tyenv env e → Shows at s → term_of e s x ≡ o
+  pub found_so : (o : Option TermEntry) → o ≡ found_term env at.tyenv x → (e : Setting) (s : Scope) → IsSettingOf at.tyenv env e → Shows at s → term_of e s x ≡ o
   found_so o h e s is sh =
       sym (is.term_names (number s.names x))
       ∙ ap (λ ns. then_option (term_in_env env (number ns x)) (slice_get e.terms)) (sym sh.names)

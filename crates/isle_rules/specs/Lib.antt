@@ -15,3 +15,6 @@ pub mod Progress
 pub mod Translating
 pub mod PatternReadings
 pub mod PatternUses
+pub mod ExprReadings
+pub mod ExprUses
+pub mod Lets

@@ -36,6 +36,13 @@ pub record BindsNext (name ty : ℕ) (old new : Progress) : Type 0 where
   pub expansions : new.expansions ≡ old.expansions
   pub errors : new.errors.items ≡ old.errors.items
 
+-- the name of a number stands for this variable, or for none, and all else stays
+pub record PutsBack (name : ℕ) (var : Option TypedVar) (old new : Progress) : Type 0 where
+  pub vars : vars_of new ≡ vars_of old
+  pub names : (k : ℕ) → newest new k ≡ (if nat_eq name k then var else newest old k)
+  pub expansions : new.expansions ≡ old.expansions
+  pub errors : new.errors.items ≡ old.errors.items
+
 -- but for the number of expansions nothing changes
 pub record CountsOne (old new : Progress) : Type 0 where
   pub vars : vars_of new ≡ vars_of old

@@ -20,3 +20,11 @@ pub(crate) fn type_text(tyenv: &TypeEnv, ty: TypeId) -> &str {
         None => "",
     }
 }
+
+// The name of the type that is expected, for messages. Nothing where none is.
+pub(crate) fn expected_text(tyenv: &TypeEnv, ty: Option<TypeId>) -> &str {
+    match ty {
+        Some(ty) => type_text(tyenv, ty),
+        None => "",
+    }
+}

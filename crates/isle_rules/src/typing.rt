@@ -2,6 +2,10 @@
 //! work goes on where it can; only a limit ends the work on a rule.
 
 mod checks;
+mod expr_leaves;
+mod expr_uses;
+mod exprs;
+mod lets;
 mod pattern_leaves;
 mod pattern_uses;
 mod patterns;

@@ -1,10 +1,12 @@
 //! What is checked of literals and of counts, in patterns and in expressions alike. What is wrong is noted.
 
 ghost use Rattle.std.specs.Prelude.{◌≡◌, true, OnOk, option_map, slice_get};
+ghost use Rattle.isle_model.specs.lists.Setting.{is_expected};
 ghost use Rattle.isle_model.specs.rules.Values.{is_atom_type};
 ghost use Rattle.isle_types.specs.Envs.{constant_at};
 ghost use Rattle.isle_types.specs.TypeViews.{type_views};
 ghost use Rattle.isle_rules.specs.Elaborating.{Checks};
+ghost use Rattle.isle_rules.specs.ExprReadings.{expected};
 
 use crate::reports::type_text;
 use isle_base::syntax::{Error, Ident, Pos};
@@ -89,4 +91,14 @@ pub(crate) fn constant_type(tyenv: &TypeEnv, name: Sym) -> Option<TypeId>
     ensures { option_map (λ t. t.0) result ≡ constant_at tyenv.now name.0 }
 {
     tyenv.const_types.get(&name).copied()
+}
+
+/// Whether an expression of a type may stand where a type, or any type, is expected.
+pub(crate) fn meets_expected(has: TypeId, want: Option<TypeId>) -> bool
+    ensures { result ≡ is_expected (expected want) has.0 }
+{
+    match want {
+        Some(ty) => has == ty,
+        None => true,
+    }
 }

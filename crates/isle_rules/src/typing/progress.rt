@@ -1,7 +1,7 @@
 //! What typing a rule has come to.
 
 ghost use Rattle.std.specs.Prelude.{◌≡◌, ◌+◌, ◌<◌, IfOk, OnOk, MatchResult, option_map, length, alloc_error};
-ghost use Rattle.isle_rules.specs.Progress.{newest, BindsNext, Counts, IsFresh};
+ghost use Rattle.isle_rules.specs.Progress.{newest, BindsNext, PutsBack, Counts, IsFresh};
 ghost use Rattle.isle_rules.specs.RuleViews.{var_view};
 ghost use Rattle.isle_rules.specs.declared.typing.progress.Stop.TheVariants.{Memory};
 
@@ -97,6 +97,14 @@ impl Progress {
         self.in_scope.insert(name, Some(var))?;
         self.seen.push(var)?;
         Ok(id)
+    }
+
+    /// A name stands for what it stood for before, if for anything.
+    pub(crate) fn put_back(&mut self, name: Sym, var: Option<BoundVar>) -> Result<(), AllocError>
+        ensures { OnOk result (PutsBack name.0 (option_map var_view var) self.old self.new) }
+    {
+        self.in_scope.insert(name, var)?;
+        Ok(())
     }
 
     /// Counts one more expansion, in which so many may still nest, itself among them: how many may in what it makes.

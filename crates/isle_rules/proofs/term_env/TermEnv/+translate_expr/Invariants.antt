@@ -1,0 +1,36 @@
+use Rattle.std.proofs.Common.{suc, ◌+◌, map, take}
+use Rattle.isle_base.specs.SyntaxViews as S
+use Rattle.isle_terms.specs.TermViews.{flags_view}
+use Rattle.isle_rules.specs.ExprReadings.{args_reading, lets_reading}
+use Rattle.isle_rules.specs.ExprViews.{let_views, let_parts}
+use Rattle.isle_rules.specs.Lets.{Defines}
+use Rattle.isle_rules.specs.Translating.{standing, Keeps}
+use Rattle.isle_rules.proofs.ExprLists.{SoFar}
+use Rattle.isle_rules.proofs.ExprSizes.{expr_size, exprs_size, lets_size}
+use Rattle.isle_rules.proofs.PatternSizes.{grown}
+use Rattle.isle_rules.proofs.term_env.TermEnv.+translate_expr.Given as goal
+
+abbrev pub decreases-translate_expr : goal.decreases-translate_expr
+decreases-translate_expr l = grown 4 l.nesting (expr_size (S.expr_view l.expr.now))
+
+abbrev pub decreases-translate_exprs : goal.decreases-translate_exprs
+decreases-translate_exprs l = grown 4 l.nesting (exprs_size (S.expr_views l.args.now))
+
+abbrev pub decreases-translate_let : goal.decreases-translate_let
+decreases-translate_let l = grown 4 l.nesting (suc (lets_size (S.let_views l.defs.now) + expr_size (S.expr_view l.body.now)))
+
+abbrev pub decreases-translate_defs : goal.decreases-translate_defs
+decreases-translate_defs l = grown 4 l.nesting (lets_size (S.let_views l.defs.now))
+
+abbrev pub decreases-translate_def : goal.decreases-translate_def
+decreases-translate_def l = grown 4 l.nesting (suc (expr_size (S.expr_view l.def.now.val.value)))
+
+abbrev pub invariant-translate_exprs-loop-i : goal.invariant-translate_exprs-loop-i
+invariant-translate_exprs-loop-i l =
+    Keeps l.fn.tyenv l.tyenv
+    × SoFar l.self (standing l.fn.tyenv l.fn.work) (standing l.tyenv l.work) l.nesting (args_reading (S.expr_views (take l.i l.args)) (flags_view l.flags) (map (λ t. t.0) (take l.i l.tys))) l.parts.items
+
+abbrev pub invariant-translate_defs-loop-def : goal.invariant-translate_defs-loop-def
+invariant-translate_defs-loop-def l =
+    Keeps l.fn.tyenv l.tyenv
+    × Defines l.self (standing l.fn.tyenv l.fn.work) (standing l.tyenv l.work) l.nesting (lets_reading (S.let_views (take l.def-index l.defs)) (flags_view l.flags)) (let_parts (let_views l.bindings.items)) l.fn.hidden.items l.hidden.items

@@ -1,0 +1,11 @@
+use Rattle.std.proofs.Common.{refl}
+use Rattle.isle_base.specs.SyntaxViews.{position}
+use Rattle.isle_rules.specs.ExprReadings.{expected}
+use Rattle.isle_rules.specs.Translating.{standing}
+use Rattle.isle_rules.proofs.ExprLeaves.{truth_made}
+use Rattle.isle_rules.proofs.term_env.TermEnv.make_bool.Goals as goal
+
+pub returns : goal.returns
+returns c flags =
+    truth_made c.args.self.now (standing c.args.tyenv.now c.args.work.now) _ flags (position c.args.pos) refl (record { vars = refl; names = λ k. refl; expansions = refl })
+    (expected c.args.expected_ty) c.args.val c.in_ok-check_truth.ensures

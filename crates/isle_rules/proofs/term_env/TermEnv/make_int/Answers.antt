@@ -1,0 +1,21 @@
+use Rattle.std.proofs.Common.{refl, inr, ap}
+use mir.Syntax.{w128}
+use Rattle.std.proofs.lemmas.Int.{to_z-of_z}
+use Rattle.isle_base.specs.SyntaxViews.{position}
+use Rattle.isle_model.specs.lists.Syntax.{int_expr}
+use Rattle.isle_rules.specs.ExprReadings.{expected, expr_reading}
+use Rattle.isle_rules.specs.Translating.{standing}
+use Rattle.isle_rules.proofs.ExprLeaves.{int_made}
+use Rattle.isle_rules.proofs.term_env.TermEnv.make_int.Goals as goal
+
+pub returns-in_default : goal.returns-in_default
+returns-in_default c flags d = record {
+  errors = inr c.in_ok-report.ensures;
+  noted = λ e multi s is sh. record { reports = c.in_ok-report.ensures; none = λ k. ap (λ ty. expr_reading (int_expr c.args.val (position c.args.pos)) flags (expected ty) e multi k s) c.in_default.is };
+}
+
+pub returns : goal.returns
+returns c flags d =
+    rw (c.in-Some.is, to_z-of_z w128 c.args.val c.ranges.val)
+    (int_made c.args.self.now (standing c.args.tyenv.now c.args.work.now) _ flags (position c.args.pos) refl (record { vars = refl; names = λ k. refl; expansions = refl })
+    c.in-Some.ty.0 c.args.val c.in_ok-check_integer.ensures d)

@@ -1,0 +1,38 @@
+use Rattle.std.proofs.Common.{refl, sym}
+use Rattle.isle_base.specs.SyntaxViews.{name_view, position, expr_views}
+use Rattle.isle_model.specs.lists.Syntax.{term_expr}
+use Rattle.isle_terms.specs.TermViews.{flags_view, term_view}
+use Rattle.isle_rules.specs.ExprReadings.{expected}
+use Rattle.isle_rules.specs.Translating.{standing}
+use Rattle.isle_rules.proofs.Readings.{stop_is}
+use Rattle.isle_rules.proofs.ExprUsing.{list_length, call_unknown, call_converts, converted, conversion_stops, args_used}
+use Rattle.isle_rules.proofs.term_env.TermEnv.use_in_expr.Goals as goal
+
+pub returns-in_default : goal.returns-in_default
+returns-in_default c =
+    rw c.requires.whole
+    (call_unknown c.args.self.now (standing c.args.tyenv.now c.args.work.now) c.requires.inverse (name_view c.args.sym.now) (expr_views c.args.args.now) (position c.args.pos) (flags_view c.args.flags) (expected c.args.expected_ty)
+    _ c.in_default.ensures c.in_ok-report_unknown.ensures)
+
+pub returns-in_err-left : goal.returns-in_err-left
+returns-in_err-left c =
+    rw (stop_is c.from_residual-in_err-left.result c.in_err-left.field-0.0 c.from_residual-in_err-left.ensures, c.requires.whole)
+    (conversion_stops c.args.self.now (standing c.args.tyenv.now c.args.work.now) (term_expr (name_view c.args.sym.now) (expr_views c.args.args.now) (position c.args.pos)) (position c.args.pos) (flags_view c.args.flags) (expected c.args.expected_ty) (term_view c.in-Some-expr_converter.by.now)
+    (call_converts c.args.self.now (standing c.args.tyenv.now c.args.work.now) c.requires.inverse (name_view c.args.sym.now) (expr_views c.args.args.now) (position c.args.pos) (flags_view c.args.flags) (expected c.args.expected_ty)
+    (term_view c.in-Some.term.now) c.in-Some.ensures (term_view c.in-Some-expr_converter.by.now) c.in-Some-expr_converter.ensures)
+    (standing c.args.tyenv.now c.expand.new.self) c.args.nesting c.in_err-left.field-0.0 c.in_err-left.ensures)
+
+pub returns-in-Some-expr_converter : goal.returns-in-Some-expr_converter
+returns-in-Some-expr_converter c =
+    rw (c.in_ok-inside.ensures, c.requires.whole)
+    (converted c.args.self.now (standing c.args.tyenv.now c.args.work.now) (term_expr (name_view c.args.sym.now) (expr_views c.args.args.now) (position c.args.pos)) (position c.args.pos) (flags_view c.args.flags) (expected c.args.expected_ty) (term_view c.in-Some-expr_converter.by.now)
+    (call_converts c.args.self.now (standing c.args.tyenv.now c.args.work.now) c.requires.inverse (name_view c.args.sym.now) (expr_views c.args.args.now) (position c.args.pos) (flags_view c.args.flags) (expected c.args.expected_ty)
+    (term_view c.in-Some.term.now) c.in-Some.ensures (term_view c.in-Some-expr_converter.by.now) c.in-Some-expr_converter.ensures)
+    (standing c.args.tyenv.now c.expand.new.self) c.args.nesting c.in_ok-left.left c.in_ok-left.ensures.0 refl c.in_ok-left.ensures.1)
+
+pub returns : goal.returns
+returns c =
+    rw c.requires.whole
+    (args_used c.args.self.now (standing c.args.tyenv.now c.args.work.now) c.requires.inverse (name_view c.args.sym.now) (expr_views c.args.args.now) (position c.args.pos) (flags_view c.args.flags) (expected c.args.expected_ty)
+    (term_view c.in-Some.term.now) c.in-Some.ensures c.in_default-expr_converter.ensures _ (sym (list_length c.args.args.now))
+    _ refl (record { vars = c.check_call.ensures.remains.vars; names = c.check_call.ensures.remains.names; expansions = c.check_call.ensures.remains.expansions }) c.in_ok-check_call.ensures.checks)

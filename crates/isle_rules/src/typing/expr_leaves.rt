@@ -1,0 +1,127 @@
+//! How expressions without parts are typed, but for variables.
+
+ghost use Rattle.std.specs.Prelude.{◌≡◌, ℕ, true, OnOk};
+ghost use Rattle.isle_base.specs.SyntaxViews.{name_view, position};
+ghost use Rattle.isle_model.specs.lists.Syntax.{bool_expr, int_expr, prim_expr};
+ghost use Rattle.isle_model.specs.lists.Tables.{Flags};
+ghost use Rattle.isle_model.specs.lists.Setting.{is_expected};
+ghost use Rattle.isle_types.specs.Envs.{IsInterned};
+ghost use Rattle.isle_types.specs.Reading.{Reports};
+ghost use Rattle.isle_rules.specs.Elaborating.{Checks};
+ghost use Rattle.isle_rules.specs.ExprViews.{expr_view};
+ghost use Rattle.isle_rules.specs.ExprReadings.{expected, expr_reading};
+ghost use Rattle.isle_rules.specs.Translating.{standing, Keeps, MayTranslate};
+
+use crate::exprs::Expr;
+use crate::reports::{expected_text, type_text};
+use crate::term_env::TermEnv;
+use crate::typing::checks::{check_bool, check_integer, constant_type, meets_expected};
+use crate::typing::progress::{Progress, Stop};
+use isle_base::syntax::{Error, Ident, Pos};
+use isle_types::{TypeEnv, TypeId, report};
+use std::alloc::AllocError;
+
+impl TermEnv {
+    // A truth value, which only the type of truth values has.
+    pub(crate) fn make_bool(
+        &self,
+        tyenv: &TypeEnv,
+        work: &mut Progress,
+        val: bool,
+        pos: Pos,
+        expected_ty: Option<TypeId>,
+    ) -> Result<Option<Expr>, Stop>
+        ensures { (flags : Flags) (d : ℕ) → MayTranslate self.now (standing tyenv.now work.old) (standing tyenv.now work.new) d
+            (expr_reading (bool_expr val (position pos)) flags (expected expected_ty)) expr_view result }
+    {
+        check_truth(tyenv, &mut work.errors, pos, val, expected_ty)?;
+        Ok(Some(Expr::ConstBool(TypeId::BOOL, val)))
+    }
+
+    // An integer, at a type that is expected and has integers.
+    pub(crate) fn make_int(
+        &self,
+        tyenv: &TypeEnv,
+        work: &mut Progress,
+        val: i128,
+        pos: Pos,
+        expected_ty: Option<TypeId>,
+    ) -> Result<Option<Expr>, Stop>
+        ensures { (flags : Flags) (d : ℕ) → MayTranslate self.now (standing tyenv.now work.old) (standing tyenv.now work.new) d
+            (expr_reading (int_expr val (position pos)) flags (expected expected_ty)) expr_view result }
+    {
+        let Some(ty) = expected_ty else {
+            report(
+                &mut work.errors,
+                pos,
+                "integer literal in a context that needs an explicit type",
+            )?;
+            return Ok(None);
+        };
+        check_integer(tyenv, &mut work.errors, pos, val, ty)?;
+        Ok(Some(Expr::ConstInt(ty, val)))
+    }
+
+    // A named constant, at its own type. One of another type is noted, and nothing is made.
+    pub(crate) fn make_prim(
+        &self,
+        tyenv: &mut TypeEnv,
+        work: &mut Progress,
+        val: &Ident,
+        pos: Pos,
+        expected_ty: Option<TypeId>,
+    ) -> Result<Option<Expr>, Stop>
+        requires { IsInterned tyenv.old }
+        ensures keeps { Keeps tyenv.old tyenv.new }
+        ensures made { (flags : Flags) (d : ℕ) → MayTranslate self.now (standing tyenv.old work.old) (standing tyenv.new work.new) d
+            (expr_reading (prim_expr (name_view val.now) (position pos)) flags (expected expected_ty)) expr_view result }
+    {
+        let name = tyenv.intern_mut(val)?;
+        let Some(ty) = constant_type(tyenv, name) else {
+            report(&mut work.errors, pos, "Unknown constant")?;
+            return Ok(None);
+        };
+        if !meets_expected(ty, expected_ty) {
+            report_constant(tyenv, &mut work.errors, pos, val, ty, expected_ty)?;
+            return Ok(None);
+        }
+        Ok(Some(Expr::ConstPrim(ty, name)))
+    }
+}
+
+// Whether a truth value is expected, or anything; else this is noted.
+fn check_truth(
+    tyenv: &TypeEnv,
+    errors: &mut Vec<Error>,
+    pos: Pos,
+    val: bool,
+    expected_ty: Option<TypeId>,
+) -> Result<(), AllocError>
+    ensures { OnOk result (Checks errors.old.items errors.new.items (is_expected (expected expected_ty) 0 ≡ true)) }
+{
+    match expected_ty {
+        Some(ty) => check_bool(tyenv, errors, pos, val, ty),
+        None => Ok(()),
+    }
+}
+
+// Notes that a constant has another type than is expected.
+fn report_constant(
+    tyenv: &TypeEnv,
+    errors: &mut Vec<Error>,
+    pos: Pos,
+    val: &Ident,
+    has: TypeId,
+    want: Option<TypeId>,
+) -> Result<(), AllocError>
+    ensures { OnOk result (Reports errors.old.items errors.new.items) }
+{
+    let alloc = *errors.allocator();
+    let want = expected_text(tyenv, want);
+    let has = type_text(tyenv, has);
+    let msg = format!(in alloc;
+        "Constant '{}' has wrong type: expected {want}, but is actually {has}",
+        val.0
+    )?;
+    report(errors, pos, msg.as_str())
+}

@@ -1,0 +1,328 @@
+//! What names in expressions stand for: variables and terms.
+
+ghost use Rattle.std.specs.Prelude.{◌≡◌, true, not, ◌||◌, ℕ, IfOk, OnOk, option_map, option_and_then, length, string_bytes};
+ghost use Rattle.isle_base.specs.SyntaxViews.{name_view, position, expr_view, expr_views};
+ghost use Rattle.isle_model.specs.lists.Syntax.{term_expr, var_expr};
+ghost use Rattle.isle_model.specs.lists.Setting.{is_expected};
+ghost use Rattle.isle_model.specs.lists.Tables.{Flags};
+ghost use Rattle.isle_terms.specs.TermViews.{flags_view, term_view};
+ghost use Rattle.isle_types.specs.Envs.{symbol_of, IsInterned};
+ghost use Rattle.isle_types.specs.Reading.{Reports};
+ghost use Rattle.isle_rules.specs.Elaborating.{Checks};
+ghost use Rattle.isle_rules.specs.ExprReadings.{expected};
+ghost use Rattle.isle_rules.specs.ExprUses.{found_expr_converter, inside_call, allowed, UsesVar, UsesCall};
+ghost use Rattle.isle_rules.specs.Progress.{newest, Remains};
+ghost use Rattle.isle_rules.specs.RuleViews.{var_view};
+ghost use Rattle.isle_rules.specs.Translating.{standing};
+
+use crate::reports::{expected_text, type_text};
+use crate::rules::BoundVar;
+use crate::term_env::TermEnv;
+use crate::typing::checks::{check_count, meets_expected};
+use crate::typing::progress::{Progress, Stop};
+use isle_base::syntax::{Error, Expr, Ident, Pos};
+use isle_terms::{Term, TermFlags, TermKind};
+use isle_types::{TypeEnv, TypeId, report};
+use std::alloc::AllocError;
+
+/// What the use of a variable in an expression stands for.
+#[derive(Drop)]
+pub(crate) enum VarUse {
+    /// Nothing: this was noted.
+    Wrong,
+    /// This expression, by a conversion, in which so many may nest.
+    Conversion(Expr, usize),
+    /// The variable itself, of the type that is expected; or else this was noted.
+    Var(BoundVar),
+}
+
+/// What the use of a term in an expression stands for.
+#[derive(Drop)]
+pub(crate) enum CallUse<'a> {
+    /// Nothing: this was noted.
+    Wrong,
+    /// This expression, by a conversion, in which so many may nest.
+    Conversion(Expr, usize),
+    /// The term itself, which the flags in force allow, with as many parts as it has arguments; or else this was noted.
+    Parts(&'a Term),
+}
+
+impl TermEnv {
+    /// The term that converts expressions of a type into the one that is expected, where that is another one.
+    #[tactic(auto, using(crate::proofs::UsedTerms::entry_at))]
+    fn expr_converter(&self, inner: TypeId, outer: Option<TypeId>) -> Option<&Term>
+        ensures { option_map (λ t. term_view t.now) result ≡ found_expr_converter self.now inner.0 (expected outer) }
+    {
+        let outer = outer?;
+        if inner == outer {
+            return None;
+        }
+        let id = self.converters.get(&(inner, outer))?;
+        let by = self.terms.get(id.index())?;
+        if by.has_constructor() { Some(by) } else { None }
+    }
+
+    /// What a use of a variable where a type, or any type, is expected stands for, where so many expansions may nest.
+    pub(crate) fn use_var(
+        &self,
+        tyenv: &TypeEnv,
+        work: &mut Progress,
+        whole: &Expr,
+        name: &Ident,
+        pos: Pos,
+        expected_ty: Option<TypeId>,
+        nesting: usize,
+    ) -> Result<VarUse, Stop>
+        requires inverse { IsInterned tyenv.now }
+        requires whole { expr_view whole.now ≡ var_expr (name_view name.now) (position pos) }
+        ensures { (flags : Flags) → UsesVar self.now (standing tyenv.now work.old) (standing tyenv.now work.new) nesting (expr_view whole.now) flags (expected expected_ty) result }
+    {
+        let Some(bound) = find_var(tyenv, work, name) else {
+            report_variable(&mut work.errors, pos, name)?;
+            return Ok(VarUse::Wrong);
+        };
+        if let Some(by) = self.expr_converter(bound.ty, expected_ty) {
+            let left = work.expand(nesting)?;
+            let inside = convert(tyenv, by, whole, pos)?;
+            return Ok(VarUse::Conversion(inside, left));
+        }
+        check_variable(tyenv, &mut work.errors, pos, name, bound.ty, expected_ty)?;
+        Ok(VarUse::Var(bound))
+    }
+
+    /// What a use of a term where a type, or any type, is expected stands for, under the flags in force and where so many
+    /// expansions may nest: upstream's steps before the parts of a term expression.
+    pub(crate) fn use_in_expr(
+        &self,
+        tyenv: &TypeEnv,
+        work: &mut Progress,
+        whole: &Expr,
+        sym: &Ident,
+        args: &[Expr],
+        pos: Pos,
+        expected_ty: Option<TypeId>,
+        flags: TermFlags,
+        nesting: usize,
+    ) -> Result<CallUse<'_>, Stop>
+        requires inverse { IsInterned tyenv.now }
+        requires whole { expr_view whole.now ≡ term_expr (name_view sym.now) (expr_views args.now) (position pos) }
+        ensures { UsesCall self.now (standing tyenv.now work.old) (standing tyenv.now work.new) nesting (expr_view whole.now) (expr_views args.now) (flags_view flags) (expected expected_ty) result }
+    {
+        let Some(term) = self.find_term(tyenv, sym) else {
+            report_unknown(tyenv, work, pos, sym)?;
+            return Ok(CallUse::Wrong);
+        };
+        if let Some(by) = self.expr_converter(term.ret_ty, expected_ty) {
+            let left = work.expand(nesting)?;
+            let inside = convert(tyenv, by, whole, pos)?;
+            return Ok(CallUse::Conversion(inside, left));
+        }
+        check_call(tyenv, work, term, sym, args.len(), pos, expected_ty, flags)?;
+        Ok(CallUse::Parts(term))
+    }
+}
+
+// An expression inside a use of a converter.
+fn convert(tyenv: &TypeEnv, by: &Term, of: &Expr, pos: Pos) -> Result<Expr, AllocError>
+    ensures { IfOk result (λ x. expr_view x ≡ inside_call tyenv.now (term_view by.now) (position pos) (expr_view of.now)) }
+{
+    let alloc = *tyenv.syms.allocator();
+    let name = String::from_str(alloc, tyenv.text_of(by.name))?;
+    let mut args = Vec::new(alloc);
+    args.push(of.clone()?)?;
+    Ok(Expr::Term {
+        sym: Ident(name, pos),
+        args,
+        pos,
+    })
+}
+
+// The newest variable of a name that can be used.
+fn find_var(tyenv: &TypeEnv, work: &Progress, name: &Ident) -> Option<BoundVar>
+    ensures { option_map var_view result ≡ option_and_then (newest work.now) (symbol_of tyenv.now (string_bytes name.now.0)) }
+{
+    let sym = tyenv.intern(name)?;
+    work.lookup(sym)
+}
+
+// Whether a variable has the type that is expected, where one is; else this is noted.
+fn check_variable(
+    tyenv: &TypeEnv,
+    errors: &mut Vec<Error>,
+    pos: Pos,
+    name: &Ident,
+    has: TypeId,
+    want: Option<TypeId>,
+) -> Result<(), AllocError>
+    ensures { OnOk result (Checks errors.old.items errors.new.items (is_expected (expected want) has.0 ≡ true)) }
+{
+    if meets_expected(has, want) {
+        return Ok(());
+    }
+    let alloc = *errors.allocator();
+    let want = expected_text(tyenv, want);
+    let has = type_text(tyenv, has);
+    let msg = format!(in alloc;
+        "Variable '{}' has type {has} but we need {want} in context",
+        name.0
+    )?;
+    report(errors, pos, msg.as_str())
+}
+
+// Whether a call has the type that is expected, where one is, the flags in force allow it, and it has as many arguments as
+// the term; else this is noted.
+fn check_call(
+    tyenv: &TypeEnv,
+    work: &mut Progress,
+    term: &Term,
+    sym: &Ident,
+    args: usize,
+    pos: Pos,
+    expected_ty: Option<TypeId>,
+    flags: TermFlags,
+) -> Result<(), AllocError>
+    ensures checks { OnOk result (Checks work.old.errors.items work.new.errors.items
+        (((is_expected (expected expected_ty) (term_view term.now).ret_ty ≡ true) × (allowed (flags_view flags) (term_view term.now).kind ≡ true)) × (args ≡ length (term_view term.now).arg_tys))) }
+    ensures remains { Remains work.old work.new }
+{
+    check_type(tyenv, &mut work.errors, pos, term.ret_ty, expected_ty)?;
+    check_flags(&mut work.errors, pos, sym, term, flags)?;
+    check_count(&mut work.errors, pos, sym, args, term.arg_tys.len())?;
+    Ok(())
+}
+
+// Whether a call has the type that is expected, where one is; else this is noted.
+fn check_type(
+    tyenv: &TypeEnv,
+    errors: &mut Vec<Error>,
+    pos: Pos,
+    has: TypeId,
+    want: Option<TypeId>,
+) -> Result<(), AllocError>
+    ensures { OnOk result (Checks errors.old.items errors.new.items (is_expected (expected want) has.0 ≡ true)) }
+{
+    if meets_expected(has, want) {
+        return Ok(());
+    }
+    let alloc = *errors.allocator();
+    let want = expected_text(tyenv, want);
+    let has = type_text(tyenv, has);
+    let msg = format!(in alloc;
+        "Mismatched types: expression expects type '{want}' but term has return type '{has}'"
+    )?;
+    report(errors, pos, msg.as_str())
+}
+
+// Whether the flags in force allow a call; else each that forbids it is noted.
+fn check_flags(
+    errors: &mut Vec<Error>,
+    pos: Pos,
+    sym: &Ident,
+    term: &Term,
+    flags: TermFlags,
+) -> Result<(), AllocError>
+    ensures { OnOk result (Checks errors.old.items errors.new.items (allowed (flags_view flags) (term_view term.now).kind ≡ true)) }
+{
+    let TermKind::Decl { flags: own, .. } = &term.kind else {
+        return Ok(());
+    };
+    check_pure(errors, pos, sym, flags, *own)?;
+    check_multi(errors, pos, sym, flags, *own)?;
+    check_partial(errors, pos, sym, flags, *own)?;
+    Ok(())
+}
+
+// Whether the term is pure where it has to be; else this is noted.
+fn check_pure(
+    errors: &mut Vec<Error>,
+    pos: Pos,
+    sym: &Ident,
+    flags: TermFlags,
+    own: TermFlags,
+) -> Result<(), AllocError>
+    ensures { OnOk result (Checks errors.old.items errors.new.items (not flags.pure || own.pure ≡ true)) }
+{
+    if !flags.pure || own.pure {
+        return Ok(());
+    }
+    let alloc = *errors.allocator();
+    let msg = format!(in alloc;
+        "Used non-pure constructor '{}' in pure expression context",
+        sym.0
+    )?;
+    report(errors, pos, msg.as_str())
+}
+
+// Whether the term gives one value at most where that has to be; else this is noted.
+fn check_multi(
+    errors: &mut Vec<Error>,
+    pos: Pos,
+    sym: &Ident,
+    flags: TermFlags,
+    own: TermFlags,
+) -> Result<(), AllocError>
+    ensures { OnOk result (Checks errors.old.items errors.new.items (flags.multi || not own.multi ≡ true)) }
+{
+    if flags.multi || !own.multi {
+        return Ok(());
+    }
+    let alloc = *errors.allocator();
+    let msg = format!(in alloc;
+        "Used multi-constructor '{}' but this rule is not in a multi-term",
+        sym.0
+    )?;
+    report(errors, pos, msg.as_str())
+}
+
+// Whether the term always gives a value where that has to be; else this is noted, with what helps.
+fn check_partial(
+    errors: &mut Vec<Error>,
+    pos: Pos,
+    sym: &Ident,
+    flags: TermFlags,
+    own: TermFlags,
+) -> Result<(), AllocError>
+    ensures { OnOk result (Checks errors.old.items errors.new.items (flags.partial || not own.partial ≡ true)) }
+{
+    if flags.partial || !own.partial {
+        return Ok(());
+    }
+    let alloc = *errors.allocator();
+    let more = if flags.multi {
+        ""
+    } else {
+        " or make this rule's term partial too"
+    };
+    let msg = format!(in alloc;
+        "Rule can't use partial constructor '{}' on RHS; try moving it to if-let{more}",
+        sym.0
+    )?;
+    report(errors, pos, msg.as_str())
+}
+
+// Notes that no variable has the name.
+fn report_variable(errors: &mut Vec<Error>, pos: Pos, name: &Ident) -> Result<(), AllocError>
+    ensures { OnOk result (Reports errors.old.items errors.new.items) }
+{
+    let alloc = *errors.allocator();
+    let msg = format!(in alloc; "Unknown variable '{}'", name.0)?;
+    report(errors, pos, msg.as_str())
+}
+
+// Notes that no term has the name, which may be that of a variable.
+fn report_unknown(
+    tyenv: &TypeEnv,
+    work: &mut Progress,
+    pos: Pos,
+    sym: &Ident,
+) -> Result<(), AllocError>
+    ensures { OnOk result (Reports work.old.errors.items work.new.errors.items) }
+{
+    let alloc = *work.errors.allocator();
+    let hint = match find_var(tyenv, work, sym) {
+        Some(_) => { ". Variable binding under this name exists; try removing the parens?" }
+        None => "",
+    };
+    let msg = format!(in alloc; "Unknown term in expression: '{}'{hint}", sym.0)?;
+    report(&mut work.errors, pos, msg.as_str())
+}
