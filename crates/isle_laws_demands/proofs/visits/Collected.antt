@@ -1,5 +1,5 @@
 -- Built sets of a multi term whose rules make no impure call and leave no multi call unused meet what collecting asks.
-use Rattle.std.proofs.Common.{◌≡◌, ℕ, suc, ◌==◌, ◌<◌, true, List, [], ◌∷◌, ◌++◌, map, slice_get, length, flat_map, IsTrue, refl, sym, ap, ◌∙◌, subst, inl, inr, eqb-true}
+use Rattle.std.proofs.Common.{◌≡◌, ℕ, suc, ◌==◌, ◌<◌, true, List, [], ◌∷◌, ◌++◌, map, slice_get, length, flat_map, IsTrue, sym, ap, ◌∙◌, subst, inl, inr, eqb-true}
 use Rattle.isle_model.specs.lists.Formed.{RulesAreFormed}
 use Rattle.isle_model.specs.claims.Environments.{program_of}
 use Rattle.isle_model.specs.claims.SetMeanings.{BuiltSetsAreCollected}
@@ -22,10 +22,7 @@ use Rattle.isle_laws_demands.proofs.visits.GoneOver.{none_left, pure_right_side}
 use Rattle.isle_laws_demands.proofs.visits.Once.{sites_stand_once_lem}
 use Rattle.isle_laws_demands.proofs.visits.Served.{IsSoundRule, elaborated_rules_are_sound, built_calls, built_result, gate_at}
 use Rattle.isle_laws_demands.proofs.visits.Sets.{all_from_in, in_from_all, each_tested}
-
-pub nothing_mapped : {X Y : Type 0} (f : X → Y) (xs : List X) → map f xs ≡ [] → xs ≡ []
-nothing_mapped f [] e = refl
-nothing_mapped f (x ∷ xs) e = cc
+use Rattle.isle_model.proofs.Mapped.{nothing_mapped}
 
 -- the rules of a term are built of its typed rules
 root_of_built : (p : Program) (t : ℕ) (b : BuiltRule) → In (built_rules p t) b → b.rule.root_term ≡ t
