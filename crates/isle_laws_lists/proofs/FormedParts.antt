@@ -1,5 +1,5 @@
 -- What a passed test of the parts of a rule that hangs together gives.
-use Rattle.std.proofs.Common.{◌≡◌, ℕ, Bool, true, false, if◌then◌else◌, List, Option, Some, None, is_some, is_none, refl}
+use Rattle.std.proofs.Common.{◌≡◌, ℕ, Bool, true, false, if◌then◌else◌, List, Option, Some, None, is_some, is_none, refl, ap, eqb-true}
 use Rattle.std.proofs.lemmas.Bool.{false≢true}
 use Rattle.std.proofs.lemmas.Option.{none-some}
 use Rattle.isle_model.specs.lists.Tables.{TermEntry}
@@ -24,3 +24,7 @@ has_type (Some t) ty h = refl
 pub has_none : (o : Option ℕ) → is_none o ≡ true → is_some o ≡ false
 has_none None h = refl
 has_none (Some t) h = absurd (false≢true h)
+
+pub type_is : (o : Option ℕ) (ty : ℕ) → is_type o ty ≡ true → o ≡ Some ty
+type_is None ty h = absurd (false≢true h)
+type_is (Some t) ty h = ap Some (eqb-true t ty h)

@@ -9,7 +9,7 @@ use Rattle.std.specs.Cmp.{int_ranks}
 use Rattle.std.specs.Ordering.{MatchOrdering}
 use Rattle.isle_model.specs.sites.Sites.{SetRule}
 use Rattle.isle_model.specs.trees.Sound.{NoneHigher}
-use Rattle.isle_model.specs.trees.Tests.{Test, priority, needs_at, is_lower, is_covered, cover}
+use Rattle.isle_model.specs.trees.Tests.{Test, priority, needs_at, is_lower, is_covered, cover, needs, is_needed}
 use Rattle.isle_model.specs.trees.Best.{comes_first, descend}
 use Rattle.isle_model.proofs.Members.{nothing_in, in_head, in_tail, in_cases, in_filter, from_filter, each_passes, all_pass}
 use Rattle.isle_laws_trees.proofs.Exact.{not_exact}
@@ -142,3 +142,7 @@ module _ (rules : List SetRule) (t : Test) where
       (and_from (needs_at rules t i) (list_all (λ k. needs_at rules t k || not (is_lower rules i k)) here) n
       (all_pass (λ k. needs_at rules t k || not (is_lower rules i k)) here (λ k d.
       or_right (needs_at rules t k) (not (is_lower rules i k)) ((not_exact (is_lower rules i k)).1 (at_least_not_lower rules i k (top k d))))))
+
+-- what a test that is made gives
+pub needed_here : (rules : List SetRule) (here later : List ℕ) (t : Test) → cover rules (here ++ later) t ≡ here → (i : ℕ) (r : SetRule) → Contains here i → slice_get rules i ≡ Some r → needs t r ≡ true
+needed_here rules here later t e i r c at = sym (ap (is_needed t) at) ∙ cover_needs rules t here later e i c

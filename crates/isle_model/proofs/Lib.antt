@@ -5,6 +5,7 @@ pub mod DistinctCounts
 pub mod DistinctJoined
 pub mod Either
 pub mod Elements
+pub mod FewElements
 pub mod FirstPlaces
 pub mod Joined
 pub mod Mapped

@@ -7,7 +7,7 @@ use Rattle.isle_model.specs.rules.Typed.{TypedRule}
 use Rattle.isle_model.specs.sites.Sites.{Constraint, SiteTerm}
 use Rattle.isle_model.specs.sites.Demands.{Demands, demands_of, site_term_eq, has_site, with_sites, differ}
 use Rattle.isle_model.specs.first.Built.{may_overlap}
-use Rattle.isle_model.specs.sites.Closure.{Joined, given, itself, turned, chained, at_field, field_terms, HasConstraint, IsUnreachable, two_at_a_site, constraint_of, Closed, class_at, without_class_of, merged_classes, merged_all, with_constraint, with_constraints, ascending, is_in_class, next_constrained, field_equalities, taken, closing, before_closing, begins_with, in_order, most_closing_steps, closed}
+use Rattle.isle_model.specs.sites.Closure.{Joined, given, itself, turned, chained, at_field, field_terms, HasConstraint, IsUnreachable, two_at_a_site, constraint_of, Closed, class_at, without_class_of, merged_classes, merged_all, with_constraint, with_constraints, ascending, is_in_class, next_constrained, field_equalities, taken, closing, before_closing, begins_with, in_order, most_closing_steps, closed, two_in_a_class}
 use Rattle.isle_model.specs.sites.Overlap.{overlaps}
 use Rattle.isle_laws_demands.specs.ClosureLaws.{ClosedFollows, HasEnded}
 use Rattle.isle_model.proofs.Elements.{In, in_from_contains, contains_from_in, some_is, none_some, in_left, in_right, in_either, in_map, from_flat_map, in_zip, in_filter, passed_filter}
@@ -96,6 +96,10 @@ keeps_one cs c x i =
 pub keeps_all : (cs ds : List (SiteTerm × Constraint)) (x : SiteTerm × Constraint) → In cs x → In (with_constraints cs ds) x
 keeps_all cs [] x i = i
 keeps_all cs (d ∷ ds) x i = keeps_all (with_constraint cs d) ds x (keeps_one cs d x i)
+
+-- a site of demands that can be met must meet one constraint at most
+pub one_demanded : (d : Demands) → (IsUnreachable d → ⊥) → (s : SiteTerm) (a b : Constraint) → HasConstraint d s a → HasConstraint d s b → a ≡ b
+one_demanded d reachable s a b h k = elim (constraint_cases a b) [ inl e ↦ e | inr n ↦ absurd (reachable (two_in_a_class s a b h k n)) ]
 
 -- no site has two constraints in a list
 abbrev pub OneEach : List (SiteTerm × Constraint) → Type 0

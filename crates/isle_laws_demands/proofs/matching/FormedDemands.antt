@@ -14,13 +14,12 @@ use Rattle.isle_model.specs.lists.Formed.{pattern_type, is_type, formed_pattern,
 use Rattle.isle_model.proofs.Elements.{In, in_either}
 use Rattle.isle_laws_demands.proofs.visits.Patterns.{from_then}
 use Rattle.isle_laws_demands.proofs.matching.Contents.{AsMany}
-use Rattle.isle_laws_demands.proofs.matching.Exprs.{type_is}
 use Rattle.isle_laws_demands.proofs.matching.Grown.{equated, expr_adds, rule_adds}
 use Rattle.isle_laws_demands.proofs.matching.Patterns.{from_term, from_part, from_bind, as_many}
 use Rattle.isle_laws_demands.proofs.matching.Rules.{rule_parts}
 use Rattle.isle_laws_demands.proofs.matching.TypedParts.{HasTypedParts}
 use Rattle.isle_model.proofs.Either.{either}
-use Rattle.isle_laws_lists.proofs.FormedParts.{from_if}
+use Rattle.isle_laws_lists.proofs.FormedParts.{from_if, type_is}
 
 -- a constraint of a pattern that hangs together
 abbrev pub IsFormed : Program → Constraint → Type 0

@@ -4,11 +4,10 @@ use Rattle.std.proofs.lemmas.Bool.{cases_Bool, cond-true, cond-false}
 use Rattle.std.specs.List.{zip}
 use Rattle.isle_model.specs.sites.Sites.{Constraint, is_variant, is_struct, is_bool, is_int, is_prim, is_present, SiteTerm, variant_field, struct_field}
 use Rattle.isle_model.specs.sites.Demands.{Demands, has_site}
-use Rattle.isle_model.specs.sites.Closure.{fields_from, field_terms, HasConstraint, IsUnreachable, two_in_a_class, Closed, class_at, without_class_of, merged_classes, merged_all, with_constraints, ascending, field_equalities, taken, closing, before_closing, begins_with, in_order, most_closing_steps, closed}
+use Rattle.isle_model.specs.sites.Closure.{fields_from, field_terms, HasConstraint, IsUnreachable, Closed, class_at, without_class_of, merged_classes, merged_all, with_constraints, ascending, field_equalities, taken, closing, before_closing, begins_with, in_order, most_closing_steps, closed}
 use Rattle.isle_model.proofs.Elements.{In, in_from_contains, contains_from_in, in_left, in_right, in_either, in_slice, in_map, map_in, from_flat_map, in_zip, in_filter, passed_filter}
-use Rattle.isle_model.proofs.SameSites.{constraint_cases}
 use Rattle.isle_model.proofs.SitesMade.{has_in}
-use Rattle.isle_laws_demands.proofs.closure.Closing.{closing_keeps, OneEach, constraints_in, in_constraints, constraints_kept, one_each, FollowsSoFar, in_class_joined, constraint_carried, next_asked, taken_follows, before_closing_follows, in_order_follows, from_constraints, keeps_all}
+use Rattle.isle_laws_demands.proofs.closure.Closing.{closing_keeps, OneEach, constraints_in, in_constraints, constraints_kept, one_each, FollowsSoFar, in_class_joined, constraint_carried, next_asked, taken_follows, before_closing_follows, in_order_follows, from_constraints, keeps_all, one_demanded}
 use Rattle.isle_model.specs.sites.DemandedGates.{GatesDemanded, CanBeTested, ClosedCanBeTested}
 use Rattle.isle_laws_demands.proofs.visits.Gates.{gates_stay}
 
@@ -76,9 +75,6 @@ module _ (d : Demands) (reachable : IsUnreachable d → ⊥) (tested : CanBeTest
     asked : (x : SiteTerm × Constraint) → In k.constraints x → GatesDemanded true true k.constraints d.iterators x.0
     equal : Members (GatesDemanded true true k.constraints d.iterators) k.classes
 
-  same_constraint_there : (s : SiteTerm) (a b : Constraint) → HasConstraint d s a → HasConstraint d s b → a ≡ b
-  same_constraint_there s a b h g = elim (constraint_cases a b) [ inl e ↦ e | inr n ↦ absurd (reachable (two_in_a_class s a b h g n)) ]
-
   taken_tested : (k : Closed) → IsTestedSoFar k → (c : SiteTerm × Constraint) → In k.constraints c → IsTestedSoFar (taken k c (ascending k.made (class_at k.classes c.0)))
   taken_tested k f c i = record {
     follows = taken_follows d k f.follows c i;
@@ -120,7 +116,7 @@ module _ (d : Demands) (reachable : IsUnreachable d → ⊥) (tested : CanBeTest
           ]
 
       once : OneEach (k.constraints ++ each)
-      once s a b m n = same_constraint_there s a b (due (s, a) m) (due (s, b) n)
+      once s a b m n = one_demanded d reachable s a b (due (s, a) m) (due (s, b) n)
 
       constrained : (m : SiteTerm) → In (ascending k.made (class_at k.classes c.0)) m → Contains (with_constraints k.constraints each) (m, c.1)
       constrained m j =

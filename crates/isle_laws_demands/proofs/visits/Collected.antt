@@ -11,12 +11,11 @@ use Rattle.isle_model.specs.sites.DemandedGates.{GatesDemanded, IsPureExpr}
 use Rattle.isle_model.specs.sites.Gates.{gate_demanded}
 use Rattle.isle_model.specs.sites.Overlap.{BuiltRule, built_rules}
 use Rattle.isle_model.specs.sites.RuleSets.{IsRuleOf, IsBuilt}
-use Rattle.isle_model.specs.trees.Collects.{calls_nothing, HasCollectedResults, sites_of_rule, IsCollectedRule}
+use Rattle.isle_model.specs.trees.Collects.{IsPureAt, HasCollectedResults, sites_of_rule, IsCollectedRule}
 use Rattle.isle_model.specs.trees.Places.{below, all_below}
 use Rattle.isle_laws_lists.specs.TypingLaws.{ListsAgree}
 use Rattle.isle_laws_demands.specs.VisitLaws.{ElaboratedRulesDemandGates}
 use Rattle.isle_model.proofs.Elements.{In, in_from_contains, contains_from_in, in_either, from_flat_map, passed_filter}
-use Rattle.isle_laws_runs.proofs.runs.Collected.{nothing_called}
 use Rattle.isle_laws_demands.proofs.visits.Built.{rule_at, was_built, BuiltGates, built_gates, IsGood, below_good}
 use Rattle.isle_laws_demands.proofs.visits.GoneOver.{none_left, pure_right_side}
 use Rattle.isle_laws_demands.proofs.visits.Once.{sites_stand_once_lem}
@@ -79,8 +78,7 @@ module _ (p : Program) (t : ℕ) (f : (r : TypedRule) → In p.rules r → IsSou
   rule_collected = record {
     known = all_from_in (λ s. s < length set.sites) (sites_of_rule r) (λ s i. (each_collected s i).known);
     no_calls = nothing_mapped (unfold_site set.sites) r.impure (q.impure.1 ∙ results.no_calls);
-    pure = all_from_in (λ s. IsTrue (calls_nothing (slice_get set.sites s))) (all_below set.sites (sites_of_rule r))
-        (λ u i. let k = below_collected u i in subst (λ o. IsTrue (calls_nothing o)) (sym k.there) (nothing_called k.site k.pure_site));
+    pure = all_from_in (IsPureAt set.sites) (all_below set.sites (sites_of_rule r)) (λ u i. let k = below_collected u i in (k.site, k.there, k.pure_site));
     gates = all_from_in (λ s. IsTrue (gate_demanded r (slice_get set.sites s))) (all_below set.sites (sites_of_rule r)) (λ u i. gate_at true set.sites r u (below_collected u i));
   }
 

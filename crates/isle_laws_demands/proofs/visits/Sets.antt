@@ -24,6 +24,7 @@ use Rattle.isle_laws_demands.specs.VisitLaws.{ElaboratedRulesDemandGates, BuiltR
 use Rattle.isle_laws_demands.proofs.visits.Once.{sites_stand_once_lem}
 use Rattle.isle_laws_demands.proofs.visits.Built.{rule_at, BuiltGates, built_gates, IsGood, below_good}
 use Rattle.isle_model.proofs.Options.{is_there}
+use Rattle.isle_model.proofs.FewElements.{none_in}
 
 -- 1. lists
 pub all_from_in : {X : Type 0} (P : X → Type 0) (xs : List X) → ((x : X) → In xs x → P x) → All P xs
@@ -62,9 +63,6 @@ constraint_found (d ∷ ds) s c e =
       | inr f ↦ inr (constraint_found ds s c (sym (cond-false (d.0 == s) (Some d.1) (constraint_at ds s) f) ∙ e))
     ]
 
-nothing_in : {X : Type 0} (xs : List X) → xs ≡ [] → (x : X) → In xs x → ⊥
-nothing_in xs e x i = subst (λ l. In l x) e i
-
 -- 2. rules
 module _ (p : Program) (t : ℕ) (set : SiteSet) (h : IsBuilt p t set) (b : BuiltRule) (r : SetRule) (q : IsRuleOf p set.sites b r) (g : BuiltGates p b) where
   -- a site that may be tested
@@ -94,13 +92,13 @@ module _ (p : Program) (t : ℕ) (set : SiteSet) (h : IsBuilt p t set) (b : Buil
               | inl x ↦ let c = is_there (constraint_at r.constraints s) x in constrained_tested s c.0 (constraint_found r.constraints s c.0 c.1)
               | inr x ↦ joined_tested s x
             ]
-        | inr a ↦ let x = in_any (λ y. y == s) r.iterators a in absurd (nothing_in r.iterators none x.0 x.1)
+        | inr a ↦ let x = in_any (λ y. y == s) r.iterators a in absurd (none_in r.iterators none x.0 x.1)
       ]
 
   well_built : r.iterators ≡ [] → IsWellBuiltRule set.sites r
   well_built none = record {
     asks_once = λ s c i. first_constraint r.constraints q.constraints.once s c (in_from_contains r.constraints (s, c) i);
-    asks_or_goes_over = λ s c i j. nothing_in r.iterators none s (in_from_contains r.iterators s j);
+    asks_or_goes_over = λ s c i j. none_in r.iterators none s (in_from_contains r.iterators s j);
     gates = λ s u k i. gate_of u (tested_good s u (needed_tested none s k) (in_from_contains (below (suc s) set.sites s) u i));
   }
 
