@@ -1,5 +1,5 @@
 -- Sets are built of the rules of their terms: by computing.
-use Rattle.std.proofs.Common.{◌≡◌, ◌∷◌, [], ◌<◌, ◌≤◌, ◌∙◌, ◌&&◌, ℕ, ℤ, zero, suc, Bool, true, false, List, Option, Some, map, length, slice_get, All, IsTrue, refl, sym, ap, not, nat_lt, nat_le, ltb-true}
+use Rattle.std.proofs.Common.{◌≡◌, ◌∷◌, [], ◌<◌, ◌≤◌, ◌∙◌, ◌&&◌, ℕ, ℤ, zero, suc, Bool, true, false, List, Option, Some, None, map, length, slice_get, All, IsTrue, refl, sym, ap, not, nat_lt, nat_le, ltb-true}
 use Rattle.std.specs.List.{list_all, flat_map}
 use Rattle.std.proofs.lemmas.Bool.{and_parts, false≢true, leb-true}
 use Rattle.std.proofs.lemmas.Option.{none-some, same_Some}
@@ -15,9 +15,9 @@ use Rattle.isle_model.specs.sites.Gates.{gate_demanded}
 use Rattle.isle_model.specs.sites.Limits.{most_sites, sites_after_rules}
 use Rattle.isle_model.specs.sites.Overlap.{BuiltRule, built_rules}
 use Rattle.isle_model.specs.sites.RuleSets.{AreRulesOfSet, IsBuilt, IsRuleOf}
-use Rattle.isle_model.specs.sites.Sites.{Constraint, SetRule, Site, SiteSet, SiteTerm, unfold_site}
+use Rattle.isle_model.specs.sites.Sites.{Constraint, constructor_site, SetRule, Site, SiteSet, SiteTerm, unfold_site}
 use Rattle.isle_model.specs.trees.Best.{are_distinct}
-use Rattle.isle_model.specs.trees.Collects.{IsCollectedRule, IsCollectedSet, calls_nothing, sites_of_rule}
+use Rattle.isle_model.specs.trees.Collects.{IsCollectedRule, IsCollectedSet, IsPureAt, sites_of_rule}
 use Rattle.isle_model.specs.trees.Places.{all_below, is_in}
 use Rattle.isle_model.specs.trees.SetRuns.{IsTestedSet}
 use Rattle.isle_laws_demands.proofs.visits.Elaborated.{elaborated_rules_demand_gates_lem}
@@ -178,16 +178,28 @@ tested defs rules t set a b m none =
     built_sets_are_tested_lem (elaborated_rules_demand_gates_lem rules_are_formed lists_agree) (types_read defs) defs true rules t set a.0.read.elaborated b.0 m
     (all_members (λ r. r.iterators ≡ []) set.rules (λ r c. empty r.iterators (each_passes (λ (q : SetRule). is_none_of q.iterators) set.rules none r c)))
 
+-- whether a site is there, and makes no impure call
+abbrev is_pure_there : Option Site → Bool
+is_pure_there None = false
+is_pure_there (Some (constructor_site term sources (suc before))) = false
+is_pure_there (Some _) = true
+
+pure_there : (sites : List Site) (s : ℕ) (o : Option Site) → slice_get sites s ≡ o → is_pure_there o ≡ true → IsPureAt sites s
+pure_there sites s None e h = absurd (false≢true h)
+pure_there sites s (Some (constructor_site term sources zero)) e h = (constructor_site term sources zero, e, tt)
+pure_there sites s (Some (constructor_site term sources (suc before))) e h = absurd (false≢true h)
+pure_there sites s (Some b) e h = (b, e, tt)
+
 -- what must hold of a rule whose results a run collects
 abbrev pub is_collected : List Site → SetRule → Bool
 is_collected sites r =
     is_none_of r.impure && (are_below (length sites) (sites_of_rule r)
-    && (list_all (λ s. calls_nothing (slice_get sites s)) (all_below sites (sites_of_rule r)) && list_all (λ s. gate_demanded r (slice_get sites s)) (all_below sites (sites_of_rule r))))
+    && (list_all (λ s. is_pure_there (slice_get sites s)) (all_below sites (sites_of_rule r)) && list_all (λ s. gate_demanded r (slice_get sites s)) (all_below sites (sites_of_rule r))))
 
 pub collected_rule : (sites : List Site) (r : SetRule) → is_collected sites r ≡ true → IsCollectedRule sites r
 collected_rule sites r h =
     let below = all_below sites (sites_of_rule r) in
-    let pure = list_all (λ s. calls_nothing (slice_get sites s)) below in
+    let pure = list_all (λ s. is_pure_there (slice_get sites s)) below in
     let gates = list_all (λ s. gate_demanded r (slice_get sites s)) below in
     let a = and_parts (is_none_of r.impure) (are_below (length sites) (sites_of_rule r) && (pure && gates)) h in
     let b = and_parts (are_below (length sites) (sites_of_rule r)) (pure && gates) a.1 in
@@ -195,7 +207,7 @@ collected_rule sites r h =
     record {
       known = each_below (length sites) (sites_of_rule r) b.0;
       no_calls = empty r.impure a.0;
-      pure = all_members (λ s. IsTrue (calls_nothing (slice_get sites s))) below (each_passes (λ s. calls_nothing (slice_get sites s)) below c.0);
+      pure = all_members (IsPureAt sites) below (λ s i. pure_there sites s (slice_get sites s) refl (each_passes (λ s. is_pure_there (slice_get sites s)) below c.0 s i));
       gates = all_members (λ s. IsTrue (gate_demanded r (slice_get sites s))) below (each_passes (λ s. gate_demanded r (slice_get sites s)) below c.1);
     }
 

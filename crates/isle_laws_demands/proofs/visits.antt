@@ -14,6 +14,7 @@ pub mod ElaboratedCalls
 pub mod Exprs
 pub mod Gates
 pub mod GoneOver
+pub mod Kept
 pub mod Once
 pub mod PatternCalls
 pub mod Patterns

@@ -1,9 +1,9 @@
 -- Converters that differ by the names of their types differ by the ids.
-use Rattle.std.proofs.Common.{◌≡◌, ℕ, zero, suc, ◌≤◌, true, false, cond, List, [], ◌∷◌, map, Some, None, is_some, unwrap_or, slice_get, Contains, IsTrue, refl, sym, ap, ◌∙◌, subst, arith}
+use Rattle.std.proofs.Common.{◌≡◌, ℕ, suc, ◌≤◌, true, false, cond, List, [], ◌∷◌, map, Some, None, is_some, unwrap_or, Contains, IsTrue, refl, sym, ap, ◌∙◌, subst, arith}
 use Rattle.std.specs.Str.{bytes_eq}
 use Rattle.std.proofs.lemmas.Bool.{false≢true}
 use Rattle.std.proofs.lemmas.List.Elements.{All-contains}
-use Rattle.std.proofs.lemmas.Option.{same_Some, slice_get_within, get_or_from_slice_get}
+use Rattle.std.proofs.lemmas.Option.{same_Some}
 use Rattle.isle_model.specs.lists.Syntax.{Name, ConverterTree}
 use Rattle.isle_model.specs.lists.Names.{IsDistinct}
 use Rattle.isle_model.specs.lists.TypeTable.{place_from, IsKnownType}
@@ -11,6 +11,8 @@ use Rattle.isle_model.specs.lists.KnownTypes.{KnownTypes, type_named, known_type
 use Rattle.isle_model.specs.lists.TermTable.{converter_trees, known_term, IsKnownConverter}
 use Rattle.isle_laws_lists.specs.TableLaws.{ConvertersStandOnce}
 use Rattle.isle_model.proofs.Bytes.{same_bytes}
+use Rattle.isle_model.proofs.Mapped.{get_mapped, get_map}
+use Rattle.isle_model.proofs.Members.{member_from_get}
 
 later : (xs : List (List ℕ)) (n k : ℕ) (x : List ℕ) → place_from n x xs ≡ Some k → n ≤ k
 later [] n k x p = absurd (cc)
@@ -45,19 +47,6 @@ known_place k n h =
 -- known types of one id have one name
 one_type : (k : KnownTypes) (a b : Name) → IsKnownType k.type_names a → IsKnownType k.type_names b → known_type k a ≡ known_type k b → a.text ≡ b.text
 one_type k a b h j e = one_place k.type_names 0 (known_type k b) a.text b.text (known_place k a h ∙ ap Some e) (known_place k b j)
-
-get_mapped : {X Y : Type 0} (f : X → Y) (xs : List X) (j : ℕ) (y : Y) → slice_get (map f xs) j ≡ Some y → (x : X) × (slice_get xs j ≡ Some x) × (f x ≡ y)
-get_mapped f [] j y h = absurd (cc)
-get_mapped f (x ∷ xs) zero y h = (x, refl, same_Some (f x) y h)
-get_mapped f (x ∷ xs) (suc j) y h = get_mapped f xs j y h
-
-get_map : {X Y : Type 0} (f : X → Y) (xs : List X) (j : ℕ) (x : X) → slice_get xs j ≡ Some x → slice_get (map f xs) j ≡ Some (f x)
-get_map f [] j x h = absurd (cc)
-get_map f (z ∷ xs) zero x h = ap (λ u. Some (f u)) (same_Some z x h)
-get_map f (z ∷ xs) (suc j) x h = get_map f xs j x h
-
-member_from_get : {X : Type 0} (xs : List X) (i : ℕ) (x : X) → slice_get xs i ≡ Some x → Contains xs x
-member_from_get xs i x e = (i, slice_get_within xs i x e, get_or_from_slice_get xs i x x e)
 
 -- what differs by one reading differs by another one that tells as much apart
 distinct_by : {X Y Z : Type 0} (f : X → Y) (g : X → Z) (xs : List X) → ((x y : X) → Contains xs x → Contains xs y → f x ≡ f y → g x ≡ g y) → IsDistinct (map g xs) → IsDistinct (map f xs)

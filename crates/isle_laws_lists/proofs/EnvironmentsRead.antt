@@ -1,6 +1,6 @@
 -- A well-formed type environment shows types that can be read: the name of each type is that of its one number, and the
 -- constants are those that its look-up answers.
-use Rattle.std.proofs.Common.{◌≡◌, ◌==◌, ℕ, zero, suc, ◌+◌, ◌<◌, Bool, true, false, if◌then◌else◌, List, [], ◌∷◌, length, Option, Some, None, unwrap_or, slice_get, IsTrue, All, refl, sym, ap, ◌∙◌, subst, inl, inr, arith, eq-eqb, eqb-true}
+use Rattle.std.proofs.Common.{◌≡◌, ◌==◌, ℕ, zero, suc, ◌+◌, ◌<◌, true, false, if◌then◌else◌, List, [], ◌∷◌, length, Option, Some, None, unwrap_or, slice_get, IsTrue, All, refl, sym, ap, ◌∙◌, subst, inl, inr, arith, eq-eqb, eqb-true}
 use Rattle.std.proofs.lemmas.Bool.{cases_Bool, cond-true, cond-false, false≢true}
 use Rattle.std.proofs.lemmas.Option.{same_Some, none-some}
 use Rattle.std.specs.List.{enumerate_from}
@@ -15,6 +15,8 @@ use Rattle.isle_model.proofs.Members.{get_from_member, get_within, all_members}
 use Rattle.isle_model.proofs.Names.{has_at}
 use Rattle.isle_laws_lists.proofs.TermLaws.{number_back}
 use Rattle.isle_laws_lists.proofs.VariantTerms.{looked_up}
+use Rattle.isle_model.specs.lists.Formed.{is_type}
+use Rattle.isle_laws_lists.proofs.FormedParts.{type_is}
 
 -- 1. look-ups as lists
 not_looked_up : (es : List (ℕ × ℕ)) (k : ℕ) → ((v : ℕ) → In es (k, v) → ⊥) → look (λ n. n == k) es ≡ None
@@ -68,17 +70,7 @@ answered_entry f (suc n) k v l e =
     smaller d = let no : n ≡ k → ⊥ = λ s. false≢true (sym d ∙ eq-eqb n k s) in omega (arith, l, no)
 
 -- 2. names of types
-is_type : Option ℕ → ℕ → Bool
-is_type None ty = false
-is_type (Some t) ty = t == ty
-
-type_is : (o : Option ℕ) (ty : ℕ) → is_type o ty ≡ true → o ≡ Some ty
-unfolding is_type
-type_is None ty h = absurd (false≢true h)
-type_is (Some t) ty h = ap Some (eqb-true t ty h)
-
 is_type_of : (o : Option ℕ) (ty : ℕ) → o ≡ Some ty → is_type o ty ≡ true
-unfolding is_type
 is_type_of None ty h = absurd (none-some ty h)
 is_type_of (Some t) ty h = eq-eqb t ty (same_Some t ty h)
 

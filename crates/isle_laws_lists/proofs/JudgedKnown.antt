@@ -1,6 +1,6 @@
 -- The judge of types that are handed in is exact.
-use Rattle.std.proofs.Common.{◌≡◌, ℕ, zero, suc, ◌+◌, ◌<◌, ◌==◌, Bool, true, false, ◌&&◌, nat_lt, List, [], ◌∷◌, length, take, Some, slice_get, All, Decides, IsTrue, refl, ap, ap₂, arith}
-use Rattle.std.specs.List.{list_all, flat_map}
+use Rattle.std.proofs.Common.{◌≡◌, ℕ, zero, suc, ◌+◌, ◌<◌, ◌==◌, Bool, true, false, ◌&&◌, nat_lt, List, [], ◌∷◌, length, take, Some, slice_get, Decides, IsTrue, refl, ap, ap₂, arith}
+use Rattle.std.specs.List.{flat_map}
 use Rattle.std.proofs.lemmas.Bool.{false≢true}
 use Rattle.std.proofs.lemmas.Bool.Decides.{Decides-at, Decides-like, Decides-and, Decides-eqb, Decides-ltb, not_from_Decides}
 use Rattle.std.proofs.lemmas.Option.{none-some, same_Some}
@@ -13,7 +13,7 @@ use Rattle.isle_model.specs.claims.Environments.{variants_in, HasVariantsAtIds}
 use Rattle.isle_model.specs.claims.ReadJudge.{variants_at_ids, are_readable}
 use Rattle.isle_laws_lists.specs.JudgeLaws.{KnownTypesAreJudged, ReadTypesAreJudged}
 use Rattle.isle_laws_lists.proofs.Twice.{names_differ}
-use Rattle.isle_laws_lists.proofs.JudgedTypes.{itself, both, each}
+use Rattle.isle_laws_lists.proofs.JudgedTypes.{itself, both, each, below}
 
 -- the place of a built-in type
 place_of : TypeEntry → ℕ
@@ -62,9 +62,6 @@ module _ {X : Type 0} (id : X → ℕ) (count_up : ℕ → List X → Bool) (non
       (λ h i x e. (let at = h i x e in omega arith))
       (λ h i x e. (let at = h i x e in omega arith))
       (counts 0 xs)
-
-below : (n : ℕ) (xs : List ℕ) → Decides (list_all (λ x. nat_lt x n) xs) (All (λ x. x < n) xs)
-below n xs = each (λ x. nat_lt x n) (λ x. x < n) (λ x. Decides-ltb x n) xs
 
 pub known_types_are_judged_lem : KnownTypesAreJudged
 known_types_are_judged_lem k =

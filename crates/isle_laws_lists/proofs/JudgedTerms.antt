@@ -1,7 +1,7 @@
 -- The judge of terms is exact.
-use Rattle.std.proofs.Common.{◌≡◌, ℕ, ◌<◌, ◌==◌, false, not, ◌&&◌, nat_lt, List, [], ◌∷◌, ◌++◌, length, Some, All, Decides, refl, ap, arith}
+use Rattle.std.proofs.Common.{◌≡◌, ℕ, ◌==◌, false, not, ◌&&◌, List, [], ◌∷◌, ◌++◌, length, Some, All, Decides, refl, ap, arith}
 use Rattle.std.specs.List.{list_all}
-use Rattle.std.proofs.lemmas.Bool.Decides.{Decides-like, Decides-eqb, Decides-ltb, not_from_Decides}
+use Rattle.std.proofs.lemmas.Bool.Decides.{Decides-like, Decides-eqb, not_from_Decides}
 use Rattle.isle_model.specs.lists.Syntax.{Name, ConverterTree, Definition}
 use Rattle.isle_model.specs.lists.TypeTable.{IsKnownType}
 use Rattle.isle_model.specs.lists.KnownTypes.{KnownTypes}
@@ -9,7 +9,7 @@ use Rattle.isle_model.specs.lists.TermTable.{decl_trees, rule_trees, constructor
 use Rattle.isle_model.specs.lists.ListJudge.{is_known_type, has_known_arguments, is_known_term, names_known_terms, uses_declared_arguments, is_known_converter, has_valid_terms}
 use Rattle.isle_laws_lists.specs.JudgeLaws.{TermsAreJudged, DefinedAreJudged}
 use Rattle.isle_laws_lists.proofs.Twice.{names_differ, pairs_differ}
-use Rattle.isle_laws_lists.proofs.JudgedTypes.{itself, both, each}
+use Rattle.isle_laws_lists.proofs.JudgedTypes.{itself, both, each, below}
 use Rattle.isle_laws_lists.proofs.UsesFound.{cycles_are_found_lem}
 
 holds_none : (xs : List ℕ) → Decides (length xs == 0) (xs ≡ [])
@@ -18,9 +18,6 @@ holds_none (x ∷ xs) = (
   (λ h. (let e = (Decides-eqb (length (x ∷ xs)) 0).0 h in absurd (omega arith))),
   λ e. (Decides-eqb (length (x ∷ xs)) 0).1 (ap length e),
 )
-
-all_below : (n : ℕ) (is : List ℕ) → Decides (list_all (λ i. nat_lt i n) is) (All (λ i. i < n) is)
-all_below n is = each (λ i. nat_lt i n) (λ i. i < n) (λ i. Decides-ltb i n) is
 
 known : (k : KnownTypes) (ns : List Name) → Decides (list_all (is_known_type k.type_names) ns) (All (IsKnownType k.type_names) ns)
 known k ns = each (is_known_type k.type_names) (IsKnownType k.type_names) (λ n. itself (is_known_type k.type_names n)) ns
@@ -69,7 +66,7 @@ terms_are_judged_lem k defs =
     (each (λ e. not (is_declared_multi defs e.term.text)) (IsOfPlainTerm defs) (λ e. itself (not (is_declared_multi defs e.term.text))) (extractor_trees defs)))
     (each (names_known_terms k defs) (NamesKnownTerms k defs) (λ e. each (is_known_term k defs) (IsKnownTerm k defs) (λ n. itself (is_known_term k defs n)) (terms_in e.template)) (extractor_trees defs)))
     (each (λ e. length (arguments_in e.template) == 0) HoldsNoMacroArg (λ e. holds_none (arguments_in e.template)) (extractor_trees defs)))
-    (each (uses_declared_arguments defs) (UsesDeclaredArguments defs) (λ e. all_below (argument_count defs e.term.text) (arguments_in (extractor_template e))) (extractor_trees defs)))
+    (each (uses_declared_arguments defs) (UsesDeclaredArguments defs) (λ e. below (argument_count defs e.term.text) (arguments_in (extractor_template e))) (extractor_trees defs)))
     (cycles_are_found_lem defs))
     (each (is_known_converter k defs) (IsKnownConverter k defs) (converts k defs) (converter_trees defs)))
     (pairs_differ (converted_pairs defs)))

@@ -1,8 +1,8 @@
 -- The judge of types is exact.
-use Rattle.std.proofs.Common.{◌≡◌, Bool, true, false, not, ◌&&◌, ◌||◌, List, All, Decides, IsTrue, refl, sym}
+use Rattle.std.proofs.Common.{◌≡◌, Bool, true, false, not, ◌&&◌, ◌||◌, List, All, Decides, IsTrue, refl, sym, ℕ, ◌<◌, nat_lt}
 use Rattle.std.specs.List.{list_all}
 use Rattle.std.proofs.lemmas.Bool.{false≢true}
-use Rattle.std.proofs.lemmas.Bool.Decides.{Decides-like, Decides-and, Decides-by_and, not_from_Decides}
+use Rattle.std.proofs.lemmas.Bool.Decides.{Decides-like, Decides-and, Decides-by_and, not_from_Decides, Decides-ltb}
 use Rattle.isle_model.specs.lists.Syntax.{Definition}
 use Rattle.isle_model.specs.lists.TypeTable.{type_trees, constant_trees, all_type_names, field_lists, field_names, field_type_names, is_primitive, variants_of, IsKnownType, IsUnmarkedIfPrimitive, HasAtMostOneMark, HasDistinctVariants, HasDistinctFields, HasKnownTypes, IsOfKnownType, IsValidTypes}
 use Rattle.isle_model.specs.lists.ListJudge.{is_known_type, is_unmarked_if_primitive, has_at_most_one_mark, has_distinct_variants, has_distinct_fields, has_known_types, has_valid_types}
@@ -19,6 +19,9 @@ both {x = x} {y = y} d e = Decides-and x y d e
 -- a test of each element
 pub each : {X : Type 0} (p : X → Bool) (P : X → Type 0) → ((x : X) → Decides (p x) (P x)) → (xs : List X) → Decides (list_all p xs) (All P xs)
 each p P d xs = Decides-by_and p P (list_all p) d refl (λ _ _. refl) xs
+
+pub below : (n : ℕ) (xs : List ℕ) → Decides (list_all (λ x. nat_lt x n) xs) (All (λ x. x < n) xs)
+below n xs = each (λ x. nat_lt x n) (λ x. x < n) (λ x. Decides-ltb x n) xs
 
 clear : (b : Bool) → Decides (not b) (b ≡ false)
 clear true = (λ h. absurd (false≢true h), λ h. absurd (false≢true (sym h)))

@@ -1,6 +1,7 @@
 pub mod Converters
 pub mod EnvironmentsRead
 pub mod EnvironmentsShown
+pub mod FormedParts
 pub mod FormedRules
 pub mod FurtherNames
 pub mod JudgedKnown

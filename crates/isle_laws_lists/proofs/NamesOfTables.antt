@@ -3,7 +3,7 @@ use Rattle.std.proofs.Common.{◌≡◌, ℕ, ◌<◌, Bool, true, List, [], ◌
 use Rattle.std.specs.List.{cons_option, filter_map, flat_map}
 use Rattle.std.specs.Str.{bytes_eq}
 use Rattle.std.proofs.lemmas.Bool.{or_cases}
-use Rattle.std.proofs.lemmas.Option.{none-some, same_Some, slice_get_within, slice_get-map}
+use Rattle.std.proofs.lemmas.Option.{slice_get_within, slice_get-map}
 use Rattle.std.proofs.lemmas.List.Elements.{All-contains}
 use Rattle.isle_model.specs.lists.Syntax.{Definition}
 use Rattle.isle_model.specs.lists.Names.{number, has_name}
@@ -17,14 +17,7 @@ use Rattle.isle_model.proofs.Bytes.{same_bytes}
 use Rattle.isle_model.proofs.Names.{has_at, has_append, has_left, has_kept, has_met, get_kept, number_below}
 use Rattle.isle_laws_lists.proofs.TermLaws.{terms_have_names_lem}
 use Rattle.isle_laws_lists.proofs.FurtherNames.{further_names_dont_matter_lem}
-
--- an element of a mapped list is of an element
-got_mapped : {X Y : Type 0} (f : X → Y) (o : Option X) (y : Y) → option_map f o ≡ Some y → (x : X) × (o ≡ Some x) × (f x ≡ y)
-got_mapped f None y h = absurd (none-some y h)
-got_mapped f (Some x) y h = (x, refl, same_Some (f x) y h)
-
-mapped_at : {X Y : Type 0} (f : X → Y) (xs : List X) (i : ℕ) (y : Y) → slice_get (map f xs) i ≡ Some y → (x : X) × (slice_get xs i ≡ Some x) × (f x ≡ y)
-mapped_at f xs i y h = got_mapped f (slice_get xs i) y (sym (slice_get-map f xs i) ∙ h)
+use Rattle.isle_model.proofs.Mapped.{get_mapped}
 
 -- the names at these numbers are names
 step_names : (ns : List (List ℕ)) (m : ℕ) (o : Option (List ℕ)) → slice_get ns m ≡ o → (rest : List (List ℕ)) (x : List ℕ) → (has_name rest x ≡ true → has_name ns x ≡ true)
@@ -60,12 +53,12 @@ module _ (k : KnownTypes) (defs : List Definition) where
   term_below w i t h =
       let same = terms_have_names_lem.0 k defs w in
       let at : slice_get (map (λ e. e.name) (term_table k defs)) i ≡ Some t.name = slice_get-map (λ (e : TermEntry). e.name) (term_table k defs) i ∙ ap (option_map (λ (e : TermEntry). e.name)) h in
-      let x = mapped_at (number (term_names_met k defs)) (term_names k defs) i t.name (sym (ap (λ l. slice_get l i) same) ∙ at) in
+      let x = get_mapped (number (term_names_met k defs)) (term_names k defs) i t.name (sym (ap (λ l. slice_get l i) same) ∙ at) in
       subst (λ n. n < length (term_names_met k defs)) x.2 (number_below (term_names_met k defs) x.0 (names_met x.0 (has_at (term_names k defs) i x.0 x.1)))
 
   type_below : IsWellFormed k → (i n : ℕ) → slice_get (map (number k.names) k.type_names) i ≡ Some n → n < length (term_names_met k defs)
   type_below w i n h =
-      let x = mapped_at (number k.names) k.type_names i n h in
+      let x = get_mapped (number k.names) k.type_names i n h in
       still_below n (subst (λ m. m < length k.names) x.2 (number_below k.names x.0 (All-contains (λ y. has_name k.names y ≡ true) k.type_names x.0 w.names_of_types_met (member_from_get k.type_names i x.0 x.1))))
 
 tables_speak : (e : TypesRead) (defs : List Definition) (expand : Bool) → AreReadable e → SpeaksOfNames (setting_of e defs expand) (length (term_names_met e.known defs))

@@ -1,7 +1,5 @@
 -- What elaboration does to a scope, and of what type it makes patterns and expressions.
-use Rattle.std.proofs.Common.{◌≡◌, ℕ, zero, suc, ◌||◌, Bool, true, false, cond, List, [], ◌∷◌, ◌++◌, length, Option, Some, None, slice_get, refl, sym, ap, subst, ◌∙◌, inl, inr, ◌⊎◌, ⊎_elim}
-use Rattle.std.specs.Str.{bytes_eq}
-use Rattle.std.proofs.lemmas.Bool.{false≢true}
+use Rattle.std.proofs.Common.{◌≡◌, ℕ, Bool, true, false, cond, List, [], ◌∷◌, ◌++◌, Option, Some, None, slice_get, refl, sym, ap, ◌∙◌, ⊎_elim}
 use Rattle.std.proofs.lemmas.Bool.Decides.{Decides-eqb}
 use Rattle.std.proofs.lemmas.Option.{same_Some, none-some}
 use Rattle.isle_model.specs.lists.Syntax.{RuleTree, Name, PatternTree, PatternTrees, ExprTree, ExprTrees, LetTrees, IfLetTree}
@@ -13,7 +11,9 @@ use Rattle.isle_model.specs.lists.Elaborated.{most_nested, with_own_name}
 use Rattle.isle_model.specs.lists.Elaborates.{ElaboratesRules, no_rule, one_rule, ElaboratesPattern, ElaboratesParts, ElaboratesEach, new_name, bound_name, binding, a_truth, an_integer, a_constant, a_term, a_template, a_conversion, anything, all_of, no_part, part, no_more, one_more, ElaboratesExpr, ElaboratesArgs, ElaboratesLets, a_call, converted_call, a_variable, converted_variable, truth_expr, integer_expr, constant_expr, let_in, no_arg, an_arg, no_def, a_def, ElaboratesIfLets, no_iflet, an_iflet, a_rule}
 use Rattle.isle_model.specs.lists.Formed.{pattern_type}
 use Rattle.isle_laws_lists.specs.TypingResults.{TypesAreExpected, VariablesAtPlaces, NamesStay, NamesStayInLists}
-use Rattle.isle_model.proofs.Bytes.{same_self}
+use Rattle.std.proofs.lemmas.List.{append-nil, append_assoc}
+use Rattle.isle_model.proofs.Names.{absent}
+use Rattle.isle_model.proofs.Positions.{distinct_push, get_push_cases}
 
 -- what may happen to a scope: names are met and bound, and lets are after_let
 data Reaches (s : Scope) : Scope → Type 0 where
@@ -106,58 +106,28 @@ iflets_reach e flags (an_iflet g h i) = on (expr_reaches e (on_lhs flags) g) (on
 abbrev AtPlaces : List TypedVar → Type 0
 AtPlaces vars = (k : ℕ) (v : TypedVar) → slice_get vars k ≡ Some v → v.id ≡ k
 
-get_push : {A : Type 0} (xs : List A) (x : A) (k : ℕ) (y : A) → slice_get (xs ++ x ∷ []) k ≡ Some y → (slice_get xs k ≡ Some y) ⊎ ((k ≡ length xs) × (x ≡ y))
-get_push [] x zero y h = inr (refl, same_Some _ _ h)
-get_push [] x (suc k) y h = absurd (cc)
-get_push (z ∷ zs) x zero y h = inl h
-get_push (z ∷ zs) x (suc k) y h = ⊎_elim (λ i. inl i) (λ i. inr (ap suc i.0, i.1)) (get_push zs x k y h)
-
 at_places : {s t : Scope} → Reaches s t → AtPlaces s.vars → AtPlaces t.vars
 at_places stays a = a
 at_places (then_met x g) a = at_places g a
-at_places (then_bound {t = t} x ty g) a = λ k v h. ⊎_elim (λ i. at_places g a k v i) (λ i. sym (ap (λ (w : TypedVar). w.id) i.1) ∙ sym i.0) (get_push t.vars _ k v h)
+at_places (then_bound {t = t} x ty g) a = λ k v h. ⊎_elim (λ i. at_places g a k v i) (λ i. sym (ap (λ (w : TypedVar). w.id) i.1) ∙ sym i.0) (get_push_cases t.vars _ v k h)
 at_places (then_closed before g) a = at_places g a
 
 -- names
-append_assoc : {A : Type 0} (xs ys zs : List A) → (xs ++ ys) ++ zs ≡ xs ++ (ys ++ zs)
-append_assoc [] ys zs = refl
-append_assoc (x ∷ xs) ys zs = ap (λ l. x ∷ l) (append_assoc xs ys zs)
-
-append_none : {A : Type 0} (xs : List A) → xs ≡ xs ++ []
-append_none [] = refl
-append_none (x ∷ xs) = ap (λ l. x ∷ l) (append_none xs)
-
-absent : (names : List (List ℕ)) (x : List ℕ) → has_name names x ≡ false → (k : ℕ) → slice_get names k ≡ Some x → ⊥
-absent [] x e k h = cc
-absent (y ∷ ys) x e zero h = false≢true (sym e ∙ subst (λ z. has_name (y ∷ ys) z ≡ true) (same_Some _ _ h) (rw (same_self y) refl))
-absent (y ∷ ys) x e (suc k) h =
-    elim (bytes_eq y x) as (λ b. b || has_name ys x ≡ false → ⊥) [
-      | true ↦ λ i. false≢true (sym i)
-      | false ↦ λ i. absent ys x i k h
-    ] e
-
 abbrev Follows : List (List ℕ) → List (List ℕ) → Type 0
 Follows names after = ((more : List (List ℕ)) × (after ≡ names ++ more)) × (IsDistinct names → IsDistinct after)
-
-distinct_push : (names : List (List ℕ)) (x : List ℕ) → has_name names x ≡ false → IsDistinct names → IsDistinct (names ++ x ∷ [])
-distinct_push names x new d j k y a b =
-    ⊎_elim
-    (λ i. ⊎_elim (λ l. d j k y i l) (λ l. absurd (absent names x new j (i ∙ ap Some (sym l.1)))) (get_push names x k y b))
-    (λ i. ⊎_elim (λ l. absurd (absent names x new k (l ∙ ap Some (sym i.1)))) (λ l. i.0 ∙ sym l.0) (get_push names x k y b))
-    (get_push names x j y a)
 
 one_met : (names : List (List ℕ)) (x : List ℕ) → Follows names (with_name names x)
 one_met names x =
     elim (has_name names x) as (λ b. has_name names x ≡ b → Follows names (cond b names (names ++ x ∷ []))) [
-      | true ↦ λ _. (([], append_none names), λ d. d)
-      | false ↦ λ new. ((x ∷ [], refl), distinct_push names x new)
+      | true ↦ λ _. (([], sym (append-nil names)), λ d. d)
+      | false ↦ λ new. ((x ∷ [], refl), λ d. distinct_push names x d (absent names x new))
     ] refl
 
 both_follow : (names mid after : List (List ℕ)) → Follows names mid → Follows mid after → Follows names after
 both_follow names mid after a b = ((a.0.0 ++ b.0.0, b.0.1 ∙ ap (λ l. l ++ b.0.0) a.0.1 ∙ append_assoc names a.0.0 b.0.0), λ d. b.1 (a.1 d))
 
 names_follow : {s t : Scope} → Reaches s t → Follows s.names t.names
-names_follow {s} stays = (([], append_none s.names), λ d. d)
+names_follow {s} stays = (([], sym (append-nil s.names)), λ d. d)
 names_follow {s} (then_met {t = t} x g) = both_follow s.names t.names (with_name t.names x) (names_follow g) (one_met t.names x)
 names_follow {s} (then_bound {t = t} x ty g) = both_follow s.names t.names (with_name t.names x) (names_follow g) (one_met t.names x)
 names_follow (then_closed before g) = names_follow g
@@ -175,7 +145,7 @@ names_stay e d id r names q t n (a_rule {flags = flags} h i j k f g x) =
     names_follow (own_reaches r.name (on (parts_reach e flags.multi f) (on (iflets_reach e flags g) (expr_reaches e flags x))))
 
 lists_follow : (e : Setting) {id : ℕ} {rs : List RuleTree} {names after : List (List ℕ)} {qs : List TypedRule} → ElaboratesRules e id rs names qs after → Follows names after
-lists_follow e (no_rule {names = names}) = (([], append_none names), λ d. d)
+lists_follow e (no_rule {names = names}) = (([], sym (append-nil names)), λ d. d)
 lists_follow e (one_rule {id = id} {n = n} {r = r} {names = names} {after = after} {q = q} {t = t} g h i) =
     both_follow names t.names after (names_stay e most_nested id r names q t n g) (lists_follow e i)
 

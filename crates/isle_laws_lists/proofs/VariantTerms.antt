@@ -18,6 +18,7 @@ use Rattle.isle_model.proofs.Members.{get_within}
 use Rattle.isle_model.proofs.Names.{at_number, get_kept}
 use Rattle.isle_laws_lists.specs.QuestionLaws.{VariantsHaveTerms}
 use Rattle.isle_laws_lists.proofs.TermLaws.{terms_have_names_lem, terms_stand_at_ids_lem}
+use Rattle.isle_model.proofs.Mapped.{get_map, get_mapped}
 
 -- 1. lists
 -- the one entry of a key is looked up
@@ -40,16 +41,6 @@ at_place : (fs : List (ℕ → TermEntry)) (k i m : ℕ) (f : ℕ → TermEntry)
 at_place [] k i m f z e = absurd (cc)
 at_place (g ∷ fs) k zero m f z e = (let q : k ≡ m = omega arith in ap Some (λ j. same_Some g f e j (q j)))
 at_place (g ∷ fs) k (suc i) m f z e = at_place fs (k + 1) i m f (omega arith) e
-
-mapped_at : {X Y : Type 0} (f : X → Y) (xs : List X) (i : ℕ) (x : X) → slice_get xs i ≡ Some x → slice_get (map f xs) i ≡ Some (f x)
-mapped_at f [] i x e = absurd (cc)
-mapped_at f (y ∷ xs) zero x e = ap Some (ap f (same_Some y x e))
-mapped_at f (y ∷ xs) (suc i) x e = mapped_at f xs i x e
-
-at_mapped : {X Y : Type 0} (f : X → Y) (xs : List X) (i : ℕ) (y : Y) → slice_get (map f xs) i ≡ Some y → (x : X) × (slice_get xs i ≡ Some x) × (f x ≡ y)
-at_mapped f [] i y e = absurd (cc)
-at_mapped f (x ∷ xs) zero y e = (x, refl, same_Some (f x) y e)
-at_mapped f (x ∷ xs) (suc i) y e = at_mapped f xs i y e
 
 -- 2. the variant
 record IsVariantOf (types : List TypeEntry) (ty variant : ℕ) (v : VariantEntry) : Type 0 where
@@ -109,8 +100,8 @@ module _ (e : TypesRead) (defs : List Definition) (r : AreReadable e) (valid : I
   name_at : (n : ℕ) (t : TermEntry) → slice_get (term_table e.known defs) n ≡ Some t → t.name ≡ v.full_name → (z : List ℕ) → slice_get (term_names_met e.known defs) v.full_name ≡ Some z → slice_get (term_names e.known defs) n ≡ Some z
   name_at n t s same z known =
       let numbers = terms_have_names_lem.0 e.known defs r.well_formed in
-      let here = sym (ap (λ l. slice_get l n) numbers) ∙ mapped_at (λ (x : TermEntry). x.name) (term_table e.known defs) n t s in
-      let m = at_mapped (number (term_names_met e.known defs)) (term_names e.known defs) n t.name here in
+      let here = sym (ap (λ l. slice_get l n) numbers) ∙ get_map (λ (x : TermEntry). x.name) (term_table e.known defs) n t s in
+      let m = get_mapped (number (term_names_met e.known defs)) (term_names e.known defs) n t.name here in
       let one : slice_get (term_names_met e.known defs) (number (term_names_met e.known defs) m.0) ≡ Some z = ap (slice_get (term_names_met e.known defs)) (m.2 ∙ same) ∙ known in
       m.1 ∙ ap Some (sym (at_number (term_names_met e.known defs) m.0 z one))
 

@@ -16,31 +16,11 @@ use Rattle.isle_model.specs.trees.Places.{is_in}
 use Rattle.isle_model.proofs.Elements.{or_split, or_left, or_right}
 use Rattle.isle_model.proofs.Options.{then_some}
 use Rattle.isle_laws_lists.specs.TypingResults.{FormedRulesCanBeVisited}
+use Rattle.isle_laws_lists.proofs.FormedParts.{from_if, from_entry, from_vars, has_type, has_none}
 
--- 1. answers
-passed : {X : Type 0} (b : Bool) (o : Option X) (y : X) → (if b then o else None) ≡ Some y → (b ≡ true) × (o ≡ Some y)
-passed true o y e = (refl, e)
-passed false o y e = absurd (none-some y e)
-
-entry_is : (o : Option TermEntry) (f : TermEntry → Bool) → of_entry o f ≡ true → (t : TermEntry) × (o ≡ Some t) × (f t ≡ true)
-entry_is None f h = absurd (false≢true h)
-entry_is (Some t) f h = (t, refl, h)
-
-vars_are : (o : Option (List (ℕ × ℕ))) (f : List (ℕ × ℕ) → Bool) → where_bound o f ≡ true → (vars : List (ℕ × ℕ)) × (o ≡ Some vars) × (f vars ≡ true)
-vars_are None f h = absurd (false≢true h)
-vars_are (Some vars) f h = (vars, refl, h)
-
--- 2. variables that can be used, beside those that are bound
+-- 1. variables that can be used, beside those that are bound
 abbrev has : List (ℕ × ℕ) → ℕ → Bool
 has vars y = is_some (var_type vars y)
-
-has_type : (o : Option ℕ) (ty : ℕ) → is_type o ty ≡ true → is_some o ≡ true
-has_type None ty h = absurd (false≢true h)
-has_type (Some t) ty h = refl
-
-has_none : (o : Option ℕ) → is_none o ≡ true → is_some o ≡ false
-has_none None h = refl
-has_none (Some t) h = absurd (false≢true h)
 
 some_or : (b : Bool) (ty : ℕ) (o : Option ℕ) → is_some (cond b (Some ty) o) ≡ (b || is_some o)
 some_or true ty o = refl
@@ -143,13 +123,13 @@ module _ (vars mid : List (ℕ × ℕ)) (x ty : ℕ) (can_visit : List ℕ → B
       comes : has ((x, ty) ∷ mid) x ≡ true
       comes = has_with x ty mid x ∙ or_left (x == x) (has mid x) (eq-eqb x x refl)
 
--- 3. rules
+-- 2. rules
 module _ (p : Program) where
   -- a pattern at its type, and more after it
   then_rest : (q : TypedPattern) (b : Bool) (rest : List (ℕ × ℕ) → Option (List (ℕ × ℕ))) (vars more : List (ℕ × ℕ)) → (if b then then_option (formed_pattern p q vars) rest else None) ≡ Some more
       → (b ≡ true) × (mid : List (ℕ × ℕ)) × (formed_pattern p q vars ≡ Some mid) × (rest mid ≡ Some more)
   then_rest q b rest vars more f =
-      let a = passed b (then_option (formed_pattern p q vars) rest) more f in
+      let a = from_if b (then_option (formed_pattern p q vars) rest) more f in
       let c = then_some (formed_pattern p q vars) rest more a.1 in
       (a.0, c.0, c.1, c.2)
 
@@ -161,13 +141,13 @@ module _ (p : Program) where
         subst (λ vs. Visits vars vs (is_visitable_pattern p.terms (match_bind ty x of)) (bound_after (match_bind ty x of))) n.1
         (bind_visits vars a.1 x ty (is_visitable_pattern p.terms of) (bound_after of) (pattern_visits of vars a.1 a.2) (has_none (var_type a.1 x) n.0))
     pattern_visits (match_var ty x) vars more f =
-        let a = passed (is_type (var_type vars x) ty) (Some vars) more f in unbound vars more (is_in x) a.1 (λ ks h. h x (has_type (var_type vars x) ty a.0))
-    pattern_visits (match_bool ty b) vars more f = unbound vars more (λ ks. true) (passed (ty == bool_type) (Some vars) more f).1 (λ ks h. refl)
-    pattern_visits (match_int ty z) vars more f = unbound vars more (λ ks. true) (passed (is_atom_type (slice_get p.types ty)) (Some vars) more f).1 (λ ks h. refl)
-    pattern_visits (match_prim ty name) vars more f = unbound vars more (λ ks. true) (passed (is_type (constant_type p name) ty) (Some vars) more f).1 (λ ks h. refl)
+        let a = from_if (is_type (var_type vars x) ty) (Some vars) more f in unbound vars more (is_in x) a.1 (λ ks h. h x (has_type (var_type vars x) ty a.0))
+    pattern_visits (match_bool ty b) vars more f = unbound vars more (λ ks. true) (from_if (ty == bool_type) (Some vars) more f).1 (λ ks h. refl)
+    pattern_visits (match_int ty z) vars more f = unbound vars more (λ ks. true) (from_if (is_atom_type (slice_get p.types ty)) (Some vars) more f).1 (λ ks h. refl)
+    pattern_visits (match_prim ty name) vars more f = unbound vars more (λ ks. true) (from_if (is_type (constant_type p name) ty) (Some vars) more f).1 (λ ks h. refl)
     pattern_visits (match_term ty term args) vars more f =
         let a = then_some (slice_get p.terms term) (λ (t : TermEntry). if (t.ret_ty == ty) && has_extractor t.kind then formed_parts p args t.arg_tys vars else None) more f in
-        let b = passed ((a.0.ret_ty == ty) && has_extractor a.0.kind) (formed_parts p args a.0.arg_tys vars) more a.2 in
+        let b = from_if ((a.0.ret_ty == ty) && has_extractor a.0.kind) (formed_parts p args a.0.arg_tys vars) more a.2 in
         let r = parts_visit args a.0.arg_tys vars more b.1 in
         let opens : of_entry (slice_get p.terms term) (λ e. has_extractor e.kind && (length e.arg_tys == pattern_count args)) ≡ true =
         (ap (λ o. of_entry o (λ e. has_extractor e.kind && (length e.arg_tys == pattern_count args))) a.1
@@ -195,7 +175,7 @@ module _ (p : Program) where
   mutual
     expr_visits : (e : TypedExpr) (vars : List (ℕ × ℕ)) (ks : List ℕ) → is_formed_expr p e vars ≡ true → Holds vars ks → is_visitable_expr p.terms e ks ≡ true
     expr_visits (make_term ty term args) vars ks f h =
-        let a = entry_is (slice_get p.terms term) (λ (t : TermEntry). (t.ret_ty == ty) && (has_constructor t.kind && are_formed_args p args t.arg_tys vars)) f in
+        let a = from_entry (slice_get p.terms term) (λ (t : TermEntry). (t.ret_ty == ty) && (has_constructor t.kind && are_formed_args p args t.arg_tys vars)) f in
         let b = and_parts (has_constructor a.0.kind) (are_formed_args p args a.0.arg_tys vars) (and_parts (a.0.ret_ty == ty) (has_constructor a.0.kind && are_formed_args p args a.0.arg_tys vars) a.2).1 in
         let r = args_visit args a.0.arg_tys vars ks b.1 h in
         and_from _ (are_visitable_args p.terms args ks)
@@ -207,7 +187,7 @@ module _ (p : Program) where
     expr_visits (make_int ty z) vars ks f h = refl
     expr_visits (make_prim ty name) vars ks f h = refl
     expr_visits (make_let ty defs body) vars ks f h =
-        let a = vars_are (formed_lets p defs vars) (λ more. (expr_type body == ty) && is_formed_expr p body more) f in
+        let a = from_vars (formed_lets p defs vars) (λ more. (expr_type body == ty) && is_formed_expr p body more) f in
         let r = lets_visit defs vars a.0 ks a.1 h in
         and_from (are_visitable_lets p.terms defs ks) (is_visitable_expr p.terms body (bound_after_lets defs ks)) r.0
         (expr_visits body a.0 (bound_after_lets defs ks) (and_parts (expr_type body == ty) (is_formed_expr p body a.0) a.2).1 r.1)
@@ -226,7 +206,7 @@ module _ (p : Program) where
         → (are_visitable_lets p.terms ds ks ≡ true) × Holds more (bound_after_lets ds ks)
     lets_visit no_typed_let vars more ks f h = (refl, subst (λ vs. Holds vs ks) (same_Some vars more f) h)
     lets_visit (typed_let_and x ty value rest) vars more ks f h =
-        let a = passed ((expr_type value == ty) && is_formed_expr p value vars) (then_option (with_new x ty vars) (λ after. formed_lets p rest after)) more f in
+        let a = from_if ((expr_type value == ty) && is_formed_expr p value vars) (then_option (with_new x ty vars) (λ after. formed_lets p rest after)) more f in
         let b = then_some (with_new x ty vars) (λ after. formed_lets p rest after) more a.1 in
         let n = cond_some (is_none (var_type vars x)) ((x, ty) ∷ vars) b.0 b.1 in
         let r = lets_visit rest b.0 more (x ∷ ks) b.2 (subst (λ vs. Holds vs (x ∷ ks)) n.1 (holds_with x ty vars ks h)) in
@@ -262,8 +242,8 @@ ready_start vars = record { bound = λ y h. h; new = λ y h k. refl }
 
 pub formed_rules_can_be_visited : FormedRulesCanBeVisited
 formed_rules_can_be_visited p r f =
-    let a = entry_is (slice_get p.terms r.root_term) (λ (t : TermEntry). where_bound (then_option (formed_list p r.args t.arg_tys []) (formed_iflets p r.iflets)) (λ vars. (expr_type r.rhs == t.ret_ty) && is_formed_expr p r.rhs vars)) f in
-    let b = vars_are (then_option (formed_list p r.args a.0.arg_tys []) (formed_iflets p r.iflets)) (λ vars. (expr_type r.rhs == a.0.ret_ty) && is_formed_expr p r.rhs vars) a.2 in
+    let a = from_entry (slice_get p.terms r.root_term) (λ (t : TermEntry). where_bound (then_option (formed_list p r.args t.arg_tys []) (formed_iflets p r.iflets)) (λ vars. (expr_type r.rhs == t.ret_ty) && is_formed_expr p r.rhs vars)) f in
+    let b = from_vars (then_option (formed_list p r.args a.0.arg_tys []) (formed_iflets p r.iflets)) (λ vars. (expr_type r.rhs == a.0.ret_ty) && is_formed_expr p r.rhs vars) a.2 in
     let c = then_some (formed_list p r.args a.0.arg_tys []) (formed_iflets p r.iflets) b.0 b.1 in
     let args = list_visits p r.args a.0.arg_tys [] c.0 c.1 in
     let iflets = iflets_visit p r.iflets c.0 b.0 c.2 in

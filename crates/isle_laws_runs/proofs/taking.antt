@@ -3,5 +3,6 @@ pub mod ByCalls
 pub mod CallsIn
 pub mod Followed
 pub mod Once
+pub mod PureSites
 pub mod Settled
 pub mod Used

@@ -1,12 +1,12 @@
 -- Of two different constraints one comes before the other.
-use Rattle.std.proofs.Common.{◌≡◌, ◌⊎◌, ℕ, ℤ, ◌<◌, ◌==◌, Bool, true, false, ◌&&◌, ◌||◌, nat_lt, refl, sym, ap, ◌∙◌, inl, inr, arith, eqb-true, eq-eqb, ltb-true, ltb-false, lt-ltb, int_cmp, int_eq, is_lt, Ordering, Less, Equal, Greater, ◌<ℤ◌}
+use Rattle.std.proofs.Common.{◌≡◌, ◌⊎◌, ℕ, ℤ, ◌==◌, Bool, true, false, ◌&&◌, ◌||◌, nat_lt, refl, sym, ap, ◌∙◌, inl, inr, arith, eq-eqb, ltb-false, int_cmp, int_eq, is_lt, Ordering, Less, Equal, Greater, ◌<ℤ◌}
 use Rattle.std.proofs.lemmas.Bool.{cases_Bool, and_from, or_left, or_right, false≢true}
 use Rattle.std.proofs.lemmas.Bool.Decides.{Decides-int_eq}
 use Rattle.std.proofs.lemmas.Int.{ints}
 use Rattle.std.specs.Cmp.{int_ranks}
 use Rattle.std.specs.Ordering.{MatchOrdering}
 use Rattle.isle_model.specs.sites.Sites.{Constraint, is_variant, is_struct, is_bool, is_int, is_prim, is_present}
-use Rattle.isle_model.specs.trees.Sound.{form, or_later, as_number, comes_before}
+use Rattle.isle_model.specs.trees.Sound.{or_later, as_number, comes_before}
 
 last_part : (n m : ℕ) → nat_lt m n ≡ false → (n ≡ m) ⊎ (nat_lt n m ≡ true)
 last_part n m h =

@@ -1,7 +1,7 @@
 -- Priorities, and what a cover that is a step's rules says of them.
 use Rattle.std.proofs.Common.{◌≡◌, ℕ, ℤ, Bool, true, false, not, ◌&&◌, ◌||◌, nat_lt, List, [], ◌∷◌, ◌++◌, Some, slice_get, Contains, filter, refl, sym, ap, ◌∙◌, subst, inl, inr, arith, int_cmp, int_eq, is_lt, Ordering, Less, Equal, Greater, ◌≤ℤ◌, ◌<ℤ◌}
 use Rattle.std.specs.List.{list_all}
-use Rattle.std.proofs.lemmas.Bool.{cases_Bool, cond-true, and_parts, and_from, or_cases, or_right, false≢true}
+use Rattle.std.proofs.lemmas.Bool.{cases_Bool, cond-true, and_parts, and_from, or_cases, or_right, false≢true, or_parts}
 use Rattle.std.proofs.lemmas.Bool.Decides.{Decides-int_eq}
 use Rattle.std.proofs.lemmas.Int.{ints}
 use Rattle.std.proofs.lemmas.List.Elements.{Contains-append_right}
@@ -9,7 +9,7 @@ use Rattle.std.specs.Cmp.{int_ranks}
 use Rattle.std.specs.Ordering.{MatchOrdering}
 use Rattle.isle_model.specs.sites.Sites.{SetRule}
 use Rattle.isle_model.specs.trees.Sound.{NoneHigher}
-use Rattle.isle_model.specs.trees.Tests.{Test, priority, needs_at, is_lower, is_covered, cover}
+use Rattle.isle_model.specs.trees.Tests.{Test, priority, needs_at, is_lower, is_covered, cover, needs, is_needed}
 use Rattle.isle_model.specs.trees.Best.{comes_first, descend}
 use Rattle.isle_model.proofs.Members.{nothing_in, in_head, in_tail, in_cases, in_filter, from_filter, each_passes, all_pass}
 use Rattle.isle_laws_trees.proofs.Exact.{not_exact}
@@ -112,7 +112,7 @@ module _ (rules : List SetRule) (t : Test) where
         | inr n ↦ covered_over here i j h c n
         | inl y ↦
             let q = some_fails (λ k. needs_at rules t k || not (is_lower rules j k)) here (unmet y) in
-            let o = neither (needs_at rules t q.0) (not (is_lower rules j q.0)) q.2 in
+            let o = or_parts (needs_at rules t q.0) (not (is_lower rules j q.0)) q.2 in
             through rules (prio_at rules j) (prio_at rules q.0) (prio_at rules i) (lower_at_most rules j q.0 (lower_is j q.0 o.1)) (covered_over here i q.0 h q.1 o.0)
       ]
     where
@@ -122,11 +122,6 @@ module _ (rules : List SetRule) (t : Test) where
             | inl q ↦ absurd (false≢true (sym f ∙ and_from (needs_at rules t j) (list_all (λ k. needs_at rules t k || not (is_lower rules j k)) here) y q))
             | inr q ↦ q
           ]
-
-      neither : (x y : Bool) → (x || y) ≡ false → (x ≡ false) × (y ≡ false)
-      neither true y e = absurd (false≢true (sym e))
-      neither false true e = absurd (false≢true (sym e))
-      neither false false e = (refl, refl)
 
       lower_is : (a b : ℕ) → not (is_lower rules a b) ≡ false → is_lower rules a b ≡ true
       lower_is a b e = elim (cases_Bool (is_lower rules a b)) [ inl y ↦ y | inr y ↦ absurd (false≢true (sym e ∙ ap not y)) ]
@@ -147,3 +142,7 @@ module _ (rules : List SetRule) (t : Test) where
       (and_from (needs_at rules t i) (list_all (λ k. needs_at rules t k || not (is_lower rules i k)) here) n
       (all_pass (λ k. needs_at rules t k || not (is_lower rules i k)) here (λ k d.
       or_right (needs_at rules t k) (not (is_lower rules i k)) ((not_exact (is_lower rules i k)).1 (at_least_not_lower rules i k (top k d))))))
+
+-- what a test that is made gives
+pub needed_here : (rules : List SetRule) (here later : List ℕ) (t : Test) → cover rules (here ++ later) t ≡ here → (i : ℕ) (r : SetRule) → Contains here i → slice_get rules i ≡ Some r → needs t r ≡ true
+needed_here rules here later t e i r c at = sym (ap (is_needed t) at) ∙ cover_needs rules t here later e i c

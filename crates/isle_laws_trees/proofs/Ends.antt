@@ -1,6 +1,6 @@
 -- At the end of a block, the demands of a rule than which none there is higher were all tested.
-use Rattle.std.proofs.Common.{◌≡◌, ◌⊎◌, ℕ, ◌<◌, true, false, not, ◌&&◌, ◌||◌, nat_lt, List, [], ◌∷◌, map, length, Some, is_some, slice_get, Contains, ◌≤ℤ◌, sym, ap, ◌∙◌, subst, inl, inr, arith, eqb-true, eq-eqb, lt-ltb}
-use Rattle.std.proofs.lemmas.Bool.{cases_Bool, and_parts, and_from, or_cases, or_left, or_right, false≢true, cases_lt}
+use Rattle.std.proofs.Common.{◌≡◌, ◌⊎◌, ℕ, ◌<◌, true, false, not, ◌&&◌, ◌||◌, nat_lt, List, [], map, length, Some, is_some, slice_get, Contains, ◌≤ℤ◌, sym, ap, ◌∙◌, subst, inl, inr, arith, eqb-true, eq-eqb, lt-ltb}
+use Rattle.std.proofs.lemmas.Bool.{cases_Bool, and_from, or_left, or_right, cases_lt}
 use Rattle.std.proofs.lemmas.Option.{same_Some}
 use Rattle.std.proofs.lemmas.List.Elements.{Contains-append_cases}
 use Rattle.isle_model.specs.sites.Sites.{Constraint, SetRule, SiteSet}
@@ -13,22 +13,7 @@ use Rattle.isle_laws_trees.proofs.Available.{Brings, Made, within, reach}
 use Rattle.isle_laws_trees.proofs.Covers.{prio_at, top_is_covered}
 use Rattle.isle_laws_trees.proofs.Exact.{not_exact}
 use Rattle.isle_laws_trees.proofs.Passing.{Passed}
-
-pub joins_in_itself : (classes : List (List ℕ)) (a b : ℕ) → joins_in classes a b ≡ true → joins_in classes a a ≡ true
-joins_in_itself [] a b h = absurd (false≢true h)
-joins_in_itself (c ∷ cs) a b h =
-    elim (or_cases (is_in a c && is_in b c) (joins_in cs a b) h) [
-      | inl q ↦ let m = (and_parts (is_in a c) (is_in b c) q).0 in or_left (is_in a c && is_in a c) (joins_in cs a a) (and_from (is_in a c) (is_in a c) m m)
-      | inr q ↦ or_right (is_in a c && is_in a c) (joins_in cs a a) (joins_in_itself cs a b q)
-    ]
-
-pub joins_in_turned : (classes : List (List ℕ)) (a b : ℕ) → joins_in classes a b ≡ true → joins_in classes b a ≡ true
-joins_in_turned [] a b h = absurd (false≢true h)
-joins_in_turned (c ∷ cs) a b h =
-    elim (or_cases (is_in a c && is_in b c) (joins_in cs a b) h) [
-      | inl q ↦ let m = and_parts (is_in a c) (is_in b c) q in or_left (is_in b c && is_in a c) (joins_in cs b a) (and_from (is_in b c) (is_in a c) m.1 m.0)
-      | inr q ↦ or_right (is_in b c && is_in a c) (joins_in cs b a) (joins_in_turned cs a b q)
-    ]
+use Rattle.isle_laws_runs.proofs.runs.Demanded.{joined_itself, joined_back}
 
 pub joins_turned : (ps : List (ℕ × ℕ)) (a b : ℕ) → joins ps a b ≡ true → joins ps b a ≡ true
 joins_turned ps a b h = eq-eqb (class ps b) (class ps a) (sym (eqb-true (class ps a) (class ps b) h))
@@ -98,7 +83,7 @@ module _ (set : SiteSet) (built : IsWellBuilt set) (ar : Around) (here : List �
     by_equal : (a b : ℕ) → joins_in r.classes a b ≡ true → tests_site r a ≡ true
     by_equal a b h =
         or_left (needs (match_test a) r || needs (equal_test a a) r) (needs (loop_test a) r)
-        (or_right (needs (match_test a) r) (needs (equal_test a a) r) (joins_in_itself r.classes a b h))
+        (or_right (needs (match_test a) r) (needs (equal_test a a) r) (joined_itself r.classes a b h))
 
     by_loop : (s : ℕ) → Contains r.iterators s → tests_site r s ≡ true
     by_loop s k = or_right (needs (match_test s) r || needs (equal_test s s) r) (needs (loop_test s) r) (member_is_in s r.iterators k)
@@ -109,7 +94,7 @@ module _ (set : SiteSet) (built : IsWellBuilt set) (ar : Around) (here : List �
           | inl t ↦ t
           | inr f ↦
               let x = reached a (by_equal a b h) in
-              let y = reached b (by_equal b a (joins_in_turned r.classes a b h)) in
+              let y = reached b (by_equal b a (joined_back r.classes a b h)) in
               absurd (needs_none (equal_test a b)
               (and_from (nat_lt a b && is_at_hand set ar a && is_at_hand set ar b) (not (joins ar.joined a b))
               (and_from (nat_lt a b && is_at_hand set ar a) (is_at_hand set ar b) (and_from (nat_lt a b) (is_at_hand set ar a) (lt-ltb a b l) (at_hand a x.1 x.0)) (at_hand b y.1 y.0))
@@ -122,7 +107,7 @@ module _ (set : SiteSet) (built : IsWellBuilt set) (ar : Around) (here : List �
           | inl l ↦ joined_up a b l h
           | inr l ↦
               elim (cases_lt b a) [
-                | inl m ↦ joins_turned ar.joined b a (joined_up b a m (joins_in_turned r.classes a b h))
+                | inl m ↦ joins_turned ar.joined b a (joined_up b a m (joined_back r.classes a b h))
                 | inr m ↦ let e : a ≡ b = omega arith in eq-eqb (class ar.joined a) (class ar.joined b) (ap (class ar.joined) e)
               ]
         ]

@@ -8,12 +8,12 @@ use Rattle.isle_model.specs.sites.Sites.{Constraint, SetRule, SiteSet}
 use Rattle.isle_model.specs.trees.Trees.{Marked, m_no_step, m_step, MarkedCheck, m_match, m_equal, m_loop, m_return, MarkedArms, m_no_arm, m_arm, marks, marks_arms, return_of, plain, plain_arms}
 use Rattle.isle_model.specs.trees.Places.{Around, nothing_around, is_in, joins_in, in_arm, in_equal, in_loop, after_step}
 use Rattle.isle_model.specs.trees.Sound.{is_return}
-use Rattle.isle_model.specs.trees.Tests.{Test, match_test, equal_test, loop_test, needs, is_needed, cover, IsOpen}
+use Rattle.isle_model.specs.trees.Tests.{match_test, equal_test, loop_test, IsOpen}
 use Rattle.isle_model.specs.trees.Best.{BestSteps, BestArms, are_distinct, steps_of, steps_in, steps_among, most_steps, NoSiteTwice, HasFewSteps}
 use Rattle.isle_model.proofs.Members.{in_head, in_tail, get_within, constraint_in, in_map, from_map, member_found}
 use Rattle.isle_laws_trees.specs.BestLaws.{StepsAreFew, StepsMakeBestTrees}
 use Rattle.isle_laws_trees.proofs.Counting.{distinct_sum, distinct_within}
-use Rattle.isle_laws_trees.proofs.Covers.{cover_needs}
+use Rattle.isle_laws_trees.proofs.Covers.{needed_here}
 use Rattle.isle_laws_trees.proofs.Exact.{not_exact}
 use Rattle.isle_laws_trees.proofs.Once.{sites_are_tested_once_lem}
 use Rattle.isle_laws_trees.proofs.Pairs.{Names, independent_few}
@@ -127,9 +127,6 @@ module _ (set : SiteSet) where
   fits_after : (ar : Around) (check : MarkedCheck) (ids : List ℕ) → Fits ar ids → Fits (after_step set ar check) ids
   fits_after ar check ids f = record { known = f.known; passed = λ i r c e. passed_after set ar r check (f.passed i r c e) }
 
-  needed_here : (here later : List ℕ) (t : Test) → cover set.rules (here ++ later) t ≡ here → (i : ℕ) (r : SetRule) → Contains here i → slice_get set.rules i ≡ Some r → needs t r ≡ true
-  needed_here here later t e i r c at = sym (ap (is_needed t) at) ∙ cover_needs set.rules t here later e i c
-
   -- a test's steps and those after it
   add_up : (ar : Around) (here later : List ℕ) (inner outer : ℕ) → here ≢ [] → IsStraight ar → Fits ar (here ++ later)
       → inner ≤ cost set.rules (suc (path ar)) here → outer ≤ cost set.rules (path ar) later → suc (inner + outer) ≤ cost set.rules (path ar) (here ++ later)
@@ -154,7 +151,7 @@ module _ (set : SiteSet) where
         let here = fits_left ar (marks body) (marks rest) fits in
         let inside : Fits (in_equal set ar a b) (marks body) = record {
           known = here.known;
-          passed = λ i r c e. passed_equal set ar r a b (needed_here (marks body) (marks rest) (equal_test a b) made.rules i r c e) (here.passed i r c e);
+          passed = λ i r c e. passed_equal set ar r a b (needed_here set.rules (marks body) (marks rest) (equal_test a b) made.rules i r c e) (here.passed i r c e);
         } in
         add_up ar (marks body) (marks rest) (steps_of (plain set.rules body)) (steps_of (plain set.rules rest)) made.some_rule straight fits
         (subst (λ n. steps_of (plain set.rules body) ≤ cost set.rules n (marks body)) (one_pair (length ar.tested) (length ar.joined) (length ar.looped))
@@ -167,7 +164,7 @@ module _ (set : SiteSet) where
         let here = fits_left ar (marks body) (marks rest) fits in
         let inside : Fits (in_loop set ar result) (marks body) = record {
           known = here.known;
-          passed = λ i r c e. passed_loop set ar r result source at (member_found source r.iterators (needed_here (marks body) (marks rest) (loop_test source) made.rules i r c e)) (here.passed i r c e);
+          passed = λ i r c e. passed_loop set ar r result source at (member_found source r.iterators (needed_here set.rules (marks body) (marks rest) (loop_test source) made.rules i r c e)) (here.passed i r c e);
         } in
         add_up ar (marks body) (marks rest) (steps_of (plain set.rules body)) (steps_of (plain set.rules rest)) made.some_rule straight fits
         (subst (λ n. steps_of (plain set.rules body) ≤ cost set.rules n (marks body)) (ap (λ l. length ar.tested + length ar.joined + length (l ++ ar.looped)) (sources_there set result source at) ∙ one_loop (length ar.tested) (length ar.joined) (length ar.looped))

@@ -3,10 +3,10 @@
 use Rattle.std.proofs.Common.{◌≡◌, ◌≤◌, ◌<◌, ℕ, zero, suc, Bool, true, false, if◌then◌else◌, List, [], ◌∷◌, ◌++◌, length, take, flat_map, Option, Some, None, slice_get, Contains, refl, sym, ap, ◌∙◌, subst, inl, inr, arith}
 use Rattle.std.proofs.lemmas.Option.{same_Some, slice_get_within}
 use Rattle.isle_model.specs.lists.Tables.{Flags}
-use Rattle.isle_model.specs.rules.Program.{Program, Kind, a_variant, a_struct, a_call, unknown, kind, flags_of, is_partial, rules_of}
-use Rattle.isle_model.specs.rules.Typed.{TypedPattern, match_bind, match_var, match_bool, match_int, match_prim, match_term, match_any, match_and, TypedPatterns, no_typed_pattern, typed_pattern_and, TypedExpr, make_term, make_var, make_bool, make_int, make_prim, make_let, TypedExprs, no_typed_expr, typed_expr_and, TypedLets, no_typed_let, typed_let_and, TypedIfLet, TypedRule}
-use Rattle.isle_model.specs.sites.Sites.{Site, bool_site, int_site, prim_site, argument_site, extractor_site, constructor_site, iterator_site, make_variant_site, match_variant_site, make_struct_site, extract_struct_site, make_some_site, match_some_site, match_tuple_site, is_present, SetRule, SiteSet, sources_of, SiteTerm, argument, bool_term, int_term, prim_term, extractor_call, constructor_call, pick_of, variant_made, struct_made, some_made, some_part, SiteTerms, layer_at, unfold_site}
-use Rattle.isle_model.specs.sites.Demands.{demands_of, Visit, visit_start, making, asking, iterating, calling, binding, equating, var_site, site_term_eq, has_site, with_sites, opened, part_sites, output_sites, open_call, open_term, visit_pattern, visit_each, visit_all, Valued, ValuedAll, valued, call_sites, call_result, where_multi, visit_call, visit_term, visit_expr, visit_exprs, visit_lets, unwraps, asking_all, visit_args, visit_iflets, finished, visit_rule}
+use Rattle.isle_model.specs.rules.Program.{Program, Kind, a_variant, a_struct, a_call, unknown, kind, flags_of, rules_of}
+use Rattle.isle_model.specs.rules.Typed.{TypedPatterns, TypedRule}
+use Rattle.isle_model.specs.sites.Sites.{Site, bool_site, int_site, prim_site, argument_site, extractor_site, constructor_site, iterator_site, make_variant_site, match_variant_site, make_struct_site, extract_struct_site, make_some_site, match_some_site, match_tuple_site, is_present, SetRule, SiteSet, sources_of, SiteTerm, extractor_call, constructor_call, pick_of, variant_made, struct_made, some_part, SiteTerms, layer_at, unfold_site}
+use Rattle.isle_model.specs.sites.Demands.{demands_of, Visit, making, asking, iterating, calling, equating, site_term_eq, has_site, with_sites, opened, part_sites, output_sites, open_call, open_term, ValuedAll, valued, call_sites, call_result, where_multi, visit_call, visit_term, visit_rule}
 use Rattle.isle_model.specs.sites.DemandedGates.{HasNoPartialMulti}
 use Rattle.isle_model.specs.sites.Closure.{Closed, closed, before_closing, most_closing_steps, ascending, class_at, field_terms}
 use Rattle.isle_model.specs.sites.Limits.{most_sites, sites_after_rule, sites_after_rules, sites_reached, sites_wanted, made_walking, walked_rule}
@@ -23,6 +23,7 @@ use Rattle.isle_laws_demands.proofs.visits.Built.{rule_at}
 use Rattle.isle_laws_demands.proofs.visits.Declared.{program_not_both}
 use Rattle.isle_laws_demands.proofs.visits.Once.{one_number}
 use Rattle.isle_laws_demands.proofs.visits.Unfolding.{unfolds}
+use Rattle.isle_laws_demands.proofs.visits.Kept.{rule_kept}
 
 -- 1. the visit of a rule makes a pick of each call that it goes over
 abbrev AllPicked : Visit → Type 0
@@ -69,27 +70,6 @@ term_opened (a_struct ty) t s args v h = λ call i. in_left v.demands.made _ (pi
 term_opened (a_call flags infallible) t s args v h = call_opened flags infallible (extractor_call t s) args v h
 term_opened unknown t s args v h = h
 
-module _ (p : Program) where
-  mutual
-    pattern_picked : (q : TypedPattern) (s : SiteTerm) (v : Visit) → AllPicked v → AllPicked (visit_pattern p q s v)
-    pattern_picked (match_bind ty x sub) s v h = pattern_picked sub s (binding x s v) h
-    pattern_picked (match_var ty x) s v h = equal_picked s (var_site v x) v h
-    pattern_picked (match_bool ty b) s v h = h
-    pattern_picked (match_int ty z) s v h = h
-    pattern_picked (match_prim ty name) s v h = h
-    pattern_picked (match_term ty t args) s v h = each_picked args (open_term (kind p t) t s args v).inputs (open_term (kind p t) t s args v).visit (term_opened (kind p t) t s args v h)
-    pattern_picked (match_any ty) s v h = h
-    pattern_picked (match_and ty subs) s v h = all_picked subs s v h
-
-    each_picked : (qs : TypedPatterns) (ss : List SiteTerm) (v : Visit) → AllPicked v → AllPicked (visit_each p qs ss v)
-    each_picked no_typed_pattern ss v h = h
-    each_picked (typed_pattern_and q qs) [] v h = h
-    each_picked (typed_pattern_and q qs) (s ∷ ss) v h = each_picked qs ss (visit_pattern p q s v) (pattern_picked q s v h)
-
-    all_picked : (qs : TypedPatterns) (s : SiteTerm) (v : Visit) → AllPicked v → AllPicked (visit_all p qs s v)
-    all_picked no_typed_pattern s v h = h
-    all_picked (typed_pattern_and q qs) s v h = all_picked qs s (visit_pattern p q s v) (pattern_picked q s v h)
-
 -- a call of a constructor that isn't both multi and partial
 call_picked : (flags : Flags) → (flags.multi ≡ true → flags.partial ≡ true → ⊥) → (call : SiteTerm) (v : Visit) → AllPicked v → AllPicked (where_multi flags call (making (call_sites flags call) v))
 call_picked flags neither call v h = of flags.partial flags.multi neither
@@ -118,49 +98,12 @@ visited_term (a_struct ty) neither t a h = more_made (struct_made ty a.sites ∷
 visited_term (a_call flags infallible) neither t a h = visited_call flags neither t a.sites a.visit h
 visited_term unknown neither t a h = h
 
-asked_picked : (ss : List SiteTerm) (v : Visit) → AllPicked v → AllPicked (asking_all ss v)
-asked_picked [] v h = h
-asked_picked (s ∷ ss) v h = asked_picked ss (asking s is_present v) h
-
-finished_picked : (b : Bool) (a : Valued) → AllPicked a.visit → AllPicked (finished b a).visit
-finished_picked false a h = h
-finished_picked true a h = more_made (some_made a.site ∷ []) a.visit h
-
-module _ (p : Program) (neither : HasNoPartialMulti p) where
-  mutual
-    expr_picked : (e : TypedExpr) (v : Visit) → AllPicked v → AllPicked (visit_expr p e v).visit
-    expr_picked (make_term ty t args) v h = visited_term (kind p t) (neither t) t (visit_exprs p args v) (exprs_picked args v h)
-    expr_picked (make_var ty x) v h = h
-    expr_picked (make_bool ty b) v h = more_made (bool_term b ty ∷ []) v h
-    expr_picked (make_int ty z) v h = more_made (int_term z ty ∷ []) v h
-    expr_picked (make_prim ty name) v h = more_made (prim_term name ∷ []) v h
-    expr_picked (make_let ty defs body) v h = expr_picked body (visit_lets p defs v) (lets_picked defs v h)
-
-    exprs_picked : (es : TypedExprs) (v : Visit) → AllPicked v → AllPicked (visit_exprs p es v).visit
-    exprs_picked no_typed_expr v h = h
-    exprs_picked (typed_expr_and x xs) v h = exprs_picked xs (visit_expr p x v).visit (expr_picked x v h)
-
-    lets_picked : (ds : TypedLets) (v : Visit) → AllPicked v → AllPicked (visit_lets p ds v)
-    lets_picked no_typed_let v h = h
-    lets_picked (typed_let_and x ty value rest) v h = lets_picked rest (binding x (visit_expr p value v).site (visit_expr p value v).visit) (expr_picked value v h)
-
-  args_picked : (i : ℕ) (qs : List TypedPattern) (v : Visit) → AllPicked v → AllPicked (visit_args p i qs v)
-  args_picked i [] v h = h
-  args_picked i (q ∷ qs) v h =
-      args_picked (suc i) qs (visit_pattern p q (argument i) (making (argument i ∷ []) v)) (pattern_picked p q (argument i) (making (argument i ∷ []) v) (more_made (argument i ∷ []) v h))
-
-  iflets_picked : (is : List TypedIfLet) (v : Visit) → AllPicked v → AllPicked (visit_iflets p is v)
-  iflets_picked [] v h = h
-  iflets_picked (i ∷ is) v h =
-      let a = visit_expr p i.rhs v in
-      let w = asking_all (unwraps a.site) a.visit in
-      iflets_picked is (visit_pattern p i.lhs a.site w) (pattern_picked p i.lhs a.site w (asked_picked (unwraps a.site) a.visit (expr_picked i.rhs v h)))
-
-  rule_picked : (r : TypedRule) → AllPicked (visit_rule p r).visit
-  rule_picked r =
-      let u = visit_args p 0 r.args visit_start in
-      let w = visit_iflets p r.iflets u in
-      finished_picked (is_partial p r.root_term) (visit_expr p r.rhs w) (expr_picked r.rhs w (iflets_picked r.iflets u (args_picked 0 r.args visit_start (λ call i. absurd i))))
+rule_picked : (p : Program) → HasNoPartialMulti p → (r : TypedRule) → AllPicked (visit_rule p r).visit
+rule_picked p neither r =
+    rule_kept p AllPicked
+    (record { bound = λ x s v h. h; equal = equal_picked; asked = λ s c v h. h; opened = λ t s args v h. term_opened (kind p t) t s args v h })
+    (record { bound = λ x s v h. h; made = more_made; valued = λ t a h. visited_term (kind p t) (neither t) t a h })
+    r (λ call i. absurd i)
 
 -- 2. no site that is made is lost
 abbrev Keeps : List SiteTerm → List SiteTerm → Type 0

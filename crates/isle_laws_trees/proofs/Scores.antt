@@ -9,17 +9,13 @@ use Rattle.isle_model.specs.trees.Best.{IsGreatest}
 use Rattle.isle_model.proofs.Members.{nothing_in, in_head, in_tail, in_cases}
 use Rattle.isle_laws_trees.specs.Scores.{ScoresAreOrdered, OneTestIsGreatest}
 use Rattle.isle_laws_trees.proofs.OpenTests.{open_listed, listed_open}
+use Rattle.isle_laws_runs.proofs.runs.Order.{not_below, below_chain}
 
 -- 1. one number, and what follows where two are the same
-below_itself : (n : ℕ) → nat_lt n n ≡ true → ⊥
-below_itself n h = (let l = ltb-true n n h in omega arith)
-
-less_less : (a b c : ℕ) → nat_lt a b ≡ true → nat_lt b c ≡ true → nat_lt a c ≡ true
-less_less a b c h k = (let l = ltb-true a b h in let m = ltb-true b c k in lt-ltb a c (omega arith))
 
 module _ (a : ℕ) (t : Bool) where
   pub one_itself : or_later (nat_lt a a) (a == a) t ≡ true → t ≡ true
-  one_itself h = elim (or_cases (nat_lt a a) ((a == a) && t) h) [ inl l ↦ absurd (below_itself a l) | inr r ↦ (and_parts (a == a) t r).1 ]
+  one_itself h = elim (or_cases (nat_lt a a) ((a == a) && t) h) [ inl l ↦ absurd (not_below a l) | inr r ↦ (and_parts (a == a) t r).1 ]
 
 module _ (a b c : ℕ) (t t' t'' : Bool) (next : t ≡ true → t' ≡ true → t'' ≡ true) where
   -- whatever compares the numbers
@@ -49,14 +45,14 @@ module _ (a b c : ℕ) (t t' t'' : Bool) (next : t ≡ true → t' ≡ true → 
   chain_up : or_later (nat_lt a b) (a == b) t ≡ true → or_later (nat_lt b c) (b == c) t' ≡ true → or_later (nat_lt a c) (a == c) t'' ≡ true
   chain_up =
       chain (nat_lt a b) (nat_lt b c) (nat_lt a c)
-      (less_less a b c)
+      (below_chain a b c)
       (λ x e. subst (λ n. nat_lt a n ≡ true) e x)
       (λ e y. subst (λ n. nat_lt n c ≡ true) (sym e) y)
 
   chain_down : or_later (nat_lt b a) (a == b) t ≡ true → or_later (nat_lt c b) (b == c) t' ≡ true → or_later (nat_lt c a) (a == c) t'' ≡ true
   chain_down =
       chain (nat_lt b a) (nat_lt c b) (nat_lt c a)
-      (λ x y. less_less c b a y x)
+      (λ x y. below_chain c b a y x)
       (λ x e. subst (λ n. nat_lt n a ≡ true) e x)
       (λ e y. subst (λ n. nat_lt c n ≡ true) (sym e) y)
 
@@ -99,7 +95,7 @@ by_emitted x y = or_later (nat_lt y.emitted x.emitted) (x.emitted == y.emitted) 
 
 greater_itself : (x : Score) → is_greater x x ≡ true → ⊥
 greater_itself x h =
-    below_itself x.other (one_itself x.site (nat_lt x.other x.other) (one_itself x.form (by_site x x) (one_itself x.emitted (by_form x x) (one_itself x.count (by_emitted x x) h))))
+    not_below x.other (one_itself x.site (nat_lt x.other x.other) (one_itself x.form (by_site x x) (one_itself x.emitted (by_form x x) (one_itself x.count (by_emitted x x) h))))
 
 not_greater_itself : (x : Score) → is_greater x x ≡ false
 not_greater_itself x = elim (cases_Bool (is_greater x x)) [ inl t ↦ absurd (greater_itself x t) | inr f ↦ f ]

@@ -7,12 +7,12 @@ use Rattle.isle_model.specs.sites.Sites.{iterator_site, Constraint, SetRule, Sit
 use Rattle.isle_model.specs.trees.Trees.{Marked, m_no_step, m_step, MarkedCheck, m_match, m_equal, m_loop, m_return, MarkedArms, m_no_arm, m_arm, marks, marks_arms}
 use Rattle.isle_model.specs.trees.Places.{Around, nothing_around, is_in, fields_of, field_sites, in_arm, in_equal, in_loop, after_step, available}
 use Rattle.isle_model.specs.trees.Sound.{IsTested, NoneHigher, AllAsk, AllJoin, AllGoOver, SoundSteps, SoundArms}
-use Rattle.isle_model.specs.trees.Tests.{Test, match_test, equal_test, loop_test, needs, is_needed, priority, sources_around, is_at_hand, cover}
+use Rattle.isle_model.specs.trees.Tests.{match_test, equal_test, loop_test, priority, sources_around, is_at_hand}
 use Rattle.isle_model.specs.trees.Best.{IsEnd, descend, BestSteps, BestArms}
 use Rattle.isle_model.specs.trees.WellBuilt.{IsWellBuilt, HasOnePriority, BestTreesAreSound}
 use Rattle.isle_model.proofs.Members.{nothing_in, in_head, in_tail, in_cases, get_within, member_found, member_is_in}
 use Rattle.isle_laws_trees.proofs.Available.{Brings}
-use Rattle.isle_laws_trees.proofs.Covers.{prio_at, none_higher, first_is_top, descend_rest, cover_over, cover_needs}
+use Rattle.isle_laws_trees.proofs.Covers.{prio_at, none_higher, first_is_top, descend_rest, cover_over, needed_here}
 use Rattle.isle_laws_trees.proofs.Ends.{end_is_tested}
 use Rattle.isle_laws_trees.proofs.Exact.{not_exact}
 use Rattle.isle_laws_trees.proofs.Passing.{Passed, sources_there, passed_after, passed_arm, passed_equal, passed_loop, passed_at_start}
@@ -85,10 +85,6 @@ module _ (set : SiteSet) (multi : Bool) (built : IsWellBuilt set) (one : multi �
       ];
     };
   }
-
-  -- what a test that is made gives
-  needed_here : (here later : List ℕ) (t : Test) → cover set.rules (here ++ later) t ≡ here → (i : ℕ) (r : SetRule) → Contains here i → slice_get set.rules i ≡ Some r → needs t r ≡ true
-  needed_here here later t e i r c at = sym (ap (is_needed t) at) ∙ cover_needs set.rules t here later e i c
 
   hand_available : (ar : Around) (s : ℕ) → is_at_hand set ar s ≡ true → IsTrue (available set.sites ar s)
   hand_available ar s h = (and_parts _ (available set.sites ar s) h).1
@@ -177,7 +173,7 @@ module _ (set : SiteSet) (multi : Bool) (built : IsWellBuilt set) (one : multi �
         let second = and_parts _ (is_at_hand set ar b) pair.0 in
         let first = and_parts _ (is_at_hand set ar a) second.0 in
         let here = left ar (marks body) (marks rest) keeps in
-        let join : AllJoin set.rules (marks body) a b = λ i r c e. needed_here (marks body) (marks rest) (equal_test a b) made.rules i r c e in (
+        let join : AllJoin set.rules (marks body) a b = λ i r c e. needed_here set.rules (marks body) (marks rest) (equal_test a b) made.rules i r c e in (
           λ q. best.0,
           (
             λ q. (hand_available ar a first.1, hand_available ar b second.1),
@@ -193,7 +189,7 @@ module _ (set : SiteSet) (multi : Bool) (built : IsWellBuilt set) (one : multi �
         let source = check.1.0 in
         let made = check.1.2 in
         let free = and_parts (is_at_hand set ar source) (not (is_in source (sources_around ar))) made.test.open_here in
-        let over : AllGoOver set.rules (marks body) source = λ i r c e. member_found source r.iterators (needed_here (marks body) (marks rest) (loop_test source) made.rules i r c e) in
+        let over : AllGoOver set.rules (marks body) source = λ i r c e. member_found source r.iterators (needed_here set.rules (marks body) (marks rest) (loop_test source) made.rules i r c e) in
         let here = left ar (marks body) (marks rest) keeps in (
           λ q. best.0,
           (

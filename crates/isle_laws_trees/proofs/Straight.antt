@@ -1,6 +1,6 @@
 -- Around a place the sources of arms differ, so do those of loops, and no pair is joined by the others.
-use Rattle.std.proofs.Common.{◌≡◌, ℕ, Bool, true, false, not, ◌&&◌, ◌||◌, nat_lt, List, ◌∷◌, ◌++◌, map, Option, Some, slice_get, refl, sym, ◌∙◌, subst}
-use Rattle.std.proofs.lemmas.Bool.{and_parts, and_from, false≢true}
+use Rattle.std.proofs.Common.{◌≡◌, ℕ, true, false, not, ◌&&◌, nat_lt, List, ◌∷◌, ◌++◌, map, Option, Some, slice_get, refl, sym, ◌∙◌, subst}
+use Rattle.std.proofs.lemmas.Bool.{and_parts, and_from, or_parts}
 use Rattle.std.proofs.lemmas.List.Folds.{list_any-append}
 use Rattle.isle_model.specs.sites.Sites.{iterator_site, Constraint, SiteSet}
 use Rattle.isle_model.specs.trees.Trees.{MarkedCheck}
@@ -22,11 +22,6 @@ pub record IsStraight (ar : Around) : Type 0 where
 pub straight_at_start : IsStraight nothing_around
 straight_at_start = record { matched = refl; looped = refl; joined = tt }
 
-in_neither : (x y : Bool) → (x || y) ≡ false → (x ≡ false) × (y ≡ false)
-in_neither true y e = absurd (false≢true (sym e))
-in_neither false true e = absurd (false≢true (sym e))
-in_neither false false e = (refl, refl)
-
 one_more : (x : ℕ) (xs : List ℕ) → is_in x xs ≡ false → are_distinct xs ≡ true → are_distinct (x ∷ xs) ≡ true
 one_more x xs f h = and_from (not (is_in x xs)) (are_distinct xs) ((not_exact (is_in x xs)).1 f) h
 
@@ -34,7 +29,7 @@ module _ (set : SiteSet) (ar : Around) (straight : IsStraight ar) where
   new_source : (s : ℕ) → (is_at_hand set ar s && not (is_in s (sources_around ar))) ≡ true → (is_in s (matched_around ar) ≡ false) × (is_in s ar.looped ≡ false)
   new_source s h =
       let f = (not_exact (is_in s (sources_around ar))).0 (and_parts (is_at_hand set ar s) (not (is_in s (sources_around ar))) h).1 in
-      in_neither (is_in s (matched_around ar)) (is_in s ar.looped) (sym (list_any-append _ (matched_around ar) ar.looped) ∙ f)
+      or_parts (is_in s (matched_around ar)) (is_in s ar.looped) (sym (list_any-append _ (matched_around ar) ar.looped) ∙ f)
 
   pub straight_after : (check : MarkedCheck) → IsStraight (after_step set ar check)
   straight_after check = record { matched = straight.matched; looped = straight.looped; joined = straight.joined }

@@ -3,9 +3,12 @@ pub mod ByNumber
 pub mod Bytes
 pub mod DistinctCounts
 pub mod DistinctJoined
+pub mod Either
 pub mod Elements
+pub mod FewElements
 pub mod FirstPlaces
 pub mod Joined
+pub mod Mapped
 pub mod Members
 pub mod Names
 pub mod Numbers

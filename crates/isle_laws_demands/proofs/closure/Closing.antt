@@ -1,19 +1,20 @@
 -- Closing demands without equalities adds nothing; closing never asks what doesn't follow.
-use Rattle.std.proofs.Common.{◌≡◌, ◌⊎◌, ◌↔◌, ℕ, zero, suc, true, not, if◌then◌else◌, List, [], ◌∷◌, ◌++◌, map, Option, Some, None, is_some, Contains, filter, flat_map, refl, sym, ap, ◌∙◌, subst, inl, inr}
-use Rattle.std.proofs.lemmas.Bool.{cases_Bool, cond-true, cond-false, false≢true}
+use Rattle.std.proofs.Common.{◌≡◌, ◌⊎◌, ◌↔◌, ℕ, zero, suc, not, if◌then◌else◌, List, [], ◌∷◌, ◌++◌, map, Option, Some, None, is_some, Contains, filter, flat_map, refl, sym, ap, ◌∙◌, subst, inl, inr}
+use Rattle.std.proofs.lemmas.Bool.{cases_Bool, cond-true, cond-false}
 use Rattle.std.specs.List.{zip}
 use Rattle.isle_model.specs.rules.Program.{Program}
 use Rattle.isle_model.specs.rules.Typed.{TypedRule}
 use Rattle.isle_model.specs.sites.Sites.{Constraint, SiteTerm}
 use Rattle.isle_model.specs.sites.Demands.{Demands, demands_of, site_term_eq, has_site, with_sites, differ}
 use Rattle.isle_model.specs.first.Built.{may_overlap}
-use Rattle.isle_model.specs.sites.Closure.{Joined, given, itself, turned, chained, at_field, field_terms, HasConstraint, IsUnreachable, two_at_a_site, constraint_of, Closed, class_at, without_class_of, merged_classes, merged_all, with_constraint, with_constraints, ascending, is_in_class, next_constrained, field_equalities, taken, closing, before_closing, begins_with, in_order, most_closing_steps, closed}
+use Rattle.isle_model.specs.sites.Closure.{Joined, given, itself, turned, chained, at_field, field_terms, HasConstraint, IsUnreachable, two_at_a_site, constraint_of, Closed, class_at, without_class_of, merged_classes, merged_all, with_constraint, with_constraints, ascending, is_in_class, next_constrained, field_equalities, taken, closing, before_closing, begins_with, in_order, most_closing_steps, closed, two_in_a_class}
 use Rattle.isle_model.specs.sites.Overlap.{overlaps}
 use Rattle.isle_laws_demands.specs.ClosureLaws.{ClosedFollows, HasEnded}
 use Rattle.isle_model.proofs.Elements.{In, in_from_contains, contains_from_in, some_is, none_some, in_left, in_right, in_either, in_map, from_flat_map, in_zip, in_filter, passed_filter}
 use Rattle.isle_model.proofs.SameSites.{term_means, constraint_cases}
 use Rattle.isle_model.proofs.SitesMade.{has_in}
 use Rattle.isle_laws_demands.proofs.overlaps.Overlaps.{differ_means, differ_from, bool_same}
+use Rattle.isle_model.proofs.Options.{is_there}
 
 -- where no class is left, nothing is taken
 nothing_at : (cs : List (SiteTerm × Constraint)) (s : SiteTerm) (ss : List SiteTerm) (o : Option Constraint) → next_constrained [] cs ss ≡ None
@@ -84,13 +85,25 @@ constraints_in cs (d ∷ ds) x i =
       | inr j ↦ inr (inr j)
     ]
 
+-- constraints stay
+pub keeps_one : (cs : List (SiteTerm × Constraint)) (c x : SiteTerm × Constraint) → In cs x → In (with_constraint cs c) x
+keeps_one cs c x i =
+    elim (cases_Bool (is_some (constraint_of cs c.0))) [
+      | inl t ↦ subst (λ l. In l x) (sym (cond-true (is_some (constraint_of cs c.0)) cs (cs ++ c ∷ []) t)) i
+      | inr f ↦ subst (λ l. In l x) (sym (cond-false (is_some (constraint_of cs c.0)) cs (cs ++ c ∷ []) f)) (in_left cs (c ∷ []) x i)
+    ]
+
+pub keeps_all : (cs ds : List (SiteTerm × Constraint)) (x : SiteTerm × Constraint) → In cs x → In (with_constraints cs ds) x
+keeps_all cs [] x i = i
+keeps_all cs (d ∷ ds) x i = keeps_all (with_constraint cs d) ds x (keeps_one cs d x i)
+
+-- a site of demands that can be met must meet one constraint at most
+pub one_demanded : (d : Demands) → (IsUnreachable d → ⊥) → (s : SiteTerm) (a b : Constraint) → HasConstraint d s a → HasConstraint d s b → a ≡ b
+one_demanded d reachable s a b h k = elim (constraint_cases a b) [ inl e ↦ e | inr n ↦ absurd (reachable (two_in_a_class s a b h k n)) ]
+
 -- no site has two constraints in a list
 abbrev pub OneEach : List (SiteTerm × Constraint) → Type 0
 OneEach cs = (s : SiteTerm) (a b : Constraint) → In cs (s, a) → In cs (s, b) → a ≡ b
-
-is_there : (o : Option Constraint) → is_some o ≡ true → (c : Constraint) × (o ≡ Some c)
-is_there None h = absurd (false≢true h)
-is_there (Some c) h = (c, refl)
 
 module _ (all : List (SiteTerm × Constraint)) (once : OneEach all) where
   one_kept : (cs : List (SiteTerm × Constraint)) (c x : SiteTerm × Constraint) → ((y : SiteTerm × Constraint) → In cs y → In all y) → In all c → In cs x ⊎ (c ≡ x) → In (with_constraint cs c) x

@@ -12,20 +12,15 @@ use Rattle.isle_laws_demands.proofs.closure.Classes.{HasNoConflict, no_conflict,
 use Rattle.isle_laws_demands.proofs.closure.Closing.{OneEach, found_constraint, one_each}
 use Rattle.isle_laws_demands.proofs.closure.Verdict.{conflict_is, cycle_is, unreachable_is}
 use Rattle.isle_laws_demands.proofs.closure.Settled.{names_settled}
+use Rattle.isle_model.proofs.FewElements.{not_empty}
 
 -- nothing is first where neither list has anything
 both_empty : (us vs : List Unreachability) → first_filled us vs ≡ [] → (us ≡ []) × (vs ≡ [])
 both_empty [] vs e = (refl, e)
-both_empty (u ∷ us) vs e = absurd (filled u us e)
-  where
-    filled : (x : Unreachability) (xs : List Unreachability) → (x ∷ xs) ≡ [] → ⊥
-    filled x xs q = cc
+both_empty (u ∷ us) vs e = absurd (not_empty u us e)
 
 empty_first : (us vs : List Unreachability) → us ≡ [] → vs ≡ [] → first_filled us vs ≡ []
 empty_first us vs e f = ap (λ xs. first_filled xs vs) e ∙ f
-
-not_empty : (u : Unreachability) (us : List Unreachability) → (u ∷ us) ≡ [] → ⊥
-not_empty u us q = cc
 
 -- a constraint that is the one a site had is no conflict
 no_clash : (o : Option Constraint) (c : Constraint) → ((b : Constraint) → o ≡ Some b → b ≡ c) → conflict_with o c ≡ []

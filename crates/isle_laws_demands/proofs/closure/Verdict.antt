@@ -1,6 +1,6 @@
 -- What the names of classes say of unreachable demands.
-use Rattle.std.proofs.Common.{◌≡◌, ◌⊎◌, ℕ, zero, suc, ◌≤◌, Bool, true, false, not, List, [], ◌∷◌, map, length, Option, Some, None, refl, sym, ◌∙◌, subst, inl, inr, arith}
-use Rattle.std.proofs.lemmas.Bool.{cases_Bool, and_parts, false≢true}
+use Rattle.std.proofs.Common.{◌≡◌, ◌⊎◌, ℕ, zero, suc, ◌≤◌, true, false, not, List, [], ◌∷◌, map, length, Option, Some, None, refl, sym, ◌∙◌, subst, inl, inr, arith}
+use Rattle.std.proofs.lemmas.Bool.{cases_Bool, and_parts, false≢true, not-true}
 use Rattle.std.specs.List.{list_any}
 use Rattle.isle_model.specs.sites.Sites.{Constraint, SiteTerm}
 use Rattle.isle_model.specs.sites.Demands.{Demands, constraint_eq}
@@ -10,10 +10,6 @@ use Rattle.isle_model.proofs.SameSites.{same_constraint}
 use Rattle.isle_laws_demands.proofs.closure.Names.{same_name, named_joined, names_sound, named_alike}
 use Rattle.isle_laws_demands.proofs.closure.Classes.{IsSettled, HasNoConflict, no_conflict, one_constraint, no_cycle, constrained_means}
 use Rattle.isle_model.proofs.DistinctCounts.{dropped}
-
-not_same : (b : Bool) → not b ≡ true → b ≡ false
-not_same true h = absurd (false≢true h)
-not_same false h = refl
 
 -- a conflict that the names show is one
 pub conflict_is : (d : Demands) → has_conflict (class_names d) d.constraints ≡ true → IsUnreachable d
@@ -25,7 +21,7 @@ conflict_is d h =
     two_in_a_class b.0.0 a.0.1 b.0.1
     (record { source = a.0.0; joined = j; asked = contains_from_in d.constraints a.0 a.1 })
     (record { source = b.0.0; joined = itself; asked = contains_from_in d.constraints b.0 b.1 })
-    (λ e. false≢true (sym (not_same (constraint_eq a.0.1 b.0.1) p.1) ∙ same_constraint a.0.1 b.0.1 e))
+    (λ e. false≢true (sym (not-true (constraint_eq a.0.1 b.0.1) p.1) ∙ same_constraint a.0.1 b.0.1 e))
 
 module _ (d : Demands) where
   -- the parts of a name are parts of its class

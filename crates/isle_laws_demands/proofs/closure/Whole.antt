@@ -1,6 +1,6 @@
 -- Where closing ends, all that follows from demands that can be met is asked.
-use Rattle.std.proofs.Common.{◌≡◌, ◌⊎◌, ℕ, Bool, true, false, not, if◌then◌else◌, List, [], ◌∷◌, ◌++◌, map, Option, Some, None, is_some, slice_get, refl, sym, ap, ◌∙◌, subst, inl, inr}
-use Rattle.std.proofs.lemmas.Bool.{cases_Bool, cond-true, cond-false, false≢true}
+use Rattle.std.proofs.Common.{◌≡◌, ◌⊎◌, ℕ, true, false, not, if◌then◌else◌, List, [], ◌∷◌, ◌++◌, map, Option, Some, None, is_some, slice_get, refl, sym, ap, ◌∙◌, subst, inl, inr}
+use Rattle.std.proofs.lemmas.Bool.{cases_Bool, cond-true, cond-false, false≢true, not-true}
 use Rattle.std.specs.List.{zip}
 use Rattle.isle_model.specs.sites.Sites.{Constraint, SiteTerm}
 use Rattle.isle_model.specs.sites.Demands.{site_term_eq, has_site}
@@ -8,7 +8,8 @@ use Rattle.isle_model.specs.sites.Closure.{field_terms, constraint_of, class_at,
 use Rattle.isle_model.proofs.Elements.{In, none_some, in_left, in_right, in_either, in_slice, in_map, map_in, from_flat_map, in_flat_map, zip_in, in_zip, in_filter, filter_from, passed_filter}
 use Rattle.isle_model.proofs.SameSites.{same_term}
 use Rattle.isle_model.proofs.SitesMade.{in_has, has_in}
-use Rattle.isle_laws_demands.proofs.closure.Closing.{found_constraint}
+use Rattle.isle_laws_demands.proofs.closure.Closing.{found_constraint, keeps_one, keeps_all}
+use Rattle.isle_model.proofs.Options.{is_there}
 
 -- two classes with a common site are one
 abbrev pub IsApart : List (List SiteTerm) → Type 0
@@ -58,14 +59,10 @@ class_found (k ∷ ks) l s i m =
 pub class_is : (ks : List (List SiteTerm)) → IsApart ks → (l : List SiteTerm) (s : SiteTerm) → In ks l → In l s → class_at ks s ≡ l
 class_is ks apart l s i m = apart (class_at ks s) l s (class_found ks l s i m) i (own_class ks s) m
 
-lacks : (b : Bool) → not b ≡ true → b ≡ false
-lacks true h = absurd (false≢true h)
-lacks false h = refl
-
 pub without_in : (ks : List (List SiteTerm)) (s : SiteTerm) (l : List SiteTerm) → In (without_class_of ks s) l → In ks l × (In l s → ⊥)
 without_in ks s l i = (
   in_filter (λ k. not (has_site k s)) ks l i,
-  λ m. false≢true (sym (lacks (has_site l s) (passed_filter (λ k. not (has_site k s)) ks l i)) ∙ in_has l s m),
+  λ m. false≢true (sym (not-true (has_site l s) (passed_filter (λ k. not (has_site k s)) ks l i)) ∙ in_has l s m),
 )
 
 pub in_without : (ks : List (List SiteTerm)) (s : SiteTerm) (l : List SiteTerm) → In ks l → has_site l s ≡ false → In (without_class_of ks s) l
@@ -249,27 +246,12 @@ pub record IsTaken (cs : List (SiteTerm × Constraint)) (ks : List (List SiteTer
   pub second : In cs (b, constraint)
   pub fields : FieldsChained ks h constraint a b
 
--- constraints stay, and each site of a list gets one
-keeps_one : (cs : List (SiteTerm × Constraint)) (c x : SiteTerm × Constraint) → In cs x → In (with_constraint cs c) x
-keeps_one cs c x i =
-    elim (cases_Bool (is_some (constraint_of cs c.0))) [
-      | inl t ↦ subst (λ l. In l x) (sym (cond-true (is_some (constraint_of cs c.0)) cs (cs ++ c ∷ []) t)) i
-      | inr f ↦ subst (λ l. In l x) (sym (cond-false (is_some (constraint_of cs c.0)) cs (cs ++ c ∷ []) f)) (in_left cs (c ∷ []) x i)
-    ]
-
-pub keeps_all : (cs ds : List (SiteTerm × Constraint)) (x : SiteTerm × Constraint) → In cs x → In (with_constraints cs ds) x
-keeps_all cs [] x i = i
-keeps_all cs (d ∷ ds) x i = keeps_all (with_constraint cs d) ds x (keeps_one cs d x i)
-
-there_is : (o : Option Constraint) → is_some o ≡ true → (c : Constraint) × (o ≡ Some c)
-there_is None h = absurd (false≢true h)
-there_is (Some c) h = (c, refl)
-
+-- each site of a list gets one
 gets_one : (cs : List (SiteTerm × Constraint)) (d : SiteTerm × Constraint) → (c : Constraint) × In (with_constraint cs d) (d.0, c)
 gets_one cs d =
     elim (cases_Bool (is_some (constraint_of cs d.0))) [
       | inl t ↦
-          let o = there_is (constraint_of cs d.0) t in
+          let o = is_there (constraint_of cs d.0) t in
           (o.0, keeps_one cs d (d.0, o.0) (found_constraint cs d.0 o.0 o.1))
       | inr f ↦ (d.1, subst (λ l. In l (d.0, d.1)) (sym (cond-false (is_some (constraint_of cs d.0)) cs (cs ++ d ∷ []) f)) (in_right cs (d ∷ []) (d.0, d.1) (inl refl)))
     ]

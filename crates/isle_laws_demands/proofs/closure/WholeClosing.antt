@@ -3,20 +3,16 @@ use Rattle.std.proofs.Common.{◌≡◌, ◌≢◌, ℕ, true, List, [], ◌∷�
 use Rattle.std.proofs.lemmas.Bool.{cases_Bool, false≢true}
 use Rattle.isle_model.specs.sites.Sites.{Constraint, SiteTerm}
 use Rattle.isle_model.specs.sites.Demands.{Demands, has_site, with_sites}
-use Rattle.isle_model.specs.sites.Closure.{Joined, given, itself, turned, chained, at_field, field_terms, HasConstraint, IsUnreachable, two_in_a_class, IsFree, Closed, class_at, without_class_of, merged_all, ascending, field_equalities, taken, closing, before_closing, begins_with, in_order, most_closing_steps, closed}
+use Rattle.isle_model.specs.sites.Closure.{Joined, given, itself, turned, chained, at_field, field_terms, HasConstraint, IsUnreachable, IsFree, Closed, class_at, without_class_of, merged_all, ascending, field_equalities, taken, closing, before_closing, begins_with, in_order, most_closing_steps, closed}
 use Rattle.isle_laws_demands.specs.ClosureLaws.{EqualSitesAreMade, HasEnded, ClosedIsWhole}
 use Rattle.isle_model.proofs.Elements.{In, in_from_contains, contains_from_in, some_is, in_right, in_either, any_in, in_map, map_in, from_flat_map, in_flat_map, in_filter, filter_from, passed_filter}
-use Rattle.isle_model.proofs.SameSites.{term_same, constraint_cases}
+use Rattle.isle_model.proofs.SameSites.{term_same}
 use Rattle.isle_model.proofs.SitesMade.{in_has, has_in}
 use Rattle.isle_laws_demands.proofs.closure.Classes.{in_with_sites, fields_at, moved}
-use Rattle.isle_laws_demands.proofs.closure.Closing.{closing_keeps, FollowsSoFar, in_class_joined, constraint_carried, next_asked, taken_follows, before_closing_follows, constraints_kept, one_each}
-use Rattle.isle_laws_demands.proofs.closure.Whole.{IsApart, InOne, class_is, without_in, in_without, AllIn, each_apart, each_keeps_one, each_joins_one, each_all_in, Chain, one_class, one_take, alike, back, then_on, chain_carried, joined_chain_cases, FieldsChained, IsTaken, keeps_all, gets_constraint, pairs_of, members_chained, pair_members, equality_members, none_constrained}
+use Rattle.isle_laws_demands.proofs.closure.Closing.{closing_keeps, FollowsSoFar, in_class_joined, constraint_carried, next_asked, taken_follows, before_closing_follows, constraints_kept, one_each, keeps_all, one_demanded}
+use Rattle.isle_laws_demands.proofs.closure.Whole.{IsApart, InOne, class_is, without_in, in_without, AllIn, each_apart, each_keeps_one, each_joins_one, each_all_in, Chain, one_class, one_take, alike, back, then_on, chain_carried, joined_chain_cases, FieldsChained, IsTaken, gets_constraint, pairs_of, members_chained, pair_members, equality_members, none_constrained}
 
 module _ (d : Demands) (reachable : IsUnreachable d → ⊥) where
-  -- a site must meet one constraint at most
-  one_of : (s : SiteTerm) (a b : Constraint) → HasConstraint d s a → HasConstraint d s b → a ≡ b
-  one_of s a b h k = elim (constraint_cases a b) [ inl e ↦ e | inr n ↦ absurd (reachable (two_in_a_class s a b h k n)) ]
-
   -- where a closing stands: all that is asked follows, and all that follows is asked or joined
   record Stands (k : Closed) (h : List (SiteTerm × SiteTerm)) : Type 0 where
     follows : FollowsSoFar d k
@@ -55,7 +51,7 @@ module _ (d : Demands) (reachable : IsUnreachable d → ⊥) where
     member_asked : (s : SiteTerm) → In members s → In after.constraints (s, c.1)
     member_asked s i =
         let g = gets_constraint k.constraints (map (λ u. (u, c.1)) members) (s, c.1) (map_in (λ (u : SiteTerm). (u, c.1)) members s i) in
-        let same = one_of s g.0 c.1 (after_follows.constraints (s, g.0) g.1) (member_has s i) in
+        let same = one_demanded d reachable s g.0 c.1 (after_follows.constraints (s, g.0) g.1) (member_has s i) in
         subst (λ b. In after.constraints (s, b)) same g.1
 
     -- the classes before are joined after
@@ -147,7 +143,7 @@ module _ (d : Demands) (reachable : IsUnreachable d → ⊥) where
         ∙ any_in (λ (q : List SiteTerm). has_site q s) k.classes l i (in_has l s j))
 
     once : (s : SiteTerm) (a b : Constraint) → In k.constraints (s, a) → In k.constraints (s, b) → a ≡ b
-    once s a b i j = one_of s a b (w.follows.constraints (s, a) i) (w.follows.constraints (s, b) j)
+    once s a b i j = one_demanded d reachable s a b (w.follows.constraints (s, a) i) (w.follows.constraints (s, b) j)
 
     -- a constraint goes along, and the fields are joined
     record Along (a b : SiteTerm) : Type 0 where

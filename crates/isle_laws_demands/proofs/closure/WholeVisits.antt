@@ -1,6 +1,6 @@
 -- A rule that is built passes no limit: its visit ends in no pattern, and its closing makes no more sites than there may be.
 use Rattle.std.proofs.Common.{◌≡◌, ◌≤◌, ℕ, suc, Bool, true, false, not, ◌||◌, nat_lt, if◌then◌else◌, List, [], ◌∷◌, ◌++◌, length, flat_map, Option, Some, None, is_some, is_none, slice_get, refl, sym, ap, ◌∙◌, subst, inl, inr, arith, ltb-false}
-use Rattle.std.proofs.lemmas.Bool.{cases_Bool, cond-true, cond-false, and_parts, false≢true}
+use Rattle.std.proofs.lemmas.Bool.{cases_Bool, cond-true, cond-false, and_parts, false≢true, not-true}
 use Rattle.isle_model.specs.rules.Typed.{TypedPattern, match_bind, match_var, match_bool, match_int, match_prim, match_term, match_any, match_and, TypedPatterns, no_typed_pattern, typed_pattern_and, TypedIfLet, TypedRule}
 use Rattle.isle_model.specs.rules.Program.{Program, kind}
 use Rattle.isle_model.specs.sites.Sites.{SiteTerm}
@@ -96,16 +96,12 @@ is_nothing : {X : Type 0} (o : Option X) → is_none o ≡ true → o ≡ None
 is_nothing None h = refl
 is_nothing (Some x) h = absurd (false≢true h)
 
-was_not : (b : Bool) → not b ≡ true → b ≡ false
-was_not true h = absurd (false≢true h)
-was_not false h = refl
-
 module _ (p : Program) (before : List SiteTerm) (r : TypedRule) (built : is_built p before r ≡ true) where
   no_limit : first_limit p before r ≡ None
   no_limit = is_nothing (first_limit p before r) (and_parts (is_none (first_limit p before r)) (not (is_unreachable (demands_of p r))) built).0
 
   pub is_reached : is_unreachable (demands_of p r) ≡ false
-  is_reached = was_not (is_unreachable (demands_of p r)) (and_parts (is_none (first_limit p before r)) (not (is_unreachable (demands_of p r))) built).1
+  is_reached = not-true (is_unreachable (demands_of p r)) (and_parts (is_none (first_limit p before r)) (not (is_unreachable (demands_of p r))) built).1
 
   few_reached : nat_lt most_sites (length (sites_reached p before r)) ≡ false
   few_reached =

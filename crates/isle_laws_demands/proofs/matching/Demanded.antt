@@ -15,11 +15,13 @@ use Rattle.isle_model.proofs.SameSites.{term_means}
 use Rattle.isle_model.proofs.ValuesEqual.{eq_means, eq_same}
 use Rattle.isle_model.proofs.Options.{is_there}
 use Rattle.isle_laws_demands.proofs.visits.Visited.{equating_binds}
-use Rattle.isle_laws_demands.proofs.visits.Patterns.{from_if, from_then}
+use Rattle.isle_laws_demands.proofs.visits.Patterns.{from_then}
 use Rattle.isle_laws_demands.proofs.matching.Contents.{Given, content_of, Here, is_value}
-use Rattle.isle_laws_demands.proofs.matching.Grown.{Grown, either, equated}
+use Rattle.isle_laws_demands.proofs.matching.Grown.{Grown, equated}
 use Rattle.isle_laws_demands.proofs.matching.SameExprs.{AreWithin}
 use Rattle.isle_laws_demands.proofs.matching.Variables.{named, IsPresent, AllPresent, IsVar, AreVars, var_kept}
+use Rattle.isle_model.proofs.Either.{either}
+use Rattle.isle_laws_lists.proofs.FormedParts.{from_if}
 
 -- the content of a site meets a constraint
 abbrev pub Meets : Given → SiteTerm → Constraint → Type 0

@@ -1,5 +1,5 @@
 -- The value of an expression that calls pure terms alone is its site's.
-use Rattle.std.proofs.Common.{◌≡◌, ℕ, ◌==◌, Bool, true, false, List, [], ◌∷◌, Option, Some, None, is_some, slice_get, refl, sym, ap, ap₂, subst, ◌∙◌, inl, inr, eq-eqb, eqb-true}
+use Rattle.std.proofs.Common.{◌≡◌, ℕ, ◌==◌, Bool, true, false, List, [], ◌∷◌, Option, Some, None, is_some, slice_get, refl, sym, ap, ap₂, subst, ◌∙◌, inl, inr, eq-eqb}
 use Rattle.std.proofs.lemmas.Bool.{and_from, false≢true}
 use Rattle.isle_model.specs.lists.Tables.{Flags, TermEntry}
 use Rattle.isle_model.specs.rules.Values.{Value, of_variant, of_struct, Values, no_value, value_and, well_typed, all_well_typed, variant_types, struct_types}
@@ -15,7 +15,7 @@ use Rattle.isle_model.specs.sites.Demands.{Visit, binding, ValuedAll, visit_term
 use Rattle.isle_model.specs.sites.Serves.{constant_type, term_results, fits_answer, fits_constructor}
 use Rattle.isle_model.specs.sites.DemandedGates.{IsPureExpr, ArePureExprs, ArePureLets, HasNoPartialMulti}
 use Rattle.isle_model.specs.lists.Setting.{expr_type}
-use Rattle.isle_model.specs.lists.Formed.{var_type, is_type, is_formed_expr, are_formed_args, formed_lets}
+use Rattle.isle_model.specs.lists.Formed.{var_type, is_formed_expr, are_formed_args, formed_lets}
 use Rattle.isle_model.proofs.Elements.{In, in_left, in_right, some_is, none_some}
 use Rattle.isle_model.proofs.Options.{is_there}
 use Rattle.isle_laws_demands.proofs.visits.Visited.{Same}
@@ -25,10 +25,7 @@ use Rattle.isle_laws_demands.proofs.matching.Grown.{Grown, then_grown, grown_bin
 use Rattle.isle_laws_demands.proofs.matching.SameExprs.{from_let, from_term, from_args, from_body, expr_keeps, term_site, pure_site, expr_alike, exprs_alike}
 use Rattle.isle_laws_demands.proofs.matching.TypedParts.{HasTypedParts}
 use Rattle.isle_laws_demands.proofs.matching.Variables.{AllPresent, IsValued, AreVars, var_moved, vars_and}
-
-pub type_is : (o : Option ℕ) (ty : ℕ) → is_type o ty ≡ true → o ≡ Some ty
-type_is None ty h = absurd (false≢true h)
-type_is (Some t) ty h = ap Some (eqb-true t ty h)
+use Rattle.isle_laws_lists.proofs.FormedParts.{type_is}
 
 -- the value that a content was made of
 value_back : (o : Option Value) → o ≡ then_option (from_value o) as_value

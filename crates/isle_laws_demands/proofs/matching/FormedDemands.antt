@@ -12,13 +12,14 @@ use Rattle.isle_model.specs.sites.Serves.{constant_type}
 use Rattle.isle_model.specs.lists.Setting.{bool_type, expr_type}
 use Rattle.isle_model.specs.lists.Formed.{pattern_type, is_type, formed_pattern, formed_parts, formed_each, is_formed_expr, formed_list, formed_iflets, is_formed_rule}
 use Rattle.isle_model.proofs.Elements.{In, in_either}
-use Rattle.isle_laws_demands.proofs.visits.Patterns.{from_if, from_then}
+use Rattle.isle_laws_demands.proofs.visits.Patterns.{from_then}
 use Rattle.isle_laws_demands.proofs.matching.Contents.{AsMany}
-use Rattle.isle_laws_demands.proofs.matching.Exprs.{type_is}
-use Rattle.isle_laws_demands.proofs.matching.Grown.{either, equated, expr_adds, rule_adds}
+use Rattle.isle_laws_demands.proofs.matching.Grown.{equated, expr_adds, rule_adds}
 use Rattle.isle_laws_demands.proofs.matching.Patterns.{from_term, from_part, from_bind, as_many}
 use Rattle.isle_laws_demands.proofs.matching.Rules.{rule_parts}
 use Rattle.isle_laws_demands.proofs.matching.TypedParts.{HasTypedParts}
+use Rattle.isle_model.proofs.Either.{either}
+use Rattle.isle_laws_lists.proofs.FormedParts.{from_if, type_is}
 
 -- a constraint of a pattern that hangs together
 abbrev pub IsFormed : Program → Constraint → Type 0

@@ -1,11 +1,13 @@
 -- Visits only add: what is made, gone over, asked and equated stays, and expressions ask and equate nothing.
-use Rattle.std.proofs.Common.{◌≡◌, ℕ, suc, Bool, true, false, cond, List, [], ◌∷◌, ◌++◌, refl, ◌∙◌}
+use Rattle.std.proofs.Common.{◌≡◌, ℕ, suc, Bool, true, false, List, [], ◌∷◌, ◌++◌, refl, ◌∙◌}
 use Rattle.isle_model.specs.lists.Tables.{Flags}
 use Rattle.isle_model.specs.rules.Program.{Program, Kind, a_variant, a_struct, a_call, unknown, kind, is_partial}
-use Rattle.isle_model.specs.sites.Sites.{Constraint, is_variant, is_struct, is_bool, is_int, is_prim, is_present, SiteTerm, bool_term, int_term, prim_term, argument, extractor_call, constructor_call, pick_of, variant_made, variant_field, struct_made, struct_field, some_made, some_part, SiteTerms}
-use Rattle.isle_model.specs.rules.Typed.{TypedPattern, match_bind, match_var, match_bool, match_int, match_prim, match_term, match_any, match_and, TypedPatterns, no_typed_pattern, typed_pattern_and, TypedExpr, make_term, make_var, make_bool, make_int, make_prim, make_let, TypedExprs, no_typed_expr, typed_expr_and, TypedLets, no_typed_let, typed_let_and, TypedIfLet, TypedRule}
-use Rattle.isle_model.specs.sites.Demands.{Visit, site_term_eq, making, asking, equating, iterating, calling, binding, var_site, from_to, pattern_count, part_sites, open_call, open_term, visit_pattern, visit_each, visit_all, Valued, ValuedAll, call_result, call_sites, where_multi, visit_call, visit_term, visit_expr, visit_exprs, visit_lets, unwraps, asking_all, visit_args, visit_iflets, finished}
+use Rattle.isle_model.specs.sites.Sites.{Constraint, is_variant, is_struct, is_present, SiteTerm, extractor_call, constructor_call, pick_of, variant_made, variant_field, struct_made, struct_field, some_made, some_part, SiteTerms}
+use Rattle.isle_model.specs.rules.Typed.{TypedPattern, TypedPatterns, TypedExpr, TypedExprs, TypedLets, TypedIfLet, TypedRule}
+use Rattle.isle_model.specs.sites.Demands.{Visit, site_term_eq, making, asking, equating, iterating, calling, binding, from_to, pattern_count, part_sites, open_call, open_term, visit_pattern, visit_each, visit_all, Valued, ValuedAll, call_result, call_sites, where_multi, visit_call, visit_term, visit_expr, visit_exprs, visit_lets, unwraps, asking_all, visit_args, visit_iflets, finished}
 use Rattle.isle_model.proofs.Elements.{In, in_left}
+use Rattle.isle_model.proofs.Either.{either}
+use Rattle.isle_laws_demands.proofs.visits.Kept.{KeptByTests, KeptByValues, pattern_kept, each_kept, all_kept, expr_kept, exprs_kept, lets_kept, iflet_kept, iflets_kept, args_kept}
 
 -- a later visit
 pub record Grown (v w : Visit) : Type 0 where
@@ -48,11 +50,6 @@ grown_equated : (a b : SiteTerm) (v : Visit) → Grown v (equated a b v)
 unfolding equated
 grown_equated a b v = record { made = λ u i. i; calls = λ u i. i; asked = λ x i. i; equal = λ x i. in_left v.demands.equalities ((a, b) ∷ []) x i }
 
--- what holds of two holds of either
-pub either : {X : Type 0} (P : X → Type 0) (b : Bool) (x y : X) → P x → P y → P (cond b x y)
-either P true x y p q = p
-either P false x y p q = q
-
 pub grown_equating : (a b : SiteTerm) (v : Visit) → Grown v (equating a b v)
 unfolding equated
 grown_equating a b v = either (Grown v) (site_term_eq a b) v (equated a b v) (now v) (grown_equated a b v)
@@ -87,30 +84,22 @@ term_grown (a_struct ty) t s args v =
 term_grown (a_call flags infallible) t s args v = call_grown flags.pure flags.multi flags.partial flags.rec infallible (extractor_call t s) args v
 term_grown unknown t s args v = now v
 
-mutual
-  pub pattern_grown : (p : Program) (q : TypedPattern) (s : SiteTerm) (v : Visit) → Grown v (visit_pattern p q s v)
-  pattern_grown p (match_bind ty x sub) s v =
-      then_grown v (binding x s v) (visit_pattern p sub s (binding x s v)) (grown_binding x s v) (pattern_grown p sub s (binding x s v))
-  pattern_grown p (match_var ty x) s v = grown_equating s (var_site v x) v
-  pattern_grown p (match_bool ty b) s v = grown_asking s (is_bool b ty) v
-  pattern_grown p (match_int ty z) s v = grown_asking s (is_int z ty) v
-  pattern_grown p (match_prim ty name) s v = grown_asking s (is_prim name) v
-  pattern_grown p (match_term ty t args) s v =
-      let o = open_term (kind p t) t s args v in
-      then_grown v o.visit (visit_each p args o.inputs o.visit) (term_grown (kind p t) t s args v) (each_grown p args o.inputs o.visit)
-  pattern_grown p (match_any ty) s v = now v
-  pattern_grown p (match_and ty subs) s v = all_grown p subs s v
+tests_grow : (p : Program) (v : Visit) → KeptByTests p (Grown v)
+tests_grow p v = record {
+  bound = λ x s w g. then_grown v w (binding x s w) g (grown_binding x s w);
+  equal = λ a b w g. then_grown v w (equating a b w) g (grown_equating a b w);
+  asked = λ s c w g. then_grown v w (asking s c w) g (grown_asking s c w);
+  opened = λ t s args w g. then_grown v w (open_term (kind p t) t s args w).visit g (term_grown (kind p t) t s args w);
+}
 
-  pub each_grown : (p : Program) (qs : TypedPatterns) (ss : List SiteTerm) (v : Visit) → Grown v (visit_each p qs ss v)
-  each_grown p no_typed_pattern ss v = now v
-  each_grown p (typed_pattern_and q qs) [] v = now v
-  each_grown p (typed_pattern_and q qs) (s ∷ ss) v =
-      then_grown v (visit_pattern p q s v) (visit_each p qs ss (visit_pattern p q s v)) (pattern_grown p q s v) (each_grown p qs ss (visit_pattern p q s v))
+pub pattern_grown : (p : Program) (q : TypedPattern) (s : SiteTerm) (v : Visit) → Grown v (visit_pattern p q s v)
+pattern_grown p q s v = pattern_kept p (Grown v) (tests_grow p v) q s v (now v)
 
-  pub all_grown : (p : Program) (qs : TypedPatterns) (s : SiteTerm) (v : Visit) → Grown v (visit_all p qs s v)
-  all_grown p no_typed_pattern s v = now v
-  all_grown p (typed_pattern_and q qs) s v =
-      then_grown v (visit_pattern p q s v) (visit_all p qs s (visit_pattern p q s v)) (pattern_grown p q s v) (all_grown p qs s (visit_pattern p q s v))
+pub each_grown : (p : Program) (qs : TypedPatterns) (ss : List SiteTerm) (v : Visit) → Grown v (visit_each p qs ss v)
+each_grown p qs ss v = each_kept p (Grown v) (tests_grow p v) qs ss v (now v)
+
+pub all_grown : (p : Program) (qs : TypedPatterns) (s : SiteTerm) (v : Visit) → Grown v (visit_all p qs s v)
+all_grown p qs s v = all_kept p (Grown v) (tests_grow p v) qs s v (now v)
 
 -- 2. expressions: they ask and equate nothing
 pub record Adds (v w : Visit) : Type 0 where
@@ -156,50 +145,39 @@ term_adds (a_struct ty) t a = adds_making (struct_made ty a.sites ∷ []) a.visi
 term_adds (a_call flags infallible) t a = call_adds flags.pure flags.multi flags.partial flags.rec t a.sites a.visit
 term_adds unknown t a = adds_nothing a.visit
 
-mutual
-  pub expr_adds : (p : Program) (x : TypedExpr) (v : Visit) → Adds v (visit_expr p x v).visit
-  expr_adds p (make_term ty t args) v =
-      let a = visit_exprs p args v in then_adds v a.visit (visit_term (kind p t) t a).visit (exprs_add p args v) (term_adds (kind p t) t a)
-  expr_adds p (make_var ty x) v = adds_nothing v
-  expr_adds p (make_bool ty b) v = adds_making (bool_term b ty ∷ []) v
-  expr_adds p (make_int ty z) v = adds_making (int_term z ty ∷ []) v
-  expr_adds p (make_prim ty name) v = adds_making (prim_term name ∷ []) v
-  expr_adds p (make_let ty defs body) v =
-      let w = visit_lets p defs v in then_adds v w (visit_expr p body w).visit (lets_add p defs v) (expr_adds p body w)
+values_add : (p : Program) (v : Visit) → KeptByValues p (Adds v)
+values_add p v = record {
+  bound = λ x s w a. then_adds v w (binding x s w) a (adds_binding x s w);
+  made = λ ts w a. then_adds v w (making ts w) a (adds_making ts w);
+  valued = λ t b a. then_adds v b.visit (visit_term (kind p t) t b).visit a (term_adds (kind p t) t b);
+}
 
-  pub exprs_add : (p : Program) (xs : TypedExprs) (v : Visit) → Adds v (visit_exprs p xs v).visit
-  exprs_add p no_typed_expr v = adds_nothing v
-  exprs_add p (typed_expr_and x xs) v =
-      let w = (visit_expr p x v).visit in then_adds v w (visit_exprs p xs w).visit (expr_adds p x v) (exprs_add p xs w)
+pub expr_adds : (p : Program) (x : TypedExpr) (v : Visit) → Adds v (visit_expr p x v).visit
+expr_adds p x v = expr_kept p (Adds v) (values_add p v) x v (adds_nothing v)
 
-  pub lets_add : (p : Program) (ds : TypedLets) (v : Visit) → Adds v (visit_lets p ds v)
-  lets_add p no_typed_let v = adds_nothing v
-  lets_add p (typed_let_and x ty value rest) v =
-      let a = visit_expr p value v in
-      let w = binding x a.site a.visit in
-      then_adds v a.visit (visit_lets p rest w) (expr_adds p value v) (then_adds a.visit w (visit_lets p rest w) (adds_binding x a.site a.visit) (lets_add p rest w))
+pub exprs_add : (p : Program) (xs : TypedExprs) (v : Visit) → Adds v (visit_exprs p xs v).visit
+exprs_add p xs v = exprs_kept p (Adds v) (values_add p v) xs v (adds_nothing v)
+
+pub lets_add : (p : Program) (ds : TypedLets) (v : Visit) → Adds v (visit_lets p ds v)
+lets_add p ds v = lets_kept p (Adds v) (values_add p v) ds v (adds_nothing v)
 
 -- 3. if-lets, and the right side
+values_grow : (p : Program) (v : Visit) → KeptByValues p (Grown v)
+values_grow p v = record {
+  bound = (tests_grow p v).bound;
+  made = λ ts w g. then_grown v w (making ts w) g (grown_making ts w);
+  valued = λ t b g. then_grown v b.visit (visit_term (kind p t) t b).visit g (term_adds (kind p t) t b).grown;
+}
+
 pub iflet_grown : (p : Program) (i : TypedIfLet) (v : Visit)
     → Grown v (visit_pattern p i.lhs (visit_expr p i.rhs v).site (asking_all (unwraps (visit_expr p i.rhs v).site) (visit_expr p i.rhs v).visit))
-iflet_grown p i v =
-    let a = visit_expr p i.rhs v in
-    let u = asking_all (unwraps a.site) a.visit in
-    then_grown v a.visit (visit_pattern p i.lhs a.site u) (expr_adds p i.rhs v).grown
-    (then_grown a.visit u (visit_pattern p i.lhs a.site u) (grown_all (unwraps a.site) a.visit) (pattern_grown p i.lhs a.site u))
+iflet_grown p i v = iflet_kept p (Grown v) (tests_grow p v) (values_grow p v) i v (now v)
 
 pub iflets_grown : (p : Program) (is : List TypedIfLet) (v : Visit) → Grown v (visit_iflets p is v)
-iflets_grown p [] v = now v
-iflets_grown p (i ∷ is) v =
-    let w = visit_pattern p i.lhs (visit_expr p i.rhs v).site (asking_all (unwraps (visit_expr p i.rhs v).site) (visit_expr p i.rhs v).visit) in
-    then_grown v w (visit_iflets p is w) (iflet_grown p i v) (iflets_grown p is w)
+iflets_grown p is v = iflets_kept p (Grown v) (tests_grow p v) (values_grow p v) is v (now v)
 
 pub args_grown : (p : Program) (i : ℕ) (qs : List TypedPattern) (v : Visit) → Grown v (visit_args p i qs v)
-args_grown p i [] v = now v
-args_grown p i (q ∷ qs) v =
-    let u = making (argument i ∷ []) v in
-    let w = visit_pattern p q (argument i) u in
-    then_grown v u (visit_args p (suc i) qs w) (grown_making (argument i ∷ []) v) (then_grown u w (visit_args p (suc i) qs w) (pattern_grown p q (argument i) u) (args_grown p (suc i) qs w))
+args_grown p i qs v = args_kept p (Grown v) (tests_grow p v) (values_grow p v).made i qs v (now v)
 
 pub finished_adds : (b : Bool) (a : Valued) → Adds a.visit (finished b a).visit
 finished_adds false a = adds_nothing a.visit

@@ -17,14 +17,14 @@ use Rattle.isle_model.specs.lists.Setting.{bool_type, has_extractor}
 use Rattle.isle_model.specs.lists.Formed.{pattern_type, var_type, is_type, with_new, formed_pattern, formed_parts, formed_each}
 use Rattle.isle_model.proofs.Elements.{In, in_right, some_is, none_some}
 use Rattle.isle_model.proofs.Options.{is_there, some_then}
-use Rattle.isle_laws_demands.proofs.visits.Patterns.{from_if, from_then, from_new, term_known}
+use Rattle.isle_laws_demands.proofs.visits.Patterns.{from_then, from_new, term_known}
 use Rattle.isle_laws_demands.proofs.matching.Contents.{Given, content_of, Here, AreHere, AsMany, IsAnswered, has_value, maybe_fits, picked_fits, fits_answered, fields_here, PutOut, put_out}
 use Rattle.isle_laws_demands.proofs.matching.Demanded.{one_not_just, AreMet, AskEnough, same_content, here_typed, met_asking, asked_now, IsBound, AreBound, bound_kept, After, outside, then_after, unbound, constant_after, var_after}
-use Rattle.isle_laws_demands.proofs.matching.Exprs.{type_is}
 use Rattle.isle_laws_demands.proofs.matching.Grown.{Grown, then_grown, grown_making, grown_asking, grown_iterating, each_grown, all_grown}
 use Rattle.isle_laws_demands.proofs.matching.SameExprs.{AreWithin, within_new}
 use Rattle.isle_laws_demands.proofs.matching.TypedParts.{HasTypedParts}
 use Rattle.isle_laws_demands.proofs.matching.Variables.{here_valued, var_bound, not_among}
+use Rattle.isle_laws_lists.proofs.FormedParts.{from_if, type_is}
 
 -- 1. what patterns are that hang together
 -- a term's pattern

@@ -2,7 +2,7 @@
 use Rattle.std.proofs.Common.{◌≡◌, ℕ, suc, ◌+◌, true, List, [], ◌∷◌, Option, Some, None, is_some, slice_get, refl, sym, ap, subst, ◌∙◌, inl, inr, eqb-true, arith}
 use Rattle.std.proofs.lemmas.Bool.{and_parts, false≢true}
 use Rattle.isle_model.specs.rules.Values.{Value, of_variant, of_struct, Values, value_and, of_list, well_typed, all_well_typed, args_well_typed}
-use Rattle.isle_model.specs.rules.Meaning.{Content, one, parts, nothing, just, many, extractor_answer}
+use Rattle.isle_model.specs.rules.Meaning.{Content, one, just, extractor_answer}
 use Rattle.isle_model.specs.rules.Outcome.{then_option}
 use Rattle.isle_model.specs.rules.Program.{Program, arg_types}
 use Rattle.isle_model.specs.rules.Typed.{TypedPattern, TypedIfLet, TypedRule}
@@ -26,6 +26,7 @@ use Rattle.isle_laws_demands.proofs.matching.SameExprs.{expr_keeps}
 use Rattle.isle_laws_demands.proofs.matching.TypedParts.{HasTypedParts}
 use Rattle.isle_laws_demands.proofs.matching.Variables.{named, IsPresent, AllPresent, var_moved}
 use Rattle.isle_laws_demands.proofs.visits.RuleParts.{iflet_parts}
+use Rattle.isle_laws_runs.proofs.picks.Held.{is_just}
 pub use Rattle.isle_laws_demands.proofs.visits.RuleParts.{RuleParts, rule_parts}
 
 -- 1. the calls that a site with a content unwraps answer
@@ -33,13 +34,6 @@ module _ (g : Given) where
   only : (s : SiteTerm) → IsPresent g s → AllPresent g (unwraps s) → AllPresent g (s ∷ unwraps s)
   only s h f u (inl e) = subst (IsPresent g) e h
   only s h f u (inr i) = f u i
-
-  is_just : (c d : Content) → part_of_some c ≡ Some d → c ≡ just d
-  is_just (just c) d e = ap just (some_is c d e)
-  is_just (one w) d e = absurd (none_some d e)
-  is_just (parts vs) d e = absurd (none_some d e)
-  is_just nothing d e = absurd (none_some d e)
-  is_just (many cs) d e = absurd (none_some d e)
 
   mutual
     pub unwrapped_present : (s : SiteTerm) (c : Content) → content_of g s ≡ Some c → AllPresent g (unwraps s)

@@ -14,9 +14,9 @@ use Rattle.isle_model.specs.sites.DemandedGates.{IsPureExpr, ArePureExprs, ArePu
 use Rattle.isle_model.proofs.Elements.{some_is}
 use Rattle.isle_model.proofs.Options.{is_there}
 use Rattle.isle_laws_demands.proofs.visits.Visited.{Same, then_same, same_binding}
-use Rattle.isle_laws_demands.proofs.visits.Patterns.{from_if, from_then, from_new, is_there as type_there}
-use Rattle.isle_laws_demands.proofs.visits.Exprs.{from_vars}
-use Rattle.isle_laws_demands.proofs.matching.Grown.{either}
+use Rattle.isle_laws_demands.proofs.visits.Patterns.{from_then, from_new}
+use Rattle.isle_model.proofs.Either.{either}
+use Rattle.isle_laws_lists.proofs.FormedParts.{from_if, has_type, from_vars}
 
 -- 1. an expression's visit names variables as before
 term_binds : (k : Kind) (t : ℕ) (a : ValuedAll) → (visit_term k t a).visit.vars ≡ a.visit.vars
@@ -172,7 +172,7 @@ mutual
       pure_site (kind p t) t (visit_exprs p args w) h.0
       ∙ ap (term_site (kind p t) t) (exprs_alike p args v w a.entry.arg_tys vars a.formed h.1 s)
       ∙ sym (pure_site (kind p t) t (visit_exprs p args v) h.0)
-  expr_alike p (make_var ty x) v w vars f h s = s x (type_there (var_type vars x) ty f)
+  expr_alike p (make_var ty x) v w vars f h s = s x (has_type (var_type vars x) ty f)
   expr_alike p (make_bool ty b) v w vars f h s = refl
   expr_alike p (make_int ty z) v w vars f h s = refl
   expr_alike p (make_prim ty name) v w vars f h s = refl

@@ -26,12 +26,12 @@ use Rattle.isle_laws_runs.proofs.taking.Followed.{Followed, goes_on, stops, then
 use Rattle.isle_laws_demands.proofs.visits.Visited.{Same}
 use Rattle.isle_laws_demands.proofs.visits.Patterns.{term_known}
 use Rattle.isle_laws_demands.proofs.matching.Contents.{Given, content_of, values_of, Fits, IsAnswered, one_fits, maybe_fits, picked_fits}
-use Rattle.isle_laws_demands.proofs.matching.Exprs.{type_is}
 use Rattle.isle_laws_demands.proofs.matching.Grown.{Grown, then_grown, grown_binding, expr_adds, exprs_add, lets_add, term_adds}
 use Rattle.isle_laws_demands.proofs.matching.SameExprs.{from_let, from_term, from_args, from_body, expr_keeps}
 use Rattle.isle_laws_demands.proofs.matching.Variables.{named}
 use Rattle.isle_laws_demands.proofs.outcomes.Quiet.{AddsCalls, adds_kept, then_adds_calls, term_adds_calls, expr_adds_calls, exprs_add_calls, lets_add_calls}
 use Rattle.isle_laws_demands.proofs.outcomes.Sited.{expr_sited, exprs_sited}
+use Rattle.isle_laws_lists.proofs.FormedParts.{type_is}
 
 -- 1. a variable's own site is the visit's, which holds its value and nothing else
 pub record IsWorth (g : Given) (own : SiteTerm) (o : Option Value) (s : SiteTerm) : Type 0 where

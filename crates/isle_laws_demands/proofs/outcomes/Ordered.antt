@@ -13,11 +13,11 @@ use Rattle.isle_model.proofs.Elements.{In, in_right, some_is}
 use Rattle.isle_laws_runs.proofs.taking.Followed.{answered_call}
 use Rattle.isle_laws_runs.proofs.taking.CallsIn.{CallsOnly, CallOnly, calls_more, call_more, Known, known_more, IsNext, InOrder}
 use Rattle.isle_laws_demands.proofs.visits.Visited.{Same}
-use Rattle.isle_laws_demands.proofs.visits.Patterns.{is_there}
 use Rattle.isle_laws_demands.proofs.matching.Grown.{Grown, then_grown, grown_binding, expr_adds, exprs_add, lets_add, term_adds}
 use Rattle.isle_laws_demands.proofs.matching.SameExprs.{from_let, from_term, from_args, from_body, expr_keeps}
 use Rattle.isle_laws_demands.proofs.matching.Variables.{named}
 use Rattle.isle_laws_demands.proofs.outcomes.Quiet.{AddsCalls, expr_adds_calls, exprs_add_calls}
+use Rattle.isle_laws_lists.proofs.FormedParts.{has_type}
 
 -- a term that is pure, or answers once
 abbrev pub IsPureOrSingle : Program → ℕ → Type 0
@@ -132,7 +132,7 @@ module _ (p : Program) (z : Visit) where
         let a = from_term p ty t args vars f in
         let b = visit_exprs p args v in
         term_ordered (kind p t) t b s.0 l (exprs_ordered args v a.entry.arg_tys vars a.formed s.1 k o (then_grown b.visit (visit_term (kind p t) t b).visit z (term_adds (kind p t) t b).grown l))
-    expr_ordered (make_var ty x) v vars f s k o l = record { orderly = o; site = k x (is_there (var_type vars x) ty f) }
+    expr_ordered (make_var ty x) v vars f s k o l = record { orderly = o; site = k x (has_type (var_type vars x) ty f) }
     expr_ordered (make_bool ty b) v vars f s k o l = record { orderly = record { count = o.count; order = o.order }; site = tt }
     expr_ordered (make_int ty i) v vars f s k o l = record { orderly = record { count = o.count; order = o.order }; site = tt }
     expr_ordered (make_prim ty name) v vars f s k o l = record { orderly = record { count = o.count; order = o.order }; site = tt }

@@ -8,8 +8,8 @@ use Rattle.isle_model.specs.sites.Demands.{Visit, binding, Valued, ValuedAll, ca
 use Rattle.isle_model.specs.lists.Formed.{var_type, is_formed_expr, are_formed_args, formed_lets}
 use Rattle.isle_model.proofs.Elements.{some_is}
 use Rattle.isle_laws_demands.proofs.visits.Visited.{Same}
-use Rattle.isle_laws_demands.proofs.visits.Patterns.{is_there}
 use Rattle.isle_laws_demands.proofs.matching.SameExprs.{from_let, from_term, from_args, from_body, after_alike, bound_alike}
+use Rattle.isle_laws_lists.proofs.FormedParts.{has_type}
 
 -- one site, and as many impure calls
 pub record SitedAlike (a b : Valued) : Type 0 where
@@ -39,7 +39,7 @@ mutual
   pub expr_sited : (p : Program) (x : TypedExpr) (v w : Visit) (vars : List (ℕ × ℕ)) → is_formed_expr p x vars ≡ true → Same vars v w → w.impure_calls ≡ v.impure_calls → SitedAlike (visit_expr p x v) (visit_expr p x w)
   expr_sited p (make_term ty t args) v w vars f s n =
       let a = from_term p ty t args vars f in term_sited (kind p t) t (visit_exprs p args v) (visit_exprs p args w) (exprs_sited p args v w a.entry.arg_tys vars a.formed s n)
-  expr_sited p (make_var ty x) v w vars f s n = record { site = s x (is_there (var_type vars x) ty f); count = n }
+  expr_sited p (make_var ty x) v w vars f s n = record { site = s x (has_type (var_type vars x) ty f); count = n }
   expr_sited p (make_bool ty b) v w vars f s n = record { site = refl; count = n }
   expr_sited p (make_int ty z) v w vars f s n = record { site = refl; count = n }
   expr_sited p (make_prim ty name) v w vars f s n = record { site = refl; count = n }

@@ -1,6 +1,6 @@
 -- Nothing is reported of a program exactly where all its rules are built, none overlap wrongly, and none is shadowed.
 use Rattle.std.proofs.Common.{◌≡◌, ◌↔◌, ◌==◌, ℕ, suc, ◌≤◌, true, false, not, ◌&&◌, is_none, List, [], ◌∷◌, ◌++◌, map, length, Option, Some, None, filter, refl, sym, ap, ◌∙◌, subst, inl, inr, arith, eqb-true, eq-eqb}
-use Rattle.std.proofs.lemmas.Bool.{cases_Bool, cond-true, cond-false, false≢true}
+use Rattle.std.proofs.lemmas.Bool.{cases_Bool, cond-true, cond-false, false≢true, not-true}
 use Rattle.std.proofs.lemmas.List.{append-nil}
 use Rattle.std.proofs.lemmas.List.Elements.{filter-append}
 use Rattle.isle_model.specs.rules.Typed.{TypedRule}
@@ -12,35 +12,22 @@ use Rattle.isle_model.specs.sites.Limits.{RuleLimit, first_limit, sites_wanted, 
 use Rattle.isle_model.specs.sites.Overlap.{BuiltRule, is_built, built_rule, built_from, built_rules, wrong_overlaps, overlap_reports, shadow_reports, position_lt, RuleReport, limit_passed, not_reached, rules_overlap, rule_shadows, build_reports_of, build_reports_after, build_reports, report_position, with_report, by_position, overlap_and_shadow_reports, check_reports}
 use Rattle.isle_model.specs.claims.Layers.{IsCheckable}
 use Rattle.isle_laws_demands.specs.ReportLaws.{RulesHaveTerms}
-use Rattle.isle_model.proofs.Elements.{In, in_from_contains, contains_from_in, in_slice, slice_in}
-use Rattle.isle_laws_demands.proofs.overlaps.Overlaps.{not_true}
+use Rattle.isle_model.proofs.Elements.{in_from_contains, contains_from_in, in_slice, slice_in}
 use Rattle.isle_laws_demands.proofs.closure.Reports.{reports_are_exact_lem}
 use Rattle.isle_laws_demands.proofs.closure.Settled.{verdict_is_exact_lem}
 use Rattle.isle_laws_demands.proofs.overlaps.Reported.{wrong_means, wrong_there, masked_means, masked_there}
-
-cons_empty : {X : Type 0} (x : X) (xs : List X) → (x ∷ xs) ≡ [] → ⊥
-cons_empty x xs e = cc
+use Rattle.isle_model.proofs.Mapped.{nothing_mapped}
+use Rattle.isle_model.proofs.FewElements.{nothing_if_none, none_in, not_empty}
 
 tails : {X : Type 0} (x y : X) (xs ys : List X) → (x ∷ xs) ≡ (y ∷ ys) → xs ≡ ys
 tails x y xs ys e = cc
 
 no_parts : {X : Type 0} (xs ys : List X) → (xs ++ ys) ≡ [] → (xs ≡ []) × (ys ≡ [])
 no_parts [] ys e = (refl, e)
-no_parts (x ∷ xs) ys e = absurd (cons_empty x (xs ++ ys) e)
+no_parts (x ∷ xs) ys e = absurd (not_empty x (xs ++ ys) e)
 
 both_empty : {X : Type 0} (xs ys : List X) → xs ≡ [] → ys ≡ [] → (xs ++ ys) ≡ []
 both_empty xs ys e f = ap (λ l. l ++ ys) e ∙ f
-
-map_empty : {X Y : Type 0} (f : X → Y) (xs : List X) → map f xs ≡ [] → xs ≡ []
-map_empty f [] e = refl
-map_empty f (x ∷ xs) e = absurd (cons_empty (f x) (map f xs) e)
-
-nothing_in : {X : Type 0} (xs : List X) → ((x : X) → In xs x → ⊥) → xs ≡ []
-nothing_in [] f = refl
-nothing_in (x ∷ xs) f = absurd (f x (inl refl))
-
-none_in : {X : Type 0} (xs : List X) → xs ≡ [] → (x : X) → In xs x → ⊥
-none_in xs e x i = subst (λ l. In l x) e i
 
 module _ (p : Program) where
   -- rules that are all built
@@ -89,9 +76,9 @@ module _ (p : Program) where
   reports_by before r o = elim o [ Some l ↦ limit_passed l r.at ∷ [] | None ↦ map (λ why. not_reached why r.at) (reported (sites_wanted p before r) (demands_of p r)) ]
 
   silent : (before : List SiteTerm) (r : TypedRule) (o : Option RuleLimit) → reports_by before r o ≡ [] → (is_none o && not (is_unreachable (demands_of p r))) ≡ true
-  silent before r (Some l) e = absurd (cons_empty (limit_passed l r.at) [] e)
+  silent before r (Some l) e = absurd (not_empty (limit_passed l r.at) [] e)
   silent before r None e =
-      let n = (reports_are_exact_lem (sites_wanted p before r) (demands_of p r)).0 (map_empty (λ why. not_reached why r.at) (reported (sites_wanted p before r) (demands_of p r)) e) in
+      let n = (reports_are_exact_lem (sites_wanted p before r) (demands_of p r)).0 (nothing_mapped (λ why. not_reached why r.at) (reported (sites_wanted p before r) (demands_of p r)) e) in
       elim (cases_Bool (is_unreachable (demands_of p r))) [
         | inl t ↦ absurd (n ((verdict_is_exact_lem (demands_of p r)).0 t))
         | inr f ↦ ap not f
@@ -101,7 +88,7 @@ module _ (p : Program) where
   built_silent before r (Some l) e = absurd (false≢true e)
   built_silent before r None e =
       ap (map (λ why. not_reached why r.at))
-      ((reports_are_exact_lem (sites_wanted p before r) (demands_of p r)).1 (λ u. false≢true (sym (not_true (is_unreachable (demands_of p r)) e) ∙ (verdict_is_exact_lem (demands_of p r)).1 u)))
+      ((reports_are_exact_lem (sites_wanted p before r) (demands_of p r)).1 (λ u. false≢true (sym (not-true (is_unreachable (demands_of p r)) e) ∙ (verdict_is_exact_lem (demands_of p r)).1 u)))
 
   abbrev of_term : ℕ → List TypedRule → List TypedRule
   of_term t rs = filter (λ q. q.root_term == t) rs
@@ -155,11 +142,11 @@ module _ (p : Program) where
       at_head t h = subst (AllBuilt (sites_so_far t done)) (cond-true (r.root_term == t) (r ∷ of_term t rs) (of_term t rs) h) (f t)
 
   filled : (a : RuleReport) (bs : List RuleReport) → with_report a bs ≡ [] → ⊥
-  filled a [] e = cons_empty a [] e
+  filled a [] e = not_empty a [] e
   filled a (b ∷ bs) e =
       elim (cases_Bool (position_lt (report_position b) (report_position a))) [
-        | inl t ↦ cons_empty b (with_report a bs) (sym (cond-true (position_lt (report_position b) (report_position a)) (b ∷ with_report a bs) (a ∷ (b ∷ bs)) t) ∙ e)
-        | inr f ↦ cons_empty a (b ∷ bs) (sym (cond-false (position_lt (report_position b) (report_position a)) (b ∷ with_report a bs) (a ∷ (b ∷ bs)) f) ∙ e)
+        | inl t ↦ not_empty b (with_report a bs) (sym (cond-true (position_lt (report_position b) (report_position a)) (b ∷ with_report a bs) (a ∷ (b ∷ bs)) t) ∙ e)
+        | inr f ↦ not_empty a (b ∷ bs) (sym (cond-false (position_lt (report_position b) (report_position a)) (b ∷ with_report a bs) (a ∷ (b ∷ bs)) f) ∙ e)
       ]
 
   sorted_empty : (rs : List RuleReport) → by_position rs ≡ [] → rs ≡ []
@@ -168,14 +155,14 @@ module _ (p : Program) where
 
   none_overlap : (pairs : _) → overlap_reports pairs ≡ [] → pairs ≡ []
   none_overlap [] e = refl
-  none_overlap (x ∷ xs) e = absurd (cons_empty _ _ e)
+  none_overlap (x ∷ xs) e = absurd (not_empty _ _ e)
 
   checkable : RulesHaveTerms p → check_reports p ≡ [] → IsCheckable p
   checkable terms e =
       let both = no_parts (build_reports p) (overlap_and_shadow_reports p) e in
       let later = no_parts (map rules_overlap (overlap_reports (wrong_overlaps p))) (map rule_shadows (shadow_reports p)) (sorted_empty (map rules_overlap (overlap_reports (wrong_overlaps p)) ++ map rule_shadows (shadow_reports p)) both.1) in
-      let wrong = none_overlap (wrong_overlaps p) (map_empty rules_overlap (overlap_reports (wrong_overlaps p)) later.0) in
-      let masks = map_empty rule_shadows (shadow_reports p) later.1 in
+      let wrong = none_overlap (wrong_overlaps p) (nothing_mapped rules_overlap (overlap_reports (wrong_overlaps p)) later.0) in
+      let masks = nothing_mapped rule_shadows (shadow_reports p) later.1 in
       record {
         built = λ t. all_kept [] (rules_of p t) (all_of_term t [] p.rules both.0);
         overlaps = λ t i j o. none_in (wrong_overlaps p) wrong (o.first.rule.at, o.second.rule.at) (wrong_there p terms t i j o);
@@ -184,8 +171,8 @@ module _ (p : Program) where
 
   unreported : IsCheckable p → check_reports p ≡ []
   unreported f =
-      let wrong = nothing_in (wrong_overlaps p) (λ e i. let w = wrong_means p e i in f.overlaps w.term w.earlier w.later w.overlap) in
-      let masks = nothing_in (shadow_reports p)
+      let wrong = nothing_if_none (wrong_overlaps p) (λ e i. let w = wrong_means p e i in f.overlaps w.term w.earlier w.later w.overlap) in
+      let masks = nothing_if_none (shadow_reports p)
       (λ s i.
       let w = masked_means p s i in
       let k = slice_in (built_rules p w.term) w.shadowed w.other in

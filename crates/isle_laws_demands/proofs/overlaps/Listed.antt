@@ -1,12 +1,11 @@
 -- Each wrong overlap stands in exactly one report, and reports list nothing else.
 use Rattle.std.proofs.Common.{◌≡◌, ◌⊎◌, ◌==◌, ℕ, zero, suc, ◌<◌, ◌≤◌, Bool, true, false, not, if◌then◌else◌, List, [], ◌∷◌, map, length, Some, slice_get, Contains, filter, flat_map, refl, sym, ap, ap₂, ◌∙◌, subst, inl, inr, arith, eqb-true, eq-eqb}
-use Rattle.std.proofs.lemmas.Bool.{cases_Bool, cond-true, cond-false, and_parts, and_from, false≢true}
+use Rattle.std.proofs.lemmas.Bool.{cases_Bool, cond-true, cond-false, and_parts, and_from, false≢true, not-true}
 use Rattle.isle_model.specs.lists.Syntax.{Position}
 use Rattle.isle_model.specs.rules.Program.{Program}
 use Rattle.isle_model.specs.sites.Overlap.{OverlapsWrongly, wrong_overlaps, position_eq, position_lt, has_end, other_end, is_reported_before, foremost, with_position, ascending_positions, OverlapReport, overlap_report, overlap_reports_in, overlap_reports}
 use Rattle.isle_laws_demands.specs.ReportLaws.{RulesHaveTerms, ListsBoth, IsListedOnce, OverlapAt}
 use Rattle.isle_model.proofs.Elements.{In, in_from_contains, contains_from_in, some_is, or_split, or_left, or_right, in_slice, in_filter, filter_from, passed_filter, in_map, map_in, from_flat_map}
-use Rattle.isle_laws_demands.proofs.overlaps.Overlaps.{not_true}
 use Rattle.isle_laws_demands.proofs.overlaps.Reported.{wrong_means, wrong_there}
 
 pub position_means : (a b : Position) → position_eq a b ≡ true → a ≡ b
@@ -220,7 +219,7 @@ once (suc n) (x ∷ xs) le e i = elim (cases_Bool (has_end (rule_first x xs) e))
         only zero r h l = refl
         only (suc k) r h l =
             let y = lists_overlap n (left_over (rule_first x xs) (x ∷ xs)) r e.0 e.1 (in_slice (overlap_reports_in n (left_over (rule_first x xs) (x ∷ xs))) k r h) l in
-            let out = not_true (has_end (rule_first x xs) y.0) (passed_filter (λ z. not (has_end (rule_first x xs) z)) (x ∷ xs) y.0 y.1) in
+            let out = not-true (has_end (rule_first x xs) y.0) (passed_filter (λ z. not (has_end (rule_first x xs) z)) (x ∷ xs) y.0 y.1) in
             absurd (false≢true (sym out ∙ same_end (rule_first x xs) e y.0 y.2 t))
 
     later : has_end (rule_first x xs) e ≡ false → IsListedOnce (overlap_reports_in n (left_over (rule_first x xs) (x ∷ xs))) e.0 e.1 → IsListedOnce (overlap_reports_in (suc n) (x ∷ xs)) e.0 e.1

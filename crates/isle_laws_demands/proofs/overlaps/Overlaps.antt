@@ -1,6 +1,6 @@
 -- The tests of overlap are exact, and overlap is symmetric.
 use Rattle.std.proofs.Common.{◌≡◌, ◌≢◌, Bool, true, false, not, ◌&&◌, ◌||◌, List, [], ◌∷◌, refl, sym, ap, ◌∙◌, subst, inl, inr}
-use Rattle.std.proofs.lemmas.Bool.{cases_Bool, and_parts, and_from, false≢true}
+use Rattle.std.proofs.lemmas.Bool.{cases_Bool, and_parts, and_from, false≢true, not-true}
 use Rattle.std.proofs.lemmas.Bool.Decides.{Decides-int_eq}
 use Rattle.std.specs.Bool.{Decides}
 use Rattle.std.specs.List.{list_any}
@@ -12,10 +12,6 @@ use Rattle.isle_model.specs.sites.Overlap.{Overlaps, overlaps, AreAmong, same_de
 use Rattle.isle_laws_demands.specs.ClosureLaws.{OverlapTestsAreExact}
 use Rattle.isle_model.proofs.Elements.{In, in_from_contains, contains_from_in, any_in, in_any, all_in, all_from, or_split, or_left, or_right}
 use Rattle.isle_model.proofs.SameSites.{term_means, term_same, constraint_means, same_constraint, constraint_cases}
-
-pub not_true : (b : Bool) → not b ≡ true → b ≡ false
-not_true true h = absurd (false≢true h)
-not_true false h = refl
 
 pub bool_same : (x y : Bool) → (x ≡ true → y ≡ true) → (y ≡ true → x ≡ true) → x ≡ y
 bool_same true true f g = refl
@@ -43,7 +39,7 @@ differ_means as' bs h =
       second = b.0.1;
       in_first = a.1;
       in_second = subst (λ s. In bs (s, b.0.1)) (sym (term_means a.0.0 b.0.0 p.0)) b.1;
-      two = λ e. false≢true (sym (not_true (constraint_eq a.0.1 b.0.1) p.1) ∙ same_constraint a.0.1 b.0.1 e);
+      two = λ e. false≢true (sym (not-true (constraint_eq a.0.1 b.0.1) p.1) ∙ same_constraint a.0.1 b.0.1 e);
     }
 
 unequal : (a b : Constraint) → a ≢ b → not (constraint_eq a b) ≡ true
@@ -76,7 +72,7 @@ overlaps_decides a b = (
   λ h s c d i j. elim (constraint_cases c d) [
     | inl e ↦ e
     | inr n ↦
-        absurd (false≢true (sym (not_true (differ a.constraints b.constraints) h)
+        absurd (false≢true (sym (not-true (differ a.constraints b.constraints) h)
         ∙ differ_from a.constraints b.constraints (record {
           site = s;
           first = c;

@@ -1,6 +1,6 @@
 -- Overlap of two rules of a set is symmetric, and in a built set it is that of their closed demands.
 use Rattle.std.proofs.Common.{◌≡◌, ◌≤◌, ℕ, ◌==◌, Bool, true, false, not, ◌&&◌, ◌||◌, if◌then◌else◌, List, [], ◌∷◌, length, map, filter, Contains, All, refl, sym, ap, ◌∙◌, subst, inl, inr, arith, eq-eqb, eqb-true}
-use Rattle.std.proofs.lemmas.Bool.{cases_Bool, cond-true, cond-false, and_parts, and_from, false≢true}
+use Rattle.std.proofs.lemmas.Bool.{cases_Bool, cond-true, cond-false, and_parts, and_from, false≢true, not-true}
 use Rattle.std.specs.List.{list_any}
 use Rattle.isle_model.specs.rules.Program.{Program, rules_of}
 use Rattle.isle_model.specs.sites.Sites.{Constraint, SetRule, SiteSet, SiteTerm, unfold_site}
@@ -13,7 +13,7 @@ use Rattle.isle_model.specs.trees.Places.{is_in, joins_in}
 use Rattle.isle_model.proofs.Elements.{In, in_from_contains, contains_from_in, in_slice, any_in, in_any, all_in, all_from, from_flat_map, passed_filter, or_split, or_left, or_right}
 use Rattle.isle_model.proofs.SameSites.{constraint_means, same_constraint, constraint_cases}
 use Rattle.isle_laws_demands.specs.SetOverlapLaws.{SetRulesOverlapAsTheirDemands, OverlapOfSetRulesIsSymmetric}
-use Rattle.isle_laws_demands.proofs.overlaps.Overlaps.{not_true, bool_same, none_listed}
+use Rattle.isle_laws_demands.proofs.overlaps.Overlaps.{bool_same, none_listed}
 use Rattle.isle_laws_demands.proofs.visits.Built.{was_built}
 use Rattle.isle_laws_demands.proofs.visits.Once.{one_number}
 use Rattle.isle_laws_demands.proofs.matching.BuiltMatches.{one_rule}
@@ -39,7 +39,7 @@ differing as' bs h =
       second = b.0.1;
       in_first = a.1;
       in_second = subst (λ s. In bs (s, b.0.1)) (sym (eqb-true a.0.0 b.0.0 p.0)) b.1;
-      two = λ e. false≢true (sym (not_true (constraint_eq a.0.1 b.0.1) p.1) ∙ same_constraint a.0.1 b.0.1 e);
+      two = λ e. false≢true (sym (not-true (constraint_eq a.0.1 b.0.1) p.1) ∙ same_constraint a.0.1 b.0.1 e);
     }
 
 unlike : (a b : Constraint) → (a ≡ b → ⊥) → not (constraint_eq a b) ≡ true

@@ -23,6 +23,7 @@ use Rattle.isle_laws_runs.proofs.runs.Contents.{SourcesBefore, sources_in, conte
 use Rattle.isle_laws_demands.proofs.matching.Contents.{is_value}
 use Rattle.isle_laws_demands.proofs.taken.Forms.{Form, form, a_value, IsCall, term_count, IsOfForm, AreValues}
 use Rattle.isle_laws_demands.proofs.visits.Patterns.{from_then}
+use Rattle.isle_laws_demands.proofs.matching.Shapes.{as_many_values}
 
 -- 1. values that have as many fields as their variants and structs
 abbrev pub AsManyFields : Option (List ℕ) → Values → Type 0
@@ -39,16 +40,10 @@ abbrev mutual
   AreWhole types no_value = Unit {0}
   AreWhole types (value_and v vs) = IsWhole types v × AreWhole types vs
 
-as_many_typed : (types : List TypeEntry) (tys : List ℕ) (vs : Values) → all_well_typed types (Some tys) vs ≡ true → length (listed vs) ≡ length tys
-as_many_typed types [] no_value h = refl
-as_many_typed types [] (value_and v vs) h = absurd (false≢true h)
-as_many_typed types (ty ∷ tys) no_value h = absurd (false≢true h)
-as_many_typed types (ty ∷ tys) (value_and v vs) h = ap suc (as_many_typed types tys vs (and_parts (well_typed types ty v) (all_well_typed types (Some tys) vs) h).1)
-
 typed_fields : (types : List TypeEntry) (o : Option (List ℕ)) (vs : Values) → all_well_typed types o vs ≡ true → AsManyFields o vs
 typed_fields types None no_value h = absurd (false≢true h)
 typed_fields types None (value_and v vs) h = absurd (false≢true h)
-typed_fields types (Some tys) vs h = (tys, refl, as_many_typed types tys vs h)
+typed_fields types (Some tys) vs h = (tys, refl, as_many_values types tys vs h)
 
 mutual
   pub typed_whole : (types : List TypeEntry) (ty : ℕ) (v : Value) → well_typed types ty v ≡ true → IsWhole types v
@@ -102,7 +97,7 @@ one_outputs p (ty ∷ []) (parts vs) h = absurd (false≢true h)
 one_outputs p (ty ∷ []) nothing h = absurd (false≢true h)
 one_outputs p (ty ∷ []) (just c) h = absurd (false≢true h)
 one_outputs p (ty ∷ []) (many cs) h = absurd (false≢true h)
-one_outputs p [] (parts vs) h = ((λ e. zero_one e), as_many_typed p.types [] vs h, all_typed_whole p.types (Some []) vs h)
+one_outputs p [] (parts vs) h = ((λ e. zero_one e), as_many_values p.types [] vs h, all_typed_whole p.types (Some []) vs h)
   where
     zero_one : zero ≡ 1 → ⊥
     zero_one e = omega (arith, e)
@@ -110,7 +105,7 @@ one_outputs p [] (one v) h = absurd (false≢true h)
 one_outputs p [] nothing h = absurd (false≢true h)
 one_outputs p [] (just c) h = absurd (false≢true h)
 one_outputs p [] (many cs) h = absurd (false≢true h)
-one_outputs p (ty ∷ (ty' ∷ tys)) (parts vs) h = ((λ e. two_one (length tys) e), as_many_typed p.types (ty ∷ (ty' ∷ tys)) vs h, all_typed_whole p.types (Some (ty ∷ (ty' ∷ tys))) vs h)
+one_outputs p (ty ∷ (ty' ∷ tys)) (parts vs) h = ((λ e. two_one (length tys) e), as_many_values p.types (ty ∷ (ty' ∷ tys)) vs h, all_typed_whole p.types (Some (ty ∷ (ty' ∷ tys))) vs h)
   where
     two_one : (n : ℕ) → suc (suc n) ≡ 1 → ⊥
     two_one n e = omega (arith, e)

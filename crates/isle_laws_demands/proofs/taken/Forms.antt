@@ -16,13 +16,15 @@ use Rattle.isle_model.specs.lists.Setting.{bool_type, expr_type}
 use Rattle.isle_model.specs.lists.Formed.{pattern_type, var_type, is_type, formed_pattern, formed_parts, formed_each, is_formed_expr, are_formed_args, formed_lets, formed_list, formed_iflets, is_formed_rule}
 use Rattle.isle_model.proofs.Elements.{In, in_either, none_some, some_is}
 use Rattle.isle_laws_demands.proofs.visits.RuleParts.{rule_parts}
-use Rattle.isle_laws_demands.proofs.visits.Patterns.{AsMany as AsManySites, as_many as numbers_as_many, from_if, from_then, is_there, term_known, in_numbers}
+use Rattle.isle_laws_demands.proofs.visits.Patterns.{AsMany as AsManySites, as_many as numbers_as_many, from_then, term_known, in_numbers}
 use Rattle.isle_laws_demands.proofs.matching.Contents.{AsMany}
-use Rattle.isle_laws_demands.proofs.matching.Grown.{either, equated}
+use Rattle.isle_laws_demands.proofs.matching.Grown.{equated}
 use Rattle.isle_laws_demands.proofs.matching.Patterns.{from_term as pattern_parts, from_part, from_bind, as_many}
 use Rattle.isle_laws_demands.proofs.matching.Rules.{rule_parts}
 use Rattle.isle_laws_demands.proofs.matching.SameExprs.{from_let, from_term, from_args, from_body}
 use Rattle.isle_laws_demands.proofs.matching.TypedParts.{HasTypedParts}
+use Rattle.isle_model.proofs.Either.{either}
+use Rattle.isle_laws_lists.proofs.FormedParts.{from_if, has_type}
 
 -- 1. forms
 -- the answers of a multi call, what may be nothing, or so many outputs: one of them is a value
@@ -167,7 +169,7 @@ module _ (p : Program) (n : ℕ) where
       ]
 
   type_given : (vars : List (ℕ × ℕ)) (x ty : ℕ) → is_type (var_type vars x) ty ≡ true → is_some (var_type vars x) ≡ true
-  type_given vars x ty h = is_there (var_type vars x) ty h
+  type_given vars x ty h = has_type (var_type vars x) ty h
 
   -- 3. patterns
   record IsAfter (v w : Visit) (more : List (ℕ × ℕ)) : Type 0 where

@@ -17,10 +17,10 @@ use Rattle.isle_model.specs.sites.Overlap.{BuiltRule, built_rules}
 use Rattle.isle_model.specs.sites.RuleSets.{IsRuleOf, IsBuilt}
 use Rattle.isle_model.specs.sites.Serves.{asked_by, asked, constant_site, typed_as, written_type, written_value, has_parts, tested_constants, Serves, TellsConstantsApart}
 use Rattle.isle_model.specs.claims.Environments.{TypesRead, IsElaborated, program_of}
-use Rattle.isle_model.specs.trees.Places.{is_in, joins_in, below, all_below, waits, each_field, fields_of}
+use Rattle.isle_model.specs.trees.Places.{joins_in, below, all_below, waits, each_field, fields_of}
 use Rattle.isle_model.specs.trees.Run.{World, all_one, where_constant, content_fields, world_of}
 use Rattle.isle_model.specs.trees.Collects.{content_at, meets, IsPureAt}
-use Rattle.isle_model.proofs.Elements.{In, in_from_contains, contains_from_in, in_right, in_flat_map, in_any, any_in, none_some, some_is}
+use Rattle.isle_model.proofs.Elements.{In, in_from_contains, contains_from_in, in_right, in_flat_map, none_some, some_is}
 use Rattle.isle_model.proofs.Members.{in_head, in_alone, all_members, from_flat_map}
 use Rattle.isle_model.proofs.Members as members
 use Rattle.isle_laws_lists.proofs.FormedRules.{rules_are_formed}
@@ -41,6 +41,7 @@ use Rattle.isle_laws_demands.proofs.taken.BuiltSites.{rules_known, sites_stand}
 use Rattle.isle_laws_demands.proofs.taken.Fits.{IsWhole, AsManyFields, typed_whole, FitsAs, FitsForm, the_value, IsServed, fits, found}
 use Rattle.isle_laws_demands.proofs.taken.Forms.{Form, a_value, AreKnown}
 use Rattle.isle_laws_demands.proofs.taken.SitesKnown.{Stands, made_stands, closed_known, before_stands}
+use Rattle.isle_laws_runs.proofs.runs.Demanded.{joined_itself}
 
 -- 1. arguments
 arg_there : (types : List TypeEntry) (tys : List ℕ) (args : List Value) → all_well_typed types (Some tys) (of_list args) ≡ true → (i : ℕ) → i < length tys → (v : Value) × (slice_get args i ≡ Some v) × IsWhole types v
@@ -257,11 +258,6 @@ module _ (e : TypesRead) (defs : List Definition) (expand : Bool) (rules : Typed
       same_shape (given p m args k) rs types apart (content_at w k s) d f (shape_at s d a u.0 u.1 u.2) (shape_at s f c v.0 v.1 v.2)
 
   -- 5. equal sites
-  joins_itself : (classes : List (List ℕ)) (a c : ℕ) → joins_in classes a c ≡ true → joins_in classes a a ≡ true
-  joins_itself classes a c j =
-      let l = in_any (λ x. is_in a x && is_in c x) classes j in
-      let i = (and_parts (is_in a l.0) (is_in c l.0) l.2).0 in
-      any_in (λ x. is_in a x && is_in a x) classes l.0 l.1 (and_from (is_in a l.0) (is_in a l.0) i i)
 
   pub equal_value : (r : SetRule) → Contains set.rules r → (a c : ℕ) → IsTrue (joins_in r.classes a c) → (x : Content) → content_at w k a ≡ Some x → (v : Value) × (x ≡ one v)
   equal_value r i a c j x z =
@@ -270,7 +266,7 @@ module _ (e : TypesRead) (defs : List Definition) (expand : Bool) (rules : Typed
       let f = before_stands p n rs [] (λ u y. absurd y) rs (λ s y. (y, known s y)) o.built o.listed in
       let l = closed_known p n rs f.0 f.2 (demands_of p f.1) (made_stands p n rs f.1 f.3 f.4) f.4 in
       let v = l.members q.2 (unfold_site set.sites a) (in_from_contains (closed f.0 (demands_of p f.1)).classes q.2 (subst (λ (y : BuiltRule). Contains y.demands.classes q.2) (sym f.5) q.3)) (in_from_contains q.2 (unfold_site set.sites a) q.4) in
-      let g = the_value p.types x (fits p n rs w k is_served a (pure_tested r o a (joined_tested p t set b o.built r o.is o.gates a (joins_itself r.classes a c j))) a_value v x z) in
+      let g = the_value p.types x (fits p n rs w k is_served a (pure_tested r o a (joined_tested p t set b o.built r o.is o.gates a (joined_itself r.classes a c j))) a_value v x z) in
       (g.0, g.1)
 
   -- 6. sites that wait for nothing

@@ -1,6 +1,6 @@
 -- Of a rule that hangs together each variable is bound to a site before it is used, so the visit makes all the sites that
 -- it equates.
-use Rattle.std.proofs.Common.{◌≡◌, ◌⊎◌, ℕ, suc, ◌==◌, Bool, true, false, ◌&&◌, if◌then◌else◌, List, [], ◌∷◌, Option, Some, None, is_some, slice_get, Contains, refl, sym, subst, inl, inr, eqb-true, eq-eqb, ◌∙◌, ap}
+use Rattle.std.proofs.Common.{◌≡◌, ◌⊎◌, ℕ, suc, ◌==◌, Bool, true, false, ◌&&◌, if◌then◌else◌, List, [], ◌∷◌, Some, None, is_some, slice_get, Contains, refl, sym, subst, inl, inr, eqb-true, eq-eqb, ◌∙◌, ap}
 use Rattle.std.proofs.lemmas.Bool.{cases_Bool, cond-true, cond-false, and_parts, false≢true}
 use Rattle.isle_model.specs.rules.Meaning.{look}
 use Rattle.isle_model.specs.rules.Outcome.{then_option}
@@ -9,17 +9,17 @@ use Rattle.isle_model.specs.lists.Tables.{Flags, TermEntry}
 use Rattle.isle_model.specs.rules.Values.{is_atom_type}
 use Rattle.isle_model.specs.sites.Serves.{constant_type}
 use Rattle.isle_model.specs.lists.Setting.{bool_type, expr_type, has_constructor, has_extractor}
-use Rattle.isle_model.specs.lists.Formed.{pattern_type, var_type, is_type, with_new, of_entry, formed_pattern, formed_parts, formed_each, is_formed_expr, are_formed_args, formed_lets, formed_list, formed_iflets, is_formed_rule}
+use Rattle.isle_model.specs.lists.Formed.{pattern_type, var_type, is_type, with_new, formed_pattern, formed_parts, formed_each, is_formed_expr, are_formed_args, formed_lets, formed_list, formed_iflets, is_formed_rule}
 use Rattle.isle_model.specs.rules.Typed.{TypedPattern, match_bind, match_var, match_bool, match_int, match_prim, match_term, match_any, match_and, TypedPatterns, no_typed_pattern, typed_pattern_and, TypedExpr, make_term, make_var, make_bool, make_int, make_prim, make_let, TypedExprs, no_typed_expr, typed_expr_and, TypedLets, no_typed_let, typed_let_and, TypedIfLet, TypedRule}
 use Rattle.isle_model.specs.sites.Sites.{is_present, SiteTerm, argument, extractor_call, constructor_call, pick_of, variant_field, struct_field, some_part, tuple_part, no_site, SiteTerms}
 use Rattle.isle_model.specs.sites.Demands.{demands_of, site_term_eq, Visit, visit_start, making, asking, equating, binding, or_no_site, var_site, Opened, output_sites, open_call, open_term, visit_pattern, visit_each, visit_all, Valued, ValuedAll, call_result, visit_call, visit_term, visit_expr, visit_exprs, visit_lets, unwraps, asking_all, visit_args, visit_iflets, finished, visit_rule}
 use Rattle.isle_model.proofs.Elements.{In, in_from_contains, some_is, none_some, in_either}
 use Rattle.isle_laws_demands.specs.BuiltLaws.{FormedRulesMakeEqualSites}
 use Rattle.isle_laws_demands.proofs.closure.VisitedRules.{visits_make_lem}
-use Rattle.isle_laws_demands.proofs.visits.Exprs.{from_vars}
-use Rattle.isle_laws_demands.proofs.visits.Patterns.{from_if, from_then, is_there, from_new, AsMany, as_many, in_numbers, output_count, term_known}
+use Rattle.isle_laws_demands.proofs.visits.Patterns.{from_then, from_new, AsMany, as_many, in_numbers, output_count, term_known}
 use Rattle.isle_laws_demands.proofs.visits.Visited.{equated}
 use Rattle.isle_laws_demands.proofs.visits.RuleParts.{iflet_parts, rule_parts}
+use Rattle.isle_laws_lists.proofs.FormedParts.{from_if, has_type, from_vars, from_entry}
 
 abbrev IsSite : SiteTerm → Type 0
 IsSite u = u ≡ no_site → ⊥
@@ -167,7 +167,7 @@ module _ (p : Program) where
         }
     pattern_binds (match_var ty x) s v vars more f m h g =
         let a = from_if (is_type (var_type vars x) ty) (Some vars) more f in
-        let n = var_is_site x v.vars h.vars (g x (is_there (var_type vars x) ty a.0)) in
+        let n = var_is_site x v.vars h.vars (g x (has_type (var_type vars x) ty a.0)) in
         same_vars v (equating s (var_site v x) v) vars more (on_equating s (var_site v x) v m n h) g a.1
     pattern_binds (match_bool ty b) s v vars more f m h g = same_vars v (visit_pattern p (match_bool ty b) s v) vars more (like v (visit_pattern p (match_bool ty b) s v) refl refl h) g (from_if (ty == bool_type) (Some vars) more f).1
     pattern_binds (match_int ty z) s v vars more f m h g = same_vars v (visit_pattern p (match_int ty z) s v) vars more (like v (visit_pattern p (match_int ty z) s v) refl refl h) g (from_if (is_atom_type (slice_get p.types ty)) (Some vars) more f).1
@@ -229,10 +229,6 @@ term_is_site (a_struct ty) t a known h = record { onward = record { sound = reco
 term_is_site (a_call flags infallible) t a known h = call_is_site flags.pure flags.multi flags.partial flags.rec t a.sites a.visit h
 term_is_site unknown t a known h = absurd (known refl)
 
-entry_there : (o : Option TermEntry) (f : TermEntry → Bool) → of_entry o f ≡ true → (t : TermEntry) × (o ≡ Some t) × (f t ≡ true)
-entry_there None f h = absurd (false≢true h)
-entry_there (Some t) f h = (t, refl, h)
-
 then_is_site : (u v : Visit) (a : Valued) → Onward u v → IsSiteAfter v a → IsSiteAfter u a
 then_is_site u v a o x = record { onward = then_on u v a.visit o x.onward; site = x.site }
 
@@ -240,11 +236,11 @@ module _ (p : Program) where
   mutual
     expr_is_site : (x : TypedExpr) (v : Visit) (vars : List (ℕ × ℕ)) → is_formed_expr p x vars ≡ true → BindsSites v → AreBound vars v → IsSiteAfter v (visit_expr p x v)
     expr_is_site (make_term ty t args) v vars f h g =
-        let a = entry_there (slice_get p.terms t) (λ (e : TermEntry). (e.ret_ty == ty) && (has_constructor e.kind && are_formed_args p args e.arg_tys vars)) f in
+        let a = from_entry (slice_get p.terms t) (λ (e : TermEntry). (e.ret_ty == ty) && (has_constructor e.kind && are_formed_args p args e.arg_tys vars)) f in
         let b = and_parts (has_constructor a.0.kind) (are_formed_args p args a.0.arg_tys vars) (and_parts (a.0.ret_ty == ty) (has_constructor a.0.kind && are_formed_args p args a.0.arg_tys vars) a.2).1 in
         let o = exprs_are_sites args v a.0.arg_tys vars b.1 h g in
         then_is_site v (visit_exprs p args v).visit (visit_term (kind p t) t (visit_exprs p args v)) o (term_is_site (kind p t) t (visit_exprs p args v) (term_known p t a.0 a.1) o.sound)
-    expr_is_site (make_var ty x) v vars f h g = record { onward = still_here v h; site = var_is_site x v.vars h.vars (g x (is_there (var_type vars x) ty f)) }
+    expr_is_site (make_var ty x) v vars f h g = record { onward = still_here v h; site = var_is_site x v.vars h.vars (g x (has_type (var_type vars x) ty f)) }
     expr_is_site (make_bool ty b) v vars f h g = record { onward = like v (visit_expr p (make_bool ty b) v).visit refl refl h; site = λ e. cc }
     expr_is_site (make_int ty z) v vars f h g = record { onward = like v (visit_expr p (make_int ty z) v).visit refl refl h; site = λ e. cc }
     expr_is_site (make_prim ty name) v vars f h g = record { onward = like v (visit_expr p (make_prim ty name) v).visit refl refl h; site = λ e. cc }

@@ -1,14 +1,13 @@
 -- What closing asks may be tested.
-use Rattle.std.proofs.Common.{◌≡◌, ℕ, zero, suc, ◌+◌, ◌<◌, true, not, List, [], ◌∷◌, ◌++◌, map, is_some, Contains, filter, refl, sym, subst, inl, inr, arith}
+use Rattle.std.proofs.Common.{◌≡◌, ℕ, zero, suc, ◌+◌, ◌<◌, true, not, List, [], ◌∷◌, ◌++◌, map, Contains, filter, refl, sym, subst, inl, inr, arith}
 use Rattle.std.proofs.lemmas.Bool.{cases_Bool, cond-true, cond-false}
 use Rattle.std.specs.List.{zip}
 use Rattle.isle_model.specs.sites.Sites.{Constraint, is_variant, is_struct, is_bool, is_int, is_prim, is_present, SiteTerm, variant_field, struct_field}
 use Rattle.isle_model.specs.sites.Demands.{Demands, has_site}
-use Rattle.isle_model.specs.sites.Closure.{fields_from, field_terms, HasConstraint, IsUnreachable, two_in_a_class, constraint_of, Closed, class_at, without_class_of, merged_classes, merged_all, with_constraint, with_constraints, ascending, field_equalities, taken, closing, before_closing, begins_with, in_order, most_closing_steps, closed}
+use Rattle.isle_model.specs.sites.Closure.{fields_from, field_terms, HasConstraint, IsUnreachable, Closed, class_at, without_class_of, merged_classes, merged_all, with_constraints, ascending, field_equalities, taken, closing, before_closing, begins_with, in_order, most_closing_steps, closed}
 use Rattle.isle_model.proofs.Elements.{In, in_from_contains, contains_from_in, in_left, in_right, in_either, in_slice, in_map, map_in, from_flat_map, in_zip, in_filter, passed_filter}
-use Rattle.isle_model.proofs.SameSites.{constraint_cases}
 use Rattle.isle_model.proofs.SitesMade.{has_in}
-use Rattle.isle_laws_demands.proofs.closure.Closing.{closing_keeps, OneEach, constraints_in, in_constraints, constraints_kept, one_each, FollowsSoFar, in_class_joined, constraint_carried, next_asked, taken_follows, before_closing_follows, in_order_follows, from_constraints}
+use Rattle.isle_laws_demands.proofs.closure.Closing.{closing_keeps, OneEach, constraints_in, in_constraints, constraints_kept, one_each, FollowsSoFar, in_class_joined, constraint_carried, next_asked, taken_follows, before_closing_follows, in_order_follows, from_constraints, keeps_all, one_demanded}
 use Rattle.isle_model.specs.sites.DemandedGates.{GatesDemanded, CanBeTested, ClosedCanBeTested}
 use Rattle.isle_laws_demands.proofs.visits.Gates.{gates_stay}
 
@@ -48,19 +47,7 @@ module _ (P : SiteTerm → Type 0) where
   all_merged_members [] ks h f = h
   all_merged_members (e ∷ es) ks h f = all_merged_members es (merged_classes ks e) (merged_members ks h e (f e (inl refl))) (λ x i. f x (inr i))
 
--- 2. constraints stay
-one_stays : (cs : List (SiteTerm × Constraint)) (c x : SiteTerm × Constraint) → In cs x → In (with_constraint cs c) x
-one_stays cs c x i =
-    elim (cases_Bool (is_some (constraint_of cs c.0))) [
-      | inl t ↦ subst (λ l. In l x) (sym (cond-true (is_some (constraint_of cs c.0)) cs (cs ++ c ∷ []) t)) i
-      | inr f ↦ subst (λ l. In l x) (sym (cond-false (is_some (constraint_of cs c.0)) cs (cs ++ c ∷ []) f)) (in_left cs (c ∷ []) x i)
-    ]
-
-each_stays : (cs ds : List (SiteTerm × Constraint)) (x : SiteTerm × Constraint) → In cs x → In (with_constraints cs ds) x
-each_stays cs [] x i = i
-each_stays cs (d ∷ ds) x i = each_stays (with_constraint cs d) ds x (one_stays cs d x i)
-
--- 3. fields
+-- 2. fields
 pub in_fields : (f : ℕ → SiteTerm) (i n : ℕ) (u : SiteTerm) → In (fields_from f i n) u → (j : ℕ) × (j < i + n) × (f j ≡ u)
 in_fields f i zero u k = absurd k
 in_fields f i (suc n) u (inl e) = (i, omega arith, e)
@@ -79,7 +66,7 @@ field_tested cs calls (is_int z ty) s u g a i = absurd i
 field_tested cs calls (is_prim name) s u g a i = absurd i
 field_tested cs calls is_present s u g a i = absurd i
 
--- 4. the closing
+-- 3. the closing
 module _ (d : Demands) (reachable : IsUnreachable d → ⊥) (tested : CanBeTested d) where
   -- so far all that is asked may be tested, and no constraint is lost
   record IsTestedSoFar (k : Closed) : Type 0 where
@@ -88,13 +75,10 @@ module _ (d : Demands) (reachable : IsUnreachable d → ⊥) (tested : CanBeTest
     asked : (x : SiteTerm × Constraint) → In k.constraints x → GatesDemanded true true k.constraints d.iterators x.0
     equal : Members (GatesDemanded true true k.constraints d.iterators) k.classes
 
-  same_constraint_there : (s : SiteTerm) (a b : Constraint) → HasConstraint d s a → HasConstraint d s b → a ≡ b
-  same_constraint_there s a b h g = elim (constraint_cases a b) [ inl e ↦ e | inr n ↦ absurd (reachable (two_in_a_class s a b h g n)) ]
-
   taken_tested : (k : Closed) → IsTestedSoFar k → (c : SiteTerm × Constraint) → In k.constraints c → IsTestedSoFar (taken k c (ascending k.made (class_at k.classes c.0)))
   taken_tested k f c i = record {
     follows = taken_follows d k f.follows c i;
-    kept = λ x j. each_stays k.constraints each x (f.kept x j);
+    kept = λ x j. keeps_all k.constraints each x (f.kept x j);
     asked = λ x j. elim (constraints_in k.constraints each x j) [
       | inl l ↦ stays x.0 (f.asked x l)
       | inr r ↦
@@ -113,7 +97,7 @@ module _ (d : Demands) (reachable : IsUnreachable d → ⊥) (tested : CanBeTest
       stays : (u : SiteTerm) → GatesDemanded true true k.constraints d.iterators u → GatesDemanded true true (with_constraints k.constraints each) d.iterators u
       stays =
           gates_stay k.constraints (with_constraints k.constraints each) d.iterators d.iterators
-          (λ x j. contains_from_in (with_constraints k.constraints each) x (each_stays k.constraints each x (in_from_contains k.constraints x j))) (λ x j. j) true true
+          (λ x j. contains_from_in (with_constraints k.constraints each) x (keeps_all k.constraints each x (in_from_contains k.constraints x j))) (λ x j. j) true true
 
       in_class : (m : SiteTerm) → In (ascending k.made (class_at k.classes c.0)) m → In (class_at k.classes c.0) m
       in_class m j = has_in (class_at k.classes c.0) m (passed_filter (has_site (class_at k.classes c.0)) k.made m j)
@@ -132,7 +116,7 @@ module _ (d : Demands) (reachable : IsUnreachable d → ⊥) (tested : CanBeTest
           ]
 
       once : OneEach (k.constraints ++ each)
-      once s a b m n = same_constraint_there s a b (due (s, a) m) (due (s, b) n)
+      once s a b m n = one_demanded d reachable s a b (due (s, a) m) (due (s, b) n)
 
       constrained : (m : SiteTerm) → In (ascending k.made (class_at k.classes c.0)) m → Contains (with_constraints k.constraints each) (m, c.1)
       constrained m j =

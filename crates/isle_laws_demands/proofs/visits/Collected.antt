@@ -1,5 +1,5 @@
 -- Built sets of a multi term whose rules make no impure call and leave no multi call unused meet what collecting asks.
-use Rattle.std.proofs.Common.{◌≡◌, ℕ, suc, ◌==◌, ◌<◌, true, List, [], ◌∷◌, ◌++◌, map, slice_get, length, flat_map, IsTrue, refl, sym, ap, ◌∙◌, subst, inl, inr, eqb-true}
+use Rattle.std.proofs.Common.{◌≡◌, ℕ, suc, ◌==◌, ◌<◌, true, List, [], ◌∷◌, ◌++◌, map, slice_get, length, flat_map, IsTrue, sym, ap, ◌∙◌, subst, inl, inr, eqb-true}
 use Rattle.isle_model.specs.lists.Formed.{RulesAreFormed}
 use Rattle.isle_model.specs.claims.Environments.{program_of}
 use Rattle.isle_model.specs.claims.SetMeanings.{BuiltSetsAreCollected}
@@ -11,21 +11,17 @@ use Rattle.isle_model.specs.sites.DemandedGates.{GatesDemanded, IsPureExpr}
 use Rattle.isle_model.specs.sites.Gates.{gate_demanded}
 use Rattle.isle_model.specs.sites.Overlap.{BuiltRule, built_rules}
 use Rattle.isle_model.specs.sites.RuleSets.{IsRuleOf, IsBuilt}
-use Rattle.isle_model.specs.trees.Collects.{calls_nothing, HasCollectedResults, sites_of_rule, IsCollectedRule}
+use Rattle.isle_model.specs.trees.Collects.{IsPureAt, HasCollectedResults, sites_of_rule, IsCollectedRule}
 use Rattle.isle_model.specs.trees.Places.{below, all_below}
 use Rattle.isle_laws_lists.specs.TypingLaws.{ListsAgree}
 use Rattle.isle_laws_demands.specs.VisitLaws.{ElaboratedRulesDemandGates}
 use Rattle.isle_model.proofs.Elements.{In, in_from_contains, contains_from_in, in_either, from_flat_map, passed_filter}
-use Rattle.isle_laws_runs.proofs.runs.Collected.{nothing_called}
 use Rattle.isle_laws_demands.proofs.visits.Built.{rule_at, was_built, BuiltGates, built_gates, IsGood, below_good}
 use Rattle.isle_laws_demands.proofs.visits.GoneOver.{none_left, pure_right_side}
 use Rattle.isle_laws_demands.proofs.visits.Once.{sites_stand_once_lem}
 use Rattle.isle_laws_demands.proofs.visits.Served.{IsSoundRule, elaborated_rules_are_sound, built_calls, built_result, gate_at}
 use Rattle.isle_laws_demands.proofs.visits.Sets.{all_from_in, in_from_all, each_tested}
-
-pub nothing_mapped : {X Y : Type 0} (f : X → Y) (xs : List X) → map f xs ≡ [] → xs ≡ []
-nothing_mapped f [] e = refl
-nothing_mapped f (x ∷ xs) e = cc
+use Rattle.isle_model.proofs.Mapped.{nothing_mapped}
 
 -- the rules of a term are built of its typed rules
 root_of_built : (p : Program) (t : ℕ) (b : BuiltRule) → In (built_rules p t) b → b.rule.root_term ≡ t
@@ -82,8 +78,7 @@ module _ (p : Program) (t : ℕ) (f : (r : TypedRule) → In p.rules r → IsSou
   rule_collected = record {
     known = all_from_in (λ s. s < length set.sites) (sites_of_rule r) (λ s i. (each_collected s i).known);
     no_calls = nothing_mapped (unfold_site set.sites) r.impure (q.impure.1 ∙ results.no_calls);
-    pure = all_from_in (λ s. IsTrue (calls_nothing (slice_get set.sites s))) (all_below set.sites (sites_of_rule r))
-        (λ u i. let k = below_collected u i in subst (λ o. IsTrue (calls_nothing o)) (sym k.there) (nothing_called k.site k.pure_site));
+    pure = all_from_in (IsPureAt set.sites) (all_below set.sites (sites_of_rule r)) (λ u i. let k = below_collected u i in (k.site, k.there, k.pure_site));
     gates = all_from_in (λ s. IsTrue (gate_demanded r (slice_get set.sites s))) (all_below set.sites (sites_of_rule r)) (λ u i. gate_at true set.sites r u (below_collected u i));
   }
 

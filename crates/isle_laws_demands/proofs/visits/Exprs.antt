@@ -1,6 +1,6 @@
 -- What expressions make: the gates of a value are demanded, but for answers of partial calls, and so are those of the
 -- calls that it is made by going over.
-use Rattle.std.proofs.Common.{◌≡◌, ℕ, suc, ◌==◌, Bool, true, false, ◌&&◌, List, [], ◌∷◌, Option, Some, None, is_some, slice_get, refl, sym, ap, subst, inl, inr, ◌∙◌}
+use Rattle.std.proofs.Common.{◌≡◌, ℕ, suc, ◌==◌, Bool, true, false, ◌&&◌, List, [], ◌∷◌, Some, is_some, slice_get, refl, sym, ap, subst, inl, inr, ◌∙◌}
 use Rattle.std.proofs.lemmas.Bool.{and_parts, cases_Bool, cond-true, cond-false, false≢true}
 use Rattle.isle_model.specs.rules.Meaning.{look}
 use Rattle.isle_model.specs.rules.Outcome.{then_option}
@@ -10,13 +10,14 @@ use Rattle.isle_model.specs.sites.Sites.{SiteTerm, bool_term, int_term, prim_ter
 use Rattle.isle_model.specs.rules.Typed.{TypedExpr, make_term, make_var, make_bool, make_int, make_prim, make_let, TypedExprs, no_typed_expr, typed_expr_and, TypedLets, no_typed_let, typed_let_and}
 use Rattle.isle_model.specs.sites.Demands.{Visit, making, iterating, calling, binding, or_no_site, Valued, ValuedAll, valued, call_result, call_sites, where_multi, visit_call, visit_term, visit_expr, visit_exprs, visit_lets}
 use Rattle.isle_model.specs.lists.Setting.{expr_type, has_constructor}
-use Rattle.isle_model.specs.lists.Formed.{var_type, with_new, of_entry, where_bound, is_formed_expr, are_formed_args, formed_lets}
+use Rattle.isle_model.specs.lists.Formed.{var_type, with_new, is_formed_expr, are_formed_args, formed_lets}
 use Rattle.isle_model.proofs.Elements.{some_is}
 use Rattle.isle_model.specs.sites.DemandedGates.{AsksAnswer, IsPureCall, AllGatesDemanded, IsPureExpr, ArePureExprs, ArePureLets}
 use Rattle.isle_laws_demands.proofs.visits.Calls.{NewCalls, no_call, then_calls, one_call, CallsAlone, CallAlone, LetsCallAlone}
 use Rattle.isle_laws_demands.proofs.visits.Gates.{all_stay, unasked}
 use Rattle.isle_laws_demands.proofs.visits.Visited.{Good, Later, good_stays, now, then_later, later_making, later_calling, later_binding, later_iterating, at_right, AreGood, Same, bound_good, good_and, good_later, then_same, same_binding}
-use Rattle.isle_laws_demands.proofs.visits.Patterns.{from_if, from_then, from_new, is_there}
+use Rattle.isle_laws_demands.proofs.visits.Patterns.{from_then, from_new}
+use Rattle.isle_laws_lists.proofs.FormedParts.{from_if, has_type, from_vars, from_entry}
 
 -- the gates of all sites of a list
 abbrev AllGood : Bool → Bool → Visit → SiteTerms → Type 0
@@ -110,14 +111,6 @@ term_valued asked pure (a_struct ty) t a h k g = record { later = later_making (
 term_valued asked pure (a_call flags infallible) t a h k g = call_valued asked pure flags.pure flags.multi flags.partial flags.rec t a.sites a.visit h k g
 term_valued asked pure unknown t a h k g = record { later = now a.visit; binds = refl; site = tt; calls = no_call asked pure a.visit }
 
-pub from_entry : (o : Option TermEntry) (f : TermEntry → Bool) → of_entry o f ≡ true → (t : TermEntry) × (f t ≡ true)
-from_entry None f h = absurd (false≢true h)
-from_entry (Some t) f h = (t, h)
-
-pub from_vars : (o : Option (List (ℕ × ℕ))) (f : List (ℕ × ℕ) → Bool) → where_bound o f ≡ true → (vars : List (ℕ × ℕ)) × (o ≡ Some vars) × (f vars ≡ true)
-from_vars None f h = absurd (false≢true h)
-from_vars (Some vars) f h = (vars, refl, h)
-
 -- more variables can be used
 abbrev Within : List (ℕ × ℕ) → List (ℕ × ℕ) → Type 0
 Within vars more = (x : ℕ) → is_some (var_type vars x) ≡ true → is_some (var_type more x) ≡ true
@@ -147,7 +140,7 @@ module _ (asked pure : Bool) (p : Program) where
         → AreGood asked pure vars v → IsValuedBy asked pure vars v (visit_expr p e v)
     expr_valued_by (make_term ty t args) v vars f h k g =
         let a = from_entry (slice_get p.terms t) (λ (e : TermEntry). (e.ret_ty == ty) && (has_constructor e.kind && are_formed_args p args e.arg_tys vars)) f in
-        let b = and_parts (has_constructor a.0.kind) (are_formed_args p args a.0.arg_tys vars) (and_parts (a.0.ret_ty == ty) (has_constructor a.0.kind && are_formed_args p args a.0.arg_tys vars) a.1).1 in
+        let b = and_parts (has_constructor a.0.kind) (are_formed_args p args a.0.arg_tys vars) (and_parts (a.0.ret_ty == ty) (has_constructor a.0.kind && are_formed_args p args a.0.arg_tys vars) a.2).1 in
         let r = exprs_valued args v a.0.arg_tys vars b.1 (λ q. (h q).1) (λ q. (k q).1) g in
         let c = term_valued asked pure (kind p t) t (visit_exprs p args v) (λ q. (h q).0) (λ q. (k q).0) r.sites in
         let w = (visit_exprs p args v).visit in
@@ -158,7 +151,7 @@ module _ (asked pure : Bool) (p : Program) where
           site = c.site;
           calls = then_calls asked pure v w z c.later r.calls c.calls;
         }
-    expr_valued_by (make_var ty x) v vars f h k g = record { later = now v; same = unchanged vars v; site = g x (is_there (var_type vars x) ty f); calls = no_call asked pure v }
+    expr_valued_by (make_var ty x) v vars f h k g = record { later = now v; same = unchanged vars v; site = g x (has_type (var_type vars x) ty f); calls = no_call asked pure v }
     expr_valued_by (make_bool ty b) v vars f h k g = record { later = later_making (bool_term b ty ∷ []) v; same = unchanged vars v; site = tt; calls = no_call asked pure v }
     expr_valued_by (make_int ty z) v vars f h k g = record { later = later_making (int_term z ty ∷ []) v; same = unchanged vars v; site = tt; calls = no_call asked pure v }
     expr_valued_by (make_prim ty name) v vars f h k g = record { later = later_making (prim_term name ∷ []) v; same = unchanged vars v; site = tt; calls = no_call asked pure v }

@@ -1,6 +1,5 @@
 -- What patterns constrain and equate may be tested, and so may what their variables stand for.
-use Rattle.std.proofs.Common.{◌≡◌, ℕ, suc, ◌+◌, ◌==◌, ◌<◌, Bool, true, false, ◌&&◌, if◌then◌else◌, List, [], ◌∷◌, Option, Some, None, is_some, is_none, slice_get, Contains, refl, sym, ap, subst, inl, inr, ◌∙◌, arith}
-use Rattle.std.proofs.lemmas.Bool.{false≢true}
+use Rattle.std.proofs.Common.{◌≡◌, ℕ, suc, ◌+◌, ◌==◌, ◌<◌, Bool, true, false, ◌&&◌, if◌then◌else◌, List, [], ◌∷◌, Some, None, is_some, is_none, slice_get, Contains, refl, sym, ap, subst, inl, inr, ◌∙◌, arith}
 use Rattle.isle_model.specs.rules.Outcome.{then_option}
 use Rattle.isle_model.specs.rules.Values.{is_atom_type}
 use Rattle.isle_model.specs.lists.Tables.{TermEntry, TermKindEntry, variant_term, struct_term, declared_term}
@@ -13,25 +12,13 @@ use Rattle.isle_model.specs.lists.Setting.{bool_type, has_extractor}
 use Rattle.isle_model.specs.lists.Formed.{pattern_type, var_type, is_type, with_new, formed_pattern, formed_parts, formed_each}
 use Rattle.isle_model.proofs.Elements.{In, some_is, none_some}
 use Rattle.isle_laws_demands.proofs.visits.Visited.{MayTest, Later, good_stays, now, then_later, later_making, later_binding, later_iterating, later_asking, later_equating, equating_binds, at_right, AreGood, Keeps, keeps_vars, then_keeps, keeps_binding, bound_good, good_and}
+use Rattle.isle_laws_lists.proofs.FormedParts.{from_if, has_type, has_none}
 pub use Rattle.isle_model.proofs.Options.{then_some as from_then}
 
--- 1. answers
-pub from_if : {X : Type 0} (b : Bool) (o : Option X) (y : X) → (if b then o else None) ≡ Some y → (b ≡ true) × (o ≡ Some y)
-from_if true o y e = (refl, e)
-from_if false o y e = absurd (none_some y e)
-
-pub is_there : (o : Option ℕ) (ty : ℕ) → is_type o ty ≡ true → is_some o ≡ true
-is_there None ty h = absurd (false≢true h)
-is_there (Some t) ty h = refl
-
-pub is_not_there : (o : Option ℕ) → is_none o ≡ true → is_some o ≡ false
-is_not_there None h = refl
-is_not_there (Some t) h = absurd (false≢true h)
-
--- a new variable
+-- 1. a new variable
 pub from_new : (x ty : ℕ) (vars more : List (ℕ × ℕ)) → with_new x ty vars ≡ Some more → (is_some (var_type vars x) ≡ false) × ((x, ty) ∷ vars ≡ more)
 from_new x ty vars more e =
-    let r = from_if (is_none (var_type vars x)) (Some ((x, ty) ∷ vars)) more e in (is_not_there (var_type vars x) r.0, some_is ((x, ty) ∷ vars) more r.1)
+    let r = from_if (is_none (var_type vars x)) (Some ((x, ty) ∷ vars)) more e in (has_none (var_type vars x) r.0, some_is ((x, ty) ∷ vars) more r.1)
 
 -- 2. parts of a term's pattern
 -- as many sites as patterns
@@ -167,7 +154,7 @@ mutual
       }
   pattern_after p (match_var ty x) s v vars more f m g =
       let a = from_if (is_type (var_type vars x) ty) (Some vars) more f in
-      unbound v (equating s (var_site v x) v) vars more (later_equating s (var_site v x) v m (g x (is_there (var_type vars x) ty a.0))) (equating_binds s (var_site v x) v) g (some_is vars more a.1)
+      unbound v (equating s (var_site v x) v) vars more (later_equating s (var_site v x) v m (g x (has_type (var_type vars x) ty a.0))) (equating_binds s (var_site v x) v) g (some_is vars more a.1)
   pattern_after p (match_bool ty b) s v vars more f m g =
       unbound v (asking s (is_bool b ty) v) vars more (later_asking s (is_bool b ty) v m) refl g (some_is vars more (from_if (ty == bool_type) (Some vars) more f).1)
   pattern_after p (match_int ty z) s v vars more f m g =

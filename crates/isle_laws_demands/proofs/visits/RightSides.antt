@@ -1,13 +1,14 @@
 -- What expressions that call no multi term, and expressions that make no impure call, do to a visit.
-use Rattle.std.proofs.Common.{◌≡◌, ℕ, suc, Bool, true, false, if◌then◌else◌, List, [], ◌∷◌, ◌++◌, IsTrue, refl, sym, subst, inl}
+use Rattle.std.proofs.Common.{◌≡◌, ℕ, suc, Bool, true, false, if◌then◌else◌, [], IsTrue, refl, sym}
 use Rattle.std.proofs.lemmas.Bool.{false≢true}
 use Rattle.isle_model.specs.rules.Program.{Program, Kind, a_variant, a_struct, a_call, unknown, kind, flags_of, is_multi}
 use Rattle.isle_model.specs.sites.Sites.{SiteTerm, SiteTerms, constructor_call}
 use Rattle.isle_model.specs.rules.Typed.{TypedExpr, make_term, make_var, make_bool, make_int, make_prim, make_let, TypedExprs, no_typed_expr, typed_expr_and, TypedLets, no_typed_let, typed_let_and}
 use Rattle.isle_model.specs.sites.Demands.{Visit, making, iterating, binding, ValuedAll, call_sites, where_multi, visit_call, visit_term, visit_expr, visit_exprs, visit_lets}
-use Rattle.isle_model.proofs.Elements.{In, in_right}
+use Rattle.isle_model.proofs.Elements.{In}
 use Rattle.isle_model.specs.sites.DemandedGates.{IsPureExpr, ArePureExprs, ArePureLets}
 use Rattle.isle_laws_demands.proofs.visits.Calls.{CallsAlone, CallAlone, LetsCallAlone}
+use Rattle.isle_model.proofs.FewElements.{not_nothing}
 
 -- 1. calls of multi terms
 -- no call of this term gives several answers
@@ -56,9 +57,6 @@ IsQuiet v = v.demands.impure ≡ []
 quiet_before : (flags : Bool) (c : SiteTerm) (v : Visit) → IsQuiet (if flags then iterating c v else v) → IsQuiet v
 quiet_before true c v h = h
 quiet_before false c v h = h
-
-pub not_nothing : (xs : List SiteTerm) (x : SiteTerm) → xs ++ x ∷ [] ≡ [] → ⊥
-not_nothing xs x e = subst (λ l. In l x) e (in_right xs (x ∷ []) x (inl refl))
 
 call_quiet : (pure multi partial rec : Bool) (t : ℕ) (args : SiteTerms) (v : Visit) → IsQuiet (visit_call (record { pure = pure; multi = multi; partial = partial; rec = rec }) t args v).visit → IsTrue pure × IsQuiet v
 call_quiet true multi partial rec t args v h =

@@ -7,8 +7,8 @@ use Rattle.isle_model.specs.rules.Program.{Program}
 use Rattle.isle_model.specs.rules.Typed.{TypedIfLet, TypedRule}
 use Rattle.isle_model.specs.lists.Setting.{expr_type}
 use Rattle.isle_model.specs.lists.Formed.{pattern_type, where_bound, of_entry, formed_pattern, is_formed_expr, formed_list, formed_iflets, is_formed_rule}
-use Rattle.isle_laws_demands.proofs.visits.Exprs.{from_vars}
-use Rattle.isle_laws_demands.proofs.visits.Patterns.{from_if, from_then}
+use Rattle.isle_laws_demands.proofs.visits.Patterns.{from_then}
+use Rattle.isle_laws_lists.proofs.FormedParts.{from_if, from_vars}
 
 -- the variables after the first of some if-lets, and those after the rest
 pub record IfLetParts (p : Program) (i : TypedIfLet) (is : List TypedIfLet) (vars more : List (ℕ × ℕ)) : Type 0 where

@@ -12,9 +12,10 @@ use Rattle.isle_model.proofs.Elements.{in_from_contains, some_is, none_some}
 use Rattle.isle_model.specs.sites.DemandedGates.{IsPureExpr, ArePureIfLets, DemandsGates}
 use Rattle.isle_laws_demands.proofs.visits.Gates.{gates_stay, weaker, stronger, unwrapped}
 use Rattle.isle_laws_demands.proofs.visits.Visited.{Good, MayTest, IsSound, Later, good_stays, now, then_later, later_making, asked_binds, asked_more, asked_calls, all_asked, later_asked, AreGood}
-use Rattle.isle_laws_demands.proofs.visits.Patterns.{from_if, from_then, pattern_after}
+use Rattle.isle_laws_demands.proofs.visits.Patterns.{from_then, pattern_after}
 use Rattle.isle_laws_demands.proofs.visits.Exprs.{IsValued, expr_valued}
 use Rattle.isle_laws_demands.proofs.visits.RuleParts.{iflet_parts, RuleParts, rule_parts}
+use Rattle.isle_laws_lists.proofs.FormedParts.{from_if}
 
 -- after some patterns and if-lets: nothing less is asked, and variables that can be used may be tested
 pub record IsPast (v w : Visit) (more : List (ℕ × ℕ)) : Type 0 where

@@ -1,6 +1,6 @@
 -- Built sets are well built, and meet what choosing from them asks.
-use Rattle.std.proofs.Common.{◌≡◌, ◌⊎◌, ℕ, suc, ◌==◌, ◌<◌, Bool, true, false, ◌&&◌, ◌||◌, List, [], ◌∷◌, ◌++◌, length, map, get_or, Option, Some, None, is_some, slice_get, IsTrue, All, flat_map, refl, sym, ap, ◌∙◌, subst, inl, inr, arith, eq-eqb, eqb-true}
-use Rattle.std.proofs.lemmas.Bool.{cases_Bool, cond-true, cond-false, and_from, false≢true}
+use Rattle.std.proofs.Common.{◌≡◌, ◌⊎◌, ℕ, suc, ◌==◌, ◌<◌, Bool, true, false, ◌&&◌, ◌||◌, List, [], ◌∷◌, ◌++◌, length, map, get_or, Some, slice_get, IsTrue, All, flat_map, refl, sym, ap, ◌∙◌, subst, inl, inr, arith, eq-eqb, eqb-true}
+use Rattle.std.proofs.lemmas.Bool.{cases_Bool, cond-true, cond-false, and_from}
 use Rattle.std.proofs.lemmas.Option.{slice_get-get_or}
 use Rattle.isle_model.specs.lists.Syntax.{Definition}
 use Rattle.isle_model.specs.lists.Names.{IsDistinct}
@@ -23,6 +23,8 @@ use Rattle.isle_model.specs.sites.DemandedGates.{GatesDemanded}
 use Rattle.isle_laws_demands.specs.VisitLaws.{ElaboratedRulesDemandGates, BuiltRulesDemandGates, BuiltSetsAreWellBuilt}
 use Rattle.isle_laws_demands.proofs.visits.Once.{sites_stand_once_lem}
 use Rattle.isle_laws_demands.proofs.visits.Built.{rule_at, BuiltGates, built_gates, IsGood, below_good}
+use Rattle.isle_model.proofs.Options.{is_there}
+use Rattle.isle_model.proofs.FewElements.{none_in}
 
 -- 1. lists
 pub all_from_in : {X : Type 0} (P : X → Type 0) (xs : List X) → ((x : X) → In xs x → P x) → All P xs
@@ -61,13 +63,6 @@ constraint_found (d ∷ ds) s c e =
       | inr f ↦ inr (constraint_found ds s c (sym (cond-false (d.0 == s) (Some d.1) (constraint_at ds s) f) ∙ e))
     ]
 
-some_there : (o : Option Constraint) → is_some o ≡ true → (c : Constraint) × (o ≡ Some c)
-some_there None h = absurd (false≢true h)
-some_there (Some c) h = (c, refl)
-
-nothing_in : {X : Type 0} (xs : List X) → xs ≡ [] → (x : X) → In xs x → ⊥
-nothing_in xs e x i = subst (λ l. In l x) e i
-
 -- 2. rules
 module _ (p : Program) (t : ℕ) (set : SiteSet) (h : IsBuilt p t set) (b : BuiltRule) (r : SetRule) (q : IsRuleOf p set.sites b r) (g : BuiltGates p b) where
   -- a site that may be tested
@@ -94,16 +89,16 @@ module _ (p : Program) (t : ℕ) (set : SiteSet) (h : IsBuilt p t set) (b : Buil
       elim (or_split (needs (match_test s) r || needs (equal_test s s) r) (needs (loop_test s) r) k) [
         | inl a ↦
             elim (or_split (needs (match_test s) r) (needs (equal_test s s) r) a) [
-              | inl x ↦ let c = some_there (constraint_at r.constraints s) x in constrained_tested s c.0 (constraint_found r.constraints s c.0 c.1)
+              | inl x ↦ let c = is_there (constraint_at r.constraints s) x in constrained_tested s c.0 (constraint_found r.constraints s c.0 c.1)
               | inr x ↦ joined_tested s x
             ]
-        | inr a ↦ let x = in_any (λ y. y == s) r.iterators a in absurd (nothing_in r.iterators none x.0 x.1)
+        | inr a ↦ let x = in_any (λ y. y == s) r.iterators a in absurd (none_in r.iterators none x.0 x.1)
       ]
 
   well_built : r.iterators ≡ [] → IsWellBuiltRule set.sites r
   well_built none = record {
     asks_once = λ s c i. first_constraint r.constraints q.constraints.once s c (in_from_contains r.constraints (s, c) i);
-    asks_or_goes_over = λ s c i j. nothing_in r.iterators none s (in_from_contains r.iterators s j);
+    asks_or_goes_over = λ s c i j. none_in r.iterators none s (in_from_contains r.iterators s j);
     gates = λ s u k i. gate_of u (tested_good s u (needed_tested none s k) (in_from_contains (below (suc s) set.sites s) u i));
   }
 

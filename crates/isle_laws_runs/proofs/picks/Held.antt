@@ -33,7 +33,7 @@ is_picked k s (parts vs) d e = absurd (none-some d e)
 is_picked k s nothing d e = absurd (none-some d e)
 is_picked k s (just c) d e = absurd (none-some d e)
 
-is_just : (c d : Content) → part_of_some c ≡ Some d → c ≡ just d
+pub is_just : (c d : Content) → part_of_some c ≡ Some d → c ≡ just d
 is_just (just c) d e = ap just (same_Some c d e)
 is_just (one w) d e = absurd (none-some d e)
 is_just (parts vs) d e = absurd (none-some d e)

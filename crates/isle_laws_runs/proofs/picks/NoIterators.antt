@@ -1,31 +1,30 @@
 -- A rule whose demands go over no call has no multi calls.
-use Rattle.std.proofs.Common.{◌≡◌, ℕ, suc, Bool, true, false, cond, List, [], ◌∷◌, ◌++◌, length, refl, sym, ◌∙◌, arith}
+use Rattle.std.proofs.Common.{◌≡◌, ℕ, suc, Bool, true, false, cond, List, [], ◌∷◌, length, refl, sym, ◌∙◌, arith}
 use Rattle.isle_model.specs.lists.Tables.{Flags}
 use Rattle.isle_model.specs.rules.Program.{Program, Kind, a_variant, a_struct, a_call, unknown, flags_of, kind, is_partial}
 use Rattle.isle_model.specs.sites.Sites.{SiteTerm, argument, extractor_call, constructor_call, SiteTerms}
 use Rattle.isle_model.specs.sites.Demands.{site_term_eq, pattern_count, Visit, visit_start, making, iterating, binding, var_site, Opened, open_call, open_term, visit_pattern, visit_each, visit_all, Valued, ValuedAll, call_sites, visit_call, visit_term, visit_expr, visit_exprs, visit_lets, unwraps, asking_all, visit_args, visit_iflets, demands_of}
 use Rattle.isle_model.specs.rules.Typed.{TypedPattern, match_bind, match_var, match_bool, match_int, match_prim, match_term, match_any, match_and, TypedPatterns, no_typed_pattern, typed_pattern_and, TypedExpr, make_term, make_var, make_bool, make_int, make_prim, make_let, TypedExprs, no_typed_expr, typed_expr_and, TypedLets, no_typed_let, typed_let_and, TypedIfLet, TypedRule}
 use Rattle.isle_laws_runs.specs.WithoutMulti.{WhereKnown, PatternCallsNoMulti, PatternsCallNoMulti, ExprCallsNoMulti, ExprsCallNoMulti, LetsCallNoMulti, ArgsCallNoMulti, IfLetsCallNoMulti, CallsNoMulti}
-use Rattle.isle_laws_runs.proofs.picks.Ordered.{met, either}
+use Rattle.isle_laws_runs.proofs.picks.Ordered.{met}
 use Rattle.isle_laws_runs.proofs.picks.Plain.{from_to_count, output_count, either_count}
 use Rattle.isle_laws_runs.proofs.picks.OnePick.{asking_met, finished_met}
+use Rattle.isle_model.proofs.Either.{either}
+use Rattle.isle_model.proofs.FewElements.{not_nothing}
 
 -- 1. a call that is gone over stays in the list
-not_empty : (ss : List SiteTerm) (s : SiteTerm) → ss ++ s ∷ [] ≡ [] → ⊥
-not_empty [] s e = cc
-not_empty (t ∷ ss) s e = cc
 
 opened_none : (b : Bool) (x y : Opened) (v : Visit) → (met x.visit ≡ [] → ⊥) → (met y.visit ≡ [] → met v ≡ []) → met (cond b x y).visit ≡ [] → (met v ≡ []) × (b ≡ false)
 opened_none true x y v f g h = absurd (f h)
 opened_none false x y v f g h = (g h, refl)
 
 multi_none : (b : Bool) (call : SiteTerm) (v : Visit) → met (cond b (iterating call v) v) ≡ [] → (met v ≡ []) × (b ≡ false)
-multi_none true call v h = absurd (not_empty (met v) call h)
+multi_none true call v h = absurd (not_nothing (met v) call h)
 multi_none false call v h = (h, refl)
 
 call_opened_none : (flags : Flags) (infallible : Bool) (call : SiteTerm) (args : TypedPatterns) (v : Visit) → met (open_call flags infallible call args v).visit ≡ [] → (met v ≡ []) × (flags.multi ≡ false)
 call_opened_none flags infallible call args v =
-    opened_none flags.multi _ _ v (not_empty (met v) call) (either (λ (o : Opened). met o.visit ≡ [] → met v ≡ []) infallible _ _ (λ h. h) (λ h. h))
+    opened_none flags.multi _ _ v (not_nothing (met v) call) (either (λ (o : Opened). met o.visit ≡ [] → met v ≡ []) infallible _ _ (λ h. h) (λ h. h))
 
 term_opened_none : (k : Kind) (t : ℕ) (s : SiteTerm) (args : TypedPatterns) (v : Visit) → met (open_term k t s args v).visit ≡ [] → (met v ≡ []) × ((flags_of k).multi ≡ false)
 term_opened_none (a_variant ty variant) t s args v h = (h, refl)

@@ -14,6 +14,7 @@ use Rattle.isle_model.specs.rules.Typed.{TypedPattern, match_bind, match_var, ma
 use Rattle.isle_model.proofs.Members.{nothing_in, in_head, in_tail, in_cases, in_alone}
 use Rattle.isle_laws_runs.specs.Orders.{Within, Covered, OrderedFrom}
 use Rattle.isle_model.proofs.SameSites.{term_means}
+use Rattle.isle_model.proofs.Either.{either}
 
 -- 1. calls that stand in a list
 pub none_within : (ls : List SiteTerm) → Within [] ls
@@ -89,10 +90,6 @@ after_iterating s v f h = record {
   fine = record { order = push [] (met v) s f.order h; vars = λ x c k. within_push (met v) s c (f.vars x c k) };
   kept = within_push (met v) s;
 }
-
-pub either : {X : Type 0} (P : X → Type 0) (b : Bool) (x y : X) → P x → P y → P (cond b x y)
-either P true x y h g = h
-either P false x y h g = g
 
 after_equating : (a b : SiteTerm) (v : Visit) → Fine v → Follows v (equating a b v)
 after_equating a b v f = either (λ w. Follows v w) (site_term_eq a b) v _ (stays v f) (record { fine = record { order = f.order; vars = f.vars }; kept = λ c h. h })

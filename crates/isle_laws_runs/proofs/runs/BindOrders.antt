@@ -1,7 +1,7 @@
 -- Binding a bind order of available sites keeps them and all below them.
 use Rattle.std.proofs.Common.{◌≡◌, ◌⊎◌, ℕ, zero, suc, Bool, true, false, not, ◌&&◌, ◌||◌, cond, List, [], ◌∷◌, ◌++◌, is_some, slice_get, Contains, All, IsTrue, filter, flat_map, refl, sym, ap, ◌∙◌, subst, inl, inr}
 use Rattle.std.specs.List.{list_all}
-use Rattle.std.proofs.lemmas.Bool.{cases_Bool, cond-true, cond-false, and_parts, or_cases, or_left, false≢true}
+use Rattle.std.proofs.lemmas.Bool.{cases_Bool, cond-true, cond-false, and_parts, or_cases, or_left, false≢true, not-true}
 use Rattle.std.proofs.lemmas.List.Elements.{Contains-append_left, Contains-append_right, Contains-append_cases, filter-append}
 use Rattle.isle_model.specs.sites.Sites.{Site, sources_at}
 use Rattle.isle_model.specs.trees.Places.{Around, is_in, waits, is_available, available, is_in_place, below, all_below, each_after, listed_below, bind_order}
@@ -121,10 +121,6 @@ module _ (w : World) (pick : Pick) (before : SourcesBefore w.sites) (finds : Fin
   not_emitted : (done : List ℕ) (s : ℕ) → (is_in s ar.emitted || is_in s done) ≡ false → IsTrue (is_in s ar.brought) → ⊥
   not_emitted done s h i = false≢true (sym h ∙ or_left (is_in s ar.emitted) (is_in s done) (more s i))
 
-  not_false : (b : Bool) → not b ≡ true → b ≡ false
-  not_false true h = absurd (false≢true h)
-  not_false false h = refl
-
   one : (n s : ℕ) → is_available n w.sites ar.brought s ≡ true → ((u : ℕ) → Contains (below n w.sites s) u → Below u)
       → (done : List ℕ) (env' : Env) → Binds done env' → More done (listed_below n w.sites ar.emitted done s) (λ t. s ≡ t)
   one zero s a fine done env' b = absurd (false≢true a)
@@ -143,7 +139,7 @@ module _ (w : World) (pick : Pick) (before : SourcesBefore w.sites) (finds : Fin
             (λ x c. one n x (each_passes (is_available n w.sites ar.brought) (sources_at w.sites s) q.1 x c) (λ u k. fine u (in_tail s u (flat_map (below n w.sites) (sources_at w.sites s)) (in_flat_map (below n w.sites) (sources_at w.sites s) x u c k))))
             done env' b in
             let listed = each_after (listed_below n w.sites ar.emitted) done (sources_at w.sites s) in
-            let o = put listed r.0 r.1 s (fine s (in_head s (flat_map (below n w.sites) (sources_at w.sites s)))) (not_false (waits (slice_get w.sites s)) q.0) r.3 in
+            let o = put listed r.0 r.1 s (fine s (in_head s (flat_map (below n w.sites) (sources_at w.sites s)))) (not-true (waits (slice_get w.sites s)) q.0) r.3 in
             (o.0, o.1, λ t i. last_in listed s t (inl (r.2 t i)), λ t e. last_in listed s t (inr e))
             )
       ]

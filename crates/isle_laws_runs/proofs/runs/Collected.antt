@@ -1,7 +1,7 @@
 -- The run of a sound tree of a multi term collects the bag of its rules' results.
-use Rattle.std.proofs.Common.{◌≡◌, ℕ, zero, suc, ◌+◌, ◌<◌, Bool, true, false, ◌&&◌, List, [], ◌∷◌, ◌++◌, map, flat_map, length, Some, slice_get, Contains, IsTrue, refl, sym, ap, ◌∙◌, subst, arith}
+use Rattle.std.proofs.Common.{◌≡◌, ℕ, suc, ◌+◌, ◌<◌, Bool, true, false, ◌&&◌, List, [], ◌∷◌, ◌++◌, map, flat_map, length, Some, slice_get, Contains, IsTrue, refl, sym, ap, ◌∙◌, subst, arith}
 use Rattle.std.specs.Prelude.{IsPermutation}
-use Rattle.std.proofs.lemmas.Bool.{cond-true, false≢true}
+use Rattle.std.proofs.lemmas.Bool.{cond-true}
 use Rattle.std.proofs.lemmas.List.{append-nil}
 use Rattle.std.proofs.lemmas.List.Elements.{Contains-append_left, Contains-append_right, All-contains}
 use Rattle.std.proofs.lemmas.List.Sorted.{IsPermutation-refl, IsPermutation-trans}
@@ -9,18 +9,18 @@ use Rattle.std.proofs.lemmas.Grind.{flat_map-append}
 use Rattle.isle_model.specs.rules.Meaning.{Content, contents}
 use Rattle.isle_model.specs.rules.Outcome.{Outcome, ran_through}
 use Rattle.isle_model.specs.rules.Picks.{Pick, picks_over}
-use Rattle.isle_model.specs.sites.Sites.{Site, constructor_site, SetRule, unfold_site}
+use Rattle.isle_model.specs.sites.Sites.{SetRule, unfold_site}
 use Rattle.isle_model.specs.sites.Gates.{gate_demanded}
 use Rattle.isle_model.specs.trees.Trees.{Tree, step, return_at, Marked, marks}
 use Rattle.isle_model.specs.trees.Places.{Around, is_in, below, all_below, bind_order, return_uses}
 use Rattle.isle_model.specs.trees.Run.{World, Env, Trace, returned, ending_at, with_content, or_next, for_each, run_tree, run}
 use Rattle.isle_model.specs.trees.Sound.{IsTested, ReturnsEach, IsSound}
-use Rattle.isle_model.specs.trees.Collects.{Collects, content_at, demands_hold, as_list, result_in, sites_of_rule, calls_nothing, IsPureSite, calls_gone_over, set_bag, IsCollectedRule, IsCollectedSet, ServesSet, SoundTreesCollect}
+use Rattle.isle_model.specs.trees.Collects.{Collects, content_at, demands_hold, as_list, result_in, sites_of_rule, IsPureAt, calls_gone_over, set_bag, IsCollectedRule, IsCollectedSet, ServesSet, SoundTreesCollect}
 use Rattle.isle_model.specs.trees.SetRuns.{tested_sites}
 use Rattle.isle_model.proofs.Bags.{as_numbers, of_numbers}
 use Rattle.isle_model.proofs.Members.{in_head, in_alone, some_member, member_from_get, get_within, in_flat_map}
 use Rattle.isle_model.proofs.Numbers.{none_pass, filters_same}
-use Rattle.isle_laws_runs.proofs.runs.Below.{pure_alone, below_within}
+use Rattle.isle_laws_runs.proofs.runs.Below.{pure_alone}
 use Rattle.isle_laws_runs.proofs.runs.BindOrders.{Finds}
 use Rattle.isle_laws_runs.proofs.runs.Standing.{IsClear, IsClearSet, ServesUnder, IsGoneOver, At, IsReady, wider, set_of, found_at, binds_at, ready_here, holds_here}
 use Rattle.isle_laws_runs.proofs.runs.Steps.{trace, step_runs}
@@ -35,17 +35,6 @@ and_yes false = refl
 zero_plus : (n : ℕ) → 0 + n ≡ n
 zero_plus n = omega arith
 
--- pure sites
-pub pure_site : (b : Site) → calls_nothing (Some b) ≡ true → IsPureSite b
-pure_site (constructor_site term sources zero) h = tt
-pure_site (constructor_site term sources (suc instance)) h = absurd (false≢true h)
-pure_site _ h = tt
-
-pub nothing_called : (b : Site) → IsPureSite b → calls_nothing (Some b) ≡ true
-nothing_called (constructor_site term sources zero) h = refl
-nothing_called (constructor_site term sources (suc instance)) h = absurd h
-nothing_called _ h = refl
-
 module _ (w : World) (rules : List SetRule) (built : IsCollectedSet (set_of w rules)) (served : ServesSet (set_of w rules) w) (multi : w.multi ≡ true) where
   -- 1. what is asked of the set, and of the world under every pick
   rule_of : (r : SetRule) → Contains rules r → IsCollectedRule w.sites r
@@ -53,12 +42,7 @@ module _ (w : World) (rules : List SetRule) (built : IsCollectedSet (set_of w ru
 
   site_clear : (r : SetRule) → Contains rules r → (s : ℕ) → Contains (sites_of_rule r) s → IsClear w.sites r s
   site_clear r known s c = record {
-    pure = λ u k.
-        let l = All-contains (λ x. x < length w.sites) (sites_of_rule r) s (rule_of r known).known c in
-        let m = below_within w.sites built.sources (suc s) s u k in
-        let b = get_within w.sites u (omega (arith, l, m)) in
-        let p = All-contains (λ x. IsTrue (calls_nothing (slice_get w.sites x))) (all_below w.sites (sites_of_rule r)) u (rule_of r known).pure (in_flat_map (λ x. below (suc x) w.sites x) (sites_of_rule r) s u c k) in
-        (b.0, b.1, pure_site b.0 (sym (ap calls_nothing b.1) ∙ p));
+    pure = λ u k. All-contains (IsPureAt w.sites) (all_below w.sites (sites_of_rule r)) u (rule_of r known).pure (in_flat_map (λ x. below (suc x) w.sites x) (sites_of_rule r) s u c k);
     gates = λ u k. All-contains (λ x. IsTrue (gate_demanded r (slice_get w.sites x))) (all_below w.sites (sites_of_rule r)) u (rule_of r known).gates (in_flat_map (λ x. below (suc x) w.sites x) (sites_of_rule r) s u c k);
   }
 

@@ -26,6 +26,9 @@ joined_in classes a b j =
 pub joined_back : (classes : List (List ℕ)) (a b : ℕ) → joins_in classes a b ≡ true → joins_in classes b a ≡ true
 joined_back classes a b j = (let r = joined_in classes a b j in joined_from classes r.0 b a r.1 r.3 r.2)
 
+pub joined_itself : (classes : List (List ℕ)) (a b : ℕ) → joins_in classes a b ≡ true → joins_in classes a a ≡ true
+joined_itself classes a b j = (let r = joined_in classes a b j in joined_from classes r.0 a a r.1 r.2 r.2)
+
 same_means : (o p : Option Value) → same_value o p ≡ true → o ≡ p
 same_means None p h = absurd (false≢true h)
 same_means (Some v) None h = absurd (false≢true h)

@@ -25,7 +25,7 @@ later_chain l s t l' s' t' l'' s'' t'' ll ls sl ss tt' h k =
           ]
     ]
 
-below_chain : (a b c : ℕ) → nat_lt a b ≡ true → nat_lt b c ≡ true → nat_lt a c ≡ true
+pub below_chain : (a b c : ℕ) → nat_lt a b ≡ true → nat_lt b c ≡ true → nat_lt a c ≡ true
 below_chain a b c h k =
     let p = ltb-true a b h in
     let q = ltb-true b c k in
@@ -105,7 +105,7 @@ before_chain c d e h k = by (form_within c d h) (form_within d e k)
     by (inr a) (inl b) = form_first c e (subst (λ n. nat_lt n (form e) ≡ true) (sym a) b)
     by (inr a) (inr b) = same_form_chain c d e a b h k
 
-not_below : (n : ℕ) → nat_lt n n ≡ true → ⊥
+pub not_below : (n : ℕ) → nat_lt n n ≡ true → ⊥
 not_below n h = (let q = ltb-true n n h in omega arith)
 
 not_later : (l s t : Bool) → (l ≡ true → ⊥) → (t ≡ true → ⊥) → or_later l s t ≡ true → ⊥

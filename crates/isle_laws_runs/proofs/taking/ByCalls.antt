@@ -14,21 +14,22 @@ use Rattle.isle_model.specs.sites.Sites.{Site, bool_site, int_site, prim_site, a
 use Rattle.isle_model.specs.trees.Places.{Around, is_in, waits, is_in_place, below, all_below, each_after, listed_below, return_uses}
 use Rattle.isle_model.specs.trees.Run.{World, Env, bound_to, used, used_values, as_value, part_at, Bound, all_bound, unwrap_failed, now_bound, unwrapped, constructed, bind_site, then_bind, bind_all, at_start, with_bound, or_next, with_content, returned, run_tree, run_check}
 use Rattle.isle_model.specs.trees.Trees.{no_step, return_at}
-use Rattle.isle_model.specs.trees.Collects.{content_at, calls_nothing, IsPureSite, IsPureAt}
+use Rattle.isle_model.specs.trees.Collects.{content_at, IsPureSite, IsPureAt}
 use Rattle.isle_model.specs.trees.SetRuns.{IsUnwrap, IsReachedUnder, IsTakenUnder}
 use Rattle.isle_model.proofs.Members.{nothing_in, in_head, in_tail, in_cases, in_alone, get_within, in_flat_map, from_flat_map, member_found, member_is_in}
-use Rattle.isle_model.proofs.Elements.{In, in_either}
+use Rattle.isle_model.proofs.Elements.{in_either}
 use Rattle.isle_model.proofs.Options.{then_some}
 use Rattle.isle_laws_runs.proofs.runs.Below.{below_itself, below_source, below_enough}
 use Rattle.isle_laws_runs.proofs.runs.BindOrders.{to_bind, bind_append}
 use Rattle.isle_laws_runs.proofs.runs.Binding.{content_of}
-use Rattle.isle_laws_runs.proofs.runs.Collected.{pure_site}
 use Rattle.isle_laws_runs.proofs.runs.Contents.{SourcesBefore, sources_in, content_layer}
 use Rattle.isle_laws_runs.proofs.taking.CallsIn.{CallsOnly, CallOnly, Known, IsNext, InOrder, each_only, IsImpureAt, below_only, call_number, unwrap_number}
 use Rattle.isle_laws_runs.proofs.taking.Followed.{Followed, goes_on, stops, then_follow, follow_with, answered_call, follow_call, follow, result_after}
 use Rattle.isle_laws_runs.proofs.runs.Listing.{sources_within}
 use Rattle.isle_laws_runs.proofs.taking.Settled.{values_there, sources_there}
 use Rattle.isle_laws_runs.proofs.taking.Used.{used_placed, placed_same, content_placed, bound_elsewhere, used_here, used_stays}
+use Rattle.isle_laws_runs.proofs.taking.PureSites.{calls_nothing, pure_site}
+use Rattle.isle_model.proofs.FewElements.{in_one}
 
 -- 1. what is bound of a site that makes no impure call and waits for nothing is its content
 module _ (w : World) (k : Pick) (before : SourcesBefore w.sites) (e : Env) (calls : List Call) where
@@ -710,21 +711,13 @@ module _ (w : World) (k : Pick) (before : SourcesBefore w.sites) (ar : Around) (
             more_listed more grows here call_here c m (inl i) =
                 elim (in_either earlier (U x ∷ []) (U c) i) [
                   | inl j ↦ grows c (listed c m (inl j))
-                  | inr j ↦ subst (Here more) (once x c (known x (in_head x ns)) (slice_get_within w.sites c (constructor_site m.0 m.1 (suc m.2)) m.3) (alone (U x) (U c) j)) here
+                  | inr j ↦ subst (Here more) (once x c (known x (in_head x ns)) (slice_get_within w.sites c (constructor_site m.0 m.1 (suc m.2)) m.3) (in_one (U x) (U c) j)) here
                 ]
-              where
-                alone : (a b : SiteTerm) → In (a ∷ []) b → a ≡ b
-                alone a b (inl e) = e
-                alone a b (inr n) = absurd n
             more_listed more grows here call_here c m (inr i) =
                 elim (in_either earlier (U x ∷ []) (some_part (U c)) i) [
                   | inl j ↦ grows c (listed c m (inr j))
-                  | inr j ↦ call_here c (slice_get_within w.sites c (constructor_site m.0 m.1 (suc m.2)) m.3) (sym (ap answered_call (only_one (U x) (some_part (U c)) j)))
+                  | inr j ↦ call_here c (slice_get_within w.sites c (constructor_site m.0 m.1 (suc m.2)) m.3) (sym (ap answered_call (in_one (U x) (some_part (U c)) j)))
                 ]
-              where
-                only_one : (a b : SiteTerm) → In (a ∷ []) b → a ≡ b
-                only_one a b (inl e) = e
-                only_one a b (inr n) = absurd n
 
 -- 10. the outcome of a rule that is taken, where all that stands below what it returns for and waits for nothing has a content
 -- if its sources have, and all that is unwrapped may answer nothing. Both are asked only of what comes after calls that gave

@@ -12,13 +12,13 @@ use Rattle.isle_model.specs.rules.Picks.{Pick, site_content, site_values}
 use Rattle.isle_model.specs.sites.Sites.{Site, bool_site, int_site, prim_site, argument_site, extractor_site, constructor_site, iterator_site, make_variant_site, match_variant_site, make_struct_site, extract_struct_site, make_some_site, match_some_site, match_tuple_site, sources_of, sources_at, each_term, layer, layer_at, unfolded, unfold_site}
 use Rattle.isle_model.specs.trees.Places.{Around, is_in, is_in_place, below, all_below, each_after, listed_below}
 use Rattle.isle_model.specs.trees.Run.{World, Env, as_value}
-use Rattle.isle_model.specs.trees.Collects.{content_at, calls_nothing, IsPureAt}
+use Rattle.isle_model.specs.trees.Collects.{content_at, IsPureAt}
 use Rattle.isle_model.specs.trees.SetRuns.{IsReached}
 use Rattle.isle_model.proofs.Members.{nothing_in, in_head, in_tail, in_cases, in_alone, each_passes, all_pass, in_flat_map, from_flat_map, member_found, member_is_in, in_filter, from_filter}
 use Rattle.isle_laws_runs.proofs.runs.Below.{below_itself, below_source, below_enough}
 use Rattle.isle_laws_runs.proofs.runs.Binding.{content_of, Held, held_as, keeps_bound, keeps_in_place}
-use Rattle.isle_laws_runs.proofs.runs.Collected.{pure_site, nothing_called}
 use Rattle.isle_laws_runs.proofs.runs.Contents.{SourcesBefore, sources_in, content_layer}
+use Rattle.isle_laws_runs.proofs.taking.PureSites.{calls_nothing, pure_site, nothing_called}
 
 -- 1. whether a site is settled
 abbrev pub fixed : World → ℕ → Bool

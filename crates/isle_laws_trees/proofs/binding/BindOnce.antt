@@ -1,7 +1,7 @@
 -- A bind order binds each site after what it is made of, and none twice.
 use Rattle.std.proofs.Common.{◌≡◌, ◌⊎◌, ℕ, zero, suc, ◌<◌, Bool, true, false, not, ◌&&◌, ◌||◌, List, [], ◌∷◌, ◌++◌, slice_get, Contains, flat_map, refl, sym, ap, ◌∙◌, subst, inl, inr, arith}
 use Rattle.std.specs.List.{list_all}
-use Rattle.std.proofs.lemmas.Bool.{cases_Bool, cond-true, cond-false, and_parts, and_from, or_cases, or_left, or_right, or_parts, false≢true}
+use Rattle.std.proofs.lemmas.Bool.{cases_Bool, cond-true, cond-false, and_parts, and_from, or_cases, or_left, or_right, or_parts, false≢true, not-true}
 use Rattle.std.proofs.lemmas.List.{append-nil}
 use Rattle.std.proofs.lemmas.List.Elements.{Contains-append_left, Contains-append_right, Contains-append_cases, filter-append}
 use Rattle.isle_model.specs.sites.Sites.{Site, sources_at}
@@ -239,10 +239,6 @@ module _ (sites : List Site) (ar : Around) (more : (x : ℕ) → Contains ar.bro
   each_plain f [] step done h = h
   each_plain f (x ∷ xs) step done h = each_plain f xs (λ y c. step y (in_tail x y xs c)) (f done x) (step x (in_head x xs) done h)
 
-  not_false : (b : Bool) → not b ≡ true → b ≡ false
-  not_false true h = absurd (false≢true h)
-  not_false false h = refl
-
   plain_below : (n s : ℕ) → is_available n sites ar.brought s ≡ true → (done : List ℕ) → NoneWaits done → NoneWaits (listed_below n sites ar.emitted done s)
   plain_below zero s a done h = h
   plain_below (suc n) s a done h =
@@ -261,7 +257,7 @@ module _ (sites : List Site) (ar : Around) (more : (x : ℕ) → Contains ar.bro
             let r = each_plain (listed_below n sites ar.emitted) (sources_at sites s) (λ x c. plain_below n x (each_passes (is_available n sites ar.brought) (sources_at sites s) q.1 x c)) done h in
             λ x c. elim (Contains-append_cases rest (s ∷ []) x c) [
               | inl d ↦ r x d
-              | inr d ↦ subst (λ y. waits (slice_get sites y) ≡ false) (in_alone s x d) (not_false (waits (slice_get sites s)) q.0)
+              | inr d ↦ subst (λ y. waits (slice_get sites y) ≡ false) (in_alone s x d) (not-true (waits (slice_get sites s)) q.0)
             ])
       ]
 

@@ -1,12 +1,13 @@
 -- Rules of a built set and the typed rules that they are built of stand at the same places.
-use Rattle.std.proofs.Common.{◌≡◌, ℕ, zero, suc, List, [], ◌∷◌, map, Option, Some, None, option_map, slice_get, refl, sym, ap, ◌∙◌}
-use Rattle.std.proofs.lemmas.Option.{slice_get-map, none-some, same_Some}
+use Rattle.std.proofs.Common.{◌≡◌, ℕ, zero, suc, List, [], ◌∷◌, map, Some, option_map, slice_get, refl, sym, ap, ◌∙◌}
+use Rattle.std.proofs.lemmas.Option.{slice_get-map, none-some}
 use Rattle.isle_model.specs.rules.Program.{Program, rules_of}
 use Rattle.isle_model.specs.rules.Typed.{TypedRule}
 use Rattle.isle_model.specs.sites.Sites.{Site, SetRule, SiteSet}
 use Rattle.isle_model.specs.sites.Overlap.{BuiltRule, built_rules}
 use Rattle.isle_model.specs.sites.RuleSets.{AreRulesOfSet, IsBuilt}
 use Rattle.isle_model.specs.claims.SetMeanings.{AreOneRule}
+use Rattle.isle_model.proofs.Mapped.{mapped_some}
 
 typed_at : (p : Program) (sites : List Site) (bs : List BuiltRule) (rs : List SetRule) (i : ℕ) (r : SetRule) → AreRulesOfSet p sites bs rs → slice_get rs i ≡ Some r → (b : BuiltRule) × (slice_get bs i ≡ Some b)
 typed_at p sites [] [] i r h e = absurd (none-some r e)
@@ -21,10 +22,6 @@ built_at p sites [] (q ∷ rs) i b h e = absurd h
 built_at p sites (c ∷ bs) [] i b h e = absurd h
 built_at p sites (c ∷ bs) (q ∷ rs) zero b h e = (q, refl)
 built_at p sites (c ∷ bs) (q ∷ rs) (suc i) b h e = built_at p sites bs rs i b h.1 e
-
-mapped_at : {X Y : Type 0} (f : X → Y) (o : Option X) (y : Y) → option_map f o ≡ Some y → (x : X) × (o ≡ Some x) × (f x ≡ y)
-mapped_at f None y e = absurd (none-some y e)
-mapped_at f (Some x) y e = (x, refl, same_Some (f x) y e)
 
 -- a typed rule and the set's rule that is built of it
 pub record Pair (p : Program) (t : ℕ) (set : SiteSet) (i : ℕ) : Type 0 where
@@ -43,7 +40,7 @@ module _ (p : Program) (t : ℕ) (set : SiteSet) (h : IsBuilt p t set) where
   -- where each typed rule is built
   pub of_typed_rule : map (λ (b : BuiltRule). b.rule) (built_rules p t) ≡ rules_of p t → (i : ℕ) (r : TypedRule) → slice_get (rules_of p t) i ≡ Some r → (x : Pair p t set i) × (x.typed.rule ≡ r)
   of_typed_rule all i r e =
-      let k = mapped_at (λ (b : BuiltRule). b.rule) (slice_get (built_rules p t) i) r
+      let k = mapped_some (λ (b : BuiltRule). b.rule) (slice_get (built_rules p t) i) r
       (sym (slice_get-map (λ (b : BuiltRule). b.rule) (built_rules p t) i) ∙ ap (λ l. slice_get l i) all ∙ e) in
       let q = built_at p set.sites (built_rules p t) set.rules i k.0 h.rules k.1 in
       (record { typed = k.0; built = q.0; here = k.1; there = q.1; one = record { place = i; typed = k.1; built = q.1 } }, k.2)

@@ -108,18 +108,6 @@ set_bag set w = flat_map (λ r. flat_map (result_in w r) (picks_over w.meaning w
 abbrev pub sites_of_rule : SetRule → List ℕ
 sites_of_rule r = map (λ d. d.0) r.constraints ++ flat_map (λ c. c) r.classes ++ r.iterators ++ r.result ∷ []
 
--- whether binding a site makes no impure call
-abbrev pub calls_nothing : Option Site → Bool
-calls_nothing (Some (constructor_site term sources (suc before))) = false
-calls_nothing _ = true
-
--- a rule of a set whose results a run collects: below its sites stand no impure calls, and only gates that it demands
-pub record IsCollectedRule (sites : List Site) (r : SetRule) : Type 0 where
-  pub known : All (λ s. s < length sites) (sites_of_rule r)
-  pub no_calls : r.impure ≡ []
-  pub pure : All (λ s. IsTrue (calls_nothing (slice_get sites s))) (all_below sites (sites_of_rule r))
-  pub gates : All (λ s. IsTrue (gate_demanded r (slice_get sites s))) (all_below sites (sites_of_rule r))
-
 -- a site that isn't an impure call
 abbrev pub IsPureSite : Site → Type 0
 IsPureSite (constructor_site term sources (suc before)) = ⊥
@@ -128,6 +116,13 @@ IsPureSite _ = Unit {0}
 -- there is a site of this number, and it makes no impure call
 abbrev pub IsPureAt : List Site → ℕ → Type 0
 IsPureAt sites s = (b : Site) × (slice_get sites s ≡ Some b) × IsPureSite b
+
+-- a rule of a set whose results a run collects: below its sites stand no impure calls, and only gates that it demands
+pub record IsCollectedRule (sites : List Site) (r : SetRule) : Type 0 where
+  pub known : All (λ s. s < length sites) (sites_of_rule r)
+  pub no_calls : r.impure ≡ []
+  pub pure : All (IsPureAt sites) (all_below sites (sites_of_rule r))
+  pub gates : All (λ s. IsTrue (gate_demanded r (slice_get sites s))) (all_below sites (sites_of_rule r))
 
 -- a set whose sites stand once, after their sources, with such rules. Sites that none of its rules uses may be anything:
 -- a rule that was left out leaves its sites behind
