@@ -18,7 +18,7 @@ abbrev pub HasCounted : Tally → Tally → Type 0
 HasCounted s t = (t.calls ≡ s.calls + 1) × (t.stops_at ≡ s.stops_at)
 
 -- A call is counted and answered. Or it is counted as the one to stop at. Or memory is refused, and nothing changes.
-abbrev pub Counts : {A : Type 0} → A → Tally → Result A VisitFault → Tally → Type 0
-Counts answer s r t =
+abbrev pub CountsCall : {A : Type 0} → A → Tally → Result A VisitFault → Tally → Type 0
+CountsCall answer s r t =
     MatchResult r (λ a. (a ≡ answer) × HasCounted s t × (t.calls < s.stops_at))
     (λ e. ((e ≡ Stopped) × HasCounted s t × (s.stops_at ≤ t.calls)) ⊎ ((e ≡ Memory alloc_error) × (t ≡ s)))

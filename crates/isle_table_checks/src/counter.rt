@@ -2,7 +2,7 @@
 
 ghost use Rattle.std.specs.Prelude.{◌≡◌, Ok, length, replicate};
 ghost use Rattle.isle_rules.specs.VisitAnswers.{listed};
-ghost use Rattle.isle_table_checks.specs.Counts.{next_expr, next_pattern, Counts};
+ghost use Rattle.isle_table_checks.specs.Counts.{next_expr, next_pattern, CountsCall};
 
 use isle_rules::{Body, ExprVisitor, PatternVisitor, RuleVisitor, VisitFault, VisitedExpr};
 use isle_types::{Sym, TermId, TypeId, VariantId};
@@ -54,7 +54,7 @@ impl Counter {
 impl Tally {
     // Counts a call. Numbers run out as memory does.
     fn count(&mut self) -> Result<(), VisitFault>
-        ensures { Counts tt self.old result self.new }
+        ensures { CountsCall tt self.old result self.new }
     {
         let Some(calls) = self.calls.checked_add(1) else {
             return Err(VisitFault::Memory(AllocError));
@@ -68,14 +68,14 @@ impl Tally {
     }
 
     fn pattern(&mut self) -> Result<PatternPlace, VisitFault>
-        ensures { Counts (next_pattern self.old) self.old result self.new }
+        ensures { CountsCall (next_pattern self.old) self.old result self.new }
     {
         self.count()?;
         Ok(PatternPlace(self.calls))
     }
 
     fn expr(&mut self) -> Result<ExprPlace, VisitFault>
-        ensures { Counts (next_expr self.old) self.old result self.new }
+        ensures { CountsCall (next_expr self.old) self.old result self.new }
     {
         self.count()?;
         Ok(ExprPlace(self.calls))
@@ -85,7 +85,7 @@ impl Tally {
 impl PatternCounter {
     // Counts a call that is answered by so many places.
     fn places(&mut self, count: usize) -> Result<Vec<PatternPlace>, VisitFault>
-        ensures { Counts (replicate count (next_pattern self.old.tally)) self.old.tally (listed result) self.new.tally }
+        ensures { CountsCall (replicate count (next_pattern self.old.tally)) self.old.tally (listed result) self.new.tally }
     {
         let mut tally = self.tally;
         let answer = match tally.pattern() {
@@ -100,19 +100,19 @@ impl PatternCounter {
 impl PatternVisitor for PatternCounter {
     type PatternId = PatternPlace;
 
-    ghost match_equal_steps = { λ s a b ty r t. Counts tt s.tally r t.tally };
+    ghost match_equal_steps = { λ s a b ty r t. CountsCall tt s.tally r t.tally };
 
-    ghost match_bool_steps = { λ s input ty b r t. Counts tt s.tally r t.tally };
+    ghost match_bool_steps = { λ s input ty b r t. CountsCall tt s.tally r t.tally };
 
-    ghost match_int_steps = { λ s input ty z r t. Counts tt s.tally r t.tally };
+    ghost match_int_steps = { λ s input ty z r t. CountsCall tt s.tally r t.tally };
 
-    ghost match_prim_steps = { λ s input ty name r t. Counts tt s.tally r t.tally };
+    ghost match_prim_steps = { λ s input ty name r t. CountsCall tt s.tally r t.tally };
 
-    ghost match_variant_steps = { λ s input ty tys variant r t. Counts (replicate (length tys) (next_pattern s.tally)) s.tally r t.tally };
+    ghost match_variant_steps = { λ s input ty tys variant r t. CountsCall (replicate (length tys) (next_pattern s.tally)) s.tally r t.tally };
 
-    ghost extract_struct_steps = { λ s input ty tys r t. Counts (replicate (length tys) (next_pattern s.tally)) s.tally r t.tally };
+    ghost extract_struct_steps = { λ s input ty tys r t. CountsCall (replicate (length tys) (next_pattern s.tally)) s.tally r t.tally };
 
-    ghost extract_steps = { λ s input ty tys term infallible multi r t. Counts (replicate (length tys) (next_pattern s.tally)) s.tally r t.tally };
+    ghost extract_steps = { λ s input ty tys term infallible multi r t. CountsCall (replicate (length tys) (next_pattern s.tally)) s.tally r t.tally };
 
     fn add_match_equal(
         &mut self,
@@ -185,17 +185,17 @@ impl PatternVisitor for PatternCounter {
 impl ExprVisitor for ExprCounter {
     type ExprId = ExprPlace;
 
-    ghost const_bool_steps = { λ s ty b r t. Counts (next_expr s.tally) s.tally r t.tally };
+    ghost const_bool_steps = { λ s ty b r t. CountsCall (next_expr s.tally) s.tally r t.tally };
 
-    ghost const_int_steps = { λ s ty z r t. Counts (next_expr s.tally) s.tally r t.tally };
+    ghost const_int_steps = { λ s ty z r t. CountsCall (next_expr s.tally) s.tally r t.tally };
 
-    ghost const_prim_steps = { λ s ty name r t. Counts (next_expr s.tally) s.tally r t.tally };
+    ghost const_prim_steps = { λ s ty name r t. CountsCall (next_expr s.tally) s.tally r t.tally };
 
-    ghost create_variant_steps = { λ s inputs ty variant r t. Counts (next_expr s.tally) s.tally r t.tally };
+    ghost create_variant_steps = { λ s inputs ty variant r t. CountsCall (next_expr s.tally) s.tally r t.tally };
 
-    ghost create_struct_steps = { λ s inputs ty r t. Counts (next_expr s.tally) s.tally r t.tally };
+    ghost create_struct_steps = { λ s inputs ty r t. CountsCall (next_expr s.tally) s.tally r t.tally };
 
-    ghost construct_steps = { λ s inputs ty term pure infallible multi recursive r t. Counts (next_expr s.tally) s.tally r t.tally };
+    ghost construct_steps = { λ s inputs ty term pure infallible multi recursive r t. CountsCall (next_expr s.tally) s.tally r t.tally };
 
     fn add_const_bool(&mut self, _ty: TypeId, _val: bool) -> Result<ExprPlace, VisitFault> {
         self.tally.expr()
@@ -215,7 +215,7 @@ impl ExprVisitor for ExprCounter {
         _ty: TypeId,
         _variant: VariantId,
     ) -> Result<ExprPlace, VisitFault>
-        ensures { Counts (next_expr self.old.tally) self.old.tally result self.new.tally }
+        ensures { CountsCall (next_expr self.old.tally) self.old.tally result self.new.tally }
     {
         self.tally.expr()
     }
@@ -225,7 +225,7 @@ impl ExprVisitor for ExprCounter {
         _inputs: Vec<(ExprPlace, TypeId)>,
         _ty: TypeId,
     ) -> Result<ExprPlace, VisitFault>
-        ensures { Counts (next_expr self.old.tally) self.old.tally result self.new.tally }
+        ensures { CountsCall (next_expr self.old.tally) self.old.tally result self.new.tally }
     {
         self.tally.expr()
     }
@@ -240,7 +240,7 @@ impl ExprVisitor for ExprCounter {
         _multi: bool,
         _rec: bool,
     ) -> Result<ExprPlace, VisitFault>
-        ensures { Counts (next_expr self.old.tally) self.old.tally result self.new.tally }
+        ensures { CountsCall (next_expr self.old.tally) self.old.tally result self.new.tally }
     {
         self.tally.expr()
     }
@@ -253,19 +253,19 @@ impl RuleVisitor for Counter {
 
     type Expr = VisitedExpr<ExprPlace>;
 
-    ghost arg_steps = { λ s index ty r t. Counts (next_pattern s.tally) s.tally r t.tally };
+    ghost arg_steps = { λ s index ty r t. CountsCall (next_pattern s.tally) s.tally r t.tally };
 
-    ghost expr_as_pattern_steps = { λ s expr r t. Counts (next_pattern s.tally) s.tally r t.tally };
+    ghost expr_as_pattern_steps = { λ s expr r t. CountsCall (next_pattern s.tally) s.tally r t.tally };
 
-    ghost pattern_as_expr_steps = { λ s pattern r t. Counts (next_expr s.tally) s.tally r t.tally };
+    ghost pattern_as_expr_steps = { λ s pattern r t. CountsCall (next_expr s.tally) s.tally r t.tally };
 
-    ghost lend_pattern_steps = { λ s r t. Counts (record { alloc = t.alloc; tally = t.tally }) s.tally r t.tally };
+    ghost lend_pattern_steps = { λ s r t. CountsCall (record { alloc = t.alloc; tally = t.tally }) s.tally r t.tally };
 
     ghost take_pattern_steps = { λ s l r t. (r ≡ Ok tt) × (t ≡ record s { tally = l.tally }) };
 
     ghost leave_pattern_steps = { λ l s t. t ≡ record s { tally = l.tally } };
 
-    ghost lend_expr_steps = { λ s r t. Counts (record { tally = t.tally }) s.tally r t.tally };
+    ghost lend_expr_steps = { λ s r t. CountsCall (record { tally = t.tally }) s.tally r t.tally };
 
     ghost take_expr_steps = { λ s l ty value r t. (r ≡ Ok (record { ty = record { 0 = ty }; value = value })) × (t ≡ record s { tally = l.tally }) };
 
