@@ -2,7 +2,7 @@
 
 use crate::run::cannot_read;
 use crate::texts::{Asked, answer_to_text};
-use isle_printing::answers::{Answer, no_memory, write_text};
+use isle_program::answers::{Answer, no_memory, write_text};
 use std::alloc::{AllocError, Global};
 use std::io;
 use std::io::{Read, Write};

@@ -4,7 +4,7 @@ ghost use Rattle.std.specs.Prelude.{◌≡◌, ◌≢◌, ◌≤◌, is_none, is
 ghost use Rattle.isle_answers.specs.Words.{expansion_of, expansion_of_word};
 
 use crate::texts::{Asked, answer_to_text};
-use isle_printing::answers::{end, no_memory, write_answer};
+use isle_program::answers::{end, no_memory, write_answer};
 use std::alloc::Global;
 use std::io;
 use std::io::{ErrorKind, Read, Write};

@@ -1,8 +1,8 @@
 //! Definitions as text, and what is answered to them.
 
 use isle_base::syntax::Def;
-use isle_printing::answers::{Answer, answer_to};
 use isle_printing::places::Places;
+use isle_program::answers::{Answer, answer_to};
 use isle_text::errors::{ReadFault, TextError};
 use isle_text::read;
 use std::alloc::{AllocError, Global};

@@ -1,10 +1,10 @@
 // Long lists of definitions, in groups of four: a primitive type, an enum and a struct whose fields name
 // types near and far, and a constant.
 ghost use Rattle.std.specs.Prelude.{◌≡◌, ◌+◌, ◌*◌, ◌/◌, IfOk, OnOk, length};
-ghost use Rattle.isle_printing.specs.Written.{written};
+ghost use Rattle.isle_samples.specs.Written.{written};
 
 use isle_base::syntax::{Def, Extern, Fields, TypeValue, Variant};
-use isle_printing::Definitions;
+use isle_samples::Definitions;
 use std::alloc::{AllocError, Global};
 
 /// As many definitions, or up to three fewer: whole groups alone.

@@ -1,4 +1,4 @@
-//! Tests of what programs print, and of what they do where output fails.
+//! Tests of what programs answer to their words, and of what they do where output fails.
 #![tactic(auto)]
 
 #[cfg(test)]

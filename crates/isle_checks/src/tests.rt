@@ -1,3 +1,2 @@
-// What is printed; programs whose output fails.
-mod printing;
+// Programs whose output fails.
 mod program;

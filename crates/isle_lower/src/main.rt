@@ -2,8 +2,8 @@
 #![tactic(auto)]
 
 use isle_answers::run::run;
-use isle_printing::answers::no_memory;
-use isle_printing::words::words;
+use isle_program::answers::no_memory;
+use isle_program::words::words;
 use std::alloc::AllocError;
 use std::process::ExitCode;
 

@@ -1,11 +1,10 @@
 //! The printed form of trees: each term with its sites and its steps, one a line.
 
-use cranelift_isle::lower::{Lowered, LoweredTerm};
-use cranelift_isle::serialize::{Block, ControlFlow, EvalStep, MatchArm};
-use cranelift_isle::trie_again::{Binding, BindingId, Constraint};
+use isle_serialize::serialize::{Block, ControlFlow, EvalStep, MatchArm};
+use isle_sets::trie_again::{Binding, BindingId, Constraint};
 use isle_terms::Term;
 use isle_types::{Sym, TermId, Type, TypeId, VariantId};
-use std::alloc::{AllocError, Global};
+use std::alloc::AllocError;
 
 /// The names of what trees speak of. A number that has no name prints as `?`; no tree of definitions
 /// holds one.
@@ -59,27 +58,19 @@ impl<'a> Names<'a> {
     }
 }
 
-/// The text of all terms' trees.
-pub fn trees(alloc: Global, lowered: &Lowered) -> Result<String, AllocError> {
-    let names = Names {
-        syms: &lowered.tyenv.syms,
-        types: &lowered.tyenv.types,
-        terms: &lowered.termenv.terms,
-    };
-    let mut out = String::new(alloc);
-    for term in &lowered.terms {
-        print_term(&mut out, names, term)?;
-    }
-    Ok(out)
-}
-
-// A term: its name, its sites and its steps.
-fn print_term(out: &mut String, names: Names<'_>, term: &LoweredTerm) -> Result<(), AllocError> {
+/// A term: its name, its sites and its steps.
+pub fn print_term(
+    out: &mut String,
+    names: Names<'_>,
+    id: TermId,
+    bindings: &[Binding],
+    block: &Block,
+) -> Result<(), AllocError> {
     out.push_str("term ")?;
-    out.push_str(names.term(term.id))?;
+    out.push_str(names.term(id))?;
     out.push('\n')?;
-    print_bindings(out, names, &term.rules.bindings)?;
-    print_block(out, names, 2, &term.block)
+    print_bindings(out, names, bindings)?;
+    print_block(out, names, 2, block)
 }
 
 /// Each site by its number, with what it stands for.

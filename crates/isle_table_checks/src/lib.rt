@@ -1,4 +1,4 @@
-//! Tests of tables and typed rules, of what rows of text can't say, and two visitors that they run.
+//! Tests of tables, typed rules and printed trees, of what rows of text can't say, and two visitors that they run.
 #![tactic(auto)]
 
 pub mod counter;

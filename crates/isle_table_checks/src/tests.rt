@@ -1,4 +1,5 @@
-// Tables and typed rules; visits.
+// Tables and typed rules; visits; what is printed.
 mod all_forms;
+mod printing;
 mod tables;
 mod visits;

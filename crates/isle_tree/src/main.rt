@@ -1,9 +1,9 @@
 //! Prints the trees of a built-in sample: `isle-tree SAMPLE`.
 #![tactic(auto)]
 
-use isle_printing::answers::no_memory;
-use isle_printing::run::run;
-use isle_printing::words::words;
+use isle_program::answers::no_memory;
+use isle_program::run::run;
+use isle_program::words::words;
 use std::alloc::AllocError;
 use std::process::ExitCode;
 

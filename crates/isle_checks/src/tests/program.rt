@@ -1,5 +1,5 @@
 // What the program answers to a word, and what it does where its output fails.
-use isle_printing::run::run;
+use isle_program::run::run;
 use std::alloc::{AllocError, Global};
 use std::io;
 use std::io::{ErrorKind, Write};

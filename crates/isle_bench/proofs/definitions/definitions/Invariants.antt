@@ -1,5 +1,5 @@
 use Rattle.std.proofs.Common.{◌≡◌, ◌*◌, length}
-use Rattle.isle_printing.specs.Written.{written}
+use Rattle.isle_samples.specs.Written.{written}
 use Rattle.isle_bench.proofs.definitions.definitions.Given as goal
 
 abbrev pub invariant-loop-k : goal.invariant-loop-k

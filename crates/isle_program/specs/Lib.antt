@@ -1,3 +1,2 @@
-pub mod Written
 pub mod Words
 pub mod Statuses

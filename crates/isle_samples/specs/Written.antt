@@ -3,7 +3,7 @@ use Rattle.std.specs.Prelude.{◌≡◌, ℕ, ℤ, pos, Bool, true, false, List,
 use Rattle.std.specs.Str.{bytes_eq}
 use Rattle.isle_model.specs.lists.Syntax.{Position, Name, PatternTree, var_pattern, int_pattern, term_pattern, PatternTrees, no_pattern, pattern_and, ExprTree, var_expr, int_expr, FieldTree, FieldTrees, struct_fields, VariantTree, TypeValueTree, primitive_value, enum_value, DeclTree, RuleTree, Definition, type_definition, declaration, rule_definition}
 use Rattle.isle_base.specs.SyntaxViews.{definition_views}
-use Rattle.isle_printing.specs.declared.builder.Definitions.{Definitions}
+use Rattle.isle_samples.specs.declared.builder.Definitions.{Definitions}
 
 -- the definitions written so far
 abbrev pub written : Definitions → List Definition

@@ -1,8 +1,8 @@
 use Rattle.std.proofs.Common.{drop, length}
 use Rattle.isle_base.specs.SyntaxViews.{name_view}
-use Rattle.isle_printing.specs.Written.{name_at, written}
-use Rattle.isle_printing.proofs.Naming.{AreWritten}
-use Rattle.isle_printing.proofs.builder.Definitions.idents.Given as goal
+use Rattle.isle_samples.specs.Written.{name_at, written}
+use Rattle.isle_samples.proofs.Naming.{AreWritten}
+use Rattle.isle_samples.proofs.builder.Definitions.idents.Given as goal
 
 abbrev pub invariant-loop-name : goal.invariant-loop-name
 invariant-loop-name l = AreWritten name_view (λ n. name_at (length (written l.self)) n.now) l.names (drop l.name-index l.names) l.idents.items

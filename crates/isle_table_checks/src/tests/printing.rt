@@ -1,11 +1,11 @@
 // The printed form of each form of binding, step and error.
-use cranelift_isle::serialize::{Block, ControlFlow, EvalStep, MatchArm};
-use cranelift_isle::trie_again::{Binding, BindingId, Constraint, TupleIndex};
 use isle_base::syntax::{Error, Limit, Pos, Span};
 use isle_printing::errors::error_lines;
 use isle_printing::places::Places;
 use isle_printing::print::{Names, print_bindings, print_block};
 use isle_rules::TermEnv;
+use isle_serialize::serialize::{Block, ControlFlow, EvalStep, MatchArm};
+use isle_sets::trie_again::{Binding, BindingId, Constraint, TupleIndex};
 use isle_text::read;
 use isle_types::{Sym, TermId, TypeEnv, TypeId, VariantId};
 use std::alloc::{AllocError, Global};

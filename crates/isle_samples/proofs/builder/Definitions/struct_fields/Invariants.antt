@@ -1,8 +1,8 @@
 use Rattle.std.proofs.Common.{drop}
 use Rattle.isle_base.specs.SyntaxViews.{field_view, position}
-use Rattle.isle_printing.specs.Written.{field_in}
-use Rattle.isle_printing.proofs.Naming.{AreWritten}
-use Rattle.isle_printing.proofs.builder.Definitions.struct_fields.Given as goal
+use Rattle.isle_samples.specs.Written.{field_in}
+use Rattle.isle_samples.proofs.Naming.{AreWritten}
+use Rattle.isle_samples.proofs.builder.Definitions.struct_fields.Given as goal
 
 abbrev pub invariant-loop-field : goal.invariant-loop-field
 invariant-loop-field l =

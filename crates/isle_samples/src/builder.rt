@@ -3,7 +3,7 @@
 ghost use Rattle.std.specs.Prelude.{◌≡◌, [], IfOk, OnOk, OnErr, map, length};
 ghost use Rattle.isle_base.specs.SyntaxViews.{decl_view, definition_view, definition_views, expr_view, field_view, fields_view, name_view, pattern_view, pattern_views, position, rule_view, type_value_view, variant_view};
 ghost use Rattle.isle_model.specs.lists.Syntax.{declaration, int_expr, int_pattern, rule_definition, struct_fields};
-ghost use Rattle.isle_printing.specs.Written.{WritesOne, at, decl_at, field_in, name_at, name_in, primitive_at, plain_rule_at, type_in, use_at, var_at, variant_in, written};
+ghost use Rattle.isle_samples.specs.Written.{WritesOne, at, decl_at, field_in, name_at, name_in, primitive_at, plain_rule_at, type_in, use_at, var_at, variant_in, written};
 
 use isle_base::syntax::{
     Decl, Def, Expr, Fields, Ident, Pattern, Pos, Rule, StructField, StructFields, Type, TypeValue,

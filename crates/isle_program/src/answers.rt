@@ -3,13 +3,13 @@
 ghost use Rattle.std.specs.Prelude.{◌≡◌, ◌≢◌, ◌≤◌, ◌⊎◌, IfOk, List};
 ghost use Rattle.isle_base.specs.SyntaxViews.{definition_views};
 ghost use Rattle.isle_model.specs.lists.Syntax.{Definition};
-ghost use Rattle.isle_printing.specs.Statuses.{IsAnswerTo, IsStatusOf};
+ghost use Rattle.isle_program.specs.Statuses.{IsAnswerTo, IsStatusOf};
 
-use crate::errors::error_lines;
-use crate::places::Places;
-use crate::print::trees;
+use crate::trees::trees;
 use cranelift_isle::lower::lower;
 use isle_base::syntax::{Def, Fault};
+use isle_printing::errors::error_lines;
+use isle_printing::places::Places;
 use std::alloc::{AllocError, Global};
 use std::io;
 use std::io::Write;

@@ -4,13 +4,13 @@
 ghost use Rattle.std.specs.Prelude.{◌≡◌, ◌≢◌, ◌≤◌, true, false, IfOk, List, Some, map, option_map, string_bytes};
 ghost use Rattle.isle_base.specs.SyntaxViews.{definition_views};
 ghost use Rattle.isle_model.specs.lists.Syntax.{Definition};
-ghost use Rattle.isle_printing.specs.Statuses.{IsStatusOf};
-ghost use Rattle.isle_printing.specs.Words.{named_definitions, names_sample};
+ghost use Rattle.isle_program.specs.Statuses.{IsStatusOf};
+ghost use Rattle.isle_program.specs.Words.{named_definitions, names_sample};
 
 use crate::answers::{answer_to, end, no_memory, write_answer};
-use crate::places::Places;
-use crate::samples::sample;
 use isle_base::syntax::Def;
+use isle_printing::places::Places;
+use isle_samples::sample;
 use std::alloc::{AllocError, Global};
 use std::io::Write;
 

@@ -3,8 +3,8 @@ use Rattle.std.specs.Prelude.{ℕ, ◌≡◌, List}
 use Rattle.isle_model.specs.lists.Syntax.{Definition}
 use Rattle.isle_model.specs.rules.Typed.{TypedRule}
 use Rattle.isle_model.specs.first.Accepted.{IsCarriedAccepted}
-use Rattle.isle_printing.specs.declared.answers.Answer.{Answer}
-use Rattle.isle_printing.specs.declared.answers.Answer.TheVariants.{Trees, Errors}
+use Rattle.isle_program.specs.declared.answers.Answer.{Answer}
+use Rattle.isle_program.specs.declared.answers.Answer.TheVariants.{Trees, Errors}
 
 abbrev pub AreAccepted : List Definition → Type 0
 AreAccepted defs = (typed : List TypedRule) × IsCarriedAccepted defs typed

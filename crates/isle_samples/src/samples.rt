@@ -2,7 +2,7 @@
 
 ghost use Rattle.std.specs.Prelude.{◌≡◌, IfOk, option_map};
 ghost use Rattle.isle_base.specs.SyntaxViews.{definition_views, position};
-ghost use Rattle.isle_printing.specs.Written.{at, builtin_definitions, fall_definitions, sample_definitions, types_definitions};
+ghost use Rattle.isle_samples.specs.Written.{at, builtin_definitions, fall_definitions, sample_definitions, types_definitions};
 
 use crate::builder::Definitions;
 use isle_base::syntax::{Def, Pos, TypeValue};
