@@ -11,6 +11,5 @@ pub mod NoTerms
 pub mod PartlessTypes
 pub mod SameTerms
 pub mod SoundRuns
-pub mod alone
 pub mod building
 pub mod matching

@@ -3,7 +3,6 @@
 //! A function here has an empty body: its clause is a law, and its proof stands in `proofs/`.
 #![tactic(auto)]
 
-ghost use Rattle.isle_model.specs.first.Alone.{AloneIsSound, PlainIsFlat};
 ghost use Rattle.isle_first.specs.BuildingLaws.{BuildsSets, CountsSites, ShowsOverlaps};
 ghost use Rattle.isle_first.specs.EarlyLaws.{EarlyOverlapAgrees, EarlyArgumentsAgree, EarlySitesAgree};
 ghost use Rattle.isle_model.specs.first.CarriedRules.{CarriedRulesAgree};
@@ -17,17 +16,6 @@ ghost use Rattle.isle_model.specs.sites.Serves.{Serves, TellsConstantsApart};
 ghost use Rattle.isle_model.specs.first.SameTermTables.{TermsAgree};
 ghost use Rattle.isle_model.specs.first.Runs.{SoundTreesRun};
 ghost use Rattle.isle_first.specs.FallLaws.{FallIsServed, FallIsSound, ExchangedIsNotSound};
-
-/// The tree that tests each rule of a plain set alone, by descending priority, is sound.
-#[tactic(auto, using(crate::proofs::alone::Soundness::alone_is_sound))]
-pub fn alone_is_sound()
-    ensures { AloneIsSound }
-{}
-
-/// Sets of arguments and integers are among those whose sound trees are known to run as a choice.
-pub fn plain_is_flat()
-    ensures { PlainIsFlat }
-{}
 
 /// The set of a term with rules is the built set, and asks for integers alone.
 pub fn builds_sets()

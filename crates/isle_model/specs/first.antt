@@ -1,11 +1,9 @@
 -- The cut-down definitions of the first forms, which go as the layers are carried whole.
 pub mod Accepted
-pub mod Alone
 pub mod Building
 pub mod Built
 pub mod CarriedRules
 pub mod Elaboration
-pub mod Order
 pub mod Plain
 pub mod Runs
 pub mod SameTermTables
