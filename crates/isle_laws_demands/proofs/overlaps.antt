@@ -6,6 +6,7 @@ pub mod Listed
 pub mod Masks
 pub mod Overlaps
 pub mod Reported
+pub mod SetChecks
 pub mod SetReports
 pub mod SetRules
 pub mod Totals

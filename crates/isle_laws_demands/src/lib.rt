@@ -8,7 +8,7 @@ ghost use Rattle.isle_laws_demands.specs.ClosureLaws.{JoinedIsEquivalence, Class
 ghost use Rattle.isle_laws_demands.specs.AcceptLaws.{ElaboratedRulesHaveTerms, RulesAreJudged, ListsAreAccepted, ListsAreNotAccepted};
 ghost use Rattle.isle_laws_demands.specs.ReportLaws.{CheckIsExact, OverlapsAreListedOnce, ListedRulesOverlap, MasksAreReportedOnce, ReportedMasksShadow};
 ghost use Rattle.isle_laws_demands.specs.SetOverlapLaws.{SetRulesOverlapAsTheirDemands, OverlapOfSetRulesIsSymmetric, SetRulesConstrainAsTheirDemands};
-ghost use Rattle.isle_laws_demands.specs.SetReportLaws.{BuiltSetsAreReported};
+ghost use Rattle.isle_laws_demands.specs.SetReportLaws.{BuiltSetsAreChecked, BuiltSetsAreReported};
 ghost use Rattle.isle_laws_demands.specs.VisitLaws.{SitesStandOnce, FormedRulesDemandGates, ClosingKeepsGates, ElaboratedRulesDemandGates, BuiltRulesDemandGates, BuiltSetsAreWellBuilt, NoneAskedAndGoneOver, MultiCallsAreGoneOver, NoRuleAsksAndGoesOver, MultiTermsHaveOnePriority};
 ghost use Rattle.isle_model.specs.claims.SetMeanings.{BuiltSetsAreTested, BuiltSetsCanBeServed, BuiltSetsAreCollected};
 ghost use Rattle.isle_laws_demands.specs.BuiltLaws.{ClosingsOfBuiltRulesAreWhole, ConstrainedSitesStandInNoClass, BuiltRulesConstrainOrEquate, FormedRulesMakeEqualSites, BuiltDemandsAreWhole};
@@ -392,4 +392,11 @@ pub fn built_sets_mean_their_rules()
 #[tactic(auto, using(crate::proofs::overlaps::SetReports::built_sets_are_reported_lem))]
 pub fn built_sets_are_reported()
     ensures { BuiltSetsAreReported }
+{}
+
+/// Of what building gives: where its errors and the reports of the sets are none, checking gives the sets, and else these
+/// reports.
+#[tactic(auto, using(crate::proofs::overlaps::SetChecks::built_sets_are_checked_lem))]
+pub fn built_sets_are_checked()
+    ensures { BuiltSetsAreChecked }
 {}

@@ -4,3 +4,4 @@ pub mod Ascents
 pub mod Sorted
 pub mod Reporting
 pub mod Counted
+pub mod Checked

@@ -1,3 +1,4 @@
 pub mod ErrorViews
 pub mod Comparisons
 pub mod Graphs
+pub mod Checks

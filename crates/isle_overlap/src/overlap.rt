@@ -1,18 +1,19 @@
 //! The check of overlaps: rules of one priority that may both match, and rules that others mask.
 ghost use Rattle.std.specs.Prelude.{◌^◌, ◌*◌, List, false, if◌then◌else◌, slice_index_or, ◌≡◌, ◌++◌, ◌∷◌, [], ◌+◌, ◌-◌, ◌<◌, ◌≤◌, ℕ, All, IfOk, OnOk, drop, length, map, nat_lt, vec_len, slice_get, Some};
 ghost use Rattle.std.specs.List.{filter};
-ghost use Rattle.isle_model.specs.rules.Program.{is_multi};
+ghost use Rattle.isle_model.specs.rules.Program.{Program, is_multi};
 ghost use Rattle.isle_model.specs.claims.Refusals.{overlapping, refusal_of};
 ghost use Rattle.isle_model.specs.sites.Overlap.{RuleReport, ascending_positions, by_position, degree, has_end, other_end, overlap_reports, position_lt, rule_shadows, rules_overlap};
 ghost use Rattle.isle_model.specs.sites.SetRules.{compared_in, is_mask_of, overlap_wrongly, reports_of_sets, shadows_among, shadows_in_sets, wrong_among, wrong_in_sets};
 ghost use Rattle.isle_base.specs.SyntaxViews.{position};
 ghost use Rattle.isle_building.specs.Buildings.{env_program, term_set_views};
 ghost use Rattle.isle_sets.specs.SiteViews.{set_rule_view, set_rule_views, set_view};
+ghost use Rattle.isle_overlap.specs.Checks.{IsChecked, WereBuilt};
 ghost use Rattle.isle_overlap.specs.Comparisons.{AreGrouped, list_views, masked_behind, masked_pair, masked_rows, masked_views, pair_views, positions, shadow_of, shadows_of, wrong_behind, wrong_pair, wrong_rows};
 ghost use Rattle.isle_overlap.specs.ErrorViews.{error_pos, error_view, error_views, report_views, span_starts};
 ghost use Rattle.isle_overlap.specs.Graphs.{count_at, count_left, counts_before, ends_of, listed_at, neighbours, same_pos, times, unreported};
 
-use isle_base::syntax::{Error, Pos, Span};
+use isle_base::syntax::{Error, Fault, Pos, Span};
 use isle_rules::TermEnv;
 use isle_sets::trie_again::{Overlap, Rule, RuleSet};
 use isle_terms::TermKind;
@@ -528,4 +529,28 @@ pub fn check_overlaps(
     let mut errors = overlap_errors(alloc, &wrong)?;
     errors.append(&mut shadows)?;
     by_place(errors)
+}
+
+/// What checking gives of sets and errors that were built: the sets, where there is no error and nothing is wrong with the
+/// sets. Each set stands with its term; the errors are those of rules that were left out of the sets.
+///
+/// # Errors
+///
+/// `Fault::Errors` where there is any: those that were handed in, then those of overlaps and shadows, as `check_overlaps`
+/// gives them. `Fault::Memory` where memory is refused.
+pub fn check_built(
+    alloc: Global,
+    termenv: &TermEnv,
+    sets: Vec<(TermId, RuleSet)>,
+    mut errors: Vec<Error>,
+) -> Result<Vec<(TermId, RuleSet)>, Fault>
+    ensures { (p : Program) (reports : List RuleReport) → WereBuilt termenv.now p sets.items errors.items reports → IsChecked p result }
+{
+    let mut found = check_overlaps(alloc, termenv, &sets)?;
+    errors.append(&mut found)?;
+    if errors.is_empty() {
+        Ok(sets)
+    } else {
+        Err(Fault::Errors(errors))
+    }
 }

@@ -1,0 +1,49 @@
+-- Built sets, their errors and what is found in them.
+use Rattle.std.proofs.Common.{◌≡◌, ℕ, Bool, List, [], ◌∷◌, ◌++◌, map, slice_get, Some, None, refl, sym, ap, ◌∙◌}
+use Rattle.std.proofs.lemmas.List.{map-append}
+use Rattle.isle_model.specs.rules.Program.{Program, kind_of, flags_of, unknown, is_multi}
+use Rattle.isle_model.specs.lists.Tables.{TermEntry}
+use Rattle.isle_model.specs.sites.Overlap.{RuleReport}
+use Rattle.isle_model.specs.sites.SetRules.{reports_of_sets}
+use Rattle.isle_model.specs.claims.Layers.{CheckAnswers}
+use Rattle.isle_model.specs.claims.Refusals.{refusal_of}
+use Rattle.isle_laws_demands.specs.SetReportLaws.{all_reports}
+use Rattle.isle_laws_demands.proofs.overlaps.SetChecks.{built_sets_are_checked_lem}
+use Rattle.isle_base.specs.declared.syntax.Error.{Error}
+use Rattle.isle_types.specs.declared.ids.TermId.{TermId}
+use Rattle.isle_rules.specs.declared.term_env.TermEnv.{TermEnv}
+use Rattle.isle_sets.specs.declared.trie_again.RuleSet.{RuleSet}
+use Rattle.isle_sets.specs.Buildings.{env_program, term_set_views}
+use Rattle.isle_overlap.specs.ErrorViews.{error_view, error_views, report_views}
+use Rattle.isle_overlap.specs.Checks.{WereBuilt, ReportsAreErrors}
+
+abbrev multi_among : List TermEntry → ℕ → Bool
+multi_among terms t = (flags_of (elim (slice_get terms t) [ None ↦ unknown | Some e ↦ kind_of e ])).multi
+
+map_empty : {X Y : Type 0} (f : X → Y) (xs : List X) → map f xs ≡ [] → xs ≡ []
+map_empty f [] e = refl
+map_empty f (x ∷ xs) e = absurd cc
+
+module _ (env : TermEnv) (p : Program) (sets : List (TermId × RuleSet)) (errors found all : List Error) (reports : List RuleReport) (built : WereBuilt env p sets errors reports)
+    (is : error_views found ≡ report_views (reports_of_sets (is_multi (env_program env)) (term_set_views sets))) (joined : all ≡ errors ++ found) where
+  same_multi : is_multi (env_program env) ≡ is_multi p
+  same_multi = (λ k t. multi_among (sym built.terms k) t)
+
+  views : error_views all ≡ report_views (all_reports p (term_set_views sets) reports)
+  views =
+      ap error_views joined
+      ∙ map-append error_view errors found
+      ∙ (λ k. built.errors_are k ++ (is ∙ ap (λ m. report_views (reports_of_sets m (term_set_views sets))) same_multi) k)
+      ∙ sym (map-append refusal_of reports (reports_of_sets (is_multi p) (term_set_views sets)))
+
+  pub nothing_found : all ≡ [] → CheckAnswers p (term_set_views sets)
+  nothing_found e =
+      (built_sets_are_checked_lem p (term_set_views sets) reports built.known built.answers).0
+      (map_empty refusal_of (all_reports p (term_set_views sets) reports) (sym views ∙ ap error_views e))
+
+  pub something_found : (all ≡ [] → ⊥) → ReportsAreErrors p all
+  something_found n = record {
+    reports = all_reports p (term_set_views sets) reports;
+    are = views;
+    reported = (built_sets_are_checked_lem p (term_set_views sets) reports built.known built.answers).1 (λ e. n (map_empty error_view all (views ∙ ap report_views e)));
+  }

@@ -1,0 +1,35 @@
+-- What checking answers of a program, and of sets that were built.
+use Rattle.std.specs.Prelude.{◌≡◌, List, Result, Ok, Err, ⊤}
+use Rattle.std.specs.Global.{Vec}
+use Rattle.isle_model.specs.rules.Program.{Program}
+use Rattle.isle_model.specs.sites.Overlap.{RuleReport}
+use Rattle.isle_model.specs.claims.Layers.{BuildAnswers, CheckAnswers, CheckReports}
+use Rattle.isle_laws_demands.specs.ReportLaws.{RulesHaveTerms}
+use Rattle.isle_base.specs.declared.syntax.Error.{Error}
+use Rattle.isle_base.specs.declared.syntax.Fault.{Fault}
+use Rattle.isle_base.specs.declared.syntax.Fault.TheVariants.{Memory, Errors}
+use Rattle.isle_types.specs.declared.ids.TermId.{TermId}
+use Rattle.isle_terms.specs.TermViews.{term_views}
+use Rattle.isle_rules.specs.declared.term_env.TermEnv.{TermEnv}
+use Rattle.isle_sets.specs.declared.trie_again.RuleSet.{RuleSet}
+use Rattle.isle_sets.specs.Buildings.{term_set_views}
+use Rattle.isle_overlap.specs.ErrorViews.{error_views, report_views}
+
+-- sets and errors that building gave for a program, whose terms are those of an environment
+pub record WereBuilt (env : TermEnv) (p : Program) (sets : List (TermId × RuleSet)) (errors : List Error) (reports : List RuleReport) : Type 0 where
+  pub terms : p.terms ≡ term_views env.terms.items
+  pub known : RulesHaveTerms p
+  pub answers : BuildAnswers p (term_set_views sets) reports
+  pub errors_are : error_views errors ≡ report_views reports
+
+-- these errors are what is to be reported of a program
+pub record ReportsAreErrors (p : Program) (errors : List Error) : Type 0 where
+  pub reports : List RuleReport
+  pub are : error_views errors ≡ report_views reports
+  pub reported : CheckReports p reports
+
+-- an answer of checking: the built sets, or the errors that there are; want of memory says nothing
+abbrev pub IsChecked : Program → Result (Vec (TermId × RuleSet)) Fault → Type 0
+IsChecked p (Ok sets) = CheckAnswers p (term_set_views sets.items)
+IsChecked p (Err (Errors es)) = ReportsAreErrors p es.items
+IsChecked p (Err (Memory e)) = ⊤
