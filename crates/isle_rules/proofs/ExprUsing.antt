@@ -24,7 +24,7 @@ use Rattle.isle_rules.specs.declared.typing.progress.Stop.{Stop}
 use Rattle.isle_rules.specs.Elaborating.{Checks}
 use Rattle.isle_rules.specs.Progress.{newest, Remains, CountsOne, Counts}
 use Rattle.isle_rules.specs.ExprReadings.{made_entry, all_made, expr_reading, args_reading}
-use Rattle.isle_rules.specs.ExprUses.{found_expr_converter, inside_call, allowed, expr_list, Converts, TakesArgs}
+use Rattle.isle_rules.specs.ExprUses.{found_expr_converter, declared_converter, inside_call, allowed, expr_list, Converts, TakesArgs}
 use Rattle.isle_rules.specs.PatternUses.{found_term, found_converter, name_at}
 use Rattle.isle_rules.specs.Translating.{Standing, IsSettingOf, Shows, Wherever, IsTranslated, IsReported, Stops, converter_in, expanding}
 use Rattle.isle_rules.proofs.MadeSettings.{callable_made, term_made, converter_made}
@@ -77,6 +77,14 @@ module _ (env : TermEnv) (old : Standing) (e : Setting) (is : IsSettingOf old.ty
   stays_other (Some want) itself f h ne =
       let k = converter_made e own want None (converter_is want ne ∙ sym h) in
       rw (ne, k) refl
+
+-- where a converter is declared another type is expected
+other_expected : (env : TermEnv) (own : ℕ) (ty : Option ℕ) (by : TermEntry) → Some by ≡ declared_converter env own ty → is_expected ty own ≡ false
+other_expected env own None by h = absurd (none-some by (sym h))
+other_expected env own (Some want) by h = elim (cases_Bool (eqb own want)) [
+  | inl same ↦ absurd (none-some by (sym (rw same refl) ∙ sym h))
+  | inr ne ↦ ne
+]
 
 -- a use that a converter brings to the type that is expected
 module _ (env : TermEnv) (old : Standing) (whole : ExprTree) (at : Position) (flags : Flags) (ty : Option ℕ) (by : TermEntry)
@@ -147,6 +155,12 @@ module _ (env : TermEnv) (old : Standing) (inv : IsInterned old.tyenv) (name : N
     var_converts by k e multi s is sh c =
         law_of e multi s sh c ∙ converts env old e is v.ty ty by (Some (plain (make_var v.ty v.id) s)) (λ b. counted (deeper_expr (all_made e) flags c (wrapped_expr s b at var) ty s)) k
 
+    pub var_unmade : (new : Standing) (by : TermEntry) → None ≡ found_expr_converter env v.ty ty → Some by ≡ declared_converter env v.ty ty → Reports old.work.errors.items new.work.errors.items → IsReported env old new (expr_reading var flags ty)
+    var_unmade new by none k more = record {
+      errors = inr more;
+      noted = λ e multi s is sh. record { reports = more; none = λ c. law_of e multi s sh c ∙ stays_other env old e is v.ty ty _ _ none (other_expected env v.ty ty by k) };
+    }
+
     pub var_made : (new : Standing) → None ≡ found_expr_converter env v.ty ty → names_of new.tyenv ≡ names_of old.tyenv → Remains old.work new.work → Checks old.work.errors.items new.work.errors.items (is_expected ty v.ty ≡ true)
         → (d : ℕ) → IsTranslated env old new d (expr_reading var flags ty) (make_var v.ty v.id) ⊎ IsReported env old new (expr_reading var flags ty)
     var_made new none same r checks =
@@ -189,6 +203,12 @@ module _ (env : TermEnv) (old : Standing) (inv : IsInterned old.tyenv) (name : N
         → Wherever env old (λ e multi s. (c : ℕ) → expr_reading call flags ty e multi c s ≡ counted (deeper_expr (all_made e) flags c (wrapped_expr s (made_entry by) at call) ty s))
     call_converts by k e multi s is sh c =
         law_of_call e multi s is sh c ∙ converts env old e is t.ret_ty ty by (itself e c s) (λ b. counted (deeper_expr (all_made e) flags c (wrapped_expr s b at call) ty s)) k
+
+    pub call_unmade : (new : Standing) (by : TermEntry) → None ≡ found_expr_converter env t.ret_ty ty → Some by ≡ declared_converter env t.ret_ty ty → Reports old.work.errors.items new.work.errors.items → IsReported env old new (expr_reading call flags ty)
+    call_unmade new by none k more = record {
+      errors = inr more;
+      noted = λ e multi s is sh. record { reports = more; none = λ c. law_of_call e multi s is sh c ∙ stays_other env old e is t.ret_ty ty _ _ none (other_expected env t.ret_ty ty by k) };
+    }
 
     abbrev Fits : ℕ → Type 0
     Fits n = ((is_expected ty t.ret_ty ≡ true) × (allowed flags t.kind ≡ true)) × (n ≡ length t.arg_tys)

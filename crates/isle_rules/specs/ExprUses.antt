@@ -24,6 +24,10 @@ use Rattle.isle_rules.specs.Translating.{Standing, Reading, Shows, Wherever, IsT
 abbrev pub found_expr_converter : TermEnv → ℕ → Option ℕ → Option TermEntry
 found_expr_converter env inner outer = then_option outer (found_converter env has_constructor_kind inner)
 
+-- the term that is declared to convert a type into another one that is expected, whether it can make a value or not
+abbrev pub declared_converter : TermEnv → ℕ → Option ℕ → Option TermEntry
+declared_converter env inner outer = then_option outer (found_converter env (λ k. true) inner)
+
 -- an expression inside a use of a term
 abbrev pub inside_call : TypeEnv → TermEntry → Position → ExprTree → ExprTree
 inside_call tyenv t at x = term_expr (name_at tyenv t at) (expr_and x no_expr) at

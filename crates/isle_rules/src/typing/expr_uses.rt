@@ -10,12 +10,12 @@ ghost use Rattle.isle_types.specs.Envs.{symbol_of, IsInterned};
 ghost use Rattle.isle_types.specs.Reading.{Reports};
 ghost use Rattle.isle_rules.specs.Elaborating.{Checks};
 ghost use Rattle.isle_rules.specs.ExprReadings.{expected};
-ghost use Rattle.isle_rules.specs.ExprUses.{found_expr_converter, inside_call, allowed, UsesVar, UsesCall};
+ghost use Rattle.isle_rules.specs.ExprUses.{found_expr_converter, declared_converter, inside_call, allowed, UsesVar, UsesCall};
 ghost use Rattle.isle_rules.specs.Progress.{newest, Remains};
 ghost use Rattle.isle_rules.specs.RuleViews.{var_view};
 ghost use Rattle.isle_rules.specs.Translating.{standing};
 
-use crate::reports::{expected_text, type_text};
+use crate::reports::{expected_text, text_of, type_text};
 use crate::rules::BoundVar;
 use crate::term_env::TermEnv;
 use crate::typing::checks::{check_count, meets_expected};
@@ -62,6 +62,20 @@ impl TermEnv {
         if by.has_constructor() { Some(by) } else { None }
     }
 
+    /// The term that is declared to convert a type into the one that is expected, where that is another one, whether it can
+    /// make a value or not.
+    #[tactic(auto, using(crate::proofs::UsedTerms::entry_at))]
+    fn declared_converter(&self, inner: TypeId, outer: Option<TypeId>) -> Option<&Term>
+        ensures { option_map (λ t. term_view t.now) result ≡ declared_converter self.now inner.0 (expected outer) }
+    {
+        let outer = outer?;
+        if inner == outer {
+            return None;
+        }
+        let id = self.converters.get(&(inner, outer))?;
+        self.terms.get(id.index())
+    }
+
     /// What a use of a variable where a type, or any type, is expected stands for, where so many expansions may nest.
     pub(crate) fn use_var(
         &self,
@@ -85,6 +99,10 @@ impl TermEnv {
             let left = work.expand(nesting)?;
             let inside = convert(tyenv, by, whole, pos)?;
             return Ok(VarUse::Conversion(inside, left));
+        }
+        if let Some(by) = self.declared_converter(bound.ty, expected_ty) {
+            report_unmade(tyenv, &mut work.errors, pos, by)?;
+            return Ok(VarUse::Wrong);
         }
         check_variable(tyenv, &mut work.errors, pos, name, bound.ty, expected_ty)?;
         Ok(VarUse::Var(bound))
@@ -116,6 +134,10 @@ impl TermEnv {
             let left = work.expand(nesting)?;
             let inside = convert(tyenv, by, whole, pos)?;
             return Ok(CallUse::Conversion(inside, left));
+        }
+        if let Some(by) = self.declared_converter(term.ret_ty, expected_ty) {
+            report_unmade(tyenv, &mut work.errors, pos, by)?;
+            return Ok(CallUse::Wrong);
         }
         check_call(tyenv, work, term, sym, args.len(), pos, expected_ty, flags)?;
         Ok(CallUse::Parts(term))
@@ -296,6 +318,23 @@ fn check_partial(
     let msg = format!(in alloc;
         "Rule can't use partial constructor '{}' on RHS; try moving it to if-let{more}",
         sym.0
+    )?;
+    report(errors, pos, msg.as_str())
+}
+
+// Notes that a converter has no constructor.
+fn report_unmade(
+    tyenv: &TypeEnv,
+    errors: &mut Vec<Error>,
+    pos: Pos,
+    by: &Term,
+) -> Result<(), AllocError>
+    ensures { OnOk result (Reports errors.old.items errors.new.items) }
+{
+    let alloc = *errors.allocator();
+    let name = text_of(tyenv, by.name);
+    let msg = format!(in alloc;
+        "term `{name}` cannot be used in an expression because it does not have a constructor"
     )?;
     report(errors, pos, msg.as_str())
 }

@@ -5,7 +5,7 @@ use Rattle.isle_terms.specs.TermViews.{flags_view, term_view}
 use Rattle.isle_rules.specs.ExprReadings.{expected}
 use Rattle.isle_rules.specs.Translating.{standing}
 use Rattle.isle_rules.proofs.Readings.{stop_is}
-use Rattle.isle_rules.proofs.ExprUsing.{list_length, call_unknown, call_converts, converted, conversion_stops, args_used}
+use Rattle.isle_rules.proofs.ExprUsing.{list_length, call_unknown, call_converts, converted, conversion_stops, args_used, call_unmade}
 use Rattle.isle_rules.proofs.term_env.TermEnv.use_in_expr.Goals as goal
 
 pub returns-in_default : goal.returns-in_default
@@ -36,3 +36,9 @@ returns c =
     (args_used c.args.self.now (standing c.args.tyenv.now c.args.work.now) c.requires.inverse (name_view c.args.sym.now) (expr_views c.args.args.now) (position c.args.pos) (flags_view c.args.flags) (expected c.args.expected_ty)
     (term_view c.in-Some.term.now) c.in-Some.ensures c.in_default-expr_converter.ensures _ (sym (list_length c.args.args.now))
     _ refl (record { vars = c.check_call.ensures.remains.vars; names = c.check_call.ensures.remains.names; expansions = c.check_call.ensures.remains.expansions }) c.in_ok-check_call.ensures.checks)
+
+pub returns-in-Some-declared_converter : goal.returns-in-Some-declared_converter
+returns-in-Some-declared_converter c =
+    rw c.requires.whole
+    (call_unmade c.args.self.now (standing c.args.tyenv.now c.args.work.now) c.requires.inverse (name_view c.args.sym.now) (expr_views c.args.args.now) (position c.args.pos) (flags_view c.args.flags) (expected c.args.expected_ty)
+    (term_view c.in-Some.term.now) c.in-Some.ensures _ (term_view c.in-Some-declared_converter.by.now) c.in_default-expr_converter.ensures c.in-Some-declared_converter.ensures c.in_ok-report_unmade.ensures)

@@ -6,7 +6,7 @@ use Rattle.isle_rules.specs.ExprReadings.{expected}
 use Rattle.isle_rules.specs.RuleViews.{var_view}
 use Rattle.isle_rules.specs.Translating.{standing}
 use Rattle.isle_rules.proofs.Readings.{stop_is}
-use Rattle.isle_rules.proofs.ExprUsing.{var_unknown, var_converts, converted, conversion_stops, var_made}
+use Rattle.isle_rules.proofs.ExprUsing.{var_unknown, var_converts, converted, conversion_stops, var_made, var_unmade}
 use Rattle.isle_rules.proofs.term_env.TermEnv.use_var.Goals as goal
 
 pub returns-in_default : goal.returns-in_default
@@ -36,3 +36,9 @@ returns c flags =
     rw c.requires.whole
     (var_made c.args.self.now (standing c.args.tyenv.now c.args.work.now) c.requires.inverse (name_view c.args.name.now) (position c.args.pos) flags (expected c.args.expected_ty)
     (var_view c.in-Some.bound) c.in-Some.ensures _ c.in_default-expr_converter.ensures refl (record { vars = refl; names = λ k. refl; expansions = refl }) c.in_ok-check_variable.ensures c.args.nesting)
+
+pub returns-in-Some-declared_converter : goal.returns-in-Some-declared_converter
+returns-in-Some-declared_converter c flags =
+    rw c.requires.whole
+    (var_unmade c.args.self.now (standing c.args.tyenv.now c.args.work.now) c.requires.inverse (name_view c.args.name.now) (position c.args.pos) flags (expected c.args.expected_ty)
+    (var_view c.in-Some.bound) c.in-Some.ensures _ (term_view c.in-Some-declared_converter.by.now) c.in_default-expr_converter.ensures c.in-Some-declared_converter.ensures c.in_ok-report_unmade.ensures)
