@@ -11,12 +11,9 @@ use Rattle.std.specs.List.Sorted.{ties, IsSortedBy, IsSorted, IsStrictlySortedBy
 use Rattle.std.proofs.lemmas.List.Sorted.{ranks_by, Contains-permutation, IsPermutation-sym}
 use Rattle.std.proofs.lemmas.List.Kept.{IsStrictlySortedBy-dedup, Contains-dedup, Contains-from_dedup}
 use Rattle.isle_model.specs.lists.Syntax.{Position}
-use Rattle.isle_model.specs.first.Order.{placed, ordered_by}
 use Rattle.isle_model.specs.sites.Overlap.{RuleReport, limit_passed, not_reached, rules_overlap, rule_shadows, report_position, position_lt, with_report, by_position, ascending_positions}
 use Rattle.isle_model.specs.claims.Refusals.{Refusal, ill_typed, unreachable, overlapping, shadowing, past_limit, refusal_of}
 use Rattle.isle_model.proofs.Elements.{In, in_map, map_in, in_from_contains, contains_from_in}
-use Rattle.isle_first.proofs.alone.Orders.{sorted_is}
-use Rattle.isle_first.proofs.alone.InOrder.{map_in_order}
 use Rattle.isle_base.specs.SyntaxViews.{position}
 use Rattle.isle_base.specs.declared.syntax.Error.{Error}
 use Rattle.isle_base.specs.declared.syntax.Error.TheVariants.{TypeError, UnreachableError, OverlapError, ShadowedError, LimitError}
@@ -29,6 +26,7 @@ use Rattle.isle_base.specs.contracts.syntax.PosPartialEq.TheImpl as E
 use Rattle.isle_overlap.specs.Comparisons.{positions}
 use Rattle.isle_overlap.specs.ErrorViews.{span_starts, error_view, error_views, report_views, first_start, error_pos}
 use Rattle.isle_overlap.proofs.Ascents.{Ascend, AreAbove, ascending_is}
+use Rattle.isle_overlap.proofs.Orders.{placed, ordered_by, map_in_order, sorted_is}
 
 -- 1. the order of places
 by_parts : (x y z w : Bool) → is_lt (ordering_then (cond x Less (cond y Equal Greater)) (cond z Less (cond w Equal Greater))) ≡ (x || (y && z))

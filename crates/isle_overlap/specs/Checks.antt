@@ -12,7 +12,7 @@ use Rattle.isle_types.specs.declared.ids.TermId.{TermId}
 use Rattle.isle_terms.specs.TermViews.{term_views}
 use Rattle.isle_rules.specs.declared.term_env.TermEnv.{TermEnv}
 use Rattle.isle_sets.specs.declared.trie_again.RuleSet.{RuleSet}
-use Rattle.isle_sets.specs.Buildings.{term_set_views}
+use Rattle.isle_building.specs.Buildings.{term_set_views}
 use Rattle.isle_overlap.specs.ErrorViews.{error_views, report_views}
 
 -- sets and errors that building gave for a program, whose terms are those of an environment

@@ -3,7 +3,7 @@ use Rattle.std.proofs.lemmas.Bool.{false≢true}
 use Rattle.std.proofs.lemmas.List.{nil_from_length}
 use Rattle.isle_model.specs.rules.Program.{is_multi}
 use Rattle.isle_model.specs.sites.SetRules.{reports_of_sets}
-use Rattle.isle_sets.specs.Buildings.{env_program, term_set_views}
+use Rattle.isle_building.specs.Buildings.{env_program, term_set_views}
 use Rattle.isle_overlap.specs.ErrorViews.{report_views}
 use Rattle.isle_overlap.proofs.Checked.{nothing_found, something_found}
 use Rattle.isle_overlap.proofs.overlap.check_built.Goals as goal

@@ -1,0 +1,194 @@
+-- A stable sort gives one list: elements in order of a test, those that tie as they stood.
+use Rattle.std.proofs.Common.{◌≡◌, ℕ, suc, ◌+◌, ◌<◌, Bool, true, false, not, ◌&&◌, cond, List, [], ◌∷◌, length, map, get_or, refl, sym, ap, ◌∙◌, subst, inl, inr, arith}
+use Rattle.std.proofs.lemmas.Bool.{cases_Bool, both_ways, cond-true, cond-false, and_from, and_parts}
+use Rattle.std.proofs.lemmas.List.Sorted.{sorted_far}
+use Rattle.std.specs.List.{filter}
+use Rattle.std.specs.List.Sorted.{ties, IsSortedBy}
+use Rattle.std.specs.Cmp.{IsStrictWeakOrder}
+
+abbrev pub placed : {X : Type 0} → (X → X → Bool) → X → List X → List X
+placed lt x [] = x ∷ []
+placed lt x (y ∷ ys) = if lt y x then y ∷ placed lt x ys else x ∷ (y ∷ ys)
+
+abbrev pub ordered_by : {X : Type 0} → (X → X → Bool) → List X → List X
+ordered_by lt [] = []
+ordered_by lt (x ∷ xs) = placed lt x (ordered_by lt xs)
+
+map_cond : {X Y : Type 0} (f : X → Y) (b : Bool) (xs ys : List X) → map f (cond b xs ys) ≡ cond b (map f xs) (map f ys)
+map_cond f true xs ys = refl
+map_cond f false xs ys = refl
+
+map_placed : {X Y : Type 0} (f : X → Y) (lt : Y → Y → Bool) (x : X) (ys : List X) → map f (placed (λ a b. lt (f a) (f b)) x ys) ≡ placed lt (f x) (map f ys)
+map_placed f lt x [] = refl
+map_placed f lt x (y ∷ ys) =
+    map_cond f (lt (f y) (f x)) (y ∷ placed (λ a b. lt (f a) (f b)) x ys) (x ∷ (y ∷ ys))
+    ∙ ap (λ l. cond (lt (f y) (f x)) (f y ∷ l) (f x ∷ (f y ∷ map f ys))) (map_placed f lt x ys)
+
+-- an order by a part, seen by that part
+pub map_in_order : {X Y : Type 0} (f : X → Y) (lt : Y → Y → Bool) (xs : List X) → map f (ordered_by (λ a b. lt (f a) (f b)) xs) ≡ ordered_by lt (map f xs)
+map_in_order f lt [] = refl
+map_in_order f lt (x ∷ xs) =
+    map_placed f lt x (ordered_by (λ a b. lt (f a) (f b)) xs) ∙ ap (placed lt (f x)) (map_in_order f lt xs)
+
+-- no element is below x; each element is not above those after it
+abbrev pub NoneBelow : {X : Type 0} → (X → X → Bool) → X → List X → Type 0
+NoneBelow lt x [] = Unit {0}
+NoneBelow lt x (y ∷ ys) = (lt y x ≡ false) × NoneBelow lt x ys
+
+abbrev pub Rising : {X : Type 0} → (X → X → Bool) → List X → Type 0
+Rising lt [] = Unit {0}
+Rising lt (x ∷ xs) = NoneBelow lt x xs × Rising lt xs
+
+nil_cons : {X : Type 0} (x : X) (l : List X) → [] ≡ x ∷ l → ⊥
+nil_cons x l h = cc
+
+head_is : {X : Type 0} (x y : X) (l m : List X) → x ∷ l ≡ y ∷ m → x ≡ y
+head_is x y l m h = cc
+
+tail_is : {X : Type 0} (x y : X) (l m : List X) → x ∷ l ≡ y ∷ m → l ≡ m
+tail_is x y l m h = cc
+
+module _ {X : Type 0} (lt : X → X → Bool) (o : IsStrictWeakOrder lt) where
+  pub irreflexive : (x : X) → lt x x ≡ false
+  irreflexive x = elim (cases_Bool (lt x x)) [ inl h ↦ o.one_way x x h | inr h ↦ h ]
+
+  ties_self : (x : X) → ties lt x x ≡ true
+  ties_self x = and_from (not (lt x x)) (not (lt x x)) (ap not (irreflexive x)) (ap not (irreflexive x))
+
+  ties_from : (x y : X) → lt x y ≡ false → lt y x ≡ false → ties lt x y ≡ true
+  ties_from x y h k = and_from (not (lt x y)) (not (lt y x)) (ap not h) (ap not k)
+
+  turned : (a b : Bool) → (not a && not b) ≡ (not b && not a)
+  turned true true = refl
+  turned true false = refl
+  turned false true = refl
+  turned false false = refl
+
+  filter_yes : (p : X → Bool) (x : X) (xs : List X) → p x ≡ true → filter p (x ∷ xs) ≡ x ∷ filter p xs
+  filter_yes p x xs h = cond-true (p x) (x ∷ filter p xs) (filter p xs) h
+
+  filter_no : (p : X → Bool) (x : X) (xs : List X) → p x ≡ false → filter p (x ∷ xs) ≡ filter p xs
+  filter_no p x xs h = cond-false (p x) (x ∷ filter p xs) (filter p xs) h
+
+  -- what a filter keeps was there
+  kept_not_below : (p : X → Bool) (b x : X) (ys l : List X) → filter p ys ≡ x ∷ l → NoneBelow lt b ys → lt x b ≡ false
+  kept_not_below p b x [] l e h = absurd (nil_cons x l e)
+  kept_not_below p b x (y ∷ ys) l e h =
+      elim (cases_Bool (p y)) [
+        | inl t ↦ subst (λ z. lt z b ≡ false) (head_is y x (filter p ys) l (sym (filter_yes p y ys t) ∙ e)) h.0
+        | inr f ↦ kept_not_below p b x ys l (sym (filter_no p y ys f) ∙ e) h.1
+      ]
+
+  Alike : List X → List X → Type 0
+  Alike xs ys = (z : X) → filter (ties lt z) xs ≡ filter (ties lt z) ys
+
+  heads_tie : (x y : X) (xs ys : List X) → NoneBelow lt x xs → NoneBelow lt y ys → ((z : X) → filter (ties lt z) (x ∷ xs) ≡ filter (ties lt z) (y ∷ ys)) → ties lt x y ≡ true
+  heads_tie x y xs ys hx hy f =
+      elim (cases_Bool (ties lt x y)) [
+        | inl t ↦ t
+        | inr n ↦
+            let at_x = sym (filter_no (ties lt x) y ys n) ∙ sym (f x) ∙ filter_yes (ties lt x) x xs (ties_self x) in
+            let back = turned (lt y x) (lt x y) ∙ n in
+            let at_y = sym (filter_no (ties lt y) x xs back) ∙ f y ∙ filter_yes (ties lt y) y ys (ties_self y) in
+            ties_from x y (kept_not_below (ties lt x) y x ys (filter (ties lt x) xs) at_x hy) (kept_not_below (ties lt y) x y xs (filter (ties lt y) ys) at_y hx)
+      ]
+
+  heads_same : (x y : X) (xs ys : List X) → ties lt x y ≡ true → filter (ties lt x) (x ∷ xs) ≡ filter (ties lt x) (y ∷ ys) → x ≡ y
+  heads_same x y xs ys t e =
+      head_is x y (filter (ties lt x) xs) (filter (ties lt x) ys) (sym (filter_yes (ties lt x) x xs (ties_self x)) ∙ e ∙ filter_yes (ties lt x) y ys t)
+
+  tails_alike : (p : X → Bool) (x : X) (xs ys : List X) → filter p (x ∷ xs) ≡ filter p (x ∷ ys) → filter p xs ≡ filter p ys
+  tails_alike p x xs ys e =
+      elim (cases_Bool (p x)) [
+        | inl t ↦ tail_is x x (filter p xs) (filter p ys) (sym (filter_yes p x xs t) ∙ e ∙ filter_yes p x ys t)
+        | inr n ↦ sym (filter_no p x xs n) ∙ e ∙ filter_no p x ys n
+      ]
+
+  pub one_order : (xs ys : List X) → Rising lt xs → Rising lt ys → ((z : X) → filter (ties lt z) xs ≡ filter (ties lt z) ys) → xs ≡ ys
+  one_order [] [] r s f = refl
+  one_order [] (y ∷ ys) r s f = absurd (nil_cons y (filter (ties lt y) ys) (f y ∙ filter_yes (ties lt y) y ys (ties_self y)))
+  one_order (x ∷ xs) [] r s f = absurd (nil_cons x (filter (ties lt x) xs) (sym (f x) ∙ filter_yes (ties lt x) x xs (ties_self x)))
+  one_order (x ∷ xs) (y ∷ ys) r s f =
+      let t = heads_tie x y xs ys r.0 s.0 f in
+      let e : x ≡ y = heads_same x y xs ys t (f x) in
+      let f' : (z : X) → filter (ties lt z) (x ∷ xs) ≡ filter (ties lt z) (x ∷ ys) = λ z. f z ∙ ap (λ w. filter (ties lt z) (w ∷ ys)) (sym e) in
+      let tails : xs ≡ ys = one_order xs ys r.1 s.1 (λ z. tails_alike (ties lt z) x xs ys (f' z)) in
+      cc
+
+  -- an insert keeps the order, and keeps what ties in order
+  below_kept : (b x : X) (ys : List X) → lt x b ≡ false → NoneBelow lt b ys → NoneBelow lt b (placed lt x ys)
+  below_kept b x [] h k = (h, tt)
+  below_kept b x (y ∷ ys) h k =
+      elim (cases_Bool (lt y x)) [
+        | inl t ↦ subst (NoneBelow lt b) (sym (cond-true (lt y x) (y ∷ placed lt x ys) (x ∷ (y ∷ ys)) t)) (k.0, below_kept b x ys h k.1)
+        | inr n ↦ subst (NoneBelow lt b) (sym (cond-false (lt y x) (y ∷ placed lt x ys) (x ∷ (y ∷ ys)) n)) (h, k)
+      ]
+
+  pub all_above : (x y : X) (ys : List X) → lt y x ≡ false → NoneBelow lt y ys → NoneBelow lt x ys
+  all_above x y [] h k = tt
+  all_above x y (z ∷ zs) h k = (o.chain z y x k.0 h, all_above x y zs h k.1)
+
+  placed_rising : (x : X) (ys : List X) → Rising lt ys → Rising lt (placed lt x ys)
+  placed_rising x [] r = (tt, tt)
+  placed_rising x (y ∷ ys) r =
+      elim (cases_Bool (lt y x)) [
+        | inl t ↦ subst (Rising lt) (sym (cond-true (lt y x) (y ∷ placed lt x ys) (x ∷ (y ∷ ys)) t)) (below_kept y x ys (o.one_way y x t) r.0, placed_rising x ys r.1)
+        | inr n ↦ subst (Rising lt) (sym (cond-false (lt y x) (y ∷ placed lt x ys) (x ∷ (y ∷ ys)) n)) ((n, all_above x y ys n r.0), r)
+      ]
+
+  pub in_order_rising : (xs : List X) → Rising lt (ordered_by lt xs)
+  in_order_rising [] = tt
+  in_order_rising (x ∷ xs) = placed_rising x (ordered_by lt xs) (in_order_rising xs)
+
+  -- x does not tie with what is above something that it ties with
+  not_both : (z x y : X) → lt y x ≡ true → ties lt z x ≡ true → ties lt z y ≡ false
+  not_both z x y h t =
+      elim (cases_Bool (ties lt z y)) [
+        | inl u ↦
+            let zy = and_parts (not (lt z y)) (not (lt y z)) u in
+            let zx = and_parts (not (lt z x)) (not (lt x z)) t in
+            absurd (both_ways (lt y x) (o.chain y z x (plain (lt y z) zy.1) (plain (lt z x) zx.0)) h)
+        | inr n ↦ n
+      ]
+    where
+      plain : (b : Bool) → not b ≡ true → b ≡ false
+      plain true e = sym e
+      plain false e = refl
+
+  placed_alike : (z x : X) (ys : List X) → filter (ties lt z) (placed lt x ys) ≡ filter (ties lt z) (x ∷ ys)
+  placed_alike z x [] = refl
+  placed_alike z x (y ∷ ys) =
+      let p = ties lt z in
+      let ih = placed_alike z x ys in
+      elim (cases_Bool (lt y x)) [
+        | inr n ↦ ap (filter p) (cond-false (lt y x) (y ∷ placed lt x ys) (x ∷ (y ∷ ys)) n)
+        | inl t ↦
+            ap (filter p) (cond-true (lt y x) (y ∷ placed lt x ys) (x ∷ (y ∷ ys)) t)
+            ∙ elim (cases_Bool (p x)) [
+              | inl u ↦
+                  let ny = not_both z x y t u in
+                  filter_no p y (placed lt x ys) ny ∙ ih ∙ filter_yes p x ys u ∙ sym (filter_yes p x (y ∷ ys) u ∙ ap (λ l. x ∷ l) (filter_no p y ys ny))
+              | inr v ↦
+                  ap (λ l. cond (p y) (y ∷ l) l) (ih ∙ filter_no p x ys v) ∙ sym (filter_no p x (y ∷ ys) v)
+            ]
+      ]
+
+  pub in_order_alike : (z : X) (xs : List X) → filter (ties lt z) (ordered_by lt xs) ≡ filter (ties lt z) xs
+  in_order_alike z [] = refl
+  in_order_alike z (x ∷ xs) = placed_alike z x (ordered_by lt xs) ∙ ap (λ l. cond (ties lt z x) (x ∷ l) l) (in_order_alike z xs)
+
+  -- what a sort ensures
+  none_below_from : (b : X) (xs : List X) → ((k : ℕ) (d : X) → k < length xs → lt (get_or xs k d) b ≡ false) → NoneBelow lt b xs
+  none_below_from b [] h = tt
+  none_below_from b (x ∷ xs) h =
+      (h 0 x (omega arith), none_below_from b xs (λ k d l. h (suc k) d (omega arith)))
+
+  pub rising_from : (xs : List X) → IsSortedBy lt xs → Rising lt xs
+  rising_from [] s = tt
+  rising_from (x ∷ xs) s =
+      (none_below_from x xs (λ k d l. sorted_far lt o (x ∷ xs) s 0 (suc k) d (omega arith) (omega arith)), rising_from xs (λ k d l m. let e : suc k + 1 ≡ suc (k + 1) = omega arith in subst (λ j. lt (get_or (x ∷ xs) j d) (get_or (x ∷ xs) (suc k) d) ≡ false) e (s (suc k) d (omega arith) (omega arith))))
+
+  -- a list that a stable sort made is the list in order
+  pub sorted_is : (xs ys : List X) → IsSortedBy lt ys → ((z : X) → filter (ties lt z) ys ≡ filter (ties lt z) xs) → ys ≡ ordered_by lt xs
+  sorted_is xs ys s f =
+      one_order ys (ordered_by lt xs) (rising_from ys s) (in_order_rising xs) (λ z. f z ∙ sym (in_order_alike z xs))
