@@ -1,9 +1,8 @@
 //! The check of overlaps: rules of one priority that may both match, and rules that others mask.
-ghost use Rattle.std.specs.Prelude.{◌^◌, ◌*◌, List, false, if◌then◌else◌, slice_index_or, ◌≡◌, ◌++◌, ◌∷◌, [], ◌+◌, ◌-◌, ◌<◌, ◌≤◌, ℕ, All, IfOk, OnOk, drop, length, map, nat_lt, vec_len, slice_get, Some};
-ghost use Rattle.std.specs.List.{filter};
+ghost use Rattle.std.specs.Prelude.{◌^◌, List, false, if◌then◌else◌, slice_index_or, ◌≡◌, ◌++◌, ◌∷◌, [], ◌+◌, ◌-◌, ◌<◌, ℕ, All, IfOk, OnOk, drop, length, map, vec_len};
 ghost use Rattle.isle_model.specs.rules.Program.{Program, is_multi};
-ghost use Rattle.isle_model.specs.claims.Refusals.{overlapping, refusal_of};
-ghost use Rattle.isle_model.specs.sites.Overlap.{RuleReport, ascending_positions, by_position, degree, has_end, other_end, overlap_reports, position_lt, rule_shadows, rules_overlap};
+ghost use Rattle.isle_model.specs.claims.Refusals.{overlapping};
+ghost use Rattle.isle_model.specs.sites.Overlap.{RuleReport, ascending_positions, by_position, degree, has_end, other_end, overlap_reports, rule_shadows, rules_overlap};
 ghost use Rattle.isle_model.specs.sites.SetRules.{compared_in, is_mask_of, overlap_wrongly, reports_of_sets, shadows_among, shadows_in_sets, wrong_among, wrong_in_sets};
 ghost use Rattle.isle_base.specs.SyntaxViews.{position};
 ghost use Rattle.isle_sets.specs.Buildings.{env_program, term_set_views};
@@ -32,7 +31,8 @@ fn overlap_wrongly(left: &Rule, right: &Rule) -> bool
         }
 }
 
-// Whether a rule of greater priority matches wherever another one does: all that it asks is asked there too.
+// Whether a rule of greater priority matches wherever another one does: all that it asks is asked there too. The
+// priorities come first, so of two rules only one is compared with the other.
 fn masks(mask: &Rule, rule: &Rule) -> bool
     ensures { result ≡ is_mask_of (set_rule_view mask.now) (set_rule_view rule.now) }
 {
@@ -511,7 +511,8 @@ fn by_place(mut errors: Vec<Error>) -> Result<Vec<Error>, AllocError>
 /// The errors stand by the place of their first rule or mask, overlaps before shadows at one place. Of the overlaps, the
 /// rule with the most is reported first, of several the latest, with the others of these overlaps by place; then the same
 /// of the overlaps that are left. A shadow lists the rules that its mask masks, in rule order. The rules of multi terms
-/// are not compared: all that match are taken.
+/// are not compared: all that match are taken. Upstream's `check_overlaps` with `Errors::report`, whose further rules come
+/// in the order of a hash set.
 ///
 /// # Errors
 ///

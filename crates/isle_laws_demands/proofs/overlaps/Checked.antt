@@ -31,7 +31,7 @@ no_parts (x ∷ xs) ys e = absurd (cons_empty x (xs ++ ys) e)
 both_empty : {X : Type 0} (xs ys : List X) → xs ≡ [] → ys ≡ [] → (xs ++ ys) ≡ []
 both_empty xs ys e f = ap (λ l. l ++ ys) e ∙ f
 
-map_empty : {X Y : Type 0} (f : X → Y) (xs : List X) → map f xs ≡ [] → xs ≡ []
+pub map_empty : {X Y : Type 0} (f : X → Y) (xs : List X) → map f xs ≡ [] → xs ≡ []
 map_empty f [] e = refl
 map_empty f (x ∷ xs) e = absurd (cons_empty (f x) (map f xs) e)
 
