@@ -8,6 +8,7 @@ use Rattle.isle_model.specs.sites.SetRules.{reports_of_sets}
 use Rattle.isle_model.specs.claims.Layers.{CheckAnswers}
 use Rattle.isle_model.specs.claims.Refusals.{refusal_of}
 use Rattle.isle_laws_demands.specs.SetReportLaws.{all_reports}
+use Rattle.isle_laws_demands.proofs.overlaps.Checked.{map_empty}
 use Rattle.isle_laws_demands.proofs.overlaps.SetChecks.{built_sets_are_checked_lem}
 use Rattle.isle_base.specs.declared.syntax.Error.{Error}
 use Rattle.isle_types.specs.declared.ids.TermId.{TermId}
@@ -19,10 +20,6 @@ use Rattle.isle_overlap.specs.Checks.{WereBuilt, ReportsAreErrors}
 
 abbrev multi_among : List TermEntry → ℕ → Bool
 multi_among terms t = (flags_of (elim (slice_get terms t) [ None ↦ unknown | Some e ↦ kind_of e ])).multi
-
-map_empty : {X Y : Type 0} (f : X → Y) (xs : List X) → map f xs ≡ [] → xs ≡ []
-map_empty f [] e = refl
-map_empty f (x ∷ xs) e = absurd cc
 
 module _ (env : TermEnv) (p : Program) (sets : List (TermId × RuleSet)) (errors found all : List Error) (reports : List RuleReport) (built : WereBuilt env p sets errors reports)
     (is : error_views found ≡ report_views (reports_of_sets (is_multi (env_program env)) (term_set_views sets))) (joined : all ≡ errors ++ found) where

@@ -1,9 +1,8 @@
 //! The check of overlaps: rules of one priority that may both match, and rules that others mask.
-ghost use Rattle.std.specs.Prelude.{◌^◌, ◌*◌, List, false, if◌then◌else◌, slice_index_or, ◌≡◌, ◌++◌, ◌∷◌, [], ◌+◌, ◌-◌, ◌<◌, ◌≤◌, ℕ, All, IfOk, OnOk, drop, length, map, nat_lt, vec_len, slice_get, Some};
-ghost use Rattle.std.specs.List.{filter};
+ghost use Rattle.std.specs.Prelude.{◌^◌, List, false, if◌then◌else◌, slice_index_or, ◌≡◌, ◌++◌, ◌∷◌, [], ◌+◌, ◌-◌, ◌<◌, ℕ, All, IfOk, OnOk, drop, length, map, vec_len};
 ghost use Rattle.isle_model.specs.rules.Program.{Program, is_multi};
-ghost use Rattle.isle_model.specs.claims.Refusals.{overlapping, refusal_of};
-ghost use Rattle.isle_model.specs.sites.Overlap.{RuleReport, ascending_positions, by_position, degree, has_end, other_end, overlap_reports, position_lt, rule_shadows, rules_overlap};
+ghost use Rattle.isle_model.specs.claims.Refusals.{overlapping};
+ghost use Rattle.isle_model.specs.sites.Overlap.{RuleReport, ascending_positions, by_position, degree, has_end, other_end, overlap_reports, rule_shadows, rules_overlap};
 ghost use Rattle.isle_model.specs.sites.SetRules.{compared_in, is_mask_of, overlap_wrongly, reports_of_sets, shadows_among, shadows_in_sets, wrong_among, wrong_in_sets};
 ghost use Rattle.isle_base.specs.SyntaxViews.{position};
 ghost use Rattle.isle_building.specs.Buildings.{env_program, term_set_views};
@@ -32,7 +31,8 @@ fn overlap_wrongly(left: &Rule, right: &Rule) -> bool
         }
 }
 
-// Whether a rule of greater priority matches wherever another one does: all that it asks is asked there too.
+// Whether a rule of greater priority matches wherever another one does: all that it asks is asked there too. The
+// priorities come first, so of two rules only one is compared with the other.
 fn masks(mask: &Rule, rule: &Rule) -> bool
     ensures { result ≡ is_mask_of (set_rule_view mask.now) (set_rule_view rule.now) }
 {
@@ -62,7 +62,8 @@ fn add_masked(
     right: &Rule,
     masked: &mut Vec<(usize, Pos)>,
 ) -> Result<(), AllocError>
-    ensures { OnOk result (masked_views masked.new.items ≡ masked_views masked.old.items ++ masked_pair i (set_rule_view left.now) j (set_rule_view right.now)) }
+    ensures { OnOk result (masked_views masked.new.items
+        ≡ masked_views masked.old.items ++ masked_pair i (set_rule_view left.now) j (set_rule_view right.now)) }
 {
     if masks(left, right) {
         masked.push((i, right.pos))?;
@@ -227,7 +228,8 @@ fn check_set(
     ensures wrong { OnOk result (pair_views wrong.new.items
         ≡ pair_views wrong.old.items ++ wrong_among (compared_in (is_multi (env_program termenv.now)) (term.0, set_view set.now))) }
     ensures shadows { OnOk result (error_views errors.new.items
-        ≡ error_views errors.old.items ++ report_views (map rule_shadows (shadows_among (compared_in (is_multi (env_program termenv.now)) (term.0, set_view set.now))))) }
+        ≡ error_views errors.old.items
+        ++ report_views (map rule_shadows (shadows_among (compared_in (is_multi (env_program termenv.now)) (term.0, set_view set.now))))) }
 {
     if is_multi(termenv, term) {
         return Ok(());
@@ -299,7 +301,8 @@ fn add_one(counts: &mut BTreeMap<Pos, usize>, place: Pos) -> Result<(), AllocErr
 // Adds an overlap to those of both its rules.
 fn add_to_both(counts: &mut BTreeMap<Pos, usize>, first: Pos, second: Pos) -> Result<(), AllocError>
     requires { (q : Pos) → count_at counts.old q < 2 ^ 64 - 1 }
-    ensures { OnOk result ((q : Pos) → count_at counts.new q ≡ count_at counts.old q + (if has_end (position q) (position first, position second) then 1 else 0)) }
+    ensures { OnOk result ((q : Pos) → count_at counts.new q
+        ≡ count_at counts.old q + (if has_end (position q) (position first, position second) then 1 else 0)) }
 {
     add_one(counts, first)?;
     if first != second {
@@ -331,7 +334,8 @@ fn add_other(others: &mut BTreeMap<Pos, Vec<Pos>>, place: Pos, other: Pos) -> Re
 // Adds each of two rules to those that the other one overlaps.
 fn add_both(others: &mut BTreeMap<Pos, Vec<Pos>>, first: Pos, second: Pos) -> Result<(), AllocError>
     ensures { OnOk result ((q : Pos) → positions (listed_at others.new q)
-        ≡ positions (listed_at others.old q) ++ (if has_end (position q) (position first, position second) then other_end (position q) (position first, position second) ∷ [] else [])) }
+        ≡ positions (listed_at others.old q)
+        ++ (if has_end (position q) (position first, position second) then other_end (position q) (position first, position second) ∷ [] else [])) }
 {
     add_other(others, first, second)?;
     if first != second {
@@ -499,7 +503,8 @@ fn place_of(error: &Error) -> Pos
 
 // Errors by place, those of one place as they stood.
 fn by_place(mut errors: Vec<Error>) -> Result<Vec<Error>, AllocError>
-    ensures { IfOk result (λ v. (reports : List RuleReport) → error_views errors.items ≡ report_views reports → error_views v.items ≡ report_views (by_position reports)) }
+    ensures { IfOk result (λ v. (reports : List RuleReport) → error_views errors.items ≡ report_views reports
+        → error_views v.items ≡ report_views (by_position reports)) }
 {
     errors.sort_by_key(place_of)?;
     Ok(errors)
@@ -511,7 +516,8 @@ fn by_place(mut errors: Vec<Error>) -> Result<Vec<Error>, AllocError>
 /// The errors stand by the place of their first rule or mask, overlaps before shadows at one place. Of the overlaps, the
 /// rule with the most is reported first, of several the latest, with the others of these overlaps by place; then the same
 /// of the overlaps that are left. A shadow lists the rules that its mask masks, in rule order. The rules of multi terms
-/// are not compared: all that match are taken.
+/// are not compared: all that match are taken. Upstream's `check_overlaps` with `Errors::report`, whose further rules come
+/// in the order of a hash set.
 ///
 /// # Errors
 ///

@@ -64,11 +64,11 @@ ascending_in [] x i = absurd i
 ascending_in (y ∷ ys) x i = elim (with_in y (ascending_positions ys) x i) [ inl e ↦ inl e | inr j ↦ inr (ascending_in ys x j) ]
 
 -- two rules, in either order
-abbrev pub AreEnds : Position × Position → Position → Position → Type 0
+abbrev AreEnds : Position × Position → Position → Position → Type 0
 AreEnds e a b = ((e.0 ≡ a) × (e.1 ≡ b)) ⊎ ((e.0 ≡ b) × (e.1 ≡ a))
 
 -- an overlap that has a rule is of that rule and the other one
-pub ends_of : (at : Position) (e : Position × Position) → has_end at e ≡ true → AreEnds e at (other_end at e)
+ends_of : (at : Position) (e : Position × Position) → has_end at e ≡ true → AreEnds e at (other_end at e)
 ends_of at e h =
     elim (cases_Bool (position_eq e.0 at)) [
       | inl t ↦ inl (position_means e.0 at t, sym (cond-true (position_eq e.0 at) e.1 e.0 t))
@@ -105,7 +105,7 @@ abbrev pub left_over : Position → List (Position × Position) → List (Positi
 left_over at pairs = filter (λ x. not (has_end at x)) pairs
 
 -- the rule that is reported first
-abbrev pub rule_first : Position × Position → List (Position × Position) → Position
+abbrev rule_first : Position × Position → List (Position × Position) → Position
 rule_first e es = foremost (e ∷ es) e.0 (flat_map (λ x. x.0 ∷ (x.1 ∷ [])) (e ∷ es))
 
 -- what reports list are overlaps
@@ -121,7 +121,7 @@ reports_mean (suc n) (e ∷ es) r b (inr i) j =
     (x.0, in_filter (λ y. not (has_end (rule_first e es) y)) (e ∷ es) x.0 x.1, x.2)
 
 -- a rule that is foremost is one of them
-pub foremost_in : (pairs : List (Position × Position)) (a : Position) (bs : List Position) → In (a ∷ bs) (foremost pairs a bs)
+foremost_in : (pairs : List (Position × Position)) (a : Position) (bs : List Position) → In (a ∷ bs) (foremost pairs a bs)
 foremost_in pairs a [] = inl refl
 foremost_in pairs a (b ∷ bs) =
     elim (cases_Bool (is_reported_before pairs b a)) [
@@ -134,7 +134,7 @@ foremost_in pairs a (b ∷ bs) =
     ]
 
 -- so some overlap has it
-pub first_has : (e : Position × Position) (es : List (Position × Position)) → (x : Position × Position) × In (e ∷ es) x × (has_end (rule_first e es) x ≡ true)
+first_has : (e : Position × Position) (es : List (Position × Position)) → (x : Position × Position) × In (e ∷ es) x × (has_end (rule_first e es) x ≡ true)
 first_has e es =
     elim (foremost_in (e ∷ es) e.0 (flat_map (λ x. x.0 ∷ (x.1 ∷ [])) (e ∷ es))) [
       | inl same ↦ (e, inl refl, first_end (rule_first e es) e same)
