@@ -14,7 +14,6 @@ use Rattle.isle_model.specs.lists.Syntax.{Definition, declaration}
 use Rattle.isle_model.specs.lists.Tables.{TermEntry, TypeEntry, struct_entries, variant_term}
 use Rattle.isle_model.specs.lists.TermTable.{term_names_met}
 use Rattle.isle_model.specs.lists.TypeTable.{type_table}
-use Rattle.isle_model.specs.rules.Choice.{choice}
 use Rattle.isle_model.specs.rules.Meaning.{Content, Meaning, just, one}
 use Rattle.isle_model.specs.rules.Outcome.{Call, Outcome}
 use Rattle.isle_model.specs.rules.Program.{Program}
@@ -22,11 +21,10 @@ use Rattle.isle_model.specs.rules.Typed.{TypedRule, make_term, make_var}
 use Rattle.isle_model.specs.rules.Values.{of_variant, value_and}
 use Rattle.isle_model.specs.sites.Demands.{demands_of}
 use Rattle.isle_model.specs.sites.Sites.{SiteSet, SiteTerm, argument_site, constructor_call, constructor_site, make_some_site, make_variant_site, match_some_site, site_term_and, some_made, some_part, variant_made}
-use Rattle.isle_model.specs.trees.Run.{run, world_of}
 use Rattle.isle_model.specs.trees.Trees.{Tree, no_step}
 use Rattle.isle_examples.specs.MeaningForms.{alone, blank, given, v}
 use Rattle.isle_examples.specs.SetForms.{a0, a_rule, asking, one_source, returning}
-use Rattle.isle_examples.specs.Stages.{HasTermTable, Sample}
+use Rattle.isle_examples.specs.Stages.{HasTermTable, Sample, Ends}
 use Rattle.isle_examples.specs.TypedForms.{bind_any, builtins, by_constructor, by_rules, e_list, entry, enum_entry, field_entry, flags, names_with, no_flags, number_term, own, rules_and_names, typed, typed_var, u8, variant_entry}
 use Rattle.isle_examples.specs.Written.{call, constructor_by, decl, enum_of_one, field, numbers, of_f, rule_to, var, variable}
 
@@ -109,9 +107,7 @@ im_of_one = record { term = 1; args = alone (pos 1) } ∷ []
 
 -- where pp answers so, choice and run end so on 1
 abbrev pub EffectsEnds : Content → Outcome → Type 0
-EffectsEnds answer o =
-    (choice effects_program (effects_meaning answer) effects_rules.rules (given (pos 1)) ≡ o)
-    × (run effects_tree (world_of effects_program 2 effects_set.sites (effects_meaning answer) (given (pos 1))) ≡ o)
+EffectsEnds answer o = Ends effects_sample (effects_meaning answer) (given (pos 1)) o
 
 -- Some of the variant
 abbrev pub pair_of : ℤ → ℤ → Content

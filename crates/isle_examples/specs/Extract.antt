@@ -11,7 +11,6 @@ use Rattle.isle_model.specs.lists.KnownTypes.{types_of}
 use Rattle.isle_model.specs.lists.Syntax.{Definition, declaration}
 use Rattle.isle_model.specs.lists.Tables.{TermEntry}
 use Rattle.isle_model.specs.lists.TermTable.{converters, term_names_met}
-use Rattle.isle_model.specs.rules.Choice.{choice}
 use Rattle.isle_model.specs.rules.Meaning.{Content, Meaning, nothing}
 use Rattle.isle_model.specs.rules.Outcome.{Outcome}
 use Rattle.isle_model.specs.rules.Program.{Program}
@@ -20,12 +19,12 @@ use Rattle.isle_model.specs.sites.Demands.{demands_of}
 use Rattle.isle_model.specs.sites.RuleSets.{IsBuilt}
 use Rattle.isle_model.specs.sites.Serves.{Serves, TellsConstantsApart}
 use Rattle.isle_model.specs.sites.Sites.{SetRule, SiteSet, SiteTerm, argument_site, extractor_call, extractor_site, is_present, match_some_site, some_part}
-use Rattle.isle_model.specs.trees.Run.{World, run, world_of}
+use Rattle.isle_model.specs.trees.Run.{World, world_of}
 use Rattle.isle_model.specs.trees.SetRuns.{IsTestedSet, ServesTests}
 use Rattle.isle_model.specs.trees.Trees.{Check, Tree, arm, match_at, no_step, step}
 use Rattle.isle_examples.specs.MeaningForms.{given, just_number, literal, mute, v}
 use Rattle.isle_examples.specs.SetForms.{a0, a_rule, asking, byte, byte_term, is_byte, one_arm, returning}
-use Rattle.isle_examples.specs.Stages.{HasTermTable, Sample}
+use Rattle.isle_examples.specs.Stages.{HasTermTable, Sample, Ends}
 use Rattle.isle_examples.specs.TypedForms.{bind_any, by_extractor, by_rules, names_with, no_flags, number_term, q_list, rules_and_names, typed, typed_var, u8}
 use Rattle.isle_examples.specs.Written.{extractor_by, f_of_bytes, int, number, numbers, of_f, rule_first, rule_to, term, var, variable}
 
@@ -129,7 +128,7 @@ extract_world answer = world_of extract_program 1 extract_set.sites (extract_mea
 
 -- choice and run end so where the call answers this
 abbrev pub ExtractEnds : Content → Outcome → Type 0
-ExtractEnds answer o = (choice extract_program (extract_meaning answer) extract_rules.rules (given (pos 7)) ≡ o) × (run extract_tree (extract_world answer) ≡ o)
+ExtractEnds answer o = Ends extract_sample (extract_meaning answer) (given (pos 7)) o
 
 -- the rules go over no calls, and a world in which the call has an answer serves their tests, whatever the answer
 abbrev pub ExtractIsServed : Type 0

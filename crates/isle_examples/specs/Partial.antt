@@ -9,7 +9,6 @@ use Rattle.isle_model.specs.claims.Layers.{own_program}
 use Rattle.isle_model.specs.lists.Elaborated.{TypedRules}
 use Rattle.isle_model.specs.lists.Syntax.{Definition, declaration}
 use Rattle.isle_model.specs.lists.Tables.{TermEntry}
-use Rattle.isle_model.specs.rules.Choice.{choice}
 use Rattle.isle_model.specs.rules.Meaning.{Content, Meaning, nothing}
 use Rattle.isle_model.specs.rules.Outcome.{Call, Outcome}
 use Rattle.isle_model.specs.rules.Program.{Program}
@@ -17,11 +16,10 @@ use Rattle.isle_model.specs.rules.Typed.{TypedRule, make_int, make_term, match_a
 use Rattle.isle_model.specs.sites.Demands.{demands_of}
 use Rattle.isle_model.specs.sites.Serves.{Serves, TellsConstantsApart}
 use Rattle.isle_model.specs.sites.Sites.{SiteSet, SiteTerm, argument_site, constructor_call, constructor_site, make_some_site, match_some_site, some_made, some_part}
-use Rattle.isle_model.specs.trees.Run.{run, world_of}
 use Rattle.isle_model.specs.trees.Trees.{Tree, match_at, no_step, step}
 use Rattle.isle_examples.specs.MeaningForms.{alone, given, literal, mute}
 use Rattle.isle_examples.specs.SetForms.{a0, a_rule, asking, byte, byte_term, is_byte, one_arm, one_source, returning}
-use Rattle.isle_examples.specs.Stages.{Sample}
+use Rattle.isle_examples.specs.Stages.{Sample, Ends}
 use Rattle.isle_examples.specs.TypedForms.{by_constructor, by_rules, e_list, flags, number_term, rules_and_names, typed, u8}
 use Rattle.isle_examples.specs.Written.{any, call, constructor_by, int, number, numbers, of_f, rule_first, rule_to}
 
@@ -84,9 +82,7 @@ g_of_one = record { term = 0; args = alone (pos 1) } ∷ []
 
 -- where the first impure call answers so, choice and run end so on an argument
 abbrev pub PartialEnds : Content → ℤ → Outcome → Type 0
-PartialEnds answer z o =
-    (choice partial_program (partial_meaning answer) partial_rules.rules (given z) ≡ o)
-    × (run partial_tree (world_of partial_program 1 partial_set.sites (partial_meaning answer) (given z)) ≡ o)
+PartialEnds answer z o = Ends partial_sample (partial_meaning answer) (given z) o
 
 -- the meaning has what the rules ask on 1, and tells their constants apart
 abbrev pub PartialIsServed : Type 0

@@ -24,6 +24,11 @@ use Rattle.isle_model.specs.claims.Environments.{types_read, setting_of, IsRead,
 use Rattle.isle_model.specs.claims.Layers.{own_program, IsCheckable, IsAccepted, BindsBeforeUse, LoweredTerm, LoweringAnswers}
 use Rattle.isle_model.specs.claims.SetMeanings.{CanBeServed}
 use Rattle.isle_laws_demands.specs.ClosureLaws.{HasEnded}
+use Rattle.isle_model.specs.rules.Values.{Value}
+use Rattle.isle_model.specs.rules.Meaning.{Meaning}
+use Rattle.isle_model.specs.rules.Outcome.{Outcome}
+use Rattle.isle_model.specs.rules.Choice.{choice}
+use Rattle.isle_model.specs.trees.Run.{run, world_of}
 
 -- the tables that the rules of a list are read with, internal extractors expanded or not
 abbrev pub own_setting : List Definition → Bool → Setting
@@ -120,6 +125,12 @@ pub record Sample : Type 0 where
   pub set : SiteSet
   pub tree : Tree
   pub near_trees : List Tree
+
+-- by a meaning, on these arguments, the choice of a sample's rules and the run of its tree end so
+abbrev pub Ends : Sample → Meaning → List Value → Outcome → Type 0
+Ends s m args o =
+    (choice (own_program s.defs s.rules) m s.rules.rules args ≡ o)
+    × (run s.tree (world_of (own_program s.defs s.rules) s.term s.set.sites m args) ≡ o)
 
 -- each stage comes from the one before, and the near trees are refused
 pub record HasStages (s : Sample) : Type 0 where

@@ -7,7 +7,6 @@ use Rattle.std.specs.Prelude.{◌≡◌, ◌∷◌, [], pos, false, true, List, 
 use Rattle.isle_model.specs.claims.Layers.{own_program}
 use Rattle.isle_model.specs.lists.Elaborated.{TypedRules}
 use Rattle.isle_model.specs.lists.Syntax.{Definition, declaration, ExprTree}
-use Rattle.isle_model.specs.rules.Choice.{choice}
 use Rattle.isle_model.specs.rules.Meaning.{Content, Meaning, impure_answer, nothing}
 use Rattle.isle_model.specs.rules.Outcome.{Call, Outcome}
 use Rattle.isle_model.specs.rules.Picks.{site_values}
@@ -16,11 +15,10 @@ use Rattle.isle_model.specs.rules.Typed.{TypedExpr, TypedRule, make_term, make_v
 use Rattle.isle_model.specs.sites.Demands.{demands_of}
 use Rattle.isle_model.specs.sites.Serves.{Serves, TellsConstantsApart}
 use Rattle.isle_model.specs.sites.Sites.{SiteSet, SiteTerm, argument_site, constructor_call, constructor_site, make_some_site, match_some_site, some_made, some_part}
-use Rattle.isle_model.specs.trees.Run.{run, world_of}
 use Rattle.isle_model.specs.trees.Trees.{Tree, no_step}
 use Rattle.isle_examples.specs.MeaningForms.{alone, blank, given}
 use Rattle.isle_examples.specs.SetForms.{a0, a_rule, asking, one_source, returning}
-use Rattle.isle_examples.specs.Stages.{Sample}
+use Rattle.isle_examples.specs.Stages.{Sample, Ends}
 use Rattle.isle_examples.specs.TypedForms.{bind_any, e_list, make_let_one, rules_and_names, typed, u8, variables}
 use Rattle.isle_examples.specs.Written.{call, constructor_by, let_one, numbers, of_f, rule_to, var, variable}
 
@@ -84,9 +82,7 @@ one_im_of_one = record { term = 0; args = alone (pos 1) } ∷ []
 
 -- where the first call answers nothing, choice and run end so on 1
 abbrev pub UnreachedEnds : Outcome → Type 0
-UnreachedEnds o =
-    (choice unreached_program (first_answers nothing) unreached_rules.rules (given (pos 1)) ≡ o)
-    × (run unreached_tree (world_of unreached_program 1 unreached_set.sites (first_answers nothing) (given (pos 1))) ≡ o)
+UnreachedEnds o = Ends unreached_sample (first_answers nothing) (given (pos 1)) o
 
 -- the argument of the second call has a value and the meaning lacks an answer to it; yet, where the first call answers
 -- nothing, the meaning has what the rule asks, and tells constants apart

@@ -8,18 +8,16 @@ use Rattle.std.specs.Prelude.{◌≡◌, ◌∷◌, [], pos, false, List, Some, 
 use Rattle.isle_model.specs.claims.Layers.{own_program}
 use Rattle.isle_model.specs.lists.Elaborated.{TypedRules}
 use Rattle.isle_model.specs.lists.Syntax.{Definition}
-use Rattle.isle_model.specs.rules.Choice.{choice}
 use Rattle.isle_model.specs.rules.Meaning.{Content}
 use Rattle.isle_model.specs.rules.Outcome.{Outcome}
 use Rattle.isle_model.specs.rules.Program.{Program}
 use Rattle.isle_model.specs.rules.Typed.{TypedRule, make_term, make_var, match_any}
 use Rattle.isle_model.specs.sites.Demands.{demands_of}
 use Rattle.isle_model.specs.sites.Sites.{SiteSet, some_part}
-use Rattle.isle_model.specs.trees.Run.{run, world_of}
 use Rattle.isle_model.specs.trees.Trees.{Tree, no_step}
 use Rattle.isle_examples.specs.MeaningForms.{given}
 use Rattle.isle_examples.specs.SetForms.{a0, a_rule, asking, byte_term, returning}
-use Rattle.isle_examples.specs.Stages.{Sample}
+use Rattle.isle_examples.specs.Stages.{Sample, Ends}
 use Rattle.isle_examples.specs.TypedForms.{e_list, make_let_one, typed_iflet, u8}
 use Rattle.isle_examples.specs.Used.{call_of_pp, ending_with, pp_answers, used_rule, used_rules, used_set, used_tree}
 
@@ -52,6 +50,4 @@ unused_sample = record { defs = unused_defs; rules = unused_rules; term = 1; mul
 
 -- where pp answers so, choice and run end so on 1
 abbrev pub UnusedEnds : Content → Outcome → Type 0
-UnusedEnds answer o =
-    (choice unused_program (pp_answers answer) unused_rules.rules (given (pos 1)) ≡ o)
-    × (run unused_tree (world_of unused_program 1 unused_set.sites (pp_answers answer) (given (pos 1))) ≡ o)
+UnusedEnds answer o = Ends unused_sample (pp_answers answer) (given (pos 1)) o

@@ -7,18 +7,16 @@ use Rattle.std.specs.Prelude.{◌≡◌, ℕ, ◌∷◌, [], pos, true, false, L
 use Rattle.isle_model.specs.claims.Layers.{BindsBeforeUse, own_program}
 use Rattle.isle_model.specs.lists.Elaborated.{TypedRules}
 use Rattle.isle_model.specs.lists.Syntax.{Definition, declaration}
-use Rattle.isle_model.specs.rules.Choice.{choice}
 use Rattle.isle_model.specs.rules.Meaning.{Content, Meaning}
 use Rattle.isle_model.specs.rules.Outcome.{Outcome}
 use Rattle.isle_model.specs.rules.Program.{Program}
 use Rattle.isle_model.specs.rules.Typed.{TypedRule, make_int, make_term, make_var, match_any}
 use Rattle.isle_model.specs.sites.Demands.{demands_of}
 use Rattle.isle_model.specs.sites.Sites.{SiteSet, SiteTerm, argument_site, constructor_call, constructor_site, is_present, match_some_site, some_part}
-use Rattle.isle_model.specs.trees.Run.{run, world_of}
 use Rattle.isle_model.specs.trees.Trees.{Tree, match_at, no_step, step}
 use Rattle.isle_examples.specs.MeaningForms.{alone, given, literal, mute}
 use Rattle.isle_examples.specs.SetForms.{a0, a_rule, asking, byte, byte_term, one_arm, one_source, returning}
-use Rattle.isle_examples.specs.Stages.{Sample}
+use Rattle.isle_examples.specs.Stages.{Sample, Ends}
 use Rattle.isle_examples.specs.TypedForms.{bind_any, e_list, make_let_one, rules_and_names, typed, typed_iflet, typed_var, u8}
 use Rattle.isle_examples.specs.Written.{any, call, constructor_by, f_of_bytes, let_one, number, numbers, of_f, rule_if, var, variable}
 
@@ -67,14 +65,12 @@ UsedDemands = demands_of used_program used_rule ≡ asking ((call_of_pp, is_pres
 abbrev pub pp_answers : Content → Meaning
 pp_answers answer = record (mute (literal (pos 7) ∷ [])) { pure_calls = ((0, alone (pos 1)), answer) ∷ [] }
 
--- where pp answers so, choice and run end so on 1
-abbrev pub UsedEnds : Content → Outcome → Type 0
-UsedEnds answer o =
-    (choice used_program (pp_answers answer) used_rules.rules (given (pos 1)) ≡ o)
-    × (run used_tree (world_of used_program 1 used_set.sites (pp_answers answer) (given (pos 1))) ≡ o)
-
 abbrev pub used_sample : Sample
 used_sample = record { defs = used_defs; rules = used_rules; term = 1; multi = false; set = used_set; tree = used_tree; near_trees = [] }
+
+-- where pp answers so, choice and run end so on 1
+abbrev pub UsedEnds : Content → Outcome → Type 0
+UsedEnds answer o = Ends used_sample (pp_answers answer) (given (pos 1)) o
 
 -- the call isn't bound; its answer is bound before it; the arm's field is bound again; the call is bound twice in one scope
 abbrev pub NearTreesDoNotBind : Type 0

@@ -15,6 +15,7 @@ use Rattle.isle_model.proofs.Joined.{all_joined, all_left, all_right}
 use Rattle.isle_model.proofs.Names.{found, has_at, get_kept, distinct_names}
 use Rattle.isle_laws_lists.proofs.TypeLaws.{type_names_distinct, place_at}
 use Rattle.isle_laws_lists.proofs.WellFormed.{names_of_types_met, names_inside_met, numbers_below}
+use Rattle.std.proofs.lemmas.List.{map-append}
 
 -- terms whose ids are not known yet, by the numbers of their names; each takes the id that it is given
 abbrev AreNamed : List (ℕ → TermEntry) → List ℕ → Type 0
@@ -42,10 +43,6 @@ ids_are (f ∷ fs) [] k i m e a q h = absurd a
 ids_are (f ∷ fs) (n ∷ ns) k zero m e a q h =
     let own : (f k).id ≡ k = (a.0 k).1 in let same : (f k).id ≡ e.id = ap (λ (x : TermEntry). x.id) (same_Some (f k) e h) in omega arith
 ids_are (f ∷ fs) (n ∷ ns) k (suc i) m e a q h = ids_are fs ns (k + 1) i m e a.1 (omega arith) h
-
-map_append : {X Y : Type 0} (f : X → Y) (xs ys : List X) → map f (xs ++ ys) ≡ map f xs ++ map f ys
-map_append f [] ys = refl
-map_append f (x ∷ xs) ys = ap (λ l. f x ∷ l) (map_append f xs ys)
 
 -- the terms that types make, by the numbers of their names
 variants_named : (ty : ℕ) (vs : List VariantEntry) → AreNamed (map (variant_as_term ty) vs) (map (λ v. v.full_name) vs)
@@ -94,7 +91,7 @@ terms_have_numbers : (k : KnownTypes) (defs : List Definition) → IsDistinct k.
 terms_have_numbers k defs d a =
     names_are (terms_in_order k defs) (term_numbers k defs) 0 (all_named k defs)
     ∙ ap (λ l. map (number (term_names_met k defs)) (decl_names defs) ++ l) (sym (numbers_back k.names (decl_names defs ++ flat_map function_of defs) (flat_map made_by k.types) d a))
-    ∙ sym (map_append (number (term_names_met k defs)) (decl_names defs) (filter_map (slice_get k.names) (flat_map made_by k.types)))
+    ∙ sym (map-append (number (term_names_met k defs)) (decl_names defs) (filter_map (slice_get k.names) (flat_map made_by k.types)))
 
 -- the names that make terms are among those of a type
 module _ (P : ℕ → Type 0) where
@@ -149,7 +146,7 @@ types_make defs ns id [] = refl
 types_make defs ns id (t ∷ ts) =
     ap (λ l. l ++ flat_map made_by (map (λ p. type_entry defs ns p.0 p.1) (enumerate_from (id + 1) ts))) (type_makes defs ns id t t.value)
     ∙ ap (λ l. map (number ns) (names_made t.name.text t.value) ++ l) (types_make defs ns (id + 1) ts)
-    ∙ sym (map_append (number ns) (names_made t.name.text t.value) (flat_map (λ t. names_made t.name.text t.value) ts))
+    ∙ sym (map-append (number ns) (names_made t.name.text t.value) (flat_map (λ t. names_made t.name.text t.value) ts))
 
 -- names that were met are read back from their numbers
 names_back : (ns xs : List (List ℕ)) → AllByRecursion (λ x. has_name ns x ≡ true) xs → filter_map (slice_get ns) (map (number ns) xs) ≡ xs

@@ -14,6 +14,7 @@ pub mod Demanded
 pub mod FieldSites
 pub mod Fields
 pub mod Finding
+pub mod Here
 pub mod HoldsOnce
 pub mod Left
 pub mod Listing

@@ -1,5 +1,5 @@
 -- What holds when all definitions were read.
-use Rattle.std.proofs.Common.{◌≡◌, ◌≢◌, ℕ, ◌||◌, true, false, cond, ◌==◌, List, [], ◌∷◌, ◌++◌, length, map, Some, None, nat_eq, slice_get, refl, sym, ap, subst, ◌∙◌, arith, eqb-true, ⊎_elim}
+use Rattle.std.proofs.Common.{◌≡◌, ◌≢◌, ℕ, ◌||◌, true, false, cond, ◌==◌, List, [], ◌∷◌, ◌++◌, map, Some, None, nat_eq, slice_get, refl, sym, ap, subst, ◌∙◌, eqb-true, ⊎_elim}
 use Rattle.std.proofs.lemmas.List.{append-nil}
 use Rattle.std.proofs.lemmas.List.Elements.{All-nil}
 use Rattle.isle_model.specs.lists.Syntax.{Definition}
@@ -16,10 +16,6 @@ use Rattle.isle_types.specs.Envs.{symbol_of, IsInterned}
 use Rattle.isle_types.specs.Stages.{names_in_types, constant_names, last_type, TypingConstants, ReadsConstants}
 use Rattle.isle_types.specs.TypeTables.{SeesTypes}
 use Rattle.isle_types.proofs.RightTypes.{types_valid}
-
-pub nothing : (es : List Error) → length es ≡ 0 → es ≡ []
-nothing [] e = refl
-nothing (x ∷ xs) e = absurd (omega arith)
 
 -- no constant has a number past the names
 look_past : (ns : List (List ℕ)) (ty : ConstantTree → ℕ) (k : ℕ) → slice_get ns k ≡ None → (cs : List ConstantTree) → ((x : List ℕ) → has_name (map (λ c. c.name.text) cs) x ≡ true → has_name ns x ≡ true) → look (λ j. j == k) (map (λ c. (number ns c.name.text, ty c)) (last_definitions cs)) ≡ None

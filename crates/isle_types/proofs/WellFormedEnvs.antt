@@ -3,15 +3,14 @@
 use Rattle.std.proofs.Common.{◌≡◌, Result, Ok, Err, OnOk, OnErr, ℕ, ◌<◌, ◌≤◌, true, false, cond, List, [], ◌∷◌, ◌++◌, length, take, Option, option_map, Contains, IsTrue, All, refl, sym, ap, ◌∙◌, subst, arith}
 use Rattle.std.specs.List.{flat_map}
 use Rattle.std.proofs.lemmas.List.{length-append}
-use Rattle.std.proofs.lemmas.List.Elements.{All-nil, All-contains, All-weaker}
+use Rattle.std.proofs.lemmas.List.Elements.{All-contains, All-weaker}
 use Rattle.isle_model.specs.lists.Syntax.{Definition}
 use Rattle.isle_model.specs.lists.Names.{has_name, with_name, AreNumbersOf}
 use Rattle.isle_model.specs.lists.Tables.{TypeEntry}
-use Rattle.isle_model.specs.lists.TypeTable.{builtin_names, builtin_from, all_type_names, type_names_met, IsUnmarkedIfPrimitive, HasAtMostOneMark, HasDistinctVariants, HasDistinctFields, HasKnownTypes, IsOfKnownType, IsValidTypes}
+use Rattle.isle_model.specs.lists.TypeTable.{builtin_names, builtin_from, all_type_names, type_names_met, IsValidTypes}
 use Rattle.isle_model.specs.lists.KnownTypes.{types_inside, entry_numbers, StandAtIds}
 use Rattle.isle_model.specs.claims.Environments.{types_read, AreReadable, HasVariantsAtIds, TypeEnvironment, AreTypesOf}
 use Rattle.isle_model.specs.claims.Questions.{HasOneNumber, AnswersTypes, IsWellFormedEnvironment}
-use Rattle.isle_model.proofs.Names.{distinct_if}
 use Rattle.isle_laws_lists.proofs.EnvironmentsShown.{well_formed_environments_are_read_lem}
 use Rattle.isle_laws_lists.proofs.LooksByNumber.{numbered_look}
 use Rattle.isle_laws_lists.proofs.OwnTypes.{own_types_are_readable_lem}
@@ -23,6 +22,7 @@ use Rattle.isle_types.specs.Stages.{Booting}
 use Rattle.isle_types.specs.TypeTables.{SeesTypes}
 use Rattle.isle_types.specs.TypeViews.{type_views}
 use Rattle.isle_types.proofs.Booting.{booted}
+use Rattle.isle_laws_lists.proofs.JudgedTypes.{types_are_judged_lem}
 
 module _ (defs : List Definition) (env : TypeEnv) (v : IsValidTypes defs) (s : SeesTypes env defs (type_names_met defs)) where
   own : AreReadable (types_read defs)
@@ -52,15 +52,7 @@ abbrev none : List Definition
 none = []
 
 no_types : IsValidTypes none
-no_types = record {
-  distinct = distinct_if (all_type_names none) refl;
-  primitives = All-nil IsUnmarkedIfPrimitive;
-  marks = All-nil HasAtMostOneMark;
-  variants = All-nil HasDistinctVariants;
-  fields = All-nil HasDistinctFields;
-  types_of_fields = All-nil (HasKnownTypes none);
-  types_of_constants = All-nil (IsOfKnownType none);
-}
+no_types = (types_are_judged_lem none).0 refl
 
 pub builtins_shown : (env : TypeEnv) → Booting env [] → AreTypesOf none (environment_view env)
 builtins_shown env s = types_shown none env no_types (booted env s)

@@ -1,6 +1,6 @@
 -- The constraints of a rule that hangs together: variants and structs are asked for with all their fields, constants have
 -- types.
-use Rattle.std.proofs.Common.{◌≡◌, ℕ, suc, ◌==◌, ◌&&◌, Bool, true, false, List, [], ◌∷◌, length, Some, None, slice_get, refl, sym, ap, subst, inl, inr, eqb-true}
+use Rattle.std.proofs.Common.{◌≡◌, ℕ, suc, ◌==◌, ◌&&◌, Bool, true, false, List, [], ◌∷◌, length, Some, None, slice_get, sym, ap, subst, inl, inr, eqb-true}
 use Rattle.isle_model.specs.lists.Tables.{TermEntry}
 use Rattle.isle_model.specs.rules.Values.{variant_types, struct_types, is_atom_type}
 use Rattle.isle_model.specs.rules.Outcome.{then_option}
@@ -13,7 +13,7 @@ use Rattle.isle_model.specs.lists.Setting.{bool_type, expr_type}
 use Rattle.isle_model.specs.lists.Formed.{pattern_type, is_type, formed_pattern, formed_parts, formed_each, is_formed_expr, formed_list, formed_iflets, is_formed_rule}
 use Rattle.isle_model.proofs.Elements.{In, in_either}
 use Rattle.isle_laws_demands.proofs.visits.Patterns.{from_then}
-use Rattle.isle_laws_demands.proofs.matching.Contents.{AsMany}
+use Rattle.isle_laws_demands.proofs.matching.Contents.{AsMany, as_many_types}
 use Rattle.isle_laws_demands.proofs.matching.Grown.{equated, expr_adds, rule_adds}
 use Rattle.isle_laws_demands.proofs.matching.Patterns.{from_term, from_part, from_bind, as_many}
 use Rattle.isle_laws_demands.proofs.matching.Rules.{rule_parts}
@@ -48,12 +48,6 @@ equated_formed : (p : Program) (a b : SiteTerm) (v : Visit) → AreFormed p v.de
 unfolding equated
 equated_formed p a b v h = either (λ (w : Visit). AreFormed p w.demands) (site_term_eq a b) v (equated a b v) h h
 
-count : (qs : TypedPatterns) (tys : List ℕ) → AsMany qs tys → length tys ≡ pattern_count qs
-count no_typed_pattern [] n = refl
-count no_typed_pattern (ty ∷ tys) n = absurd n
-count (typed_pattern_and q qs) [] n = absurd n
-count (typed_pattern_and q qs) (ty ∷ tys) n = ap suc (count qs tys n)
-
 call_formed : (p : Program) (pure multi partial rec infallible : Bool) (c : SiteTerm) (args : TypedPatterns) (v : Visit) → AreFormed p v.demands
     → AreFormed p (open_call (record { pure = pure; multi = multi; partial = partial; rec = rec }) infallible c args v).visit.demands
 call_formed p pure true partial rec infallible c args v h = h
@@ -64,9 +58,9 @@ module _ (p : Program) (fields : HasTypedParts p) where
   term_formed : (t : ℕ) (e : TermEntry) → slice_get p.terms t ≡ Some e → (k : Kind) → kind_of e ≡ k → (s : SiteTerm) (args : TypedPatterns) → AsMany args e.arg_tys → (v : Visit) → AreFormed p v.demands
       → AreFormed p (open_term k t s args v).visit.demands
   term_formed t e there (a_variant ty i) q s args n v h =
-      asked_formed p s (is_variant ty i (pattern_count args)) (making (from_to (variant_field s i) 0 args) v) (e.arg_tys, (fields.variants t e there ty i q).1, count args e.arg_tys n) h
+      asked_formed p s (is_variant ty i (pattern_count args)) (making (from_to (variant_field s i) 0 args) v) (e.arg_tys, (fields.variants t e there ty i q).1, as_many_types args e.arg_tys n) h
   term_formed t e there (a_struct ty) q s args n v h =
-      asked_formed p s (is_struct ty (pattern_count args)) (making (from_to (struct_field s) 0 args) v) (e.arg_tys, (fields.structs t e there ty q).1, count args e.arg_tys n) h
+      asked_formed p s (is_struct ty (pattern_count args)) (making (from_to (struct_field s) 0 args) v) (e.arg_tys, (fields.structs t e there ty q).1, as_many_types args e.arg_tys n) h
   term_formed t e there (a_call flags infallible) q s args n v h = call_formed p flags.pure flags.multi flags.partial flags.rec infallible (extractor_call t s) args v h
   term_formed t e there unknown q s args n v h = h
 

@@ -1,5 +1,5 @@
 -- What a content is that meets a constraint of a rule that matches, and that one content meets one constraint.
-use Rattle.std.proofs.Common.{◌≡◌, ◌==◌, ℕ, zero, suc, Bool, true, false, ◌&&◌, cond, List, [], ◌∷◌, length, Option, Some, None, is_some, slice_get, refl, sym, ap, ◌∙◌, eqb-true}
+use Rattle.std.proofs.Common.{◌≡◌, ◌==◌, ℕ, zero, suc, Bool, true, false, ◌&&◌, cond, List, [], ◌∷◌, length, Option, Some, None, is_some, slice_get, refl, sym, ap, ◌∙◌, eqb-true, subst, IsTrue, IsSomeAnd}
 use Rattle.std.proofs.lemmas.Bool.{and_parts, false≢true}
 use Rattle.isle_model.specs.lists.Tables.{TypeEntry, builtin_type, primitive_type, enum_type, struct_type}
 use Rattle.isle_model.specs.lists.KnownTypes.{StandAtIds}
@@ -64,6 +64,10 @@ atom_without_parts (Some (builtin_type n)) h = refl
 atom_without_parts (Some (primitive_type id name at)) h = refl
 atom_without_parts (Some (enum_type name id a b vs at)) h = absurd (false≢true h)
 atom_without_parts (Some (struct_type name id a b fs at)) h = absurd (false≢true h)
+
+-- what holds of a value that is there
+pub holds_there : {X : Type 0} (o : Option X) (f : X → Bool) (x : X) → o ≡ Some x → IsSomeAnd o (λ y. IsTrue (f y)) → f x ≡ true
+holds_there o f x e h = subst (λ q. IsSomeAnd q (λ y. IsTrue (f y))) e h
 
 -- as many values as types
 pub as_many_values : (types : List TypeEntry) (tys : List ℕ) (vs : Values) → all_well_typed types (Some tys) vs ≡ true → length (listed vs) ≡ length tys

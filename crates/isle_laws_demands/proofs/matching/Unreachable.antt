@@ -1,5 +1,5 @@
 -- Where a rule matches, its demands can be met: an unreachable rule never matches.
-use Rattle.std.proofs.Common.{◌≡◌, ◌==◌, ℕ, zero, suc, ◌+◌, ◌<◌, ◌≤◌, Bool, true, false, List, length, Option, Some, None, slice_get, IsSomeAnd, IsTrue, Contains, flat_map, refl, sym, ap, subst, ◌∙◌, inl, arith, eq-eqb, eqb-true}
+use Rattle.std.proofs.Common.{◌≡◌, ◌==◌, ℕ, zero, suc, ◌+◌, ◌<◌, ◌≤◌, true, false, List, length, Option, Some, None, slice_get, Contains, flat_map, refl, sym, ap, subst, ◌∙◌, inl, arith, eq-eqb, eqb-true}
 use Rattle.std.proofs.lemmas.Bool.{and_parts, cond-true}
 use Rattle.isle_model.specs.rules.Values.{Value, truth, atom, of_variant, of_struct, Values, no_value, value_and, listed, variant_types, struct_types, well_typed, all_well_typed}
 use Rattle.isle_model.specs.rules.Meaning.{Content, one, just, Meaning, bool_literal, int_literal, literal_value, constant_value}
@@ -17,7 +17,7 @@ use Rattle.isle_model.proofs.Members.{get_within}
 use Rattle.isle_laws_demands.proofs.matching.Contents.{Given, content_of}
 use Rattle.isle_laws_demands.proofs.matching.Demanded.{one_not_just, Equal, AreMet, one_is}
 use Rattle.isle_laws_demands.proofs.matching.FormedDemands.{AreFormed}
-use Rattle.isle_laws_demands.proofs.matching.Shapes.{HasTypes, one_type, no_variant, no_struct, atom_without_parts, as_many_values, has_form}
+use Rattle.isle_laws_demands.proofs.matching.Shapes.{HasTypes, one_type, no_variant, no_struct, atom_without_parts, as_many_values, has_form, holds_there}
 
 -- 1. fields
 pub field_is : (f : ℕ → SiteTerm) (j n i : ℕ) (x : SiteTerm) → slice_get (fields_from f j n) i ≡ Some x → (f (j + i) ≡ x) × (i < n)
@@ -332,9 +332,6 @@ module _ (g : Given) (r : TypedRule) (rs : List TypedRule) (here : Contains rs r
         (in_right d.made (flat_map (λ (x : SiteTerm × Constraint). constant_site x.1) d.constraints) u
         (in_flat_map (λ (x : SiteTerm × Constraint). constant_site x.1) d.constraints (s, c) u i j)))
 
-    value_typed : (o : Option Value) (f : Value → Bool) (v : Value) → o ≡ Some v → IsSomeAnd o (λ w. IsTrue (f w)) → f v ≡ true
-    value_typed o f v e h = subst (λ q. IsSomeAnd q (λ w. IsTrue (f w))) e h
-
     -- the content of a site that is asked to be a constant
     constant_at : (s : SiteTerm) (c : Constraint) (u : SiteTerm) (k : In d.constraints (s, c)) → In (constant_site c) u → (ty : ℕ) (v : Value) → (met.asked (s, c) k).0.content ≡ one v
         → written_value m u ≡ Some v → written_type p u ≡ Some ty → well_typed p.types ty v ≡ true → has_parts (slice_get p.types ty) ≡ false → IsConstant g rs types apart (content_of g s) u
@@ -356,13 +353,13 @@ module _ (g : Given) (r : TypedRule) (rs : List TypedRule) (here : Contains rs r
         let a = (met.asked (s, is_bool b ty) k).0 in
         let f = has_form m (is_bool b ty) a.content a.meets in
         constant_at s (is_bool b ty) (bool_term b ty) k (inl refl) ty f.0 f.1 f.2 refl
-        (value_typed (literal_value m (bool_literal b ty)) (well_typed p.types ty) f.0 f.2 (served.bools b ty (is_asked s (is_bool b ty) (bool_term b ty) k (inl refl))))
+        (holds_there (literal_value m (bool_literal b ty)) (well_typed p.types ty) f.0 f.2 (served.bools b ty (is_asked s (is_bool b ty) (bool_term b ty) k (inl refl))))
         (ap (λ n. has_parts (slice_get p.types n)) (formed (s, is_bool b ty) k) ∙ ap has_parts types.first)
     asked_shape s (is_int z ty) k =
         let a = (met.asked (s, is_int z ty) k).0 in
         let f = has_form m (is_int z ty) a.content a.meets in
         constant_at s (is_int z ty) (int_term z ty) k (inl refl) ty f.0 f.1 f.2 refl
-        (value_typed (literal_value m (int_literal z ty)) (well_typed p.types ty) f.0 f.2 (served.ints z ty (is_asked s (is_int z ty) (int_term z ty) k (inl refl))))
+        (holds_there (literal_value m (int_literal z ty)) (well_typed p.types ty) f.0 f.2 (served.ints z ty (is_asked s (is_int z ty) (int_term z ty) k (inl refl))))
         (atom_without_parts (slice_get p.types ty) (formed (s, is_int z ty) k))
     asked_shape s (is_prim name) k =
         let a = (met.asked (s, is_prim name) k).0 in
@@ -370,7 +367,7 @@ module _ (g : Given) (r : TypedRule) (rs : List TypedRule) (here : Contains rs r
         let t = formed (s, is_prim name) k in
         constant_at s (is_prim name) (prim_term name) k (inl refl) t.0 f.0 f.1 f.2 t.1
         (subst (λ o. typed_as p o f.0 ≡ true) t.1
-        (value_typed (constant_value m name) (typed_as p (constant_type p name)) f.0 f.2 (served.prims name (is_asked s (is_prim name) (prim_term name) k (inl refl)))))
+        (holds_there (constant_value m name) (typed_as p (constant_type p name)) f.0 f.2 (served.prims name (is_asked s (is_prim name) (prim_term name) k (inl refl)))))
         (apart.without_parts r s name t.0 here (contains_from_in d.constraints (s, is_prim name) k) t.1)
     asked_shape s is_present k =
         let a = met.asked (s, is_present) k in

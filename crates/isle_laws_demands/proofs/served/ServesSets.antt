@@ -1,6 +1,6 @@
 -- A meaning that serves the rules of a term has what collecting from the built set rests on, where no rule of the set makes an
 -- impure call.
-use Rattle.std.proofs.Common.{◌≡◌, ◌⊎◌, ℕ, zero, suc, Bool, true, false, List, [], map, Option, Some, slice_get, IsSomeAnd, Contains, All, IsTrue, refl, sym, ap, subst, ◌∙◌, inl, inr}
+use Rattle.std.proofs.Common.{◌≡◌, ◌⊎◌, ℕ, zero, suc, Bool, true, false, List, [], map, Some, slice_get, Contains, All, IsTrue, refl, sym, ap, ◌∙◌, inl, inr}
 use Rattle.std.proofs.lemmas.Bool.{false≢true}
 use Rattle.std.proofs.lemmas.List.Elements.{All-contains}
 use Rattle.isle_model.specs.lists.Syntax.{Definition}
@@ -29,6 +29,7 @@ use Rattle.isle_laws_demands.proofs.taken.BuiltSites.{sites_stand}
 use Rattle.isle_laws_demands.proofs.taken.Fits.{IsField}
 use Rattle.isle_laws_demands.proofs.taken.ServesRuns.{of_set, is_asked, fields_counted, one_constraint, equal_value, found_there}
 use Rattle.isle_laws_demands.proofs.served.PureCalls.{IsNoImpureCall, rule_goes_over_none}
+use Rattle.isle_laws_demands.proofs.matching.Shapes.{holds_there}
 
 -- 1. multi calls
 many_fit : (p : Program) (multi optional : Bool) (tys : List ℕ) (c : Content) → multi ≡ true → fits_answer p multi optional tys c ≡ true → (cs : Contents) × (c ≡ many cs)
@@ -44,9 +45,6 @@ extractor_lists p t _ c e h = absurd (false≢true h)
 constructor_lists : (p : Program) (t : ℕ) (k : Kind) (c : Content) → (flags_of k).multi ≡ true → fits_constructor p t k c ≡ true → (cs : Contents) × (c ≡ many cs)
 constructor_lists p t (a_call flags infallible) c e h = many_fit p flags.multi flags.partial (term_results (slice_get p.terms t)) c e h
 constructor_lists p t _ c e h = absurd (false≢true h)
-
-answer_is : (o : Option Content) (f : Content → Bool) (c : Content) → o ≡ Some c → IsSomeAnd o (λ x. IsTrue (f x)) → f c ≡ true
-answer_is o f c e h = subst (λ x. IsSomeAnd x (λ y. IsTrue (f y))) e h
 
 -- 2. built sets
 module _ (e : TypesRead) (defs : List Definition) (expand : Bool) (rules : TypedRules) (t : ℕ) (set : SiteSet) (h : IsElaborated e defs expand rules) (b : IsBuilt (program_of e defs rules.rules) t set)
@@ -67,12 +65,12 @@ module _ (e : TypesRead) (defs : List Definition) (expand : Bool) (rules : Typed
   lists_here (extractor_call t' x) multi pure (inr f) c q = absurd f
   lists_here (extractor_call t' x) multi pure (inl ask) c q =
       let a = from_then (then_option (site_content m args k x) as_value) (extractor_answer m t') c q in
-      extractor_lists p t' (kind p t') c multi (answer_is (extractor_answer m t' a.0) (fits_extractor p t' (kind p t')) c a.2 (served.extractors k t' x a.0 ask (is_value (site_content m args k x) a.0 a.1)))
+      extractor_lists p t' (kind p t') c multi (holds_there (extractor_answer m t' a.0) (fits_extractor p t' (kind p t')) c a.2 (served.extractors k t' x a.0 ask (is_value (site_content m args k x) a.0 a.1)))
   lists_here (constructor_call t' ss i) multi pure (inr f) c q = absurd f
   lists_here (constructor_call t' ss (suc i)) multi pure (inl ask) c q = absurd pure
   lists_here (constructor_call t' ss zero) multi pure (inl ask) c q =
       let a = from_then (site_values m args k ss) (call_answer m t' 0) c q in
-      constructor_lists p t' (kind p t') c multi (answer_is (pure_answer m t' a.0) (fits_constructor p t' (kind p t')) c a.2 (served.pures k t' ss a.0 ask a.1))
+      constructor_lists p t' (kind p t') c multi (holds_there (pure_answer m t' a.0) (fits_constructor p t' (kind p t')) c a.2 (served.pures k t' ss a.0 ask a.1))
   lists_here _ multi pure ask c q = absurd multi
 
   a_list : (r : SetRule) (s : ℕ) (c : Content) → Contains set.rules r → Contains r.iterators s → content_at w k s ≡ Some c → (cs : Contents) × (c ≡ many cs)

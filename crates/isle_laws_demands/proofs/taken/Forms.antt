@@ -17,7 +17,7 @@ use Rattle.isle_model.specs.lists.Formed.{pattern_type, var_type, is_type, forme
 use Rattle.isle_model.proofs.Elements.{In, in_either, none_some, some_is}
 use Rattle.isle_laws_demands.proofs.visits.RuleParts.{rule_parts}
 use Rattle.isle_laws_demands.proofs.visits.Patterns.{AsMany as AsManySites, as_many as numbers_as_many, from_then, term_known, in_numbers}
-use Rattle.isle_laws_demands.proofs.matching.Contents.{AsMany}
+use Rattle.isle_laws_demands.proofs.matching.Contents.{AsMany, as_many_types}
 use Rattle.isle_laws_demands.proofs.matching.Grown.{equated}
 use Rattle.isle_laws_demands.proofs.matching.Patterns.{from_term as pattern_parts, from_part, from_bind, as_many}
 use Rattle.isle_laws_demands.proofs.matching.Rules.{rule_parts}
@@ -238,12 +238,6 @@ module _ (p : Program) (n : ℕ) where
         inputs = outputs_are (some_part call) args part;
       }
 
-  counted : (qs : TypedPatterns) (tys : List ℕ) → AsMany qs tys → length tys ≡ pattern_count qs
-  counted no_typed_pattern [] h = refl
-  counted no_typed_pattern (ty ∷ tys) h = absurd h
-  counted (typed_pattern_and q qs) [] h = absurd h
-  counted (typed_pattern_and q qs) (ty ∷ tys) h = ap suc (counted qs tys h)
-
   term_opens : (t : ℕ) (e : TermEntry) → slice_get p.terms t ≡ Some e → (k : Kind) → kind p t ≡ k → (s : SiteTerm) (args : TypedPatterns) → AsMany args e.arg_tys → (v : Visit) → IsValue p n s → Opens v (open_term k t s args v) args
   term_opens t e there (a_variant ty i) q s args m v f =
       let fields = from_to (variant_field s i) 0 args in
@@ -263,7 +257,7 @@ module _ (p : Program) (n : ℕ) where
       }
   term_opens t e there (a_call flags infallible) q s args m v f =
       call_opens flags.pure flags.multi flags.partial flags.rec infallible (extractor_call t s) args v
-      (record { entry = e; flags = flags; infallible = infallible; there = there; call = q }, f, ap (form flags.multi (not infallible)) (sym (counted args e.arg_tys m)))
+      (record { entry = e; flags = flags; infallible = infallible; there = there; call = q }, f, ap (form flags.multi (not infallible)) (sym (as_many_types args e.arg_tys m)))
   term_opens t e there unknown q s args m v f = absurd (term_known p t e there q)
 
   module _ (neither : HasNoPartialMulti p) (fields : HasTypedParts p) where

@@ -33,7 +33,7 @@ use Rattle.isle_laws_demands.proofs.visits.Elaborated.{elaborated_rules_hang, el
 use Rattle.isle_laws_demands.proofs.visits.Sets.{IsTested, constrained_tested, joined_tested, tested_good}
 use Rattle.isle_laws_demands.proofs.matching.FormedDemands.{IsFormed, rule_formed}
 use Rattle.isle_laws_demands.proofs.matching.NeverMatches.{program_has_types}
-use Rattle.isle_laws_demands.proofs.matching.Shapes.{HasTypes, has_form, atom_without_parts}
+use Rattle.isle_laws_demands.proofs.matching.Shapes.{HasTypes, has_form, atom_without_parts, holds_there}
 use Rattle.isle_laws_demands.proofs.matching.TypedParts.{program_has_typed_parts}
 use Rattle.isle_laws_demands.proofs.matching.Unreachable.{IsConstant, Shape, same_shape}
 use Rattle.isle_laws_demands.proofs.matching.Visits.{given, of_term}
@@ -71,9 +71,6 @@ value_whole types q v h = by q.multi q.optional h
 meets_some : (m : Meaning) (c : Constraint) (o : Option Content) → IsTrue (meets m c o) → (x : Content) × (o ≡ Some x) × (is_some (content_fields m c x) ≡ true)
 meets_some m c None h = absurd (false≢true h)
 meets_some m c (Some x) h = (x, refl, h)
-
-value_typed : (o : Option Value) (f : Value → Bool) (v : Value) → o ≡ Some v → IsSomeAnd o (λ w. IsTrue (f w)) → f v ≡ true
-value_typed o f v e h = subst (λ q. IsSomeAnd q (λ w. IsTrue (f w))) e h
 
 module _ (e : TypesRead) (defs : List Definition) (expand : Bool) (rules : TypedRules) (t : ℕ) (set : SiteSet) (h : IsElaborated e defs expand rules) (b : IsBuilt (program_of e defs rules.rules) t set)
     (m : Meaning) (args : List Value) (typed : IsTrue (args_well_typed (program_of e defs rules.rules).types (arg_types (program_of e defs rules.rules) t) args))
@@ -224,7 +221,7 @@ module _ (e : TypesRead) (defs : List Definition) (expand : Bool) (rules : Typed
     ty = ty;
     written = written;
     worth = g.2;
-    typed = value_typed (written_value m u) (well_typed p.types ty) g.0 g.2 (has (constant_asked s d a u i));
+    typed = holds_there (written_value m u) (well_typed p.types ty) g.0 g.2 (has (constant_asked s d a u i));
     atomic = atomic;
     tested = constant_tested s d a u i;
   }

@@ -2,17 +2,18 @@
 use Rattle.std.proofs.Common.{◌≡◌, ◌⊎◌, ℕ, zero, suc, Bool, true, false, not, ◌&&◌, ◌||◌, cond, List, [], ◌∷◌, ◌++◌, is_some, slice_get, Contains, All, IsTrue, filter, flat_map, refl, sym, ap, ◌∙◌, subst, inl, inr}
 use Rattle.std.specs.List.{list_all}
 use Rattle.std.proofs.lemmas.Bool.{cases_Bool, cond-true, cond-false, and_parts, or_cases, or_left, false≢true, not-true}
-use Rattle.std.proofs.lemmas.List.Elements.{Contains-append_left, Contains-append_right, Contains-append_cases, filter-append}
+use Rattle.std.proofs.lemmas.List.Elements.{filter-append}
 use Rattle.isle_model.specs.sites.Sites.{Site, sources_at}
 use Rattle.isle_model.specs.trees.Places.{Around, is_in, waits, is_available, available, is_in_place, below, all_below, each_after, listed_below, bind_order}
 use Rattle.isle_model.specs.rules.Outcome.{Call}
 use Rattle.isle_model.specs.trees.Run.{World, Env, Bound, all_bound, unwrap_failed, no_content_there, bind_site, then_bind, bind_all}
-use Rattle.isle_model.proofs.Members.{nothing_in, in_head, in_tail, in_cases, in_alone, each_passes, all_members, in_flat_map, from_flat_map, member_found}
+use Rattle.isle_model.proofs.Members.{nothing_in, in_head, in_tail, in_cases, each_passes, all_members, in_flat_map, from_flat_map}
 use Rattle.isle_model.specs.rules.Picks.{Pick}
 use Rattle.isle_model.specs.trees.Collects.{content_at, IsPureAt}
 use Rattle.isle_laws_runs.proofs.runs.Contents.{SourcesBefore}
 use Rattle.isle_laws_runs.proofs.runs.Below.{IsPureBelow, pure_deeper, pure_sources}
 use Rattle.isle_laws_runs.proofs.runs.Binding.{content_of, Held, held_as, kept_below, binds_now, keeps_bound, keeps_in_place}
+use Rattle.isle_laws_runs.proofs.runs.Here.{IsHere, stays_here, last_here, here_or_last, listed_last, met_here}
 
 -- 1. one bind order after another
 after_bound : (w : World) (ss ts : List ℕ) (b : Bound) (go : Env → List Call → Bound)
@@ -54,7 +55,7 @@ module _ (w : World) (pick : Pick) (before : SourcesBefore w.sites) (finds : Fin
     (Base : ℕ → Type 0) (base : (s : ℕ) → IsTrue (is_in s ar.emitted) → Base s) (env : Env) (start : Held w pick env Base) (ss : List ℕ) (avail : (s : ℕ) → Contains ss s → IsTrue (available w.sites ar s)) (pure : (u : ℕ) → Contains (all_below w.sites ss) u → IsPureAt w.sites u) where
   -- kept before, or listed since
   abbrev In : List ℕ → ℕ → Type 0
-  In done t = Base t ⊎ Contains done t
+  In done t = IsHere Base done t
 
   abbrev Below : ℕ → Type 0
   Below t = Contains (all_below w.sites ss) t
@@ -69,16 +70,11 @@ module _ (w : World) (pick : Pick) (before : SourcesBefore w.sites) (finds : Fin
   More done done' Now = (env' : Env) × Binds done' env' × ((t : ℕ) → In done t → In done' t) × ((s : ℕ) → Now s → In done' s)
 
   last_in : (done : List ℕ) (s t : ℕ) → In done t ⊎ (s ≡ t) → In (done ++ s ∷ []) t
-  last_in done s t (inl (inl a)) = inl a
-  last_in done s t (inl (inr b)) = inr (Contains-append_left done (s ∷ []) t b)
-  last_in done s t (inr e) = inr (Contains-append_right done (s ∷ []) t (subst (Contains (s ∷ [])) e (in_head s [])))
-
-  in_last : (done : List ℕ) (s t : ℕ) → In (done ++ s ∷ []) t → In done t ⊎ (s ≡ t)
-  in_last done s t (inl a) = inl (inl a)
-  in_last done s t (inr b) = elim (Contains-append_cases done (s ∷ []) t b) [ inl x ↦ inl (inr x) | inr y ↦ inr (in_alone s t y) ]
+  last_in done s t (inl h) = stays_here Base done s t h
+  last_in done s t (inr e) = last_here Base done s t e
 
   fine_last : (done : List ℕ) (s : ℕ) → Below s → ((t : ℕ) → Contains done t → Below t) → (t : ℕ) → Contains (done ++ s ∷ []) t → Below t
-  fine_last done s f all t c = elim (Contains-append_cases done (s ∷ []) t c) [ inl x ↦ all t x | inr y ↦ subst Below (in_alone s t y) f ]
+  fine_last done s f all t c = elim (listed_last done s t c) [ inl x ↦ all t x | inr e ↦ subst Below e f ]
 
   put : (done : List ℕ) (env' : Env) → Binds done env' → (s : ℕ) → Below s → waits (slice_get w.sites s) ≡ false → ((u : ℕ) → Contains (sources_at w.sites s) u → In done u)
       → (env'' : Env) × Binds (done ++ s ∷ []) env''
@@ -91,7 +87,7 @@ module _ (w : World) (pick : Pick) (before : SourcesBefore w.sites) (finds : Fin
               env',
               record {
                 binds = bind_last w env env' env' done s b.binds (ap (bind_all w env' []) none);
-                held = held_as w pick env' (λ t. In done t ⊎ (s ≡ t)) (In (done ++ s ∷ [])) (last_in done s) (in_last done s) (keeps_in_place w pick before env' (In done) b.held s c.0 c.1 p sources);
+                held = held_as w pick env' (λ t. In done t ⊎ (s ≡ t)) (In (done ++ s ∷ [])) (last_in done s) (here_or_last Base done s) (keeps_in_place w pick before env' (In done) b.held s c.0 c.1 p sources);
                 fine = fine_last done s f b.fine;
               },
             )
@@ -101,7 +97,7 @@ module _ (w : World) (pick : Pick) (before : SourcesBefore w.sites) (finds : Fin
               (s, c.0) ∷ env',
               record {
                 binds = bind_last w env env' ((s, c.0) ∷ env') done s b.binds (ap (bind_all w env' []) alone ∙ now);
-                held = held_as w pick ((s, c.0) ∷ env') (λ t. In done t ⊎ (s ≡ t)) (In (done ++ s ∷ [])) (last_in done s) (in_last done s) (keeps_bound w pick before env' (In done) b.held s c.0 c.1 sources);
+                held = held_as w pick ((s, c.0) ∷ env') (λ t. In done t ⊎ (s ≡ t)) (In (done ++ s ∷ [])) (last_in done s) (here_or_last Base done s) (keeps_bound w pick before env' (In done) b.held s c.0 c.1 sources);
                 fine = fine_last done s f b.fine;
               },
             )
@@ -115,9 +111,6 @@ module _ (w : World) (pick : Pick) (before : SourcesBefore w.sites) (finds : Fin
       let r = each f ss (λ u c. step u (in_tail s u ss c)) (f done s) m.0 m.1 in
       (r.0, r.1, λ t i. r.2 t (m.2 t i), λ t c. elim (in_cases s t ss c) [ inl e ↦ r.2 t (m.3 t e) | inr d ↦ r.3 t d ])
 
-  there_already : (done : List ℕ) (s : ℕ) → (is_in s ar.emitted || is_in s done) ≡ true → In done s
-  there_already done s h = elim (or_cases (is_in s ar.emitted) (is_in s done) h) [ inl a ↦ inl (base s a) | inr d ↦ inr (member_found s done d) ]
-
   not_emitted : (done : List ℕ) (s : ℕ) → (is_in s ar.emitted || is_in s done) ≡ false → IsTrue (is_in s ar.brought) → ⊥
   not_emitted done s h i = false≢true (sym h ∙ or_left (is_in s ar.emitted) (is_in s done) (more s i))
 
@@ -128,7 +121,7 @@ module _ (w : World) (pick : Pick) (before : SourcesBefore w.sites) (finds : Fin
       elim (cases_Bool (is_in s ar.emitted || is_in s done)) [
         | inl t ↦
             subst (λ l. More done l (λ t. s ≡ t)) (sym (cond-true (is_in s ar.emitted || is_in s done) done (each_after (listed_below n w.sites ar.emitted) done (sources_at w.sites s) ++ s ∷ []) t))
-            (env', b, λ u i. i, λ u e. subst (In done) e (there_already done s t))
+            (env', b, λ u i. i, λ u e. subst (In done) e (met_here Base ar.emitted base done s t))
         | inr f ↦
             subst (λ l. More done l (λ t. s ≡ t)) (sym (cond-false (is_in s ar.emitted || is_in s done) done (each_after (listed_below n w.sites ar.emitted) done (sources_at w.sites s) ++ s ∷ []) f))
             (

@@ -4,7 +4,7 @@ use Rattle.std.proofs.lemmas.Bool.{cases_Bool, cases_eq, cond-true, cond-false, 
 use Rattle.std.proofs.lemmas.Option.{same_Some, slice_get_within}
 use Rattle.std.proofs.Math.Seq.{take-append_seam}
 use Rattle.std.proofs.lemmas.List.{length_push}
-use Rattle.std.proofs.lemmas.List.Elements.{Contains-append_left, Contains-append_right, Contains-append_cases, filter-append, All-nil, All-cons, All-append, All-contains}
+use Rattle.std.proofs.lemmas.List.Elements.{filter-append, All-nil, All-cons, All-append, All-contains}
 use Rattle.isle_model.specs.lists.Syntax.{Position}
 use Rattle.isle_model.specs.rules.Values.{Values, value_and, of_variant, of_struct}
 use Rattle.isle_model.specs.rules.Meaning.{Content, one, nothing, just, extractor_answer, impure_answer}
@@ -30,6 +30,7 @@ use Rattle.isle_laws_runs.proofs.taking.Settled.{values_there, sources_there}
 use Rattle.isle_laws_runs.proofs.taking.Used.{used_placed, placed_same, content_placed, bound_elsewhere, used_here, used_stays}
 use Rattle.isle_laws_runs.proofs.taking.PureSites.{calls_nothing, pure_site}
 use Rattle.isle_model.proofs.FewElements.{in_one}
+use Rattle.isle_laws_runs.proofs.runs.Here.{IsHere, stays_here, last_here, here_or_last, listed_last, met_here, not_here}
 
 -- 1. what is bound of a site that makes no impure call and waits for nothing is its content
 module _ (w : World) (k : Pick) (before : SourcesBefore w.sites) (e : Env) (calls : List Call) where
@@ -119,8 +120,11 @@ module _ (w : World) (k : Pick) (before : SourcesBefore w.sites) (ar : Around) (
   abbrev GaveValues : ℕ → Type 0
   GaveValues n = All (HasContent w.meaning w.args k) (take n us)
 
+  abbrev Emitted : ℕ → Type 0
+  Emitted t = is_in t ar.emitted ≡ true
+
   abbrev Here : List ℕ → ℕ → Type 0
-  Here done t = (is_in t ar.emitted ≡ true) ⊎ Contains done t
+  Here done t = IsHere Emitted done t
 
   abbrev bound_so_far : List ℕ → Bound
   bound_so_far done = bind_all w start [] (to_bind w.sites done)
@@ -205,22 +209,7 @@ module _ (w : World) (k : Pick) (before : SourcesBefore w.sites) (ar : Around) (
   -- 4. one more site
   module _ (done : List ℕ) (s : ℕ) (unlisted : (is_in s ar.emitted || is_in s done) ≡ false) (sources : (a : ℕ) → Contains (sources_at w.sites s) a → Here done a) where
     fresh : Here done s → ⊥
-    fresh (inl i) = false≢true (sym (or_parts (is_in s ar.emitted) (is_in s done) unlisted).0 ∙ i)
-    fresh (inr c) = false≢true (sym (or_parts (is_in s ar.emitted) (is_in s done) unlisted).1 ∙ member_is_in s done c)
-
-    grown : (t : ℕ) → Here done t → Here (done ++ s ∷ []) t
-    grown t (inl i) = inl i
-    grown t (inr c) = inr (Contains-append_left done (s ∷ []) t c)
-
-    last_here : (t : ℕ) → s ≡ t → Here (done ++ s ∷ []) t
-    last_here t e = inr (Contains-append_right done (s ∷ []) t (subst (Contains (s ∷ [])) e (in_head s [])))
-
-    listed_last : (t : ℕ) → Contains (done ++ s ∷ []) t → Contains done t ⊎ (s ≡ t)
-    listed_last t c = elim (Contains-append_cases done (s ∷ []) t c) [ inl d ↦ inl d | inr d ↦ inr (in_alone s t d) ]
-
-    last : (t : ℕ) → Here (done ++ s ∷ []) t → Here done t ⊎ (s ≡ t)
-    last t (inl i) = inl (inl i)
-    last t (inr c) = elim (listed_last t c) [ inl d ↦ inl (inr d) | inr e ↦ inr e ]
+    fresh = not_here ar.emitted done s unlisted
 
     other : (t : ℕ) → Here done t → s ≡ t → ⊥
     other t i e = fresh (subst (Here done) (sym e) i)
@@ -238,9 +227,9 @@ module _ (w : World) (k : Pick) (before : SourcesBefore w.sites) (ar : Around) (
 
       more_closed : (u a : ℕ) → Contains (done ++ s ∷ []) u → Contains (sources_at w.sites u) a → Here (done ++ s ∷ []) a
       more_closed u a c i =
-          elim (listed_last u c) [
-            | inl d ↦ grown a (kept.closed u a d i)
-            | inr q ↦ grown a (sources a (subst (λ x. Contains (sources_at w.sites x) a) (sym q) i))
+          elim (listed_last done s u c) [
+            | inl d ↦ stays_here Emitted done s a (kept.closed u a d i)
+            | inr q ↦ stays_here Emitted done s a (sources a (subst (λ x. Contains (sources_at w.sites x) a) (sym q) i))
           ]
 
       abbrev IsCounted : List Call → Type 0
@@ -248,16 +237,16 @@ module _ (w : World) (k : Pick) (before : SourcesBefore w.sites) (ar : Around) (
 
       keeps_bound_more : (c : Content) → content_at w k s ≡ Some c → (calls' : List Call) → length calls ≤ length calls' → IsCounted calls' → Kept (done ++ s ∷ []) ((s, c) ∷ e) calls'
       keeps_bound_more c there calls' le own = record {
-        reads = λ u i. elim (last u i) [
+        reads = λ u i. elim (here_or_last Emitted done s u i) [
           | inl d ↦ let x = kept.reads u d in (x.0, x.1, used_stays w e s u c x.0 (other u d) unbound x.2)
           | inr q ↦ subst (λ x. (y : Content) × (content_at w k x ≡ Some y) × (used w ((s, c) ∷ e) x ≡ Some y)) q (c, there, used_here w e s c)
         ];
         only = λ u x b. elim (cases_eq s u) [
-          | inl q ↦ last_here u q
-          | inr n ↦ grown u (kept.only u x (sym (bound_elsewhere e s u c n) ∙ b))
+          | inl q ↦ last_here Emitted done s u q
+          | inr n ↦ stays_here Emitted done s u (kept.only u x (sym (bound_elsewhere e s u c n) ∙ b))
         ];
         closed = more_closed;
-        counted = λ u t ss n i q. elim (listed_last u i) [
+        counted = λ u t ss n i q. elim (listed_last done s u i) [
           | inl d ↦ let a = kept.counted u t ss n d q in let l = a.0 in (omega (arith, l, le), a.1)
           | inr x ↦ own t ss n (ap (slice_get w.sites) x ∙ q)
         ];
@@ -265,13 +254,13 @@ module _ (w : World) (k : Pick) (before : SourcesBefore w.sites) (ar : Around) (
 
       keeps_placed : (c : Content) → content_at w k s ≡ Some c → is_in_place (slice_get w.sites s) ≡ true → Kept (done ++ s ∷ []) e calls
       keeps_placed c there p = record {
-        reads = λ u i. elim (last u i) [
+        reads = λ u i. elim (here_or_last Emitted done s u i) [
           | inl d ↦ kept.reads u d
           | inr q ↦ subst (λ x. (y : Content) × (content_at w k x ≡ Some y) × (used w e x ≡ Some y)) q (c, there, here ∙ there)
         ];
-        only = λ u x b. grown u (kept.only u x b);
+        only = λ u x b. stays_here Emitted done s u (kept.only u x b);
         closed = more_closed;
-        counted = λ u t ss n i q. elim (listed_last u i) [
+        counted = λ u t ss n i q. elim (listed_last done s u i) [
           | inl d ↦ kept.counted u t ss n d q
           | inr x ↦ absurd (false≢true (sym (ap is_in_place (ap (slice_get w.sites) x ∙ q)) ∙ p))
         ];
@@ -394,9 +383,6 @@ module _ (w : World) (k : Pick) (before : SourcesBefore w.sites) (ar : Around) (
         by None at h i = absurd (nothing_in x i)
         by (Some b) at h i = sources_there w k before s b at h x i
 
-    there_already : (done : List ℕ) (s : ℕ) → (is_in s ar.emitted || is_in s done) ≡ true → Here done s
-    there_already done s h = elim (or_cases (is_in s ar.emitted) (is_in s done) h) [ inl a ↦ inl a | inr d ↦ inr (member_found s done d) ]
-
     one_goes : (n s : ℕ) → s < n → ((u : ℕ) → Contains (below n w.sites s) u → Below u) → (calls : List Call) (done : List ℕ) (e : Env) → Listed done e calls → Ready n done s
         → Gone done (listed_below n w.sites ar.emitted done s) calls (λ t. s ≡ t)
     one_goes zero s l fine calls done e listed ready = absurd (omega (arith, l))
@@ -405,7 +391,7 @@ module _ (w : World) (k : Pick) (before : SourcesBefore w.sites) (ar : Around) (
         elim (cases_Bool (is_in s ar.emitted || is_in s done)) [
           | inl t ↦
               subst (λ x. Gone done x calls (λ t. s ≡ t)) (sym (cond-true (is_in s ar.emitted || is_in s done) done (rest ++ s ∷ []) t))
-              (inl (e, listed, λ u i. i, λ u q. subst (Here done) q (there_already done s t)))
+              (inl (e, listed, λ u i. i, λ u q. subst (Here done) q (met_here Emitted ar.emitted (λ u i. i) done s t)))
           | inr f ↦
               subst (λ x. Gone done x calls (λ t. s ≡ t)) (sym (cond-false (is_in s ar.emitted || is_in s done) done (rest ++ s ∷ []) f))
               (then_put f
@@ -421,12 +407,8 @@ module _ (w : World) (k : Pick) (before : SourcesBefore w.sites) (ar : Around) (
         pure_here : (is_in s ar.emitted || is_in s done) ≡ false → calls_nothing (slice_get w.sites s) ≡ true
         pure_here f = elim (cases_Bool (calls_nothing (slice_get w.sites s))) [
           | inl t ↦ t
-          | inr i ↦ absurd (not_here (ready s (here_of s refl) (impure_form (slice_get w.sites s) i)))
+          | inr i ↦ absurd (not_here ar.emitted done s f (ready s (here_of s refl) (impure_form (slice_get w.sites s) i)))
         ]
-          where
-            not_here : Here done s → ⊥
-            not_here (inl i) = false≢true (sym (or_parts (is_in s ar.emitted) (is_in s done) f).0 ∙ i)
-            not_here (inr c) = false≢true (sym (or_parts (is_in s ar.emitted) (is_in s done) f).1 ∙ member_is_in s done c)
 
         then_put : (is_in s ar.emitted || is_in s done) ≡ false → Gone done (each_after (listed_below n w.sites ar.emitted) done (sources_at w.sites s)) calls (Contains (sources_at w.sites s))
             → Gone done (each_after (listed_below n w.sites ar.emitted) done (sources_at w.sites s) ++ s ∷ []) calls (λ t. s ≡ t)
@@ -435,7 +417,7 @@ module _ (w : World) (k : Pick) (before : SourcesBefore w.sites) (ar : Around) (
             let after = each_after (listed_below n w.sites ar.emitted) done (sources_at w.sites s) in
             let u = still_unlisted n s done f in
             elim (put_pure after g.0 calls g.1 s (fine s (here_of s refl)) u g.3 (pure_here f)) [
-              | inl p ↦ inl (p.0, p.1, λ t i. grown after s u g.3 t (g.2 t i), λ t q. last_here after s u g.3 t q)
+              | inl p ↦ inl (p.0, p.1, λ t i. stays_here Emitted after s t (g.2 t i), λ t q. last_here Emitted after s t q)
               | inr b ↦ inr (b.0, s, refl, b.1)
             ]
 
@@ -520,8 +502,8 @@ module _ (w : World) (k : Pick) (before : SourcesBefore w.sites) (ar : Around) (
                     ∙ ap (now_bound g.0 calls' s) v.2);
                 kept = keeps_bound_more after s u g.3 g.0 calls g.1.kept c.0 c.1 calls' (omega (arith, len)) (own calls' len);
               };
-              grows = λ x j. grown after s u g.3 x (g.2 x j);
-              here = last_here after s u g.3 s refl;
+              grows = λ x j. stays_here Emitted after s x (g.2 x j);
+              here = last_here Emitted after s s refl;
             }
 
     -- 8. and its answer, unwrapped or not
@@ -637,7 +619,7 @@ module _ (w : World) (k : Pick) (before : SourcesBefore w.sites) (ar : Around) (
                     let sources : (a : ℕ) → Contains (sources_at w.sites x) a → Here rest a = λ a c. subst (Here rest) (in_alone y a (subst (λ z. Contains z a) one_source c)) r.here in
                     elim (put_pure rest r.env calls' r.listed x (fine x (below_itself w.sites x)) u sources (ap calls_nothing at)) [
                       | inl p ↦
-                          let c = p.1.kept.reads x (last_here rest x u sources x refl) in
+                          let c = p.1.kept.reads x (last_here Emitted rest x x refl) in
                           inl (record {
                             env = p.0;
                             after = calls';
@@ -645,9 +627,9 @@ module _ (w : World) (k : Pick) (before : SourcesBefore w.sites) (ar : Around) (
                             followed = followed_made m.0 m.2 r.values (Some c.0) r.held c.1;
                             there = ap is_some c.1;
                             count = one_more calls (record { term = n.term; args = r.values });
-                            grows = λ t i. grown rest x u sources t (r.grows t i);
-                            here = last_here rest x u sources x refl;
-                            call_here = λ c lc s. subst (Here (rest ++ x ∷ [])) (sym (once c y lc lt (s ∙ sym part))) (grown rest x u sources y r.here);
+                            grows = λ t i. stays_here Emitted rest x t (r.grows t i);
+                            here = last_here Emitted rest x x refl;
+                            call_here = λ c lc s. subst (Here (rest ++ x ∷ [])) (sym (once c y lc lt (s ∙ sym part))) (stays_here Emitted rest x y r.here);
                           })
                       | inr p ↦ inr (calls', p.0, followed_made m.0 m.2 r.values None r.held p.1)
                     ]

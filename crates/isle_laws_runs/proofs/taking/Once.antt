@@ -20,6 +20,7 @@ use Rattle.isle_laws_runs.proofs.runs.Contents.{SourcesBefore, sources_in, conte
 use Rattle.isle_laws_runs.proofs.runs.Listing.{sources_within}
 use Rattle.isle_laws_runs.proofs.taking.Settled.{settled, critical, settled_content, settled_pure, settled_source, emitted_settled, stock, critical_below, critical_order}
 use Rattle.isle_laws_runs.proofs.taking.Used.{used_placed, placed_same, content_placed, bound_elsewhere, used_here, used_elsewhere, used_stays, AreAlike, bind_alike, alike_bound}
+use Rattle.isle_laws_runs.proofs.runs.Here.{IsHere, stays_here, last_here, here_or_last, listed_last, met_here, not_here}
 
 -- an unwrap of what has a part is bound to it
 just_there : (o : Option Content) (c : Content) → then_option o part_of_some ≡ Some c → o ≡ Some (just c)
@@ -56,8 +57,11 @@ module _ (w : World) (before : SourcesBefore w.sites) where
     settled_binds _ at (inr u) p sources = absurd u
 
   module _ (start : Env) (held : Held w [] start Settled) (ar : Around) (env : Env) (reached : IsReached w ar env) where
+    abbrev Emitted : ℕ → Type 0
+    Emitted t = is_in t ar.emitted ≡ true
+
     abbrev In : List ℕ → ℕ → Type 0
-    In done t = (is_in t ar.emitted ≡ true) ⊎ Contains done t
+    In done t = IsHere Emitted done t
 
     emitted_is : (t : ℕ) → is_in t ar.emitted ≡ true → Settled t
     emitted_is t i = emitted_settled w before ar env reached t i
@@ -90,19 +94,8 @@ module _ (w : World) (before : SourcesBefore w.sites) where
       abbrev more : List ℕ
       more = done ++ s ∷ []
 
-      grown : (t : ℕ) → In done t → In more t
-      grown t (inl i) = inl i
-      grown t (inr c) = inr (Contains-append_left done (s ∷ []) t c)
-
       other : (t : ℕ) → In done t → s ≡ t → ⊥
       other t i e = fresh (subst (In done) (sym e) i)
-
-      last : (t : ℕ) → In more t → In done t ⊎ (s ≡ t)
-      last t (inl i) = inl (inl i)
-      last t (inr c) = elim (Contains-append_cases done (s ∷ []) t c) [ inl d ↦ inl (inr d) | inr d ↦ inr (in_alone s t d) ]
-
-      listed_last : (t : ℕ) → Contains more t → Contains done t ⊎ (s ≡ t)
-      listed_last t c = elim (Contains-append_cases done (s ∷ []) t c) [ inl d ↦ inl d | inr d ↦ inr (in_alone s t d) ]
 
       module _ (e e' : Env) (a : Agree done e e') where
         unbound_one : bound_to e s ≡ None
@@ -117,10 +110,10 @@ module _ (w : World) (before : SourcesBefore w.sites) where
         -- nothing is bound, since it is written in place
         placed_settled : Settled s → is_in_place (slice_get w.sites s) ≡ true → Agree more e e'
         placed_settled h p = record {
-          reads_one = λ u i k. elim (last u i) [ inl d ↦ a.reads_one u d k | inr q ↦ subst (λ x. used w e x ≡ content_at w [] x) q here ];
+          reads_one = λ u i k. elim (here_or_last Emitted done s u i) [ inl d ↦ a.reads_one u d k | inr q ↦ subst (λ x. used w e x ≡ content_at w [] x) q here ];
           reads_other = a.reads_other;
-          same = λ u c k. elim (listed_last u c) [ inl d ↦ a.same u d k | inr q ↦ absurd (false≢true (sym k ∙ ap (settled w) (sym q) ∙ h)) ];
-          only_one = λ u c b. grown u (a.only_one u c b);
+          same = λ u c k. elim (listed_last done s u c) [ inl d ↦ a.same u d k | inr q ↦ absurd (false≢true (sym k ∙ ap (settled w) (sym q) ∙ h)) ];
+          only_one = λ u c b. stays_here Emitted done s u (a.only_one u c b);
           only_other = λ u c b. elim (a.only_other u c b) [ inl k ↦ inl k | inr d ↦ inr (Contains-append_left done (s ∷ []) u d) ];
         }
           where
@@ -132,10 +125,10 @@ module _ (w : World) (before : SourcesBefore w.sites) where
 
         placed_critical : settled w s ≡ false → Agree more e e'
         placed_critical h = record {
-          reads_one = λ u i k. elim (last u i) [ inl d ↦ a.reads_one u d k | inr q ↦ absurd (false≢true (sym h ∙ ap (settled w) q ∙ k)) ];
+          reads_one = λ u i k. elim (here_or_last Emitted done s u i) [ inl d ↦ a.reads_one u d k | inr q ↦ absurd (false≢true (sym h ∙ ap (settled w) q ∙ k)) ];
           reads_other = a.reads_other;
-          same = λ u c k. elim (listed_last u c) [ inl d ↦ a.same u d k | inr q ↦ subst (λ x. used w e x ≡ used w e' x) q here ];
-          only_one = λ u c b. grown u (a.only_one u c b);
+          same = λ u c k. elim (listed_last done s u c) [ inl d ↦ a.same u d k | inr q ↦ subst (λ x. used w e x ≡ used w e' x) q here ];
+          only_one = λ u c b. stays_here Emitted done s u (a.only_one u c b);
           only_other = λ u c b. elim (a.only_other u c b) [ inl k ↦ inl k | inr d ↦ inr (Contains-append_left done (s ∷ []) u d) ];
         }
           where
@@ -158,8 +151,8 @@ module _ (w : World) (before : SourcesBefore w.sites) where
         only_more : (c : Content) (u : ℕ) (x : Content) → bound_to ((s, c) ∷ e) u ≡ Some x → In more u
         only_more c u x b =
             elim (same_or_not u) [
-              | inl q ↦ inr (Contains-append_right done (s ∷ []) u (subst (Contains (s ∷ [])) q (in_head s [])))
-              | inr n ↦ grown u (a.only_one u x (sym (bound_elsewhere e s u c n) ∙ b))
+              | inl q ↦ last_here Emitted done s u q
+              | inr n ↦ stays_here Emitted done s u (a.only_one u x (sym (bound_elsewhere e s u c n) ∙ b))
             ]
           where
             same_or_not : (u : ℕ) → (s ≡ u) ⊎ (s ≡ u → ⊥)
@@ -169,18 +162,18 @@ module _ (w : World) (before : SourcesBefore w.sites) where
         bound_settled h =
             let c = settled_content w before s h in
             record {
-              reads_one = λ u i k. elim (last u i) [ inl d ↦ one_stays c.0 u d k | inr q ↦ subst (λ x. used w ((s, c.0) ∷ e) x ≡ content_at w [] x) q (used_here w e s c.0 ∙ sym c.1) ];
+              reads_one = λ u i k. elim (here_or_last Emitted done s u i) [ inl d ↦ one_stays c.0 u d k | inr q ↦ subst (λ x. used w ((s, c.0) ∷ e) x ≡ content_at w [] x) q (used_here w e s c.0 ∙ sym c.1) ];
               reads_other = a.reads_other;
-              same = λ u d k. elim (listed_last u d) [ inl l ↦ one_elsewhere c.0 u l ∙ a.same u l k | inr q ↦ absurd (false≢true (sym k ∙ ap (settled w) (sym q) ∙ h)) ];
+              same = λ u d k. elim (listed_last done s u d) [ inl l ↦ one_elsewhere c.0 u l ∙ a.same u l k | inr q ↦ absurd (false≢true (sym k ∙ ap (settled w) (sym q) ∙ h)) ];
               only_one = only_more c.0;
               only_other = λ u x b. elim (a.only_other u x b) [ inl k ↦ inl k | inr d ↦ inr (Contains-append_left done (s ∷ []) u d) ];
             }
 
         bound_critical : settled w s ≡ false → (c : Content) → Agree more ((s, c) ∷ e) ((s, c) ∷ e')
         bound_critical h c = record {
-          reads_one = λ u i k. elim (last u i) [ inl d ↦ one_stays c u d k | inr q ↦ absurd (false≢true (sym h ∙ ap (settled w) q ∙ k)) ];
+          reads_one = λ u i k. elim (here_or_last Emitted done s u i) [ inl d ↦ one_stays c u d k | inr q ↦ absurd (false≢true (sym h ∙ ap (settled w) q ∙ k)) ];
           reads_other = λ u k. let x = settled_content w before u k in used_stays w e' s u c x.0 (λ q. false≢true (sym h ∙ ap (settled w) q ∙ k)) (unbound_other h) (a.reads_other u k ∙ x.1) ∙ sym x.1;
-          same = λ u d k. elim (listed_last u d) [
+          same = λ u d k. elim (listed_last done s u d) [
             | inl l ↦ one_elsewhere c u l ∙ a.same u l k ∙ sym (other_elsewhere c u l)
             | inr q ↦ subst (λ x. used w ((s, c) ∷ e) x ≡ used w ((s, c) ∷ e') x) q (used_here w e s c ∙ sym (used_here w e' s c))
           ];
@@ -275,20 +268,12 @@ module _ (w : World) (before : SourcesBefore w.sites) where
             subst (λ b. Alike (done ++ s ∷ []) b (bind_all w start [] (to_bind w.sites (filter (critical w) (done ++ s ∷ []))))) (sym (bind_both env done (s ∷ [])))
             (subst (Alike (done ++ s ∷ []) (then_bind (bind_all w env [] (to_bind w.sites done)) (λ e k. bind_all w e k (to_bind w.sites (s ∷ [])))))
             (sym (ap (λ x. bind_all w start [] (to_bind w.sites x)) (filter-append (critical w) done (s ∷ [])) ∙ bind_both start (filter (critical w) done) (filter (critical w) (s ∷ []))))
-            (step_on done s fresh l.closed sources (free s f (or_parts (is_in s ar.emitted) (is_in s done) n).0) (bind_all w env [] (to_bind w.sites done)) (bind_all w start [] (to_bind w.sites (filter (critical w) done))) l.alike));
+            (step_on done s (not_here ar.emitted done s n) l.closed sources (free s f (or_parts (is_in s ar.emitted) (is_in s done) n).0) (bind_all w env [] (to_bind w.sites done)) (bind_all w start [] (to_bind w.sites (filter (critical w) done))) l.alike));
         closed = λ u a c k. elim (Contains-append_cases done (s ∷ []) u c) [
-          | inl d ↦ further a (l.closed u a d k)
-          | inr d ↦ further a (sources a (subst (λ x. Contains (sources_at w.sites x) a) (sym (in_alone s u d)) k))
+          | inl d ↦ stays_here Emitted done s a (l.closed u a d k)
+          | inr d ↦ stays_here Emitted done s a (sources a (subst (λ x. Contains (sources_at w.sites x) a) (sym (in_alone s u d)) k))
         ];
       }
-        where
-          fresh : In done s → ⊥
-          fresh (inl i) = false≢true (sym (or_parts (is_in s ar.emitted) (is_in s done) n).0 ∙ i)
-          fresh (inr c) = false≢true (sym (or_parts (is_in s ar.emitted) (is_in s done) n).1 ∙ member_is_in s done c)
-
-          further : (a : ℕ) → In done a → In (done ++ s ∷ []) a
-          further a (inl i) = inl i
-          further a (inr c) = inr (Contains-append_left done (s ∷ []) a c)
 
       each : (f : List ℕ → ℕ → List ℕ) (xs : List ℕ) → ((s : ℕ) → Contains xs s → (done : List ℕ) → Listed done → More done (f done s) (λ t. s ≡ t))
           → (done : List ℕ) → Listed done → More done (each_after f done xs) (Contains xs)
@@ -298,9 +283,6 @@ module _ (w : World) (before : SourcesBefore w.sites) where
           let r = each f xs (λ u c. go u (in_tail s u xs c)) (f done s) m.0 in
           (r.0, λ t i. r.1 t (m.1 t i), λ t c. elim (in_cases s t xs c) [ inl e ↦ r.1 t (m.2 t e) | inr d ↦ r.2 t d ])
 
-      there_already : (done : List ℕ) (s : ℕ) → (is_in s ar.emitted || is_in s done) ≡ true → In done s
-      there_already done s h = elim (or_cases (is_in s ar.emitted) (is_in s done) h) [ inl a ↦ inl a | inr d ↦ inr (member_found s done d) ]
-
       one_listed : (n s : ℕ) → s < n → ((u : ℕ) → Contains (below n w.sites s) u → Below u)
           → (done : List ℕ) → Listed done → More done (listed_below n w.sites ar.emitted done s) (λ t. s ≡ t)
       one_listed zero s l fine done b = absurd (omega (arith, l))
@@ -309,7 +291,7 @@ module _ (w : World) (before : SourcesBefore w.sites) where
           elim (cases_Bool (is_in s ar.emitted || is_in s done)) [
             | inl t ↦
                 subst (λ x. More done x (λ t. s ≡ t)) (sym (cond-true (is_in s ar.emitted || is_in s done) done (rest ++ s ∷ []) t))
-                (b, λ u i. i, λ u e. subst (In done) e (there_already done s t))
+                (b, λ u i. i, λ u e. subst (In done) e (met_here Emitted ar.emitted (λ u i. i) done s t))
             | inr f ↦
                 subst (λ x. More done x (λ t. s ≡ t)) (sym (cond-false (is_in s ar.emitted || is_in s done) done (rest ++ s ∷ []) f))
                 (
@@ -318,15 +300,11 @@ module _ (w : World) (before : SourcesBefore w.sites) where
                 done b in
                 elim (cases_Bool (is_in s ar.emitted || is_in s rest)) [
                   | inl t ↦ absurd (unlisted n s done f t)
-                  | inr g ↦ (put rest r.0 s (fine s (in_head s (flat_map (below n w.sites) (sources_at w.sites s)))) g r.2, λ t i. wider rest s t (r.1 t i), λ t e. inr (Contains-append_right rest (s ∷ []) t (subst (Contains (s ∷ [])) e (in_head s []))))
+                  | inr g ↦ (put rest r.0 s (fine s (in_head s (flat_map (below n w.sites) (sources_at w.sites s)))) g r.2, λ t i. stays_here Emitted rest s t (r.1 t i), λ t e. last_here Emitted rest s t e)
                 ]
                 )
           ]
         where
-          wider : (rest : List ℕ) (s t : ℕ) → In rest t → In (rest ++ s ∷ []) t
-          wider rest s t (inl i) = inl i
-          wider rest s t (inr c) = inr (Contains-append_left rest (s ∷ []) t c)
-
           unlisted : (n s : ℕ) (done : List ℕ) → (is_in s ar.emitted || is_in s done) ≡ false → (is_in s ar.emitted || is_in s (each_after (listed_below n w.sites ar.emitted) done (sources_at w.sites s))) ≡ true → ⊥
           unlisted n s done f t =
               let p = or_parts (is_in s ar.emitted) (is_in s done) f in

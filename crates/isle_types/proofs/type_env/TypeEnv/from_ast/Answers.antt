@@ -1,8 +1,9 @@
 use Rattle.std.proofs.Common.{◌≡◌, [], ap, length, rules}
 use Rattle.isle_types.proofs.Naming.{first_name}
-use Rattle.isle_types.proofs.Ending.{nothing, at_ok, at_err}
+use Rattle.isle_types.proofs.Ending.{at_ok, at_err}
 use Rattle.isle_types.proofs.WellFormedEnvs.{types_shown, well_formed}
 use Rattle.isle_types.proofs.type_env.TypeEnv.from_ast.Goals as goal
+use Rattle.std.proofs.lemmas.List.{nil_from_length}
 
 pub name_types-requires : goal.name_types-requires
 name_types-requires c = first_name _ _ _ c.in_ok-env.ensures.table c.in_ok-env.ensures.count c.new-errors.ensures.items
@@ -10,18 +11,18 @@ name_types-requires c = first_name _ _ _ c.in_ok-env.ensures.table c.in_ok-env.e
 pub returns-then-is_empty-clause-answers : goal.returns-then-is_empty-clause-answers
 returns-then-is_empty-clause-answers c =
     let none : length c.read_constants.new.errors.items ≡ 0 = search rules in
-    at_ok _ _ _ c.in_ok-read_constants.ensures (nothing _ none)
+    at_ok _ _ _ c.in_ok-read_constants.ensures (nil_from_length _ none)
 
 pub returns-then-is_empty-clause-shown : goal.returns-then-is_empty-clause-shown
 returns-then-is_empty-clause-shown c =
     let none : length c.read_constants.new.errors.items ≡ 0 = search rules in
-    let ok = at_ok _ _ _ c.in_ok-read_constants.ensures (nothing _ none) in
+    let ok = at_ok _ _ _ c.in_ok-read_constants.ensures (nil_from_length _ none) in
     types_shown _ _ ok.0 ok.1
 
 pub returns-then-is_empty-clause-well_formed : goal.returns-then-is_empty-clause-well_formed
 returns-then-is_empty-clause-well_formed c =
     let none : length c.read_constants.new.errors.items ≡ 0 = search rules in
-    let ok = at_ok _ _ _ c.in_ok-read_constants.ensures (nothing _ none) in
+    let ok = at_ok _ _ _ c.in_ok-read_constants.ensures (nil_from_length _ none) in
     well_formed _ _ ok.0 ok.1
 
 pub returns-else-is_empty-clause-answers : goal.returns-else-is_empty-clause-answers
