@@ -8,7 +8,7 @@ use Rattle.isle_model.specs.sites.SetRules.{reports_of_sets}
 use Rattle.isle_model.specs.claims.Layers.{CheckAnswers}
 use Rattle.isle_model.specs.claims.Refusals.{refusal_of}
 use Rattle.isle_laws_demands.specs.SetReportLaws.{all_reports}
-use Rattle.isle_laws_demands.proofs.overlaps.Checked.{map_empty}
+use Rattle.isle_model.proofs.Mapped.{nothing_mapped}
 use Rattle.isle_laws_demands.proofs.overlaps.SetChecks.{built_sets_are_checked_lem}
 use Rattle.isle_base.specs.declared.syntax.Error.{Error}
 use Rattle.isle_types.specs.declared.ids.TermId.{TermId}
@@ -36,11 +36,11 @@ module _ (env : TermEnv) (p : Program) (sets : List (TermId × RuleSet)) (errors
   pub nothing_found : all ≡ [] → CheckAnswers p (term_set_views sets)
   nothing_found e =
       (built_sets_are_checked_lem p (term_set_views sets) reports built.known built.answers).0
-      (map_empty refusal_of (all_reports p (term_set_views sets) reports) (sym views ∙ ap error_views e))
+      (nothing_mapped refusal_of (all_reports p (term_set_views sets) reports) (sym views ∙ ap error_views e))
 
   pub something_found : (all ≡ [] → ⊥) → ReportsAreErrors p all
   something_found n = record {
     reports = all_reports p (term_set_views sets) reports;
     are = views;
-    reported = (built_sets_are_checked_lem p (term_set_views sets) reports built.known built.answers).1 (λ e. n (map_empty error_view all (views ∙ ap report_views e)));
+    reported = (built_sets_are_checked_lem p (term_set_views sets) reports built.known built.answers).1 (λ e. n (nothing_mapped error_view all (views ∙ ap report_views e)));
   }

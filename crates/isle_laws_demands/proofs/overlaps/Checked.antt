@@ -29,10 +29,6 @@ no_parts (x ∷ xs) ys e = absurd (not_empty x (xs ++ ys) e)
 both_empty : {X : Type 0} (xs ys : List X) → xs ≡ [] → ys ≡ [] → (xs ++ ys) ≡ []
 both_empty xs ys e f = ap (λ l. l ++ ys) e ∙ f
 
-pub map_empty : {X Y : Type 0} (f : X → Y) (xs : List X) → map f xs ≡ [] → xs ≡ []
-map_empty f [] e = refl
-map_empty f (x ∷ xs) e = absurd (not_empty (f x) (map f xs) e)
-
 module _ (p : Program) where
   -- rules that are all built
   abbrev AllBuilt : List SiteTerm → List TypedRule → Type 0
