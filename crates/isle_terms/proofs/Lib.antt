@@ -14,3 +14,6 @@ pub mod FirstOfTerm
 pub mod RootSteps
 pub mod ConverterSteps
 pub mod ExternSteps
+pub mod Callees
+pub mod TemplateNames
+pub mod TemplateSteps

@@ -9,3 +9,4 @@ pub mod Standing
 pub mod Converting
 pub mod Externing
 pub mod ExternStages
+pub mod Templating

@@ -16,6 +16,7 @@ mod declarations;
 mod externs;
 mod made;
 mod roots;
+mod templates;
 
 use crate::term::{ConstructorKind, Term, TermFlags, TermKind};
 use crate::term_table::TermTable;
