@@ -1,12 +1,16 @@
 -- Which terms templates name, as the code keeps it.
-use Rattle.std.proofs.Common.{◌≡◌, ◌≢◌, ℕ, zero, suc, ◌+◌, ◌<◌, List, [], ◌∷◌, ◌++◌, length, map, Vec, refl, sym, ap, subst, ◌∙◌, arith}
+use Rattle.std.proofs.Common.{◌≡◌, ◌≢◌, ◌==◌, ℕ, zero, suc, ◌+◌, ◌<◌, true, false, List, [], ◌∷◌, ◌++◌, length, map, All, Contains, Vec, eqb-true, refl, sym, ap, subst, ◌∙◌, arith}
 use Rattle.std.specs.List.Sorted.{IsPermutation}
 use Rattle.std.specs.declared.alloc.Global.{Global}
 use Rattle.std.proofs.Math.ListN.{set}
+use Rattle.std.proofs.lemmas.Bool.{false≢true}
+use Rattle.std.proofs.lemmas.Bool.Decides.{Decides-eqb}
 use Rattle.std.proofs.lemmas.List.{length_push}
-use Rattle.std.proofs.lemmas.List.Sorted.{IsPermutation-map, IsPermutation-trans}
+use Rattle.std.proofs.lemmas.List.Elements.{All-contains, All-map}
+use Rattle.std.proofs.lemmas.List.Sorted.{All-permutation, IsPermutation-map, IsPermutation-trans}
 use Rattle.isle_types.specs.declared.ids.TermId.{TermId}
-use Rattle.isle_terms.specs.Templating.{callees_of, NameNothing, SetsCallees}
+use Rattle.isle_terms.specs.declared.term_table.TermTable.{TermTable}
+use Rattle.isle_terms.specs.Templating.{callees_of, AreCallees, NameNothing, SetsCallees}
 
 abbrev Callees : Type 0
 Callees = List (Vec TermId Global)
@@ -54,3 +58,18 @@ sets_callees cs t v named within p = record {
 -- the same terms in another order, and in another one again
 pub reordered : (xs ys zs : List TermId) → IsPermutation xs ys → IsPermutation ys zs → IsPermutation (map (λ u. u.0) xs) (map (λ u. u.0) zs)
 reordered xs ys zs p q = IsPermutation-map (λ u. u.0) xs zs (IsPermutation-trans xs ys zs p q)
+
+-- what is told of another term is told of each term of the table still
+pub still_callees : (table table' : TermTable) (old new : Callees) (t : ℕ) (named : List TermId) → All (λ u. u.0 < length table.terms.items) named → SetsCallees t (map (λ u. u.0) named) old new → length table'.terms.items ≡ length table.terms.items → AreCallees table old → AreCallees table' new
+still_callees table table' old new t named below sets same c = record { count = sets.count ∙ c.count ∙ sym same; within = λ u v h. subst (λ n. v < n) (sym same) (within u v h) }
+  where
+    at_term : (v : ℕ) → Contains (callees_of new t) v → v < length table.terms.items
+    at_term v h = All-contains (λ i. i < length table.terms.items) (callees_of new t) v
+        (All-permutation (λ i. i < length table.terms.items) (map (λ u. u.0) named) (callees_of new t) sets.this (All-map (λ i. i < length table.terms.items) (λ u. u.0) named below)) h
+
+    within : (u v : ℕ) → Contains (callees_of new u) v → v < length table.terms.items
+    within u v h =
+        elim (u == t) as (λ b. (u == t) ≡ b → v < length table.terms.items) [
+          | true ↦ λ e. at_term v (subst (λ k. Contains (callees_of new k) v) (eqb-true u t e) h)
+          | false ↦ λ e. c.within u v (subst (λ l. Contains l v) (sets.others u (λ same. false≢true (sym e ∙ (Decides-eqb u t).1 same))) h)
+        ] refl

@@ -17,3 +17,4 @@ pub mod ExternSteps
 pub mod Callees
 pub mod TemplateNames
 pub mod TemplateSteps
+pub mod TemplateParts

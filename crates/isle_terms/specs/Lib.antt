@@ -10,3 +10,4 @@ pub mod Converting
 pub mod Externing
 pub mod ExternStages
 pub mod Templating
+pub mod Recursion

@@ -15,6 +15,7 @@ mod converters;
 mod declarations;
 mod externs;
 mod made;
+mod recursion;
 mod roots;
 mod templates;
 
