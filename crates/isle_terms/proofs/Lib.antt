@@ -18,3 +18,4 @@ pub mod Callees
 pub mod TemplateNames
 pub mod TemplateSteps
 pub mod TemplateParts
+pub mod Marks

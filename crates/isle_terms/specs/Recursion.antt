@@ -55,6 +55,11 @@ pub record AreMarks (callees : List (Vec TermId Global)) (roots : ℕ) (marks : 
   pub ends : (t : ℕ) → slice_get marks t ≡ Some Ends → HasEnd callees t
   pub roots_below : (t : ℕ) (by : TermId) → slice_get marks t ≡ Some (Met by) → by.0 < roots
 
+-- so many terms, of which none was met
+pub record AreUnmet (count : ℕ) (marks : List Mark) : Type 0 where
+  pub count_is : length marks ≡ count
+  pub unmet : (t : ℕ) (mark : Mark) → slice_get marks t ≡ Some mark → mark ≡ Unmet
+
 -- each term on the path comes to this one
 abbrev pub LeadsTo : List (Vec TermId Global) → ℕ → List Mark → ℕ → Type 0
 LeadsTo callees root marks u = (t : ℕ) → slice_get (on_path root marks) t ≡ Some true → Comes callees t u

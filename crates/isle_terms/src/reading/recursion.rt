@@ -8,7 +8,7 @@ ghost use Rattle.isle_types.specs.Reading.{Reports};
 ghost use Rattle.isle_terms.specs.Signing.{Notes};
 ghost use Rattle.isle_terms.specs.TermViews.{term_view};
 ghost use Rattle.isle_terms.specs.Templating.{AreCallees};
-ghost use Rattle.isle_terms.specs.Recursion.{AreMarks, AreWalked, AreWithin, ComesBack, EndsBelow, HasEnd, HaveTemplates, IsWalked, IsWayBack, LeadsTo, has_template, is_end, is_on, on_path};
+ghost use Rattle.isle_terms.specs.Recursion.{AreMarks, AreUnmet, AreWalked, AreWithin, ComesBack, EndsBelow, HasEnd, HaveTemplates, IsWalked, IsWayBack, LeadsTo, has_template, is_end, is_on, on_path};
 
 use crate::term::{ExtractorKind, Term, TermKind};
 use crate::term_table::TermTable;
@@ -88,12 +88,10 @@ impl TermTable {
     {
         let alloc = *errors.allocator();
         let name = tyenv.text_of(self.terms[root.index()].name);
-        let mut msg = format!(in alloc; "`{name}` extractor definition is recursive: ")?;
-        let mut arrow = "";
-        for term in path.iter().rev() {
-            msg.push_str(arrow)?;
+        let mut msg = format!(in alloc; "`{name}` extractor definition is recursive: {name}")?;
+        for term in path.iter().rev().skip(1) {
+            msg.push_str(" -> ")?;
             msg.push_str(tyenv.text_of(self.terms[term.index()].name))?;
-            arrow = " -> ";
         }
         report(errors, pos, msg.as_str())
     }
@@ -113,8 +111,9 @@ fn template_pos(term: &Term) -> Option<Pos>
 }
 
 // Of so many terms none was met.
+#[tactic(auto, using(crate::proofs::Marks::unmet_first, crate::proofs::Marks::unmet_more))]
 fn unmet(alloc: Global, count: usize) -> Result<Vec<Mark>, AllocError>
-    ensures { IfOk result (λ v. (callees : _) → length callees ≡ count → AreMarks callees 0 v.items) }
+    ensures { IfOk result (λ v. AreUnmet count v.items) }
 {
     let mut marks = Vec::new(alloc);
     for _id in 0..count {
