@@ -19,3 +19,5 @@ pub mod TemplateNames
 pub mod TemplateSteps
 pub mod TemplateParts
 pub mod Marks
+pub mod Recursion
+pub mod Whole

@@ -86,7 +86,7 @@ template_lacks struct_term h o = false≢true h
 template_lacks (declared_term flags constructor_kind extractor_kind) h o = false≢true (sym o)
 
 -- two names of one term are one
-one_name : (names : List (List ℕ)) (x y : List ℕ) (t : ℕ) → place_from 0 x names ≡ Some t → place_from 0 y names ≡ Some t → x ≡ y
+pub one_name : (names : List (List ℕ)) (x y : List ℕ) (t : ℕ) → place_from 0 x names ≡ Some t → place_from 0 y names ≡ Some t → x ≡ y
 one_name names x y t h g =
     let k : 0 + t ≡ t = omega arith in
     same_Some x y (sym (place_at 0 t x names t k h) ∙ place_at 0 t y names t k g)

@@ -11,3 +11,4 @@ pub mod Externing
 pub mod ExternStages
 pub mod Templating
 pub mod Recursion
+pub mod Whole

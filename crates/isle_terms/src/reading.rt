@@ -18,6 +18,7 @@ mod made;
 mod recursion;
 mod roots;
 mod templates;
+mod whole;
 
 use crate::term::{ConstructorKind, Term, TermFlags, TermKind};
 use crate::term_table::TermTable;

@@ -8,6 +8,8 @@ ghost use Rattle.isle_types.specs.Reading.{Reports};
 ghost use Rattle.isle_types.specs.VariantReading.{ReportsIf};
 ghost use Rattle.isle_terms.specs.Reading.{IsWithin, term_of_name};
 ghost use Rattle.isle_terms.specs.Signing.{Notes, ReadsTerms};
+ghost use Rattle.isle_terms.specs.Recursion.{ExtractorsRead};
+ghost use Rattle.isle_terms.specs.Standing.{RootsRead};
 ghost use Rattle.isle_terms.specs.TermViews.{term_view};
 ghost use Rattle.isle_terms.specs.Templating.{AddsFound, AreArguments, AreCallees, AreFound, CantTakeTemplate, HaveUnknown, IsTemplate, IsWrongTemplate, NameNothing, ReadsIfTemplate, ReadsExtractor, SetsCallees, TakesTemplate, TemplatesRead, may_have_template};
 
@@ -19,9 +21,29 @@ use isle_types::{TermId, TypeEnv, report};
 use std::alloc::{AllocError, Global};
 
 impl TermTable {
+    // Reads all internal extractors, and looks for recursion among them. One on a term that isn't there ends
+    // this at once, and recursion isn't looked for then.
+    pub(crate) fn collect_extractor_templates(
+        &mut self,
+        tyenv: &TypeEnv,
+        errors: &mut Vec<Error>,
+        defs: &[Def],
+    ) -> Result<(), AllocError>
+        ghost read: { TypesRead }
+        requires readable { AreReadable read }
+        requires start { ReadsTerms read (definition_views defs.now) (RootsRead read (definition_views defs.now) (definition_views defs.now)) tyenv.now self.old errors.old.items }
+        ensures { OnOk result (ReadsTerms read (definition_views defs.now) (ExtractorsRead read (definition_views defs.now)) tyenv.now self.new errors.new.items) }
+    {
+        let mut callees = no_callees(*errors.allocator(), self.terms.len())?;
+        if !self.read_templates(tyenv, errors, &mut callees, defs)? {
+            return Ok(());
+        }
+        self.check_recursion(tyenv, errors, &callees)
+    }
+
     // Reads all internal extractors, and which terms each names. One on a term that isn't there ends the
     // reading of extractors at once: the answer is false then.
-    pub(crate) fn read_templates(
+    fn read_templates(
         &mut self,
         tyenv: &TypeEnv,
         errors: &mut Vec<Error>,
@@ -211,7 +233,7 @@ impl TermTable {
 
 // Of so many terms none names any.
 #[tactic(auto, using(crate::proofs::Callees::nothing_first, crate::proofs::Callees::nothing_more))]
-pub(crate) fn no_callees(alloc: Global, count: usize) -> Result<Vec<Vec<TermId>>, AllocError>
+fn no_callees(alloc: Global, count: usize) -> Result<Vec<Vec<TermId>>, AllocError>
     ensures { IfOk result (λ cs. NameNothing count cs.items) }
 {
     let mut callees = Vec::new(alloc);
