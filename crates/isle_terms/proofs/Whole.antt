@@ -1,5 +1,5 @@
 -- From one group of the reading of terms to the next one, and what stands at the end.
-use Rattle.std.proofs.Common.{◌≡◌, ◌≢◌, ◌==◌, ◌&&◌, ◌||◌, ℕ, suc, ◌+◌, ◌<◌, Bool, true, false, cond, List, [], ◌∷◌, ◌++◌, ◌⊎◌, length, map, slice_get, Option, None, Some, option_map, All, Contains, Vec, refl, sym, ap, subst, ◌∙◌, arith, inl, inr, ⊎_elim}
+use Rattle.std.proofs.Common.{◌≡◌, ◌≢◌, ◌==◌, ◌&&◌, ◌||◌, ℕ, suc, ◌+◌, ◌<◌, Bool, true, false, cond, List, [], ◌∷◌, ◌++◌, ◌⊎◌, length, map, slice_get, Option, None, Some, option_map, All, Contains, OnOk, Result, Ok, Err, refl, sym, ap, subst, ◌∙◌, arith, inl, inr, ⊎_elim}
 use Rattle.std.specs.List.{cons_option, enumerate_from, filter_map, find, flat_map, AllByRecursion}
 use Rattle.std.specs.Str.{bytes_eq}
 use Rattle.std.proofs.lemmas.Bool.{false≢true}
@@ -110,16 +110,6 @@ right_now e defs A env table es s none = ⊎_elim (λ r. r.1) (λ w. absurd (w.0
 pub wrong_now : (e : TypesRead) (defs : List Definition) (A : TypeEnv → TermTable → Type 0) (env : TypeEnv) (table : TermTable) (es : List Error) → ReadsTerms e defs A env table es → es ≢ [] → IsValidTerms e.known defs → ⊥
 wrong_now e defs A env table es s some = ⊎_elim (λ r. absurd (some r.0)) (λ w. w.1) s.so_far
 
--- before the converters
-pub first_converter : (e : TypesRead) (defs : List Definition) (env : TypeEnv) (table : TermTable) (es : List Error) → ReadsTerms e defs (ExtractorsRead e defs) env table es → ReadsTerms e defs (ConvertersRead e defs []) env table es
-first_converter e defs env table es s =
-    reads_as e defs (ExtractorsRead e defs) (ConvertersRead e defs []) env table es (λ h. record {
-      stand = h.stand;
-      known = All-nil _;
-      distinct = λ j k x p q. absurd (cc);
-      conversions = λ i o. ap (option_map (λ t. t.0)) (h.converters (type_by_id i, type_by_id o));
-    }) s
-
 same_entries : (f g : DeclTree → ℕ → TermEntry) (fs : List (ℕ → TermEntry)) → ((d : DeclTree) (i : ℕ) → f d i ≡ g d i) → (n : ℕ) (ds : List DeclTree) → with_ids n (map f ds ++ fs) ≡ with_ids n (map g ds ++ fs)
 same_entries f g fs h n [] = refl
 same_entries f g fs h n (d ∷ ds) = ap (λ x. x ∷ with_ids (n + 1) (map f ds ++ fs)) (h d n) ∙ ap (λ l. g d n ∷ l) (same_entries f g fs h (n + 1) ds)
@@ -172,13 +162,13 @@ by_name_from n (t ∷ ts) (x ∷ ns) names h ids =
     ∙ ap (λ k. (number names x, k) ∷ terms_by_name ts) id
     ∙ ap (λ l. (number names x, n) ∷ l) (by_name_from (n + 1) ts ns names tail (λ i u g. ids (suc i) u g ∙ next i))
 
+one_name_met : (ns rest : List (List ℕ)) (m : ℕ) (x : List ℕ) (o : Option (List ℕ)) → slice_get ns m ≡ o → (Contains rest x → has_name ns x ≡ true) → Contains (cons_option o rest) x → has_name ns x ≡ true
+one_name_met ns rest m x None e all c = all c
+one_name_met ns rest m x (Some y) e all c = ⊎_elim (λ s. has_at ns m x (e ∙ ap Some s)) all (in_cases y x rest c)
+
 made_names_met : (ns : List (List ℕ)) (ms : List ℕ) (x : List ℕ) → Contains (filter_map (slice_get ns) ms) x → has_name ns x ≡ true
 made_names_met ns [] x c = absurd (nothing_in x c)
-made_names_met ns (m ∷ ms) x c = of_one (slice_get ns m) refl c
-  where
-    of_one : (o : Option (List ℕ)) → slice_get ns m ≡ o → Contains (cons_option o (filter_map (slice_get ns) ms)) x → has_name ns x ≡ true
-    of_one None e d = made_names_met ns ms x d
-    of_one (Some y) e d = ⊎_elim (λ s. has_at ns m x (e ∙ ap Some s)) (λ r. made_names_met ns ms x r) (in_cases y x (filter_map (slice_get ns) ms) d)
+made_names_met ns (m ∷ ms) x c = one_name_met ns (filter_map (slice_get ns) ms) m x (slice_get ns m) refl (made_names_met ns ms x) c
 
 -- nothing is wrong: these are the terms of the list
 pub all_read : (e : TypesRead) → AreReadable e → (defs : List Definition) (env old : TypeEnv) (table before : TermTable) → IsLeftByRefusal e (environment_view env) → ExtractorsRead e defs old before → (cr : (mid : TermTable) × ConvertersRead e defs defs old mid) → ExternsRead e defs defs env table
@@ -224,3 +214,8 @@ all_read e readable defs env old table before left x cr s = (valid, record { val
 
     types : IsReadAs (environment_view env) (with_read_names e (term_names_met e.known defs))
     types = subst (λ ns. IsReadAs (environment_view env) (with_read_names e ns)) (sym left.types.names ∙ s.stand.names) left.types
+
+-- two facts of what was answered
+pub both_ok : {T E : Type 0} (r : Result T E) (A B C : Type 0) → (A → B → C) → OnOk r A → OnOk r B → OnOk r C
+both_ok (Ok x) A B C f a b = f a b
+both_ok (Err x) A B C f a b = tt
