@@ -1,18 +1,18 @@
 -- The marks of the search for recursion among templates.
-use Rattle.std.proofs.Common.{◌≡◌, ◌≢◌, ◌==◌, ℕ, zero, suc, ◌+◌, ◌*◌, ◌<◌, ◌≤◌, not, nat_eq, Bool, true, false, List, [], ◌∷◌, ◌++◌, ◌⊎◌, length, take, get_or, map, filter, slice_get, MatchOption, Option, None, Some, option_map, unwrap_or, All, Contains, Vec, refl, sym, ap, subst, ◌∙◌, eqb-true, arith, inl, inr}
+use Rattle.std.proofs.Common.{◌≡◌, ◌≢◌, ◌==◌, ℕ, zero, suc, ◌+◌, ◌<◌, not, Bool, true, false, List, [], ◌∷◌, ◌++◌, length, get_or, map, filter, slice_get, MatchOption, Option, None, Some, option_map, unwrap_or, All, Contains, Vec, refl, sym, ap, subst, ◌∙◌, eqb-true, arith}
 use Rattle.std.specs.declared.alloc.Global.{Global}
 use Rattle.std.proofs.Math.ListN.{set}
 use Rattle.std.proofs.lemmas.Bool.{false≢true}
 use Rattle.std.proofs.lemmas.Bool.Decides.{Decides-eqb}
-use Rattle.std.proofs.lemmas.List.{length_push, map-append, take_more}
-use Rattle.std.proofs.lemmas.List.Elements.{All-cons, All-nil, All-push, All-weaker, All-contains, All-contains_itself, Contains-get_or, Contains-push_cases}
-use Rattle.std.proofs.lemmas.Option.{same_Some, slice_get-map, slice_get-get_or, slice_get_within}
+use Rattle.std.proofs.lemmas.List.{length_push}
+use Rattle.std.proofs.lemmas.List.Elements.{All-cons, All-nil, All-push, All-weaker, All-contains_itself}
+use Rattle.std.proofs.lemmas.Option.{same_Some, slice_get-map, slice_get-get_or}
 use Rattle.isle_model.proofs.Members.{in_map}
 use Rattle.isle_types.specs.declared.ids.TermId.{TermId}
 use Rattle.isle_terms.specs.declared.reading.recursion.Mark.{Mark}
 use Rattle.isle_terms.specs.declared.reading.recursion.Mark.TheVariants.{Unmet, Met, Ends}
 use Rattle.isle_terms.specs.Templating.{callees_of}
-use Rattle.isle_terms.specs.Recursion.{all_end, AreMarks, AreUnmet, AreWalked, AreWithin, Comes, by_one, by_more, HasEnd, IsWalked, IsWayBack, LeadsTo, is_end, is_on, on_path}
+use Rattle.isle_terms.specs.Recursion.{all_end, AreMarks, AreUnmet, AreWalked, AreWithin, Comes, by_one, by_more, HasEnd, IsWalked, IsWayBack, LeadsTo, is_on, on_path}
 
 pub unmet_first : (ms : List Mark) → ms ≡ [] → AreUnmet 0 ms
 unmet_first ms e = record { count_is = ap length e; unmet = λ t mark h. absurd (nothing t mark (ap (λ l. slice_get l t) (sym e) ∙ h)) }
@@ -66,7 +66,7 @@ set_same (y ∷ ys) zero x h = ap (λ z. z ∷ ys) (sym (same_Some y x h))
 set_same (y ∷ ys) (suc t) x h = ap (λ l. y ∷ l) (set_same ys t x h)
 
 -- one more of these is true, so one fewer is not
-pub one_fewer : (xs : List Bool) (t : ℕ) → slice_get xs t ≡ Some false → length (filter not (set xs t true)) + 1 ≡ length (filter not xs)
+one_fewer : (xs : List Bool) (t : ℕ) → slice_get xs t ≡ Some false → length (filter not (set xs t true)) + 1 ≡ length (filter not xs)
 one_fewer [] t h = absurd (cc)
 one_fewer (true ∷ xs) zero h = absurd (cc)
 one_fewer (false ∷ xs) zero h = omega arith
@@ -75,11 +75,6 @@ one_fewer (false ∷ xs) (suc t) h = let r = one_fewer xs t h in omega (arith, r
 
 mark_at : {X : Type 0} (xs : List X) (t : ℕ) (x : X) → t < length xs → x ≡ get_or xs t x → slice_get xs t ≡ Some x
 mark_at xs t x within here = slice_get-get_or xs t x within ∙ ap Some (sym here)
-
-end_is : (m : Mark) → is_end m ≡ true → m ≡ Ends
-end_is Unmet h = absurd (false≢true h)
-end_is (Met by) h = absurd (false≢true h)
-end_is Ends h = refl
 
 same_root : (r : TermId) → is_on r.0 (Met r) ≡ true
 same_root r = (Decides-eqb r.0 r.0).1 refl
@@ -103,10 +98,6 @@ module _ (cs : List (Vec TermId Global)) (root : TermId) (ms : List Mark) (marks
 
   path_at : slice_get (on_path root.0 ms) t.0 ≡ Some (is_on root.0 m)
   path_at = slice_get-map (is_on root.0) ms t.0 ∙ ap (option_map (is_on root.0)) marked
-
-  -- the term was walked before
-  pub walked_before : is_end m ≡ true → IsWalked cs root.0 ms ms t.0
-  walked_before e = record { ends = marks.ends t.0 (marked ∙ ap Some (end_is m e)); path = refl }
 
   -- it stands on the path
   pub back_again : (path : List TermId) → LeadsTo cs root.0 ms t.0 → is_on root.0 m ≡ true → path ≡ t ∷ [] → IsWayBack cs path
@@ -140,7 +131,7 @@ module _ (cs : List (Vec TermId Global)) (root : TermId) (ms : List Mark) (marks
             | false ↦ λ s. marks.roots_below u by (sym (set_elsewhere ms t.0 u (Met root) (λ same. false≢true (sym s ∙ (Decides-eqb u t.0).1 same))) ∙ h)
           ] refl
 
-  pub entered_path : on_path root.0 entered ≡ set (on_path root.0 ms) t.0 true
+  entered_path : on_path root.0 entered ≡ set (on_path root.0 ms) t.0 true
   entered_path = set_mapped (is_on root.0) ms t.0 (Met root) ∙ ap (set (on_path root.0 ms) t.0) (same_root root)
 
   -- fewer terms don't stand on the path
@@ -212,25 +203,6 @@ way_longer cs t path path' there e w = subst (IsWayBack cs) (sym e) (record {
   first = first_stays path w.last t w.first;
   comes = w.comes;
 })
-
--- one more of these terms was walked
-pub next_walked : (cs : List (Vec TermId Global)) (root : ℕ) (first old new : List Mark) (ts : List TermId) (i : ℕ) (t : TermId) → i < length ts → t ≡ get_or ts i t → AreWalked cs root first old (map (λ u. u.0) (take i ts)) → IsWalked cs root old new t.0 → AreWalked cs root first new (map (λ u. u.0) (take (i + 1) ts))
-next_walked cs root first old new ts i t within here s w = record { ends = ends; path = w.path ∙ s.path }
-  where
-    more : map (λ (u : TermId). u.0) (take (i + 1) ts) ≡ map (λ (u : TermId). u.0) (take i ts) ++ t.0 ∷ []
-    more = ap (map (λ (u : TermId). u.0)) (take_more ts i t within ∙ ap (λ x. take i ts ++ x ∷ []) (sym here)) ∙ map-append (λ (u : TermId). u.0) (take i ts) (t ∷ [])
-
-    ends : (u : ℕ) → Contains (map (λ (u : TermId). u.0) (take (i + 1) ts)) u → HasEnd cs u
-    ends u h =
-        elim (Contains-push_cases (map (λ (u : TermId). u.0) (take i ts)) t.0 u (subst (λ l. Contains l u) more h)) [
-          | inl a ↦ s.ends u a
-          | inr a ↦ subst (HasEnd cs) a w.ends
-        ]
-
--- one of these terms is led to still
-pub leads_still : (cs : List (Vec TermId Global)) (root : ℕ) (first old : List Mark) (ts : List TermId) (t d : TermId) (i : ℕ) → i < length ts → t ≡ get_or ts i t → All (λ u. LeadsTo cs root first u.0) ts → on_path root old ≡ on_path root first → LeadsTo cs root old t.0
-leads_still cs root first old ts t d i within here all same u on =
-    All-contains (λ (u : TermId). LeadsTo cs root first u.0) ts t all (subst (Contains ts) (sym here) (Contains-get_or ts i t within)) u (ap (λ l. slice_get l u) (sym same) ∙ on)
 
 -- where there is none, what is said of none holds
 pub said_of_none : {X : Type 0} (o : Option X) (A : Type 0) (B : X → Type 0) → ((x : X) → o ≡ Some x → ⊥) → MatchOption o A B → A

@@ -1,18 +1,16 @@
 -- What the search for recursion among templates says of a list of definitions.
-use Rattle.std.proofs.Common.{◌≡◌, ◌==◌, ℕ, zero, suc, ◌+◌, ◌<◌, nat_eq, Bool, true, false, cond, List, [], ◌∷◌, ◌++◌, ◌⊎◌, length, take, drop, map, slice_get, Option, None, Some, is_some, unwrap_or, option_map, All, Contains, Vec, refl, sym, ap, subst, ◌∙◌, eqb-true, arith, inl, inr, ⊎_elim}
+use Rattle.std.proofs.Common.{◌≡◌, ◌==◌, ℕ, zero, suc, ◌+◌, ◌<◌, Bool, true, false, cond, List, [], ◌∷◌, ◌++◌, ◌⊎◌, length, take, drop, slice_get, Option, None, Some, is_some, option_map, Contains, Vec, refl, sym, ap, subst, ◌∙◌, eqb-true, arith, inl, inr, ⊎_elim}
 use Rattle.std.specs.List.{find, filter_map, flat_map}
 use Rattle.std.specs.Str.{bytes_eq}
 use Rattle.std.specs.declared.alloc.Global.{Global}
 use Rattle.std.proofs.lemmas.Bool.{false≢true}
 use Rattle.std.proofs.lemmas.Bool.Decides.{Decides-eqb}
 use Rattle.std.proofs.lemmas.List.{append-nil, at_drop_all, take_all}
-use Rattle.std.proofs.lemmas.List.Elements.{All-nil, All-contains, All-weaker, All-contains_itself}
-use Rattle.std.proofs.lemmas.Option.{same_Some, slice_get-map, slice_get_within, slice_get-get_or}
-use Rattle.isle_model.specs.lists.Syntax.{Name, DeclTree, ExtractorTree, Definition}
-use Rattle.isle_model.specs.lists.Names.{has_name}
+use Rattle.std.proofs.lemmas.List.Elements.{All-nil, All-contains}
+use Rattle.std.proofs.lemmas.Option.{same_Some, slice_get-map}
+use Rattle.isle_model.specs.lists.Syntax.{Name, ExtractorTree, Definition}
 use Rattle.isle_model.specs.lists.Tables.{ConstructorEntry, ExtractorEntry, internal_extractor, TermEntry}
-use Rattle.isle_model.specs.lists.TypeTable.{place_from}
-use Rattle.isle_model.specs.lists.TermTable.{decl_names, rule_trees, extractor_trees, extractor_template, terms_in, term_id, term_names, term_names_met, term_named, made_by, IsDeclaredTerm, IsKnownTerm, NamesKnownTerms, Uses, Reaches, directly, through, IsAcyclic, IsValidTerms}
+use Rattle.isle_model.specs.lists.TermTable.{decl_names, rule_trees, extractor_trees, extractor_template, terms_in, term_names, term_named, made_by, IsDeclaredTerm, IsKnownTerm, NamesKnownTerms, Uses, Reaches, directly, through, IsAcyclic}
 use Rattle.isle_model.specs.claims.Environments.{TypesRead, AreReadable, IsLeftByRefusal}
 use Rattle.isle_model.proofs.Bytes.{same_self}
 use Rattle.isle_model.proofs.Members.{in_cases, in_map, from_map, member_from_get}
@@ -24,14 +22,12 @@ use Rattle.isle_types.specs.EnvViews.{environment_view}
 use Rattle.isle_terms.specs.declared.term_table.TermTable.{TermTable}
 use Rattle.isle_terms.specs.declared.reading.recursion.Mark.{Mark}
 use Rattle.isle_terms.specs.declared.reading.recursion.Mark.TheVariants.{Unmet, Met, Ends}
-use Rattle.isle_terms.specs.TermViews.{term_view, term_views}
 use Rattle.isle_terms.specs.Reading.{term_of_name}
 use Rattle.isle_terms.specs.Stages.{constructor_after}
-use Rattle.isle_terms.specs.Signing.{Notes, ReadsTerms, declared_so_far}
-use Rattle.isle_terms.specs.Standing.{Stand, RootsRead}
+use Rattle.isle_terms.specs.Signing.{Notes, ReadsTerms}
 use Rattle.isle_terms.specs.Converting.{template_after}
-use Rattle.isle_terms.specs.Templating.{callees_of, AreCallees, AreRightExtractors, CallsAreOf, IsCall, NameNothing, TemplatesRead}
-use Rattle.isle_terms.specs.Recursion.{all_end, AreMarks, AreUnmet, AreWithin, by_one, by_more, Comes, ComesBack, EndsBelow, ExtractorsRead, HasEnd, HaveTemplates, IsWayBack, LeadsTo, has_template, is_on, is_template, on_path}
+use Rattle.isle_terms.specs.Templating.{callees_of, AreCallees, AreRightExtractors, CallsAreOf, TemplatesRead}
+use Rattle.isle_terms.specs.Recursion.{all_end, AreMarks, AreWithin, by_one, by_more, Comes, ComesBack, EndsBelow, ExtractorsRead, HasEnd, HaveTemplates, IsWayBack, LeadsTo, has_template, is_on, is_template}
 use Rattle.isle_terms.proofs.Noting.{both_note, notes_as, step}
 use Rattle.isle_terms.proofs.Standing.{entry_found, no_place, term_is}
 use Rattle.isle_terms.proofs.TemplateSteps.{one_name}
@@ -57,10 +53,6 @@ no_return cs {t} (all_end f) c =
 pub within_all : (table : TermTable) (cs : Callees) → AreCallees table cs → AreWithin cs
 within_all table cs c t u h = subst (λ n. u < n) (sym c.count) (c.within t u h)
 
--- at a new root no term stands on the path
-pub new_root : (cs : Callees) (root : ℕ) (ms : List Mark) → AreMarks cs root ms → AreMarks cs (root + 1) ms
-new_root cs root ms m = record { count = m.count; ends = m.ends; roots_below = λ t by h. (let l = m.roots_below t by h in omega (arith, l)) }
-
 on_is : (root : ℕ) (m : Mark) → is_on root m ≡ true → (by : TermId) × (m ≡ Met by) × (by.0 ≡ root)
 on_is root Unmet h = absurd (false≢true h)
 on_is root (Met by) h = (by, refl, eqb-true by.0 root h)
@@ -78,31 +70,12 @@ no_path cs root u ms m t on =
     let same = b.2 in
     absurd (omega (arith, l, same))
 
-pub unmet_marks : (cs : Callees) (n : ℕ) (ms : List Mark) → length cs ≡ n → AreUnmet n ms → AreMarks cs 0 ms
-unmet_marks cs n ms e u = record {
-  count = u.count_is ∙ sym e;
-  ends = λ t h. absurd (other t h);
-  roots_below = λ t by h. absurd (another t by h);
-}
-  where
-    other : (t : ℕ) → slice_get ms t ≡ Some Ends → ⊥
-    other t h = let k : Ends ≡ Unmet = u.unmet t Ends h in cc
-
-    another : (t : ℕ) (by : TermId) → slice_get ms t ≡ Some (Met by) → ⊥
-    another t by h = let k : Met by ≡ Unmet = u.unmet t (Met by) h in cc
-
 -- the last term of a way back names a term
 pub last_calls : (cs : Callees) (path : List TermId) (r : TermId) → slice_get path 0 ≡ Some r → IsWayBack cs path → (u : ℕ) × Contains (callees_of cs r.0) u
 last_calls cs path r h w =
     let same : w.last ≡ r = same_Some w.last r (sym w.first ∙ h) in
     let c = first_call cs (subst (λ (k : TermId). Comes cs k.0 k.0) same w.comes) in
     (c.0, c.1)
-
-pub way_comes : (cs : Callees) (path : List TermId) → IsWayBack cs path → ComesBack cs
-way_comes cs path w = record { term = w.last.0; comes = w.comes }
-
-pub nothing_below : (table : TermTable) (cs : Callees) → EndsBelow table cs 0
-nothing_below table cs h t l = absurd (omega (arith, l))
 
 -- one more root
 pub next_root_ends : (table : TermTable) (cs : Callees) (n : ℕ) (first es es' : List Error) → Notes es es' (HaveTemplates table cs → HasEnd cs n) (ComesBack cs) → Notes first es (EndsBelow table cs n) (ComesBack cs) → Notes first es' (EndsBelow table cs (n + 1)) (ComesBack cs)
@@ -156,7 +129,7 @@ module _ (e : TypesRead) (defs : List Definition) (cs : Callees) (r : AreRightEx
       let same : k.1 ≡ l.0 = same_Some k.1 l.0 (sym k.3 ∙ l.2) in
       (k.0, l.1, k.2, l.3, before_all k.4 (subst (λ m. Comes cs m l.1) (sym same) l.4))
 
-  pub ends_acyclic : ((t : ℕ) → t < length cs → HasEnd cs t) → IsAcyclic defs
+  ends_acyclic : ((t : ℕ) → t < length cs → HasEnd cs t) → IsAcyclic defs
   ends_acyclic ends t y =
       let k = reaches_comes y in
       let same : k.0 ≡ k.1 = same_Some k.0 k.1 (sym k.2 ∙ k.3) in
@@ -186,7 +159,7 @@ module _ (e : TypesRead) (defs : List Definition) (cs : Callees) (r : AreRightEx
       let same : k.definition.term.text ≡ l.1 = one_name (term_names e.known defs) k.definition.term.text l.1 m k.of_term l.3 in
       (l.0, k.name.text, l.2, k.is_term, goes_on l.4 (record { definition = k.definition; there = k.there; of_term = same; calls = in_map (λ (n : Name). n.text) (terms_in k.definition.template) k.name k.calls }))
 
-  pub back_cyclic : ComesBack cs → IsAcyclic defs → ⊥
+  back_cyclic : ComesBack cs → IsAcyclic defs → ⊥
   back_cyclic b acyclic =
       let l = comes_reaches b.comes in
       let same : l.1 ≡ l.0 = one_name (term_names e.known defs) l.1 l.0 b.term l.3 l.2 in
@@ -206,7 +179,7 @@ found_some es x h = of_found (found_in es h)
     of_found : (y : ExtractorTree) × (find (λ y. bytes_eq y.term.text x.term.text) es ≡ Some y) → is_template (template_after es x.term.text) ≡ true
     of_found p = ap (λ o. is_template (option_map (λ y. internal_extractor (extractor_template y)) o)) p.1
 
-pub have_templates : (e : TypesRead) → AreReadable e → (defs : List Definition) (cs : Callees) (env : TypeEnv) (table : TermTable) → IsLeftByRefusal e (environment_view env) → TemplatesRead e defs defs cs env table → HaveTemplates table cs
+have_templates : (e : TypesRead) → AreReadable e → (defs : List Definition) (cs : Callees) (env : TypeEnv) (table : TermTable) → IsLeftByRefusal e (environment_view env) → TemplatesRead e defs defs cs env table → HaveTemplates table cs
 have_templates e readable defs cs env table left s t u entry h at =
     let k = s.calls.said t u h in
     let interned : IsInterned env = left_interned e readable env left in
@@ -234,22 +207,6 @@ searched e readable defs cs env table es es' b a s =
       converters = h.1.converters;
     })
     (λ h back v. back_cyclic e defs cs h.1.right h.1.calls back v.acyclic) s
-
--- before any extractor
-pub none_taken : (e : TypesRead) (defs : List Definition) (cs : Callees) (env : TypeEnv) (table : TermTable) (n : ℕ) → NameNothing n cs → RootsRead e defs defs env table → TemplatesRead e defs [] cs env table
-none_taken e defs cs env table n none s = record {
-  stand = s.stand;
-  roots = s.roots;
-  right = record { terms = All-nil _; plain = All-nil _; known = All-nil _; no_macro_args = All-nil _; arguments = All-nil _; distinct = λ i j x h _. absurd (nothing i x h) };
-  calls = record { there = λ t u k. absurd (All-contains (λ _. ⊥) [] k.definition (All-nil (λ _. ⊥)) k.there); said = λ t u h. absurd (All-contains (λ _. ⊥) [] u (All-nil (λ _. ⊥)) (subst (λ l. Contains l u) (none.nothing t) h)) };
-  converters = s.converters;
-}
-  where
-    nothing : (i : ℕ) (x : List ℕ) → slice_get [] i ≡ Some x → ⊥
-    nothing i x h = cc
-
-pub none_callees : (table : TermTable) (cs : Callees) → NameNothing (length table.terms.items) cs → AreCallees table cs
-none_callees table cs none = record { count = none.count_is; within = λ t u h. absurd (All-contains (λ _. ⊥) [] u (All-nil (λ _. ⊥)) (subst (λ l. Contains l u) (none.nothing t) h)) }
 
 -- a part that was lent whole, when it is back
 pub back_whole : {X : Type 0} (new old : List X) (n : ℕ) → length new ≡ length old → n ≡ length old → take n (new ++ drop (length new) old) ≡ new

@@ -1,5 +1,5 @@
 -- The terms and the arguments that the pattern of an internal extractor names.
-use Rattle.std.proofs.Common.{◌≡◌, ℕ, ◌+◌, ◌<◌, ◌≤◌, true, false, List, [], ◌∷◌, ◌++◌, ◌⊎◌, length, take, get_or, map, Option, None, Some, is_some, All, Bor, Contains, IsTrue, refl, sym, ap, subst, ◌∙◌, arith, inl, inr, ⊎_elim}
+use Rattle.std.proofs.Common.{◌≡◌, ℕ, ◌+◌, ◌<◌, ◌≤◌, List, [], ◌∷◌, ◌++◌, ◌⊎◌, length, take, get_or, map, Option, None, Some, is_some, All, Bor, Contains, IsTrue, refl, sym, ap, subst, ◌∙◌, arith, ⊎_elim}
 use Rattle.std.proofs.lemmas.Bool.{false≢true}
 use Rattle.std.proofs.lemmas.List.{map-append, take_more}
 use Rattle.std.proofs.lemmas.List.Elements.{All-cons, All-nil, All-contains, All-map, All-weaker, Contains-get_or}
@@ -24,7 +24,7 @@ use Rattle.isle_terms.proofs.Noting.{both_note, notes_as}
 
 -- the names of the terms of a pattern, without where they stand
 mutual
-  pub names_of_terms : (p : PatternTree) → map (λ (t : Position × Name). t.1) (terms_of p) ≡ terms_in p
+  names_of_terms : (p : PatternTree) → map (λ (t : Position × Name). t.1) (terms_of p) ≡ terms_in p
   names_of_terms (var_pattern v at) = refl
   names_of_terms (bind_pattern v p at) = names_of_terms p
   names_of_terms (bool_pattern b at) = refl
@@ -56,13 +56,13 @@ next_found {X} f env table xs i x within here first es es' found found' a s =
     let taken : take (i + 1) xs ≡ take i xs ++ x ∷ [] = take_more xs i x within ∙ ap (λ y. take i xs ++ y ∷ []) (sym here) in
     let member : Contains (map f xs) (f x) = in_map f xs x (subst (Contains xs) (sym here) (Contains-get_or xs i x within)) in
     let right : Old × Adds → New = λ p.
-        ap (λ l. map Some (map (λ t. t.0) l)) p.1.adds
-        ∙ ap (map Some) (map-append (λ t. t.0) found (p.1.id ∷ []))
-        ∙ map-append Some (map (λ t. t.0) found) (p.1.id.0 ∷ [])
-        ∙ ap (λ l. l ++ Some p.1.id.0 ∷ []) p.0
-        ∙ ap (λ o. map (term_of_name env table) (map f (take i xs)) ++ o ∷ []) (sym p.1.is)
-        ∙ sym (map-append (term_of_name env table) (map f (take i xs)) (f x ∷ []))
-        ∙ ap (map (term_of_name env table)) (sym (map-append f (take i xs) (x ∷ [])) ∙ ap (map f) (sym taken)) in
+    ap (λ l. map Some (map (λ t. t.0) l)) p.1.adds
+    ∙ ap (map Some) (map-append (λ t. t.0) found (p.1.id ∷ []))
+    ∙ map-append Some (map (λ t. t.0) found) (p.1.id.0 ∷ [])
+    ∙ ap (λ l. l ++ Some p.1.id.0 ∷ []) p.0
+    ∙ ap (λ o. map (term_of_name env table) (map f (take i xs)) ++ o ∷ []) (sym p.1.is)
+    ∙ sym (map-append (term_of_name env table) (map f (take i xs)) (f x ∷ []))
+    ∙ ap (map (term_of_name env table)) (sym (map-append f (take i xs) (x ∷ [])) ∙ ap (map f) (sym taken)) in
     let wrong : Unknown ⊎ None_is → Unknown = λ w. ⊎_elim (λ u. u) (λ none all. false≢true (sym (ap is_some none) ∙ All-contains (IsFoundTerm env table) (map f xs) (f x) all member)) w in
     notes_as (Old × Adds) New (Unknown ⊎ None_is) Unknown first es' right wrong (both_note Old Adds Unknown None_is first es es' s a)
 

@@ -1,5 +1,5 @@
 -- Reading internal extractors by types that are handed in, one definition after another.
-use Rattle.std.proofs.Common.{◌≡◌, ◌≢◌, ◌&&◌, ◌==◌, ℕ, zero, suc, ◌+◌, ◌<◌, not, Bool, true, false, cond, List, [], ◌∷◌, ◌++◌, ◌⊎◌, length, take, drop, get_or, map, slice_get, Option, None, Some, is_some, unwrap_or, option_map, All, Contains, IsTrue, Vec, refl, sym, ap, subst, ◌∙◌, inl, inr, eqb-true, arith}
+use Rattle.std.proofs.Common.{◌≡◌, ◌≢◌, ◌&&◌, ◌==◌, ℕ, ◌+◌, ◌<◌, not, Bool, true, false, cond, List, [], ◌∷◌, ◌++◌, ◌⊎◌, length, take, drop, get_or, map, slice_get, Option, None, Some, is_some, unwrap_or, option_map, Contains, Vec, refl, sym, ap, subst, ◌∙◌, inl, inr, eqb-true, arith}
 use Rattle.std.specs.List.{find}
 use Rattle.std.specs.Str.{bytes_eq}
 use Rattle.std.specs.declared.alloc.Global.{Global}
@@ -61,7 +61,7 @@ abbrev by_nothing : List ℕ → Option ExtractorEntry
 by_nothing x = None
 
 -- a declaration is the first one of its name
-pub decl_is : (ds : List DeclTree) (x : List ℕ) (id : ℕ) (d : DeclTree) → place_among (map text_of ds) x ≡ Some id → slice_get ds id ≡ Some d → find (λ c. bytes_eq c.term.text x) ds ≡ Some d
+decl_is : (ds : List DeclTree) (x : List ℕ) (id : ℕ) (d : DeclTree) → place_among (map text_of ds) x ≡ Some id → slice_get ds id ≡ Some d → find (λ c. bytes_eq c.term.text x) ds ≡ Some d
 decl_is [] x id d p at = absurd (cc)
 decl_is (c ∷ cs) x id d p at =
     elim (bytes_eq c.term.text x) as (λ b. cond b (Some 0) (place_from 1 x (map text_of cs)) ≡ Some id → cond b (Some c) (find (λ c. bytes_eq c.term.text x) cs) ≡ Some d) [
@@ -181,7 +181,7 @@ module _ (e : TypesRead) (readable : AreReadable e) (defs read rest : List Defin
               | false ↦ λ h. at_other t u (λ same. false≢true (sym h ∙ (Decides-eqb t a.id).1 same)) c
             ] refl
 
-    pub template_right : TemplatesRead e defs (read ++ extractor_definition x ∷ []) callees' env new
+    template_right : TemplatesRead e defs (read ++ extractor_definition x ∷ []) callees' env new
     template_right =
         elim (entry_found e defs (decl_names defs) made taken env old interned s.stand x.term a.id a.is.takes.entry a.found a.is.takes.at) [
           | inr q ↦ absurd (template_lacks a.is.takes.entry.kind a.is.takes.passes q.1)
@@ -239,7 +239,7 @@ module _ (e : TypesRead) (readable : AreReadable e) (defs read rest : List Defin
       let count : argument_count defs x.term.text ≡ length entry.arg_tys = count_is id d at place ∙ ap (λ (t : TermEntry). length t.arg_tys) (sym is) in
       past (subst (λ n. AreArguments n (arguments_in (extractor_template x))) count (at_middle (UsesDeclaredArguments defs) seen x (extractor_trees rest) (extractor_trees defs) trees v.declared_arguments))
 
-  pub template_wrong : (term_of_name env old x.term ≡ None) ⊎ IsWrongOfTerm x env old → IsValidTerms e.known defs → ⊥
+  template_wrong : (term_of_name env old x.term ≡ None) ⊎ IsWrongOfTerm x env old → IsValidTerms e.known defs → ⊥
   template_wrong (inl none) v = false≢true (sym (ap is_some (nothing_found e defs (decl_names defs) made taken env old interned s.stand x.term none)) ∙ declared v)
   template_wrong (inr m) v =
       elim m.wrong [

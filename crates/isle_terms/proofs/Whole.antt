@@ -1,5 +1,5 @@
 -- From one group of the reading of terms to the next one, and what stands at the end.
-use Rattle.std.proofs.Common.{◌≡◌, ◌≢◌, ◌==◌, ◌&&◌, ◌||◌, ℕ, suc, ◌+◌, ◌<◌, Bool, true, false, cond, List, [], ◌∷◌, ◌++◌, ◌⊎◌, length, map, slice_get, Option, None, Some, option_map, All, Contains, OnOk, Result, Ok, Err, refl, sym, ap, subst, ◌∙◌, arith, inl, inr, ⊎_elim}
+use Rattle.std.proofs.Common.{◌≡◌, ◌==◌, ◌||◌, ℕ, suc, ◌+◌, ◌<◌, true, false, cond, List, [], ◌∷◌, ◌++◌, length, map, slice_get, Option, None, Some, option_map, Contains, OnOk, Result, Ok, Err, refl, sym, ap, subst, ◌∙◌, arith, inl, ⊎_elim}
 use Rattle.std.specs.List.{cons_option, enumerate_from, filter_map, find, flat_map, AllByRecursion}
 use Rattle.std.specs.Str.{bytes_eq}
 use Rattle.std.proofs.lemmas.Bool.{false≢true}
@@ -9,14 +9,13 @@ use Rattle.isle_model.specs.lists.Syntax.{DeclTree, ExtractorTree, Definition}
 use Rattle.isle_model.specs.lists.Names.{number, has_name, with_names, IsDistinct}
 use Rattle.isle_model.specs.rules.Meaning.{look}
 use Rattle.isle_model.specs.rules.Outcome.{then_option}
-use Rattle.isle_model.specs.lists.Tables.{VariantEntry, TypeEntry, builtin_type, primitive_type, enum_type, struct_type, ExtractorEntry, TermEntry, declared_term, internal_extractor}
-use Rattle.isle_model.specs.lists.TypeTable.{place_from}
-use Rattle.isle_model.specs.lists.KnownTypes.{KnownTypes, field_numbers, variant_numbers, entry_numbers, IsWellFormed}
-use Rattle.isle_model.specs.lists.TermTable.{decl_flags, decl_trees, decl_names, rule_trees, extractor_trees, extractor_template, internal_extractors, constructor_trees, external_trees, function_of, made_by, term_names, term_names_met, terms_made, terms_in_order, term_table, converters, IsValidTerms}
+use Rattle.isle_model.specs.lists.Tables.{VariantEntry, TypeEntry, builtin_type, primitive_type, enum_type, struct_type, TermEntry, declared_term, internal_extractor}
+use Rattle.isle_model.specs.lists.KnownTypes.{field_numbers, variant_numbers, entry_numbers, IsWellFormed}
+use Rattle.isle_model.specs.lists.TermTable.{decl_flags, decl_trees, decl_names, rule_trees, extractor_trees, extractor_template, internal_extractors, function_of, made_by, term_names, term_names_met, terms_made, term_table, converters, IsValidTerms}
 use Rattle.isle_model.specs.claims.Environments.{TypesRead, AreReadable, AreTermsOf, IsLeftByRefusal, IsReadAs, terms_by_name, with_read_names}
 use Rattle.isle_model.proofs.Joined.{all_joined, all_left, all_right}
 use Rattle.isle_model.proofs.Members.{in_cases, nothing_in, get_from_member}
-use Rattle.isle_model.proofs.Names.{has_at, has_met, has_left, has_kept, has_append}
+use Rattle.isle_model.proofs.Names.{has_at, has_met, has_left, has_kept}
 use Rattle.isle_laws_lists.proofs.TermLaws.{terms_have_names_lem, terms_stand_at_ids_lem}
 use Rattle.isle_base.specs.Answers.{limit_of}
 use Rattle.isle_base.specs.declared.syntax.Error.{Error}
@@ -26,12 +25,12 @@ use Rattle.isle_types.specs.EnvViews.{environment_view}
 use Rattle.isle_types.specs.TypeViews.{type_views}
 use Rattle.isle_terms.specs.declared.term_table.TermTable.{TermTable}
 use Rattle.isle_terms.specs.TermTables.{term_at}
-use Rattle.isle_terms.specs.TermViews.{term_view, term_views}
+use Rattle.isle_terms.specs.TermViews.{term_view}
 use Rattle.isle_terms.specs.Reading.{IsWithin}
 use Rattle.isle_terms.specs.Stages.{HasNoConverter, constructor_after, place_among}
 use Rattle.isle_terms.specs.Signing.{with_ids, declared_so_far, declared_alone, AddsMade, AreTaken, Declaring, GrowsBy, NumbersAreMet, ReadsTerms}
-use Rattle.isle_terms.specs.Standing.{RootsRead, Stand}
-use Rattle.isle_terms.specs.Converting.{converter_at, type_by_id, ConvertersRead, template_after}
+use Rattle.isle_terms.specs.Standing.{RootsRead}
+use Rattle.isle_terms.specs.Converting.{ConvertersRead, template_after}
 use Rattle.isle_terms.specs.ExternStages.{external_after, function_after, ExternsRead}
 use Rattle.isle_terms.specs.Recursion.{ExtractorsRead}
 use Rattle.isle_terms.specs.Whole.{shown_by}
@@ -105,10 +104,6 @@ made_after e readable defs env table table' es es' w a s =
 -- what is right where nothing was noted
 pub right_now : (e : TypesRead) (defs : List Definition) (A : TypeEnv → TermTable → Type 0) (env : TypeEnv) (table : TermTable) (es : List Error) → ReadsTerms e defs A env table es → es ≡ [] → A env table
 right_now e defs A env table es s none = ⊎_elim (λ r. r.1) (λ w. absurd (w.0 none)) s.so_far
-
--- where something was, the terms aren't valid
-pub wrong_now : (e : TypesRead) (defs : List Definition) (A : TypeEnv → TermTable → Type 0) (env : TypeEnv) (table : TermTable) (es : List Error) → ReadsTerms e defs A env table es → es ≢ [] → IsValidTerms e.known defs → ⊥
-wrong_now e defs A env table es s some = ⊎_elim (λ r. absurd (some r.0)) (λ w. w.1) s.so_far
 
 same_entries : (f g : DeclTree → ℕ → TermEntry) (fs : List (ℕ → TermEntry)) → ((d : DeclTree) (i : ℕ) → f d i ≡ g d i) → (n : ℕ) (ds : List DeclTree) → with_ids n (map f ds ++ fs) ≡ with_ids n (map g ds ++ fs)
 same_entries f g fs h n [] = refl

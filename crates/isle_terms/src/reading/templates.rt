@@ -280,11 +280,7 @@ fn report_unknown(
 }
 
 // Whether a term can have an internal extractor, which stands at this place: what is against it is noted.
-fn can_have_template(
-    errors: &mut Vec<Error>,
-    entry: &Term,
-    pos: Pos,
-) -> Result<bool, AllocError>
+fn can_have_template(errors: &mut Vec<Error>, entry: &Term, pos: Pos) -> Result<bool, AllocError>
     ensures free { IfOk result (λ b. b ≡ may_have_template (term_view entry.now).kind) }
     ensures noted { IfOk result (λ b. ReportsIf (not b) errors.old.items errors.new.items) }
 {
@@ -306,7 +302,8 @@ fn can_have_template(
             ..
         } => report_again(errors, pos, earlier)?,
         TermKind::EnumVariant { .. } => {
-            let what = "Extractor macro body defined on term of incorrect kind; cannot be an enum variant";
+            let what =
+                "Extractor macro body defined on term of incorrect kind; cannot be an enum variant";
             report(errors, pos, what)?;
         }
         TermKind::Struct => {

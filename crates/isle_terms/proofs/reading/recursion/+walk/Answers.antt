@@ -1,7 +1,7 @@
-use Rattle.std.proofs.Common.{◌≡◌, ◌+◌, Contains, not, true, false, filter, get_or, length, map, sym, ap, subst, ◌∙◌, arith}
+use Rattle.std.proofs.Common.{◌≡◌, ◌+◌, not, true, false, filter, get_or, length, map, sym, ap, subst, ◌∙◌, arith}
 use Rattle.std.proofs.Math.ListN.{set}
 use Rattle.isle_terms.specs.declared.reading.recursion.Mark.TheVariants.{Unmet, Met, Ends}
-use Rattle.isle_terms.specs.Recursion.{AreMarks, AreWalked, IsWalked, LeadsTo, is_on, on_path}
+use Rattle.isle_terms.specs.Recursion.{AreMarks, AreWalked, IsWalked, is_on, on_path}
 use Rattle.isle_terms.proofs.Marks.{back_again, entered_marks, fewer_left, row_leads, row_within, left_marks, left_walked, way_longer, said_of_none, said_of_some}
 use Rattle.isle_terms.proofs.reading.recursion.+walk.Goals as goal
 

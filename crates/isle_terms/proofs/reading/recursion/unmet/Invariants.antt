@@ -1,4 +1,3 @@
-use Rattle.std.proofs.Common.{◌≡◌, length}
 use Rattle.isle_terms.specs.Recursion.{AreUnmet}
 use Rattle.isle_terms.proofs.reading.recursion.unmet.Given as goal
 

@@ -1,5 +1,4 @@
-use Rattle.std.proofs.Common.{map, ap, subst, sym, ◌∙◌}
-use Rattle.std.specs.List.Sorted.{IsPermutation}
+use Rattle.std.proofs.Common.{map, subst, sym}
 use Rattle.std.proofs.Math.ListN.{set}
 use Rattle.isle_terms.specs.Templating.{SetsCallees}
 use Rattle.isle_terms.proofs.Callees.{sets_callees, reordered}

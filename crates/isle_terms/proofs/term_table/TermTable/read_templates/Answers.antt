@@ -1,4 +1,4 @@
-use Rattle.std.proofs.Common.{◌≡◌, true, false, sym, ◌∙◌, rules}
+use Rattle.std.proofs.Common.{◌≡◌, false, sym, ◌∙◌, rules}
 use Rattle.std.proofs.lemmas.Bool.{false≢true}
 use Rattle.isle_terms.proofs.Noting.{reads_as}
 use Rattle.isle_terms.proofs.TemplateSteps.{next_template}
@@ -9,7 +9,7 @@ loop-def-preserved g c =
     let a = c.in_ok-read_if_template.ensures in (
       a.callees,
       reads_as _ _ _ _ _ _ _ (λ h. h.1)
-      (next_template _ c.requires.0 c.args.defs.now c.loop-def.def-index c.def-item.result (search rules) c.def-item.is _ _ _ _ _ _ _ _ a.within a.reads c.loop-def.invariant.1),
+          (next_template _ c.requires.0 c.args.defs.now c.loop-def.def-index c.def-item.result (search rules) c.def-item.is _ _ _ _ _ _ _ _ a.within a.reads c.loop-def.invariant.1),
     )
 
 pub returns-then-not-branch-clause-reads : goal.returns-then-not-branch-clause-reads

@@ -1,4 +1,4 @@
-use Rattle.std.proofs.Common.{◌≡◌, ◌<◌, Some, true, false, not, length, get_or, refl, sym, ap, subst, ◌∙◌, inl, inr, ⊎_elim, slice_get, rules}
+use Rattle.std.proofs.Common.{◌≡◌, Some, true, false, not, length, get_or, refl, sym, ap, subst, ◌∙◌, inl, inr, ⊎_elim, slice_get, rules}
 use Rattle.std.proofs.Math.ListN.{set}
 use Rattle.std.proofs.lemmas.List.{length-map}
 use Rattle.std.proofs.lemmas.Option.{same_Some}
@@ -10,7 +10,7 @@ use Rattle.isle_types.specs.VariantReading.{ReportsIf}
 use Rattle.isle_terms.specs.TermViews.{term_view, term_views}
 use Rattle.isle_terms.specs.Externing.{taken_by_this, with_kind}
 use Rattle.isle_terms.specs.Standing.{change}
-use Rattle.isle_terms.specs.Templating.{AreArguments, may_have_template}
+use Rattle.isle_terms.specs.Templating.{AreArguments}
 use Rattle.isle_terms.proofs.Changing.{changes_one, view_at}
 use Rattle.isle_terms.proofs.term_table.TermTable.take_template.Goals as goal
 
