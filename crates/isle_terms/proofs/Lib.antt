@@ -14,3 +14,10 @@ pub mod FirstOfTerm
 pub mod RootSteps
 pub mod ConverterSteps
 pub mod ExternSteps
+pub mod Callees
+pub mod TemplateNames
+pub mod TemplateSteps
+pub mod TemplateParts
+pub mod Marks
+pub mod Recursion
+pub mod Whole

@@ -46,3 +46,7 @@ step e defs A B old new table table' es es' Right Wrong left within (inr a) righ
   plain = a.0.plain s.plain;
   so_far = inr (a.0.some, ⊎_elim (λ r. wrong r.1 a.1) (λ w. w.1) s.so_far);
 }
+
+-- what is right so far, said in other words
+pub reads_as : (e : TypesRead) (defs : List Definition) (A B : TypeEnv → TermTable → Type 0) (env : TypeEnv) (table : TermTable) (es : List Error) → (A env table → B env table) → ReadsTerms e defs A env table es → ReadsTerms e defs B env table es
+reads_as e defs A B env table es f s = record { left = s.left; within = s.within; plain = s.plain; so_far = ⊎_elim (λ r. inl (r.0, f r.1)) (λ w. inr w) s.so_far }

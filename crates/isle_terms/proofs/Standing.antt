@@ -26,7 +26,7 @@ use Rattle.isle_terms.proofs.Declaring.{with_names_push}
 use Rattle.isle_terms.proofs.Finding.{by_name, finds_more}
 use Rattle.isle_terms.proofs.Making.{distinct_left}
 
-no_place : (n : ℕ) (x : List ℕ) (xs ys : List (List ℕ)) → place_from n x (xs ++ ys) ≡ None → place_from n x xs ≡ None
+pub no_place : (n : ℕ) (x : List ℕ) (xs ys : List (List ℕ)) → place_from n x (xs ++ ys) ≡ None → place_from n x xs ≡ None
 no_place n x [] ys h = refl
 no_place n x (y ∷ xs) ys h =
     elim (bytes_eq y x) as (λ b. cond b (Some n) (place_from (suc n) x (xs ++ ys)) ≡ None → cond b (Some n) (place_from (suc n) x xs) ≡ None) [

@@ -9,3 +9,6 @@ pub mod Standing
 pub mod Converting
 pub mod Externing
 pub mod ExternStages
+pub mod Templating
+pub mod Recursion
+pub mod Whole

@@ -15,7 +15,10 @@ mod converters;
 mod declarations;
 mod externs;
 mod made;
+mod recursion;
 mod roots;
+mod templates;
+mod whole;
 
 use crate::term::{ConstructorKind, Term, TermFlags, TermKind};
 use crate::term_table::TermTable;

@@ -250,7 +250,7 @@ fn report_after(
 }
 
 // Where an extractor is defined: an internal one at its template.
-fn place_of(extractor: &ExtractorKind) -> Pos {
+pub(crate) fn place_of(extractor: &ExtractorKind) -> Pos {
     match extractor {
         ExtractorKind::InternalExtractor { template } => template.pos(),
         ExtractorKind::ExternalExtractor { pos, .. } => *pos,

@@ -1,0 +1,223 @@
+-- What the search for recursion among templates says of a list of definitions.
+use Rattle.std.proofs.Common.{◌≡◌, ◌==◌, ℕ, zero, suc, ◌+◌, ◌<◌, Bool, true, false, cond, List, [], ◌∷◌, ◌++◌, ◌⊎◌, length, take, drop, slice_get, Option, None, Some, is_some, option_map, Contains, Vec, refl, sym, ap, subst, ◌∙◌, eqb-true, arith, inl, inr, ⊎_elim}
+use Rattle.std.specs.List.{find, filter_map, flat_map}
+use Rattle.std.specs.Str.{bytes_eq}
+use Rattle.std.specs.declared.alloc.Global.{Global}
+use Rattle.std.proofs.lemmas.Bool.{false≢true}
+use Rattle.std.proofs.lemmas.Bool.Decides.{Decides-eqb}
+use Rattle.std.proofs.lemmas.List.{append-nil, at_drop_all, take_all}
+use Rattle.std.proofs.lemmas.List.Elements.{All-nil, All-contains}
+use Rattle.std.proofs.lemmas.Option.{same_Some, slice_get-map}
+use Rattle.isle_model.specs.lists.Syntax.{Name, ExtractorTree, Definition}
+use Rattle.isle_model.specs.lists.Tables.{ConstructorEntry, ExtractorEntry, internal_extractor, TermEntry}
+use Rattle.isle_model.specs.lists.TermTable.{decl_names, rule_trees, extractor_trees, extractor_template, terms_in, term_names, term_named, made_by, IsDeclaredTerm, IsKnownTerm, NamesKnownTerms, Uses, Reaches, directly, through, IsAcyclic}
+use Rattle.isle_model.specs.claims.Environments.{TypesRead, AreReadable, IsLeftByRefusal}
+use Rattle.isle_model.proofs.Bytes.{same_self}
+use Rattle.isle_model.proofs.Members.{in_cases, in_map, from_map, member_from_get}
+use Rattle.isle_base.specs.declared.syntax.Error.{Error}
+use Rattle.isle_types.specs.declared.ids.TermId.{TermId}
+use Rattle.isle_types.specs.declared.type_env.TypeEnv.{TypeEnv}
+use Rattle.isle_types.specs.Envs.{IsInterned}
+use Rattle.isle_types.specs.EnvViews.{environment_view}
+use Rattle.isle_terms.specs.declared.term_table.TermTable.{TermTable}
+use Rattle.isle_terms.specs.declared.reading.recursion.Mark.{Mark}
+use Rattle.isle_terms.specs.declared.reading.recursion.Mark.TheVariants.{Unmet, Met, Ends}
+use Rattle.isle_terms.specs.Reading.{term_of_name}
+use Rattle.isle_terms.specs.Stages.{constructor_after}
+use Rattle.isle_terms.specs.Signing.{Notes, ReadsTerms}
+use Rattle.isle_terms.specs.Converting.{template_after}
+use Rattle.isle_terms.specs.Templating.{callees_of, AreCallees, AreRightExtractors, CallsAreOf, TemplatesRead}
+use Rattle.isle_terms.specs.Recursion.{all_end, AreMarks, AreWithin, by_one, by_more, Comes, ComesBack, EndsBelow, ExtractorsRead, HasEnd, HaveTemplates, IsWayBack, LeadsTo, has_template, is_on, is_template}
+use Rattle.isle_terms.proofs.Noting.{both_note, notes_as, step}
+use Rattle.isle_terms.proofs.Standing.{entry_found, no_place, term_is}
+use Rattle.isle_terms.proofs.TemplateSteps.{one_name}
+use Rattle.isle_terms.proofs.TypesStaying.{left_interned}
+
+abbrev Callees : Type 0
+Callees = List (Vec TermId Global)
+
+-- the first call of a way
+first_call : (cs : Callees) {t v : ℕ} → Comes cs t v → (u : ℕ) × Contains (callees_of cs t) u × ((u ≡ v) ⊎ Comes cs u v)
+first_call cs {t} {v} (by_one h) = (v, h, inl refl)
+first_call cs {t} {v} (by_more c h) =
+    let r = first_call cs c in
+    ⊎_elim (λ e. (r.0, r.1, inr (by_one (subst (λ k. Contains (callees_of cs k) v) (sym e) h)))) (λ d. (r.0, r.1, inr (by_more d h))) r.2
+
+-- where each way ends, no term comes back
+no_return : (cs : Callees) {t : ℕ} → HasEnd cs t → Comes cs t t → ⊥
+no_return cs {t} (all_end f) c =
+    let r = first_call cs c in
+    ⊎_elim (λ e. no_return cs (f r.0 r.1) (by_one (subst (λ k. Contains (callees_of cs k) r.0) (sym e) r.1)))
+    (λ d. no_return cs (f r.0 r.1) (by_more d r.1)) r.2
+
+pub within_all : (table : TermTable) (cs : Callees) → AreCallees table cs → AreWithin cs
+within_all table cs c t u h = subst (λ n. u < n) (sym c.count) (c.within t u h)
+
+on_is : (root : ℕ) (m : Mark) → is_on root m ≡ true → (by : TermId) × (m ≡ Met by) × (by.0 ≡ root)
+on_is root Unmet h = absurd (false≢true h)
+on_is root (Met by) h = (by, refl, eqb-true by.0 root h)
+on_is root Ends h = absurd (false≢true h)
+
+mapped_some : {X Y : Type 0} (f : X → Y) (o : Option X) (y : Y) → option_map f o ≡ Some y → (x : X) × (o ≡ Some x) × (f x ≡ y)
+mapped_some f None y h = absurd (cc)
+mapped_some f (Some x) y h = (x, refl, same_Some (f x) y h)
+
+pub no_path : (cs : Callees) (root u : ℕ) (ms : List Mark) → AreMarks cs root ms → LeadsTo cs root ms u
+no_path cs root u ms m t on =
+    let a = mapped_some (is_on root) (slice_get ms t) true (sym (slice_get-map (is_on root) ms t) ∙ on) in
+    let b = on_is root a.0 a.2 in
+    let l = m.roots_below t b.0 (a.1 ∙ ap Some b.1) in
+    let same = b.2 in
+    absurd (omega (arith, l, same))
+
+-- the last term of a way back names a term
+pub last_calls : (cs : Callees) (path : List TermId) (r : TermId) → slice_get path 0 ≡ Some r → IsWayBack cs path → (u : ℕ) × Contains (callees_of cs r.0) u
+last_calls cs path r h w =
+    let same : w.last ≡ r = same_Some w.last r (sym w.first ∙ h) in
+    let c = first_call cs (subst (λ (k : TermId). Comes cs k.0 k.0) same w.comes) in
+    (c.0, c.1)
+
+-- one more root
+pub next_root_ends : (table : TermTable) (cs : Callees) (n : ℕ) (first es es' : List Error) → Notes es es' (HaveTemplates table cs → HasEnd cs n) (ComesBack cs) → Notes first es (EndsBelow table cs n) (ComesBack cs) → Notes first es' (EndsBelow table cs (n + 1)) (ComesBack cs)
+next_root_ends table cs n first es es' a s =
+    let Here : Type 0 = HaveTemplates table cs → HasEnd cs n in
+    notes_as (EndsBelow table cs n × Here) (EndsBelow table cs (n + 1)) (ComesBack cs ⊎ ComesBack cs) (ComesBack cs) first es' right (λ w. ⊎_elim (λ x. x) (λ x. x) w)
+    (both_note (EndsBelow table cs n) Here (ComesBack cs) (ComesBack cs) first es es' s a)
+  where
+    right : EndsBelow table cs n × (HaveTemplates table cs → HasEnd cs n) → EndsBelow table cs (n + 1)
+    right p h t l =
+        elim (t == n) as (λ b. (t == n) ≡ b → HasEnd cs t) [
+          | true ↦ λ e. subst (HasEnd cs) (sym (eqb-true t n e)) (p.1 h)
+          | false ↦ λ e. p.0 h t (other_below t n l e)
+        ] refl
+      where
+        other_below : (t n : ℕ) → t < n + 1 → (t == n) ≡ false → t < n
+        other_below t n l e = let d : (t ≡ n → ⊥) = λ s. false≢true (sym e ∙ (Decides-eqb t n).1 s) in omega (arith, l, d)
+
+-- what calls are, by names
+module _ (e : TypesRead) (defs : List Definition) (cs : Callees) (r : AreRightExtractors e defs (extractor_trees defs)) (c : CallsAreOf e defs (extractor_trees defs) cs) where
+  abbrev named : List ℕ → Option ℕ
+  named = term_named e.known defs
+
+  some_id : (o : Option ℕ) → is_some o ≡ true → (i : ℕ) × (o ≡ Some i)
+  some_id None h = absurd (false≢true h)
+  some_id (Some i) h = (i, refl)
+
+  declared_named : (n : Name) → IsDeclaredTerm defs n → (i : ℕ) × (named n.text ≡ Some i)
+  declared_named n d = elim (named n.text) as (λ o. named n.text ≡ o → (i : ℕ) × (o ≡ Some i)) [
+    | None ↦ λ h. absurd (false≢true (sym (ap is_some (no_place 0 n.text (decl_names defs) (filter_map (slice_get e.known.names) (flat_map made_by e.known.types)) h)) ∙ d))
+    | Some i ↦ λ h. (i, refl)
+  ] refl
+
+  -- a term that another one uses is one that it calls
+  uses_call : (t u : List ℕ) → Uses defs t u → (i j : ℕ) × (named t ≡ Some i) × (named u ≡ Some j) × Contains (callees_of cs i) j
+  uses_call t u x =
+      let n = from_map (λ (n : Name). n.text) (terms_in x.definition.template) u x.calls in
+      let d = declared_named x.definition.term (All-contains (λ y. IsDeclaredTerm defs y.term) (extractor_trees defs) x.definition r.terms x.there) in
+      let k = some_id (named n.0.text) (All-contains (IsKnownTerm e.known defs) (terms_in x.definition.template) n.0 (All-contains (NamesKnownTerms e.known defs) (extractor_trees defs) x.definition r.known x.there) n.1) in
+      (d.0, k.0, ap named (sym x.of_term) ∙ d.1, ap named (sym n.2) ∙ k.1, c.there d.0 k.0 (record { definition = x.definition; there = x.there; of_term = d.1; name = n.0; calls = n.1; is_term = k.1 }))
+
+  before_all : {t u v : ℕ} → Contains (callees_of cs t) u → Comes cs u v → Comes cs t v
+  before_all h (by_one g) = by_more (by_one h) g
+  before_all h (by_more d g) = by_more (before_all h d) g
+
+  reaches_comes : {t u : List ℕ} → Reaches defs t u → (i j : ℕ) × (named t ≡ Some i) × (named u ≡ Some j) × Comes cs i j
+  reaches_comes {t} {u} (directly x) = let k = uses_call t u x in (k.0, k.1, k.2, k.3, by_one k.4)
+  reaches_comes {t} {u} (through {u = m} x y) =
+      let k = uses_call t m x in
+      let l = reaches_comes y in
+      let same : k.1 ≡ l.0 = same_Some k.1 l.0 (sym k.3 ∙ l.2) in
+      (k.0, l.1, k.2, l.3, before_all k.4 (subst (λ m. Comes cs m l.1) (sym same) l.4))
+
+  ends_acyclic : ((t : ℕ) → t < length cs → HasEnd cs t) → IsAcyclic defs
+  ends_acyclic ends t y =
+      let k = reaches_comes y in
+      let same : k.0 ≡ k.1 = same_Some k.0 k.1 (sym k.2 ∙ k.3) in
+      let back : Comes cs k.0 k.0 = subst (Comes cs k.0) (sym same) k.4 in
+      let f = first_call cs back in
+      no_return cs (ends k.0 (caller cs k.0 f.0 f.1)) back
+    where
+      caller : (ds : Callees) (t u : ℕ) → Contains (callees_of ds t) u → t < length ds
+      caller [] t u h = absurd (none t h)
+        where
+          none : (t : ℕ) → Contains (callees_of [] t) u → ⊥
+          none t h = All-contains (λ _. ⊥) [] u (All-nil (λ _. ⊥)) h
+      caller (d ∷ ds) zero u h = omega arith
+      caller (d ∷ ds) (suc t) u h = let l = caller ds t u h in omega (arith, l)
+
+  goes_on : {t u v : List ℕ} → Reaches defs t u → Uses defs u v → Reaches defs t v
+  goes_on (directly x) y = through x (directly y)
+  goes_on (through x z) y = through x (goes_on z y)
+
+  comes_reaches : {i j : ℕ} → Comes cs i j → (t u : List ℕ) × (named t ≡ Some i) × (named u ≡ Some j) × Reaches defs t u
+  comes_reaches {i} {j} (by_one h) =
+      let k = c.said i j h in
+      (k.definition.term.text, k.name.text, k.of_term, k.is_term, directly (record { definition = k.definition; there = k.there; of_term = refl; calls = in_map (λ (n : Name). n.text) (terms_in k.definition.template) k.name k.calls }))
+  comes_reaches {i} {j} (by_more {u = m} d h) =
+      let l = comes_reaches d in
+      let k = c.said m j h in
+      let same : k.definition.term.text ≡ l.1 = one_name (term_names e.known defs) k.definition.term.text l.1 m k.of_term l.3 in
+      (l.0, k.name.text, l.2, k.is_term, goes_on l.4 (record { definition = k.definition; there = k.there; of_term = same; calls = in_map (λ (n : Name). n.text) (terms_in k.definition.template) k.name k.calls }))
+
+  back_cyclic : ComesBack cs → IsAcyclic defs → ⊥
+  back_cyclic b acyclic =
+      let l = comes_reaches b.comes in
+      let same : l.1 ≡ l.0 = one_name (term_names e.known defs) l.1 l.0 b.term l.3 l.2 in
+      acyclic l.0 (subst (Reaches defs l.0) same l.4)
+
+-- each term that names one has a template, where all is right
+found_some : (es : List ExtractorTree) (x : ExtractorTree) → Contains es x → is_template (template_after es x.term.text) ≡ true
+found_some es x h = of_found (found_in es h)
+  where
+    found_in : (ys : List ExtractorTree) → Contains ys x → (y : ExtractorTree) × (find (λ y. bytes_eq y.term.text x.term.text) ys ≡ Some y)
+    found_in [] h = absurd (All-contains (λ _. ⊥) [] x (All-nil (λ _. ⊥)) h)
+    found_in (y ∷ ys) h = elim (bytes_eq y.term.text x.term.text) as (λ b. bytes_eq y.term.text x.term.text ≡ b → (z : ExtractorTree) × (cond b (Some y) (find (λ y. bytes_eq y.term.text x.term.text) ys) ≡ Some z)) [
+      | true ↦ λ _. (y, refl)
+      | false ↦ λ d. ⊎_elim (λ s. absurd (false≢true (sym d ∙ ap (λ (z : ExtractorTree). bytes_eq z.term.text x.term.text) s ∙ same_self x.term.text))) (λ m. found_in ys m) (in_cases y x ys h)
+    ] refl
+
+    of_found : (y : ExtractorTree) × (find (λ y. bytes_eq y.term.text x.term.text) es ≡ Some y) → is_template (template_after es x.term.text) ≡ true
+    of_found p = ap (λ o. is_template (option_map (λ y. internal_extractor (extractor_template y)) o)) p.1
+
+have_templates : (e : TypesRead) → AreReadable e → (defs : List Definition) (cs : Callees) (env : TypeEnv) (table : TermTable) → IsLeftByRefusal e (environment_view env) → TemplatesRead e defs defs cs env table → HaveTemplates table cs
+have_templates e readable defs cs env table left s t u entry h at =
+    let k = s.calls.said t u h in
+    let interned : IsInterned env = left_interned e readable env left in
+    let made : List ℕ → Option ConstructorEntry = constructor_after (rule_trees defs) in
+    let taken : List ℕ → Option ExtractorEntry = template_after (extractor_trees defs) in
+    let found : term_of_name env table k.definition.term ≡ Some t = term_is e defs (decl_names defs) made taken env table interned s.stand k.definition.term ∙ k.of_term in
+    let declared : IsDeclaredTerm defs k.definition.term = All-contains (λ y. IsDeclaredTerm defs y.term) (extractor_trees defs) k.definition s.right.terms k.there in
+    elim (entry_found e defs (decl_names defs) made taken env table interned s.stand k.definition.term t entry found at) [
+      | inl q ↦ ap (λ (x : TermEntry). has_template x.kind) q.4 ∙ ap (λ y. is_template (taken y)) q.2 ∙ found_some (extractor_trees defs) k.definition k.there
+      | inr q ↦ absurd (false≢true (sym (ap is_some q.0) ∙ declared))
+    ]
+
+-- the search after all extractors
+pub searched : (e : TypesRead) → AreReadable e → (defs : List Definition) (cs : Callees) (env : TypeEnv) (table : TermTable) (es es' : List Error) (b : Bool)
+    → Notes es es' (EndsBelow table cs (length cs)) (ComesBack cs)
+    → ReadsTerms e defs (λ env table. (b ≡ true) × TemplatesRead e defs defs cs env table) env table es
+    → ReadsTerms e defs (ExtractorsRead e defs) env table es'
+searched e readable defs cs env table es es' b a s =
+    step e defs (λ env table. (b ≡ true) × TemplatesRead e defs defs cs env table) (ExtractorsRead e defs) env env table table es es' (EndsBelow table cs (length cs)) (ComesBack cs) s.left s.within a
+    (λ h ends. record {
+      stand = h.1.stand;
+      roots = h.1.roots;
+      right = h.1.right;
+      acyclic = ends_acyclic e defs cs h.1.right h.1.calls (ends (have_templates e readable defs cs env table s.left h.1));
+      converters = h.1.converters;
+    })
+    (λ h back v. back_cyclic e defs cs h.1.right h.1.calls back v.acyclic) s
+
+-- a part that was lent whole, when it is back
+pub back_whole : {X : Type 0} (new old : List X) (n : ℕ) → length new ≡ length old → n ≡ length old → take n (new ++ drop (length new) old) ≡ new
+back_whole new old n same size =
+    let none : drop (length new) old ≡ [] = at_drop_all (λ l. l) old (length new) (omega (arith, same)) in
+    ap (λ l. take n (new ++ l)) none ∙ ap (take n) (append-nil new) ∙ take_all n new (omega (arith, same, size))
+
+pub no_some : {X : Type 0} (o : Option X) → ((x : X) → o ≡ Some x → ⊥) → is_some o ≡ true → ⊥
+no_some None h e = false≢true e
+no_some (Some x) h e = h x refl
+
+-- the last term of a way back is a term
+pub last_within : (cs : Callees) (path : List TermId) (r : TermId) → slice_get path 0 ≡ Some r → IsWayBack cs path → r.0 < length cs
+last_within cs path r h w = All-contains (λ (t : TermId). t.0 < length cs) path r w.within (member_from_get path 0 r h)

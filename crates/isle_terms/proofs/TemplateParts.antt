@@ -1,0 +1,32 @@
+-- What is noted of the parts of one internal extractor, put together.
+use Rattle.std.proofs.Common.{◌≡◌, ℕ, List, [], ◌∷◌, ◌⊎◌, None, Vec, slice_get, refl, inr}
+use Rattle.std.specs.declared.alloc.Global.{Global}
+use Rattle.isle_model.specs.lists.Syntax.{ExtractorTree}
+use Rattle.isle_model.specs.lists.TermTable.{terms_in, HoldsNoMacroArg}
+use Rattle.isle_base.specs.declared.syntax.Error.{Error}
+use Rattle.isle_types.specs.declared.ids.TermId.{TermId}
+use Rattle.isle_types.specs.declared.type_env.TypeEnv.{TypeEnv}
+use Rattle.isle_terms.specs.declared.term_table.TermTable.{TermTable}
+use Rattle.isle_terms.specs.Signing.{Notes}
+use Rattle.isle_terms.specs.Templating.{AreFound, CantTakeTemplate, HaveUnknown, IsTemplate, IsWrongTemplate, SetsCallees, TakesTemplate}
+use Rattle.isle_terms.proofs.Noting.{both_note, notes_as}
+
+pub parts_noted : (x : ExtractorTree) (id : ℕ) (env : TypeEnv) (old new : TermTable) (callees callees' : List (Vec TermId Global)) (named : List ℕ) (es mid es' : List Error)
+    → HoldsNoMacroArg x → SetsCallees id named callees callees'
+    → Notes es mid (AreFound env old (terms_in x.template) named) (HaveUnknown env old (terms_in x.template))
+    → Notes mid es' (TakesTemplate x id old new) (CantTakeTemplate x id old)
+    → Notes es es' (IsTemplate x id env old new callees callees') (IsWrongTemplate x id env old)
+parts_noted x id env old new callees callees' named es mid es' no_macro_args sets a b =
+    let Found : Type 0 = AreFound env old (terms_in x.template) named in
+    let Takes : Type 0 = TakesTemplate x id old new in
+    let Unknown : Type 0 = HaveUnknown env old (terms_in x.template) in
+    let Cant : Type 0 = CantTakeTemplate x id old in
+    notes_as (Found × Takes) (IsTemplate x id env old new callees callees') (Unknown ⊎ Cant) (IsWrongTemplate x id env old) es es'
+    (λ r. record { no_macro_args = no_macro_args; named = named; names = r.0; sets = sets; takes = r.1 })
+    (λ w. inr w)
+    (both_note Found Takes Unknown Cant es mid es' a b)
+
+-- where there is no first one, there is none
+pub no_first : {X : Type 0} (xs : List X) → slice_get xs 0 ≡ None → xs ≡ []
+no_first [] h = refl
+no_first (x ∷ xs) h = absurd (cc)

@@ -1,0 +1,216 @@
+-- From one group of the reading of terms to the next one, and what stands at the end.
+use Rattle.std.proofs.Common.{◌≡◌, ◌==◌, ◌||◌, ℕ, suc, ◌+◌, ◌<◌, true, false, cond, List, [], ◌∷◌, ◌++◌, length, map, slice_get, Option, None, Some, option_map, Contains, OnOk, Result, Ok, Err, refl, sym, ap, subst, ◌∙◌, arith, inl, ⊎_elim}
+use Rattle.std.specs.List.{cons_option, enumerate_from, filter_map, find, flat_map, AllByRecursion}
+use Rattle.std.specs.Str.{bytes_eq}
+use Rattle.std.proofs.lemmas.Bool.{false≢true}
+use Rattle.std.proofs.lemmas.List.{append-nil}
+use Rattle.std.proofs.lemmas.List.Elements.{All-nil, Contains-append_cases, recursion_from_All}
+use Rattle.isle_model.specs.lists.Syntax.{DeclTree, ExtractorTree, Definition}
+use Rattle.isle_model.specs.lists.Names.{number, has_name, with_names, IsDistinct}
+use Rattle.isle_model.specs.rules.Meaning.{look}
+use Rattle.isle_model.specs.rules.Outcome.{then_option}
+use Rattle.isle_model.specs.lists.Tables.{VariantEntry, TypeEntry, builtin_type, primitive_type, enum_type, struct_type, TermEntry, declared_term, internal_extractor}
+use Rattle.isle_model.specs.lists.KnownTypes.{field_numbers, variant_numbers, entry_numbers, IsWellFormed}
+use Rattle.isle_model.specs.lists.TermTable.{decl_flags, decl_trees, decl_names, rule_trees, extractor_trees, extractor_template, internal_extractors, function_of, made_by, term_names, term_names_met, terms_made, term_table, converters, IsValidTerms}
+use Rattle.isle_model.specs.claims.Environments.{TypesRead, AreReadable, AreTermsOf, IsLeftByRefusal, IsReadAs, terms_by_name, with_read_names}
+use Rattle.isle_model.proofs.Joined.{all_joined, all_left, all_right}
+use Rattle.isle_model.proofs.Members.{in_cases, nothing_in, get_from_member}
+use Rattle.isle_model.proofs.Names.{has_at, has_met, has_left, has_kept}
+use Rattle.isle_laws_lists.proofs.TermLaws.{terms_have_names_lem, terms_stand_at_ids_lem}
+use Rattle.isle_base.specs.Answers.{limit_of}
+use Rattle.isle_base.specs.declared.syntax.Error.{Error}
+use Rattle.isle_types.specs.declared.type_env.TypeEnv.{TypeEnv}
+use Rattle.isle_types.specs.Envs.{names_of}
+use Rattle.isle_types.specs.EnvViews.{environment_view}
+use Rattle.isle_types.specs.TypeViews.{type_views}
+use Rattle.isle_terms.specs.declared.term_table.TermTable.{TermTable}
+use Rattle.isle_terms.specs.TermTables.{term_at}
+use Rattle.isle_terms.specs.TermViews.{term_view}
+use Rattle.isle_terms.specs.Reading.{IsWithin}
+use Rattle.isle_terms.specs.Stages.{HasNoConverter, constructor_after, place_among}
+use Rattle.isle_terms.specs.Signing.{with_ids, declared_so_far, declared_alone, AddsMade, AreTaken, Declaring, GrowsBy, NumbersAreMet, ReadsTerms}
+use Rattle.isle_terms.specs.Standing.{RootsRead}
+use Rattle.isle_terms.specs.Converting.{ConvertersRead, template_after}
+use Rattle.isle_terms.specs.ExternStages.{external_after, function_after, ExternsRead}
+use Rattle.isle_terms.specs.Recursion.{ExtractorsRead}
+use Rattle.isle_terms.specs.Whole.{shown_by}
+use Rattle.isle_terms.proofs.Noting.{reads_as, step}
+use Rattle.isle_terms.proofs.TypesStaying.{left_distinct, left_interned, numbered_look}
+
+nothing_there : (o : Option (List ℕ)) → None ≡ then_option {Y = ℕ} o (λ x. None)
+nothing_there None = refl
+nothing_there (Some x) = refl
+
+-- before the first definition
+pub first_declared : (e : TypesRead) (defs : List Definition) (env : TypeEnv) (table : TermTable) (es : List Error) → IsReadAs (environment_view env) e → table.terms.items ≡ [] → ((k : ℕ) → term_at table k ≡ None) → HasNoConverter table → es ≡ [] → ReadsTerms e defs (Declaring e defs []) env table es
+first_declared e defs env table es r terms ids converters none = record {
+  left = record { more = []; types = subst (λ ns. IsReadAs (environment_view env) (with_read_names e ns)) (sym (append-nil e.known.names)) r };
+  within = λ k n h. let a = ids k in absurd (cc);
+  plain = rw none (All-nil (λ e. limit_of e ≡ None));
+  so_far = inl (
+    none,
+    record {
+      has = record {
+        names = r.names;
+        finds = record { ids = λ k. ids k ∙ nothing_there (slice_get (names_of env) k); known = λ x e. refl };
+        distinct = λ j k x p q. absurd (cc);
+        terms = ap (map term_view) terms;
+        count = refl;
+        converters = converters;
+      };
+      right = record { arguments = All-nil _; results = All-nil _; marks = All-nil _ };
+    },
+  );
+}
+
+-- the names that make terms were met
+module _ (P : ℕ → Type 0) where
+  full_names_only : (vs : List VariantEntry) → AllByRecursion P (flat_map variant_numbers vs) → AllByRecursion P (map (λ v. v.full_name) vs)
+  full_names_only [] a = tt
+  full_names_only (v ∷ vs) a = (a.0, full_names_only vs (all_right P (field_numbers v.fields) (flat_map variant_numbers vs) a.1.1))
+
+  made_only : (t : TypeEntry) → AllByRecursion P (entry_numbers t) → AllByRecursion P (made_by t)
+  made_only (builtin_type place) a = tt
+  made_only (primitive_type id name at) a = tt
+  made_only (enum_type name id is_extern is_nodebug variants at) a = full_names_only variants a.1
+  made_only (struct_type name id is_extern is_nodebug fields at) a = (a.0, tt)
+
+  all_made_only : (ts : List TypeEntry) → AllByRecursion P (flat_map entry_numbers ts) → AllByRecursion P (flat_map made_by ts)
+  all_made_only [] a = tt
+  all_made_only (t ∷ ts) a =
+      all_joined P (made_by t) (flat_map made_by ts) (made_only t (all_left P (entry_numbers t) (flat_map entry_numbers ts) a)) (all_made_only ts (all_right P (entry_numbers t) (flat_map entry_numbers ts) a))
+
+made_met : (e : TypesRead) → IsWellFormed e.known → NumbersAreMet e (flat_map made_by e.known.types)
+made_met e w = all_made_only (λ n. n < length e.known.names) e.known.types (recursion_from_All (λ n. n < length e.known.names) (flat_map entry_numbers e.known.types) w.numbers_in_range)
+
+-- after the terms that types make
+pub made_after : (e : TypesRead) → AreReadable e → (defs : List Definition) (env : TypeEnv) (table table' : TermTable) (es es' : List Error) → IsWithin table'
+    → AddsMade (flat_map made_by (type_views env.types.items)) (flat_map terms_made (type_views env.types.items)) table es table' es'
+    → ReadsTerms e defs (Declaring e defs defs) env table es → ReadsTerms e defs (RootsRead e defs []) env table' es'
+made_after e readable defs env table table' es es' w a s =
+    let ts : List TypeEntry = e.known.types in
+    let b : AddsMade (flat_map made_by ts) (flat_map terms_made ts) table es table' es' = subst (λ l. AddsMade (flat_map made_by l) (flat_map terms_made l) table es table' es') s.left.types.types a in
+    let met : NumbersAreMet e (flat_map made_by ts) = made_met e readable.well_formed in
+    step e defs (Declaring e defs defs) (RootsRead e defs []) env env table table' es es' (GrowsBy (flat_map made_by ts) (flat_map terms_made ts) table table') (AreTaken (flat_map made_by ts) table) s.left w b
+    (λ h g.
+    let grown = g e (decl_names defs) (decl_names defs) (map (declared_alone e defs) (decl_trees defs)) env (left_interned e readable env s.left) met h.has in
+    record {
+      stand = record { names = grown.names; finds = grown.finds; distinct = grown.distinct; right = h.right; terms = grown.terms };
+      roots = All-nil _;
+      converters = grown.converters;
+    })
+    (λ h t v. t e (decl_names defs) (decl_names defs) (map (declared_alone e defs) (decl_trees defs)) env (left_interned e readable env s.left) met h.has v.distinct) s
+
+-- what is right where nothing was noted
+pub right_now : (e : TypesRead) (defs : List Definition) (A : TypeEnv → TermTable → Type 0) (env : TypeEnv) (table : TermTable) (es : List Error) → ReadsTerms e defs A env table es → es ≡ [] → A env table
+right_now e defs A env table es s none = ⊎_elim (λ r. r.1) (λ w. absurd (w.0 none)) s.so_far
+
+same_entries : (f g : DeclTree → ℕ → TermEntry) (fs : List (ℕ → TermEntry)) → ((d : DeclTree) (i : ℕ) → f d i ≡ g d i) → (n : ℕ) (ds : List DeclTree) → with_ids n (map f ds ++ fs) ≡ with_ids n (map g ds ++ fs)
+same_entries f g fs h n [] = refl
+same_entries f g fs h n (d ∷ ds) = ap (λ x. x ∷ with_ids (n + 1) (map f ds ++ fs)) (h d n) ∙ ap (λ l. g d n ∷ l) (same_entries f g fs h (n + 1) ds)
+
+no_template : (es : List ExtractorTree) (x : List ℕ) → has_name (map (λ e. e.term.text) es) x ≡ false → find (λ e. bytes_eq e.term.text x) es ≡ None
+no_template [] x h = refl
+no_template (t ∷ ts) x h =
+    elim (bytes_eq t.term.text x) as (λ b. b || has_name (map (λ e. e.term.text) ts) x ≡ false → cond b (Some t) (find (λ e. bytes_eq e.term.text x) ts) ≡ None) [
+      | true ↦ λ g. absurd (false≢true (sym g))
+      | false ↦ λ g. no_template ts x g
+    ] h
+
+template_or : (e : TypesRead) (defs : List Definition) (x : List ℕ) → template_after (extractor_trees defs) x ≡ external_after e defs [] x
+template_or e defs x =
+    elim (has_name (internal_extractors defs) x) as (λ b. has_name (internal_extractors defs) x ≡ b → template_after (extractor_trees defs) x ≡ cond b (template_after (extractor_trees defs) x) None) [
+      | true ↦ λ _. refl
+      | false ↦ λ h. ap (option_map (λ t. internal_extractor (extractor_template t))) (no_template (extractor_trees defs) x h)
+    ] refl
+
+-- before the external functions
+pub first_extern : (e : TypesRead) (defs : List Definition) (env : TypeEnv) (table : TermTable) (es : List Error) → IsDistinct (internal_extractors defs) → ReadsTerms e defs (ConvertersRead e defs defs) env table es → ReadsTerms e defs (ExternsRead e defs []) env table es
+first_extern e defs env table es once s =
+    reads_as e defs (ConvertersRead e defs defs) (ExternsRead e defs []) env table es (λ h. record {
+      stand = record {
+        names = h.stand.names ∙ ap (with_names e.known.names) (sym (append-nil (decl_names defs)));
+        finds = h.stand.finds;
+        distinct = h.stand.distinct;
+        right = h.stand.right;
+        terms = h.stand.terms ∙ same_entries (declared_so_far e.known (term_names_met e.known defs) (constructor_after (rule_trees defs)) (template_after (extractor_trees defs)))
+            (declared_so_far e.known (term_names_met e.known defs) (function_after e defs []) (external_after e defs [])) (flat_map terms_made e.known.types)
+            (λ d i. ap (λ x. record (declared_so_far e.known (term_names_met e.known defs) (function_after e defs []) (external_after e defs []) d i) { kind = declared_term (decl_flags d) (constructor_after (rule_trees defs) d.term.text) x }) (template_or e defs d.term.text)) 0 (decl_trees defs);
+      };
+      constructors = record { terms = All-nil _; without_rules = All-nil _; distinct = λ j k x p q. absurd (cc) };
+      externals = record { terms = All-nil _; distinct = subst IsDistinct (sym (append-nil (internal_extractors defs))) once };
+      conversions = h.conversions;
+    }) s
+
+-- terms by name, where each stands at its id
+by_name_from : (n : ℕ) (ts : List TermEntry) (ns names : List (List ℕ)) → map (λ e. e.name) ts ≡ map (number names) ns → ((i : ℕ) (t : TermEntry) → slice_get ts i ≡ Some t → t.id ≡ n + i) → terms_by_name ts ≡ map (λ p. (number names p.1, p.0)) (enumerate_from n ns)
+by_name_from n [] [] names h ids = refl
+by_name_from n [] (x ∷ ns) names h ids = absurd (cc)
+by_name_from n (t ∷ ts) [] names h ids = absurd (cc)
+by_name_from n (t ∷ ts) (x ∷ ns) names h ids =
+    let head : t.name ≡ number names x = cc in
+    let tail : map (λ (e : TermEntry). e.name) ts ≡ map (number names) ns = cc in
+    let zero_is : n + 0 ≡ n = omega arith in
+    let id : t.id ≡ n = ids 0 t refl ∙ zero_is in
+    let next : (i : ℕ) → n + suc i ≡ (n + 1) + i = λ i. omega arith in
+    ap (λ k. (k, t.id) ∷ terms_by_name ts) head
+    ∙ ap (λ k. (number names x, k) ∷ terms_by_name ts) id
+    ∙ ap (λ l. (number names x, n) ∷ l) (by_name_from (n + 1) ts ns names tail (λ i u g. ids (suc i) u g ∙ next i))
+
+one_name_met : (ns rest : List (List ℕ)) (m : ℕ) (x : List ℕ) (o : Option (List ℕ)) → slice_get ns m ≡ o → (Contains rest x → has_name ns x ≡ true) → Contains (cons_option o rest) x → has_name ns x ≡ true
+one_name_met ns rest m x None e all c = all c
+one_name_met ns rest m x (Some y) e all c = ⊎_elim (λ s. has_at ns m x (e ∙ ap Some s)) all (in_cases y x rest c)
+
+made_names_met : (ns : List (List ℕ)) (ms : List ℕ) (x : List ℕ) → Contains (filter_map (slice_get ns) ms) x → has_name ns x ≡ true
+made_names_met ns [] x c = absurd (nothing_in x c)
+made_names_met ns (m ∷ ms) x c = one_name_met ns (filter_map (slice_get ns) ms) m x (slice_get ns m) refl (made_names_met ns ms x) c
+
+-- nothing is wrong: these are the terms of the list
+pub all_read : (e : TypesRead) → AreReadable e → (defs : List Definition) (env old : TypeEnv) (table before : TermTable) → IsLeftByRefusal e (environment_view env) → ExtractorsRead e defs old before → (cr : (mid : TermTable) × ConvertersRead e defs defs old mid) → ExternsRead e defs defs env table
+    → IsValidTerms e.known defs × AreTermsOf e defs (shown_by table) (environment_view env)
+all_read e readable defs env old table before left x cr s = (valid, record { valid = valid; rows = record { table = s.stand.terms; look_ups = look_ups; conversions = s.conversions }; types = types })
+  where
+    valid : IsValidTerms e.known defs
+    valid = record {
+      distinct = s.stand.distinct;
+      types_of_arguments = s.stand.right.arguments;
+      types_of_results = s.stand.right.results;
+      marks = s.stand.right.marks;
+      roots = x.roots;
+      terms_of_extractors = x.right.terms;
+      terms_of_externals = s.externals.terms;
+      terms_of_constructors = s.constructors.terms;
+      rules_or_function = s.constructors.without_rules;
+      one_constructor = s.constructors.distinct;
+      one_extractor = s.externals.distinct;
+      plain_terms = x.right.plain;
+      known_terms = x.right.known;
+      no_macro_args = x.right.no_macro_args;
+      declared_arguments = x.right.arguments;
+      acyclic = x.acyclic;
+      known_converters = cr.1.known;
+      one_converter = cr.1.distinct;
+    }
+
+    met : (y : List ℕ) → Contains (term_names e.known defs) y → has_name (term_names_met e.known defs) y ≡ true
+    met y c =
+        ⊎_elim (λ d. has_met e.known.names (decl_names defs ++ flat_map function_of defs) y (has_left (decl_names defs) (flat_map function_of defs) y (has_in (decl_names defs) y d)))
+        (λ m. has_kept e.known.names (decl_names defs ++ flat_map function_of defs) y (made_names_met e.known.names (flat_map made_by e.known.types) y m))
+        (Contains-append_cases (decl_names defs) (filter_map (slice_get e.known.names) (flat_map made_by e.known.types)) y c)
+      where
+        has_in : (ns : List (List ℕ)) (y : List ℕ) → Contains ns y → has_name ns y ≡ true
+        has_in ns y c = let g = get_from_member ns y c in has_at ns g.0 y g.1
+
+    look_ups : (k : ℕ) → term_at table k ≡ look (λ n. n == k) (terms_by_name (term_table e.known defs))
+    look_ups k =
+        s.stand.finds.ids k ∙ ap (λ ns. then_option (slice_get ns k) (place_among (term_names e.known defs))) s.stand.names
+        ∙ sym (numbered_look (term_names_met e.known defs) 0 (term_names e.known defs) (subst IsDistinct s.stand.names (left_distinct e readable env left)) met k)
+        ∙ ap (look (λ n. n == k)) (sym (by_name_from 0 (term_table e.known defs) (term_names e.known defs) (term_names_met e.known defs) (terms_have_names_lem.0 e.known defs readable.well_formed) (λ i t h. let z : i ≡ 0 + i = omega arith in terms_stand_at_ids_lem e.known defs i t h ∙ z)))
+
+    types : IsReadAs (environment_view env) (with_read_names e (term_names_met e.known defs))
+    types = subst (λ ns. IsReadAs (environment_view env) (with_read_names e ns)) (sym left.types.names ∙ s.stand.names) left.types
+
+-- two facts of what was answered
+pub both_ok : {T E : Type 0} (r : Result T E) (A B C : Type 0) → (A → B → C) → OnOk r A → OnOk r B → OnOk r C
+both_ok (Ok x) A B C f a b = f a b
+both_ok (Err x) A B C f a b = tt

@@ -1,0 +1,12 @@
+use Rattle.std.proofs.Common.{map, refl, ap, ◌∙◌, inl, inr}
+use Rattle.std.proofs.lemmas.Result.{on_ok_weaker}
+use Rattle.isle_terms.proofs.TemplateNames.{greatest_below, greatest_past}
+use Rattle.isle_terms.proofs.reading.templates.check_arguments.Goals as goal
+
+pub returns-then-greatest-count : goal.returns-then-greatest-count
+returns-then-greatest-count c =
+    inl (refl, greatest_below c.deref.result.now c.in-Some.field-0.now c.args.count _ (ap (map (λ a. a.1)) c.deref.ensures.value ∙ c.in_ok-arguments.ensures) c.in-Some.ensures.1 c.if-greatest-count.true)
+
+pub returns : goal.returns
+returns c =
+    on_ok_weaker c.report.result (λ r. inr (r, greatest_past c.deref.result.now c.in-Some.field-0.now c.args.count _ (ap (map (λ a. a.1)) c.deref.ensures.value ∙ c.in_ok-arguments.ensures) c.in-Some.ensures.0 c.if-greatest-count.false)) c.report.ensures

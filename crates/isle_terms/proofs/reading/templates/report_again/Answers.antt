@@ -1,0 +1,6 @@
+use Rattle.std.proofs.lemmas.Result.{on_ok_weaker}
+use Rattle.isle_types.proofs.Reports.{both}
+use Rattle.isle_terms.proofs.reading.templates.report_again.Goals as goal
+
+pub returns : goal.returns
+returns c = on_ok_weaker c.report-2.result (λ r. both _ _ _ c.in_ok-report.ensures r) c.report-2.ensures

@@ -1,0 +1,18 @@
+use Rattle.std.proofs.Common.{map, sym, ap, ◌∙◌}
+use Rattle.isle_base.specs.SyntaxViews.{extractor_view}
+use Rattle.isle_terms.proofs.TemplateParts.{parts_noted, no_first}
+use Rattle.std.proofs.lemmas.Result.{on_ok_weaker}
+use Rattle.isle_terms.proofs.Callees.{still_callees}
+use Rattle.isle_terms.proofs.term_table.TermTable.read_template_of.Goals as goal
+
+pub returns-clause-callees : goal.returns-clause-callees
+returns-clause-callees c =
+    on_ok_weaker c.take_template.result (λ _.
+    still_callees c.args.self.now c.take_template.new.self c.args.callees.now.items c.set_callees.new.callees.items c.args.id.0 c.in_ok-named.named.items c.in_ok-named.ensures.within c.set_callees.ensures c.take_template.ensures.count c.requires.callees) c.take_template.ensures.within
+
+pub returns-clause-notes : goal.returns-clause-notes
+returns-clause-notes c =
+    let none = no_first c.deref.result.now (sym c.in_default.ensures.value) in
+    let x = extractor_view c.args.extractor.now in
+    on_ok_weaker c.take_template.result (λ r.
+    parts_noted x c.args.id.0 c.args.tyenv.now c.args.self.now c.take_template.new.self c.args.callees.now.items c.set_callees.new.callees.items (map (λ t. t.0) c.in_ok-named.named.items) c.args.errors.now.items c.terms_named.new.errors.items c.take_template.new.errors.items (sym c.in_ok-arguments.ensures ∙ ap (map (λ a. a.1)) (sym c.deref.ensures.value ∙ none)) c.set_callees.ensures c.in_ok-named.ensures.notes r) c.take_template.ensures.notes

@@ -1,0 +1,95 @@
+//! How the whole term table is read, group by group. Each group is read only where nothing is wrong so far.
+
+ghost use Rattle.std.specs.Prelude.{[], OnErr, OnOk};
+ghost use Rattle.isle_model.specs.claims.Environments.{TypesRead, AreReadable, AreTermsOf, IsLeftByRefusal, IsReadAs};
+ghost use Rattle.isle_model.specs.lists.TermTable.{IsValidTerms};
+ghost use Rattle.isle_base.specs.Answers.{Answers, NoLimit};
+ghost use Rattle.isle_base.specs.SyntaxViews.{definition_views};
+ghost use Rattle.isle_types.specs.EnvViews.{environment_view};
+ghost use Rattle.isle_terms.specs.Recursion.{ExtractorsRead};
+ghost use Rattle.isle_terms.specs.Signing.{Declaring, ReadsTerms};
+ghost use Rattle.isle_terms.specs.Standing.{RootsRead};
+ghost use Rattle.isle_terms.specs.Whole.{shown_by};
+
+use crate::term_table::TermTable;
+use isle_base::stablemapset::StableMap;
+use isle_base::syntax::{Def, Error, Fault};
+use isle_types::TypeEnv;
+use std::alloc::{AllocError, Global};
+
+impl TermTable {
+    /// The terms of a list of definitions, of all forms, by any types that are handed in as `tyenv`, a
+    /// well-formed environment. The i-th declaration, from 0, is term i; types ascending, each variant of an
+    /// enum and each struct follows. The names of the declared terms and of external functions are added to
+    /// those of `tyenv`, in order, as far as the reading comes; all else of it stays.
+    ///
+    /// `Errors` has all that is wrong in the first of four groups in which something is: declarations and the
+    /// terms that types make; rules' terms and internal extractors; converters; external functions. `Memory`
+    /// where memory is refused.
+    pub fn read(alloc: Global, tyenv: &mut TypeEnv, defs: &[Def]) -> Result<TermTable, Fault>
+        ghost read: { TypesRead }
+        requires readable { AreReadable read }
+        requires types { IsReadAs (environment_view tyenv.old) read }
+        ensures answers { Answers result (IsValidTerms read.known (definition_views defs.now))
+            (λ table. AreTermsOf read (definition_views defs.now) (shown_by table) (environment_view tyenv.new)) }
+        ensures left { OnErr result (IsLeftByRefusal read (environment_view tyenv.new)) }
+        ensures no_limit { NoLimit result }
+    {
+        let mut table = TermTable {
+            terms: Vec::new(alloc),
+            term_map: StableMap::new(alloc),
+            converters: StableMap::new(alloc),
+        };
+        let mut errors = Vec::new(alloc);
+        table.read_signatures(tyenv, &mut errors, defs)?;
+        if !errors.is_empty() {
+            return Err(Fault::Errors(errors));
+        }
+        table.read_definitions(tyenv, &mut errors, defs)?;
+        if !errors.is_empty() {
+            return Err(Fault::Errors(errors));
+        }
+        table.read_converters(tyenv, &mut errors, defs)?;
+        if !errors.is_empty() {
+            return Err(Fault::Errors(errors));
+        }
+        table.read_externs(tyenv, &mut errors, defs)?;
+        if !errors.is_empty() {
+            return Err(Fault::Errors(errors));
+        }
+        Ok(table)
+    }
+
+    // Reads all declarations, and adds the terms that types make.
+    fn read_signatures(
+        &mut self,
+        tyenv: &mut TypeEnv,
+        errors: &mut Vec<Error>,
+        defs: &[Def],
+    ) -> Result<(), AllocError>
+        ghost read: { TypesRead }
+        requires readable { AreReadable read }
+        requires start { ReadsTerms read (definition_views defs.now) (Declaring read (definition_views defs.now) []) tyenv.old self.old errors.old.items }
+        ensures left { IsLeftByRefusal read (environment_view tyenv.new) }
+        ensures reads { OnOk result (ReadsTerms read (definition_views defs.now) (RootsRead read (definition_views defs.now) []) tyenv.new self.new errors.new.items) }
+    {
+        self.read_declarations(tyenv, errors, defs)?;
+        self.add_made_terms(tyenv, errors)
+    }
+
+    // Reads which terms the rules are of, and all internal extractors.
+    fn read_definitions(
+        &mut self,
+        tyenv: &TypeEnv,
+        errors: &mut Vec<Error>,
+        defs: &[Def],
+    ) -> Result<(), AllocError>
+        ghost read: { TypesRead }
+        requires readable { AreReadable read }
+        requires start { ReadsTerms read (definition_views defs.now) (RootsRead read (definition_views defs.now) []) tyenv.now self.old errors.old.items }
+        ensures { OnOk result (ReadsTerms read (definition_views defs.now) (ExtractorsRead read (definition_views defs.now)) tyenv.now self.new errors.new.items) }
+    {
+        self.read_roots(tyenv, errors, defs)?;
+        self.collect_extractor_templates(tyenv, errors, defs)
+    }
+}
