@@ -35,3 +35,5 @@ pub mod ExprLists
 pub mod ExprSizes
 pub mod LetForms
 pub mod ExprForms
+pub mod IfLetLists
+pub mod SidesForms

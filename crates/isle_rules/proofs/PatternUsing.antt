@@ -72,7 +72,7 @@ followed_none f None next h = refl
 followed_none f (Some a) next h = rw (h a) refl
 
 -- patterns for arguments are as many as these
-parts_count : (e : Setting) (multi : Bool) (c : ℕ) (ps : PatternTrees) (tys : List ℕ) (s : Scope) → (length (pattern_list ps) ≡ length tys → ⊥) → elaborated_parts e multi c ps tys s ≡ None
+pub parts_count : (e : Setting) (multi : Bool) (c : ℕ) (ps : PatternTrees) (tys : List ℕ) (s : Scope) → (length (pattern_list ps) ≡ length tys → ⊥) → elaborated_parts e multi c ps tys s ≡ None
 parts_count e multi c no_pattern [] s h = absurd (h refl)
 parts_count e multi c no_pattern (ty ∷ tys) s h = refl
 parts_count e multi c (pattern_and p ps) [] s h = refl

@@ -18,3 +18,4 @@ pub mod PatternUses
 pub mod ExprReadings
 pub mod ExprUses
 pub mod Lets
+pub mod RuleReadings

@@ -10,3 +10,4 @@ mod pattern_leaves;
 mod pattern_uses;
 mod patterns;
 mod progress;
+mod sides;

@@ -1,0 +1,12 @@
+use Rattle.std.proofs.Common.{map, take}
+use Rattle.isle_base.specs.SyntaxViews as S
+use Rattle.isle_terms.specs.TermViews.{flags_view}
+use Rattle.isle_rules.specs.RuleReadings.{iflets_reading}
+use Rattle.isle_rules.specs.Translating.{standing, Keeps}
+use Rattle.isle_rules.proofs.IfLetLists.{IfLetsSoFar}
+use Rattle.isle_rules.proofs.term_env.TermEnv.translate_iflets.Given as goal
+
+abbrev pub invariant-loop-iflet : goal.invariant-loop-iflet
+invariant-loop-iflet l =
+    Keeps l.fn.tyenv l.tyenv
+    × IfLetsSoFar l.self (standing l.fn.tyenv l.fn.work) (standing l.tyenv l.work) l.nesting (iflets_reading (map S.iflet_view (take l.iflet-index l.iflets)) (flags_view l.flags)) l.made.items

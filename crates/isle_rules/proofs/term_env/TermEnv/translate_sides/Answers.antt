@@ -1,0 +1,49 @@
+use Rattle.std.proofs.Common.{map}
+use Rattle.isle_base.specs.SyntaxViews as S
+use Rattle.isle_terms.specs.TermViews.{flags_view, term_view}
+use Rattle.isle_rules.specs.ExprViews.{expr_view}
+use Rattle.isle_rules.specs.PatternViews.{pattern_views, pattern_parts}
+use Rattle.isle_rules.specs.RuleViews.{iflet_view}
+use Rattle.isle_rules.specs.Translating.{standing}
+use Rattle.isle_rules.proofs.Readings.{stop_is}
+use Rattle.isle_rules.proofs.SidesForms.{sides_first_stops, sides_second_stops, sides_third_stops, sides_reported, sides_done}
+use Rattle.isle_rules.proofs.term_env.TermEnv.translate_sides.Goals as goal
+
+pub returns-in_err-parts-clause-made : goal.returns-in_err-parts-clause-made
+returns-in_err-parts-clause-made c =
+    rw (stop_is c.from_residual.result c.in_err-parts.field-0.0 c.from_residual.ensures)
+    (sides_first_stops c.args.self.now (standing c.args.tyenv.now c.args.work.now) (standing c.translate_root.new.tyenv c.translate_root.new.work) (standing c.translate_root.new.tyenv c.translate_root.new.work) (standing c.translate_root.new.tyenv c.translate_root.new.work) c.args.nesting
+    (S.rule_view c.args.rule.now) (S.pattern_views c.args.args.now) (flags_view c.args.flags) (term_view c.args.term.now) c.requires.root c.in_err-parts.field-0.0 (rw c.as_slice-tys.ensures.value at c.in_err-parts.ensures.made))
+
+pub returns-in_err-iflets-clause-made : goal.returns-in_err-iflets-clause-made
+returns-in_err-iflets-clause-made c =
+    let first = rw c.as_slice-tys.ensures.value at c.in_ok-parts.ensures.made in
+    rw (stop_is c.from_residual-in_err-iflets.result c.in_err-iflets.field-0.0 c.from_residual-in_err-iflets.ensures)
+    (sides_second_stops c.args.self.now (standing c.args.tyenv.now c.args.work.now) (standing c.translate_root.new.tyenv c.translate_root.new.work) (standing c.translate_iflets.new.tyenv c.translate_iflets.new.work) (standing c.translate_iflets.new.tyenv c.translate_iflets.new.work) c.args.nesting
+    (S.rule_view c.args.rule.now) (S.pattern_views c.args.args.now) (flags_view c.args.flags) (term_view c.args.term.now) c.requires.root (pattern_parts (pattern_views c.in_ok-parts.parts.items)) first c.translate_root.ensures.keeps
+    c.in_err-iflets.field-0.0 (rw c.deref.ensures.value at c.in_err-iflets.ensures.made))
+
+pub returns-in_err-value-clause-made : goal.returns-in_err-value-clause-made
+returns-in_err-value-clause-made c =
+    let first = rw c.as_slice-tys.ensures.value at c.in_ok-parts.ensures.made in
+    let second = rw c.deref.ensures.value at c.in_ok-iflets.ensures.made in
+    rw (stop_is c.from_residual-in_err-value.result c.in_err-value.field-0.0 c.from_residual-in_err-value.ensures)
+    (sides_third_stops c.args.self.now (standing c.args.tyenv.now c.args.work.now) (standing c.translate_root.new.tyenv c.translate_root.new.work) (standing c.translate_iflets.new.tyenv c.translate_iflets.new.work) (standing c.translate_expr.new.tyenv c.translate_expr.new.work) c.args.nesting
+    (S.rule_view c.args.rule.now) (S.pattern_views c.args.args.now) (flags_view c.args.flags) (term_view c.args.term.now) c.requires.root (pattern_parts (pattern_views c.in_ok-parts.parts.items)) first c.translate_root.ensures.keeps
+    (map iflet_view c.in_ok-iflets.iflets.items) second c.translate_iflets.ensures.keeps c.in_err-value.field-0.0 c.in_err-value.ensures.made)
+
+pub returns-in_default-clause-made : goal.returns-in_default-clause-made
+returns-in_default-clause-made c =
+    let first = rw c.as_slice-tys.ensures.value at c.in_ok-parts.ensures.made in
+    let second = rw c.deref.ensures.value at c.in_ok-iflets.ensures.made in
+    sides_reported c.args.self.now (standing c.args.tyenv.now c.args.work.now) (standing c.translate_root.new.tyenv c.translate_root.new.work) (standing c.translate_iflets.new.tyenv c.translate_iflets.new.work) (standing c.translate_expr.new.tyenv c.translate_expr.new.work) c.args.nesting
+    (S.rule_view c.args.rule.now) (S.pattern_views c.args.args.now) (flags_view c.args.flags) (term_view c.args.term.now) c.requires.root (pattern_parts (pattern_views c.in_ok-parts.parts.items)) first c.translate_root.ensures.keeps
+    (map iflet_view c.in_ok-iflets.iflets.items) second c.translate_iflets.ensures.keeps (rw c.in_default.is at c.in_ok-value.ensures.made)
+
+pub returns-clause-made : goal.returns-clause-made
+returns-clause-made c =
+    let first = rw c.as_slice-tys.ensures.value at c.in_ok-parts.ensures.made in
+    let second = rw c.deref.ensures.value at c.in_ok-iflets.ensures.made in
+    sides_done c.args.self.now (standing c.args.tyenv.now c.args.work.now) (standing c.translate_root.new.tyenv c.translate_root.new.work) (standing c.translate_iflets.new.tyenv c.translate_iflets.new.work) (standing c.translate_expr.new.tyenv c.translate_expr.new.work) c.args.nesting
+    (S.rule_view c.args.rule.now) (S.pattern_views c.args.args.now) (flags_view c.args.flags) (term_view c.args.term.now) c.requires.root (pattern_parts (pattern_views c.in_ok-parts.parts.items)) first c.translate_root.ensures.keeps
+    (map iflet_view c.in_ok-iflets.iflets.items) second c.translate_iflets.ensures.keeps (expr_view c.in-Some.rhs) (rw c.in-Some.is at c.in_ok-value.ensures.made)

@@ -1,0 +1,37 @@
+-- How if-lets and the sides of rules are read: patterns as the function of typing reads them, expressions as if each term
+-- had a constructor.
+use Rattle.std.specs.Prelude.{List, [], ◌∷◌, map, Some, None}
+use Rattle.isle_model.specs.lists.Syntax.{IfLetTree, RuleTree}
+use Rattle.isle_model.specs.lists.Tables.{Flags, TermEntry}
+use Rattle.isle_model.specs.rules.Typed.{TypedIfLet, TypedExpr}
+use Rattle.isle_model.specs.lists.Setting.{expr_type, on_lhs}
+use Rattle.isle_model.specs.lists.Typings.{plain, followed}
+use Rattle.isle_model.specs.lists.Elaborated.{typed_iflet, root_parts, Sides, sides_of, last_sides}
+use Rattle.isle_rules.specs.declared.typing.sides.RuleSides.{RuleSides}
+use Rattle.isle_rules.specs.ExprReadings.{expr_reading}
+use Rattle.isle_rules.specs.ExprViews.{expr_view}
+use Rattle.isle_rules.specs.PatternReadings.{pattern_reading, parts_reading}
+use Rattle.isle_rules.specs.PatternViews.{pattern_views, pattern_parts}
+use Rattle.isle_rules.specs.RuleViews.{iflet_view}
+use Rattle.isle_rules.specs.Translating.{Reading}
+
+-- the expression of an if-let, at any type, then its pattern at that type
+abbrev pub iflet_reading : IfLetTree → Flags → Reading TypedIfLet
+iflet_reading i flags e multi c s = followed typed_iflet (expr_reading i.expr (on_lhs flags) None e multi c s) (λ a. pattern_reading i.pattern (expr_type a.made) e multi c a.scope)
+
+-- if-lets in order
+abbrev pub iflets_reading : List IfLetTree → Flags → Reading (List TypedIfLet)
+iflets_reading [] flags e multi c s = Some (plain [] s)
+iflets_reading (i ∷ is) flags e multi c s = followed ◌∷◌ (iflet_reading i flags e multi c s) (λ a. iflets_reading is flags e multi c a.scope)
+
+-- if-lets in order, then the right side at the type of what the term makes
+abbrev pub ends_reading : RuleTree → Flags → TermEntry → Reading (List TypedIfLet × TypedExpr)
+ends_reading r flags t e multi c s = followed last_sides (iflets_reading r.iflets flags e multi c s) (λ b. expr_reading r.expr flags (Some t.ret_ty) e multi c b.scope)
+
+-- arguments at the types of the rule's term, then the rest
+abbrev pub sides_reading : RuleTree → Flags → TermEntry → Reading Sides
+sides_reading r flags t e multi c s = followed sides_of (parts_reading (root_parts r.pattern) t.arg_tys e multi c s) (λ a. ends_reading r flags t e multi c a.scope)
+
+-- what the sides of a rule say
+abbrev pub sides_view : RuleSides → Sides
+sides_view r = (pattern_parts (pattern_views r.args.items), (map iflet_view r.iflets.items, expr_view r.rhs))
