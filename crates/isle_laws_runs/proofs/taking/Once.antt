@@ -19,7 +19,7 @@ use Rattle.isle_laws_runs.proofs.runs.Binding.{Held, reads, binds_now}
 use Rattle.isle_laws_runs.proofs.runs.Contents.{SourcesBefore, sources_in, content_layer}
 use Rattle.isle_laws_runs.proofs.runs.Listing.{sources_within}
 use Rattle.isle_laws_runs.proofs.taking.Settled.{settled, critical, settled_content, settled_pure, settled_source, emitted_settled, stock, critical_below, critical_order}
-use Rattle.isle_laws_runs.proofs.taking.Used.{used_placed, placed_same, content_placed, bound_elsewhere, used_here, used_elsewhere, used_stays, AreAlike, bind_alike, alike_bound}
+use Rattle.isle_laws_runs.proofs.taking.Used.{used_placed, placed_same, content_placed, bound_elsewhere, used_here, used_elsewhere, used_stays, AreAlike, bind_alike, alike_bound, AreAlikeBy, then_alike, WithOneContent}
 use Rattle.isle_laws_runs.proofs.runs.Here.{IsHere, stays_here, last_here, here_or_last, listed_last, met_here, not_here}
 
 -- an unwrap of what has a part is bound to it
@@ -84,10 +84,7 @@ module _ (w : World) (before : SourcesBefore w.sites) where
 
     -- how far two bindings came
     abbrev Alike : List ℕ → Bound → Bound → Type 0
-    Alike done (all_bound e calls) (all_bound e' calls') = Agree done e e' × (calls ≡ calls')
-    Alike done (unwrap_failed calls) (unwrap_failed calls') = calls ≡ calls'
-    Alike done (no_content_there calls) (no_content_there calls') = calls ≡ calls'
-    Alike done _ _ = ⊥
+    Alike done b b' = AreAlikeBy (Agree done) b b'
 
     -- 3. one more site
     module _ (done : List ℕ) (s : ℕ) (fresh : In done s → ⊥) (closed : (u a : ℕ) → Contains done u → Contains (sources_at w.sites u) a → In done a) (sources : (a : ℕ) → Contains (sources_at w.sites s) a → In done a) where
@@ -195,15 +192,9 @@ module _ (w : World) (before : SourcesBefore w.sites) where
         bound_list p = ap (λ t. cond (not t) (s ∷ []) []) p
 
         both_bound : settled w s ≡ false → (b b' : Bound) → AreAlike s e e' b b' → Alike more (then_bind b (λ x k. bind_all w x k [])) (then_bind b' (λ x k. bind_all w x k []))
-        both_bound h (all_bound x k) (all_bound x' k') (c, p, q, r) = (subst (λ y. Agree more y x') (sym p) (subst (Agree more ((s, c) ∷ e)) (sym q) (bound_critical h c)), r)
-        both_bound h (unwrap_failed k) (unwrap_failed k') r = r
-        both_bound h (no_content_there k) (no_content_there k') r = r
-        both_bound h (all_bound x k) (unwrap_failed k') r = absurd r
-        both_bound h (all_bound x k) (no_content_there k') r = absurd r
-        both_bound h (unwrap_failed k) (all_bound x' k') r = absurd r
-        both_bound h (unwrap_failed k) (no_content_there k') r = absurd r
-        both_bound h (no_content_there k) (all_bound x' k') r = absurd r
-        both_bound h (no_content_there k) (unwrap_failed k') r = absurd r
+        both_bound h =
+            then_alike (WithOneContent s e e') (Agree more) (λ x k. bind_all w x k []) (λ x k. bind_all w x k [])
+            (λ x x' k r. (subst (λ y. Agree more y x') (sym r.1) (subst (Agree more ((s, r.0) ∷ e)) (sym r.2) (bound_critical h r.0)), refl))
 
         next_critical : (calls : List Call) → settled w s ≡ false → Next calls calls (s ∷ []) (s ∷ [])
         next_critical calls h =
@@ -228,20 +219,12 @@ module _ (w : World) (before : SourcesBefore w.sites) where
       -- 4. or not at all
       step_on : (waits (slice_get w.sites s) ≡ false) ⊎ IsUnwrap (slice_get w.sites s) → (b b' : Bound) → Alike done b b'
           → Alike more (then_bind b (λ e k. bind_all w e k (to_bind w.sites (s ∷ [])))) (then_bind b' (λ e k. bind_all w e k (to_bind w.sites (filter (critical w) (s ∷ [])))))
-      step_on g (all_bound e k) (all_bound e' k') (a, r) =
-          subst (λ c. Alike more (bind_all w e k (to_bind w.sites (s ∷ []))) (bind_all w e' c (to_bind w.sites (filter (critical w) (s ∷ []))))) r
-          (elim (cases_Bool (settled w s)) [
+      step_on g =
+          then_alike (Agree done) (Agree more) (λ e k. bind_all w e k (to_bind w.sites (s ∷ []))) (λ e k. bind_all w e k (to_bind w.sites (filter (critical w) (s ∷ []))))
+          (λ e e' k a. elim (cases_Bool (settled w s)) [
             | inl h ↦ subst (λ l. Alike more (bind_all w e k (to_bind w.sites (s ∷ []))) (bind_all w e' k (to_bind w.sites l))) (sym (ap (λ t. cond (not t) (s ∷ []) []) h)) (next_settled e e' a k h g)
             | inr h ↦ subst (λ l. Alike more (bind_all w e k (to_bind w.sites (s ∷ []))) (bind_all w e' k (to_bind w.sites l))) (sym (ap (λ t. cond (not t) (s ∷ []) []) h)) (next_critical e e' a k h)
           ])
-      step_on g (unwrap_failed k) (unwrap_failed k') r = r
-      step_on g (no_content_there k) (no_content_there k') r = r
-      step_on g (all_bound x k) (unwrap_failed k') r = absurd r
-      step_on g (all_bound x k) (no_content_there k') r = absurd r
-      step_on g (unwrap_failed k) (all_bound x' k') r = absurd r
-      step_on g (unwrap_failed k) (no_content_there k') r = absurd r
-      step_on g (no_content_there k) (all_bound x' k') r = absurd r
-      step_on g (no_content_there k) (unwrap_failed k') r = absurd r
 
     -- 5. all that is listed
     module _ (ss : List ℕ) (gates : (s : ℕ) → Contains (all_below w.sites ss) s → (waits (slice_get w.sites s) ≡ false) ⊎ (IsUnwrap (slice_get w.sites s) ⊎ IsTrue (is_in s ar.emitted))) where

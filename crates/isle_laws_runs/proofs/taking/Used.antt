@@ -7,7 +7,7 @@ use Rattle.isle_model.specs.rules.Meaning.{Content, one, parts, nothing, just, m
 use Rattle.isle_model.specs.rules.Outcome.{Call, then_option}
 use Rattle.isle_model.specs.sites.Sites.{Site, bool_site, int_site, prim_site, argument_site, extractor_site, constructor_site, iterator_site, make_variant_site, match_variant_site, make_struct_site, extract_struct_site, make_some_site, match_some_site, match_tuple_site}
 use Rattle.isle_model.specs.trees.Places.{is_in_place}
-use Rattle.isle_model.specs.trees.Run.{World, Env, bound_to, as_value, from_value, part_at, in_place, or_else, used, used_values, Bound, all_bound, unwrap_failed, no_content_there, now_bound, unwrapped, constructed, bind_site}
+use Rattle.isle_model.specs.trees.Run.{World, Env, bound_to, as_value, from_value, part_at, in_place, or_else, used, used_values, Bound, all_bound, unwrap_failed, no_content_there, now_bound, unwrapped, constructed, bind_site, then_bind}
 use Rattle.isle_model.specs.rules.Picks.{Pick}
 use Rattle.isle_model.specs.trees.Collects.{content_at}
 use Rattle.isle_model.proofs.Members.{in_head, in_tail}
@@ -180,21 +180,41 @@ used_stays w env s u c x n none e =
     either_stays (bound_to env u) (bound_to ((s, c) ∷ env) u) (then_option (slice_get w.sites u) (in_place w env)) (then_option (slice_get w.sites u) (in_place w ((s, c) ∷ env))) x
     (λ q. b ∙ q) (λ q. b ∙ q) (in_place_stays w env s c x (slice_get w.sites u) none) e
 
--- 3. two bindings of one site: with the same content, or both without success, and with the same calls
+-- 3. two bindings came equally far: to environments that are related so, or both without success, and with the same calls
+abbrev pub AreAlikeBy : (Env → Env → Type 0) → Bound → Bound → Type 0
+AreAlikeBy R (all_bound e calls) (all_bound e' calls') = R e e' × (calls ≡ calls')
+AreAlikeBy R (unwrap_failed calls) (unwrap_failed calls') = calls ≡ calls'
+AreAlikeBy R (no_content_there calls) (no_content_there calls') = calls ≡ calls'
+AreAlikeBy R _ _ = ⊥
+
+-- so they go on alike
+pub then_alike : (R Q : Env → Env → Type 0) (f g : Env → List Call → Bound) → ((e e' : Env) (calls : List Call) → R e e' → AreAlikeBy Q (f e calls) (g e' calls)) → (b b' : Bound)
+    → AreAlikeBy R b b' → AreAlikeBy Q (then_bind b f) (then_bind b' g)
+then_alike R Q f g go (all_bound e k) (all_bound e' k') (a, r) = subst (λ c. AreAlikeBy Q (f e k) (g e' c)) r (go e e' k a)
+then_alike R Q f g go (unwrap_failed k) (unwrap_failed k') r = r
+then_alike R Q f g go (no_content_there k) (no_content_there k') r = r
+then_alike R Q f g go (all_bound x k) (unwrap_failed k') r = absurd r
+then_alike R Q f g go (all_bound x k) (no_content_there k') r = absurd r
+then_alike R Q f g go (unwrap_failed k) (all_bound x' k') r = absurd r
+then_alike R Q f g go (unwrap_failed k) (no_content_there k') r = absurd r
+then_alike R Q f g go (no_content_there k) (all_bound x' k') r = absurd r
+then_alike R Q f g go (no_content_there k) (unwrap_failed k') r = absurd r
+
+-- bindings of one site, with the same content
+abbrev pub WithOneContent : ℕ → Env → Env → Env → Env → Type 0
+WithOneContent s env env' e e' = (c : Content) × (e ≡ (s, c) ∷ env) × (e' ≡ (s, c) ∷ env')
+
 abbrev pub AreAlike : ℕ → Env → Env → Bound → Bound → Type 0
-AreAlike s env env' (all_bound e calls) (all_bound e' calls') = (c : Content) × (e ≡ (s, c) ∷ env) × (e' ≡ (s, c) ∷ env') × (calls ≡ calls')
-AreAlike s env env' (unwrap_failed calls) (unwrap_failed calls') = calls ≡ calls'
-AreAlike s env env' (no_content_there calls) (no_content_there calls') = calls ≡ calls'
-AreAlike s env env' _ _ = ⊥
+AreAlike s env env' b b' = AreAlikeBy (WithOneContent s env env') b b'
 
 module _ (w : World) (env env' : Env) (calls : List Call) (s : ℕ) where
   now_alike : (o : Option Content) → AreAlike s env env' (now_bound env calls s o) (now_bound env' calls s o)
   now_alike None = refl
-  now_alike (Some c) = (c, refl, refl, refl)
+  now_alike (Some c) = ((c, refl, refl), refl)
 
   unwrapped_alike : (o : Option Content) → AreAlike s env env' (unwrapped env calls s o) (unwrapped env' calls s o)
   unwrapped_alike None = refl
-  unwrapped_alike (Some (just c)) = (c, refl, refl, refl)
+  unwrapped_alike (Some (just c)) = ((c, refl, refl), refl)
   unwrapped_alike (Some nothing) = refl
   unwrapped_alike (Some (one v)) = refl
   unwrapped_alike (Some (parts vs)) = refl
@@ -202,7 +222,7 @@ module _ (w : World) (env env' : Env) (calls : List Call) (s : ℕ) where
 
   called_alike : (calls' : List Call) (o : Option Content) → AreAlike s env env' (now_bound env calls' s o) (now_bound env' calls' s o)
   called_alike calls' None = refl
-  called_alike calls' (Some c) = (c, refl, refl, refl)
+  called_alike calls' (Some c) = ((c, refl, refl), refl)
 
   constructed_alike : (term instance : ℕ) (o : Option Values) → AreAlike s env env' (constructed w env calls s term instance o) (constructed w env' calls s term instance o)
   constructed_alike term instance None = refl
@@ -248,7 +268,7 @@ module _ (w : World) (env env' : Env) (calls : List Call) (s : ℕ) where
 
   -- where the one has a content, the other has it
   pub alike_bound : (b : Bound) (c : Content) → AreAlike s env env' b (all_bound ((s, c) ∷ env') calls) → b ≡ all_bound ((s, c) ∷ env) calls
-  alike_bound (all_bound e k) c (x, p, q, r) =
+  alike_bound (all_bound e k) c ((x, p, q), r) =
       let same : x ≡ c = same_Some x c (sym (bound_here env' s x) ∙ ap (λ t. bound_to t s) (sym q) ∙ bound_here env' s c) in
       ap (λ t. all_bound t k) (p ∙ ap (λ y. (s, y) ∷ env) same) ∙ ap (all_bound ((s, c) ∷ env)) r
   alike_bound (unwrap_failed k) c h = absurd h
