@@ -1,5 +1,5 @@
 -- A rule, from what its sides became.
-use Rattle.std.proofs.Common.{◌≡◌, ℕ, ℤ, ◌+◌, ◌<◌, ◌≤◌, Bool, true, false, cond, List, [], ◌∷◌, length, map, Option, Some, None, unwrap_or, pos, refl, sym, ap, subst, ◌∙◌, inl, inr, ◌⊎◌, ⊎_elim, arith}
+use Rattle.std.proofs.Common.{◌≡◌, ℕ, ℤ, Bool, true, false, cond, List, [], ◌∷◌, length, map, Option, Some, None, unwrap_or, pos, refl, sym, ap, subst, ◌∙◌, inl, inr, ◌⊎◌, ⊎_elim, arith}
 use Rattle.std.proofs.lemmas.List.{length-append}
 use Rattle.isle_base.specs.declared.syntax.Pattern as T
 use Rattle.isle_base.specs.SyntaxViews as S
@@ -7,12 +7,11 @@ use Rattle.isle_model.specs.first.Elaboration.{root_args}
 use Rattle.isle_model.specs.lists.Syntax.{Name, PatternTree, var_pattern, bind_pattern, bool_pattern, int_pattern, prim_pattern, term_pattern, wildcard_pattern, and_pattern, macro_arg, PatternTrees, no_pattern, pattern_and, pattern_list, RuleTree}
 use Rattle.isle_model.specs.lists.Tables.{Flags, TermEntry}
 use Rattle.isle_model.specs.lists.TermTable.{root_name}
-use Rattle.isle_model.specs.rules.Outcome.{then_option}
 use Rattle.isle_model.specs.rules.Typed.{TypedPattern, TypedPatterns, no_typed_pattern, typed_pattern_and, TypedRule, TypedVar}
 use Rattle.isle_model.specs.lists.Names.{number, with_name}
 use Rattle.isle_model.specs.lists.Setting.{Setting, Scope, var_named, declared_flags}
 use Rattle.isle_model.specs.lists.Typings.{Typing}
-use Rattle.isle_model.specs.lists.Elaborated.{root_parts, typed_list, Sides, with_own_name, own_number, rule_of_sides, finished_rule, may_have_priority, most_expansions}
+use Rattle.isle_model.specs.lists.Elaborated.{root_parts, typed_list, Sides, with_own_name, own_number, rule_of_sides, finished_rule, may_have_priority}
 use Rattle.isle_types.specs.Envs.{names_of, IsInterned}
 use Rattle.isle_types.specs.Reading.{Reports, MayReport}
 use Rattle.isle_rules.specs.declared.rules.BoundVar.{BoundVar}
@@ -24,7 +23,7 @@ use Rattle.isle_rules.specs.PatternUses.{found_term}
 use Rattle.isle_rules.specs.Progress.{newest, vars_of, Remains}
 use Rattle.isle_rules.specs.RuleReadings.{sides_reading, scope_of, rule_of_entry, rule_reading}
 use Rattle.isle_rules.specs.RuleViews.{var_view}
-use Rattle.isle_rules.specs.Translating.{Standing, Keeps, IsSettingOf, Shows, Reading, Wherever, IsOnlyTyping, IsTranslated, IsReported, Stops}
+use Rattle.isle_rules.specs.Translating.{Standing, Keeps, IsSettingOf, Shows, Reading, IsTranslated, IsReported, Stops}
 use Rattle.isle_rules.proofs.ExprLeaves.{is_false}
 use Rattle.isle_rules.proofs.PatternUsing.{found_so, list_is}
 use Rattle.isle_rules.proofs.Readings.{becomes_same, reported_then}

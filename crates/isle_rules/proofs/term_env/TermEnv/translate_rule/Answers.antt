@@ -1,10 +1,10 @@
-use Rattle.std.proofs.Common.{◌≡◌, None, Option, option_map, refl, sym, ap, ◌∙◌}
+use Rattle.std.proofs.Common.{refl}
 use Rattle.isle_base.specs.SyntaxViews as S
 use Rattle.isle_terms.specs.TermViews.{flags_view, term_view}
 use Rattle.isle_rules.specs.RuleReadings.{sides_view}
 use Rattle.isle_rules.specs.RuleViews.{rule_view}
 use Rattle.isle_rules.specs.Translating.{standing}
-use Rattle.isle_rules.proofs.Readings.{stop_is, keep_on}
+use Rattle.isle_rules.proofs.Readings.{stop_is}
 use Rattle.isle_rules.proofs.RuleForms.{root_is, no_root, no_term, not_declared, no_sides, rule_stops, rule_done}
 use Rattle.isle_rules.proofs.term_env.TermEnv.translate_rule.Goals as goal
 
