@@ -37,3 +37,4 @@ pub mod LetForms
 pub mod ExprForms
 pub mod IfLetLists
 pub mod SidesForms
+pub mod RuleForms

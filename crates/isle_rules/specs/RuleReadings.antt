@@ -1,18 +1,21 @@
 -- How if-lets and the sides of rules are read: patterns as the function of typing reads them, expressions as if each term
 -- had a constructor.
-use Rattle.std.specs.Prelude.{List, [], ◌∷◌, map, Some, None}
+use Rattle.std.specs.Prelude.{ℕ, List, [], ◌∷◌, map, Option, Some, None, if◌then◌else◌}
 use Rattle.isle_model.specs.lists.Syntax.{IfLetTree, RuleTree}
 use Rattle.isle_model.specs.lists.Tables.{Flags, TermEntry}
-use Rattle.isle_model.specs.rules.Typed.{TypedIfLet, TypedExpr}
-use Rattle.isle_model.specs.lists.Setting.{expr_type, on_lhs}
-use Rattle.isle_model.specs.lists.Typings.{plain, followed}
-use Rattle.isle_model.specs.lists.Elaborated.{typed_iflet, root_parts, Sides, sides_of, last_sides}
+use Rattle.isle_model.specs.rules.Typed.{TypedIfLet, TypedExpr, TypedRule}
+use Rattle.isle_model.specs.lists.Setting.{Setting, Scope, expr_type, on_lhs, term_of, declared_flags}
+use Rattle.isle_model.specs.lists.Typings.{Typing, plain, followed}
+use Rattle.isle_model.specs.lists.Elaborated.{typed_iflet, root_parts, Sides, sides_of, last_sides, finished_rule, may_have_priority}
+use Rattle.isle_model.specs.lists.TermTable.{root_name}
+use Rattle.isle_model.specs.rules.Outcome.{then_option}
+use Rattle.isle_rules.specs.declared.rules.BoundVar.{BoundVar}
 use Rattle.isle_rules.specs.declared.typing.sides.RuleSides.{RuleSides}
 use Rattle.isle_rules.specs.ExprReadings.{expr_reading}
 use Rattle.isle_rules.specs.ExprViews.{expr_view}
 use Rattle.isle_rules.specs.PatternReadings.{pattern_reading, parts_reading}
 use Rattle.isle_rules.specs.PatternViews.{pattern_views, pattern_parts}
-use Rattle.isle_rules.specs.RuleViews.{iflet_view}
+use Rattle.isle_rules.specs.RuleViews.{iflet_view, var_view}
 use Rattle.isle_rules.specs.Translating.{Reading}
 
 -- the expression of an if-let, at any type, then its pattern at that type
@@ -35,3 +38,16 @@ sides_reading r flags t e multi c s = followed sides_of (parts_reading (root_par
 -- what the sides of a rule say
 abbrev pub sides_view : RuleSides → Sides
 sides_view r = (pattern_parts (pattern_views r.args.items), (map iflet_view r.iflets.items, expr_view r.rhs))
+
+-- a scope of these names and variables, of which none can be used
+abbrev pub scope_of : List (List ℕ) → List BoundVar → Scope
+scope_of names vars = record { names = names; visible = []; vars = map var_view vars }
+
+-- a rule of an entry of the term table, under that term's flags
+abbrev pub rule_of_entry : RuleTree → ℕ → TermEntry → Flags → Setting → ℕ → Scope → Option (Typing TypedRule)
+rule_of_entry r id t flags e c s = if may_have_priority flags r then finished_rule id r t (sides_reading r flags t e flags.multi c s) else None
+
+-- a rule of a declared term
+abbrev pub rule_reading : RuleTree → ℕ → Reading TypedRule
+rule_reading r id e multi c s =
+    then_option (root_name r.pattern) (λ n. then_option (term_of e s n.text) (λ t. then_option (declared_flags t.kind) (λ flags. rule_of_entry r id t flags e c s)))

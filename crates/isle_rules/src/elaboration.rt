@@ -255,7 +255,7 @@ fn number_of_own(tyenv: &TypeEnv, rule: &syntax::Rule) -> Option<Sym>
 }
 
 // The priority of a rule: 0 where none is given.
-fn prio_of(rule: &syntax::Rule) -> i64
+pub(crate) fn prio_of(rule: &syntax::Rule) -> i64
     ensures { result ≡ unwrap_or (S.rule_view rule.now).prio (pos 0) }
 {
     rule.prio.unwrap_or(0)

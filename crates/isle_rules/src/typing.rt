@@ -10,4 +10,5 @@ mod pattern_leaves;
 mod pattern_uses;
 mod patterns;
 mod progress;
+mod rule;
 mod sides;

@@ -26,21 +26,11 @@ use isle_types::{TypeEnv, TypeId};
 use std::alloc::AllocError;
 
 /// What a rule matches and makes: its arguments, its if-lets, its right side.
+#[derive(Drop)]
 pub(crate) struct RuleSides {
     pub args: Vec<Pattern>,
     pub iflets: Vec<IfLet>,
     pub rhs: Expr,
-}
-
-// Written out, and so proved here once.
-impl Drop for RuleSides {
-    fn drop(self) {
-        let RuleSides {
-            args: _,
-            iflets: _,
-            rhs: _,
-        } = self;
-    }
 }
 
 impl TermEnv {

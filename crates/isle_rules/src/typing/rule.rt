@@ -1,0 +1,140 @@
+//! How a rule is typed.
+
+ghost use Rattle.std.specs.Prelude.{◌≡◌, true, not, ◌&&◌, [], IfOk, OnOk, option_map, is_some};
+ghost use Rattle.isle_base.specs.SyntaxViews as S;
+ghost use Rattle.isle_model.specs.lists.Elaborated.{rule_of_sides, with_own_name, own_number};
+ghost use Rattle.isle_model.specs.lists.Setting.{declared_flags};
+ghost use Rattle.isle_terms.specs.TermViews.{flags_view, term_view};
+ghost use Rattle.isle_types.specs.Envs.{names_of, IsInterned};
+ghost use Rattle.isle_rules.specs.Elaborating.{Checks};
+ghost use Rattle.isle_rules.specs.RuleReadings.{rule_reading, sides_view, scope_of};
+ghost use Rattle.isle_rules.specs.RuleViews.{rule_view};
+ghost use Rattle.isle_rules.specs.Translating.{standing, Keeps, MayTranslate};
+
+use crate::elaboration::prio_of;
+use crate::forms::args_of;
+use crate::rules::{BoundVar, Rule};
+use crate::term_env::TermEnv;
+use crate::typing::progress::{Progress, Stop};
+use crate::typing::sides::RuleSides;
+use isle_base::syntax;
+use isle_base::syntax::{Error, Pos};
+use isle_terms::{Term, TermFlags, TermKind};
+use isle_types::{RuleId, Sym, TypeEnv, report};
+use std::alloc::AllocError;
+
+impl TermEnv {
+    /// A rule with this id, on which nothing was done yet, where so many expansions may nest. What is wrong is noted, and the
+    /// work goes on as upstream's does; a term without a constructor is noted after all rules. Upstream's part of
+    /// `TermEnv::collect_rules` for one rule.
+    ///
+    /// # Errors
+    ///
+    /// Where memory is refused, and where the rule passes a limit on expansions.
+    pub(crate) fn translate_rule(
+        &self,
+        tyenv: &mut TypeEnv,
+        work: &mut Progress,
+        rule: &syntax::Rule,
+        id: RuleId,
+        nesting: usize,
+    ) -> Result<Option<Rule>, Stop>
+        requires { IsInterned tyenv.old }
+        ensures keeps { Keeps tyenv.old tyenv.new }
+        ensures made { MayTranslate self.now (standing tyenv.old work.old) (standing tyenv.new work.new) nesting
+            (rule_reading (S.rule_view rule.now) id.0) rule_view result }
+    {
+        let Some(sym) = rule.pattern.root_term() else {
+            let what = "Rule does not have a term at the root of its left-hand side";
+            report(&mut work.errors, rule.pos, what)?;
+            return Ok(None);
+        };
+        let Some(term) = self.find_term(tyenv, sym) else {
+            let what = "Cannot define a rule for an unknown term";
+            report(&mut work.errors, rule.pos, what)?;
+            return Ok(None);
+        };
+        let Some(flags) = flags_of(term) else {
+            let what = "Cannot define a rule on a left-hand-side that is an enum variant";
+            report(&mut work.errors, rule.pos, what)?;
+            return Ok(None);
+        };
+        let args = args_of(rule);
+        let made = self.translate_sides(tyenv, work, rule, sym, args, term, flags, nesting)?;
+        let Some(sides) = made else {
+            return Ok(None);
+        };
+        check_priority(&mut work.errors, rule.pos, rule.prio, flags)?;
+        let whole = finish_rule(tyenv, &work.seen, rule, id, term, sides)?;
+        Ok(Some(whole))
+    }
+}
+
+// The flags of a term, where it is declared.
+fn flags_of(term: &Term) -> Option<TermFlags>
+    ensures { option_map flags_view result ≡ declared_flags (term_view term.now).kind }
+{
+    match &term.kind {
+        TermKind::Decl { flags, .. } => Some(*flags),
+        _ => None,
+    }
+}
+
+// Whether a rule has a priority only where its term isn't multi; else this is noted.
+fn check_priority(
+    errors: &mut Vec<Error>,
+    pos: Pos,
+    prio: Option<i64>,
+    flags: TermFlags,
+) -> Result<(), AllocError>
+    ensures { OnOk result (Checks errors.old.items errors.new.items (not (flags.multi && is_some prio) ≡ true)) }
+{
+    if !(flags.multi && prio.is_some()) {
+        return Ok(());
+    }
+    report(errors, pos, "Cannot set rule priorities in multi-terms")
+}
+
+// The rule of these sides and these variables. Its own name is met last.
+fn finish_rule(
+    tyenv: &mut TypeEnv,
+    vars: &Vec<BoundVar>,
+    rule: &syntax::Rule,
+    id: RuleId,
+    term: &Term,
+    sides: RuleSides,
+) -> Result<Rule, AllocError>
+    requires { IsInterned tyenv.old }
+    ensures keeps { Keeps tyenv.old tyenv.new }
+    ensures names { OnOk result (names_of tyenv.new ≡ (with_own_name (S.rule_view rule.now).name (scope_of (names_of tyenv.old) vars.now.items)).names) }
+    ensures view { IfOk result (λ q. rule_view q ≡ rule_of_sides id.0 (S.rule_view rule.now) (term_view term.now) (sides_view sides) (scope_of (names_of tyenv.old) vars.now.items)) }
+{
+    let name = meet_name(tyenv, rule)?;
+    let vars = vars.clone()?;
+    let RuleSides { args, iflets, rhs } = sides;
+    Ok(Rule {
+        id,
+        root_term: term.id,
+        args,
+        iflets,
+        rhs,
+        vars,
+        prio: prio_of(rule),
+        pos: rule.pos,
+        name,
+    })
+}
+
+// The id of a rule's own name, where it has one.
+fn meet_name(tyenv: &mut TypeEnv, rule: &syntax::Rule) -> Result<Option<Sym>, AllocError>
+    requires { IsInterned tyenv.old }
+    ensures keeps { Keeps tyenv.old tyenv.new }
+    ensures names { OnOk result (names_of tyenv.new ≡ (with_own_name (S.rule_view rule.now).name (scope_of (names_of tyenv.old) [])).names) }
+    ensures number { IfOk result (λ s. option_map (λ n. n.0) s ≡ own_number (scope_of (names_of tyenv.old) []) (S.rule_view rule.now).name) }
+{
+    let Some(name) = &rule.name else {
+        return Ok(None);
+    };
+    let sym = tyenv.intern_mut(name)?;
+    Ok(Some(sym))
+}
