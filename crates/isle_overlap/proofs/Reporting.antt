@@ -1,13 +1,12 @@
 -- Overlaps that aren't reported yet: which rules they leave, and how many each rule has.
 use Rattle.std.proofs.Common.{◌≡◌, ◌==◌, ◌&&◌, ◌||◌, ℕ, zero, suc, ◌+◌, ◌-◌, ◌<◌, ◌≤◌, Bool, true, false, not, cond, nat_lt, if◌then◌else◌, List, [], ◌∷◌, length, map, filter, refl, sym, ap, ◌∙◌, subst, inl, inr, arith, lt-ltb, eq-eqb}
-use Rattle.std.proofs.lemmas.Bool.{cases_Bool, cond-true, cond-false, and_parts, and_from, false≢true}
+use Rattle.std.proofs.lemmas.Bool.{cases_Bool, cond-true, cond-false, and_parts, and_from, false≢true, not-true}
 use Rattle.std.proofs.lemmas.Bool.Decides.{nat_tests}
 use Rattle.std.proofs.lemmas.List.Elements.{filter_agree}
 use Rattle.isle_model.specs.lists.Syntax.{Position}
 use Rattle.isle_model.specs.sites.Overlap.{position_eq, position_lt, has_end, other_end, degree, is_reported_before, foremost, overlap_report, overlap_reports_in}
 use Rattle.isle_model.proofs.Elements.{In, or_split, or_right, in_filter, filter_from, passed_filter, in_map, in_flat_map, from_flat_map}
 use Rattle.isle_laws_demands.proofs.overlaps.Listed.{position_means, first_end, second_end, left_over}
-use Rattle.isle_laws_demands.proofs.overlaps.Overlaps.{not_true}
 use Rattle.isle_overlap.specs.Graphs.{neighbours, ends_of}
 use Rattle.isle_overlap.proofs.Ascents.{lt_total}
 
@@ -142,7 +141,7 @@ module _ (a : Position) where
   none_left : (ps : List Pair) → degree (left_over a ps) a ≡ 0
   none_left ps =
       ap length (nil_from_none (filter (has_end a) (left_over a ps)) (λ e i.
-      false≢true (sym (not_true (has_end a e) (passed_filter (λ x. not (has_end a x)) ps e (in_filter (has_end a) (left_over a ps) e i))) ∙ passed_filter (has_end a) (left_over a ps) e i)))
+      false≢true (sym (not-true (has_end a e) (passed_filter (λ x. not (has_end a x)) ps e (in_filter (has_end a) (left_over a ps) e i))) ∙ passed_filter (has_end a) (left_over a ps) e i)))
 
   fewer : (q : Position) → position_eq a q ≡ false → (ps : List Pair) → degree (left_over a ps) q + stands q (neighbours ps a) ≡ degree ps q
   fewer q n [] = refl
