@@ -16,6 +16,7 @@ use Rattle.isle_rules.specs.declared.typing.progress.Stop.{Stop}
 use Rattle.isle_rules.specs.ExprViews.{expr_view, expr_views, expr_parts}
 use Rattle.isle_rules.specs.ExprReadings.{all_made, expr_reading, args_reading}
 use Rattle.isle_rules.specs.Translating.{Standing, Keeps, Reading, IsTranslated, IsReported, Stops, MayTranslate}
+use Rattle.isle_rules.proofs.PatternLists.{same_typing}
 use Rattle.isle_rules.proofs.Readings.{made_done, made_reported, made_stops, then_done, then_reported, then_stops, first_stops}
 use Rattle.isle_rules.proofs.Scopes.{plain_made}
 
@@ -30,9 +31,6 @@ single q = typed_expr_and q no_typed_expr
 pub views_appended : (ps : List Expr) (q : Expr) → expr_parts (expr_views (ps ++ q ∷ [])) ≡ appended (expr_parts (expr_views ps)) (single (expr_view q))
 views_appended [] q = refl
 views_appended (p ∷ ps) q = ap (typed_expr_and (expr_view p)) (views_appended ps q)
-
-same_typing : {X : Type 0} (x : X) (s : Scope) (n m : ℕ) → n ≡ m → ◌≡◌ {A = Option (Typing X)} (Some (record { made = x; scope = s; expansions = n })) (Some (record { made = x; scope = s; expansions = m }))
-same_typing x s n m h = ap (λ (k : ℕ). Some (record { made = x; scope = s; expansions = k })) h
 
 -- what is read from no expression on is all
 from_none : (s : Scope) (o : Option (Typing TypedExprs)) → o ≡ joined_typing appended (plain no_typed_expr s) o

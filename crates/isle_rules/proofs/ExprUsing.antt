@@ -9,7 +9,7 @@ use Rattle.isle_model.specs.lists.Names.{number, has_name}
 use Rattle.isle_model.specs.lists.Tables.{Flags, TermKindEntry, variant_term, struct_term, declared_term, TermEntry}
 use Rattle.isle_model.specs.lists.Expansions.{wrapped_expr}
 use Rattle.isle_model.specs.lists.Setting.{Setting, Scope, var_of, var_named, that, has_constructor, is_callable, is_expected, expr_converter}
-use Rattle.isle_model.specs.lists.Typings.{Typing, plain, made_into, followed, counted}
+use Rattle.isle_model.specs.lists.Typings.{Typing, plain, made_into, counted}
 use Rattle.isle_model.specs.lists.Elaborated.{as_expected, deeper_expr, elaborated_expr, args_with}
 use Rattle.isle_model.specs.rules.Outcome.{then_option}
 use Rattle.isle_model.specs.rules.Typed.{TypedExpr, make_term, make_var, typed_expr_and, TypedVar}
@@ -30,7 +30,7 @@ use Rattle.isle_rules.specs.Translating.{Standing, IsSettingOf, Shows, Wherever,
 use Rattle.isle_rules.proofs.MadeSettings.{callable_made, term_made, converter_made}
 use Rattle.isle_rules.proofs.PatternLeaves.{tested}
 use Rattle.isle_rules.proofs.ExprLeaves.{is_false}
-use Rattle.isle_rules.proofs.PatternUsing.{expansion_stops, found_so}
+use Rattle.isle_rules.proofs.PatternUsing.{expansion_stops, found_so, that_same, followed_none}
 use Rattle.isle_rules.proofs.Scopes.{still}
 
 -- lists of expressions
@@ -42,10 +42,6 @@ same_constructor : (k : TermKindEntry) → has_constructor k ≡ has_constructor
 same_constructor (variant_term variant) = refl
 same_constructor struct_term = refl
 same_constructor (declared_term flags constructor_kind extractor_kind) = refl
-
-that_same : (p q : TermEntry → Bool) → ((t : TermEntry) → p t ≡ q t) → (o : Option TermEntry) → that p o ≡ that q o
-that_same p q h None = refl
-that_same p q h (Some t) = ap (λ b. cond b (Some t) None) (h t)
 
 -- what may be expanded still
 counted_deeper : (e : Setting) (flags : Flags) (c : ℕ) (x : ExprTree) (ty : Option ℕ) (s : Scope) → counted (deeper_expr e flags c x ty s) ≡ expanding (λ d. elaborated_expr e flags d x ty s) c
@@ -169,10 +165,6 @@ module _ (env : TermEnv) (old : Standing) (inv : IsInterned old.tyenv) (name : N
         (λ e multi s is sh other c. law_of e multi s sh c ∙ stays_other env old e is v.ty ty _ _ none (is_false (is_expected ty v.ty) other))
 
 -- a term
-followed_none : {P Q R : Type 0} (f : P → Q → R) (o : Option (Typing P)) (next : Typing P → Option (Typing Q)) → ((a : Typing P) → next a ≡ None) → followed f o next ≡ None
-followed_none f None next h = refl
-followed_none f (Some a) next h = rw (h a) refl
-
 -- expressions for arguments are as many as these
 args_count : (e : Setting) (flags : Flags) (c : ℕ) (xs : ExprTrees) (tys : List ℕ) (s : Scope) → (length (expr_list xs) ≡ length tys → ⊥) → args_with e flags (deeper_expr e flags c) xs tys s ≡ None
 args_count e flags c no_expr [] s h = absurd (h refl)

@@ -27,11 +27,9 @@ use Rattle.isle_rules.specs.Progress.{Remains}
 use Rattle.isle_rules.specs.RuleReadings.{iflet_reading, iflets_reading}
 use Rattle.isle_rules.specs.RuleViews.{iflet_view}
 use Rattle.isle_rules.specs.Translating.{Standing, Keeps, Reading, IsSettingOf, IsTranslated, IsReported, Stops, MayTranslate, Translates}
+use Rattle.isle_rules.proofs.PatternLists.{same_typing}
 use Rattle.isle_rules.proofs.Readings.{made_done, made_reported, made_stops, reported_then, reported_stops, then_done, then_reported, then_stops, first_stops}
 use Rattle.isle_rules.proofs.Scopes.{still, plain_made}
-
-same_typing : {X : Type 0} (x : X) (s : Scope) (n m : ℕ) → n ≡ m → ◌≡◌ {A = Option (Typing X)} (Some (record { made = x; scope = s; expansions = n })) (Some (record { made = x; scope = s; expansions = m }))
-same_typing x s n m h = ap (λ (k : ℕ). Some (record { made = x; scope = s; expansions = k })) h
 
 module _ {X : Type 0} where
   -- what is read from nothing on is all

@@ -34,6 +34,7 @@ use Rattle.isle_rules.specs.ExprViews.{expr_view, let_views, let_parts}
 use Rattle.isle_rules.specs.Lets.{with_let, before_all, HidesAs, Defines, BindsDef, Closes, DefinesOne}
 use Rattle.isle_rules.specs.Progress.{newest, BindsNext, Remains}
 use Rattle.isle_rules.specs.Translating.{Standing, Keeps, IsSettingOf, Shows, Reading, Wherever, IsOnlyTyping, IsTranslated, IsReported, Stops}
+use Rattle.isle_rules.proofs.PatternLists.{same_typing}
 use Rattle.isle_rules.proofs.Readings.{becomes_same, keep_setting, reported_then, then_done, then_reported, then_stops, first_stops, may_report}
 use Rattle.isle_rules.proofs.Scopes.{met_shows, bound_shows, as_many, plain_made}
 use Rattle.isle_rules.proofs.LetScopes.{names_stay, hide_bound}
@@ -179,9 +180,6 @@ lets_joined (typed_let_and x ty value rest) ds = typed_let_and x ty value (lets_
 pub parts_joined : (made : List (VarId × TypeId × Box Expr Global)) (b : VarId × TypeId × Box Expr Global) → let_parts (let_views (made ++ b ∷ [])) ≡ lets_joined (let_parts (let_views made)) (let_parts (let_views (b ∷ [])))
 parts_joined [] b = refl
 parts_joined (m ∷ ms) b = ap (typed_let_and m.0.0 m.1.0 (expr_view m.2.value)) (parts_joined ms b)
-
-same_typing : {X : Type 0} (x : X) (s : Scope) (n m : ℕ) → n ≡ m → ◌≡◌ {A = Option (Typing X)} (Some (record { made = x; scope = s; expansions = n })) (Some (record { made = x; scope = s; expansions = m }))
-same_typing x s n m h = ap (λ (k : ℕ). Some (record { made = x; scope = s; expansions = k })) h
 
 from_none : (s : Scope) (o : Option (Typing TypedLets)) → o ≡ joined_typing lets_joined (plain no_typed_let s) o
 from_none s None = refl

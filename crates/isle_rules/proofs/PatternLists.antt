@@ -30,7 +30,7 @@ pub views_appended : (ps : List Pattern) (q : Pattern) → pattern_parts (patter
 views_appended [] q = refl
 views_appended (p ∷ ps) q = ap (typed_pattern_and (pattern_view p)) (views_appended ps q)
 
-same_typing : {X : Type 0} (x : X) (s : Scope) (n m : ℕ) → n ≡ m → ◌≡◌ {A = Option (Typing X)} (Some (record { made = x; scope = s; expansions = n })) (Some (record { made = x; scope = s; expansions = m }))
+pub same_typing : {X : Type 0} (x : X) (s : Scope) (n m : ℕ) → n ≡ m → ◌≡◌ {A = Option (Typing X)} (Some (record { made = x; scope = s; expansions = n })) (Some (record { made = x; scope = s; expansions = m }))
 same_typing x s n m h = ap (λ (k : ℕ). Some (record { made = x; scope = s; expansions = k })) h
 
 -- what is read from no pattern on is all

@@ -67,7 +67,7 @@ pub list_length : (ps : List Pattern) → length (pattern_list (S.pattern_views 
 list_length [] = refl
 list_length (p ∷ ps) = ap suc (list_length ps)
 
-followed_none : {P Q R : Type 0} (f : P → Q → R) (o : Option (Typing P)) (next : Typing P → Option (Typing Q)) → ((a : Typing P) → next a ≡ None) → followed f o next ≡ None
+pub followed_none : {P Q R : Type 0} (f : P → Q → R) (o : Option (Typing P)) (next : Typing P → Option (Typing Q)) → ((a : Typing P) → next a ≡ None) → followed f o next ≡ None
 followed_none f None next h = refl
 followed_none f (Some a) next h = rw (h a) refl
 
@@ -85,7 +85,7 @@ same_extractor (variant_term variant) = refl
 same_extractor struct_term = refl
 same_extractor (declared_term flags constructor_kind extractor_kind) = refl
 
-that_same : (p q : TermEntry → Bool) → ((t : TermEntry) → p t ≡ q t) → (o : Option TermEntry) → that p o ≡ that q o
+pub that_same : (p q : TermEntry → Bool) → ((t : TermEntry) → p t ≡ q t) → (o : Option TermEntry) → that p o ≡ that q o
 that_same p q h None = refl
 that_same p q h (Some t) = ap (λ b. cond b (Some t) None) (h t)
 
