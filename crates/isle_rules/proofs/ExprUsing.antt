@@ -24,7 +24,7 @@ use Rattle.isle_rules.specs.declared.typing.progress.Stop.{Stop}
 use Rattle.isle_rules.specs.Elaborating.{Checks}
 use Rattle.isle_rules.specs.Progress.{newest, Remains, CountsOne, Counts}
 use Rattle.isle_rules.specs.ExprReadings.{made_entry, all_made, expr_reading, args_reading}
-use Rattle.isle_rules.specs.ExprUses.{found_expr_converter, declared_converter, inside_call, allowed, expr_list, Converts, TakesArgs}
+use Rattle.isle_rules.specs.ExprUses.{found_expr_converter, declared_converter, inside_call, allowed, expr_list, ConvertsExpr, TakesArgs}
 use Rattle.isle_rules.specs.PatternUses.{found_term, found_converter, name_at}
 use Rattle.isle_rules.specs.Translating.{Standing, IsSettingOf, Shows, Wherever, IsTranslated, IsReported, Stops, converter_in, expanding}
 use Rattle.isle_rules.proofs.MadeSettings.{callable_made, term_made, converter_made}
@@ -92,7 +92,7 @@ module _ (env : TermEnv) (old : Standing) (whole : ExprTree) (at : Position) (fl
       ∙ counted_deeper (all_made e) flags c (wrapped_expr s (made_entry by) at whole) ty s
       ∙ ap (λ ns. expanding (λ d. elaborated_expr (all_made e) flags d (term_expr (record { text = unwrap_or (slice_get ns by.name) []; at = at }) (expr_and whole no_expr) at) ty s) c) (sym sh.names)
 
-  pub converted : (new : Standing) (d left : ℕ) → suc left ≡ d → names_of new.tyenv ≡ names_of old.tyenv → CountsOne old.work new.work → Converts env old new d whole flags ty (inside_call old.tyenv by at whole) left
+  pub converted : (new : Standing) (d left : ℕ) → suc left ≡ d → names_of new.tyenv ≡ names_of old.tyenv → CountsOne old.work new.work → ConvertsExpr env old new d whole flags ty (inside_call old.tyenv by at whole) left
   converted new d left nests same one = record {
     nests = nests;
     form = (name_at old.tyenv by at, at, refl);

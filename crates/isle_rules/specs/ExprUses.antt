@@ -44,7 +44,7 @@ expr_list no_expr = []
 expr_list (expr_and x rest) = x ∷ expr_list rest
 
 -- an expression is found to be this one inside a use of a converter, in which one expansion fewer may nest
-pub record Converts (env : TermEnv) (old new : Standing) (d : ℕ) (whole : ExprTree) (flags : Flags) (ty : Option ℕ) (made : ExprTree) (left : ℕ) : Type 0 where
+pub record ConvertsExpr (env : TermEnv) (old new : Standing) (d : ℕ) (whole : ExprTree) (flags : Flags) (ty : Option ℕ) (made : ExprTree) (left : ℕ) : Type 0 where
   pub nests : suc left ≡ d
   pub form : (name : Name) × (at : Position) × (made ≡ term_expr name (expr_and whole no_expr) at)
   pub expands : ExpandsTo env old new (expr_reading whole flags ty) (expr_reading made flags ty)
@@ -59,7 +59,7 @@ pub record ReadsAs {P Q : Type 0} (env : TermEnv) (old new : Standing) (whole : 
 -- what a use of a variable is found to be
 abbrev pub UsesVar : TermEnv → Standing → Standing → ℕ → ExprTree → Flags → Option ℕ → Result VarUse Stop → Type 0
 UsesVar env old new d whole flags ty (Ok V.Wrong) = IsReported env old new (expr_reading whole flags ty)
-UsesVar env old new d whole flags ty (Ok (V.Conversion made left)) = Converts env old new d whole flags ty (S.expr_view made) left
+UsesVar env old new d whole flags ty (Ok (V.Conversion made left)) = ConvertsExpr env old new d whole flags ty (S.expr_view made) left
 UsesVar env old new d whole flags ty (Ok (V.Var v)) =
     IsTranslated env old new d (expr_reading whole flags ty) (make_var v.ty.0 v.id.0) ⊎ IsReported env old new (expr_reading whole flags ty)
 UsesVar env old new d whole flags ty (Err stop) = Stops env old d (expr_reading whole flags ty) stop
@@ -72,6 +72,6 @@ pub record TakesArgs (env : TermEnv) (old new : Standing) (whole : ExprTree) (ar
 -- what a use of a term is found to be
 abbrev pub UsesCall : TermEnv → Standing → Standing → ℕ → ExprTree → ExprTrees → Flags → Option ℕ → Result CallUse Stop → Type 0
 UsesCall env old new d whole args flags ty (Ok C.Wrong) = IsReported env old new (expr_reading whole flags ty)
-UsesCall env old new d whole args flags ty (Ok (C.Conversion made left)) = Converts env old new d whole flags ty (S.expr_view made) left
+UsesCall env old new d whole args flags ty (Ok (C.Conversion made left)) = ConvertsExpr env old new d whole flags ty (S.expr_view made) left
 UsesCall env old new d whole args flags ty (Ok (C.Parts t)) = TakesArgs env old new whole args flags ty (term_view t.now) ⊎ IsReported env old new (expr_reading whole flags ty)
 UsesCall env old new d whole args flags ty (Err stop) = Stops env old d (expr_reading whole flags ty) stop
