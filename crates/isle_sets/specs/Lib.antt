@@ -7,3 +7,4 @@ pub mod SiteTables
 pub mod DemandsHeld
 pub mod Closings
 pub mod SiteQuestions
+pub mod VisitedSites

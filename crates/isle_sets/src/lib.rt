@@ -10,5 +10,6 @@ pub mod demanded;
 mod overlaps;
 mod rule_sets;
 mod rules;
+pub mod ruleset_builder;
 pub mod site_table;
 pub mod trie_again;

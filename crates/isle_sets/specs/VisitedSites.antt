@@ -1,0 +1,67 @@
+-- Where a builder of a rule set stands while a rule is visited: its sites and demands are those that the visit has met, by
+-- their numbers.
+use Rattle.std.specs.Prelude.{◌≡◌, ℕ, ◌<◌, ◌≤◌, List, [], ◌∷◌, length, map, Option, Some, None, All, Contains, IsTrue}
+use Rattle.std.specs.Bool.{◌==◌}
+use Rattle.isle_base.specs.Stable.{contains}
+use Rattle.isle_model.specs.sites.Sites as Sites
+use Rattle.isle_model.specs.sites.Sites.{Site, SiteTerm, unfold_site}
+use Rattle.isle_model.specs.sites.Demands.{Visit, with_sites, making}
+use Rattle.isle_model.specs.sites.Closure.{Unreachability, conflict, conflicts_met, before_closing}
+use Rattle.isle_rules.specs.declared.visit_fault.VisitFault.{VisitFault}
+use Rattle.isle_sets.specs.SiteTables.{AreFirst, ForWantOfRoom, IsTable, table_sites}
+use Rattle.isle_sets.specs.SiteViews.{constraint_view}
+use Rattle.isle_sets.specs.Closings.{AreDemandsOf, KeepsDue}
+use Rattle.isle_sets.specs.declared.trie_again.Constraint.{Constraint}
+use Rattle.isle_sets.specs.declared.ruleset_builder.RuleSetBuilder.{RuleSetBuilder}
+
+-- the sites of a builder's table
+abbrev pub built_sites : RuleSetBuilder → List Site
+built_sites b = table_sites b.table
+
+-- a number of a builder's site, and what it stands for
+pub record IsSiteOf (b : RuleSetBuilder) (u : SiteTerm) (n : ℕ) : Type 0 where
+  pub within : n < length (built_sites b)
+  pub number : unfold_site (built_sites b) n ≡ u
+
+-- likewise of lists
+pub record AreSitesOf (b : RuleSetBuilder) (us : List SiteTerm) (ns : List ℕ) : Type 0 where
+  pub within : All (λ n. n < length (built_sites b)) ns
+  pub numbers : map (unfold_site (built_sites b)) ns ≡ us
+
+-- two constraints that one site was asked to meet, the first one first
+abbrev pub conflict_view : Constraint × Constraint → Unreachability
+conflict_view c = conflict (constraint_view c.0) (constraint_view c.1)
+
+-- the conflict of a constraint with the first one of its site, if there is one
+abbrev pub conflict_beside : Option Constraint → Sites.Constraint → List Unreachability
+conflict_beside None c = []
+conflict_beside (Some b) c = conflict (constraint_view b) c ∷ []
+
+-- a builder stands where a visit does, after these sites of the term's rules before: it has the sites that were made
+-- before or in the visit, the demands that the visit has met, the conflicts among them in their order, the calls that the
+-- rule goes over, and its impure calls in order, as many as were met
+pub record StandsAt (before : List SiteTerm) (b : RuleSetBuilder) (v : Visit) : Type 0 where
+  pub table : IsTable b.table
+  pub due : KeepsDue b.demanded
+  pub demands : AreDemandsOf (built_sites b) b.demanded (before_closing before v.demands)
+  pub conflicts : map conflict_view b.conflicts.items ≡ conflicts_met [] v.demands.constraints
+  pub gone_over : (s : ℕ) → IsTrue (contains ◌==◌ b.iterators s) → (s < length (built_sites b)) × Contains v.demands.iterators (unfold_site (built_sites b) s)
+  pub all_gone_over : (u : SiteTerm) → Contains v.demands.iterators u → (s : ℕ) × IsTrue (contains ◌==◌ b.iterators s) × (unfold_site (built_sites b) s ≡ u)
+  pub impure : AreSitesOf b v.demands.impure b.impure.items
+  pub calls : length b.impure.items ≡ v.impure_calls
+
+-- a builder has gone on to stand where a visit does, and the sites that it had stand for what they did
+pub record GoesTo (before : List SiteTerm) (old new : RuleSetBuilder) (v : Visit) : Type 0 where
+  pub stands : StandsAt before new v
+  pub kept : (s : ℕ) → s < length (built_sites old) → unfold_site (built_sites new) s ≡ unfold_site (built_sites old) s
+  pub longer : length (built_sites old) ≤ length (built_sites new)
+
+-- a builder has gone on by making a site, which has this number
+pub record Makes (before : List SiteTerm) (old new : RuleSetBuilder) (v : Visit) (u : SiteTerm) (n : ℕ) : Type 0 where
+  pub goes : GoesTo before old new (making (u ∷ []) v)
+  pub site : IsSiteOf new u n
+
+-- a builder ended on its way to where a visit stands: memory was refused, or there was no room, and then its table has the
+-- first of the sites that were made before or would be by then
+abbrev pub EndsBefore : List SiteTerm → RuleSetBuilder → Visit → VisitFault → Type 0
+EndsBefore before b v e = ForWantOfRoom (IsTable b.table × AreFirst (built_sites b) (with_sites before v.demands.made)) e
