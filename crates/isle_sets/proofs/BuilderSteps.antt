@@ -121,7 +121,7 @@ module _ (before : List SiteTerm) (v : Visit) where
 
 -- 3. a site is made
 abbrev pub with_table : RuleSetBuilder → SiteTable → RuleSetBuilder
-with_table b t = record { table = t; demanded = b.demanded; conflicts = b.conflicts; iterators = b.iterators; impure = b.impure }
+with_table b t = record { alloc = b.alloc; table = t; demanded = b.demanded; conflicts = b.conflicts; iterators = b.iterators; impure = b.impure }
 
 module _ (before : List SiteTerm) (b : RuleSetBuilder) (t : SiteTable) (v : Visit) (s : Site) (n : ℕ) (h : StandsAt before b v) (table : IsTable t)
     (longer : length (built_sites b) ≤ length (table_sites t))
@@ -168,7 +168,7 @@ site_ends before b t v s e h below none table =
 
 -- 4. a site is asked something
 abbrev pub with_demanded : RuleSetBuilder → Demanded → Vec (C.Constraint × C.Constraint) → RuleSetBuilder
-with_demanded b e w = record { table = b.table; demanded = e; conflicts = w; iterators = b.iterators; impure = b.impure }
+with_demanded b e w = record { alloc = b.alloc; table = b.table; demanded = e; conflicts = w; iterators = b.iterators; impure = b.impure }
 
 module _ (before : List SiteTerm) (b : RuleSetBuilder) (v : Visit) (h : StandsAt before b v) where
   abbrev sites : List Site
@@ -239,7 +239,7 @@ module _ (before : List SiteTerm) (b : RuleSetBuilder) (v : Visit) (h : StandsAt
 
   -- 5. a call is gone over, or is one of the impure ones
   pub call_gone_over : (its : Members ℕ) (s : ℕ) → s < length sites → ((x : ℕ) → contains ◌==◌ its x ≡ (if s == x then true else contains ◌==◌ b.iterators x))
-      → GoesTo before b (record { table = b.table; demanded = b.demanded; conflicts = b.conflicts; iterators = its; impure = b.impure }) (iterating (f s) v)
+      → GoesTo before b (record { alloc = b.alloc; table = b.table; demanded = b.demanded; conflicts = b.conflicts; iterators = its; impure = b.impure }) (iterating (f s) v)
   call_gone_over its s l has = record {
     stands = record {
       table = h.table;
@@ -270,7 +270,7 @@ module _ (before : List SiteTerm) (b : RuleSetBuilder) (v : Visit) (h : StandsAt
       either_way false c e = e
 
   pub call_made : (im : Vec ℕ) (s : ℕ) → s < length sites → im.items ≡ b.impure.items ++ s ∷ []
-      → GoesTo before b (record { table = b.table; demanded = b.demanded; conflicts = b.conflicts; iterators = b.iterators; impure = im }) (calling (f s) v)
+      → GoesTo before b (record { alloc = b.alloc; table = b.table; demanded = b.demanded; conflicts = b.conflicts; iterators = b.iterators; impure = im }) (calling (f s) v)
   call_made im s l pushed = record {
     stands = record {
       table = h.table;

@@ -1,13 +1,16 @@
 -- Where a builder of a rule set stands while a rule is visited: its sites and demands are those that the visit has met, by
 -- their numbers.
-use Rattle.std.specs.Prelude.{◌≡◌, ℕ, ◌<◌, ◌≤◌, List, [], ◌∷◌, length, map, Option, Some, None, All, Contains, IsTrue}
+use Rattle.std.specs.Prelude.{◌≡◌, ◌⊎◌, ℕ, ◌<◌, ◌≤◌, Bool, if◌then◌else◌, List, [], ◌∷◌, length, map, Option, Some, None, All, Contains, IsTrue}
 use Rattle.std.specs.Bool.{◌==◌}
 use Rattle.isle_base.specs.Stable.{contains}
 use Rattle.isle_model.specs.sites.Sites as Sites
-use Rattle.isle_model.specs.sites.Sites.{Site, SiteTerm, unfold_site}
-use Rattle.isle_model.specs.sites.Demands.{Visit, with_sites, making}
-use Rattle.isle_model.specs.sites.Closure.{Unreachability, conflict, conflicts_met, before_closing}
+use Rattle.isle_model.specs.sites.Sites.{Site, SiteTerm, is_present, pick_of, some_part, unfold_site}
+use Rattle.isle_model.specs.rules.Typed.{TypedPatterns}
+use Rattle.isle_model.specs.sites.Demands.{Visit, Opened, opened, output_sites, part_sites, with_sites, asking, iterating, making}
+use Rattle.isle_model.specs.sites.Closure.{Unreachability, conflict, conflicts_met, before_closing, field_terms}
+use Rattle.isle_base.specs.declared.syntax.Limit.{Limit}
 use Rattle.isle_rules.specs.declared.visit_fault.VisitFault.{VisitFault}
+use Rattle.isle_rules.specs.declared.visit_fault.VisitFault.TheVariants as Faults
 use Rattle.isle_sets.specs.SiteTables.{AreFirst, ForWantOfRoom, IsTable, table_sites}
 use Rattle.isle_sets.specs.SiteViews.{constraint_view}
 use Rattle.isle_sets.specs.Closings.{AreDemandsOf, KeepsDue}
@@ -65,3 +68,42 @@ pub record Makes (before : List SiteTerm) (old new : RuleSetBuilder) (v : Visit)
 -- first of the sites that were made before or would be by then
 abbrev pub EndsBefore : List SiteTerm → RuleSetBuilder → Visit → VisitFault → Type 0
 EndsBefore before b v e = ForWantOfRoom (IsTable b.table × AreFirst (built_sites b) (with_sites before v.demands.made)) e
+
+-- a builder has gone on by making sites, which have these numbers
+pub record MakesAll (before : List SiteTerm) (old new : RuleSetBuilder) (v : Visit) (us : List SiteTerm) (ns : List ℕ) : Type 0 where
+  pub goes : GoesTo before old new (making us v)
+  pub sites : AreSitesOf new us ns
+
+-- the fields that a constraint gives a site are open, and the site is asked to meet it
+abbrev pub fields_opened : Sites.Constraint → SiteTerm → Visit → Opened
+fields_opened c s v = opened (field_terms c s) (asking s c (making (field_terms c s) v))
+
+-- a builder has gone on to where the parts of a term's pattern are open: they have these numbers
+pub record OpensTo (before : List SiteTerm) (old new : RuleSetBuilder) (o : Opened) (ns : List ℕ) : Type 0 where
+  pub goes : GoesTo before old new o.visit
+  pub inputs : AreSitesOf new o.inputs ns
+
+-- a builder ended on its way there; or by the limit on the number of parts, where they are too many, and then it stands
+-- where this visit does
+abbrev pub EndsOpening : List SiteTerm → RuleSetBuilder → Visit → Limit → Type 0 → Visit → VisitFault → Type 0
+EndsOpening before b w l TooMany v e = EndsBefore before b w e ⊎ ((e ≡ Faults.Limit l) × TooMany × StandsAt before b v)
+
+-- the outputs of a call are open, where this is what it answers
+abbrev pub outputs_opened : SiteTerm → TypedPatterns → Visit → Opened
+outputs_opened u args v = opened (output_sites u args) (making (part_sites u args) v)
+
+-- what an extractor's call answers: one of many answers, the call itself, or what is in it
+abbrev pub answer_of : Bool → Bool → SiteTerm → SiteTerm
+answer_of multi infallible call = if multi then pick_of call else (if infallible then call else some_part call)
+
+-- where a visit stands once a call that it made has answered
+abbrev pub answered : Bool → Bool → SiteTerm → Visit → Visit
+answered multi infallible call v =
+    if multi
+    then iterating call (making (pick_of call ∷ []) v)
+    else (if infallible then v else asking call is_present (making (some_part call ∷ []) v))
+
+-- a builder has gone on to where a call has answered, by this number
+pub record Answers (before : List SiteTerm) (old new : RuleSetBuilder) (multi infallible : Bool) (call : SiteTerm) (v : Visit) (n : ℕ) : Type 0 where
+  pub goes : GoesTo before old new (answered multi infallible call v)
+  pub site : IsSiteOf new (answer_of multi infallible call) n

@@ -11,10 +11,11 @@ use crate::site_table::SiteTable;
 use crate::trie_again::{Binding, BindingId, Constraint};
 use isle_base::stablemapset::StableSet;
 use isle_rules::VisitFault;
-use std::alloc::AllocError;
+use std::alloc::{AllocError, Global};
 
 /// Reads the rules of a term, one after another.
 pub struct RuleSetBuilder {
+    pub(crate) alloc: Global,
     // The sites of the term: those of the rules before too, since rules that speak of the same value share its site.
     pub(crate) table: SiteTable,
     // What the rule demands of sites.
@@ -30,6 +31,7 @@ pub struct RuleSetBuilder {
 impl Drop for RuleSetBuilder {
     fn drop(self) {
         let Self {
+            alloc: _,
             table: _,
             demanded: _,
             conflicts: _,
@@ -41,7 +43,7 @@ impl Drop for RuleSetBuilder {
 
 impl RuleSetBuilder {
     // The site of a binding, a new one where it has none.
-    fn make(&mut self, binding: Binding) -> Result<BindingId, VisitFault>
+    pub(crate) fn make(&mut self, binding: Binding) -> Result<BindingId, VisitFault>
         ensures made { (before : List SiteTerm) (v : Visit) → StandsAt before self.old v → HasSources (built_sites self.old) (site_view binding)
             → IfOk result (Makes before self.old self.new v (layer (unfold_site (built_sites self.old)) (site_view binding))) }
         ensures full { (before : List SiteTerm) (v : Visit) → StandsAt before self.old v → HasSources (built_sites self.old) (site_view binding)
@@ -51,7 +53,7 @@ impl RuleSetBuilder {
     }
 
     // Asks something of a site.
-    fn ask(&mut self, site: BindingId, constraint: &Constraint) -> Result<(), AllocError>
+    pub(crate) fn ask(&mut self, site: BindingId, constraint: &Constraint) -> Result<(), AllocError>
         ensures asked { (before : List SiteTerm) (v : Visit) → StandsAt before self.old v → site < length (built_sites self.old)
             → OnOk result (GoesTo before self.old self.new (asking (unfold_site (built_sites self.old) site) (constraint_view constraint.now) v)) }
     {
@@ -60,7 +62,7 @@ impl RuleSetBuilder {
     }
 
     // Two sites must be equal.
-    fn equate(&mut self, first: BindingId, second: BindingId) -> Result<(), AllocError>
+    pub(crate) fn equate(&mut self, first: BindingId, second: BindingId) -> Result<(), AllocError>
         ensures equated { (before : List SiteTerm) (v : Visit) → StandsAt before self.old v → first < length (built_sites self.old) → second < length (built_sites self.old)
             → OnOk result (GoesTo before self.old self.new (equating (unfold_site (built_sites self.old) first) (unfold_site (built_sites self.old) second) v)) }
     {
@@ -68,7 +70,7 @@ impl RuleSetBuilder {
     }
 
     // The rule goes over the answers of a call.
-    fn iterate(&mut self, call: BindingId) -> Result<(), AllocError>
+    pub(crate) fn iterate(&mut self, call: BindingId) -> Result<(), AllocError>
         ensures gone_over { (before : List SiteTerm) (v : Visit) → StandsAt before self.old v → call < length (built_sites self.old)
             → OnOk result (GoesTo before self.old self.new (iterating (unfold_site (built_sites self.old) call) v)) }
     {
@@ -77,7 +79,7 @@ impl RuleSetBuilder {
     }
 
     // The rule makes an impure call, whose last site this is.
-    fn call(&mut self, site: BindingId) -> Result<(), AllocError>
+    pub(crate) fn call(&mut self, site: BindingId) -> Result<(), AllocError>
         ensures called { (before : List SiteTerm) (v : Visit) → StandsAt before self.old v → site < length (built_sites self.old)
             → OnOk result (GoesTo before self.old self.new (calling (unfold_site (built_sites self.old) site) v)) }
     {

@@ -1,4 +1,4 @@
-use Rattle.std.proofs.Common.{◌≡◌, Some, None, inl, refl}
+use Rattle.std.proofs.Common.{inl, refl}
 use Rattle.std.proofs.lemmas.Option.{none-some}
 use Rattle.isle_sets.specs.SiteViews.{site_view}
 use Rattle.isle_sets.specs.SiteTables.{table_sites, IsAbsent}
