@@ -1,5 +1,8 @@
 -- A builder makes sites one after another.
-use Rattle.std.proofs.Common.{◌≡◌, Bool, true, false, if◌then◌else◌, inl, inr, ℕ, zero, suc, ◌+◌, ◌<◌, ◌≤◌, List, [], ◌∷◌, ◌++◌, length, map, All, refl, sym, ap, ap₂, ◌∙◌, subst, arith, add-one}
+use Rattle.std.proofs.Common.{◌≡◌, Bool, true, false, if◌then◌else◌, inl, inr, ℕ, zero, suc, ◌+◌, ◌<◌, List, [], ◌∷◌, ◌++◌, length, refl, sym, ap, ap₂, ◌∙◌, subst, arith, add-one}
+use Rattle.std.specs.Prelude.{Result, Ok, Err, IfOk, IfErr, MatchResult}
+use Rattle.std.specs.Global.{Vec}
+use Rattle.isle_rules.specs.VisitAnswers.{listed}
 use Rattle.std.proofs.lemmas.List.{append_assoc, append-nil, map-append}
 use Rattle.std.proofs.lemmas.List.Elements.{All-nil, All-push, All-weaker}
 use Rattle.isle_model.specs.sites.Sites.{Constraint, is_present, SiteTerm, pick_of, some_part, tuple_part, unfold_site}
@@ -118,23 +121,6 @@ fields_open before old mid new v c s ids l m ask =
     }
 
 -- 7. outputs of a call
-pub none_open : (before : List SiteTerm) (b : RuleSetBuilder) (v : Visit) (u : SiteTerm) (args : TypedPatterns) → StandsAt before b v → pattern_count args ≡ 0
-    → (ids : List ℕ) → ids ≡ [] → OpensTo before b b (outputs_opened u args v) ids
-none_open before b v u no_typed_pattern h e ids none =
-    subst (OpensTo before b b (outputs_opened u no_typed_pattern v)) (sym none) (record { goes = (none_made before b v h).goes; inputs = (none_made before b v h).sites })
-none_open before b v u (typed_pattern_and q qs) h e ids none = absurd (omega (arith, e))
-
-pub one_open : (before : List SiteTerm) (b : RuleSetBuilder) (v : Visit) (s : ℕ) (args : TypedPatterns) → StandsAt before b v → s < length (built_sites b) → pattern_count args ≡ 1
-    → (ids : List ℕ) → ids ≡ s ∷ [] → OpensTo before b b (outputs_opened (unfold_site (built_sites b) s) args v) ids
-one_open before b v s no_typed_pattern h l e ids one = absurd (omega (arith, e))
-one_open before b v s (typed_pattern_and q no_typed_pattern) h l e ids one =
-    subst (OpensTo before b b (outputs_opened (unfold_site (built_sites b) s) (typed_pattern_and q no_typed_pattern) v)) (sym one)
-    (record {
-      goes = (none_made before b v h).goes;
-      inputs = record { within = All-push (λ n. n < length (built_sites b)) [] s (All-nil (λ n. n < length (built_sites b))) l; numbers = refl };
-    })
-one_open before b v s (typed_pattern_and q (typed_pattern_and r rs)) h l e ids one = absurd (omega (arith, e))
-
 places_same : (f : ℕ → SiteTerm) (i : ℕ) (args : TypedPatterns) → from_to f i args ≡ fields_from f i (pattern_count args)
 places_same f i no_typed_pattern = refl
 places_same f i (typed_pattern_and q qs) = ap (λ l. f i ∷ l) (places_same f (suc i) qs)
@@ -250,3 +236,8 @@ module _ (before : List SiteTerm) (old mid now : RuleSetBuilder) (v : Visit) (fl
   outputs_end b l TooMany e (inl h) = inl (subst (λ (q : Opened). EndsBefore before b q.visit e) (call_same args) h)
   outputs_end b l TooMany e (inr h) =
       inr (h.0, h.1, subst (StandsAt before b) (sym (making_none Answered) ∙ ap (λ (q : Opened). q.visit) (call_same no_typed_pattern)) h.2)
+
+-- 10. an answer by its list
+pub listed_both : (r : Result (Vec ℕ) VisitFault) (P : List ℕ → Type 0) (Q : VisitFault → Type 0) → IfOk r (λ ids. P ids.items) → IfErr r Q → MatchResult (listed r) P Q
+listed_both (Ok ids) P Q p q = p
+listed_both (Err e) P Q p q = q

@@ -1,16 +1,15 @@
 -- A builder goes on, step by step, to where a visit stands.
-use Rattle.std.proofs.Common.{◌≡◌, ◌⊎◌, ℕ, suc, ◌+◌, ◌<◌, ◌≤◌, Bool, true, false, if◌then◌else◌, List, [], ◌∷◌, ◌++◌, length, map, All, Option, Some, None, is_some, Contains, refl, sym, ap, ap₂, ◌∙◌, subst, inl, inr, arith, add-one, eqb-true, eq-eqb}
+use Rattle.std.proofs.Common.{◌≡◌, ℕ, suc, ◌<◌, ◌≤◌, Bool, true, false, if◌then◌else◌, List, [], ◌∷◌, ◌++◌, length, map, All, Option, Some, None, Contains, refl, sym, ap, ◌∙◌, subst, inl, inr, arith, add-one, eqb-true, eq-eqb}
 use Rattle.std.specs.Prelude.{nat_eq, Result, Ok, Err, OnOk}
 use Rattle.std.specs.Global.{Vec}
 use Rattle.std.specs.Bool.{◌==◌}
-use Rattle.std.specs.List.{zip}
 use Rattle.std.proofs.lemmas.Bool.{cases_Bool, cond-true, cond-false}
 use Rattle.std.proofs.lemmas.List.{append_assoc, append-nil, length_push, map-append}
 use Rattle.std.proofs.lemmas.List.Elements.{All-push, All-weaker, Contains-append_left, Contains-append_right, Contains-append_cases}
 use Rattle.isle_base.specs.Stable.{Members, contains}
 use Rattle.isle_model.specs.sites.Sites.{Site, Constraint, SiteTerm, layer, unfold_site}
 use Rattle.isle_model.specs.sites.Demands.{site_term_eq, has_site, Visit, with_sites, asking, calling, equating, iterating, making}
-use Rattle.isle_model.specs.sites.Closure.{Closed, Unreachability, conflict_with, conflicts_met, constraint_of, with_constraint, with_constraints, class_at, merged_classes, merged_all, before_closing}
+use Rattle.isle_model.specs.sites.Closure.{Closed, conflict_with, conflicts_met, constraint_of, with_constraint, with_constraints, class_at, merged_classes, before_closing}
 use Rattle.isle_model.specs.sites.RuleSets.{StandFor}
 use Rattle.isle_model.specs.lists.Names.{IsDistinct}
 use Rattle.isle_model.proofs.Elements.{In}
@@ -22,7 +21,7 @@ use Rattle.isle_sets.specs.DemandsHeld.{constraint_held, are_equated, first_kept
 use Rattle.isle_sets.specs.SiteTables.{AreFirst, ForWantOfRoom, HasNoRoom, HasSources, IsTable, StandsFor, table_sites}
 use Rattle.isle_sets.specs.SiteViews.{constraint_view}
 use Rattle.isle_sets.specs.Closings.{AreDemandsOf, KeepsDue}
-use Rattle.isle_sets.specs.VisitedSites.{built_sites, IsSiteOf, AreSitesOf, conflict_beside, conflict_view, StandsAt, GoesTo, Makes, EndsBefore}
+use Rattle.isle_sets.specs.VisitedSites.{built_sites, conflict_beside, conflict_view, StandsAt, GoesTo, Makes, EndsBefore}
 use Rattle.isle_rules.specs.declared.visit_fault.VisitFault.{VisitFault}
 use Rattle.isle_sets.specs.declared.trie_again.Constraint as C
 use Rattle.isle_sets.specs.declared.demanded.Demanded.{Demanded}
@@ -30,7 +29,7 @@ use Rattle.isle_sets.specs.declared.site_table.SiteTable.{SiteTable}
 use Rattle.isle_sets.specs.declared.ruleset_builder.RuleSetBuilder.{RuleSetBuilder}
 use Rattle.isle_sets.proofs.ClosingNumbers.{constraint_with}
 use Rattle.isle_sets.proofs.ClosingSteps.{with_made, with_asked, with_equal, grown, asked_more, equated_more}
-use Rattle.isle_sets.proofs.ClosingTaken.{same_demands, merged_append, sites_append}
+use Rattle.isle_sets.proofs.ClosingTaken.{merged_append, sites_append}
 use Rattle.isle_sets.proofs.FullTables.{both_want, want_weaker, site_lacks}
 use Rattle.isle_sets.proofs.SitesAdded.{same_all}
 

@@ -1,5 +1,5 @@
 -- Tables that have no room: their sites stand for the first of those that more would make.
-use Rattle.std.proofs.Common.{◌≡◌, ℕ, zero, suc, ◌+◌, ◌-◌, ◌<◌, ◌≤◌, Bool, true, false, if◌then◌else◌, List, [], ◌∷◌, ◌++◌, length, take, map, flat_map, drop, get_or, Contains, slice_get, refl, sym, ap, ◌∙◌, subst, inl, inr, arith}
+use Rattle.std.proofs.Common.{◌≡◌, ℕ, zero, suc, ◌+◌, ◌<◌, ◌≤◌, true, List, [], ◌∷◌, ◌++◌, length, map, flat_map, drop, get_or, Contains, refl, sym, ap, ◌∙◌, subst, inl, inr, arith}
 use Rattle.std.specs.Prelude.{Result, Ok, Err, IfErr, IsErr, IsErrAnd, nat_eq}
 use Rattle.std.specs.Ordering.{nat_cmp}
 use Rattle.std.specs.List.Sorted.{IsStrictlySortedBy}
@@ -12,7 +12,7 @@ use Rattle.isle_rules.specs.declared.visit_fault.VisitFault.TheVariants.{Memory,
 use Rattle.isle_model.specs.lists.Names.{IsDistinct}
 use Rattle.isle_model.specs.sites.Sites.{Site, Constraint, sources_of, SiteTerm, layer, unfold_site}
 use Rattle.isle_model.specs.sites.Demands.{has_site, with_sites}
-use Rattle.isle_model.specs.sites.Closure.{Closed, field_terms, ascending, class_at, next_constrained, taken, closing}
+use Rattle.isle_model.specs.sites.Closure.{Closed, field_terms, ascending, class_at, taken, closing}
 use Rattle.isle_model.specs.sites.Limits.{most_sites}
 use Rattle.isle_model.specs.sites.RuleSets.{StandFor}
 use Rattle.isle_model.specs.sites.SetRules.{each_place}

@@ -1,14 +1,17 @@
 -- Where a builder of a rule set stands while a rule is visited: its sites and demands are those that the visit has met, by
 -- their numbers.
-use Rattle.std.specs.Prelude.{◌≡◌, ◌⊎◌, ℕ, ◌<◌, ◌≤◌, Bool, if◌then◌else◌, List, [], ◌∷◌, length, map, Option, Some, None, All, Contains, IsTrue}
+use Rattle.std.specs.Prelude.{◌≡◌, ◌⊎◌, ℕ, ◌<◌, ◌≤◌, Bool, if◌then◌else◌, List, [], ◌∷◌, length, map, Option, Some, None, Result, MatchResult, All, Contains, IsTrue}
 use Rattle.std.specs.Bool.{◌==◌}
 use Rattle.isle_base.specs.Stable.{contains}
 use Rattle.isle_model.specs.sites.Sites as Sites
-use Rattle.isle_model.specs.sites.Sites.{Site, SiteTerm, is_present, pick_of, some_part, unfold_site}
-use Rattle.isle_model.specs.rules.Typed.{TypedPatterns}
-use Rattle.isle_model.specs.sites.Demands.{Visit, Opened, opened, output_sites, part_sites, with_sites, asking, iterating, making}
+use Rattle.isle_model.specs.sites.Sites.{Site, SiteTerm, extractor_call, is_present, pick_of, some_part, unfold_site}
+use Rattle.isle_model.specs.rules.Typed.{TypedPatterns, no_typed_pattern}
+use Rattle.isle_model.specs.lists.Tables.{Flags}
+use Rattle.isle_model.specs.sites.Limits.{most_fields, most_outputs}
+use Rattle.isle_model.specs.sites.Demands.{Visit, Opened, opened, open_call, output_sites, part_sites, pattern_count, with_sites, asking, equating, iterating, making}
 use Rattle.isle_model.specs.sites.Closure.{Unreachability, conflict, conflicts_met, before_closing, field_terms}
 use Rattle.isle_base.specs.declared.syntax.Limit.{Limit}
+use Rattle.isle_base.specs.declared.syntax.Limit.TheVariants as Limits
 use Rattle.isle_rules.specs.declared.visit_fault.VisitFault.{VisitFault}
 use Rattle.isle_rules.specs.declared.visit_fault.VisitFault.TheVariants as Faults
 use Rattle.isle_sets.specs.SiteTables.{AreFirst, ForWantOfRoom, IsTable, table_sites}
@@ -107,3 +110,33 @@ answered multi infallible call v =
 pub record Answers (before : List SiteTerm) (old new : RuleSetBuilder) (multi infallible : Bool) (call : SiteTerm) (v : Visit) (n : ℕ) : Type 0 where
   pub goes : GoesTo before old new (answered multi infallible call v)
   pub site : IsSiteOf new (answer_of multi infallible call) n
+
+-- what a builder does with a call that changes nothing but demands: it goes to where the visit stands that follows, for
+-- each visit at which it stands
+abbrev pub Follows : RuleSetBuilder → RuleSetBuilder → Result (Unit {0}) VisitFault → (Visit → Visit) → Type 0
+Follows old new r next =
+    (before : List SiteTerm) (v : Visit) → StandsAt before old v → MatchResult r (λ _. GoesTo before old new (next v)) (EndsBefore before new (next v))
+
+-- what it does with a call that asks something of a site
+abbrev pub Asks : Sites.Constraint → RuleSetBuilder → ℕ → Result (Unit {0}) VisitFault → RuleSetBuilder → Type 0
+Asks c old s r new = s < length (built_sites old) → Follows old new r (asking (unfold_site (built_sites old) s) c)
+
+-- and with a call that makes two sites equal
+abbrev pub Equates : RuleSetBuilder → ℕ → ℕ → Result (Unit {0}) VisitFault → RuleSetBuilder → Type 0
+Equates old a b r new =
+    a < length (built_sites old) → b < length (built_sites old) → Follows old new r (equating (unfold_site (built_sites old) a) (unfold_site (built_sites old) b))
+
+-- and with a call that opens the fields which a constraint gives a site, so many
+abbrev pub OpensFields : Sites.Constraint → ℕ → RuleSetBuilder → ℕ → Result (List ℕ) VisitFault → RuleSetBuilder → Type 0
+OpensFields c count old s r new =
+    (before : List SiteTerm) (v : Visit) → StandsAt before old v → s < length (built_sites old)
+    → MatchResult r (OpensTo before old new (fields_opened c (unfold_site (built_sites old) s) v))
+    (EndsOpening before new (fields_opened c (unfold_site (built_sites old) s) v).visit Limits.Fields (most_fields < count) v)
+
+-- and with a call that opens the outputs of an extractor, so many
+abbrev pub OpensExtractor : ℕ → ℕ → Bool → Bool → RuleSetBuilder → ℕ → Result (List ℕ) VisitFault → RuleSetBuilder → Type 0
+OpensExtractor term count infallible multi old s r new =
+    (before : List SiteTerm) (v : Visit) (flags : Flags) (args : TypedPatterns) → StandsAt before old v → s < length (built_sites old) → flags.multi ≡ multi → pattern_count args ≡ count
+    → let call = extractor_call term (unfold_site (built_sites old) s) in
+    MatchResult r (OpensTo before old new (open_call flags infallible call args v))
+    (EndsOpening before new (open_call flags infallible call args v).visit Limits.Outputs (most_outputs < count) (open_call flags infallible call no_typed_pattern v).visit)

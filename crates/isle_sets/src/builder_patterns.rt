@@ -3,17 +3,17 @@ ghost use Rattle.std.specs.Prelude.{◌≡◌, ◌<◌, ℕ, List, length, vec_l
 ghost use Rattle.isle_base.specs.declared.syntax.Limit.TheVariants as Limits;
 ghost use Rattle.isle_model.specs.lists.Tables.{Flags};
 ghost use Rattle.isle_model.specs.rules.Typed.{TypedPatterns, no_typed_pattern};
-ghost use Rattle.isle_model.specs.sites.Sites.{SiteTerm, extractor_call, is_struct, is_variant, struct_field, tuple_part, unfold_site, variant_field};
+ghost use Rattle.isle_model.specs.sites.Sites.{SiteTerm, extractor_call, is_bool, is_int, is_prim, is_struct, is_variant, struct_field, tuple_part, unfold_site, variant_field};
 ghost use Rattle.isle_model.specs.sites.Demands.{Visit, making, open_call, pattern_count};
 ghost use Rattle.isle_model.specs.sites.Closure.{fields_from};
 ghost use Rattle.isle_model.specs.sites.Limits.{most_fields, most_outputs};
-ghost use Rattle.isle_sets.specs.VisitedSites.{Answers, EndsBefore, EndsOpening, MakesAll, OpensTo, StandsAt, answered, built_sites, fields_opened, outputs_opened};
+ghost use Rattle.isle_sets.specs.VisitedSites.{Answers, Asks, EndsBefore, EndsOpening, Equates, MakesAll, OpensExtractor, OpensFields, OpensTo, StandsAt, answered, built_sites, fields_opened, outputs_opened};
 
 use crate::ruleset_builder::RuleSetBuilder;
 use crate::trie_again::{Binding, BindingId, Constraint, TupleIndex};
 use isle_base::syntax::Limit;
-use isle_rules::VisitFault;
-use isle_types::{TermId, TypeId, VariantId};
+use isle_rules::{PatternVisitor, VisitFault};
+use isle_types::{Sym, TermId, TypeId, VariantId};
 
 impl RuleSetBuilder {
     // The sites of a variant's fields, in order, new ones where they aren't there.
@@ -203,5 +203,86 @@ impl RuleSetBuilder {
         })?;
         let site = self.open_answer(call, infallible, multi)?;
         self.open_outputs(site, count)
+    }
+}
+
+// Each call goes on from every visit at which the builder stands. `add_match_variant`, `add_extract_struct` and
+// `add_extract` end with `Limit` where there are too many parts.
+impl PatternVisitor for RuleSetBuilder {
+    type PatternId = BindingId;
+
+    ghost match_equal_steps = { λ s a b ty r t. Equates s a b r t };
+
+    ghost match_bool_steps = { λ s input ty b r t. Asks (is_bool b ty) s input r t };
+
+    ghost match_int_steps = { λ s input ty z r t. Asks (is_int z ty) s input r t };
+
+    ghost match_prim_steps = { λ s input ty name r t. Asks (is_prim name) s input r t };
+
+    ghost match_variant_steps = { λ s input ty tys variant r t. OpensFields (is_variant ty variant (length tys)) (length tys) s input r t };
+
+    ghost extract_struct_steps = { λ s input ty tys r t. OpensFields (is_struct ty (length tys)) (length tys) s input r t };
+
+    ghost extract_steps = { λ s input ty tys term infallible multi r t. OpensExtractor term (length tys) infallible multi s input r t };
+
+    fn add_match_equal(&mut self, a: BindingId, b: BindingId, _: TypeId) -> Result<(), VisitFault> {
+        self.equate(a, b)?;
+        Ok(())
+    }
+
+    fn add_match_bool(
+        &mut self,
+        input: BindingId,
+        ty: TypeId,
+        bool_val: bool,
+    ) -> Result<(), VisitFault> {
+        self.ask(input, &Constraint::ConstBool { val: bool_val, ty })?;
+        Ok(())
+    }
+
+    fn add_match_int(
+        &mut self,
+        input: BindingId,
+        ty: TypeId,
+        int_val: i128,
+    ) -> Result<(), VisitFault> {
+        self.ask(input, &Constraint::ConstInt { val: int_val, ty })?;
+        Ok(())
+    }
+
+    fn add_match_prim(&mut self, input: BindingId, _: TypeId, val: Sym) -> Result<(), VisitFault> {
+        self.ask(input, &Constraint::ConstPrim { val })?;
+        Ok(())
+    }
+
+    fn add_match_variant(
+        &mut self,
+        input: BindingId,
+        input_ty: TypeId,
+        arg_tys: &[TypeId],
+        variant: VariantId,
+    ) -> Result<Vec<BindingId>, VisitFault> {
+        self.open_variant(input, input_ty, variant, arg_tys.len())
+    }
+
+    fn add_extract_struct(
+        &mut self,
+        input: BindingId,
+        input_ty: TypeId,
+        arg_tys: &[TypeId],
+    ) -> Result<Vec<BindingId>, VisitFault> {
+        self.open_struct(input, input_ty, arg_tys.len())
+    }
+
+    fn add_extract(
+        &mut self,
+        input: BindingId,
+        _: TypeId,
+        output_tys: Vec<TypeId>,
+        term: TermId,
+        infallible: bool,
+        multi: bool,
+    ) -> Result<Vec<BindingId>, VisitFault> {
+        self.open_extractor(input, term, output_tys.len(), infallible, multi)
     }
 }

@@ -1,7 +1,7 @@
-use Rattle.std.proofs.Common.{◌≡◌, ◌<◌, ℕ, List, [], ap, subst, sym, arith}
+use Rattle.std.proofs.Common.{◌≡◌, ◌<◌, ℕ, [], ap, subst, sym, arith}
 use Rattle.std.specs.Prelude.{length}
 use Rattle.isle_model.specs.sites.Sites.{SiteTerm, struct_field, extract_struct_site, unfold_site}
-use Rattle.isle_model.specs.sites.Demands.{Visit, making}
+use Rattle.isle_model.specs.sites.Demands.{making}
 use Rattle.isle_model.specs.sites.Closure.{fields_from}
 use Rattle.isle_model.proofs.Members.{in_alone}
 use Rattle.isle_sets.specs.SiteTables.{HasSources}
