@@ -121,7 +121,7 @@ fields_open before old mid new v c s ids l m ask =
     }
 
 -- 7. outputs of a call
-places_same : (f : ℕ → SiteTerm) (i : ℕ) (args : TypedPatterns) → from_to f i args ≡ fields_from f i (pattern_count args)
+pub places_same : (f : ℕ → SiteTerm) (i : ℕ) (args : TypedPatterns) → from_to f i args ≡ fields_from f i (pattern_count args)
 places_same f i no_typed_pattern = refl
 places_same f i (typed_pattern_and q qs) = ap (λ l. f i ∷ l) (places_same f (suc i) qs)
 

@@ -14,6 +14,7 @@ pub mod SitesAdded
 pub mod SitesGrown
 pub mod SitesIn
 pub mod TablesGrown
+pub mod VisitedPatterns
 pub mod BuilderFields
 pub mod BuilderSteps
 pub mod BuildingSteps
