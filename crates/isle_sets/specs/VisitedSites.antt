@@ -8,7 +8,7 @@ use Rattle.isle_model.specs.sites.Sites.{Site, SiteTerm, extractor_call, is_pres
 use Rattle.isle_model.specs.rules.Typed.{TypedPatterns, no_typed_pattern}
 use Rattle.isle_model.specs.lists.Tables.{Flags}
 use Rattle.isle_model.specs.sites.Limits.{most_fields, most_outputs}
-use Rattle.isle_model.specs.sites.Demands.{Visit, Opened, opened, open_call, output_sites, part_sites, pattern_count, with_sites, asking, equating, iterating, making}
+use Rattle.isle_model.specs.sites.Demands.{Visit, call_result, Opened, opened, open_call, output_sites, part_sites, pattern_count, with_sites, asking, equating, iterating, making}
 use Rattle.isle_model.specs.sites.Closure.{Unreachability, conflict, conflicts_met, before_closing, field_terms}
 use Rattle.isle_base.specs.declared.syntax.Limit.{Limit}
 use Rattle.isle_base.specs.declared.syntax.Limit.TheVariants as Limits
@@ -140,3 +140,12 @@ OpensExtractor term count infallible multi old s r new =
     → let call = extractor_call term (unfold_site (built_sites old) s) in
     MatchResult r (OpensTo before old new (open_call flags infallible call args v))
     (EndsOpening before new (open_call flags infallible call args v).visit Limits.Outputs (most_outputs < count) (open_call flags infallible call no_typed_pattern v).visit)
+
+-- the sites that are made for what a constructor's call gives
+abbrev pub value_sites : Flags → SiteTerm → List SiteTerm
+value_sites flags call = if flags.partial then some_part call ∷ [] else (if flags.multi then pick_of call ∷ [] else [])
+
+-- a builder has gone on by making what a call gives, which has this number
+pub record MakesValue (before : List SiteTerm) (old new : RuleSetBuilder) (flags : Flags) (call : SiteTerm) (v : Visit) (n : ℕ) : Type 0 where
+  pub goes : GoesTo before old new (making (value_sites flags call) v)
+  pub site : IsSiteOf new (call_result flags call) n

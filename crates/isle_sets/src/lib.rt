@@ -3,6 +3,7 @@
 #![tactic(auto)]
 
 mod bindings;
+pub mod builder_exprs;
 pub mod builder_patterns;
 pub mod building;
 mod closing;

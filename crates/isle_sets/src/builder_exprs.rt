@@ -1,0 +1,71 @@
+//! What the calls of an expression's visit make of sites.
+ghost use Rattle.std.specs.Prelude.{◌≡◌, ◌<◌, ℕ, List, not, suc, length, IfErr, IfOk, OnOk, if◌then◌else◌};
+ghost use Rattle.isle_model.specs.lists.Tables.{Flags};
+ghost use Rattle.isle_model.specs.sites.Sites.{SiteTerm, unfold_site};
+ghost use Rattle.isle_model.specs.sites.Demands.{Visit, calling, making, where_multi};
+ghost use Rattle.isle_sets.specs.VisitedSites.{EndsBefore, GoesTo, MakesValue, StandsAt, built_sites, value_sites};
+
+use crate::ruleset_builder::RuleSetBuilder;
+use crate::trie_again::{Binding, BindingId};
+use isle_rules::VisitFault;
+use std::alloc::AllocError;
+
+impl RuleSetBuilder {
+    // The number of a call among the impure calls of its rule, from 1, and 0 for a pure one. Numbers run out as memory
+    // does.
+    pub(crate) fn instance(&self, pure: bool) -> Result<u32, VisitFault>
+        ensures { IfOk result (λ n. n ≡ (if pure then 0 else suc (length self.now.impure.items))) }
+    {
+        if pure {
+            return Ok(0);
+        }
+        match u32::try_from(self.impure.len() + 1) {
+            Ok(number) => Ok(number),
+            Err(_) => Err(VisitFault::Memory(AllocError)),
+        }
+    }
+
+    // What a constructor's call gives: what is in its answer where there may be none, or one of its answers where there
+    // may be many.
+    pub(crate) fn make_value(
+        &mut self,
+        call: BindingId,
+        infallible: bool,
+        multi: bool,
+    ) -> Result<BindingId, VisitFault>
+        ensures made { (before : List SiteTerm) (v : Visit) (flags : Flags) → StandsAt before self.old v → call < length (built_sites self.old) → flags.partial ≡ not infallible → flags.multi ≡ multi
+            → IfOk result (MakesValue before self.old self.new flags (unfold_site (built_sites self.old) call) v) }
+        ensures full { (before : List SiteTerm) (v : Visit) (flags : Flags) → StandsAt before self.old v → call < length (built_sites self.old) → flags.partial ≡ not infallible → flags.multi ≡ multi
+            → IfErr result (EndsBefore before self.new (making (value_sites flags (unfold_site (built_sites self.old) call)) v)) }
+    {
+        if !infallible {
+            self.make(Binding::MatchSome { source: call })
+        } else if multi {
+            self.make(Binding::Iterator { source: call })
+        } else {
+            Ok(call)
+        }
+    }
+
+    // The rule goes over a multi call.
+    pub(crate) fn go_over(&mut self, call: BindingId, multi: bool) -> Result<(), AllocError>
+        ensures gone_over { (before : List SiteTerm) (v : Visit) (flags : Flags) → StandsAt before self.old v → call < length (built_sites self.old) → flags.multi ≡ multi
+            → OnOk result (GoesTo before self.old self.new (where_multi flags (unfold_site (built_sites self.old) call) v)) }
+    {
+        if multi {
+            self.iterate(call)?;
+        }
+        Ok(())
+    }
+
+    // The rule makes an impure call, whose last site this is.
+    pub(crate) fn note_call(&mut self, site: BindingId, pure: bool) -> Result<(), AllocError>
+        ensures called { (before : List SiteTerm) (v : Visit) → StandsAt before self.old v → site < length (built_sites self.old)
+            → OnOk result (GoesTo before self.old self.new (if pure then v else calling (unfold_site (built_sites self.old) site) v)) }
+    {
+        if !pure {
+            self.call(site)?;
+        }
+        Ok(())
+    }
+}
