@@ -15,6 +15,7 @@ pub mod SitesGrown
 pub mod SitesIn
 pub mod TablesGrown
 pub mod VisitedPatterns
+pub mod BuilderCalls
 pub mod BuilderFields
 pub mod BuilderSteps
 pub mod BuildingSteps

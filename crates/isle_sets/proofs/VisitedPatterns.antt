@@ -137,7 +137,7 @@ pub record VisitsTo (before : List SiteTerm) (s t : State) (w : Visit) : Type 0 
 further : (before : List SiteTerm) (s m t : State) (v w : Visit) → VisitsTo before s m v → VisitsTo before m t w → VisitsTo before s t w
 further before s m t v w a b = record { goes = goes_further before s.0 m.0 t.0 v w a.goes b.goes; knows = b.knows }
 
-site_stays : (before : List SiteTerm) (s t : RuleSetBuilder) (w : Visit) (u : SiteTerm) (n : ℕ) → GoesTo before s t w → IsSiteOf s u n → IsSiteOf t u n
+pub site_stays : (before : List SiteTerm) (s t : RuleSetBuilder) (w : Visit) (u : SiteTerm) (n : ℕ) → GoesTo before s t w → IsSiteOf s u n → IsSiteOf t u n
 site_stays before s t w u n g k = let l = k.within in let m = g.longer in record { within = omega (arith, l, m); number = g.kept n l ∙ k.number }
 
 -- the steps of single calls

@@ -8,7 +8,7 @@ use Rattle.isle_model.specs.sites.Sites.{Site, SiteTerm, extractor_call, is_pres
 use Rattle.isle_model.specs.rules.Typed.{TypedPatterns, no_typed_pattern}
 use Rattle.isle_model.specs.lists.Tables.{Flags}
 use Rattle.isle_model.specs.sites.Limits.{most_fields, most_outputs}
-use Rattle.isle_model.specs.sites.Demands.{Visit, call_result, Opened, opened, open_call, output_sites, part_sites, pattern_count, with_sites, asking, equating, iterating, making}
+use Rattle.isle_model.specs.sites.Demands.{Visit, Valued, call_result, Opened, opened, open_call, output_sites, part_sites, pattern_count, with_sites, asking, equating, iterating, making}
 use Rattle.isle_model.specs.sites.Closure.{Unreachability, conflict, conflicts_met, before_closing, field_terms}
 use Rattle.isle_base.specs.declared.syntax.Limit.{Limit}
 use Rattle.isle_base.specs.declared.syntax.Limit.TheVariants as Limits
@@ -149,3 +149,8 @@ value_sites flags call = if flags.partial then some_part call ∷ [] else (if fl
 pub record MakesValue (before : List SiteTerm) (old new : RuleSetBuilder) (flags : Flags) (call : SiteTerm) (v : Visit) (n : ℕ) : Type 0 where
   pub goes : GoesTo before old new (making (value_sites flags call) v)
   pub site : IsSiteOf new (call_result flags call) n
+
+-- a builder has gone on to where a visit stands that has a value, which has this number
+pub record ValuesTo (before : List SiteTerm) (old new : RuleSetBuilder) (w : Valued) (n : ℕ) : Type 0 where
+  pub goes : GoesTo before old new w.visit
+  pub site : IsSiteOf new w.site n

@@ -1,20 +1,23 @@
 //! What the calls of an expression's visit make of sites.
-ghost use Rattle.std.specs.Prelude.{◌≡◌, ◌<◌, ℕ, List, not, suc, length, IfErr, IfOk, OnOk, if◌then◌else◌};
+ghost use Rattle.std.specs.Prelude.{◌≡◌, ◌<◌, ℕ, List, not, suc, length, All, IfErr, IfOk, OnOk, if◌then◌else◌};
 ghost use Rattle.isle_model.specs.lists.Tables.{Flags};
-ghost use Rattle.isle_model.specs.sites.Sites.{SiteTerm, unfold_site};
-ghost use Rattle.isle_model.specs.sites.Demands.{Visit, calling, making, where_multi};
-ghost use Rattle.isle_sets.specs.VisitedSites.{EndsBefore, GoesTo, MakesValue, StandsAt, built_sites, value_sites};
+ghost use Rattle.isle_model.specs.sites.Sites.{SiteTerm, each_term, unfold_site};
+ghost use Rattle.isle_model.specs.sites.Demands.{Visit, calling, making, visit_call, where_multi};
+ghost use Rattle.isle_sets.specs.SiteTables.{ForWantOfRoom};
+ghost use Rattle.isle_sets.specs.VisitedSites.{EndsBefore, GoesTo, MakesValue, StandsAt, ValuesTo, built_sites, value_sites};
 
 use crate::ruleset_builder::RuleSetBuilder;
 use crate::trie_again::{Binding, BindingId};
 use isle_rules::VisitFault;
+use isle_types::TermId;
 use std::alloc::AllocError;
 
 impl RuleSetBuilder {
     // The number of a call among the impure calls of its rule, from 1, and 0 for a pure one. Numbers run out as memory
     // does.
     pub(crate) fn instance(&self, pure: bool) -> Result<u32, VisitFault>
-        ensures { IfOk result (λ n. n ≡ (if pure then 0 else suc (length self.now.impure.items))) }
+        ensures number { IfOk result (λ n. n ≡ (if pure then 0 else suc (length self.now.impure.items))) }
+        ensures refused { IfErr result (ForWantOfRoom ⊥) }
     {
         if pure {
             return Ok(0);
@@ -67,5 +70,33 @@ impl RuleSetBuilder {
             self.call(site)?;
         }
         Ok(())
+    }
+
+    // A constructor is called with these values: the value that it gives.
+    pub(crate) fn construct(
+        &mut self,
+        term: TermId,
+        parameters: Vec<BindingId>,
+        pure: bool,
+        infallible: bool,
+        multi: bool,
+    ) -> Result<BindingId, VisitFault>
+        ensures constructed { (before : List SiteTerm) (v : Visit) (flags : Flags) → StandsAt before self.old v → All (λ n. n < length (built_sites self.old)) parameters.items
+            → flags.pure ≡ pure → flags.partial ≡ not infallible → flags.multi ≡ multi
+            → IfOk result (ValuesTo before self.old self.new (visit_call flags term.0 (each_term (unfold_site (built_sites self.old)) parameters.items) v)) }
+        ensures full { (before : List SiteTerm) (v : Visit) (flags : Flags) → StandsAt before self.old v → All (λ n. n < length (built_sites self.old)) parameters.items
+            → flags.pure ≡ pure → flags.partial ≡ not infallible → flags.multi ≡ multi
+            → IfErr result (EndsBefore before self.new (visit_call flags term.0 (each_term (unfold_site (built_sites self.old)) parameters.items) v).visit) }
+    {
+        let instance = self.instance(pure)?;
+        let call = self.make(Binding::Constructor {
+            term,
+            parameters,
+            instance,
+        })?;
+        let value = self.make_value(call, infallible, multi)?;
+        self.go_over(call, multi)?;
+        self.note_call(value, pure)?;
+        Ok(value)
     }
 }
