@@ -1,12 +1,17 @@
 -- A constructor's call by a builder, step by step.
 use Rattle.std.proofs.Common.{◌≡◌, ℕ, suc, ◌<◌, Bool, true, false, if◌then◌else◌, List, [], ◌∷◌, All, Contains, refl, sym, ap, ◌∙◌, subst}
+use Rattle.std.specs.Prelude.{map, Result, IfOk, IfErr}
+use Rattle.std.proofs.lemmas.Result.{MatchResult-from_both}
+use Rattle.isle_types.specs.declared.ids.TypeId.{TypeId}
+use Rattle.isle_rules.specs.VisitAnswers.{typed_inputs}
+use Rattle.isle_sets.proofs.SitesAdded.{weaker_ok}
 use Rattle.std.proofs.lemmas.Bool.{cond-true, cond-false}
 use Rattle.std.proofs.lemmas.List.{append-nil}
 use Rattle.isle_model.specs.lists.Tables.{Flags}
 use Rattle.isle_model.specs.sites.Sites.{SiteTerm, SiteTerms, constructor_call, pick_of, some_part}
 use Rattle.isle_model.specs.sites.Demands.{Visit, Valued, valued, call_result, call_sites, calling, iterating, making, visit_call, where_multi}
 use Rattle.isle_rules.specs.declared.visit_fault.VisitFault.{VisitFault}
-use Rattle.isle_sets.specs.VisitedSites.{EndsBefore, GoesTo, Makes, MakesValue, ValuesTo, value_sites}
+use Rattle.isle_sets.specs.VisitedSites.{EndsBefore, GoesTo, StandsAt, Makes, MakesValue, ValuesTo, GivesValue, input_ids, value_made as value_made_of, value_sites}
 use Rattle.isle_sets.specs.declared.ruleset_builder.RuleSetBuilder.{RuleSetBuilder}
 use Rattle.isle_sets.proofs.BuilderFields.{making_twice, goes_further, ends_later}
 use Rattle.isle_sets.proofs.VisitedPatterns.{site_stays}
@@ -84,3 +89,14 @@ module _ (before : List SiteTerm) (old a : RuleSetBuilder) (v : Visit) (flags : 
 
   pub made_ends : (b : RuleSetBuilder) (e : VisitFault) → EndsBefore before b (making (Call ∷ []) v) e → EndsBefore before b (visit_call flags t args v).visit e
   made_ends b e h = value_ends b e (ends_later before b (making (Call ∷ []) v) (Valued' flags Call v) (value_sites flags Call) e refl h)
+
+-- values by their numbers
+pub ids_typed : (xs : List (ℕ × TypeId)) → map (λ x. x.0) xs ≡ input_ids (typed_inputs xs)
+ids_typed [] = refl
+ids_typed (x ∷ xs) = ap (λ l. x.0 ∷ l) (ids_typed xs)
+
+pub gives_made : (old new : RuleSetBuilder) (r : Result ℕ VisitFault) (u : SiteTerm) → ((before : List SiteTerm) (v : Visit) → StandsAt before old v → IfOk r (Makes before old new v u))
+    → ((before : List SiteTerm) (v : Visit) → StandsAt before old v → IfErr r (EndsBefore before new (making (u ∷ []) v))) → GivesValue old new r (value_made_of u)
+gives_made old new r u ok err before v h =
+    MatchResult-from_both r (ValuesTo before old new (value_made_of u v)) (EndsBefore before new (making (u ∷ []) v))
+    (weaker_ok (Makes before old new v u) (ValuesTo before old new (value_made_of u v)) r (λ n m. record { goes = m.goes; site = m.site }) (ok before v h)) (err before v h)

@@ -1,14 +1,14 @@
 -- Where a builder of a rule set stands while a rule is visited: its sites and demands are those that the visit has met, by
 -- their numbers.
-use Rattle.std.specs.Prelude.{◌≡◌, ◌⊎◌, ℕ, ◌<◌, ◌≤◌, Bool, if◌then◌else◌, List, [], ◌∷◌, length, map, Option, Some, None, Result, MatchResult, All, Contains, IsTrue}
+use Rattle.std.specs.Prelude.{◌≡◌, ◌⊎◌, ℕ, ◌<◌, ◌≤◌, Bool, not, if◌then◌else◌, List, [], ◌∷◌, length, map, Option, Some, None, Result, MatchResult, All, Contains, IsTrue}
 use Rattle.std.specs.Bool.{◌==◌}
 use Rattle.isle_base.specs.Stable.{contains}
 use Rattle.isle_model.specs.sites.Sites as Sites
-use Rattle.isle_model.specs.sites.Sites.{Site, SiteTerm, extractor_call, is_present, pick_of, some_part, unfold_site}
+use Rattle.isle_model.specs.sites.Sites.{Site, SiteTerm, SiteTerms, each_term, extractor_call, is_present, pick_of, some_part, unfold_site}
 use Rattle.isle_model.specs.rules.Typed.{TypedPatterns, no_typed_pattern}
 use Rattle.isle_model.specs.lists.Tables.{Flags}
 use Rattle.isle_model.specs.sites.Limits.{most_fields, most_outputs}
-use Rattle.isle_model.specs.sites.Demands.{Visit, Valued, call_result, Opened, opened, open_call, output_sites, part_sites, pattern_count, with_sites, asking, equating, iterating, making}
+use Rattle.isle_model.specs.sites.Demands.{Visit, Valued, valued, visit_call, call_result, Opened, opened, open_call, output_sites, part_sites, pattern_count, with_sites, asking, equating, iterating, making}
 use Rattle.isle_model.specs.sites.Closure.{Unreachability, conflict, conflicts_met, before_closing, field_terms}
 use Rattle.isle_base.specs.declared.syntax.Limit.{Limit}
 use Rattle.isle_base.specs.declared.syntax.Limit.TheVariants as Limits
@@ -154,3 +154,29 @@ pub record MakesValue (before : List SiteTerm) (old new : RuleSetBuilder) (flags
 pub record ValuesTo (before : List SiteTerm) (old new : RuleSetBuilder) (w : Valued) (n : ℕ) : Type 0 where
   pub goes : GoesTo before old new w.visit
   pub site : IsSiteOf new w.site n
+
+-- what a builder does with a call that gives a value: it goes to where the visit stands that follows, for each visit at
+-- which it stands, with the value's number
+abbrev pub GivesValue : RuleSetBuilder → RuleSetBuilder → Result ℕ VisitFault → (Visit → Valued) → Type 0
+GivesValue old new r next =
+    (before : List SiteTerm) (v : Visit) → StandsAt before old v → MatchResult r (ValuesTo before old new (next v)) (EndsBefore before new (next v).visit)
+
+-- a value that is made as one site
+abbrev pub value_made : SiteTerm → Visit → Valued
+value_made u v = valued u (making (u ∷ []) v)
+
+-- values that are handed over, each with a type, by their numbers
+abbrev pub input_ids : List (ℕ × ℕ) → List ℕ
+input_ids inputs = map (λ x. x.0) inputs
+
+abbrev pub AreKnown : RuleSetBuilder → List (ℕ × ℕ) → Type 0
+AreKnown b inputs = All (λ n. n < length (built_sites b)) (input_ids inputs)
+
+-- what they stand for
+abbrev pub input_terms : RuleSetBuilder → List (ℕ × ℕ) → SiteTerms
+input_terms b inputs = each_term (unfold_site (built_sites b)) (input_ids inputs)
+
+-- what a builder does with a constructor's call
+abbrev pub Constructs : ℕ → Bool → Bool → Bool → RuleSetBuilder → List (ℕ × ℕ) → Result ℕ VisitFault → RuleSetBuilder → Type 0
+Constructs term pure infallible multi old inputs r new =
+    (flags : Flags) → flags.pure ≡ pure → flags.partial ≡ not infallible → flags.multi ≡ multi → AreKnown old inputs → GivesValue old new r (visit_call flags term (input_terms old inputs))

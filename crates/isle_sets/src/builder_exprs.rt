@@ -1,16 +1,17 @@
 //! What the calls of an expression's visit make of sites.
-ghost use Rattle.std.specs.Prelude.{◌≡◌, ◌<◌, ℕ, List, not, suc, length, All, IfErr, IfOk, OnOk, if◌then◌else◌};
+ghost use Rattle.std.specs.Prelude.{◌≡◌, ◌<◌, ℕ, List, not, suc, length, map, All, IfErr, IfOk, OnOk, if◌then◌else◌};
 ghost use Rattle.isle_model.specs.lists.Tables.{Flags};
-ghost use Rattle.isle_model.specs.sites.Sites.{SiteTerm, each_term, unfold_site};
+ghost use Rattle.isle_model.specs.sites.Sites.{SiteTerm, bool_term, each_term, int_term, prim_term, struct_made, unfold_site, variant_made};
 ghost use Rattle.isle_model.specs.sites.Demands.{Visit, calling, making, visit_call, where_multi};
+ghost use Rattle.isle_rules.specs.VisitAnswers.{typed_inputs};
 ghost use Rattle.isle_sets.specs.SiteTables.{ForWantOfRoom};
-ghost use Rattle.isle_sets.specs.VisitedSites.{EndsBefore, GoesTo, MakesValue, StandsAt, ValuesTo, built_sites, value_sites};
+ghost use Rattle.isle_sets.specs.VisitedSites.{AreKnown, Constructs, EndsBefore, GivesValue, GoesTo, MakesValue, StandsAt, ValuesTo, built_sites, input_terms, value_made, value_sites};
 
 use crate::ruleset_builder::RuleSetBuilder;
 use crate::trie_again::{Binding, BindingId};
-use isle_rules::VisitFault;
-use isle_types::TermId;
-use std::alloc::AllocError;
+use isle_rules::{ExprVisitor, VisitFault};
+use isle_types::{Sym, TermId, TypeId, VariantId};
+use std::alloc::{AllocError, Global};
 
 impl RuleSetBuilder {
     // The number of a call among the impure calls of its rule, from 1, and 0 for a pure one. Numbers run out as memory
@@ -98,5 +99,84 @@ impl RuleSetBuilder {
         self.go_over(call, multi)?;
         self.note_call(value, pure)?;
         Ok(value)
+    }
+}
+
+// The ids of values that are handed over with their types.
+fn ids_of(alloc: Global, inputs: &[(BindingId, TypeId)]) -> Result<Vec<BindingId>, AllocError>
+    ensures { IfOk result (λ ids. ids.items ≡ map (λ x. x.0) inputs.now) }
+{
+    inputs.iter().map(|input| input.0).collect(alloc)
+}
+
+// Each call goes on from every visit at which the builder stands.
+impl ExprVisitor for RuleSetBuilder {
+    type ExprId = BindingId;
+
+    ghost const_bool_steps = { λ s ty b r t. GivesValue s t r (value_made (bool_term b ty)) };
+
+    ghost const_int_steps = { λ s ty z r t. GivesValue s t r (value_made (int_term z ty)) };
+
+    ghost const_prim_steps = { λ s ty name r t. GivesValue s t r (value_made (prim_term name)) };
+
+    ghost create_variant_steps = { λ s inputs ty variant r t. AreKnown s inputs → GivesValue s t r (value_made (variant_made ty variant (input_terms s inputs))) };
+
+    ghost create_struct_steps = { λ s inputs ty r t. AreKnown s inputs → GivesValue s t r (value_made (struct_made ty (input_terms s inputs))) };
+
+    ghost construct_steps = { λ s inputs ty term pure infallible multi recursive r t. Constructs term pure infallible multi s inputs r t };
+
+    fn add_const_bool(&mut self, ty: TypeId, val: bool) -> Result<BindingId, VisitFault> {
+        self.make(Binding::ConstBool { val, ty })
+    }
+
+    fn add_const_int(&mut self, ty: TypeId, val: i128) -> Result<BindingId, VisitFault> {
+        self.make(Binding::ConstInt { val, ty })
+    }
+
+    fn add_const_prim(&mut self, _: TypeId, val: Sym) -> Result<BindingId, VisitFault> {
+        self.make(Binding::ConstPrim { val })
+    }
+
+    fn add_create_variant(
+        &mut self,
+        inputs: Vec<(BindingId, TypeId)>,
+        ty: TypeId,
+        variant: VariantId,
+    ) -> Result<BindingId, VisitFault>
+        ensures { AreKnown self.old (typed_inputs inputs.items) → GivesValue self.old self.new result (value_made (variant_made ty.0 variant.0 (input_terms self.old (typed_inputs inputs.items)))) }
+    {
+        let fields = ids_of(self.alloc, &inputs)?;
+        self.make(Binding::MakeVariant {
+            ty,
+            variant,
+            fields,
+        })
+    }
+
+    fn add_create_struct(
+        &mut self,
+        inputs: Vec<(BindingId, TypeId)>,
+        ty: TypeId,
+    ) -> Result<BindingId, VisitFault>
+        ensures { AreKnown self.old (typed_inputs inputs.items) → GivesValue self.old self.new result (value_made (struct_made ty.0 (input_terms self.old (typed_inputs inputs.items)))) }
+    {
+        let fields = ids_of(self.alloc, &inputs)?;
+        self.make(Binding::MakeStruct { ty, fields })
+    }
+
+    fn add_construct(
+        &mut self,
+        inputs: Vec<(BindingId, TypeId)>,
+        _: TypeId,
+        term: TermId,
+        pure: bool,
+        infallible: bool,
+        multi: bool,
+        _: bool,
+    ) -> Result<BindingId, VisitFault>
+        ensures { Constructs term.0 pure infallible multi self.old (typed_inputs inputs.items) result self.new }
+    {
+        let parameters = ids_of(self.alloc, &inputs)?;
+        self.construct(term, parameters, pure, infallible, multi)
     }
 }
