@@ -27,16 +27,16 @@ sites_by false false call = refl
 
 module _ (flags : Flags) (call : SiteTerm) (v : Visit) where
   -- the visit once what the call gives is made, and once a multi call is gone over
-  abbrev pub Valued' : Visit
-  Valued' = making (value_sites flags call) (making (call ∷ []) v)
+  abbrev pub WithValue : Visit
+  WithValue = making (value_sites flags call) (making (call ∷ []) v)
 
   abbrev pub Over : Visit
-  Over = where_multi flags call Valued'
+  Over = where_multi flags call WithValue
 
   abbrev pub Called : Bool → Visit
   Called pure = if pure then Over else calling (call_result flags call) Over
 
-  value_made : Valued' ≡ making (call_sites flags call) v
+  value_made : WithValue ≡ making (call_sites flags call) v
   value_made = making_twice (call ∷ []) (value_sites flags call) v ∙ ap (λ us. making us v) (sites_by flags.partial flags.multi call)
 
 -- the call by its number among the rule's calls
@@ -65,15 +65,15 @@ module _ (before : List SiteTerm) (old a : RuleSetBuilder) (v : Visit) (flags : 
   abbrev Call : SiteTerm
   Call = constructor_call t args i
 
-  made_by : (Called flags Call v pure).demands.made ≡ (Valued' flags Call v).demands.made
-  made_by = called_makes pure (call_result flags Call) (Over flags Call v) ∙ over_makes flags.multi Call (Valued' flags Call v)
+  made_by : (Called flags Call v pure).demands.made ≡ (WithValue flags Call v).demands.made
+  made_by = called_makes pure (call_result flags Call) (Over flags Call v) ∙ over_makes flags.multi Call (WithValue flags Call v)
 
   -- the whole call
   pub call_valued : (b c d : RuleSetBuilder) (s n : ℕ) → Makes before old a v Call s → MakesValue before a b flags Call (making (Call ∷ []) v) n
       → GoesTo before b c (Over flags Call v) → GoesTo before c d (Called flags Call v pure) → ValuesTo before old d (visit_call flags t args v) n
   call_valued b c d s n m w over called =
-      let first = goes_further before old a b (making (Call ∷ []) v) (Valued' flags Call v) m.goes w.goes in
-      let second = goes_further before old b c (Valued' flags Call v) (Over flags Call v) first over in
+      let first = goes_further before old a b (making (Call ∷ []) v) (WithValue flags Call v) m.goes w.goes in
+      let second = goes_further before old b c (WithValue flags Call v) (Over flags Call v) first over in
       let third = goes_further before old c d (Over flags Call v) (Called flags Call v pure) second called in
       subst (λ q. ValuesTo before old d q n) (called_same flags t args v pure i is number)
       (record {
@@ -82,13 +82,13 @@ module _ (before : List SiteTerm) (old a : RuleSetBuilder) (v : Visit) (flags : 
       })
 
   -- it ended on the way
-  pub value_ends : (b : RuleSetBuilder) (e : VisitFault) → EndsBefore before b (Valued' flags Call v) e → EndsBefore before b (visit_call flags t args v).visit e
+  pub value_ends : (b : RuleSetBuilder) (e : VisitFault) → EndsBefore before b (WithValue flags Call v) e → EndsBefore before b (visit_call flags t args v).visit e
   value_ends b e h =
-      ends_later before b (Valued' flags Call v) (visit_call flags t args v).visit [] e
-      (ap (λ (q : Valued). q.visit.demands.made) (sym (called_same flags t args v pure i is number)) ∙ made_by ∙ sym (append-nil (Valued' flags Call v).demands.made)) h
+      ends_later before b (WithValue flags Call v) (visit_call flags t args v).visit [] e
+      (ap (λ (q : Valued). q.visit.demands.made) (sym (called_same flags t args v pure i is number)) ∙ made_by ∙ sym (append-nil (WithValue flags Call v).demands.made)) h
 
   pub made_ends : (b : RuleSetBuilder) (e : VisitFault) → EndsBefore before b (making (Call ∷ []) v) e → EndsBefore before b (visit_call flags t args v).visit e
-  made_ends b e h = value_ends b e (ends_later before b (making (Call ∷ []) v) (Valued' flags Call v) (value_sites flags Call) e refl h)
+  made_ends b e h = value_ends b e (ends_later before b (making (Call ∷ []) v) (WithValue flags Call v) (value_sites flags Call) e refl h)
 
 -- values by their numbers
 pub ids_typed : (xs : List (ℕ × TypeId)) → map (λ x. x.0) xs ≡ input_ids (typed_inputs xs)

@@ -1,19 +1,20 @@
 -- A builder goes on, step by step, to where a visit stands.
-use Rattle.std.proofs.Common.{◌≡◌, ℕ, suc, ◌<◌, ◌≤◌, Bool, true, false, if◌then◌else◌, List, [], ◌∷◌, ◌++◌, length, map, All, Option, Some, None, Contains, refl, sym, ap, ◌∙◌, subst, inl, inr, arith, add-one, eqb-true, eq-eqb}
+use Rattle.std.proofs.Common.{◌≡◌, is_some, ℕ, suc, ◌<◌, ◌≤◌, Bool, true, false, if◌then◌else◌, List, [], ◌∷◌, ◌++◌, length, map, All, Option, Some, None, Contains, refl, sym, ap, ◌∙◌, subst, inl, inr, arith, add-one, eqb-true, eq-eqb}
 use Rattle.std.specs.Prelude.{nat_eq, Result, Ok, Err, OnOk}
 use Rattle.std.specs.Global.{Vec}
 use Rattle.std.specs.Bool.{◌==◌}
-use Rattle.std.proofs.lemmas.Bool.{cases_Bool, cond-true, cond-false}
+use Rattle.std.proofs.lemmas.Bool.{cases_Bool, cond-true, cond-false, false≢true}
 use Rattle.std.proofs.lemmas.List.{append_assoc, append-nil, length_push, map-append}
-use Rattle.std.proofs.lemmas.List.Elements.{All-push, All-weaker, Contains-append_left, Contains-append_right, Contains-append_cases}
+use Rattle.std.proofs.lemmas.List.Elements.{All-nil, All-push, All-weaker, Contains-append_left, Contains-append_right, Contains-append_cases}
 use Rattle.isle_base.specs.Stable.{Members, contains}
 use Rattle.isle_model.specs.sites.Sites.{Site, Constraint, SiteTerm, layer, unfold_site}
-use Rattle.isle_model.specs.sites.Demands.{site_term_eq, has_site, Visit, with_sites, asking, calling, equating, iterating, making}
+use Rattle.isle_model.specs.sites.Demands.{site_term_eq, has_site, Visit, with_sites, asking, calling, equating, iterating, making, visit_start}
 use Rattle.isle_model.specs.sites.Closure.{Closed, conflict_with, conflicts_met, constraint_of, with_constraint, with_constraints, class_at, merged_classes, before_closing}
 use Rattle.isle_model.specs.sites.RuleSets.{StandFor}
 use Rattle.isle_model.specs.lists.Names.{IsDistinct}
 use Rattle.isle_model.proofs.Elements.{In}
-use Rattle.isle_model.proofs.Members.{in_alone, in_head}
+use Rattle.isle_model.proofs.Members.{in_alone, in_head, nothing_in}
+use Rattle.isle_model.proofs.Positions.{distinct_nil}
 use Rattle.isle_model.proofs.SameSites.{term_means}
 use Rattle.isle_model.proofs.SitesMade.{in_has}
 use Rattle.isle_laws_demands.proofs.closure.Whole.{own_class}
@@ -291,3 +292,29 @@ module _ (before : List SiteTerm) (b : RuleSetBuilder) (v : Visit) (h : StandsAt
 pub ok_both : {T E : Type 0} (P Q : Type 0) (r : Result T E) → OnOk r P → OnOk r Q → OnOk r (P × Q)
 ok_both P Q (Ok x) p q = (p, q)
 ok_both P Q (Err e) p q = tt
+
+-- before a visit
+pub nothing_visited : (b : RuleSetBuilder) → IsTable b.table → KeepsDue b.demanded → built_sites b ≡ [] → ((s : ℕ) → constraint_held b.demanded s ≡ None) → ((p q : ℕ) → are_equated b.demanded p q ≡ false)
+    → b.conflicts.items ≡ [] → ((x : ℕ) → contains ◌==◌ b.iterators x ≡ false) → b.impure.items ≡ [] → StandsAt [] b visit_start
+nothing_visited b table due none asked equal no_conflict no_iterator no_call =
+    let empty : length (built_sites b) ≡ 0 = ap length none in
+    record {
+      table = table;
+      due = due;
+      demands = record {
+        stand = record { exact = λ s l. absurd (omega (arith, l, empty)); count = empty };
+        once = distinct_nil;
+        asked = λ s l. absurd (omega (arith, l, empty));
+        asked_within = λ s t. absurd (false≢true (sym (ap is_some (asked s)) ∙ t));
+        asked_made = λ u c i. absurd (nothing_in (u, c) i);
+        equated = λ p q l m. absurd (omega (arith, l, empty));
+        equated_within = λ p q t. absurd (false≢true (sym (equal p q) ∙ t));
+        equated_made = λ class u i j. absurd (nothing_in class i);
+        apart = λ l m s i j x y. absurd (nothing_in l i);
+      };
+      conflicts = ap (map conflict_view) no_conflict;
+      gone_over = λ s t. absurd (false≢true (sym (no_iterator s) ∙ t));
+      all_gone_over = λ u i. absurd (nothing_in u i);
+      impure = record { within = subst (All (λ r. r < length (built_sites b))) (sym no_call) (All-nil (λ r. r < length (built_sites b))); numbers = ap (map (unfold_site (built_sites b))) no_call };
+      calls = ap length no_call;
+    }

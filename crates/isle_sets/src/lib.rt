@@ -3,8 +3,8 @@
 #![tactic(auto)]
 
 mod bindings;
-pub mod builder_exprs;
-pub mod builder_patterns;
+mod builder_exprs;
+mod builder_patterns;
 pub mod building;
 mod closing;
 mod constraints;

@@ -1,7 +1,7 @@
 //! Rules as they are read into the rule set of their term: sites, and what each rule demands of them.
 ghost use Rattle.std.specs.Prelude.{◌≡◌, ◌<◌, ℕ, List, [], ◌∷◌, ◌++◌, length, map, IfErr, IfOk, OnOk};
 ghost use Rattle.isle_model.specs.sites.Sites.{SiteTerm, layer, unfold_site};
-ghost use Rattle.isle_model.specs.sites.Demands.{Visit, asking, calling, equating, iterating, making};
+ghost use Rattle.isle_model.specs.sites.Demands.{Visit, asking, calling, equating, iterating, making, visit_start};
 ghost use Rattle.isle_sets.specs.SiteTables.{HasSources};
 ghost use Rattle.isle_sets.specs.SiteViews.{constraint_view, site_view};
 ghost use Rattle.isle_sets.specs.VisitedSites.{EndsBefore, GoesTo, Makes, StandsAt, built_sites, conflict_beside, conflict_view};
@@ -42,6 +42,20 @@ impl Drop for RuleSetBuilder {
 }
 
 impl RuleSetBuilder {
+    /// Before the first rule of a term: no sites, and nothing demanded.
+    pub fn new(alloc: Global) -> RuleSetBuilder
+        ensures { StandsAt [] result visit_start }
+    {
+        RuleSetBuilder {
+            alloc,
+            table: SiteTable::new(alloc),
+            demanded: Demanded::new(alloc),
+            conflicts: Vec::new(alloc),
+            iterators: StableSet::new(alloc),
+            impure: Vec::new(alloc),
+        }
+    }
+
     // The site of a binding, a new one where it has none.
     pub(crate) fn make(&mut self, binding: Binding) -> Result<BindingId, VisitFault>
         ensures made { (before : List SiteTerm) (v : Visit) → StandsAt before self.old v → HasSources (built_sites self.old) (site_view binding)

@@ -3,7 +3,7 @@ use Rattle.isle_model.specs.sites.Sites.{each_term, constructor_site, constructo
 use Rattle.isle_model.specs.sites.Demands.{call_result, calling, making, visit_call, where_multi}
 use Rattle.isle_sets.specs.SiteTables.{HasSources}
 use Rattle.isle_sets.specs.VisitedSites.{EndsBefore, GoesTo, MakesValue, built_sites, value_sites}
-use Rattle.isle_sets.proofs.BuilderCalls.{Valued', Over, below_all, call_valued, made_ends, value_ends}
+use Rattle.isle_sets.proofs.BuilderCalls.{WithValue, Over, below_all, call_valued, made_ends, value_ends}
 use Rattle.isle_sets.proofs.FullTables.{passed_on}
 use Rattle.isle_sets.proofs.VisitedPatterns.{site_stays}
 use Rattle.isle_sets.proofs.ruleset_builder.RuleSetBuilder.construct.Goals as goal
@@ -59,8 +59,8 @@ returns-clause-constructed c before v flags h all pure partial multi =
     let n = c.in_ok-value.value in
     let m = c.in_ok-call.ensures.made before v h below in
     let w = subst (λ u. MakesValue before a b flags u (making (call ∷ []) v) n) m.site.number (c.in_ok-value.ensures.made before (making (call ∷ []) v) flags m.goes.stands m.site.within partial multi) in
-    let at = site_stays before a b (Valued' flags call v) call s w.goes m.site in
-    let over = subst (λ u. GoesTo before b d (where_multi flags u (Valued' flags call v))) at.number (c.in_ok-go_over.ensures.gone_over before (Valued' flags call v) flags w.goes.stands at.within multi) in
+    let at = site_stays before a b (WithValue flags call v) call s w.goes m.site in
+    let over = subst (λ u. GoesTo before b d (where_multi flags u (WithValue flags call v))) at.number (c.in_ok-go_over.ensures.gone_over before (WithValue flags call v) flags w.goes.stands at.within multi) in
     let value = site_stays before b d (Over flags call v) (call_result flags call) n over w.site in
     let called = subst (λ u. GoesTo before d last (if c.args.pure then Over flags call v else calling u (Over flags call v))) value.number
     (c.in_ok-note_call.ensures.called before (Over flags call v) over.stands value.within) in
