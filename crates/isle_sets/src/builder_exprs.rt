@@ -2,7 +2,7 @@
 ghost use Rattle.std.specs.Prelude.{◌≡◌, ◌<◌, ℕ, List, not, suc, length, map, All, IfErr, IfOk, OnOk, if◌then◌else◌};
 ghost use Rattle.isle_model.specs.lists.Tables.{Flags};
 ghost use Rattle.isle_model.specs.sites.Sites.{SiteTerm, bool_term, each_term, int_term, prim_term, struct_made, unfold_site, variant_made};
-ghost use Rattle.isle_model.specs.sites.Demands.{Visit, calling, making, visit_call, where_multi};
+ghost use Rattle.isle_model.specs.sites.Demands.{Visit, calling, finished, making, valued, visit_call, where_multi};
 ghost use Rattle.isle_rules.specs.VisitAnswers.{typed_inputs};
 ghost use Rattle.isle_sets.specs.SiteTables.{ForWantOfRoom};
 ghost use Rattle.isle_sets.specs.VisitedSites.{AreKnown, Constructs, EndsBefore, GivesValue, GoesTo, MakesValue, StandsAt, ValuesTo, built_sites, input_terms, value_made, value_sites};
@@ -71,6 +71,24 @@ impl RuleSetBuilder {
             self.call(site)?;
         }
         Ok(())
+    }
+
+    // The result of a rule, as one that is there where the term is partial.
+    pub(crate) fn finish(
+        &mut self,
+        value: BindingId,
+        partial: bool,
+    ) -> Result<BindingId, VisitFault>
+        ensures finished { (before : List SiteTerm) (v : Visit) → StandsAt before self.old v → value < length (built_sites self.old)
+            → IfOk result (ValuesTo before self.old self.new (finished partial (valued (unfold_site (built_sites self.old) value) v))) }
+        ensures full { (before : List SiteTerm) (v : Visit) → StandsAt before self.old v → value < length (built_sites self.old)
+            → IfErr result (EndsBefore before self.new (finished partial (valued (unfold_site (built_sites self.old) value) v)).visit) }
+    {
+        if partial {
+            self.make(Binding::MakeSome { inner: value })
+        } else {
+            Ok(value)
+        }
     }
 
     // A constructor is called with these values: the value that it gives.

@@ -2,7 +2,9 @@
 ghost use Rattle.std.specs.Prelude.{◌≡◌, ◌<◌, ℕ, List, [], ◌∷◌, ◌++◌, length, map, IfErr, IfOk, OnOk};
 ghost use Rattle.isle_model.specs.sites.Sites.{SiteTerm, layer, unfold_site};
 ghost use Rattle.isle_model.specs.sites.Demands.{Visit, asking, calling, equating, iterating, making, visit_start};
-ghost use Rattle.isle_sets.specs.SiteTables.{HasSources};
+ghost use Rattle.isle_sets.specs.SiteTables.{ForWantOfRoom, HasSources, IsTable};
+ghost use Rattle.isle_model.specs.sites.Closure.{before_closing, closing, most_closing_steps};
+ghost use Rattle.isle_sets.specs.Closings.{EndsFull, GoOn};
 ghost use Rattle.isle_sets.specs.SiteViews.{constraint_view, site_view};
 ghost use Rattle.isle_sets.specs.VisitedSites.{EndsBefore, GoesTo, Makes, StandsAt, built_sites, conflict_beside, conflict_view};
 
@@ -54,6 +56,18 @@ impl RuleSetBuilder {
             iterators: StableSet::new(alloc),
             impure: Vec::new(alloc),
         }
+    }
+
+    // Closes the demands of the rule, once it is visited.
+    pub(crate) fn close(&mut self) -> Result<(), VisitFault>
+        requires { (before : List SiteTerm) × (v : Visit) × StandsAt before self.old v }
+        ensures closed { (before : List SiteTerm) (v : Visit) → StandsAt before self.old v
+            → OnOk result (IsTable self.new.table × GoOn (built_sites self.old) (built_sites self.new) self.new.demanded (closing most_closing_steps (before_closing before v.demands))) }
+        ensures full { (before : List SiteTerm) (v : Visit) → StandsAt before self.old v
+            → IfErr result (EndsFull (built_sites self.new) (closing most_closing_steps (before_closing before v.demands))) }
+        ensures kept { IfErr result (ForWantOfRoom (IsTable self.new.table)) }
+    {
+        self.demanded.close(self.alloc, &mut self.table)
     }
 
     // The site of a binding, a new one where it has none.
