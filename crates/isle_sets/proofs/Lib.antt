@@ -6,6 +6,7 @@ pub mod ClosingTaken
 pub mod DueKept
 pub mod Equated
 pub mod FieldSites
+pub mod FittingPatterns
 pub mod FoundSites
 pub mod FullTables
 pub mod SameBindings

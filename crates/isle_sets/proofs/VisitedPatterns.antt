@@ -80,7 +80,7 @@ knows_more s vs v x n u site knows y m e =
     ]
 
 -- 2. patterns whose terms are there, with as many parts as arguments
-abbrev FitsTerm : ℕ → ℕ → Option TermEntry → Type 0
+abbrev pub FitsTerm : ℕ → ℕ → Option TermEntry → Type 0
 FitsTerm ty n None = ⊥
 FitsTerm ty n (Some e) = (e.ret_ty ≡ ty) × (length e.arg_tys ≡ n)
 
