@@ -1,5 +1,5 @@
 -- Built sets, their errors and what is found in them.
-use Rattle.std.proofs.Common.{◌≡◌, ℕ, Bool, List, [], ◌∷◌, ◌++◌, map, slice_get, Some, None, refl, sym, ap, ◌∙◌}
+use Rattle.std.proofs.Common.{◌≡◌, ℕ, Bool, List, [], ◌++◌, slice_get, Some, None, sym, ap, ◌∙◌}
 use Rattle.std.proofs.lemmas.List.{map-append}
 use Rattle.isle_model.specs.rules.Program.{Program, kind_of, flags_of, unknown, is_multi}
 use Rattle.isle_model.specs.lists.Tables.{TermEntry}
