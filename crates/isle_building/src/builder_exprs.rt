@@ -1,5 +1,5 @@
 //! What the calls of an expression's visit make of sites.
-ghost use Rattle.std.specs.Prelude.{◌≡◌, ◌<◌, ℕ, List, not, suc, length, map, All, IfErr, IfOk, OnOk, if◌then◌else◌};
+ghost use Rattle.std.specs.Prelude.{◌≡◌, ◌<◌, List, not, suc, length, map, All, IfErr, IfOk, OnOk, if◌then◌else◌};
 ghost use Rattle.isle_model.specs.lists.Tables.{Flags};
 ghost use Rattle.isle_model.specs.sites.Sites.{SiteTerm, bool_term, each_term, int_term, prim_term, struct_made, unfold_site, variant_made};
 ghost use Rattle.isle_model.specs.sites.Demands.{Visit, calling, finished, making, valued, visit_call, where_multi};

@@ -1,5 +1,5 @@
 //! What the calls of a pattern's visit make of sites, and ask of them.
-ghost use Rattle.std.specs.Prelude.{◌≡◌, ◌<◌, ℕ, List, length, vec_len, IfErr, IfOk};
+ghost use Rattle.std.specs.Prelude.{◌≡◌, ◌<◌, List, length, vec_len, IfErr, IfOk};
 ghost use Rattle.isle_base.specs.declared.syntax.Limit.TheVariants as Limits;
 ghost use Rattle.isle_model.specs.lists.Tables.{Flags};
 ghost use Rattle.isle_model.specs.rules.Typed.{TypedPatterns, no_typed_pattern};

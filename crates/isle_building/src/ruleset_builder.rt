@@ -1,5 +1,5 @@
 //! Rules as they are read into the rule set of their term: sites, and what each rule demands of them.
-ghost use Rattle.std.specs.Prelude.{◌≡◌, ◌<◌, ℕ, List, [], ◌∷◌, ◌++◌, length, map, IfErr, IfOk, OnOk};
+ghost use Rattle.std.specs.Prelude.{◌≡◌, ◌<◌, List, [], ◌∷◌, ◌++◌, length, map, IfErr, IfOk, OnOk};
 ghost use Rattle.isle_model.specs.sites.Sites.{SiteTerm, layer, unfold_site};
 ghost use Rattle.isle_model.specs.sites.Demands.{Visit, asking, calling, equating, iterating, making, visit_start};
 ghost use Rattle.isle_sets.specs.SiteTables.{ForWantOfRoom, HasSources, IsTable};

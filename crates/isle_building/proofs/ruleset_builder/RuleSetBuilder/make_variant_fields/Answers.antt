@@ -1,4 +1,4 @@
-use Rattle.std.proofs.Common.{◌≡◌, ◌<◌, ℕ, [], ap, subst, sym, arith}
+use Rattle.std.proofs.Common.{◌≡◌, ◌<◌, ℕ, [], ap₂, subst, sym, arith}
 use Rattle.std.specs.Prelude.{length}
 use Rattle.isle_model.specs.sites.Sites.{SiteTerm, variant_field, match_variant_site, unfold_site}
 use Rattle.isle_model.specs.sites.Demands.{making}
@@ -26,7 +26,7 @@ loop-place-preserved c = record {
       let below : HasSources (built_sites now) (match_variant_site c.args.source c.args.variant.0 c.loop-place.place) = λ x j. subst (λ k. k < length (built_sites now)) (in_alone c.args.source x j) (omega (arith, l, longer)) in
       let one = c.in_ok-id.ensures.made before (making (fields_from f 0 i) v) m.goes.stands below in
       subst (λ us. MakesAll before old c.make.new.self v us c.push.new.self.items) (field_more_of f i)
-      (one_made before old now c.make.new.self v (fields_from f 0 i) c.loop-place.ids.items c.push.new.self.items _ (f i) c.in_ok-id.id m one (ap (λ u. variant_field u c.args.variant.0 i) (m.goes.kept c.args.source l)) c.in_ok-push.ensures.items);
+      (one_made before old now c.make.new.self v (fields_from f 0 i) c.loop-place.ids.items c.push.new.self.items _ (f i) c.in_ok-id.id m one (ap₂ (λ u k. variant_field u c.args.variant.0 k) (m.goes.kept c.args.source l) c.from-field.ensures) c.in_ok-push.ensures.items);
 }
 
 pub returns-in_err-id-clause-full : goal.returns-in_err-id-clause-full
@@ -41,7 +41,7 @@ returns-in_err-id-clause-full c before v h l =
     let within : i < c.args.fields = omega arith in
     let e = c.in_err-id.field-0.0 in
     passed_on c.from_residual.result e (EndsBefore before c.make.new.self (making (fields_from f 0 c.args.fields) v)) c.from_residual.ensures
-    (field_ends before c.make.new.self v f _ i c.args.fields e within (ap (λ u. variant_field u c.args.variant.0 i) (m.goes.kept c.args.source l)) (c.in_err-id.ensures.full before (making (fields_from f 0 i) v) m.goes.stands below))
+    (field_ends before c.make.new.self v f _ i c.args.fields e within (ap₂ (λ u k. variant_field u c.args.variant.0 k) (m.goes.kept c.args.source l) c.from-field.ensures) (c.in_err-id.ensures.full before (making (fields_from f 0 i) v) m.goes.stands below))
 
 pub returns-clause-made : goal.returns-clause-made
 returns-clause-made c before v h l =
