@@ -1,5 +1,5 @@
 //! The binding sites of a term, as its rules are read.
-ghost use Rattle.std.specs.Prelude.{◌≡◌, ◌<◌, ℕ, List, [], ◌∷◌, length, map, IfErr, IfOk, OnOk};
+ghost use Rattle.std.specs.Prelude.{◌≡◌, ◌<◌, [], length, map, IfErr, IfOk, OnOk};
 ghost use Rattle.isle_model.specs.sites.Sites.{extract_struct_site, match_variant_site, layer, unfold_site};
 ghost use Rattle.isle_model.specs.sites.Closure.{field_terms};
 ghost use Rattle.isle_model.specs.sites.SetRules.{each_place};
