@@ -53,29 +53,9 @@ no_return cs {t} (all_end f) c =
 pub within_all : (table : TermTable) (cs : Callees) → AreCallees table cs → AreWithin cs
 within_all table cs c t u h = subst (λ n. u < n) (sym c.count) (c.within t u h)
 
-on_is : (root : ℕ) (m : Mark) → is_on root m ≡ true → (by : TermId) × (m ≡ Met by) × (by.0 ≡ root)
-on_is root Unmet h = absurd (false≢true h)
-on_is root (Met by) h = (by, refl, eqb-true by.0 root h)
-on_is root Ends h = absurd (false≢true h)
-
-mapped_some : {X Y : Type 0} (f : X → Y) (o : Option X) (y : Y) → option_map f o ≡ Some y → (x : X) × (o ≡ Some x) × (f x ≡ y)
-mapped_some f None y h = absurd (cc)
-mapped_some f (Some x) y h = (x, refl, same_Some (f x) y h)
-
-pub no_path : (cs : Callees) (root u : ℕ) (ms : List Mark) → AreMarks cs root ms → LeadsTo cs root ms u
-no_path cs root u ms m t on =
-    let a = mapped_some (is_on root) (slice_get ms t) true (sym (slice_get-map (is_on root) ms t) ∙ on) in
-    let b = on_is root a.0 a.2 in
-    let l = m.roots_below t b.0 (a.1 ∙ ap Some b.1) in
-    let same = b.2 in
-    absurd (omega (arith, l, same))
-
--- the last term of a way back names a term
-pub last_calls : (cs : Callees) (path : List TermId) (r : TermId) → slice_get path 0 ≡ Some r → IsWayBack cs path → (u : ℕ) × Contains (callees_of cs r.0) u
-last_calls cs path r h w =
-    let same : w.last ≡ r = same_Some w.last r (sym w.first ∙ h) in
-    let c = first_call cs (subst (λ (k : TermId). Comes cs k.0 k.0) same w.comes) in
-    (c.0, c.1)
+-- a term that comes to itself names a term
+pub back_calls : (cs : Callees) {t : ℕ} → Comes cs t t → (u : ℕ) × Contains (callees_of cs t) u
+back_calls cs c = let r = first_call cs c in (r.0, r.1)
 
 -- one more root
 pub next_root_ends : (table : TermTable) (cs : Callees) (n : ℕ) (first es es' : List Error) → Notes es es' (HaveTemplates table cs → HasEnd cs n) (ComesBack cs) → Notes first es (EndsBelow table cs n) (ComesBack cs) → Notes first es' (EndsBelow table cs (n + 1)) (ComesBack cs)
@@ -208,16 +188,6 @@ searched e readable defs cs env table es es' b a s =
     })
     (λ h back v. back_cyclic e defs cs h.1.right h.1.calls back v.acyclic) s
 
--- a part that was lent whole, when it is back
-pub back_whole : {X : Type 0} (new old : List X) (n : ℕ) → length new ≡ length old → n ≡ length old → take n (new ++ drop (length new) old) ≡ new
-back_whole new old n same size =
-    let none : drop (length new) old ≡ [] = at_drop_all (λ l. l) old (length new) (omega (arith, same)) in
-    ap (λ l. take n (new ++ l)) none ∙ ap (take n) (append-nil new) ∙ take_all n new (omega (arith, same, size))
-
 pub no_some : {X : Type 0} (o : Option X) → ((x : X) → o ≡ Some x → ⊥) → is_some o ≡ true → ⊥
 no_some None h e = false≢true e
 no_some (Some x) h e = h x refl
-
--- the last term of a way back is a term
-pub last_within : (cs : Callees) (path : List TermId) (r : TermId) → slice_get path 0 ≡ Some r → IsWayBack cs path → r.0 < length cs
-last_within cs path r h w = All-contains (λ (t : TermId). t.0 < length cs) path r w.within (member_from_get path 0 r h)
