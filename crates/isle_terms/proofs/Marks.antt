@@ -1,23 +1,22 @@
 -- The steps of the search for recursion among templates.
-use Rattle.std.proofs.Common.{◌≡◌, ◌≢◌, ◌==◌, ℕ, zero, suc, ◌+◌, ◌-◌, ◌<◌, ◌≤◌, Bool, true, false, List, [], ◌∷◌, ◌++◌, ◌⊎◌, length, get_or, map, take, replicate, slice_get, MatchOption, Option, None, Some, option_map, unwrap_or, All, Contains, Vec, refl, sym, ap, subst, ◌∙◌, eqb-true, arith, inl, inr, ⊎_elim}
+use Rattle.std.proofs.Common.{◌≡◌, ◌≢◌, ℕ, zero, suc, ◌+◌, ◌-◌, ◌<◌, ◌≤◌, true, false, List, [], ◌∷◌, ◌++◌, ◌⊎◌, length, get_or, map, take, slice_get, MatchOption, Option, None, Some, option_map, unwrap_or, All, Contains, Vec, refl, sym, ap, subst, ◌∙◌, eqb-true, arith, inl, inr, ⊎_elim}
 use Rattle.std.specs.List.{sum_by}
 use Rattle.std.specs.Option.{IfSome}
 use Rattle.std.specs.declared.alloc.Global.{Global}
 use Rattle.std.proofs.Math.ListN.{set}
-use Rattle.std.proofs.Math.Seq.{take-suc}
 use Rattle.std.proofs.lemmas.Bool.{false≢true}
 use Rattle.std.proofs.lemmas.Bool.Decides.{Decides-eqb}
 use Rattle.std.proofs.lemmas.List.{length-set, length_push, take_all}
-use Rattle.std.proofs.lemmas.List.Elements.{All-cons, All-nil, All-push, All-contains, All-take, Contains-append_cases, Contains-push_cases}
+use Rattle.std.proofs.lemmas.List.Elements.{All-cons, All-nil, All-push, All-contains, All-take, Contains-push_cases}
 use Rattle.std.proofs.lemmas.List.Sums.{sum_by-set}
-use Rattle.std.proofs.lemmas.Option.{same_Some, slice_get-map, slice_get-get_or, slice_get_within, get_or_from_slice_get}
-use Rattle.isle_model.proofs.Members.{in_alone, in_cases, in_head, in_map, in_tail, member_from_get}
+use Rattle.std.proofs.lemmas.Option.{same_Some, slice_get-map, slice_get-get_or, slice_get_within}
+use Rattle.isle_model.proofs.Members.{in_alone, in_cases, in_head, in_tail, member_from_get}
 use Rattle.isle_types.specs.declared.ids.TermId.{TermId}
 use Rattle.isle_terms.specs.declared.reading.recursion.Mark.{Mark}
 use Rattle.isle_terms.specs.declared.reading.recursion.Mark.TheVariants.{Unmet, Met, Ends}
 use Rattle.isle_terms.specs.declared.reading.recursion.Search.{Search}
 use Rattle.isle_terms.specs.Templating.{callees_of}
-use Rattle.isle_terms.specs.Recursion.{all_end, AreEnded, AreFindings, AreMarks, AreWithin, Comes, by_one, by_more, Enters, GoesOn, HasEnd, IsAtStart, IsChain, IsEnd, IsOnWay, IsWayBack, is_end, is_on, on_path, steps_left, steps_of, uses_left}
+use Rattle.isle_terms.specs.Recursion.{all_end, AreEnded, AreFindings, AreMarks, AreWithin, Comes, by_one, by_more, Enters, GoesOn, HasEnd, IsChain, IsOnWay, IsWayBack, is_end, is_on, on_path, steps_left, steps_of, uses_left}
 
 abbrev Callees : Type 0
 Callees = List (Vec TermId Global)
@@ -38,15 +37,6 @@ set_at : {X : Type 0} (xs : List X) (t : ℕ) (x : X) → t < length xs → slic
 set_at [] t x h = absurd (omega (arith, h))
 set_at (y ∷ ys) zero x h = refl
 set_at (y ∷ ys) (suc t) x h = set_at ys t x (omega (arith, h))
-
-in_copies : {X : Type 0} (n t : ℕ) (x y : X) → slice_get (replicate n x) t ≡ Some y → x ≡ y
-in_copies zero t x y h = absurd (cc)
-in_copies (suc n) zero x y h = same_Some x y h
-in_copies (suc n) (suc t) x y h = in_copies n t x y h
-
-copies : {X : Type 0} (n : ℕ) (x : X) → length (replicate n x) ≡ n
-copies zero x = refl
-copies (suc n) x = ap suc (copies n x)
 
 get_at : {X : Type 0} (xs : List X) (t : ℕ) (x : X) → t < length xs → x ≡ get_or xs t x → slice_get xs t ≡ Some x
 get_at xs t x within here = slice_get-get_or xs t x within ∙ ap Some (sym here)
@@ -228,28 +218,7 @@ ended_marks cs n ms t end marks = record { count = length-set ms t Ends ∙ mark
           | inr p ↦ marks.roots_below u by p.1
         ]
 
--- nothing is known at first
-pub start_findings : (cs : Callees) (s : Search) → IsAtStart (length cs) s → AreFindings cs 0 s
-start_findings cs s a = record {
-  marks = record {
-    count = ap length a.marks ∙ copies (length cs) Unmet;
-    ends = λ t h. (let other : Unmet ≡ Ends = in_copies (length cs) t Unmet Ends (ap (λ l. slice_get l t) (sym a.marks) ∙ h) in absurd (cc));
-    roots_below = λ t by h. (let other : Unmet ≡ Met by = in_copies (length cs) t Unmet (Met by) (ap (λ l. slice_get l t) (sym a.marks) ∙ h) in absurd (cc));
-  };
-  ended = record {
-    count = ap length a.ended ∙ copies (length cs) 0;
-    ends = λ t n u h c. (let none : 0 ≡ n = in_copies (length cs) t 0 n (ap (λ l. slice_get l t) (sym a.ended) ∙ h) in absurd (All-contains (λ _. ⊥) [] u (All-nil (λ _. ⊥)) (subst (λ k. Contains (take k (callees_of cs t)) u) (sym none) c)));
-  };
-}
-
 module _ (cs : Callees) (root : TermId) (s : Search) (findings : AreFindings cs root.0 s) (there : root.0 < length cs) where
-  -- the root is known to end already
-  pub ended_root : is_end (get_or s.marks.items root.0 Unmet) ≡ true → IsEnd cs root s
-  ended_root e = record {
-    findings = findings_wider cs root.0 s findings;
-    ends = findings.marks.ends root.0 (slice_get-get_or s.marks.items root.0 Unmet (subst (λ n. root.0 < n) (sym findings.marks.count) there) ∙ ap Some (end_is (get_or s.marks.items root.0 Unmet) e));
-  }
-
   no_mark : (t : ℕ) (m : Mark) → slice_get s.marks.items t ≡ Some m → is_on root.0 m ≡ true → ⊥
   no_mark t m h on =
       let b = on_is root.0 m on in
@@ -283,15 +252,6 @@ module _ (cs : Callees) (root : TermId) (s : Search) (findings : AreFindings cs 
             | inl p ↦ subst (λ (l : List TermId). Contains (map (λ u. u.0) l) t) (sym path_is) (subst (λ k. Contains (root.0 ∷ []) k) (sym p.0) (in_head root.0 []))
             | inr p ↦ absurd (no_mark t m.0 p.1 m.2)
           ]
-
--- the path is empty
-pub comes_to_end : (cs : Callees) (root : TermId) (s : Search) → IsOnWay cs root s → slice_get s.path.items (length s.path.items - 1) ≡ None → IsEnd cs root s
-comes_to_end cs root s way none =
-    record { findings = way.findings; ends = ⊎_elim (λ h. absurd (not_first s.path.items none h)) (λ e. e) way.begins }
-  where
-    not_first : (ts : List TermId) → slice_get ts (length ts - 1) ≡ None → slice_get ts 0 ≡ Some root → ⊥
-    not_first [] n h = cc
-    not_first (t ∷ ts) n h = let l = past_all (t ∷ ts) (length (t ∷ ts) - 1) n in omega (arith, l)
 
 -- one step from the last term of the path
 module _ (cs : Callees) (root : TermId) (s : Search) (way : IsOnWay cs root s) (t : TermId) (last : slice_get s.path.items (length s.path.items - 1) ≡ Some t) where
@@ -357,9 +317,9 @@ module _ (cs : Callees) (root : TermId) (s : Search) (way : IsOnWay cs root s) (
         begins_left =
             ⊎_elim
             (λ h. ⊎_elim
-                (λ f. inl (ap (λ l. slice_get l 0) path_left ∙ f))
-                (λ (e : t ≡ root). inr (subst (λ (r : TermId). HasEnd cs r.0) e last_ends))
-                (first_left before root t (ap (λ l. slice_get l 0) (sym path_is) ∙ h)))
+            (λ f. inl (ap (λ l. slice_get l 0) path_left ∙ f))
+            (λ (e : t ≡ root). inr (subst (λ (r : TermId). HasEnd cs r.0) e last_ends))
+            (first_left before root t (ap (λ l. slice_get l 0) (sym path_is) ∙ h)))
             (λ e. inr e) way.begins
 
         fewer : steps_left cs root s' < steps_left cs root s
@@ -491,9 +451,5 @@ module _ (cs : Callees) (root : TermId) (s : Search) (way : IsOnWay cs root s) (
               omega (arith, walks, walks', two, no_more, uses, longer)
 
 -- what is said of an answer, by its case
-pub said_of_none : {X : Type 0} (o : Option X) (A : Type 0) (B : X → Type 0) → ((x : X) → o ≡ Some x → ⊥) → MatchOption o A B → A
-said_of_none None A B h m = m
-said_of_none (Some x) A B h m = absurd (h x refl)
-
 pub said_of_some : {X : Type 0} (o : Option X) (A : Type 0) (B : X → Type 0) (x : X) → o ≡ Some x → MatchOption o A B → B x
 said_of_some {X} o A B x e m = let P : Option X → Type 0 = λ p. MatchOption p A B in subst P e m

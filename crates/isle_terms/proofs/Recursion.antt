@@ -1,33 +1,30 @@
 -- What the search for recursion among templates says of a list of definitions.
-use Rattle.std.proofs.Common.{◌≡◌, ◌==◌, ℕ, zero, suc, ◌+◌, ◌<◌, Bool, true, false, cond, List, [], ◌∷◌, ◌++◌, ◌⊎◌, length, take, drop, slice_get, Option, None, Some, is_some, option_map, Contains, Vec, refl, sym, ap, subst, ◌∙◌, eqb-true, arith, inl, inr, ⊎_elim}
+use Rattle.std.proofs.Common.{◌≡◌, ◌==◌, ℕ, zero, suc, ◌+◌, ◌<◌, Bool, true, false, cond, List, [], ◌∷◌, ◌⊎◌, length, slice_get, Option, None, Some, is_some, option_map, Contains, Vec, refl, sym, ap, subst, ◌∙◌, eqb-true, arith, inl, inr, ⊎_elim}
 use Rattle.std.specs.List.{find, filter_map, flat_map}
 use Rattle.std.specs.Str.{bytes_eq}
 use Rattle.std.specs.declared.alloc.Global.{Global}
 use Rattle.std.proofs.lemmas.Bool.{false≢true}
 use Rattle.std.proofs.lemmas.Bool.Decides.{Decides-eqb}
-use Rattle.std.proofs.lemmas.List.{append-nil, at_drop_all, take_all}
 use Rattle.std.proofs.lemmas.List.Elements.{All-nil, All-contains}
-use Rattle.std.proofs.lemmas.Option.{same_Some, slice_get-map}
+use Rattle.std.proofs.lemmas.Option.{same_Some}
 use Rattle.isle_model.specs.lists.Syntax.{Name, ExtractorTree, Definition}
 use Rattle.isle_model.specs.lists.Tables.{ConstructorEntry, ExtractorEntry, internal_extractor, TermEntry}
 use Rattle.isle_model.specs.lists.TermTable.{decl_names, rule_trees, extractor_trees, extractor_template, terms_in, term_names, term_named, made_by, IsDeclaredTerm, IsKnownTerm, NamesKnownTerms, Uses, Reaches, directly, through, IsAcyclic}
 use Rattle.isle_model.specs.claims.Environments.{TypesRead, AreReadable, IsLeftByRefusal}
 use Rattle.isle_model.proofs.Bytes.{same_self}
-use Rattle.isle_model.proofs.Members.{in_cases, in_map, from_map, member_from_get}
+use Rattle.isle_model.proofs.Members.{in_cases, in_map, from_map}
 use Rattle.isle_base.specs.declared.syntax.Error.{Error}
 use Rattle.isle_types.specs.declared.ids.TermId.{TermId}
 use Rattle.isle_types.specs.declared.type_env.TypeEnv.{TypeEnv}
 use Rattle.isle_types.specs.Envs.{IsInterned}
 use Rattle.isle_types.specs.EnvViews.{environment_view}
 use Rattle.isle_terms.specs.declared.term_table.TermTable.{TermTable}
-use Rattle.isle_terms.specs.declared.reading.recursion.Mark.{Mark}
-use Rattle.isle_terms.specs.declared.reading.recursion.Mark.TheVariants.{Unmet, Met, Ends}
 use Rattle.isle_terms.specs.Reading.{term_of_name}
 use Rattle.isle_terms.specs.Stages.{constructor_after}
 use Rattle.isle_terms.specs.Signing.{Notes, ReadsTerms}
 use Rattle.isle_terms.specs.Converting.{template_after}
 use Rattle.isle_terms.specs.Templating.{callees_of, AreCallees, AreRightExtractors, CallsAreOf, TemplatesRead}
-use Rattle.isle_terms.specs.Recursion.{all_end, AreMarks, AreWithin, by_one, by_more, Comes, ComesBack, EndsBelow, ExtractorsRead, HasEnd, HaveTemplates, IsWayBack, LeadsTo, has_template, is_on, is_template}
+use Rattle.isle_terms.specs.Recursion.{all_end, AreWithin, by_one, by_more, Comes, ComesBack, EndsBelow, ExtractorsRead, HasEnd, HaveTemplates, has_template, is_template}
 use Rattle.isle_terms.proofs.Noting.{both_note, notes_as, step}
 use Rattle.isle_terms.proofs.Standing.{entry_found, no_place, term_is}
 use Rattle.isle_terms.proofs.TemplateSteps.{one_name}

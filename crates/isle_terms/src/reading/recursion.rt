@@ -120,11 +120,7 @@ impl Search {
 
     // Searches from a root. The answer is the first term that comes back to itself, if there is one: the path
     // leads to it then.
-    fn walk(
-        &mut self,
-        callees: &[Vec<TermId>],
-        root: TermId,
-    ) -> Result<Option<TermId>, AllocError>
+    fn walk(&mut self, callees: &[Vec<TermId>], root: TermId) -> Result<Option<TermId>, AllocError>
         requires within { AreWithin callees.now }
         requires there { root.0 < length callees.now }
         requires findings { AreFindings callees.now root.0 self.old }

@@ -1,3 +1,6 @@
+use Rattle.std.proofs.Common.{◌≡◌, length, subst, arith}
+use Rattle.isle_terms.specs.Signing.{Notes}
+use Rattle.isle_terms.specs.Recursion.{ComesBack, EndsBelow}
 use Rattle.isle_terms.proofs.Recursion.{next_root_ends}
 use Rattle.isle_terms.proofs.term_table.TermTable.check_recursion.Goals as goal
 
@@ -7,3 +10,9 @@ loop-id-preserved c =
       a.findings,
       next_root_ends c.args.self.now c.args.callees.now c.loop-id.id c.args.errors.now.items c.loop-id.errors.items c.check_root.new.errors.items a.notes c.loop-id.invariant.1,
     )
+
+pub returns : goal.returns
+returns c =
+    let cs = c.args.callees.now in
+    let all : c.loop-id.id ≡ length cs = omega (arith, c.loop-id-test.false, c.loop-id.auto.id-end) in
+    subst (λ n. Notes c.args.errors.now.items c.loop-id.errors.items (EndsBelow c.args.self.now cs n) (ComesBack cs)) all c.loop-id.invariant.1

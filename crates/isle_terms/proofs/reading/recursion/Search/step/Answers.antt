@@ -1,4 +1,4 @@
-use Rattle.std.proofs.Common.{◌≡◌, ◌+◌, ◌-◌, Some, get_or, length, option_map, slice_get, take, Fits, w64, refl, sym, ap, subst, ◌∙◌, arith, rules}
+use Rattle.std.proofs.Common.{◌≡◌, ◌+◌, ◌-◌, Some, get_or, length, option_map, slice_get, take, refl, sym, ap, subst, ◌∙◌, arith, rules}
 use Rattle.std.proofs.Math.ListN.{set}
 use Rattle.std.specs.Vec.{vec_len}
 use Rattle.isle_terms.specs.Templating.{callees_of}
@@ -35,7 +35,8 @@ overflow_add-index_mut c =
     let t = c.args.last in
     let n = c.index_mut-then-ends.result.now in
     let same : n ≡ get_or s.ended.items t.0 0 = count_is c.args.callees.now c.args.root s c.requires.way t c.requires.last n (c.index_mut-then-ends.ensures.value ∙ ap (λ k. get_or s.ended.items k n) c.index-then-ends.ensures) in
-    subst (λ k. Fits w64 (k + 1)) (sym same) c.in-Some.ensures.countable
+    let countable = c.in-Some.ensures.countable in
+    omega (arith, same, countable)
 
 pub returns-then-ends : goal.returns-then-ends
 returns-then-ends c =
