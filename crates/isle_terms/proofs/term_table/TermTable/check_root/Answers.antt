@@ -1,4 +1,4 @@
-use Rattle.std.proofs.Common.{◌≡◌, ◌<◌, get_or, length, refl, sym, ap, subst, ◌∙◌, inl}
+use Rattle.std.proofs.Common.{◌≡◌, ◌<◌, get_or, length, refl, ap, subst, ◌∙◌, inl}
 use Rattle.isle_terms.specs.Recursion.{IsWayBack}
 use Rattle.isle_terms.specs.TermViews.{term_view}
 use Rattle.isle_terms.proofs.Changing.{view_at}

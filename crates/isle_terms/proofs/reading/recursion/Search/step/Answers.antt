@@ -1,9 +1,9 @@
-use Rattle.std.proofs.Common.{◌≡◌, ◌+◌, ◌-◌, Some, get_or, length, option_map, slice_get, take, refl, sym, ap, subst, ◌∙◌, arith, rules}
+use Rattle.std.proofs.Common.{◌≡◌, ◌+◌, ◌-◌, Some, get_or, length, option_map, slice_get, take, refl, sym, ap, ◌∙◌, arith, rules}
 use Rattle.std.proofs.Math.ListN.{set}
 use Rattle.std.specs.Vec.{vec_len}
 use Rattle.isle_terms.specs.Templating.{callees_of}
 use Rattle.isle_terms.specs.declared.reading.recursion.Mark.TheVariants.{Ends}
-use Rattle.isle_terms.proofs.Marks.{not_some, last_in_range, last_counted, callee_in_range, count_is, goes_back, passes, comes_back, goes_deeper}
+use Rattle.isle_terms.proofs.Marks.{not_some, last_counted, callee_in_range, count_is, goes_back, passes, comes_back, goes_deeper}
 use Rattle.isle_terms.proofs.reading.recursion.Search.step.Goals as goal
 
 pub returns-in_default : goal.returns-in_default
