@@ -38,3 +38,7 @@ pub mod ExprForms
 pub mod IfLetLists
 pub mod SidesForms
 pub mod RuleForms
+pub mod RuleEnds
+pub mod RuleListSteps
+pub mod NamesKept
+pub mod ConstructorLaws
