@@ -1,4 +1,5 @@
 pub mod AcceptedLists
+pub mod Chosen
 pub mod Expansions
 pub mod Extract
 pub mod ExtractLowered

@@ -1,5 +1,6 @@
 pub mod Below
 pub mod Between
+pub mod Chosen
 pub mod Conflict
 pub mod ConstEq
 pub mod Cycle

@@ -10,6 +10,7 @@ ghost use Rattle.isle_model.specs.rules.Outcome.{ended, failed, no_rule};
 ghost use Rattle.isle_model.specs.trees.Collects.{LeavesNoCallUnused};
 ghost use Rattle.isle_examples.specs.Below.{below_program, below_same, below_sample};
 ghost use Rattle.isle_examples.specs.Between.{between_sample};
+ghost use Rattle.isle_examples.specs.Chosen.{ExtractIsChosen, ExtractIsWithoutMulti};
 ghost use Rattle.isle_examples.specs.Conflict.{ConflictReported, conflict_defs, conflict_program, conflict_rule, conflict_rules};
 ghost use Rattle.isle_examples.specs.ConstEq.{ConstEqClosed, ConstEqDemands, const_eq_program, const_eq_rule, const_eq_sample};
 ghost use Rattle.isle_examples.specs.Cycle.{CycleTables, CyclesReported, cycle_rules, one_step_defs, one_step_program, one_step_rule, two_step_defs, two_step_program, two_step_rule};
@@ -707,4 +708,11 @@ pub fn variants_stand_at_their_ids()
 #[tactic(auto, using(crate::proofs::FoundSites::sites_are_found))]
 pub fn sites_are_found()
     ensures { SitesAreFound }
+{}
+
+/// The sample with an extractor uses no multi term: so no rule goes over calls, and its tree runs as the choice by priority.
+#[tactic(auto, using(crate::proofs::Chosen::extract_is_without_multi, crate::proofs::Chosen::extract_is_chosen))]
+pub fn extract_is_chosen()
+    ensures without_multi { ExtractIsWithoutMulti }
+    ensures chosen { ExtractIsChosen }
 {}
