@@ -26,6 +26,7 @@ pub mod Served
 pub mod SetStages
 pub mod TermLists
 pub mod TreeStages
+pub mod ToldApart
 pub mod TypeLists
 pub mod Unasked
 pub mod Unreached

@@ -39,6 +39,7 @@ pub mod Stages
 pub mod Surplus
 pub mod TermLists
 pub mod Ties
+pub mod ToldApart
 pub mod TypeLists
 pub mod TypedForms
 pub mod Unasked

@@ -47,6 +47,7 @@ ghost use Rattle.isle_examples.specs.Stages.{CanMatch, CantMatch, ClosingEndsOf,
 ghost use Rattle.isle_examples.specs.Surplus.{surplus_sample};
 ghost use Rattle.isle_examples.specs.TermLists.{Alone, Chained, Early, Infallible, OneFullName, Structs, Templates, refused_terms};
 ghost use Rattle.isle_examples.specs.Ties.{ties_sample};
+ghost use Rattle.isle_examples.specs.ToldApart.{MasksMatchToo, ShadowIsServed, ShadowIsTold, ThirdRulesAreToldApart};
 ghost use Rattle.isle_examples.specs.TypeLists.{ConstantTypes, ThreeTypes, TwoTypes, refused_types};
 ghost use Rattle.isle_examples.specs.Unasked.{UnaskedIsNotDemanded, unasked_defs, unasked_rules, unasked_sample, unasked_set};
 ghost use Rattle.isle_examples.specs.Unreached.{UnreachedCallsAreNotAsked, UnreachedDemands, UnreachedEnds, first_answers, one_im_of_one, unreached_program, unreached_sample};
@@ -715,4 +716,13 @@ pub fn sites_are_found()
 pub fn extract_is_chosen()
     ensures without_multi { ExtractIsWithoutMulti }
     ensures chosen { ExtractIsChosen }
+{}
+
+/// Of rules that don't overlap one alone matches, and where a shadowed rule matches, its mask does.
+#[tactic(auto, using(crate::proofs::ToldApart::third_rules_are_told_apart, crate::proofs::ToldApart::shadow_is_told, crate::proofs::ToldApart::shadow_is_served, crate::proofs::ToldApart::masks_match_too))]
+pub fn rules_are_told_apart()
+    ensures apart { ThirdRulesAreToldApart }
+    ensures shadow { ShadowIsTold }
+    ensures served { ShadowIsServed }
+    ensures masks { MasksMatchToo }
 {}
