@@ -18,6 +18,7 @@ pub mod Multi
 pub mod MultiCalls
 pub mod NearRefusals
 pub mod NoRules
+pub mod OneOrTwo
 pub mod PartialLowered
 pub mod PickedAnswers
 pub mod Refused
@@ -27,6 +28,7 @@ pub mod SetStages
 pub mod TermLists
 pub mod TreeStages
 pub mod ToldApart
+pub mod Tried
 pub mod TypeLists
 pub mod Unasked
 pub mod Unreached

@@ -26,6 +26,7 @@ pub mod NamedConstants
 pub mod NearRefusals
 pub mod Nested
 pub mod NoRules
+pub mod OneOrTwo
 pub mod Overlap
 pub mod Partial
 pub mod PickedAnswers
@@ -40,6 +41,7 @@ pub mod Surplus
 pub mod TermLists
 pub mod Ties
 pub mod ToldApart
+pub mod Tried
 pub mod TypeLists
 pub mod TypedForms
 pub mod Unasked
