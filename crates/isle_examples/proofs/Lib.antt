@@ -1,4 +1,5 @@
 pub mod AcceptedLists
+pub mod Chosen
 pub mod Expansions
 pub mod Extract
 pub mod ExtractLowered
@@ -17,6 +18,7 @@ pub mod Multi
 pub mod MultiCalls
 pub mod NearRefusals
 pub mod NoRules
+pub mod OneOrTwo
 pub mod PartialLowered
 pub mod PickedAnswers
 pub mod Refused
@@ -25,6 +27,8 @@ pub mod Served
 pub mod SetStages
 pub mod TermLists
 pub mod TreeStages
+pub mod ToldApart
+pub mod Tried
 pub mod TypeLists
 pub mod Unasked
 pub mod Unreached

@@ -2,7 +2,7 @@
 use Rattle.std.proofs.Common.{◌≡◌, ◌∷◌, [], ◌∙◌, ◌==◌, ℕ, pos, zero, suc, Bool, true, false, List, take, Option, Some, None, All, Contains, IsTrue, is_some, refl, sym, ap, subst, arith, ◌⊎◌, inl, inr, IsSomeAnd}
 use Rattle.std.specs.List.{list_all}
 use Rattle.std.proofs.lemmas.Bool.{false≢true}
-use Rattle.std.proofs.lemmas.List.Elements.{All-nil}
+use Rattle.std.proofs.lemmas.List.Elements.{All-contains, All-nil}
 use Rattle.std.proofs.lemmas.Option.{none-some, same_Some}
 use Rattle.isle_model.proofs.Members.{each_passes, in_alone, in_cases}
 use Rattle.isle_model.specs.rules.Matching.{matches}
@@ -204,3 +204,30 @@ third_served = (
     without_parts = λ r s name ty c d e. absurd (none-some ty (sym (no_constants third_program name refl) ∙ e));
   },
 )
+
+-- 7. rules without calls, and rules whose patterns name numbers alone, each of which is its own value
+abbrev no_call : SiteTerm → Bool
+no_call (extractor_call t s) = false
+no_call (constructor_call t ss i) = false
+no_call u = true
+
+pub serves_without_calls : (p : Program) (m : Meaning) (args : List Value) (rs : List TypedRule) → list_all (passes p m args rs no_call) (asked p rs) ≡ true
+    → list_all (λ r. list_all (passes p m args rs no_call) (demands_of p r).made) rs ≡ true → Serves p m args rs
+serves_without_calls p m args rs h g =
+    serves_from p m args rs no_call h g (λ k t s w c e. absurd (false≢true c)) (λ k t ss vs c e. absurd (false≢true c)) (λ k r t before ss i matched made c gave. absurd (false≢true c))
+
+abbrev pub IsOwnNumber : Meaning → SiteTerm → Type 0
+IsOwnNumber m a = (n : ℕ) × (a ≡ int_term (pos n) 1) × (literal_value m (int_literal (pos n) 1) ≡ Some (v (pos n)))
+
+own_number : (m : Meaning) (a : SiteTerm) (w : Value) (o : IsOwnNumber m a) → written_value m a ≡ Some w → a ≡ int_term (pos (number_in w)) 1
+own_number m a w o u =
+    let held : Some (v (pos o.0)) ≡ Some w = sym o.2 ∙ sym (ap (written_value m) o.1) ∙ u in
+    o.1 ∙ ap (λ n. int_term (pos n) 1) (ap number_in (same_Some (v (pos o.0)) w held))
+
+pub numbers_apart : (p : Program) (m : Meaning) (rs : List TypedRule) → All (IsOwnNumber m) (tested_constants p rs) → p.constants ≡ [] → TellsConstantsApart p m rs
+numbers_apart p m rs own g = record {
+  different = λ a b ty w c d s t u x.
+      own_number m a w (All-contains (IsOwnNumber m) (tested_constants p rs) a own c) u
+      ∙ sym (own_number m b w (All-contains (IsOwnNumber m) (tested_constants p rs) b own d) x);
+  without_parts = λ r s name ty c d e. absurd (none-some ty (sym (no_constants p name g) ∙ e));
+}

@@ -1,5 +1,6 @@
 pub mod Below
 pub mod Between
+pub mod Chosen
 pub mod Conflict
 pub mod ConstEq
 pub mod Cycle
@@ -25,6 +26,7 @@ pub mod NamedConstants
 pub mod NearRefusals
 pub mod Nested
 pub mod NoRules
+pub mod OneOrTwo
 pub mod Overlap
 pub mod Partial
 pub mod PickedAnswers
@@ -38,6 +40,8 @@ pub mod Stages
 pub mod Surplus
 pub mod TermLists
 pub mod Ties
+pub mod ToldApart
+pub mod Tried
 pub mod TypeLists
 pub mod TypedForms
 pub mod Unasked

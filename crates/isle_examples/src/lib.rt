@@ -10,6 +10,7 @@ ghost use Rattle.isle_model.specs.rules.Outcome.{ended, failed, no_rule};
 ghost use Rattle.isle_model.specs.trees.Collects.{LeavesNoCallUnused};
 ghost use Rattle.isle_examples.specs.Below.{below_program, below_same, below_sample};
 ghost use Rattle.isle_examples.specs.Between.{between_sample};
+ghost use Rattle.isle_examples.specs.Chosen.{ExtractIsChosen, ExtractIsWithoutMulti};
 ghost use Rattle.isle_examples.specs.Conflict.{ConflictReported, conflict_defs, conflict_program, conflict_rule, conflict_rules};
 ghost use Rattle.isle_examples.specs.ConstEq.{ConstEqClosed, ConstEqDemands, const_eq_program, const_eq_rule, const_eq_sample};
 ghost use Rattle.isle_examples.specs.Cycle.{CycleTables, CyclesReported, cycle_rules, one_step_defs, one_step_program, one_step_rule, two_step_defs, two_step_program, two_step_rule};
@@ -34,6 +35,7 @@ ghost use Rattle.isle_examples.specs.NamedConstants.{constants_defs, constants_r
 ghost use Rattle.isle_examples.specs.NearRefusals.{NoOverlapOfAcceptedRules, OnlyPassedLimitsAreNamed, TermsAreRefused};
 ghost use Rattle.isle_examples.specs.Nested.{NestedClosed, NestedTables, nested_defs, nested_program, nested_rule, nested_rules};
 ghost use Rattle.isle_examples.specs.NoRules.{BoundTwiceHasNone, ConverterHasNone, IfLetHasNone, LiteralHasNone, LiteralsAreNotConverted, MacroArgHasNone, MultiPriorityHasNone, PartialHasNone, converted_defs, converted_rules, iflet_defs, iflet_rules};
+ghost use Rattle.isle_examples.specs.OneOrTwo.{OneOrTwoHoldsOnce, OneOrTwoIsServed, one_or_two_sample};
 ghost use Rattle.isle_examples.specs.Overlap.{OverlapReported, OverlapsFound, TwoReports, overlap_defs, overlap_rules, three_defs, three_rules};
 ghost use Rattle.isle_examples.specs.Partial.{PartialDemands, PartialEnds, PartialIsServed, g_of_one, partial_defs, partial_mute, partial_program, partial_sample, partial_terms};
 ghost use Rattle.isle_examples.specs.PickedAnswers.{HoldUnderNoPick, HoldUnderOnePick};
@@ -46,6 +48,8 @@ ghost use Rattle.isle_examples.specs.Stages.{CanMatch, CantMatch, ClosingEndsOf,
 ghost use Rattle.isle_examples.specs.Surplus.{surplus_sample};
 ghost use Rattle.isle_examples.specs.TermLists.{Alone, Chained, Early, Infallible, OneFullName, Structs, Templates, refused_terms};
 ghost use Rattle.isle_examples.specs.Ties.{ties_sample};
+ghost use Rattle.isle_examples.specs.ToldApart.{MasksMatchToo, ShadowIsServed, ShadowIsTold, ThirdRulesAreToldApart};
+ghost use Rattle.isle_examples.specs.Tried.{ConstEqHolds, ConstEqHoldsAlike, ConstEqIsTried, OneStepDoesNotMatch, OneStepIsTried, VariantEqHolds, VariantEqHoldsAlike, VariantEqIsTried};
 ghost use Rattle.isle_examples.specs.TypeLists.{ConstantTypes, ThreeTypes, TwoTypes, refused_types};
 ghost use Rattle.isle_examples.specs.Unasked.{UnaskedIsNotDemanded, unasked_defs, unasked_rules, unasked_sample, unasked_set};
 ghost use Rattle.isle_examples.specs.Unreached.{UnreachedCallsAreNotAsked, UnreachedDemands, UnreachedEnds, first_answers, one_im_of_one, unreached_program, unreached_sample};
@@ -707,4 +711,45 @@ pub fn variants_stand_at_their_ids()
 #[tactic(auto, using(crate::proofs::FoundSites::sites_are_found))]
 pub fn sites_are_found()
     ensures { SitesAreFound }
+{}
+
+/// The sample with an extractor uses no multi term: so no rule goes over calls, and its tree runs as the choice by priority.
+#[tactic(auto, using(crate::proofs::Chosen::extract_is_without_multi, crate::proofs::Chosen::extract_is_chosen))]
+pub fn extract_is_chosen()
+    ensures without_multi { ExtractIsWithoutMulti }
+    ensures chosen { ExtractIsChosen }
+{}
+
+/// Of rules that don't overlap one alone matches, and where a shadowed rule matches, its mask does.
+#[tactic(auto, using(crate::proofs::ToldApart::third_rules_are_told_apart, crate::proofs::ToldApart::shadow_is_told, crate::proofs::ToldApart::shadow_is_served, crate::proofs::ToldApart::masks_match_too))]
+pub fn rules_are_told_apart()
+    ensures apart { ThirdRulesAreToldApart }
+    ensures shadow { ShadowIsTold }
+    ensures served { ShadowIsServed }
+    ensures masks { MasksMatchToo }
+{}
+
+/// Two rules of one priority for different numbers: no two overlap wrongly, and the demands of one alone hold.
+#[tactic(auto, using(crate::proofs::OneOrTwo::one_or_two_stages, crate::proofs::OneOrTwo::one_or_two_is_served, crate::proofs::OneOrTwo::one_or_two_holds_once))]
+pub fn one_or_two_sample()
+    ensures stages { HasStages one_or_two_sample }
+    ensures served { OneOrTwoIsServed }
+    ensures holds_once { OneOrTwoHoldsOnce }
+{}
+
+/// Demands with an equality hold on 2 twice and not on 2 and 3, and on one variant twice, and their closed demands hold
+/// alike. A rule whose demands no values meet is tried on a value, and doesn't match.
+#[tactic(auto, using(crate::proofs::Tried::two_is_tried, crate::proofs::Tried::three_is_tried, crate::proofs::Tried::two_holds, crate::proofs::Tried::three_does_not, crate::proofs::Tried::two_holds_alike, crate::proofs::Tried::three_holds_alike, crate::proofs::Tried::variant_is_tried, crate::proofs::Tried::variant_holds, crate::proofs::Tried::variant_holds_alike, crate::proofs::Tried::one_step_is_tried, crate::proofs::Tried::one_step_does_not_match))]
+pub fn rules_are_tried()
+    ensures two { ConstEqIsTried (pos 2) }
+    ensures three { ConstEqIsTried (pos 3) }
+    ensures two_holds { ConstEqHolds (pos 2) }
+    ensures three_does_not { ConstEqHolds (pos 3) → ⊥ }
+    ensures two_alike { ConstEqHoldsAlike (pos 2) }
+    ensures three_alike { ConstEqHoldsAlike (pos 3) }
+    ensures variant { VariantEqIsTried }
+    ensures variant_holds { VariantEqHolds }
+    ensures variant_alike { VariantEqHoldsAlike }
+    ensures one_step { OneStepIsTried }
+    ensures no_match { OneStepDoesNotMatch }
 {}
