@@ -21,6 +21,7 @@ pub mod NoRules
 pub mod OneOrTwo
 pub mod PartialLowered
 pub mod PickedAnswers
+pub mod PickedNumber
 pub mod Refused
 pub mod SampleStages
 pub mod Served
@@ -35,4 +36,5 @@ pub mod Unreached
 pub mod Unused
 pub mod Used
 pub mod VariantIds
+pub mod WideRule
 pub mod Wrapped

@@ -30,6 +30,7 @@ pub mod OneOrTwo
 pub mod Overlap
 pub mod Partial
 pub mod PickedAnswers
+pub mod PickedNumber
 pub mod Prio
 pub mod Refused
 pub mod Scopes
@@ -50,6 +51,7 @@ pub mod Unused
 pub mod Used
 pub mod VariantEq
 pub mod VariantIds
+pub mod WideRule
 pub mod Wrap
 pub mod Wrapped
 pub mod Written

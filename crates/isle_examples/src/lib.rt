@@ -39,6 +39,7 @@ ghost use Rattle.isle_examples.specs.OneOrTwo.{OneOrTwoHoldsOnce, OneOrTwoIsServ
 ghost use Rattle.isle_examples.specs.Overlap.{OverlapReported, OverlapsFound, TwoReports, overlap_defs, overlap_rules, three_defs, three_rules};
 ghost use Rattle.isle_examples.specs.Partial.{PartialDemands, PartialEnds, PartialIsServed, g_of_one, partial_defs, partial_mute, partial_program, partial_sample, partial_terms};
 ghost use Rattle.isle_examples.specs.PickedAnswers.{HoldUnderNoPick, HoldUnderOnePick};
+ghost use Rattle.isle_examples.specs.PickedNumber.{FivesAreNotMatched, PickedNumberDemands, PickedNumberGives, PickedNumberIsServed, picked_number_sample};
 ghost use Rattle.isle_examples.specs.Prio.{prio_sample};
 ghost use Rattle.isle_examples.specs.Refused.{RefusedAreNotRead, SamplesAreRefused};
 ghost use Rattle.isle_examples.specs.Scopes.{let_in_let_defs, let_in_let_rules, shadowing_defs, shadowing_rules};
@@ -57,6 +58,7 @@ ghost use Rattle.isle_examples.specs.Unused.{UnusedDemands, UnusedEnds, unused_s
 ghost use Rattle.isle_examples.specs.Used.{NearTreesDoNotBind, UsedDemands, UsedEnds, used_sample};
 ghost use Rattle.isle_examples.specs.VariantEq.{VariantEqClosed, VariantEqDemands, VariantEqTables, variant_eq_program, variant_eq_rule, variant_eq_sample};
 ghost use Rattle.isle_examples.specs.VariantIds.{VariantsStandAtTheirIds};
+ghost use Rattle.isle_examples.specs.WideRule.{WideRuleIsReported, WideRulePasses};
 ghost use Rattle.isle_examples.specs.Wrap.{wrap_sample};
 ghost use Rattle.isle_examples.specs.Wrapped.{NothingIsAskedAboveCalls, wrapped_defs, wrapped_rules};
 
@@ -752,4 +754,22 @@ pub fn rules_are_tried()
     ensures variant_alike { VariantEqHoldsAlike }
     ensures one_step { OneStepIsTried }
     ensures no_match { OneStepDoesNotMatch }
+{}
+
+/// A rule that goes over a call and constrains its answers: of the answers 1 and 5 it gives one result, and under the pick
+/// of 5 it doesn't match.
+#[tactic(auto, using(crate::proofs::PickedNumber::picked_number_stages, crate::proofs::PickedNumber::picked_number_is_served, crate::proofs::PickedNumber::picked_number_gives, crate::proofs::PickedNumber::fives_are_not_matched))]
+pub fn picked_number_sample()
+    ensures stages { HasStages picked_number_sample }
+    ensures demands { PickedNumberDemands }
+    ensures served { PickedNumberIsServed }
+    ensures gives { PickedNumberGives }
+    ensures fives { FivesAreNotMatched }
+{}
+
+/// A rule of 257 arguments passes the limit on them, and building reports that.
+#[tactic(auto, using(crate::proofs::WideRule::wide_rule_passes, crate::proofs::WideRule::wide_rule_is_reported))]
+pub fn wide_rule_is_refused()
+    ensures passes { WideRulePasses }
+    ensures reported { WideRuleIsReported }
 {}
