@@ -8,6 +8,7 @@ pub mod FoundSites
 pub mod HandedIn
 pub mod Hiding
 pub mod Impure
+pub mod ImpureTaken
 pub mod LeftOver
 pub mod ListStages
 pub mod Lowered
@@ -16,6 +17,7 @@ pub mod Matchable
 pub mod Mended
 pub mod Multi
 pub mod MultiCalls
+pub mod NamedConstants
 pub mod NearRefusals
 pub mod NoRules
 pub mod OneOrTwo

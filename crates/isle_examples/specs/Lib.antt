@@ -16,6 +16,7 @@ pub mod FoundSites
 pub mod HandedIn
 pub mod Hiding
 pub mod Impure
+pub mod ImpureTaken
 pub mod LeftOver
 pub mod MeaningForms
 pub mod Mended

@@ -14,7 +14,7 @@ use Rattle.isle_model.specs.rules.Program.{Program, rules_of}
 use Rattle.isle_model.specs.rules.Typed.{TypedRule, make_int, match_int, match_term}
 use Rattle.isle_model.specs.sites.Demands.{demands_of}
 use Rattle.isle_model.specs.sites.Serves.{Serves, TellsConstantsApart}
-use Rattle.isle_model.specs.sites.Sites.{SetRule, SiteSet, SiteTerm, argument_site, extractor_call, extractor_site, iterator_site, pick_of}
+use Rattle.isle_model.specs.sites.Sites.{SetRule, SiteSet, argument_site, extractor_site, iterator_site, pick_of}
 use Rattle.isle_model.specs.trees.Collects.{CollectsTheBag, HasCollectedResults, demands_hold, set_bag}
 use Rattle.isle_model.specs.trees.Run.{World, run, world_of}
 use Rattle.isle_model.specs.trees.Trees.{Tree, loop_at, match_at, no_step, step}

@@ -26,12 +26,13 @@ ghost use Rattle.isle_examples.specs.FoundSites.{SitesAreFound};
 ghost use Rattle.isle_examples.specs.HandedIn.{IllFormed, NamesGoOn, OwnTypesDoNotCount, TypesHandedIn};
 ghost use Rattle.isle_examples.specs.Hiding.{BetterTestsAreNotHidden, hidden_sample};
 ghost use Rattle.isle_examples.specs.Impure.{ImpureIsCalled, impure_sample};
+ghost use Rattle.isle_examples.specs.ImpureTaken.{ImpureIsServed, ImpureIsTaken};
 ghost use Rattle.isle_examples.specs.LeftOver.{LeftOverCollects, LeftOverIsCollected, LeftOverIsServed, LeftOverLacksACall, left_over_defs, left_over_rules, left_over_set, left_over_tree};
 ghost use Rattle.isle_examples.specs.MeaningForms.{DoesNotServe, alone, answers, blank, ends_with, just_number, v};
 ghost use Rattle.isle_examples.specs.Multi.{LoopsMayBindAgain, MultiCollects, MultiDemands, MultiGives, MultiIsCollected, MultiIsNot, MultiIsServed, MultiIsTaken, MultiResultsAreHeld, MultiSetCollects, MultiTakenGives, MultiTreeCollects, multi_defs, multi_mute, multi_program, multi_sample, multi_terms};
 ghost use Rattle.isle_examples.specs.MultiCalls.{DemandsGatesThough, Gives, LeavesACallUnused, OneCallIsServed, UnusedGateGives, call_in_call, calls_program, extracted_twice, impure_twice, pure_twice, unused_condition, unused_let, used_condition};
 ghost use Rattle.isle_examples.specs.MultiExt.{MultiExtractorsStand, multi_ext_sample};
-ghost use Rattle.isle_examples.specs.NamedConstants.{constants_defs, constants_rules};
+ghost use Rattle.isle_examples.specs.NamedConstants.{ConstantsAreServed, constants_defs, constants_rules};
 ghost use Rattle.isle_examples.specs.NearRefusals.{NoOverlapOfAcceptedRules, OnlyPassedLimitsAreNamed, TermsAreRefused};
 ghost use Rattle.isle_examples.specs.Nested.{NestedClosed, NestedTables, nested_defs, nested_program, nested_rule, nested_rules};
 ghost use Rattle.isle_examples.specs.NoRules.{BoundTwiceHasNone, ConverterHasNone, IfLetHasNone, LiteralHasNone, LiteralsAreNotConverted, MacroArgHasNone, MultiPriorityHasNone, PartialHasNone, converted_defs, converted_rules, iflet_defs, iflet_rules};
@@ -441,10 +442,12 @@ pub fn unasked_sample()
 {}
 
 /// An impure call: the rule can be taken, and makes the call from whatever place it is taken.
-#[tactic(auto, using(crate::proofs::SampleStages::impure_stages, crate::proofs::Impure::impure_is_called))]
+#[tactic(auto, using(crate::proofs::SampleStages::impure_stages, crate::proofs::Impure::impure_is_called, crate::proofs::ImpureTaken::impure_is_served, crate::proofs::ImpureTaken::impure_is_taken))]
 pub fn impure_sample()
     ensures stages { HasStages impure_sample }
     ensures called { ImpureIsCalled }
+    ensures served { ImpureIsServed }
+    ensures taken { ImpureIsTaken }
 {}
 
 /// An impure call whose answer nothing takes is a call of its rule all the same: it is bound before the rule returns.
@@ -455,9 +458,10 @@ pub fn dropped_sample()
 {}
 
 /// Constants, and a boolean literal.
-#[tactic(auto, using(crate::proofs::AcceptedLists::constants_accepted))]
+#[tactic(auto, using(crate::proofs::AcceptedLists::constants_accepted, crate::proofs::NamedConstants::constants_are_served))]
 pub fn named_constants()
     ensures accepted { IsAcceptedBoth constants_defs constants_rules }
+    ensures served { ConstantsAreServed }
 {}
 
 /// A set with an impure call that none of its rules uses, and a pure one above it. A meaning in which the first answers what
