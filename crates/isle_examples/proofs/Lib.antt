@@ -25,6 +25,7 @@ pub mod PartialLowered
 pub mod PickedAnswers
 pub mod PickedNumber
 pub mod Refused
+pub mod ReportedOnce
 pub mod SampleStages
 pub mod Served
 pub mod SetStages

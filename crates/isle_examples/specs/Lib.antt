@@ -34,6 +34,7 @@ pub mod PickedAnswers
 pub mod PickedNumber
 pub mod Prio
 pub mod Refused
+pub mod ReportedOnce
 pub mod Scopes
 pub mod SetForms
 pub mod Shadow

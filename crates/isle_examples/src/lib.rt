@@ -43,6 +43,7 @@ ghost use Rattle.isle_examples.specs.PickedAnswers.{HoldUnderNoPick, HoldUnderOn
 ghost use Rattle.isle_examples.specs.PickedNumber.{FivesAreNotMatched, PickedNumberDemands, PickedNumberGives, PickedNumberIsServed, picked_number_sample};
 ghost use Rattle.isle_examples.specs.Prio.{prio_sample};
 ghost use Rattle.isle_examples.specs.Refused.{RefusedAreNotRead, SamplesAreRefused};
+ghost use Rattle.isle_examples.specs.ReportedOnce.{MultiGoesOverMultiCalls, OverlapIsListedOnce, ShadowIsReportedOnce};
 ghost use Rattle.isle_examples.specs.Scopes.{let_in_let_defs, let_in_let_rules, shadowing_defs, shadowing_rules};
 ghost use Rattle.isle_examples.specs.Shadow.{ShadowReported, ShadowsFound, shadow_defs, shadow_rules};
 ghost use Rattle.isle_examples.specs.Shared.{SharedDemands, SharedGives, SharedIsStuck, shared_sample};
@@ -776,4 +777,13 @@ pub fn picked_number_sample()
 pub fn wide_rule_is_refused()
     ensures passes { WideRulePasses }
     ensures reported { WideRuleIsReported }
+{}
+
+/// A mask whose rules stand at distinct positions has one report, and so has a wrong overlap; the rule of the multi sample
+/// goes over multi calls, and tests none.
+#[tactic(auto, using(crate::proofs::ReportedOnce::shadow_is_reported_once, crate::proofs::ReportedOnce::overlap_is_listed_once, crate::proofs::ReportedOnce::multi_goes_over_multi_calls))]
+pub fn reports_stand_once()
+    ensures mask { ShadowIsReportedOnce }
+    ensures overlap { OverlapIsListedOnce }
+    ensures multi { MultiGoesOverMultiCalls }
 {}
