@@ -8,6 +8,7 @@ pub mod FoundSites
 pub mod HandedIn
 pub mod Hiding
 pub mod Impure
+pub mod ImpureTaken
 pub mod LeftOver
 pub mod ListStages
 pub mod Lowered
@@ -16,12 +17,15 @@ pub mod Matchable
 pub mod Mended
 pub mod Multi
 pub mod MultiCalls
+pub mod NamedConstants
 pub mod NearRefusals
 pub mod NoRules
 pub mod OneOrTwo
 pub mod PartialLowered
 pub mod PickedAnswers
+pub mod PickedNumber
 pub mod Refused
+pub mod ReportedOnce
 pub mod SampleStages
 pub mod Served
 pub mod SetStages
@@ -35,4 +39,5 @@ pub mod Unreached
 pub mod Unused
 pub mod Used
 pub mod VariantIds
+pub mod WideRule
 pub mod Wrapped

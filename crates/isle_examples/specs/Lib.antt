@@ -16,6 +16,7 @@ pub mod FoundSites
 pub mod HandedIn
 pub mod Hiding
 pub mod Impure
+pub mod ImpureTaken
 pub mod LeftOver
 pub mod MeaningForms
 pub mod Mended
@@ -30,8 +31,10 @@ pub mod OneOrTwo
 pub mod Overlap
 pub mod Partial
 pub mod PickedAnswers
+pub mod PickedNumber
 pub mod Prio
 pub mod Refused
+pub mod ReportedOnce
 pub mod Scopes
 pub mod SetForms
 pub mod Shadow
@@ -50,6 +53,7 @@ pub mod Unused
 pub mod Used
 pub mod VariantEq
 pub mod VariantIds
+pub mod WideRule
 pub mod Wrap
 pub mod Wrapped
 pub mod Written

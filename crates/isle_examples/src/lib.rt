@@ -26,12 +26,13 @@ ghost use Rattle.isle_examples.specs.FoundSites.{SitesAreFound};
 ghost use Rattle.isle_examples.specs.HandedIn.{IllFormed, NamesGoOn, OwnTypesDoNotCount, TypesHandedIn};
 ghost use Rattle.isle_examples.specs.Hiding.{BetterTestsAreNotHidden, hidden_sample};
 ghost use Rattle.isle_examples.specs.Impure.{ImpureIsCalled, impure_sample};
+ghost use Rattle.isle_examples.specs.ImpureTaken.{ImpureIsServed, ImpureIsTaken};
 ghost use Rattle.isle_examples.specs.LeftOver.{LeftOverCollects, LeftOverIsCollected, LeftOverIsServed, LeftOverLacksACall, left_over_defs, left_over_rules, left_over_set, left_over_tree};
 ghost use Rattle.isle_examples.specs.MeaningForms.{DoesNotServe, alone, answers, blank, ends_with, just_number, v};
 ghost use Rattle.isle_examples.specs.Multi.{LoopsMayBindAgain, MultiCollects, MultiDemands, MultiGives, MultiIsCollected, MultiIsNot, MultiIsServed, MultiIsTaken, MultiResultsAreHeld, MultiSetCollects, MultiTakenGives, MultiTreeCollects, multi_defs, multi_mute, multi_program, multi_sample, multi_terms};
 ghost use Rattle.isle_examples.specs.MultiCalls.{DemandsGatesThough, Gives, LeavesACallUnused, OneCallIsServed, UnusedGateGives, call_in_call, calls_program, extracted_twice, impure_twice, pure_twice, unused_condition, unused_let, used_condition};
 ghost use Rattle.isle_examples.specs.MultiExt.{MultiExtractorsStand, multi_ext_sample};
-ghost use Rattle.isle_examples.specs.NamedConstants.{constants_defs, constants_rules};
+ghost use Rattle.isle_examples.specs.NamedConstants.{ConstantsAreServed, constants_defs, constants_rules};
 ghost use Rattle.isle_examples.specs.NearRefusals.{NoOverlapOfAcceptedRules, OnlyPassedLimitsAreNamed, TermsAreRefused};
 ghost use Rattle.isle_examples.specs.Nested.{NestedClosed, NestedTables, nested_defs, nested_program, nested_rule, nested_rules};
 ghost use Rattle.isle_examples.specs.NoRules.{BoundTwiceHasNone, ConverterHasNone, IfLetHasNone, LiteralHasNone, LiteralsAreNotConverted, MacroArgHasNone, MultiPriorityHasNone, PartialHasNone, converted_defs, converted_rules, iflet_defs, iflet_rules};
@@ -39,8 +40,10 @@ ghost use Rattle.isle_examples.specs.OneOrTwo.{OneOrTwoHoldsOnce, OneOrTwoIsServ
 ghost use Rattle.isle_examples.specs.Overlap.{OverlapReported, OverlapsFound, TwoReports, overlap_defs, overlap_rules, three_defs, three_rules};
 ghost use Rattle.isle_examples.specs.Partial.{PartialDemands, PartialEnds, PartialIsServed, g_of_one, partial_defs, partial_mute, partial_program, partial_sample, partial_terms};
 ghost use Rattle.isle_examples.specs.PickedAnswers.{HoldUnderNoPick, HoldUnderOnePick};
+ghost use Rattle.isle_examples.specs.PickedNumber.{FivesAreNotMatched, PickedNumberDemands, PickedNumberGives, PickedNumberIsServed, picked_number_sample};
 ghost use Rattle.isle_examples.specs.Prio.{prio_sample};
 ghost use Rattle.isle_examples.specs.Refused.{RefusedAreNotRead, SamplesAreRefused};
+ghost use Rattle.isle_examples.specs.ReportedOnce.{MultiGoesOverMultiCalls, OverlapIsListedOnce, ShadowIsReportedOnce};
 ghost use Rattle.isle_examples.specs.Scopes.{let_in_let_defs, let_in_let_rules, shadowing_defs, shadowing_rules};
 ghost use Rattle.isle_examples.specs.Shadow.{ShadowReported, ShadowsFound, shadow_defs, shadow_rules};
 ghost use Rattle.isle_examples.specs.Shared.{SharedDemands, SharedGives, SharedIsStuck, shared_sample};
@@ -57,6 +60,7 @@ ghost use Rattle.isle_examples.specs.Unused.{UnusedDemands, UnusedEnds, unused_s
 ghost use Rattle.isle_examples.specs.Used.{NearTreesDoNotBind, UsedDemands, UsedEnds, used_sample};
 ghost use Rattle.isle_examples.specs.VariantEq.{VariantEqClosed, VariantEqDemands, VariantEqTables, variant_eq_program, variant_eq_rule, variant_eq_sample};
 ghost use Rattle.isle_examples.specs.VariantIds.{VariantsStandAtTheirIds};
+ghost use Rattle.isle_examples.specs.WideRule.{WideRuleIsReported, WideRulePasses};
 ghost use Rattle.isle_examples.specs.Wrap.{wrap_sample};
 ghost use Rattle.isle_examples.specs.Wrapped.{NothingIsAskedAboveCalls, wrapped_defs, wrapped_rules};
 
@@ -439,10 +443,12 @@ pub fn unasked_sample()
 {}
 
 /// An impure call: the rule can be taken, and makes the call from whatever place it is taken.
-#[tactic(auto, using(crate::proofs::SampleStages::impure_stages, crate::proofs::Impure::impure_is_called))]
+#[tactic(auto, using(crate::proofs::SampleStages::impure_stages, crate::proofs::Impure::impure_is_called, crate::proofs::ImpureTaken::impure_is_served, crate::proofs::ImpureTaken::impure_is_taken))]
 pub fn impure_sample()
     ensures stages { HasStages impure_sample }
     ensures called { ImpureIsCalled }
+    ensures served { ImpureIsServed }
+    ensures taken { ImpureIsTaken }
 {}
 
 /// An impure call whose answer nothing takes is a call of its rule all the same: it is bound before the rule returns.
@@ -453,9 +459,10 @@ pub fn dropped_sample()
 {}
 
 /// Constants, and a boolean literal.
-#[tactic(auto, using(crate::proofs::AcceptedLists::constants_accepted))]
+#[tactic(auto, using(crate::proofs::AcceptedLists::constants_accepted, crate::proofs::NamedConstants::constants_are_served))]
 pub fn named_constants()
     ensures accepted { IsAcceptedBoth constants_defs constants_rules }
+    ensures served { ConstantsAreServed }
 {}
 
 /// A set with an impure call that none of its rules uses, and a pure one above it. A meaning in which the first answers what
@@ -752,4 +759,31 @@ pub fn rules_are_tried()
     ensures variant_alike { VariantEqHoldsAlike }
     ensures one_step { OneStepIsTried }
     ensures no_match { OneStepDoesNotMatch }
+{}
+
+/// A rule that goes over a call and constrains its answers: of the answers 1 and 5 it gives one result, and under the pick
+/// of 5 it doesn't match.
+#[tactic(auto, using(crate::proofs::PickedNumber::picked_number_stages, crate::proofs::PickedNumber::picked_number_is_served, crate::proofs::PickedNumber::picked_number_gives, crate::proofs::PickedNumber::fives_are_not_matched))]
+pub fn picked_number_sample()
+    ensures stages { HasStages picked_number_sample }
+    ensures demands { PickedNumberDemands }
+    ensures served { PickedNumberIsServed }
+    ensures gives { PickedNumberGives }
+    ensures fives { FivesAreNotMatched }
+{}
+
+/// A rule of 257 arguments passes the limit on them, and building reports that.
+#[tactic(auto, using(crate::proofs::WideRule::wide_rule_passes, crate::proofs::WideRule::wide_rule_is_reported))]
+pub fn wide_rule_is_refused()
+    ensures passes { WideRulePasses }
+    ensures reported { WideRuleIsReported }
+{}
+
+/// A mask whose rules stand at distinct positions has one report, and so has a wrong overlap; the rule of the multi sample
+/// goes over multi calls, and tests none.
+#[tactic(auto, using(crate::proofs::ReportedOnce::shadow_is_reported_once, crate::proofs::ReportedOnce::overlap_is_listed_once, crate::proofs::ReportedOnce::multi_goes_over_multi_calls))]
+pub fn reports_stand_once()
+    ensures mask { ShadowIsReportedOnce }
+    ensures overlap { OverlapIsListedOnce }
+    ensures multi { MultiGoesOverMultiCalls }
 {}
