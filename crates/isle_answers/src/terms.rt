@@ -22,7 +22,6 @@ pub(crate) fn answer_to_terms(
 }
 
 // How many terms the definitions declare and their types make.
-#[tactic(auto, using(isle_laws_lists::proofs::OwnTypes::own_types_are_readable_lem))]
 fn number_of_terms(alloc: Global, defs: &[Def]) -> Result<usize, Fault> {
     let mut tyenv = TypeEnv::from_ast(alloc, defs)?;
     let table = TermTable::read(alloc, &mut tyenv, defs)?;
