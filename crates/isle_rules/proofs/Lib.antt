@@ -42,3 +42,4 @@ pub mod RuleEnds
 pub mod RuleListSteps
 pub mod NamesKept
 pub mod ConstructorLaws
+pub mod CheckedUses

@@ -2,6 +2,7 @@
 //! work goes on where it can; only a limit ends the work on a rule.
 
 mod checks;
+mod constructors;
 mod expr_leaves;
 mod expr_uses;
 mod exprs;
