@@ -142,7 +142,7 @@ module _ (e : Setting) (names : List (List ℕ)) (k : AreTermsNamed e names) whe
   term_below n t h = let a = named_at n e.terms t h in subst (λ (j : ℕ). j < length names) (named_is n e.terms t h) (k.met a.0 t a.1)
 
   -- a text is that of the same term wherever the names are kept
-  same_entry : (ms : List (List ℕ)) → Kept names ms → (x : List ℕ) → entry_named (number ms x) e.terms ≡ entry_named (number names x) e.terms
+  pub same_entry : (ms : List (List ℕ)) → Kept names ms → (x : List ℕ) → entry_named (number ms x) e.terms ≡ entry_named (number names x) e.terms
   same_entry ms w x = elim (cases_Bool (has_name names x)) [
     | inl there ↦
         let h = w.at (number names x) x (found names x there) in
