@@ -102,7 +102,7 @@ converter_is e i o t h =
     let b = then_gives (look (λ k. (k.0 == i) && (k.1 == o)) e.converters) (slice_get e.terms) a.0 in
     (b.0, b.2, a.1)
 
-named_is : (name : ℕ) (ts : List TermEntry) (t : TermEntry) → entry_named name ts ≡ Some t → t.name ≡ name
+pub named_is : (name : ℕ) (ts : List TermEntry) (t : TermEntry) → entry_named name ts ≡ Some t → t.name ≡ name
 named_is name [] t h = absurd (none-some t h)
 named_is name (u ∷ us) t h = elim (cases_Bool (eqb u.name name)) [
   | inl same ↦

@@ -45,3 +45,4 @@ pub mod NamesKept
 pub mod ConstructorLaws
 pub mod CheckedUses
 pub mod RulesTyped
+pub mod NamedTerms
