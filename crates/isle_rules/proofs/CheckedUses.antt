@@ -13,17 +13,16 @@ use Rattle.isle_types.proofs.Reports.{both}
 use Rattle.isle_rules.specs.Constructors.{uses_of_rule, uses_of_definition}
 use Rattle.isle_rules.specs.Elaborating.{Checks}
 use Rattle.isle_rules.proofs.ConstructorLaws.{all_left, all_right}
+use Rattle.isle_rules.proofs.PatternUsing.{checks_both}
 
 pub on_then : {A B : Type 0} (r : Result A B) (P Q : Type 0) → (P → Q) → OnOk r P → OnOk r Q
 on_then (Ok x) P Q f h = f h
 on_then (Err e) P Q f h = tt
 
--- one fact after another
-pub checks_then : (P Q R : Type 0) (old mid new : List Error) → (P → Q → R) → (R → P) → (R → Q) → Checks old mid P → Checks mid new Q → Checks old new R
-checks_then P Q R old mid new f g h (inl a) (inl b) = inl (b.0 ∙ a.0, f a.1 b.1)
-checks_then P Q R old mid new f g h (inl a) (inr b) = inr (subst (λ es. Reports es new) a.0 b.0, λ r. b.1 (h r))
-checks_then P Q R old mid new f g h (inr a) (inl b) = inr (subst (Reports old) (sym b.0) a.0, λ r. a.1 (g r))
-checks_then P Q R old mid new f g h (inr a) (inr b) = inr (both old mid new a.0 b.0, λ r. a.1 (g r))
+-- the same fact in other words
+checks_as : (P Q : Type 0) (old new : List Error) → (P → Q) → (Q → P) → Checks old new P → Checks old new Q
+checks_as P Q old new f g (inl a) = inl (a.0, f a.1)
+checks_as P Q old new f g (inr a) = inr (a.0, λ h. a.1 (g h))
 
 module _ {X : Type 0} (P : X → Type 0) where
   -- some are left to be checked
@@ -46,11 +45,12 @@ module _ {X : Type 0} (P : X → Type 0) where
 
   -- a check of one
   pub checks_one : (x : X) (old new : List Error) → Checks old new (P x) → Checks old new (All P (x ∷ []))
-  checks_one x old new (inl a) = inl (a.0, All-cons P x [] a.1 (All-nil P))
-  checks_one x old new (inr a) = inr (a.0, λ h. a.1 (All-head P x [] h))
+  checks_one x old new = checks_as (P x) (All P (x ∷ [])) old new (λ h. All-cons P x [] h (All-nil P)) (All-head P x [])
 
-  pub checks_both : (xs ys : List X) (old mid new : List Error) → Checks old mid (All P xs) → Checks mid new (All P ys) → Checks old new (All P (xs ++ ys))
-  checks_both xs ys old mid new = checks_then (All P xs) (All P ys) (All P (xs ++ ys)) old mid new (All-append P xs ys) (all_left P xs ys) (all_right P xs ys)
+  -- checks of some, then of others
+  pub checks_all : (xs ys : List X) (old mid new : List Error) → Checks old mid (All P xs) → Checks mid new (All P ys) → Checks old new (All P (xs ++ ys))
+  checks_all xs ys old mid new a b =
+      checks_as (All P xs × All P ys) (All P (xs ++ ys)) old new (λ h. All-append P xs ys h.0 h.1) (λ h. (all_left P xs ys h, all_right P xs ys h)) (checks_both old mid new (All P xs) (All P ys) a b)
 
 -- what is left at a place of a list
 pub left_at : {A X : Type 0} (f : A → List X) (g : List A → List X) → ((a : A) (rest : List A) → g (a ∷ rest) ≡ f a ++ g rest) → (all : List A) (i : ℕ) (a : A) → i < length all → a ≡ get_or all i a → g (drop i all) ≡ f a ++ g (drop (i + 1) all)

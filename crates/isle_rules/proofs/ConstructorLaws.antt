@@ -102,7 +102,7 @@ converter_is e i o t h =
     let b = then_gives (look (λ k. (k.0 == i) && (k.1 == o)) e.converters) (slice_get e.terms) a.0 in
     (b.0, b.2, a.1)
 
-named_is : (name : ℕ) (ts : List TermEntry) (t : TermEntry) → entry_named name ts ≡ Some t → t.name ≡ name
+pub named_is : (name : ℕ) (ts : List TermEntry) (t : TermEntry) → entry_named name ts ≡ Some t → t.name ≡ name
 named_is name [] t h = absurd (none-some t h)
 named_is name (u ∷ us) t h = elim (cases_Bool (eqb u.name name)) [
   | inl same ↦
@@ -142,7 +142,7 @@ module _ (e : Setting) (names : List (List ℕ)) (k : AreTermsNamed e names) whe
   term_below n t h = let a = named_at n e.terms t h in subst (λ (j : ℕ). j < length names) (named_is n e.terms t h) (k.met a.0 t a.1)
 
   -- a text is that of the same term wherever the names are kept
-  same_entry : (ms : List (List ℕ)) → Kept names ms → (x : List ℕ) → entry_named (number ms x) e.terms ≡ entry_named (number names x) e.terms
+  pub same_entry : (ms : List (List ℕ)) → Kept names ms → (x : List ℕ) → entry_named (number ms x) e.terms ≡ entry_named (number names x) e.terms
   same_entry ms w x = elim (cases_Bool (has_name names x)) [
     | inl there ↦
         let h = w.at (number names x) x (found names x there) in
