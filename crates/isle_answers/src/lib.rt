@@ -3,4 +3,5 @@
 
 pub mod rows;
 pub mod run;
+mod terms;
 pub mod texts;

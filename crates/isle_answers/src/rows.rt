@@ -29,7 +29,8 @@ pub fn run_rows<R: Read + Drop, O: Write, E: Write>(
 /// A row is a line that begins with `# `, a name after it, and the text up to the next such line. What stands before the
 /// first row is passed over. Words after the name say how the row is answered: `no-expand`, internal extractors aren't
 /// expanded; `lines`, places are lines and columns of the row's text; `prefixes`, in place of the whole text each
-/// beginning of it that ends with a line is answered, after a line `## ` with the number of its lines.
+/// beginning of it that ends with a line is answered, after a line `## ` with the number of its lines; `terms`, types and
+/// terms alone are read, of all forms, and where nothing is wrong with them the answer is a line with their number.
 pub fn answers(alloc: Global, text: &str) -> Result<String, AllocError> {
     let mut out = String::new(alloc);
     let mut row = Row {
@@ -67,6 +68,7 @@ fn push_row(alloc: Global, row: &Row<'_>, out: &mut String) -> Result<(), AllocE
     let asked = Asked {
         expand: !has_word(row.line, "no-expand"),
         lines: has_word(row.line, "lines"),
+        terms: has_word(row.line, "terms"),
     };
     if has_word(row.line, "prefixes") {
         push_prefixes(alloc, &row.text, asked, out)

@@ -34,12 +34,12 @@ pub fn run<R: Read + Drop, O: Write, E: Write>(
     };
     match io::read_to_string(alloc, input) {
         Ok(text) => {
-            let lines = true;
-            write_answer(
-                answer_to_text(alloc, &text, Asked { expand, lines }),
-                out,
-                err,
-            )
+            let asked = Asked {
+                expand,
+                lines: true,
+                terms: false,
+            };
+            write_answer(answer_to_text(alloc, &text, asked), out, err)
         }
         Err(error) => cannot_read(error.kind(), err),
     }

@@ -1,5 +1,6 @@
 //! Definitions as text, and what is answered to them.
 
+use crate::terms::answer_to_terms;
 use isle_base::syntax::Def;
 use isle_printing::places::Places;
 use isle_program::answers::{Answer, answer_to};
@@ -15,14 +16,32 @@ pub struct Asked {
     /// Whether the place of an error is shown as its line and column. Else it is 0 and the number of the definition
     /// that it lies in, where the text is read.
     pub lines: bool,
+    /// Whether types and terms alone are read. Lowering doesn't carry all their forms yet, and reading them does.
+    pub terms: bool,
 }
 
-/// The trees of a text's definitions, or one line for each error: those of lowering, or the one of reading.
+/// The trees of a text's definitions, or one line for each error: those of lowering, or the one of reading. Where terms
+/// alone are asked for, a line with their number stands in place of the trees.
 pub fn answer_to_text(alloc: Global, text: &str, asked: Asked) -> Result<Answer, AllocError> {
     match read(alloc, 0, text) {
-        Ok(defs) => answer_to(alloc, &defs, asked.expand, places(text, &defs, asked)),
+        Ok(defs) => answer_to_defs(alloc, text, &defs, asked),
         Err(ReadFault::Text(error)) => Ok(Answer::Errors(error_line(alloc, text, error)?)),
         Err(ReadFault::Memory(error)) => Err(error),
+    }
+}
+
+// What is answered to the definitions of a text.
+fn answer_to_defs(
+    alloc: Global,
+    text: &str,
+    defs: &[Def],
+    asked: Asked,
+) -> Result<Answer, AllocError> {
+    let places = places(text, defs, asked);
+    if asked.terms {
+        answer_to_terms(alloc, defs, places)
+    } else {
+        answer_to(alloc, defs, asked.expand, places)
     }
 }
 

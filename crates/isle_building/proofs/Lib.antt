@@ -4,3 +4,8 @@ pub mod BuildingLists
 pub mod BuildingEnds
 pub mod BuildingTests
 pub mod Refusals
+pub mod FittingPatterns
+pub mod VisitedPatterns
+pub mod BuilderCalls
+pub mod BuilderFields
+pub mod BuilderSteps

@@ -1,2 +1,3 @@
 pub mod Buildings
 pub mod Clashes
+pub mod VisitedSites

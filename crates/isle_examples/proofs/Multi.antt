@@ -98,7 +98,7 @@ pub multi_set_collects : MultiSetCollects
 multi_set_collects = sound_trees_collect_lem multi_set multi_tree (multi_world (pos 1)) multi_is_collected.1 multi_is_collected.2 refl multi_stages.judged.sound
 
 -- its best tree collects the bag
-laws : CollectingLaws
+pub laws : CollectingLaws
 laws = record {
   collected = are_collected_lem rules_are_formed lists_agree (elaborated_rules_demand_gates_lem rules_are_formed lists_agree);
   serve = served_multi_sets_serve_lem;

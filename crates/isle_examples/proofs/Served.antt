@@ -2,18 +2,18 @@
 use Rattle.std.proofs.Common.{◌≡◌, ◌∷◌, [], ◌∙◌, ◌==◌, ℕ, pos, zero, suc, Bool, true, false, List, take, Option, Some, None, All, Contains, IsTrue, is_some, refl, sym, ap, subst, arith, ◌⊎◌, inl, inr, IsSomeAnd}
 use Rattle.std.specs.List.{list_all}
 use Rattle.std.proofs.lemmas.Bool.{false≢true}
-use Rattle.std.proofs.lemmas.List.Elements.{All-nil}
+use Rattle.std.proofs.lemmas.List.Elements.{All-contains, All-nil}
 use Rattle.std.proofs.lemmas.Option.{none-some, same_Some}
 use Rattle.isle_model.proofs.Members.{each_passes, in_alone, in_cases}
 use Rattle.isle_model.specs.rules.Matching.{matches}
-use Rattle.isle_model.specs.rules.Meaning.{Content, Meaning, extractor_answer, impure_answer, int_literal, literal_value, look, nothing, one, pure_answer}
+use Rattle.isle_model.specs.rules.Meaning.{Content, Meaning, bool_literal, constant_value, extractor_answer, impure_answer, int_literal, literal_value, look, nothing, one, pure_answer}
 use Rattle.isle_model.specs.rules.Outcome.{then_option}
 use Rattle.isle_model.specs.rules.Picks.{HasContent, Pick, site_content, site_values}
 use Rattle.isle_model.specs.rules.Program.{Program, kind, rules_of}
 use Rattle.isle_model.specs.rules.Typed.{TypedRule}
 use Rattle.isle_model.specs.rules.Values.{Value, Values, atom, well_typed}
 use Rattle.isle_model.specs.sites.Demands.{demands_of}
-use Rattle.isle_model.specs.sites.Serves.{Serves, TellsConstantsApart, asked, constant_type, fits_constructor, fits_extractor, tested_constants, written_value}
+use Rattle.isle_model.specs.sites.Serves.{Serves, TellsConstantsApart, asked, constant_type, fits_constructor, fits_extractor, tested_constants, typed_as, written_value}
 use Rattle.isle_model.specs.sites.Sites.{SiteTerm, SiteTerms, argument, bool_term, constructor_call, extractor_call, int_term, no_site_term, prim_term, site_term_and}
 use Rattle.isle_model.specs.trees.Run.{as_value}
 use Rattle.isle_examples.specs.Extract.{ExtractMeaningServes, extract_meaning, extract_mute, extract_program, extract_rules}
@@ -33,9 +33,9 @@ some_and_means (Some w) f h = h
 
 module _ (p : Program) (m : Meaning) (args : List Value) (rs : List TypedRule) (call : SiteTerm → Bool) where
   abbrev passes : SiteTerm → Bool
-  passes (bool_term b ty) = false
+  passes (bool_term b ty) = some_and (literal_value m (bool_literal b ty)) (λ w. well_typed p.types ty w)
   passes (int_term z ty) = some_and (literal_value m (int_literal z ty)) (λ w. well_typed p.types ty w)
-  passes (prim_term name) = false
+  passes (prim_term name) = some_and (constant_value m name) (λ w. typed_as p (constant_type p name) w)
   passes u = call u
 
   pub serves_from : list_all passes (asked p rs) ≡ true → list_all (λ r. list_all passes (demands_of p r).made) rs ≡ true
@@ -46,9 +46,9 @@ module _ (p : Program) (m : Meaning) (args : List Value) (rs : List TypedRule) (
       → IsSomeAnd (impure_answer m t before) (λ c. IsTrue (fits_constructor p t (kind p t) c)))
       → Serves p m args rs
   serves_from h g extractors pures impures = record {
-    bools = λ b ty c. absurd (false≢true (each_passes passes (asked p rs) h (bool_term b ty) c));
+    bools = λ b ty c. some_and_means (literal_value m (bool_literal b ty)) (λ w. well_typed p.types ty w) (each_passes passes (asked p rs) h (bool_term b ty) c);
     ints = λ z ty c. some_and_means (literal_value m (int_literal z ty)) (λ w. well_typed p.types ty w) (each_passes passes (asked p rs) h (int_term z ty) c);
-    prims = λ name c. absurd (false≢true (each_passes passes (asked p rs) h (prim_term name) c));
+    prims = λ name c. some_and_means (constant_value m name) (λ w. typed_as p (constant_type p name) w) (each_passes passes (asked p rs) h (prim_term name) c);
     extractors = λ k t s w c holds. extractors k t s w (each_passes passes (asked p rs) h (extractor_call t s) c) holds;
     pures = λ k t ss vs c holds. pures k t ss vs (each_passes passes (asked p rs) h (constructor_call t ss 0) c) holds;
     impures = λ k r t before ss vs i matched made gave holds.
@@ -100,7 +100,7 @@ pub mute_extract : DoesNotServe extract_program extract_mute (pos 7)
 mute_extract s = s.extractors [] 0 (argument 0) (v (pos 7)) (1, omega arith, refl) refl
 
 -- 4. an impure call
-abbrev call_of_g : SiteTerm → Bool
+abbrev pub call_of_g : SiteTerm → Bool
 call_of_g (constructor_call zero ss (suc zero)) = true
 call_of_g (constructor_call t ss i) = false
 call_of_g (extractor_call t s) = false
@@ -111,7 +111,7 @@ partial_answers : (t before : ℕ) (ss : SiteTerms) → call_of_g (constructor_c
 partial_answers zero zero ss h = refl
 partial_answers _ _ ss h = absurd (false≢true h)
 
-pure_none : (t : ℕ) (ss : SiteTerms) → call_of_g (constructor_call t ss 0) ≡ true → ⊥
+pub pure_none : (t : ℕ) (ss : SiteTerms) → call_of_g (constructor_call t ss 0) ≡ true → ⊥
 pure_none zero ss h = false≢true h
 pure_none (suc t) ss h = false≢true h
 
@@ -204,3 +204,30 @@ third_served = (
     without_parts = λ r s name ty c d e. absurd (none-some ty (sym (no_constants third_program name refl) ∙ e));
   },
 )
+
+-- 7. rules without calls, and rules whose patterns name numbers alone, each of which is its own value
+abbrev no_call : SiteTerm → Bool
+no_call (extractor_call t s) = false
+no_call (constructor_call t ss i) = false
+no_call u = true
+
+pub serves_without_calls : (p : Program) (m : Meaning) (args : List Value) (rs : List TypedRule) → list_all (passes p m args rs no_call) (asked p rs) ≡ true
+    → list_all (λ r. list_all (passes p m args rs no_call) (demands_of p r).made) rs ≡ true → Serves p m args rs
+serves_without_calls p m args rs h g =
+    serves_from p m args rs no_call h g (λ k t s w c e. absurd (false≢true c)) (λ k t ss vs c e. absurd (false≢true c)) (λ k r t before ss i matched made c gave. absurd (false≢true c))
+
+abbrev pub IsOwnNumber : Meaning → SiteTerm → Type 0
+IsOwnNumber m a = (n : ℕ) × (a ≡ int_term (pos n) 1) × (literal_value m (int_literal (pos n) 1) ≡ Some (v (pos n)))
+
+own_number : (m : Meaning) (a : SiteTerm) (w : Value) (o : IsOwnNumber m a) → written_value m a ≡ Some w → a ≡ int_term (pos (number_in w)) 1
+own_number m a w o u =
+    let held : Some (v (pos o.0)) ≡ Some w = sym o.2 ∙ sym (ap (written_value m) o.1) ∙ u in
+    o.1 ∙ ap (λ n. int_term (pos n) 1) (ap number_in (same_Some (v (pos o.0)) w held))
+
+pub numbers_apart : (p : Program) (m : Meaning) (rs : List TypedRule) → All (IsOwnNumber m) (tested_constants p rs) → p.constants ≡ [] → TellsConstantsApart p m rs
+numbers_apart p m rs own g = record {
+  different = λ a b ty w c d s t u x.
+      own_number m a w (All-contains (IsOwnNumber m) (tested_constants p rs) a own c) u
+      ∙ sym (own_number m b w (All-contains (IsOwnNumber m) (tested_constants p rs) b own d) x);
+  without_parts = λ r s name ty c d e. absurd (none-some ty (sym (no_constants p name g) ∙ e));
+}

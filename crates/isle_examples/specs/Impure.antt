@@ -8,7 +8,7 @@ use Rattle.isle_model.specs.lists.Elaborated.{TypedRules}
 use Rattle.isle_model.specs.lists.Syntax.{Definition, declaration}
 use Rattle.isle_model.specs.rules.Meaning.{Content, Meaning, impure_answer}
 use Rattle.isle_model.specs.rules.Outcome.{Call, Outcome, ended, stuck}
-use Rattle.isle_model.specs.rules.Typed.{make_term, make_var}
+use Rattle.isle_model.specs.rules.Typed.{TypedRule, make_term, make_var}
 use Rattle.isle_model.specs.rules.Values.{Value, no_value, value_and}
 use Rattle.isle_model.specs.sites.Sites.{SetRule, SiteSet, argument_site, constructor_site}
 use Rattle.isle_model.specs.trees.Run.{World}
@@ -24,9 +24,12 @@ impure_defs =
     declaration (numbers 0 (codes "im")) ∷ constructor_by 1 (codes "im") (codes "im_fn") ∷ f_of_bytes 2 1
     ∷ rule_to 3 (of_f 3 (var 3 (codes "x") ∷ [])) (call 3 (codes "im") (variable 3 (codes "x") ∷ [])) ∷ []
 
+abbrev pub impure_rule : TypedRule
+impure_rule = typed 0 3 1 (pos 0) (Some 14) (typed_var 0 16 u8 ∷ []) (bind_any u8 0 ∷ []) (make_term u8 0 (e_list (make_var u8 0 ∷ [])))
+
 abbrev pub impure_rules : TypedRules
 impure_rules =
-    rules_and_names (typed 0 3 1 (pos 0) (Some 14) (typed_var 0 16 u8 ∷ []) (bind_any u8 0 ∷ []) (make_term u8 0 (e_list (make_var u8 0 ∷ []))) ∷ [])
+    rules_and_names (impure_rule ∷ [])
     (codes "im" ∷ codes "f" ∷ codes "im_fn" ∷ codes "x" ∷ [])
 
 abbrev pub call_on_argument : SetRule

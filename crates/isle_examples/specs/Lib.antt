@@ -1,5 +1,6 @@
 pub mod Below
 pub mod Between
+pub mod Chosen
 pub mod Conflict
 pub mod ConstEq
 pub mod Cycle
@@ -15,6 +16,7 @@ pub mod FoundSites
 pub mod HandedIn
 pub mod Hiding
 pub mod Impure
+pub mod ImpureTaken
 pub mod LeftOver
 pub mod MeaningForms
 pub mod Mended
@@ -25,11 +27,14 @@ pub mod NamedConstants
 pub mod NearRefusals
 pub mod Nested
 pub mod NoRules
+pub mod OneOrTwo
 pub mod Overlap
 pub mod Partial
 pub mod PickedAnswers
+pub mod PickedNumber
 pub mod Prio
 pub mod Refused
+pub mod ReportedOnce
 pub mod Scopes
 pub mod SetForms
 pub mod Shadow
@@ -38,6 +43,8 @@ pub mod Stages
 pub mod Surplus
 pub mod TermLists
 pub mod Ties
+pub mod ToldApart
+pub mod Tried
 pub mod TypeLists
 pub mod TypedForms
 pub mod Unasked
@@ -46,6 +53,7 @@ pub mod Unused
 pub mod Used
 pub mod VariantEq
 pub mod VariantIds
+pub mod WideRule
 pub mod Wrap
 pub mod Wrapped
 pub mod Written

@@ -9,6 +9,7 @@ use Rattle.isle_model.specs.trees.SetRuns.{ServesTests, HasNoWrongOverlap, Holds
 use Rattle.isle_model.specs.claims.Headline.{IsWithoutMulti}
 use Rattle.isle_model.specs.claims.Layers.{own_program, CheckReports, IsBuiltForSome, LoweredTerm, LoweringAnswers, RefusedBy}
 use Rattle.isle_model.specs.claims.SetMeanings.{AreRulesWithoutCalls, returning_once}
+use Rattle.isle_model.specs.lists.Elaborated.{TypedRules}
 use Rattle.isle_model.specs.lists.Syntax.{Definition, declaration}
 use Rattle.isle_model.specs.rules.Program.{Program, rules_of}
 use Rattle.isle_model.specs.sites.Serves.{Serves, TellsConstantsApart}
@@ -95,8 +96,11 @@ one_to_one = typed 1 4 1 (pos 0) None [] (match_int u8 (pos 1) ∷ []) (make_int
 abbrev pub two_to_two : TypedRule
 two_to_two = typed 2 5 1 (pos 0) None [] (match_int u8 (pos 2) ∷ []) (make_int u8 (pos 2))
 
+abbrev pub third_rules : TypedRules
+third_rules = rules_and_names (third_rule ∷ one_to_one ∷ two_to_two ∷ []) (codes "me" ∷ codes "f" ∷ codes "me_fn" ∷ codes "x" ∷ [])
+
 abbrev pub third_program : Program
-third_program = own_program third_defs (rules_and_names (third_rule ∷ one_to_one ∷ two_to_two ∷ []) (codes "me" ∷ codes "f" ∷ codes "me_fn" ∷ codes "x" ∷ []))
+third_program = own_program third_defs third_rules
 
 abbrev pub built_one : BuiltRule
 built_one = built_rule third_program (sites_after_rules third_program [] (third_rule ∷ [])) one_to_one

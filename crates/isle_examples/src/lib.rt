@@ -10,6 +10,7 @@ ghost use Rattle.isle_model.specs.rules.Outcome.{ended, failed, no_rule};
 ghost use Rattle.isle_model.specs.trees.Collects.{LeavesNoCallUnused};
 ghost use Rattle.isle_examples.specs.Below.{below_program, below_same, below_sample};
 ghost use Rattle.isle_examples.specs.Between.{between_sample};
+ghost use Rattle.isle_examples.specs.Chosen.{ExtractIsChosen, ExtractIsWithoutMulti};
 ghost use Rattle.isle_examples.specs.Conflict.{ConflictReported, conflict_defs, conflict_program, conflict_rule, conflict_rules};
 ghost use Rattle.isle_examples.specs.ConstEq.{ConstEqClosed, ConstEqDemands, const_eq_program, const_eq_rule, const_eq_sample};
 ghost use Rattle.isle_examples.specs.Cycle.{CycleTables, CyclesReported, cycle_rules, one_step_defs, one_step_program, one_step_rule, two_step_defs, two_step_program, two_step_rule};
@@ -25,20 +26,24 @@ ghost use Rattle.isle_examples.specs.FoundSites.{SitesAreFound};
 ghost use Rattle.isle_examples.specs.HandedIn.{IllFormed, NamesGoOn, OwnTypesDoNotCount, TypesHandedIn};
 ghost use Rattle.isle_examples.specs.Hiding.{BetterTestsAreNotHidden, hidden_sample};
 ghost use Rattle.isle_examples.specs.Impure.{ImpureIsCalled, impure_sample};
+ghost use Rattle.isle_examples.specs.ImpureTaken.{ImpureIsServed, ImpureIsTaken};
 ghost use Rattle.isle_examples.specs.LeftOver.{LeftOverCollects, LeftOverIsCollected, LeftOverIsServed, LeftOverLacksACall, left_over_defs, left_over_rules, left_over_set, left_over_tree};
 ghost use Rattle.isle_examples.specs.MeaningForms.{DoesNotServe, alone, answers, blank, ends_with, just_number, v};
 ghost use Rattle.isle_examples.specs.Multi.{LoopsMayBindAgain, MultiCollects, MultiDemands, MultiGives, MultiIsCollected, MultiIsNot, MultiIsServed, MultiIsTaken, MultiResultsAreHeld, MultiSetCollects, MultiTakenGives, MultiTreeCollects, multi_defs, multi_mute, multi_program, multi_sample, multi_terms};
 ghost use Rattle.isle_examples.specs.MultiCalls.{DemandsGatesThough, Gives, LeavesACallUnused, OneCallIsServed, UnusedGateGives, call_in_call, calls_program, extracted_twice, impure_twice, pure_twice, unused_condition, unused_let, used_condition};
 ghost use Rattle.isle_examples.specs.MultiExt.{MultiExtractorsStand, multi_ext_sample};
-ghost use Rattle.isle_examples.specs.NamedConstants.{constants_defs, constants_rules};
+ghost use Rattle.isle_examples.specs.NamedConstants.{ConstantsAreServed, constants_defs, constants_rules};
 ghost use Rattle.isle_examples.specs.NearRefusals.{NoOverlapOfAcceptedRules, OnlyPassedLimitsAreNamed, TermsAreRefused};
 ghost use Rattle.isle_examples.specs.Nested.{NestedClosed, NestedTables, nested_defs, nested_program, nested_rule, nested_rules};
 ghost use Rattle.isle_examples.specs.NoRules.{BoundTwiceHasNone, ConverterHasNone, IfLetHasNone, LiteralHasNone, LiteralsAreNotConverted, MacroArgHasNone, MultiPriorityHasNone, PartialHasNone, converted_defs, converted_rules, iflet_defs, iflet_rules};
+ghost use Rattle.isle_examples.specs.OneOrTwo.{OneOrTwoHoldsOnce, OneOrTwoIsServed, one_or_two_sample};
 ghost use Rattle.isle_examples.specs.Overlap.{OverlapReported, OverlapsFound, TwoReports, overlap_defs, overlap_rules, three_defs, three_rules};
 ghost use Rattle.isle_examples.specs.Partial.{PartialDemands, PartialEnds, PartialIsServed, g_of_one, partial_defs, partial_mute, partial_program, partial_sample, partial_terms};
 ghost use Rattle.isle_examples.specs.PickedAnswers.{HoldUnderNoPick, HoldUnderOnePick};
+ghost use Rattle.isle_examples.specs.PickedNumber.{FivesAreNotMatched, PickedNumberDemands, PickedNumberGives, PickedNumberIsServed, picked_number_sample};
 ghost use Rattle.isle_examples.specs.Prio.{prio_sample};
 ghost use Rattle.isle_examples.specs.Refused.{RefusedAreNotRead, SamplesAreRefused};
+ghost use Rattle.isle_examples.specs.ReportedOnce.{MultiGoesOverMultiCalls, OverlapIsListedOnce, ShadowIsReportedOnce};
 ghost use Rattle.isle_examples.specs.Scopes.{let_in_let_defs, let_in_let_rules, shadowing_defs, shadowing_rules};
 ghost use Rattle.isle_examples.specs.Shadow.{ShadowReported, ShadowsFound, shadow_defs, shadow_rules};
 ghost use Rattle.isle_examples.specs.Shared.{SharedDemands, SharedGives, SharedIsStuck, shared_sample};
@@ -46,6 +51,8 @@ ghost use Rattle.isle_examples.specs.Stages.{CanMatch, CantMatch, ClosingEndsOf,
 ghost use Rattle.isle_examples.specs.Surplus.{surplus_sample};
 ghost use Rattle.isle_examples.specs.TermLists.{Alone, Chained, Early, Infallible, OneFullName, Structs, Templates, refused_terms};
 ghost use Rattle.isle_examples.specs.Ties.{ties_sample};
+ghost use Rattle.isle_examples.specs.ToldApart.{MasksMatchToo, ShadowIsServed, ShadowIsTold, ThirdRulesAreToldApart};
+ghost use Rattle.isle_examples.specs.Tried.{ConstEqHolds, ConstEqHoldsAlike, ConstEqIsTried, OneStepDoesNotMatch, OneStepIsTried, VariantEqHolds, VariantEqHoldsAlike, VariantEqIsTried};
 ghost use Rattle.isle_examples.specs.TypeLists.{ConstantTypes, ThreeTypes, TwoTypes, refused_types};
 ghost use Rattle.isle_examples.specs.Unasked.{UnaskedIsNotDemanded, unasked_defs, unasked_rules, unasked_sample, unasked_set};
 ghost use Rattle.isle_examples.specs.Unreached.{UnreachedCallsAreNotAsked, UnreachedDemands, UnreachedEnds, first_answers, one_im_of_one, unreached_program, unreached_sample};
@@ -53,6 +60,7 @@ ghost use Rattle.isle_examples.specs.Unused.{UnusedDemands, UnusedEnds, unused_s
 ghost use Rattle.isle_examples.specs.Used.{NearTreesDoNotBind, UsedDemands, UsedEnds, used_sample};
 ghost use Rattle.isle_examples.specs.VariantEq.{VariantEqClosed, VariantEqDemands, VariantEqTables, variant_eq_program, variant_eq_rule, variant_eq_sample};
 ghost use Rattle.isle_examples.specs.VariantIds.{VariantsStandAtTheirIds};
+ghost use Rattle.isle_examples.specs.WideRule.{WideRuleIsReported, WideRulePasses};
 ghost use Rattle.isle_examples.specs.Wrap.{wrap_sample};
 ghost use Rattle.isle_examples.specs.Wrapped.{NothingIsAskedAboveCalls, wrapped_defs, wrapped_rules};
 
@@ -435,10 +443,12 @@ pub fn unasked_sample()
 {}
 
 /// An impure call: the rule can be taken, and makes the call from whatever place it is taken.
-#[tactic(auto, using(crate::proofs::SampleStages::impure_stages, crate::proofs::Impure::impure_is_called))]
+#[tactic(auto, using(crate::proofs::SampleStages::impure_stages, crate::proofs::Impure::impure_is_called, crate::proofs::ImpureTaken::impure_is_served, crate::proofs::ImpureTaken::impure_is_taken))]
 pub fn impure_sample()
     ensures stages { HasStages impure_sample }
     ensures called { ImpureIsCalled }
+    ensures served { ImpureIsServed }
+    ensures taken { ImpureIsTaken }
 {}
 
 /// An impure call whose answer nothing takes is a call of its rule all the same: it is bound before the rule returns.
@@ -449,9 +459,10 @@ pub fn dropped_sample()
 {}
 
 /// Constants, and a boolean literal.
-#[tactic(auto, using(crate::proofs::AcceptedLists::constants_accepted))]
+#[tactic(auto, using(crate::proofs::AcceptedLists::constants_accepted, crate::proofs::NamedConstants::constants_are_served))]
 pub fn named_constants()
     ensures accepted { IsAcceptedBoth constants_defs constants_rules }
+    ensures served { ConstantsAreServed }
 {}
 
 /// A set with an impure call that none of its rules uses, and a pure one above it. A meaning in which the first answers what
@@ -707,4 +718,72 @@ pub fn variants_stand_at_their_ids()
 #[tactic(auto, using(crate::proofs::FoundSites::sites_are_found))]
 pub fn sites_are_found()
     ensures { SitesAreFound }
+{}
+
+/// The sample with an extractor uses no multi term: so no rule goes over calls, and its tree runs as the choice by priority.
+#[tactic(auto, using(crate::proofs::Chosen::extract_is_without_multi, crate::proofs::Chosen::extract_is_chosen))]
+pub fn extract_is_chosen()
+    ensures without_multi { ExtractIsWithoutMulti }
+    ensures chosen { ExtractIsChosen }
+{}
+
+/// Of rules that don't overlap one alone matches, and where a shadowed rule matches, its mask does.
+#[tactic(auto, using(crate::proofs::ToldApart::third_rules_are_told_apart, crate::proofs::ToldApart::shadow_is_told, crate::proofs::ToldApart::shadow_is_served, crate::proofs::ToldApart::masks_match_too))]
+pub fn rules_are_told_apart()
+    ensures apart { ThirdRulesAreToldApart }
+    ensures shadow { ShadowIsTold }
+    ensures served { ShadowIsServed }
+    ensures masks { MasksMatchToo }
+{}
+
+/// Two rules of one priority for different numbers: no two overlap wrongly, and the demands of one alone hold.
+#[tactic(auto, using(crate::proofs::OneOrTwo::one_or_two_stages, crate::proofs::OneOrTwo::one_or_two_is_served, crate::proofs::OneOrTwo::one_or_two_holds_once))]
+pub fn one_or_two_sample()
+    ensures stages { HasStages one_or_two_sample }
+    ensures served { OneOrTwoIsServed }
+    ensures holds_once { OneOrTwoHoldsOnce }
+{}
+
+/// Demands with an equality hold on 2 twice and not on 2 and 3, and on one variant twice, and their closed demands hold
+/// alike. A rule whose demands no values meet is tried on a value, and doesn't match.
+#[tactic(auto, using(crate::proofs::Tried::two_is_tried, crate::proofs::Tried::three_is_tried, crate::proofs::Tried::two_holds, crate::proofs::Tried::three_does_not, crate::proofs::Tried::two_holds_alike, crate::proofs::Tried::three_holds_alike, crate::proofs::Tried::variant_is_tried, crate::proofs::Tried::variant_holds, crate::proofs::Tried::variant_holds_alike, crate::proofs::Tried::one_step_is_tried, crate::proofs::Tried::one_step_does_not_match))]
+pub fn rules_are_tried()
+    ensures two { ConstEqIsTried (pos 2) }
+    ensures three { ConstEqIsTried (pos 3) }
+    ensures two_holds { ConstEqHolds (pos 2) }
+    ensures three_does_not { ConstEqHolds (pos 3) → ⊥ }
+    ensures two_alike { ConstEqHoldsAlike (pos 2) }
+    ensures three_alike { ConstEqHoldsAlike (pos 3) }
+    ensures variant { VariantEqIsTried }
+    ensures variant_holds { VariantEqHolds }
+    ensures variant_alike { VariantEqHoldsAlike }
+    ensures one_step { OneStepIsTried }
+    ensures no_match { OneStepDoesNotMatch }
+{}
+
+/// A rule that goes over a call and constrains its answers: of the answers 1 and 5 it gives one result, and under the pick
+/// of 5 it doesn't match.
+#[tactic(auto, using(crate::proofs::PickedNumber::picked_number_stages, crate::proofs::PickedNumber::picked_number_is_served, crate::proofs::PickedNumber::picked_number_gives, crate::proofs::PickedNumber::fives_are_not_matched))]
+pub fn picked_number_sample()
+    ensures stages { HasStages picked_number_sample }
+    ensures demands { PickedNumberDemands }
+    ensures served { PickedNumberIsServed }
+    ensures gives { PickedNumberGives }
+    ensures fives { FivesAreNotMatched }
+{}
+
+/// A rule of 257 arguments passes the limit on them, and building reports that.
+#[tactic(auto, using(crate::proofs::WideRule::wide_rule_passes, crate::proofs::WideRule::wide_rule_is_reported))]
+pub fn wide_rule_is_refused()
+    ensures passes { WideRulePasses }
+    ensures reported { WideRuleIsReported }
+{}
+
+/// A mask whose rules stand at distinct positions has one report, and so has a wrong overlap; the rule of the multi sample
+/// goes over multi calls, and tests none.
+#[tactic(auto, using(crate::proofs::ReportedOnce::shadow_is_reported_once, crate::proofs::ReportedOnce::overlap_is_listed_once, crate::proofs::ReportedOnce::multi_goes_over_multi_calls))]
+pub fn reports_stand_once()
+    ensures mask { ShadowIsReportedOnce }
+    ensures overlap { OverlapIsListedOnce }
+    ensures multi { MultiGoesOverMultiCalls }
 {}

@@ -105,7 +105,7 @@ module _ (P : ℕ → Type 0) where
   made_only (enum_type name id is_extern is_nodebug variants at) a = full_names_only variants a.1
   made_only (struct_type name id is_extern is_nodebug fields at) a = (a.0, tt)
 
-  all_made_only : (ts : List TypeEntry) → AllByRecursion P (flat_map entry_numbers ts) → AllByRecursion P (flat_map made_by ts)
+  pub all_made_only : (ts : List TypeEntry) → AllByRecursion P (flat_map entry_numbers ts) → AllByRecursion P (flat_map made_by ts)
   all_made_only [] a = tt
   all_made_only (t ∷ ts) a =
       all_joined P (made_by t) (flat_map made_by ts) (made_only t (all_left P (entry_numbers t) (flat_map entry_numbers ts) a)) (all_made_only ts (all_right P (entry_numbers t) (flat_map entry_numbers ts) a))

@@ -23,6 +23,7 @@ pub mod Readings
 pub mod Bindings
 pub mod Scopes
 pub mod PatternLeaves
+pub mod TermsFound
 pub mod PatternUsing
 pub mod PatternLists
 pub mod PatternSizes
@@ -38,3 +39,10 @@ pub mod ExprForms
 pub mod IfLetLists
 pub mod SidesForms
 pub mod RuleForms
+pub mod RuleEnds
+pub mod RuleListSteps
+pub mod NamesKept
+pub mod ConstructorLaws
+pub mod CheckedUses
+pub mod RulesTyped
+pub mod NamedTerms

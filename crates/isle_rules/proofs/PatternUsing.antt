@@ -6,16 +6,14 @@ use Rattle.isle_base.specs.declared.syntax.Error.{Error}
 use Rattle.isle_base.specs.declared.syntax.Pattern.{Pattern}
 use Rattle.isle_base.specs.SyntaxViews as S
 use Rattle.isle_model.specs.lists.Syntax.{Position, Name, PatternTree, PatternTrees, no_pattern, pattern_and, term_pattern, pattern_list}
-use Rattle.isle_model.specs.lists.Names.{number, has_name}
+use Rattle.isle_model.specs.lists.Names.{number}
 use Rattle.isle_model.specs.lists.Tables.{TermKindEntry, variant_term, struct_term, declared_term, TermEntry}
 use Rattle.isle_model.specs.lists.Expansions.{substituted, wrapped_pattern}
-use Rattle.isle_model.specs.lists.Setting.{Setting, Scope, term_of, that, has_extractor, is_matchable, kind_template, template_in, pattern_converter}
+use Rattle.isle_model.specs.lists.Setting.{Setting, Scope, entry_named, term_of, that, has_extractor, is_matchable, kind_template, template_in, pattern_converter}
 use Rattle.isle_model.specs.lists.Typings.{Typing, made_into, followed, counted}
 use Rattle.isle_model.specs.lists.Elaborated.{deeper_pattern, elaborated_pattern, elaborated_parts}
 use Rattle.isle_model.specs.rules.Outcome.{then_option}
 use Rattle.isle_model.specs.rules.Typed.{match_term, typed_pattern_and}
-use Rattle.isle_model.proofs.ByNumber.{looked_up}
-use Rattle.isle_model.proofs.Names.{last}
 use Rattle.isle_model.proofs.Options.{then_some}
 use Rattle.isle_laws_lists.proofs.Typings.{ne-eqb, counted_gives}
 use Rattle.isle_types.specs.Envs.{names_of, symbol_of, IsInterned}
@@ -32,6 +30,7 @@ use Rattle.isle_rules.specs.PatternReadings.{pattern_reading, parts_reading}
 use Rattle.isle_rules.specs.PatternUses.{found_term, found_converter, found_template, inside_term, IsExpansionOf, TakesParts}
 use Rattle.isle_rules.specs.Translating.{Standing, Reading, IsSettingOf, Shows, Wherever, IsReported, Stops, ExpandsTo, converter_in, expanding}
 use Rattle.isle_rules.proofs.Scopes.{still}
+use Rattle.isle_rules.proofs.TermsFound.{found_named}
 
 -- one fact after another is checked
 pub checks_both : (a b c : List Error) (P Q : Type 0) → Checks a b P → Checks b c Q → Checks a c (P × Q)
@@ -106,24 +105,7 @@ counted_deeper e multi (suc c) p ty s = refl
 -- a name is found by its number
 module _ (env : TermEnv) (at : Standing) (inv : IsInterned at.tyenv) (x : List ℕ) where
   pub found_so : (o : Option TermEntry) → o ≡ found_term env at.tyenv x → (e : Setting) (s : Scope) → IsSettingOf at.tyenv env e → Shows at s → term_of e s x ≡ o
-  found_so o h e s is sh =
-      sym (is.term_names (number s.names x))
-      ∙ ap (λ ns. then_option (term_in_env env (number ns x)) (slice_get e.terms)) (sym sh.names)
-      ∙ ap (λ i. then_option i (slice_get e.terms)) by_number
-      ∙ ap (λ ts. then_option (option_and_then (term_in_env env) (symbol_of at.tyenv x)) (slice_get ts)) (sym is.terms)
-      ∙ sym h
-    where
-      past : (o : Option ℕ) → term_in_env env (number (names_of at.tyenv) x) ≡ o → has_name (names_of at.tyenv) x ≡ false → o ≡ None
-      past None k none = refl
-      past (Some id) k none = absurd (let l = is.terms_met (number (names_of at.tyenv) x) id k in let m = last (names_of at.tyenv) x none in omega (arith, l, m))
-
-      by_number : term_in_env env (number (names_of at.tyenv) x) ≡ option_and_then (term_in_env env) (symbol_of at.tyenv x)
-      by_number =
-          sym (ap (option_and_then (term_in_env env)) (looked_up (names_of at.tyenv) (symbol_of at.tyenv) inv.numbered inv.named x)
-          ∙ (elim (has_name (names_of at.tyenv) x) as (λ b. has_name (names_of at.tyenv) x ≡ b → option_and_then (term_in_env env) (cond b (Some (number (names_of at.tyenv) x)) None) ≡ term_in_env env (number (names_of at.tyenv) x)) [
-            | true ↦ λ _. refl
-            | false ↦ λ none. sym (past (term_in_env env (number (names_of at.tyenv) x)) refl none)
-          ] refl))
+  found_so o h e s is sh = ap (λ ns. entry_named (number ns x) e.terms) (sym sh.names) ∙ found_named env at.tyenv inv x e is ∙ sym h
 
 module _ (env : TermEnv) (old : Standing) (inv : IsInterned old.tyenv) (name : Name) (args : PatternTrees) (at : Position) (ty : ℕ) where
   abbrev whole : PatternTree

@@ -19,3 +19,5 @@ pub mod ExprReadings
 pub mod ExprUses
 pub mod Lets
 pub mod RuleReadings
+pub mod RuleLists
+pub mod Constructors

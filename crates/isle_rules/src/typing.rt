@@ -2,13 +2,16 @@
 //! work goes on where it can; only a limit ends the work on a rule.
 
 mod checks;
+mod constructors;
 mod expr_leaves;
 mod expr_uses;
 mod exprs;
 mod lets;
+mod limits;
 mod pattern_leaves;
 mod pattern_uses;
 mod patterns;
 mod progress;
 mod rule;
+mod rules;
 mod sides;

@@ -1,5 +1,5 @@
 -- Tables that have no room: their sites stand for the first of those that more would make.
-use Rattle.std.proofs.Common.{◌≡◌, ℕ, zero, suc, ◌+◌, ◌-◌, ◌<◌, ◌≤◌, Bool, true, false, if◌then◌else◌, List, [], ◌∷◌, ◌++◌, length, take, map, flat_map, drop, get_or, Contains, slice_get, refl, sym, ap, ◌∙◌, subst, inl, inr, arith}
+use Rattle.std.proofs.Common.{◌≡◌, ℕ, zero, suc, ◌+◌, ◌<◌, ◌≤◌, true, List, [], ◌∷◌, ◌++◌, length, map, flat_map, drop, get_or, Contains, refl, sym, ap, ◌∙◌, subst, inl, inr, arith}
 use Rattle.std.specs.Prelude.{Result, Ok, Err, IfErr, IsErr, IsErrAnd, nat_eq}
 use Rattle.std.specs.Ordering.{nat_cmp}
 use Rattle.std.specs.List.Sorted.{IsStrictlySortedBy}
@@ -12,7 +12,7 @@ use Rattle.isle_base.specs.declared.visit_fault.VisitFault.TheVariants.{Memory, 
 use Rattle.isle_model.specs.lists.Names.{IsDistinct}
 use Rattle.isle_model.specs.sites.Sites.{Site, Constraint, sources_of, SiteTerm, layer, unfold_site}
 use Rattle.isle_model.specs.sites.Demands.{has_site, with_sites}
-use Rattle.isle_model.specs.sites.Closure.{Closed, field_terms, ascending, class_at, next_constrained, taken, closing}
+use Rattle.isle_model.specs.sites.Closure.{Closed, field_terms, ascending, class_at, taken, closing}
 use Rattle.isle_model.specs.sites.Limits.{most_sites}
 use Rattle.isle_model.specs.sites.RuleSets.{StandFor}
 use Rattle.isle_model.specs.sites.SetRules.{each_place}
@@ -20,7 +20,7 @@ use Rattle.isle_model.proofs.Elements.{contains_from_in}
 use Rattle.isle_model.proofs.SitesMade.{once_with}
 use Rattle.isle_laws_demands.proofs.closure.Closing.{closing_keeps}
 use Rattle.isle_laws_demands.proofs.visits.Unfolding.{SourcesFirst, layer_same}
-use Rattle.isle_sets.specs.SiteTables.{IsAbsent, AddsSites, HasNoRoom, AreFirst, ForWantOfRoom, LacksRoom}
+use Rattle.isle_sets.specs.SiteTables.{IsAbsent, AddsSites, HasSources, HasNoRoom, AreFirst, ForWantOfRoom, LacksRoom}
 use Rattle.isle_sets.specs.Closings.{AreDemandsOf, EndsFull, IsNextDue, is_due, with_member, with_fields}
 use Rattle.isle_sets.specs.DemandsHeld.{are_equated}
 use Rattle.isle_sets.specs.SiteViews.{constraint_view}
@@ -92,17 +92,6 @@ module _ (before : List Site) (first : SourcesFirst before) (b : Site) (below : 
   site_lacks after (Limit Limits.Expansions) h = absurd h
   site_lacks after Stopped h = absurd h
 
--- what held before holds where there was no room
-pub still_holds : (P : List Site → Type 0) (before after : List Site) (b : Site) (e : VisitFault) → P before → HasNoRoom before after b e → ForWantOfRoom (P after) e
-still_holds P before after b (Memory a) p h = tt
-still_holds P before after b (Limit Limits.Sites) p h = subst P (sym h.2) p
-still_holds P before after b (Limit Limits.Fields) p h = absurd h
-still_holds P before after b (Limit Limits.Outputs) p h = absurd h
-still_holds P before after b (Limit Limits.Arguments) p h = absurd h
-still_holds P before after b (Limit Limits.Nesting) p h = absurd h
-still_holds P before after b (Limit Limits.Expansions) p h = absurd h
-still_holds P before after b Stopped p h = absurd h
-
 pub want_weaker : (P Q : Type 0) (e : VisitFault) → (P → Q) → ForWantOfRoom P e → ForWantOfRoom Q e
 want_weaker P Q (Memory a) f h = tt
 want_weaker P Q (Limit Limits.Sites) f h = f h
@@ -112,6 +101,16 @@ want_weaker P Q (Limit Limits.Arguments) f h = absurd h
 want_weaker P Q (Limit Limits.Nesting) f h = absurd h
 want_weaker P Q (Limit Limits.Expansions) f h = absurd h
 want_weaker P Q Stopped f h = absurd h
+
+pub both_want : (P Q : Type 0) (e : VisitFault) → ForWantOfRoom P e → ForWantOfRoom Q e → ForWantOfRoom (P × Q) e
+both_want P Q (Memory a) h k = tt
+both_want P Q (Limit Limits.Sites) h k = (h, k)
+both_want P Q (Limit Limits.Fields) h k = absurd h
+both_want P Q (Limit Limits.Outputs) h k = absurd h
+both_want P Q (Limit Limits.Arguments) h k = absurd h
+both_want P Q (Limit Limits.Nesting) h k = absurd h
+both_want P Q (Limit Limits.Expansions) h k = absurd h
+both_want P Q Stopped h k = absurd h
 
 -- 3. a field among fields has no room
 place_split : (f : ℕ → Site) (i k n : ℕ) → i < n → (rest : List Site) × (each_place f k n ≡ each_place f k i ++ f (k + i) ∷ rest)
@@ -123,9 +122,9 @@ place_split f (suc i) k (suc n) l =
     (r.0, ap (λ t. f k ∷ t) (r.1 ∙ ap (λ j. each_place f (suc k) i ++ f j ∷ r.0) e))
 
 pub field_lacks : (f : ℕ → Site) (before mid after : List Site) (i n : ℕ) (ns : List ℕ) (e : VisitFault) → i < n → AddsSites before mid (each_place f 0 i) ns
-    → ((a : ℕ) → Contains (sources_of (f i)) a → a < length before) → LacksRoom mid after (layer (unfold_site mid) (f i) ∷ []) e
+    → HasSources before (f i) → SourcesFirst mid → length before ≤ length mid → HasNoRoom mid after (f i) e
     → LacksRoom before after (map (layer (unfold_site before)) (each_place f 0 n)) e
-field_lacks f before mid after i n ns e l added below lacks =
+field_lacks f before mid after i n ns e l added below first longer none =
     want_weaker ((terms : List SiteTerm) → IsDistinct terms → StandFor mid terms → AreFirst after (with_sites terms (layer (unfold_site mid) (f i) ∷ [])))
     ((terms : List SiteTerm) → IsDistinct terms → StandFor before terms → AreFirst after (with_sites terms (map (layer (unfold_site before)) (each_place f 0 n)))) e
     (λ h terms once stand.
@@ -141,7 +140,7 @@ field_lacks f before mid after i n ns e l added below lacks =
     let whole : map g (each_place f 0 n) ≡ made ++ g (f i) ∷ map g split.0 =
     ap (map g) (split.1 ∙ ap (λ k. each_place f 0 i ++ f k ∷ split.0) z) ∙ map-append g (each_place f 0 i) (f i ∷ split.0) in
     subst (AreFirst after) (sites_append made (g (f i) ∷ map g split.0) terms ∙ sym (ap (with_sites terms) whole))
-    (first_with after (with_sites (with_sites terms made) (g (f i) ∷ [])) (map g split.0) here)) lacks
+    (first_with after (with_sites (with_sites terms made) (g (f i) ∷ [])) (map g split.0) here)) (site_lacks mid first (f i) (λ a c. let k = below a c in omega (arith, k, longer)) after e none)
 
 -- other sites than these, in other words
 pub same_lack : (before after : List Site) (us vs : List SiteTerm) (e : VisitFault) → us ≡ vs → LacksRoom before after us e → LacksRoom before after vs e

@@ -9,6 +9,7 @@ pub mod Equated
 pub mod FieldSites
 pub mod FoundSites
 pub mod FullTables
+pub mod ListedConstraints
 pub mod SameBindings
 pub mod SideBySide
 pub mod SitesAdded

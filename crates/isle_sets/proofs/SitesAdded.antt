@@ -12,8 +12,9 @@ use Rattle.isle_model.specs.sites.SetRules.{each_place}
 use Rattle.isle_model.proofs.Elements.{contains_from_in}
 use Rattle.isle_model.proofs.SitesMade.{once_with}
 use Rattle.isle_laws_demands.proofs.visits.Unfolding.{SourcesFirst, layer_same}
-use Rattle.isle_sets.specs.SiteTables.{AddsSite, AddsSites, AddsFields, StandsFor}
+use Rattle.isle_sets.specs.SiteTables.{AddsSite, AddsSites, AddsFields, HasSources, StandsFor}
 use Rattle.isle_sets.proofs.FieldSites.{place_more}
+use Rattle.isle_sets.proofs.SitesGrown.{added_stands}
 
 with_sites_push : (ts xs : List SiteTerm) (x : SiteTerm) → with_sites ts (xs ++ x ∷ []) ≡ with_sites (with_sites ts xs) (x ∷ [])
 with_sites_push ts [] x = refl
@@ -91,21 +92,21 @@ struct_fields_added before after ty fields s ns =
 pub no_fields_added : (before : List Site) (c : Constraint) (s : ℕ) → field_terms c (unfold_site before s) ≡ [] → AddsFields before before c s []
 no_fields_added before c s e = fields_added before before [] c s [] (sym e) (none_added before)
 
-no_shorter_by : (mid after : List Site) (b : Site) (n : ℕ) → AddsSite mid after b n → length mid ≤ length after
+pub no_shorter_by : (mid after : List Site) (b : Site) (n : ℕ) → AddsSite mid after b n → length mid ≤ length after
 no_shorter_by mid after b n (inl x) = let e : length after ≡ length mid = ap length x.1 in omega arith
 no_shorter_by mid after b n (inr x) = let e : length after ≡ length (mid ++ b ∷ []) = ap length x.2 in let k = length_push mid b in omega arith
 
 -- one more field
-pub field_added : (f : ℕ → Site) (before mid after : List Site) (i : ℕ) (ns ns' : List ℕ) (b : Site) (n : ℕ) → b ≡ f i → AddsSites before mid (each_place f 0 i) ns → SourcesFirst mid
-    → ((a : ℕ) → Contains (sources_of b) a → a < length before) → length before ≤ length mid → AddsSite mid after b n
-    → ((terms : List SiteTerm) → IsDistinct terms → StandFor mid terms → StandsFor mid after terms b n) → ns' ≡ ns ++ n ∷ []
+pub field_added : (f : ℕ → Site) (before mid after : List Site) (i : ℕ) (ns ns' : List ℕ) (n : ℕ) → AddsSites before mid (each_place f 0 i) ns → SourcesFirst mid
+    → HasSources before (f i) → length before ≤ length mid → AddsSite mid after (f i) n → ns' ≡ ns ++ n ∷ []
     → (length before ≤ length after) × AddsSites before after (each_place f 0 (i + 1)) ns'
-field_added f before mid after i ns ns' b n e added first below longer adds next new =
-    let l = no_shorter_by mid after b n adds in
-    let one = one_added before mid after (each_place f 0 i) ns b n added first below l next in (
+field_added f before mid after i ns ns' n added first below longer adds new =
+    let l = no_shorter_by mid after (f i) n adds in
+    let one = one_added before mid after (each_place f 0 i) ns (f i) n added first below l
+    (λ terms once stand. added_stands mid terms first once stand (f i) (λ a c. let k = below a c in omega (arith, k, longer)) after n adds) in (
       omega arith,
       subst (λ ms. AddsSites before after (each_place f 0 (i + 1)) ms) (sym new)
-          (subst (λ bs. AddsSites before after bs (ns ++ n ∷ [])) (ap (λ x. each_place f 0 i ++ x ∷ []) e ∙ sym (place_more f i)) one),
+          (subst (λ bs. AddsSites before after bs (ns ++ n ∷ [])) (sym (place_more f i)) one),
     )
 
 pub weaker_ok : {T E : Type 0} (P Q : T → Type 0) (r : Result T E) → ((x : T) → P x → Q x) → IfOk r P → IfOk r Q

@@ -2,7 +2,7 @@
 use Rattle.std.specs.Prelude.{◌≡◌, ◌↔◌, ◌⊎◌, ℕ, ◌<◌, ◌≤◌, List, [], ◌∷◌, ◌++◌, length, map, Option, Some, slice_get, take, All, Contains}
 use Rattle.std.specs.HashMap.{get}
 use Rattle.isle_model.specs.lists.Names.{IsDistinct}
-use Rattle.isle_model.specs.sites.Sites.{Site, Constraint, sources_at, SiteTerm, layer, unfold_site}
+use Rattle.isle_model.specs.sites.Sites.{Site, Constraint, sources_of, sources_at, SiteTerm, layer, unfold_site}
 use Rattle.isle_model.specs.sites.Closure.{field_terms}
 use Rattle.isle_model.specs.sites.Demands.{with_sites}
 use Rattle.isle_model.specs.sites.RuleSets.{StandFor}
@@ -28,6 +28,15 @@ pub record IsTable (t : SiteTable) : Type 0 where
   pub found : (q : Binding) → IsSiteNumber (table_sites t) (site_view q) (get ghosts.eq t.numbers q)
   pub few : length (table_sites t) ≤ 65536
   pub sources : (s a : ℕ) → Contains (sources_at (table_sites t) s) a → a < s
+
+-- what a site is made of is there
+abbrev pub HasSources : List Site → Site → Type 0
+HasSources sites b = (a : ℕ) → Contains (sources_of b) a → a < length sites
+
+-- a site may be added to a table: what it is made of is there
+pub record MayAdd (t : SiteTable) (b : Site) : Type 0 where
+  pub table : IsTable t
+  pub sources : HasSources (table_sites t) b
 
 -- no site is this one
 abbrev pub IsAbsent : List Site → Site → Type 0

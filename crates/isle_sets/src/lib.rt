@@ -5,6 +5,7 @@ mod bindings;
 mod closing;
 mod constraints;
 pub mod demanded;
+mod listed;
 mod overlaps;
 mod rule_sets;
 pub mod rules;

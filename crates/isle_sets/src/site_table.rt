@@ -1,12 +1,10 @@
 //! The binding sites of a term, as its rules are read.
-ghost use Rattle.std.specs.Prelude.{◌≡◌, ◌<◌, ℕ, List, [], ◌∷◌, length, map, IfErr, IfOk, OnOk, Contains};
-ghost use Rattle.isle_model.specs.lists.Names.{IsDistinct};
-ghost use Rattle.isle_model.specs.sites.Sites.{sources_of, extract_struct_site, match_variant_site, SiteTerm, layer, unfold_site};
+ghost use Rattle.std.specs.Prelude.{◌≡◌, ◌<◌, [], length, map, IfErr, IfOk, OnOk};
+ghost use Rattle.isle_model.specs.sites.Sites.{extract_struct_site, match_variant_site, layer, unfold_site};
 ghost use Rattle.isle_model.specs.sites.Closure.{field_terms};
-ghost use Rattle.isle_model.specs.sites.RuleSets.{StandFor};
 ghost use Rattle.isle_model.specs.sites.SetRules.{each_place};
 ghost use Rattle.isle_sets.specs.SiteViews.{constraint_view, site_view};
-ghost use Rattle.isle_sets.specs.SiteTables.{AddsFields, AddsSite, AddsSites, ForWantOfRoom, HasNoRoom, IsAbsent, IsSiteNumber, IsTable, LacksRoom, StandsFor, table_sites};
+ghost use Rattle.isle_sets.specs.SiteTables.{AddsFields, AddsSite, AddsSites, ForWantOfRoom, HasNoRoom, IsAbsent, IsSiteNumber, IsTable, LacksRoom, MayAdd, table_sites};
 
 use crate::trie_again::{Binding, BindingId, Constraint, TupleIndex};
 use isle_base::syntax::Limit;
@@ -46,27 +44,22 @@ impl SiteTable {
 
     /// The number of a binding's site, if it has one.
     pub fn find(&self, binding: &Binding) -> Option<BindingId>
-        requires { IsTable self.now }
-        ensures { IsSiteNumber (table_sites self.now) (site_view binding.now) result }
+        ensures { IsTable self.now → IsSiteNumber (table_sites self.now) (site_view binding.now) result }
     {
         self.numbers.get(binding).copied()
     }
 
-    /// The number of a binding's site, which is a new one where it has none. The sites that it is made of are there.
+    /// The number of a binding's site, which is a new one where it has none. What the answer says holds where the sites
+    /// that it is made of are there.
     ///
     /// # Errors
     ///
     /// `Limit` where a new site would be one past 65,536: the table is then as it was. `Memory` where memory is refused.
     pub fn add(&mut self, binding: Binding) -> Result<BindingId, VisitFault>
-        requires table { IsTable self.old }
-        requires sources { (a : ℕ) → Contains (sources_of (site_view binding)) a → a < length (table_sites self.old) }
-        ensures number { IfOk result (AddsSite (table_sites self.old) (table_sites self.new) (site_view binding)) }
-        ensures table { OnOk result (IsTable self.new) }
-        ensures stand { (terms : List SiteTerm) → IsDistinct terms → StandFor (table_sites self.old) terms
-            → IfOk result (StandsFor (table_sites self.old) (table_sites self.new) terms (site_view binding)) }
-        ensures err { IfErr result (HasNoRoom (table_sites self.old) (table_sites self.new) (site_view binding)) }
-        ensures kept { IfErr result (ForWantOfRoom (IsTable self.new)) }
-        ensures full { IfErr result (LacksRoom (table_sites self.old) (table_sites self.new) (layer (unfold_site (table_sites self.old)) (site_view binding) ∷ [])) }
+        ensures added { MayAdd self.old (site_view binding)
+            → IfOk result (λ n. AddsSite (table_sites self.old) (table_sites self.new) (site_view binding) n × IsTable self.new) }
+        ensures full { MayAdd self.old (site_view binding)
+            → IfErr result (λ e. HasNoRoom (table_sites self.old) (table_sites self.new) (site_view binding) e × ForWantOfRoom (IsTable self.new) e) }
     {
         match self.find(&binding) {
             Some(number) => Ok(number),
@@ -165,13 +158,10 @@ impl SiteTable {
 
     // The next number, for a binding that has no site.
     fn push(&mut self, binding: Binding) -> Result<BindingId, VisitFault>
-        requires table { IsTable self.old }
-        requires sources { (a : ℕ) → Contains (sources_of (site_view binding)) a → a < length (table_sites self.old) }
-        requires absent { IsAbsent (table_sites self.old) (site_view binding) }
-        ensures number { IfOk result (AddsSite (table_sites self.old) (table_sites self.new) (site_view binding)) }
-        ensures table { OnOk result (IsTable self.new) }
-        ensures err { IfErr result (HasNoRoom (table_sites self.old) (table_sites self.new) (site_view binding)) }
-        ensures kept { IfErr result (ForWantOfRoom (IsTable self.new)) }
+        ensures added { MayAdd self.old (site_view binding) → IsAbsent (table_sites self.old) (site_view binding)
+            → IfOk result (λ n. AddsSite (table_sites self.old) (table_sites self.new) (site_view binding) n × IsTable self.new) }
+        ensures full { MayAdd self.old (site_view binding) → IsAbsent (table_sites self.old) (site_view binding)
+            → IfErr result (λ e. HasNoRoom (table_sites self.old) (table_sites self.new) (site_view binding) e × ForWantOfRoom (IsTable self.new) e) }
     {
         let Ok(number) = BindingId::try_from(self.bindings.len()) else {
             return Err(VisitFault::Limit(Limit::Sites));

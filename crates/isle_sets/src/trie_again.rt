@@ -38,6 +38,21 @@ impl TupleIndex {
     {
         self.0 as usize
     }
+
+    /// The number itself, as it is kept.
+    pub fn as_u8(self) -> u8
+        ensures { result ≡ self }
+    {
+        self.0
+    }
+}
+
+impl From<u8> for TupleIndex {
+    ghost from_gives = { λ n i. i ≡ n };
+
+    fn from(value: u8) -> TupleIndex {
+        TupleIndex(value)
+    }
 }
 
 impl TryFrom<usize> for TupleIndex {

@@ -1,33 +1,30 @@
 -- What the search for recursion among templates says of a list of definitions.
-use Rattle.std.proofs.Common.{◌≡◌, ◌==◌, ℕ, zero, suc, ◌+◌, ◌<◌, Bool, true, false, cond, List, [], ◌∷◌, ◌++◌, ◌⊎◌, length, take, drop, slice_get, Option, None, Some, is_some, option_map, Contains, Vec, refl, sym, ap, subst, ◌∙◌, eqb-true, arith, inl, inr, ⊎_elim}
+use Rattle.std.proofs.Common.{◌≡◌, ◌==◌, ℕ, zero, suc, ◌+◌, ◌<◌, Bool, true, false, cond, List, [], ◌∷◌, ◌⊎◌, length, slice_get, Option, None, Some, is_some, option_map, Contains, Vec, refl, sym, ap, subst, ◌∙◌, eqb-true, arith, inl, inr, ⊎_elim}
 use Rattle.std.specs.List.{find, filter_map, flat_map}
 use Rattle.std.specs.Str.{bytes_eq}
 use Rattle.std.specs.declared.alloc.Global.{Global}
 use Rattle.std.proofs.lemmas.Bool.{false≢true}
 use Rattle.std.proofs.lemmas.Bool.Decides.{Decides-eqb}
-use Rattle.std.proofs.lemmas.List.{append-nil, at_drop_all, take_all}
 use Rattle.std.proofs.lemmas.List.Elements.{All-nil, All-contains}
-use Rattle.std.proofs.lemmas.Option.{same_Some, slice_get-map}
+use Rattle.std.proofs.lemmas.Option.{same_Some}
 use Rattle.isle_model.specs.lists.Syntax.{Name, ExtractorTree, Definition}
 use Rattle.isle_model.specs.lists.Tables.{ConstructorEntry, ExtractorEntry, internal_extractor, TermEntry}
 use Rattle.isle_model.specs.lists.TermTable.{decl_names, rule_trees, extractor_trees, extractor_template, terms_in, term_names, term_named, made_by, IsDeclaredTerm, IsKnownTerm, NamesKnownTerms, Uses, Reaches, directly, through, IsAcyclic}
 use Rattle.isle_model.specs.claims.Environments.{TypesRead, AreReadable, IsLeftByRefusal}
 use Rattle.isle_model.proofs.Bytes.{same_self}
-use Rattle.isle_model.proofs.Members.{in_cases, in_map, from_map, member_from_get}
+use Rattle.isle_model.proofs.Members.{in_cases, in_map, from_map}
 use Rattle.isle_base.specs.declared.syntax.Error.{Error}
 use Rattle.isle_types.specs.declared.ids.TermId.{TermId}
 use Rattle.isle_types.specs.declared.type_env.TypeEnv.{TypeEnv}
 use Rattle.isle_types.specs.Envs.{IsInterned}
 use Rattle.isle_types.specs.EnvViews.{environment_view}
 use Rattle.isle_terms.specs.declared.term_table.TermTable.{TermTable}
-use Rattle.isle_terms.specs.declared.reading.recursion.Mark.{Mark}
-use Rattle.isle_terms.specs.declared.reading.recursion.Mark.TheVariants.{Unmet, Met, Ends}
 use Rattle.isle_terms.specs.Reading.{term_of_name}
 use Rattle.isle_terms.specs.Stages.{constructor_after}
 use Rattle.isle_terms.specs.Signing.{Notes, ReadsTerms}
 use Rattle.isle_terms.specs.Converting.{template_after}
 use Rattle.isle_terms.specs.Templating.{callees_of, AreCallees, AreRightExtractors, CallsAreOf, TemplatesRead}
-use Rattle.isle_terms.specs.Recursion.{all_end, AreMarks, AreWithin, by_one, by_more, Comes, ComesBack, EndsBelow, ExtractorsRead, HasEnd, HaveTemplates, IsWayBack, LeadsTo, has_template, is_on, is_template}
+use Rattle.isle_terms.specs.Recursion.{all_end, AreWithin, by_one, by_more, Comes, ComesBack, EndsBelow, ExtractorsRead, HasEnd, HaveTemplates, has_template, is_template}
 use Rattle.isle_terms.proofs.Noting.{both_note, notes_as, step}
 use Rattle.isle_terms.proofs.Standing.{entry_found, no_place, term_is}
 use Rattle.isle_terms.proofs.TemplateSteps.{one_name}
@@ -53,29 +50,9 @@ no_return cs {t} (all_end f) c =
 pub within_all : (table : TermTable) (cs : Callees) → AreCallees table cs → AreWithin cs
 within_all table cs c t u h = subst (λ n. u < n) (sym c.count) (c.within t u h)
 
-on_is : (root : ℕ) (m : Mark) → is_on root m ≡ true → (by : TermId) × (m ≡ Met by) × (by.0 ≡ root)
-on_is root Unmet h = absurd (false≢true h)
-on_is root (Met by) h = (by, refl, eqb-true by.0 root h)
-on_is root Ends h = absurd (false≢true h)
-
-mapped_some : {X Y : Type 0} (f : X → Y) (o : Option X) (y : Y) → option_map f o ≡ Some y → (x : X) × (o ≡ Some x) × (f x ≡ y)
-mapped_some f None y h = absurd (cc)
-mapped_some f (Some x) y h = (x, refl, same_Some (f x) y h)
-
-pub no_path : (cs : Callees) (root u : ℕ) (ms : List Mark) → AreMarks cs root ms → LeadsTo cs root ms u
-no_path cs root u ms m t on =
-    let a = mapped_some (is_on root) (slice_get ms t) true (sym (slice_get-map (is_on root) ms t) ∙ on) in
-    let b = on_is root a.0 a.2 in
-    let l = m.roots_below t b.0 (a.1 ∙ ap Some b.1) in
-    let same = b.2 in
-    absurd (omega (arith, l, same))
-
--- the last term of a way back names a term
-pub last_calls : (cs : Callees) (path : List TermId) (r : TermId) → slice_get path 0 ≡ Some r → IsWayBack cs path → (u : ℕ) × Contains (callees_of cs r.0) u
-last_calls cs path r h w =
-    let same : w.last ≡ r = same_Some w.last r (sym w.first ∙ h) in
-    let c = first_call cs (subst (λ (k : TermId). Comes cs k.0 k.0) same w.comes) in
-    (c.0, c.1)
+-- a term that comes to itself names a term
+pub back_calls : (cs : Callees) {t : ℕ} → Comes cs t t → (u : ℕ) × Contains (callees_of cs t) u
+back_calls cs c = let r = first_call cs c in (r.0, r.1)
 
 -- one more root
 pub next_root_ends : (table : TermTable) (cs : Callees) (n : ℕ) (first es es' : List Error) → Notes es es' (HaveTemplates table cs → HasEnd cs n) (ComesBack cs) → Notes first es (EndsBelow table cs n) (ComesBack cs) → Notes first es' (EndsBelow table cs (n + 1)) (ComesBack cs)
@@ -208,16 +185,6 @@ searched e readable defs cs env table es es' b a s =
     })
     (λ h back v. back_cyclic e defs cs h.1.right h.1.calls back v.acyclic) s
 
--- a part that was lent whole, when it is back
-pub back_whole : {X : Type 0} (new old : List X) (n : ℕ) → length new ≡ length old → n ≡ length old → take n (new ++ drop (length new) old) ≡ new
-back_whole new old n same size =
-    let none : drop (length new) old ≡ [] = at_drop_all (λ l. l) old (length new) (omega (arith, same)) in
-    ap (λ l. take n (new ++ l)) none ∙ ap (take n) (append-nil new) ∙ take_all n new (omega (arith, same, size))
-
 pub no_some : {X : Type 0} (o : Option X) → ((x : X) → o ≡ Some x → ⊥) → is_some o ≡ true → ⊥
 no_some None h e = false≢true e
 no_some (Some x) h e = h x refl
-
--- the last term of a way back is a term
-pub last_within : (cs : Callees) (path : List TermId) (r : TermId) → slice_get path 0 ≡ Some r → IsWayBack cs path → r.0 < length cs
-last_within cs path r h w = All-contains (λ (t : TermId). t.0 < length cs) path r w.within (member_from_get path 0 r h)

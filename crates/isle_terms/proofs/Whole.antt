@@ -1,6 +1,6 @@
 -- From one group of the reading of terms to the next one, and what stands at the end.
 use Rattle.std.proofs.Common.{◌≡◌, ◌==◌, ◌||◌, ℕ, suc, ◌+◌, ◌<◌, true, false, cond, List, [], ◌∷◌, ◌++◌, length, map, slice_get, Option, None, Some, option_map, Contains, OnOk, Result, Ok, Err, refl, sym, ap, subst, ◌∙◌, arith, inl, ⊎_elim}
-use Rattle.std.specs.List.{cons_option, enumerate_from, filter_map, find, flat_map, AllByRecursion}
+use Rattle.std.specs.List.{cons_option, enumerate_from, filter_map, find, flat_map}
 use Rattle.std.specs.Str.{bytes_eq}
 use Rattle.std.proofs.lemmas.Bool.{false≢true}
 use Rattle.std.proofs.lemmas.List.{append-nil}
@@ -9,14 +9,13 @@ use Rattle.isle_model.specs.lists.Syntax.{DeclTree, ExtractorTree, Definition}
 use Rattle.isle_model.specs.lists.Names.{number, has_name, with_names, IsDistinct}
 use Rattle.isle_model.specs.rules.Meaning.{look}
 use Rattle.isle_model.specs.rules.Outcome.{then_option}
-use Rattle.isle_model.specs.lists.Tables.{VariantEntry, TypeEntry, builtin_type, primitive_type, enum_type, struct_type, TermEntry, declared_term, internal_extractor}
-use Rattle.isle_model.specs.lists.KnownTypes.{field_numbers, variant_numbers, entry_numbers, IsWellFormed}
+use Rattle.isle_model.specs.lists.Tables.{TypeEntry, TermEntry, declared_term, internal_extractor}
+use Rattle.isle_model.specs.lists.KnownTypes.{entry_numbers, IsWellFormed}
 use Rattle.isle_model.specs.lists.TermTable.{decl_flags, decl_trees, decl_names, rule_trees, extractor_trees, extractor_template, internal_extractors, function_of, made_by, term_names, term_names_met, terms_made, term_table, converters, IsValidTerms}
 use Rattle.isle_model.specs.claims.Environments.{TypesRead, AreReadable, AreTermsOf, IsLeftByRefusal, IsReadAs, terms_by_name, with_read_names}
-use Rattle.isle_model.proofs.Joined.{all_joined, all_left, all_right}
 use Rattle.isle_model.proofs.Members.{in_cases, nothing_in, get_from_member}
 use Rattle.isle_model.proofs.Names.{has_at, has_met, has_left, has_kept}
-use Rattle.isle_laws_lists.proofs.TermLaws.{terms_have_names_lem, terms_stand_at_ids_lem}
+use Rattle.isle_laws_lists.proofs.TermLaws.{all_made_only, terms_have_names_lem, terms_stand_at_ids_lem}
 use Rattle.isle_base.specs.Answers.{limit_of}
 use Rattle.isle_base.specs.declared.syntax.Error.{Error}
 use Rattle.isle_types.specs.declared.type_env.TypeEnv.{TypeEnv}
@@ -64,22 +63,6 @@ first_declared e defs env table es r terms ids converters none = record {
 }
 
 -- the names that make terms were met
-module _ (P : ℕ → Type 0) where
-  full_names_only : (vs : List VariantEntry) → AllByRecursion P (flat_map variant_numbers vs) → AllByRecursion P (map (λ v. v.full_name) vs)
-  full_names_only [] a = tt
-  full_names_only (v ∷ vs) a = (a.0, full_names_only vs (all_right P (field_numbers v.fields) (flat_map variant_numbers vs) a.1.1))
-
-  made_only : (t : TypeEntry) → AllByRecursion P (entry_numbers t) → AllByRecursion P (made_by t)
-  made_only (builtin_type place) a = tt
-  made_only (primitive_type id name at) a = tt
-  made_only (enum_type name id is_extern is_nodebug variants at) a = full_names_only variants a.1
-  made_only (struct_type name id is_extern is_nodebug fields at) a = (a.0, tt)
-
-  all_made_only : (ts : List TypeEntry) → AllByRecursion P (flat_map entry_numbers ts) → AllByRecursion P (flat_map made_by ts)
-  all_made_only [] a = tt
-  all_made_only (t ∷ ts) a =
-      all_joined P (made_by t) (flat_map made_by ts) (made_only t (all_left P (entry_numbers t) (flat_map entry_numbers ts) a)) (all_made_only ts (all_right P (entry_numbers t) (flat_map entry_numbers ts) a))
-
 made_met : (e : TypesRead) → IsWellFormed e.known → NumbersAreMet e (flat_map made_by e.known.types)
 made_met e w = all_made_only (λ n. n < length e.known.names) e.known.types (recursion_from_All (λ n. n < length e.known.names) (flat_map entry_numbers e.known.types) w.numbers_in_range)
 

@@ -1,5 +1,5 @@
 -- Whether templates come back to themselves, by the terms that each names, and how far the search for it is.
-use Rattle.std.specs.Prelude.{◌≡◌, ℕ, ◌<◌, Bool, true, false, nat_eq, List, length, map, Option, None, Some, All, Contains, slice_get, Vec}
+use Rattle.std.specs.Prelude.{◌≡◌, ℕ, ◌+◌, ◌-◌, ◌<◌, ◌⊎◌, Bool, true, false, nat_eq, cond, List, [], ◌∷◌, ◌++◌, length, map, take, replicate, set, sum_by, Option, None, Some, All, Contains, IfSome, slice_get, Vec, ⊤}
 use Rattle.std.specs.declared.alloc.Global.{Global}
 use Rattle.isle_model.specs.lists.Syntax.{Definition}
 use Rattle.isle_model.specs.lists.Tables.{ExtractorEntry, internal_extractor, external_extractor, TermKindEntry, variant_term, struct_term, declared_term, TermEntry}
@@ -9,6 +9,7 @@ use Rattle.isle_types.specs.declared.ids.TermId.{TermId}
 use Rattle.isle_types.specs.declared.type_env.TypeEnv.{TypeEnv}
 use Rattle.isle_terms.specs.declared.reading.recursion.Mark.{Mark}
 use Rattle.isle_terms.specs.declared.reading.recursion.Mark.TheVariants.{Unmet, Met, Ends}
+use Rattle.isle_terms.specs.declared.reading.recursion.Search.{Search}
 use Rattle.isle_terms.specs.declared.term_table.TermTable.{TermTable}
 use Rattle.isle_terms.specs.TermViews.{term_views}
 use Rattle.isle_terms.specs.Stages.{HasNoConverter, constructor_after}
@@ -55,31 +56,73 @@ pub record AreMarks (callees : List (Vec TermId Global)) (roots : ℕ) (marks : 
   pub ends : (t : ℕ) → slice_get marks t ≡ Some Ends → HasEnd callees t
   pub roots_below : (t : ℕ) (by : TermId) → slice_get marks t ≡ Some (Met by) → by.0 < roots
 
--- so many terms, of which none was met
-pub record AreUnmet (count : ℕ) (marks : List Mark) : Type 0 where
-  pub count_is : length marks ≡ count
-  pub unmet : (t : ℕ) (mark : Mark) → slice_get marks t ≡ Some mark → mark ≡ Unmet
+-- of the terms that each one names, so many have an end: the first ones
+pub record AreEnded (callees : List (Vec TermId Global)) (ended : List ℕ) : Type 0 where
+  pub count : length ended ≡ length callees
+  pub ends : (t n u : ℕ) → slice_get ended t ≡ Some n → Contains (take n (callees_of callees t)) u → HasEnd callees u
 
--- each term on the path comes to this one
-abbrev pub LeadsTo : List (Vec TermId Global) → ℕ → List Mark → ℕ → Type 0
-LeadsTo callees root marks u = (t : ℕ) → slice_get (on_path root marks) t ≡ Some true → Comes callees t u
+-- of so many terms none was met
+pub record IsAtStart (count : ℕ) (search : Search) : Type 0 where
+  pub marks : search.marks.items ≡ replicate count Unmet
+  pub ended : search.ended.items ≡ replicate count 0
 
--- a way back: its last term, the first of this list, comes to itself
-pub record IsWayBack (callees : List (Vec TermId Global)) (path : List TermId) : Type 0 where
-  pub within : All (λ t. t.0 < length callees) path
-  pub last : TermId
-  pub first : slice_get path 0 ≡ Some last
-  pub comes : Comes callees last.0 last.0
+-- what is known from the roots so far, which are below this number
+pub record AreFindings (callees : List (Vec TermId Global)) (roots : ℕ) (search : Search) : Type 0 where
+  pub marks : AreMarks callees roots search.marks.items
+  pub ended : AreEnded callees search.ended.items
 
--- a term was walked: from it each way ends, and the path is as it was
-pub record IsWalked (callees : List (Vec TermId Global)) (root : ℕ) (old new : List Mark) (t : ℕ) : Type 0 where
-  pub ends : HasEnd callees t
-  pub path : on_path root new ≡ on_path root old
+-- each of these terms names the next
+abbrev pub IsChain : List (Vec TermId Global) → List TermId → Type 0
+IsChain callees [] = ⊤
+IsChain callees (t ∷ ts) = IfSome (slice_get ts 0) (λ u. Contains (callees_of callees t.0) u.0) × IsChain callees ts
 
--- so were these
-pub record AreWalked (callees : List (Vec TermId Global)) (root : ℕ) (old new : List Mark) (terms : List ℕ) : Type 0 where
-  pub ends : (t : ℕ) → Contains terms t → HasEnd callees t
-  pub path : on_path root new ≡ on_path root old
+-- the search from a root is on its way: the path, a chain, has all terms that are marked so, and begins with the root,
+-- unless each way from that ends
+pub record IsOnWay (callees : List (Vec TermId Global)) (root : TermId) (search : Search) : Type 0 where
+  pub findings : AreFindings callees (root.0 + 1) search
+  pub within : All (λ t. t.0 < length callees) search.path.items
+  pub chain : IsChain callees search.path.items
+  pub marked : (t : ℕ) → slice_get (on_path root.0 search.marks.items) t ≡ Some true → Contains (map (λ u. u.0) search.path.items) t
+  pub begins : (slice_get search.path.items 0 ≡ Some root) ⊎ HasEnd callees root.0
+
+-- the steps that a term of this mark takes yet: one onto the path, and one back
+abbrev pub steps_of : ℕ → Mark → ℕ
+steps_of root Unmet = 2
+steps_of root (Met by) = cond (nat_eq by.0 root) 0 2
+steps_of root Ends = 0
+
+-- how many uses of terms aren't known to end
+abbrev pub uses_left : List (Vec TermId Global) → List ℕ → ℕ
+uses_left [] ended = 0
+uses_left (v ∷ vs) [] = 0
+uses_left (v ∷ vs) (n ∷ ns) = (length v.items - n) + uses_left vs ns
+
+-- the steps that a search takes yet, at most: one for each use, and two for each term
+abbrev pub steps_left : List (Vec TermId Global) → TermId → Search → ℕ
+steps_left callees root search = uses_left callees search.ended.items + sum_by (steps_of root.0) search.marks.items + length search.path.items
+
+-- a term is put on the path
+pub record Enters (root term : TermId) (old new : Search) : Type 0 where
+  pub marks : new.marks.items ≡ set old.marks.items term.0 (Met root)
+  pub ended : new.ended.items ≡ old.ended.items
+  pub path : new.path.items ≡ old.path.items ++ term ∷ []
+
+-- the search goes on, with fewer steps left
+pub record GoesOn (callees : List (Vec TermId Global)) (root : TermId) (old new : Search) : Type 0 where
+  pub way : IsOnWay callees root new
+  pub fewer : steps_left callees root new < steps_left callees root old
+
+-- the search came to its end, and so does each way from the root
+pub record IsSearched (callees : List (Vec TermId Global)) (root : TermId) (search : Search) : Type 0 where
+  pub findings : AreFindings callees (root.0 + 1) search
+  pub ends : HasEnd callees root.0
+
+-- the search met a term that comes back to itself
+pub record IsWayBack (callees : List (Vec TermId Global)) (root : TermId) (search : Search) (term : TermId) : Type 0 where
+  pub findings : AreFindings callees (root.0 + 1) search
+  pub within : All (λ t. t.0 < length callees) search.path.items
+  pub there : term.0 < length callees
+  pub comes : Comes callees term.0 term.0
 
 -- whether a term has a template
 abbrev pub is_template : Option ExtractorEntry → Bool

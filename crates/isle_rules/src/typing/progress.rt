@@ -1,7 +1,7 @@
 //! What typing a rule has come to.
 
-ghost use Rattle.std.specs.Prelude.{◌≡◌, ◌+◌, ◌<◌, IfOk, OnOk, MatchResult, option_map, length, alloc_error};
-ghost use Rattle.isle_rules.specs.Progress.{newest, BindsNext, PutsBack, Counts, IsFresh};
+ghost use Rattle.std.specs.Prelude.{◌≡◌, ◌≤◌, IfOk, OnOk, option_map, length, alloc_error};
+ghost use Rattle.isle_model.specs.lists.Elaborated.{most_expansions};
 ghost use Rattle.isle_rules.specs.RuleViews.{var_view};
 ghost use Rattle.isle_rules.specs.declared.typing.progress.Stop.TheVariants.{Memory};
 
@@ -58,13 +58,16 @@ pub(crate) struct Progress {
     /// What each name stands for now, where it was ever bound: looked up, so that a rule of many variables takes
     /// no time that grows with their square.
     pub in_scope: StableMap<Sym, Option<BoundVar>>,
-    /// How many expansions were made.
+    /// How many expansions were made: no more than a rule may take.
     pub expansions: usize,
     /// What was found wrong, in earlier rules too.
     pub errors: Vec<Error>,
+    pub ghost few: { expansions ≤ most_expansions },
 }
 
 impl Progress {
+    ghost use Rattle.isle_rules.specs.Progress.{newest, BindsNext, PutsBack, Counts, IsFresh};
+
     /// Nothing of a rule is typed yet, and these errors were found before it.
     pub(crate) fn new(alloc: Global, errors: Vec<Error>) -> Progress
         ensures { IsFresh result errors.items }
@@ -75,6 +78,16 @@ impl Progress {
             expansions: 0,
             errors,
         }
+    }
+
+    /// Starts on the next rule, of which nothing is typed yet. The errors found before it stay.
+    pub(crate) fn begin(&mut self)
+        ensures { IsFresh self.new self.old.errors.items }
+    {
+        let alloc = *self.errors.allocator();
+        self.seen = Vec::new(alloc);
+        self.in_scope = StableMap::new(alloc);
+        self.expansions = 0;
     }
 
     /// The newest variable of a name that can be used.

@@ -1,14 +1,13 @@
 //! How recursion among the templates of internal extractors is found: a search from each term along the terms
 //! that templates name, the greatest one first. A term from which nothing comes back is walked once, whatever
-//! root it is met from.
+//! root it is met from. The path is kept in a list, so that a long chain of templates takes no stack.
 
-ghost use Rattle.std.specs.Prelude.{◌≡◌, ◌+◌, ◌++◌, ◌∷◌, ◌<◌, [], All, IfOk, OnOk, MatchOption, is_some, length, map};
-ghost use Rattle.isle_types.specs.VariantReading.{ReportsIf};
+ghost use Rattle.std.specs.Prelude.{◌≡◌, ◌+◌, ◌-◌, ◌<◌, ◌^◌, All, IfOk, IfSome, OnOk, MatchOption, Some, get_or, is_some, length, option_map, slice_get};
 ghost use Rattle.isle_types.specs.Reading.{Reports};
 ghost use Rattle.isle_terms.specs.Signing.{Notes};
 ghost use Rattle.isle_terms.specs.TermViews.{term_view};
-ghost use Rattle.isle_terms.specs.Templating.{AreCallees};
-ghost use Rattle.isle_terms.specs.Recursion.{AreMarks, AreUnmet, AreWalked, AreWithin, ComesBack, EndsBelow, HasEnd, HaveTemplates, IsWalked, IsWayBack, LeadsTo, has_template, is_end, is_on, on_path};
+ghost use Rattle.isle_terms.specs.Templating.{AreCallees, callees_of};
+ghost use Rattle.isle_terms.specs.Recursion.{AreFindings, AreWithin, ComesBack, EndsBelow, Enters, GoesOn, HasEnd, HaveTemplates, IsAtStart, IsSearched, IsOnWay, IsWayBack, has_template, is_end, is_on};
 
 use crate::term::{ExtractorKind, Term, TermKind};
 use crate::term_table::TermTable;
@@ -27,6 +26,18 @@ pub(crate) enum Mark {
     Ends,
 }
 
+// The search for recursion among templates, from one root after the other.
+#[derive(Drop)]
+pub(crate) struct Search {
+    // How far each term is walked.
+    pub(crate) marks: Vec<Mark>,
+    // How many of the terms that each one names, from the first one on, are known to end: no search looks at them
+    // again.
+    pub(crate) ended: Vec<usize>,
+    // The terms from the root to the one that is walked, each of which names the next.
+    pub(crate) path: Vec<TermId>,
+}
+
 impl TermTable {
     // Notes each term from which recursion is met.
     pub(crate) fn check_recursion(
@@ -38,9 +49,9 @@ impl TermTable {
         requires { AreCallees self.now callees.now }
         ensures { OnOk result (Notes errors.old.items errors.new.items (EndsBelow self.now callees.now (length callees.now)) (ComesBack callees.now)) }
     {
-        let mut marks = unmet(*errors.allocator(), callees.len())?;
+        let mut search = Search::new(*errors.allocator(), callees.len())?;
         for id in 0..callees.len() {
-            self.check_root(tyenv, errors, callees, &mut marks, TermId(id))?;
+            self.check_root(tyenv, errors, callees, &mut search, TermId(id))?;
         }
         Ok(())
     }
@@ -51,29 +62,25 @@ impl TermTable {
         tyenv: &TypeEnv,
         errors: &mut Vec<Error>,
         callees: &[Vec<TermId>],
-        marks: &mut [Mark],
+        search: &mut Search,
         root: TermId,
     ) -> Result<(), AllocError>
         requires callees { AreCallees self.now callees.now }
         requires root { root.0 < length callees.now }
-        requires marks { AreMarks callees.now root.0 marks.old }
-        ensures marks { OnOk result (AreMarks callees.now (root.0 + 1) marks.new) }
+        requires findings { AreFindings callees.now root.0 search.old }
+        ensures findings { OnOk result (AreFindings callees.now (root.0 + 1) search.new) }
         ensures notes { OnOk result (Notes errors.old.items errors.new.items (HaveTemplates self.now callees.now → HasEnd callees.now root.0) (ComesBack callees.now)) }
     {
-        let alloc = *errors.allocator();
-        let Some(path) = walk(alloc, callees, marks, root, root)? else {
-            return Ok(());
-        };
-        let Some(repeated) = path.first() else {
+        let Some(repeated) = search.walk(callees, root)? else {
             return Ok(());
         };
         let Some(pos) = template_pos(&self.terms[repeated.index()]) else {
             return Ok(());
         };
-        self.report_recursion(tyenv, errors, pos, root, &path)
+        self.report_recursion(tyenv, errors, pos, root, &search.path)
     }
 
-    // Notes recursion that is met from a root along a path, which is told backwards.
+    // Notes recursion that is met from a root along a path, which begins with it.
     fn report_recursion(
         &self,
         tyenv: &TypeEnv,
@@ -89,11 +96,100 @@ impl TermTable {
         let alloc = *errors.allocator();
         let name = tyenv.text_of(self.terms[root.index()].name);
         let mut msg = format!(in alloc; "`{name}` extractor definition is recursive: {name}")?;
-        for term in path.iter().rev().skip(1) {
+        for term in path.iter().skip(1) {
             msg.push_str(" -> ")?;
             msg.push_str(tyenv.text_of(self.terms[term.index()].name))?;
         }
         report(errors, pos, msg.as_str())
+    }
+}
+
+impl Search {
+    // The search in so many terms of which none was met.
+    fn new(alloc: Global, count: usize) -> Result<Search, AllocError>
+        ensures { IfOk result (IsAtStart count) }
+    {
+        let marks = vec![in alloc; Mark::Unmet; count]?;
+        let ended = vec![in alloc; 0; count]?;
+        Ok(Search {
+            marks,
+            ended,
+            path: Vec::new(alloc),
+        })
+    }
+
+    // Searches from a root. The answer is the first term that comes back to itself, if there is one: the path
+    // leads to it then.
+    fn walk(&mut self, callees: &[Vec<TermId>], root: TermId) -> Result<Option<TermId>, AllocError>
+        requires within { AreWithin callees.now }
+        requires there { root.0 < length callees.now }
+        requires findings { AreFindings callees.now root.0 self.old }
+        ensures { IfOk result (λ o. MatchOption o (IsSearched callees.now root self.new) (IsWayBack callees.now root self.new)) }
+    {
+        if ends(self.marks[root.index()]) {
+            return Ok(None);
+        }
+        self.path.clear();
+        self.enter(root, root)?;
+        while let Some(last) = self.path.last().copied() {
+            let found = self.step(callees, root, last)?;
+            if found.is_some() {
+                return Ok(found);
+            }
+        }
+        Ok(None)
+    }
+
+    // One step of the search from a root: on from the last term of the path, or back from it. The answer is a
+    // term that comes back to itself, if one is met.
+    fn step(
+        &mut self,
+        callees: &[Vec<TermId>],
+        root: TermId,
+        last: TermId,
+    ) -> Result<Option<TermId>, AllocError>
+        requires within { AreWithin callees.now }
+        requires way { IsOnWay callees.now root self.old }
+        requires last { slice_get self.old.path.items (length self.old.path.items - 1) ≡ Some last }
+        ensures { IfOk result (λ o. MatchOption o (GoesOn callees.now root self.old self.new) (IsWayBack callees.now root self.new)) }
+    {
+        let Some(callee) = self.next_callee(callees, last) else {
+            self.marks[last.index()] = Mark::Ends;
+            self.path.pop();
+            return Ok(None);
+        };
+        let mark = self.marks[callee.index()];
+        if ends(mark) {
+            self.ended[last.index()] += 1;
+            return Ok(None);
+        }
+        if stands_on_path(mark, root) {
+            self.path.push(callee)?;
+            return Ok(Some(callee));
+        }
+        self.enter(root, callee)?;
+        Ok(None)
+    }
+
+    // The first of the terms that a term names of which it isn't known that it ends.
+    fn next_callee(&self, callees: &[Vec<TermId>], term: TermId) -> Option<TermId>
+        requires there { term.0 < length callees.now }
+        requires ended { length self.now.ended.items ≡ length callees.now }
+        ensures next { option_map (λ u. u.0) result ≡ slice_get (callees_of callees.now term.0) (get_or self.now.ended.items term.0 0) }
+        ensures countable { IfSome result (λ _. get_or self.now.ended.items term.0 0 + 1 < 2 ^ 64) }
+    {
+        let ended = self.ended[term.index()];
+        callees[term.index()].get(ended).copied()
+    }
+
+    // Puts a term on the path of the search from a root.
+    fn enter(&mut self, root: TermId, term: TermId) -> Result<(), AllocError>
+        requires { term.0 < length self.old.marks.items }
+        ensures { OnOk result (Enters root term self.old self.new) }
+    {
+        self.marks[term.index()] = Mark::Met(root);
+        self.path.push(term)?;
+        Ok(())
     }
 }
 
@@ -108,74 +204,6 @@ fn template_pos(term: &Term) -> Option<Pos>
         } => Some(template.pos()),
         _ => None,
     }
-}
-
-// Of so many terms none was met.
-#[tactic(auto, using(crate::proofs::Marks::unmet_first, crate::proofs::Marks::unmet_more))]
-fn unmet(alloc: Global, count: usize) -> Result<Vec<Mark>, AllocError>
-    ensures { IfOk result (λ v. AreUnmet count v.items) }
-{
-    let mut marks = Vec::new(alloc);
-    for _id in 0..count {
-        marks.push(Mark::Unmet)?;
-    }
-    Ok(marks)
-}
-
-// The way from a term to the first one that comes back to itself, backwards, if there is one.
-#[cycle(walk)]
-fn walk(
-    alloc: Global,
-    callees: &[Vec<TermId>],
-    marks: &mut [Mark],
-    root: TermId,
-    term: TermId,
-) -> Result<Option<Vec<TermId>>, AllocError>
-    requires within { AreWithin callees.now }
-    requires there { term.0 < length callees.now }
-    requires marks { AreMarks callees.now (root.0 + 1) marks.old }
-    requires leads { LeadsTo callees.now root.0 marks.old term.0 }
-    ensures marks { OnOk result (AreMarks callees.now (root.0 + 1) marks.new) }
-    ensures found { IfOk result (λ o. MatchOption o (IsWalked callees.now root.0 marks.old marks.new term.0) (λ v. IsWayBack callees.now v.items)) }
-{
-    if ends(marks[term.index()]) {
-        return Ok(None);
-    }
-    if stands_on_path(marks[term.index()], root) {
-        return Ok(Some(path_of(alloc, term)?));
-    }
-    marks[term.index()] = Mark::Met(root);
-    let found = walk_each(alloc, callees, marks, root, &callees[term.index()])?;
-    let Some(path) = found else {
-        marks[term.index()] = Mark::Ends;
-        return Ok(None);
-    };
-    Ok(Some(longer_path(path, term)?))
-}
-
-// The way from the first of these terms from which one leads to a term that comes back to itself.
-#[cycle(walk)]
-fn walk_each(
-    alloc: Global,
-    callees: &[Vec<TermId>],
-    marks: &mut [Mark],
-    root: TermId,
-    terms: &[TermId],
-) -> Result<Option<Vec<TermId>>, AllocError>
-    requires within { AreWithin callees.now }
-    requires there { All (λ t. t.0 < length callees.now) terms.now }
-    requires marks { AreMarks callees.now (root.0 + 1) marks.old }
-    requires leads { All (λ t. LeadsTo callees.now root.0 marks.old t.0) terms.now }
-    ensures marks { OnOk result (AreMarks callees.now (root.0 + 1) marks.new) }
-    ensures found { IfOk result (λ o. MatchOption o (AreWalked callees.now root.0 marks.old marks.new (map (λ t. t.0) terms.now)) (λ v. IsWayBack callees.now v.items)) }
-{
-    for term in terms {
-        let found = walk(alloc, callees, marks, root, *term)?;
-        if found.is_some() {
-            return Ok(found);
-        }
-    }
-    Ok(None)
 }
 
 // Whether nothing comes back from a term of this mark.
@@ -196,21 +224,4 @@ fn stands_on_path(mark: Mark, root: TermId) -> bool
         Mark::Met(by) => by.index() == root.index(),
         Mark::Unmet | Mark::Ends => false,
     }
-}
-
-// The path of one term.
-fn path_of(alloc: Global, term: TermId) -> Result<Vec<TermId>, AllocError>
-    ensures { IfOk result (λ v. v.items ≡ term ∷ []) }
-{
-    let mut path = Vec::new(alloc);
-    path.push(term)?;
-    Ok(path)
-}
-
-// The path with one more term before it.
-fn longer_path(mut path: Vec<TermId>, term: TermId) -> Result<Vec<TermId>, AllocError>
-    ensures { IfOk result (λ v. v.items ≡ path.items ++ term ∷ []) }
-{
-    path.push(term)?;
-    Ok(path)
 }

@@ -1,6 +1,6 @@
 use Rattle.isle_terms.specs.Signing.{Notes}
-use Rattle.isle_terms.specs.Recursion.{AreMarks, ComesBack, EndsBelow}
+use Rattle.isle_terms.specs.Recursion.{AreFindings, ComesBack, EndsBelow}
 use Rattle.isle_terms.proofs.term_table.TermTable.check_recursion.Given as goal
 
 abbrev pub invariant-loop-id : goal.invariant-loop-id
-invariant-loop-id l = AreMarks l.callees l.id l.marks.items × Notes l.fn.errors.items l.errors.items (EndsBelow l.self l.callees l.id) (ComesBack l.callees)
+invariant-loop-id l = AreFindings l.callees l.id l.search × Notes l.fn.errors.items l.errors.items (EndsBelow l.self l.callees l.id) (ComesBack l.callees)

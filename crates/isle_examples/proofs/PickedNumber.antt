@@ -1,0 +1,66 @@
+-- A rule that goes over a call and constrains its answers: it is served, and its tree collects the bag.
+use Rattle.std.proofs.Common.{◌≡◌, [], ℕ, pos, zero, Bool, true, false, Some, IsTrue, IsSomeAnd, refl, ap, subst, arith}
+use Rattle.std.proofs.lemmas.Bool.{false≢true}
+use Rattle.std.proofs.lemmas.Option.{same_Some}
+use Rattle.isle_model.specs.claims.Environments.{types_read}
+use Rattle.isle_model.specs.rules.Meaning.{extractor_answer, one}
+use Rattle.isle_model.specs.rules.Outcome.{then_option}
+use Rattle.isle_model.specs.rules.Picks.{Pick, site_content}
+use Rattle.isle_model.specs.rules.Program.{kind, rules_of}
+use Rattle.isle_model.specs.rules.Values.{Value}
+use Rattle.isle_model.specs.sites.Overlap.{built_rule}
+use Rattle.isle_model.specs.sites.Serves.{fits_extractor}
+use Rattle.isle_model.specs.sites.Sites.{SiteTerm, argument, constructor_call, extractor_call}
+use Rattle.isle_model.specs.trees.Run.{as_value}
+use Rattle.isle_laws_lists.proofs.FormedRules.{rules_are_formed}
+use Rattle.isle_laws_lists.proofs.TypedRules.{lists_agree}
+use Rattle.isle_laws_demands.proofs.matching.BuiltMatches.{built_sets_match_by_demands_lem}
+use Rattle.isle_laws_demands.proofs.visits.WholeDemands.{built_demands_are_whole_lem}
+use Rattle.isle_laws_trees.proofs.headline.Collecting.{best_trees_collect_the_bag_lem}
+use Rattle.isle_examples.proofs.Multi.{laws}
+use Rattle.isle_examples.proofs.SampleStages.{stages}
+use Rattle.isle_examples.proofs.Served.{one_constant, serves_from}
+use Rattle.isle_examples.specs.MeaningForms.{given, v}
+use Rattle.isle_examples.specs.PickedNumber.{FivesAreNotMatched, PickedNumberGives, PickedNumberIsServed, one_and_five, picked_number_defs, picked_number_program, picked_number_rule, picked_number_rules, picked_number_sample, picked_number_set, picked_number_tree, seven_for_one, the_answer}
+use Rattle.isle_examples.specs.Stages.{HasStages}
+
+pub picked_number_stages : HasStages picked_number_sample
+picked_number_stages = stages picked_number_sample refl refl refl refl refl refl refl refl refl refl
+
+abbrev call_of_me : SiteTerm → Bool
+call_of_me (extractor_call zero (argument zero)) = true
+call_of_me (extractor_call t s) = false
+call_of_me (constructor_call t ss i) = false
+call_of_me u = true
+
+answered : (k : Pick) (t : ℕ) (s : SiteTerm) (w : Value) → call_of_me (extractor_call t s) ≡ true → site_content one_and_five (given (pos 1)) k s ≡ Some (one w)
+    → IsSomeAnd (extractor_answer one_and_five t w) (λ c. IsTrue (fits_extractor picked_number_program t (kind picked_number_program t) c))
+answered k zero (argument zero) w h e =
+    subst (λ u. IsSomeAnd (extractor_answer one_and_five 0 u) (λ c. IsTrue (fits_extractor picked_number_program 0 (kind picked_number_program 0) c))) (same_Some (v (pos 1)) w (ap (λ o. then_option o as_value) e)) refl
+answered k _ _ w h holds = absurd (false≢true h)
+
+pub picked_number_is_served : PickedNumberIsServed
+picked_number_is_served = (
+  serves_from picked_number_program one_and_five (given (pos 1)) (rules_of picked_number_program 1) call_of_me refl refl
+      answered (λ k t ss vs h holds. absurd (false≢true h)) (λ k r t before ss i matched made h gave. absurd (false≢true h)),
+  one_constant picked_number_program one_and_five (rules_of picked_number_program 1) refl refl,
+  record { no_calls = refl; no_call_unused = refl },
+)
+
+pub picked_number_gives : PickedNumberGives
+picked_number_gives = (
+  refl,
+  refl,
+  refl,
+  best_trees_collect_the_bag_lem laws (types_read picked_number_defs) picked_number_defs true picked_number_rules 1 picked_number_set picked_number_stages.accepted.0.read.elaborated picked_number_stages.built.0
+      picked_number_stages.accepted.0.checkable picked_number_tree picked_number_stages.judged.best,
+)
+
+pub fives_are_not_matched : FivesAreNotMatched
+fives_are_not_matched = (
+  (1, omega arith, refl),
+  refl,
+  built_sets_match_by_demands_lem (built_demands_are_whole_lem rules_are_formed lists_agree) (types_read picked_number_defs) picked_number_defs true picked_number_rules 1 picked_number_set
+      picked_number_stages.accepted.0.read.elaborated picked_number_stages.built.0 one_and_five (given (pos 1)) refl picked_number_is_served.0 picked_number_is_served.1
+      (built_rule picked_number_program [] picked_number_rule) seven_for_one (the_answer 1) (record { place = 0; typed = refl; built = refl }) (1, omega arith, refl),
+)

@@ -1,0 +1,76 @@
+-- A mask and a wrong overlap are each reported once, and multi calls are gone over.
+use Rattle.std.proofs.Common.{◌≡◌, ◌∷◌, [], ◌∙◌, zero, suc, true, Some, refl, sym, ap, arith}
+use Rattle.std.proofs.lemmas.Bool.{false≢true}
+use Rattle.std.proofs.lemmas.Option.{none-some, same_Some}
+use Rattle.isle_model.specs.claims.Environments.{types_read}
+use Rattle.isle_model.specs.lists.Syntax.{Position}
+use Rattle.isle_model.specs.sites.DemandedGates.{HasNoPartialMulti}
+use Rattle.isle_model.specs.sites.Limits.{sites_after_rules}
+use Rattle.isle_model.specs.sites.Overlap.{BuiltRule, HasDistinctPositions, OverlapsWrongly, built_rule}
+use Rattle.isle_laws_demands.proofs.overlaps.Judged.{elaborated_rules_have_terms_lem}
+use Rattle.isle_laws_demands.proofs.overlaps.Listed.{overlaps_are_listed_once_lem}
+use Rattle.isle_laws_demands.proofs.overlaps.Masks.{masks_are_reported_once_lem}
+use Rattle.isle_laws_demands.proofs.overlaps.Overlaps.{overlaps_decides}
+use Rattle.isle_laws_demands.proofs.visits.Apart.{multi_calls_are_gone_over_lem}
+use Rattle.isle_examples.proofs.AcceptedLists.{overlap_not_accepted, shadow_not_accepted}
+use Rattle.isle_examples.proofs.ToldApart.{shadow_is_told}
+use Rattle.isle_examples.specs.Fall.{fall_any}
+use Rattle.isle_examples.specs.Multi.{each_m, multi_program}
+use Rattle.isle_examples.specs.Overlap.{built_alone, overlap_defs, overlap_one, overlap_program, overlap_rules}
+use Rattle.isle_examples.specs.ReportedOnce.{MultiGoesOverMultiCalls, OverlapIsListedOnce, ShadowIsReportedOnce}
+use Rattle.isle_examples.specs.Shadow.{shadow_defs, shadow_program, shadow_rules}
+use Rattle.isle_examples.specs.ToldApart.{mask, shadowed}
+use Rattle.isle_examples.specs.Written.{at}
+
+-- 1. the mask
+not_both : (x : Position) → Some (at 1) ≡ Some x → Some (at 2) ≡ Some x → ⊥
+not_both x e f =
+    let z = ap (λ (q : Position). q.offset) (same_Some (at 1) x e ∙ sym (same_Some (at 2) x f)) in
+    omega (arith, z)
+
+positions_apart : HasDistinctPositions shadow_program
+positions_apart zero zero x e f = refl
+positions_apart zero (suc zero) x e f = absurd (not_both x e f)
+positions_apart (suc zero) zero x e f = absurd (not_both x f e)
+positions_apart (suc zero) (suc zero) x e f = refl
+positions_apart (suc (suc i)) j x e f = absurd (none-some x e)
+positions_apart zero (suc (suc j)) x e f = absurd (none-some x f)
+positions_apart (suc zero) (suc (suc j)) x e f = absurd (none-some x f)
+
+pub shadow_is_reported_once : ShadowIsReportedOnce
+shadow_is_reported_once = (
+  positions_apart,
+  masks_are_reported_once_lem shadow_program (elaborated_rules_have_terms_lem (types_read shadow_defs) shadow_defs true shadow_rules shadow_not_accepted.0.0.elaborated) positions_apart 0 mask shadowed refl (0, omega arith, refl)
+      (1, omega arith, refl) shadow_is_told.2,
+)
+
+-- 2. the overlap
+abbrev after_one : BuiltRule
+after_one = built_rule overlap_program (sites_after_rules overlap_program [] (overlap_one ∷ [])) fall_any
+
+abbrev wrong : OverlapsWrongly overlap_program 0 0 1
+wrong = record {
+  first = built_alone overlap_program overlap_one;
+  second = after_one;
+  one_result = refl;
+  here = refl;
+  there = refl;
+  before = omega arith;
+  one_priority = refl;
+  overlap = (overlaps_decides (built_alone overlap_program overlap_one).demands after_one.demands).0 refl;
+}
+
+pub overlap_is_listed_once : OverlapIsListedOnce
+overlap_is_listed_once = (
+  wrong,
+  overlaps_are_listed_once_lem overlap_program (elaborated_rules_have_terms_lem (types_read overlap_defs) overlap_defs true overlap_rules overlap_not_accepted.0.0.elaborated) 0 0 1 wrong,
+)
+
+-- 3. multi calls
+none_partial : HasNoPartialMulti multi_program
+none_partial zero h k = false≢true k
+none_partial (suc zero) h k = false≢true k
+none_partial (suc (suc t)) h k = false≢true h
+
+pub multi_goes_over_multi_calls : MultiGoesOverMultiCalls
+multi_goes_over_multi_calls = (none_partial, multi_calls_are_gone_over_lem multi_program each_m none_partial)

@@ -1,0 +1,81 @@
+-- The laws on demands that hold alike, and on rules that never match, on samples.
+use Rattle.std.proofs.Common.{[], ℤ, pos, true, refl, arith}
+use Rattle.std.proofs.lemmas.Bool.{false≢true}
+use Rattle.std.proofs.lemmas.List.Elements.{All-nil}
+use Rattle.isle_model.specs.claims.Environments.{types_read}
+use Rattle.isle_model.specs.rules.Program.{rules_of}
+use Rattle.isle_model.specs.sites.Overlap.{built_rule}
+use Rattle.isle_laws_lists.proofs.FormedRules.{rules_are_formed}
+use Rattle.isle_laws_lists.proofs.TypedRules.{lists_agree}
+use Rattle.isle_laws_demands.proofs.matching.BuiltMatches.{built_demands_hold_alike_lem}
+use Rattle.isle_laws_demands.proofs.matching.NeverMatches.{unreachable_rules_never_match_lem}
+use Rattle.isle_laws_demands.proofs.matching.Visits.{visits_match_lem}
+use Rattle.isle_laws_demands.proofs.visits.WholeDemands.{built_demands_are_whole_lem}
+use Rattle.isle_laws_demands.specs.BuiltLaws.{BuiltDemandsAreWhole}
+use Rattle.isle_examples.proofs.AcceptedLists.{one_step_not_accepted}
+use Rattle.isle_examples.proofs.Matchable.{one_step_cant_match}
+use Rattle.isle_examples.proofs.SampleStages.{const_eq_stages, variant_eq_stages}
+use Rattle.isle_examples.proofs.Served.{IsOwnNumber, numbers_apart, serves_without_calls}
+use Rattle.isle_examples.specs.ConstEq.{const_eq_defs, const_eq_program, const_eq_rule, const_eq_rules}
+use Rattle.isle_examples.specs.Cycle.{cycle_rules, one_step_defs, one_step_program, one_step_rule}
+use Rattle.isle_examples.specs.MeaningForms.{blank}
+use Rattle.isle_examples.specs.Tried.{ConstEqHolds, ConstEqHoldsAlike, ConstEqIsTried, OneStepDoesNotMatch, OneStepIsTried, VariantEqHolds, VariantEqHoldsAlike, VariantEqIsTried, five_twice, just_this, plain_variant, two_and}
+use Rattle.isle_examples.specs.VariantEq.{variant_eq_defs, variant_eq_program, variant_eq_rule, variant_eq_rules}
+
+whole : BuiltDemandsAreWhole
+whole = built_demands_are_whole_lem rules_are_formed lists_agree
+
+-- 1. a literal that stands again
+pub two_is_tried : ConstEqIsTried (pos 2)
+two_is_tried = record { typed = refl; served = serves_without_calls const_eq_program (just_this (pos 2)) (two_and (pos 2)) (rules_of const_eq_program 0) refl refl; rule = (0, omega arith, refl); pick = (0, omega arith, refl) }
+
+pub three_is_tried : ConstEqIsTried (pos 3)
+three_is_tried = record { typed = refl; served = serves_without_calls const_eq_program (just_this (pos 2)) (two_and (pos 3)) (rules_of const_eq_program 0) refl refl; rule = (0, omega arith, refl); pick = (0, omega arith, refl) }
+
+pub two_holds : ConstEqHolds (pos 2)
+two_holds = (visits_match_lem (types_read const_eq_defs) const_eq_defs true const_eq_rules 0 (just_this (pos 2)) (two_and (pos 2)) const_eq_rule [] const_eq_stages.accepted.0.read.elaborated two_is_tried).matching.0 refl
+
+pub three_does_not : ConstEqHolds (pos 3) → ⊥
+three_does_not d =
+    false≢true ((visits_match_lem (types_read const_eq_defs) const_eq_defs true const_eq_rules 0 (just_this (pos 2)) (two_and (pos 3)) const_eq_rule [] const_eq_stages.accepted.0.read.elaborated three_is_tried).matching.1 d)
+
+const_eq_alike : (z : ℤ) → ConstEqIsTried z → ConstEqHoldsAlike z
+const_eq_alike z tried =
+    let b = built_rule const_eq_program [] const_eq_rule in
+    let h = const_eq_stages.accepted.0.read.elaborated in (
+      whole (types_read const_eq_defs) const_eq_defs true const_eq_rules 0 h b (0, omega arith, refl),
+      built_demands_hold_alike_lem whole (types_read const_eq_defs) const_eq_defs true const_eq_rules 0 (just_this (pos 2)) (two_and z) b [] h (0, omega arith, refl) tried,
+    )
+
+pub two_holds_alike : ConstEqHoldsAlike (pos 2)
+two_holds_alike = const_eq_alike (pos 2) two_is_tried
+
+pub three_holds_alike : ConstEqHoldsAlike (pos 3)
+three_holds_alike = const_eq_alike (pos 3) three_is_tried
+
+-- 2. a variant that stands again
+pub variant_is_tried : VariantEqIsTried
+variant_is_tried = record { typed = refl; served = serves_without_calls variant_eq_program blank five_twice (rules_of variant_eq_program 0) refl refl; rule = (0, omega arith, refl); pick = (0, omega arith, refl) }
+
+pub variant_holds : VariantEqHolds
+variant_holds = (visits_match_lem (types_read variant_eq_defs) variant_eq_defs true variant_eq_rules 0 blank five_twice variant_eq_rule [] variant_eq_stages.accepted.0.read.elaborated variant_is_tried).matching.0 refl
+
+pub variant_holds_alike : VariantEqHoldsAlike
+variant_holds_alike =
+    let b = built_rule variant_eq_program [] variant_eq_rule in
+    let h = variant_eq_stages.accepted.0.read.elaborated in (
+      whole (types_read variant_eq_defs) variant_eq_defs true variant_eq_rules 0 h b (0, omega arith, refl),
+      built_demands_hold_alike_lem whole (types_read variant_eq_defs) variant_eq_defs true variant_eq_rules 0 blank five_twice b [] h (0, omega arith, refl) variant_is_tried,
+    )
+
+-- 3. a value that would be a part of itself
+pub one_step_is_tried : OneStepIsTried
+one_step_is_tried = (
+  record { typed = refl; served = serves_without_calls one_step_program (just_this (pos 1)) plain_variant (rules_of one_step_program 0) refl refl; rule = (0, omega arith, refl); pick = (0, omega arith, refl) },
+  numbers_apart one_step_program (just_this (pos 1)) (rules_of one_step_program 0) (All-nil (IsOwnNumber (just_this (pos 1)))) refl,
+)
+
+pub one_step_does_not_match : OneStepDoesNotMatch
+one_step_does_not_match =
+    unreachable_rules_never_match_lem (types_read one_step_defs) one_step_defs true (cycle_rules one_step_rule) 0 (just_this (pos 1)) plain_variant one_step_rule [] one_step_not_accepted.0.0.elaborated one_step_is_tried.0
+    one_step_is_tried.1 one_step_cant_match.unreachable

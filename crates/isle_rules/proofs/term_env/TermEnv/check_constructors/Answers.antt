@@ -1,0 +1,23 @@
+use Rattle.std.proofs.Common.{IsTrue}
+use Rattle.std.specs.List.{flat_map}
+use Rattle.std.proofs.lemmas.List.{drop_all}
+use Rattle.isle_base.specs.SyntaxViews.{definition_view, definition_views}
+use Rattle.isle_model.specs.lists.Syntax.{Position, Name}
+use Rattle.isle_model.specs.lists.TermTable.{rule_trees}
+use Rattle.isle_rules.specs.Constructors.{is_made, uses_of_rule, uses_of_definition}
+use Rattle.isle_rules.specs.PatternUses.{found_term}
+use Rattle.isle_rules.proofs.CheckedUses.{checked_first, checked_next, checked_last, left_at, uses_split}
+use Rattle.isle_rules.proofs.term_env.TermEnv.check_constructors.Goals as goal
+
+pub loop-def-init : goal.loop-def-init
+loop-def-init c = checked_first (λ (u : Position × Name). IsTrue (is_made (found_term c.args.self.now c.args.tyenv.now u.1.text))) _ _
+
+pub loop-def-preserved : goal.loop-def-preserved
+loop-def-preserved c =
+    checked_next (λ (u : Position × Name). IsTrue (is_made (found_term c.args.self.now c.args.tyenv.now u.1.text))) _ _ (uses_of_definition (definition_view c.def-item.result)) _ _ _ _
+    (left_at (λ d. uses_of_definition (definition_view d)) (λ ds. flat_map uses_of_rule (rule_trees (definition_views ds))) uses_split c.args.defs.now c.loop-def.def-index c.def-item.result c.loop-def-test.true c.def-item.is)
+    c.loop-def.invariant c.in_ok-check_definition.ensures
+
+pub returns : goal.returns
+returns c =
+    checked_last (λ (u : Position × Name). IsTrue (is_made (found_term c.args.self.now c.args.tyenv.now u.1.text))) _ _ _ (rw (drop_all c.loop-def.def-index c.args.defs.now c.loop-def-test.false) at c.loop-def.invariant)

@@ -1,0 +1,22 @@
+use Rattle.std.proofs.Common.{IsTrue, ◌∷◌, [], map, refl}
+use Rattle.std.proofs.lemmas.List.{drop_all}
+use Rattle.isle_base.specs.Places.{term_view}
+use Rattle.isle_model.specs.lists.Syntax.{Position, Name}
+use Rattle.isle_rules.specs.Constructors.{is_made}
+use Rattle.isle_rules.specs.PatternUses.{found_term}
+use Rattle.isle_rules.proofs.CheckedUses.{checked_first, checked_next, checked_last, checks_one, left_at}
+use Rattle.isle_rules.proofs.term_env.TermEnv.check_uses.Goals as goal
+
+pub loop-used-init : goal.loop-used-init
+loop-used-init c = checked_first (λ (u : Position × Name). IsTrue (is_made (found_term c.args.self.now c.args.tyenv.now u.1.text))) _ _
+
+pub loop-used-preserved : goal.loop-used-preserved
+loop-used-preserved c =
+    checked_next (λ (u : Position × Name). IsTrue (is_made (found_term c.args.self.now c.args.tyenv.now u.1.text))) _ _ (term_view c.used-item.result.0 c.used-item.result.1.now ∷ []) _ _ _ _
+    (left_at (λ t. term_view t.0 t.1.now ∷ []) (map (λ t. term_view t.0 t.1.now)) (λ t rest. refl) c.args.uses.now c.loop-used.used-index c.used-item.result c.loop-used-test.true c.used-item.is)
+    c.loop-used.invariant
+    (checks_one (λ (u : Position × Name). IsTrue (is_made (found_term c.args.self.now c.args.tyenv.now u.1.text))) (term_view c.used-item.result.0 c.used-item.result.1.now) _ _ c.in_ok-check_use.ensures)
+
+pub returns : goal.returns
+returns c =
+    checked_last (λ (u : Position × Name). IsTrue (is_made (found_term c.args.self.now c.args.tyenv.now u.1.text))) _ _ _ (rw (drop_all c.loop-used.used-index c.args.uses.now c.loop-used-test.false) at c.loop-used.invariant)

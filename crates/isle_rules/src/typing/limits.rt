@@ -1,0 +1,46 @@
+//! How the limit that a rule passes is noted.
+
+ghost use Rattle.std.specs.Prelude.{OnOk};
+ghost use Rattle.isle_rules.specs.RuleLists.{NotesLimit, NotesStop};
+
+use crate::typing::progress::Stop;
+use isle_base::syntax::{Error, Limit, Pos, Span};
+use std::alloc::AllocError;
+
+impl Stop {
+    /// Notes that the rule at a place passes the limit that ended the work on it.
+    ///
+    /// # Errors
+    ///
+    /// Where memory is refused; also where that ended the work.
+    pub(crate) fn report(self, errors: &mut Vec<Error>, pos: Pos) -> Result<(), AllocError>
+        ensures { OnOk result (NotesStop self pos errors.old.items errors.new.items) }
+    {
+        match &self {
+            Stop::Memory(refused) => Err(*refused),
+            Stop::Nesting => {
+                let text = "expansions nest deeper than 256";
+                report_limit(errors, Limit::Nesting, text, pos)
+            }
+            Stop::Expansions => {
+                let text = "more than 65536 expansions in one rule";
+                report_limit(errors, Limit::Expansions, text, pos)
+            }
+        }
+    }
+}
+
+// Notes that the rule at a place passes a limit.
+fn report_limit(
+    errors: &mut Vec<Error>,
+    limit: Limit,
+    text: &str,
+    pos: Pos,
+) -> Result<(), AllocError>
+    ensures { OnOk result (NotesLimit limit pos errors.old.items errors.new.items) }
+{
+    let msg = String::from_str(*errors.allocator(), text)?;
+    let span = Span::new_single(pos);
+    errors.push(Error::LimitError { limit, msg, span })?;
+    Ok(())
+}

@@ -1,0 +1,92 @@
+//! How the rules of a list are typed, one after another and each within the limits on expansions.
+
+ghost use Rattle.std.specs.Prelude.{◌≡◌, IfOk, OnOk, option_map};
+ghost use Rattle.isle_base.specs.SyntaxViews.{definition_view, definition_views};
+ghost use Rattle.isle_model.specs.lists.TermTable.{rule_trees};
+ghost use Rattle.isle_types.specs.Envs.{IsInterned};
+ghost use Rattle.isle_rules.specs.RuleLists.{CollectsRule, CollectsNext, CollectsRules};
+ghost use Rattle.isle_rules.specs.RuleViews.{rule_view, rule_views};
+ghost use Rattle.isle_rules.specs.Translating.{Keeps};
+
+use crate::rules::Rule;
+use crate::term_env::TermEnv;
+use crate::typing::progress::Progress;
+use isle_base::syntax;
+use isle_base::syntax::Def;
+use isle_types::{RuleId, TypeEnv};
+use std::alloc::AllocError;
+
+// How many expansions may nest in one another, so that those that never end are cut off.
+const MOST_NESTED: usize = 256;
+
+impl TermEnv {
+    // A rule with this id, from the names met before it. A limit that it passes ends the work on it, and is noted at its
+    // place. Upstream has no such limit.
+    fn collect_rule(
+        &self,
+        tyenv: &mut TypeEnv,
+        work: &mut Progress,
+        rule: &syntax::Rule,
+        id: RuleId,
+    ) -> Result<Option<Rule>, AllocError>
+        requires { IsInterned tyenv.old }
+        ensures keeps { Keeps tyenv.old tyenv.new }
+        ensures ends { IfOk result (λ o. CollectsRule self.now tyenv.old tyenv.new work.old.errors.items work.new.errors.items id.0 rule.now (option_map rule_view o)) }
+    {
+        work.begin();
+        match self.translate_rule(tyenv, work, rule, id, MOST_NESTED) {
+            Ok(made) => Ok(made),
+            Err(stop) => {
+                stop.report(&mut work.errors, rule.pos)?;
+                Ok(None)
+            }
+        }
+    }
+
+    // The rule that a definition is, if it is one and can be typed, becomes the next one.
+    fn collect_definition(
+        &self,
+        tyenv: &mut TypeEnv,
+        work: &mut Progress,
+        def: &Def,
+        rules: &mut Vec<Rule>,
+    ) -> Result<(), AllocError>
+        requires { IsInterned tyenv.old }
+        ensures keeps { Keeps tyenv.old tyenv.new }
+        ensures reads { OnOk result (CollectsNext self.now tyenv.old tyenv.new work.old.errors.items work.new.errors.items (definition_view def.now) rules.old.items rules.new.items) }
+    {
+        let Def::Rule(rule) = def else {
+            return Ok(());
+        };
+        let id = RuleId(rules.len());
+        let Some(made) = self.collect_rule(tyenv, work, rule, id)? else {
+            return Ok(());
+        };
+        rules.push(made)?;
+        Ok(())
+    }
+
+    /// The typed rules of a list of definitions, in order, by these tables and from the names that `tyenv` has met. What
+    /// is wrong is noted in `work`, and the work goes on with the next rule; a term without a constructor is noted after
+    /// all rules. Upstream's first pass of `TermEnv::collect_rules`.
+    ///
+    /// # Errors
+    ///
+    /// Where memory is refused.
+    pub(crate) fn collect_rules(
+        &self,
+        tyenv: &mut TypeEnv,
+        work: &mut Progress,
+        defs: &[Def],
+    ) -> Result<Vec<Rule>, AllocError>
+        requires { IsInterned tyenv.old }
+        ensures keeps { Keeps tyenv.old tyenv.new }
+        ensures reads { IfOk result (λ v. CollectsRules self.now tyenv.old tyenv.new work.old.errors.items work.new.errors.items (rule_trees (definition_views defs.now)) (rule_views v.items)) }
+    {
+        let mut rules = Vec::new(*self.terms.allocator());
+        for def in defs {
+            self.collect_definition(tyenv, work, def, &mut rules)?;
+        }
+        Ok(rules)
+    }
+}
