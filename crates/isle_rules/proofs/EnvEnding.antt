@@ -20,17 +20,17 @@ use Rattle.isle_model.specs.lists.Elaborated.{named_rules, rule_names, rule_name
 use Rattle.isle_types.specs.declared.ids.Sym.{Sym}
 use Rattle.isle_types.specs.declared.ids.RuleId.{RuleId}
 use Rattle.isle_terms.specs.declared.term.Term.{Term}
-use Rattle.isle_terms.specs.Terms.{is_internal_constructor, has_internal_constructor_term}
+use Rattle.isle_terms.specs.Terms.{is_internal_constructor}
 use Rattle.isle_terms.specs.TermViews.{term_view, term_views}
 use Rattle.isle_rules.specs.declared.rules.Rule.{Rule}
 use Rattle.isle_rules.specs.RuleViews.{rule_views}
 use Rattle.isle_types.specs.Reading.{Reports}
 use Rattle.isle_rules.specs.Elaborating.{Checks, AreTyped, TypesRules}
-use Rattle.isle_rules.specs.RuleNaming.{rule_in, MapsNames, AreMade}
+use Rattle.isle_rules.specs.RuleNaming.{rule_in, MapsNames, is_defined_term, AreDefined}
 use Rattle.isle_types.proofs.Reports.{both}
 
 abbrev IsMade : TermEntry → Type 0
-IsMade t = IsTrue (has_internal_constructor_term t)
+IsMade t = IsTrue (is_defined_term t)
 
 -- terms that are left to be looked at
 abbrev pub MadeAt : List TermEntry → List TermEntry → List Error → List Error → Type 0
@@ -52,7 +52,7 @@ next_made terms i t within at old mid new a c =
 pub first_made : (all : List TermEntry) (es : List Error) → MadeAt all all es es
 first_made all es = inl (refl, λ h. h, λ h. h)
 
-pub last_made : (all : List TermEntry) (old new : List Error) → MadeAt all [] old new → Checks old new (AreMade all)
+pub last_made : (all : List TermEntry) (old new : List Error) → MadeAt all [] old new → Checks old new (AreDefined all)
 last_made all old new (inl a) = inl (a.0, a.1 (All-nil IsMade))
 last_made all old new (inr a) = inr a
 
@@ -75,12 +75,12 @@ module _ (defs : List Definition) where
         | false ↦ λ f. absurd (false≢true f)
       ] h
 
-  made_all : (id : ℕ) (ds : List DeclTree) → All HasRules ds → AreMade (decl_entries defs id ds)
+  made_all : (id : ℕ) (ds : List DeclTree) → All HasRules ds → AreDefined (decl_entries defs id ds)
   made_all id [] h = All-nil IsMade
   made_all id (d ∷ ds) h =
       All-cons IsMade (decl_entry defs id d) (decl_entries defs (suc id) ds) (is_made id d (All-head HasRules d ds h)) (made_all (suc id) ds (All-tail HasRules d ds h))
 
-  rules_all : (id : ℕ) (ds : List DeclTree) → AreMade (decl_entries defs id ds) → All HasRules ds
+  rules_all : (id : ℕ) (ds : List DeclTree) → AreDefined (decl_entries defs id ds) → All HasRules ds
   rules_all id [] h = All-nil HasRules
   rules_all id (d ∷ ds) h =
       All-cons HasRules d ds (has_rules id d (All-head IsMade (decl_entry defs id d) (decl_entries defs (suc id) ds) h))
@@ -90,7 +90,7 @@ mapped_some : {X Y : Type 0} (f : X → Y) (o : Option X) (y : Y) → option_map
 mapped_some f None y e = absurd (cc)
 mapped_some f (Some x) y e = (x, refl, cc)
 
-module _ (defs : List Definition) (types : IsValidTypes defs) (valid : IsValidCarriedTerms defs) (terms : List Term) (same : term_views terms ≡ term_entries defs) (made rules : List Rule) (named : rule_views rules ≡ named_rules (term_views terms) (rule_views made)) (m : Entries Sym RuleId) (e0 e1 e2 e3 : List Error) (t : TypesRules defs e0 e1 made) (n : MapsNames e1 e2 (rule_views rules) m) (d : Checks e2 e3 (AreMade (term_views terms))) where
+module _ (defs : List Definition) (types : IsValidTypes defs) (valid : IsValidCarriedTerms defs) (terms : List Term) (same : term_views terms ≡ term_entries defs) (made rules : List Rule) (named : rule_views rules ≡ named_rules (term_views terms) (rule_views made)) (m : Entries Sym RuleId) (e0 e1 e2 e3 : List Error) (t : TypesRules defs e0 e1 made) (n : MapsNames e1 e2 (rule_views rules) m) (d : Checks e2 e3 (AreDefined (term_views terms))) where
   all_named : rule_views rules ≡ named_rules (term_entries defs) (rule_views made)
   all_named = named ∙ ap (λ ts. named_rules ts (rule_views made)) same
 
@@ -112,7 +112,7 @@ module _ (defs : List Definition) (types : IsValidTypes defs) (valid : IsValidCa
         record {
           types = types;
           terms = valid;
-          defined = rules_all defs 0 (decl_trees defs) (subst AreMade same made_ok.1);
+          defined = rules_all defs 0 (decl_trees defs) (subst AreDefined same made_ok.1);
           elaborated = are_elaborated typed_ok.1 names_ok.1;
         },
         names_ok.2,
@@ -140,7 +140,7 @@ module _ (defs : List Definition) (types : IsValidTypes defs) (valid : IsValidCa
       ⊎_elim
       (λ names_ok.
       ⊎_elim (λ made_ok. some (made_ok.0 ∙ names_ok.0 ∙ typed_ok.0 ∙ first))
-      (λ wrong. wrong.1 (subst AreMade (sym same) (made_all defs 0 (decl_trees defs) v.defined))) d)
+      (λ wrong. wrong.1 (subst AreDefined (sym same) (made_all defs 0 (decl_trees defs) v.defined))) d)
       (λ wrong. wrong.1 (subst (λ qs. IsDistinct (rule_names qs)) (same_rules rs v typed_ok.1) v.elaborated.names)) n)
       (λ wrong. let x = typed_of rs v in wrong.1 x.0 x.1) t
 

@@ -21,3 +21,4 @@ pub mod Lets
 pub mod RuleReadings
 pub mod RuleLists
 pub mod Constructors
+pub mod ShownEnvs
