@@ -22,3 +22,4 @@ pub mod RuleReadings
 pub mod RuleLists
 pub mod Constructors
 pub mod ShownEnvs
+pub mod RulesRead

@@ -8,7 +8,8 @@ ghost use Rattle.isle_model.specs.lists.Elaborated.{TypedRules};
 ghost use Rattle.isle_types.specs.Envs.{symbol_of};
 ghost use Rattle.isle_types.specs.EnvViews.{environment_view};
 ghost use Rattle.isle_types.specs.TypeViews.{type_views};
-ghost use Rattle.isle_rules.specs.ShownEnvs.{environment_shown_by};
+ghost use Rattle.isle_terms.specs.Whole.{shown_by};
+ghost use Rattle.isle_rules.specs.ShownEnvs.{terms_shown_by, environment_shown_by};
 ghost use Rattle.isle_rules.specs.TermEnvs.{term_in_env, variant_term_in};
 ghost use Rattle.std.specs.Prelude.{◌≡◌, Some, IsSome, OnErr, option_map, option_and_then, string_bytes};
 
@@ -75,7 +76,10 @@ impl TermEnv {
     }
 
     // The terms of a table, and no rules yet.
-    fn with_terms(alloc: Global, table: TermTable, expand_internal_extractors: bool) -> TermEnv {
+    fn with_terms(alloc: Global, table: TermTable, expand_internal_extractors: bool) -> TermEnv
+        ensures terms { terms_shown_by result ≡ shown_by table }
+        ensures expand { result.expand_internal_extractors ≡ expand_internal_extractors }
+    {
         let TermTable {
             terms,
             term_map,
