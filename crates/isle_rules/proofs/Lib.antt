@@ -19,6 +19,7 @@ pub mod ExprRunSteps
 pub mod ExprRunForms
 pub mod OrderedVars
 pub mod RuleRunSteps
+pub mod Noted
 pub mod Readings
 pub mod Bindings
 pub mod Scopes

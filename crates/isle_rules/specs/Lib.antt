@@ -12,6 +12,8 @@ pub mod PatternRuns
 pub mod ExprRuns
 pub mod RuleRuns
 pub mod Progress
+pub mod ErrorViews
+pub mod Noting
 pub mod Translating
 pub mod PatternReadings
 pub mod PatternUses
