@@ -46,4 +46,5 @@ pub mod NamesKept
 pub mod ConstructorLaws
 pub mod CheckedUses
 pub mod RulesTyped
+pub mod RuleErrorSteps
 pub mod NamedTerms

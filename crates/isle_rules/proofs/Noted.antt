@@ -1,6 +1,5 @@
 -- Errors noted after errors.
-use Rattle.std.proofs.Common.{◌≡◌, ◌≢◌, All, List, [], ◌∷◌, ◌++◌, length, Some, None, String, refl, sym, ap, subst, ◌∙◌, inl, inr, append_assoc, arith}
-use Rattle.std.proofs.lemmas.List.{length-append}
+use Rattle.std.proofs.Common.{◌≡◌, ◌≢◌, All, List, [], ◌∷◌, ◌++◌, None, String, refl, sym, ap, subst, ◌∙◌, inl, inr, append_assoc}
 use Rattle.std.proofs.lemmas.List.Elements.{All-append, All-weaker}
 use Rattle.std.specs.declared.alloc.Global.{Global}
 use Rattle.isle_model.specs.claims.Refusals.{past_limit, IsIllTyped}

@@ -22,4 +22,5 @@ pub mod ExprUses
 pub mod Lets
 pub mod RuleReadings
 pub mod RuleLists
+pub mod RuleErrors
 pub mod Constructors
