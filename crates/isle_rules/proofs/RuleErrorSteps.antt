@@ -1,5 +1,5 @@
 -- What is noted of one rule after another, and that a limit is noted only where it was passed.
-use Rattle.std.proofs.Common.{◌≡◌, ℕ, ◌<◌, Bool, true, false, cond, nat_le, All, Contains, List, [], ◌∷◌, ◌++◌, length, get_or, Option, Some, None, option_map, refl, sym, ap, subst, ◌∙◌, inl, inr, append_assoc}
+use Rattle.std.proofs.Common.{◌≡◌, ◌≢◌, ℕ, ◌<◌, Bool, true, false, cond, nat_le, All, Contains, List, [], ◌∷◌, ◌++◌, length, get_or, Option, Some, None, option_map, refl, sym, ap, subst, ◌∙◌, inl, inr, append_assoc}
 use Rattle.std.proofs.lemmas.List.{append-nil}
 use Rattle.std.proofs.lemmas.List.Elements.{All-nil, All-cons, All-append, All-weaker, All-contains, Contains-get_or}
 use Rattle.std.proofs.lemmas.Option.{none-some, same_Some}
@@ -19,8 +19,8 @@ use Rattle.isle_model.specs.lists.Typings.{Typing}
 use Rattle.isle_model.specs.lists.Elaborated.{Sides, finished_rule, may_have_priority, few_enough, most_nested, most_expansions, elaborated_rule}
 use Rattle.isle_model.specs.rules.Outcome.{then_option}
 use Rattle.isle_model.specs.rules.Typed.{TypedRule}
-use Rattle.isle_model.specs.claims.Environments.{TypesRead, AreReadable, setting_of, PassesNesting, PassesExpansions}
-use Rattle.isle_model.specs.claims.Refusals.{NamedLimit, of_rule, of_nesting, of_expansions, Refusal, ill_typed, unreachable, overlapping, shadowing, past_limit, NamesOnlyPassed, PassedInReading, nesting_passes, expansions_pass, IsIllTyped, IsOfReading}
+use Rattle.isle_model.specs.claims.Environments.{TypesRead, AreReadable, HasTypedRules, setting_of, PassesNesting, PassesExpansions}
+use Rattle.isle_model.specs.claims.Refusals.{NamedLimit, of_rule, of_nesting, of_expansions, Refusal, ill_typed, unreachable, overlapping, shadowing, past_limit, NamesOnlyPassed, PassedInReading, nesting_passes, expansions_pass, IsIllTyped, IsOfReading, RefusesRules}
 use Rattle.isle_model.proofs.Members.{in_head, in_alone, get_from_member, all_members, from_map, in_map, in_flat_map}
 use Rattle.isle_model.proofs.Positions.{get_front}
 use Rattle.isle_laws_lists.specs.FurtherNames.{AreThereAlike}
@@ -34,7 +34,7 @@ use Rattle.isle_rules.specs.Noting.{NotesMore, MayNoteMore}
 use Rattle.isle_rules.specs.RuleErrors.{NotesEach, IsNestedDeeper, IsExpandedMore, PassesFrom, IsOfRules, NotesOfRules, NotesOfDefinition}
 use Rattle.isle_rules.specs.RuleLists.{rule_from, EndsRule, is_typed, is_reported, is_too_deep, is_too_long, CollectsRule}
 use Rattle.isle_rules.specs.RuleReadings.{rule_reading, sides_reading}
-use Rattle.isle_rules.specs.Translating.{Keeps}
+use Rattle.isle_rules.specs.Translating.{Keeps, IsSettingOf}
 use Rattle.isle_rules.proofs.ConstructorLaws.{rule_same, rule_uses}
 use Rattle.isle_rules.proofs.NamesKept.{Kept, kept_here}
 use Rattle.isle_rules.proofs.Readings.{keep_setting}
@@ -225,6 +225,10 @@ module _ (e : Setting) (names : List (List ℕ)) (k : AreTermsNamed e names) (r 
       ] refl
 
 -- 6. the errors of a list
+some_views : (es : List Error) → es ≢ [] → error_views es ≢ []
+some_views [] some none = some refl
+some_views (x ∷ es) some none = absurd (cc)
+
 module _ (e : TypesRead) (defs : List Definition) (expand : Bool) (readable : AreReadable e) (valid : IsValidTerms e.known defs) (k : AreTermsNamed (setting_of e defs expand) (term_names_met e.known defs)) where
   abbrev OfList : Refusal → Type 0
   OfList = IsOfRules (setting_of e defs expand) (rule_trees defs) (term_names_met e.known defs)
@@ -267,6 +271,21 @@ module _ (e : TypesRead) (defs : List Definition) (expand : Bool) (readable : Ar
 
   pub only_passed_named : (es : List Error) → All (λ x. OfList (error_view x)) es → NamesOnlyPassed (PassedInReading e defs expand) (error_views es)
   only_passed_named es all l at c = let m = from_map error_view es (past_limit l at) c in was_passed l at (subst OfList m.2 (All-contains (λ x. OfList (error_view x)) es m.0 all m.1))
+
+  -- what was noted of the rules, and then of what is checked after them
+  module _ (env : TermEnv) (old : TypeEnv) (is : IsSettingOf old env (setting_of e defs expand)) (met : names_of old ≡ term_names_met e.known defs) (read after : List Error)
+      (notes : NotesOfRules env old (rule_trees defs) [] read) (checks : MayNoteMore read after) where
+    all_of_list : All (λ x. OfList (error_view x)) after
+    all_of_list =
+        let n : NotesEach OfList [] read = subst (λ ns. NotesEach (IsOfRules (setting_of e defs expand) (rule_trees defs) ns) [] read) met (notes (setting_of e defs expand) is) in
+        let m = each_then OfList [] read after n (may_noted OfList (wrong_of_rules (setting_of e defs expand) (rule_trees defs) (term_names_met e.known defs)) read after checks) in
+        subst (All (λ x. OfList (error_view x))) (sym m.added) m.each
+
+    pub names_only_passed : NamesOnlyPassed (PassedInReading e defs expand) (error_views after)
+    names_only_passed = only_passed_named after all_of_list
+
+    pub refuses_rules : after ≢ [] → (HasTypedRules e defs expand → ⊥) → RefusesRules e defs expand (error_views after)
+    refuses_rules some none = record { some_error = some_views after some; forms = errors_of_reading after all_of_list; limits = names_only_passed; no_rules = none }
 
 -- errors that name no limit
 limit_named : (x : Error) (l : NamedLimit) (at : Position) → error_view x ≡ past_limit l at → limit_of x ≡ None → ⊥
