@@ -8,8 +8,8 @@ use Rattle.isle_base.specs.declared.syntax.Error.{Error}
 use Rattle.isle_base.specs.SyntaxViews.{definition_view, definition_views}
 use Rattle.isle_model.specs.lists.Syntax.{Definition, type_definition, declaration, extractor_definition, converter_definition, rule_definition, extern_definition, other_definition}
 use Rattle.isle_model.specs.lists.TermTable.{rule_trees}
-use Rattle.isle_types.specs.Reading.{Reports}
-use Rattle.isle_types.proofs.Reports.{both}
+use Rattle.isle_rules.specs.Noting.{NotesMore}
+use Rattle.isle_rules.proofs.Noted.{both}
 use Rattle.isle_rules.specs.Constructors.{uses_of_rule, uses_of_definition}
 use Rattle.isle_rules.specs.Elaborating.{Checks}
 use Rattle.isle_rules.proofs.ConstructorLaws.{all_left, all_right}
@@ -27,7 +27,7 @@ checks_as P Q old new f g (inr a) = inr (a.0, λ h. a.1 (g h))
 module _ {X : Type 0} (P : X → Type 0) where
   -- some are left to be checked
   abbrev pub CheckedAt : List X → List X → List Error → List Error → Type 0
-  CheckedAt all rest old new = ((new ≡ old) × (All P rest → All P all) × (All P all → All P rest)) ⊎ (Reports old new × (All P all → ⊥))
+  CheckedAt all rest old new = ((new ≡ old) × (All P rest → All P all) × (All P all → All P rest)) ⊎ (NotesMore old new × (All P all → ⊥))
 
   pub checked_first : (all : List X) (es : List Error) → CheckedAt all all es es
   checked_first all es = inl (refl, λ h. h, λ h. h)
@@ -35,8 +35,8 @@ module _ {X : Type 0} (P : X → Type 0) where
   pub checked_next : (all left xs rest : List X) (old mid new : List Error) → left ≡ xs ++ rest → CheckedAt all left old mid → Checks mid new (All P xs) → CheckedAt all rest old new
   checked_next all left xs rest old mid new split (inl a) (inl c) =
       inl (c.0 ∙ a.0, λ h. a.1 (subst (All P) (sym split) (All-append P xs rest c.1 h)), λ h. all_right P xs rest (subst (All P) split (a.2 h)))
-  checked_next all left xs rest old mid new split (inl a) (inr c) = inr (subst (λ es. Reports es new) a.0 c.0, λ h. c.1 (all_left P xs rest (subst (All P) split (a.2 h))))
-  checked_next all left xs rest old mid new split (inr a) (inl c) = inr (subst (Reports old) (sym c.0) a.0, a.1)
+  checked_next all left xs rest old mid new split (inl a) (inr c) = inr (subst (λ es. NotesMore es new) a.0 c.0, λ h. c.1 (all_left P xs rest (subst (All P) split (a.2 h))))
+  checked_next all left xs rest old mid new split (inr a) (inl c) = inr (subst (NotesMore old) (sym c.0) a.0, a.1)
   checked_next all left xs rest old mid new split (inr a) (inr c) = inr (both old mid new a.0 c.0, a.1)
 
   pub checked_last : (all : List X) (old new : List Error) → CheckedAt all [] old new → Checks old new (All P all)

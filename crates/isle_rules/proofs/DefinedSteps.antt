@@ -6,8 +6,8 @@ use Rattle.isle_base.specs.declared.syntax.Error.{Error}
 use Rattle.isle_model.specs.lists.Tables.{TermEntry}
 use Rattle.isle_terms.specs.declared.term.Term.{Term}
 use Rattle.isle_terms.specs.TermViews.{term_view, term_views}
-use Rattle.isle_types.specs.Reading.{Reports}
-use Rattle.isle_types.proofs.Reports.{both}
+use Rattle.isle_rules.specs.Noting.{NotesMore}
+use Rattle.isle_rules.proofs.Noted.{both}
 use Rattle.isle_rules.specs.Elaborating.{Checks}
 use Rattle.isle_rules.specs.RuleNaming.{is_defined_term, AreDefined}
 
@@ -16,13 +16,13 @@ IsDefinedTerm t = IsTrue (is_defined_term t)
 
 -- terms that are left to be looked at
 abbrev pub DefinedAt : List TermEntry → List TermEntry → List Error → List Error → Type 0
-DefinedAt all rest old new = ((new ≡ old) × (All IsDefinedTerm rest → All IsDefinedTerm all) × (All IsDefinedTerm all → All IsDefinedTerm rest)) ⊎ (Reports old new × (All IsDefinedTerm all → ⊥))
+DefinedAt all rest old new = ((new ≡ old) × (All IsDefinedTerm rest → All IsDefinedTerm all) × (All IsDefinedTerm all → All IsDefinedTerm rest)) ⊎ (NotesMore old new × (All IsDefinedTerm all → ⊥))
 
 step_defined : (all rest : List TermEntry) (t : TermEntry) (old mid new : List Error) → DefinedAt all (t ∷ rest) old mid → Checks mid new (IsDefinedTerm t) → DefinedAt all rest old new
 step_defined all rest t old mid new (inl a) (inl c) =
     inl (c.0 ∙ a.0, λ h. a.1 (All-cons IsDefinedTerm t rest c.1 h), λ h. All-tail IsDefinedTerm t rest (a.2 h))
-step_defined all rest t old mid new (inl a) (inr c) = inr (subst (λ es. Reports es new) a.0 c.0, λ h. c.1 (All-head IsDefinedTerm t rest (a.2 h)))
-step_defined all rest t old mid new (inr a) (inl c) = inr (subst (Reports old) (sym c.0) a.0, a.1)
+step_defined all rest t old mid new (inl a) (inr c) = inr (subst (λ es. NotesMore es new) a.0 c.0, λ h. c.1 (All-head IsDefinedTerm t rest (a.2 h)))
+step_defined all rest t old mid new (inr a) (inl c) = inr (subst (NotesMore old) (sym c.0) a.0, a.1)
 step_defined all rest t old mid new (inr a) (inr c) = inr (both old mid new a.0 c.0, a.1)
 
 pub next_defined : (terms : List Term) (i : ℕ) (t : Term) → i < length terms → t ≡ get_or terms i t → (old mid new : List Error) → DefinedAt (term_views terms) (term_views (drop i terms)) old mid → Checks mid new (IsDefinedTerm (term_view t)) → DefinedAt (term_views terms) (term_views (drop (i + 1) terms)) old new

@@ -12,7 +12,7 @@ use Rattle.isle_model.specs.lists.Tables.{Flags, TermEntry}
 use Rattle.isle_model.specs.rules.Typed.{TypedExpr, make_term}
 use Rattle.isle_model.specs.lists.Typings.{Typing, made_into}
 use Rattle.isle_laws_lists.proofs.Typings.{made_gives}
-use Rattle.isle_types.specs.Reading.{Reports, MayReport}
+use Rattle.isle_rules.specs.Noting.{NotesMore, MayNoteMore}
 use Rattle.isle_rules.specs.declared.exprs.Expr.{Expr}
 use Rattle.isle_rules.specs.declared.term_env.TermEnv.{TermEnv}
 use Rattle.isle_rules.specs.declared.typing.progress.Stop.{Stop}
@@ -20,7 +20,8 @@ use Rattle.isle_rules.specs.declared.typing.progress.Stop.TheVariants.{Memory, N
 use Rattle.isle_rules.specs.ExprReadings.{expr_reading, args_reading}
 use Rattle.isle_rules.specs.ExprUses.{TakesArgs}
 use Rattle.isle_rules.specs.ExprViews.{expr_views, expr_parts}
-use Rattle.isle_rules.specs.Translating.{Standing, IsSettingOf, IsTranslated, IsReported, Stops}
+use Rattle.isle_rules.specs.Translating.{Standing, IsSettingOf, IsTranslated, IsReported, KeepsNoted, Stops}
+use Rattle.isle_rules.proofs.Noted.{may_both}
 use Rattle.isle_rules.proofs.Readings.{made_as, becomes_same, becomes_made, reported_then, reported_stops}
 use Rattle.isle_rules.proofs.ExprUsing.{list_length}
 
@@ -43,7 +44,7 @@ module _ (env : TermEnv) (old mid new : Standing) (same : mid.tyenv ≡ old.tyen
 
   pub args_done : (v : List Expr)
       → (length args ≡ length t.arg_tys → IsTranslated env mid new d (args_reading (S.expr_views args) flags t.arg_tys) (expr_parts (expr_views v)) ⊎ IsReported env mid new (args_reading (S.expr_views args) flags t.arg_tys))
-      → MayReport mid.work.errors.items new.work.errors.items
+      → MayNoteMore mid.work.errors.items new.work.errors.items
       → IsTranslated env old new d (expr_reading whole flags ty) (make_term t.ret_ty t.id (expr_parts (expr_views v))) ⊎ IsReported env old new (expr_reading whole flags ty)
   args_done v y may =
       ⊎_elim
@@ -64,11 +65,11 @@ module _ (env : TermEnv) (old mid new : Standing) (same : mid.tyenv ≡ old.tyen
             };
       }))
       (λ z. inr (record {
-        errors = subst (λ es. MayReport es new.work.errors.items) p.reads.errors z.errors;
+        errors = subst (λ es. MayNoteMore es new.work.errors.items) p.reads.errors z.errors;
         noted = λ e multi s is sh.
             let n = z.noted e multi s (subst (λ k. IsSettingOf k env e) (sym same) is) (p.reads.shows e multi s is sh) in
             record {
-              reports = subst (λ es. Reports es new.work.errors.items) p.reads.errors n.reports;
+              reports = subst (λ es. NotesMore es new.work.errors.items) p.reads.errors n.reports;
               none = λ c. p.reads.becomes e multi s is sh c ∙ ap (made_into (make_term t.ret_ty t.id)) (n.none c);
             };
       }))
@@ -76,19 +77,26 @@ module _ (env : TermEnv) (old mid new : Standing) (same : mid.tyenv ≡ old.tyen
       (λ n. inr (reported_then env old mid new d (expr_reading whole flags ty) (expr_reading whole flags ty) n (λ e multi c s h. h) may))
       x
 
-  pub args_stop : (stop : Stop) → (length args ≡ length t.arg_tys → Stops env mid d (args_reading (S.expr_views args) flags t.arg_tys) stop) → Stops env old d (expr_reading whole flags ty) stop
-  args_stop stop y =
+  pub args_stop : (stop : Stop) → KeepsNoted mid new stop → (length args ≡ length t.arg_tys → Stops env mid new d (args_reading (S.expr_views args) flags t.arg_tys) stop) → Stops env old new d (expr_reading whole flags ty) stop
+  args_stop stop more y =
       ⊎_elim
       (λ p. at_args p stop (y (count p)))
-      (λ n. reported_stops env old mid new d (expr_reading whole flags ty) (expr_reading whole flags ty) n (λ e multi c s h. h) stop)
+      (λ n. reported_stops env old mid new d (expr_reading whole flags ty) (expr_reading whole flags ty) n (λ e multi c s h. h) stop more)
       x
     where
-      at_args : TakesArgs env old mid whole (S.expr_views args) flags ty t → (stop : Stop) → Stops env mid d (args_reading (S.expr_views args) flags t.arg_tys) stop → Stops env old d (expr_reading whole flags ty) stop
+      at_args : TakesArgs env old mid whole (S.expr_views args) flags ty t → (stop : Stop) → Stops env mid new d (args_reading (S.expr_views args) flags t.arg_tys) stop → Stops env old new d (expr_reading whole flags ty) stop
       at_args p (Memory a) y = tt
-      at_args p Nesting y = λ e multi s is sh. p.reads.becomes e multi s is sh d ∙ ap (made_into (make_term t.ret_ty t.id)) (y e multi s (subst (λ k. IsSettingOf k env e) (sym same) is) (p.reads.shows e multi s is sh))
-      at_args p Expansions y = λ e multi s is sh c a h.
-          let g = made_gives (make_term t.ret_ty t.id) (args_reading (S.expr_views args) flags t.arg_tys e multi c s) {r = a} (sym (p.reads.becomes e multi s is sh c) ∙ h) in
-          let long = y e multi s (subst (λ k. IsSettingOf k env e) (sym same) is) (p.reads.shows e multi s is sh) c g.0 g.1 in
-          let m = p.reads.expansions in
-          let n : g.0.expansions ≡ a.expansions = ap (λ (v : Typing TypedExpr). v.expansions) g.2 in
-          omega (arith, long, m, n)
+      at_args p Nesting y = (
+        may_both old.work.errors.items mid.work.errors.items new.work.errors.items (inl p.reads.errors) y.0,
+        λ e multi s is sh.
+            p.reads.becomes e multi s is sh d ∙ ap (made_into (make_term t.ret_ty t.id)) (y.1 e multi s (subst (λ k. IsSettingOf k env e) (sym same) is) (p.reads.shows e multi s is sh)),
+      )
+      at_args p Expansions y = (
+        may_both old.work.errors.items mid.work.errors.items new.work.errors.items (inl p.reads.errors) y.0,
+        λ e multi s is sh c a h.
+            let g = made_gives (make_term t.ret_ty t.id) (args_reading (S.expr_views args) flags t.arg_tys e multi c s) {r = a} (sym (p.reads.becomes e multi s is sh c) ∙ h) in
+            let long = y.1 e multi s (subst (λ k. IsSettingOf k env e) (sym same) is) (p.reads.shows e multi s is sh) c g.0 g.1 in
+            let m = p.reads.expansions in
+            let n : g.0.expansions ≡ a.expansions = ap (λ (v : Typing TypedExpr). v.expansions) g.2 in
+            omega (arith, long, m, n),
+      )

@@ -13,7 +13,7 @@ use Rattle.isle_model.specs.lists.Typings.{Typing, plain}
 use Rattle.isle_model.proofs.Names.{known_name}
 use Rattle.isle_types.specs.Envs.{names_of, constant_at}
 use Rattle.isle_types.specs.TypeViews.{type_views}
-use Rattle.isle_types.specs.Reading.{Reports}
+use Rattle.isle_rules.specs.Noting.{NotesMore}
 use Rattle.isle_rules.specs.declared.term_env.TermEnv.{TermEnv}
 use Rattle.isle_rules.specs.Elaborating.{Checks}
 use Rattle.isle_rules.specs.Progress.{Remains}
@@ -59,14 +59,14 @@ module _ (env : TermEnv) (old new : Standing) (flags : Flags) (x : Name) (at : P
   abbrev of_type : Scope → Option ℕ → Option (Typing TypedExpr)
   of_type s o = then_option o (λ own. cond (is_expected ty own) (Some (plain (make_prim own (number s.names x.text)) s)) None)
 
-  pub constant_unknown : None ≡ constant_at old.tyenv (number (names_of old.tyenv) x.text) → Reports old.work.errors.items new.work.errors.items → IsReported env old new (expr_reading (prim_expr x at) flags ty)
+  pub constant_unknown : None ≡ constant_at old.tyenv (number (names_of old.tyenv) x.text) → NotesMore old.work.errors.items new.work.errors.items → IsReported env old new (expr_reading (prim_expr x at) flags ty)
   constant_unknown none more = record {
     errors = inr more;
     noted = λ e multi s is sh. record { reports = more; none = λ c. ap (of_type s) (constant_is e s is sh None none) };
   }
 
   module _ (own : ℕ) (there : Some own ≡ constant_at old.tyenv (number (names_of old.tyenv) x.text)) where
-    pub constant_mistyped : is_expected ty own ≡ false → Reports old.work.errors.items new.work.errors.items → IsReported env old new (expr_reading (prim_expr x at) flags ty)
+    pub constant_mistyped : is_expected ty own ≡ false → NotesMore old.work.errors.items new.work.errors.items → IsReported env old new (expr_reading (prim_expr x at) flags ty)
     constant_mistyped other more = record {
       errors = inr more;
       noted = λ e multi s is sh. record { reports = more; none = λ c. ap (of_type s) (constant_is e s is sh (Some own) there) ∙ rw other refl };

@@ -84,7 +84,7 @@ module _ (env : TermEnv) (old mid new : Standing) (d : ℕ) (first : Reading Typ
       let both = then_done env old mid new d first (λ q. last) whole appended law (expr_parts (expr_views made)) (single (expr_view p)) keeps sofar (made_done env mid new d one last single last_is (expr_view p) y) in
       rw (views_appended made p) both
 
-  pub one_stops : (stop : Stop) → Stops env mid d one stop → Stops env old d whole stop
+  pub one_stops : (stop : Stop) → Stops env mid new d one stop → Stops env old new d whole stop
   one_stops stop y = then_stops env old mid new d first (λ q. last) whole appended law (expr_parts (expr_views made)) keeps sofar stop (made_stops env mid new d one last single last_is stop y)
 
 -- the arguments of a term
@@ -124,8 +124,8 @@ module _ (env : TermEnv) (old mid new : Standing) (d : ℕ) (flags : Flags) (arg
       (args_reading (S.expr_views (take (i + 1) args)) flags (tys_to (i + 1))) (last_arg flags p ty.0) one_further made keeps sofar o y
 
   pub arg_stops : (made : List Expr) → SoFar env old mid d (args_reading (S.expr_views (take i args)) flags (tys_to i)) made
-      → (stop : Stop) → Stops env mid d (expr_reading (S.expr_view p) flags (Some ty.0)) stop → length args ≡ length tys
-      → Stops env old d (args_reading (S.expr_views args) flags (map (λ t. t.0) tys)) stop
+      → (stop : Stop) → Stops env mid new d (expr_reading (S.expr_view p) flags (Some ty.0)) stop → length args ≡ length tys
+      → Stops env old new d (args_reading (S.expr_views args) flags (map (λ t. t.0) tys)) stop
   arg_stops made sofar stop y count =
       let here = one_stops env old mid new d (args_reading (S.expr_views (take i args)) flags (tys_to i)) (expr_reading (S.expr_view p) flags (Some ty.0)) (args_reading (S.expr_views (p ∷ [])) flags (ty.0 ∷ []))
       (args_reading (S.expr_views (take (i + 1) args)) flags (tys_to (i + 1))) (last_arg flags p ty.0) one_further made keeps sofar stop y in

@@ -17,7 +17,7 @@ use Rattle.isle_model.proofs.ByNumber.{looked_up}
 use Rattle.isle_model.proofs.Names.{last}
 use Rattle.isle_laws_lists.proofs.Typings.{expected_itself}
 use Rattle.isle_types.specs.Envs.{names_of, symbol_of, IsInterned}
-use Rattle.isle_types.specs.Reading.{Reports}
+use Rattle.isle_rules.specs.Noting.{NotesMore}
 use Rattle.isle_terms.specs.Terms.{has_constructor_kind}
 use Rattle.isle_rules.specs.declared.term_env.TermEnv.{TermEnv}
 use Rattle.isle_rules.specs.declared.typing.progress.Stop.{Stop}
@@ -109,10 +109,10 @@ module _ (env : TermEnv) (old : Standing) (whole : ExprTree) (at : Position) (fl
     };
   }
 
-  pub conversion_stops : (new : Standing) (d : ℕ) (stop : Stop) → Counts d old.work new.work (Err stop) → Stops env old d (expr_reading whole flags ty) stop
+  pub conversion_stops : (new : Standing) (d : ℕ) (stop : Stop) → Counts d old.work new.work (Err stop) → Stops env old new d (expr_reading whole flags ty) stop
   conversion_stops new d stop x =
       expansion_stops env old old new d (expr_reading whole flags ty) (λ e multi s d. expr_reading (inside_call old.tyenv by at whole) flags ty e multi d s)
-      (λ e multi s is sh c. inr (conversion e multi s is sh c)) refl stop x
+      (λ e multi s is sh c. inr (conversion e multi s is sh c)) refl (inl refl) stop x
 
 -- a variable is found by its number
 module _ (env : TermEnv) (old : Standing) (inv : IsInterned old.tyenv) (name : Name) (at : Position) (flags : Flags) (ty : Option ℕ) where
@@ -135,7 +135,7 @@ module _ (env : TermEnv) (old : Standing) (inv : IsInterned old.tyenv) (name : N
   abbrev var : ExprTree
   var = var_expr name at
 
-  pub var_unknown : (new : Standing) → None ≡ option_and_then (newest old.work) (symbol_of old.tyenv name.text) → Reports old.work.errors.items new.work.errors.items → IsReported env old new (expr_reading var flags ty)
+  pub var_unknown : (new : Standing) → None ≡ option_and_then (newest old.work) (symbol_of old.tyenv name.text) → NotesMore old.work.errors.items new.work.errors.items → IsReported env old new (expr_reading var flags ty)
   var_unknown new none more = record {
     errors = inr more;
     noted = λ e multi s is sh. record { reports = more; none = λ c. let h = var_found None none s sh in rw h refl };
@@ -151,7 +151,7 @@ module _ (env : TermEnv) (old : Standing) (inv : IsInterned old.tyenv) (name : N
     var_converts by k e multi s is sh c =
         law_of e multi s sh c ∙ converts env old e is v.ty ty by (Some (plain (make_var v.ty v.id) s)) (λ b. counted (deeper_expr (all_made e) flags c (wrapped_expr s b at var) ty s)) k
 
-    pub var_unmade : (new : Standing) (by : TermEntry) → None ≡ found_expr_converter env v.ty ty → Some by ≡ declared_converter env v.ty ty → Reports old.work.errors.items new.work.errors.items → IsReported env old new (expr_reading var flags ty)
+    pub var_unmade : (new : Standing) (by : TermEntry) → None ≡ found_expr_converter env v.ty ty → Some by ≡ declared_converter env v.ty ty → NotesMore old.work.errors.items new.work.errors.items → IsReported env old new (expr_reading var flags ty)
     var_unmade new by none k more = record {
       errors = inr more;
       noted = λ e multi s is sh. record { reports = more; none = λ c. law_of e multi s sh c ∙ stays_other env old e is v.ty ty _ _ none (other_expected env v.ty ty by k) };
@@ -177,7 +177,7 @@ module _ (env : TermEnv) (old : Standing) (inv : IsInterned old.tyenv) (name : N
   abbrev call : ExprTree
   call = term_expr name args at
 
-  pub call_unknown : (new : Standing) → None ≡ found_term env old.tyenv name.text → Reports old.work.errors.items new.work.errors.items → IsReported env old new (expr_reading call flags ty)
+  pub call_unknown : (new : Standing) → None ≡ found_term env old.tyenv name.text → NotesMore old.work.errors.items new.work.errors.items → IsReported env old new (expr_reading call flags ty)
   call_unknown new none more = record {
     errors = inr more;
     noted = λ e multi s is sh. record { reports = more; none = λ c. let h = term_made e s name.text None (found_so env old inv name.text None none e s is sh) in rw h refl };
@@ -196,7 +196,7 @@ module _ (env : TermEnv) (old : Standing) (inv : IsInterned old.tyenv) (name : N
     call_converts by k e multi s is sh c =
         law_of_call e multi s is sh c ∙ converts env old e is t.ret_ty ty by (itself e c s) (λ b. counted (deeper_expr (all_made e) flags c (wrapped_expr s b at call) ty s)) k
 
-    pub call_unmade : (new : Standing) (by : TermEntry) → None ≡ found_expr_converter env t.ret_ty ty → Some by ≡ declared_converter env t.ret_ty ty → Reports old.work.errors.items new.work.errors.items → IsReported env old new (expr_reading call flags ty)
+    pub call_unmade : (new : Standing) (by : TermEntry) → None ≡ found_expr_converter env t.ret_ty ty → Some by ≡ declared_converter env t.ret_ty ty → NotesMore old.work.errors.items new.work.errors.items → IsReported env old new (expr_reading call flags ty)
     call_unmade new by none k more = record {
       errors = inr more;
       noted = λ e multi s is sh. record { reports = more; none = λ c. law_of_call e multi s is sh c ∙ stays_other env old e is t.ret_ty ty _ _ none (other_expected env t.ret_ty ty by k) };

@@ -1,5 +1,5 @@
 -- Lists of if-lets, and arguments that are counted, read one after another.
-use Rattle.std.proofs.Common.{◌≡◌, ℕ, ◌+◌, ◌<◌, ◌≤◌, Bool, List, [], ◌∷◌, ◌++◌, length, map, take, drop, get_or, Option, Some, None, Result, Ok, Err, OnOk, Vec, refl, sym, ap, subst, ◌∙◌, inl, inr, ◌⊎◌, ⊎_elim, arith}
+use Rattle.std.proofs.Common.{◌≡◌, ℕ, ◌+◌, ◌<◌, ◌≤◌, Bool, List, [], ◌∷◌, ◌++◌, length, map, take, drop, get_or, Option, Some, None, Result, Ok, Err, Vec, refl, sym, ap, subst, ◌∙◌, inl, inr, ◌⊎◌, ⊎_elim, arith}
 use Rattle.std.specs.Option.{option_to_list}
 use Rattle.std.specs.declared.alloc.Global.{Global}
 use Rattle.std.proofs.lemmas.List.{take_more, take_all, take-append-drop, map-append, length-map}
@@ -17,7 +17,7 @@ use Rattle.isle_model.specs.rules.Typed.{TypedIfLet}
 use Rattle.isle_model.specs.lists.Setting.{Setting, Scope}
 use Rattle.isle_model.specs.lists.Typings.{Typing, plain, made_into, joined_typing, followed}
 use Rattle.isle_types.specs.Envs.{names_of}
-use Rattle.isle_types.specs.Reading.{Reports, MayReport}
+use Rattle.isle_rules.specs.Noting.{NotesMore, MayNoteMore}
 use Rattle.isle_rules.specs.declared.rules.IfLet as R
 use Rattle.isle_rules.specs.declared.term_env.TermEnv.{TermEnv}
 use Rattle.isle_rules.specs.declared.typing.progress.Stop.{Stop}
@@ -26,8 +26,9 @@ use Rattle.isle_rules.specs.Elaborating.{Checks}
 use Rattle.isle_rules.specs.Progress.{Remains}
 use Rattle.isle_rules.specs.RuleReadings.{iflet_reading, iflets_reading}
 use Rattle.isle_rules.specs.RuleViews.{iflet_view}
-use Rattle.isle_rules.specs.Translating.{Standing, Keeps, Reading, IsSettingOf, IsTranslated, IsReported, Stops, MayTranslate, Translates}
+use Rattle.isle_rules.specs.Translating.{Standing, Keeps, Reading, IsSettingOf, IsTranslated, IsReported, KeepsNoted, StaysNoted, Stops, MayTranslate, Translates}
 use Rattle.isle_rules.proofs.PatternLists.{same_typing}
+use Rattle.isle_rules.proofs.Noted.{may_both}
 use Rattle.isle_rules.proofs.Readings.{made_done, made_reported, made_stops, reported_then, reported_stops, then_done, then_reported, then_stops, first_stops}
 use Rattle.isle_rules.proofs.Scopes.{still, plain_made}
 
@@ -106,7 +107,7 @@ module _ (env : TermEnv) (old mid new : Standing) (d : ℕ) (flags : Flags) (all
       let both = then_done env old mid new d before (λ q. last_one) after ◌++◌ further (map iflet_view made) (iflet_view p ∷ []) keeps sofar (made_done env mid new d alone_one last_one (λ x. x ∷ []) last_is (iflet_view p) y) in
       rw (map-append iflet_view made (p ∷ [])) both
 
-  pub iflet_stops : (stop : Stop) → Stops env mid d alone_one stop → Stops env old d (iflets_reading (map S.iflet_view all) flags) stop
+  pub iflet_stops : (stop : Stop) → Stops env mid new d alone_one stop → Stops env old new d (iflets_reading (map S.iflet_view all) flags) stop
   iflet_stops stop y =
       first_stops env old mid new d after (λ q. iflets_reading (map S.iflet_view (drop (i + 1) all)) flags) (iflets_reading (map S.iflet_view all) flags) ◌++◌
       (λ e multi c s.
@@ -126,10 +127,10 @@ module _ {Q : Type 0} (env : TermEnv) (old mid new : Standing) (d : ℕ) (readin
   setting : (e : Setting) → IsSettingOf old.tyenv env e → IsSettingOf mid.tyenv env e
   setting e is = subst (λ t. IsSettingOf t env e) (sym same) is
 
-  unmet : Reports old.work.errors.items mid.work.errors.items → (P → ⊥) → IsReported env old mid reading
+  unmet : NotesMore old.work.errors.items mid.work.errors.items → (P → ⊥) → IsReported env old mid reading
   unmet more wrong = record { errors = inr more; noted = λ e multi s is sh. record { reports = more; none = λ c. needed wrong e multi c s } }
 
-  pub checked_done : (q : Q) → Checks old.work.errors.items mid.work.errors.items P → MayReport mid.work.errors.items new.work.errors.items
+  pub checked_done : (q : Q) → Checks old.work.errors.items mid.work.errors.items P → MayNoteMore mid.work.errors.items new.work.errors.items
       → (P → IsTranslated env mid new d reading q ⊎ IsReported env mid new reading) → IsTranslated env old new d reading q ⊎ IsReported env old new reading
   checked_done q (inr wrong) may y = inr (reported_then env old mid new d reading reading (unmet wrong.0 wrong.1) (λ e multi c s h. h) may)
   checked_done q (inl ok) may y =
@@ -143,31 +144,34 @@ module _ {Q : Type 0} (env : TermEnv) (old mid new : Standing) (d : ℕ) (readin
             record { typing = a.typing; becomes = a.becomes; made = a.made; shows = a.shows; expansions = omega (arith, m, n) };
       }))
       (λ z. inr (record {
-        errors = subst (λ es. MayReport es new.work.errors.items) ok.0 z.errors;
+        errors = subst (λ es. MayNoteMore es new.work.errors.items) ok.0 z.errors;
         noted = λ e multi s is sh.
             let n = z.noted e multi s (setting e is) (still old mid s (ap names_of same) r sh) in
-            record { reports = subst (λ es. Reports es new.work.errors.items) ok.0 n.reports; none = n.none };
+            record { reports = subst (λ es. NotesMore es new.work.errors.items) ok.0 n.reports; none = n.none };
       }))
       (y ok.1)
 
-  pub checked_stops : (stop : Stop) → Checks old.work.errors.items mid.work.errors.items P → (P → Stops env mid d reading stop) → Stops env old d reading stop
-  checked_stops stop (inr wrong) y = reported_stops env old mid new d reading reading (unmet wrong.0 wrong.1) (λ e multi c s h. h) stop
-  checked_stops stop (inl ok) y = at_stop stop (y ok.1)
+  pub checked_stops : (stop : Stop) → Checks old.work.errors.items mid.work.errors.items P → KeepsNoted mid new stop → (P → Stops env mid new d reading stop) → Stops env old new d reading stop
+  checked_stops stop (inr wrong) more y = reported_stops env old mid new d reading reading (unmet wrong.0 wrong.1) (λ e multi c s h. h) stop more
+  checked_stops stop (inl ok) more y = at_stop stop (y ok.1)
     where
-      at_stop : (stop : Stop) → Stops env mid d reading stop → Stops env old d reading stop
+      at_stop : (stop : Stop) → Stops env mid new d reading stop → Stops env old new d reading stop
       at_stop (Memory a) z = tt
-      at_stop Nesting z = λ e multi s is sh. z e multi s (setting e is) (still old mid s (ap names_of same) r sh)
-      at_stop Expansions z = λ e multi s is sh c a h.
-          let long = z e multi s (setting e is) (still old mid s (ap names_of same) r sh) c a h in
-          let m = r.expansions in
-          omega (arith, long, m)
+      at_stop Nesting z = (may_both old.work.errors.items mid.work.errors.items new.work.errors.items (inl ok.0) z.0, λ e multi s is sh. z.1 e multi s (setting e is) (still old mid s (ap names_of same) r sh))
+      at_stop Expansions z = (
+        may_both old.work.errors.items mid.work.errors.items new.work.errors.items (inl ok.0) z.0,
+        λ e multi s is sh c a h.
+            let long = z.1 e multi s (setting e is) (still old mid s (ap names_of same) r sh) c a h in
+            let m = r.expansions in
+            omega (arith, long, m),
+      )
 
 -- patterns for arguments that are to be as many as the types
 pub counted_args : (env : TermEnv) (old mid new : Standing) (d : ℕ) (args : List T.Pattern) (tys : List TypeId) → mid.tyenv ≡ old.tyenv → Remains old.work mid.work
     → Checks old.work.errors.items mid.work.errors.items (length args ≡ length tys)
     → (r : Result (Vec Pattern Global) Stop)
     → (length args ≡ length tys → Translates env mid new d (parts_reading (S.pattern_views args) (map (λ t. t.0) tys)) (λ v. pattern_parts (pattern_views v.items)) r)
-    → OnOk r (MayReport mid.work.errors.items new.work.errors.items)
+    → StaysNoted mid new r
     → Translates env old new d (parts_reading (S.pattern_views args) (map (λ t. t.0) tys)) (λ v. pattern_parts (pattern_views v.items)) r
 counted_args env old mid new d args tys same r checks (Ok v) made may =
     checked_done env old mid new d (parts_reading (S.pattern_views args) (map (λ t. t.0) tys)) (length args ≡ length tys) same r
@@ -176,4 +180,4 @@ counted_args env old mid new d args tys same r checks (Ok v) made may =
 counted_args env old mid new d args tys same r checks (Err stop) made may =
     checked_stops env old mid new d (parts_reading (S.pattern_views args) (map (λ t. t.0) tys)) (length args ≡ length tys) same r
     (λ wrong e multi c s. parts_count e multi c (S.pattern_views args) (map (λ t. t.0) tys) s (λ k. wrong (sym (list_length args) ∙ k ∙ length-map tys (λ t. t.0))))
-    stop checks made
+    stop checks may made

@@ -23,7 +23,7 @@ use Rattle.isle_types.specs.declared.ids.Sym.{Sym}
 use Rattle.isle_types.specs.declared.ids.TypeId.{TypeId}
 use Rattle.isle_types.specs.declared.ids.VarId.{VarId}
 use Rattle.isle_types.specs.Envs.{names_of, symbol_of, type_at, type_of_name, IsInterned}
-use Rattle.isle_types.specs.Reading.{Reports, MayReport}
+use Rattle.isle_rules.specs.Noting.{NotesMore, MayNoteMore}
 use Rattle.isle_rules.specs.declared.exprs.Expr.{Expr}
 use Rattle.isle_rules.specs.declared.rules.BoundVar.{BoundVar}
 use Rattle.isle_rules.specs.declared.term_env.TermEnv.{TermEnv}
@@ -35,6 +35,7 @@ use Rattle.isle_rules.specs.Lets.{with_let, before_all, HidesAs, Defines, BindsD
 use Rattle.isle_rules.specs.Progress.{newest, BindsNext, Remains}
 use Rattle.isle_rules.specs.Translating.{Standing, Keeps, IsSettingOf, Shows, Reading, Wherever, IsOnlyTyping, IsTranslated, IsReported, Stops}
 use Rattle.isle_rules.proofs.PatternLists.{same_typing}
+use Rattle.isle_rules.proofs.Noted.{may_both}
 use Rattle.isle_rules.proofs.Readings.{becomes_same, keep_setting, reported_then, then_done, then_reported, then_stops, first_stops, may_report}
 use Rattle.isle_rules.proofs.Scopes.{met_shows, bound_shows, as_many, plain_made}
 use Rattle.isle_rules.proofs.LetScopes.{names_stay, hide_bound}
@@ -88,7 +89,7 @@ module _ (env : TermEnv) (old mid : Standing) (name ty : Name) (value : ExprTree
             | false ↦ λ none. sym (past (type_at old.tyenv (number (names_of old.tyenv) ty.text)) refl none)
           ] refl))
 
-  pub def_unknown : None ≡ type_of_name old.tyenv ty.text → Reports old.work.errors.items mid.work.errors.items → IsReported env old mid one
+  pub def_unknown : None ≡ type_of_name old.tyenv ty.text → NotesMore old.work.errors.items mid.work.errors.items → IsReported env old mid one
   def_unknown none more = record {
     errors = inr more;
     noted = λ e multi s is sh. record { reports = more; none = λ c. let h = type_found None none e s is sh in rw h refl };
@@ -106,21 +107,27 @@ module _ (env : TermEnv) (old mid : Standing) (name ty : Name) (value : ExprTree
 
     pub def_reported : (new : Standing) → IsReported env mid new (expr_reading value flags (Some own)) → IsReported env old new one
     def_reported new y = record {
-      errors = subst (λ es. MayReport es new.work.errors.items) errors y.errors;
+      errors = subst (λ es. MayNoteMore es new.work.errors.items) errors y.errors;
       noted = λ e multi s is sh.
           let n = y.noted e multi (met s name.text) (setting e is) (shown s sh) in
-          record { reports = subst (λ es. Reports es new.work.errors.items) errors n.reports; none = λ c. unfolded e multi s is sh c ∙ ap (defined own name.text) (n.none c) };
+          record { reports = subst (λ es. NotesMore es new.work.errors.items) errors n.reports; none = λ c. unfolded e multi s is sh c ∙ ap (defined own name.text) (n.none c) };
     }
 
-    pub def_stops : (d : ℕ) (stop : Stop) → Stops env mid d (expr_reading value flags (Some own)) stop → Stops env old d one stop
-    def_stops d (Memory a) y = tt
-    def_stops d Nesting y = λ e multi s is sh. unfolded e multi s is sh d ∙ ap (defined own name.text) (y e multi (met s name.text) (setting e is) (shown s sh))
-    def_stops d Expansions y = λ e multi s is sh c a h.
-        let g = defined_gives own name.text (expr_reading value flags (Some own) e multi c (met s name.text)) a (sym (unfolded e multi s is sh c) ∙ h) in
-        let long = y e multi (met s name.text) (setting e is) (shown s sh) c g.0 g.1 in
-        let m = r.expansions in
-        let n = g.2 in
-        omega (arith, long, m, n)
+    pub def_stops : (new : Standing) (d : ℕ) (stop : Stop) → Stops env mid new d (expr_reading value flags (Some own)) stop → Stops env old new d one stop
+    def_stops new d (Memory a) y = tt
+    def_stops new d Nesting y = (
+      may_both old.work.errors.items mid.work.errors.items new.work.errors.items (inl errors) y.0,
+      λ e multi s is sh. unfolded e multi s is sh d ∙ ap (defined own name.text) (y.1 e multi (met s name.text) (setting e is) (shown s sh)),
+    )
+    def_stops new d Expansions y = (
+      may_both old.work.errors.items mid.work.errors.items new.work.errors.items (inl errors) y.0,
+      λ e multi s is sh c a h.
+          let g = defined_gives own name.text (expr_reading value flags (Some own) e multi c (met s name.text)) a (sym (unfolded e multi s is sh c) ∙ h) in
+          let long = y.1 e multi (met s name.text) (setting e is) (shown s sh) c g.0 g.1 in
+          let m = r.expansions in
+          let n = g.2 in
+          omega (arith, long, m, n),
+    )
 
     module _ (d : ℕ) (next new : Standing) (q : TypedExpr) (same : new.tyenv ≡ next.tyenv) (further : Keeps mid.tyenv next.tyenv) (earlier hidden : List (Sym × Option BoundVar)) (id : ℕ) (named : id ≡ number (names_of old.tyenv) name.text)
         (made : VarId × TypeId × Box Expr Global) (b : BindsDef next.work new.work earlier hidden id own q made) where
@@ -268,7 +275,7 @@ module _ (env : TermEnv) (old mid new : Standing) (d : ℕ) (flags : Flags) (def
           (then_done env old mid new d before (λ q. last_one) after lets_joined further (let_parts (let_views made)) (let_parts (let_views (b ∷ []))) keeps (inl x.0) (inl y.0))
       at_both (inr x) = inr (reported_then env old mid new d before after x (λ e multi c s h. further e multi c s ∙ ap (λ o. followed lets_joined o (λ a. last_one e multi c a.scope)) h) (inl y.0.errors))
 
-  pub next_stops : (stop : Stop) → Stops env mid d last_one stop → Stops env old d (lets_reading (S.let_views defs) flags) stop
+  pub next_stops : (stop : Stop) → Stops env mid new d last_one stop → Stops env old new d (lets_reading (S.let_views defs) flags) stop
   next_stops stop y =
       first_stops env old mid new d after (λ q. lets_reading (S.let_views (drop (i + 1) defs)) flags) (lets_reading (S.let_views defs) flags) lets_joined
       (λ e multi c s. ap (λ ds. lets_reading (S.let_views ds) flags e multi c s) (sym (take-append-drop (i + 1) defs)) ∙ lets_after (all_made e) flags c (take (i + 1) defs) (drop (i + 1) defs) s)
@@ -301,15 +308,18 @@ module _ (env : TermEnv) (old mid new : Standing) (d : ℕ) (flags : Flags) (def
     noted = λ e multi s is sh. let n = y.noted e multi s is sh in record { reports = n.reports; none = λ c. ap (scoped (after_let s)) (n.none c) };
   }
 
-  inner_stops : (stop : Stop) → Stops env old d inner stop → Stops env old d whole stop
-  inner_stops (Memory a) y = tt
-  inner_stops Nesting y = λ e multi s is sh. ap (scoped (after_let s)) (y e multi s is sh)
-  inner_stops Expansions y = λ e multi s is sh c a h.
-      let g = scoped_gives (after_let s) (inner e multi c s) {r = a} h in
-      subst (λ (v : Typing TypedExpr). most_expansions < old.work.expansions + v.expansions) g.2 (y e multi s is sh c g.0 g.1)
+  inner_stops : (last : Standing) (stop : Stop) → Stops env old last d inner stop → Stops env old last d whole stop
+  inner_stops last (Memory a) y = tt
+  inner_stops last Nesting y = (y.0, λ e multi s is sh. ap (scoped (after_let s)) (y.1 e multi s is sh))
+  inner_stops last Expansions y = (
+    y.0,
+    λ e multi s is sh c a h.
+        let g = scoped_gives (after_let s) (inner e multi c s) {r = a} h in
+        subst (λ (v : Typing TypedExpr). most_expansions < old.work.expansions + v.expansions) g.2 (y.1 e multi s is sh c g.0 g.1),
+  )
 
-  pub let_first_stops : (stop : Stop) → Stops env old d (lets_reading defs flags) stop → Stops env old d whole stop
-  let_first_stops stop y = inner_stops stop (first_stops env old mid new d (lets_reading defs flags) (λ q. bodies) inner typed_let (λ e multi c s. refl) stop y)
+  pub let_first_stops : (stop : Stop) → Stops env old mid d (lets_reading defs flags) stop → Stops env old mid d whole stop
+  let_first_stops stop y = inner_stops mid stop (first_stops env old mid mid d (lets_reading defs flags) (λ q. bodies) inner typed_let (λ e multi c s. refl) stop y)
 
   module _ (ds : TypedLets) (hidden : List (Sym × Option BoundVar)) (keeps : Keeps old.tyenv mid.tyenv) (done : Defines env old mid d (lets_reading defs flags) ds [] hidden) where
     so_far_defs : IsTranslated env old mid d (lets_reading defs flags) ds ⊎ IsReported env old mid (lets_reading defs flags)
@@ -318,8 +328,8 @@ module _ (env : TermEnv) (old mid new : Standing) (d : ℕ) (flags : Flags) (def
     pub let_reported : IsReported env mid new bodies → IsReported env old new whole
     let_reported y = inner_reported new (then_reported env old mid new d (lets_reading defs flags) (λ q. bodies) inner typed_let (λ e multi c s. refl) ds keeps so_far_defs y)
 
-    pub let_stops : (stop : Stop) → Stops env mid d bodies stop → Stops env old d whole stop
-    let_stops stop y = inner_stops stop (then_stops env old mid new d (lets_reading defs flags) (λ q. bodies) inner typed_let (λ e multi c s. refl) ds keeps so_far_defs stop y)
+    pub let_stops : (stop : Stop) → Stops env mid new d bodies stop → Stops env old new d whole stop
+    let_stops stop y = inner_stops new stop (then_stops env old mid new d (lets_reading defs flags) (λ q. bodies) inner typed_let (λ e multi c s. refl) ds keeps so_far_defs stop y)
 
     module _ (closed : Standing) (on : Keeps mid.tyenv new.tyenv) (same : closed.tyenv ≡ new.tyenv) (c : Closes hidden new.work closed.work) (q : TypedExpr) where
       shut : IsTranslated env old new d inner (typed_let ds q) → Wherever env old (λ e multi s. (k : ℕ) → newest closed.work k ≡ newest old.work k) → IsTranslated env old closed d whole (typed_let ds q)

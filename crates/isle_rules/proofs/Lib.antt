@@ -14,6 +14,7 @@ pub mod ExprRunSteps
 pub mod ExprRunForms
 pub mod OrderedVars
 pub mod RuleRunSteps
+pub mod Noted
 pub mod Readings
 pub mod Bindings
 pub mod Scopes
@@ -40,6 +41,7 @@ pub mod NamesKept
 pub mod ConstructorLaws
 pub mod CheckedUses
 pub mod RulesTyped
+pub mod RuleErrorSteps
 pub mod NamedTerms
 pub mod TemplateUses
 pub mod DefinedTerms

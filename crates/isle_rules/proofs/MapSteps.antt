@@ -16,9 +16,9 @@ use Rattle.isle_types.specs.declared.ids.RuleId.{RuleId}
 use Rattle.isle_types.specs.Envs.{same_symbol, symbol}
 use Rattle.isle_rules.specs.declared.rules.Rule.{Rule}
 use Rattle.isle_rules.specs.RuleViews.{rule_view, rule_views}
-use Rattle.isle_types.specs.Reading.{Reports}
+use Rattle.isle_rules.specs.Noting.{NotesMore}
 use Rattle.isle_rules.specs.RuleNaming.{rule_in, NamesAs, NamesRule, MapsNames}
-use Rattle.isle_types.proofs.Reports.{both}
+use Rattle.isle_rules.proofs.Noted.{both}
 
 -- whether a rule has the name
 abbrev has_it : Option ℕ → ℕ → Bool
@@ -89,7 +89,7 @@ pub record Mapping (all rest : List TypedRule) (m : Entries Sym RuleId) : Type 0
   pub ids : (k : ℕ) → rule_in m k ≡ rule_named done k
 
 abbrev pub MappingAt : List TypedRule → List TypedRule → List Error → List Error → Entries Sym RuleId → Type 0
-MappingAt all rest old new m = ((new ≡ old) × Mapping all rest m) ⊎ (Reports old new × (IsDistinct (rule_names all) → ⊥))
+MappingAt all rest old new m = ((new ≡ old) × Mapping all rest m) ⊎ (NotesMore old new × (IsDistinct (rule_names all) → ⊥))
 
 module _ (all rest : List TypedRule) (r : TypedRule) (before after : Entries Sym RuleId) (m : Mapping all (r ∷ rest) before) where
   unnamed : r.name ≡ None → after ≡ before → Mapping all rest after
@@ -137,9 +137,9 @@ module _ (all rest : List TypedRule) (r : TypedRule) (before after : Entries Sym
 step_name : (all rest : List TypedRule) (r : TypedRule) (old mid new : List Error) (before after : Entries Sym RuleId) (o : Option ℕ) → r.name ≡ o → MappingAt all (r ∷ rest) old mid before → NamesAs mid new r.id o before after → MappingAt all rest old new after
 step_name all rest r old mid new before after None e (inl a) s = inl (s.0 ∙ a.0, unnamed all rest r before after a.1 e s.1)
 step_name all rest r old mid new before after (Some n) e (inl a) (inl s) = inl (s.0 ∙ a.0, named all rest r before after a.1 n e s.1 s.2)
-step_name all rest r old mid new before after (Some n) e (inl a) (inr s) = inr (subst (λ es. Reports es new) a.0 s.0, taken all rest r before after a.1 n e s.1)
-step_name all rest r old mid new before after None e (inr a) s = inr (subst (Reports old) (sym s.0) a.0, a.1)
-step_name all rest r old mid new before after (Some n) e (inr a) (inl s) = inr (subst (Reports old) (sym s.0) a.0, a.1)
+step_name all rest r old mid new before after (Some n) e (inl a) (inr s) = inr (subst (λ es. NotesMore es new) a.0 s.0, taken all rest r before after a.1 n e s.1)
+step_name all rest r old mid new before after None e (inr a) s = inr (subst (NotesMore old) (sym s.0) a.0, a.1)
+step_name all rest r old mid new before after (Some n) e (inr a) (inl s) = inr (subst (NotesMore old) (sym s.0) a.0, a.1)
 step_name all rest r old mid new before after (Some n) e (inr a) (inr s) = inr (both old mid new a.0 s.0, a.1)
 
 -- after the rule at i

@@ -16,7 +16,7 @@ use Rattle.isle_model.specs.lists.Elaborated.{elaborated_pattern, bound_after}
 use Rattle.isle_laws_lists.proofs.TypedPatterns as patterns
 use Rattle.isle_laws_lists.proofs.TypedResults.{types_are_expected}
 use Rattle.isle_laws_lists.proofs.Typings.{made_gives}
-use Rattle.isle_types.specs.Reading.{Reports, MayReport}
+use Rattle.isle_rules.specs.Noting.{NotesMore, MayNoteMore}
 use Rattle.isle_rules.specs.declared.patterns.Pattern.{Pattern}
 use Rattle.isle_rules.specs.declared.term_env.TermEnv.{TermEnv}
 use Rattle.isle_rules.specs.declared.typing.progress.Stop.{Stop}
@@ -24,7 +24,8 @@ use Rattle.isle_rules.specs.declared.typing.progress.Stop.TheVariants.{Memory, N
 use Rattle.isle_rules.specs.PatternViews.{pattern_view, pattern_views, pattern_parts}
 use Rattle.isle_rules.specs.PatternReadings.{pattern_reading, parts_reading, binding_reading, BindsAround}
 use Rattle.isle_rules.specs.PatternUses.{TakesParts}
-use Rattle.isle_rules.specs.Translating.{Standing, Keeps, IsSettingOf, IsTranslated, IsReported, Stops, MayTranslate}
+use Rattle.isle_rules.specs.Translating.{Standing, Keeps, IsSettingOf, IsTranslated, IsReported, KeepsNoted, Stops, MayTranslate}
+use Rattle.isle_rules.proofs.Noted.{may_both}
 use Rattle.isle_rules.proofs.Readings.{made_as, becomes_same, becomes_made, reported_then, reported_stops, then_done, then_stops, first_reported, first_stops}
 use Rattle.isle_rules.proofs.PatternUsing.{list_length}
 use Rattle.isle_rules.proofs.Scopes.{plain_made}
@@ -83,8 +84,8 @@ module _ (x : Name) (p : PatternTree) (at : Position) (ty : ℕ) where
     pub bind_reported : IsReported env old new (pattern_reading p ty) → IsReported env old new (pattern_reading (bind_pattern x p at) ty)
     bind_reported y = first_reported env old mid new d (pattern_reading p ty) (λ q. binding_reading x.text (pattern_type q)) (pattern_reading (bind_pattern x p at) ty) around around_law y
 
-    pub bind_stops : (stop : Stop) → Stops env old d (pattern_reading p ty) stop → Stops env old d (pattern_reading (bind_pattern x p at) ty) stop
-    bind_stops stop y = first_stops env old mid new d (pattern_reading p ty) (λ q. binding_reading x.text (pattern_type q)) (pattern_reading (bind_pattern x p at) ty) around around_law stop y
+    pub bind_stops : (stop : Stop) → Stops env old mid d (pattern_reading p ty) stop → Stops env old mid d (pattern_reading (bind_pattern x p at) ty) stop
+    bind_stops stop y = first_stops env old mid mid d (pattern_reading p ty) (λ q. binding_reading x.text (pattern_type q)) (pattern_reading (bind_pattern x p at) ty) around around_law stop y
 
 -- a term with its parts
 module _ (env : TermEnv) (old mid new : Standing) (same : mid.tyenv ≡ old.tyenv) (d : ℕ) (whole : PatternTree) (args : List T.Pattern) (ty : ℕ) (t : TermEntry)
@@ -94,7 +95,7 @@ module _ (env : TermEnv) (old mid new : Standing) (same : mid.tyenv ≡ old.tyen
 
   pub parts_done : (v : List Pattern)
       → (length args ≡ length t.arg_tys → IsTranslated env mid new d (parts_reading (S.pattern_views args) t.arg_tys) (pattern_parts (pattern_views v)) ⊎ IsReported env mid new (parts_reading (S.pattern_views args) t.arg_tys))
-      → MayReport mid.work.errors.items new.work.errors.items
+      → MayNoteMore mid.work.errors.items new.work.errors.items
       → IsTranslated env old new d (pattern_reading whole ty) (match_term t.ret_ty t.id (pattern_parts (pattern_views v))) ⊎ IsReported env old new (pattern_reading whole ty)
   parts_done v y may =
       ⊎_elim
@@ -115,11 +116,11 @@ module _ (env : TermEnv) (old mid new : Standing) (same : mid.tyenv ≡ old.tyen
             };
       }))
       (λ z. inr (record {
-        errors = subst (λ es. MayReport es new.work.errors.items) p.errors z.errors;
+        errors = subst (λ es. MayNoteMore es new.work.errors.items) p.errors z.errors;
         noted = λ e multi s is sh.
             let n = z.noted e multi s (subst (λ k. IsSettingOf k env e) (sym same) is) (p.shows e multi s is sh) in
             record {
-              reports = subst (λ es. Reports es new.work.errors.items) p.errors n.reports;
+              reports = subst (λ es. NotesMore es new.work.errors.items) p.errors n.reports;
               none = λ c. p.becomes e multi s is sh c ∙ ap (made_into (match_term t.ret_ty t.id)) (n.none c);
             };
       }))
@@ -127,19 +128,25 @@ module _ (env : TermEnv) (old mid new : Standing) (same : mid.tyenv ≡ old.tyen
       (λ n. inr (reported_then env old mid new d (pattern_reading whole ty) (pattern_reading whole ty) n (λ e multi c s h. h) may))
       x
 
-  pub parts_stop : (stop : Stop) → (length args ≡ length t.arg_tys → Stops env mid d (parts_reading (S.pattern_views args) t.arg_tys) stop) → Stops env old d (pattern_reading whole ty) stop
-  parts_stop stop y =
+  pub parts_stop : (stop : Stop) → KeepsNoted mid new stop → (length args ≡ length t.arg_tys → Stops env mid new d (parts_reading (S.pattern_views args) t.arg_tys) stop) → Stops env old new d (pattern_reading whole ty) stop
+  parts_stop stop more y =
       ⊎_elim
       (λ p. at_parts p stop (y (count p)))
-      (λ n. reported_stops env old mid new d (pattern_reading whole ty) (pattern_reading whole ty) n (λ e multi c s h. h) stop)
+      (λ n. reported_stops env old mid new d (pattern_reading whole ty) (pattern_reading whole ty) n (λ e multi c s h. h) stop more)
       x
     where
-      at_parts : TakesParts env old mid whole (S.pattern_views args) ty t → (stop : Stop) → Stops env mid d (parts_reading (S.pattern_views args) t.arg_tys) stop → Stops env old d (pattern_reading whole ty) stop
+      at_parts : TakesParts env old mid whole (S.pattern_views args) ty t → (stop : Stop) → Stops env mid new d (parts_reading (S.pattern_views args) t.arg_tys) stop → Stops env old new d (pattern_reading whole ty) stop
       at_parts p (Memory a) y = tt
-      at_parts p Nesting y = λ e multi s is sh. p.becomes e multi s is sh d ∙ ap (made_into (match_term t.ret_ty t.id)) (y e multi s (subst (λ k. IsSettingOf k env e) (sym same) is) (p.shows e multi s is sh))
-      at_parts p Expansions y = λ e multi s is sh c a h.
-          let g = made_gives (match_term t.ret_ty t.id) (parts_reading (S.pattern_views args) t.arg_tys e multi c s) {r = a} (sym (p.becomes e multi s is sh c) ∙ h) in
-          let long = y e multi s (subst (λ k. IsSettingOf k env e) (sym same) is) (p.shows e multi s is sh) c g.0 g.1 in
-          let m = p.expansions in
-          let n : g.0.expansions ≡ a.expansions = ap (λ (v : Typing TypedPattern). v.expansions) g.2 in
-          omega (arith, long, m, n)
+      at_parts p Nesting y = (
+        may_both old.work.errors.items mid.work.errors.items new.work.errors.items (inl p.errors) y.0,
+        λ e multi s is sh. p.becomes e multi s is sh d ∙ ap (made_into (match_term t.ret_ty t.id)) (y.1 e multi s (subst (λ k. IsSettingOf k env e) (sym same) is) (p.shows e multi s is sh)),
+      )
+      at_parts p Expansions y = (
+        may_both old.work.errors.items mid.work.errors.items new.work.errors.items (inl p.errors) y.0,
+        λ e multi s is sh c a h.
+            let g = made_gives (match_term t.ret_ty t.id) (parts_reading (S.pattern_views args) t.arg_tys e multi c s) {r = a} (sym (p.becomes e multi s is sh c) ∙ h) in
+            let long = y.1 e multi s (subst (λ k. IsSettingOf k env e) (sym same) is) (p.shows e multi s is sh) c g.0 g.1 in
+            let m = p.expansions in
+            let n : g.0.expansions ≡ a.expansions = ap (λ (v : Typing TypedPattern). v.expansions) g.2 in
+            omega (arith, long, m, n),
+      )

@@ -12,7 +12,7 @@ use Rattle.isle_model.specs.lists.Elaborated.{var_pattern_at}
 use Rattle.isle_laws_lists.proofs.Typings.{ne-eqb}
 use Rattle.isle_types.specs.Envs.{names_of, constant_at}
 use Rattle.isle_types.specs.TypeViews.{type_views}
-use Rattle.isle_types.specs.Reading.{Reports}
+use Rattle.isle_rules.specs.Noting.{NotesMore}
 use Rattle.isle_rules.specs.declared.term_env.TermEnv.{TermEnv}
 use Rattle.isle_rules.specs.Elaborating.{Checks}
 use Rattle.isle_rules.specs.Progress.{newest, BindsNext, Remains}
@@ -94,7 +94,7 @@ module _ (env : TermEnv) (old new : Standing) (x : Name) (at : Position) (ty : �
           (b.expansions ∙ r.expansions);
     })
     name_bound (inr wrong) d =
-        let more = subst (λ es. Reports old.work.errors.items es) (sym b.errors) wrong.0 in
+        let more = subst (λ es. NotesMore old.work.errors.items es) (sym b.errors) wrong.0 in
         inr (record {
           errors = inr more;
           noted = λ e multi s is sh. record {

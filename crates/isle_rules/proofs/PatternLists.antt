@@ -94,7 +94,7 @@ module _ (env : TermEnv) (old mid new : Standing) (d : ℕ) (first : Reading Typ
       let both = then_done env old mid new d first (λ q. last) whole appended law (pattern_parts (pattern_views made)) (single (pattern_view p)) keeps sofar (made_done env mid new d one last single last_is (pattern_view p) y) in
       rw (views_appended made p) both
 
-  pub one_stops : (stop : Stop) → Stops env mid d one stop → Stops env old d whole stop
+  pub one_stops : (stop : Stop) → Stops env mid new d one stop → Stops env old new d whole stop
   one_stops stop y = then_stops env old mid new d first (λ q. last) whole appended law (pattern_parts (pattern_views made)) keeps sofar stop (made_stops env mid new d one last single last_is stop y)
 
 -- the parts of a term
@@ -137,8 +137,8 @@ module _ (env : TermEnv) (old mid new : Standing) (d : ℕ) (args : List T.Patte
       (parts_reading (S.pattern_views (take (i + 1) args)) (tys_to (i + 1))) (last_part p ty.0) one_further made keeps sofar o y
 
   pub part_stops : (made : List Pattern) → SoFar env old mid d (parts_reading (S.pattern_views (take i args)) (tys_to i)) made
-      → (stop : Stop) → Stops env mid d (pattern_reading (S.pattern_view p) ty.0) stop → length args ≡ length tys
-      → Stops env old d (parts_reading (S.pattern_views args) (map (λ t. t.0) tys)) stop
+      → (stop : Stop) → Stops env mid new d (pattern_reading (S.pattern_view p) ty.0) stop → length args ≡ length tys
+      → Stops env old new d (parts_reading (S.pattern_views args) (map (λ t. t.0) tys)) stop
   part_stops made sofar stop y count =
       let here = one_stops env old mid new d (parts_reading (S.pattern_views (take i args)) (tys_to i)) (pattern_reading (S.pattern_view p) ty.0) (parts_reading (S.pattern_views (p ∷ [])) (ty.0 ∷ []))
       (parts_reading (S.pattern_views (take (i + 1) args)) (tys_to (i + 1))) (last_part p ty.0) one_further made keeps sofar stop y in
@@ -178,7 +178,7 @@ module _ (env : TermEnv) (old mid new : Standing) (d : ℕ) (args : List T.Patte
       (each_reading (S.pattern_views (take (i + 1) args)) ty) (last_each p ty) each_further made keeps sofar o y
 
   pub each_stops : (made : List Pattern) → SoFar env old mid d (each_reading (S.pattern_views (take i args)) ty) made
-      → (stop : Stop) → Stops env mid d (pattern_reading (S.pattern_view p) ty) stop → Stops env old d (each_reading (S.pattern_views args) ty) stop
+      → (stop : Stop) → Stops env mid new d (pattern_reading (S.pattern_view p) ty) stop → Stops env old new d (each_reading (S.pattern_views args) ty) stop
   each_stops made sofar stop y =
       let here = one_stops env old mid new d (each_reading (S.pattern_views (take i args)) ty) (pattern_reading (S.pattern_view p) ty) (each_reading (S.pattern_views (p ∷ [])) ty)
       (each_reading (S.pattern_views (take (i + 1) args)) ty) (last_each p ty) each_further made keeps sofar stop y in

@@ -17,7 +17,7 @@ use Rattle.isle_model.specs.rules.Typed.{match_term, typed_pattern_and}
 use Rattle.isle_model.proofs.Options.{then_some}
 use Rattle.isle_laws_lists.proofs.Typings.{ne-eqb, counted_gives}
 use Rattle.isle_types.specs.Envs.{names_of, symbol_of, IsInterned}
-use Rattle.isle_types.specs.Reading.{Reports}
+use Rattle.isle_rules.specs.Noting.{NotesMore, MayNoteMore}
 use Rattle.isle_terms.specs.Terms.{has_extractor_kind, has_extractor_term}
 use Rattle.isle_terms.specs.TermViews.{term_views}
 use Rattle.isle_rules.specs.declared.term_env.TermEnv.{TermEnv}
@@ -29,15 +29,16 @@ use Rattle.isle_rules.specs.TermEnvs.{term_in_env}
 use Rattle.isle_rules.specs.PatternReadings.{pattern_reading, parts_reading}
 use Rattle.isle_rules.specs.PatternUses.{found_term, found_converter, found_template, inside_term, IsExpansionOf, TakesParts}
 use Rattle.isle_rules.specs.Translating.{Standing, Reading, IsSettingOf, Shows, Wherever, IsReported, Stops, ExpandsTo, converter_in, expanding}
+use Rattle.isle_rules.proofs.Noted.{both, may_check}
 use Rattle.isle_rules.proofs.Scopes.{still}
 use Rattle.isle_rules.proofs.TermsFound.{found_named}
 
 -- one fact after another is checked
 pub checks_both : (a b c : List Error) (P Q : Type 0) → Checks a b P → Checks b c Q → Checks a c (P × Q)
 checks_both a b c P Q (inl x) (inl y) = inl (y.0 ∙ x.0, (x.1, y.1))
-checks_both a b c P Q (inl x) (inr y) = inr (subst (λ es. Reports es c) x.0 y.0, λ h. y.1 h.1)
-checks_both a b c P Q (inr x) (inl y) = inr (subst (Reports a) (sym y.0) x.0, λ h. x.1 h.0)
-checks_both a b c P Q (inr x) (inr y) = inr (record { some = y.0.some; plain = λ h. y.0.plain (x.0.plain h) }, λ h. x.1 h.0)
+checks_both a b c P Q (inl x) (inr y) = inr (subst (λ es. NotesMore es c) x.0 y.0, λ h. y.1 h.1)
+checks_both a b c P Q (inr x) (inl y) = inr (subst (NotesMore a) (sym y.0) x.0, λ h. x.1 h.0)
+checks_both a b c P Q (inr x) (inr y) = inr (both a b c x.0 y.0, λ h. x.1 h.0)
 
 pub remains_both : {p q r : _} → Remains p q → Remains q r → Remains p r
 remains_both x y = record { vars = y.vars ∙ x.vars; names = λ k. y.names k ∙ x.names k; expansions = y.expansions ∙ x.expansions }
@@ -50,12 +51,18 @@ takes_one o (suc c) a h = let m = counted_gives (o c) h in let n : suc m.0.expan
 -- where no expansion can be counted the work stops: the whole is nothing, or one expansion more
 module _ {Q : Type 0} (env : TermEnv) (old mid new : Standing) (d : ℕ) (whole : Reading Q) (made : Setting → Bool → Scope → ℕ → Option (Typing Q)) where
   pub expansion_stops : Wherever env old (λ e multi s. (c : ℕ) → (whole e multi c s ≡ None) ⊎ (whole e multi c s ≡ expanding (made e multi s) c))
-      → mid.work.expansions ≡ old.work.expansions → (stop : Stop) → Counts d mid.work new.work (Err stop) → Stops env old d whole stop
-  expansion_stops law same (Memory a) x = absurd x
-  expansion_stops law same Nesting x = λ e multi s is sh.
-      subst (λ c. whole e multi c s ≡ None) (sym x) (⊎_elim (λ h. h) (λ h. h) (law e multi s is sh 0))
-  expansion_stops law same Expansions x = λ e multi s is sh c a h.
-      ⊎_elim (λ k. absurd (none-some a (sym k ∙ h))) (λ k. let l = takes_one (made e multi s) c a (sym k ∙ h) in omega (arith, l, x, same)) (law e multi s is sh c)
+      → mid.work.expansions ≡ old.work.expansions → MayNoteMore old.work.errors.items mid.work.errors.items → (stop : Stop) → Counts d mid.work new.work (Err stop) → Stops env old new d whole stop
+  expansion_stops law same may (Memory a) x = absurd x
+  expansion_stops law same may Nesting x = (
+    subst (λ w. MayNoteMore old.work.errors.items w.errors.items) (sym x.1) may,
+    λ e multi s is sh. subst (λ c. whole e multi c s ≡ None) (sym x.0) (⊎_elim (λ h. h) (λ h. h) (law e multi s is sh 0)),
+  )
+  expansion_stops law same may Expansions x = (
+    subst (λ w. MayNoteMore old.work.errors.items w.errors.items) (sym x.1) may,
+    λ e multi s is sh c a h.
+        let m = x.0 in
+        ⊎_elim (λ k. absurd (none-some a (sym k ∙ h))) (λ k. let l = takes_one (made e multi s) c a (sym k ∙ h) in omega (arith, l, m, same)) (law e multi s is sh c),
+  )
 
 -- lists of patterns
 pub list_is : (ps : List Pattern) → pattern_list (S.pattern_views ps) ≡ map S.pattern_view ps
@@ -112,7 +119,7 @@ module _ (env : TermEnv) (old : Standing) (inv : IsInterned old.tyenv) (name : N
   whole = term_pattern name args at
 
   -- no term has the name
-  pub unknown_use : (new : Standing) → None ≡ found_term env old.tyenv name.text → Reports old.work.errors.items new.work.errors.items → IsReported env old new (pattern_reading whole ty)
+  pub unknown_use : (new : Standing) → None ≡ found_term env old.tyenv name.text → NotesMore old.work.errors.items new.work.errors.items → IsReported env old new (pattern_reading whole ty)
   unknown_use new none more = record {
     errors = inr more;
     noted = λ e multi s is sh. record { reports = more; none = λ c. let h = found_so env old inv name.text None none e s is sh in rw h refl };
@@ -159,10 +166,10 @@ module _ (env : TermEnv) (old : Standing) (inv : IsInterned old.tyenv) (name : N
         becomes = conversion;
       }
 
-      pub conversion_stops : (new : Standing) (d : ℕ) (stop : Stop) → Counts d old.work new.work (Err stop) → Stops env old d (pattern_reading whole ty) stop
+      pub conversion_stops : (new : Standing) (d : ℕ) (stop : Stop) → Counts d old.work new.work (Err stop) → Stops env old new d (pattern_reading whole ty) stop
       conversion_stops new d stop x =
           expansion_stops env old old new d (pattern_reading whole ty) (λ e multi s d. pattern_reading (inside_term old.tyenv by at whole) ty e multi d s)
-          (λ e multi s is sh c. inr (conversion e multi s is sh c)) refl stop x
+          (λ e multi s is sh c. inr (conversion e multi s is sh c)) refl (inl refl) stop x
 
     -- a use without a conversion
     module _ (none : None ≡ found_converter env has_extractor_kind t.ret_ty ty) where
@@ -286,11 +293,11 @@ module _ (env : TermEnv) (old : Standing) (inv : IsInterned old.tyenv) (name : N
                   becomes = matched ok.1;
                 }))
                 (λ wrong.
-                let more = subst (Reports old.work.errors.items) (sym one.errors) wrong.0 in
+                let more = subst (NotesMore old.work.errors.items) (sym one.errors) wrong.0 in
                 inr (record { errors = inr more; noted = λ e multi s is sh. record { reports = more; none = unmatched wrong.1 e multi s is sh } }))
                 checks
 
-            pub template_stops : (new : Standing) (d : ℕ) → Remains old.work mid.work → (stop : Stop) → Counts d mid.work new.work (Err stop) → Stops env old d (pattern_reading whole ty) stop
+            pub template_stops : (new : Standing) (d : ℕ) → Remains old.work mid.work → (stop : Stop) → Counts d mid.work new.work (Err stop) → Stops env old new d (pattern_reading whole ty) stop
             template_stops new d r stop x =
                 expansion_stops env old mid new d (pattern_reading whole ty) (λ e multi s d. pattern_reading made ty e multi d s)
                 (λ e multi s is sh c. elim (cases_Bool (eqb t.ret_ty ty)) [
@@ -299,4 +306,4 @@ module _ (env : TermEnv) (old : Standing) (inv : IsInterned old.tyenv) (name : N
                     | inr other ↦ inl (unmatched (λ ok. false≢true (sym other ∙ eq-eqb (length (pattern_list args)) (length t.arg_tys) (sym count ∙ ok.1))) e multi s is sh c)
                     | inl alike ↦ inr (matched (eqb-true t.ret_ty ty same, count ∙ eqb-true (length (pattern_list args)) (length t.arg_tys) alike) e multi s is sh c)
                   ]
-                ]) r.expansions stop x
+                ]) r.expansions (may_check checks) stop x

@@ -11,13 +11,13 @@ use Rattle.isle_laws_lists.proofs.Typings.{followed_gives, made_gives, counted_g
 use Rattle.isle_types.specs.declared.type_env.TypeEnv.{TypeEnv}
 use Rattle.isle_types.specs.Envs.{names_of, symbol, same_symbol, IsInterned}
 use Rattle.isle_types.specs.TypeViews.{type_views}
-use Rattle.isle_types.specs.Reading.{Reports, MayReport}
-use Rattle.isle_types.proofs.Reports.{both, may_both}
+use Rattle.isle_rules.specs.Noting.{NotesMore, MayNoteMore}
+use Rattle.isle_rules.proofs.Noted.{both, may_both}
 use Rattle.isle_base.specs.declared.syntax.Error.{Error}
 use Rattle.isle_rules.specs.declared.term_env.TermEnv.{TermEnv}
 use Rattle.isle_rules.specs.declared.typing.progress.Stop.{Stop}
 use Rattle.isle_rules.specs.declared.typing.progress.Stop.TheVariants.{Memory, Nesting, Expansions}
-use Rattle.isle_rules.specs.Translating.{Standing, Keeps, IsSettingOf, Shows, Reading, Wherever, IsOnlyTyping, IsTranslated, IsReported, Stops, MayTranslate, expanding, ExpandsTo}
+use Rattle.isle_rules.specs.Translating.{Standing, Keeps, IsSettingOf, Shows, Reading, Wherever, IsOnlyTyping, IsTranslated, IsReported, IsTooLong, KeepsNoted, Stops, MayTranslate, expanding, ExpandsTo}
 
 -- one typing after another
 abbrev pub joined : {P Q R : Type 0} → (P → Q → R) → Typing P → Typing Q → Typing R
@@ -87,8 +87,8 @@ keep_on old mid new k l = record {
 }
 
 -- what was noted stays noted
-pub reports_on : (a b c : List Error) → Reports a b → MayReport b c → Reports a c
-reports_on a b c r (inl same) = subst (Reports a) (sym same) r
+pub reports_on : (a b c : List Error) → NotesMore a b → MayNoteMore b c → NotesMore a c
+reports_on a b c r (inl same) = subst (NotesMore a) (sym same) r
 reports_on a b c r (inr more) = both a b c r more
 
 -- what was reported first
@@ -97,7 +97,7 @@ module _ {P Q : Type 0} (env : TermEnv) (old mid new : Standing) (d : ℕ) (firs
   reported_none : Wherever env old (λ e multi s. (c : ℕ) → whole e multi c s ≡ None)
   reported_none = λ e multi s is sh c. nothing e multi c s ((x.noted e multi s is sh).none c)
 
-  pub reported_then : MayReport mid.work.errors.items new.work.errors.items → IsReported env old new whole
+  pub reported_then : MayNoteMore mid.work.errors.items new.work.errors.items → IsReported env old new whole
   reported_then more = record {
     errors = may_both old.work.errors.items mid.work.errors.items new.work.errors.items x.errors more;
     noted = λ e multi s is sh. record {
@@ -106,13 +106,25 @@ module _ {P Q : Type 0} (env : TermEnv) (old mid new : Standing) (d : ℕ) (firs
     };
   }
 
-  pub reported_stops : (stop : Stop) → Stops env old d whole stop
-  reported_stops (Memory e) = tt
-  reported_stops Nesting = λ e multi s is sh. reported_none e multi s is sh d
-  reported_stops Expansions = λ e multi s is sh c a h. absurd (let n = reported_none e multi s is sh c in cc)
+  pub reported_stops : (stop : Stop) → KeepsNoted mid new stop → Stops env old new d whole stop
+  reported_stops (Memory e) more = tt
+  reported_stops Nesting more = (may_both old.work.errors.items mid.work.errors.items new.work.errors.items x.errors more, λ e multi s is sh. reported_none e multi s is sh d)
+  reported_stops Expansions more =
+      (may_both old.work.errors.items mid.work.errors.items new.work.errors.items x.errors more, λ e multi s is sh c a h. absurd (let n = reported_none e multi s is sh c in cc))
+
+-- what stays noted where the work stops
+pub stays_on : (old mid new : Standing) (stop : Stop) → MayNoteMore old.work.errors.items mid.work.errors.items → KeepsNoted mid new stop → KeepsNoted old new stop
+stays_on old mid new (Memory e) may more = tt
+stays_on old mid new Nesting may more = may_both old.work.errors.items mid.work.errors.items new.work.errors.items may more
+stays_on old mid new Expansions may more = may_both old.work.errors.items mid.work.errors.items new.work.errors.items may more
+
+pub stop_keeps : {Q : Type 0} (env : TermEnv) (old new : Standing) (d : ℕ) (reading : Reading Q) (stop : Stop) → Stops env old new d reading stop → KeepsNoted old new stop
+stop_keeps env old new d reading (Memory e) y = tt
+stop_keeps env old new d reading Nesting y = y.0
+stop_keeps env old new d reading Expansions y = y.0
 
 -- any end of the second
-pub may_report : {Q : Type 0} (env : TermEnv) (old new : Standing) (d : ℕ) (reading : Reading Q) (q : Q) → IsTranslated env old new d reading q ⊎ IsReported env old new reading → MayReport old.work.errors.items new.work.errors.items
+pub may_report : {Q : Type 0} (env : TermEnv) (old new : Standing) (d : ℕ) (reading : Reading Q) (q : Q) → IsTranslated env old new d reading q ⊎ IsReported env old new reading → MayNoteMore old.work.errors.items new.work.errors.items
 may_report env old new d reading q (inl x) = inl x.errors
 may_report env old new d reading q (inr x) = x.errors
 
@@ -138,12 +150,15 @@ module _ {P Q : Type 0} (env : TermEnv) (old new : Standing) (d : ℕ) (first : 
   })
   made_done p (inr x) = inr (made_reported x)
 
-  pub made_stops : (stop : Stop) → Stops env old d first stop → Stops env old d whole stop
+  pub made_stops : (stop : Stop) → Stops env old new d first stop → Stops env old new d whole stop
   made_stops (Memory e) x = tt
-  made_stops Nesting x = λ e multi s is sh. law e multi d s ∙ ap (made_into f) (x e multi s is sh)
-  made_stops Expansions x = λ e multi s is sh c a h.
-      let m = made_gives f (first e multi c s) (sym (law e multi c s) ∙ h) in
-      subst (λ (v : Typing Q). most_expansions < old.work.expansions + v.expansions) m.2 (x e multi s is sh c m.0 m.1)
+  made_stops Nesting x = (x.0, λ e multi s is sh. law e multi d s ∙ ap (made_into f) (x.1 e multi s is sh))
+  made_stops Expansions x = (
+    x.0,
+    λ e multi s is sh c a h.
+        let m = made_gives f (first e multi c s) (sym (law e multi c s) ∙ h) in
+        subst (λ (v : Typing Q). most_expansions < old.work.expansions + v.expansions) m.2 (x.1 e multi s is sh c m.0 m.1),
+  )
 
 -- one reading after another, from what the first made
 module _ {P Q R : Type 0} (env : TermEnv) (old mid new : Standing) (d : ℕ) (first : Reading P) (second : P → Reading Q) (whole : Reading R) (f : P → Q → R)
@@ -175,12 +190,12 @@ module _ {P Q R : Type 0} (env : TermEnv) (old mid new : Standing) (d : ℕ) (fi
 
     typed_reported : IsReported env mid new (second p) → IsReported env old new whole
     typed_reported y = record {
-      errors = subst (λ es. MayReport es new.work.errors.items) x.errors y.errors;
+      errors = subst (λ es. MayNoteMore es new.work.errors.items) x.errors y.errors;
       noted = λ e multi s is sh.
           let a = x.made e multi s is sh in
           let n = y.noted e multi a.typing.scope (keep_setting env old.tyenv mid.tyenv e keeps is) a.shows in
           record {
-            reports = subst (λ es. Reports es new.work.errors.items) x.errors n.reports;
+            reports = subst (λ es. NotesMore es new.work.errors.items) x.errors n.reports;
             none = λ c.
                 law e multi c s ∙ ⊎_elim
                 (λ h. ap (λ v. followed f v (λ w. second w.made e multi c w.scope)) h)
@@ -189,13 +204,8 @@ module _ {P Q R : Type 0} (env : TermEnv) (old mid new : Standing) (d : ℕ) (fi
           };
     }
 
-    typed_stops : (stop : Stop) → Stops env mid d (second p) stop → Stops env old d whole stop
-    typed_stops (Memory e) y = tt
-    typed_stops Nesting y = λ e multi s is sh.
-        let a = x.made e multi s is sh in
-        law e multi d s ∙ ap (λ v. followed f v (λ w. second w.made e multi d w.scope)) a.becomes.here
-        ∙ ap (joined_typing f a.typing) (from e multi s is sh d ∙ y e multi a.typing.scope (keep_setting env old.tyenv mid.tyenv e keeps is) a.shows)
-    typed_stops Expansions y = λ e multi s is sh c r h.
+    typed_too_long : IsTooLong env mid (second p) → IsTooLong env old whole
+    typed_too_long y = λ e multi s is sh c r h.
         let a = x.made e multi s is sh in
         let g = followed_gives f (first e multi c s) (λ w. second w.made e multi c w.scope) {r = r} (sym (law e multi c s) ∙ h) in
         let same : g.0 ≡ a.typing = ⊎_elim (λ k. absurd (let i = g.2 in cc)) (λ k. same_Some _ _ (sym g.2 ∙ k)) (a.becomes.elsewhere c) in
@@ -205,6 +215,17 @@ module _ {P Q R : Type 0} (env : TermEnv) (old mid new : Standing) (d : ℕ) (fi
         let firsts : g.0.expansions ≡ a.typing.expansions = ap (λ (v : Typing P). v.expansions) same in
         let m = a.expansions in
         omega (arith, long, count, firsts, m)
+
+    typed_stops : (stop : Stop) → Stops env mid new d (second p) stop → Stops env old new d whole stop
+    typed_stops (Memory e) y = tt
+    typed_stops Nesting y = (
+      may_both old.work.errors.items mid.work.errors.items new.work.errors.items (inl x.errors) y.0,
+      λ e multi s is sh.
+          let a = x.made e multi s is sh in
+          law e multi d s ∙ ap (λ v. followed f v (λ w. second w.made e multi d w.scope)) a.becomes.here
+          ∙ ap (joined_typing f a.typing) (from e multi s is sh d ∙ y.1 e multi a.typing.scope (keep_setting env old.tyenv mid.tyenv e keeps is) a.shows),
+    )
+    typed_stops Expansions y = (may_both old.work.errors.items mid.work.errors.items new.work.errors.items (inl x.errors) y.0, typed_too_long y.1)
 
   nothing : (e : Setting) (multi : Bool) (c : ℕ) (s : Scope) → first e multi c s ≡ None → whole e multi c s ≡ None
   nothing e multi c s h = law e multi c s ∙ ap (λ v. followed f v (λ w. second w.made e multi c w.scope)) h
@@ -221,21 +242,24 @@ module _ {P Q R : Type 0} (env : TermEnv) (old mid new : Standing) (d : ℕ) (fi
   then_reported p keeps (inl x) y = typed_reported p keeps x y
   then_reported p keeps (inr x) y = reported_then env old mid new d first whole x nothing y.errors
 
-  pub then_stops : (p : P) → Keeps old.tyenv mid.tyenv → IsTranslated env old mid d first p ⊎ IsReported env old mid first → (stop : Stop) → Stops env mid d (second p) stop → Stops env old d whole stop
+  pub then_stops : (p : P) → Keeps old.tyenv mid.tyenv → IsTranslated env old mid d first p ⊎ IsReported env old mid first → (stop : Stop) → Stops env mid new d (second p) stop → Stops env old new d whole stop
   then_stops p keeps (inl x) stop y = typed_stops p keeps x stop y
-  then_stops p keeps (inr x) stop y = reported_stops env old mid new d first whole x nothing stop
+  then_stops p keeps (inr x) stop y = reported_stops env old mid new d first whole x nothing stop (stop_keeps env mid new d (second p) stop y)
 
   pub first_reported : IsReported env old new first → IsReported env old new whole
   first_reported x = reported_then env old new new d first whole x nothing (inl refl)
 
-  pub first_stops : (stop : Stop) → Stops env old d first stop → Stops env old d whole stop
+  pub first_stops : (stop : Stop) → Stops env old new d first stop → Stops env old new d whole stop
   first_stops (Memory e) x = tt
-  first_stops Nesting x = λ e multi s is sh. nothing e multi d s (x e multi s is sh)
-  first_stops Expansions x = λ e multi s is sh c r h.
-      let g = followed_gives f (first e multi c s) (λ w. second w.made e multi c w.scope) {r = r} (sym (law e multi c s) ∙ h) in
-      let long : most_expansions < old.work.expansions + g.0.expansions = x e multi s is sh c g.0 g.2 in
-      let count : g.0.expansions + g.1.expansions ≡ r.expansions = ap (λ (v : Typing R). v.expansions) g.4 in
-      omega (arith, long, count)
+  first_stops Nesting x = (x.0, λ e multi s is sh. nothing e multi d s (x.1 e multi s is sh))
+  first_stops Expansions x = (
+    x.0,
+    λ e multi s is sh c r h.
+        let g = followed_gives f (first e multi c s) (λ w. second w.made e multi c w.scope) {r = r} (sym (law e multi c s) ∙ h) in
+        let long : most_expansions < old.work.expansions + g.0.expansions = x.1 e multi s is sh c g.0 g.2 in
+        let count : g.0.expansions + g.1.expansions ≡ r.expansions = ap (λ (v : Typing R). v.expansions) g.4 in
+        omega (arith, long, count),
+  )
 
 -- the stop that a `?` passes on
 pub stop_is : {A : Type 0} (r : Result A Stop) (e : Stop) → IsErr r × IsErrAnd r (λ y. y ≡ e) → r ≡ Err e
@@ -256,11 +280,11 @@ module _ {X Q : Type 0} (env : TermEnv) (old mid new : Standing) (same : mid.tye
   expanded_reported y =
       ⊎_elim
       (λ e. record {
-        errors = subst (λ es. MayReport es new.work.errors.items) e.errors y.errors;
+        errors = subst (λ es. MayNoteMore es new.work.errors.items) e.errors y.errors;
         noted = λ f multi s is sh.
             let n = y.noted f multi s (subst (λ t. IsSettingOf t env f) (sym same) is) (e.shows f multi s is sh) in
             record {
-              reports = subst (λ es. Reports es new.work.errors.items) e.errors n.reports;
+              reports = subst (λ es. NotesMore es new.work.errors.items) e.errors n.reports;
               none = λ c. e.becomes f multi s is sh c ∙ expanding_none (λ k. made f multi k s) n.none c;
             };
       })
@@ -288,24 +312,30 @@ module _ {X Q : Type 0} (env : TermEnv) (old mid new : Standing) (same : mid.tye
       (λ n. inr (reported_then env old mid new d whole whole n (λ f multi c s h. h) (inl y.errors)))
       x
 
-  pub expanded_stops : (stop : Stop) → Stops env mid left made stop → Stops env old d whole stop
+  pub expanded_stops : (stop : Stop) → Stops env mid new left made stop → Stops env old new d whole stop
   expanded_stops stop y =
       ⊎_elim
       (λ e. at_expansion e stop y)
-      (λ n. reported_stops env old mid new d whole whole n (λ f multi c s h. h) stop)
+      (λ n. reported_stops env old mid new d whole whole n (λ f multi c s h. h) stop (stop_keeps env mid new left made stop y))
       x
     where
-      at_expansion : ExpandsTo env old mid whole made → (stop : Stop) → Stops env mid left made stop → Stops env old d whole stop
+      at_expansion : ExpandsTo env old mid whole made → (stop : Stop) → Stops env mid new left made stop → Stops env old new d whole stop
       at_expansion e (Memory a) y = tt
-      at_expansion e Nesting y = λ f multi s is sh.
-          subst (λ k. whole f multi k s ≡ None) nests
-          (e.becomes f multi s is sh (suc left) ∙ ap counted (y f multi s (subst (λ t. IsSettingOf t env f) (sym same) is) (e.shows f multi s is sh)))
-      at_expansion e Expansions y = λ f multi s is sh c a h.
-          let g = expanding_gives (λ k. made f multi k s) c a (sym (e.becomes f multi s is sh c) ∙ h) in
-          let long = y f multi s (subst (λ t. IsSettingOf t env f) (sym same) is) (e.shows f multi s is sh) g.0 g.1 g.2 in
-          let m = e.expansions in
-          let n = g.3 in
-          omega (arith, long, m, n)
+      at_expansion e Nesting y = (
+        may_both old.work.errors.items mid.work.errors.items new.work.errors.items (inl e.errors) y.0,
+        λ f multi s is sh.
+            subst (λ k. whole f multi k s ≡ None) nests
+            (e.becomes f multi s is sh (suc left) ∙ ap counted (y.1 f multi s (subst (λ t. IsSettingOf t env f) (sym same) is) (e.shows f multi s is sh))),
+      )
+      at_expansion e Expansions y = (
+        may_both old.work.errors.items mid.work.errors.items new.work.errors.items (inl e.errors) y.0,
+        λ f multi s is sh c a h.
+            let g = expanding_gives (λ k. made f multi k s) c a (sym (e.becomes f multi s is sh c) ∙ h) in
+            let long = y.1 f multi s (subst (λ t. IsSettingOf t env f) (sym same) is) (e.shows f multi s is sh) g.0 g.1 g.2 in
+            let m = e.expansions in
+            let n = g.3 in
+            omega (arith, long, m, n),
+      )
 
   pub expanded_done : (r : Result (Option X) Stop) → MayTranslate env mid new left made view r → MayTranslate env old new d whole view r
   expanded_done (Ok (Some p)) (inl y) = expanded_typed (view p) y

@@ -16,7 +16,7 @@ use Rattle.isle_model.specs.lists.Typings.{Typing}
 use Rattle.isle_model.specs.lists.Elaborated.{few_enough, most_nested, most_expansions}
 use Rattle.isle_types.specs.declared.type_env.TypeEnv.{TypeEnv}
 use Rattle.isle_types.specs.Envs.{names_of}
-use Rattle.isle_types.specs.Reading.{Reports}
+use Rattle.isle_rules.specs.Noting.{NotesMore, MayNoteMore}
 use Rattle.isle_rules.specs.declared.rules.Rule.{Rule}
 use Rattle.isle_rules.specs.declared.term_env.TermEnv.{TermEnv}
 use Rattle.isle_rules.specs.declared.typing.progress.Progress.{Progress}
@@ -26,7 +26,8 @@ use Rattle.isle_rules.specs.Progress.{IsFresh}
 use Rattle.isle_rules.specs.RuleLists.{NotesLimit, NotesStop, EndsRule, is_typed, is_reported, is_too_deep, is_too_long, CollectsRule, AddsNext, CollectsNext}
 use Rattle.isle_rules.specs.RuleReadings.{rule_reading}
 use Rattle.isle_rules.specs.RuleViews.{var_view, rule_view, rule_views}
-use Rattle.isle_rules.specs.Translating.{Standing, standing, Reading, Shows, IsTranslated, IsReported, IsTooDeep, IsTooLong, Stops, MayTranslate}
+use Rattle.isle_rules.specs.Translating.{Standing, standing, Reading, Shows, IsTranslated, IsReported, Stops, MayTranslate}
+use Rattle.isle_rules.proofs.Noted.{some_noted}
 
 few_some : {X : Type 0} (o : Option (Typing X)) (a : Typing X) → o ≡ Some a → a.expansions ≤ most_expansions → few_enough o ≡ Some a
 few_some o a h few = ap few_enough h ∙ ap (λ b. cond b (Some a) None) (le-leb a.expansions most_expansions few)
@@ -53,7 +54,7 @@ module _ (env : TermEnv) (tyenv : TypeEnv) (fresh : Progress) (found : List Erro
   starts = record { names = refl; vars = ap (map var_view) f.vars; visible = f.names; met = λ k v h. absurd (none-some v (sym (f.names k) ∙ h)) }
 
   at_report : (new : Standing) (made : Option TypedRule) → IsReported env old new whole → CollectsRule env tyenv new.tyenv found new.work.errors.items id r made
-  at_report new made y e is = let n = y.noted e true start is starts in is_reported (subst (λ es. Reports es new.work.errors.items) f.errors n.reports) n.none
+  at_report new made y e is = let n = y.noted e true start is starts in is_reported (subst (λ es. NotesMore es new.work.errors.items) f.errors n.reports) n.none
 
   at_typing : (new : Standing) (q : TypedRule) → new.work.expansions ≤ most_expansions → IsTranslated env old new most_nested whole q ⊎ IsReported env old new whole → CollectsRule env tyenv new.tyenv found new.work.errors.items id r (Some q)
   at_typing new q few (inr y) e is = at_report new (Some q) y e is
@@ -67,17 +68,12 @@ module _ (env : TermEnv) (tyenv : TypeEnv) (fresh : Progress) (found : List Erro
   at_end new (Some q) few y = at_typing new (rule_view q) few y
   at_end new None few y = at_report new None y
 
-  at_nesting : (new : TypeEnv) (before errors : List Error) → IsTooDeep env old most_nested whole → NotesLimit Nesting r.pos before errors → CollectsRule env tyenv new found errors id r None
-  at_nesting new before errors y last e is = is_too_deep before last (y e true start is starts)
-
-  at_expansions : (new : TypeEnv) (before errors : List Error) → IsTooLong env old whole → NotesLimit Expansions r.pos before errors → CollectsRule env tyenv new found errors id r None
-  at_expansions new before errors y last e is =
-      is_too_long before last (λ d. few_none (whole e true d start) (λ a h. let l = y e true start is starts d a h in let n = f.expansions in omega (arith, l, n)))
-
-  pub at_stop : (new : TypeEnv) (before errors : List Error) (stop : Stop) → Stops env old most_nested whole stop → NotesStop stop r.pos before errors → CollectsRule env tyenv new found errors id r None
-  at_stop new before errors (V.Memory refused) y last = absurd last
-  at_stop new before errors V.Nesting y last = at_nesting new before errors y last
-  at_stop new before errors V.Expansions y last = at_expansions new before errors y last
+  pub at_stop : (new : Standing) (errors : List Error) (stop : Stop) → Stops env old new most_nested whole stop → NotesStop stop r.pos new.work.errors.items errors → CollectsRule env tyenv new.tyenv found errors id r None
+  at_stop new errors (V.Memory refused) y last e is = absurd last
+  at_stop new errors V.Nesting y last e is = is_too_deep new.work.errors.items (subst (λ es. MayNoteMore es new.work.errors.items) f.errors y.0) last (y.1 e true start is starts)
+  at_stop new errors V.Expansions y last e is =
+      is_too_long new.work.errors.items (subst (λ es. MayNoteMore es new.work.errors.items) f.errors y.0) last
+      (λ d. few_none (whole e true d start) (λ a h. let l = y.1 e true start is starts d a h in let n = f.expansions in omega (arith, l, n)))
 
 some_last : (l : Limit) (at : Pos) (before es : List Error) → NotesLimit l at before es → es ≢ []
 some_last l at before es w none = let h = ap length (sym w.last ∙ none) in let m = length-append before (w.error ∷ []) in omega (arith, h, m)
@@ -86,15 +82,15 @@ some_last l at before es w none = let h = ap length (sym w.last ∙ none) in let
 module _ (o : ℕ → Option (Typing TypedRule)) (at : Pos) (errors after : List Error) (names : List (List ℕ)) (before : List Rule) where
   one_more : (q : Rule) → EndsRule o at errors after names (Some (rule_view q)) → AddsNext (few_enough (o most_nested)) errors after names before (before ++ q ∷ [])
   one_more q (is_typed a same is made met) = inl (a, is, same, map-append rule_view before (q ∷ []) ∙ ap (λ z. rule_views before ++ z ∷ []) (same_Some _ _ made), met)
-  one_more q (is_reported more none) = inr (more.some, ap few_enough (none most_nested))
-  one_more q (is_too_deep early last none) = inr (some_last Nesting at early after last, ap few_enough none)
-  one_more q (is_too_long early last none) = inr (some_last Expansions at early after last, none most_nested)
+  one_more q (is_reported more none) = inr (some_noted more, ap few_enough (none most_nested))
+  one_more q (is_too_deep early may last none) = inr (some_last Nesting at early after last, ap few_enough none)
+  one_more q (is_too_long early may last none) = inr (some_last Expansions at early after last, none most_nested)
 
   no_more : EndsRule o at errors after names None → AddsNext (few_enough (o most_nested)) errors after names before before
   no_more (is_typed a same is made met) = absurd (none-some a.made made)
-  no_more (is_reported more none) = inr (more.some, ap few_enough (none most_nested))
-  no_more (is_too_deep early last none) = inr (some_last Nesting at early after last, ap few_enough none)
-  no_more (is_too_long early last none) = inr (some_last Expansions at early after last, none most_nested)
+  no_more (is_reported more none) = inr (some_noted more, ap few_enough (none most_nested))
+  no_more (is_too_deep early may last none) = inr (some_last Nesting at early after last, ap few_enough none)
+  no_more (is_too_long early may last none) = inr (some_last Expansions at early after last, none most_nested)
 
 module _ (env : TermEnv) (old new : TypeEnv) (errors after : List Error) (r : T.Rule) (before : List Rule) where
   reads_this : (id : ℕ) (made o : Option Rule) → id ≡ length before → made ≡ o → CollectsRule env old new errors after id r (option_map rule_view made) → CollectsRule env old new errors after (length before) r (option_map rule_view o)

@@ -10,7 +10,7 @@ use Rattle.isle_model.specs.lists.Setting.{Setting, Scope, var_named, declared_f
 use Rattle.isle_model.specs.lists.Typings.{Typing}
 use Rattle.isle_model.specs.lists.Elaborated.{typed_list, Sides, with_own_name, own_number, rule_of_sides, finished_rule, may_have_priority}
 use Rattle.isle_types.specs.Envs.{names_of, IsInterned}
-use Rattle.isle_types.specs.Reading.{Reports, MayReport}
+use Rattle.isle_rules.specs.Noting.{NotesMore, MayNoteMore}
 use Rattle.isle_rules.specs.declared.rules.BoundVar.{BoundVar}
 use Rattle.isle_rules.specs.declared.term_env.TermEnv.{TermEnv}
 use Rattle.isle_rules.specs.declared.typing.progress.Stop.{Stop}
@@ -70,18 +70,18 @@ module _ (env : TermEnv) (old : Standing) (inv : IsInterned old.tyenv) (r : Rule
   abbrev whole : Reading TypedRule
   whole = rule_reading r id
 
-  pub no_root : (new : Standing) → None ≡ root_name r.pattern → Reports old.work.errors.items new.work.errors.items → IsReported env old new whole
+  pub no_root : (new : Standing) → None ≡ root_name r.pattern → NotesMore old.work.errors.items new.work.errors.items → IsReported env old new whole
   no_root new none more = record { errors = inr more; noted = λ e multi s is sh. record { reports = more; none = λ c. rw (sym none) refl } }
 
   module _ (n : Name) (root : Some n ≡ root_name r.pattern) where
-    pub no_term : (new : Standing) → None ≡ found_term env old.tyenv n.text → Reports old.work.errors.items new.work.errors.items → IsReported env old new whole
+    pub no_term : (new : Standing) → None ≡ found_term env old.tyenv n.text → NotesMore old.work.errors.items new.work.errors.items → IsReported env old new whole
     no_term new none more = record {
       errors = inr more;
       noted = λ e multi s is sh. record { reports = more; none = λ c. let h = found_so env old inv n.text None none e s is sh in rw (sym root, h) refl };
     }
 
     module _ (t : TermEntry) (known : Some t ≡ found_term env old.tyenv n.text) where
-      pub not_declared : (new : Standing) → None ≡ declared_flags t.kind → Reports old.work.errors.items new.work.errors.items → IsReported env old new whole
+      pub not_declared : (new : Standing) → None ≡ declared_flags t.kind → NotesMore old.work.errors.items new.work.errors.items → IsReported env old new whole
       not_declared new none more = record {
         errors = inr more;
         noted = λ e multi s is sh. record { reports = more; none = λ c. let h = found_so env old inv n.text (Some t) known e s is sh in rw (sym root, h, sym none) refl };
@@ -119,14 +119,17 @@ module _ (env : TermEnv) (old : Standing) (inv : IsInterned old.tyenv) (r : Rule
             at_test true k = ap count k
             at_test false k = absurd (cc)
 
-        pub rule_stops : (d : ℕ) (stop : Stop) → Stops env old d sides stop → Stops env old d whole stop
-        rule_stops d (Memory a) y = tt
-        rule_stops d Nesting y = λ e multi s is sh. law e multi s is sh d ∙ ap ruled (y e flags.multi s is sh) ∙ ruled_none
-        rule_stops d Expansions y = λ e multi s is sh c a h.
-            let g = expansions_of (sides e flags.multi c s) a (sym (law e multi s is sh c) ∙ h) in
-            let long = y e flags.multi s is sh c g.0 g.1 in
-            let m = g.2 in
-            omega (arith, long, m)
+        pub rule_stops : (new : Standing) (d : ℕ) (stop : Stop) → Stops env old new d sides stop → Stops env old new d whole stop
+        rule_stops new d (Memory a) y = tt
+        rule_stops new d Nesting y = (y.0, λ e multi s is sh. law e multi s is sh d ∙ ap ruled (y.1 e flags.multi s is sh) ∙ ruled_none)
+        rule_stops new d Expansions y = (
+          y.0,
+          λ e multi s is sh c a h.
+              let g = expansions_of (sides e flags.multi c s) a (sym (law e multi s is sh c) ∙ h) in
+              let long = y.1 e flags.multi s is sh c g.0 g.1 in
+              let m = g.2 in
+              omega (arith, long, m),
+        )
 
         finished : (a : Typing Sides) → may_have_priority flags r ≡ true → ruled (Some a) ≡ Some (record { made = rule_of_sides id r t a.made a.scope; scope = with_own_name r.name a.scope; expansions = a.expansions })
         finished a h = ap (λ b. cond b (finished_rule id r t (Some a)) None) h
@@ -141,10 +144,10 @@ module _ (env : TermEnv) (old : Standing) (inv : IsInterned old.tyenv) (r : Rule
               → IsTranslated env old new d whole made ⊎ IsReported env old new whole
           rule_done (inr y) same rem checks work keeps names vs is =
               let here = no_sides mid y in
-              let may : MayReport mid.work.errors.items new.work.errors.items = ⊎_elim (λ ok. inl (ap (λ w. w.errors.items) work ∙ ok.0)) (λ wrong. inr (subst (λ w. Reports mid.work.errors.items w.errors.items) (sym work) wrong.0)) checks in
+              let may : MayNoteMore mid.work.errors.items new.work.errors.items = ⊎_elim (λ ok. inl (ap (λ w. w.errors.items) work ∙ ok.0)) (λ wrong. inr (subst (λ w. NotesMore mid.work.errors.items w.errors.items) (sym work) wrong.0)) checks in
               inr (reported_then env old mid new d whole whole here (λ e multi c s h. h) may)
           rule_done (inl y) same rem (inr wrong) work keeps names vs is =
-              let more = subst (λ es. Reports es new.work.errors.items) y.errors (subst (λ w. Reports mid.work.errors.items w.errors.items) (sym work) wrong.0) in
+              let more = subst (λ es. NotesMore es new.work.errors.items) y.errors (subst (λ w. NotesMore mid.work.errors.items w.errors.items) (sym work) wrong.0) in
               let no : may_have_priority flags r ≡ false = is_false (may_have_priority flags r) wrong.1 in
               inr (record { errors = inr more; noted = λ e multi s is sh. record { reports = more; none = λ c. law e multi s is sh c ∙ ap (λ b. cond b (finished_rule id r t (sides e flags.multi c s)) None) no } })
           rule_done (inl y) same rem (inl ok) work keeps names vs is = inl (record {

@@ -11,7 +11,8 @@ use Rattle.isle_model.specs.lists.Elaborated.{TypedRules, typed_rules, named, na
 use Rattle.isle_model.specs.rules.Typed.{TypedRule}
 use Rattle.isle_types.specs.declared.type_env.TypeEnv.{TypeEnv}
 use Rattle.isle_types.specs.Envs.{names_of}
-use Rattle.isle_types.specs.Reading.{Reports}
+use Rattle.isle_rules.specs.Noting.{NotesMore}
+use Rattle.isle_rules.proofs.Noted.{some_noted}
 use Rattle.isle_terms.specs.TermViews.{term_views}
 use Rattle.isle_rules.specs.declared.term_env.TermEnv.{TermEnv}
 use Rattle.isle_rules.specs.declared.rules.Rule.{Rule}
@@ -25,9 +26,9 @@ use Rattle.isle_rules.specs.Translating.{Keeps, IsSettingOf}
 use Rattle.isle_rules.proofs.RulesTyped.{rules_typed}
 
 -- what was noted stays
-still_some : (old new : List Error) → old ≢ [] → (new ≡ old) ⊎ Reports old new → new ≢ []
+still_some : (old new : List Error) → old ≢ [] → (new ≡ old) ⊎ NotesMore old new → new ≢ []
 still_some old new some (inl a) none = some (sym a ∙ none)
-still_some old new some (inr a) none = a.some none
+still_some old new some (inr a) none = some_noted a none
 
 module _ (env : TermEnv) (old new : TypeEnv) (defs : List Definition) (after : TermEnv) (keeps : Keeps old new) (typed : List Rule) (e : Setting) (is : IsSettingOf old env e) (k : AreTermsNamed e (names_of old))
     (names_are : rule_views after.rules.items ≡ named_rules (term_views env.terms.items) (rule_views typed)) where
@@ -64,15 +65,15 @@ module _ (env : TermEnv) (old new : TypeEnv) (defs : List Definition) (after : T
     -- all are typed
     where_typed : e1 ≡ [] → e4 ≡ e3 → typed_rules e 0 (rule_trees defs) (names_of old) ≡ Some read → MapsNames e1 e2 rules after.rule_map → Checks e2 e3 (AreDefined (term_views env.terms.items)) → Ends e4
     where_typed none last t (inl n) (inl d) = inl (last ∙ d.0 ∙ n.0 ∙ none, record { right = right t n.1 d.1; named = n.2 })
-    where_typed none last t (inl n) (inr d) = inr (λ g. d.0.some (sym last ∙ g), λ l c. d.1 (subst AreDefined (sym is.terms) c.defined))
-    where_typed none last t (inr n) (inl d) = inr (λ g. n.0.some (sym d.0 ∙ sym last ∙ g), λ l c. n.1 (subst (λ rs. IsDistinct (rule_names rs)) (same_rules t l c) c.elaborate.distinct))
-    where_typed none last t (inr n) (inr d) = inr (λ g. d.0.some (sym last ∙ g), λ l c. n.1 (subst (λ rs. IsDistinct (rule_names rs)) (same_rules t l c) c.elaborate.distinct))
+    where_typed none last t (inl n) (inr d) = inr (λ g. some_noted d.0 (sym last ∙ g), λ l c. d.1 (subst AreDefined (sym is.terms) c.defined))
+    where_typed none last t (inr n) (inl d) = inr (λ g. some_noted n.0 (sym d.0 ∙ sym last ∙ g), λ l c. n.1 (subst (λ rs. IsDistinct (rule_names rs)) (same_rules t l c) c.elaborate.distinct))
+    where_typed none last t (inr n) (inr d) = inr (λ g. some_noted d.0 (sym last ∙ g), λ l c. n.1 (subst (λ rs. IsDistinct (rule_names rs)) (same_rules t l c) c.elaborate.distinct))
 
-    names_noted : MapsNames e1 e2 rules after.rule_map → (e2 ≡ e1) ⊎ Reports e1 e2
+    names_noted : MapsNames e1 e2 rules after.rule_map → (e2 ≡ e1) ⊎ NotesMore e1 e2
     names_noted (inl n) = inl n.0
     names_noted (inr n) = inr n.0
 
-    check_noted : (P : Type 0) (a b : List Error) → Checks a b P → (b ≡ a) ⊎ Reports a b
+    check_noted : (P : Type 0) (a b : List Error) → Checks a b P → (b ≡ a) ⊎ NotesMore a b
     check_noted P a b (inl c) = inl c.0
     check_noted P a b (inr c) = inr c.0
 
@@ -81,10 +82,10 @@ module _ (env : TermEnv) (old new : TypeEnv) (defs : List Definition) (after : T
       noted_first : e1 ≢ [] → e4 ≢ []
       noted_first some = still_some e3 e4 (still_some e2 e3 (still_some e1 e2 some (names_noted n)) (check_noted (AreDefined (term_views env.terms.items)) e2 e3 d)) (check_noted (AreFoundMade env new (flat_map uses_of_rule (rule_trees defs))) e3 e4 c)
 
-      end : ((e1 ≡ []) × (e4 ≡ e3) × (typed_rules e 0 (rule_trees defs) (names_of old) ≡ Some read)) ⊎ (((e1 ≢ []) ⊎ Reports e3 e4) × (typed_rules e 0 (rule_trees defs) (names_of old) ≡ None)) → Ends e4
+      end : ((e1 ≡ []) × (e4 ≡ e3) × (typed_rules e 0 (rule_trees defs) (names_of old) ≡ Some read)) ⊎ (((e1 ≢ []) ⊎ NotesMore e3 e4) × (typed_rules e 0 (rule_trees defs) (names_of old) ≡ None)) → Ends e4
       end (inl t) = where_typed t.0 t.1 t.2 n d
       end (inr (inl some, t)) = inr (noted_first some, not_typed t)
-      end (inr (inr noted, t)) = inr (noted.some, not_typed t)
+      end (inr (inr noted, t)) = inr (some_noted noted, not_typed t)
 
       pub rules_end : CollectsRules env old new [] e1 (rule_trees defs) (rule_views typed) → Ends e4
       rules_end r = end (rules_typed env old new keeps.inverse keeps e is k [] e1 e3 e4 (rule_trees defs) (rule_views typed) r c)

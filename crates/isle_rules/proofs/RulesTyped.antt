@@ -12,7 +12,7 @@ use Rattle.isle_model.specs.lists.Elaborated.{TypedRules, typed_rules}
 use Rattle.isle_model.proofs.Positions.{get_front}
 use Rattle.isle_types.specs.declared.type_env.TypeEnv.{TypeEnv}
 use Rattle.isle_types.specs.Envs.{names_of, IsInterned}
-use Rattle.isle_types.specs.Reading.{Reports}
+use Rattle.isle_rules.specs.Noting.{NotesMore}
 use Rattle.isle_rules.specs.declared.term_env.TermEnv.{TermEnv}
 use Rattle.isle_rules.specs.Constructors.{is_made, AreMadeUses, AreFoundMade, uses_of_rule, AreTermsNamed}
 use Rattle.isle_rules.specs.Elaborating.{Checks}
@@ -67,7 +67,7 @@ module _ (env : TermEnv) (old mid : TypeEnv) (inv : IsInterned mid) (keeps : Kee
     Typed = (read ≡ errors) × (after ≡ before) × (typed_rules e 0 trees (names_of old) ≡ Some (record { rules = rules; names = names_of mid }))
 
     abbrev NotTyped : Type 0
-    NotTyped = ((read ≢ []) ⊎ Reports before after) × (typed_rules e 0 trees (names_of old) ≡ None)
+    NotTyped = ((read ≢ []) ⊎ NotesMore before after) × (typed_rules e 0 trees (names_of old) ≡ None)
 
     made_all : (l : TypedRules) → typed_rules e 0 trees (names_of old) ≡ Some l → All IsMadeRule trees
     made_all l h = rules_uses e (names_of old) k 0 trees (names_of old) l kept_here h

@@ -33,15 +33,15 @@ module _ (env : TermEnv) (old one two new : Standing) (d : ℕ) (r : RuleTree) (
   law : (e : Setting) (multi : Bool) (c : ℕ) (s : Scope) → whole e multi c s ≡ followed sides_of (parts e multi c s) (λ a. ends e multi c a.scope)
   law e multi c s = ap (λ ps. followed sides_of (parts_reading ps t.arg_tys e multi c s) (λ a. ends e multi c a.scope)) root
 
-  pub sides_first_stops : (stop : Stop) → Stops env old d parts stop → Stops env old d whole stop
-  sides_first_stops stop y = first_stops env old one new d parts (λ q. ends) whole sides_of law stop y
+  pub sides_first_stops : (stop : Stop) → Stops env old one d parts stop → Stops env old one d whole stop
+  sides_first_stops stop y = first_stops env old one one d parts (λ q. ends) whole sides_of law stop y
 
   module _ (q : TypedPatterns) (first : IsTranslated env old one d parts q ⊎ IsReported env old one parts) (keeps : Keeps old.tyenv one.tyenv) where
-    pub sides_second_stops : (stop : Stop) → Stops env one d iflets stop → Stops env old d whole stop
-    sides_second_stops stop y = then_stops env old one new d parts (λ q. ends) whole sides_of law q keeps first stop (first_stops env one two new d iflets (λ q. rhs) ends last_sides (λ e multi c s. refl) stop y)
+    pub sides_second_stops : (stop : Stop) → Stops env one two d iflets stop → Stops env old two d whole stop
+    sides_second_stops stop y = then_stops env old one two d parts (λ q. ends) whole sides_of law q keeps first stop (first_stops env one two two d iflets (λ q. rhs) ends last_sides (λ e multi c s. refl) stop y)
 
     module _ (is : List TypedIfLet) (second : IsTranslated env one two d iflets is ⊎ IsReported env one two iflets) (further : Keeps one.tyenv two.tyenv) where
-      pub sides_third_stops : (stop : Stop) → Stops env two d rhs stop → Stops env old d whole stop
+      pub sides_third_stops : (stop : Stop) → Stops env two new d rhs stop → Stops env old new d whole stop
       sides_third_stops stop y =
           then_stops env old one new d parts (λ q. ends) whole sides_of law q keeps first stop (then_stops env one two new d iflets (λ q. rhs) ends last_sides (λ e multi c s. refl) is further second stop y)
 

@@ -62,7 +62,7 @@ UsesVar env old new d whole flags ty (Ok V.Wrong) = IsReported env old new (expr
 UsesVar env old new d whole flags ty (Ok (V.Conversion made left)) = ConvertsExpr env old new d whole flags ty (S.expr_view made) left
 UsesVar env old new d whole flags ty (Ok (V.Var v)) =
     IsTranslated env old new d (expr_reading whole flags ty) (make_var v.ty.0 v.id.0) ⊎ IsReported env old new (expr_reading whole flags ty)
-UsesVar env old new d whole flags ty (Err stop) = Stops env old d (expr_reading whole flags ty) stop
+UsesVar env old new d whole flags ty (Err stop) = Stops env old new d (expr_reading whole flags ty) stop
 
 -- the term itself is meant, with as many parts as it has arguments
 pub record TakesArgs (env : TermEnv) (old new : Standing) (whole : ExprTree) (args : ExprTrees) (flags : Flags) (ty : Option ℕ) (t : TermEntry) : Type 0 where
@@ -74,4 +74,4 @@ abbrev pub UsesCall : TermEnv → Standing → Standing → ℕ → ExprTree →
 UsesCall env old new d whole args flags ty (Ok C.Wrong) = IsReported env old new (expr_reading whole flags ty)
 UsesCall env old new d whole args flags ty (Ok (C.Conversion made left)) = ConvertsExpr env old new d whole flags ty (S.expr_view made) left
 UsesCall env old new d whole args flags ty (Ok (C.Parts t)) = TakesArgs env old new whole args flags ty (term_view t.now) ⊎ IsReported env old new (expr_reading whole flags ty)
-UsesCall env old new d whole args flags ty (Err stop) = Stops env old d (expr_reading whole flags ty) stop
+UsesCall env old new d whole args flags ty (Err stop) = Stops env old new d (expr_reading whole flags ty) stop

@@ -11,7 +11,7 @@ use Rattle.isle_types.specs.declared.ids.TypeId.{TypeId}
 use Rattle.isle_types.specs.declared.ids.VarId.{VarId}
 use Rattle.isle_types.specs.declared.type_env.TypeEnv.{TypeEnv}
 use Rattle.isle_types.specs.Envs.{names_of, type_of_name}
-use Rattle.isle_types.specs.Reading.{Reports}
+use Rattle.isle_rules.specs.Noting.{NotesMore}
 use Rattle.isle_base.specs.declared.syntax.Error.{Error}
 use Rattle.isle_rules.specs.declared.exprs.Expr.{Expr}
 use Rattle.isle_rules.specs.declared.rules.BoundVar.{BoundVar}
@@ -45,7 +45,7 @@ Defines env old new d reading made earlier hidden =
 abbrev pub Begins : {E : Type 0} → TypeEnv → TypeEnv → List Error → List Error → Name → Name → Result (Option (Sym × TypeId)) E → Type 0
 Begins old new before after name ty (Ok (Some (x, t))) =
     (after ≡ before) × (names_of new ≡ with_name (names_of old) name.text) × (x.0 ≡ number (names_of old) name.text) × (Some t.0 ≡ type_of_name old ty.text)
-Begins old new before after name ty (Ok None) = Reports before after × (None ≡ type_of_name old ty.text)
+Begins old new before after name ty (Ok None) = NotesMore before after × (None ≡ type_of_name old ty.text)
 Begins old new before after name ty (Err e) = ⊤
 
 -- a definition's name is bound to its value, and what it stood for before comes last among what is hidden
@@ -69,10 +69,10 @@ pub record Closes (hidden : List (Sym × Option BoundVar)) (old new : Progress) 
 -- what definitions become, or why the work stopped
 abbrev pub DefinesAll : TermEnv → Standing → Standing → ℕ → Reading TypedLets → List (Sym × Option BoundVar) → List (Sym × Option BoundVar) → Result (Vec (VarId × TypeId × Box Expr Global) Global) Stop → Type 0
 DefinesAll env old new d reading earlier hidden (Ok v) = Defines env old new d reading (let_parts (let_views v.items)) earlier hidden
-DefinesAll env old new d reading earlier hidden (Err stop) = Stops env old d reading stop
+DefinesAll env old new d reading earlier hidden (Err stop) = Stops env old new d reading stop
 
 -- likewise one definition, for which something is given only if it can be told what it would be
 abbrev pub DefinesOne : TermEnv → Standing → Standing → ℕ → Reading TypedLets → List (Sym × Option BoundVar) → List (Sym × Option BoundVar) → Result (Option (VarId × TypeId × Box Expr Global)) Stop → Type 0
 DefinesOne env old new d reading earlier hidden (Ok (Some b)) = Defines env old new d reading (let_parts (let_views (b ∷ []))) earlier hidden
 DefinesOne env old new d reading earlier hidden (Ok None) = IsReported env old new reading
-DefinesOne env old new d reading earlier hidden (Err stop) = Stops env old d reading stop
+DefinesOne env old new d reading earlier hidden (Err stop) = Stops env old new d reading stop

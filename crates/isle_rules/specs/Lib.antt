@@ -10,6 +10,8 @@ pub mod PatternRuns
 pub mod ExprRuns
 pub mod RuleRuns
 pub mod Progress
+pub mod ErrorViews
+pub mod Noting
 pub mod Translating
 pub mod PatternReadings
 pub mod PatternUses
@@ -18,6 +20,7 @@ pub mod ExprUses
 pub mod Lets
 pub mod RuleReadings
 pub mod RuleLists
+pub mod RuleErrors
 pub mod Constructors
 pub mod ShownEnvs
 pub mod RulesRead

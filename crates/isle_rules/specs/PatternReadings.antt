@@ -34,4 +34,4 @@ BindsAround env old new d x of (Ok (Some p)) =
     (id : ℕ) × (pattern_view p ≡ match_bind (pattern_type of) id of)
     × (IsTranslated env old new d (binding_reading x (pattern_type of)) id ⊎ IsReported env old new (binding_reading x (pattern_type of)))
 BindsAround env old new d x of (Ok None) = ⊥
-BindsAround env old new d x of (Err stop) = Stops env old d (binding_reading x (pattern_type of)) stop
+BindsAround env old new d x of (Err stop) = Stops env old new d (binding_reading x (pattern_type of)) stop

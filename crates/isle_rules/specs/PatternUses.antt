@@ -65,4 +65,4 @@ UsesTerm env old new d whole args ty (Ok (Expansion made left)) =
     (suc left ≡ d) × IsExpansionOf env whole args (S.pattern_view made)
     × (ExpandsTo env old new (pattern_reading whole ty) (pattern_reading (S.pattern_view made) ty) ⊎ IsReported env old new (pattern_reading whole ty))
 UsesTerm env old new d whole args ty (Ok (Parts t)) = TakesParts env old new whole args ty (term_view t.now) ⊎ IsReported env old new (pattern_reading whole ty)
-UsesTerm env old new d whole args ty (Err stop) = Stops env old d (pattern_reading whole ty) stop
+UsesTerm env old new d whole args ty (Err stop) = Stops env old new d (pattern_reading whole ty) stop

@@ -50,12 +50,12 @@ pub record CountsOne (old new : Progress) : Type 0 where
   pub expansions : new.expansions ≡ old.expansions + 1
   pub errors : new.errors.items ≡ old.errors.items
 
--- one more expansion is counted, in which one fewer may nest; or none may; or there are as many as may be
+-- one more expansion is counted, in which one fewer may nest; or none may, or there are as many as may be, and nothing changes
 abbrev pub Counts : ℕ → Progress → Progress → Result ℕ Stop → Type 0
 Counts nesting old new (Ok left) = (suc left ≡ nesting) × CountsOne old new
 Counts nesting old new (Err (Memory e)) = ⊥
-Counts nesting old new (Err Nesting) = nesting ≡ 0
-Counts nesting old new (Err Expansions) = most_expansions ≤ old.expansions
+Counts nesting old new (Err Nesting) = (nesting ≡ 0) × (new ≡ old)
+Counts nesting old new (Err Expansions) = (most_expansions ≤ old.expansions) × (new ≡ old)
 
 -- at most errors were noted
 pub record Remains (old new : Progress) : Type 0 where

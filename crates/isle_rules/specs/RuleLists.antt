@@ -2,21 +2,22 @@
 -- it: as if each term had a constructor.
 use Rattle.std.specs.Prelude.{◌≡◌, ◌≢◌, ◌⊎◌, ℕ, suc, true, List, [], ◌∷◌, ◌++◌, length, Option, Some, None}
 use Rattle.isle_base.specs.declared.syntax.Error.{Error}
-use Rattle.isle_base.specs.declared.syntax.Error.TheVariants.{LimitError}
 use Rattle.isle_base.specs.declared.syntax.Limit.{Limit}
 use Rattle.isle_base.specs.declared.syntax.Limit.TheVariants.{Nesting, Expansions}
 use Rattle.isle_base.specs.declared.syntax.Pos.{Pos}
 use Rattle.isle_base.specs.declared.syntax.Rule as T
-use Rattle.isle_base.specs.SyntaxViews.{rule_view}
+use Rattle.isle_base.specs.SyntaxViews.{position, rule_view}
 use Rattle.isle_model.specs.lists.Syntax.{RuleTree, Definition, rule_definition}
 use Rattle.isle_model.specs.rules.Outcome.{then_option}
 use Rattle.isle_model.specs.rules.Typed.{TypedRule}
 use Rattle.isle_model.specs.lists.Setting.{Setting, new_scope}
 use Rattle.isle_model.specs.lists.Typings.{Typing}
 use Rattle.isle_model.specs.lists.Elaborated.{few_enough, most_nested, TypedRules, with_typed}
+use Rattle.isle_model.specs.claims.Refusals.{past_limit}
 use Rattle.isle_types.specs.declared.type_env.TypeEnv.{TypeEnv}
 use Rattle.isle_types.specs.Envs.{names_of}
-use Rattle.isle_types.specs.Reading.{Reports}
+use Rattle.isle_rules.specs.Noting.{NotesMore, MayNoteMore}
+use Rattle.isle_rules.specs.ErrorViews.{limit_view, error_view}
 use Rattle.isle_rules.specs.declared.term_env.TermEnv.{TermEnv}
 use Rattle.isle_rules.specs.declared.rules.Rule.{Rule}
 use Rattle.isle_rules.specs.declared.typing.progress.Stop.{Stop}
@@ -38,16 +39,11 @@ abbrev pub rules_within : Setting → ℕ → List RuleTree → List (List ℕ) 
 rules_within e id [] names = Some (record { rules = []; names = names })
 rules_within e id (r ∷ rs) names = then_option (rule_within e id r names) (λ a. with_typed a.made (rules_within e (suc id) rs a.scope.names))
 
--- an error on a limit, at a place
-abbrev pub IsErrorOnLimit : Limit → Pos → Error → Type 0
-IsErrorOnLimit l pos (LimitError limit msg span) = (limit ≡ l) × (span.from ≡ pos)
-IsErrorOnLimit l pos _ = ⊥
-
--- one more error, on a limit
+-- one more error: that the rule at a place passes a limit
 pub record NotesLimit (limit : Limit) (at : Pos) (old new : List Error) : Type 0 where
   pub error : Error
   pub last : new ≡ old ++ error ∷ []
-  pub says : IsErrorOnLimit limit at error
+  pub says : error_view error ≡ past_limit (limit_view limit) (position at)
 
 -- that on which the work stopped
 abbrev pub NotesStop : Stop → Pos → List Error → List Error → Type 0
@@ -56,12 +52,12 @@ NotesStop S.Nesting at old new = NotesLimit Nesting at old new
 NotesStop S.Expansions at old new = NotesLimit Expansions at old new
 
 -- how a rule ends that is this, where so many expansions may nest: with a typed rule and its names met; with a report, and
--- then there is none, however many may nest; or with a limit that it passes
+-- then there is none, however many may nest; or with a limit that it passes, noted after what else was
 pub data EndsRule (o : ℕ → Option (Typing TypedRule)) (at : Pos) (old new : List Error) (names : List (List ℕ)) (made : Option TypedRule) : Type 0 where
   is_typed : (a : Typing TypedRule) → new ≡ old → few_enough (o most_nested) ≡ Some a → made ≡ Some a.made → names ≡ a.scope.names → EndsRule o at old new names made
-  is_reported : Reports old new → ((d : ℕ) → o d ≡ None) → EndsRule o at old new names made
-  is_too_deep : (before : List Error) → NotesLimit Nesting at before new → o most_nested ≡ None → EndsRule o at old new names made
-  is_too_long : (before : List Error) → NotesLimit Expansions at before new → ((d : ℕ) → few_enough (o d) ≡ None) → EndsRule o at old new names made
+  is_reported : NotesMore old new → ((d : ℕ) → o d ≡ None) → EndsRule o at old new names made
+  is_too_deep : (before : List Error) → MayNoteMore old before → NotesLimit Nesting at before new → o most_nested ≡ None → EndsRule o at old new names made
+  is_too_long : (before : List Error) → MayNoteMore old before → NotesLimit Expansions at before new → ((d : ℕ) → few_enough (o d) ≡ None) → EndsRule o at old new names made
 
 -- how a rule ends by the tables, from the names met before it
 abbrev pub CollectsRule : TermEnv → TypeEnv → TypeEnv → List Error → List Error → ℕ → T.Rule → Option TypedRule → Type 0

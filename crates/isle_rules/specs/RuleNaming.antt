@@ -10,7 +10,7 @@ use Rattle.isle_types.specs.declared.ids.Sym.{Sym}
 use Rattle.isle_types.specs.declared.ids.RuleId.{RuleId}
 use Rattle.isle_types.specs.Envs.{same_symbol, symbol}
 use Rattle.isle_terms.specs.Terms.{has_constructor_term, has_extractor_term}
-use Rattle.isle_types.specs.Reading.{Reports}
+use Rattle.isle_rules.specs.Noting.{NotesMore}
 
 -- the rule of the name of a number
 abbrev pub rule_in : Entries Sym RuleId → ℕ → Option ℕ
@@ -21,7 +21,7 @@ abbrev pub NamesAs : List Error → List Error → ℕ → Option ℕ → Entrie
 NamesAs old new id None before after = (new ≡ old) × (after ≡ before)
 NamesAs old new id (Some name) before after =
     ((new ≡ old) × (rule_in before name ≡ None) × ((k : ℕ) → rule_in after k ≡ (if nat_eq name k then Some id else rule_in before k)))
-    ⊎ (Reports old new × IsTrue (is_some (rule_in before name)))
+    ⊎ (NotesMore old new × IsTrue (is_some (rule_in before name)))
 
 abbrev pub NamesRule : List Error → List Error → TypedRule → Entries Sym RuleId → Entries Sym RuleId → Type 0
 NamesRule old new r before after = NamesAs old new r.id r.name before after
@@ -30,7 +30,7 @@ NamesRule old new r before after = NamesAs old new r.id r.name before after
 abbrev pub MapsNames : List Error → List Error → List TypedRule → Entries Sym RuleId → Type 0
 MapsNames old new rules m =
     ((new ≡ old) × IsDistinct (rule_names rules) × ((k : ℕ) → rule_in m k ≡ rule_named rules k))
-    ⊎ (Reports old new × (IsDistinct (rule_names rules) → ⊥))
+    ⊎ (NotesMore old new × (IsDistinct (rule_names rules) → ⊥))
 
 -- a term has something that makes it or takes it apart
 abbrev pub is_defined_term : TermEntry → Bool

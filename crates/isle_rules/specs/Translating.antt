@@ -16,7 +16,7 @@ use Rattle.isle_model.specs.lists.Elaborated.{most_expansions}
 use Rattle.isle_types.specs.declared.type_env.TypeEnv.{TypeEnv}
 use Rattle.isle_types.specs.Envs.{names_of, type_at, constant_at, IsInterned}
 use Rattle.isle_types.specs.TypeViews.{type_views}
-use Rattle.isle_types.specs.Reading.{Reports, MayReport}
+use Rattle.isle_rules.specs.Noting.{NotesMore, MayNoteMore}
 use Rattle.isle_terms.specs.TermTables.{same_types}
 use Rattle.isle_terms.specs.TermViews.{term_views}
 use Rattle.isle_rules.specs.declared.term_env.TermEnv.{TermEnv}
@@ -101,11 +101,11 @@ pub record IsTranslated {Q : Type 0} (env : TermEnv) (old new : Standing) (d : �
 
 -- there is nothing to be made, and this was noted
 pub record IsNoted {Q : Type 0} (o : ℕ → Option (Typing Q)) (old new : Standing) : Type 0 where
-  pub reports : Reports old.work.errors.items new.work.errors.items
+  pub reports : NotesMore old.work.errors.items new.work.errors.items
   pub none : (c : ℕ) → o c ≡ None
 
 pub record IsReported {Q : Type 0} (env : TermEnv) (old new : Standing) (reading : Reading Q) : Type 0 where
-  pub errors : MayReport old.work.errors.items new.work.errors.items
+  pub errors : MayNoteMore old.work.errors.items new.work.errors.items
   pub noted : Wherever env old (λ e multi s. IsNoted (λ c. reading e multi c s) old new)
 
 -- nothing can be made where so many expansions may nest
@@ -116,22 +116,33 @@ IsTooDeep env old d reading = Wherever env old (λ e multi s. reading e multi d 
 abbrev pub IsTooLong : {Q : Type 0} → TermEnv → Standing → Reading Q → Type 0
 IsTooLong {Q} env old reading = Wherever env old (λ e multi s. (c : ℕ) (a : Typing Q) → reading e multi c s ≡ Some a → most_expansions < old.work.expansions + a.expansions)
 
--- why the work stopped
-abbrev pub Stops : {Q : Type 0} → TermEnv → Standing → ℕ → Reading Q → Stop → Type 0
-Stops env old d reading (Memory e) = ⊤
-Stops env old d reading Nesting = IsTooDeep env old d reading
-Stops env old d reading Expansions = IsTooLong env old reading
+-- what was noted stays, unless memory was refused
+abbrev pub KeepsNoted : Standing → Standing → Stop → Type 0
+KeepsNoted old new (Memory e) = ⊤
+KeepsNoted old new Nesting = MayNoteMore old.work.errors.items new.work.errors.items
+KeepsNoted old new Expansions = MayNoteMore old.work.errors.items new.work.errors.items
+
+-- the same, however the work ended
+abbrev pub StaysNoted : {X : Type 0} → Standing → Standing → Result X Stop → Type 0
+StaysNoted old new (Ok x) = MayNoteMore old.work.errors.items new.work.errors.items
+StaysNoted old new (Err stop) = KeepsNoted old new stop
+
+-- why the work stopped. At a limit what was noted stays
+abbrev pub Stops : {Q : Type 0} → TermEnv → Standing → Standing → ℕ → Reading Q → Stop → Type 0
+Stops env old new d reading (Memory e) = ⊤
+Stops env old new d reading Nesting = MayNoteMore old.work.errors.items new.work.errors.items × IsTooDeep env old d reading
+Stops env old new d reading Expansions = MayNoteMore old.work.errors.items new.work.errors.items × IsTooLong env old reading
 
 -- what is given is what the reading says, or that it says nothing was noted; or the work stopped
 abbrev pub Translates : {X Q : Type 0} → TermEnv → Standing → Standing → ℕ → Reading Q → (X → Q) → Result X Stop → Type 0
 Translates env old new d reading view (Ok x) = IsTranslated env old new d reading (view x) ⊎ IsReported env old new reading
-Translates env old new d reading view (Err stop) = Stops env old d reading stop
+Translates env old new d reading view (Err stop) = Stops env old new d reading stop
 
 -- likewise where something is given only if it can be told what it would be
 abbrev pub MayTranslate : {X Q : Type 0} → TermEnv → Standing → Standing → ℕ → Reading Q → (X → Q) → Result (Option X) Stop → Type 0
 MayTranslate env old new d reading view (Ok (Some x)) = IsTranslated env old new d reading (view x) ⊎ IsReported env old new reading
 MayTranslate env old new d reading view (Ok None) = IsReported env old new reading
-MayTranslate env old new d reading view (Err stop) = Stops env old d reading stop
+MayTranslate env old new d reading view (Err stop) = Stops env old new d reading stop
 
 -- what one more expansion gives of what it makes
 abbrev pub expanding : {Q : Type 0} → (ℕ → Option (Typing Q)) → ℕ → Option (Typing Q)

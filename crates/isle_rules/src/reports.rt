@@ -1,6 +1,21 @@
-//! The texts of names and types, for messages.
+//! How what is wrong with rules is noted, and the texts of names and types, for messages.
 
+ghost use Rattle.std.specs.Prelude.{OnOk};
+ghost use Rattle.isle_rules.specs.Noting.{NotesMore};
+
+use isle_base::syntax::{Error, Pos, Span};
 use isle_types::{Sym, Type, TypeEnv, TypeId};
+use std::alloc::AllocError;
+
+// Notes that what stands at a place isn't right: one error more, which names no limit.
+pub(crate) fn report(errors: &mut Vec<Error>, pos: Pos, msg: &str) -> Result<(), AllocError>
+    ensures { OnOk result (NotesMore errors.old.items errors.new.items) }
+{
+    let msg = String::from_str(*errors.allocator(), msg)?;
+    let span = Span::new_single(pos);
+    errors.push(Error::TypeError { msg, span })?;
+    Ok(())
+}
 
 // The text of a name, for messages. Nothing where the id is no name's.
 pub(crate) fn text_of(tyenv: &TypeEnv, name: Sym) -> &str {

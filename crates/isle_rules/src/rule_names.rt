@@ -8,12 +8,12 @@ ghost use Rattle.isle_rules.specs.Elaborating.{Checks};
 ghost use Rattle.isle_rules.specs.RuleNaming.{MapsNames, NamesRule, is_defined_term, AreDefined};
 ghost use Rattle.isle_rules.specs.RuleViews.{rule_view, rule_views};
 
-use crate::reports::text_of;
+use crate::reports::{report, text_of};
 use crate::rules::Rule;
 use isle_base::stablemapset::StableMap;
 use isle_base::syntax::Error;
 use isle_terms::Term;
-use isle_types::{RuleId, Sym, TermId, TypeEnv, report};
+use isle_types::{RuleId, Sym, TermId, TypeEnv};
 use std::alloc::{AllocError, Global};
 
 // Gives each rule without a name that is the only one of its term the term's name.

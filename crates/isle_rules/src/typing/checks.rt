@@ -8,9 +8,9 @@ ghost use Rattle.isle_types.specs.TypeViews.{type_views};
 ghost use Rattle.isle_rules.specs.Elaborating.{Checks};
 ghost use Rattle.isle_rules.specs.ExprReadings.{expected};
 
-use crate::reports::type_text;
+use crate::reports::{report, type_text};
 use isle_base::syntax::{Error, Ident, Pos};
-use isle_types::{Sym, TypeEnv, TypeId, report};
+use isle_types::{Sym, TypeEnv, TypeId};
 use std::alloc::AllocError;
 
 /// Whether integers stand for values of the type: of a built-in integer type, or of a primitive one.

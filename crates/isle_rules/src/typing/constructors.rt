@@ -10,9 +10,10 @@ ghost use Rattle.isle_rules.specs.Constructors.{is_made, uses_of_rule, uses_of_d
 ghost use Rattle.isle_rules.specs.Elaborating.{Checks};
 ghost use Rattle.isle_rules.specs.PatternUses.{found_term};
 
+use crate::reports::report;
 use crate::term_env::TermEnv;
 use isle_base::syntax::{Def, Error, Expr, Ident, IfLet, Pos, Rule};
-use isle_types::{TypeEnv, report};
+use isle_types::TypeEnv;
 use std::alloc::AllocError;
 
 impl TermEnv {

@@ -6,19 +6,19 @@ ghost use Rattle.isle_model.specs.lists.Syntax.{bool_expr, int_expr, prim_expr};
 ghost use Rattle.isle_model.specs.lists.Tables.{Flags};
 ghost use Rattle.isle_model.specs.lists.Setting.{is_expected};
 ghost use Rattle.isle_types.specs.Envs.{IsInterned};
-ghost use Rattle.isle_types.specs.Reading.{Reports};
+ghost use Rattle.isle_rules.specs.Noting.{NotesMore};
 ghost use Rattle.isle_rules.specs.Elaborating.{Checks};
 ghost use Rattle.isle_rules.specs.ExprViews.{expr_view};
 ghost use Rattle.isle_rules.specs.ExprReadings.{expected, expr_reading};
 ghost use Rattle.isle_rules.specs.Translating.{standing, Keeps, MayTranslate};
 
 use crate::exprs::Expr;
-use crate::reports::{expected_text, type_text};
+use crate::reports::{expected_text, report, type_text};
 use crate::term_env::TermEnv;
 use crate::typing::checks::{check_bool, check_integer, constant_type, meets_expected};
 use crate::typing::progress::{Progress, Stop};
 use isle_base::syntax::{Error, Ident, Pos};
-use isle_types::{TypeEnv, TypeId, report};
+use isle_types::{TypeEnv, TypeId};
 use std::alloc::AllocError;
 
 impl TermEnv {
@@ -114,7 +114,7 @@ fn report_constant(
     has: TypeId,
     want: Option<TypeId>,
 ) -> Result<(), AllocError>
-    ensures { OnOk result (Reports errors.old.items errors.new.items) }
+    ensures { OnOk result (NotesMore errors.old.items errors.new.items) }
 {
     let alloc = *errors.allocator();
     let want = expected_text(tyenv, want);

@@ -7,7 +7,7 @@ ghost use Rattle.isle_model.specs.lists.Setting.{is_expected};
 ghost use Rattle.isle_model.specs.lists.Tables.{Flags};
 ghost use Rattle.isle_terms.specs.TermViews.{flags_view, term_view};
 ghost use Rattle.isle_types.specs.Envs.{symbol_of, IsInterned};
-ghost use Rattle.isle_types.specs.Reading.{Reports};
+ghost use Rattle.isle_rules.specs.Noting.{NotesMore};
 ghost use Rattle.isle_rules.specs.Elaborating.{Checks};
 ghost use Rattle.isle_rules.specs.ExprReadings.{expected};
 ghost use Rattle.isle_rules.specs.ExprUses.{found_expr_converter, declared_converter, inside_call, allowed, UsesVar, UsesCall};
@@ -15,14 +15,14 @@ ghost use Rattle.isle_rules.specs.Progress.{newest, Remains};
 ghost use Rattle.isle_rules.specs.RuleViews.{var_view};
 ghost use Rattle.isle_rules.specs.Translating.{standing};
 
-use crate::reports::{expected_text, text_of, type_text};
+use crate::reports::{expected_text, report, text_of, type_text};
 use crate::rules::BoundVar;
 use crate::term_env::TermEnv;
 use crate::typing::checks::{check_count, meets_expected};
 use crate::typing::progress::{Progress, Stop};
 use isle_base::syntax::{Error, Expr, Ident, Pos};
 use isle_terms::{Term, TermFlags, TermKind};
-use isle_types::{TypeEnv, TypeId, report};
+use isle_types::{TypeEnv, TypeId};
 use std::alloc::AllocError;
 
 /// What the use of a variable in an expression stands for.
@@ -329,7 +329,7 @@ fn report_unmade(
     pos: Pos,
     by: &Term,
 ) -> Result<(), AllocError>
-    ensures { OnOk result (Reports errors.old.items errors.new.items) }
+    ensures { OnOk result (NotesMore errors.old.items errors.new.items) }
 {
     let alloc = *errors.allocator();
     let name = text_of(tyenv, by.name);
@@ -341,7 +341,7 @@ fn report_unmade(
 
 // Notes that no variable has the name.
 fn report_variable(errors: &mut Vec<Error>, pos: Pos, name: &Ident) -> Result<(), AllocError>
-    ensures { OnOk result (Reports errors.old.items errors.new.items) }
+    ensures { OnOk result (NotesMore errors.old.items errors.new.items) }
 {
     let alloc = *errors.allocator();
     let msg = format!(in alloc; "Unknown variable '{}'", name.0)?;
@@ -355,7 +355,7 @@ fn report_unknown(
     pos: Pos,
     sym: &Ident,
 ) -> Result<(), AllocError>
-    ensures { OnOk result (Reports work.old.errors.items work.new.errors.items) }
+    ensures { OnOk result (NotesMore work.old.errors.items work.new.errors.items) }
 {
     let alloc = *work.errors.allocator();
     let hint = match find_var(tyenv, work, sym) {

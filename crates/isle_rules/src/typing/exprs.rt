@@ -6,11 +6,10 @@ ghost use Rattle.isle_base.specs.SyntaxViews as S;
 ghost use Rattle.isle_model.specs.lists.Syntax.{no_let, let_expr};
 ghost use Rattle.isle_terms.specs.TermViews.{flags_view};
 ghost use Rattle.isle_types.specs.Envs.{IsInterned};
-ghost use Rattle.isle_types.specs.Reading.{MayReport};
 ghost use Rattle.isle_rules.specs.ExprReadings.{expected, expr_reading, args_reading, lets_reading};
 ghost use Rattle.isle_rules.specs.ExprViews.{expr_view, expr_views, expr_parts};
 ghost use Rattle.isle_rules.specs.Lets.{DefinesAll, DefinesOne, with_let};
-ghost use Rattle.isle_rules.specs.Translating.{standing, Keeps, MayTranslate, Translates};
+ghost use Rattle.isle_rules.specs.Translating.{standing, Keeps, StaysNoted, MayTranslate, Translates};
 
 use crate::exprs::Expr;
 use crate::rules::BoundVar;
@@ -118,7 +117,7 @@ impl TermEnv {
         ensures made { length args.now ≡ length tys.now
             → Translates self.now (standing tyenv.old work.old) (standing tyenv.new work.new) nesting
             (args_reading (S.expr_views args.now) (flags_view flags) (map (λ t. t.0) tys.now)) (λ v. expr_parts (expr_views v.items)) result }
-        ensures errors { OnOk result (MayReport work.old.errors.items work.new.errors.items) }
+        ensures errors { StaysNoted (standing tyenv.old work.old) (standing tyenv.new work.new) result }
     {
         let mut parts = Vec::new(*self.terms.allocator());
         for i in 0..args.len().min(tys.len()) {

@@ -5,16 +5,17 @@ ghost use Rattle.std.specs.Option.{option_to_list};
 ghost use Rattle.isle_base.specs.SyntaxViews.{name_view};
 ghost use Rattle.isle_model.specs.lists.Elaborated.{typed_let};
 ghost use Rattle.isle_types.specs.Envs.{IsInterned};
-ghost use Rattle.isle_types.specs.Reading.{Reports};
+ghost use Rattle.isle_rules.specs.Noting.{NotesMore};
 ghost use Rattle.isle_rules.specs.ExprViews.{expr_view, let_views, let_parts};
 ghost use Rattle.isle_rules.specs.Lets.{Begins, Binds, Closes};
 ghost use Rattle.isle_rules.specs.Translating.{Keeps};
 
 use crate::exprs::Expr;
+use crate::reports::report;
 use crate::rules::BoundVar;
 use crate::typing::progress::Progress;
 use isle_base::syntax::{Error, LetDef, Pos};
-use isle_types::{Sym, TypeEnv, TypeId, VarId, report};
+use isle_types::{Sym, TypeEnv, TypeId, VarId};
 use std::alloc::AllocError;
 
 /// The name and the type of a let's definition. A type that isn't known is noted.
@@ -39,7 +40,7 @@ pub(crate) fn begin_def(
 
 // Notes that the type of a definition isn't known.
 fn report_type(errors: &mut Vec<Error>, pos: Pos, def: &LetDef) -> Result<(), AllocError>
-    ensures { OnOk result (Reports errors.old.items errors.new.items) }
+    ensures { OnOk result (NotesMore errors.old.items errors.new.items) }
 {
     let alloc = *errors.allocator();
     let msg = format!(in alloc; "Unknown type {} for variable '{}'", def.ty.0, def.var.0)?;

@@ -11,12 +11,12 @@ ghost use Rattle.isle_rules.specs.Progress.{newest, Remains};
 ghost use Rattle.isle_rules.specs.Translating.{standing, Keeps, MayTranslate};
 
 use crate::patterns::Pattern;
-use crate::reports::type_text;
+use crate::reports::{report, type_text};
 use crate::term_env::TermEnv;
 use crate::typing::checks::{check_bool, check_integer, constant_type};
 use crate::typing::progress::{Progress, Stop};
 use isle_base::syntax::{Error, Ident, Pos};
-use isle_types::{Sym, TypeEnv, TypeId, report};
+use isle_types::{Sym, TypeEnv, TypeId};
 use std::alloc::AllocError;
 
 impl TermEnv {

@@ -6,19 +6,19 @@ ghost use Rattle.isle_model.specs.lists.Syntax.{term_pattern};
 ghost use Rattle.isle_terms.specs.Terms.{has_extractor_kind, has_extractor_term};
 ghost use Rattle.isle_terms.specs.TermViews.{term_view};
 ghost use Rattle.isle_types.specs.Envs.{IsInterned};
-ghost use Rattle.isle_types.specs.Reading.{Reports};
+ghost use Rattle.isle_rules.specs.Noting.{NotesMore};
 ghost use Rattle.isle_rules.specs.Elaborating.{Checks};
 ghost use Rattle.isle_rules.specs.Progress.{Remains};
 ghost use Rattle.isle_rules.specs.PatternUses.{found_term, found_converter, found_template, inside_term, UsesTerm};
 ghost use Rattle.isle_rules.specs.Translating.{standing};
 
-use crate::reports::type_text;
+use crate::reports::{report, type_text};
 use crate::term_env::TermEnv;
 use crate::typing::checks::check_count;
 use crate::typing::progress::{Progress, Stop};
 use isle_base::syntax::{Error, Ident, Pattern, Pos};
 use isle_terms::{ExtractorKind, Term, TermKind};
-use isle_types::{TypeEnv, TypeId, report};
+use isle_types::{TypeEnv, TypeId};
 use std::alloc::AllocError;
 
 /// What the use of a term in a pattern stands for.
@@ -188,7 +188,7 @@ fn check_extractor(
 
 // Notes that no term has the name.
 fn report_unknown(errors: &mut Vec<Error>, pos: Pos, sym: &Ident) -> Result<(), AllocError>
-    ensures { OnOk result (Reports errors.old.items errors.new.items) }
+    ensures { OnOk result (NotesMore errors.old.items errors.new.items) }
 {
     let alloc = *errors.allocator();
     let msg = format!(in alloc; "Unknown term in pattern: '{}'", sym.0)?;

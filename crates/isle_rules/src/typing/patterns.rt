@@ -4,10 +4,9 @@ ghost use Rattle.std.specs.Prelude.{◌≡◌, ◌++◌, OnOk, length, map};
 ghost use Rattle.std.specs.Option.{option_to_list};
 ghost use Rattle.isle_base.specs.SyntaxViews as S;
 ghost use Rattle.isle_types.specs.Envs.{IsInterned};
-ghost use Rattle.isle_types.specs.Reading.{MayReport};
 ghost use Rattle.isle_rules.specs.PatternViews.{pattern_view, pattern_views, pattern_parts};
 ghost use Rattle.isle_rules.specs.PatternReadings.{pattern_reading, parts_reading, each_reading};
-ghost use Rattle.isle_rules.specs.Translating.{standing, Keeps, MayTranslate, Translates};
+ghost use Rattle.isle_rules.specs.Translating.{standing, Keeps, StaysNoted, MayTranslate, Translates};
 
 use crate::patterns::Pattern;
 use crate::term_env::TermEnv;
@@ -111,7 +110,7 @@ impl TermEnv {
         ensures made { length args.now ≡ length tys.now
             → Translates self.now (standing tyenv.old work.old) (standing tyenv.new work.new) nesting
             (parts_reading (S.pattern_views args.now) (map (λ t. t.0) tys.now)) (λ v. pattern_parts (pattern_views v.items)) result }
-        ensures errors { OnOk result (MayReport work.old.errors.items work.new.errors.items) }
+        ensures errors { StaysNoted (standing tyenv.old work.old) (standing tyenv.new work.new) result }
     {
         let mut parts = Vec::new(*self.terms.allocator());
         for i in 0..args.len().min(tys.len()) {

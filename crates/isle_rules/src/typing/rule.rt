@@ -11,6 +11,7 @@ ghost use Rattle.isle_rules.specs.RuleReadings.{rule_reading, sides_view, scope_
 ghost use Rattle.isle_rules.specs.RuleViews.{rule_view};
 ghost use Rattle.isle_rules.specs.Translating.{standing, Keeps, MayTranslate};
 
+use crate::reports::report;
 use crate::rules::{BoundVar, Rule};
 use crate::term_env::TermEnv;
 use crate::typing::progress::{Progress, Stop};
@@ -18,7 +19,7 @@ use crate::typing::sides::RuleSides;
 use isle_base::syntax;
 use isle_base::syntax::{Error, Pos};
 use isle_terms::{Term, TermFlags, TermKind};
-use isle_types::{RuleId, Sym, TypeEnv, report};
+use isle_types::{RuleId, Sym, TypeEnv};
 use std::alloc::AllocError;
 
 impl TermEnv {

@@ -4,6 +4,7 @@ ghost use Rattle.std.specs.Prelude.{◌≡◌, IfOk, OnOk, option_map};
 ghost use Rattle.isle_base.specs.SyntaxViews.{definition_view, definition_views};
 ghost use Rattle.isle_model.specs.lists.TermTable.{rule_trees};
 ghost use Rattle.isle_types.specs.Envs.{IsInterned};
+ghost use Rattle.isle_rules.specs.RuleErrors.{NotesOfRules, NotesOfDefinition};
 ghost use Rattle.isle_rules.specs.RuleLists.{CollectsRule, CollectsNext, CollectsRules};
 ghost use Rattle.isle_rules.specs.RuleViews.{rule_view, rule_views};
 ghost use Rattle.isle_rules.specs.Translating.{Keeps};
@@ -54,6 +55,7 @@ impl TermEnv {
         requires { IsInterned tyenv.old }
         ensures keeps { Keeps tyenv.old tyenv.new }
         ensures reads { OnOk result (CollectsNext self.now tyenv.old tyenv.new work.old.errors.items work.new.errors.items (definition_view def.now) rules.old.items rules.new.items) }
+        ensures notes { OnOk result (NotesOfDefinition self.now tyenv.old (definition_view def.now) work.old.errors.items work.new.errors.items) }
     {
         let Def::Rule(rule) = def else {
             return Ok(());
@@ -67,8 +69,8 @@ impl TermEnv {
     }
 
     /// The typed rules of a list of definitions, in order, by these tables and from the names that `tyenv` has met. What
-    /// is wrong is noted in `work`, and the work goes on with the next rule; a term without a constructor is noted after
-    /// all rules. Upstream's first pass of `TermEnv::collect_rules`.
+    /// is wrong is noted in `work`, as is a limit that a rule passes, and the work goes on with the next rule; a term
+    /// without a constructor is noted after all rules. Upstream's first pass of `TermEnv::collect_rules`.
     ///
     /// # Errors
     ///
@@ -82,6 +84,7 @@ impl TermEnv {
         requires { IsInterned tyenv.old }
         ensures keeps { Keeps tyenv.old tyenv.new }
         ensures reads { IfOk result (λ v. CollectsRules self.now tyenv.old tyenv.new work.old.errors.items work.new.errors.items (rule_trees (definition_views defs.now)) (rule_views v.items)) }
+        ensures notes { OnOk result (NotesOfRules self.now tyenv.old (rule_trees (definition_views defs.now)) work.old.errors.items work.new.errors.items) }
     {
         let mut rules = Vec::new(*self.terms.allocator());
         for def in defs {

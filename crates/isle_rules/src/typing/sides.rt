@@ -6,7 +6,6 @@ ghost use Rattle.isle_base.specs.SyntaxViews as S;
 ghost use Rattle.isle_model.specs.lists.Elaborated.{root_parts};
 ghost use Rattle.isle_terms.specs.TermViews.{flags_view, term_view};
 ghost use Rattle.isle_types.specs.Envs.{IsInterned};
-ghost use Rattle.isle_types.specs.Reading.{MayReport};
 ghost use Rattle.isle_rules.specs.PatternReadings.{parts_reading};
 ghost use Rattle.isle_rules.specs.PatternViews.{pattern_views, pattern_parts};
 ghost use Rattle.isle_rules.specs.RuleReadings.{iflet_reading, iflets_reading, sides_reading, sides_view};

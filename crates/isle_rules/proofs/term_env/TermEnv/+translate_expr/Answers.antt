@@ -1,4 +1,4 @@
-use Rattle.std.proofs.Common.{◌≡◌, suc, ◌+◌, ◌<◌, [], length, get_or, refl, sym, ap, ◌∙◌, inl, rules, arith}
+use Rattle.std.proofs.Common.{◌≡◌, suc, ◌+◌, ◌<◌, [], length, get_or, refl, sym, ap, ◌∙◌, inl, Some, rules, arith}
 use Rattle.std.proofs.lemmas.Int.{to_z-of_z}
 use Rattle.std.proofs.lemmas.List.{length-map}
 use mir.Val.{SFits}
@@ -16,7 +16,7 @@ use Rattle.isle_rules.proofs.ExprLists.{none_yet, next_arg, arg_stops}
 use Rattle.isle_rules.proofs.ExprSizes.{expr_size, exprs_size, lets_size, less, inside_less, smaller_arg, smaller_def}
 use Rattle.isle_rules.proofs.ExprForms.{seen_call, seen_let, args_done, args_stop}
 use Rattle.isle_rules.proofs.LetForms.{def_unknown, def_reported, def_stops, def_done, no_def_yet, next_def, next_stops, let_first_stops, let_reported, let_stops, let_done}
-use Rattle.isle_rules.proofs.Readings.{stop_is, keep_none, keep_on, expanded_done}
+use Rattle.isle_rules.proofs.Readings.{stop_is, stop_keeps, stays_on, may_report, keep_none, keep_on, expanded_done}
 use Rattle.isle_rules.proofs.term_env.TermEnv.+translate_expr.Goals as goal
 
 pub translate_expr-use_in_expr-requires-clause-whole : goal.translate_expr-use_in_expr-requires-clause-whole
@@ -48,7 +48,7 @@ translate_expr-returns-in_err-parts-in-Parts-clause-made t c =
     rw (stop_is c.from_residual-in_err-parts-in-Parts.result c.in_err-parts-in-Parts.field-0.0 c.from_residual-in_err-parts-in-Parts.ensures)
     (args_stop c.args.self.now (standing c.args.tyenv.now c.args.work.now) (standing c.args.tyenv.now c.use_in_expr.new.work) (standing c.translate_exprs.new.tyenv c.translate_exprs.new.work) refl c.args.nesting
     (S.expr_view c.args.expr.now) c.deref.result.now (flags_view c.args.flags) (expected c.args.expected_ty) (term_view c.in-Parts.term.now) u c.in_err-parts-in-Parts.field-0.0
-    (λ same. made (same ∙ length-map c.in-Parts.term.now.arg_tys.items (λ ty. ty.0))))
+    c.in_err-parts-in-Parts.ensures.errors (λ same. made (same ∙ length-map c.in-Parts.term.now.arg_tys.items (λ ty. ty.0))))
 
 pub translate_expr-returns-in_ok-parts-in-Parts-clause-made : goal.translate_expr-returns-in_ok-parts-in-Parts-clause-made
 translate_expr-returns-in_ok-parts-in-Parts-clause-made t c =
@@ -127,6 +127,14 @@ translate_exprs-returns-in_err-part-clause-made t c =
     (arg_stops c.args.self.now (standing c.args.tyenv.now c.args.work.now) (standing c.loop-i.tyenv c.loop-i.work) (standing c.translate_expr.new.tyenv c.translate_expr.new.work) c.args.nesting (flags_view c.args.flags)
     c.args.args.now c.args.tys.now c.loop-i.i c.index-args-i.result ty w v c.index-args-i.is (same_default c.args.tys.now c.loop-i.i (record { 0 = 0 }) ty v) c.loop-i.invariant.0
     c.loop-i.parts.items c.loop-i.invariant.1 c.in_err-part.field-0.0 c.in_err-part.ensures.made)
+
+pub translate_exprs-returns-in_err-part-clause-errors : goal.translate_exprs-returns-in_err-part-clause-errors
+translate_exprs-returns-in_err-part-clause-errors t c =
+    let ty : TypeId = get_or c.args.tys.now c.loop-i.i (record { 0 = 0 }) in
+    rw (stop_is c.from_residual.result c.in_err-part.field-0.0 c.from_residual.ensures)
+    (stays_on (standing c.args.tyenv.now c.args.work.now) (standing c.loop-i.tyenv c.loop-i.work) (standing c.translate_expr.new.tyenv c.translate_expr.new.work) c.in_err-part.field-0.0
+    (may_report c.args.self.now (standing c.args.tyenv.now c.args.work.now) (standing c.loop-i.tyenv c.loop-i.work) c.args.nesting _ _ c.loop-i.invariant.1) (stop_keeps c.args.self.now (standing c.loop-i.tyenv c.loop-i.work) (standing c.translate_expr.new.tyenv c.translate_expr.new.work) c.args.nesting
+    (expr_reading (S.expr_view c.index-args-i.result) (flags_view c.args.flags) (Some ty.0)) c.in_err-part.field-0.0 c.in_err-part.ensures.made))
 
 pub translate_exprs-loop-i-preserved : goal.translate_exprs-loop-i-preserved
 translate_exprs-loop-i-preserved t c =
@@ -227,7 +235,7 @@ translate_def-returns-in_err-made-clause-made t c =
     let u = rw c.in-Some.is at c.in_ok-name.ensures.begins in
     rw (stop_is c.from_residual-in_err-made.result c.in_err-made.field-0.0 c.from_residual-in_err-made.ensures)
     (def_stops c.args.self.now (standing c.args.tyenv.now c.args.work.now) (standing c.begin_def.new.tyenv _) (S.name_view c.args.def.now.var) (S.name_view c.args.def.now.ty) (S.expr_view c.args.def.now.val.value) (S.position c.args.def.now.pos) (flags_view c.args.flags)
-    c.requires c.begin_def.ensures.keeps u.1 (record { vars = refl; names = λ k. refl; expansions = refl }) c.in-Some.ty.0 u.3 u.0 c.args.nesting c.in_err-made.field-0.0
+    c.requires c.begin_def.ensures.keeps u.1 (record { vars = refl; names = λ k. refl; expansions = refl }) c.in-Some.ty.0 u.3 u.0 (standing c.translate_expr.new.tyenv c.translate_expr.new.work) c.args.nesting c.in_err-made.field-0.0
     (rw c.deref.ensures at c.in_err-made.ensures.made))
 
 pub translate_def-returns-in_default-made-clause-made : goal.translate_def-returns-in_default-made-clause-made

@@ -16,7 +16,7 @@ use Rattle.isle_rules.proofs.PatternBridges.{row_patterns-hidden}
 use Rattle.isle_rules.proofs.PatternLists.{none_yet, next_part, part_stops, next_each, each_stops}
 use Rattle.isle_rules.proofs.PatternSizes.{tree_size, trees_size, growth, grown, smaller, deeper_smaller, expansion_smaller, smaller_part}
 use Rattle.isle_rules.proofs.PatternForms.{seen_bind, seen_term, seen_and, any_used, bind_done, bind_reported, bind_stops, parts_done, parts_stop}
-use Rattle.isle_rules.proofs.Readings.{stop_is, keep_none, keep_on, made_done, made_stops, expanded_done}
+use Rattle.isle_rules.proofs.Readings.{stop_is, stop_keeps, stays_on, may_report, keep_none, keep_on, made_done, made_stops, expanded_done}
 use Rattle.isle_rules.proofs.term_env.TermEnv.+translate_pattern.Goals as goal
 
 pub translate_pattern-returns-in_err-made-in-BindPattern-clause-made : goal.translate_pattern-returns-in_err-made-in-BindPattern-clause-made
@@ -60,7 +60,7 @@ translate_pattern-returns-in_err-parts-in-Parts-clause-made t c =
     rw (stop_is c.from_residual-in_err-parts-in-Parts.result c.in_err-parts-in-Parts.field-0.0 c.from_residual-in_err-parts-in-Parts.ensures)
     (parts_stop c.args.self.now (standing c.args.tyenv.now c.args.work.now) (standing c.args.tyenv.now c.use_in_pattern.new.work) (standing c.translate_args.new.tyenv c.translate_args.new.work) refl c.args.nesting
     (S.pattern_view c.args.pat.now) c.deref-in-Term.result.now c.args.expected_ty.0 (term_view c.in-Parts.term.now) u c.in_err-parts-in-Parts.field-0.0
-    (λ same. made (same ∙ length-map c.in-Parts.term.now.arg_tys.items (λ ty. ty.0))))
+    c.in_err-parts-in-Parts.ensures.errors (λ same. made (same ∙ length-map c.in-Parts.term.now.arg_tys.items (λ ty. ty.0))))
 
 pub translate_pattern-returns-in_ok-parts-in-Parts-clause-made : goal.translate_pattern-returns-in_ok-parts-in-Parts-clause-made
 translate_pattern-returns-in_ok-parts-in-Parts-clause-made t c =
@@ -165,6 +165,14 @@ translate_args-returns-in_err-part-clause-made t c =
     (part_stops c.args.self.now (standing c.args.tyenv.now c.args.work.now) (standing c.loop-i.tyenv c.loop-i.work) (standing c.translate_pattern.new.tyenv c.translate_pattern.new.work) c.args.nesting
     c.args.args.now c.args.tys.now c.loop-i.i c.index-args-i.result ty w v c.index-args-i.is (same_default c.args.tys.now c.loop-i.i (record { 0 = 0 }) ty v) c.loop-i.invariant.0
     c.loop-i.parts.items c.loop-i.invariant.1 c.in_err-part.field-0.0 c.in_err-part.ensures.made)
+
+pub translate_args-returns-in_err-part-clause-errors : goal.translate_args-returns-in_err-part-clause-errors
+translate_args-returns-in_err-part-clause-errors t c =
+    let ty : TypeId = get_or c.args.tys.now c.loop-i.i (record { 0 = 0 }) in
+    rw (stop_is c.from_residual.result c.in_err-part.field-0.0 c.from_residual.ensures)
+    (stays_on (standing c.args.tyenv.now c.args.work.now) (standing c.loop-i.tyenv c.loop-i.work) (standing c.translate_pattern.new.tyenv c.translate_pattern.new.work) c.in_err-part.field-0.0
+    (may_report c.args.self.now (standing c.args.tyenv.now c.args.work.now) (standing c.loop-i.tyenv c.loop-i.work) c.args.nesting _ _ c.loop-i.invariant.1) (stop_keeps c.args.self.now (standing c.loop-i.tyenv c.loop-i.work) (standing c.translate_pattern.new.tyenv c.translate_pattern.new.work) c.args.nesting
+    (pattern_reading (S.pattern_view c.index-args-i.result) ty.0) c.in_err-part.field-0.0 c.in_err-part.ensures.made))
 
 pub translate_args-loop-i-preserved : goal.translate_args-loop-i-preserved
 translate_args-loop-i-preserved t c =

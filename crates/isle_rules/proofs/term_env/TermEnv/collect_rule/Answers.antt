@@ -9,5 +9,5 @@ returns-in-Ok-clause-ends c =
 
 pub returns-in_ok-report-in-Err-clause-ends : goal.returns-in_ok-report-in-Err-clause-ends
 returns-in_ok-report-in-Err-clause-ends c =
-    at_stop c.args.self.now c.args.tyenv.now c.begin.new.self c.args.work.now.errors.items c.begin.ensures c.args.id.0 c.args.rule.now c.translate_rule.new.tyenv c.translate_rule.new.work.errors.items c.report.new.errors.items
+    at_stop c.args.self.now c.args.tyenv.now c.begin.new.self c.args.work.now.errors.items c.begin.ensures c.args.id.0 c.args.rule.now (standing c.translate_rule.new.tyenv c.translate_rule.new.work) c.report.new.errors.items
     c.in-Err.stop c.in-Err.ensures.made c.in_ok-report-in-Err.ensures

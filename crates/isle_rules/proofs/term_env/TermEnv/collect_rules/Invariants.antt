@@ -1,6 +1,7 @@
 use Rattle.std.proofs.Common.{drop}
 use Rattle.isle_base.specs.SyntaxViews.{definition_views}
 use Rattle.isle_model.specs.lists.TermTable.{rule_trees}
+use Rattle.isle_rules.specs.RuleErrors.{NotesOfRules}
 use Rattle.isle_rules.specs.Translating.{Keeps}
 use Rattle.isle_rules.proofs.RuleListSteps.{ReadingAt}
 use Rattle.isle_rules.proofs.term_env.TermEnv.collect_rules.Given as goal
@@ -9,3 +10,4 @@ abbrev pub invariant-loop-def : goal.invariant-loop-def
 invariant-loop-def l =
     Keeps l.fn.tyenv l.tyenv
     × ReadingAt l.self l.fn.tyenv l.tyenv l.fn.work.errors.items l.work.errors.items (rule_trees (definition_views l.defs)) (rule_trees (definition_views (drop l.def-index l.defs))) l.rules.items
+    × NotesOfRules l.self l.fn.tyenv (rule_trees (definition_views l.defs)) l.fn.work.errors.items l.work.errors.items

@@ -25,7 +25,7 @@ pub returns-in_err-made-clause-made : goal.returns-in_err-made-clause-made
 returns-in_err-made-clause-made c =
     rw (stop_is c.from_residual-in_err-made.result c.in_err-made.field-0.0 c.from_residual-in_err-made.ensures)
     (rule_stops c.args.self.now (standing c.args.tyenv.now c.args.work.now) c.requires (S.rule_view c.args.rule.now) c.args.id.0 (S.name_view c.in-Some.sym.now) c.in-Some.ensures (term_view c.in-Some-find_term.term.now) c.in-Some-find_term.ensures
-    (flags_view c.in-Some-flags_of.flags) c.in-Some-flags_of.ensures c.args.nesting c.in_err-made.field-0.0 c.in_err-made.ensures.made)
+    (flags_view c.in-Some-flags_of.flags) c.in-Some-flags_of.ensures (standing c.translate_sides.new.tyenv c.translate_sides.new.work) c.args.nesting c.in_err-made.field-0.0 c.in_err-made.ensures.made)
 
 pub returns-in_default-made-clause-made : goal.returns-in_default-made-clause-made
 returns-in_default-made-clause-made c =
