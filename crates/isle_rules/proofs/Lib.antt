@@ -48,3 +48,4 @@ pub mod DefinedTerms
 pub mod ShownSettings
 pub mod RulesAtEnd
 pub mod EnvironmentsAtEnd
+pub mod LimitsNamed

@@ -12,7 +12,8 @@ use Rattle.isle_model.specs.rules.Typed.{TypedRule}
 use Rattle.isle_types.specs.declared.type_env.TypeEnv.{TypeEnv}
 use Rattle.isle_types.specs.Envs.{names_of}
 use Rattle.isle_rules.specs.Noting.{NotesMore}
-use Rattle.isle_rules.proofs.Noted.{some_noted}
+use Rattle.isle_rules.proofs.LimitsNamed.{mapped_noted}
+use Rattle.isle_rules.proofs.Noted.{may_check, some_noted}
 use Rattle.isle_terms.specs.TermViews.{term_views}
 use Rattle.isle_rules.specs.declared.term_env.TermEnv.{TermEnv}
 use Rattle.isle_rules.specs.declared.rules.Rule.{Rule}
@@ -69,18 +70,10 @@ module _ (env : TermEnv) (old new : TypeEnv) (defs : List Definition) (after : T
     where_typed none last t (inr n) (inl d) = inr (λ g. some_noted n.0 (sym d.0 ∙ sym last ∙ g), λ l c. n.1 (subst (λ rs. IsDistinct (rule_names rs)) (same_rules t l c) c.elaborate.distinct))
     where_typed none last t (inr n) (inr d) = inr (λ g. some_noted d.0 (sym last ∙ g), λ l c. n.1 (subst (λ rs. IsDistinct (rule_names rs)) (same_rules t l c) c.elaborate.distinct))
 
-    names_noted : MapsNames e1 e2 rules after.rule_map → (e2 ≡ e1) ⊎ NotesMore e1 e2
-    names_noted (inl n) = inl n.0
-    names_noted (inr n) = inr n.0
-
-    check_noted : (P : Type 0) (a b : List Error) → Checks a b P → (b ≡ a) ⊎ NotesMore a b
-    check_noted P a b (inl c) = inl c.0
-    check_noted P a b (inr c) = inr c.0
-
     module _ (n : MapsNames e1 e2 rules after.rule_map) (d : Checks e2 e3 (AreDefined (term_views env.terms.items))) (c : Checks e3 e4 (AreFoundMade env new (flat_map uses_of_rule (rule_trees defs)))) where
       -- what was noted at the first is there at the end
       noted_first : e1 ≢ [] → e4 ≢ []
-      noted_first some = still_some e3 e4 (still_some e2 e3 (still_some e1 e2 some (names_noted n)) (check_noted (AreDefined (term_views env.terms.items)) e2 e3 d)) (check_noted (AreFoundMade env new (flat_map uses_of_rule (rule_trees defs))) e3 e4 c)
+      noted_first some = still_some e3 e4 (still_some e2 e3 (still_some e1 e2 some (mapped_noted e1 e2 rules after.rule_map n)) (may_check d)) (may_check c)
 
       end : ((e1 ≡ []) × (e4 ≡ e3) × (typed_rules e 0 (rule_trees defs) (names_of old) ≡ Some read)) ⊎ (((e1 ≢ []) ⊎ NotesMore e3 e4) × (typed_rules e 0 (rule_trees defs) (names_of old) ≡ None)) → Ends e4
       end (inl t) = where_typed t.0 t.1 t.2 n d

@@ -1,14 +1,16 @@
 //! The table of terms and rules.
 
-ghost use Rattle.isle_base.specs.Answers.{Answers};
+ghost use Rattle.isle_base.specs.Answers.{Answers, OnErrors};
 ghost use Rattle.isle_base.specs.SyntaxViews.{definition_views};
 ghost use Rattle.isle_model.specs.claims.Environments.{TypesRead, AreReadable, AreRulesOf, HasTypedRules, IsLeftByRefusal, IsReadAs};
 ghost use Rattle.isle_model.specs.claims.Questions.{variant_by_id};
+ghost use Rattle.isle_model.specs.claims.Refusals.{NamesOnlyPassed, PassedInReading};
 ghost use Rattle.isle_model.specs.lists.Elaborated.{TypedRules};
 ghost use Rattle.isle_types.specs.Envs.{symbol_of};
 ghost use Rattle.isle_types.specs.EnvViews.{environment_view};
 ghost use Rattle.isle_types.specs.TypeViews.{type_views};
 ghost use Rattle.isle_terms.specs.Whole.{shown_by};
+ghost use Rattle.isle_rules.specs.ErrorViews.{error_views};
 ghost use Rattle.isle_rules.specs.ShownEnvs.{terms_shown_by, environment_shown_by};
 ghost use Rattle.isle_rules.specs.TermEnvs.{term_in_env, variant_term_in};
 ghost use Rattle.std.specs.Prelude.{◌≡◌, Some, IsSome, OnErr, option_map, option_and_then, string_bytes};
@@ -66,6 +68,7 @@ impl TermEnv {
         ensures answers { Answers result (HasTypedRules read (definition_views defs.now) expand_internal_extractors)
             (λ env. (rules : TypedRules) × AreRulesOf read (definition_views defs.now) expand_internal_extractors rules (environment_shown_by env) (environment_view tyenv.new)) }
         ensures left { OnErr result (IsLeftByRefusal read (environment_view tyenv.new)) }
+        ensures limits { OnErrors result (λ es. NamesOnlyPassed (PassedInReading read (definition_views defs.now) expand_internal_extractors) (error_views es)) }
     {
         let table = TermTable::read(alloc, tyenv, defs)?;
         let mut env = TermEnv::with_terms(alloc, table, expand_internal_extractors);

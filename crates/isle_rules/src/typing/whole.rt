@@ -1,8 +1,10 @@
 //! How all rules of a list are read by its terms.
 
-ghost use Rattle.std.specs.Prelude.{◌≡◌, IfOk};
+ghost use Rattle.std.specs.Prelude.{◌≡◌, [], IfOk};
 ghost use Rattle.isle_base.specs.SyntaxViews.{definition_views};
+ghost use Rattle.isle_model.specs.lists.TermTable.{rule_trees};
 ghost use Rattle.isle_types.specs.Envs.{IsInterned};
+ghost use Rattle.isle_rules.specs.RuleErrors.{NotesOfRules};
 ghost use Rattle.isle_rules.specs.RulesRead.{ReadsRules};
 ghost use Rattle.isle_rules.specs.ShownEnvs.{terms_shown_by};
 ghost use Rattle.isle_rules.specs.Translating.{Keeps};
@@ -31,6 +33,7 @@ impl TermEnv {
         ensures terms { terms_shown_by self.new ≡ terms_shown_by self.old }
         ensures expand { self.new.expand_internal_extractors ≡ self.old.expand_internal_extractors }
         ensures reads { IfOk result (λ v. ReadsRules self.old tyenv.old tyenv.new (definition_views defs.now) self.new v.items) }
+        ensures notes { IfOk result (λ v. NotesOfRules self.old tyenv.old (rule_trees (definition_views defs.now)) [] v.items) }
     {
         let alloc = *self.terms.allocator();
         let mut work = Progress::new(alloc, Vec::new(alloc));

@@ -1,6 +1,8 @@
 use Rattle.std.proofs.Common.{◌∙◌}
 use Rattle.isle_base.specs.SyntaxViews.{definition_views}
+use Rattle.isle_model.specs.claims.Refusals.{PassedInReading}
 use Rattle.isle_rules.specs.RulesRead.{rules_of}
+use Rattle.isle_rules.proofs.LimitsNamed.{limits_named, named_by_none}
 use Rattle.isle_rules.proofs.EnvironmentsAtEnd.{left_in_the_end, all_read, could_be_read, whatever, is_nothing, is_something, wrong_in_the_end, right_in_the_end, read_by_terms}
 use Rattle.isle_rules.proofs.term_env.TermEnv.from_ast.Goals as goal
 
@@ -30,3 +32,12 @@ returns-clause-answers g c =
     right_in_the_end c.in_ok-errors.errors.items none read (λ right.
     let all = all_read g.read c.requires.0 defs c.in_ok-table.table c.read.new.tyenv c.read_rules.new.tyenv terms c.in_ok-errors.ensures.keeps c.read_rules.new.self (c.in_ok-errors.ensures.terms ∙ c.with_terms-env.ensures.terms) expand (c.in_ok-errors.ensures.expand ∙ c.with_terms-env.ensures.expand) right in
     ((rules_of c.read_rules.new.self c.read_rules.new.tyenv, all.elaborated), (rules_of c.read_rules.new.self c.read_rules.new.tyenv, all)))
+
+pub returns-then-not-is_empty-clause-limits : goal.returns-then-not-is_empty-clause-limits
+returns-then-not-is_empty-clause-limits g c =
+    limits_named g.read c.requires.0 (definition_views c.args.defs.now) c.in_ok-table.table c.read.new.tyenv c.in_ok-table.ensures.answers.1 c.with_terms-env.result c.with_terms-env.ensures.terms c.args.expand_internal_extractors c.with_terms-env.ensures.expand
+    c.in_ok-errors.errors.items c.in_ok-errors.ensures.notes
+
+pub returns-in_err-table-clause-limits : goal.returns-in_err-table-clause-limits
+returns-in_err-table-clause-limits g c =
+    named_by_none (PassedInReading g.read (definition_views c.args.defs.now) c.args.expand_internal_extractors) c.from_residual.result c.in_err-table.field-0.0 c.from_residual.ensures c.in_err-table.ensures.no_limit

@@ -7,6 +7,9 @@ use Rattle.isle_rules.specs.Elaborating.{Checks}
 use Rattle.isle_rules.specs.RuleLists.{CollectsRules}
 use Rattle.isle_rules.specs.RuleNaming.{MapsNames, AreDefined}
 use Rattle.isle_rules.specs.RuleViews.{rule_views}
+use Rattle.isle_rules.specs.RuleErrors.{NotesOfRules}
+use Rattle.isle_rules.proofs.LimitsNamed.{mapped_noted, noted_to_the_end}
+use Rattle.isle_rules.proofs.Noted.{may_both, may_check}
 use Rattle.isle_rules.proofs.RulesAtEnd.{rules_end}
 use Rattle.isle_rules.proofs.term_env.TermEnv.read_rules.Goals as goal
 
@@ -24,3 +27,21 @@ returns-clause-reads c e is k =
     let from_found = subst (λ es. MapsNames es c.map_names.new.errors.items (rule_views c.name_rules.new.rules.items) c.in_ok-rule_map.rule_map) (ap (λ v. v.items) c.replace-errors.ensures.value) mapped in
     let defined = subst (λ ts. Checks c.map_names.new.errors.items c.check_defined.new.errors.items (AreDefined (term_views ts))) c.deref-3.ensures.value c.in_ok-check_defined.ensures in
     rules_end env old new defs _ c.in_ok-rules.ensures.keeps typed e is k named found c.map_names.new.errors.items c.check_defined.new.errors.items c.check_constructors.new.errors.items from_found defined c.in_ok-check_constructors.ensures read
+
+pub returns-clause-notes : goal.returns-clause-notes
+returns-clause-notes c =
+    let defs = definition_views c.args.defs.now in
+    let env = c.args.self.now in
+    let old = c.args.tyenv.now in
+    let typed = c.in_ok-rules.rules.items in
+    let found = c.collect_rules.new.work.errors.items in
+    let named = c.map_names.new.errors.items in
+    let defined = c.check_defined.new.errors.items in
+    let last = c.check_constructors.new.errors.items in
+    let read = subst (λ es. NotesOfRules env old (rule_trees defs) es found) (c.new-work.ensures.errors ∙ c.new.ensures.items) c.in_ok-rules.ensures.notes in
+    let by_name = c.in_ok-rule_map.rule_map in
+    let rules = rule_views c.deref-2.result.now in
+    let mapped = subst (λ es. MapsNames es named rules by_name) (ap (λ v. v.items) c.replace-errors.ensures.value) c.in_ok-rule_map.ensures in
+    let names = mapped_noted found named rules by_name mapped in
+    noted_to_the_end env old (rule_trees defs) found last read
+    (may_both found named last names (may_both named defined last (may_check c.in_ok-check_defined.ensures) (may_check c.in_ok-check_constructors.ensures)))
