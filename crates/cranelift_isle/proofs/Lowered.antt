@@ -27,7 +27,7 @@ use Rattle.isle_first.proofs.matching.SimpleElaborated.{all_single, elaborated_s
 use Rattle.isle_terms.specs.TermViews as Terms
 use Rattle.isle_rules.specs.declared.term_env.TermEnv.{TermEnv}
 use Rattle.isle_rules.specs.RuleViews.{rule_views}
-use Rattle.isle_rules.specs.TermEnvs.{SeesRules}
+use Rattle.isle_carried.specs.CarriedEnvs.{SeesRules}
 use Rattle.isle_building.specs.Buildings.{env_program, IsPassed, AreSetsOf}
 use Rattle.isle_building.specs.Clashes.{IsSimplyBuildable}
 use Rattle.cranelift_isle.specs.Lowerings.{TermView, AreSimplyLowered, ChoosesAsSource, LimitPassed}

@@ -13,7 +13,7 @@ use Rattle.isle_model.specs.first.Built.{IsBuiltSet}
 use Rattle.isle_model.specs.claims.Headline.{RunsAsChosen}
 use Rattle.isle_model.specs.first.Elaboration.{IsCarriedElaborated, all_names, carried_program_of}
 use Rattle.isle_types.specs.TypeTables.{SeesTypes}
-use Rattle.isle_rules.specs.TermEnvs.{SeesRules}
+use Rattle.isle_carried.specs.CarriedEnvs.{SeesRules}
 use Rattle.cranelift_isle.specs.declared.lower.LoweredTerm.{LoweredTerm}
 use Rattle.cranelift_isle.specs.declared.lower.Lowered.{Lowered}
 use Rattle.isle_sets.specs.SiteViews.{set_view}

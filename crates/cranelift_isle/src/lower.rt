@@ -16,6 +16,7 @@ ghost use Rattle.cranelift_isle.specs.Lowerings.{lowered_views, IsLowered, Choos
 
 use isle_base::syntax::{Def, Fault};
 use isle_building::building::sets_of;
+use isle_carried::read_carried;
 use isle_laws_trees::{
     best_trees_bind_before_use, best_trees_of_built_sets_are_sound, best_trees_share_most,
 };
@@ -91,7 +92,7 @@ pub fn lower(alloc: Global, defs: &[Def], expand: bool) -> Result<Lowered, Fault
     ensures limits { OnErrors result (All (λ e. LimitPassed (definition_views defs.now) (limit_of e))) }
 {
     let mut tyenv = TypeEnv::from_ast(alloc, defs)?;
-    let termenv = TermEnv::from_ast(alloc, &mut tyenv, defs, expand)?;
+    let termenv = read_carried(alloc, &mut tyenv, defs, expand)?;
     let sets = sets_of(alloc, &termenv)?;
     let terms = trees_of(alloc, sets)?;
     Ok(Lowered {

@@ -18,7 +18,7 @@ pub(crate) fn report(errors: &mut Vec<Error>, pos: Pos, msg: &str) -> Result<(),
 }
 
 // The text of a name, for messages. Nothing where the id is no name's.
-pub(crate) fn text_of(tyenv: &TypeEnv, name: Sym) -> &str {
+pub fn text_of(tyenv: &TypeEnv, name: Sym) -> &str {
     match tyenv.syms.get(name.index()) {
         Some(text) => text.as_str(),
         None => "",
@@ -26,7 +26,7 @@ pub(crate) fn text_of(tyenv: &TypeEnv, name: Sym) -> &str {
 }
 
 // The name of a type, for messages. Nothing where the id is no type's.
-pub(crate) fn type_text(tyenv: &TypeEnv, ty: TypeId) -> &str {
+pub fn type_text(tyenv: &TypeEnv, ty: TypeId) -> &str {
     match tyenv.types.get(ty.index()) {
         Some(Type::Builtin(builtin)) => builtin.name(),
         Some(Type::Primitive(_, name, _) | Type::Enum { name, .. } | Type::Struct { name, .. }) => {

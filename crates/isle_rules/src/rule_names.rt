@@ -17,7 +17,7 @@ use isle_types::{RuleId, Sym, TermId, TypeEnv};
 use std::alloc::{AllocError, Global};
 
 // Gives each rule without a name that is the only one of its term the term's name.
-pub(crate) fn name_rules(terms: &[Term], rules: &mut Vec<Rule>)
+pub fn name_rules(terms: &[Term], rules: &mut Vec<Rule>)
     ensures { rule_views rules.new.items ≡ named_rules (term_views terms.now) (rule_views rules.old.items) }
 {
     for i in 0..rules.len() {
@@ -53,7 +53,7 @@ fn name_of_term(terms: &[Term], term: TermId) -> Option<Sym>
 }
 
 // Each named rule by its name. A name that an earlier rule has is noted.
-pub(crate) fn map_names(
+pub fn map_names(
     alloc: Global,
     tyenv: &TypeEnv,
     rules: &[Rule],

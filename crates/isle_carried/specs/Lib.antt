@@ -1,0 +1,4 @@
+pub mod CarriedEnvs
+pub mod Elaborating
+pub mod Forms
+pub mod Numbering
