@@ -17,8 +17,8 @@ use Rattle.isle_rules.specs.declared.patterns.Pattern.{Pattern}
 use Rattle.isle_rules.specs.declared.rules.BoundVar.{BoundVar}
 use Rattle.isle_rules.specs.ExprViews.{expr_view}
 use Rattle.isle_rules.specs.PatternViews.{pattern_view, pattern_views}
-use Rattle.isle_types.specs.Reading.{Reports}
-use Rattle.isle_types.proofs.Reports.{both}
+use Rattle.isle_rules.specs.Noting.{NotesMore}
+use Rattle.isle_rules.proofs.Noted.{both}
 use Rattle.isle_carried.specs.Elaborating.{Elaborates, TypesArgs, var_views, pattern_with, patterns_with}
 use Rattle.isle_rules.specs.Elaborating.{Checks}
 
@@ -43,7 +43,7 @@ module _ (names : List (List ℕ)) (types : List TypeEntry) where
   -- where the elaboration of arguments is
   abbrev pub ArgsAt : List Error → List Error → Option ElaboratedArgs → List PatternTree → List ℕ → List BoundVar → List Pattern → Type 0
   ArgsAt old new total args tys vars out =
-      ((new ≡ old) × (after (pattern_views out) (elaborate_args names types args tys (var_views vars)) ≡ total)) ⊎ (Reports old new × (total ≡ None))
+      ((new ≡ old) × (after (pattern_views out) (elaborate_args names types args tys (var_views vars)) ≡ total)) ⊎ (NotesMore old new × (total ≡ None))
 
   made_some : (vars : List BoundVar) (o : Option Pattern) (q : Elaborated) → option_map (pattern_with vars) o ≡ Some q → (p : Pattern) × (o ≡ Some p) × (q ≡ pattern_with vars p)
   made_some vars None q e = absurd (cc)
@@ -67,8 +67,8 @@ module _ (names : List (List ℕ)) (types : List TypeEntry) where
   step_arg old mid new total p ps ty tys vars vars' out o (inl a) (inl e) =
       inl (e.0 ∙ a.0, step_good total p ps ty tys vars vars' out o e.1.0 a.1 e.1.1 e.1.2)
   step_arg old mid new total p ps ty tys vars vars' out o (inl a) (inr e) =
-      inr (subst (λ es. Reports es new) a.0 e.0, step_bad total p ps ty tys vars out a.1 e.1)
-  step_arg old mid new total p ps ty tys vars vars' out o (inr a) (inl e) = inr (subst (Reports old) (sym e.0) a.0, a.1)
+      inr (subst (λ es. NotesMore es new) a.0 e.0, step_bad total p ps ty tys vars out a.1 e.1)
+  step_arg old mid new total p ps ty tys vars vars' out o (inr a) (inl e) = inr (subst (NotesMore old) (sym e.0) a.0, a.1)
   step_arg old mid new total p ps ty tys vars vars' out o (inr a) (inr e) = inr (both old mid new a.0 e.0, a.1)
 
   -- after the argument at i
@@ -129,16 +129,16 @@ module _ (C : Type 0) (A : Option ElaboratedArgs) (a : ElaboratedArgs) (E : List
   last_part old new made e (inr r) =
       inr (r.0, ap (λ y. then_option y (λ x. option_map (mk x) (E x.vars))) e ∙ ap (option_map (mk a)) r.1)
 
-  wrong_part : (old mid new : List Error) (made : Option TypedExpr) → Reports old mid → A ≡ None → Elaborates mid new made (E a.vars) → Elaborates old new (option_map (mk a) made) rule_of_parts
-  wrong_part old mid new made s e (inl r) = inr (subst (Reports old) (sym r.0) s, no_args e)
+  wrong_part : (old mid new : List Error) (made : Option TypedExpr) → NotesMore old mid → A ≡ None → Elaborates mid new made (E a.vars) → Elaborates old new (option_map (mk a) made) rule_of_parts
+  wrong_part old mid new made s e (inl r) = inr (subst (NotesMore old) (sym r.0) s, no_args e)
   wrong_part old mid new made s e (inr r) = inr (both old mid new s r.0, no_args e)
 
-  pub from_parts : (e0 e1 e2 e3 : List Error) (made : Option TypedExpr) → Checks e0 e1 C → ((C → ⊥) → A ≡ None) → ((e2 ≡ e1) × (C → A ≡ Some a)) ⊎ (Reports e1 e2 × (A ≡ None)) → Elaborates e2 e3 made (E a.vars) → Elaborates e0 e3 (option_map (mk a) made) rule_of_parts
+  pub from_parts : (e0 e1 e2 e3 : List Error) (made : Option TypedExpr) → Checks e0 e1 C → ((C → ⊥) → A ≡ None) → ((e2 ≡ e1) × (C → A ≡ Some a)) ⊎ (NotesMore e1 e2 × (A ≡ None)) → Elaborates e2 e3 made (E a.vars) → Elaborates e0 e3 (option_map (mk a) made) rule_of_parts
   from_parts e0 e1 e2 e3 made (inl c) none (inl h) r =
       subst (λ es. Elaborates es e3 (option_map (mk a) made) rule_of_parts) (h.0 ∙ c.0) (last_part e2 e3 made (h.1 c.1) r)
   from_parts e0 e1 e2 e3 made (inl c) none (inr h) r =
       subst (λ es. Elaborates es e3 (option_map (mk a) made) rule_of_parts) c.0 (wrong_part e1 e2 e3 made h.0 h.1 r)
-  from_parts e0 e1 e2 e3 made (inr c) none (inl h) r = wrong_part e0 e2 e3 made (subst (Reports e0) (sym h.0) c.0) (none c.1) r
+  from_parts e0 e1 e2 e3 made (inr c) none (inl h) r = wrong_part e0 e2 e3 made (subst (NotesMore e0) (sym h.0) c.0) (none c.1) r
   from_parts e0 e1 e2 e3 made (inr c) none (inr h) r = wrong_part e0 e2 e3 made (both e0 e1 e2 c.0 h.0) (none c.1) r
 
 checks_as : (old new : List Error) (P Q : Type 0) → (P → Q) → (Q → P) → Checks old new P → Checks old new Q

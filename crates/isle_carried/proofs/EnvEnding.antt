@@ -24,25 +24,25 @@ use Rattle.isle_terms.specs.Terms.{is_internal_constructor, has_internal_constru
 use Rattle.isle_terms.specs.TermViews.{term_view, term_views}
 use Rattle.isle_rules.specs.declared.rules.Rule.{Rule}
 use Rattle.isle_rules.specs.RuleViews.{rule_views}
-use Rattle.isle_types.specs.Reading.{Reports}
+use Rattle.isle_rules.specs.Noting.{NotesMore}
 use Rattle.isle_carried.specs.Elaborating.{AreTyped, TypesRules}
 use Rattle.isle_rules.specs.Elaborating.{Checks}
 use Rattle.isle_rules.specs.RuleNaming.{rule_in, MapsNames}
 use Rattle.isle_carried.specs.CarriedEnvs.{AreMade}
-use Rattle.isle_types.proofs.Reports.{both}
+use Rattle.isle_rules.proofs.Noted.{both, some_noted, still_plain}
 
 abbrev IsMade : TermEntry → Type 0
 IsMade t = IsTrue (has_internal_constructor_term t)
 
 -- terms that are left to be looked at
 abbrev pub MadeAt : List TermEntry → List TermEntry → List Error → List Error → Type 0
-MadeAt all rest old new = ((new ≡ old) × (All IsMade rest → All IsMade all) × (All IsMade all → All IsMade rest)) ⊎ (Reports old new × (All IsMade all → ⊥))
+MadeAt all rest old new = ((new ≡ old) × (All IsMade rest → All IsMade all) × (All IsMade all → All IsMade rest)) ⊎ (NotesMore old new × (All IsMade all → ⊥))
 
 step_made : (all rest : List TermEntry) (t : TermEntry) (old mid new : List Error) → MadeAt all (t ∷ rest) old mid → Checks mid new (IsMade t) → MadeAt all rest old new
 step_made all rest t old mid new (inl a) (inl c) =
     inl (c.0 ∙ a.0, λ h. a.1 (All-cons IsMade t rest c.1 h), λ h. All-tail IsMade t rest (a.2 h))
-step_made all rest t old mid new (inl a) (inr c) = inr (subst (λ es. Reports es new) a.0 c.0, λ h. c.1 (All-head IsMade t rest (a.2 h)))
-step_made all rest t old mid new (inr a) (inl c) = inr (subst (Reports old) (sym c.0) a.0, a.1)
+step_made all rest t old mid new (inl a) (inr c) = inr (subst (λ es. NotesMore es new) a.0 c.0, λ h. c.1 (All-head IsMade t rest (a.2 h)))
+step_made all rest t old mid new (inr a) (inl c) = inr (subst (NotesMore old) (sym c.0) a.0, a.1)
 step_made all rest t old mid new (inr a) (inr c) = inr (both old mid new a.0 c.0, a.1)
 
 pub next_made : (terms : List Term) (i : ℕ) (t : Term) → i < length terms → t ≡ get_or terms i t → (old mid new : List Error) → MadeAt (term_views terms) (term_views (drop i terms)) old mid → Checks mid new (IsMade (term_view t)) → MadeAt (term_views terms) (term_views (drop (i + 1) terms)) old new
@@ -119,9 +119,9 @@ module _ (defs : List Definition) (types : IsValidTypes defs) (valid : IsValidCa
         },
         names_ok.2,
       ))
-      (λ wrong. absurd (wrong.0.some (sym names_ok.0 ∙ sym made_ok.0 ∙ none))) t)
-      (λ wrong. absurd (wrong.0.some (sym made_ok.0 ∙ none))) n)
-      (λ wrong. absurd (wrong.0.some none)) d
+      (λ wrong. absurd (some_noted wrong.0 (sym names_ok.0 ∙ sym made_ok.0 ∙ none))) t)
+      (λ wrong. absurd (some_noted wrong.0 (sym made_ok.0 ∙ none))) n)
+      (λ wrong. absurd (some_noted wrong.0 none)) d
 
   typed_of : (rs : List TypedRule) → IsCarriedElaborated defs rs → (qs : List TypedRule) × AreTyped defs qs × (named_rules (term_entries defs) qs ≡ rs)
   typed_of rs v =
@@ -148,9 +148,9 @@ module _ (defs : List Definition) (types : IsValidTypes defs) (valid : IsValidCa
 
   pub plain_end : All (λ e. limit_of e ≡ None) e0 → All (λ e. limit_of e ≡ None) e3
   plain_end h =
-      let p1 : All (λ e. limit_of e ≡ None) e1 = ⊎_elim (λ a. subst (All (λ e. limit_of e ≡ None)) (sym a.0) h) (λ a. a.0.plain h) t in
-      let p2 : All (λ e. limit_of e ≡ None) e2 = ⊎_elim (λ a. subst (All (λ e. limit_of e ≡ None)) (sym a.0) p1) (λ a. a.0.plain p1) n in
-      ⊎_elim (λ a. subst (All (λ e. limit_of e ≡ None)) (sym a.0) p2) (λ a. a.0.plain p2) d
+      let p1 : All (λ e. limit_of e ≡ None) e1 = ⊎_elim (λ a. subst (All (λ e. limit_of e ≡ None)) (sym a.0) h) (λ a. still_plain a.0 h) t in
+      let p2 : All (λ e. limit_of e ≡ None) e2 = ⊎_elim (λ a. subst (All (λ e. limit_of e ≡ None)) (sym a.0) p1) (λ a. still_plain a.0 p1) n in
+      ⊎_elim (λ a. subst (All (λ e. limit_of e ≡ None)) (sym a.0) p2) (λ a. still_plain a.0 p2) d
 
 nothing : (xs : List Error) → length xs ≡ 0 → xs ≡ []
 nothing [] e = refl

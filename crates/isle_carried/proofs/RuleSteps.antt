@@ -17,9 +17,9 @@ use Rattle.isle_terms.specs.declared.term_table.TermTable.{TermTable}
 use Rattle.isle_terms.specs.TermTables.{SeesTerms}
 use Rattle.isle_rules.specs.declared.rules.Rule.{Rule}
 use Rattle.isle_rules.specs.RuleViews.{rule_view, rule_views}
-use Rattle.isle_types.specs.Reading.{Reports}
+use Rattle.isle_rules.specs.Noting.{NotesMore}
 use Rattle.isle_carried.specs.Elaborating.{AreKnown, definition_names, elaborate_found, AddsRule, AreTyped, TypesRules}
-use Rattle.isle_types.proofs.Reports.{both}
+use Rattle.isle_rules.proofs.Noted.{both}
 use Rattle.isle_carried.proofs.MetNames.{all_met, met_split, all_bound, bound_split}
 use Rattle.isle_carried.proofs.Found.{same_rule}
 
@@ -50,7 +50,7 @@ pub record Typing (defs rest : List Definition) (rules : List TypedRule) : Type 
   pub valid : All IsCarried (rule_trees defs) → All IsCarried (rule_trees rest)
 
 abbrev pub TypingAt : List Definition → List Definition → List Error → List Error → List Rule → Type 0
-TypingAt defs rest old new rules = ((new ≡ old) × Typing defs rest (rule_views rules)) ⊎ (Reports old new × ((qs : List TypedRule) → AreTyped defs qs → ⊥))
+TypingAt defs rest old new rules = ((new ≡ old) × Typing defs rest (rule_views rules)) ⊎ (NotesMore old new × ((qs : List TypedRule) → AreTyped defs qs → ⊥))
 
 module _ (defs rest : List Definition) (r : RuleTree) (rules : List TypedRule) (t : Typing defs (rule_definition r ∷ rest) rules) where
   good_rule : (q : TypedRule) → IsCarried r → elaborate_rule defs (length rules) r ≡ Some q → Typing defs rest (rules ++ q ∷ [])
@@ -83,10 +83,10 @@ module _ (defs : List Definition) (env : TypeEnv) (table : TermTable) (s : SeesT
   step_rule rest r old mid new before after (inl a) (inr e) =
       let n : length before ≡ length (rule_views before) = sym (length-map before rule_view) in
       inr (
-        subst (λ es. Reports es new) a.0 e.0,
+        subst (λ es. NotesMore es new) a.0 e.0,
         wrong_rule defs rest r (rule_views before) a.1 (λ c. sym (same_rule defs env table s u (length (rule_views before)) r) ∙ sym (ap (λ k. elaborate_found env table k r) n) ∙ e.1 c),
       )
-  step_rule rest r old mid new before after (inr a) (inl e) = inr (subst (Reports old) (sym e.0) a.0, a.1)
+  step_rule rest r old mid new before after (inr a) (inl e) = inr (subst (NotesMore old) (sym e.0) a.0, a.1)
   step_rule rest r old mid new before after (inr a) (inr e) = inr (both old mid new a.0 e.0, a.1)
 
   -- after another definition
@@ -100,7 +100,7 @@ module _ (defs : List Definition) (env : TypeEnv) (table : TermTable) (s : SeesT
           valid = λ v. subst (All IsCarried) same (a.1.valid v);
         }),
       )
-  step_other rest rest' old mid new before after same (inr a) e = inr (subst (Reports old) (sym e.0) a.0, a.1)
+  step_other rest rest' old mid new before after same (inr a) e = inr (subst (NotesMore old) (sym e.0) a.0, a.1)
 
   step : (rest : List Definition) (d : Definition) (old mid new : List Error) (before after : List Rule) → TypingAt defs (d ∷ rest) old mid before → AddsRule d mid new env table before after → TypingAt defs rest old new after
   step rest (type_definition d) old mid new before after a e = step_other (type_definition d ∷ rest) rest old mid new before after refl a e

@@ -10,7 +10,7 @@ use Rattle.isle_model.specs.first.Elaboration.{Elaborated, ElaboratedArgs, elabo
 use Rattle.isle_base.specs.declared.syntax.Error.{Error}
 use Rattle.isle_types.specs.declared.type_env.TypeEnv.{TypeEnv}
 use Rattle.isle_types.specs.Envs.{names_of, symbol_of}
-use Rattle.isle_types.specs.Reading.{Reports}
+use Rattle.isle_rules.specs.Noting.{NotesMore}
 use Rattle.isle_types.specs.TypeViews.{type_views}
 use Rattle.isle_terms.specs.declared.term_table.TermTable.{TermTable}
 use Rattle.isle_terms.specs.TermTables.{term_at}
@@ -27,7 +27,7 @@ AreKnown names texts = All (λ x. IsTrue (has_name names x)) texts
 
 -- what is made is what the elaboration gives, or there is an error and the elaboration gives nothing
 abbrev pub Elaborates : {Q : Type 0} → List Error → List Error → Option Q → Option Q → Type 0
-Elaborates {Q} old new made right = ((new ≡ old) × ((q : Q) × (made ≡ Some q) × (right ≡ Some q))) ⊎ (Reports old new × (right ≡ None))
+Elaborates {Q} old new made right = ((new ≡ old) × ((q : Q) × (made ≡ Some q) × (right ≡ Some q))) ⊎ (NotesMore old new × (right ≡ None))
 
 abbrev pub var_views : List BoundVar → List TypedVar
 var_views vs = map var_view vs
@@ -43,7 +43,7 @@ patterns_with vars ps = record { patterns = pattern_views ps; vars = var_views v
 abbrev pub TypesArgs : List Error → List Error → List (List ℕ) → List TypeEntry → List PatternTree → List ℕ → List BoundVar → List BoundVar → List Pattern → Type 0
 TypesArgs old new names types args tys before after made =
     ((new ≡ old) × (length args ≡ length tys → elaborate_args names types args tys (var_views before) ≡ Some (patterns_with after made)))
-    ⊎ (Reports old new × (elaborate_args names types args tys (var_views before) ≡ None))
+    ⊎ (NotesMore old new × (elaborate_args names types args tys (var_views before) ≡ None))
 
 -- the term that a rule is found to be one of
 abbrev pub found_root : TypeEnv → TermTable → RuleTree → Option ℕ
@@ -58,7 +58,7 @@ elaborate_found env table id r =
 abbrev pub TypesRule : List Error → List Error → TypeEnv → TermTable → ℕ → RuleTree → Option TypedRule → Type 0
 TypesRule old new env table id r made =
     ((new ≡ old) × IsTrue (is_carried_rule r) × ((q : TypedRule) × (made ≡ Some q) × (elaborate_found env table id r ≡ Some q)))
-    ⊎ (Reports old new × (IsTrue (is_carried_rule r) → elaborate_found env table id r ≡ None))
+    ⊎ (NotesMore old new × (IsTrue (is_carried_rule r) → elaborate_found env table id r ≡ None))
 
 -- the names that a definition's rule speaks of, if it is a rule
 abbrev pub definition_names : Definition → List (List ℕ)
@@ -69,7 +69,7 @@ definition_names _ = []
 abbrev pub AddsRule : Definition → List Error → List Error → TypeEnv → TermTable → List Rule → List Rule → Type 0
 AddsRule (rule_definition r) old new env table before after =
     ((new ≡ old) × IsTrue (is_carried_rule r) × ((q : TypedRule) × (rule_views after ≡ rule_views before ++ q ∷ []) × (elaborate_found env table (length before) r ≡ Some q)))
-    ⊎ (Reports old new × (IsTrue (is_carried_rule r) → elaborate_found env table (length before) r ≡ None))
+    ⊎ (NotesMore old new × (IsTrue (is_carried_rule r) → elaborate_found env table (length before) r ≡ None))
 AddsRule _ old new env table before after = (new ≡ old) × (after ≡ before)
 
 -- each rule is carried, and these are the typed rules before they are named
@@ -80,4 +80,4 @@ pub record AreTyped (defs : List Definition) (rules : List TypedRule) : Type 0 w
 -- the rules are all typed, or there is an error and they can't be
 abbrev pub TypesRules : List Definition → List Error → List Error → List Rule → Type 0
 TypesRules defs old new made =
-    ((new ≡ old) × AreTyped defs (rule_views made)) ⊎ (Reports old new × ((rules : List TypedRule) → AreTyped defs rules → ⊥))
+    ((new ≡ old) × AreTyped defs (rule_views made)) ⊎ (NotesMore old new × ((rules : List TypedRule) → AreTyped defs rules → ⊥))

@@ -17,17 +17,17 @@ ghost use Rattle.isle_terms.specs.TermTables.{SeesTerms, term_at};
 ghost use Rattle.isle_terms.specs.TermViews.{term_view};
 ghost use Rattle.isle_rules.specs.ExprViews.{expr_view};
 ghost use Rattle.isle_rules.specs.RuleViews.{var_view, rule_view};
-ghost use Rattle.isle_types.specs.Reading.{Reports};
+ghost use Rattle.isle_rules.specs.Noting.{NotesMore};
 ghost use Rattle.isle_carried.specs.Elaborating.{AreKnown, definition_names, Elaborates, TypesArgs, TypesRule, AddsRule, TypesRules, var_views, pattern_with};
 ghost use Rattle.isle_rules.specs.Elaborating.{Checks};
 
 use crate::forms::{args_of, is_carried};
+use isle_rules::reports::{report, type_text};
 use isle_base::syntax;
 use isle_base::syntax::{Def, Error, Ident, Pos};
-use isle_rules::reports::type_text;
 use isle_rules::{BoundVar, Expr, Pattern, Rule};
 use isle_terms::{Term, TermTable};
-use isle_types::{RuleId, Sym, TermId, TypeEnv, TypeId, VarId, report};
+use isle_types::{RuleId, Sym, TermId, TypeEnv, TypeId, VarId};
 use std::alloc::{AllocError, Global};
 
 // The id of a name that has one.
@@ -48,7 +48,7 @@ fn check_literal(
     errors: &mut Vec<Error>,
 ) -> Result<bool, AllocError>
     ensures is { IfOk result (λ b. b ≡ is_atom_type (slice_get (type_views tyenv.now.types.items) ty.0)) }
-    ensures reports { IfOk result (λ b. MatchBool b (errors.new.items ≡ errors.old.items) (Reports errors.old.items errors.new.items)) }
+    ensures reports { IfOk result (λ b. MatchBool b (errors.new.items ≡ errors.old.items) (NotesMore errors.old.items errors.new.items)) }
 {
     if has_integers(tyenv, ty) {
         return Ok(true);
@@ -193,7 +193,7 @@ fn elaborate_rhs(
 }
 
 fn report_unknown(errors: &mut Vec<Error>, pos: Pos, name: &Ident) -> Result<(), AllocError>
-    ensures { OnOk result (Reports errors.old.items errors.new.items) }
+    ensures { OnOk result (NotesMore errors.old.items errors.new.items) }
 {
     let alloc = *errors.allocator();
     let msg = format!(in alloc; "Unknown variable '{}'", name.0)?;
@@ -208,7 +208,7 @@ fn report_type(
     has: TypeId,
     want: TypeId,
 ) -> Result<(), AllocError>
-    ensures { OnOk result (Reports errors.old.items errors.new.items) }
+    ensures { OnOk result (NotesMore errors.old.items errors.new.items) }
 {
     let alloc = *errors.allocator();
     let has = type_text(tyenv, has);

@@ -16,10 +16,10 @@ use crate::elaboration::elaborate_rules;
 use crate::numbering::number_names;
 use isle_base::syntax::{Def, Error, Fault};
 use isle_rules::TermEnv;
-use isle_rules::reports::text_of;
+use isle_rules::reports::{report, text_of};
 use isle_rules::rule_names::{map_names, name_rules};
 use isle_terms::{Term, TermTable};
-use isle_types::{TypeEnv, report};
+use isle_types::TypeEnv;
 use std::alloc::{AllocError, Global};
 
 /// The terms and the typed rules of a list of definitions, each found by its name. `tyenv` is the type

@@ -8,7 +8,7 @@ use isle_types::{Sym, Type, TypeEnv, TypeId};
 use std::alloc::AllocError;
 
 // Notes that what stands at a place isn't right: one error more, which names no limit.
-pub(crate) fn report(errors: &mut Vec<Error>, pos: Pos, msg: &str) -> Result<(), AllocError>
+pub fn report(errors: &mut Vec<Error>, pos: Pos, msg: &str) -> Result<(), AllocError>
     ensures { OnOk result (NotesMore errors.old.items errors.new.items) }
 {
     let msg = String::from_str(*errors.allocator(), msg)?;
