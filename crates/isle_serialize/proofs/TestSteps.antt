@@ -1,22 +1,22 @@
 -- The open tests of a place by tables of its sites, and the greatest of them.
-use Rattle.std.proofs.Common.{◌≡◌, ℕ, zero, suc, ◌+◌, ◌<◌, ◌≤◌, ◌==◌, nat_lt, Bool, true, false, not, ◌&&◌, cond, List, [], ◌∷◌, ◌++◌, map, length, take, get_or, Option, Some, None, slice_index_or, Contains, refl, sym, ap, ◌∙◌, subst, inl, inr, arith, ltb-false, lt-ltb, length-append}
-use Rattle.std.specs.List.{filter, flat_map}
-use Rattle.std.proofs.lemmas.Bool.{cases_Bool, cond-true, cond-false, false≢true, cases_lt, or_left}
+use Rattle.std.proofs.Common.{◌≡◌, ℕ, zero, suc, ◌+◌, ◌<◌, ◌≤◌, ◌==◌, nat_lt, Bool, true, false, not, ◌&&◌, ◌||◌, cond, List, [], ◌∷◌, ◌++◌, map, length, take, get_or, Option, Some, None, slice_get, slice_index_or, Contains, refl, sym, ap, ◌∙◌, subst, inl, inr, ◌⊎◌, arith, ltb-false, lt-ltb, length-append}
+use Rattle.std.specs.List.{filter, flat_map, list_all, list_any}
+use Rattle.std.proofs.lemmas.Bool.{cases_Bool, cond-true, cond-false, false≢true, cases_lt, or_left, or_right, or_cases, and_parts, and_from}
 use Rattle.std.proofs.lemmas.List.{take_more}
 use Rattle.std.proofs.lemmas.List.Elements.{Contains-append_left, Contains-append_right, Contains-append_cases}
 use Rattle.std.proofs.lemmas.Grind.{flat_map-append}
-use Rattle.isle_model.specs.sites.Sites.{SiteSet}
-use Rattle.isle_model.specs.trees.Places.{Around, is_in, class, joins, available}
+use Rattle.isle_model.specs.sites.Sites.{SetRule, SiteSet}
+use Rattle.isle_model.specs.trees.Places.{Around, is_in, class, joins, joins_in, available}
 use Rattle.isle_model.specs.trees.Tests as Tests
-use Rattle.isle_model.specs.trees.Tests.{match_test, equal_test, loop_test, cover, is_at_hand, is_open_site, is_open_pair, IsOpen, up_to, open_sites, open_pairs_at, open_tests, score, is_greater}
+use Rattle.isle_model.specs.trees.Tests.{match_test, equal_test, loop_test, cover, is_at_hand, is_open_site, is_open_pair, IsOpen, up_to, open_sites, open_pairs_at, open_tests, score, is_greater, is_needed, needs_at, is_lower, is_covered}
 use Rattle.isle_model.specs.trees.Best.{IsGreatest}
-use Rattle.isle_model.proofs.Members.{nothing_in, in_head, in_tail, in_alone, from_up_to, in_map, from_map}
+use Rattle.isle_model.proofs.Members.{nothing_in, in_head, in_tail, in_alone, from_up_to, in_map, from_map, in_filter, from_filter, in_flat_map, from_flat_map, passes_any}
 use Rattle.isle_laws_trees.proofs.OpenTests.{open_listed, listed_open}
 use Rattle.isle_laws_trees.proofs.Scores.{scores_are_ordered_lem}
 use Rattle.isle_serialize.specs.declared.tests.Test.{Test}
 use Rattle.isle_serialize.specs.declared.tests.Test.TheVariants.{Match, Equal, Loop}
 use Rattle.isle_serialize.specs.AroundViews.{availability, class_names}
-use Rattle.isle_serialize.specs.TestViews.{test_view, test_views, pairs_at, greater_test, IsGreatestOf, IsChosen}
+use Rattle.isle_serialize.specs.TestViews.{test_view, test_views, pairs_at, greater_test, IsGreatestOf, IsChosen, AreUseful}
 use Rattle.isle_serialize.proofs.Tables.{table_entry, marked_site, names_start}
 
 -- 1. numbers below n
@@ -133,7 +133,7 @@ module _ (set : SiteSet) (ar : Around) where
       ends [] = refl
       ends (x ∷ xs) = ap (λ l. x ∷ l) (ends xs)
 
-  pub tests_are : (free sites sources : List ℕ) (pairs : List Test) → sources ≡ Tests.sources_around ar → sites ≡ up_to n
+  tests_are : (free sites sources : List ℕ) (pairs : List Test) → sources ≡ Tests.sources_around ar → sites ≡ up_to n
       → free ≡ filter (λ s. slice_index_or at s false && not (is_in s sources)) sites → pairs ≡ flat_map (pairs_at at names) sites
       → test_views ((map Match free ++ pairs) ++ map Loop free) ≡ open_tests set ar
   tests_are free sites sources pairs e f g h =
@@ -182,7 +182,172 @@ module _ (set : SiteSet) (ar : Around) (here : List ℕ) where
             | inr z ↦ z
           ]
 
--- 5. the test that is made
+-- 5. pairs that no rule of the place joins are left out
+module _ (rules : List SetRule) (here : List ℕ) where
+  abbrev IsEquated : ℕ → Bool
+  IsEquated s = list_any (needs_at rules (equal_test s s)) here
+
+  -- a class that has two sites has each of them
+  first_joined : (cs : List (List ℕ)) (a b : ℕ) → joins_in cs a b ≡ true → joins_in cs a a ≡ true
+  first_joined [] a b h = h
+  first_joined (c ∷ cs) a b h =
+      elim (or_cases (is_in a c && is_in b c) (joins_in cs a b) h) [
+        | inl t ↦ let q = and_parts (is_in a c) (is_in b c) t in or_left (is_in a c && is_in a c) (joins_in cs a a) (and_from (is_in a c) (is_in a c) q.0 q.0)
+        | inr r ↦ or_right (is_in a c && is_in a c) (joins_in cs a a) (first_joined cs a b r)
+      ]
+
+  other_joined : (cs : List (List ℕ)) (a b : ℕ) → joins_in cs a b ≡ true → joins_in cs b b ≡ true
+  other_joined [] a b h = h
+  other_joined (c ∷ cs) a b h =
+      elim (or_cases (is_in a c && is_in b c) (joins_in cs a b) h) [
+        | inl t ↦ let q = and_parts (is_in a c) (is_in b c) t in or_left (is_in b c && is_in b c) (joins_in cs b b) (and_from (is_in b c) (is_in b c) q.1 q.1)
+        | inr r ↦ or_right (is_in b c && is_in b c) (joins_in cs b b) (other_joined cs a b r)
+      ]
+
+  first_needs : (o : Option SetRule) (a b : ℕ) → is_needed (equal_test a b) o ≡ true → is_needed (equal_test a a) o ≡ true
+  first_needs None a b h = h
+  first_needs (Some r) a b h = first_joined r.classes a b h
+
+  other_needs : (o : Option SetRule) (a b : ℕ) → is_needed (equal_test a b) o ≡ true → is_needed (equal_test b b) o ≡ true
+  other_needs None a b h = h
+  other_needs (Some r) a b h = other_joined r.classes a b h
+
+  -- what a test covers needs it
+  covers_none : (t : Tests.Test) → ((i : ℕ) → Contains here i → needs_at rules t i ≡ true → ⊥) → cover rules here t ≡ []
+  covers_none t h =
+      none_kept (is_covered rules here t) here
+      (λ i c. elim (cases_Bool (is_covered rules here t i)) [
+        | inl y ↦ absurd (h i c (and_parts (needs_at rules t i) (list_all (λ j. needs_at rules t j || not (is_lower rules i j)) here) y).0)
+        | inr f ↦ f
+      ])
+    where
+      none_kept : (p : ℕ → Bool) (xs : List ℕ) → ((x : ℕ) → Contains xs x → p x ≡ false) → filter p xs ≡ []
+      none_kept p [] h = refl
+      none_kept p (x ∷ xs) h = cond-false (p x) (x ∷ filter p xs) (filter p xs) (h x (in_head x xs)) ∙ none_kept p xs (λ y c. h y (in_tail x y xs c))
+
+  pub first_apart : (a b : ℕ) → IsEquated a ≡ false → cover rules here (equal_test a b) ≡ []
+  first_apart a b f = covers_none (equal_test a b) (λ i c n. false≢true (sym f ∙ passes_any (needs_at rules (equal_test a a)) here i c (first_needs (slice_get rules i) a b n)))
+
+  pub other_apart : (a b : ℕ) → IsEquated b ≡ false → cover rules here (equal_test a b) ≡ []
+  other_apart a b f = covers_none (equal_test a b) (λ i c n. false≢true (sym f ∙ passes_any (needs_at rules (equal_test b b)) here i c (other_needs (slice_get rules i) a b n)))
+
+module _ (set : SiteSet) (ar : Around) (here : List ℕ) where
+  abbrev many : ℕ
+  many = length set.sites
+
+  abbrev all_at : List Bool
+  all_at = availability set ar
+
+  abbrev classes_at : List ℕ
+  classes_at = class_names set ar
+
+  -- the sites that are available and stand in an equality
+  abbrev pub equated : List Bool
+  equated = map (λ s. slice_index_or all_at s false && IsEquated set.rules here s) (up_to many)
+
+  abbrev IsPair : List Bool → ℕ → ℕ → Bool
+  IsPair at b a = slice_index_or at a false && slice_index_or at b false && not (slice_index_or classes_at a a == slice_index_or classes_at b b)
+
+  entry : (s : ℕ) → s < many → slice_index_or equated s false ≡ (slice_index_or all_at s false && IsEquated set.rules here s)
+  entry s l = table_entry (λ s. slice_index_or all_at s false && IsEquated set.rules here s) many s false l
+
+  abbrev Apart : ℕ → ℕ → Bool
+  Apart a b = not (slice_index_or classes_at a a == slice_index_or classes_at b b)
+
+  open_still : (a b : ℕ) → a < b → b < many → IsPair equated b a ≡ true → IsPair all_at b a ≡ true
+  open_still a b k l h =
+      let one = and_parts (slice_index_or equated a false && slice_index_or equated b false) (Apart a b) h in
+      let two = and_parts (slice_index_or equated a false) (slice_index_or equated b false) one.0 in
+      let x = and_parts (slice_index_or all_at a false) (IsEquated set.rules here a) (sym (entry a (omega (arith, k, l))) ∙ two.0) in
+      let y = and_parts (slice_index_or all_at b false) (IsEquated set.rules here b) (sym (entry b l) ∙ two.1) in
+      and_from (slice_index_or all_at a false && slice_index_or all_at b false) (Apart a b) (and_from (slice_index_or all_at a false) (slice_index_or all_at b false) x.0 y.0) one.1
+
+  equated_too : (a b : ℕ) → a < b → b < many → IsEquated set.rules here a ≡ true → IsEquated set.rules here b ≡ true → IsPair all_at b a ≡ true → IsPair equated b a ≡ true
+  equated_too a b k l x y h =
+      let one = and_parts (slice_index_or all_at a false && slice_index_or all_at b false) (Apart a b) h in
+      let two = and_parts (slice_index_or all_at a false) (slice_index_or all_at b false) one.0 in
+      and_from (slice_index_or equated a false && slice_index_or equated b false) (Apart a b)
+      (and_from (slice_index_or equated a false) (slice_index_or equated b false)
+      (entry a (omega (arith, k, l)) ∙ and_from (slice_index_or all_at a false) (IsEquated set.rules here a) two.0 x)
+      (entry b l ∙ and_from (slice_index_or all_at b false) (IsEquated set.rules here b) two.1 y)) one.1
+
+  pair_still : (b : ℕ) (t : Test) → b < many → Contains (pairs_at equated classes_at b) t → Contains (pairs_at all_at classes_at b) t
+  pair_still b t l c =
+      let m = from_map (λ a. Equal a b) (filter (IsPair equated b) (up_to b)) t c in
+      let f = from_filter (IsPair equated b) (up_to b) m.0 m.1 in
+      subst (Contains (pairs_at all_at classes_at b)) m.2
+      (in_map (λ a. Equal a b) (filter (IsPair all_at b) (up_to b)) m.0 (in_filter (IsPair all_at b) (up_to b) m.0 f.0 (open_still m.0 b (from_up_to b m.0 f.0) l f.1)))
+
+  pair_or_none : (b : ℕ) (t : Test) → b < many → Contains (pairs_at all_at classes_at b) t → Contains (pairs_at equated classes_at b) t ⊎ (cover set.rules here (test_view t) ≡ [])
+  pair_or_none b t l c =
+      let m = from_map (λ a. Equal a b) (filter (IsPair all_at b) (up_to b)) t c in
+      let f = from_filter (IsPair all_at b) (up_to b) m.0 m.1 in
+      elim (cases_Bool (IsEquated set.rules here m.0)) [
+        | inl x ↦
+            elim (cases_Bool (IsEquated set.rules here b)) [
+              | inl y ↦
+                  inl (subst (Contains (pairs_at equated classes_at b)) m.2
+                  (in_map (λ a. Equal a b) (filter (IsPair equated b) (up_to b)) m.0 (in_filter (IsPair equated b) (up_to b) m.0 f.0 (equated_too m.0 b (from_up_to b m.0 f.0) l x y f.1))))
+              | inr g ↦ inr (subst (λ u. cover set.rules here (test_view u) ≡ []) m.2 (other_apart set.rules here m.0 b g))
+            ]
+        | inr g ↦ inr (subst (λ u. cover set.rules here (test_view u) ≡ []) m.2 (first_apart set.rules here m.0 b g))
+      ]
+
+  -- matches, these pairs, and loops
+  abbrev Listed : List ℕ → List Bool → List Test
+  Listed free at = (map Match free ++ flat_map (pairs_at at classes_at) (up_to many)) ++ map Loop free
+
+  listed_still : (free : List ℕ) (t : Test) → Contains (Listed free equated) t → Contains (Listed free all_at) t
+  listed_still free t c =
+      elim (Contains-append_cases (map Match free ++ flat_map (pairs_at equated classes_at) (up_to many)) (map Loop free) t c) [
+        | inl d ↦
+            Contains-append_left (map Match free ++ flat_map (pairs_at all_at classes_at) (up_to many)) (map Loop free) t
+            (elim (Contains-append_cases (map Match free) (flat_map (pairs_at equated classes_at) (up_to many)) t d) [
+              | inl e ↦ Contains-append_left (map Match free) (flat_map (pairs_at all_at classes_at) (up_to many)) t e
+              | inr e ↦
+                  let q = from_flat_map (pairs_at equated classes_at) (up_to many) t e in
+                  Contains-append_right (map Match free) (flat_map (pairs_at all_at classes_at) (up_to many)) t
+                  (in_flat_map (pairs_at all_at classes_at) (up_to many) q.0 t q.1 (pair_still q.0 t (from_up_to many q.0 q.1) q.2))
+            ])
+        | inr d ↦ Contains-append_right (map Match free ++ flat_map (pairs_at all_at classes_at) (up_to many)) (map Loop free) t d
+      ]
+
+  listed_or_none : (free : List ℕ) (t : Test) → Contains (Listed free all_at) t → Contains (Listed free equated) t ⊎ (cover set.rules here (test_view t) ≡ [])
+  listed_or_none free t c =
+      elim (Contains-append_cases (map Match free ++ flat_map (pairs_at all_at classes_at) (up_to many)) (map Loop free) t c) [
+        | inl d ↦
+            elim (Contains-append_cases (map Match free) (flat_map (pairs_at all_at classes_at) (up_to many)) t d) [
+              | inl e ↦
+                  inl (Contains-append_left (map Match free ++ flat_map (pairs_at equated classes_at) (up_to many)) (map Loop free) t
+                  (Contains-append_left (map Match free) (flat_map (pairs_at equated classes_at) (up_to many)) t e))
+              | inr e ↦
+                  let q = from_flat_map (pairs_at all_at classes_at) (up_to many) t e in
+                  elim (pair_or_none q.0 t (from_up_to many q.0 q.1) q.2) [
+                    | inl p ↦
+                        inl (Contains-append_left (map Match free ++ flat_map (pairs_at equated classes_at) (up_to many)) (map Loop free) t
+                        (Contains-append_right (map Match free) (flat_map (pairs_at equated classes_at) (up_to many)) t
+                        (in_flat_map (pairs_at equated classes_at) (up_to many) q.0 t q.1 p)))
+                    | inr n ↦ inr n
+                  ]
+            ]
+        | inr d ↦ inl (Contains-append_right (map Match free ++ flat_map (pairs_at equated classes_at) (up_to many)) (map Loop free) t d)
+      ]
+
+  pub are_useful : (free sources : List ℕ) → sources ≡ Tests.sources_around ar → free ≡ filter (λ s. slice_index_or all_at s false && not (is_in s sources)) (up_to many)
+      → AreUseful set ar here (Listed free equated)
+  are_useful free sources e g =
+      let all = tests_are set ar free (up_to many) sources (flat_map (pairs_at all_at classes_at) (up_to many)) e refl g refl in
+      record {
+        open_here = λ t c. listed_open set ar (test_view t) (subst (λ l. Contains l (test_view t)) all (in_map test_view (Listed free all_at) t (listed_still free t c)));
+        others = λ u o.
+            let r = from_map test_view (Listed free all_at) u (subst (λ l. Contains l u) (sym all) (open_listed set ar u o)) in
+            elim (listed_or_none free r.0 r.1) [
+              | inl c ↦ inl (r.0, c, r.2)
+              | inr n ↦ inr (subst (λ v. cover set.rules here v ≡ []) r.2 n)
+            ];
+      }
+
+-- 6. the test that is made
 pub own_length : (xs : List ℕ) (n : ℕ) → xs ≡ up_to n → xs ≡ up_to (length xs)
 own_length xs n e = e ∙ ap up_to (sym (ap length e ∙ length_up_to n))
 
@@ -195,29 +360,56 @@ nothing_of : (xs : List ℕ) → length xs ≡ 0 → xs ≡ []
 nothing_of [] e = refl
 nothing_of (x ∷ xs) e = absurd (omega arith)
 
-module _ (set : SiteSet) (ar : Around) (here : List ℕ) (tests : List Test) (all : test_views tests ≡ open_tests set ar) where
+module _ (set : SiteSet) (ar : Around) (here : List ℕ) (tests : List Test) (useful : AreUseful set ar here tests) where
   abbrev rank : Tests.Test → Tests.Score
   rank u = score set ar here u
 
-  greatest_open : (t : Test) → IsGreatestOf set ar here tests (Some t) → IsGreatest set ar here (test_view t)
-  greatest_open t g = record {
-    open_here = listed_open set ar (test_view t) (subst (λ l. Contains l (test_view t)) all (in_map test_view tests t g.0));
-    greatest = λ u o. let r = from_map test_view tests u (subst (λ l. Contains l u) (sym all) (open_listed set ar u o)) in subst (λ v. is_greater (rank v) (rank (test_view t)) ≡ false) r.2 (g.1 r.0 r.1);
+  -- a test that is not greater covers no more
+  counts_less : (t u : Tests.Test) → is_greater (rank u) (rank t) ≡ false → length (cover set.rules here u) ≤ length (cover set.rules here t)
+  counts_less t u f =
+      elim (cases_Bool (nat_lt (rank t).count (rank u).count)) [
+        | inl y ↦ absurd (false≢true (sym f ∙ or_left (nat_lt (rank t).count (rank u).count) _ y))
+        | inr n ↦ let k = ltb-false (rank t).count (rank u).count n in let a = count_is set ar here u in let b = count_is set ar here t in omega (arith, k, a, b)
+      ]
+
+  -- a test that covers a rule is greater than one that covers none
+  not_greater : (t u : Tests.Test) → 0 < length (cover set.rules here t) → cover set.rules here u ≡ [] → is_greater (rank u) (rank t) ≡ false
+  not_greater t u l n =
+      let z : length (cover set.rules here u) ≡ 0 = ap length n in
+      let a = count_is set ar here u in
+      let b = count_is set ar here t in
+      elim (cases_Bool (is_greater (rank u) (rank t))) [
+        | inl y ↦
+            elim (cases_Bool (is_greater (rank t) (rank u))) [
+              | inl x ↦ absurd (false≢true (sym (scores_are_ordered_lem.itself (rank u)) ∙ scores_are_ordered_lem.chain (rank u) (rank t) (rank u) y x))
+              | inr x ↦ let m = counts_less u t x in absurd (omega (arith, m, z, l))
+            ]
+        | inr f ↦ f
+      ]
+
+  greatest_open : (t : Test) → 0 < length (cover set.rules here (test_view t)) → IsGreatestOf set ar here tests (Some t) → IsGreatest set ar here (test_view t)
+  greatest_open t l g = record {
+    open_here = useful.open_here t g.0;
+    greatest = λ u o. elim (useful.others u o) [
+      | inl r ↦ subst (λ v. is_greater (rank v) (rank (test_view t)) ≡ false) r.2 (g.1 r.0 r.1)
+      | inr n ↦ not_greater (test_view t) u l n
+    ];
   }
 
   pub chosen_one : (t : Test) (count : ℕ) → IsGreatestOf set ar here tests (Some t) → count ≡ length (cover set.rules here (test_view t)) → 0 < count → IsChosen set ar here (Some (test_view t))
-  chosen_one t count g e l = (greatest_open t g, λ n. let z : length (cover set.rules here (test_view t)) ≡ 0 = ap length n in omega (arith, e, l, z))
+  chosen_one t count g e l = (greatest_open t (omega (arith, e, l)) g, λ n. let z : length (cover set.rules here (test_view t)) ≡ 0 = ap length n in omega (arith, e, l, z))
 
   pub chosen_none : IsGreatestOf set ar here tests None → IsChosen set ar here None
-  chosen_none e u o = absurd (let r = from_map test_view tests u (subst (λ l. Contains l u) (sym all) (open_listed set ar u o)) in nothing_in r.0 (subst (λ l. Contains l r.0) e r.1))
+  chosen_none e u o = elim (useful.others u o) [
+    | inl r ↦ absurd (nothing_in r.0 (subst (λ l. Contains l r.0) e r.1))
+    | inr n ↦ n
+  ]
 
   pub chosen_low : (t : Test) (count : ℕ) → IsGreatestOf set ar here tests (Some t) → count ≡ length (cover set.rules here (test_view t)) → count ≤ 0 → IsChosen set ar here None
-  chosen_low t count g e l u o =
-      elim (cases_Bool (nat_lt (rank (test_view t)).count (rank u).count)) [
-        | inl y ↦ absurd (false≢true (sym ((greatest_open t g).greatest u o) ∙ or_left (nat_lt (rank (test_view t)).count (rank u).count) _ y))
-        | inr f ↦
-            let k = ltb-false (rank (test_view t)).count (rank u).count f in
-            let a = count_is set ar here u in
-            let b = count_is set ar here (test_view t) in
-            nothing_of (cover set.rules here u) (omega (arith, k, a, b, e, l))
-      ]
+  chosen_low t count g e l u o = elim (useful.others u o) [
+    | inl r ↦
+        let f = subst (λ v. is_greater (rank v) (rank (test_view t)) ≡ false) r.2 (g.1 r.0 r.1) in
+        let k = counts_less (test_view t) u f in
+        nothing_of (cover set.rules here u) (omega (arith, k, e, l))
+    | inr n ↦ n
+  ]

@@ -1,5 +1,5 @@
 -- Tests and scores, sites by their numbers.
-use Rattle.std.specs.Prelude.{◌≡◌, ◌≢◌, ℕ, Bool, false, not, ◌&&◌, ◌==◌, List, [], map, Option, Some, None, Contains, slice_index_or, if◌then◌else◌}
+use Rattle.std.specs.Prelude.{◌≡◌, ◌≢◌, ◌⊎◌, ℕ, Bool, false, not, ◌&&◌, ◌==◌, List, [], map, Option, Some, None, Contains, slice_index_or, if◌then◌else◌}
 use Rattle.std.specs.List.{filter}
 use Rattle.isle_model.specs.sites.Sites.{SiteSet}
 use Rattle.isle_model.specs.trees.Places.{Around}
@@ -41,3 +41,8 @@ greater_test set ar here (Some best) test = if is_greater (score set ar here (te
 abbrev pub IsGreatestOf : SiteSet → Around → List ℕ → List Test → Option Test → Type 0
 IsGreatestOf set ar here tests None = tests ≡ []
 IsGreatestOf set ar here tests (Some t) = Contains tests t × ((u : Test) → Contains tests u → is_greater (score set ar here (test_view u)) (score set ar here (test_view t)) ≡ false)
+
+-- tests of a place that are open, where each other open test covers no rule
+pub record AreUseful (set : SiteSet) (ar : Around) (here : List ℕ) (tests : List Test) : Type 0 where
+  pub open_here : (t : Test) → Contains tests t → IsOpen set ar (test_view t)
+  pub others : (u : Tests.Test) → IsOpen set ar u → ((t : Test) × Contains tests t × (test_view t ≡ u)) ⊎ (cover set.rules here u ≡ [])

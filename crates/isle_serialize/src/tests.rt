@@ -1,14 +1,14 @@
 //! What can be tested at a place of a tree, and which test is the greatest.
 
 ghost use Rattle.std.specs.Prelude.{◌≡◌, ◌<◌, ◌≤◌, ◌&&◌, ◌||◌, ◌==◌, not, false, ℕ, Some, option_map, Contains, IfOk, length, map, slice_get, slice_index_or};
-ghost use Rattle.std.specs.List.{list_all, filter, flat_map};
+ghost use Rattle.std.specs.List.{list_all, list_any, filter, flat_map};
 ghost use Rattle.isle_model.specs.sites.Sites.{sources_at};
 ghost use Rattle.isle_model.specs.trees.Places.{is_in, joins_in};
 ghost use Rattle.isle_model.specs.trees.Tests as Tests;
 ghost use Rattle.isle_sets.specs.SiteViews.{set_rule_view, set_view};
 ghost use Rattle.isle_serialize.specs.AroundViews.{around_view, ArePairsWithin};
 ghost use Rattle.isle_serialize.specs.declared.tests.Test.TheVariants as Test;
-ghost use Rattle.isle_serialize.specs.TestViews.{test_view, test_views, score_view, pairs_at, greater_test, IsGreatestOf, IsChosen};
+ghost use Rattle.isle_serialize.specs.TestViews.{test_view, score_view, pairs_at, greater_test, IsGreatestOf, IsChosen, AreUseful};
 
 use crate::around::{
     Around, all_sites, available_sites, class_of, is_among, is_marked, joined_sites,
@@ -282,19 +282,49 @@ fn equalities_of(
         .collect(alloc)
 }
 
-/// All tests that are open at a place, pairs that no rule joins included.
-pub fn open_tests(alloc: Global, set: &RuleSet, around: &Around) -> Result<Vec<Test>, AllocError>
+// Whether a rule of a place demands that a site is equal to another one.
+fn is_equated_here(set: &RuleSet, here: &[usize], site: BindingId) -> bool
+    ensures { result ≡ list_any (Tests.needs_at (set_view set.now).rules (Tests.equal_test site site)) here.now }
+{
+    let test = Test::Equal { a: site, b: site };
+    here.iter().any(|number| needs_at(set, &test, *number))
+}
+
+// Which sites are available and stand in an equality of some rule of a place: all other pairs cover no rule.
+fn equated_sites(
+    alloc: Global,
+    set: &RuleSet,
+    here: &[usize],
+    available: &[bool],
+    sites: &[BindingId],
+) -> Result<Vec<bool>, AllocError>
+    ensures { IfOk result (λ v. v.items ≡ map (λ s. slice_index_or available.now s false && list_any (Tests.needs_at (set_view set.now).rules (Tests.equal_test s s)) here.now) sites.now) }
+{
+    sites
+        .iter()
+        .map(|site| is_marked(*site, available) && is_equated_here(set, here, *site))
+        .collect(alloc)
+}
+
+/// Tests that are open at a place: all but pairs that cover no rule, since no rule of the place joins their sites.
+pub fn useful_tests(
+    alloc: Global,
+    set: &RuleSet,
+    around: &Around,
+    here: &[usize],
+) -> Result<Vec<Test>, AllocError>
     requires few { length (set_view set.now).sites ≤ 65536 }
     requires sources { (s a : ℕ) → Contains (sources_at (set_view set.now).sites s) a → a < s }
     requires pairs { ArePairsWithin (length (set_view set.now).sites) around.now.joined.items }
-    ensures { IfOk result (λ v. test_views v.items ≡ Tests.open_tests (set_view set.now) (around_view around.now)) }
+    ensures { IfOk result (λ v. AreUseful (set_view set.now) (around_view around.now) here.now v.items) }
 {
     let sites = all_sites(alloc, set)?;
     let available = available_sites(alloc, set, around)?;
     let names = joined_sites(alloc, set, around)?;
     let free = open_sites(alloc, around, &available, &sites)?;
+    let equated = equated_sites(alloc, set, here, &available, &sites)?;
     let mut tests = matches_of(alloc, &free)?;
-    let mut equalities = all_equalities(alloc, &available, &names, &sites)?;
+    let mut equalities = all_equalities(alloc, &equated, &names, &sites)?;
     let mut loops = loops_of(alloc, &free)?;
     tests.append(&mut equalities)?;
     tests.append(&mut loops)?;
@@ -367,7 +397,7 @@ pub fn chosen_test(
     requires pairs { ArePairsWithin (length (set_view set.now).sites) around.now.joined.items }
     ensures { IfOk result (λ o. IsChosen (set_view set.now) (around_view around.now) here.now (option_map test_view o)) }
 {
-    let tests = open_tests(alloc, set, around)?;
+    let tests = useful_tests(alloc, set, around, here)?;
     match greatest_of(set, around, here, &tests) {
         Some(test) => {
             if cover_count(set, here, &test) > 0 {
