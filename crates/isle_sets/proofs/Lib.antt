@@ -1,4 +1,5 @@
 pub mod Ascending
+pub mod AskedClasses
 pub mod Rests
 pub mod ClassTests
 pub mod ClosingNumbers

@@ -4,3 +4,4 @@ pub mod Overlaps
 pub mod SiteTables
 pub mod DemandsHeld
 pub mod Closings
+pub mod Verdicts

@@ -1,0 +1,121 @@
+//! Whether any value can meet what a rule demands: the classes of sites that must be equal, with the fields of equal
+//! sites that are of one variant or struct, and what is asked of them.
+ghost use Rattle.std.specs.Prelude.{◌≡◌, ℕ, None, Some, IfOk, if◌then◌else◌, option_map};
+ghost use Rattle.std.specs.BTreeMap.{get};
+ghost use Rattle.std.specs.Ordering.{nat_cmp};
+ghost use Rattle.isle_model.specs.sites.Demands.{constraint_eq};
+ghost use Rattle.isle_sets.specs.SiteViews.{constraint_view, constraint_views};
+ghost use Rattle.isle_sets.specs.Verdicts.{asked_in, asked_view, class_head, conflict_asked, conflict_in, report_views, with_asked};
+
+use crate::overlaps::is_same_constraint;
+use crate::trie_again::{BindingId, Constraint};
+use isle_disjointsets::disjointsets::DisjointSets;
+use std::alloc::{AllocError, Global};
+use std::collections::BTreeMap;
+
+/// Why no value can meet what a rule demands.
+#[derive(Clone, Copy, Debug, PartialEq, Eq)]
+pub enum Unreachable {
+    /// Sites that must be equal are asked to meet two constraints.
+    Conflict {
+        /// That of the least site.
+        first: Constraint,
+        /// That of the least site that has another one.
+        second: Constraint,
+    },
+    /// A value would have to equal a part of itself.
+    Cycle,
+}
+
+// The site by which the class of a site goes: the site itself where it must equal no other.
+fn class_of(classes: &DisjointSets<BindingId>, site: BindingId) -> BindingId
+    ensures { result ≡ class_head classes.now site }
+{
+    match classes.find(site) {
+        Some(head) => head,
+        None => site,
+    }
+}
+
+// What is asked of a class: the first thing, and the first other one.
+type Asked = (Constraint, Option<Constraint>);
+
+// A constraint, where it is another one than the first.
+fn other_than(first: Constraint, constraint: Constraint) -> Option<Constraint>
+    ensures { option_map constraint_view result ≡ (if constraint_eq (constraint_view first) (constraint_view constraint) then None else Some (constraint_view constraint)) }
+{
+    if is_same_constraint(&first, &constraint) {
+        None
+    } else {
+        Some(constraint)
+    }
+}
+
+// The first other thing that a class is asked, with one thing more.
+fn with_other(
+    first: Constraint,
+    other: Option<Constraint>,
+    constraint: Constraint,
+) -> Option<Constraint>
+    ensures { option_map constraint_view result ≡ (with_asked (Some (constraint_view first, option_map constraint_view other)) (constraint_view constraint)).1 }
+{
+    match other {
+        Some(second) => Some(second),
+        None => other_than(first, constraint),
+    }
+}
+
+// What is asked of a class, with one thing more.
+fn with_asked(before: Option<Asked>, constraint: Constraint) -> Asked
+    ensures { asked_view result ≡ with_asked (option_map asked_view before) (constraint_view constraint) }
+{
+    match before {
+        None => (constraint, None),
+        Some(asked) => (asked.0, with_other(asked.0, asked.1, constraint)),
+    }
+}
+
+// What is asked of each class of sites, by the site that it goes by.
+fn asked_by_class(
+    alloc: Global,
+    classes: &DisjointSets<BindingId>,
+    constraints: &[(BindingId, Constraint)],
+) -> Result<BTreeMap<BindingId, Asked>, AllocError>
+    ensures { IfOk result (λ m. (k : ℕ) → option_map asked_view (get nat_cmp m k)
+        ≡ asked_in (class_head classes.now) k (constraint_views constraints.now)) }
+{
+    let mut by_class = BTreeMap::new(alloc);
+    for (site, constraint) in constraints {
+        let class = class_of(classes, *site);
+        let asked = with_asked(by_class.get(&class).copied(), *constraint);
+        by_class.insert(class, asked)?;
+    }
+    Ok(by_class)
+}
+
+// The conflict of a class, where it is asked two things.
+fn conflict_of(asked: Option<Asked>) -> Option<Unreachable>
+    ensures { report_views result ≡ conflict_asked (option_map asked_view asked) }
+{
+    let (first, other) = asked?;
+    let second = other?;
+    Some(Unreachable::Conflict { first, second })
+}
+
+// The conflict of the least site whose class is asked another thing too.
+fn find_conflict(
+    alloc: Global,
+    classes: &DisjointSets<BindingId>,
+    constraints: &[(BindingId, Constraint)],
+) -> Result<Option<Unreachable>, AllocError>
+    ensures { IfOk result (λ o. report_views o ≡ conflict_in (class_head classes.now) (constraint_views constraints.now) (constraint_views constraints.now)) }
+{
+    let by_class = asked_by_class(alloc, classes, constraints)?;
+    for (site, _) in constraints {
+        let asked = by_class.get(&class_of(classes, *site)).copied();
+        if let Some(conflict) = conflict_of(asked) {
+            return Ok(Some(conflict));
+        }
+    }
+    Ok(None)
+}
