@@ -5,3 +5,4 @@ pub mod SiteTables
 pub mod DemandsHeld
 pub mod Closings
 pub mod Verdicts
+pub mod FieldParts
