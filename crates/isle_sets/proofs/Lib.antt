@@ -1,11 +1,15 @@
 pub mod Ascending
+pub mod AskedClasses
 pub mod Rests
+pub mod ClassHeads
 pub mod ClassTests
 pub mod ClosingNumbers
 pub mod ClosingSteps
 pub mod ClosingTaken
 pub mod DueKept
 pub mod Equated
+pub mod FirstConflicts
+pub mod FieldJoins
 pub mod FieldSites
 pub mod FoundSites
 pub mod FullTables

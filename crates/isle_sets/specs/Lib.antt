@@ -4,3 +4,5 @@ pub mod Overlaps
 pub mod SiteTables
 pub mod DemandsHeld
 pub mod Closings
+pub mod Verdicts
+pub mod FieldParts

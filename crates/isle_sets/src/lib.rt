@@ -11,3 +11,4 @@ mod rule_sets;
 pub mod rules;
 pub mod site_table;
 pub mod trie_again;
+mod verdict;

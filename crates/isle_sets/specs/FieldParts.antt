@@ -1,0 +1,68 @@
+-- Fields of sites that must be equal, over the numbers of sites.
+use Rattle.std.specs.Prelude.{◌≡◌, ◌≢◌, ℕ, ◌<◌, List, Option, Some, None, Contains, length}
+use Rattle.std.specs.HashMap.{HashMap, get}
+use Rattle.isle_model.specs.sites.Sites.{Site, SiteTerm, variant_field, struct_field, unfold_site}
+use Rattle.isle_model.specs.sites.Demands.{Demands}
+use Rattle.isle_types.specs.declared.ids.VariantId.{VariantId}
+use Rattle.isle_sets.specs.Verdicts.{GivesField, class_head}
+use Rattle.isle_sets.specs.contracts.trie_again.BindingPartialEq.TheImpl.{ghosts}
+use Rattle.isle_sets.specs.declared.trie_again.Binding.{Binding}
+use Rattle.isle_sets.specs.declared.trie_again.Binding.TheVariants as B
+use Rattle.isle_sets.specs.declared.verdict.Part.{Part}
+
+-- the field of a site, of a variant or of a struct, at a place
+abbrev pub field_binding : Option VariantId → ℕ → ℕ → Binding
+field_binding (Some variant) s place = B.MatchVariant s variant place
+field_binding None s place = B.ExtractStruct s place
+
+-- what a part is, as the field of the site by which its source's class goes
+abbrev pub part_of_head : List (List ℕ) → Part → Binding
+part_of_head ks p = field_binding p.variant (class_head ks p.source) p.place
+
+-- sites of one class have one name
+abbrev pub HaveOneName : {X : Type 0} → List (List ℕ) → (ℕ → X) → Type 0
+HaveOneName ks name = (a b : ℕ) → class_head ks a ≡ class_head ks b → name a ≡ name b
+
+-- parts of one form, at one place, of sites of one name have one name
+abbrev pub AreCongruent : {X : Type 0} → List Part → (ℕ → X) → Type 0
+AreCongruent parts name =
+    (p q : Part) → Contains parts p → Contains parts q → p.variant ≡ q.variant → p.place ≡ q.place → name p.source ≡ name q.source → name p.field ≡ name q.field
+
+-- two parts that were in two classes are in one
+pub record JoinsMore (parts : List Part) (before after : List (List ℕ)) : Type 0 where
+  pub first : Part
+  pub second : Part
+  pub first_there : Contains parts first
+  pub second_there : Contains parts second
+  pub apart : class_head before first.field ≢ class_head before second.field
+  pub joined : class_head after first.field ≡ class_head after second.field
+
+-- a part's first one stands for it: it is in one class with it
+pub record StandsFirst {S : Type 0} (ks : List (List ℕ)) (firsts : HashMap Binding ℕ S) (p : Part) : Type 0 where
+  pub first : ℕ
+  pub found : get ghosts.eq firsts (part_of_head ks p) ≡ Some first
+  pub same : class_head ks first ≡ class_head ks p.field
+
+-- a part joins the first one that was met, which was in another class
+pub record JoinsFirst {S : Type 0} (before after : List (List ℕ)) (firsts : HashMap Binding ℕ S) (p : Part) : Type 0 where
+  pub first : ℕ
+  pub found : get ghosts.eq firsts (part_of_head before p) ≡ Some first
+  pub apart : class_head before first ≢ class_head before p.field
+  pub joined : class_head after first ≡ class_head after p.field
+
+-- the field of what a site stands for, of a variant or of a struct, at a place
+abbrev pub field_of : Option VariantId → SiteTerm → ℕ → SiteTerm
+field_of (Some variant) s place = variant_field s variant.0 place
+field_of None s place = struct_field s place
+
+-- a part is a field that the demands ask for
+pub record IsPartOfSite (sites : List Site) (d : Demands) (p : Part) : Type 0 where
+  pub source : p.source < length sites
+  pub field : p.field < length sites
+  pub is : unfold_site sites p.field ≡ field_of p.variant (unfold_site sites p.source) p.place
+  pub given : GivesField d (unfold_site sites p.source) (unfold_site sites p.field)
+
+-- parts are all fields that the demands ask for
+pub record ArePartsOf (sites : List Site) (d : Demands) (parts : List Part) : Type 0 where
+  pub each : (p : Part) → Contains parts p → IsPartOfSite sites d p
+  pub all : (s x : SiteTerm) → GivesField d s x → (p : Part) × Contains parts p × (unfold_site sites p.source ≡ s) × (unfold_site sites p.field ≡ x)
