@@ -1,0 +1,6 @@
+-- Building rule by rule.
+pub mod Answered
+pub mod Limits
+pub mod Ordered
+pub mod RulesPassed
+pub mod SetsSoFar
