@@ -1,18 +1,20 @@
 -- Building rule by rule: where the sets of a program's terms and the reports stand after some of its rules, what one more
 -- rule has to show, and what there is at the end.
-use Rattle.std.specs.Prelude.{◌≡◌, ◌≢◌, ◌↔◌, ◌⊎◌, ℕ, ◌<◌, ◌≤◌, Bool, true, false, List, [], ◌∷◌, ◌++◌, length, map, take, Option, Some, None, is_some, All, Contains}
+use Rattle.std.specs.Prelude.{◌≡◌, ◌≢◌, ◌↔◌, ◌⊎◌, ℕ, ◌<◌, ◌≤◌, Bool, true, false, List, [], ◌∷◌, ◌++◌, length, map, take, Option, Some, None, is_some, All, Contains, IsTrue, ◌&&◌}
 use Rattle.std.specs.Bool.{◌==◌}
-use Rattle.std.specs.List.{filter, list_any}
+use Rattle.std.specs.List.{filter, flat_map, list_any}
 use Rattle.isle_model.specs.lists.Syntax.{Definition}
 use Rattle.isle_model.specs.lists.Elaborated.{TypedRules}
+use Rattle.isle_model.specs.lists.Names.{IsDistinct}
 use Rattle.isle_model.specs.rules.Typed.{TypedRule}
 use Rattle.isle_model.specs.rules.Program.{Program, rules_of, terms_with_rules}
-use Rattle.isle_model.specs.sites.Sites.{Site, SetRule, SiteSet, SiteTerm, sources_at, unfold_site}
-use Rattle.isle_model.specs.sites.Demands.{Demands, demands_of, with_sites}
-use Rattle.isle_model.specs.sites.Closure.{Closed, before_closing, closed, closing, in_order, is_unreachable, most_closing_steps, reported}
+use Rattle.isle_model.specs.sites.Sites.{Constraint, Site, SetRule, SiteSet, SiteTerm, sources_at, unfold_site}
+use Rattle.isle_model.specs.sites.Demands.{Demands, demands_of, has_site, with_sites}
+use Rattle.isle_model.specs.sites.Closure.{Closed, before_closing, closed, closing, constraint_of, in_order, is_unreachable, most_closing_steps, reported}
 use Rattle.isle_model.specs.sites.Limits.{RuleLimit, sites_limit, first_limit, limits_of_shape, most_sites, sites_after_rule, sites_after_rules, sites_reached, sites_wanted}
 use Rattle.isle_model.specs.sites.Overlap.{RuleReport, limit_passed, not_reached, built_from, built_rule, build_reports, build_reports_after, build_reports_of}
 use Rattle.isle_model.specs.sites.RuleSets.{AreRulesOfSet, AsksFor, Equates, IsBuilt, IsRuleOf, StandFor}
+use Rattle.isle_model.specs.trees.Places.{constraint_at, joins_in}
 use Rattle.isle_model.specs.claims.Environments.{TypesRead, IsElaborated, program_of}
 use Rattle.isle_model.specs.claims.Layers.{BuildAnswers}
 
@@ -140,3 +142,26 @@ MembersAreMade k = (class : List SiteTerm) (u : SiteTerm) → Contains k.classes
 abbrev pub OrderAsksTheSame : Type 0
 OrderAsksTheSame =
     (sites : List Site) (k : Closed) (classes : List (List ℕ)) → MembersAreMade k → Equates sites k classes → Equates sites (in_order k) classes
+
+-- constraints and classes over numbers are listed as those of demands that are being closed, through what the numbers stand
+-- for: the sites are the made ones; each has its constraint, and is listed once; two sites stand in one class exactly where
+-- theirs do, and each in one alone
+pub record AreListedAs (sites : List Site) (k : Closed) (constraints : List (ℕ × Constraint)) (classes : List (List ℕ)) : Type 0 where
+  pub stand : StandFor sites k.made
+  pub asked : (s : ℕ) → s < length sites → constraint_at constraints s ≡ constraint_of k.constraints (unfold_site sites s)
+  pub asked_within : All (λ c. c.0 < length sites) constraints
+  pub asked_once : IsDistinct (map (λ c. c.0) constraints)
+  pub asked_made : (u : SiteTerm) (c : Constraint) → Contains k.constraints (u, c) → Contains k.made u
+  pub joined : (a b : ℕ) → a < length sites → b < length sites
+      → joins_in classes a b ≡ list_any (λ c. has_site c (unfold_site sites a) && has_site c (unfold_site sites b)) k.classes
+  pub joined_within : (a b : ℕ) → IsTrue (joins_in classes a b) → (a < length sites) × (b < length sites)
+  pub joined_made : MembersAreMade k
+  pub joined_once : IsDistinct (flat_map (λ c. c) classes)
+  pub many : All (λ c. 2 ≤ length c) classes
+
+-- so what is listed at the end of the closing is what closed demands ask of a rule
+abbrev pub ListedDemandsStand : Type 0
+ListedDemandsStand =
+    (sites : List Site) (before : List SiteTerm) (d : Demands) (constraints : List (ℕ × Constraint)) (classes : List (List ℕ))
+    → AreListedAs sites (closing most_closing_steps (before_closing before d)) constraints classes
+    → AsksFor sites (closed before d) constraints × Equates sites (closed before d) classes
