@@ -5,3 +5,4 @@ pub mod Listed
 pub mod Ordered
 pub mod RulesPassed
 pub mod SetsSoFar
+pub mod Walks

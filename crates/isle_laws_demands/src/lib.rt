@@ -7,7 +7,7 @@
 ghost use Rattle.isle_laws_demands.specs.ClosureLaws.{JoinedIsEquivalence, ClassesBoundJoined, VerdictIsExact, NamesAreExact, ClosingAddsNothing, ConstraintsAreKept, ClosingIsSound, OverlapIsSymmetric, OverlapIsExact, ClashIsExact, FirstLimitIsPassed, PassedLimitIsMet, ClosingIsWhole, ReportsAreExact, ShadowsAreExact, VisitsMakeEqualSites, PlainClosingEnds, ClosingEnds};
 ghost use Rattle.isle_laws_demands.specs.AcceptLaws.{ElaboratedRulesHaveTerms, RulesAreJudged, ListsAreAccepted, ListsAreNotAccepted};
 ghost use Rattle.isle_laws_demands.specs.ReportLaws.{CheckIsExact, OverlapsAreListedOnce, ListedRulesOverlap, MasksAreReportedOnce, ReportedMasksShadow};
-ghost use Rattle.isle_laws_demands.specs.RuleByRule.{BuildingEnds, BuildingGoesOn, BuildingStarts, BuiltSetsAreAnswered, FullSitesStay, LimitsAreMet, ListedDemandsStand, OrderAsksTheSame, SetsEndBuilt, SetsGoPastRules, SetsStartEmpty};
+ghost use Rattle.isle_laws_demands.specs.RuleByRule.{BuildingEnds, BuildingGoesOn, BuildingStarts, BuiltSetsAreAnswered, FullSitesStay, LimitsAreMet, ListedDemandsStand, OrderAsksTheSame, SetsEndBuilt, SetsGoPastRules, SetsStartEmpty, WalksEndAtLimits};
 ghost use Rattle.isle_laws_demands.specs.SetOverlapLaws.{SetRulesOverlapAsTheirDemands, OverlapOfSetRulesIsSymmetric, SetRulesConstrainAsTheirDemands};
 ghost use Rattle.isle_laws_demands.specs.SetReportLaws.{BuiltSetsAreChecked, BuiltSetsAreReported};
 ghost use Rattle.isle_laws_demands.specs.VisitLaws.{SitesStandOnce, FormedRulesDemandGates, ClosingKeepsGates, ElaboratedRulesDemandGates, BuiltRulesDemandGates, BuiltSetsAreWellBuilt, NoneAskedAndGoneOver, MultiCallsAreGoneOver, NoRuleAsksAndGoesOver, MultiTermsHaveOnePriority};
@@ -466,4 +466,10 @@ pub fn order_asks_the_same()
 /// What is listed over numbers at the end of the closing is what a rule's closed demands ask.
 pub fn listed_demands_stand()
     ensures { ListedDemandsStand }
+{}
+
+/// A visit ends before its rule's end exactly where a limit of the rule's shape is passed.
+#[tactic(auto, using(crate::proofs::building::Walks::walks_end_at_limits_lem))]
+pub fn walks_end_at_limits()
+    ensures { WalksEndAtLimits }
 {}
