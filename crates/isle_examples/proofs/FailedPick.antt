@@ -18,9 +18,10 @@ use Rattle.isle_model.specs.sites.Sites.{SiteTerm, SiteTerms, argument, argument
 use Rattle.isle_model.specs.trees.Collects.{IsPureAt, content_at}
 use Rattle.isle_model.specs.trees.Places.{Around, all_below, is_in, nothing_around, waits}
 use Rattle.isle_model.specs.trees.Run.{Env, World, as_value, bound_to, used}
-use Rattle.isle_model.specs.trees.SetRuns.{IsUnwrap}
+use Rattle.isle_model.specs.trees.SetRuns.{IsReachedUnder, IsUnwrap}
 use Rattle.isle_laws_demands.proofs.outcomes.Outcomes.{taken_under_picks_lem}
 use Rattle.isle_examples.proofs.ListStages.{accepted_both}
+use Rattle.isle_examples.proofs.LoopPlaces.{emitted_there, in_loop, loop_env, reached_in_loop}
 use Rattle.isle_examples.proofs.Served.{IsOwnNumber, numbers_apart, serves_from}
 use Rattle.isle_examples.proofs.SetStages.{built}
 use Rattle.isle_examples.specs.FailedPick.{FailedPickGives, FailedPickIsServed, FailedPickIsTaken, picked_rules, picked_set, unwraps_pick}
@@ -78,58 +79,19 @@ failed_pick_is_served = (
 )
 
 -- 2. it is taken inside of the loop over the answers
-abbrev in_loop : Around
-in_loop = record nothing_around { looped = 1 ∷ []; brought = 2 ∷ []; emitted = 2 ∷ (1 ∷ []) }
-
 abbrev the_answers : Content
 the_answers = many (all_of (pos 5 ∷ []))
-
-abbrev first_of_them : Env
-first_of_them = (2, one (v (pos 5))) ∷ ((1, the_answers) ∷ [])
 
 abbrev in_world : World
 in_world = returning_once picked_world
 
-abbrev emitted_there : ℕ → Type 0
-emitted_there s = IsTrue (is_in s in_loop.emitted)
-
-one_of_them : (s : ℕ) → emitted_there s → (2 ≡ s) ⊎ (1 ≡ s)
-one_of_them s h = split (2 == s) (1 == s) refl refl h
-  where
-    split : (a b : Bool) → (2 == s) ≡ a → (1 == s) ≡ b → (a || (b || false)) ≡ true → (2 ≡ s) ⊎ (1 ≡ s)
-    split true b e f t = inl (eqb-true 2 s e)
-    split false true e f t = inr (eqb-true 1 s f)
-    split false false e f t = absurd (false≢true t)
-
-abbrev UsedAsHeld : ℕ → Type 0
-UsedAsHeld s = IsTrue (is_some (content_at in_world picked_first s)) × (used in_world first_of_them s ≡ content_at in_world picked_first s)
-
-emitted_holds : (s : ℕ) → emitted_there s → UsedAsHeld s
-emitted_holds s h = elim (one_of_them s h) [ inl e ↦ subst UsedAsHeld e (refl, refl) | inr e ↦ subst UsedAsHeld e (refl, refl) ]
-
 below_call : All (IsPureAt picked_sites) (1 ∷ (0 ∷ []))
 below_call = All-cons (IsPureAt picked_sites) 1 (0 ∷ []) (extractor_site 0 0, refl, tt) (All-cons (IsPureAt picked_sites) 0 [] (argument_site 0, refl, tt) (All-nil (IsPureAt picked_sites)))
 
-abbrev MakesNoImpureCall : ℕ → Type 0
-MakesNoImpureCall s = All (IsPureAt picked_sites) (all_below picked_sites (s ∷ []))
-
-emitted_pure : (s : ℕ) → emitted_there s → MakesNoImpureCall s
-emitted_pure s h =
-    elim (one_of_them s h) [
-      | inl e ↦ subst MakesNoImpureCall e (All-cons (IsPureAt picked_sites) 2 (1 ∷ (0 ∷ [])) (iterator_site 1, refl, tt) below_call)
-      | inr e ↦ subst MakesNoImpureCall e below_call
-    ]
-
-abbrev BoundAsHeld : Content → ℕ → Type 0
-BoundAsHeld c s = emitted_there s × (content_at in_world picked_first s ≡ Some c)
-
-bound_holds : (s : ℕ) (c : Content) → bound_to first_of_them s ≡ Some c → BoundAsHeld c s
-bound_holds s c h = split (2 == s) (1 == s) refl refl h
-  where
-    split : (a b : Bool) → (2 == s) ≡ a → (1 == s) ≡ b → (if a then Some (one (v (pos 5))) else (if b then Some the_answers else None)) ≡ Some c → BoundAsHeld c s
-    split true b e f t = subst (BoundAsHeld c) (eqb-true 2 s e) (refl, t)
-    split false true e f t = subst (BoundAsHeld c) (eqb-true 1 s f) (refl, t)
-    split false false e f t = absurd (none-some c t)
+in_the_loop : IsReachedUnder in_world picked_first in_loop (loop_env the_answers (one (v (pos 5))))
+in_the_loop =
+    reached_in_loop in_world picked_first the_answers (one (v (pos 5))) (record { content = refl; as_used = refl; pure = below_call })
+    (record { content = refl; as_used = refl; pure = All-cons (IsPureAt picked_sites) 2 (1 ∷ (0 ∷ [])) (iterator_site 1, refl, tt) below_call })
 
 -- what the return uses: the loop's site, which is emitted, the unwrap of the call on it, and what never waits
 needed : (s : ℕ) → Contains (5 ∷ (4 ∷ (3 ∷ (2 ∷ (1 ∷ (0 ∷ [])))))) s → (waits (slice_get picked_sites s) ≡ false) ⊎ IsUnwrap (slice_get picked_sites s) ⊎ emitted_there s
@@ -149,8 +111,8 @@ failed_pick_is_taken = (
   refl,
   record {
     around = in_loop;
-    env = first_of_them;
-    reached = record { emitted = emitted_holds; pure = emitted_pure; bound = bound_holds };
+    env = loop_env the_answers (one (v (pos 5)));
+    reached = in_the_loop;
     gates = needed;
     demanded = λ s source e c d. absurd (false≢true (subst (λ o. IsTrue (gate_demanded unwraps_pick o)) e d));
     outcome = refl;

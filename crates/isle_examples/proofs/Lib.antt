@@ -46,3 +46,5 @@ pub mod ConstEqRespected
 pub mod FailedPick
 pub mod PickOrders
 pub mod Answered
+pub mod RulesPassed
+pub mod LoopPlaces

@@ -39,6 +39,7 @@ pub mod PickedNumber
 pub mod Prio
 pub mod Refused
 pub mod ReportedOnce
+pub mod RulesPassed
 pub mod Scopes
 pub mod SetForms
 pub mod Shadow

@@ -48,6 +48,7 @@ ghost use Rattle.isle_examples.specs.PickedNumber.{FivesAreNotMatched, PickedNum
 ghost use Rattle.isle_examples.specs.Prio.{prio_sample};
 ghost use Rattle.isle_examples.specs.Refused.{RefusedAreNotRead, SamplesAreRefused};
 ghost use Rattle.isle_examples.specs.ReportedOnce.{MultiGoesOverMultiCalls, OverlapIsListedOnce, ShadowIsReportedOnce};
+ghost use Rattle.isle_examples.specs.RulesPassed.{LeftOverGoesOn, ReportsAreNotDropped, WideRuleIsPassed};
 ghost use Rattle.isle_examples.specs.Scopes.{let_in_let_defs, let_in_let_rules, shadowing_defs, shadowing_rules};
 ghost use Rattle.isle_examples.specs.Shadow.{ShadowReported, ShadowsFound, shadow_defs, shadow_rules};
 ghost use Rattle.isle_examples.specs.Shared.{SharedDemands, SharedGives, SharedIsStuck, shared_sample};
@@ -841,4 +842,13 @@ pub fn pick_orders()
 pub fn building_answers()
     ensures extract { ExtractIsAnswered }
     ensures left_over { LeftOverIsAnswered }
+{}
+
+/// Building goes rule by rule: past a rule that no values meet, which is reported and not added, past one that is added, and
+/// past one that meets a limit. Its report can't be dropped.
+#[tactic(auto, using(crate::proofs::RulesPassed::left_over_goes_on, crate::proofs::RulesPassed::reports_are_not_dropped, crate::proofs::RulesPassed::wide_rule_is_passed))]
+pub fn rules_are_passed()
+    ensures left_over { LeftOverGoesOn }
+    ensures not_dropped { ReportsAreNotDropped }
+    ensures wide { WideRuleIsPassed }
 {}
