@@ -41,3 +41,10 @@ pub mod Used
 pub mod VariantIds
 pub mod WideRule
 pub mod Wrapped
+pub mod LookUps
+pub mod ConstEqRespected
+pub mod FailedPick
+pub mod PickOrders
+pub mod Answered
+pub mod RulesPassed
+pub mod LoopPlaces

@@ -11,6 +11,7 @@ use Rattle.isle_examples.specs.ConstEq.{const_eq_program, const_eq_rule}
 use Rattle.isle_examples.specs.Cycle.{one_step_program, one_step_rule, two_step_program, two_step_rule}
 use Rattle.isle_examples.specs.Extract.{extract_any, extract_one, extract_program}
 use Rattle.isle_examples.specs.Fall.{fall_any, fall_one, fall_program}
+use Rattle.isle_examples.specs.LeftOver.{left_over_program, never_rule}
 use Rattle.isle_examples.specs.Nested.{nested_program, nested_rule}
 use Rattle.isle_examples.specs.Stages.{CanMatch, CantMatch}
 use Rattle.isle_examples.specs.VariantEq.{variant_eq_program, variant_eq_rule}
@@ -50,3 +51,6 @@ two_step_cant_match = cant_match two_step_program two_step_rule refl
 
 pub conflict_cant_match : CantMatch conflict_program conflict_rule
 conflict_cant_match = cant_match conflict_program conflict_rule refl
+
+pub never_rule_cant_match : CantMatch left_over_program never_rule
+never_rule_cant_match = cant_match left_over_program never_rule refl

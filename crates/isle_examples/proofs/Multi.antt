@@ -14,7 +14,7 @@ use Rattle.isle_model.specs.sites.Sites.{Constraint, SetRule, argument_site, con
 use Rattle.isle_model.specs.trees.Collects.{HasCollectedResults, IsCollectedSet, IsPureAt, ServesSet, content_at}
 use Rattle.isle_model.specs.trees.Places.{Around, all_below, fields_of, is_in, joins_in, nothing_around, waits}
 use Rattle.isle_model.specs.trees.Run.{Env, World, bound_to, content_fields, used}
-use Rattle.isle_model.specs.trees.SetRuns.{IsUnwrap}
+use Rattle.isle_model.specs.trees.SetRuns.{IsReachedUnder, IsUnwrap}
 use Rattle.isle_model.specs.claims.Environments.{types_read}
 use Rattle.isle_model.specs.sites.Overlap.{built_rule}
 use Rattle.isle_laws_lists.proofs.FormedRules.{rules_are_formed}
@@ -30,6 +30,7 @@ use Rattle.isle_laws_demands.proofs.visits.Priorities.{one_priority_lem}
 use Rattle.isle_laws_demands.proofs.visits.WholeDemands.{built_demands_are_whole_lem}
 use Rattle.isle_laws_runs.proofs.runs.Collected.{sound_trees_collect_lem}
 use Rattle.isle_laws_trees.proofs.headline.Collecting.{CollectingLaws, best_trees_collect_the_bag_lem}
+use Rattle.isle_examples.proofs.LoopPlaces.{emitted_there, in_loop, loop_env, reached_in_loop}
 use Rattle.isle_examples.proofs.Served.{multi_served}
 use Rattle.isle_examples.proofs.SampleStages.{multi_stages}
 use Rattle.isle_examples.proofs.SetStages.{collected}
@@ -151,67 +152,21 @@ loops_may_bind_again = (
 
 -- 4. what is taken under a pick
 -- inside of the loop over the call's answers
-abbrev in_loop : Around
-in_loop = record nothing_around { looped = 1 ∷ []; brought = 2 ∷ []; emitted = 2 ∷ (1 ∷ []) }
-
 abbrev all_of_m : Content
 all_of_m = many (all_of (pos 4 ∷ (pos 4 ∷ [])))
-
-abbrev first_of_m : Env
-first_of_m = (2, one (v (pos 4))) ∷ ((1, all_of_m) ∷ [])
 
 abbrev in_world : World
 in_world = returning_once (multi_world (pos 1))
 
-abbrev emitted_there : ℕ → Type 0
-emitted_there s = IsTrue (is_in s in_loop.emitted)
-
-one_of_them : (s : ℕ) → emitted_there s → (2 ≡ s) ⊎ (1 ≡ s)
-one_of_them s h = split (2 == s) (1 == s) refl refl h
-  where
-    split : (a b : Bool) → (2 == s) ≡ a → (1 == s) ≡ b → (a || (b || false)) ≡ true → (2 ≡ s) ⊎ (1 ≡ s)
-    split true b e f t = inl (eqb-true 2 s e)
-    split false true e f t = inr (eqb-true 1 s f)
-    split false false e f t = absurd (false≢true t)
-
-abbrev UsedAsHeld : ℕ → Type 0
-UsedAsHeld s = IsTrue (is_some (content_at in_world first_answer s)) × (used in_world first_of_m s ≡ content_at in_world first_answer s)
-
-emitted_holds : (s : ℕ) → emitted_there s → UsedAsHeld s
-emitted_holds s h = elim (one_of_them s h) [ inl e ↦ subst UsedAsHeld e (refl, refl) | inr e ↦ subst UsedAsHeld e (refl, refl) ]
-
-pure_argument : IsPureAt multi_set.sites 0
-pure_argument = (argument_site 0, refl, tt)
-
-pure_call : IsPureAt multi_set.sites 1
-pure_call = (constructor_site 0 (0 ∷ []) 0, refl, tt)
-
-pure_iterator : IsPureAt multi_set.sites 2
-pure_iterator = (iterator_site 1, refl, tt)
-
 below_call : All (IsPureAt multi_set.sites) (1 ∷ (0 ∷ []))
-below_call = All-cons (IsPureAt multi_set.sites) 1 (0 ∷ []) pure_call (All-cons (IsPureAt multi_set.sites) 0 [] pure_argument (All-nil (IsPureAt multi_set.sites)))
+below_call =
+    All-cons (IsPureAt multi_set.sites) 1 (0 ∷ []) (constructor_site 0 (0 ∷ []) 0, refl, tt)
+    (All-cons (IsPureAt multi_set.sites) 0 [] (argument_site 0, refl, tt) (All-nil (IsPureAt multi_set.sites)))
 
-abbrev MakesNoImpureCall : ℕ → Type 0
-MakesNoImpureCall s = All (IsPureAt multi_set.sites) (all_below multi_set.sites (s ∷ []))
-
-emitted_pure : (s : ℕ) → emitted_there s → MakesNoImpureCall s
-emitted_pure s h =
-    elim (one_of_them s h) [
-      | inl e ↦ subst MakesNoImpureCall e (All-cons (IsPureAt multi_set.sites) 2 (1 ∷ (0 ∷ [])) pure_iterator below_call)
-      | inr e ↦ subst MakesNoImpureCall e below_call
-    ]
-
-abbrev BoundAsHeld : Content → ℕ → Type 0
-BoundAsHeld c s = emitted_there s × (content_at in_world first_answer s ≡ Some c)
-
-bound_holds : (s : ℕ) (c : Content) → bound_to first_of_m s ≡ Some c → BoundAsHeld c s
-bound_holds s c h = split (2 == s) (1 == s) refl refl h
-  where
-    split : (a b : Bool) → (2 == s) ≡ a → (1 == s) ≡ b → (if a then Some (one (v (pos 4))) else (if b then Some all_of_m else None)) ≡ Some c → BoundAsHeld c s
-    split true b e f t = subst (BoundAsHeld c) (eqb-true 2 s e) (refl, t)
-    split false true e f t = subst (BoundAsHeld c) (eqb-true 1 s f) (refl, t)
-    split false false e f t = absurd (none-some c t)
+in_the_loop : IsReachedUnder in_world first_answer in_loop (loop_env all_of_m (one (v (pos 4))))
+in_the_loop =
+    reached_in_loop in_world first_answer all_of_m (one (v (pos 4))) (record { content = refl; as_used = refl; pure = below_call })
+    (record { content = refl; as_used = refl; pure = All-cons (IsPureAt multi_set.sites) 2 (1 ∷ (0 ∷ [])) (iterator_site 1, refl, tt) below_call })
 
 -- what the return uses: the loop's site, which is emitted, and what never waits
 needed : (s : ℕ) → Contains (2 ∷ (1 ∷ (0 ∷ []))) s → (waits (slice_get multi_set.sites s) ≡ false) ⊎ IsUnwrap (slice_get multi_set.sites s) ⊎ emitted_there s
@@ -243,8 +198,8 @@ multi_is_taken = (
   refl,
   record {
     around = in_loop;
-    env = first_of_m;
-    reached = record { emitted = emitted_holds; pure = emitted_pure; bound = bound_holds };
+    env = loop_env all_of_m (one (v (pos 4)));
+    reached = in_the_loop;
     gates = needed;
     demanded = λ s source e c d. absurd (no_unwraps s source e);
     outcome = refl;

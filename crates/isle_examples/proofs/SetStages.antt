@@ -100,7 +100,7 @@ each_below n ss h = all_members (λ s. s < n) ss (λ s c. ltb-true s n (each_pas
 each_many : (cs : List (List ℕ)) → list_all (λ c. nat_le 2 (length c)) cs ≡ true → All (λ c. 2 ≤ length c) cs
 each_many cs h = all_members (λ c. 2 ≤ length c) cs (λ c i. leb-true 2 (length c) (each_passes (λ c. nat_le 2 (length c)) cs h c i))
 
-rule_stands : (p : Program) (sites : List Site) (b : BuiltRule) (r : SetRule) → row_in sites r ≡ built_row p b → stands_once (length sites) r ≡ true → IsRuleOf p sites b r
+pub rule_stands : (p : Program) (sites : List Site) (b : BuiltRule) (r : SetRule) → row_in sites r ≡ built_row p b → stands_once (length sites) r ≡ true → IsRuleOf p sites b r
 rule_stands p sites b r e h =
     let n = length sites in
     let parts = and_parts (constraints_stand n r) (classes_stand n r && calls_stand n r) h in

@@ -1,16 +1,18 @@
 -- A sample: a literal under a name that stands again in another argument.
 --   (decl f (u8 u8) u8)
 --   (rule (f x @ 2 x) x)
-use Rattle.std.specs.Prelude.{◌≡◌, ◌∷◌, [], pos, false, List, Some, codes}
+use Rattle.std.specs.Prelude.{◌≡◌, ◌∷◌, [], ℕ, zero, suc, pos, false, List, Some, codes}
 use Rattle.isle_model.specs.claims.Layers.{own_program}
 use Rattle.isle_model.specs.lists.Elaborated.{TypedRules}
 use Rattle.isle_model.specs.lists.Syntax.{Definition}
 use Rattle.isle_model.specs.rules.Program.{Program}
 use Rattle.isle_model.specs.rules.Typed.{TypedRule, make_var, match_bind, match_int, match_var}
 use Rattle.isle_model.specs.sites.Demands.{demands_of}
-use Rattle.isle_model.specs.sites.Sites.{SiteSet, argument_site}
+use Rattle.isle_model.specs.sites.Sites.{SiteSet, SiteTerm, argument, argument_site}
+use Rattle.isle_model.specs.sites.Closure.{Joined}
 use Rattle.isle_model.specs.trees.Trees.{Tree, match_at, no_step, step}
-use Rattle.isle_examples.specs.SetForms.{a0, a1, a_rule, asking, is_byte, one_arm, returning}
+use Rattle.isle_laws_demands.specs.ClosureLaws.{RespectsDemands}
+use Rattle.isle_examples.specs.SetForms.{a0, a1, a2, a_rule, asking, is_byte, one_arm, returning}
 use Rattle.isle_examples.specs.Stages.{Sample, closed_demands}
 use Rattle.isle_examples.specs.TypedForms.{rules_and_names, typed, typed_var, u8}
 use Rattle.isle_examples.specs.Written.{bind, f_of_bytes, int, of_f, rule_to, var, variable}
@@ -35,6 +37,23 @@ ConstEqDemands = demands_of const_eq_program const_eq_rule ≡ asking ((a0, is_b
 -- the literal stands at both arguments, and no equality is left
 abbrev pub ConstEqClosed : Type 0
 ConstEqClosed = closed_demands const_eq_program const_eq_rule ≡ record { constraints = (a0, is_byte 2) ∷ (a1, is_byte 2) ∷ []; classes = []; made = a0 ∷ a1 ∷ [] }
+
+-- one class of both arguments, and one of all else, and of each argument alone
+abbrev pub of_both : SiteTerm → ℕ
+of_both (argument zero) = 0
+of_both (argument (suc zero)) = 0
+of_both _ = 1
+
+abbrev pub of_each : SiteTerm → ℕ
+of_each (argument i) = i
+of_each _ = 0
+
+-- the first classes respect the demands, so no third argument must equal the first one; the others don't
+abbrev pub ConstEqIsRespected : Type 0
+ConstEqIsRespected =
+    RespectsDemands (demands_of const_eq_program const_eq_rule) of_both
+    × (Joined (demands_of const_eq_program const_eq_rule) a0 a2 → ⊥)
+    × (RespectsDemands (demands_of const_eq_program const_eq_rule) of_each → ⊥)
 
 abbrev pub const_eq_set : SiteSet
 const_eq_set = record {

@@ -1,6 +1,6 @@
 -- Samples of templates and conversions: how many expansions they take, and how deep these nest.
 use Rattle.std.specs.Prelude.{◌≡◌, ◌∷◌, [], ◌+◌, ◌≤◌, ℕ, pos, zero, suc, true, false, List, Option, Some, None, codes, map, length, option_map, replicate}
-use Rattle.isle_model.specs.claims.Environments.{IsRead}
+use Rattle.isle_model.specs.claims.Environments.{IsRead, PassesExpansions, PassesNesting, types_read}
 use Rattle.isle_model.specs.lists.Elaborated.{TypedRules, elaborated_rule, names_of_rule, typed_rule}
 use Rattle.isle_model.specs.lists.KnownTypes.{types_of}
 use Rattle.isle_model.specs.lists.Setting.{Setting}
@@ -134,6 +134,21 @@ pub record NestedUsesDouble : Type 0 where
 pub record LimitIsMet : Type 0 where
   pub met : expansions_of (nested_uses 16) once_more (any 3) ≡ Some 65536
   pub passed : expansions_of (nested_uses 16) once_more once_more ≡ None
+
+-- (rule (f p _ _) 1), where p is x inside n uses
+abbrev pub uses_defs : ℕ → List Definition
+uses_defs n = by_template twice (nested_uses n ∷ any 3 ∷ any 3 ∷ []) (number 3 (pos 1))
+
+abbrev pub PassesOnExpansions : ℕ → Type 0
+PassesOnExpansions n = PassesExpansions (types_read (uses_defs n)) (uses_defs n) true 0
+
+abbrev pub PassesOnNesting : ℕ → Type 0
+PassesOnNesting n = PassesNesting (types_read (uses_defs n)) (uses_defs n) true 0
+
+-- a rule with 17 uses passes the limit on expansions, however many may nest, and not that on nesting; one with 16 passes
+-- neither
+abbrev pub SeventeenUsesPass : Type 0
+SeventeenUsesPass = PassesOnExpansions 17 × (PassesOnNesting 17 → ⊥) × (PassesOnExpansions 16 → ⊥)
 
 -- a template's variable that is no argument is a variable of the rule, and its name one of the rule's: (rule (f (d x)) z)
 abbrev pub own_variable_defs : List Definition

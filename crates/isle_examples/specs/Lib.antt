@@ -1,3 +1,4 @@
+pub mod Answered
 pub mod Below
 pub mod Between
 pub mod Chosen
@@ -10,6 +11,7 @@ pub mod EmittedFirst
 pub mod Equal
 pub mod Expansions
 pub mod Extract
+pub mod FailedPick
 pub mod Fall
 pub mod FormedRules
 pub mod FoundSites
@@ -18,6 +20,7 @@ pub mod Hiding
 pub mod Impure
 pub mod ImpureTaken
 pub mod LeftOver
+pub mod LookUps
 pub mod MeaningForms
 pub mod Mended
 pub mod Multi
@@ -30,11 +33,13 @@ pub mod NoRules
 pub mod OneOrTwo
 pub mod Overlap
 pub mod Partial
+pub mod PickOrders
 pub mod PickedAnswers
 pub mod PickedNumber
 pub mod Prio
 pub mod Refused
 pub mod ReportedOnce
+pub mod RulesPassed
 pub mod Scopes
 pub mod SetForms
 pub mod Shadow
@@ -53,6 +58,7 @@ pub mod Unused
 pub mod Used
 pub mod VariantEq
 pub mod VariantIds
+pub mod VisitableRules
 pub mod WideRule
 pub mod Wrap
 pub mod Wrapped

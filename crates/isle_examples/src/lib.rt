@@ -8,18 +8,20 @@ ghost use Rattle.isle_model.specs.lists.TypeTable.{IsValidTypes};
 ghost use Rattle.isle_model.specs.rules.Meaning.{nothing, one};
 ghost use Rattle.isle_model.specs.rules.Outcome.{ended, failed, no_rule};
 ghost use Rattle.isle_model.specs.trees.Collects.{LeavesNoCallUnused};
+ghost use Rattle.isle_examples.specs.Answered.{ExtractIsAnswered, LeftOverIsAnswered};
 ghost use Rattle.isle_examples.specs.Below.{below_program, below_same, below_sample};
 ghost use Rattle.isle_examples.specs.Between.{between_sample};
 ghost use Rattle.isle_examples.specs.Chosen.{ExtractIsChosen, ExtractIsWithoutMulti};
 ghost use Rattle.isle_examples.specs.Conflict.{ConflictReported, conflict_defs, conflict_program, conflict_rule, conflict_rules};
-ghost use Rattle.isle_examples.specs.ConstEq.{ConstEqClosed, ConstEqDemands, const_eq_program, const_eq_rule, const_eq_sample};
+ghost use Rattle.isle_examples.specs.ConstEq.{ConstEqClosed, ConstEqDemands, ConstEqIsRespected, const_eq_program, const_eq_rule, const_eq_sample};
 ghost use Rattle.isle_examples.specs.Cycle.{CycleTables, CyclesReported, cycle_rules, one_step_defs, one_step_program, one_step_rule, two_step_defs, two_step_program, two_step_rule};
 ghost use Rattle.isle_examples.specs.Dropped.{CallsAreBoundToo, dropped_sample};
 ghost use Rattle.isle_examples.specs.Effects.{EffectsDemands, EffectsEnds, EffectsTables, effects_sample, im_of_one, pair_of};
 ghost use Rattle.isle_examples.specs.EmittedFirst.{emitted_first_sample};
 ghost use Rattle.isle_examples.specs.Equal.{equal_program, equal_same, equal_sample};
-ghost use Rattle.isle_examples.specs.Expansions.{ConversionsNest, DoubledTables, EndlessBecomes, EndlessHasNone, EndlessTables, ExpansionsDouble, LimitIsMet, ManyMayNest, NestedUsesDouble, TemplateVariablesAreTheRules};
+ghost use Rattle.isle_examples.specs.Expansions.{ConversionsNest, DoubledTables, EndlessBecomes, EndlessHasNone, EndlessTables, ExpansionsDouble, LimitIsMet, ManyMayNest, NestedUsesDouble, SeventeenUsesPass, TemplateVariablesAreTheRules};
 ghost use Rattle.isle_examples.specs.Extract.{ExtractDemands, ExtractEnds, ExtractIsServed, ExtractMeaningServes, ExtractTables, NearSetsAreNotBuilt, extract_any, extract_mute, extract_one, extract_program, extract_sample};
+ghost use Rattle.isle_examples.specs.FailedPick.{FailedPickGives, FailedPickIsServed, FailedPickIsTaken, picked_rules, picked_set};
 ghost use Rattle.isle_examples.specs.Fall.{FallDemands, FallIsSubsetPair, FallRuns, fall_any, fall_one, fall_program, fall_sample};
 ghost use Rattle.isle_examples.specs.FormedRules.{ArgumentsAreLimited, FormedRulesMayTestImpureCalls, OthersAreNotFormed, ResultsMayUnwrap};
 ghost use Rattle.isle_examples.specs.FoundSites.{SitesAreFound};
@@ -27,7 +29,8 @@ ghost use Rattle.isle_examples.specs.HandedIn.{IllFormed, NamesGoOn, OwnTypesDoN
 ghost use Rattle.isle_examples.specs.Hiding.{BetterTestsAreNotHidden, hidden_sample};
 ghost use Rattle.isle_examples.specs.Impure.{ImpureIsCalled, impure_sample};
 ghost use Rattle.isle_examples.specs.ImpureTaken.{ImpureIsServed, ImpureIsTaken};
-ghost use Rattle.isle_examples.specs.LeftOver.{LeftOverCollects, LeftOverIsCollected, LeftOverIsServed, LeftOverLacksACall, left_over_defs, left_over_rules, left_over_set, left_over_tree};
+ghost use Rattle.isle_examples.specs.LeftOver.{LeftOverCollects, LeftOverIsCollected, LeftOverIsServed, LeftOverLacksACall, left_over_defs, left_over_program, left_over_rules, left_over_set, left_over_tree, never_rule};
+ghost use Rattle.isle_examples.specs.LookUps.{ConvertersAreLookedUp, FallSpeaksOfNames, FlagIsKept, NearEnvironments};
 ghost use Rattle.isle_examples.specs.MeaningForms.{DoesNotServe, alone, answers, blank, ends_with, just_number, v};
 ghost use Rattle.isle_examples.specs.Multi.{LoopsMayBindAgain, MultiCollects, MultiDemands, MultiGives, MultiIsCollected, MultiIsNot, MultiIsServed, MultiIsTaken, MultiResultsAreHeld, MultiSetCollects, MultiTakenGives, MultiTreeCollects, multi_defs, multi_mute, multi_program, multi_sample, multi_terms};
 ghost use Rattle.isle_examples.specs.MultiCalls.{DemandsGatesThough, Gives, LeavesACallUnused, OneCallIsServed, UnusedGateGives, call_in_call, calls_program, extracted_twice, impure_twice, pure_twice, unused_condition, unused_let, used_condition};
@@ -39,11 +42,13 @@ ghost use Rattle.isle_examples.specs.NoRules.{BoundTwiceHasNone, ConverterHasNon
 ghost use Rattle.isle_examples.specs.OneOrTwo.{OneOrTwoHoldsOnce, OneOrTwoIsServed, one_or_two_sample};
 ghost use Rattle.isle_examples.specs.Overlap.{OverlapReported, OverlapsFound, TwoReports, overlap_defs, overlap_rules, three_defs, three_rules};
 ghost use Rattle.isle_examples.specs.Partial.{PartialDemands, PartialEnds, PartialIsServed, g_of_one, partial_defs, partial_mute, partial_program, partial_sample, partial_terms};
+ghost use Rattle.isle_examples.specs.PickOrders.{OrderDoesNotMatter, OuterCallDoesNot, ResultIsOfPlaces, SecondCallComesFirst};
 ghost use Rattle.isle_examples.specs.PickedAnswers.{HoldUnderNoPick, HoldUnderOnePick};
 ghost use Rattle.isle_examples.specs.PickedNumber.{FivesAreNotMatched, PickedNumberDemands, PickedNumberGives, PickedNumberIsServed, picked_number_sample};
 ghost use Rattle.isle_examples.specs.Prio.{prio_sample};
 ghost use Rattle.isle_examples.specs.Refused.{RefusedAreNotRead, SamplesAreRefused};
 ghost use Rattle.isle_examples.specs.ReportedOnce.{MultiGoesOverMultiCalls, OverlapIsListedOnce, ShadowIsReportedOnce};
+ghost use Rattle.isle_examples.specs.RulesPassed.{LeftOverGoesOn, ReportsAreNotDropped, WideRuleIsPassed};
 ghost use Rattle.isle_examples.specs.Scopes.{let_in_let_defs, let_in_let_rules, shadowing_defs, shadowing_rules};
 ghost use Rattle.isle_examples.specs.Shadow.{ShadowReported, ShadowsFound, shadow_defs, shadow_rules};
 ghost use Rattle.isle_examples.specs.Shared.{SharedDemands, SharedGives, SharedIsStuck, shared_sample};
@@ -60,6 +65,7 @@ ghost use Rattle.isle_examples.specs.Unused.{UnusedDemands, UnusedEnds, unused_s
 ghost use Rattle.isle_examples.specs.Used.{NearTreesDoNotBind, UsedDemands, UsedEnds, used_sample};
 ghost use Rattle.isle_examples.specs.VariantEq.{VariantEqClosed, VariantEqDemands, VariantEqTables, variant_eq_program, variant_eq_rule, variant_eq_sample};
 ghost use Rattle.isle_examples.specs.VariantIds.{VariantsStandAtTheirIds};
+ghost use Rattle.isle_examples.specs.VisitableRules.{OthersAreNotVisitable, RulesAreVisitable};
 ghost use Rattle.isle_examples.specs.WideRule.{WideRuleIsReported, WideRulePasses};
 ghost use Rattle.isle_examples.specs.Wrap.{wrap_sample};
 ghost use Rattle.isle_examples.specs.Wrapped.{NothingIsAskedAboveCalls, wrapped_defs, wrapped_rules};
@@ -101,11 +107,13 @@ pub fn handed_in()
     ensures ill_formed { IllFormed }
 {}
 
-/// A literal, and a name that stands again: the literal stands at both arguments, and no equality is left.
-#[tactic(auto, using(crate::proofs::SampleStages::const_eq_stages, crate::proofs::Matchable::const_eq_matches))]
+/// A literal, and a name that stands again: the literal stands at both arguments, and no equality is left. Whatever classes
+/// respect the demands hold both arguments, and one of these holds no third.
+#[tactic(auto, using(crate::proofs::SampleStages::const_eq_stages, crate::proofs::Matchable::const_eq_matches, crate::proofs::ConstEqRespected::const_eq_is_respected))]
 pub fn const_eq_sample()
     ensures stages { HasStages const_eq_sample }
     ensures demands { ConstEqDemands }
+    ensures respected { ConstEqIsRespected }
     ensures closed { ConstEqClosed }
     ensures ends { ClosingEndsOf const_eq_program const_eq_rule }
     ensures verdicts { verdicts const_eq_program const_eq_rule ≡ [] }
@@ -468,9 +476,10 @@ pub fn named_constants()
 /// A set with an impure call that none of its rules uses, and a pure one above it. A meaning in which the first answers what
 /// is no number serves the rules, so its world, which lacks the second, serves the set, and the run of its tree collects
 /// the bag.
-#[tactic(auto, using(crate::proofs::AcceptedLists::left_over_not_accepted, crate::proofs::LeftOver::left_over_built, crate::proofs::LeftOver::left_over_judged, crate::proofs::LeftOver::left_over_is_served, crate::proofs::LeftOver::left_over_is_collected, crate::proofs::LeftOver::left_over_lacks_a_call, crate::proofs::LeftOver::left_over_collects))]
+#[tactic(auto, using(crate::proofs::AcceptedLists::left_over_not_accepted, crate::proofs::Matchable::never_rule_cant_match, crate::proofs::LeftOver::left_over_built, crate::proofs::LeftOver::left_over_judged, crate::proofs::LeftOver::left_over_is_served, crate::proofs::LeftOver::left_over_is_collected, crate::proofs::LeftOver::left_over_lacks_a_call, crate::proofs::LeftOver::left_over_collects))]
 pub fn left_over_sample()
     ensures not_accepted { IsNotAccepted left_over_defs left_over_rules }
+    ensures cant_match { CantMatch left_over_program never_rule }
     ensures built { IsBuiltOf left_over_defs left_over_rules 2 left_over_set }
     ensures tree { IsJudged left_over_set true left_over_tree }
     ensures meaning { LeftOverIsServed }
@@ -562,13 +571,14 @@ pub fn endless()
 /// A template that uses its argument twice doubles the expansions inside: 16 nested uses are within the limit of
 /// 65,536, and 17 aren't; 256 expansions may nest, and no more. A variable of a template that is no argument is one of
 /// the rule.
-#[tactic(auto, using(crate::proofs::Expansions::doubled_tables, crate::proofs::Expansions::nested_uses_double, crate::proofs::Expansions::template_variables_are_the_rules))]
+#[tactic(auto, using(crate::proofs::Expansions::doubled_tables, crate::proofs::Expansions::nested_uses_double, crate::proofs::Expansions::seventeen_uses_pass, crate::proofs::Expansions::template_variables_are_the_rules))]
 pub fn templates()
     ensures tables { DoubledTables }
     ensures double { ExpansionsDouble }
     ensures nested { NestedUsesDouble }
     ensures limit { LimitIsMet }
     ensures nest { ManyMayNest }
+    ensures passes { SeventeenUsesPass }
     ensures variables { TemplateVariablesAreTheRules }
 {}
 
@@ -590,7 +600,7 @@ pub fn lists_refused()
     ensures lowering { SamplesAreRefused }
 {}
 
-ghost use Rattle.isle_examples.specs.Mended.{wrapped_set, AboveCallsNothingIsAsked, ThirdIsServed, ThirdRulesDontCount, ReturnsOfMultiTermsGoOn, RightSidesFailUnderPicks, OverlapsMayHoldTwice, NamelessIsNotAnswered, LookUpsHaveNoList, LimitsAreNamedWherePassed, SecondIsReadAlone, EmptySetsAreBuilt, SignaturesOfW, SitesAreBrought, OverlapsAreTold, TermsOfSites, IdentifiersOfRules, EnvironmentsOfLists, VariantHasItsTerm};
+ghost use Rattle.isle_examples.specs.Mended.{picked_defs, wrapped_set, AboveCallsNothingIsAsked, ThirdIsServed, ThirdRulesDontCount, ReturnsOfMultiTermsGoOn, RightSidesFailUnderPicks, OverlapsMayHoldTwice, NamelessIsNotAnswered, LookUpsHaveNoList, LimitsAreNamedWherePassed, SecondIsReadAlone, EmptySetsAreBuilt, SignaturesOfW, SitesAreBrought, OverlapsAreTold, TermsOfSites, IdentifiersOfRules, EnvironmentsOfLists, VariantHasItsTerm};
 
 /// A world that has what tests ask may have no content for a construction above an impure call that is never made.
 #[tactic(auto, using(crate::proofs::Mended::above_calls_nothing_is_asked_lem))]
@@ -786,4 +796,59 @@ pub fn reports_stand_once()
     ensures mask { ShadowIsReportedOnce }
     ensures overlap { OverlapIsListedOnce }
     ensures multi { MultiGoesOverMultiCalls }
+{}
+
+/// Converters are looked up by their inner and outer types. Types are read by an environment that shows them, and by none
+/// that differs from them in a type, a kept error or a look-up, nor are rules by one of another flag. The tables of a list
+/// speak of the names of its terms alone.
+#[tactic(auto, using(crate::proofs::LookUps::converters_are_looked_up, crate::proofs::LookUps::near_environments, crate::proofs::LookUps::flag_is_kept, crate::proofs::LookUps::fall_speaks_of_names))]
+pub fn look_ups()
+    ensures converters { ConvertersAreLookedUp }
+    ensures environments { NearEnvironments }
+    ensures flag { FlagIsKept }
+    ensures names { FallSpeaksOfNames }
+{}
+
+/// A rule can be visited though its types don't fit; where a variable isn't bound before it is used, or is bound twice, or a
+/// term has other parts or no extractor, it can't.
+pub fn visitable_rules()
+    ensures visitable { RulesAreVisitable }
+    ensures others { OthersAreNotVisitable }
+{}
+
+/// A rule that is taken under a pick may fail: its list is accepted, its set built, a meaning serves it, and its right side
+/// fails as binding its result does.
+#[tactic(auto, using(crate::proofs::FailedPick::failed_pick_accepted, crate::proofs::FailedPick::failed_pick_built, crate::proofs::FailedPick::failed_pick_is_served, crate::proofs::FailedPick::failed_pick_is_taken, crate::proofs::FailedPick::failed_pick_gives))]
+pub fn failed_pick()
+    ensures accepted { IsAcceptedBoth picked_defs picked_rules }
+    ensures built { IsBuiltOf picked_defs picked_rules 2 picked_set }
+    ensures served { FailedPickIsServed }
+    ensures taken { FailedPickIsTaken }
+    ensures outcome { FailedPickGives }
+{}
+
+/// Two calls of a rule may be gone over in either order: picks of one and the other act alike, and the bags are one. A call on
+/// another call's answer can't come first.
+#[tactic(auto, using(crate::proofs::PickOrders::order_does_not_matter, crate::proofs::PickOrders::result_is_of_places, crate::proofs::PickOrders::second_call_comes_first, crate::proofs::PickOrders::outer_call_does_not))]
+pub fn pick_orders()
+    ensures order { OrderDoesNotMatter }
+    ensures result { ResultIsOfPlaces }
+    ensures first { SecondCallComesFirst }
+    ensures outer { OuterCallDoesNot }
+{}
+
+/// What building gives: the set of each term with rules, and a report of each rule that is left out.
+#[tactic(auto, using(crate::proofs::Answered::extract_is_answered, crate::proofs::Answered::left_over_is_answered))]
+pub fn building_answers()
+    ensures extract { ExtractIsAnswered }
+    ensures left_over { LeftOverIsAnswered }
+{}
+
+/// Building goes rule by rule: past a rule that no values meet, which is reported and not added, past one that is added, and
+/// past one that meets a limit. Its report can't be dropped.
+#[tactic(auto, using(crate::proofs::RulesPassed::left_over_goes_on, crate::proofs::RulesPassed::reports_are_not_dropped, crate::proofs::RulesPassed::wide_rule_is_passed))]
+pub fn rules_are_passed()
+    ensures left_over { LeftOverGoesOn }
+    ensures not_dropped { ReportsAreNotDropped }
+    ensures wide { WideRuleIsPassed }
 {}

@@ -1,3 +1,4 @@
+pub mod building
 pub mod closure
 pub mod matching
 pub mod outcomes

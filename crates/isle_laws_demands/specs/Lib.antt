@@ -5,6 +5,7 @@ pub mod MatchLaws
 pub mod OutcomeLaws
 pub mod RefusalLaws
 pub mod ReportLaws
+pub mod RuleByRule
 pub mod ServeLaws
 pub mod SetOverlapLaws
 pub mod SetReportLaws

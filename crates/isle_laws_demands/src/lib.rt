@@ -7,6 +7,7 @@
 ghost use Rattle.isle_laws_demands.specs.ClosureLaws.{JoinedIsEquivalence, ClassesBoundJoined, VerdictIsExact, NamesAreExact, ClosingAddsNothing, ConstraintsAreKept, ClosingIsSound, OverlapIsSymmetric, OverlapIsExact, ClashIsExact, FirstLimitIsPassed, PassedLimitIsMet, ClosingIsWhole, ReportsAreExact, ShadowsAreExact, VisitsMakeEqualSites, PlainClosingEnds, ClosingEnds};
 ghost use Rattle.isle_laws_demands.specs.AcceptLaws.{ElaboratedRulesHaveTerms, RulesAreJudged, ListsAreAccepted, ListsAreNotAccepted};
 ghost use Rattle.isle_laws_demands.specs.ReportLaws.{CheckIsExact, OverlapsAreListedOnce, ListedRulesOverlap, MasksAreReportedOnce, ReportedMasksShadow};
+ghost use Rattle.isle_laws_demands.specs.RuleByRule.{BuildingEnds, BuildingGoesOn, BuildingStarts, BuiltSetsAreAnswered, FullSitesStay, LimitsAreMet, ListedDemandsStand, OrderAsksTheSame, SetsEndBuilt, SetsGoPastRules, SetsStartEmpty, WalksEndAtLimits};
 ghost use Rattle.isle_laws_demands.specs.SetOverlapLaws.{SetRulesOverlapAsTheirDemands, OverlapOfSetRulesIsSymmetric, SetRulesConstrainAsTheirDemands};
 ghost use Rattle.isle_laws_demands.specs.SetReportLaws.{BuiltSetsAreChecked, BuiltSetsAreReported};
 ghost use Rattle.isle_laws_demands.specs.VisitLaws.{SitesStandOnce, FormedRulesDemandGates, ClosingKeepsGates, ElaboratedRulesDemandGates, BuiltRulesDemandGates, BuiltSetsAreWellBuilt, NoneAskedAndGoneOver, MultiCallsAreGoneOver, NoRuleAsksAndGoesOver, MultiTermsHaveOnePriority};
@@ -399,4 +400,76 @@ pub fn built_sets_are_reported()
 #[tactic(auto, using(crate::proofs::overlaps::SetChecks::built_sets_are_checked_lem))]
 pub fn built_sets_are_checked()
     ensures { BuiltSetsAreChecked }
+{}
+
+/// A set of a term stands after none of its rules where it is empty.
+#[tactic(auto, using(crate::proofs::building::RulesPassed::sets_start_empty_lem))]
+pub fn sets_start_empty()
+    ensures { SetsStartEmpty }
+{}
+
+/// A set that stands after some rules stands after one more, where this one is added by its closed demands, or is left out
+/// and its sites stay; and what is reported of it is that.
+#[tactic(auto, using(crate::proofs::building::RulesPassed::sets_go_past_rules_lem))]
+pub fn sets_go_past_rules()
+    ensures { SetsGoPastRules }
+{}
+
+/// After all rules of its term it is built, and only then.
+#[tactic(auto, using(crate::proofs::building::RulesPassed::sets_end_built_lem))]
+pub fn sets_end_built()
+    ensures { SetsEndBuilt }
+{}
+
+/// Before the first rule of a program no term has a set, and nothing is reported.
+#[tactic(auto, using(crate::proofs::building::SetsSoFar::building_starts_lem))]
+pub fn building_starts()
+    ensures { BuildingStarts }
+{}
+
+/// With one more rule the set of its term goes on, the others stay, and its reports come last.
+pub fn building_goes_on()
+    ensures { BuildingGoesOn }
+{}
+
+/// After all rules the sets are built, and the reports are those of the program.
+pub fn building_ends()
+    ensures { BuildingEnds }
+{}
+
+/// Of a list that elaborates, built sets of all its terms with rules, and these reports, are what building gives.
+pub fn built_sets_are_answered()
+    ensures { BuiltSetsAreAnswered }
+{
+    built_sets_can_be_served();
+    built_sets_mean_their_rules();
+    built_rules_are_told_apart();
+}
+
+/// Which limit is met first, by the rule's shape and by the number of sites.
+#[tactic(auto, using(crate::proofs::building::Limits::limits_are_met_lem))]
+pub fn limits_are_met()
+    ensures { LimitsAreMet }
+{}
+
+/// Sites that are too many stay the first of themselves and more.
+#[tactic(auto, using(crate::proofs::building::Limits::full_sites_stay_lem))]
+pub fn full_sites_stay()
+    ensures { FullSitesStay }
+{}
+
+/// Putting classes in order keeps what they hold, so a rule needn't be listed by that order.
+pub fn order_asks_the_same()
+    ensures { OrderAsksTheSame }
+{}
+
+/// What is listed over numbers at the end of the closing is what a rule's closed demands ask.
+pub fn listed_demands_stand()
+    ensures { ListedDemandsStand }
+{}
+
+/// A visit ends before its rule's end exactly where a limit of the rule's shape is passed.
+#[tactic(auto, using(crate::proofs::building::Walks::walks_end_at_limits_lem))]
+pub fn walks_end_at_limits()
+    ensures { WalksEndAtLimits }
 {}

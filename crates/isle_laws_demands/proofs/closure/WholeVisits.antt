@@ -10,7 +10,7 @@ use Rattle.isle_model.specs.sites.Limits.{most_arguments, most_sites, RuleLimit,
 use Rattle.isle_model.specs.sites.Overlap.{is_built}
 use Rattle.isle_model.proofs.Elements.{In, none_some, in_left, in_right, from_flat_map, in_flat_map}
 
-abbrev Nothing : List RuleLimit → Type 0
+abbrev pub Nothing : List RuleLimit → Type 0
 Nothing ls = (l : RuleLimit) → In ls l → ⊥
 
 -- these terms pass no limit
@@ -27,7 +27,7 @@ nothing_first : (ls : List RuleLimit) → Nothing ls → is_some (slice_get ls 0
 nothing_first [] h = refl
 nothing_first (l ∷ ls) h = absurd (h l (inl refl))
 
-none_first : (ls : List RuleLimit) → slice_get ls 0 ≡ None → Nothing ls
+pub none_first : (ls : List RuleLimit) → slice_get ls 0 ≡ None → Nothing ls
 none_first [] e l i = i
 none_first (m ∷ ls) e l i = absurd (none_some m (sym e))
 
@@ -87,7 +87,7 @@ args_go_on p iflets i (q ∷ qs) h g =
     later : List RuleLimit
     later = limits_in_args p (suc i) qs
 
-rule_goes_on : (p : Program) (r : TypedRule) → Nothing (limits_of_shape p r) → (walked_rule p r).ended ≡ false
+pub rule_goes_on : (p : Program) (r : TypedRule) → Nothing (limits_of_shape p r) → (walked_rule p r).ended ≡ false
 rule_goes_on p r h =
     args_go_on p r.iflets 0 r.args (λ l i. h l (in_left (limits_in_args p 0 r.args) (flat_map (λ j. limits_in p j.lhs) r.iflets) l i)) (λ l i. h l (in_right (limits_in_args p 0 r.args) (flat_map (λ j. limits_in p j.lhs) r.iflets) l i))
 

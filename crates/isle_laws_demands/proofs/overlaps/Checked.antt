@@ -35,11 +35,11 @@ module _ (p : Program) where
   AllBuilt before [] = Unit {0}
   AllBuilt before (r ∷ rs) = (is_built p before r ≡ true) × AllBuilt (sites_after_rule p before r) rs
 
-  built_on : (before : List SiteTerm) (r : TypedRule) (rs : List TypedRule) → is_built p before r ≡ true
+  pub built_on : (before : List SiteTerm) (r : TypedRule) (rs : List TypedRule) → is_built p before r ≡ true
       → built_from p before (r ∷ rs) ≡ built_rule p before r ∷ built_from p (sites_after_rule p before r) rs
   built_on before r rs t = ap (λ l. l ++ built_from p (sites_after_rule p before r) rs) (cond-true (is_built p before r) (built_rule p before r ∷ []) [] t)
 
-  left_out : (before : List SiteTerm) (r : TypedRule) (rs : List TypedRule) → is_built p before r ≡ false
+  pub left_out : (before : List SiteTerm) (r : TypedRule) (rs : List TypedRule) → is_built p before r ≡ false
       → built_from p before (r ∷ rs) ≡ built_from p (sites_after_rule p before r) rs
   left_out before r rs f = ap (λ l. l ++ built_from p (sites_after_rule p before r) rs) (cond-false (is_built p before r) (built_rule p before r ∷ []) [] f)
 
@@ -84,7 +84,7 @@ module _ (p : Program) where
         | inr f ↦ ap not f
       ]
 
-  built_silent : (before : List SiteTerm) (r : TypedRule) (o : Option RuleLimit) → (is_none o && not (is_unreachable (demands_of p r))) ≡ true → reports_by before r o ≡ []
+  pub built_silent : (before : List SiteTerm) (r : TypedRule) (o : Option RuleLimit) → (is_none o && not (is_unreachable (demands_of p r))) ≡ true → reports_by before r o ≡ []
   built_silent before r (Some l) e = absurd (false≢true e)
   built_silent before r None e =
       ap (map (λ why. not_reached why r.at))
@@ -96,16 +96,16 @@ module _ (p : Program) where
   abbrev sites_so_far : ℕ → List TypedRule → List SiteTerm
   sites_so_far t done = sites_after_rules p [] (of_term t done)
 
-  sites_on : (before : List SiteTerm) (rs : List TypedRule) (r : TypedRule) → sites_after_rules p before (rs ++ r ∷ []) ≡ sites_after_rule p (sites_after_rules p before rs) r
+  pub sites_on : (before : List SiteTerm) (rs : List TypedRule) (r : TypedRule) → sites_after_rules p before (rs ++ r ∷ []) ≡ sites_after_rule p (sites_after_rules p before rs) r
   sites_on before [] r = refl
   sites_on before (x ∷ xs) r = sites_on (sites_after_rule p before x) xs r
 
-  one_more : (t : ℕ) (done : List TypedRule) (r : TypedRule) → (r.root_term == t) ≡ true → sites_so_far t (done ++ r ∷ []) ≡ sites_after_rule p (sites_so_far t done) r
+  pub one_more : (t : ℕ) (done : List TypedRule) (r : TypedRule) → (r.root_term == t) ≡ true → sites_so_far t (done ++ r ∷ []) ≡ sites_after_rule p (sites_so_far t done) r
   one_more t done r h =
       ap (sites_after_rules p []) (filter-append (λ q. q.root_term == t) done (r ∷ []) ∙ ap (λ l. of_term t done ++ l) (cond-true (r.root_term == t) (r ∷ []) [] h))
       ∙ sites_on [] (of_term t done) r
 
-  another : (t : ℕ) (done : List TypedRule) (r : TypedRule) → (r.root_term == t) ≡ false → sites_so_far t (done ++ r ∷ []) ≡ sites_so_far t done
+  pub another : (t : ℕ) (done : List TypedRule) (r : TypedRule) → (r.root_term == t) ≡ false → sites_so_far t (done ++ r ∷ []) ≡ sites_so_far t done
   another t done r h =
       ap (sites_after_rules p [])
       (filter-append (λ q. q.root_term == t) done (r ∷ []) ∙ ap (λ l. of_term t done ++ l) (cond-false (r.root_term == t) (r ∷ []) [] h) ∙ append-nil (of_term t done))

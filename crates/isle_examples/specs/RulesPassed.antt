@@ -1,0 +1,39 @@
+-- Building rule by rule: the first rule of `left_over`, whose demands no values meet, is left out and its sites stay, and
+-- the second one is added; a rule of 257 arguments meets a limit, and 256 arguments stay.
+use Rattle.std.specs.Prelude.{◌∷◌, [], ℕ, Option, Some, None, if◌then◌else◌, map}
+use Rattle.std.specs.Bool.{◌==◌}
+use Rattle.isle_model.specs.sites.Limits.{arguments_limit}
+use Rattle.isle_model.specs.sites.Overlap.{limit_passed}
+use Rattle.isle_model.specs.sites.Sites.{SiteSet, argument_site}
+use Rattle.isle_model.specs.trees.Tests.{up_to}
+use Rattle.isle_laws_demands.specs.RuleByRule.{AreBuiltSoFar, BuildsRule, GoesPast, nothing_built}
+use Rattle.isle_examples.specs.Answered.{one_or_two_asked}
+use Rattle.isle_examples.specs.FormedRules.{wide_rule}
+use Rattle.isle_examples.specs.LeftOver.{any_rule, left_over_program, left_over_rules, left_over_set, never_rule}
+use Rattle.isle_examples.specs.WideRule.{wide_program}
+use Rattle.isle_examples.specs.Written.{at}
+
+-- the set after the first rule
+abbrev pub after_never : SiteSet
+after_never = record { rules = []; sites = left_over_set.sites }
+
+-- where f alone has a set
+abbrev pub set_of_f : SiteSet → ℕ → Option SiteSet
+set_of_f set t = if t == 2 then Some set else None
+
+-- one rule after the other, and where both are done
+pub record LeftOverGoesOn : Type 0 where
+  pub first : BuildsRule left_over_program [] never_rule (λ t. None) (set_of_f after_never) one_or_two_asked
+  pub second : BuildsRule left_over_program (never_rule ∷ []) any_rule (set_of_f after_never) (set_of_f left_over_set) []
+  pub done : AreBuiltSoFar left_over_program left_over_rules.rules (set_of_f left_over_set) one_or_two_asked
+
+-- without the report the first step is none
+abbrev pub ReportsAreNotDropped : Type 0
+ReportsAreNotDropped = BuildsRule left_over_program [] never_rule (λ t. None) (set_of_f after_never) [] → ⊥
+
+-- the sites of 256 arguments
+abbrev pub arguments_made : SiteSet
+arguments_made = record { rules = []; sites = map argument_site (up_to 256) }
+
+abbrev pub WideRuleIsPassed : Type 0
+WideRuleIsPassed = GoesPast wide_program [] (wide_rule 257) nothing_built arguments_made (limit_passed arguments_limit (at 1) ∷ [])

@@ -1,0 +1,61 @@
+-- Which limit is met first of a rule, and that sites which are too many stay the first of these.
+use Rattle.std.proofs.Common.{◌≡◌, ℕ, ◌<◌, ◌≤◌, false, nat_lt, List, [], ◌∷◌, ◌++◌, length, take, Option, Some, None, is_some, slice_get, refl, sym, ap, ◌∙◌, subst, inl, inr, arith}
+use Rattle.std.proofs.lemmas.Bool.{cases_Bool, cond-true, cond-false, le-ltb, lt-ltb}
+use Rattle.std.proofs.lemmas.List.{append-nil, append_assoc}
+use Rattle.isle_model.specs.rules.Typed.{TypedRule}
+use Rattle.isle_model.specs.rules.Program.{Program}
+use Rattle.isle_model.specs.sites.Sites.{SiteTerm}
+use Rattle.isle_model.specs.sites.Demands.{has_site, with_sites}
+use Rattle.isle_model.specs.sites.Limits.{RuleLimit, first_limit, limits_of_shape, made_walking, most_sites, sites_limit, sites_reached, sites_wanted, walked_rule}
+use Rattle.isle_laws_demands.specs.RuleByRule.{FullSitesStay, LimitsAreMet, first_sites}
+use Rattle.isle_laws_demands.proofs.building.Walks.{walks_end_at_limits_lem}
+use Rattle.isle_laws_demands.proofs.closure.WholeVisits.{none_first, rule_goes_on}
+use Rattle.std.proofs.lemmas.List.{length-append, take-append-le}
+
+pub limits_are_met_lem : LimitsAreMet
+limits_are_met_lem p before r = record {
+  none = λ e few.
+      let wanted = cond-false (walked_rule p r).ended (with_sites before (made_walking p (walked_rule p r))) (sites_wanted p before r)
+      (rule_goes_on p r (none_first (limits_of_shape p r) (ap (λ l. slice_get l 0) e))) in
+      room (subst (λ s. length s ≤ most_sites) (sym wanted) few) ∙ ap (λ l. slice_get l 0) e;
+  of_shape = λ limit rest e few. room few ∙ ap (λ l. slice_get l 0) e;
+  reached = λ limit rest e.
+      cond-true (walked_rule p r).ended (with_sites before (made_walking p (walked_rule p r))) (sites_wanted p before r)
+      (walks_end_at_limits_lem p r ∙ ap (λ l. is_some (slice_get l 0)) e);
+  of_sites = λ many. cond-true (nat_lt most_sites (length (sites_reached p before r))) (Some sites_limit) (slice_get (limits_of_shape p r) 0) (lt-ltb most_sites (length (sites_reached p before r)) many);
+}
+  where
+    room : length (sites_reached p before r) ≤ most_sites → first_limit p before r ≡ slice_get (limits_of_shape p r) 0
+    room few = cond-false (nat_lt most_sites (length (sites_reached p before r))) (Some sites_limit) (slice_get (limits_of_shape p r) 0) (le-ltb most_sites (length (sites_reached p before r)) few)
+
+-- sites stay first where others are made
+grown : (ts xs : List SiteTerm) → (rest : List SiteTerm) × (with_sites ts xs ≡ ts ++ rest)
+grown ts [] = ([], sym (append-nil ts))
+grown ts (x ∷ xs) =
+    elim (cases_Bool (has_site ts x)) [
+      | inl t ↦ let g = grown ts xs in (g.0, ap (λ l. with_sites l xs) (cond-true (has_site ts x) ts (ts ++ x ∷ []) t) ∙ g.1)
+      | inr f ↦
+          let g = grown (ts ++ x ∷ []) xs in
+          (x ∷ g.0, ap (λ l. with_sites l xs) (cond-false (has_site ts x) ts (ts ++ x ∷ []) f) ∙ g.1 ∙ append_assoc ts (x ∷ []) g.0)
+    ]
+
+made_more : (ts xs ys : List SiteTerm) → with_sites ts (xs ++ ys) ≡ with_sites (with_sites ts xs) ys
+made_more ts [] ys = refl
+made_more ts (x ∷ xs) ys =
+    elim (cases_Bool (has_site ts x)) [
+      | inl t ↦ let e = cond-true (has_site ts x) ts (ts ++ x ∷ []) t in ap (λ l. with_sites l (xs ++ ys)) e ∙ made_more ts xs ys ∙ sym (ap (λ l. with_sites (with_sites l xs) ys) e)
+      | inr f ↦
+          let e = cond-false (has_site ts x) ts (ts ++ x ∷ []) f in
+          ap (λ l. with_sites l (xs ++ ys)) e ∙ made_more (ts ++ x ∷ []) xs ys ∙ sym (ap (λ l. with_sites (with_sites l xs) ys) e)
+    ]
+
+pub full_sites_stay_lem : FullSitesStay
+full_sites_stay_lem before made more many =
+    let w = with_sites before made in
+    let g = grown w more in
+    let same = made_more before made more ∙ g.1 in
+    let few : most_sites ≤ length w = omega (arith, many) in
+    let longer = length-append w g.0 in (
+      ap first_sites same ∙ take-append-le most_sites w g.0 few,
+      subst (λ l. most_sites < length l) (sym same) (omega (arith, many, longer)),
+    )
