@@ -1,0 +1,6 @@
+//! The builder of rule sets: what the visit of a typed rule makes of sites, and asks of them.
+#![tactic(auto)]
+
+mod builder_exprs;
+mod builder_patterns;
+pub mod ruleset_builder;
