@@ -35,15 +35,15 @@ use Rattle.isle_sets.proofs.FullTables.{both_want, want_weaker, site_lacks}
 use Rattle.isle_sets.proofs.SitesAdded.{same_all}
 
 -- 1. demands with one more
-constraints_append : (as' bs cs : List (SiteTerm × Constraint)) → with_constraints (with_constraints cs as') bs ≡ with_constraints cs (as' ++ bs)
+pub constraints_append : (as' bs cs : List (SiteTerm × Constraint)) → with_constraints (with_constraints cs as') bs ≡ with_constraints cs (as' ++ bs)
 constraints_append [] bs cs = refl
 constraints_append (a ∷ as') bs cs = constraints_append as' bs (with_constraint cs a)
 
 -- the constraint of a site in two lists
-abbrev either_of : Option Constraint → Option Constraint → Option Constraint
+abbrev pub either_of : Option Constraint → Option Constraint → Option Constraint
 either_of o p = elim o as (λ _. Option Constraint) [ None ↦ p | Some b ↦ Some b ]
 
-of_both : (cs ds : List (SiteTerm × Constraint)) (u : SiteTerm) → constraint_of (cs ++ ds) u ≡ either_of (constraint_of cs u) (constraint_of ds u)
+pub of_both : (cs ds : List (SiteTerm × Constraint)) (u : SiteTerm) → constraint_of (cs ++ ds) u ≡ either_of (constraint_of cs u) (constraint_of ds u)
 of_both [] ds u = refl
 of_both (c ∷ cs) ds u =
     elim (cases_Bool (site_term_eq c.0 u)) [
@@ -76,11 +76,11 @@ kept_either cs ds d u =
           ∙ sym (of_both cs (d ∷ ds) u)
     ]
 
-firsts_same : (ds cs : List (SiteTerm × Constraint)) (u : SiteTerm) → constraint_of (with_constraints cs ds) u ≡ constraint_of (cs ++ ds) u
+pub firsts_same : (ds cs : List (SiteTerm × Constraint)) (u : SiteTerm) → constraint_of (with_constraints cs ds) u ≡ constraint_of (cs ++ ds) u
 firsts_same [] cs u = ap (λ l. constraint_of l u) (sym (append-nil cs))
 firsts_same (d ∷ ds) cs u = firsts_same ds (with_constraint cs d) u ∙ kept_either cs ds d u
 
-conflicts_push : (cs had : List (SiteTerm × Constraint)) (c : SiteTerm × Constraint)
+pub conflicts_push : (cs had : List (SiteTerm × Constraint)) (c : SiteTerm × Constraint)
     → conflicts_met had (cs ++ c ∷ []) ≡ conflicts_met had cs ++ conflict_with (constraint_of (had ++ cs) c.0) c.1
 conflicts_push [] had c = append-nil (conflict_with (constraint_of had c.0) c.1) ∙ ap (λ l. conflict_with (constraint_of l c.0) c.1) (sym (append-nil had))
 conflicts_push (d ∷ cs) had c =
@@ -294,27 +294,29 @@ ok_both P Q (Ok x) p q = (p, q)
 ok_both P Q (Err e) p q = tt
 
 -- before a visit
-pub nothing_visited : (b : RuleSetBuilder) → IsTable b.table → KeepsDue b.demanded → built_sites b ≡ [] → ((s : ℕ) → constraint_held b.demanded s ≡ None) → ((p q : ℕ) → are_equated b.demanded p q ≡ false)
-    → b.conflicts.items ≡ [] → ((x : ℕ) → contains ◌==◌ b.iterators x ≡ false) → b.impure.items ≡ [] → StandsAt [] b visit_start
-nothing_visited b table due none asked equal no_conflict no_iterator no_call =
-    let empty : length (built_sites b) ≡ 0 = ap length none in
-    record {
-      table = table;
-      due = due;
-      demands = record {
-        stand = record { exact = λ s l. absurd (omega (arith, l, empty)); count = empty };
-        once = distinct_nil;
-        asked = λ s l. absurd (omega (arith, l, empty));
-        asked_within = λ s t. absurd (false≢true (sym (ap is_some (asked s)) ∙ t));
-        asked_made = λ u c i. absurd (nothing_in (u, c) i);
-        equated = λ p q l m. absurd (omega (arith, l, empty));
-        equated_within = λ p q t. absurd (false≢true (sym (equal p q) ∙ t));
-        equated_made = λ class u i j. absurd (nothing_in class i);
-        apart = λ l m s i j x y. absurd (nothing_in l i);
-      };
-      conflicts = ap (map conflict_view) no_conflict;
-      gone_over = λ s t. absurd (false≢true (sym (no_iterator s) ∙ t));
-      all_gone_over = λ u i. absurd (nothing_in u i);
-      impure = record { within = subst (All (λ r. r < length (built_sites b))) (sym no_call) (All-nil (λ r. r < length (built_sites b))); numbers = ap (map (unfold_site (built_sites b))) no_call };
-      calls = ap length no_call;
-    }
+pub nothing_visited : (before : List SiteTerm) (b : RuleSetBuilder) → IsTable b.table → KeepsDue b.demanded → IsDistinct before → StandFor (built_sites b) before → ((s : ℕ) → constraint_held b.demanded s ≡ None)
+    → ((p q : ℕ) → are_equated b.demanded p q ≡ false) → b.conflicts.items ≡ [] → ((x : ℕ) → contains ◌==◌ b.iterators x ≡ false) → b.impure.items ≡ [] → StandsAt before b visit_start
+nothing_visited before b table due once stand asked equal no_conflict no_iterator no_call = record {
+  table = table;
+  due = due;
+  demands = record {
+    stand = stand;
+    once = once;
+    asked = λ s l. asked s;
+    asked_within = λ s t. absurd (false≢true (sym (ap is_some (asked s)) ∙ t));
+    asked_made = λ u c i. absurd (nothing_in (u, c) i);
+    equated = λ p q l m. equal p q;
+    equated_within = λ p q t. absurd (false≢true (sym (equal p q) ∙ t));
+    equated_made = λ class u i j. absurd (nothing_in class i);
+    apart = λ l m s i j x y. absurd (nothing_in l i);
+  };
+  conflicts = ap (map conflict_view) no_conflict;
+  gone_over = λ s t. absurd (false≢true (sym (no_iterator s) ∙ t));
+  all_gone_over = λ u i. absurd (nothing_in u i);
+  impure = record { within = subst (All (λ r. r < length (built_sites b))) (sym no_call) (All-nil (λ r. r < length (built_sites b))); numbers = ap (map (unfold_site (built_sites b))) no_call };
+  calls = ap length no_call;
+}
+
+-- and without any site
+pub no_sites : (sites : List Site) → sites ≡ [] → StandFor sites []
+no_sites sites none = let empty : length sites ≡ 0 = ap length none in record { exact = λ s l. absurd (omega (arith, l, empty)); count = empty }

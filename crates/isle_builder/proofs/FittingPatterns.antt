@@ -15,11 +15,11 @@ abbrev Bound : Type 0
 Bound = Option (List (ℕ × ℕ))
 
 -- what is there under a test stands where the test passes
-passed : {X : Type 0} (b : Bool) (o : Option X) (x : X) → (if b then o else None) ≡ Some x → (b ≡ true) × (o ≡ Some x)
+pub passed : {X : Type 0} (b : Bool) (o : Option X) (x : X) → (if b then o else None) ≡ Some x → (b ≡ true) × (o ≡ Some x)
 passed true o x e = (refl, e)
 passed false o x e = absurd (none_some x e)
 
-first_there : {X Y : Type 0} (o : Option X) (f : X → Option Y) (y : Y) → then_option o f ≡ Some y → (x : X) × (o ≡ Some x) × (f x ≡ Some y)
+pub first_there : {X Y : Type 0} (o : Option X) (f : X → Option Y) (y : Y) → then_option o f ≡ Some y → (x : X) × (o ≡ Some x) × (f x ≡ Some y)
 first_there None f y e = absurd (none_some y e)
 first_there (Some x) f y e = (x, refl, e)
 

@@ -25,7 +25,7 @@ use Rattle.isle_builder.proofs.BuilderFields.{goes_nowhere, goes_further, sites_
 abbrev pub KnowsVars : RuleSetBuilder → BoundIds ℕ → Visit → Type 0
 KnowsVars b vs v = (x n : ℕ) → bound_at vs x ≡ Some n → IsSiteOf b (var_site v x) n
 
-tied : (a b : ℕ) → is_eq (nat_cmp a b) ≡ (b == a)
+pub tied : (a b : ℕ) → is_eq (nat_cmp a b) ≡ (b == a)
 tied a b =
     unsigned_tied a b
     ∙ elim (cases_Bool (a == b)) [
@@ -37,7 +37,7 @@ same_twice : (c : Bool) (a b r : Option ℕ) → (if c then a else r) ≡ (if c 
 same_twice true a b r = refl
 same_twice false a b r = refl
 
-bound_once : (vs : BoundIds ℕ) (x n y : ℕ) → bound_at (with_bound vs x n) y ≡ (if x == y then Some n else bound_at vs y)
+pub bound_once : (vs : BoundIds ℕ) (x n y : ℕ) → bound_at (with_bound vs x n) y ≡ (if x == y then Some n else bound_at vs y)
 bound_once [] x n y = ap (λ c. if c then Some n else None) (tied y x)
 bound_once (b ∷ vs) x n y =
     elim (nat_cmp x b.0.0) as (λ o. nat_cmp x b.0.0 ≡ o → bound_at (match_ordering o ((variable x, n) ∷ b ∷ vs) ((b.0, n) ∷ vs) (b ∷ with_bound vs x n)) y ≡ (if x == y then Some n else bound_at (b ∷ vs) y)) [
@@ -60,14 +60,14 @@ bound_once (b ∷ vs) x n y =
     ] refl
 
 -- variables that stay, and one more
-knows_stay : (before : List SiteTerm) (s t : RuleSetBuilder) (vs : BoundIds ℕ) (v w : Visit) → w.vars ≡ v.vars → GoesTo before s t w → KnowsVars s vs v → KnowsVars t vs w
+pub knows_stay : (before : List SiteTerm) (s t : RuleSetBuilder) (vs : BoundIds ℕ) (v w : Visit) → w.vars ≡ v.vars → GoesTo before s t w → KnowsVars s vs v → KnowsVars t vs w
 knows_stay before s t vs v w same g knows x n e =
     let k = knows x n e in
     let l = k.within in
     let m = g.longer in
     record { within = omega (arith, l, m); number = g.kept n l ∙ k.number ∙ ap (λ us. or_no_site (look (λ y. y == x) us)) (sym same) }
 
-knows_more : (s : RuleSetBuilder) (vs : BoundIds ℕ) (v : Visit) (x n : ℕ) (u : SiteTerm) → IsSiteOf s u n → KnowsVars s vs v → KnowsVars s (with_bound vs x n) (binding x u v)
+pub knows_more : (s : RuleSetBuilder) (vs : BoundIds ℕ) (v : Visit) (x n : ℕ) (u : SiteTerm) → IsSiteOf s u n → KnowsVars s vs v → KnowsVars s (with_bound vs x n) (binding x u v)
 knows_more s vs v x n u site knows y m e =
     elim (cases_Bool (x == y)) [
       | inl t ↦
@@ -141,7 +141,7 @@ pub site_stays : (before : List SiteTerm) (s t : RuleSetBuilder) (w : Visit) (u 
 site_stays before s t w u n g k = let l = k.within in let m = g.longer in record { within = omega (arith, l, m); number = g.kept n l ∙ k.number }
 
 -- the steps of single calls
-bound_stands : (before : List SiteTerm) (b : RuleSetBuilder) (v : Visit) (x : ℕ) (u : SiteTerm) → StandsAt before b v → StandsAt before b (binding x u v)
+pub bound_stands : (before : List SiteTerm) (b : RuleSetBuilder) (v : Visit) (x : ℕ) (u : SiteTerm) → StandsAt before b v → StandsAt before b (binding x u v)
 bound_stands before b v x u h = record {
   table = h.table;
   due = h.due;
@@ -181,7 +181,7 @@ asked_to before s t v u n c knows site g stay =
     goes_with before s t v (asking u c v) (subst (λ w. GoesTo before s.0 t.0 (asking w c v)) site.number g) refl stay knows
 
 -- two answers that are one
-one_answer : {A : Type 0} (a b : A) → ◌≡◌ {A = Result A VisitFault} (Ok a) (Ok b) → a ≡ b
+pub one_answer : {A : Type 0} (a b : A) → ◌≡◌ {A = Result A VisitFault} (Ok a) (Ok b) → a ≡ b
 one_answer a b e = cc
 
 module _ (p : Program) (before : List SiteTerm) where

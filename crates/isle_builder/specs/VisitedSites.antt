@@ -1,14 +1,16 @@
 -- Where a builder of a rule set stands while a rule is visited: its sites and demands are those that the visit has met, by
 -- their numbers.
-use Rattle.std.specs.Prelude.{◌≡◌, ◌⊎◌, ℕ, ◌<◌, ◌≤◌, Bool, not, if◌then◌else◌, List, [], ◌∷◌, length, map, Option, Some, None, Result, MatchResult, All, Contains, IsTrue}
+use Rattle.std.specs.Prelude.{◌≡◌, ◌⊎◌, ◌↔◌, slice_get, ℕ, ◌<◌, ◌≤◌, Bool, not, if◌then◌else◌, List, [], ◌∷◌, length, map, Option, Some, None, Result, MatchResult, All, Contains, IsTrue}
 use Rattle.std.specs.Bool.{◌==◌}
+use Rattle.std.specs.Ordering.{nat_cmp}
+use Rattle.std.specs.BTreeSet.{insert_key}
 use Rattle.isle_base.specs.Stable.{contains}
 use Rattle.isle_model.specs.sites.Sites as Sites
-use Rattle.isle_model.specs.sites.Sites.{Site, SiteTerm, SiteTerms, each_term, extractor_call, is_present, pick_of, some_part, unfold_site}
+use Rattle.isle_model.specs.sites.Sites.{Site, SiteTerm, SiteTerms, argument, each_term, extractor_call, is_present, match_some_site, pick_of, some_part, unfold_site}
 use Rattle.isle_model.specs.rules.Typed.{TypedPatterns, no_typed_pattern}
 use Rattle.isle_model.specs.lists.Tables.{Flags}
-use Rattle.isle_model.specs.sites.Limits.{most_fields, most_outputs}
-use Rattle.isle_model.specs.sites.Demands.{Visit, Valued, valued, visit_call, call_result, Opened, opened, open_call, output_sites, part_sites, pattern_count, with_sites, asking, equating, iterating, making}
+use Rattle.isle_model.specs.sites.Limits.{most_arguments, most_fields, most_outputs}
+use Rattle.isle_model.specs.sites.Demands.{Visit, Valued, valued, visit_call, call_result, Opened, opened, open_call, output_sites, part_sites, pattern_count, with_sites, asking, asking_all, equating, iterating, making, unwraps}
 use Rattle.isle_model.specs.sites.Closure.{Unreachability, conflict, conflicts_met, before_closing, field_terms}
 use Rattle.isle_base.specs.declared.syntax.Limit.{Limit}
 use Rattle.isle_base.specs.declared.syntax.Limit.TheVariants as Limits
@@ -180,3 +182,37 @@ input_terms b inputs = each_term (unfold_site (built_sites b)) (input_ids inputs
 abbrev pub Constructs : ℕ → Bool → Bool → Bool → RuleSetBuilder → List (ℕ × ℕ) → Result ℕ VisitFault → RuleSetBuilder → Type 0
 Constructs term pure infallible multi old inputs r new =
     (flags : Flags) → flags.pure ≡ pure → flags.partial ≡ not infallible → flags.multi ≡ multi → HaveSites old inputs → GivesValue old new r (visit_call flags term (input_terms old inputs))
+
+-- and with an argument, whose number has to fit
+abbrev pub MakesArgument : ℕ → RuleSetBuilder → Result ℕ VisitFault → RuleSetBuilder → Type 0
+MakesArgument i old r new =
+    (before : List SiteTerm) (v : Visit) → StandsAt before old v
+    → MatchResult r (λ n. (i < most_arguments) × Makes before old new v (argument i) n) (EndsOpening before new (making (argument i ∷ []) v) Limits.Arguments (most_arguments ≤ i) v)
+
+-- keys of a set, and these
+abbrev pub with_keys : List ℕ → List ℕ → List ℕ
+with_keys keys [] = keys
+with_keys keys (n ∷ ns) = with_keys (insert_key nat_cmp keys n) ns
+
+-- the call whose answer a site unwraps, if it does
+abbrev pub unwrapped_source : Site → List ℕ
+unwrapped_source (match_some_site source) = source ∷ []
+unwrapped_source _ = []
+
+abbrev pub unwrapped_at : List Site → ℕ → List ℕ
+unwrapped_at sites s = elim (slice_get sites s) [ None ↦ [] | Some b ↦ unwrapped_source b ]
+
+-- these are the calls whose answers a site unwraps, at any depth, in whatever order
+pub record AreUnwrapped (sites : List Site) (s : ℕ) (calls : List ℕ) : Type 0 where
+  pub within : All (λ n. n < length sites) calls
+  pub unwrapped : (u : SiteTerm) → Contains (map (unfold_site sites) calls) u ↔ Contains (unwraps (unfold_site sites s)) u
+
+-- a visit has asked the calls that a value unwraps nothing but to answer
+abbrev pub AsksNothingElse : Visit → SiteTerm → Type 0
+AsksNothingElse v u = (call : SiteTerm) (c : Sites.Constraint) → Contains (unwraps u) call → Contains v.demands.constraints (call, c) → c ≡ is_present
+
+-- and with a value that a pattern is for: each call that it unwraps is asked to answer
+abbrev pub AsksAnswers : RuleSetBuilder → ℕ → Result ℕ VisitFault → RuleSetBuilder → Type 0
+AsksAnswers old s r new =
+    (before : List SiteTerm) (v : Visit) → StandsAt before old v → s < length (built_sites old) → AsksNothingElse v (unfold_site (built_sites old) s)
+    → let w = asking_all (unwraps (unfold_site (built_sites old) s)) v in MatchResult r (λ n. (n ≡ s) × GoesTo before old new w) (EndsBefore before new w)

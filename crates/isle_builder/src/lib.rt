@@ -3,4 +3,5 @@
 
 mod builder_exprs;
 mod builder_patterns;
+mod builder_rules;
 pub mod ruleset_builder;

@@ -1,5 +1,7 @@
 //! Rules as they are read into the rule set of their term: sites, and what each rule demands of them.
 ghost use Rattle.std.specs.Prelude.{◌≡◌, ◌<◌, List, [], ◌∷◌, ◌++◌, length, map, IfErr, IfOk, OnOk};
+ghost use Rattle.isle_model.specs.lists.Names.{IsDistinct};
+ghost use Rattle.isle_model.specs.sites.RuleSets.{StandFor};
 ghost use Rattle.isle_model.specs.sites.Sites.{SiteTerm, layer, unfold_site};
 ghost use Rattle.isle_model.specs.sites.Demands.{Visit, asking, calling, equating, iterating, making, visit_start};
 ghost use Rattle.isle_sets.specs.SiteTables.{ForWantOfRoom, HasSources, IsTable};
@@ -56,6 +58,17 @@ impl RuleSetBuilder {
             iterators: StableSet::new(alloc),
             impure: Vec::new(alloc),
         }
+    }
+
+    /// Goes on to the next rule of the term: the sites stay, and nothing is demanded yet.
+    pub fn start_rule(&mut self)
+        ensures started { (before : List SiteTerm) → IsTable self.old.table → IsDistinct before → StandFor (built_sites self.old) before → StandsAt before self.new visit_start }
+        ensures kept { built_sites self.new ≡ built_sites self.old }
+    {
+        self.demanded = Demanded::new(self.alloc);
+        self.conflicts = Vec::new(self.alloc);
+        self.iterators = StableSet::new(self.alloc);
+        self.impure = Vec::new(self.alloc);
     }
 
     // Closes the demands of the rule, once it is visited.
