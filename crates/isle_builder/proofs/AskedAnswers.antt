@@ -4,10 +4,10 @@ use Rattle.std.proofs.lemmas.Bool.{cases_Bool, cond-true, cond-false}
 use Rattle.std.proofs.lemmas.List.{append_assoc, append-nil, map-append, take_all}
 use Rattle.std.proofs.Math.Seq.{take-suc}
 use Rattle.isle_model.specs.sites.Sites.{Constraint, is_present, SiteTerm, unfold_site}
-use Rattle.isle_model.specs.sites.Demands.{site_term_eq, has_site, Visit, with_demands, asking, asking_all}
-use Rattle.isle_model.specs.sites.Closure.{Unreachability, conflict_with, conflicts_met, constraint_of, with_constraints, before_closing}
-use Rattle.isle_model.proofs.Elements.{In, in_from_contains, contains_from_in, in_either, in_left, in_right, some_is, none_some}
-use Rattle.isle_model.proofs.SameSites.{term_means, term_same}
+use Rattle.isle_model.specs.sites.Demands.{site_term_eq, has_site, Visit, asking, asking_all}
+use Rattle.isle_model.specs.sites.Closure.{conflict_with, conflicts_met, constraint_of, with_constraints, before_closing}
+use Rattle.isle_model.proofs.Elements.{In, in_from_contains, contains_from_in, in_either}
+use Rattle.isle_model.proofs.SameSites.{term_same}
 use Rattle.isle_model.proofs.SitesMade.{in_has, has_in}
 use Rattle.isle_laws_demands.proofs.closure.Closing.{found_constraint}
 use Rattle.isle_sets.specs.Closings.{AreDemandsOf}

@@ -14,7 +14,6 @@ use Rattle.isle_model.specs.sites.RuleSets.{StandFor}
 use Rattle.isle_model.specs.lists.Names.{IsDistinct}
 use Rattle.isle_model.proofs.Elements.{In}
 use Rattle.isle_model.proofs.Members.{in_alone, in_head, nothing_in}
-use Rattle.isle_model.proofs.Positions.{distinct_nil}
 use Rattle.isle_model.proofs.SameSites.{term_means}
 use Rattle.isle_model.proofs.SitesMade.{in_has}
 use Rattle.isle_laws_demands.proofs.closure.Whole.{own_class}

@@ -1,24 +1,23 @@
 -- The visit of an expression by a builder that ends early ends for want of memory, or of room for the sites that the
 -- definition's visit makes.
-use Rattle.std.proofs.Common.{◌≡◌, true≢false, ℕ, suc, Bool, true, false, List, [], ◌∷◌, ◌++◌, Option, Some, None, slice_get, is_ok, refl, sym, ap, ◌∙◌, subst, inl, inr, ⊎_elim, if◌then◌else◌}
+use Rattle.std.proofs.Common.{◌≡◌, true≢false, ℕ, suc, Bool, true, false, List, [], ◌∷◌, ◌++◌, Option, Some, None, slice_get, is_ok, refl, sym, ap, ◌∙◌, subst, ⊎_elim}
 use Rattle.std.specs.Prelude.{Result, Ok, Err, alloc_error}
-use Rattle.std.proofs.lemmas.Bool.{cases_Bool, cond-true, cond-false}
 use Rattle.std.proofs.lemmas.List.{append_assoc, append-nil}
 use Rattle.isle_base.specs.declared.visit_fault.VisitFault.{VisitFault}
 use Rattle.isle_base.specs.declared.visit_fault.VisitFault.TheVariants.{Memory}
-use Rattle.isle_model.specs.lists.Tables.{Flags, TermKindEntry, variant_term, struct_term, declared_term, TermEntry}
+use Rattle.isle_model.specs.lists.Tables.{TermKindEntry, variant_term, struct_term, declared_term, TermEntry}
 use Rattle.isle_model.specs.lists.Formed.{is_formed_expr, are_formed_args, formed_lets}
 use Rattle.isle_model.specs.rules.Program.{Program, Kind, a_variant, a_struct, a_call, unknown, kind, kind_of}
 use Rattle.isle_model.specs.rules.Typed.{TypedExpr, make_term, make_var, make_bool, make_int, make_prim, make_let, TypedExprs, no_typed_expr, typed_expr_and, TypedLets, no_typed_let, typed_let_and}
 use Rattle.isle_model.specs.sites.Sites.{SiteTerm, struct_made, variant_made, constructor_call}
-use Rattle.isle_model.specs.sites.Demands.{Visit, ValuedAll, binding, calling, iterating, making, call_result, call_sites, where_multi, visit_call, visit_term, visit_expr, visit_exprs, visit_lets}
+use Rattle.isle_model.specs.sites.Demands.{Visit, ValuedAll, binding, making, call_sites, visit_call, visit_term, visit_expr, visit_exprs, visit_lets}
 use Rattle.isle_laws_demands.proofs.matching.SameExprs.{expr_keeps, from_let, from_term, from_args, from_body}
 use Rattle.isle_laws_demands.proofs.visits.Kept.{KeptByValues, expr_kept, exprs_kept, lets_kept}
 use Rattle.isle_rules.specs.ExprRuns.{entry_arg_types, MakesKind, Makes, ExprRun, InputsRun, LetsRun}
 use Rattle.isle_rules.specs.VisitRuns.{BoundIds, with_bound}
 use Rattle.isle_builder.specs.contracts.builder_exprs.RuleSetBuilderExprVisitor.TheImpl.{ghosts}
 use Rattle.isle_builder.specs.declared.ruleset_builder.RuleSetBuilder.{RuleSetBuilder}
-use Rattle.isle_builder.specs.VisitedSites.{EndsBefore, StandsAt, GoesTo, HaveSites, input_terms, value_made}
+use Rattle.isle_builder.specs.VisitedSites.{EndsBefore, StandsAt, HaveSites, input_terms, value_made}
 use Rattle.isle_builder.proofs.BuilderFields.{ends_later}
 use Rattle.isle_builder.proofs.VisitedPatterns.{KnowsVars, knows_more, bound_stands}
 use Rattle.isle_builder.proofs.VisitedExprs.{HasType, InScope, expr_visited, inputs_visited, lets_visited, knows_on, one_more_in_scope, twice}

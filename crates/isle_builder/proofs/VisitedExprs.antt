@@ -1,14 +1,14 @@
 -- The visit of an expression by a builder goes to where the definition's visit stands.
-use Rattle.std.proofs.Common.{◌≡◌, true≢false, ℕ, ◌<◌, ◌==◌, Bool, true, false, not, List, [], ◌∷◌, length, Option, Some, None, is_some, slice_get, All, Contains, is_ok, refl, sym, ap, ap₂, ◌∙◌, subst, inl, inr, ⊎_elim, arith, if◌then◌else◌}
-use Rattle.std.specs.Prelude.{Result, Ok}
+use Rattle.std.proofs.Common.{◌≡◌, true≢false, ℕ, ◌<◌, ◌==◌, Bool, true, false, not, List, [], ◌∷◌, length, Option, Some, None, is_some, slice_get, All, is_ok, refl, sym, ap, ap₂, ◌∙◌, subst, inl, inr, ⊎_elim, arith}
+use Rattle.std.specs.Prelude.{Ok}
 use Rattle.std.proofs.lemmas.Bool.{cases_Bool, cond-true, cond-false}
 use Rattle.isle_model.specs.lists.Tables.{TermKindEntry, variant_term, struct_term, declared_term, TermEntry}
 use Rattle.isle_model.specs.lists.Formed.{var_type, is_formed_expr, are_formed_args, formed_lets}
 use Rattle.isle_model.specs.rules.Program.{Program, Kind, unknown, kind_of}
 use Rattle.isle_model.specs.rules.Typed.{TypedExpr, make_term, make_var, make_bool, make_int, make_prim, make_let, TypedExprs, no_typed_expr, typed_expr_and, TypedLets, no_typed_let, typed_let_and}
-use Rattle.isle_model.specs.sites.Sites.{SiteTerm, SiteTerms, site_term_and, struct_made, variant_made, unfold_site, each_term}
-use Rattle.isle_model.specs.sites.Demands.{Visit, Valued, ValuedAll, binding, var_site, visit_call, visit_term, visit_expr, visit_exprs, visit_lets}
-use Rattle.isle_model.proofs.Elements.{none_some, some_is}
+use Rattle.isle_model.specs.sites.Sites.{SiteTerm, site_term_and, struct_made, variant_made}
+use Rattle.isle_model.specs.sites.Demands.{Visit, ValuedAll, binding, var_site, visit_call, visit_term, visit_expr, visit_exprs, visit_lets}
+use Rattle.isle_model.proofs.Elements.{some_is}
 use Rattle.isle_model.proofs.Members.{all_members, in_cases}
 use Rattle.isle_laws_demands.proofs.visits.Visited.{Same}
 use Rattle.isle_laws_demands.proofs.matching.SameExprs.{expr_keeps, from_let, from_term, from_args, from_body}

@@ -1,5 +1,5 @@
 -- The visit of a rule by a builder goes to where the definition's visit stands.
-use Rattle.std.proofs.Common.{◌≡◌, ◌⊎◌, true≢false, ℕ, suc, ◌<◌, length, ◌==◌, Bool, true, false, ◌&&◌, ◌||◌, List, [], ◌∷◌, Option, Some, None, is_none, is_some, slice_get, is_ok, refl, sym, ap, ◌∙◌, subst, inl, inr, ⊎_elim, if◌then◌else◌}
+use Rattle.std.proofs.Common.{◌≡◌, ◌⊎◌, true≢false, ℕ, suc, ◌<◌, length, ◌==◌, Bool, true, ◌&&◌, ◌||◌, List, [], ◌∷◌, Option, Some, None, is_none, is_some, slice_get, is_ok, refl, sym, ap, ◌∙◌, subst, inl, inr, ⊎_elim, if◌then◌else◌}
 use Rattle.std.specs.Prelude.{Result, Ok, IfOk}
 use Rattle.isle_base.specs.declared.visit_fault.VisitFault.{VisitFault}
 use Rattle.isle_sets.proofs.SitesAdded.{weaker_ok}
@@ -13,11 +13,11 @@ use Rattle.isle_model.specs.rules.Outcome.{then_option}
 use Rattle.isle_model.specs.rules.Program.{Program, is_partial}
 use Rattle.isle_model.specs.rules.Typed.{TypedPattern, match_bind, match_var, match_bool, match_int, match_prim, match_term, match_any, match_and, TypedPatterns, no_typed_pattern, typed_pattern_and, TypedIfLet, TypedRule}
 use Rattle.isle_model.specs.sites.Sites.{SiteTerm, argument, unfold_site}
-use Rattle.isle_model.specs.sites.Demands.{Visit, Valued, making, asking_all, unwraps, visit_start, visit_pattern, visit_expr, visit_args, visit_iflets, finished, valued, visit_rule}
+use Rattle.isle_model.specs.sites.Demands.{Visit, making, asking_all, unwraps, visit_start, visit_pattern, visit_expr, visit_args, visit_iflets, finished, valued, visit_rule}
 use Rattle.isle_model.specs.trees.Places.{is_in}
 use Rattle.isle_model.proofs.Elements.{none_some, some_is, or_split}
 use Rattle.isle_laws_demands.proofs.visits.RuleParts.{rule_parts, iflet_parts}
-use Rattle.isle_laws_demands.proofs.visits.Visited.{Same, asked_binds}
+use Rattle.isle_laws_demands.proofs.visits.Visited.{asked_binds}
 use Rattle.isle_laws_demands.proofs.matching.SameExprs.{expr_keeps}
 use Rattle.isle_rules.specs.ExprRuns.{entry_arg_types}
 use Rattle.isle_rules.specs.PatternRuns.{PatternRun}
