@@ -4,8 +4,3 @@ pub mod BuildingLists
 pub mod BuildingEnds
 pub mod BuildingTests
 pub mod Refusals
-pub mod FittingPatterns
-pub mod VisitedPatterns
-pub mod BuilderCalls
-pub mod BuilderFields
-pub mod BuilderSteps

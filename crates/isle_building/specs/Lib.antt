@@ -1,3 +1,2 @@
 pub mod Buildings
 pub mod Clashes
-pub mod VisitedSites

@@ -1,5 +1,5 @@
 //! The binding sites of a term, as its rules are read.
-ghost use Rattle.std.specs.Prelude.{◌≡◌, ◌<◌, [], length, map, IfErr, IfOk, OnOk};
+ghost use Rattle.std.specs.Prelude.{◌≡◌, ◌<◌, [], length, map, IfErr, IfOk, OnOk, MatchOption, None, Some, slice_get};
 ghost use Rattle.isle_model.specs.sites.Sites.{extract_struct_site, match_variant_site, layer, unfold_site};
 ghost use Rattle.isle_model.specs.sites.Closure.{field_terms};
 ghost use Rattle.isle_model.specs.sites.SetRules.{each_place};
@@ -47,6 +47,13 @@ impl SiteTable {
         ensures { IsTable self.now → IsSiteNumber (table_sites self.now) (site_view binding.now) result }
     {
         self.numbers.get(binding).copied()
+    }
+
+    /// What a site stands for, if it is there.
+    pub fn binding(&self, site: BindingId) -> Option<&Binding>
+        ensures { MatchOption result (slice_get (table_sites self.now) site ≡ None) (λ b. slice_get (table_sites self.now) site ≡ Some (site_view b.now)) }
+    {
+        self.bindings.get(site.index())
     }
 
     /// The number of a binding's site, which is a new one where it has none. What the answer says holds where the sites

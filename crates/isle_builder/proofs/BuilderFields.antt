@@ -1,0 +1,243 @@
+-- A builder makes sites one after another.
+use Rattle.std.proofs.Common.{◌≡◌, Bool, true, false, if◌then◌else◌, inl, inr, ℕ, zero, suc, ◌+◌, ◌<◌, List, [], ◌∷◌, ◌++◌, length, refl, sym, ap, ap₂, ◌∙◌, subst, arith, add-one}
+use Rattle.std.specs.Prelude.{Result, Ok, Err, IfOk, IfErr, MatchResult}
+use Rattle.std.specs.Global.{Vec}
+use Rattle.isle_rules.specs.VisitAnswers.{listed}
+use Rattle.std.proofs.lemmas.List.{append_assoc, append-nil, map-append}
+use Rattle.std.proofs.lemmas.List.Elements.{All-nil, All-push, All-weaker}
+use Rattle.isle_model.specs.sites.Sites.{Constraint, is_present, SiteTerm, pick_of, some_part, tuple_part, unfold_site}
+use Rattle.isle_model.specs.rules.Typed.{TypedPatterns, no_typed_pattern, typed_pattern_and}
+use Rattle.isle_model.specs.sites.Demands.{Visit, with_sites, asking, iterating, making, from_to, pattern_count, Opened, opened, open_call, output_sites, part_sites}
+use Rattle.isle_model.specs.sites.Closure.{fields_from, field_terms}
+use Rattle.isle_model.specs.lists.Tables.{Flags}
+use Rattle.isle_base.specs.declared.syntax.Limit.{Limit}
+use Rattle.isle_base.specs.declared.visit_fault.VisitFault.{VisitFault}
+use Rattle.isle_sets.specs.SiteTables.{AreFirst, IsTable}
+use Rattle.isle_builder.specs.VisitedSites.{built_sites, IsSiteOf, AreSitesOf, StandsAt, GoesTo, Makes, MakesAll, OpensTo, EndsBefore, EndsOpening, AnswersTo, answer_of, answered, fields_opened, outputs_opened}
+use Rattle.isle_builder.specs.declared.ruleset_builder.RuleSetBuilder.{RuleSetBuilder}
+use Rattle.isle_sets.proofs.ClosingTaken.{sites_append}
+use Rattle.isle_sets.proofs.FullTables.{first_with, want_weaker}
+use Rattle.isle_sets.proofs.SitesAdded.{same_all}
+
+-- 1. visits that make sites
+pub making_twice : (us ts : List SiteTerm) (v : Visit) → making ts (making us v) ≡ making (us ++ ts) v
+making_twice us ts v = λ i. record v { demands = record v.demands { made = append_assoc v.demands.made us ts i } }
+
+pub making_none : (v : Visit) → making [] v ≡ v
+making_none v = λ i. record v { demands = record v.demands { made = append-nil v.demands.made i } }
+
+-- 2. states that follow one another
+pub goes_nowhere : (before : List SiteTerm) (b : RuleSetBuilder) (v : Visit) → StandsAt before b v → GoesTo before b b v
+goes_nowhere before b v h = record { stands = h; kept = λ s l. refl; longer = omega arith }
+
+pub goes_further : (before : List SiteTerm) (old now new : RuleSetBuilder) (v w : Visit) → GoesTo before old now v → GoesTo before now new w → GoesTo before old new w
+goes_further before old now new v w g h =
+    let l = g.longer in
+    let m = h.longer in
+    record { stands = h.stands; kept = λ s q. h.kept s (omega arith) ∙ g.kept s q; longer = omega arith }
+
+pub sites_stay : (before : List SiteTerm) (old new : RuleSetBuilder) (v : Visit) (us : List SiteTerm) (ns : List ℕ) → GoesTo before old new v → AreSitesOf old us ns → AreSitesOf new us ns
+sites_stay before old new v us ns g h =
+    let l = g.longer in
+    record {
+      within = All-weaker (λ n. n < length (built_sites old)) (λ n. n < length (built_sites new)) (λ n m. omega (arith, l, m)) ns h.within;
+      numbers = same_all (unfold_site (built_sites new)) (unfold_site (built_sites old)) (length (built_sites old)) ns g.kept h.within ∙ h.numbers;
+    }
+
+-- 3. sites made so far
+pub none_made : (before : List SiteTerm) (b : RuleSetBuilder) (v : Visit) → StandsAt before b v → MakesAll before b b v [] []
+none_made before b v h = record {
+  goes = subst (GoesTo before b b) (sym (making_none v)) (goes_nowhere before b v h);
+  sites = record { within = All-nil (λ n. n < length (built_sites b)); numbers = refl };
+}
+
+pub one_made : (before : List SiteTerm) (old now new : RuleSetBuilder) (v : Visit) (us : List SiteTerm) (ns ns' : List ℕ) (u t : SiteTerm) (n : ℕ) → MakesAll before old now v us ns
+    → Makes before now new (making us v) u n → u ≡ t → ns' ≡ ns ++ n ∷ [] → MakesAll before old new v (us ++ t ∷ []) ns'
+one_made before old now new v us ns ns' u t n m one is pushed =
+    let stay = sites_stay before now new (making (u ∷ []) (making us v)) us ns one.goes m.sites in
+    let all : AreSitesOf new (us ++ u ∷ []) (ns ++ n ∷ []) = record {
+      within = All-push (λ k. k < length (built_sites new)) ns n stay.within one.site.within;
+      numbers = map-append (unfold_site (built_sites new)) ns (n ∷ []) ∙ ap₂ ◌++◌ stay.numbers (ap (λ k. k ∷ []) one.site.number);
+    } in
+    let whole : MakesAll before old new v (us ++ u ∷ []) (ns ++ n ∷ []) = record {
+      goes = subst (GoesTo before old new) (making_twice us (u ∷ []) v) (goes_further before old now new (making us v) (making (u ∷ []) (making us v)) m.goes one.goes);
+      sites = all;
+    } in
+    subst (λ k. MakesAll before old new v (us ++ k ∷ []) ns') is (subst (λ k. MakesAll before old new v (us ++ u ∷ []) k) (sym pushed) whole)
+
+-- 4. fields, one more of them
+pub fields_more : (f : ℕ → SiteTerm) (i n : ℕ) → fields_from f i n ++ f (i + n) ∷ [] ≡ fields_from f i (suc n)
+fields_more f i zero = let e : i + 0 ≡ i = omega arith in ap (λ k. f k ∷ []) e
+fields_more f i (suc n) =
+    let e : i + suc n ≡ suc i + n = omega arith in
+    ap (λ k. f i ∷ (fields_from f (suc i) n ++ f k ∷ [])) e ∙ ap (λ l. f i ∷ l) (fields_more f (suc i) n)
+
+pub field_more_of : (f : ℕ → SiteTerm) (i : ℕ) → fields_from f 0 i ++ f i ∷ [] ≡ fields_from f 0 (i + 1)
+field_more_of f i = let z : i ≡ 0 + i = omega arith in ap (λ k. fields_from f 0 i ++ f k ∷ []) z ∙ fields_more f 0 i ∙ ap (fields_from f 0) (sym (add-one i))
+
+fields_split : (f : ℕ → SiteTerm) (i k n : ℕ) → i < n → (rest : List SiteTerm) × (fields_from f k n ≡ fields_from f k i ++ f (k + i) ∷ rest)
+fields_split f i k zero l = absurd (omega arith)
+fields_split f zero k (suc n) l = let z : k + 0 ≡ k = omega arith in (fields_from f (suc k) n, ap (λ j. f j ∷ fields_from f (suc k) n) (sym z))
+fields_split f (suc i) k (suc n) l =
+    let r = fields_split f i (suc k) n (omega arith) in
+    let e : suc k + i ≡ k + suc i = omega arith in
+    (r.0, ap (λ t. f k ∷ t) (r.1 ∙ ap (λ j. fields_from f (suc k) i ++ f j ∷ r.0) e))
+
+-- 5. a builder that ended on its way to where a visit stands ended on its way to where a later one does
+pub ends_later : (before : List SiteTerm) (b : RuleSetBuilder) (v w : Visit) (more : List SiteTerm) (e : VisitFault) → w.demands.made ≡ v.demands.made ++ more → EndsBefore before b v e → EndsBefore before b w e
+ends_later before b v w more e made h =
+    want_weaker (IsTable b.table × AreFirst (built_sites b) (with_sites before v.demands.made)) (IsTable b.table × AreFirst (built_sites b) (with_sites before w.demands.made)) e
+    (λ p. (
+      p.0,
+      subst (AreFirst (built_sites b)) (sites_append v.demands.made more before ∙ ap (with_sites before) (sym made)) (first_with (built_sites b) (with_sites before v.demands.made) more p.1),
+    )) h
+
+pub field_ends : (before : List SiteTerm) (b : RuleSetBuilder) (v : Visit) (f : ℕ → SiteTerm) (u : SiteTerm) (i n : ℕ) (e : VisitFault) → i < n → u ≡ f i
+    → EndsBefore before b (making (u ∷ []) (making (fields_from f 0 i) v)) e → EndsBefore before b (making (fields_from f 0 n) v) e
+field_ends before b v f u i n e l is h =
+    let split = fields_split f i 0 n l in
+    let z : 0 + i ≡ i = omega arith in
+    let first = making (f i ∷ []) (making (fields_from f 0 i) v) in
+    let whole : fields_from f 0 n ≡ (fields_from f 0 i ++ f i ∷ []) ++ split.0 =
+    split.1 ∙ ap (λ k. fields_from f 0 i ++ f k ∷ split.0) z ∙ sym (append_assoc (fields_from f 0 i) (f i ∷ []) split.0) in
+    let made : (making (fields_from f 0 n) v).demands.made ≡ first.demands.made ++ split.0 =
+    ap (λ us. v.demands.made ++ us) whole ∙ sym (append_assoc v.demands.made (fields_from f 0 i ++ f i ∷ []) split.0)
+    ∙ ap (λ us. us ++ split.0) (sym (append_assoc v.demands.made (fields_from f 0 i) (f i ∷ []))) in
+    ends_later before b first (making (fields_from f 0 n) v) split.0 e made (subst (λ t. EndsBefore before b (making (t ∷ []) (making (fields_from f 0 i) v)) e) is h)
+
+-- 6. the fields of a site are made, and then it is asked to have them
+pub fields_open : (before : List SiteTerm) (old mid new : RuleSetBuilder) (v : Visit) (c : Constraint) (s : ℕ) (ids : List ℕ) → s < length (built_sites old)
+    → MakesAll before old mid v (field_terms c (unfold_site (built_sites old) s)) ids
+    → ((w : Visit) → StandsAt before mid w → s < length (built_sites mid) → GoesTo before mid new (asking (unfold_site (built_sites mid) s) c w))
+    → OpensTo before old new (fields_opened c (unfold_site (built_sites old) s) v) ids
+fields_open before old mid new v c s ids l m ask =
+    let u = unfold_site (built_sites old) s in
+    let made = making (field_terms c u) v in
+    let longer = m.goes.longer in
+    let asked = subst (λ t. GoesTo before mid new (asking t c made)) (m.goes.kept s l) (ask made m.goes.stands (omega (arith, l, longer))) in
+    record {
+      goes = goes_further before old mid new made (asking u c made) m.goes asked;
+      inputs = sites_stay before mid new (asking u c made) (field_terms c u) ids asked m.sites;
+    }
+
+-- 7. outputs of a call
+pub places_same : (f : ℕ → SiteTerm) (i : ℕ) (args : TypedPatterns) → from_to f i args ≡ fields_from f i (pattern_count args)
+places_same f i no_typed_pattern = refl
+places_same f i (typed_pattern_and q qs) = ap (λ l. f i ∷ l) (places_same f (suc i) qs)
+
+-- several are parts
+parts_are : (u : SiteTerm) (args : TypedPatterns) (n : ℕ) → pattern_count args ≡ n → 1 < n
+    → (part_sites u args ≡ fields_from (tuple_part u) 0 n) × (output_sites u args ≡ fields_from (tuple_part u) 0 n)
+parts_are u no_typed_pattern n e l = absurd (omega (arith, e, l))
+parts_are u (typed_pattern_and q no_typed_pattern) n e l = absurd (omega (arith, e, l))
+parts_are u (typed_pattern_and q (typed_pattern_and r rs)) n e l =
+    let same = places_same (tuple_part u) 0 (typed_pattern_and q (typed_pattern_and r rs)) ∙ ap (fields_from (tuple_part u) 0) e in (same, same)
+
+pub parts_open : (before : List SiteTerm) (old new : RuleSetBuilder) (v : Visit) (u : SiteTerm) (args : TypedPatterns) (n : ℕ) (ids : List ℕ) → pattern_count args ≡ n → 1 < n
+    → MakesAll before old new v (fields_from (tuple_part u) 0 n) ids → OpensTo before old new (outputs_opened u args v) ids
+parts_open before old new v u args n ids e l m =
+    let p = parts_are u args n e l in
+    record {
+      goes = subst (λ us. GoesTo before old new (making us v)) (sym p.0) m.goes;
+      inputs = subst (λ us. AreSitesOf new us ids) (sym p.1) m.sites;
+    }
+
+pub parts_end : (before : List SiteTerm) (b : RuleSetBuilder) (v : Visit) (u : SiteTerm) (args : TypedPatterns) (n : ℕ) (e : VisitFault) → pattern_count args ≡ n → 1 < n
+    → EndsBefore before b (making (fields_from (tuple_part u) 0 n) v) e → EndsBefore before b (outputs_opened u args v).visit e
+parts_end before b v u args n e same l h = subst (λ us. EndsBefore before b (making us v) e) (sym (parts_are u args n same l).0) h
+
+-- 8. answers of a call
+pub many_answered : (before : List SiteTerm) (old mid new : RuleSetBuilder) (v : Visit) (s n : ℕ) (u : SiteTerm) → s < length (built_sites old) → u ≡ unfold_site (built_sites old) s
+    → Makes before old mid v (pick_of u) n
+    → ((w : Visit) → StandsAt before mid w → s < length (built_sites mid) → GoesTo before mid new (iterating (unfold_site (built_sites mid) s) w))
+    → GoesTo before old new (iterating u (making (pick_of u ∷ []) v)) × IsSiteOf new (pick_of u) n
+many_answered before old mid new v s n u l is m next =
+    let w = making (pick_of u ∷ []) v in
+    let longer = m.goes.longer in
+    let g = subst (λ t. GoesTo before mid new (iterating t w)) (m.goes.kept s l ∙ sym is) (next w m.goes.stands (omega (arith, l, longer))) in
+    let more = g.longer in
+    let k = m.site.within in
+    (goes_further before old mid new w (iterating u w) m.goes g, record { within = omega (arith, more, k); number = g.kept n k ∙ m.site.number })
+
+pub some_answered : (before : List SiteTerm) (old mid new : RuleSetBuilder) (v : Visit) (s n : ℕ) (u : SiteTerm) → s < length (built_sites old) → u ≡ unfold_site (built_sites old) s
+    → Makes before old mid v (some_part u) n
+    → ((w : Visit) → StandsAt before mid w → s < length (built_sites mid) → GoesTo before mid new (asking (unfold_site (built_sites mid) s) is_present w))
+    → GoesTo before old new (asking u is_present (making (some_part u ∷ []) v)) × IsSiteOf new (some_part u) n
+some_answered before old mid new v s n u l is m next =
+    let w = making (some_part u ∷ []) v in
+    let longer = m.goes.longer in
+    let g = subst (λ t. GoesTo before mid new (asking t is_present w)) (m.goes.kept s l ∙ sym is) (next w m.goes.stands (omega (arith, l, longer))) in
+    let more = g.longer in
+    let k = m.site.within in
+    (goes_further before old mid new w (asking u is_present w) m.goes g, record { within = omega (arith, more, k); number = g.kept n k ∙ m.site.number })
+
+answered_makes : (multi infallible : Bool) (call : SiteTerm) (v : Visit) → (more : List SiteTerm) × ((answered multi infallible call v).demands.made ≡ v.demands.made ++ more)
+answered_makes true i call v = (pick_of call ∷ [], refl)
+answered_makes false true call v = ([], sym (append-nil v.demands.made))
+answered_makes false false call v = (some_part call ∷ [], refl)
+
+-- 9. an extractor's call, with its answer and its outputs
+call_opened : (multi infallible : Bool) (call : SiteTerm) (args : TypedPatterns) (v : Visit)
+    → outputs_opened (answer_of multi infallible call) args (answered multi infallible call (making (call ∷ []) v))
+    ≡ (if multi
+    then opened (output_sites (pick_of call) args) (making (part_sites (pick_of call) args) (iterating call (making (call ∷ (pick_of call ∷ [])) v)))
+    else (if infallible
+    then opened (output_sites call args) (making (part_sites call args) (making (call ∷ []) v))
+    else opened (output_sites (some_part call) args) (making (part_sites (some_part call) args) (asking call is_present (making (call ∷ (some_part call ∷ [])) v)))))
+call_opened true i call args v = ap (λ w. outputs_opened (pick_of call) args (iterating call w)) (making_twice (call ∷ []) (pick_of call ∷ []) v)
+call_opened false true call args v = refl
+call_opened false false call args v = ap (λ w. outputs_opened (some_part call) args (asking call is_present w)) (making_twice (call ∷ []) (some_part call ∷ []) v)
+
+module _ (before : List SiteTerm) (old mid now : RuleSetBuilder) (v : Visit) (flags : Flags) (multi infallible : Bool) (is : flags.multi ≡ multi) (args : TypedPatterns) (call : SiteTerm) (s n : ℕ) where
+  abbrev Call : Visit
+  Call = making (call ∷ []) v
+
+  abbrev Answered : Visit
+  Answered = answered multi infallible call Call
+
+  call_same : (qs : TypedPatterns) → outputs_opened (answer_of multi infallible call) qs Answered ≡ open_call flags infallible call qs v
+  call_same qs = subst (λ m. outputs_opened (answer_of m infallible call) qs (answered m infallible call Call) ≡ open_call flags infallible call qs v) is (call_opened flags.multi infallible call qs v)
+
+  -- the call and its answer
+  pub call_answers : Makes before old mid v call s → ((w : Visit) → StandsAt before mid w → s < length (built_sites mid) → AnswersTo before mid now multi infallible (unfold_site (built_sites mid) s) w n)
+      → AnswersTo before mid now multi infallible call Call n
+  call_answers m next = subst (λ u. AnswersTo before mid now multi infallible u Call n) m.site.number (next Call m.goes.stands m.site.within)
+
+  -- and its outputs
+  pub call_opens : (new : RuleSetBuilder) (ids : List ℕ) → Makes before old mid v call s → AnswersTo before mid now multi infallible call Call n
+      → OpensTo before now new (outputs_opened (unfold_site (built_sites now) n) args Answered) ids → OpensTo before old new (open_call flags infallible call args v) ids
+  call_opens new ids m a o =
+      let p = subst (λ u. OpensTo before now new (outputs_opened u args Answered) ids) a.site.number o in
+      let whole = outputs_opened (answer_of multi infallible call) args Answered in
+      subst (λ q. OpensTo before old new q ids) (call_same args)
+      (record {
+        goes = goes_further before old now new Answered whole.visit (goes_further before old mid now Call Answered m.goes a.goes) p.goes;
+        inputs = p.inputs;
+      })
+
+  -- it ended on the way there
+  opened_makes : (more : List SiteTerm) × ((open_call flags infallible call args v).visit.demands.made ≡ Call.demands.made ++ more)
+  opened_makes =
+      let a = answered_makes multi infallible call Call in
+      let parts = part_sites (answer_of multi infallible call) args in (
+        a.0 ++ parts,
+        ap (λ (q : Opened). q.visit.demands.made) (sym (call_same args)) ∙ ap (λ us. us ++ parts) a.1 ∙ append_assoc Call.demands.made a.0 parts,
+      )
+
+  pub call_ends : (b : RuleSetBuilder) (e : VisitFault) → EndsBefore before b Call e → EndsBefore before b (open_call flags infallible call args v).visit e
+  call_ends b e h = ends_later before b Call (open_call flags infallible call args v).visit opened_makes.0 e opened_makes.1 h
+
+  pub answer_ends : (b : RuleSetBuilder) (e : VisitFault) → EndsBefore before b Answered e → EndsBefore before b (open_call flags infallible call args v).visit e
+  answer_ends b e h =
+      ends_later before b Answered (open_call flags infallible call args v).visit (part_sites (answer_of multi infallible call) args) e (ap (λ (q : Opened). q.visit.demands.made) (sym (call_same args))) h
+
+  pub outputs_end : (b : RuleSetBuilder) (l : Limit) (TooMany : Type 0) (e : VisitFault) → EndsOpening before b (outputs_opened (answer_of multi infallible call) args Answered).visit l TooMany Answered e
+      → EndsOpening before b (open_call flags infallible call args v).visit l TooMany (open_call flags infallible call no_typed_pattern v).visit e
+  outputs_end b l TooMany e (inl h) = inl (subst (λ (q : Opened). EndsBefore before b q.visit e) (call_same args) h)
+  outputs_end b l TooMany e (inr h) =
+      inr (h.0, h.1, subst (StandsAt before b) (sym (making_none Answered) ∙ ap (λ (q : Opened). q.visit) (call_same no_typed_pattern)) h.2)
+
+-- 10. an answer by its list
+pub listed_both : (r : Result (Vec ℕ) VisitFault) (P : List ℕ → Type 0) (Q : VisitFault → Type 0) → IfOk r (λ ids. P ids.items) → IfErr r Q → MatchResult (listed r) P Q
+listed_both (Ok ids) P Q p q = p
+listed_both (Err e) P Q p q = q

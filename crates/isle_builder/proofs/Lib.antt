@@ -1,0 +1,13 @@
+pub mod FittingPatterns
+pub mod VisitedPatterns
+pub mod BuilderCalls
+pub mod BuilderFields
+pub mod BuilderSteps
+pub mod AskedAnswers
+pub mod UnwrappedSites
+pub mod AskedNothingElse
+pub mod Lent
+pub mod VisitedExprs
+pub mod RunsOfRules
+pub mod VisitedRules
+pub mod EndedExprs

@@ -1,0 +1,293 @@
+-- The calls that a site unwraps are found by taking sites apart, the greatest first.
+use Rattle.std.proofs.Common.{cond, false, nat_eq, nat_lt, ltb-true, get_or, drop, ◌≡◌, ◌⊎◌, ℕ, suc, ◌+◌, ◌<◌, ◌≤◌, List, [], ◌∷◌, ◌++◌, length, map, Option, Some, None, slice_get, All, refl, sym, ap, ◌∙◌, subst, inl, inr, arith}
+use Rattle.std.proofs.lemmas.List.{map-append}
+use Rattle.std.proofs.lemmas.Bool.{cases_Bool, cond-true, cond-false, false≢true}
+use Rattle.std.specs.Ordering.{is_lt, nat_cmp, match_ordering}
+use Rattle.std.specs.declared.cmp.Ordering.TheVariants.{Less, Equal, Greater}
+use Rattle.std.specs.BTreeSet.{insert_key}
+use Rattle.std.proofs.lemmas.Map.Lookups.{exact_unsigned}
+use Rattle.isle_model.specs.sites.Sites.{Site, bool_site, int_site, prim_site, argument_site, extractor_site, constructor_site, iterator_site, make_variant_site, match_variant_site, make_struct_site, extract_struct_site, make_some_site, match_some_site, match_tuple_site, sources_of, sources_at, SiteTerm, each_term, layer, layer_at, unfold_site}
+use Rattle.isle_model.specs.sites.Demands.{unwraps, unwraps_all}
+use Rattle.isle_model.proofs.Elements.{In, in_from_contains, contains_from_in, in_either, in_left, in_right}
+use Rattle.isle_model.proofs.Members.{all_members}
+use Rattle.isle_laws_demands.proofs.visits.Unfolding.{SourcesFirst, unfolds}
+use Rattle.isle_sets.proofs.Rests.{rest_is}
+use Rattle.isle_builder.specs.VisitedSites.{AreUnwrapped, unwrapped_at, unwrapped_source, with_keys}
+
+-- 1. keys
+inserted : (keys : List ℕ) (k t : ℕ) → In (insert_key nat_cmp keys k) t → In keys t ⊎ (k ≡ t)
+inserted [] k t i = elim i [ inl e ↦ inr e | inr n ↦ absurd n ]
+inserted (x ∷ xs) k t i =
+    elim (nat_cmp k x) as (λ o. In (match_ordering o (k ∷ x ∷ xs) (x ∷ xs) (x ∷ insert_key nat_cmp xs k)) t → In (x ∷ xs) t ⊎ (k ≡ t)) [
+      | Less ↦ λ a. elim a [ inl e ↦ inr e | inr j ↦ inl j ]
+      | Equal ↦ λ a. inl a
+      | Greater ↦ λ a. elim a [ inl e ↦ inl (inl e) | inr j ↦ elim (inserted xs k t j) [ inl m ↦ inl (inr m) | inr e ↦ inr e ] ]
+    ] i
+
+stays_in : (keys : List ℕ) (k t : ℕ) → In keys t → In (insert_key nat_cmp keys k) t
+stays_in [] k t i = absurd i
+stays_in (x ∷ xs) k t i =
+    elim (nat_cmp k x) as (λ o. In (match_ordering o (k ∷ x ∷ xs) (x ∷ xs) (x ∷ insert_key nat_cmp xs k)) t) [
+      | Less ↦ inr i
+      | Equal ↦ i
+      | Greater ↦ elim i [ inl e ↦ inl e | inr j ↦ inr (stays_in xs k t j) ]
+    ]
+
+comes_in : (keys : List ℕ) (k : ℕ) → In (insert_key nat_cmp keys k) k
+comes_in [] k = inl refl
+comes_in (x ∷ xs) k =
+    elim (nat_cmp k x) as (λ o. nat_cmp k x ≡ o → In (match_ordering o (k ∷ x ∷ xs) (x ∷ xs) (x ∷ insert_key nat_cmp xs k)) k) [
+      | Less ↦ λ e. inl refl
+      | Equal ↦ λ e. inl (sym (exact_unsigned k x e))
+      | Greater ↦ λ e. inr (comes_in xs k)
+    ] refl
+
+keys_from : (keys ns : List ℕ) (t : ℕ) → In (with_keys keys ns) t → In keys t ⊎ In ns t
+keys_from keys [] t i = inl i
+keys_from keys (n ∷ ns) t i =
+    elim (keys_from (insert_key nat_cmp keys n) ns t i) [
+      | inl j ↦ elim (inserted keys n t j) [ inl k ↦ inl k | inr e ↦ inr (inl e) ]
+      | inr j ↦ inr (inr j)
+    ]
+
+keys_stay : (keys ns : List ℕ) (t : ℕ) → In keys t → In (with_keys keys ns) t
+keys_stay keys [] t i = i
+keys_stay keys (n ∷ ns) t i = keys_stay (insert_key nat_cmp keys n) ns t (stays_in keys n t i)
+
+keys_come : (keys ns : List ℕ) (t : ℕ) → In ns t → In (with_keys keys ns) t
+keys_come keys [] t i = absurd i
+keys_come keys (n ∷ ns) t i =
+    elim i [
+      | inl e ↦ keys_stay (insert_key nat_cmp keys n) ns t (subst (In (insert_key nat_cmp keys n)) e (comes_in keys n))
+      | inr j ↦ keys_come (insert_key nat_cmp keys n) ns t j
+    ]
+
+pub one_more_key : (keys next xs : List ℕ) (i x : ℕ) → i < length xs → x ≡ get_or xs i x → next ≡ insert_key nat_cmp keys x → with_keys next (drop (i + 1) xs) ≡ with_keys keys (drop i xs)
+one_more_key keys next xs i x l is e = ap (λ k. with_keys k (drop (i + 1) xs)) e ∙ ap (with_keys keys) (sym (rest_is xs i x l is))
+
+-- 2. what one layer unwraps
+module _ (f : ℕ → SiteTerm) (u : SiteTerm) where
+  -- a source unwraps it
+  abbrev Deeper : List ℕ → Type 0
+  Deeper xs = (a : ℕ) × In xs a × In (unwraps (f a)) u
+
+  from_each : (xs : List ℕ) → In (unwraps_all (each_term f xs)) u → Deeper xs
+  from_each [] i = absurd i
+  from_each (x ∷ xs) i =
+      elim (in_either (unwraps (f x)) (unwraps_all (each_term f xs)) u i) [
+        | inl j ↦ (x, inl refl, j)
+        | inr j ↦ let r = from_each xs j in (r.0, inr r.1, r.2)
+      ]
+
+  to_each : (xs : List ℕ) → Deeper xs → In (unwraps_all (each_term f xs)) u
+  to_each [] d = absurd d.1
+  to_each (x ∷ xs) d =
+      elim d.1 [
+        | inl e ↦ in_left (unwraps (f x)) (unwraps_all (each_term f xs)) u (subst (λ y. In (unwraps (f y)) u) (sym e) d.2)
+        | inr j ↦ in_right (unwraps (f x)) (unwraps_all (each_term f xs)) u (to_each xs (d.0, j, d.2))
+      ]
+
+  from_one : (x : ℕ) → In (unwraps (f x)) u → Deeper (x ∷ [])
+  from_one x i = (x, inl refl, i)
+
+  to_one : (x : ℕ) → Deeper (x ∷ []) → In (unwraps (f x)) u
+  to_one x d = elim d.1 [ inl e ↦ subst (λ y. In (unwraps (f y)) u) (sym e) d.2 | inr n ↦ absurd n ]
+
+  from_layer : (b : Site) → In (unwraps (layer f b)) u → In (map f (unwrapped_source b)) u ⊎ Deeper (sources_of b)
+  from_layer (bool_site b ty) i = absurd i
+  from_layer (int_site z ty) i = absurd i
+  from_layer (prim_site name) i = absurd i
+  from_layer (argument_site k) i = absurd i
+  from_layer (extractor_site term source) i = inr (from_one source i)
+  from_layer (constructor_site term sources instance) i = inr (from_each sources i)
+  from_layer (iterator_site source) i = inr (from_one source i)
+  from_layer (make_variant_site ty variant fields) i = inr (from_each fields i)
+  from_layer (match_variant_site source variant field) i = inr (from_one source i)
+  from_layer (make_struct_site ty fields) i = inr (from_each fields i)
+  from_layer (extract_struct_site source field) i = inr (from_one source i)
+  from_layer (make_some_site source) i = inr (from_one source i)
+  from_layer (match_some_site source) i = elim i [ inl e ↦ inl (inl e) | inr j ↦ inr (from_one source j) ]
+  from_layer (match_tuple_site source field) i = inr (from_one source i)
+
+  to_layer : (b : Site) → Deeper (sources_of b) → In (unwraps (layer f b)) u
+  to_layer (bool_site b ty) d = absurd d.1
+  to_layer (int_site z ty) d = absurd d.1
+  to_layer (prim_site name) d = absurd d.1
+  to_layer (argument_site k) d = absurd d.1
+  to_layer (extractor_site term source) d = to_one source d
+  to_layer (constructor_site term sources instance) d = to_each sources d
+  to_layer (iterator_site source) d = to_one source d
+  to_layer (make_variant_site ty variant fields) d = to_each fields d
+  to_layer (match_variant_site source variant field) d = to_one source d
+  to_layer (make_struct_site ty fields) d = to_each fields d
+  to_layer (extract_struct_site source field) d = to_one source d
+  to_layer (make_some_site source) d = to_one source d
+  to_layer (match_some_site source) d = inr (to_one source d)
+  to_layer (match_tuple_site source field) d = to_one source d
+
+  itself : (b : Site) → In (map f (unwrapped_source b)) u → In (unwraps (layer f b)) u
+  itself (match_some_site source) i = elim i [ inl e ↦ inl e | inr n ↦ absurd n ]
+  itself (bool_site b ty) i = absurd i
+  itself (int_site z ty) i = absurd i
+  itself (prim_site name) i = absurd i
+  itself (argument_site k) i = absurd i
+  itself (extractor_site term source) i = absurd i
+  itself (constructor_site term sources instance) i = absurd i
+  itself (iterator_site source) i = absurd i
+  itself (make_variant_site ty variant fields) i = absurd i
+  itself (match_variant_site source variant field) i = absurd i
+  itself (make_struct_site ty fields) i = absurd i
+  itself (extract_struct_site source field) i = absurd i
+  itself (make_some_site source) i = absurd i
+  itself (match_tuple_site source field) i = absurd i
+
+  -- of what may be a site
+  abbrev sources_in : Option Site → List ℕ
+  sources_in o = elim o [ None ↦ [] | Some b ↦ sources_of b ]
+
+  abbrev unwrapped_in : Option Site → List ℕ
+  unwrapped_in o = elim o [ None ↦ [] | Some b ↦ unwrapped_source b ]
+
+  from_at : (o : Option Site) → In (unwraps (layer_at f o)) u → In (map f (unwrapped_in o)) u ⊎ Deeper (sources_in o)
+  from_at None i = absurd i
+  from_at (Some b) i = from_layer b i
+
+  to_at : (o : Option Site) → Deeper (sources_in o) → In (unwraps (layer_at f o)) u
+  to_at None d = absurd d.1
+  to_at (Some b) d = to_layer b d
+
+  itself_at : (o : Option Site) → In (map f (unwrapped_in o)) u → In (unwraps (layer_at f o)) u
+  itself_at None i = absurd i
+  itself_at (Some b) i = itself b i
+
+unwrapped_is_source : (b : Site) (c : ℕ) → In (unwrapped_source b) c → In (sources_of b) c
+unwrapped_is_source (match_some_site source) c i = i
+unwrapped_is_source (bool_site b ty) c i = absurd i
+unwrapped_is_source (int_site z ty) c i = absurd i
+unwrapped_is_source (prim_site name) c i = absurd i
+unwrapped_is_source (argument_site k) c i = absurd i
+unwrapped_is_source (extractor_site term source) c i = absurd i
+unwrapped_is_source (constructor_site term sources instance) c i = absurd i
+unwrapped_is_source (iterator_site source) c i = absurd i
+unwrapped_is_source (make_variant_site ty variant fields) c i = absurd i
+unwrapped_is_source (match_variant_site source variant field) c i = absurd i
+unwrapped_is_source (make_struct_site ty fields) c i = absurd i
+unwrapped_is_source (extract_struct_site source field) c i = absurd i
+unwrapped_is_source (make_some_site source) c i = absurd i
+unwrapped_is_source (match_tuple_site source field) c i = absurd i
+
+unwrapped_at_source : (o : Option Site) (c : ℕ) → In (elim o [ None ↦ [] | Some b ↦ unwrapped_source b ]) c → In (elim o [ None ↦ [] | Some b ↦ sources_of b ]) c
+unwrapped_at_source None c i = i
+unwrapped_at_source (Some b) c i = unwrapped_is_source b c i
+
+-- 3. after some steps: the sites that are due, and the calls that were found
+pub record Searched (sites : List Site) (s : ℕ) (due calls : List ℕ) (steps : ℕ) : Type 0 where
+  pub below : (t : ℕ) → In due t → t + steps ≤ s
+  pub within : (c : ℕ) → In calls c → c < length sites
+  pub found : (u : SiteTerm) → In (map (unfold_site sites) calls) u → In (unwraps (unfold_site sites s)) u
+  pub each : (t : ℕ) (u : SiteTerm) → In due t → In (unwraps (unfold_site sites t)) u → In (unwraps (unfold_site sites s)) u
+  pub all : (u : SiteTerm) → In (unwraps (unfold_site sites s)) u → In (map (unfold_site sites) calls) u ⊎ ((t : ℕ) × In due t × In (unwraps (unfold_site sites t)) u)
+
+pub search_starts : (sites : List Site) (s : ℕ) (due calls : List ℕ) → due ≡ s ∷ [] → calls ≡ [] → Searched sites s due calls 0
+search_starts sites s due calls one none =
+    subst (λ d. Searched sites s d calls 0) (sym one) (subst (λ cs. Searched sites s (s ∷ []) cs 0) (sym none) (record {
+      below = λ t i. elim i [ inl e ↦ omega (arith, e) | inr n ↦ absurd n ];
+      within = λ c i. absurd i;
+      found = λ u i. absurd i;
+      each = λ t u i j. elim i [ inl e ↦ subst (λ x. In (unwraps (unfold_site sites x)) u) (sym e) j | inr n ↦ absurd n ];
+      all = λ u i. inr (s, inl refl, i);
+    }))
+
+module _ (sites : List Site) (first : SourcesFirst sites) (s : ℕ) (there : s < length sites) where
+  abbrev f : ℕ → SiteTerm
+  f = unfold_site sites
+
+  module _ (due rest next calls found : List ℕ) (k steps : ℕ) (taken : due ≡ rest ++ k ∷ []) (less : (t : ℕ) → In rest t → t < k) (more : next ≡ with_keys rest (sources_at sites k))
+      (noted : found ≡ calls ++ unwrapped_at sites k) (h : Searched sites s due calls steps) where
+    greatest : In due k
+    greatest = subst (λ d. In d k) (sym taken) (in_right rest (k ∷ []) k (inl refl))
+
+    other : (t : ℕ) → In rest t → In due t
+    other t i = subst (λ d. In d t) (sym taken) (in_left rest (k ∷ []) t i)
+
+    source : (t : ℕ) → In (sources_at sites k) t → t < k
+    source t i = first k t (contains_from_in (sources_at sites k) t i)
+
+    either : (t : ℕ) → In next t → In rest t ⊎ In (sources_at sites k) t
+    either t i = keys_from rest (sources_at sites k) t (subst (λ d. In d t) more i)
+
+    less_again : (t : ℕ) → In next t → t < k
+    less_again t i = elim (either t i) [ inl j ↦ less t j | inr j ↦ source t j ]
+
+    of_k : (u : SiteTerm) → In (unwraps (layer_at f (slice_get sites k))) u → In (unwraps (f s)) u
+    of_k u i = h.each k u greatest (subst (λ w. In (unwraps w) u) (sym (unfolds sites first k)) i)
+
+    calls_either : (u : SiteTerm) → In (map f found) u → In (map f calls) u ⊎ In (map f (unwrapped_at sites k)) u
+    calls_either u i = in_either (map f calls) (map f (unwrapped_at sites k)) u (subst (λ l. In l u) (ap (map f) noted ∙ map-append f calls (unwrapped_at sites k)) i)
+
+    to_calls : (u : SiteTerm) → In (map f calls ++ map f (unwrapped_at sites k)) u → In (map f found) u
+    to_calls u i = subst (λ l. In l u) (sym (ap (map f) noted ∙ map-append f calls (unwrapped_at sites k))) i
+
+    of_due : (u : SiteTerm) (t : ℕ) → In due t → In (unwraps (f t)) u → In (map f found) u ⊎ ((x : ℕ) × In next x × In (unwraps (f x)) u)
+    of_due u t i j =
+        elim (in_either rest (k ∷ []) t (subst (λ d. In d t) taken i)) [
+          | inl a ↦ inr (t, subst (λ d. In d t) (sym more) (keys_stay rest (sources_at sites k) t a), j)
+          | inr a ↦
+              elim a [
+                | inl e ↦
+                    elim (from_at f u (slice_get sites k) (subst (λ w. In (unwraps w) u) (unfolds sites first k) (subst (λ x. In (unwraps (f x)) u) (sym e) j))) [
+                      | inl m ↦ inl (to_calls u (in_right (map f calls) (map f (unwrapped_at sites k)) u m))
+                      | inr d ↦ inr (d.0, subst (λ l. In l d.0) (sym more) (keys_come rest (sources_at sites k) d.0 d.1), d.2)
+                    ]
+                | inr n ↦ absurd n
+              ]
+        ]
+
+    pub search_goes_on : Searched sites s next found (suc steps)
+    search_goes_on = record {
+      below = λ t i. let a = less_again t i in let b = h.below k greatest in omega (arith, a, b);
+      within = λ c i.
+          elim (in_either calls (unwrapped_at sites k) c (subst (λ l. In l c) noted i)) [
+            | inl j ↦ h.within c j
+            | inr j ↦ let a = source c (unwrapped_at_source (slice_get sites k) c j) in let b = h.below k greatest in omega (arith, a, b, there)
+          ];
+      found = λ u i. elim (calls_either u i) [ inl j ↦ h.found u j | inr j ↦ of_k u (itself_at f u (slice_get sites k) j) ];
+      each = λ t u i j.
+          elim (either t i) [
+            | inl a ↦ h.each t u (other t a) j
+            | inr a ↦ of_k u (to_at f u (slice_get sites k) (t, a, j))
+          ];
+      all = λ u i.
+          elim (h.all u i) [
+            | inl j ↦ inl (to_calls u (in_left (map f calls) (map f (unwrapped_at sites k)) u j))
+            | inr d ↦ of_due u d.0 d.1 d.2
+          ];
+    }
+
+  -- nothing is due any more
+  pub search_ends : (due calls : List ℕ) (steps : ℕ) → ((t : ℕ) → In due t → ⊥) → Searched sites s due calls steps → AreUnwrapped sites s calls
+  search_ends due calls steps none h = record {
+    within = all_members (λ n. n < length sites) calls (λ n i. h.within n (in_from_contains calls n i));
+    unwrapped = λ u. (
+      λ i. contains_from_in (unwraps (f s)) u (h.found u (in_from_contains (map f calls) u i)),
+      λ i. elim (h.all u (in_from_contains (unwraps (f s)) u i)) [ inl j ↦ contains_from_in (map f calls) u j | inr d ↦ absurd (none d.0 d.1) ],
+    );
+  }
+
+-- 4. the greatest is taken first
+less : (a b : ℕ) → nat_cmp a b ≡ Less → a < b
+less a b e =
+    elim (cases_Bool (nat_lt a b)) [
+      | inl t ↦ ltb-true a b t
+      | inr f ↦
+          let other : is_lt (cond (nat_eq a b) Equal Greater) ≡ false =
+          elim (cases_Bool (nat_eq a b)) [ inl u ↦ ap is_lt (cond-true (nat_eq a b) Equal Greater u) | inr g ↦ ap is_lt (cond-false (nat_eq a b) Equal Greater g) ] in
+          absurd (false≢true (sym other ∙ ap is_lt (sym (cond-false (nat_lt a b) Less (cond (nat_eq a b) Equal Greater) f) ∙ e)))
+    ]
+
+pub all_less : (rest : List ℕ) (k : ℕ) → All (λ t. nat_cmp t k ≡ Less) rest → (t : ℕ) → In rest t → t < k
+all_less rest k h t i = let c = contains_from_in rest t i in less t k (subst (λ x. nat_cmp x k ≡ Less) c.2 (h c.0 t c.1))
+
+pub none_left : (keys : List ℕ) → (0 < length keys → ⊥) → (t : ℕ) → In keys t → ⊥
+none_left [] h t i = i
+none_left (k ∷ keys) h t i = h (omega arith)

@@ -1,0 +1,7 @@
+//! The builder of rule sets: what the visit of a typed rule makes of sites, and asks of them.
+#![tactic(auto)]
+
+mod builder_exprs;
+mod builder_patterns;
+mod builder_rules;
+pub mod ruleset_builder;

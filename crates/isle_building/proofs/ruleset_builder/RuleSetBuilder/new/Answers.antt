@@ -1,6 +1,0 @@
-use Rattle.isle_building.proofs.BuilderSteps.{nothing_visited}
-use Rattle.isle_building.proofs.ruleset_builder.RuleSetBuilder.new.Goals as goal
-
-pub returns : goal.returns
-returns c =
-    nothing_visited _ c.new.ensures.table c.new-2.ensures.due c.new.ensures.sites c.new-2.ensures.asked c.new-2.ensures.equated c.new-3.ensures.items c.new-4.ensures.none c.new-5.ensures.items
