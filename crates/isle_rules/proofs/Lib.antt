@@ -8,7 +8,7 @@ pub mod ArgSteps
 pub mod RuleSteps
 pub mod MapSteps
 pub mod NameSteps
-pub mod EnvEnding
+pub mod DefinedSteps
 pub mod FormSteps
 mod UsedTerms
 pub mod BoundVars
@@ -46,3 +46,8 @@ pub mod ConstructorLaws
 pub mod CheckedUses
 pub mod RulesTyped
 pub mod NamedTerms
+pub mod TemplateUses
+pub mod DefinedTerms
+pub mod ShownSettings
+pub mod RulesAtEnd
+pub mod EnvironmentsAtEnd

@@ -21,3 +21,5 @@ pub mod Lets
 pub mod RuleReadings
 pub mod RuleLists
 pub mod Constructors
+pub mod ShownEnvs
+pub mod RulesRead

@@ -1,5 +1,5 @@
 -- What naming one rule after another does.
-use Rattle.std.specs.Prelude.{◌≡◌, ℕ, ◌⊎◌, nat_eq, List, Option, Some, None, option_map, is_some, All, IsTrue, if◌then◌else◌}
+use Rattle.std.specs.Prelude.{◌≡◌, ℕ, Bool, ◌||◌, ◌⊎◌, nat_eq, List, Option, Some, None, option_map, is_some, All, IsTrue, if◌then◌else◌}
 use Rattle.isle_base.specs.declared.syntax.Error.{Error}
 use Rattle.isle_base.specs.Stable.{Entries, look_up}
 use Rattle.isle_model.specs.lists.Names.{IsDistinct}
@@ -9,7 +9,7 @@ use Rattle.isle_model.specs.lists.Elaborated.{rule_names, rule_named}
 use Rattle.isle_types.specs.declared.ids.Sym.{Sym}
 use Rattle.isle_types.specs.declared.ids.RuleId.{RuleId}
 use Rattle.isle_types.specs.Envs.{same_symbol, symbol}
-use Rattle.isle_terms.specs.Terms.{has_internal_constructor_term}
+use Rattle.isle_terms.specs.Terms.{has_constructor_term, has_extractor_term}
 use Rattle.isle_types.specs.Reading.{Reports}
 
 -- the rule of the name of a number
@@ -32,6 +32,10 @@ MapsNames old new rules m =
     ((new ≡ old) × IsDistinct (rule_names rules) × ((k : ℕ) → rule_in m k ≡ rule_named rules k))
     ⊎ (Reports old new × (IsDistinct (rule_names rules) → ⊥))
 
--- rules make each term
-abbrev pub AreMade : List TermEntry → Type 0
-AreMade terms = All (λ t. IsTrue (has_internal_constructor_term t)) terms
+-- a term has something that makes it or takes it apart
+abbrev pub is_defined_term : TermEntry → Bool
+is_defined_term t = has_constructor_term t || has_extractor_term t
+
+-- each term has
+abbrev pub AreDefined : List TermEntry → Type 0
+AreDefined terms = All (λ t. IsTrue (is_defined_term t)) terms

@@ -3,10 +3,9 @@
 ghost use Rattle.std.specs.Prelude.{◌≡◌, ℕ, IfOk, OnOk, All, IsTrue, if◌then◌else◌, not, ◌&&◌, is_some, count_by, option_map, map};
 ghost use Rattle.std.specs.Bool.{◌==◌};
 ghost use Rattle.isle_model.specs.lists.Elaborated.{named_rule, named_rules, term_name};
-ghost use Rattle.isle_terms.specs.Terms.{has_internal_constructor_term};
 ghost use Rattle.isle_terms.specs.TermViews.{term_view, term_views};
 ghost use Rattle.isle_rules.specs.Elaborating.{Checks};
-ghost use Rattle.isle_rules.specs.RuleNaming.{MapsNames, NamesRule, AreMade};
+ghost use Rattle.isle_rules.specs.RuleNaming.{MapsNames, NamesRule, is_defined_term, AreDefined};
 ghost use Rattle.isle_rules.specs.RuleViews.{rule_view, rule_views};
 
 use crate::reports::text_of;
@@ -89,13 +88,13 @@ fn map_name(
     Ok(())
 }
 
-// Notes each term that nothing makes.
+// Notes each term that nothing makes or takes apart. Upstream's `TermEnv::check_for_undefined_decls`.
 pub(crate) fn check_defined(
     tyenv: &TypeEnv,
     terms: &[Term],
     errors: &mut Vec<Error>,
 ) -> Result<(), AllocError>
-    ensures { OnOk result (Checks errors.old.items errors.new.items (AreMade (term_views terms.now))) }
+    ensures { OnOk result (Checks errors.old.items errors.new.items (AreDefined (term_views terms.now))) }
 {
     for term in terms {
         check_term(tyenv, term, errors)?;
@@ -104,9 +103,9 @@ pub(crate) fn check_defined(
 }
 
 fn check_term(tyenv: &TypeEnv, term: &Term, errors: &mut Vec<Error>) -> Result<(), AllocError>
-    ensures { OnOk result (Checks errors.old.items errors.new.items (IsTrue (has_internal_constructor_term (term_view term.now)))) }
+    ensures { OnOk result (Checks errors.old.items errors.new.items (IsTrue (is_defined_term (term_view term.now)))) }
 {
-    if term.has_internal_constructor() {
+    if term.has_constructor() || term.has_extractor() {
         return Ok(());
     }
     let alloc = *errors.allocator();

@@ -1,20 +1,18 @@
 //! The table of terms and rules.
 
-ghost use Rattle.isle_base.specs.Answers.{Answers, NoLimit};
+ghost use Rattle.isle_base.specs.Answers.{Answers};
 ghost use Rattle.isle_base.specs.SyntaxViews.{definition_views};
-ghost use Rattle.isle_model.specs.rules.Typed.{TypedRule};
-ghost use Rattle.isle_model.specs.lists.TypeTable.{IsValidTypes, type_names_met};
-ghost use Rattle.isle_model.specs.first.Elaboration.{IsCarriedElaborated, all_names};
-ghost use Rattle.isle_types.specs.Envs.{symbol_of};
+ghost use Rattle.isle_model.specs.claims.Environments.{TypesRead, AreReadable, AreRulesOf, HasTypedRules, IsLeftByRefusal, IsReadAs};
 ghost use Rattle.isle_model.specs.claims.Questions.{variant_by_id};
-ghost use Rattle.isle_types.specs.TypeTables.{SeesTypes};
+ghost use Rattle.isle_model.specs.lists.Elaborated.{TypedRules};
+ghost use Rattle.isle_types.specs.Envs.{symbol_of};
+ghost use Rattle.isle_types.specs.EnvViews.{environment_view};
 ghost use Rattle.isle_types.specs.TypeViews.{type_views};
-ghost use Rattle.isle_rules.specs.TermEnvs.{term_in_env, variant_term_in, SeesRules};
-ghost use Rattle.std.specs.Prelude.{◌≡◌, List, Some, IsSome, option_map, option_and_then, string_bytes};
+ghost use Rattle.isle_terms.specs.Whole.{shown_by};
+ghost use Rattle.isle_rules.specs.ShownEnvs.{terms_shown_by, environment_shown_by};
+ghost use Rattle.isle_rules.specs.TermEnvs.{term_in_env, variant_term_in};
+ghost use Rattle.std.specs.Prelude.{◌≡◌, Some, IsSome, OnErr, option_map, option_and_then, string_bytes};
 
-use crate::elaboration::elaborate_rules;
-use crate::numbering::number_names;
-use crate::rule_names::{check_defined, map_names, name_rules};
 use crate::rules::Rule;
 use isle_base::stablemapset::StableMap;
 use isle_base::syntax::{Def, Fault, Ident};
@@ -40,55 +38,61 @@ pub struct TermEnv {
 }
 
 impl TermEnv {
-    /// The terms and the typed rules of a list of definitions, each found by its name. `tyenv` is the type
-    /// table of the same list. Names get their ids by first meeting: those of the type table, the terms,
-    /// then rule by rule the variables of its left side, the variable of its right side, and its own name.
-    /// An unnamed rule that is the only one of its term has the term's name.
+    /// The terms and the typed rules of a list of definitions, of all forms, by any types that are handed in as
+    /// `tyenv`, a well-formed environment: that of `TypeEnv::from_ast` for the same list is one. The i-th rule, from 0, is
+    /// rule i, and each named rule is found by its name; an unnamed rule that is the only one of its term has the term's
+    /// name. Whether the templates of internal extractors take the place of their uses in patterns is handed in.
     ///
-    /// Of the forms, declarations that are neither partial nor multi are carried now, and rules whose
-    /// argument patterns are integers, wildcards and variables, each bound once, without conditions, and
-    /// with an integer or a variable on the right. `Errors` has all that is wrong with the terms, and
-    /// where nothing is, all that is wrong with the rules: each at its place, a rule that is not carried
-    /// (`not carried yet`), a wrong count of arguments, an integer where the type has none, a variable that
-    /// is not bound or has another type; then a name that an earlier rule has; then a term without rules.
-    /// `Memory` where memory is refused.
+    /// Names are added to those of `tyenv`, and nothing else of it changes: those of the terms as `TermTable::read` adds
+    /// them, then rule by rule each name as it is met, where the rule's own name comes last.
+    ///
+    /// # Errors
+    ///
+    /// `Errors` has all that is wrong with the terms, as `TermTable::read` says. Where nothing is, it has all that is wrong
+    /// with the rules: first rule by rule what was found in typing it, each at its place, or at the rule's place a limit
+    /// on expansions that it passes; then each rule with a name that an earlier one has; then each declared term that
+    /// nothing makes or takes apart; then each use, in an expression, of a term without a constructor. `Memory` where
+    /// memory is refused.
     pub fn from_ast(
         alloc: Global,
         tyenv: &mut TypeEnv,
         defs: &[Def],
         expand_internal_extractors: bool,
     ) -> Result<TermEnv, Fault>
-        requires typed { SeesTypes tyenv.old (definition_views defs.now) (type_names_met (definition_views defs.now)) }
-        requires valid { IsValidTypes (definition_views defs.now) }
-        ensures answers { Answers result ((rules : List TypedRule) × IsCarriedElaborated (definition_views defs.now) rules)
-            (λ env. (rules : List TypedRule) × IsCarriedElaborated (definition_views defs.now) rules
-            × SeesTypes tyenv.new (definition_views defs.now) (all_names (definition_views defs.now))
-            × SeesRules env (definition_views defs.now) rules expand_internal_extractors) }
-        ensures no_limit { NoLimit result }
+        ghost read: { TypesRead }
+        requires readable { AreReadable read }
+        requires types { IsReadAs (environment_view tyenv.old) read }
+        ensures answers { Answers result (HasTypedRules read (definition_views defs.now) expand_internal_extractors)
+            (λ env. (rules : TypedRules) × AreRulesOf read (definition_views defs.now) expand_internal_extractors rules (environment_shown_by env) (environment_view tyenv.new)) }
+        ensures left { OnErr result (IsLeftByRefusal read (environment_view tyenv.new)) }
     {
-        let table = TermTable::from_ast(alloc, tyenv, defs)?;
-        number_names(tyenv, defs)?;
-        let mut errors = Vec::new(alloc);
-        let mut rules = elaborate_rules(alloc, tyenv, &table, defs, &mut errors)?;
-        name_rules(&table.terms, &mut rules);
-        let rule_map = map_names(alloc, tyenv, &rules, &mut errors)?;
-        check_defined(tyenv, &table.terms, &mut errors)?;
+        let table = TermTable::read(alloc, tyenv, defs)?;
+        let mut env = TermEnv::with_terms(alloc, table, expand_internal_extractors);
+        let errors = env.read_rules(tyenv, defs)?;
         if !errors.is_empty() {
             return Err(Fault::Errors(errors));
         }
+        Ok(env)
+    }
+
+    // The terms of a table, and no rules yet.
+    fn with_terms(alloc: Global, table: TermTable, expand_internal_extractors: bool) -> TermEnv
+        ensures terms { terms_shown_by result ≡ shown_by table }
+        ensures expand { result.expand_internal_extractors ≡ expand_internal_extractors }
+    {
         let TermTable {
             terms,
             term_map,
             converters,
         } = table;
-        Ok(TermEnv {
+        TermEnv {
             terms,
             term_map,
-            rules,
-            rule_map,
+            rules: Vec::new(alloc),
+            rule_map: StableMap::new(alloc),
             converters,
             expand_internal_extractors,
-        })
+        }
     }
 
     /// The term of a name, or None where the name is no term's. `tyenv` is the environment that the terms

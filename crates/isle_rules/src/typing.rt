@@ -15,3 +15,4 @@ mod progress;
 mod rule;
 mod rules;
 mod sides;
+mod whole;

@@ -1,51 +1,34 @@
-use Rattle.std.proofs.Common.{◌≡◌, ◌∙◌, All, None, ap, refl, subst, sym}
-use Rattle.std.proofs.lemmas.List.Elements.{All-nil}
-use Rattle.isle_base.specs.Answers.{limit_of}
+use Rattle.std.proofs.Common.{sym, subst, ◌∙◌, ap, OnErr}
 use Rattle.isle_base.specs.SyntaxViews.{definition_views}
-use Rattle.isle_model.specs.lists.Elaborated.{named_rules}
-use Rattle.isle_terms.specs.TermViews.{term_views}
-use Rattle.isle_rules.specs.Elaborating.{Checks}
-use Rattle.isle_rules.specs.RuleNaming.{MapsNames, AreMade}
-use Rattle.isle_rules.specs.RuleViews.{rule_views}
-use Rattle.isle_rules.proofs.Found.{sees_more, terms_more}
-use Rattle.isle_rules.proofs.EnvEnding.{at_ok, at_err, plain_end, is_nothing, is_something}
+use Rattle.isle_model.specs.claims.Environments.{AreTermsOf, IsLeftByRefusal, setting_of}
+use Rattle.isle_types.specs.EnvViews.{environment_view}
+use Rattle.isle_rules.specs.RulesRead.{rules_of}
+use Rattle.isle_rules.proofs.EnvironmentsAtEnd.{left_in_the_end, all_read, could_be_read, whatever, is_nothing, is_something, wrong_in_the_end, right_in_the_end, read_by_terms}
 use Rattle.isle_rules.proofs.term_env.TermEnv.from_ast.Goals as goal
 
-pub elaborate_rules-requires-clause-types : goal.elaborate_rules-requires-clause-types
-elaborate_rules-requires-clause-types c = sees_more (definition_views c.args.defs.now) _ _ c.in_ok-table.ensures.answers.1.0 c.in_ok-number_names.ensures
-
-pub elaborate_rules-requires-clause-terms : goal.elaborate_rules-requires-clause-terms
-elaborate_rules-requires-clause-terms c = terms_more (definition_views c.args.defs.now) _ c.in_ok-table.ensures.answers.1.1
+pub returns-in_err-errors-clause-left : goal.returns-in_err-errors-clause-left
+returns-in_err-errors-clause-left g c =
+    whatever c.from_residual-in_err-errors.result _ (left_in_the_end g.read c.requires.0 (definition_views c.args.defs.now) c.in_ok-table.table c.read.new.tyenv c.read_rules.new.tyenv c.in_ok-table.ensures.answers.1 c.in_err-errors.ensures.keeps)
 
 pub returns-then-not-is_empty-clause-answers : goal.returns-then-not-is_empty-clause-answers
-returns-then-not-is_empty-clause-answers c =
-    let some = is_something c.check_defined.new.errors.len c.is_empty.result c.check_defined.new.errors.items c.check_defined.new.errors.ok.0 c.is_empty.ensures c.if-not-is_empty.true in
-    let named = c.name_rules.ensures ∙ ap (λ ts. named_rules (term_views ts) (rule_views c.in_ok-rules.rules.items)) c.deref.ensures.value in
-    let mapped = subst (λ rs. MapsNames c.elaborate_rules.new.errors.items c.map_names.new.errors.items (rule_views rs) c.in_ok-rule_map.rule_map) c.deref-2.ensures.value c.in_ok-rule_map.ensures in
-    let made = subst (λ ts. Checks c.map_names.new.errors.items c.check_defined.new.errors.items (AreMade (term_views ts))) c.deref-3.ensures.value c.in_ok-check_defined.ensures in
-    (some, λ v. at_err (definition_views c.args.defs.now) c.requires.valid c.in_ok-table.ensures.answers.0 c.in_ok-table.table.terms.items c.in_ok-table.ensures.answers.1.1.terms c.in_ok-rules.rules.items c.name_rules.new.rules.items named c.in_ok-rule_map.rule_map _ _ _ _ c.in_ok-rules.ensures mapped made c.new-errors.ensures.items some v.0 v.1)
+returns-then-not-is_empty-clause-answers g c =
+    let some = is_something c.in_ok-errors.errors.len c.is_empty.result c.in_ok-errors.errors.items c.in_ok-errors.errors.ok.0 c.is_empty.ensures c.if-not-is_empty.true in
+    let defs = definition_views c.args.defs.now in
+    let terms = c.in_ok-table.ensures.answers.1 in
+    let read = read_by_terms g.read c.requires.0 defs c.in_ok-table.table c.read.new.tyenv c.read_rules.new.tyenv terms c.with_terms-env.result c.with_terms-env.ensures.terms c.args.expand_internal_extractors c.with_terms-env.ensures.expand _ _ c.in_ok-errors.ensures.reads in
+    (some, λ claim. wrong_in_the_end c.in_ok-errors.errors.items some read (λ none. none claim.0 (could_be_read g.read c.requires.0 defs c.in_ok-table.table c.read.new.tyenv c.read_rules.new.tyenv terms c.in_ok-errors.ensures.keeps c.args.expand_internal_extractors claim.0 claim.1)))
 
-pub returns-then-not-is_empty-clause-no_limit : goal.returns-then-not-is_empty-clause-no_limit
-returns-then-not-is_empty-clause-no_limit c =
-    let named = c.name_rules.ensures ∙ ap (λ ts. named_rules (term_views ts) (rule_views c.in_ok-rules.rules.items)) c.deref.ensures.value in
-    let mapped = subst (λ rs. MapsNames c.elaborate_rules.new.errors.items c.map_names.new.errors.items (rule_views rs) c.in_ok-rule_map.rule_map) c.deref-2.ensures.value c.in_ok-rule_map.ensures in
-    let made = subst (λ ts. Checks c.map_names.new.errors.items c.check_defined.new.errors.items (AreMade (term_views ts))) c.deref-3.ensures.value c.in_ok-check_defined.ensures in
-    plain_end (definition_views c.args.defs.now) c.requires.valid c.in_ok-table.ensures.answers.0 c.in_ok-table.table.terms.items c.in_ok-table.ensures.answers.1.1.terms c.in_ok-rules.rules.items c.name_rules.new.rules.items named c.in_ok-rule_map.rule_map _ _ _ _ c.in_ok-rules.ensures mapped made
-    (subst (All (λ e. limit_of e ≡ None)) (sym c.new-errors.ensures.items) (All-nil (λ e. limit_of e ≡ None)))
+pub returns-then-not-is_empty-clause-left : goal.returns-then-not-is_empty-clause-left
+returns-then-not-is_empty-clause-left g c =
+    left_in_the_end g.read c.requires.0 (definition_views c.args.defs.now) c.in_ok-table.table c.read.new.tyenv c.read_rules.new.tyenv c.in_ok-table.ensures.answers.1 c.in_ok-errors.ensures.keeps
 
 pub returns-clause-answers : goal.returns-clause-answers
-returns-clause-answers c =
-    let none = is_nothing c.check_defined.new.errors.len c.is_empty.result c.check_defined.new.errors.items c.check_defined.new.errors.ok.0 c.is_empty.ensures c.if-not-is_empty.false in
-    let named = c.name_rules.ensures ∙ ap (λ ts. named_rules (term_views ts) (rule_views c.in_ok-rules.rules.items)) c.deref.ensures.value in
-    let mapped = subst (λ rs. MapsNames c.elaborate_rules.new.errors.items c.map_names.new.errors.items (rule_views rs) c.in_ok-rule_map.rule_map) c.deref-2.ensures.value c.in_ok-rule_map.ensures in
-    let made = subst (λ ts. Checks c.map_names.new.errors.items c.check_defined.new.errors.items (AreMade (term_views ts))) c.deref-3.ensures.value c.in_ok-check_defined.ensures in
-    let good = at_ok (definition_views c.args.defs.now) c.requires.valid c.in_ok-table.ensures.answers.0 c.in_ok-table.table.terms.items c.in_ok-table.ensures.answers.1.1.terms c.in_ok-rules.rules.items c.name_rules.new.rules.items named c.in_ok-rule_map.rule_map _ _ _ _ c.in_ok-rules.ensures mapped made none in
-    let terms = terms_more (definition_views c.args.defs.now) c.in_ok-table.table c.in_ok-table.ensures.answers.1.1 in (
-      (rule_views c.name_rules.new.rules.items, good.0),
-      (
-        rule_views c.name_rules.new.rules.items,
-        good.0,
-        sees_more (definition_views c.args.defs.now) _ _ c.in_ok-table.ensures.answers.1.0 c.in_ok-number_names.ensures,
-        record { terms = terms.terms; term_ids = terms.ids; rules = refl; rule_ids = good.1; converters = terms.converters; expand = refl },
-      ),
-    )
+returns-clause-answers g c =
+    let none = is_nothing c.in_ok-errors.errors.len c.is_empty.result c.in_ok-errors.errors.items c.in_ok-errors.errors.ok.0 c.is_empty.ensures c.if-not-is_empty.false in
+    let defs = definition_views c.args.defs.now in
+    let terms = c.in_ok-table.ensures.answers.1 in
+    let expand = c.args.expand_internal_extractors in
+    let read = read_by_terms g.read c.requires.0 defs c.in_ok-table.table c.read.new.tyenv c.read_rules.new.tyenv terms c.with_terms-env.result c.with_terms-env.ensures.terms expand c.with_terms-env.ensures.expand _ _ c.in_ok-errors.ensures.reads in
+    right_in_the_end c.in_ok-errors.errors.items none read (λ right.
+    let all = all_read g.read c.requires.0 defs c.in_ok-table.table c.read.new.tyenv c.read_rules.new.tyenv terms c.in_ok-errors.ensures.keeps c.read_rules.new.self (c.in_ok-errors.ensures.terms ∙ c.with_terms-env.ensures.terms) expand (c.in_ok-errors.ensures.expand ∙ c.with_terms-env.ensures.expand) right in
+    ((rules_of c.read_rules.new.self c.read_rules.new.tyenv, all.elaborated), (rules_of c.read_rules.new.self c.read_rules.new.tyenv, all)))

@@ -1,0 +1,93 @@
+-- What stands at the end of the reading of rules: all of them are typed, named and defined, or something was noted.
+use Rattle.std.proofs.Common.{◌≡◌, ◌≢◌, ℕ, List, [], map, Option, Some, None, option_map, refl, sym, ap, subst, ◌∙◌, inl, inr, ◌⊎◌}
+use Rattle.std.specs.List.{flat_map}
+use Rattle.std.proofs.lemmas.Option.{none-some, same_Some}
+use Rattle.isle_base.specs.declared.syntax.Error.{Error}
+use Rattle.isle_base.specs.Stable.{Entries}
+use Rattle.isle_model.specs.lists.Syntax.{Definition}
+use Rattle.isle_model.specs.lists.Names.{IsDistinct}
+use Rattle.isle_model.specs.lists.TermTable.{rule_trees}
+use Rattle.isle_model.specs.lists.Setting.{Setting}
+use Rattle.isle_model.specs.lists.Elaborated.{TypedRules, typed_rules, named, named_rules, rule_names, RulesElaborate}
+use Rattle.isle_model.specs.rules.Typed.{TypedRule}
+use Rattle.isle_types.specs.declared.ids.RuleId.{RuleId}
+use Rattle.isle_types.specs.declared.ids.Sym.{Sym}
+use Rattle.isle_types.specs.declared.type_env.TypeEnv.{TypeEnv}
+use Rattle.isle_types.specs.Envs.{names_of}
+use Rattle.isle_types.specs.Reading.{Reports}
+use Rattle.isle_terms.specs.TermViews.{term_views}
+use Rattle.isle_rules.specs.declared.term_env.TermEnv.{TermEnv}
+use Rattle.isle_rules.specs.declared.rules.Rule.{Rule}
+use Rattle.isle_rules.specs.Constructors.{AreFoundMade, AreTermsNamed, uses_of_rule}
+use Rattle.isle_rules.specs.Elaborating.{Checks}
+use Rattle.isle_rules.specs.RuleLists.{CollectsRules}
+use Rattle.isle_rules.specs.RuleNaming.{MapsNames, AreDefined}
+use Rattle.isle_rules.specs.RulesRead.{CanBeRead, AreReadRules, ReadsRules}
+use Rattle.isle_rules.specs.RuleViews.{rule_views}
+use Rattle.isle_rules.specs.Translating.{Keeps, IsSettingOf}
+use Rattle.isle_rules.proofs.RulesTyped.{rules_typed}
+
+-- what was noted stays
+still_some : (old new : List Error) → old ≢ [] → (new ≡ old) ⊎ Reports old new → new ≢ []
+still_some old new some (inl a) none = some (sym a ∙ none)
+still_some old new some (inr a) none = a.some none
+
+module _ (env : TermEnv) (old new : TypeEnv) (defs : List Definition) (after : TermEnv) (keeps : Keeps old new) (typed : List Rule) (e : Setting) (is : IsSettingOf old env e) (k : AreTermsNamed e (names_of old))
+    (names_are : rule_views after.rules.items ≡ named_rules (term_views env.terms.items) (rule_views typed)) where
+  abbrev rules : List TypedRule
+  rules = rule_views after.rules.items
+
+  abbrev read : TypedRules
+  read = record { rules = rule_views typed; names = names_of new }
+
+  abbrev Ends : List Error → Type 0
+  Ends errors = ((errors ≡ []) × AreReadRules e defs old new after) ⊎ ((errors ≢ []) × ((l : TypedRules) → CanBeRead e defs (names_of old) l → ⊥))
+
+  all_named : rules ≡ named_rules e.terms (rule_views typed)
+  all_named = names_are ∙ ap (λ ts. named_rules ts (rule_views typed)) is.terms
+
+  -- the rules that can be read are these
+  same_rules : typed_rules e 0 (rule_trees defs) (names_of old) ≡ Some read → (l : TypedRules) → CanBeRead e defs (names_of old) l → l.rules ≡ rules
+  same_rules t l c =
+      ap (λ (x : TypedRules). x.rules) (same_Some l (named e read) (sym c.elaborate.typed ∙ ap (option_map (named e)) t)) ∙ sym all_named
+
+  not_typed : typed_rules e 0 (rule_trees defs) (names_of old) ≡ None → (l : TypedRules) → CanBeRead e defs (names_of old) l → ⊥
+  not_typed t l c = none-some l (sym (ap (option_map (named e)) t) ∙ c.elaborate.typed)
+
+  right : typed_rules e 0 (rule_trees defs) (names_of old) ≡ Some read → IsDistinct (rule_names rules) → AreDefined (term_views env.terms.items) → CanBeRead e defs (names_of old) (record { rules = rules; names = names_of new })
+  right t once defined = record {
+    elaborate = record {
+      typed = ap (option_map (named e)) t ∙ ap (λ rs. Some (record { rules = rs; names = names_of new })) (sym all_named);
+      distinct = once;
+    };
+    defined = subst AreDefined is.terms defined;
+  }
+
+  module _ (e1 e2 e3 e4 : List Error) where
+    -- all are typed
+    where_typed : e1 ≡ [] → e4 ≡ e3 → typed_rules e 0 (rule_trees defs) (names_of old) ≡ Some read → MapsNames e1 e2 rules after.rule_map → Checks e2 e3 (AreDefined (term_views env.terms.items)) → Ends e4
+    where_typed none last t (inl n) (inl d) = inl (last ∙ d.0 ∙ n.0 ∙ none, record { right = right t n.1 d.1; named = n.2 })
+    where_typed none last t (inl n) (inr d) = inr (λ g. d.0.some (sym last ∙ g), λ l c. d.1 (subst AreDefined (sym is.terms) c.defined))
+    where_typed none last t (inr n) (inl d) = inr (λ g. n.0.some (sym d.0 ∙ sym last ∙ g), λ l c. n.1 (subst (λ rs. IsDistinct (rule_names rs)) (same_rules t l c) c.elaborate.distinct))
+    where_typed none last t (inr n) (inr d) = inr (λ g. d.0.some (sym last ∙ g), λ l c. n.1 (subst (λ rs. IsDistinct (rule_names rs)) (same_rules t l c) c.elaborate.distinct))
+
+    names_noted : MapsNames e1 e2 rules after.rule_map → (e2 ≡ e1) ⊎ Reports e1 e2
+    names_noted (inl n) = inl n.0
+    names_noted (inr n) = inr n.0
+
+    check_noted : (P : Type 0) (a b : List Error) → Checks a b P → (b ≡ a) ⊎ Reports a b
+    check_noted P a b (inl c) = inl c.0
+    check_noted P a b (inr c) = inr c.0
+
+    module _ (n : MapsNames e1 e2 rules after.rule_map) (d : Checks e2 e3 (AreDefined (term_views env.terms.items))) (c : Checks e3 e4 (AreFoundMade env new (flat_map uses_of_rule (rule_trees defs)))) where
+      -- what was noted at the first is there at the end
+      noted_first : e1 ≢ [] → e4 ≢ []
+      noted_first some = still_some e3 e4 (still_some e2 e3 (still_some e1 e2 some (names_noted n)) (check_noted (AreDefined (term_views env.terms.items)) e2 e3 d)) (check_noted (AreFoundMade env new (flat_map uses_of_rule (rule_trees defs))) e3 e4 c)
+
+      end : ((e1 ≡ []) × (e4 ≡ e3) × (typed_rules e 0 (rule_trees defs) (names_of old) ≡ Some read)) ⊎ (((e1 ≢ []) ⊎ Reports e3 e4) × (typed_rules e 0 (rule_trees defs) (names_of old) ≡ None)) → Ends e4
+      end (inl t) = where_typed t.0 t.1 t.2 n d
+      end (inr (inl some, t)) = inr (noted_first some, not_typed t)
+      end (inr (inr noted, t)) = inr (noted.some, not_typed t)
+
+      pub rules_end : CollectsRules env old new [] e1 (rule_trees defs) (rule_views typed) → Ends e4
+      rules_end r = end (rules_typed env old new keeps.inverse keeps e is k [] e1 e3 e4 (rule_trees defs) (rule_views typed) r c)

@@ -1,0 +1,26 @@
+use Rattle.std.proofs.Common.{ap, subst, sym, ◌∙◌}
+use Rattle.isle_base.specs.SyntaxViews.{definition_views}
+use Rattle.isle_model.specs.lists.Elaborated.{named_rules}
+use Rattle.isle_model.specs.lists.TermTable.{rule_trees}
+use Rattle.isle_terms.specs.TermViews.{term_views}
+use Rattle.isle_rules.specs.Elaborating.{Checks}
+use Rattle.isle_rules.specs.RuleLists.{CollectsRules}
+use Rattle.isle_rules.specs.RuleNaming.{MapsNames, AreDefined}
+use Rattle.isle_rules.specs.RuleViews.{rule_views}
+use Rattle.isle_rules.proofs.RulesAtEnd.{rules_end}
+use Rattle.isle_rules.proofs.term_env.TermEnv.read_rules.Goals as goal
+
+pub returns-clause-reads : goal.returns-clause-reads
+returns-clause-reads c e is k =
+    let defs = definition_views c.args.defs.now in
+    let env = c.args.self.now in
+    let old = c.args.tyenv.now in
+    let new = c.collect_rules.new.tyenv in
+    let typed = c.in_ok-rules.rules.items in
+    let found = c.collect_rules.new.work.errors.items in
+    let read = subst (λ es. CollectsRules env old new es found (rule_trees defs) (rule_views typed)) (c.new-work.ensures.errors ∙ c.new.ensures.items) c.in_ok-rules.ensures.reads in
+    let named = c.name_rules.ensures ∙ ap (λ ts. named_rules (term_views ts) (rule_views typed)) c.deref.ensures.value in
+    let mapped = subst (λ rs. MapsNames c.replace-errors.result.items c.map_names.new.errors.items (rule_views rs) c.in_ok-rule_map.rule_map) c.deref-2.ensures.value c.in_ok-rule_map.ensures in
+    let from_found = subst (λ es. MapsNames es c.map_names.new.errors.items (rule_views c.name_rules.new.rules.items) c.in_ok-rule_map.rule_map) (ap (λ v. v.items) c.replace-errors.ensures.value) mapped in
+    let defined = subst (λ ts. Checks c.map_names.new.errors.items c.check_defined.new.errors.items (AreDefined (term_views ts))) c.deref-3.ensures.value c.in_ok-check_defined.ensures in
+    rules_end env old new defs _ c.in_ok-rules.ensures.keeps typed e is k named found c.map_names.new.errors.items c.check_defined.new.errors.items c.check_constructors.new.errors.items from_found defined c.in_ok-check_constructors.ensures read
