@@ -1,28 +1,41 @@
-//! How long the type tables of long lists take: `rt run -- times` reads lists of 1,000, 10,000 and
-//! 100,000 definitions. `rt run -- SIZE ..` reads lists of these sizes, and prints no times.
+//! How long the tables of long lists take: `rt run -- times` reads lists of 1,000, 10,000 and
+//! 100,000 definitions, rules or variables. `rt run -- SIZE ..` reads lists of these sizes, and prints no times.
 #![tactic(auto)]
 
 mod definitions;
+mod lists;
+mod tables;
 
-use definitions::definitions;
-use isle_base::syntax::{Def, Fault};
-use isle_types::TypeEnv;
+use lists::{Kind, definitions_of};
 use std::alloc::{AllocError, Global};
 use std::io::ErrorKind;
 use std::rt::{Clock, Env};
 use std::time::Instant;
 use std::{env, io};
+use tables::Table;
 
 // The sizes of which times are printed.
 const SIZES: [usize; 3] = [1000, 10_000, 100_000];
 
+// What is read: how far, and a list of what.
+const READINGS: [(Table, Kind); 5] = [
+    (Table::Types, Kind::Types),
+    (Table::Terms, Kind::Terms),
+    (Table::Rules, Kind::Rules),
+    (Table::Rules, Kind::RulesOfOneTerm),
+    (Table::Rules, Kind::Variables),
+];
+
 fn main(rt: HostRuntime) -> io::Result<()> {
     let sizes = sizes(&rt, rt.alloc())?;
-    if sizes.is_empty() {
-        print_times(&rt, rt.alloc())
-    } else {
-        print_counts(&rt, rt.alloc(), &sizes)
+    for (table, kind) in READINGS {
+        if sizes.is_empty() {
+            print_times(&rt, rt.alloc(), table, kind)?;
+        } else {
+            print_counts(&rt, rt.alloc(), table, kind, &sizes)?;
+        }
     }
+    Ok(())
 }
 
 // The sizes that the words name, none where there is one word, `times`. Other words are an error, and so
@@ -44,46 +57,47 @@ fn sizes(rt: &(impl Env + Alloc), alloc: Global) -> io::Result<Vec<usize>> {
     }
 }
 
-// For each size what its type table has.
-fn print_counts(rt: &impl Print, alloc: Global, sizes: &[usize]) -> io::Result<()> {
+// For each size what the table of a list has.
+fn print_counts(
+    rt: &impl Print,
+    alloc: Global,
+    table: Table,
+    kind: Kind,
+    sizes: &[usize],
+) -> io::Result<()> {
     for size in sizes {
-        let defs = definitions(alloc, *size)?;
-        println!(rt; "{}", counts(alloc, &defs)?)?;
+        let defs = definitions_of(alloc, kind, *size)?;
+        let counts = table.read(alloc, &defs)?;
+        println!(rt; "{} definitions: {counts}", defs.len())?;
     }
     Ok(())
 }
 
-// How many definitions there are, and how much their type table has.
-fn counts(alloc: Global, defs: &[Def]) -> io::Result<String> {
-    let env = table(alloc, defs)?;
-    Ok(format!(in alloc;
-        "{} definitions: {} types, {} names, {} constants",
-        defs.len(),
-        env.types.len(),
-        env.syms.len(),
-        env.const_types.len()
-    )?)
-}
-
-// For each size the time that its type table takes, and how many times the time of the size before.
-fn print_times(rt: &(impl Clock + Print), alloc: Global) -> io::Result<()> {
+// For each size the time that the table of a list takes, and how many times the time of the size before.
+fn print_times(
+    rt: &(impl Clock + Print),
+    alloc: Global,
+    table: Table,
+    kind: Kind,
+) -> io::Result<()> {
     let mut before = None;
     for size in SIZES {
-        let micros = time(rt, alloc, size)?;
+        let micros = time(rt, alloc, table, kind, size)?;
         let growth = growth(alloc, before, micros)?;
-        println!(rt; "{size} definitions: {} ms{growth}", micros / 1000)?;
+        let name = kind.name();
+        println!(rt; "{size} {name}: {} ms{growth}", micros / 1000)?;
         before = Some(micros);
     }
     Ok(())
 }
 
-// The microseconds that the type table of so many definitions takes.
-fn time(rt: &impl Clock, alloc: Global, size: usize) -> io::Result<u128> {
-    let defs = definitions(alloc, size)?;
+// The microseconds that the table of a list of so many definitions takes.
+fn time(rt: &impl Clock, alloc: Global, table: Table, kind: Kind, size: usize) -> io::Result<u128> {
+    let defs = definitions_of(alloc, kind, size)?;
     let start = Instant::now(rt)?;
-    let env = table(alloc, &defs)?;
+    let counts = table.read(alloc, &defs)?;
     let micros = start.elapsed(rt)?.as_micros();
-    drop(env);
+    drop(counts);
     Ok(micros)
 }
 
@@ -98,13 +112,4 @@ fn growth(alloc: Global, before: Option<u128>, micros: u128) -> Result<String, A
         tenths / 10,
         tenths % 10
     )
-}
-
-// The type table of definitions, all of which are right.
-fn table(alloc: Global, defs: &[Def]) -> io::Result<TypeEnv> {
-    match TypeEnv::from_ast(alloc, defs) {
-        Ok(env) => Ok(env),
-        Err(Fault::Memory(error)) => Err(io::Error::from(error)),
-        Err(Fault::Errors(_)) => Err(io::Error::from(ErrorKind::InvalidData)),
-    }
 }

@@ -13,6 +13,7 @@ pub mod Standing
 pub mod FirstOfTerm
 pub mod RootSteps
 pub mod ConverterSteps
+pub mod KindChanges
 pub mod ExternSteps
 pub mod Callees
 pub mod TemplateNames

@@ -1,52 +1,21 @@
-use Rattle.std.proofs.Common.{◌≡◌, ◌<◌, true, false, not, length, get_or, refl, sym, ap, subst, ◌∙◌, inl, inr, rules}
+use Rattle.std.proofs.Common.{◌≡◌, true, false, get_or, refl, ap, ◌∙◌, rules}
 use Rattle.std.proofs.Math.ListN.{set}
-use Rattle.isle_model.specs.lists.Tables.{external_constructor}
-use Rattle.isle_base.specs.SyntaxViews.{name_view}
-use Rattle.isle_types.specs.Envs.{symbol_of}
-use Rattle.isle_types.specs.VariantReading.{ReportsIf}
-use Rattle.isle_terms.specs.TermViews.{term_view, term_views}
-use Rattle.isle_terms.specs.Externing.{made_by_this, with_kind}
-use Rattle.isle_terms.proofs.Changing.{changes_one, view_at}
-use Rattle.isle_terms.proofs.Rooting.{is_within}
+use Rattle.isle_terms.proofs.KindChanges.{kind_refused, kind_changed}
 use Rattle.isle_terms.proofs.term_table.TermTable.read_constructor.Goals as goal
 
 pub returns-then-not-branch-clause-reads : goal.returns-then-not-branch-clause-reads
 returns-then-not-branch-clause-reads c =
     let items = c.args.self.now.terms.items in
-    let within : c.in-Some.id.0 < length c.args.self.now.terms.items = is_within c.args.self.now c.requires (symbol_of c.args.tyenv.now (name_view c.args.term.now).text) c.in-Some.id.0 c.in-Some.ensures in
-    let value : c.index-2.result.now ≡ get_or items c.in-Some.id.0 c.index-2.result.now = c.index-2.ensures ∙ ap (λ k. get_or items k c.index-2.result.now) c.index.ensures in
+    let this : c.index-2.result.now ≡ get_or items c.in-Some.id.0 c.index-2.result.now = c.index-2.ensures ∙ ap (λ k. get_or items k c.index-2.result.now) c.index.ensures in
     let taken : c.in_ok-may_have_constructor.field-0 ≡ false = search rules in
-    inr (
-      subst (λ b. ReportsIf (not b) c.args.errors.now.items c.may_have_constructor.new.errors.items) taken c.in_ok-may_have_constructor.ensures.noted,
-      inr (record {
-        id = c.in-Some.id.0;
-        found = sym c.in-Some.ensures;
-        entry = term_view c.index-2.result.now;
-        at = view_at items c.in-Some.id.0 c.index-2.result.now c.index-2.result.now within value;
-        fails = sym c.in_ok-may_have_constructor.ensures.free ∙ taken;
-      }),
-    )
+    let may = c.in_ok-may_have_constructor.ensures in
+    kind_refused _ _ _ _ _ _ _ c.requires c.in-Some.id.0 c.in-Some.ensures c.index-2.result.now this _ may.free may.noted taken
 
 pub returns-clause-reads : goal.returns-clause-reads
 returns-clause-reads c =
     let items = c.args.self.now.terms.items in
-    let within : c.in-Some.id.0 < length c.args.self.now.terms.items = is_within c.args.self.now c.requires (symbol_of c.args.tyenv.now (name_view c.args.term.now).text) c.in-Some.id.0 c.in-Some.ensures in
-    let value : c.index-2.result.now ≡ get_or items c.in-Some.id.0 c.index-2.result.now = c.index-2.ensures ∙ ap (λ k. get_or items k c.index-2.result.now) c.index.ensures in
+    let this : c.index-2.result.now ≡ get_or items c.in-Some.id.0 c.index-2.result.now = c.index-2.ensures ∙ ap (λ k. get_or items k c.index-2.result.now) c.index.ensures in
     let again : c.index_mut.result.now ≡ get_or items c.in-Some.id.0 c.index_mut.result.now = c.index_mut.ensures.value ∙ ap (λ k. get_or items k c.index_mut.result.now) c.index-3.ensures in
     let free : c.in_ok-may_have_constructor.field-0 ≡ true = search rules in
-    inl (
-      subst (λ b. ReportsIf (not b) c.args.errors.now.items c.may_have_constructor.new.errors.items) free c.in_ok-may_have_constructor.ensures.noted,
-      record {
-        id = c.in-Some.id.0;
-        found = sym c.in-Some.ensures;
-        entry = term_view c.index-2.result.now;
-        at = view_at items c.in-Some.id.0 c.index-2.result.now c.index-2.result.now within value;
-        passes = sym c.in_ok-may_have_constructor.ensures.free ∙ free;
-        changes = record {
-          terms = ap (λ k. term_views (set items k c.set_constructor.new.self)) c.index-3.ensures
-              ∙ changes_one (with_kind (made_by_this (external_constructor c.args.name.0))) items c.in-Some.id.0 c.set_constructor.new.self c.index_mut.result.now within (c.set_constructor.ensures ∙ ap (λ t. with_kind (made_by_this (external_constructor c.args.name.0)) (term_view t)) again);
-          term_map = refl;
-          converters = refl;
-        };
-      },
-    )
+    let may = c.in_ok-may_have_constructor.ensures in
+    kind_changed _ _ _ _ _ _ _ c.requires c.in-Some.id.0 c.in-Some.ensures c.index-2.result.now this _ may.free may.noted _ c.set_constructor.new.self _ (ap (λ k. set items k c.set_constructor.new.self) c.index-3.ensures) refl refl again c.set_constructor.ensures free
