@@ -1,15 +1,10 @@
 pub mod PatternBridges
 pub mod ExprBridges
 mod Copies
-pub mod Texts
-pub mod MetNames
-pub mod Found
-pub mod ArgSteps
-pub mod RuleSteps
+pub mod Defaults
 pub mod MapSteps
 pub mod NameSteps
 pub mod DefinedSteps
-pub mod FormSteps
 mod UsedTerms
 pub mod BoundVars
 pub mod PatternRunSteps

@@ -9,7 +9,7 @@ use Rattle.isle_model.specs.rules.Typed.{TypedRule}
 use Rattle.isle_model.specs.lists.Elaborated.{term_name, named_rule, named_rules}
 use Rattle.isle_types.specs.declared.ids.Sym.{Sym}
 use Rattle.isle_rules.specs.declared.rules.Rule.{Rule}
-use Rattle.isle_rules.proofs.ArgSteps.{same_default}
+use Rattle.isle_rules.proofs.Defaults.{same_default}
 use Rattle.isle_rules.specs.RuleViews.{rule_view, rule_views}
 
 abbrev root : TypedRule → ℕ

@@ -1,17 +1,14 @@
 -- A rule, from what its sides became.
 use Rattle.std.proofs.Common.{◌≡◌, ℕ, ℤ, Bool, true, false, cond, List, [], ◌∷◌, length, map, Option, Some, None, unwrap_or, pos, refl, sym, ap, subst, ◌∙◌, inl, inr, ◌⊎◌, ⊎_elim, arith}
 use Rattle.std.proofs.lemmas.List.{length-append}
-use Rattle.isle_base.specs.declared.syntax.Pattern as T
-use Rattle.isle_base.specs.SyntaxViews as S
-use Rattle.isle_model.specs.first.Elaboration.{root_args}
-use Rattle.isle_model.specs.lists.Syntax.{Name, PatternTree, var_pattern, bind_pattern, bool_pattern, int_pattern, prim_pattern, term_pattern, wildcard_pattern, and_pattern, macro_arg, PatternTrees, no_pattern, pattern_and, pattern_list, RuleTree}
+use Rattle.isle_model.specs.lists.Syntax.{Name, RuleTree}
 use Rattle.isle_model.specs.lists.Tables.{Flags, TermEntry}
 use Rattle.isle_model.specs.lists.TermTable.{root_name}
 use Rattle.isle_model.specs.rules.Typed.{TypedPattern, TypedPatterns, no_typed_pattern, typed_pattern_and, TypedRule, TypedVar}
 use Rattle.isle_model.specs.lists.Names.{number, with_name}
 use Rattle.isle_model.specs.lists.Setting.{Setting, Scope, var_named, declared_flags}
 use Rattle.isle_model.specs.lists.Typings.{Typing}
-use Rattle.isle_model.specs.lists.Elaborated.{root_parts, typed_list, Sides, with_own_name, own_number, rule_of_sides, finished_rule, may_have_priority}
+use Rattle.isle_model.specs.lists.Elaborated.{typed_list, Sides, with_own_name, own_number, rule_of_sides, finished_rule, may_have_priority}
 use Rattle.isle_types.specs.Envs.{names_of, IsInterned}
 use Rattle.isle_types.specs.Reading.{Reports, MayReport}
 use Rattle.isle_rules.specs.declared.rules.BoundVar.{BoundVar}
@@ -25,31 +22,8 @@ use Rattle.isle_rules.specs.RuleReadings.{sides_reading, scope_of, rule_of_entry
 use Rattle.isle_rules.specs.RuleViews.{var_view}
 use Rattle.isle_rules.specs.Translating.{Standing, Keeps, IsSettingOf, Shows, Reading, IsTranslated, IsReported, Stops}
 use Rattle.isle_rules.proofs.ExprLeaves.{is_false}
-use Rattle.isle_rules.proofs.PatternUsing.{found_so, list_is}
+use Rattle.isle_rules.proofs.PatternUsing.{found_so}
 use Rattle.isle_rules.proofs.Readings.{becomes_same, reported_then}
-
--- a list of patterns as the parts of a pattern
-abbrev trees_of : List PatternTree → PatternTrees
-trees_of [] = no_pattern
-trees_of (p ∷ ps) = pattern_and p (trees_of ps)
-
-back : (ps : PatternTrees) → trees_of (pattern_list ps) ≡ ps
-back no_pattern = refl
-back (pattern_and p ps) = ap (pattern_and p) (back ps)
-
-args_are : (p : PatternTree) → pattern_list (root_parts p) ≡ root_args p
-args_are (term_pattern name args at) = refl
-args_are (var_pattern name at) = refl
-args_are (bind_pattern name of at) = refl
-args_are (bool_pattern b at) = refl
-args_are (int_pattern z at) = refl
-args_are (prim_pattern name at) = refl
-args_are (wildcard_pattern at) = refl
-args_are (and_pattern parts at) = refl
-args_are (macro_arg i at) = refl
-
-pub root_is : (p : PatternTree) (args : List T.Pattern) → map S.pattern_view args ≡ root_args p → root_parts p ≡ S.pattern_views args
-root_is p args h = sym (back (root_parts p)) ∙ ap trees_of (args_are p ∙ sym h ∙ sym (list_is args)) ∙ back (S.pattern_views args)
 
 pub listed : (qs : List TypedPattern) (parts : List TypedPattern → TypedPatterns) → parts [] ≡ no_typed_pattern → ((q : TypedPattern) (rest : List TypedPattern) → parts (q ∷ rest) ≡ typed_pattern_and q (parts rest)) → typed_list (parts qs) ≡ qs
 listed [] parts none some = ap typed_list none

@@ -1,17 +1,14 @@
 -- What stands at the end of the reading of rules: all of them are typed, named and defined, or something was noted.
-use Rattle.std.proofs.Common.{◌≡◌, ◌≢◌, ℕ, List, [], map, Option, Some, None, option_map, refl, sym, ap, subst, ◌∙◌, inl, inr, ◌⊎◌}
+use Rattle.std.proofs.Common.{◌≡◌, ◌≢◌, List, [], Some, None, option_map, sym, ap, subst, ◌∙◌, inl, inr, ◌⊎◌}
 use Rattle.std.specs.List.{flat_map}
 use Rattle.std.proofs.lemmas.Option.{none-some, same_Some}
 use Rattle.isle_base.specs.declared.syntax.Error.{Error}
-use Rattle.isle_base.specs.Stable.{Entries}
 use Rattle.isle_model.specs.lists.Syntax.{Definition}
 use Rattle.isle_model.specs.lists.Names.{IsDistinct}
 use Rattle.isle_model.specs.lists.TermTable.{rule_trees}
 use Rattle.isle_model.specs.lists.Setting.{Setting}
-use Rattle.isle_model.specs.lists.Elaborated.{TypedRules, typed_rules, named, named_rules, rule_names, RulesElaborate}
+use Rattle.isle_model.specs.lists.Elaborated.{TypedRules, typed_rules, named, named_rules, rule_names}
 use Rattle.isle_model.specs.rules.Typed.{TypedRule}
-use Rattle.isle_types.specs.declared.ids.RuleId.{RuleId}
-use Rattle.isle_types.specs.declared.ids.Sym.{Sym}
 use Rattle.isle_types.specs.declared.type_env.TypeEnv.{TypeEnv}
 use Rattle.isle_types.specs.Envs.{names_of}
 use Rattle.isle_types.specs.Reading.{Reports}
@@ -22,7 +19,7 @@ use Rattle.isle_rules.specs.Constructors.{AreFoundMade, AreTermsNamed, uses_of_r
 use Rattle.isle_rules.specs.Elaborating.{Checks}
 use Rattle.isle_rules.specs.RuleLists.{CollectsRules}
 use Rattle.isle_rules.specs.RuleNaming.{MapsNames, AreDefined}
-use Rattle.isle_rules.specs.RulesRead.{CanBeRead, AreReadRules, ReadsRules}
+use Rattle.isle_rules.specs.RulesRead.{CanBeRead, AreReadRules}
 use Rattle.isle_rules.specs.RuleViews.{rule_views}
 use Rattle.isle_rules.specs.Translating.{Keeps, IsSettingOf}
 use Rattle.isle_rules.proofs.RulesTyped.{rules_typed}

@@ -1,16 +1,15 @@
 -- The tables that the terms of a list were read into are those that its rules are typed by.
-use Rattle.std.proofs.Common.{◌≡◌, ◌==◌, ℕ, suc, ◌+◌, ◌<◌, ◌||◌, Bool, true, false, cond, List, [], ◌∷◌, ◌++◌, length, map, All, IsTrue, Contains, Option, Some, None, option_map, slice_get, refl, sym, ap, subst, ◌∙◌, inl, inr, arith, eqb-true}
+use Rattle.std.proofs.Common.{◌≡◌, ◌==◌, ℕ, ◌+◌, ◌<◌, true, false, cond, List, [], ◌∷◌, ◌++◌, length, map, All, IsTrue, Contains, Option, Some, None, slice_get, refl, sym, ap, subst, ◌∙◌, inl, inr, eqb-true}
 use Rattle.std.specs.List.{cons_option, enumerate_from, filter_map, flat_map, position_from}
-use Rattle.std.specs.Str.{bytes_eq}
-use Rattle.std.proofs.lemmas.Bool.{cases_Bool, cond-true, cond-false, or_cases}
+use Rattle.std.proofs.lemmas.Bool.{cases_Bool, cond-false}
 use Rattle.std.proofs.lemmas.List.Elements.{All-nil, All-cons, All-head, All-tail, All-append, All-contains, All-weaker}
 use Rattle.std.proofs.lemmas.Option.{none-some, slice_get_within}
 use Rattle.isle_model.specs.lists.Syntax.{Definition}
-use Rattle.isle_model.specs.lists.Names.{number, has_name, with_names, IsDistinct}
+use Rattle.isle_model.specs.lists.Names.{number, has_name, IsDistinct}
 use Rattle.isle_model.specs.lists.Tables.{TermEntry}
 use Rattle.isle_model.specs.lists.KnownTypes.{KnownTypes}
 use Rattle.isle_model.specs.lists.Setting.{entry_named}
-use Rattle.isle_model.specs.lists.TermTable.{decl_names, function_of, made_by, term_names, term_names_met, term_table, converters}
+use Rattle.isle_model.specs.lists.TermTable.{decl_names, function_of, made_by, term_names, term_names_met, term_table}
 use Rattle.isle_model.specs.rules.Meaning.{look}
 use Rattle.isle_model.specs.rules.Outcome.{then_option}
 use Rattle.isle_model.specs.claims.Environments.{TypesRead, IsReadAs, AreReadable, setting_of, numbered, terms_by_name, environment_of, with_read_names, AreTermsOf}
@@ -20,12 +19,11 @@ use Rattle.isle_model.proofs.Names.{found, has_at, at_number, has_left, has_kept
 use Rattle.isle_laws_lists.proofs.TermLaws.{terms_have_names_lem, terms_stand_at_ids_lem}
 use Rattle.isle_laws_lists.proofs.TypesStay.{types_are_shown_lem, types_stay_lem}
 use Rattle.isle_types.specs.declared.type_env.TypeEnv.{TypeEnv}
-use Rattle.isle_types.specs.Envs.{names_of, type_at, constant_at}
+use Rattle.isle_types.specs.Envs.{names_of, type_at}
 use Rattle.isle_types.specs.EnvViews.{environment_view}
 use Rattle.isle_terms.proofs.TypesStaying.{with_names_more}
 use Rattle.isle_rules.specs.declared.term_env.TermEnv.{TermEnv}
 use Rattle.isle_rules.specs.ShownEnvs.{terms_shown_by}
-use Rattle.isle_rules.specs.TermEnvs.{term_in_env}
 use Rattle.isle_rules.specs.Translating.{IsSettingOf, IsWholeTemplate}
 use Rattle.isle_rules.proofs.TemplateUses.{templates_are_whole}
 

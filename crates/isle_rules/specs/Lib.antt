@@ -2,10 +2,8 @@ pub mod PatternViews
 pub mod ExprViews
 pub mod RuleViews
 pub mod TermEnvs
-pub mod Numbering
 pub mod Elaborating
 pub mod RuleNaming
-pub mod Forms
 pub mod VisitAnswers
 pub mod VisitRuns
 pub mod PatternRuns

@@ -1,11 +1,8 @@
 //! Typed rules: patterns, expressions, the rules that they make, and the table of terms and rules.
 #![tactic(auto)]
 
-mod elaboration;
 mod expr_visits;
 mod exprs;
-mod forms;
-mod numbering;
 mod pattern_visits;
 mod patterns;
 mod reports;

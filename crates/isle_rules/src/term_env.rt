@@ -39,20 +39,21 @@ pub struct TermEnv {
 
 impl TermEnv {
     /// The terms and the typed rules of a list of definitions, of all forms, by any types that are handed in as
-    /// `tyenv`, a well-formed environment: that of `TypeEnv::from_ast` for the same list is one. The i-th rule, from 0, is
-    /// rule i, and each named rule is found by its name; an unnamed rule that is the only one of its term has the term's
-    /// name. Whether the templates of internal extractors take the place of their uses in patterns is handed in.
+    /// `tyenv`, a well-formed environment: that of `TypeEnv::from_ast` for the same list is one.
+    /// `expand_internal_extractors` says whether the templates of internal extractors take the place of their uses in
+    /// patterns. The i-th rule, from 0, is rule i. An unnamed rule that is the only one of its term has the term's
+    /// name. Upstream's `TermEnv::from_ast`.
     ///
-    /// Names are added to those of `tyenv`, and nothing else of it changes: those of the terms as `TermTable::read` adds
-    /// them, then rule by rule each name as it is met, where the rule's own name comes last.
+    /// Names are added to those of `tyenv`, and nothing else of it changes: those of terms as `TermTable::read` adds
+    /// them, then rule by rule those of its variables and constants as they are met, and its own name last.
     ///
     /// # Errors
     ///
-    /// `Errors` has all that is wrong with the terms, as `TermTable::read` says. Where nothing is, it has all that is wrong
-    /// with the rules: first rule by rule what was found in typing it, each at its place, or at the rule's place a limit
-    /// on expansions that it passes; then each rule with a name that an earlier one has; then each declared term that
-    /// nothing makes or takes apart; then each use, in an expression, of a term without a constructor. `Memory` where
-    /// memory is refused.
+    /// `Errors` has all that is wrong with the terms, as `TermTable::read` says. Where nothing is, it has all that is
+    /// wrong with the rules: what typing them finds, rule by rule, a limit on expansions that a rule passes with the
+    /// place of the rule; then each rule with a name that an earlier rule has; then each declared term without rules,
+    /// external constructor and extractor; then each use of a term without a constructor in an expression.
+    /// `Memory` where memory is refused.
     pub fn from_ast(
         alloc: Global,
         tyenv: &mut TypeEnv,

@@ -1,8 +1,8 @@
 //! How a rule is typed.
 
-ghost use Rattle.std.specs.Prelude.{◌≡◌, true, not, ◌&&◌, [], IfOk, OnOk, option_map, is_some};
+ghost use Rattle.std.specs.Prelude.{◌≡◌, true, not, ◌&&◌, [], pos, IfOk, OnOk, option_map, is_some, unwrap_or};
 ghost use Rattle.isle_base.specs.SyntaxViews as S;
-ghost use Rattle.isle_model.specs.lists.Elaborated.{rule_of_sides, with_own_name, own_number};
+ghost use Rattle.isle_model.specs.lists.Elaborated.{root_parts, rule_of_sides, with_own_name, own_number};
 ghost use Rattle.isle_model.specs.lists.Setting.{declared_flags};
 ghost use Rattle.isle_terms.specs.TermViews.{flags_view, term_view};
 ghost use Rattle.isle_types.specs.Envs.{names_of, IsInterned};
@@ -11,8 +11,6 @@ ghost use Rattle.isle_rules.specs.RuleReadings.{rule_reading, sides_view, scope_
 ghost use Rattle.isle_rules.specs.RuleViews.{rule_view};
 ghost use Rattle.isle_rules.specs.Translating.{standing, Keeps, MayTranslate};
 
-use crate::elaboration::prio_of;
-use crate::forms::args_of;
 use crate::rules::{BoundVar, Rule};
 use crate::term_env::TermEnv;
 use crate::typing::progress::{Progress, Stop};
@@ -68,6 +66,23 @@ impl TermEnv {
         let whole = finish_rule(tyenv, &work.seen, rule, id, term, sides)?;
         Ok(Some(whole))
     }
+}
+
+// The patterns of a rule's arguments.
+fn args_of(rule: &syntax::Rule) -> &[syntax::Pattern]
+    ensures { root_parts (S.rule_view rule.now).pattern ≡ S.pattern_views result.now }
+{
+    match &rule.pattern {
+        syntax::Pattern::Term { args, .. } => args,
+        _ => &[],
+    }
+}
+
+// The priority of a rule: 0 where none is given.
+fn prio_of(rule: &syntax::Rule) -> i64
+    ensures { result ≡ unwrap_or (S.rule_view rule.now).prio (pos 0) }
+{
+    rule.prio.unwrap_or(0)
 }
 
 // The flags of a term, where it is declared.

@@ -1,4 +1,4 @@
-use Rattle.std.proofs.Common.{ap, subst, sym, ◌∙◌}
+use Rattle.std.proofs.Common.{ap, subst, ◌∙◌}
 use Rattle.isle_base.specs.SyntaxViews.{definition_views}
 use Rattle.isle_model.specs.lists.Elaborated.{named_rules}
 use Rattle.isle_model.specs.lists.TermTable.{rule_trees}

@@ -5,7 +5,7 @@ use Rattle.isle_rules.specs.RuleReadings.{sides_view}
 use Rattle.isle_rules.specs.RuleViews.{rule_view}
 use Rattle.isle_rules.specs.Translating.{standing}
 use Rattle.isle_rules.proofs.Readings.{stop_is}
-use Rattle.isle_rules.proofs.RuleForms.{root_is, no_root, no_term, not_declared, no_sides, rule_stops, rule_done}
+use Rattle.isle_rules.proofs.RuleForms.{no_root, no_term, not_declared, no_sides, rule_stops, rule_done}
 use Rattle.isle_rules.proofs.term_env.TermEnv.translate_rule.Goals as goal
 
 pub returns-in_default-clause-made : goal.returns-in_default-clause-made
@@ -15,9 +15,6 @@ returns-in_default-clause-made c =
 pub returns-in_default-find_term-clause-made : goal.returns-in_default-find_term-clause-made
 returns-in_default-find_term-clause-made c =
     no_term c.args.self.now (standing c.args.tyenv.now c.args.work.now) c.requires (S.rule_view c.args.rule.now) c.args.id.0 (S.name_view c.in-Some.sym.now) c.in-Some.ensures _ c.in_default-find_term.ensures c.in_ok-report-2.ensures
-
-pub translate_sides-requires-clause-root : goal.translate_sides-requires-clause-root
-translate_sides-requires-clause-root c = root_is (S.pattern_view c.args.rule.now.pattern) c.args_of-args.result.now c.args_of-args.ensures
 
 pub returns-in_default-flags_of-clause-made : goal.returns-in_default-flags_of-clause-made
 returns-in_default-flags_of-clause-made c =
