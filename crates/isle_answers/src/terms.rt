@@ -24,6 +24,6 @@ pub(crate) fn answer_to_terms(
 // How many terms the definitions declare and their types make.
 fn number_of_terms(alloc: Global, defs: &[Def]) -> Result<usize, Fault> {
     let mut tyenv = TypeEnv::from_ast(alloc, defs)?;
-    let table = TermTable::read(alloc, &mut tyenv, defs)?;
+    let table = TermTable::from_ast(alloc, &mut tyenv, defs)?;
     Ok(table.terms.len())
 }

@@ -51,7 +51,7 @@ fn type_counts(alloc: Global, env: &TypeEnv) -> Result<String, AllocError> {
 
 fn terms(alloc: Global, defs: &[Def]) -> Result<String, Fault> {
     let mut tyenv = TypeEnv::from_ast(alloc, defs)?;
-    let table = TermTable::read(alloc, &mut tyenv, defs)?;
+    let table = TermTable::from_ast(alloc, &mut tyenv, defs)?;
     Ok(term_counts(alloc, &tyenv, &table)?)
 }
 

@@ -46,12 +46,12 @@ impl TermEnv {
     /// patterns. The i-th rule, from 0, is rule i. An unnamed rule that is the only one of its term has the term's
     /// name. Upstream's `TermEnv::from_ast`.
     ///
-    /// Names are added to those of `tyenv`, and nothing else of it changes: those of terms as `TermTable::read` adds
+    /// Names are added to those of `tyenv`, and nothing else of it changes: those of terms as `TermTable::from_ast` adds
     /// them, then rule by rule those of its variables and constants as they are met, and its own name last.
     ///
     /// # Errors
     ///
-    /// `Errors` has all that is wrong with the terms, as `TermTable::read` says. Where nothing is, it has all that is
+    /// `Errors` has all that is wrong with the terms, as `TermTable::from_ast` says. Where nothing is, it has all that is
     /// wrong with the rules: what typing them finds, rule by rule, a limit on expansions that a rule passes with the
     /// place of the rule; then each rule with a name that an earlier rule has; then each declared term without rules,
     /// external constructor and extractor; then each use of a term without a constructor in an expression.
@@ -70,7 +70,7 @@ impl TermEnv {
         ensures left { OnErr result (IsLeftByRefusal read (environment_view tyenv.new)) }
         ensures limits { OnErrors result (λ es. NamesOnlyPassed (PassedInReading read (definition_views defs.now) expand_internal_extractors) (error_views es)) }
     {
-        let table = TermTable::read(alloc, tyenv, defs)?;
+        let table = TermTable::from_ast(alloc, tyenv, defs)?;
         let mut env = TermEnv::with_terms(alloc, table, expand_internal_extractors);
         let errors = env.read_rules(tyenv, defs)?;
         if !errors.is_empty() {

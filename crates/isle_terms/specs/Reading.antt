@@ -1,11 +1,10 @@
 -- What reading one definition does to a term table, to a type environment and to the errors found so far.
-use Rattle.std.specs.Prelude.{◌≡◌, ℕ, zero, suc, ◌<◌, true, false, nat_eq, List, [], ◌∷◌, ◌++◌, ◌⊎◌, length, map, if◌then◌else◌, Option, Some, None, is_some, option_and_then, All, IsTrue}
-use Rattle.isle_model.specs.lists.Syntax.{Name, DeclTree, RuleTree, Definition, declaration, rule_definition}
-use Rattle.isle_model.specs.lists.Names.{number, with_name}
+use Rattle.std.specs.Prelude.{◌≡◌, ℕ, ◌<◌, nat_eq, List, [], ◌∷◌, ◌++◌, ◌⊎◌, length, map, if◌then◌else◌, Option, Some, None, is_some, option_and_then, All, IsTrue}
+use Rattle.isle_model.specs.lists.Syntax.{Name, DeclTree, RuleTree}
+use Rattle.isle_model.specs.lists.Names.{with_name}
 use Rattle.isle_model.specs.rules.Outcome.{then_option}
 use Rattle.isle_model.specs.lists.Tables.{internal_constructor, TermKindEntry, variant_term, struct_term, declared_term, TermEntry}
 use Rattle.isle_model.specs.lists.TermTable.{decl_flags, root_name}
-use Rattle.isle_model.specs.first.TermTable.{is_carried_term}
 use Rattle.isle_base.specs.declared.syntax.Error.{Error}
 use Rattle.isle_types.specs.declared.type_env.TypeEnv.{TypeEnv}
 use Rattle.isle_types.specs.Envs.{names_of, symbol_of, type_of_name, IsInterned}
@@ -75,30 +74,6 @@ IsFreeOrReported name table es es' = ((es' ≡ es) × (term_at table name ≡ No
 abbrev pub AddsOrReports : DeclTree → TypeEnv → ℕ → TermTable → TermTable → List Error → List Error → Type 0
 AddsOrReports d env name old new es es' = ((es' ≡ es) × AddsTerm d env name old new) ⊎ (Reports es es' × HasUnknown d env)
 
--- what a declaration says becomes the next term
-pub record ReadsRight (d : DeclTree) (old new : TypeEnv) (table table' : TermTable) : Type 0 where
-  pub carried : is_carried_term (declaration d) ≡ true
-  pub interns : Interns d.term.text old new
-  pub free : term_at table (number (names_of old) d.term.text) ≡ None
-  pub adds : AddsTerm d new (number (names_of old) d.term.text) table table'
-
--- what is wrong with a declaration
-abbrev pub IsWrong : DeclTree → TypeEnv → TypeEnv → TermTable → Type 0
-IsWrong d old new table =
-    (is_carried_term (declaration d) ≡ false) ⊎ (IsTakenByTerm (number (names_of old) d.term.text) table ⊎ (Interns d.term.text old new × HasUnknown d new))
-
-abbrev pub ReadsDecl : DeclTree → TypeEnv → TermTable → List Error → TypeEnv → TermTable → List Error → Type 0
-ReadsDecl d old table es new table' es' = ((es' ≡ es) × ReadsRight d old new table table') ⊎ (Reports es es' × IsWrong d old new table)
-
--- what a definition says of terms is read
-abbrev pub ReadsOther : Definition → TypeEnv → TermTable → List Error → TypeEnv → TermTable → List Error → Type 0
-ReadsOther d old table es new table' es' =
-    ((es' ≡ es) × (new ≡ old) × (table' ≡ table) × (is_carried_term d ≡ true)) ⊎ (Reports es es' × (is_carried_term d ≡ false))
-
-abbrev pub ReadsSignature : Definition → TypeEnv → TermTable → List Error → TypeEnv → TermTable → List Error → Type 0
-ReadsSignature (declaration d) old table es new table' es' = ReadsDecl d old table es new table' es'
-ReadsSignature d old table es new table' es' = ReadsOther d old table es new table' es'
-
 -- a term that is made by rules
 abbrev pub internal_kind : TermKindEntry → TermKindEntry
 internal_kind (variant_term variant) = variant_term variant
@@ -108,31 +83,9 @@ internal_kind (declared_term flags constructor_kind extractor_kind) = declared_t
 abbrev pub internal_entry : TermEntry → TermEntry
 internal_entry e = record { id = e.id; at = e.at; name = e.name; arg_tys = e.arg_tys; ret_ty = e.ret_ty; kind = internal_kind e.kind }
 
--- the entries, of which one is made by rules now
-abbrev pub mark : ℕ → List TermEntry → List TermEntry
-mark n [] = []
-mark zero (e ∷ es) = internal_entry e ∷ es
-mark (suc n) (e ∷ es) = e ∷ mark n es
-
 -- the term that a rule is of
 abbrev pub root_term_id : TypeEnv → TermTable → RuleTree → Option ℕ
 root_term_id env table r = then_option (root_name r.pattern) (term_of_name env table)
-
--- a rule's term is made by rules now
-pub record MarksRoot (r : RuleTree) (env : TypeEnv) (old new : TermTable) : Type 0 where
-  pub id : ℕ
-  pub root : root_term_id env old r ≡ Some id
-  pub terms : term_views new.terms.items ≡ mark id (term_views old.terms.items)
-  pub term_map : new.term_map ≡ old.term_map
-  pub converters : new.converters ≡ old.converters
-
-abbrev pub ReadsRule : RuleTree → TypeEnv → TermTable → List Error → TermTable → List Error → Type 0
-ReadsRule r env old es new es' = ((es' ≡ es) × MarksRoot r env old new) ⊎ (Reports es es' × (root_term_id env old r ≡ None))
-
--- what a definition says of the terms that rules make is read
-abbrev pub ReadsRoot : Definition → TypeEnv → TermTable → List Error → TermTable → List Error → Type 0
-ReadsRoot (rule_definition r) env old es new es' = ReadsRule r env old es new es'
-ReadsRoot d env old es new es' = (es' ≡ es) × (new ≡ old)
 
 -- names may have been met, and nothing else changed
 pub record MayIntern (old new : TypeEnv) : Type 0 where

@@ -1,15 +1,14 @@
-//! How the term table is read off a list of definitions: what the declarations say first, then the
-//! terms that rules are of. What is wrong with a definition is noted, and the reading goes on.
+//! How the term table is read off a list of definitions, group by group. What is wrong with a definition is noted, and the
+//! reading goes on.
 
 ghost use Rattle.std.specs.Prelude.{◌≡◌, ◌⊎◌, ◌++◌, ◌∷◌, [], ℕ, None, Some, All, nat_eq, if◌then◌else◌, length, map, IfOk, OnOk, MatchOption, option_map};
-ghost use Rattle.isle_base.specs.SyntaxViews.{decl_view, definition_view, definition_views, name_view, rule_view};
+ghost use Rattle.isle_base.specs.SyntaxViews.{decl_view, name_view};
 ghost use Rattle.isle_types.specs.Envs.{names_of, IsInterned};
 ghost use Rattle.isle_model.specs.lists.Names.{number};
 ghost use Rattle.isle_types.specs.Reading.{Reports};
 ghost use Rattle.isle_terms.specs.TermTables.{term_at};
 ghost use Rattle.isle_terms.specs.TermViews.{term_view, term_views};
-ghost use Rattle.isle_terms.specs.Reading.{IsWithin, Interns, MayIntern, IsKnownInEnv, HaveTypes, IsFreeOrReported, AddsOrReports, ReadsDecl, ReadsSignature, ReadsRule, ReadsRoot, internal_entry, signature_entry, term_of_name};
-ghost use Rattle.isle_terms.specs.Stages.{ReadsSignatures, ReadsRoots};
+ghost use Rattle.isle_terms.specs.Reading.{IsWithin, Interns, MayIntern, IsKnownInEnv, HaveTypes, IsFreeOrReported, AddsOrReports, internal_entry, signature_entry, term_of_name};
 
 mod converters;
 mod declarations;
@@ -22,73 +21,11 @@ mod whole;
 
 use crate::term::{ConstructorKind, Term, TermFlags, TermKind};
 use crate::term_table::TermTable;
-use isle_base::syntax::{Decl, Def, Error, Extern, Ident, Pos, Rule};
+use isle_base::syntax::{Decl, Error, Ident, Pos};
 use isle_types::{Sym, TermId, TypeEnv, TypeId, report};
 use std::alloc::AllocError;
 
 impl TermTable {
-    // Reads what all declarations say.
-    pub(crate) fn collect_term_sigs(
-        &mut self,
-        tyenv: &mut TypeEnv,
-        errors: &mut Vec<Error>,
-        defs: &[Def],
-    ) -> Result<(), AllocError>
-        requires { ReadsSignatures (definition_views defs.now) (definition_views defs.now) tyenv.old self.old errors.old.items }
-        ensures { OnOk result (ReadsSignatures (definition_views defs.now) [] tyenv.new self.new errors.new.items) }
-    {
-        for def in defs {
-            self.collect_term_sig(tyenv, errors, def)?;
-        }
-        Ok(())
-    }
-
-    // Reads what a definition says of terms.
-    fn collect_term_sig(
-        &mut self,
-        tyenv: &mut TypeEnv,
-        errors: &mut Vec<Error>,
-        def: &Def,
-    ) -> Result<(), AllocError>
-        requires inverse { IsInterned tyenv.old }
-        requires within { IsWithin self.old }
-        ensures inverse { IsInterned tyenv.new }
-        ensures within { OnOk result (IsWithin self.new) }
-        ensures reads { OnOk result (ReadsSignature (definition_view def.now) tyenv.old self.old errors.old.items tyenv.new self.new errors.new.items) }
-    {
-        match def {
-            Def::Decl(decl) => self.collect_decl(tyenv, errors, decl),
-            Def::Extractor(extractor) => report(errors, extractor.pos, "not carried yet"),
-            Def::Converter(converter) => report(errors, converter.pos, "not carried yet"),
-            Def::Extern(Extern::Constructor { pos, .. }) => report(errors, *pos, "not carried yet"),
-            Def::Extern(Extern::Extractor { pos, .. }) => report(errors, *pos, "not carried yet"),
-            Def::TypeDef(_) | Def::Rule(_) | Def::Extern(Extern::Const { .. }) | Def::Other => {
-                Ok(())
-            }
-        }
-    }
-
-    // Reads what a declaration says.
-    fn collect_decl(
-        &mut self,
-        tyenv: &mut TypeEnv,
-        errors: &mut Vec<Error>,
-        decl: &Decl,
-    ) -> Result<(), AllocError>
-        requires inverse { IsInterned tyenv.old }
-        requires within { IsWithin self.old }
-        ensures inverse { IsInterned tyenv.new }
-        ensures within { OnOk result (IsWithin self.new) }
-        ensures reads { OnOk result (ReadsDecl (decl_view decl.now) tyenv.old self.old errors.old.items tyenv.new self.new errors.new.items) }
-    {
-        if decl.multi || decl.partial {
-            return report(errors, decl.pos, "not carried yet");
-        }
-        let name = tyenv.intern_mut(&decl.term)?;
-        self.check_free(errors, decl, name)?;
-        self.add_decl(tyenv, errors, decl, name)
-    }
-
     // Notes a declaration whose name is a term's already, and then the earlier one.
     pub(crate) fn check_free(
         &self,
@@ -163,64 +100,6 @@ impl TermTable {
             kind,
         })?;
         self.term_map.insert(name, id)?;
-        Ok(())
-    }
-
-    // Reads which terms all rules are of.
-    pub(crate) fn collect_constructors(
-        &mut self,
-        tyenv: &TypeEnv,
-        errors: &mut Vec<Error>,
-        defs: &[Def],
-    ) -> Result<(), AllocError>
-        requires { ReadsRoots (definition_views defs.now) (definition_views defs.now) tyenv.now self.old errors.old.items }
-        ensures { OnOk result (ReadsRoots (definition_views defs.now) [] tyenv.now self.new errors.new.items) }
-    {
-        for def in defs {
-            self.collect_constructor(tyenv, errors, def)?;
-        }
-        Ok(())
-    }
-
-    // Reads which term a definition is a rule of, if it is one.
-    fn collect_constructor(
-        &mut self,
-        tyenv: &TypeEnv,
-        errors: &mut Vec<Error>,
-        def: &Def,
-    ) -> Result<(), AllocError>
-        requires { IsWithin self.old }
-        ensures within { OnOk result (IsWithin self.new) }
-        ensures reads { OnOk result (ReadsRoot (definition_view def.now) tyenv.now self.old errors.old.items self.new errors.new.items) }
-    {
-        let Def::Rule(rule) = def else {
-            return Ok(());
-        };
-        self.collect_rule(tyenv, errors, rule)
-    }
-
-    // Reads which term a rule is of.
-    fn collect_rule(
-        &mut self,
-        tyenv: &TypeEnv,
-        errors: &mut Vec<Error>,
-        rule: &Rule,
-    ) -> Result<(), AllocError>
-        requires { IsWithin self.old }
-        ensures within { OnOk result (IsWithin self.new) }
-        ensures reads { OnOk result (ReadsRule (rule_view rule.now) tyenv.now self.old errors.old.items self.new errors.new.items) }
-    {
-        let Some(root) = rule.pattern.root_term() else {
-            return report(
-                errors,
-                rule.pos,
-                "Rule does not have a term at the LHS root",
-            );
-        };
-        let Some(term) = self.find_term(tyenv, root) else {
-            return report(errors, rule.pos, "Rule LHS root term is not defined");
-        };
-        set_internal(&mut self.terms[term.index()]);
         Ok(())
     }
 

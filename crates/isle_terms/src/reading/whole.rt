@@ -26,7 +26,7 @@ impl TermTable {
     /// `Errors` has all that is wrong in the first of four groups in which something is: declarations and the
     /// terms that types make; rules' terms and internal extractors; converters; external functions. `Memory`
     /// where memory is refused.
-    pub fn read(alloc: Global, tyenv: &mut TypeEnv, defs: &[Def]) -> Result<TermTable, Fault>
+    pub fn from_ast(alloc: Global, tyenv: &mut TypeEnv, defs: &[Def]) -> Result<TermTable, Fault>
         ghost read: { TypesRead }
         requires readable { AreReadable read }
         requires types { IsReadAs (environment_view tyenv.old) read }

@@ -3,5 +3,5 @@ use Rattle.isle_base.specs.SyntaxViews.{definition_views}
 use Rattle.isle_model.specs.claims.Environments.{types_read}
 use Rattle.isle_bench.proofs.tables.terms.Given as goal
 
-abbrev pub ghost-read : goal.ghost-read
-ghost-read a = types_read (definition_views a.defs.now)
+abbrev pub ghost-from_ast : goal.ghost-from_ast
+ghost-from_ast a = types_read (definition_views a.defs.now)

@@ -8,19 +8,19 @@ use Rattle.isle_rules.proofs.term_env.TermEnv.from_ast.Goals as goal
 
 pub returns-in_err-errors-clause-left : goal.returns-in_err-errors-clause-left
 returns-in_err-errors-clause-left g c =
-    whatever c.from_residual-in_err-errors.result _ (left_in_the_end g.read c.requires.0 (definition_views c.args.defs.now) c.in_ok-table.table c.read.new.tyenv c.read_rules.new.tyenv c.in_ok-table.ensures.answers.1 c.in_err-errors.ensures.keeps)
+    whatever c.from_residual-in_err-errors.result _ (left_in_the_end g.read c.requires.0 (definition_views c.args.defs.now) c.in_ok-table.table c.from_ast.new.tyenv c.read_rules.new.tyenv c.in_ok-table.ensures.answers.1 c.in_err-errors.ensures.keeps)
 
 pub returns-then-not-is_empty-clause-answers : goal.returns-then-not-is_empty-clause-answers
 returns-then-not-is_empty-clause-answers g c =
     let some = is_something c.in_ok-errors.errors.len c.is_empty.result c.in_ok-errors.errors.items c.in_ok-errors.errors.ok.0 c.is_empty.ensures c.if-not-is_empty.true in
     let defs = definition_views c.args.defs.now in
     let terms = c.in_ok-table.ensures.answers.1 in
-    let read = read_by_terms g.read c.requires.0 defs c.in_ok-table.table c.read.new.tyenv c.read_rules.new.tyenv terms c.with_terms-env.result c.with_terms-env.ensures.terms c.args.expand_internal_extractors c.with_terms-env.ensures.expand _ _ c.in_ok-errors.ensures.reads in
-    (some, λ claim. wrong_in_the_end c.in_ok-errors.errors.items some read (λ none. none claim.0 (could_be_read g.read c.requires.0 defs c.in_ok-table.table c.read.new.tyenv c.read_rules.new.tyenv terms c.in_ok-errors.ensures.keeps c.args.expand_internal_extractors claim.0 claim.1)))
+    let read = read_by_terms g.read c.requires.0 defs c.in_ok-table.table c.from_ast.new.tyenv c.read_rules.new.tyenv terms c.with_terms-env.result c.with_terms-env.ensures.terms c.args.expand_internal_extractors c.with_terms-env.ensures.expand _ _ c.in_ok-errors.ensures.reads in
+    (some, λ claim. wrong_in_the_end c.in_ok-errors.errors.items some read (λ none. none claim.0 (could_be_read g.read c.requires.0 defs c.in_ok-table.table c.from_ast.new.tyenv c.read_rules.new.tyenv terms c.in_ok-errors.ensures.keeps c.args.expand_internal_extractors claim.0 claim.1)))
 
 pub returns-then-not-is_empty-clause-left : goal.returns-then-not-is_empty-clause-left
 returns-then-not-is_empty-clause-left g c =
-    left_in_the_end g.read c.requires.0 (definition_views c.args.defs.now) c.in_ok-table.table c.read.new.tyenv c.read_rules.new.tyenv c.in_ok-table.ensures.answers.1 c.in_ok-errors.ensures.keeps
+    left_in_the_end g.read c.requires.0 (definition_views c.args.defs.now) c.in_ok-table.table c.from_ast.new.tyenv c.read_rules.new.tyenv c.in_ok-table.ensures.answers.1 c.in_ok-errors.ensures.keeps
 
 pub returns-clause-answers : goal.returns-clause-answers
 returns-clause-answers g c =
@@ -28,9 +28,9 @@ returns-clause-answers g c =
     let defs = definition_views c.args.defs.now in
     let terms = c.in_ok-table.ensures.answers.1 in
     let expand = c.args.expand_internal_extractors in
-    let read = read_by_terms g.read c.requires.0 defs c.in_ok-table.table c.read.new.tyenv c.read_rules.new.tyenv terms c.with_terms-env.result c.with_terms-env.ensures.terms expand c.with_terms-env.ensures.expand _ _ c.in_ok-errors.ensures.reads in
+    let read = read_by_terms g.read c.requires.0 defs c.in_ok-table.table c.from_ast.new.tyenv c.read_rules.new.tyenv terms c.with_terms-env.result c.with_terms-env.ensures.terms expand c.with_terms-env.ensures.expand _ _ c.in_ok-errors.ensures.reads in
     right_in_the_end c.in_ok-errors.errors.items none read (λ right.
-    let all = all_read g.read c.requires.0 defs c.in_ok-table.table c.read.new.tyenv c.read_rules.new.tyenv terms c.in_ok-errors.ensures.keeps c.read_rules.new.self (c.in_ok-errors.ensures.terms ∙ c.with_terms-env.ensures.terms) expand (c.in_ok-errors.ensures.expand ∙ c.with_terms-env.ensures.expand) right in
+    let all = all_read g.read c.requires.0 defs c.in_ok-table.table c.from_ast.new.tyenv c.read_rules.new.tyenv terms c.in_ok-errors.ensures.keeps c.read_rules.new.self (c.in_ok-errors.ensures.terms ∙ c.with_terms-env.ensures.terms) expand (c.in_ok-errors.ensures.expand ∙ c.with_terms-env.ensures.expand) right in
     ((rules_of c.read_rules.new.self c.read_rules.new.tyenv, all.elaborated), (rules_of c.read_rules.new.self c.read_rules.new.tyenv, all)))
 
 pub returns-then-not-is_empty-clause-limits : goal.returns-then-not-is_empty-clause-limits

@@ -1,4 +1,4 @@
 use Rattle.isle_rules.proofs.term_env.TermEnv.from_ast.Given as goal
 
-abbrev pub ghost-read : goal.ghost-read
-ghost-read g a = g.read
+abbrev pub ghost-from_ast : goal.ghost-from_ast
+ghost-from_ast g a = g.read

@@ -1,19 +1,37 @@
 use Rattle.std.proofs.Common.{◌≡◌, length, option_map, ap, rules}
+use Rattle.isle_base.specs.SyntaxViews.{definition_views}
 use Rattle.isle_types.specs.Envs.{symbol}
-use Rattle.isle_terms.proofs.Signing.{first_sign}
-use Rattle.isle_terms.proofs.Rooting.{nothing, first_root, at_ok}
+use Rattle.isle_terms.specs.Converting.{ConvertersRead}
+use Rattle.isle_terms.specs.ExternStages.{ExternsRead}
+use Rattle.isle_terms.specs.Recursion.{ExtractorsRead}
+use Rattle.isle_terms.proofs.Rooting.{nothing}
+use Rattle.isle_terms.proofs.Whole.{first_declared, first_extern, right_now, all_read}
 use Rattle.isle_terms.proofs.term_table.TermTable.from_ast.Goals as goal
 
-pub collect_term_sigs-requires : goal.collect_term_sigs-requires
-collect_term_sigs-requires c =
-    first_sign _ _ _ _ c.requires.typed c.new.ensures.items (λ k. ap (option_map (λ t. t.0)) (c.new-2.ensures.none (symbol k))) c.new-3.ensures.none c.new-errors.ensures.items
+pub read_signatures-requires : goal.read_signatures-requires
+read_signatures-requires g c = (
+  c.requires.0,
+  first_declared g.read (definition_views c.args.defs.now) c.args.tyenv.now _ c.new-errors.result.items c.requires.1 c.new.ensures.items (λ k. ap (option_map (λ t. t.0)) (c.new-2.ensures.none (symbol k))) c.new-3.ensures.none c.new-errors.ensures.items,
+)
 
-pub collect_constructors-requires : goal.collect_constructors-requires
-collect_constructors-requires c =
-    let none : length c.collect_term_sigs.new.errors.items ≡ 0 = search rules in
-    first_root _ _ _ _ c.in_ok-collect_term_sigs.ensures (nothing _ none)
+pub read_externs-requires : goal.read_externs-requires
+read_externs-requires g c =
+    let defs = definition_views c.args.defs.now in
+    let env = c.read_signatures.new.tyenv in
+    let none : length c.read_definitions.new.errors.items ≡ 0 = search rules in
+    let extractors = right_now g.read defs (ExtractorsRead g.read defs) env c.read_definitions.new.self c.read_definitions.new.errors.items c.in_ok-read_definitions.ensures (nothing _ none) in (
+      c.requires.0,
+      first_extern g.read defs env c.read_converters.new.self c.read_converters.new.errors.items extractors.right.distinct c.in_ok-read_converters.ensures,
+    )
 
 pub returns-clause-answers : goal.returns-clause-answers
-returns-clause-answers c =
-    let none : length c.collect_constructors.new.errors.items ≡ 0 = search rules in
-    at_ok _ _ _ _ c.in_ok-collect_constructors.ensures (nothing _ none)
+returns-clause-answers g c =
+    let defs = definition_views c.args.defs.now in
+    let env = c.read_signatures.new.tyenv in
+    let none : length c.read_definitions.new.errors.items ≡ 0 = search rules in
+    let none_then : length c.read_converters.new.errors.items ≡ 0 = search rules in
+    let none_left : length c.read_externs.new.errors.items ≡ 0 = search rules in
+    let extractors = right_now g.read defs (ExtractorsRead g.read defs) env c.read_definitions.new.self c.read_definitions.new.errors.items c.in_ok-read_definitions.ensures (nothing _ none) in
+    let converters = right_now g.read defs (ConvertersRead g.read defs defs) env c.read_converters.new.self c.read_converters.new.errors.items c.in_ok-read_converters.ensures (nothing _ none_then) in
+    let externs = right_now g.read defs (ExternsRead g.read defs defs) c.read_externs.new.tyenv c.read_externs.new.self c.read_externs.new.errors.items c.in_ok-read_externs.ensures.reads (nothing _ none_left) in
+    all_read g.read c.requires.0 defs c.read_externs.new.tyenv env c.read_externs.new.self c.read_definitions.new.self c.in_ok-read_externs.ensures.left extractors (c.read_converters.new.self, converters) externs

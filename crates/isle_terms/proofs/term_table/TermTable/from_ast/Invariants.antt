@@ -1,4 +1,4 @@
-use Rattle.isle_terms.proofs.term_table.TermTable.read.Given as goal
+use Rattle.isle_terms.proofs.term_table.TermTable.from_ast.Given as goal
 
 abbrev pub ghost-read_signatures : goal.ghost-read_signatures
 ghost-read_signatures g a = g.read
