@@ -14,7 +14,8 @@ use Rattle.isle_types.specs.Envs.{names_of, symbol_of, same_symbol, symbol}
 use Rattle.isle_types.specs.TypeTables.{SeesTypes}
 use Rattle.isle_types.specs.TypeViews.{type_views}
 use Rattle.isle_terms.specs.declared.term_table.TermTable.{TermTable}
-use Rattle.isle_terms.specs.TermTables.{SeesTerms, term_at}
+use Rattle.isle_terms.specs.TermTables.{term_at}
+use Rattle.isle_carried.specs.CarriedEnvs.{SeesTerms}
 use Rattle.isle_terms.specs.TermViews.{term_views}
 use Rattle.isle_carried.specs.Elaborating.{elaborate_found}
 use Rattle.isle_carried.specs.Numbering.{Meets}

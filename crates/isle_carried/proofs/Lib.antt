@@ -1,3 +1,6 @@
+pub mod TableTyping
+pub mod TableSigning
+pub mod TableRooting
 pub mod Texts
 pub mod MetNames
 pub mod Found

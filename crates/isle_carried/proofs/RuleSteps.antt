@@ -14,7 +14,7 @@ use Rattle.isle_model.specs.first.Elaboration.{all_names, root_args, var_of_patt
 use Rattle.isle_types.specs.declared.type_env.TypeEnv.{TypeEnv}
 use Rattle.isle_types.specs.TypeTables.{SeesTypes}
 use Rattle.isle_terms.specs.declared.term_table.TermTable.{TermTable}
-use Rattle.isle_terms.specs.TermTables.{SeesTerms}
+use Rattle.isle_carried.specs.CarriedEnvs.{SeesTerms}
 use Rattle.isle_rules.specs.declared.rules.Rule.{Rule}
 use Rattle.isle_rules.specs.RuleViews.{rule_view, rule_views}
 use Rattle.isle_rules.specs.Noting.{NotesMore}

@@ -8,7 +8,8 @@ use Rattle.isle_model.specs.first.TermTable.{term_entries, carried_term_of_numbe
 use Rattle.isle_model.specs.first.Elaboration.{all_names}
 use Rattle.isle_model.specs.lists.Elaborated.{rule_named}
 use Rattle.isle_types.specs.declared.ids.TypeId.{TypeId}
-use Rattle.isle_terms.specs.TermTables.{same_types}
+use Rattle.isle_terms.specs.declared.term_table.TermTable.{TermTable}
+use Rattle.isle_terms.specs.TermTables.{same_types, term_at}
 use Rattle.isle_terms.specs.Terms.{has_internal_constructor_term}
 use Rattle.isle_terms.specs.TermViews.{term_views}
 use Rattle.isle_rules.specs.declared.term_env.TermEnv.{TermEnv}
@@ -28,3 +29,9 @@ pub record SeesRules (env : TermEnv) (defs : List Definition) (typed : List Type
 -- rules make each term
 abbrev pub AreMade : List TermEntry → Type 0
 AreMade terms = All (λ t. IsTrue (has_internal_constructor_term t)) terms
+
+-- the terms are those of the definitions, found by their names, and there is no converter
+pub record SeesTerms (table : TermTable) (defs : List Definition) (names : List (List ℕ)) : Type 0 where
+  pub terms : term_views table.terms.items ≡ term_entries defs
+  pub ids : (k : ℕ) → term_at table k ≡ carried_term_of_number defs names k
+  pub converters : (c : TypeId × TypeId) → look_up same_types table.converters c ≡ None

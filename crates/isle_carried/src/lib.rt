@@ -6,5 +6,6 @@ mod elaboration;
 mod forms;
 mod numbering;
 mod reading;
+mod table;
 
 pub use reading::read_carried;

@@ -14,6 +14,7 @@ ghost use Rattle.std.specs.Prelude.{◌≡◌, List, OnOk, IsTrue};
 
 use crate::elaboration::elaborate_rules;
 use crate::numbering::number_names;
+use crate::table::read_table;
 use isle_base::syntax::{Def, Error, Fault};
 use isle_rules::TermEnv;
 use isle_rules::reports::{report, text_of};
@@ -48,7 +49,7 @@ pub fn read_carried(
         × SeesRules env (definition_views defs.now) rules expand_internal_extractors) }
     ensures no_limit { NoLimit result }
 {
-    let table = TermTable::from_ast(alloc, tyenv, defs)?;
+    let table = read_table(alloc, tyenv, defs)?;
     number_names(tyenv, defs)?;
     let mut errors = Vec::new(alloc);
     let mut rules = elaborate_rules(alloc, tyenv, &table, defs, &mut errors)?;

@@ -2,6 +2,7 @@
 #![tactic(auto)]
 
 pub mod counter;
+pub mod readings;
 pub mod recorder;
 #[cfg(test)]
 mod tests;

@@ -27,7 +27,7 @@ use std::alloc::AllocError;
 
 impl TermTable {
     // Notes a declaration whose name is a term's already, and then the earlier one.
-    pub(crate) fn check_free(
+    pub fn check_free(
         &self,
         errors: &mut Vec<Error>,
         decl: &Decl,
@@ -45,7 +45,7 @@ impl TermTable {
     }
 
     // Adds a declared term, if the types that it names are known.
-    pub(crate) fn add_decl(
+    pub fn add_decl(
         &mut self,
         tyenv: &TypeEnv,
         errors: &mut Vec<Error>,
@@ -104,7 +104,7 @@ impl TermTable {
     }
 
     // The term of a name.
-    pub(crate) fn find_term(&self, tyenv: &TypeEnv, name: &Ident) -> Option<TermId>
+    pub fn find_term(&self, tyenv: &TypeEnv, name: &Ident) -> Option<TermId>
         ensures { option_map (λ t. t.0) result ≡ term_of_name tyenv.now self.now (name_view name.now) }
     {
         let sym = tyenv.intern(name)?;
@@ -123,7 +123,7 @@ pub(crate) fn meet_name(tyenv: &mut TypeEnv, name: &Ident) -> Result<Sym, AllocE
 }
 
 // Makes a declared term one that rules make.
-pub(crate) fn set_internal(term: &mut Term)
+pub fn set_internal(term: &mut Term)
     ensures { term_view term.new ≡ internal_entry (term_view term.old) }
 {
     if let TermKind::Decl {

@@ -1,13 +1,13 @@
 // The printed form of each form of binding, step and error.
+use crate::readings::types_and_rules;
 use isle_base::syntax::{Error, Limit, Pos, Span};
 use isle_printing::errors::error_lines;
 use isle_printing::places::Places;
 use isle_printing::print::{Names, print_bindings, print_block};
-use isle_rules::TermEnv;
 use isle_serialize::serialize::{Block, ControlFlow, EvalStep, MatchArm};
 use isle_sets::trie_again::{Binding, BindingId, Constraint, TupleIndex};
 use isle_text::read;
-use isle_types::{Sym, TermId, TypeEnv, TypeId, VariantId};
+use isle_types::{Sym, TermId, TypeId, VariantId};
 use std::alloc::{AllocError, Global};
 use std::test::Fail;
 
@@ -64,8 +64,7 @@ const NAMED: &str = "(type T (enum A)) (type S (struct (x u8))) (type P (primiti
 
 fn printed(alloc: Global, bindings: &[Binding], block: &Block) -> Result<String, Fail> {
     let defs = read(alloc, 0, NAMED)?;
-    let mut tyenv = TypeEnv::from_ast(alloc, &defs)?;
-    let termenv = TermEnv::from_ast(alloc, &mut tyenv, &defs, true)?;
+    let (tyenv, termenv) = types_and_rules(alloc, &defs)?;
     let names = Names {
         syms: &tyenv.syms,
         types: &tyenv.types,

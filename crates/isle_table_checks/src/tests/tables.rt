@@ -3,9 +3,9 @@ ghost use Rattle.std.specs.Prelude.{IfOk, IsSome};
 ghost use Rattle.isle_types.specs.TypeViews.{type_views};
 ghost use Rattle.isle_model.specs.claims.Questions.{variant_by_id};
 
+use crate::readings::{types_and_rules, types_and_terms};
 use isle_base::syntax::{Def, Error, Ident, Pos, TypeValue};
 use isle_rules::{Expr, Pattern, TermEnv};
-use isle_terms::TermTable;
 use isle_text::read;
 use isle_types::{
     BuiltinType, FieldId, Fields, RuleId, StructField, StructFields, Sym, TermId, Type, TypeEnv,
@@ -245,8 +245,7 @@ fn numbers_of_fields(rt: HostRuntime) -> Result<(), Fail> {
 fn a_term_with_a_rule(rt: HostRuntime) -> Result<(), Fail> {
     let alloc = rt.alloc();
     let defs = read(alloc, 0, "(decl f (u8 u16) u32) (rule (f _ _) 1)")?;
-    let mut tyenv = TypeEnv::from_ast(alloc, &defs)?;
-    let table = TermTable::from_ast(alloc, &mut tyenv, &defs)?;
+    let (_, table) = types_and_terms(alloc, &defs)?;
     assert_eq!(rt; table.terms.len(), 1);
     for term in &table.terms {
         assert!(rt; term.id == TermId(0) && term.name == Sym(13) && term.ty() == TypeId::U32);
@@ -263,8 +262,7 @@ fn a_term_with_a_rule(rt: HostRuntime) -> Result<(), Fail> {
 // The typed rules of a text.
 fn term_env(alloc: Global, text: &str) -> Result<TermEnv, Fail> {
     let defs = read(alloc, 0, text)?;
-    let mut tyenv = TypeEnv::from_ast(alloc, &defs)?;
-    Ok(TermEnv::from_ast(alloc, &mut tyenv, &defs, true)?)
+    Ok(types_and_rules(alloc, &defs)?.1)
 }
 
 // A term's only rule has its name.

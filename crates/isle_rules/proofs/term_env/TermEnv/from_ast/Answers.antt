@@ -35,7 +35,7 @@ returns-clause-answers g c =
 
 pub returns-then-not-is_empty-clause-limits : goal.returns-then-not-is_empty-clause-limits
 returns-then-not-is_empty-clause-limits g c =
-    limits_named g.read c.requires.0 (definition_views c.args.defs.now) c.in_ok-table.table c.read.new.tyenv c.in_ok-table.ensures.answers.1 c.with_terms-env.result c.with_terms-env.ensures.terms c.args.expand_internal_extractors c.with_terms-env.ensures.expand
+    limits_named g.read c.requires.0 (definition_views c.args.defs.now) c.in_ok-table.table c.from_ast.new.tyenv c.in_ok-table.ensures.answers.1 c.with_terms-env.result c.with_terms-env.ensures.terms c.args.expand_internal_extractors c.with_terms-env.ensures.expand
     c.in_ok-errors.errors.items c.in_ok-errors.ensures.notes
 
 pub returns-in_err-table-clause-limits : goal.returns-in_err-table-clause-limits

@@ -1,0 +1,21 @@
+//! What the tests read: the types of definitions with their terms, or with their rules.
+
+use isle_base::syntax::{Def, Fault};
+use isle_rules::TermEnv;
+use isle_terms::TermTable;
+use isle_types::TypeEnv;
+use std::alloc::Global;
+
+/// The types and the terms of definitions.
+pub fn types_and_terms(alloc: Global, defs: &[Def]) -> Result<(TypeEnv, TermTable), Fault> {
+    let mut tyenv = TypeEnv::from_ast(alloc, defs)?;
+    let table = TermTable::from_ast(alloc, &mut tyenv, defs)?;
+    Ok((tyenv, table))
+}
+
+/// The types and the rules of definitions.
+pub fn types_and_rules(alloc: Global, defs: &[Def]) -> Result<(TypeEnv, TermEnv), Fault> {
+    let mut tyenv = TypeEnv::from_ast(alloc, defs)?;
+    let env = TermEnv::from_ast(alloc, &mut tyenv, defs, true)?;
+    Ok((tyenv, env))
+}
