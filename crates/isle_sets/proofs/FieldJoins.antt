@@ -13,12 +13,12 @@ use Rattle.isle_sets.specs.FieldParts.{field_binding, part_of_head, HaveOneName,
 use Rattle.isle_sets.specs.contracts.trie_again.BindingPartialEq.TheImpl.{ghosts}
 use Rattle.isle_sets.specs.declared.trie_again.Binding.{Binding}
 use Rattle.isle_sets.specs.declared.trie_again.Binding.TheVariants as B
-use Rattle.isle_sets.specs.declared.verdict.Part.{Part}
+use Rattle.isle_sets.specs.declared.closure_classes.Part.{Part}
 use Rattle.isle_sets.proofs.ClassHeads.{head_again}
 use Rattle.isle_sets.proofs.SameBindings.{one_binding}
 
 -- one binding is one field of one site
-same_parts : (v w : Option VariantId) (s t i j : ℕ) → ghosts.eq (field_binding v s i) (field_binding w t j) ≡ true → (v ≡ w) × (s ≡ t) × (i ≡ j)
+pub same_parts : (v w : Option VariantId) (s t i j : ℕ) → ghosts.eq (field_binding v s i) (field_binding w t j) ≡ true → (v ≡ w) × (s ≡ t) × (i ≡ j)
 same_parts (Some v) (Some w) s t i j h =
     let p = and_parts (s == t) ((v.0 == w.0) && (i == j)) h in
     let q = and_parts (v.0 == w.0) (i == j) p.1 in

@@ -1,5 +1,6 @@
 pub mod Ascending
 pub mod AskedClasses
+pub mod PartsAdded
 pub mod Rests
 pub mod ClassHeads
 pub mod ClassTests
@@ -7,6 +8,7 @@ pub mod ClosingNumbers
 pub mod ClosingSteps
 pub mod ClosingTaken
 pub mod DueKept
+pub mod EqualFields
 pub mod Equated
 pub mod FirstConflicts
 pub mod FieldJoins
@@ -14,6 +16,7 @@ pub mod FieldSites
 pub mod FoundSites
 pub mod FullTables
 pub mod ListedConstraints
+pub mod ListedParts
 pub mod SameBindings
 pub mod SideBySide
 pub mod SitesAdded

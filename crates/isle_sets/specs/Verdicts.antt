@@ -40,8 +40,8 @@ pub record AreVisited (sites : List Site) (before : List SiteTerm) (d : Demands)
   pub made : (s x : SiteTerm) → GivesField d s x → Contains d.made x
 
 -- the demands speak of a site, or ask for it as a field
-abbrev pub IsKnown : Demands → SiteTerm → Type 0
-IsKnown d x = Contains (spoken_of d) x ⊎ ((s : SiteTerm) × GivesField d s x)
+abbrev pub IsMentioned : Demands → SiteTerm → Type 0
+IsMentioned d x = Contains (spoken_of d) x ⊎ ((s : SiteTerm) × GivesField d s x)
 
 -- the member that a partition names a site's class by: the site itself where it is in none
 abbrev pub class_head : List (List ℕ) → ℕ → ℕ
@@ -50,7 +50,7 @@ class_head ks s = unwrap_or (slice_get (set_of nat_eq ks s) 0) s
 -- a partition has the classes of the closure: known sites are in one exactly where they have one name
 abbrev pub AreClassesOf : List Site → List (List ℕ) → Demands → Type 0
 AreClassesOf sites ks d =
-    (a b : ℕ) → a < length sites → b < length sites → IsKnown d (unfold_site sites a) → IsKnown d (unfold_site sites b)
+    (a b : ℕ) → a < length sites → b < length sites → IsMentioned d (unfold_site sites a) → IsMentioned d (unfold_site sites b)
     → nat_eq (class_head ks a) (class_head ks b) ≡ same_class (class_names d) (unfold_site sites a) (unfold_site sites b)
 
 -- two sites of one class are asked different things
