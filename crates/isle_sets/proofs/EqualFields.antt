@@ -1,24 +1,23 @@
 -- The classes of a rule's closure over numbers are those by names: the least in which fields of one place of equal sites
 -- are equal.
-use Rattle.std.proofs.Common.{◌≡◌, ◌⊎◌, ◌==◌, ℕ, zero, suc, ◌<◌, Bool, true, false, ◌&&◌, ◌||◌, if◌then◌else◌, List, [], ◌∷◌, length, Option, Some, None, slice_get, Contains, refl, sym, ap, ◌∙◌, subst, inl, inr, eqb-true, eq-eqb, arith}
+use Rattle.std.proofs.Common.{◌≡◌, ℕ, zero, suc, ◌<◌, Bool, true, false, ◌&&◌, ◌||◌, if◌then◌else◌, List, [], ◌∷◌, length, Option, Some, None, slice_get, Contains, refl, sym, ap, ◌∙◌, subst, inl, inr, eqb-true, eq-eqb, arith}
 use Rattle.std.specs.Prelude.{nat_eq}
 use Rattle.std.proofs.lemmas.Bool.{cases_Bool, cond-true, cond-false, and_parts, and_from, false≢true, both_ways}
 use Rattle.std.proofs.lemmas.Option.{slice_get_within}
-use Rattle.isle_disjointsets.specs.Partition.{together, IsPartition}
+use Rattle.isle_disjointsets.specs.Partition.{IsPartition}
 use Rattle.isle_model.specs.sites.Sites.{Site, Constraint, is_variant, is_struct, is_bool, is_int, is_prim, is_present, SiteTerm, bool_term, int_term, prim_term, argument, extractor_call, constructor_call, pick_of, variant_made, variant_field, struct_made, struct_field, some_made, some_part, tuple_part, no_site, unfold_site}
 use Rattle.isle_model.specs.sites.Demands.{Demands, site_term_eq}
-use Rattle.isle_model.specs.sites.Closure.{Joined, fields_from, field_terms, class_name, same_class, class_names, spoken_of, before_closing, merged_all}
-use Rattle.isle_model.proofs.Elements.{In, contains_from_in, in_from_contains, in_slice, slice_in, some_is, none_some, or_split, or_left, or_right}
+use Rattle.isle_model.specs.sites.Closure.{fields_from, field_terms, class_name, same_class, class_names, spoken_of, before_closing, merged_all}
+use Rattle.isle_model.proofs.Elements.{In, contains_from_in, in_from_contains, slice_in, some_is, none_some, or_split, or_left, or_right}
 use Rattle.isle_model.proofs.SameSites.{term_means, same_term}
 use Rattle.isle_laws_demands.specs.ClosureLaws.{RespectsDemands}
-use Rattle.isle_laws_demands.proofs.closure.Names.{SameName, same_name, name_same, given_joined, named_alike}
+use Rattle.isle_laws_demands.proofs.closure.Names.{same_name, name_same, given_joined, named_alike}
 use Rattle.isle_laws_demands.proofs.closure.Classes.{classes_bound, asked_spoken, equal_spoken}
 use Rattle.isle_laws_demands.proofs.closure.Settled.{names_settled}
 use Rattle.isle_laws_demands.proofs.overlaps.Overlaps.{bool_same}
 use Rattle.isle_types.specs.declared.ids.VariantId.{VariantId}
 use Rattle.isle_sets.specs.Closings.{are_in_one_class}
-use Rattle.isle_sets.specs.DemandsHeld.{are_equated}
-use Rattle.isle_sets.specs.Verdicts.{AreClassesOf, AreVisited, GivesField, IsGiven, IsMentioned, class_head}
+use Rattle.isle_sets.specs.Verdicts.{AreClassesOf, AreVisited, GivesField, IsMentioned, class_head}
 use Rattle.isle_sets.specs.FieldParts.{field_binding, part_of_head, HaveOneName, AreCongruent, field_term, ArePartsOf}
 use Rattle.isle_sets.specs.contracts.trie_again.BindingPartialEq.TheImpl.{ghosts}
 use Rattle.isle_sets.specs.declared.trie_again.Binding.{Binding}

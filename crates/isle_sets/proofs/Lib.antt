@@ -7,6 +7,7 @@ pub mod ClassTests
 pub mod ClosingNumbers
 pub mod ClosingSteps
 pub mod ClosingTaken
+pub mod ClosureConflicts
 pub mod DueKept
 pub mod EqualFields
 pub mod Equated

@@ -1,5 +1,5 @@
 -- The fields that are listed of the constraints of sites are all that the demands ask for.
-use Rattle.std.proofs.Common.{◌≡◌, ◌⊎◌, ◌↔◌, ◌==◌, ℕ, zero, suc, ◌+◌, ◌<◌, Bool, true, false, ◌&&◌, nat_lt, if◌then◌else◌, List, [], ◌∷◌, ◌++◌, length, Option, Some, None, is_some, slice_get, Contains, refl, sym, ap, ◌∙◌, subst, inl, inr, eqb-true, eq-eqb, ltb-true, arith}
+use Rattle.std.proofs.Common.{◌≡◌, ◌↔◌, ◌==◌, ℕ, zero, suc, ◌+◌, ◌<◌, true, ◌&&◌, nat_lt, List, [], ◌∷◌, ◌++◌, length, Option, Some, None, is_some, slice_get, Contains, refl, sym, ap, ◌∙◌, subst, inl, inr, eqb-true, eq-eqb, ltb-true, arith}
 use Rattle.std.proofs.lemmas.Bool.{cases_Bool, cond-true, cond-false, and_parts, both_ways, false_from_ne_true}
 use Rattle.std.proofs.lemmas.List.{append-nil}
 use Rattle.std.proofs.lemmas.Option.{slice_get_within}
@@ -7,7 +7,7 @@ use Rattle.isle_model.specs.trees.Places.{constraint_at}
 use Rattle.isle_model.specs.sites.Sites.{Site, bool_site, int_site, prim_site, argument_site, extractor_site, constructor_site, iterator_site, make_variant_site, match_variant_site, make_struct_site, extract_struct_site, make_some_site, match_some_site, match_tuple_site, Constraint, is_variant, is_struct, is_bool, is_int, is_prim, is_present, sources_of, sources_at, SiteTerm, variant_field, struct_field, no_site, layer, layer_at, unfold_site}
 use Rattle.isle_model.specs.sites.Demands.{Demands, site_term_eq, constraint_eq}
 use Rattle.isle_model.specs.sites.Closure.{Unreachability, constraint_of, conflict, conflict_with, conflicts_met, fields_from, field_terms, before_closing, with_constraints}
-use Rattle.isle_model.proofs.Elements.{In, contains_from_in, in_from_contains, in_slice, slice_in, some_is, none_some, in_either, map_in}
+use Rattle.isle_model.proofs.Elements.{In, contains_from_in, in_from_contains, slice_in, some_is, none_some, in_either, map_in}
 use Rattle.isle_model.proofs.FewElements.{not_empty, in_one}
 use Rattle.isle_model.proofs.SameSites.{same_term, constraint_means}
 use Rattle.isle_laws_demands.proofs.closure.Classes.{in_with_sites}

@@ -1,13 +1,17 @@
 //! Whether any value can meet what a rule demands: what is asked of the classes of sites that must be equal.
-ghost use Rattle.std.specs.Prelude.{◌≡◌, ℕ, None, Some, IfOk, if◌then◌else◌, option_map};
+ghost use Rattle.std.specs.Prelude.{◌≡◌, ℕ, List, None, Some, IfOk, if◌then◌else◌, option_map};
 ghost use Rattle.std.specs.BTreeMap.{get};
 ghost use Rattle.std.specs.Ordering.{nat_cmp};
-ghost use Rattle.isle_model.specs.sites.Demands.{constraint_eq};
+ghost use Rattle.isle_model.specs.sites.Demands.{Demands, constraint_eq};
+ghost use Rattle.isle_model.specs.sites.Sites.{SiteTerm};
+ghost use Rattle.isle_sets.specs.SiteTables.{IsTable, table_sites};
 ghost use Rattle.isle_sets.specs.SiteViews.{constraint_view, constraint_views};
-ghost use Rattle.isle_sets.specs.Verdicts.{asked_in, asked_view, class_head, conflict_asked, conflict_in, report_views, with_asked};
+ghost use Rattle.isle_sets.specs.Verdicts.{AreVisited, asked_in, asked_view, class_head, closure_conflict, conflict_asked, conflict_in, report_views, with_asked};
 
-use crate::closure_classes::class_of;
+use crate::closure_classes::{class_of, close_classes};
+use crate::demanded::Demanded;
 use crate::overlaps::is_same_constraint;
+use crate::site_table::SiteTable;
 use crate::trie_again::{BindingId, Constraint};
 use isle_disjointsets::disjointsets::DisjointSets;
 use std::alloc::{AllocError, Global};
@@ -119,4 +123,20 @@ fn find_conflict(
         }
     }
     Ok(None)
+}
+
+// The conflict of the closure of a rule's demands, over the sites that its visit made.
+fn conflict_of_closure(
+    alloc: Global,
+    table: &SiteTable,
+    demanded: &Demanded,
+) -> Result<Option<Unreachable>, AllocError>
+    requires { IsTable table.now }
+    ensures { IfOk result (λ o. (before : List SiteTerm) (d : Demands) → AreVisited (table_sites table.now) before d demanded.now
+        → report_views o ≡ closure_conflict before d) }
+{
+    let constraints = demanded.list_constraints(alloc)?;
+    let classes = close_classes(alloc, table, demanded, &constraints)?;
+    let conflict = find_conflict(alloc, &classes, &constraints)?;
+    Ok(conflict)
 }
