@@ -1,9 +1,8 @@
 -- Rounds over fields, which join those of one place of equal sites.
-use Rattle.std.proofs.Common.{◌≡◌, ◌≢◌, ◌⊎◌, ◌==◌, ℕ, ◌+◌, ◌<◌, ◌≤◌, suc, Bool, true, false, not, ◌&&◌, if◌then◌else◌, List, [], ◌∷◌, ◌++◌, map, length, take, get_or, Option, Some, None, flat_map, Contains, refl, sym, ap, ◌∙◌, subst, inl, inr, eqb-true, eq-eqb, arith}
+use Rattle.std.proofs.Common.{◌≡◌, ◌≢◌, ◌⊎◌, ◌==◌, ℕ, ◌<◌, ◌≤◌, suc, Bool, true, false, not, ◌&&◌, if◌then◌else◌, List, [], ◌∷◌, ◌++◌, map, Option, Some, None, flat_map, refl, sym, ap, ◌∙◌, subst, inl, inr, eqb-true, eq-eqb, arith}
 use Rattle.std.specs.Prelude.{nat_eq}
 use Rattle.std.specs.HashMap.{HashMap, get}
 use Rattle.std.proofs.lemmas.Bool.{cases_Bool, cond-true, cond-false, and_parts, false≢true}
-use Rattle.std.proofs.lemmas.List.{take_more, take_all}
 use Rattle.isle_disjointsets.specs.Partition.{IsPartition}
 use Rattle.isle_model.specs.sites.Sites.{SiteTerm}
 use Rattle.isle_model.proofs.Elements.{In, contains_from_in, in_from_contains, some_is, none_some, in_either, in_flat_map, map_in}
@@ -13,12 +12,12 @@ use Rattle.isle_sets.specs.FieldParts.{field_binding, part_of_head, HaveOneName,
 use Rattle.isle_sets.specs.contracts.trie_again.BindingPartialEq.TheImpl.{ghosts}
 use Rattle.isle_sets.specs.declared.trie_again.Binding.{Binding}
 use Rattle.isle_sets.specs.declared.trie_again.Binding.TheVariants as B
-use Rattle.isle_sets.specs.declared.verdict.Part.{Part}
+use Rattle.isle_sets.specs.declared.closure_classes.Part.{Part}
 use Rattle.isle_sets.proofs.ClassHeads.{head_again}
 use Rattle.isle_sets.proofs.SameBindings.{one_binding}
 
 -- one binding is one field of one site
-same_parts : (v w : Option VariantId) (s t i j : ℕ) → ghosts.eq (field_binding v s i) (field_binding w t j) ≡ true → (v ≡ w) × (s ≡ t) × (i ≡ j)
+pub same_parts : (v w : Option VariantId) (s t i j : ℕ) → ghosts.eq (field_binding v s i) (field_binding w t j) ≡ true → (v ≡ w) × (s ≡ t) × (i ≡ j)
 same_parts (Some v) (Some w) s t i j h =
     let p = and_parts (s == t) ((v.0 == w.0) && (i == j)) h in
     let q = and_parts (v.0 == w.0) (i == j) p.1 in

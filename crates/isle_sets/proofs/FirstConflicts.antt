@@ -1,11 +1,11 @@
 -- The first conflict of classes: that of the first site whose class has one, by what its class is asked.
-use Rattle.std.proofs.Common.{◌≡◌, ◌⊎◌, ℕ, Bool, true, false, not, ◌&&◌, if◌then◌else◌, List, [], ◌∷◌, ◌++◌, Option, Some, None, refl, sym, ap, ◌∙◌, subst, inl, inr, eqb-true, eq-eqb}
+use Rattle.std.proofs.Common.{◌≡◌, ◌⊎◌, ℕ, Bool, true, false, not, ◌&&◌, List, [], ◌∷◌, ◌++◌, Option, Some, None, refl, sym, ap, ◌∙◌, subst, inl, inr, eqb-true, eq-eqb}
 use Rattle.std.specs.Prelude.{nat_eq}
 use Rattle.std.proofs.lemmas.Bool.{cases_Bool, cond-true, cond-false, and_from, false≢true}
 use Rattle.isle_model.specs.sites.Sites.{Constraint}
 use Rattle.isle_model.specs.sites.Demands.{constraint_eq}
 use Rattle.isle_model.specs.sites.Closure.{Unreachability, conflict, first_filled}
-use Rattle.isle_model.proofs.Elements.{In, none_some, in_left, in_right, in_either}
+use Rattle.isle_model.proofs.Elements.{In, none_some, in_right, in_either}
 use Rattle.isle_model.proofs.SameSites.{constraint_means, same_constraint}
 use Rattle.isle_model.proofs.FewElements.{not_empty}
 use Rattle.isle_sets.specs.Verdicts.{asked_in, conflict_asked, conflict_in, differ_in, first_other}

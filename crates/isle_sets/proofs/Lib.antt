@@ -1,12 +1,15 @@
 pub mod Ascending
 pub mod AskedClasses
+pub mod PartsAdded
 pub mod Rests
 pub mod ClassHeads
 pub mod ClassTests
 pub mod ClosingNumbers
 pub mod ClosingSteps
 pub mod ClosingTaken
+pub mod ClosureConflicts
 pub mod DueKept
+pub mod EqualFields
 pub mod Equated
 pub mod FirstConflicts
 pub mod FieldJoins
@@ -14,6 +17,7 @@ pub mod FieldSites
 pub mod FoundSites
 pub mod FullTables
 pub mod ListedConstraints
+pub mod ListedParts
 pub mod SameBindings
 pub mod SideBySide
 pub mod SitesAdded

@@ -1,7 +1,7 @@
 -- The entries of a map from sites to constraints are a list that ascends, and that has what the map has.
 use Rattle.std.proofs.Common.{◌≡◌, ◌==◌, ℕ, Bool, true, false, cond, List, [], ◌∷◌, ◌++◌, Option, Some, refl, sym, ap, ◌∙◌, inl, inr, eqb-true, eq-eqb}
 use Rattle.std.specs.Prelude.{nat_lt, option_map}
-use Rattle.std.proofs.lemmas.Bool.{cases_Bool, cond-true, cond-false, and_from, false≢true}
+use Rattle.std.proofs.lemmas.Bool.{cases_Bool, cond-false, and_from, false≢true}
 use Rattle.std.proofs.lemmas.List.{append-nil}
 use Rattle.std.specs.declared.cmp.Ordering.TheVariants.{Less, Equal, Greater}
 use Rattle.std.specs.Ordering.{nat_cmp, is_eq, is_lt}

@@ -1,14 +1,15 @@
 -- Fields of sites that must be equal, over the numbers of sites.
-use Rattle.std.specs.Prelude.{◌≡◌, ◌≢◌, ℕ, ◌<◌, List, Option, Some, None, Contains, length}
+use Rattle.std.specs.Prelude.{◌≡◌, ◌≢◌, ℕ, ◌<◌, List, Option, Some, None, Contains, length, slice_get}
 use Rattle.std.specs.HashMap.{HashMap, get}
-use Rattle.isle_model.specs.sites.Sites.{Site, SiteTerm, variant_field, struct_field, unfold_site}
+use Rattle.isle_model.specs.sites.Sites.{Site, Constraint, is_variant, is_struct, SiteTerm, variant_field, struct_field, unfold_site}
 use Rattle.isle_model.specs.sites.Demands.{Demands}
 use Rattle.isle_types.specs.declared.ids.VariantId.{VariantId}
+use Rattle.isle_sets.specs.SiteViews.{site_view}
 use Rattle.isle_sets.specs.Verdicts.{GivesField, class_head}
 use Rattle.isle_sets.specs.contracts.trie_again.BindingPartialEq.TheImpl.{ghosts}
 use Rattle.isle_sets.specs.declared.trie_again.Binding.{Binding}
 use Rattle.isle_sets.specs.declared.trie_again.Binding.TheVariants as B
-use Rattle.isle_sets.specs.declared.verdict.Part.{Part}
+use Rattle.isle_sets.specs.declared.closure_classes.Part.{Part}
 
 -- the field of a site, of a variant or of a struct, at a place
 abbrev pub field_binding : Option VariantId → ℕ → ℕ → Binding
@@ -51,18 +52,42 @@ pub record JoinsFirst {S : Type 0} (before after : List (List ℕ)) (firsts : Ha
   pub joined : class_head after first ≡ class_head after p.field
 
 -- the field of what a site stands for, of a variant or of a struct, at a place
-abbrev pub field_of : Option VariantId → SiteTerm → ℕ → SiteTerm
-field_of (Some variant) s place = variant_field s variant.0 place
-field_of None s place = struct_field s place
+abbrev pub field_term : Option VariantId → SiteTerm → ℕ → SiteTerm
+field_term (Some variant) s place = variant_field s variant.0 place
+field_term None s place = struct_field s place
 
 -- a part is a field that the demands ask for
 pub record IsPartOfSite (sites : List Site) (d : Demands) (p : Part) : Type 0 where
   pub source : p.source < length sites
   pub field : p.field < length sites
-  pub is : unfold_site sites p.field ≡ field_of p.variant (unfold_site sites p.source) p.place
+  pub is : unfold_site sites p.field ≡ field_term p.variant (unfold_site sites p.source) p.place
   pub given : GivesField d (unfold_site sites p.source) (unfold_site sites p.field)
 
 -- parts are all fields that the demands ask for
 pub record ArePartsOf (sites : List Site) (d : Demands) (parts : List Part) : Type 0 where
   pub each : (p : Part) → Contains parts p → IsPartOfSite sites d p
   pub all : (s x : SiteTerm) → GivesField d s x → (p : Part) × Contains parts p × (unfold_site sites p.source ≡ s) × (unfold_site sites p.field ≡ x)
+
+-- a part is the field of a site at a place
+pub record IsPartAt (sites : List Site) (s : ℕ) (form : Option VariantId) (i : ℕ) (p : Part) : Type 0 where
+  pub source : p.source ≡ s
+  pub variant : p.variant ≡ form
+  pub place : p.place ≡ i
+  pub field : slice_get sites p.field ≡ Some (site_view (field_binding form s i))
+
+-- a part is a field of a site, of a form that has n of them
+pub record IsFieldPart (sites : List Site) (s : ℕ) (form : Option VariantId) (n : ℕ) (p : Part) : Type 0 where
+  pub source : p.source ≡ s
+  pub variant : p.variant ≡ form
+  pub place : p.place < n
+  pub field : slice_get sites p.field ≡ Some (site_view (field_binding form s p.place))
+
+-- a part is a field that a constraint gives a site
+abbrev pub IsPartBy : List Site → ℕ → Constraint → Part → Type 0
+IsPartBy sites s (is_variant ty k n) p = IsFieldPart sites s (Some (record { 0 = k })) n p
+IsPartBy sites s (is_struct ty n) p = IsFieldPart sites s None n p
+IsPartBy sites s _ p = ⊥
+
+-- a part is a field that one of these constraints gives its site
+abbrev pub IsPartOfAny : List Site → List (ℕ × Constraint) → Part → Type 0
+IsPartOfAny sites constraints p = (c : ℕ × Constraint) × Contains constraints c × IsPartBy sites c.0 c.1 p

@@ -1,10 +1,10 @@
 -- Why no value can meet what a rule demands, over the numbers of its term's sites.
-use Rattle.std.specs.Prelude.{◌≡◌, ◌<◌, ℕ, Bool, ◌&&◌, not, List, [], ◌∷◌, map, Option, Some, None, nat_eq, if◌then◌else◌, slice_get, Contains, ◌⊎◌, length, option_map}
+use Rattle.std.specs.Prelude.{◌≡◌, ◌<◌, ℕ, Bool, ◌&&◌, not, List, [], ◌∷◌, Option, Some, None, nat_eq, if◌then◌else◌, slice_get, Contains, ◌⊎◌, length, option_map}
 use Rattle.std.specs.Option.{unwrap_or}
 use Rattle.isle_disjointsets.specs.Partition.{set_of}
 use Rattle.isle_model.specs.sites.Sites.{Site, Constraint, SiteTerm, variant_field, struct_field, unfold_site}
-use Rattle.isle_model.specs.sites.Demands.{Demands, constraint_eq}
-use Rattle.isle_model.specs.sites.Closure.{Unreachability, conflict, cycle, before_closing, class_names, conflicts_met, field_terms, same_class, spoken_of}
+use Rattle.isle_model.specs.sites.Demands.{Demands, constraint_eq, with_sites}
+use Rattle.isle_model.specs.sites.Closure.{Unreachability, conflict, cycle, before_closing, class_names, conflicts_met, field_terms, first_conflict, in_site_order, same_class, spoken_of, with_constrained}
 use Rattle.isle_sets.specs.Closings.{AreDemandsOf}
 use Rattle.isle_sets.specs.SiteViews.{constraint_view}
 use Rattle.isle_sets.specs.declared.demanded.Demanded.{Demanded}
@@ -40,8 +40,8 @@ pub record AreVisited (sites : List Site) (before : List SiteTerm) (d : Demands)
   pub made : (s x : SiteTerm) → GivesField d s x → Contains d.made x
 
 -- the demands speak of a site, or ask for it as a field
-abbrev pub IsKnown : Demands → SiteTerm → Type 0
-IsKnown d x = Contains (spoken_of d) x ⊎ ((s : SiteTerm) × GivesField d s x)
+abbrev pub IsMentioned : Demands → SiteTerm → Type 0
+IsMentioned d x = Contains (spoken_of d) x ⊎ ((s : SiteTerm) × GivesField d s x)
 
 -- the member that a partition names a site's class by: the site itself where it is in none
 abbrev pub class_head : List (List ℕ) → ℕ → ℕ
@@ -50,7 +50,7 @@ class_head ks s = unwrap_or (slice_get (set_of nat_eq ks s) 0) s
 -- a partition has the classes of the closure: known sites are in one exactly where they have one name
 abbrev pub AreClassesOf : List Site → List (List ℕ) → Demands → Type 0
 AreClassesOf sites ks d =
-    (a b : ℕ) → a < length sites → b < length sites → IsKnown d (unfold_site sites a) → IsKnown d (unfold_site sites b)
+    (a b : ℕ) → a < length sites → b < length sites → IsMentioned d (unfold_site sites a) → IsMentioned d (unfold_site sites b)
     → nat_eq (class_head ks a) (class_head ks b) ≡ same_class (class_names d) (unfold_site sites a) (unfold_site sites b)
 
 -- two sites of one class are asked different things
@@ -87,3 +87,8 @@ abbrev pub conflict_asked : Option (Constraint × Option Constraint) → List Un
 conflict_asked None = []
 conflict_asked (Some (first, None)) = []
 conflict_asked (Some (first, Some other)) = conflict first other ∷ []
+
+-- the conflict of a closure that is reported, by the order of the term's sites
+abbrev pub closure_conflict : List SiteTerm → Demands → List Unreachability
+closure_conflict before d =
+    let constrained = in_site_order (with_constrained (with_sites before d.made) d) d.constraints in first_conflict (class_names d) constrained constrained

@@ -3,6 +3,7 @@
 
 mod bindings;
 mod closing;
+mod closure_classes;
 mod constraints;
 pub mod demanded;
 mod listed;

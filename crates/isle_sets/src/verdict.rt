@@ -1,23 +1,21 @@
-//! Whether any value can meet what a rule demands: the classes of sites that must be equal, with the fields of equal
-//! sites that are of one variant or struct, and what is asked of them.
-ghost use Rattle.std.specs.Prelude.{◌≡◌, ◌≢◌, ◌⊎◌, ℕ, true, false, nat_eq, None, Some, IfOk, OnOk, if◌then◌else◌, option_map};
-ghost use Rattle.std.specs.BTreeMap as Tree;
-ghost use Rattle.std.specs.HashMap.{get};
+//! Whether any value can meet what a rule demands: what is asked of the classes of sites that must be equal.
+ghost use Rattle.std.specs.Prelude.{◌≡◌, ℕ, List, None, Some, IfOk, if◌then◌else◌, option_map};
+ghost use Rattle.std.specs.BTreeMap.{get};
 ghost use Rattle.std.specs.Ordering.{nat_cmp};
-ghost use Rattle.isle_model.specs.sites.Demands.{constraint_eq};
+ghost use Rattle.isle_model.specs.sites.Demands.{Demands, constraint_eq};
 ghost use Rattle.isle_model.specs.sites.Sites.{SiteTerm};
-ghost use Rattle.isle_disjointsets.specs.Partition.{IsPartition};
-ghost use Rattle.isle_sets.specs.FieldParts.{AreCongruent, HaveOneName, JoinsFirst, JoinsMore, StandsFirst, part_of_head};
-ghost use Rattle.isle_sets.specs.contracts.trie_again.BindingPartialEq.TheImpl.{ghosts};
+ghost use Rattle.isle_sets.specs.SiteTables.{IsTable, table_sites};
 ghost use Rattle.isle_sets.specs.SiteViews.{constraint_view, constraint_views};
-ghost use Rattle.isle_sets.specs.Verdicts.{asked_in, asked_view, class_head, conflict_asked, conflict_in, report_views, with_asked};
+ghost use Rattle.isle_sets.specs.Verdicts.{AreVisited, asked_in, asked_view, class_head, closure_conflict, conflict_asked, conflict_in, report_views, with_asked};
 
+use crate::closure_classes::{class_of, close_classes};
+use crate::demanded::Demanded;
 use crate::overlaps::is_same_constraint;
-use crate::trie_again::{Binding, BindingId, Constraint, TupleIndex};
+use crate::site_table::SiteTable;
+use crate::trie_again::{BindingId, Constraint};
 use isle_disjointsets::disjointsets::DisjointSets;
-use isle_types::VariantId;
 use std::alloc::{AllocError, Global};
-use std::collections::{BTreeMap, HashMap};
+use std::collections::BTreeMap;
 
 /// Why no value can meet what a rule demands.
 #[derive(Clone, Copy, Debug, PartialEq, Eq)]
@@ -31,123 +29,6 @@ pub enum Unreachable {
     },
     /// A value would have to equal a part of itself.
     Cycle,
-}
-
-// The site by which the class of a site goes: the site itself where it must equal no other.
-fn class_of(classes: &DisjointSets<BindingId>, site: BindingId) -> BindingId
-    ensures head { result ≡ class_head classes.now site }
-    ensures partition { IsPartition nat_eq classes.now }
-{
-    match classes.find(site) {
-        Some(head) => head,
-        None => site,
-    }
-}
-
-// A field of a site: the variant that it is a field of (none for a struct's), its place, and its own site.
-#[derive(Clone, Copy)]
-struct Part {
-    source: BindingId,
-    variant: Option<VariantId>,
-    place: TupleIndex,
-    field: BindingId,
-}
-
-// The field, of the site by which its source's class goes: parts of one such field are equal.
-fn part_of_head(classes: &DisjointSets<BindingId>, part: &Part) -> Binding
-    ensures part { result ≡ part_of_head classes.now part.now }
-    ensures partition { IsPartition nat_eq classes.now }
-{
-    let source = class_of(classes, part.source);
-    let field = part.place;
-    match part.variant {
-        Some(variant) => Binding::MatchVariant {
-            source,
-            variant,
-            field,
-        },
-        None => Binding::ExtractStruct { source, field },
-    }
-}
-
-// Two sites must be equal. Whether they weren't yet.
-fn join(
-    classes: &mut DisjointSets<BindingId>,
-    first: BindingId,
-    second: BindingId,
-) -> Result<bool, AllocError>
-    ensures kept { OnOk result (HaveOneName classes.old (class_head classes.new)) }
-    ensures joined { OnOk result (class_head classes.new first ≡ class_head classes.new second) }
-    ensures least { OnOk result ((name : ℕ → SiteTerm) → HaveOneName classes.old name → name first ≡ name second → HaveOneName classes.new name) }
-    ensures stayed { IfOk result (λ r. r ≡ false → classes.new ≡ classes.old) }
-    ensures changed { IfOk result (λ r. r ≡ true → class_head classes.old first ≢ class_head classes.old second) }
-{
-    if class_of(classes, first) == class_of(classes, second) {
-        return Ok(false);
-    }
-    classes.merge(first, second)?;
-    Ok(true)
-}
-
-// A part is equal to the first one met of its class and place. Whether it wasn't yet.
-fn join_part(
-    classes: &mut DisjointSets<BindingId>,
-    firsts: &mut HashMap<Binding, BindingId>,
-    part: &Part,
-) -> Result<bool, AllocError>
-    ensures kept { OnOk result (HaveOneName classes.old (class_head classes.new)) }
-    ensures least { OnOk result ((name : ℕ → SiteTerm) → HaveOneName classes.old name
-        → ((first : ℕ) → get ghosts.eq firsts.old (part_of_head classes.old part.now) ≡ Some first → name first ≡ name part.now.field) → HaveOneName classes.new name) }
-    ensures stayed { IfOk result (λ r. r ≡ false → (classes.new ≡ classes.old) × StandsFirst classes.new firsts.new part.now) }
-    ensures changed { IfOk result (λ r. r ≡ true → JoinsFirst classes.old classes.new firsts.old part.now) }
-    ensures firsts { OnOk result ((q : Binding) (first : ℕ) → get ghosts.eq firsts.old q ≡ Some first → get ghosts.eq firsts.new q ≡ Some first) }
-    ensures added { OnOk result ((q : Binding) (first : ℕ) → get ghosts.eq firsts.new q ≡ Some first
-        → (get ghosts.eq firsts.old q ≡ Some first) ⊎ ((ghosts.eq (part_of_head classes.old part.now) q ≡ true) × (first ≡ part.now.field))) }
-    ensures partition { OnOk result (IsPartition nat_eq classes.old) }
-{
-    let key = part_of_head(classes, part);
-    match firsts.get(&key).copied() {
-        Some(first) => join(classes, first, part.field),
-        None => {
-            firsts.insert(key, part.field)?;
-            Ok(false)
-        }
-    }
-}
-
-// Fields of one place of equal sites are equal, for one round over them. Whether any weren't yet.
-fn join_round(
-    alloc: Global,
-    classes: &mut DisjointSets<BindingId>,
-    parts: &[Part],
-) -> Result<bool, AllocError>
-    ensures kept { OnOk result (HaveOneName classes.old (class_head classes.new)) }
-    ensures least { OnOk result ((name : ℕ → SiteTerm) → AreCongruent parts.now name → HaveOneName classes.old name → HaveOneName classes.new name) }
-    ensures settled { IfOk result (λ r. r ≡ false → AreCongruent parts.now (class_head classes.new)) }
-    ensures changed { IfOk result (λ r. r ≡ true → JoinsMore parts.now classes.old classes.new) }
-{
-    let mut firsts = HashMap::new(alloc);
-    let mut changed = false;
-    for part in parts {
-        if join_part(classes, &mut firsts, part)? {
-            changed = true;
-        }
-    }
-    Ok(changed)
-}
-
-// Fields of one place of equal sites are equal: the least classes in which it is so.
-fn join_parts(
-    alloc: Global,
-    classes: &mut DisjointSets<BindingId>,
-    parts: &[Part],
-) -> Result<(), AllocError>
-    ensures kept { OnOk result (HaveOneName classes.old (class_head classes.new)) }
-    ensures congruent { OnOk result (AreCongruent parts.now (class_head classes.new)) }
-    ensures least { OnOk result ((name : ℕ → SiteTerm) → AreCongruent parts.now name → HaveOneName classes.old name → HaveOneName classes.new name) }
-{
-    while join_round(alloc, classes, parts)? {}
-    Ok(())
 }
 
 // What is asked of a class: the first thing, and the first other one.
@@ -194,7 +75,7 @@ fn asked_by_class(
     classes: &DisjointSets<BindingId>,
     constraints: &[(BindingId, Constraint)],
 ) -> Result<BTreeMap<BindingId, Asked>, AllocError>
-    ensures { IfOk result (λ m. (k : ℕ) → option_map asked_view (Tree.get nat_cmp m k)
+    ensures { IfOk result (λ m. (k : ℕ) → option_map asked_view (get nat_cmp m k)
         ≡ asked_in (class_head classes.now) k (constraint_views constraints.now)) }
 {
     let mut by_class = BTreeMap::new(alloc);
@@ -221,7 +102,7 @@ fn conflict_at(
     by_class: &BTreeMap<BindingId, Asked>,
     site: BindingId,
 ) -> Option<Unreachable>
-    ensures { report_views result ≡ conflict_asked (option_map asked_view (Tree.get nat_cmp by_class.now (class_head classes.now site))) }
+    ensures { report_views result ≡ conflict_asked (option_map asked_view (get nat_cmp by_class.now (class_head classes.now site))) }
 {
     let class = class_of(classes, site);
     conflict_of(by_class.get(&class).copied())
@@ -242,4 +123,20 @@ fn find_conflict(
         }
     }
     Ok(None)
+}
+
+// The conflict of the closure of a rule's demands, over the sites that its visit made.
+fn conflict_of_closure(
+    alloc: Global,
+    table: &SiteTable,
+    demanded: &Demanded,
+) -> Result<Option<Unreachable>, AllocError>
+    requires { IsTable table.now }
+    ensures { IfOk result (λ o. (before : List SiteTerm) (d : Demands) → AreVisited (table_sites table.now) before d demanded.now
+        → report_views o ≡ closure_conflict before d) }
+{
+    let constraints = demanded.list_constraints(alloc)?;
+    let classes = close_classes(alloc, table, demanded, &constraints)?;
+    let conflict = find_conflict(alloc, &classes, &constraints)?;
+    Ok(conflict)
 }

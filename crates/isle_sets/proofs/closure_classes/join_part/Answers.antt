@@ -6,7 +6,7 @@ use Rattle.isle_sets.specs.Verdicts.{class_head}
 use Rattle.isle_sets.specs.contracts.trie_again.BindingPartialEq.TheImpl.{ghosts}
 use Rattle.isle_sets.proofs.FieldJoins.{found_put, kept_put}
 use Rattle.isle_sets.proofs.SitesAdded.{weaker_ok}
-use Rattle.isle_sets.proofs.verdict.join_part.Goals as goal
+use Rattle.isle_sets.proofs.closure_classes.join_part.Goals as goal
 
 pub returns-in-Some-clause-least : goal.returns-in-Some-clause-least
 returns-in-Some-clause-least c =

@@ -3,7 +3,7 @@ use Rattle.isle_model.specs.sites.Sites.{SiteTerm}
 use Rattle.isle_sets.specs.Verdicts.{class_head}
 use Rattle.isle_sets.specs.FieldParts.{AreCongruent, HaveOneName}
 use Rattle.isle_sets.proofs.FieldJoins.{pairs_apart}
-use Rattle.isle_sets.proofs.verdict.join_parts.Given as goal
+use Rattle.isle_sets.proofs.closure_classes.join_parts.Given as goal
 
 abbrev pub invariant-loop : goal.invariant-loop
 invariant-loop l = record {

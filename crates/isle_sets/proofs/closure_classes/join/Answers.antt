@@ -1,5 +1,5 @@
 use Rattle.isle_sets.proofs.ClassHeads.{merged_keeps, merged_joins, merged_named}
-use Rattle.isle_sets.proofs.verdict.join.Goals as goal
+use Rattle.isle_sets.proofs.closure_classes.join.Goals as goal
 
 pub returns-clause-kept : goal.returns-clause-kept
 returns-clause-kept c =

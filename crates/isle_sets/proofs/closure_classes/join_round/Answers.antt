@@ -2,8 +2,8 @@ use Rattle.std.proofs.Common.{rules, ◌≡◌, ◌+◌, ◌++◌, [], ◌∷◌
 use Rattle.std.proofs.lemmas.List.{take_more, take_all}
 use Rattle.isle_model.proofs.Elements.{In, in_from_contains}
 use Rattle.isle_sets.proofs.FieldJoins.{IsRound, round_stays, round_changes, round_settles}
-use Rattle.isle_sets.proofs.verdict.join_round.Goals.{then-branch, else-branch}
-use Rattle.isle_sets.proofs.verdict.join_round.Goals as goal
+use Rattle.isle_sets.proofs.closure_classes.join_round.Goals.{then-branch, else-branch}
+use Rattle.isle_sets.proofs.closure_classes.join_round.Goals as goal
 
 pub loop-part-preserved : goal.loop-part-preserved
 loop-part-preserved c =

@@ -1,6 +1,6 @@
 use Rattle.std.proofs.Common.{rules, ◌≡◌, true}
 use Rattle.isle_sets.proofs.FieldJoins.{fewer_apart}
-use Rattle.isle_sets.proofs.verdict.join_parts.Goals as goal
+use Rattle.isle_sets.proofs.closure_classes.join_parts.Goals as goal
 
 pub loop-smaller : goal.loop-smaller
 loop-smaller c =

@@ -1,0 +1,253 @@
+//! The classes of the closure of a rule's demands: sites that must be equal, and the fields of equal sites that are of
+//! one variant or struct.
+ghost use Rattle.std.specs.Prelude.{◌≡◌, ◌≢◌, ◌⊎◌, ◌↔◌, ℕ, List, true, false, nat_eq, Some, Contains, IsTrue, IfOk, OnOk};
+ghost use Rattle.std.specs.HashMap.{get};
+ghost use Rattle.isle_disjointsets.specs.Partition.{IsPartition};
+ghost use Rattle.isle_model.specs.sites.Demands.{Demands};
+ghost use Rattle.isle_model.specs.sites.Sites.{SiteTerm};
+ghost use Rattle.isle_model.specs.trees.Places.{constraint_at};
+ghost use Rattle.isle_sets.specs.DemandsHeld.{constraint_held};
+ghost use Rattle.isle_sets.specs.FieldParts.{AreCongruent, HaveOneName, IsFieldPart, IsPartAt, IsPartBy, IsPartOfAny, JoinsFirst, JoinsMore, StandsFirst, field_binding, part_of_head};
+ghost use Rattle.isle_sets.specs.Listings.{ascends, sites_of};
+ghost use Rattle.isle_sets.specs.SiteTables.{IsTable, table_sites};
+ghost use Rattle.isle_sets.specs.SiteViews.{constraint_view, constraint_views};
+ghost use Rattle.isle_sets.specs.Verdicts.{AreClassesOf, AreVisited, class_head};
+ghost use Rattle.isle_sets.specs.contracts.trie_again.BindingPartialEq.TheImpl.{ghosts};
+
+use crate::demanded::Demanded;
+use crate::site_table::SiteTable;
+use crate::trie_again::{Binding, BindingId, Constraint, TupleIndex};
+use isle_disjointsets::disjointsets::DisjointSets;
+use isle_types::VariantId;
+use std::alloc::{AllocError, Global};
+use std::collections::HashMap;
+
+/// The site by which the class of a site goes: the site itself where it must equal no other.
+pub(crate) fn class_of(classes: &DisjointSets<BindingId>, site: BindingId) -> BindingId
+    ensures head { result ≡ class_head classes.now site }
+    ensures partition { IsPartition nat_eq classes.now }
+{
+    match classes.find(site) {
+        Some(head) => head,
+        None => site,
+    }
+}
+
+// A field of a site: the variant that it is a field of (none for a struct's), its place, and its own site.
+#[derive(Clone, Copy)]
+struct Part {
+    source: BindingId,
+    variant: Option<VariantId>,
+    place: TupleIndex,
+    field: BindingId,
+}
+
+// The field of a site, of a variant or of a struct.
+fn field_binding(source: BindingId, variant: Option<VariantId>, field: TupleIndex) -> Binding
+    ensures { result ≡ field_binding variant source field }
+{
+    match variant {
+        Some(variant) => Binding::MatchVariant {
+            source,
+            variant,
+            field,
+        },
+        None => Binding::ExtractStruct { source, field },
+    }
+}
+
+// The field, of the site by which its source's class goes: parts of one such field are equal.
+fn part_of_head(classes: &DisjointSets<BindingId>, part: &Part) -> Binding
+    ensures part { result ≡ part_of_head classes.now part.now }
+    ensures partition { IsPartition nat_eq classes.now }
+{
+    field_binding(class_of(classes, part.source), part.variant, part.place)
+}
+
+// Two sites must be equal. Whether they weren't yet.
+fn join(
+    classes: &mut DisjointSets<BindingId>,
+    first: BindingId,
+    second: BindingId,
+) -> Result<bool, AllocError>
+    ensures kept { OnOk result (HaveOneName classes.old (class_head classes.new)) }
+    ensures joined { OnOk result (class_head classes.new first ≡ class_head classes.new second) }
+    ensures least { OnOk result ((name : ℕ → SiteTerm) → HaveOneName classes.old name → name first ≡ name second → HaveOneName classes.new name) }
+    ensures stayed { IfOk result (λ r. r ≡ false → classes.new ≡ classes.old) }
+    ensures changed { IfOk result (λ r. r ≡ true → class_head classes.old first ≢ class_head classes.old second) }
+{
+    if class_of(classes, first) == class_of(classes, second) {
+        return Ok(false);
+    }
+    classes.merge(first, second)?;
+    Ok(true)
+}
+
+// A part is equal to the first one met of its class and place. Whether it wasn't yet.
+fn join_part(
+    classes: &mut DisjointSets<BindingId>,
+    firsts: &mut HashMap<Binding, BindingId>,
+    part: &Part,
+) -> Result<bool, AllocError>
+    ensures kept { OnOk result (HaveOneName classes.old (class_head classes.new)) }
+    ensures least { OnOk result ((name : ℕ → SiteTerm) → HaveOneName classes.old name
+        → ((first : ℕ) → get ghosts.eq firsts.old (part_of_head classes.old part.now) ≡ Some first → name first ≡ name part.now.field) → HaveOneName classes.new name) }
+    ensures stayed { IfOk result (λ r. r ≡ false → (classes.new ≡ classes.old) × StandsFirst classes.new firsts.new part.now) }
+    ensures changed { IfOk result (λ r. r ≡ true → JoinsFirst classes.old classes.new firsts.old part.now) }
+    ensures firsts { OnOk result ((q : Binding) (first : ℕ) → get ghosts.eq firsts.old q ≡ Some first → get ghosts.eq firsts.new q ≡ Some first) }
+    ensures added { OnOk result ((q : Binding) (first : ℕ) → get ghosts.eq firsts.new q ≡ Some first
+        → (get ghosts.eq firsts.old q ≡ Some first) ⊎ ((ghosts.eq (part_of_head classes.old part.now) q ≡ true) × (first ≡ part.now.field))) }
+    ensures partition { OnOk result (IsPartition nat_eq classes.old) }
+{
+    let key = part_of_head(classes, part);
+    match firsts.get(&key).copied() {
+        Some(first) => join(classes, first, part.field),
+        None => {
+            firsts.insert(key, part.field)?;
+            Ok(false)
+        }
+    }
+}
+
+// Fields of one place of equal sites are equal, for one round over them. Whether any weren't yet.
+fn join_round(
+    alloc: Global,
+    classes: &mut DisjointSets<BindingId>,
+    parts: &[Part],
+) -> Result<bool, AllocError>
+    ensures kept { OnOk result (HaveOneName classes.old (class_head classes.new)) }
+    ensures least { OnOk result ((name : ℕ → SiteTerm) → AreCongruent parts.now name → HaveOneName classes.old name → HaveOneName classes.new name) }
+    ensures settled { IfOk result (λ r. r ≡ false → AreCongruent parts.now (class_head classes.new)) }
+    ensures changed { IfOk result (λ r. r ≡ true → JoinsMore parts.now classes.old classes.new) }
+{
+    let mut firsts = HashMap::new(alloc);
+    let mut changed = false;
+    for part in parts {
+        if join_part(classes, &mut firsts, part)? {
+            changed = true;
+        }
+    }
+    Ok(changed)
+}
+
+// Fields of one place of equal sites are equal: the least classes in which it is so.
+fn join_parts(
+    alloc: Global,
+    classes: &mut DisjointSets<BindingId>,
+    parts: &[Part],
+) -> Result<(), AllocError>
+    ensures kept { OnOk result (HaveOneName classes.old (class_head classes.new)) }
+    ensures congruent { OnOk result (AreCongruent parts.now (class_head classes.new)) }
+    ensures least { OnOk result ((name : ℕ → SiteTerm) → AreCongruent parts.now name → HaveOneName classes.old name → HaveOneName classes.new name) }
+{
+    while join_round(alloc, classes, parts)? {}
+    Ok(())
+}
+
+// The field of a site at a place, where it is a site.
+fn add_part(
+    table: &SiteTable,
+    parts: &mut Vec<Part>,
+    source: BindingId,
+    variant: Option<VariantId>,
+    place: TupleIndex,
+) -> Result<(), AllocError>
+    requires { IsTable table.now }
+    ensures { OnOk result ((p : Part) → Contains parts.new.items p
+        ↔ (Contains parts.old.items p ⊎ IsPartAt (table_sites table.now) source variant place p)) }
+{
+    let binding = field_binding(source, variant, place);
+    let Some(field) = table.find(&binding) else {
+        return Ok(());
+    };
+    parts.push(Part {
+        source,
+        variant,
+        place,
+        field,
+    })?;
+    Ok(())
+}
+
+// The fields of a site, of a variant or of a struct.
+fn add_parts(
+    table: &SiteTable,
+    parts: &mut Vec<Part>,
+    source: BindingId,
+    variant: Option<VariantId>,
+    fields: TupleIndex,
+) -> Result<(), AllocError>
+    requires { IsTable table.now }
+    ensures { OnOk result ((p : Part) → Contains parts.new.items p
+        ↔ (Contains parts.old.items p ⊎ IsFieldPart (table_sites table.now) source variant fields p)) }
+{
+    for index in 0..fields.0 {
+        add_part(table, parts, source, variant, TupleIndex(index))?;
+    }
+    Ok(())
+}
+
+// The fields that a constraint gives a site.
+fn add_constrained(
+    table: &SiteTable,
+    parts: &mut Vec<Part>,
+    source: BindingId,
+    constraint: Constraint,
+) -> Result<(), AllocError>
+    requires { IsTable table.now }
+    ensures { OnOk result ((p : Part) → Contains parts.new.items p
+        ↔ (Contains parts.old.items p ⊎ IsPartBy (table_sites table.now) source (constraint_view constraint) p)) }
+{
+    match constraint {
+        Constraint::Variant {
+            variant,
+            fields,
+            ..
+        } => add_parts(table, parts, source, Some(variant), fields),
+        Constraint::Struct { fields, .. } => add_parts(table, parts, source, None, fields),
+        Constraint::ConstBool { .. }
+        | Constraint::ConstInt { .. }
+        | Constraint::ConstPrim { .. }
+        | Constraint::Some => Ok(()),
+    }
+}
+
+// The fields of all sites that are asked to be of a variant or a struct.
+fn list_parts(
+    alloc: Global,
+    table: &SiteTable,
+    constraints: &[(BindingId, Constraint)],
+) -> Result<Vec<Part>, AllocError>
+    requires { IsTable table.now }
+    ensures { IfOk result (λ v. (p : Part) → Contains v.items p ↔ IsPartOfAny (table_sites table.now) (constraint_views constraints.now) p) }
+{
+    let mut parts = Vec::new(alloc);
+    for (site, constraint) in constraints {
+        add_constrained(table, &mut parts, *site, *constraint)?;
+    }
+    Ok(parts)
+}
+
+/// The classes of the closure of a rule's demands, over the sites that its visit made: sites that must be equal are of
+/// one, and so are the fields of equal sites, place by place. The constraints are the demands', ascending by site.
+///
+/// # Errors
+///
+/// Where memory is refused.
+pub(crate) fn close_classes(
+    alloc: Global,
+    table: &SiteTable,
+    demanded: &Demanded,
+    constraints: &[(BindingId, Constraint)],
+) -> Result<DisjointSets<BindingId>, AllocError>
+    requires table { IsTable table.now }
+    requires ascending { IsTrue (ascends (sites_of constraints.now)) }
+    requires asked { (s : ℕ) → constraint_at (constraint_views constraints.now) s ≡ constraint_held demanded.now s }
+    ensures { IfOk result (λ classes. (before : List SiteTerm) (d : Demands) → AreVisited (table_sites table.now) before d demanded.now
+        → AreClassesOf (table_sites table.now) classes d) }
+{
+    let parts = list_parts(alloc, table, constraints)?;
+    let mut classes = demanded.equals.clone()?;
+    join_parts(alloc, &mut classes, &parts)?;
+    Ok(classes)
+}
