@@ -1,5 +1,5 @@
 -- What building gives of samples, by the law on built sets of lists that elaborate.
-use Rattle.std.proofs.Common.{◌≡◌, ◌∷◌, [], ℕ, true, List, length, All, refl, ap, arith}
+use Rattle.std.proofs.Common.{◌≡◌, ◌∷◌, [], ℕ, true, List, length, refl, ap, arith}
 use Rattle.std.proofs.lemmas.List.Elements.{All-cons, All-nil}
 use Rattle.isle_model.specs.claims.Environments.{IsElaborated, types_read}
 use Rattle.isle_model.specs.claims.Layers.{BuildAnswers, own_program}

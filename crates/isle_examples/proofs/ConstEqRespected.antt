@@ -1,5 +1,5 @@
 -- Classes of both arguments respect the demands of the sample with an equality; classes of each alone don't.
-use Rattle.std.proofs.Common.{◌≡◌, ◌∷◌, [], ℕ, List, Some, Contains, slice_get, refl, sym, ap, subst, arith}
+use Rattle.std.proofs.Common.{◌≡◌, Some, slice_get, refl, sym, subst, arith}
 use Rattle.std.proofs.lemmas.Option.{none-some}
 use Rattle.isle_model.proofs.Members.{in_alone}
 use Rattle.isle_model.specs.sites.Closure.{field_terms}
@@ -7,7 +7,7 @@ use Rattle.isle_model.specs.sites.Demands.{demands_of}
 use Rattle.isle_model.specs.sites.Sites.{Constraint, SiteTerm}
 use Rattle.isle_laws_demands.specs.ClosureLaws.{RespectsDemands}
 use Rattle.isle_laws_demands.proofs.closure.Classes.{classes_bound}
-use Rattle.isle_examples.specs.ConstEq.{ConstEqIsRespected, const_eq_program, const_eq_rule, of_both, of_each}
+use Rattle.isle_examples.specs.ConstEq.{ConstEqIsRespected, const_eq_program, const_eq_rule, of_both}
 use Rattle.isle_examples.specs.SetForms.{a0, a1, a2, is_byte}
 
 respected : RespectsDemands (demands_of const_eq_program const_eq_rule) of_both

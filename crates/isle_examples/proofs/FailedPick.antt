@@ -1,5 +1,5 @@
 -- A rule that fails under a pick is accepted, built, served and taken, and the law on rules that are taken applies.
-use Rattle.std.proofs.Common.{◌≡◌, ◌⊎◌, ◌||◌, ◌==◌, ◌<◌, nat_lt, ltb-true, ◌∷◌, [], ℕ, pos, zero, suc, Bool, true, false, Option, Some, None, All, Contains, IsSomeAnd, IsTrue, if◌then◌else◌, is_some, slice_get, refl, sym, subst, ap, inl, inr, arith, eqb-true}
+use Rattle.std.proofs.Common.{◌≡◌, ◌⊎◌, ◌<◌, nat_lt, ltb-true, ◌∷◌, [], ℕ, pos, zero, suc, Bool, true, false, Option, Some, None, All, Contains, IsSomeAnd, IsTrue, slice_get, refl, subst, inl, inr, arith}
 use Rattle.std.proofs.lemmas.Bool.{false≢true}
 use Rattle.std.proofs.lemmas.List.Elements.{All-cons, All-nil}
 use Rattle.std.proofs.lemmas.Option.{none-some, same_Some}
@@ -14,15 +14,15 @@ use Rattle.isle_model.specs.rules.Values.{Value, Values, no_value, value_and}
 use Rattle.isle_model.specs.sites.Gates.{gate_demanded}
 use Rattle.isle_model.specs.sites.Overlap.{built_rule}
 use Rattle.isle_model.specs.sites.Serves.{fits_constructor, fits_extractor}
-use Rattle.isle_model.specs.sites.Sites.{SiteTerm, SiteTerms, argument, argument_site, constructor_call, extractor_call, extractor_site, iterator_site, match_some_site, no_site_term, pick_of, site_term_and}
-use Rattle.isle_model.specs.trees.Collects.{IsPureAt, content_at}
-use Rattle.isle_model.specs.trees.Places.{Around, all_below, is_in, nothing_around, waits}
-use Rattle.isle_model.specs.trees.Run.{Env, World, as_value, bound_to, used}
+use Rattle.isle_model.specs.sites.Sites.{SiteTerm, SiteTerms, argument, argument_site, constructor_call, extractor_call, extractor_site, iterator_site, no_site_term, pick_of, site_term_and}
+use Rattle.isle_model.specs.trees.Collects.{IsPureAt}
+use Rattle.isle_model.specs.trees.Places.{waits}
+use Rattle.isle_model.specs.trees.Run.{World, as_value}
 use Rattle.isle_model.specs.trees.SetRuns.{IsReachedUnder, IsUnwrap}
 use Rattle.isle_laws_demands.proofs.outcomes.Outcomes.{taken_under_picks_lem}
 use Rattle.isle_examples.proofs.ListStages.{accepted_both}
 use Rattle.isle_examples.proofs.LoopPlaces.{emitted_there, in_loop, loop_env, reached_in_loop}
-use Rattle.isle_examples.proofs.Served.{IsOwnNumber, numbers_apart, serves_from}
+use Rattle.isle_examples.proofs.Served.{IsOwnNumber, answers_argument, numbers_apart, serves_from}
 use Rattle.isle_examples.proofs.SetStages.{built}
 use Rattle.isle_examples.specs.FailedPick.{FailedPickGives, FailedPickIsServed, FailedPickIsTaken, picked_rules, picked_set, unwraps_pick}
 use Rattle.isle_examples.specs.MeaningForms.{all_of, alone, each, given, v}
@@ -47,8 +47,7 @@ picked_call u = true
 
 call_answered : (k : Pick) (t : ℕ) (s : SiteTerm) (w : Value) → picked_call (extractor_call t s) ≡ true → site_content picked_meaning (given (pos 1)) k s ≡ Some (one w)
     → IsSomeAnd (extractor_answer picked_meaning t w) (λ c. IsTrue (fits_extractor picked_program t (kind picked_program t) c))
-call_answered k zero (argument zero) w h e =
-    subst (λ u. IsSomeAnd (extractor_answer picked_meaning 0 u) (λ c. IsTrue (fits_extractor picked_program 0 (kind picked_program 0) c))) (same_Some (v (pos 1)) w (ap (λ o. then_option o as_value) e)) refl
+call_answered k zero (argument zero) w h e = answers_argument picked_program picked_meaning (pos 1) k w refl e
 call_answered k _ _ w h holds = absurd (false≢true h)
 
 abbrev IsAnswered : Values → ℕ → Type 0

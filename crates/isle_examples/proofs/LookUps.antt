@@ -1,5 +1,5 @@
 -- Which look-ups answer by the lists of samples, and which environments are read as their types.
-use Rattle.std.proofs.Common.{◌≡◌, ◌<◌, ℕ, zero, suc, true, List, Some, None, slice_get, nat_lt, refl, sym, ap, arith, ltb-true}
+use Rattle.std.proofs.Common.{◌≡◌, ◌<◌, ℕ, zero, suc, true, List, Some, slice_get, nat_lt, refl, sym, ap, arith, ltb-true}
 use Rattle.std.specs.List.{list_all}
 use Rattle.std.proofs.lemmas.Bool.{false≢true}
 use Rattle.std.proofs.lemmas.Option.{none-some, same_Some}
@@ -8,7 +8,7 @@ use Rattle.isle_model.proofs.Names.{distinct_if}
 use Rattle.isle_model.proofs.NumbersOf.{environments_are_read}
 use Rattle.isle_model.specs.lists.Tables.{TermEntry, TypeEntry, primitive_type}
 use Rattle.isle_examples.specs.Fall.{fall_defs}
-use Rattle.isle_examples.specs.LookUps.{ConvertersAreLookedUp, FallSpeaksOfNames, FlagIsKept, NearEnvironments, env_with_p, types_with_p}
+use Rattle.isle_examples.specs.LookUps.{ConvertersAreLookedUp, FallSpeaksOfNames, FlagIsKept, NearEnvironments, types_with_p}
 use Rattle.isle_examples.specs.Stages.{own_setting}
 
 pub converters_are_looked_up : ConvertersAreLookedUp

@@ -1,5 +1,5 @@
 -- A place inside of a loop over a call: site 1 is the call, which was bound, and site 2 the answer that the loop brought.
-use Rattle.std.proofs.Common.{◌≡◌, ◌⊎◌, ◌||◌, ◌==◌, ◌∷◌, [], ℕ, Bool, true, false, Some, None, All, IsTrue, if◌then◌else◌, is_some, refl, sym, ◌∙◌, subst, inl, inr, eqb-true}
+use Rattle.std.proofs.Common.{◌≡◌, ◌||◌, ◌==◌, ◌∷◌, [], ℕ, Bool, true, false, Some, None, All, IsTrue, if◌then◌else◌, is_some, refl, sym, ◌∙◌, subst, eqb-true}
 use Rattle.std.proofs.lemmas.Bool.{false≢true}
 use Rattle.std.proofs.lemmas.Option.{none-some}
 use Rattle.isle_model.specs.rules.Meaning.{Content}

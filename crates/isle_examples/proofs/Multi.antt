@@ -1,9 +1,9 @@
 -- The multi sample: its rules and its set are collected, the world serves it, and the run of its tree collects the bag.
-use Rattle.std.proofs.Common.{◌≡◌, ◌∷◌, [], ◌∙◌, ℕ, pos, zero, suc, true, false, List, Some, length, slice_get, All, Contains, IsTrue, refl, sym, ap, subst, inl, inr, arith, is_some, ◌⊎◌, ◌||◌, ◌==◌, Bool, None, if◌then◌else◌, eqb-true}
+use Rattle.std.proofs.Common.{◌≡◌, ◌∷◌, [], ◌∙◌, ℕ, pos, zero, suc, true, false, List, Some, length, slice_get, All, Contains, IsTrue, refl, sym, ap, subst, inl, inr, arith, is_some, ◌⊎◌}
 use Rattle.std.proofs.lemmas.Bool.{false≢true}
 use Rattle.std.proofs.lemmas.List.Elements.{All-nil, All-cons}
 use Rattle.std.proofs.lemmas.List.Sorted.{IsPermutation-refl, length_permutation, sum_by-IsPermutation}
-use Rattle.std.proofs.lemmas.Option.{none-some, same_Some}
+use Rattle.std.proofs.lemmas.Option.{same_Some}
 use Rattle.std.specs.Prelude.{IsPermutation}
 use Rattle.isle_model.proofs.Members.{in_alone, in_cases, nothing_in}
 use Rattle.isle_model.specs.claims.SetMeanings.{returning_once}
@@ -12,8 +12,8 @@ use Rattle.isle_model.specs.rules.Picks.{Pick}
 use Rattle.isle_model.specs.rules.Values.{atom}
 use Rattle.isle_model.specs.sites.Sites.{Constraint, SetRule, argument_site, constructor_site, is_int, iterator_site, match_some_site}
 use Rattle.isle_model.specs.trees.Collects.{HasCollectedResults, IsCollectedSet, IsPureAt, ServesSet, content_at}
-use Rattle.isle_model.specs.trees.Places.{Around, all_below, fields_of, is_in, joins_in, nothing_around, waits}
-use Rattle.isle_model.specs.trees.Run.{Env, World, bound_to, content_fields, used}
+use Rattle.isle_model.specs.trees.Places.{fields_of, joins_in, waits}
+use Rattle.isle_model.specs.trees.Run.{World, content_fields}
 use Rattle.isle_model.specs.trees.SetRuns.{IsReachedUnder, IsUnwrap}
 use Rattle.isle_model.specs.claims.Environments.{types_read}
 use Rattle.isle_model.specs.sites.Overlap.{built_rule}

@@ -1,17 +1,14 @@
 -- A rule that goes over a call and constrains its answers: it is served, and its tree collects the bag.
-use Rattle.std.proofs.Common.{◌≡◌, [], ℕ, pos, zero, Bool, true, false, Some, IsTrue, IsSomeAnd, refl, ap, subst, arith}
+use Rattle.std.proofs.Common.{◌≡◌, [], ℕ, pos, zero, Bool, true, false, Some, IsTrue, IsSomeAnd, refl, arith}
 use Rattle.std.proofs.lemmas.Bool.{false≢true}
-use Rattle.std.proofs.lemmas.Option.{same_Some}
 use Rattle.isle_model.specs.claims.Environments.{types_read}
 use Rattle.isle_model.specs.rules.Meaning.{extractor_answer, one}
-use Rattle.isle_model.specs.rules.Outcome.{then_option}
 use Rattle.isle_model.specs.rules.Picks.{Pick, site_content}
 use Rattle.isle_model.specs.rules.Program.{kind, rules_of}
 use Rattle.isle_model.specs.rules.Values.{Value}
 use Rattle.isle_model.specs.sites.Overlap.{built_rule}
 use Rattle.isle_model.specs.sites.Serves.{fits_extractor}
 use Rattle.isle_model.specs.sites.Sites.{SiteTerm, argument, constructor_call, extractor_call}
-use Rattle.isle_model.specs.trees.Run.{as_value}
 use Rattle.isle_laws_lists.proofs.FormedRules.{rules_are_formed}
 use Rattle.isle_laws_lists.proofs.TypedRules.{lists_agree}
 use Rattle.isle_laws_demands.proofs.matching.BuiltMatches.{built_sets_match_by_demands_lem}
@@ -19,8 +16,8 @@ use Rattle.isle_laws_demands.proofs.visits.WholeDemands.{built_demands_are_whole
 use Rattle.isle_laws_trees.proofs.headline.Collecting.{best_trees_collect_the_bag_lem}
 use Rattle.isle_examples.proofs.Multi.{laws}
 use Rattle.isle_examples.proofs.SampleStages.{stages}
-use Rattle.isle_examples.proofs.Served.{one_constant, serves_from}
-use Rattle.isle_examples.specs.MeaningForms.{given, v}
+use Rattle.isle_examples.proofs.Served.{answers_argument, one_constant, serves_from}
+use Rattle.isle_examples.specs.MeaningForms.{given}
 use Rattle.isle_examples.specs.PickedNumber.{FivesAreNotMatched, PickedNumberGives, PickedNumberIsServed, one_and_five, picked_number_defs, picked_number_program, picked_number_rule, picked_number_rules, picked_number_sample, picked_number_set, picked_number_tree, seven_for_one, the_answer}
 use Rattle.isle_examples.specs.Stages.{HasStages}
 
@@ -35,8 +32,7 @@ call_of_me u = true
 
 answered : (k : Pick) (t : ℕ) (s : SiteTerm) (w : Value) → call_of_me (extractor_call t s) ≡ true → site_content one_and_five (given (pos 1)) k s ≡ Some (one w)
     → IsSomeAnd (extractor_answer one_and_five t w) (λ c. IsTrue (fits_extractor picked_number_program t (kind picked_number_program t) c))
-answered k zero (argument zero) w h e =
-    subst (λ u. IsSomeAnd (extractor_answer one_and_five 0 u) (λ c. IsTrue (fits_extractor picked_number_program 0 (kind picked_number_program 0) c))) (same_Some (v (pos 1)) w (ap (λ o. then_option o as_value) e)) refl
+answered k zero (argument zero) w h e = answers_argument picked_number_program one_and_five (pos 1) k w refl e
 answered k _ _ w h holds = absurd (false≢true h)
 
 pub picked_number_is_served : PickedNumberIsServed

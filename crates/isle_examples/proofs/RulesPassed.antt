@@ -1,16 +1,16 @@
 -- The rules of samples are passed one by one.
-use Rattle.std.proofs.Common.{◌≡◌, ◌≢◌, ◌==◌, ◌∷◌, [], ℕ, zero, suc, ◌<◌, ◌≤◌, true, false, List, Option, Some, None, length, map, Contains, if◌then◌else◌, refl, sym, ap, ◌∙◌, arith, inl, inr, eqb-true}
+use Rattle.std.proofs.Common.{◌≡◌, ◌≢◌, ◌==◌, ◌∷◌, [], ℕ, zero, suc, ◌<◌, List, Some, None, length, map, Contains, refl, sym, ap, ◌∙◌, arith, inl, inr, eqb-true}
 use Rattle.std.proofs.lemmas.Bool.{cases_Bool, cond-false, leb-true}
 use Rattle.isle_model.proofs.Members.{nothing_in}
 use Rattle.isle_model.specs.sites.Limits.{most_sites, arguments_limit, sites_after_rules}
-use Rattle.isle_model.specs.sites.Overlap.{RuleReport, build_reports_of, built_rule}
-use Rattle.isle_model.specs.sites.Sites.{Site, SiteSet, argument_site, sources_at}
+use Rattle.isle_model.specs.sites.Overlap.{build_reports_of, built_rule}
+use Rattle.isle_model.specs.sites.Sites.{SiteSet, argument_site, sources_at}
 use Rattle.isle_model.specs.trees.Tests.{up_to}
 use Rattle.isle_laws_demands.proofs.building.RulesPassed.{sets_go_past_rules_lem, sets_start_empty_lem}
 use Rattle.isle_laws_demands.proofs.building.SetsSoFar.{building_goes_on_lem, building_starts_lem}
-use Rattle.isle_laws_demands.specs.RuleByRule.{BuildsRule, HaveGrown, limit_met, nothing_built, rule_added, rule_unreachable}
+use Rattle.isle_laws_demands.specs.RuleByRule.{BuildsRule, limit_met, nothing_built, rule_added, rule_unreachable}
 use Rattle.isle_laws_trees.proofs.JudgedSets.{only_sites, stand}
-use Rattle.isle_laws_trees.proofs.WellBuilt.{passes_well_built, set_passes}
+use Rattle.isle_laws_trees.proofs.WellBuilt.{passes_well_built}
 use Rattle.isle_examples.proofs.SetStages.{rule_stands}
 use Rattle.isle_examples.specs.Answered.{one_or_two_asked}
 use Rattle.isle_examples.specs.LeftOver.{any_rule, kept_rule, left_over_program, left_over_set, never_rule}

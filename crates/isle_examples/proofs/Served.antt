@@ -1,5 +1,5 @@
 -- The samples' meanings serve their rules and tell their constants apart; meanings without literals or calls don't serve.
-use Rattle.std.proofs.Common.{◌≡◌, ◌∷◌, [], ◌∙◌, ◌==◌, ℕ, pos, zero, suc, Bool, true, false, List, take, Option, Some, None, All, Contains, IsTrue, is_some, refl, sym, ap, subst, arith, ◌⊎◌, inl, inr, IsSomeAnd}
+use Rattle.std.proofs.Common.{◌≡◌, ◌∷◌, [], ◌∙◌, ◌==◌, ℕ, ℤ, pos, zero, suc, Bool, true, false, List, take, Option, Some, None, All, Contains, IsTrue, is_some, refl, sym, ap, subst, arith, ◌⊎◌, inl, inr, IsSomeAnd}
 use Rattle.std.specs.List.{list_all}
 use Rattle.std.proofs.lemmas.Bool.{false≢true}
 use Rattle.std.proofs.lemmas.List.Elements.{All-contains, All-nil}
@@ -67,6 +67,12 @@ one_constant p m rs h g = record {
 }
 
 -- 3. a call of an extractor, whatever fitting answer it gives
+-- what it answers on the argument, it answers on the value that stands there
+pub answers_argument : (p : Program) (m : Meaning) (z : ℤ) (k : Pick) (w : Value) → IsSomeAnd (extractor_answer m 0 (v z)) (λ c. IsTrue (fits_extractor p 0 (kind p 0) c))
+    → site_content m (given z) k (argument 0) ≡ Some (one w) → IsSomeAnd (extractor_answer m 0 w) (λ c. IsTrue (fits_extractor p 0 (kind p 0) c))
+answers_argument p m z k w fits e =
+    subst (λ u. IsSomeAnd (extractor_answer m 0 u) (λ c. IsTrue (fits_extractor p 0 (kind p 0) c))) (same_Some (v z) w (ap (λ o. then_option o as_value) e)) fits
+
 abbrev extract_call : SiteTerm → Bool
 extract_call (extractor_call zero (argument zero)) = true
 extract_call (extractor_call t s) = false
@@ -76,8 +82,7 @@ extract_call u = true
 module _ (answer : Content) (fits : IsTrue (fits_extractor extract_program 0 (kind extract_program 0) answer)) where
   extract_answers : (k : Pick) (t : ℕ) (s : SiteTerm) (w : Value) → extract_call (extractor_call t s) ≡ true → site_content (extract_meaning answer) (given (pos 7)) k s ≡ Some (one w)
       → IsSomeAnd (extractor_answer (extract_meaning answer) t w) (λ c. IsTrue (fits_extractor extract_program t (kind extract_program t) c))
-  extract_answers k zero (argument zero) w h e =
-      subst (λ u. IsSomeAnd (extractor_answer (extract_meaning answer) 0 u) (λ c. IsTrue (fits_extractor extract_program 0 (kind extract_program 0) c))) (same_Some (v (pos 7)) w (ap (λ o. then_option o as_value) e)) fits
+  extract_answers k zero (argument zero) w h e = answers_argument extract_program (extract_meaning answer) (pos 7) k w fits e
   extract_answers k _ _ w h holds = absurd (false≢true h)
 
   extract_serves : Serves extract_program (extract_meaning answer) (given (pos 7)) extract_rules.rules
@@ -191,8 +196,7 @@ third_call u = true
 
 third_answers : (k : Pick) (t : ℕ) (s : SiteTerm) (w : Value) → third_call (extractor_call t s) ≡ true → site_content third_meaning (given (pos 1)) k s ≡ Some (one w)
     → IsSomeAnd (extractor_answer third_meaning t w) (λ c. IsTrue (fits_extractor third_program t (kind third_program t) c))
-third_answers k zero (argument zero) w h e =
-    subst (λ u. IsSomeAnd (extractor_answer third_meaning 0 u) (λ c. IsTrue (fits_extractor third_program 0 (kind third_program 0) c))) (same_Some (v (pos 1)) w (ap (λ o. then_option o as_value) e)) refl
+third_answers k zero (argument zero) w h e = answers_argument third_program third_meaning (pos 1) k w refl e
 third_answers k _ _ w h holds = absurd (false≢true h)
 
 pub third_served : ThirdIsServed

@@ -1,8 +1,7 @@
 -- Of a list that elaborates, built sets of all terms with rules are what building gives.
-use Rattle.std.proofs.Common.{◌≡◌, ℕ, List, All, Contains, refl}
+use Rattle.std.proofs.Common.{ℕ, List, All, refl}
 use Rattle.std.proofs.lemmas.List.Elements.{All-contains}
 use Rattle.isle_model.proofs.Members.{all_members}
-use Rattle.isle_model.specs.rules.Program.{Program}
 use Rattle.isle_model.specs.sites.Sites.{SiteSet}
 use Rattle.isle_model.specs.sites.RuleSets.{IsBuilt}
 use Rattle.isle_model.specs.claims.Environments.{program_of}

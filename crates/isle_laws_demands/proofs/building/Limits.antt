@@ -1,12 +1,10 @@
 -- Which limit is met first of a rule, and that sites which are too many stay the first of these.
-use Rattle.std.proofs.Common.{◌≡◌, ℕ, ◌<◌, ◌≤◌, false, nat_lt, List, [], ◌∷◌, ◌++◌, length, take, Option, Some, None, is_some, slice_get, refl, sym, ap, ◌∙◌, subst, inl, inr, arith}
+use Rattle.std.proofs.Common.{◌≡◌, ◌<◌, ◌≤◌, nat_lt, List, [], ◌∷◌, ◌++◌, length, Some, is_some, slice_get, refl, sym, ap, ◌∙◌, subst, inl, inr, arith}
 use Rattle.std.proofs.lemmas.Bool.{cases_Bool, cond-true, cond-false, le-ltb, lt-ltb}
 use Rattle.std.proofs.lemmas.List.{append-nil, append_assoc}
-use Rattle.isle_model.specs.rules.Typed.{TypedRule}
-use Rattle.isle_model.specs.rules.Program.{Program}
 use Rattle.isle_model.specs.sites.Sites.{SiteTerm}
 use Rattle.isle_model.specs.sites.Demands.{has_site, with_sites}
-use Rattle.isle_model.specs.sites.Limits.{RuleLimit, first_limit, limits_of_shape, made_walking, most_sites, sites_limit, sites_reached, sites_wanted, walked_rule}
+use Rattle.isle_model.specs.sites.Limits.{first_limit, limits_of_shape, made_walking, most_sites, sites_limit, sites_reached, sites_wanted, walked_rule}
 use Rattle.isle_laws_demands.specs.RuleByRule.{FullSitesStay, LimitsAreMet, first_sites}
 use Rattle.isle_laws_demands.proofs.building.Walks.{walks_end_at_limits_lem}
 use Rattle.isle_laws_demands.proofs.closure.WholeVisits.{none_first, rule_goes_on}

@@ -1,12 +1,11 @@
 -- Constraints and classes over numbers, listed at the end of a closing, are what a rule's closed demands ask.
-use Rattle.std.proofs.Common.{◌≡◌, ◌&&◌, ℕ, ◌<◌, Bool, true, List, [], ◌∷◌, length, map, Some, slice_get, Contains, IsTrue, refl, sym, ap, ◌∙◌, subst, inl, inr, arith}
-use Rattle.std.specs.List.{list_any}
+use Rattle.std.proofs.Common.{◌≡◌, ◌&&◌, ℕ, ◌<◌, Bool, true, List, [], ◌∷◌, length, Some, Contains, sym, ap, ◌∙◌, subst, inl, inr, arith}
 use Rattle.std.proofs.lemmas.Bool.{cases_Bool, cond-true, cond-false, and_from, and_parts}
 use Rattle.std.proofs.lemmas.List.Elements.{All-contains}
 use Rattle.std.proofs.lemmas.Option.{same_Some, slice_get_within}
 use Rattle.isle_model.specs.sites.Sites.{Constraint, Site, SiteTerm, unfold_site}
-use Rattle.isle_model.specs.sites.Demands.{Demands, has_site, site_term_eq}
-use Rattle.isle_model.specs.sites.Closure.{Closed, before_closing, closed, closing, constraint_of, most_closing_steps}
+use Rattle.isle_model.specs.sites.Demands.{has_site, site_term_eq}
+use Rattle.isle_model.specs.sites.Closure.{Closed, before_closing, closing, constraint_of, most_closing_steps}
 use Rattle.isle_model.specs.sites.RuleSets.{AsksFor, Equates, StandFor}
 use Rattle.isle_model.proofs.Elements.{In, in_from_contains, contains_from_in, in_any, any_in, slice_in}
 use Rattle.isle_model.proofs.Members.{constraint_in}

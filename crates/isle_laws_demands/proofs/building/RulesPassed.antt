@@ -1,21 +1,21 @@
 -- The set of a term goes past one more rule: what was built before stays, and the rule is added or left out.
-use Rattle.std.proofs.Common.{◌≡◌, ℕ, ◌<◌, ◌≤◌, Bool, true, false, not, ◌&&◌, is_none, nat_lt, if◌then◌else◌, List, [], ◌∷◌, ◌++◌, map, length, take, Option, Some, None, slice_get, All, Contains, refl, sym, ap, ◌∙◌, subst, inl, inr, arith}
-use Rattle.std.proofs.lemmas.Bool.{cases_Bool, cond-true, cond-false, false≢true, ltb-false}
+use Rattle.std.proofs.Common.{◌≡◌, ℕ, ◌<◌, Bool, true, false, not, ◌&&◌, is_none, nat_lt, if◌then◌else◌, List, [], ◌∷◌, ◌++◌, map, length, Some, None, slice_get, All, Contains, refl, sym, ap, ◌∙◌, subst, inl, inr, arith}
+use Rattle.std.proofs.lemmas.Bool.{cases_Bool, cond-true, cond-false, ltb-false}
 use Rattle.std.proofs.lemmas.List.{append-nil, append_assoc, take_all}
 use Rattle.std.proofs.lemmas.List.Elements.{All-head, All-tail}
 use Rattle.isle_model.specs.rules.Typed.{TypedRule}
-use Rattle.isle_model.specs.rules.Program.{Program, rules_of}
+use Rattle.isle_model.specs.rules.Program.{Program}
 use Rattle.isle_model.specs.sites.Sites.{Constraint, Site, SetRule, SiteSet, SiteTerm, unfold_site}
 use Rattle.isle_model.specs.sites.Demands.{demands_of, with_sites}
 use Rattle.isle_model.specs.sites.Closure.{Closed, closed, is_unreachable, reported}
 use Rattle.isle_model.specs.sites.Limits.{RuleLimit, first_limit, limits_of_shape, made_walking, most_sites, sites_after_rule, sites_after_rules, sites_limit, sites_reached, sites_wanted, walked_rule}
 use Rattle.isle_model.specs.sites.Overlap.{BuiltRule, RuleReport, limit_passed, not_reached, built_from, built_rule, is_built, build_reports_of}
-use Rattle.isle_model.specs.sites.RuleSets.{AreRulesOfSet, AsksFor, Equates, GoesOver, IsBuilt, IsRuleOf, StandFor}
+use Rattle.isle_model.specs.sites.RuleSets.{AreRulesOfSet, AsksFor, Equates, GoesOver, IsRuleOf, StandFor}
 use Rattle.isle_model.proofs.Elements.{none_some}
 use Rattle.isle_model.proofs.Members.{all_members, nothing_in}
 use Rattle.std.proofs.lemmas.List.Elements.{All-contains}
-use Rattle.isle_laws_demands.specs.RuleByRule.{GoesPast, HaveGrown, SetsEndBuilt, SetsGoPastRules, SetsStartEmpty, StandsAfter, limit_met, rule_added, rule_unreachable}
-use Rattle.isle_laws_demands.proofs.closure.WholeVisits.{none_first, rule_goes_on, reached_closed, few_made}
+use Rattle.isle_laws_demands.specs.RuleByRule.{HaveGrown, SetsEndBuilt, SetsGoPastRules, SetsStartEmpty, StandsAfter, limit_met, rule_added, rule_unreachable}
+use Rattle.isle_laws_demands.proofs.closure.WholeVisits.{none_first, rule_goes_on}
 use Rattle.isle_laws_demands.proofs.overlaps.Checked.{built_silent, sites_on}
 
 -- 1. what was built stays where sites have grown

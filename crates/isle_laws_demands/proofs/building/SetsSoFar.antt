@@ -1,5 +1,5 @@
 -- The sets of all terms go past one more rule of the program, and the reports go on.
-use Rattle.std.proofs.Common.{◌≡◌, ◌≢◌, ◌==◌, ◌||◌, ℕ, Bool, true, false, List, [], ◌∷◌, ◌++◌, Option, Some, None, is_some, All, Contains, filter, refl, sym, ap, ◌∙◌, subst, inl, inr, eqb-true, eq-eqb}
+use Rattle.std.proofs.Common.{◌≡◌, ◌≢◌, ◌==◌, ◌||◌, ℕ, Bool, true, false, List, [], ◌∷◌, ◌++◌, Option, Some, None, is_some, refl, sym, ap, ◌∙◌, subst, inl, inr, eqb-true, eq-eqb}
 use Rattle.std.specs.List.{list_any}
 use Rattle.std.proofs.lemmas.Bool.{cases_Bool, cond-true, cond-false, false≢true}
 use Rattle.std.proofs.lemmas.List.{append-nil, append_assoc}
@@ -12,7 +12,7 @@ use Rattle.isle_model.specs.sites.Sites.{SiteSet}
 use Rattle.isle_model.specs.sites.Limits.{sites_after_rules}
 use Rattle.isle_model.specs.sites.Overlap.{RuleReport, build_reports_after, build_reports_of}
 use Rattle.isle_model.specs.sites.RuleSets.{IsBuilt}
-use Rattle.isle_laws_demands.specs.RuleByRule.{AreBuiltSoFar, BuildingEnds, BuildingGoesOn, BuildingStarts, BuildsRule, StandsAfter, nothing_built, of_one_term, or_nothing_built}
+use Rattle.isle_laws_demands.specs.RuleByRule.{AreBuiltSoFar, BuildingEnds, BuildingGoesOn, BuildingStarts, StandsAfter, nothing_built, of_one_term, or_nothing_built}
 use Rattle.isle_laws_demands.proofs.building.RulesPassed.{sets_end_built_lem, sets_go_past_rules_lem, sets_start_empty_lem}
 
 -- 1. reports of one more rule

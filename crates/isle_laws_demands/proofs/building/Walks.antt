@@ -1,9 +1,9 @@
 -- A visit ends before its rule's end exactly where a limit of the rule's shape is passed.
 use Rattle.std.proofs.Common.{◌≡◌, ◌||◌, ℕ, suc, Bool, true, false, nat_lt, if◌then◌else◌, List, [], ◌∷◌, ◌++◌, is_some, slice_get, flat_map, refl, sym, ap, ◌∙◌}
 use Rattle.isle_model.specs.rules.Program.{Program, kind}
-use Rattle.isle_model.specs.rules.Typed.{TypedPattern, match_bind, match_var, match_bool, match_int, match_prim, match_term, match_any, match_and, TypedPatterns, no_typed_pattern, typed_pattern_and, TypedIfLet, TypedRule}
+use Rattle.isle_model.specs.rules.Typed.{TypedPattern, match_bind, match_var, match_bool, match_int, match_prim, match_term, match_any, match_and, TypedPatterns, no_typed_pattern, typed_pattern_and, TypedIfLet}
 use Rattle.isle_model.specs.sites.Demands.{pattern_count}
-use Rattle.isle_model.specs.sites.Limits.{most_arguments, RuleLimit, arguments_limit, Width, width_of, widths, widths_in, limit_of_width, limits_in, limits_in_args, limits_of_shape, Walked, WalkedAll, passes_width, unwalked, walked_term, walked_and, walked, walked_all, WalkedRule, ended_at, after_arg, walked_iflets, walked_args, walked_rule}
+use Rattle.isle_model.specs.sites.Limits.{most_arguments, RuleLimit, arguments_limit, Width, width_of, widths, widths_in, limit_of_width, limits_in, limits_in_args, Walked, WalkedAll, passes_width, unwalked, walked_term, walked_and, walked, walked_all, WalkedRule, ended_at, after_arg, walked_iflets, walked_args}
 use Rattle.isle_laws_demands.specs.RuleByRule.{WalksEndAtLimits}
 
 abbrev some_limit : List RuleLimit → Bool
