@@ -1,7 +1,7 @@
 //! Rows: lists of definitions as text, each with a name, and what is answered to each.
 
 use crate::run::cannot_read;
-use crate::texts::{Asked, answer_to_text};
+use crate::texts::{Asked, Wanted, answer_to_text};
 use isle_program::answers::{Answer, no_memory, write_text};
 use std::alloc::{AllocError, Global};
 use std::io;
@@ -30,7 +30,8 @@ pub fn run_rows<R: Read + Drop, O: Write, E: Write>(
 /// first row is passed over. Words after the name say how the row is answered: `no-expand`, internal extractors aren't
 /// expanded; `lines`, places are lines and columns of the row's text; `prefixes`, in place of the whole text each
 /// beginning of it that ends with a line is answered, after a line `## ` with the number of its lines; `terms`, types and
-/// terms alone are read, of all forms, and where nothing is wrong with them the answer is a line with their number.
+/// terms alone are read, of all forms, and where nothing is wrong with them the answer is a line with their number; `rules`,
+/// rules are read too, of all forms, and further lines have their names and variables; `typed`, their typed parts too.
 pub fn answers(alloc: Global, text: &str) -> Result<String, AllocError> {
     let mut out = String::new(alloc);
     let mut row = Row {
@@ -68,7 +69,7 @@ fn push_row(alloc: Global, row: &Row<'_>, out: &mut String) -> Result<(), AllocE
     let asked = Asked {
         expand: !has_word(row.line, "no-expand"),
         lines: has_word(row.line, "lines"),
-        terms: has_word(row.line, "terms"),
+        wanted: wanted_by(row.line),
     };
     if has_word(row.line, "prefixes") {
         push_prefixes(alloc, &row.text, asked, out)
@@ -80,6 +81,19 @@ fn push_row(alloc: Global, row: &Row<'_>, out: &mut String) -> Result<(), AllocE
 // Whether a word stands behind the name on a row's line.
 fn has_word(line: &str, word: &str) -> bool {
     line.split(' ').skip(2).any(|other| other == word)
+}
+
+// What the words behind the name on a row's line want.
+fn wanted_by(line: &str) -> Wanted {
+    if has_word(line, "typed") {
+        Wanted::TypedRules
+    } else if has_word(line, "rules") {
+        Wanted::Rules
+    } else if has_word(line, "terms") {
+        Wanted::Terms
+    } else {
+        Wanted::Trees
+    }
 }
 
 // Adds what is answered to each beginning of a text.

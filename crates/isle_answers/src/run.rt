@@ -3,7 +3,7 @@
 ghost use Rattle.std.specs.Prelude.{◌≡◌, ◌≢◌, ◌≤◌, is_none, is_some, map, string_bytes, true};
 ghost use Rattle.isle_answers.specs.Words.{expansion_of, expansion_of_word};
 
-use crate::texts::{Asked, answer_to_text};
+use crate::texts::{Asked, Wanted, answer_to_text};
 use isle_program::answers::{end, no_memory, write_answer};
 use std::alloc::Global;
 use std::io;
@@ -37,7 +37,7 @@ pub fn run<R: Read + Drop, O: Write, E: Write>(
             let asked = Asked {
                 expand,
                 lines: true,
-                terms: false,
+                wanted: Wanted::Trees,
             };
             write_answer(answer_to_text(alloc, &text, asked), out, err)
         }

@@ -1,6 +1,6 @@
 //! Definitions as text, and what is answered to them.
 
-use crate::terms::answer_to_terms;
+use crate::terms::{answer_to_rules, answer_to_terms};
 use isle_base::syntax::Def;
 use isle_printing::places::Places;
 use isle_program::answers::{Answer, answer_to};
@@ -16,12 +16,25 @@ pub struct Asked {
     /// Whether the place of an error is shown as its line and column. Else it is 0 and the number of the definition
     /// that it lies in, where the text is read.
     pub lines: bool,
-    /// Whether types and terms alone are read. Lowering doesn't carry all their forms yet, and reading them does.
-    pub terms: bool,
+    /// What is answered where nothing is wrong.
+    pub wanted: Wanted,
 }
 
-/// The trees of a text's definitions, or one line for each error: those of lowering, or the one of reading. Where terms
-/// alone are asked for, a line with their number stands in place of the trees.
+/// What is answered to definitions where nothing is wrong with them. Lowering doesn't carry all forms yet, and reading
+/// terms and rules does.
+#[derive(Clone, Copy)]
+pub enum Wanted {
+    /// Their trees.
+    Trees,
+    /// The number of their terms: rules aren't read.
+    Terms,
+    /// The number of their terms, and each rule's name and variables.
+    Rules,
+    /// The same with each rule's parts, typed.
+    TypedRules,
+}
+
+/// What is wanted of a text's definitions, or one line for each error: those found on the way to it, or the one of reading.
 pub fn answer_to_text(alloc: Global, text: &str, asked: Asked) -> Result<Answer, AllocError> {
     match read(alloc, 0, text) {
         Ok(defs) => answer_to_defs(alloc, text, &defs, asked),
@@ -38,10 +51,11 @@ fn answer_to_defs(
     asked: Asked,
 ) -> Result<Answer, AllocError> {
     let places = places(text, defs, asked);
-    if asked.terms {
-        answer_to_terms(alloc, defs, places)
-    } else {
-        answer_to(alloc, defs, asked.expand, places)
+    match asked.wanted {
+        Wanted::Trees => answer_to(alloc, defs, asked.expand, places),
+        Wanted::Terms => answer_to_terms(alloc, defs, places),
+        Wanted::Rules => answer_to_rules(alloc, defs, asked.expand, false, places),
+        Wanted::TypedRules => answer_to_rules(alloc, defs, asked.expand, true, places),
     }
 }
 
