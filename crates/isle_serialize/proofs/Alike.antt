@@ -7,6 +7,7 @@ use Rattle.isle_model.specs.trees.Places.{Around, is_in, joins, available, is_in
 use Rattle.isle_model.specs.trees.Sound.{as_number, is_return}
 use Rattle.isle_model.specs.trees.Tests.{Test, match_test, equal_test, loop_test, cover, sources_around, is_open, score, is_greater}
 use Rattle.isle_model.specs.trees.Best.{IsGreatest, IsMade, IsEnd, BestSteps, BestCheck, BestArms}
+use Rattle.isle_serialize.proofs.Tables.{is_in_append}
 
 -- what is around two places that agree
 pub record Alike (ar br : Around) : Type 0 where
@@ -14,14 +15,6 @@ pub record Alike (ar br : Around) : Type 0 where
   pub joined : ar.joined ≡ br.joined
   pub brought : ar.brought ≡ br.brought
   pub emitted : (s : ℕ) → is_in s ar.emitted ≡ is_in s br.emitted
-
-pub is_in_append : (x : ℕ) (xs ys : List ℕ) → is_in x (xs ++ ys) ≡ (is_in x xs || is_in x ys)
-is_in_append x [] ys = refl
-is_in_append x (y ∷ xs) ys = ap (λ b. (y == x) || b) (is_in_append x xs ys) ∙ regroup (y == x) (is_in x xs) (is_in x ys)
-  where
-    regroup : (a b c : Bool) → (a || (b || c)) ≡ ((a || b) || c)
-    regroup true b c = refl
-    regroup false b c = refl
 
 -- as many more
 pub more_alike : (zs xs ys : List ℕ) → ((s : ℕ) → is_in s xs ≡ is_in s ys) → (s : ℕ) → is_in s (zs ++ xs) ≡ is_in s (zs ++ ys)

@@ -14,15 +14,10 @@ use Rattle.isle_model.specs.trees.Tests.{Test, match_test, equal_test, loop_test
 use Rattle.isle_model.specs.trees.Best.{IsGreatest, IsMade, comes_first, descend, BestSteps}
 use Rattle.isle_model.proofs.Members.{in_head, in_tail, each_passes, all_pass, from_filter}
 use Rattle.isle_serialize.specs.Growing.{IsBestFrom, AreEnds, AreBestArms}
+use Rattle.isle_serialize.proofs.Tables.{same_tests}
 use Rattle.isle_serialize.proofs.Alike.{Alike, steps_alike}
 
 -- 1. whatever the order of a place's rules
-same_tests : (a b : Bool) → (a ≡ true → b ≡ true) → (b ≡ true → a ≡ true) → a ≡ b
-same_tests true true f g = refl
-same_tests false false f g = refl
-same_tests true false f g = sym (f refl)
-same_tests false true f g = g refl
-
 module _ (xs ys : List ℕ) (moved : IsPermutation xs ys) where
   all_moved : (p : ℕ → Bool) → list_all p xs ≡ list_all p ys
   all_moved p =

@@ -1,11 +1,12 @@
 -- The sites below others, each once, in the order in which they are made.
-use Rattle.std.proofs.Common.{◌≡◌, ◌⊎◌, ℕ, zero, suc, ◌+◌, ◌<◌, ◌≤◌, Bool, true, false, ◌||◌, List, [], ◌∷◌, ◌++◌, length, take, get_or, Contains, flat_map, refl, sym, ap, ◌∙◌, subst, inl, inr, arith}
+use Rattle.std.proofs.Common.{◌≡◌, ◌⊎◌, ℕ, zero, suc, ◌+◌, ◌<◌, ◌≤◌, true, false, ◌||◌, List, [], ◌∷◌, ◌++◌, length, take, get_or, Contains, flat_map, refl, sym, ap, ◌∙◌, subst, inl, inr, arith}
 use Rattle.std.proofs.lemmas.Bool.{cases_Bool, cond-true, cond-false}
 use Rattle.std.proofs.lemmas.List.{take_more}
 use Rattle.std.proofs.lemmas.List.Elements.{Contains-append_left, Contains-append_right, Contains-append_cases}
 use Rattle.isle_model.specs.sites.Sites.{Site, sources_at}
 use Rattle.isle_model.specs.trees.Places.{is_in, each_after, listed_below, below, all_below}
 use Rattle.isle_model.proofs.Members.{nothing_in, in_head, in_tail, in_cases, in_alone, in_flat_map, from_flat_map, member_found, member_is_in}
+use Rattle.isle_serialize.proofs.Tables.{same_tests}
 
 each_append : (f : List ℕ → ℕ → List ℕ) (d xs : List ℕ) (x : ℕ) → each_after f d (xs ++ x ∷ []) ≡ f (each_after f d xs) x
 each_append f d [] x = refl
@@ -29,12 +30,6 @@ module _ (sites : List Site) (emitted : List ℕ) where
       ∙ sym (cond-false (is_in s emitted || is_in s done) done (each_after (listed_below n sites emitted) done (sources_at sites s) ++ s ∷ []) h)
 
 -- what is listed is what is below
-same_tests : (a b : Bool) → (a ≡ true → b ≡ true) → (b ≡ true → a ≡ true) → a ≡ b
-same_tests true true f g = refl
-same_tests false false f g = refl
-same_tests true false f g = sym (f refl)
-same_tests false true f g = g refl
-
 module _ (sites : List Site) (sources : (s a : ℕ) → Contains (sources_at sites s) a → a < s) where
   below_levels : (n m s x : ℕ) → s < n → s < m → Contains (below n sites s) x → Contains (below m sites s) x
   below_levels zero m s x l k c = absurd (omega arith)

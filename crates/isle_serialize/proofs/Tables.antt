@@ -12,7 +12,7 @@ use Rattle.isle_model.proofs.Members.{in_head, in_tail}
 use Rattle.isle_sets.specs.SiteViews.{passing_below, member_sites}
 
 -- 1. tests that agree both ways
-same_tests : (a b : Bool) → (a ≡ true → b ≡ true) → (b ≡ true → a ≡ true) → a ≡ b
+pub same_tests : (a b : Bool) → (a ≡ true → b ≡ true) → (b ≡ true → a ≡ true) → a ≡ b
 same_tests true true f g = refl
 same_tests false false f g = refl
 same_tests true false f g = sym (f refl)
@@ -75,7 +75,7 @@ together_joins cs p a b =
     subst (λ l. in_set ◌==◌ l b ≡ true) (sym (j.1 ∙ ap (λ i. slice_index_or cs i []) same)) k.2)
 
 -- 3. the sites of a set, ascending
-is_in_append : (x : ℕ) (xs ys : List ℕ) → is_in x (xs ++ ys) ≡ (is_in x xs || is_in x ys)
+pub is_in_append : (x : ℕ) (xs ys : List ℕ) → is_in x (xs ++ ys) ≡ (is_in x xs || is_in x ys)
 is_in_append x [] ys = refl
 is_in_append x (y ∷ xs) ys = ap (λ b. (y == x) || b) (is_in_append x xs ys) ∙ regroup (y == x) (is_in x xs) (is_in x ys)
   where
