@@ -13,7 +13,8 @@ use Rattle.isle_terms.specs.TermViews.{term_views}
 use Rattle.isle_rules.specs.declared.term_env.TermEnv.{TermEnv}
 use Rattle.isle_sets.specs.declared.trie_again.RuleSet.{RuleSet}
 use Rattle.isle_building.specs.Buildings.{term_set_views}
-use Rattle.isle_overlap.specs.ErrorViews.{error_views, report_views}
+use Rattle.isle_rules.specs.ErrorViews.{error_views}
+use Rattle.isle_overlap.specs.ErrorViews.{report_views}
 
 -- sets and errors that building gave for a program, whose terms are those of an environment
 pub record WereBuilt (env : TermEnv) (p : Program) (sets : List (TermId × RuleSet)) (errors : List Error) (reports : List RuleReport) : Type 0 where

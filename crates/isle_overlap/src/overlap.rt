@@ -9,7 +9,8 @@ ghost use Rattle.isle_building.specs.Buildings.{env_program, term_set_views};
 ghost use Rattle.isle_sets.specs.SiteViews.{set_rule_view, set_rule_views, set_view};
 ghost use Rattle.isle_overlap.specs.Checks.{IsChecked, WereBuilt};
 ghost use Rattle.isle_overlap.specs.Comparisons.{AreGrouped, list_views, masked_behind, masked_pair, masked_rows, masked_views, pair_views, positions, shadow_of, shadows_of, wrong_behind, wrong_pair, wrong_rows};
-ghost use Rattle.isle_overlap.specs.ErrorViews.{error_pos, error_view, error_views, report_views, span_starts};
+ghost use Rattle.isle_rules.specs.ErrorViews.{error_view, error_views, span_starts};
+ghost use Rattle.isle_overlap.specs.ErrorViews.{error_pos, report_views};
 ghost use Rattle.isle_overlap.specs.Graphs.{count_at, count_left, counts_before, ends_of, listed_at, neighbours, same_pos, times, unreported};
 
 use isle_base::syntax::{Error, Fault, Pos, Span};
