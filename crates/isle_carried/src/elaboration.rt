@@ -23,9 +23,9 @@ ghost use Rattle.isle_carried.specs.Elaborating.{AreKnown, definition_names, Ela
 ghost use Rattle.isle_rules.specs.Elaborating.{Checks};
 
 use crate::forms::{args_of, is_carried};
-use isle_rules::reports::{report, type_text};
 use isle_base::syntax;
 use isle_base::syntax::{Def, Error, Ident, Pos};
+use isle_rules::reports::{report, type_text};
 use isle_rules::{BoundVar, Expr, Pattern, Rule};
 use isle_terms::{Term, TermTable};
 use isle_types::{RuleId, Sym, TermId, TypeEnv, TypeId, VarId};

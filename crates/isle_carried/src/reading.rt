@@ -75,11 +75,7 @@ pub fn read_carried(
 }
 
 // Notes each term that nothing makes.
-fn check_made(
-    tyenv: &TypeEnv,
-    terms: &[Term],
-    errors: &mut Vec<Error>,
-) -> Result<(), AllocError>
+fn check_made(tyenv: &TypeEnv, terms: &[Term], errors: &mut Vec<Error>) -> Result<(), AllocError>
     ensures { OnOk result (Checks errors.old.items errors.new.items (AreMade (term_views terms.now))) }
 {
     for term in terms {

@@ -30,7 +30,11 @@ use std::alloc::{AllocError, Global};
 /// declaration's arguments, or else its unknown result type, with the place of that name; as
 /// `not carried yet`, each other form; and then a rule whose left side is no declared term.
 /// `Memory` where memory is refused.
-pub(crate) fn read_table(alloc: Global, tyenv: &mut TypeEnv, defs: &[Def]) -> Result<TermTable, Fault>
+pub(crate) fn read_table(
+    alloc: Global,
+    tyenv: &mut TypeEnv,
+    defs: &[Def],
+) -> Result<TermTable, Fault>
     requires typed { SeesTypes tyenv.old (definition_views defs.now) (type_names_met (definition_views defs.now)) }
     ensures answers { Answers result (IsValidCarriedTerms (definition_views defs.now))
         (λ table. SeesTypes tyenv.new (definition_views defs.now) (term_table_names (definition_views defs.now))

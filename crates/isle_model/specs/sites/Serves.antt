@@ -91,7 +91,8 @@ typed_as p (Some ty) v = well_typed p.types ty v
 
 -- the meaning has a well-typed entry for each literal and constant of the rules, for each call that a site of
 -- them asks on these arguments under some pick, and for each impure call that a matching rule reaches, by the number of
--- impure calls made before it: those before it in its rule gave values, and its own arguments have values
+-- impure calls made before it: those before it in its rule gave values, and its own arguments have values. A rule is said to
+-- match here by `matches`, which takes no pick, so that of the impure calls of a rule with a multi extractor nothing is asked
 pub record Serves (p : Program) (m : Meaning) (args : List Value) (rs : List TypedRule) : Type 0 where
   pub bools : (b : Bool) (ty : ℕ) → Contains (asked p rs) (bool_term b ty) → IsSomeAnd (literal_value m (bool_literal b ty)) (λ v. IsTrue (well_typed p.types ty v))
   pub ints : (z : ℤ) (ty : ℕ) → Contains (asked p rs) (int_term z ty) → IsSomeAnd (literal_value m (int_literal z ty)) (λ v. IsTrue (well_typed p.types ty v))
