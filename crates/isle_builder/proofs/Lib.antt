@@ -11,3 +11,5 @@ pub mod VisitedExprs
 pub mod RunsOfRules
 pub mod VisitedRules
 pub mod EndedExprs
+pub mod EndedPatterns
+pub mod EndedRules

@@ -96,7 +96,7 @@ abbrev mutual
   FitAll p (typed_pattern_and q rest) = Fits p q × FitAll p rest
 
 -- 3. a term's pattern is opened
-types_count : (args : TypedPatterns) → pattern_count args ≡ length (part_types args)
+pub types_count : (args : TypedPatterns) → pattern_count args ≡ length (part_types args)
 types_count no_typed_pattern = refl
 types_count (typed_pattern_and q rest) = ap suc (types_count rest)
 
@@ -120,13 +120,13 @@ module _ (before : List SiteTerm) (s mid : RuleSetBuilder) (v : Visit) (n term :
   kind_opened e ty (declared_term flags c (Some x)) ret count run =
       ⊎_elim (λ r. absurd (true≢false (ap is_ok r.0))) (λ r. r before v flags args h l refl (types_count args)) run
 
-  term_opened : (ty : ℕ) (o : Option TermEntry) → FitsTerm ty (pattern_count args) o → Opens ghosts ty term (part_types args) n o s (Ok ids) mid
+  pub term_opened : (ty : ℕ) (o : Option TermEntry) → FitsTerm ty (pattern_count args) o → Opens ghosts ty term (part_types args) n o s (Ok ids) mid
       → OpensTo before s mid (open_term (elim o as (λ _. Kind) [ None ↦ unknown | Some e ↦ kind_of e ]) term U args v) ids
   term_opened ty None fits run = absurd fits
   term_opened ty (Some e) fits run = kind_opened e ty e.kind fits.0 fits.1 run
 
 -- 4. the visit
-abbrev State : Type 0
+abbrev pub State : Type 0
 State = RuleSetBuilder × BoundIds ℕ
 
 -- from where a visit stands a builder, with its variables, goes to where another stands
@@ -165,14 +165,14 @@ call_vars true i a b c v e f g = e
 call_vars false true a b c v e f g = f
 call_vars false false a b c v e f g = g
 
-open_vars : (k : Kind) (term : ℕ) (u : SiteTerm) (args : TypedPatterns) (v : Visit) → (open_term k term u args v).visit.vars ≡ v.vars
+pub open_vars : (k : Kind) (term : ℕ) (u : SiteTerm) (args : TypedPatterns) (v : Visit) → (open_term k term u args v).visit.vars ≡ v.vars
 open_vars (a_variant ty variant) term u args v = refl
 open_vars (a_struct ty) term u args v = refl
 open_vars (a_call flags infallible) term u args v = call_vars flags.multi infallible _ _ _ v refl refl refl
 open_vars unknown term u args v = refl
 
 -- of variables that stay
-goes_with : (before : List SiteTerm) (s t : State) (v w : Visit) → GoesTo before s.0 t.0 w → w.vars ≡ v.vars → t.1 ≡ s.1 → KnowsVars s.0 s.1 v → VisitsTo before s t w
+pub goes_with : (before : List SiteTerm) (s t : State) (v w : Visit) → GoesTo before s.0 t.0 w → w.vars ≡ v.vars → t.1 ≡ s.1 → KnowsVars s.0 s.1 v → VisitsTo before s t w
 goes_with before s t v w g same stay knows = record { goes = g; knows = subst (λ vs. KnowsVars t.0 vs w) (sym stay) (knows_stay before s.0 t.0 s.1 v w same g knows) }
 
 asked_to : (before : List SiteTerm) (s t : State) (v : Visit) (u : SiteTerm) (n : ℕ) (c : Constraint) → KnowsVars s.0 s.1 v → IsSiteOf s.0 u n → GoesTo before s.0 t.0 (asking (unfold_site (built_sites s.0) n) c v)

@@ -134,15 +134,15 @@ in_bound (b ∷ vs) x h =
     ]
 
 -- 2. where a visit stands, with what is known
-record Reaches (before : List SiteTerm) (p : Program) (s t : RuleSetBuilder) (w : Visit) (ws : BoundIds ℕ) (more : List (ℕ × ℕ)) : Type 0 where
-  goes : GoesTo before s t w
-  knows : KnowsVars t ws w
-  scope : InScope ws more
-  quiet : IsQuiet p w
+pub record Reaches (before : List SiteTerm) (p : Program) (s t : RuleSetBuilder) (w : Visit) (ws : BoundIds ℕ) (more : List (ℕ × ℕ)) : Type 0 where
+  pub goes : GoesTo before s t w
+  pub knows : KnowsVars t ws w
+  pub scope : InScope ws more
+  pub quiet : IsQuiet p w
 
 module _ (p : Program) (before : List SiteTerm) where
   -- a pattern
-  pattern_reached : (q : TypedPattern) (u : SiteTerm) (n : ℕ) (vs : BoundIds ℕ) (vars more : List (ℕ × ℕ)) (s : RuleSetBuilder) (ws : BoundIds ℕ) (t : RuleSetBuilder) (v : Visit) → formed_pattern p q vars ≡ Some more
+  pub pattern_reached : (q : TypedPattern) (u : SiteTerm) (n : ℕ) (vs : BoundIds ℕ) (vars more : List (ℕ × ℕ)) (s : RuleSetBuilder) (ws : BoundIds ℕ) (t : RuleSetBuilder) (v : Visit) → formed_pattern p q vars ≡ Some more
       → PatternRun Patterns.ghosts p.terms q n (s, vs) (Ok tt) (t, ws) → StandsAt before s v → KnowsVars s vs v → InScope vs vars → IsQuiet p v → IsSiteOf s u n → IsPlain p u
       → Reaches before p s t (visit_pattern p q u v) ws more
   pattern_reached q u n vs vars more s ws t v formed run h knows scope quiet site plain =
@@ -164,7 +164,7 @@ module _ (p : Program) (before : List SiteTerm) where
   reached_further s m t v w ws more g r = record { goes = goes_further before s m t v w g r.goes; knows = r.knows; scope = r.scope; quiet = r.quiet }
 
   -- 3. the arguments
-  args_reached : (qs : List TypedPattern) (tys : List ℕ) (i : ℕ) (vs : BoundIds ℕ) (vars more : List (ℕ × ℕ)) (s : RuleSetBuilder) (ws : BoundIds ℕ) (t : RuleSetBuilder) (v : Visit) → formed_list p qs tys vars ≡ Some more
+  pub args_reached : (qs : List TypedPattern) (tys : List ℕ) (i : ℕ) (vs : BoundIds ℕ) (vars more : List (ℕ × ℕ)) (s : RuleSetBuilder) (ws : BoundIds ℕ) (t : RuleSetBuilder) (v : Visit) → formed_list p qs tys vars ≡ Some more
       → ArgsRun Rules.ghosts Patterns.ghosts Exprs.ghosts p.terms qs tys i vs s (Ok ws) t → StandsAt before s v → KnowsVars s vs v → InScope vs vars → IsQuiet p v
       → Reaches before p s t (visit_args p i qs v) ws more
   args_reached [] [] i vs vars more s ws t v formed run h knows scope quiet =
@@ -191,7 +191,7 @@ module _ (p : Program) (before : List SiteTerm) where
       (λ e. absurd (true≢false (ap is_ok e.2))) run
 
   -- 4. the if-lets
-  iflets_reached : (is : List TypedIfLet) (vs : BoundIds ℕ) (vars more : List (ℕ × ℕ)) (s : RuleSetBuilder) (ws : BoundIds ℕ) (t : RuleSetBuilder) (v : Visit) → formed_iflets p is vars ≡ Some more
+  pub iflets_reached : (is : List TypedIfLet) (vs : BoundIds ℕ) (vars more : List (ℕ × ℕ)) (s : RuleSetBuilder) (ws : BoundIds ℕ) (t : RuleSetBuilder) (v : Visit) → formed_iflets p is vars ≡ Some more
       → IfLetsRun Rules.ghosts Patterns.ghosts Exprs.ghosts p.terms is vs s (Ok ws) t → StandsAt before s v → KnowsVars s vs v → InScope vs vars → IsQuiet p v
       → Reaches before p s t (visit_iflets p is v) ws more
   iflets_reached [] vs vars more s ws t v formed run h knows scope quiet =

@@ -74,6 +74,16 @@ pub record Makes (before : List SiteTerm) (old new : RuleSetBuilder) (v : Visit)
 abbrev pub EndsBefore : List SiteTerm → RuleSetBuilder → Visit → VisitFault → Type 0
 EndsBefore before b v e = ForWantOfRoom (IsTable b.table × AreFirst (built_sites b) (with_sites before v.demands.made)) e
 
+-- what holds where there was no room for a site
+abbrev pub IfNoRoom : Type 0 → VisitFault → Type 0
+IfNoRoom P (Faults.Limit Limits.Sites) = P
+IfNoRoom P _ = Unit {0}
+
+-- where a builder ended since there was no room, its table has the first of the sites that were made before or would be by
+-- the end of a visit
+abbrev pub LacksRoomFor : List SiteTerm → RuleSetBuilder → Visit → VisitFault → Type 0
+LacksRoomFor before b v e = IfNoRoom (IsTable b.table × AreFirst (built_sites b) (with_sites before v.demands.made)) e
+
 -- a builder has gone on by making sites, which have these numbers
 pub record MakesAll (before : List SiteTerm) (old new : RuleSetBuilder) (v : Visit) (us : List SiteTerm) (ns : List ℕ) : Type 0 where
   pub goes : GoesTo before old new (making us v)

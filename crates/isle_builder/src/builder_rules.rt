@@ -10,7 +10,7 @@ ghost use Rattle.isle_model.specs.sites.Limits.{most_arguments};
 ghost use Rattle.isle_rules.specs.RuleViews.{rule_view};
 ghost use Rattle.isle_sets.specs.SiteTables.{IsTable};
 ghost use Rattle.isle_terms.specs.TermViews.{term_views};
-ghost use Rattle.isle_builder.specs.VisitedSites.{AsksAnswers, EndsOpening, GoesTo, AreUnwrapped, Makes, MakesArgument, StandsAt, ValuesTo, built_sites, unwrapped_at, with_keys};
+ghost use Rattle.isle_builder.specs.VisitedSites.{AsksAnswers, EndsOpening, GoesTo, AreUnwrapped, LacksRoomFor, Makes, MakesArgument, StandsAt, ValuesTo, built_sites, unwrapped_at, with_keys};
 
 use crate::ruleset_builder::RuleSetBuilder;
 use isle_base::syntax::Limit;
@@ -27,11 +27,14 @@ impl RuleSetBuilder {
     ///
     /// # Errors
     ///
-    /// `Limit` where the rule passes one, `Memory` where memory is refused.
+    /// `Limit` where the rule passes one: where a site would be one past 65,536, the sites are the first 65,536 that the
+    /// visit would make. `Memory` where memory is refused.
     pub fn visit_rule(&mut self, rule: &Rule, termenv: &TermEnv) -> Result<BindingId, VisitFault>
         requires visitable { IsTrue (is_visitable_rule (term_views termenv.now.terms.items) (rule_view rule.now)) }
         ensures visited { (p : Program) (before : List SiteTerm) → p.terms ≡ term_views termenv.now.terms.items → is_formed_rule p (rule_view rule.now) ≡ true → StandsAt before self.old visit_start
             → IfOk result (ValuesTo before self.old self.new (visit_rule p (rule_view rule.now))) }
+        ensures full { (p : Program) (before : List SiteTerm) → p.terms ≡ term_views termenv.now.terms.items → is_formed_rule p (rule_view rule.now) ≡ true → StandsAt before self.old visit_start
+            → IfErr result (LacksRoomFor before self.new (visit_rule p (rule_view rule.now)).visit) }
     {
         let value = rule.visit(self.alloc, self, termenv)?;
         let partial = may_give_nothing(termenv, rule.root_term);
