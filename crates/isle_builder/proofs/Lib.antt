@@ -1,5 +1,6 @@
 pub mod FittingPatterns
 pub mod VisitedPatterns
+pub mod WalkedVisits
 pub mod BuilderCalls
 pub mod BuilderFields
 pub mod BuilderSteps
