@@ -8,6 +8,7 @@ pub mod ClosingNumbers
 pub mod ClosingSteps
 pub mod ClosingTaken
 pub mod ClosureConflicts
+pub mod ClosureCycles
 pub mod DueKept
 pub mod EqualFields
 pub mod Equated
