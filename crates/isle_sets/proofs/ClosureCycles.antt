@@ -1,18 +1,18 @@
 -- A class of a closure is a part of itself, over numbers and by names.
-use Rattle.std.proofs.Common.{◌≡◌, ◌⊎◌, ℕ, zero, suc, true, false, List, map, length, Option, Some, None, slice_get, Contains, refl, sym, ap, ◌∙◌, subst, inl, inr}
+use Rattle.std.proofs.Common.{◌≡◌, ◌⊎◌, ℕ, zero, suc, true, false, List, map, length, Contains, refl, sym, ap, ◌∙◌, subst, inl, inr}
 use Rattle.std.specs.Prelude.{nat_eq}
-use Rattle.std.proofs.lemmas.Bool.{cases_Bool, false≢true}
+use Rattle.std.proofs.lemmas.Bool.{cases_Bool}
 use Rattle.isle_disjointsets.specs.Partition.{IsPartition}
 use Rattle.isle_model.specs.sites.Sites.{Site, Constraint, SiteTerm, unfold_site}
 use Rattle.isle_model.specs.sites.Demands.{Demands}
-use Rattle.isle_model.specs.sites.Closure.{Joined, itself, field_terms, IsPartOf, IsProperPart, directly, deeper, IsUnreachable, two_at_a_site, two_in_a_class, part_of_itself, class_name, class_names, constrained_in, fields_of_first, parts_of, goes_deeper, has_cycle}
+use Rattle.isle_model.specs.sites.Closure.{Joined, itself, field_terms, IsPartOf, IsProperPart, directly, deeper, IsUnreachable, two_at_a_site, two_in_a_class, part_of_itself, class_name, class_names, fields_of_first, parts_of, goes_deeper, has_cycle}
 use Rattle.isle_model.proofs.Elements.{In, contains_from_in, in_from_contains, in_slice, slice_in, map_in, any_in}
 use Rattle.isle_laws_demands.proofs.closure.Classes.{HasNoConflict, classes_bound, moved, fields_at, asked_spoken, constrained_means, constrained_there, one_constraint}
 use Rattle.isle_laws_demands.proofs.closure.Settled.{names_settled}
 use Rattle.isle_laws_demands.proofs.closure.Verdict.{cycle_is}
 use Rattle.isle_sets.specs.Verdicts.{AreVisited, GivesField, class_head}
 use Rattle.isle_sets.specs.FieldParts.{HaveOneName, AreCongruent, field_term, ArePartsOf}
-use Rattle.isle_sets.specs.Endings.{Ends, ends, GoOnForEver}
+use Rattle.isle_sets.specs.Endings.{ClassEnds, class_ends, GoOnForEver}
 use Rattle.isle_sets.specs.declared.demanded.Demanded.{Demanded}
 use Rattle.isle_sets.specs.declared.closure_classes.Part.{Part}
 use Rattle.isle_sets.proofs.EqualFields.{moved_field, named_as_classes, class_of_term, known_class, given_spoken, class_fields, class_respects}
@@ -47,8 +47,8 @@ module _ (ks : List (List ℕ)) (parts : List Part) where
       )
 
   -- a class that ends isn't below itself
-  pub not_below : {c : ℕ} → Ends ks parts c → AtDepth c c → ⊥
-  not_below {c} (ends f) d =
+  pub not_below : {c : ℕ} → ClassEnds ks parts c → AtDepth c c → ⊥
+  not_below {c} (class_ends f) d =
       let r = last_step d in
       let x = class_head ks r.0.field in
       let step : IsBelow x c = record { part = r.0; there = r.1; whole = r.2; is = refl } in
@@ -138,7 +138,7 @@ module _ (sites : List Site) (before : List SiteTerm) (d : Demands) (h : Demande
   proper_below s u (deeper {t = t} o q) = further (part_below s t o) (proper_below t u q)
 
   -- where all classes end there is no cycle
-  pub no_cycle_found : ((class : ℕ) → Ends ks parts class) → has_cycle rs d.constraints ≡ false
+  pub no_cycle_found : ((class : ℕ) → ClassEnds ks parts class) → has_cycle rs d.constraints ≡ false
   no_cycle_found all_end =
       elim (cases_Bool (has_cycle rs d.constraints)) [
         | inr f ↦ f
