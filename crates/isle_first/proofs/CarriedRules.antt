@@ -259,7 +259,7 @@ own_numbers : (names : List (List ℕ)) (visible vars : List TypedVar) (name : O
 own_numbers names visible vars None = refl
 own_numbers names visible vars (Some n) = ap Some (number_new names n.text)
 
-parts_of_root : (p : PatternTree) → pattern_list (root_parts p) ≡ root_args p
+pub parts_of_root : (p : PatternTree) → pattern_list (root_parts p) ≡ root_args p
 parts_of_root (term_pattern name args at) = refl
 parts_of_root (var_pattern name at) = refl
 parts_of_root (bind_pattern name of at) = refl
@@ -270,7 +270,7 @@ parts_of_root (wildcard_pattern at) = refl
 parts_of_root (and_pattern parts at) = refl
 parts_of_root (macro_arg i at) = refl
 
-no_iflets : (is : List IfLetTree) → has_no_iflet is ≡ true → is ≡ []
+pub no_iflets : (is : List IfLetTree) → has_no_iflet is ≡ true → is ≡ []
 no_iflets [] h = refl
 no_iflets (i ∷ is) h = absurd (false≢true h)
 

@@ -9,6 +9,8 @@ pub mod FlatRuns
 pub mod FlatSites
 pub mod NoTerms
 pub mod PartlessTypes
+pub mod ReadAlike
+pub mod RuleNames
 pub mod SameTerms
 pub mod SoundRuns
 pub mod building

@@ -1,14 +1,16 @@
 -- Carried lists and sets as those of all forms: what they can be read with, and the statements.
-use Rattle.std.specs.Prelude.{ℕ, Bool, List, [], map}
+use Rattle.std.specs.Prelude.{◌≡◌, ℕ, Bool, List, [], map, All, IsTrue, ◌↔◌}
 use Rattle.isle_model.specs.lists.Syntax.{Definition}
 use Rattle.isle_model.specs.lists.Tables.{TypeEntry, builtin_type, primitive_type, enum_type, struct_type}
-use Rattle.isle_model.specs.lists.TypeTable.{all_type_names, type_table, constant_types}
+use Rattle.isle_model.specs.lists.TypeTable.{all_type_names, type_table, constant_types, IsValidTypes}
+use Rattle.isle_model.specs.lists.TermTable.{rule_trees}
 use Rattle.isle_model.specs.lists.Elaborated.{TypedRules}
 use Rattle.isle_model.specs.rules.Typed.{TypedRule}
 use Rattle.isle_model.specs.sites.Sites.{SiteSet}
-use Rattle.isle_model.specs.claims.Environments.{TypesRead, IsElaborated}
+use Rattle.isle_model.specs.claims.Environments.{TypesRead, types_read, IsElaborated}
 use Rattle.isle_model.specs.claims.Layers.{IsBuiltForSome}
-use Rattle.isle_model.specs.first.Elaboration.{all_names, IsCarriedElaborated, carried_program_of}
+use Rattle.isle_model.specs.first.Elaboration.{all_names, is_carried_rule, IsCarriedElaborated, carried_program_of}
+use Rattle.isle_model.specs.first.SameTermTables.{MakeNoTerms, AreCarriedTerms}
 use Rattle.isle_model.specs.first.Accepted.{PassesArgumentsOfProgram, PassesSitesOfProgram}
 use Rattle.isle_model.specs.first.Building.{IsSimpleSet}
 use Rattle.isle_model.specs.first.Built.{IsBuiltSet}
@@ -41,3 +43,14 @@ CarriedSetsAreBuilt =
     (defs : List Definition) (expand : Bool) (rules : List TypedRule) (t : ℕ) (set : SiteSet)
     → IsCarriedElaborated defs rules → (PassesArgumentsOfProgram (carried_program_of defs rules) → ⊥) → (PassesSitesOfProgram (carried_program_of defs rules) → ⊥)
     → IsSimpleSet set → IsBuiltSet (carried_program_of defs rules) t set → IsBuiltForSome set
+
+-- each rule of a list is one that the first elaboration carries
+abbrev pub AreCarriedRules : List Definition → Type 0
+AreCarriedRules defs = All (λ r. IsTrue (is_carried_rule r)) (rule_trees defs)
+
+-- a list of the first forms, whose types make no terms, has the same typed rules by either reading, or none, and the whole
+-- one meets all of its names
+abbrev pub FirstFormsAreReadAlike : Type 0
+FirstFormsAreReadAlike =
+    (defs : List Definition) (expand : Bool) (l : TypedRules) → MakeNoTerms defs → AreCarriedTerms defs → AreCarriedRules defs → IsValidTypes defs
+    → IsElaborated (types_read defs) defs expand l ↔ (IsCarriedElaborated defs l.rules × (l.names ≡ all_names defs))

@@ -6,7 +6,7 @@
 ghost use Rattle.isle_first.specs.BuildingLaws.{BuildsSets, CountsSites, ShowsOverlaps};
 ghost use Rattle.isle_first.specs.EarlyLaws.{EarlyOverlapAgrees, EarlyArgumentsAgree, EarlySitesAgree};
 ghost use Rattle.isle_model.specs.first.CarriedRules.{CarriedRulesAgree};
-ghost use Rattle.isle_first.specs.WholeLaws.{CarriedListsElaborate, CarriedSetsAreBuilt};
+ghost use Rattle.isle_first.specs.WholeLaws.{CarriedListsElaborate, CarriedSetsAreBuilt, FirstFormsAreReadAlike};
 ghost use Rattle.isle_model.specs.first.Statements.{AcceptedTreesRun};
 ghost use Rattle.isle_first.specs.Sample.{rules, program, meaning, arguments, results_in, blank, blurred};
 ghost use Rattle.std.specs.Prelude.{◌≡◌, pos};
@@ -59,6 +59,12 @@ pub fn carried_rules_agree()
 /// no terms.
 pub fn carried_lists_elaborate()
     ensures { CarriedListsElaborate }
+{}
+
+/// Read with its own types, a list of the first forms whose types make no terms has the same typed rules by the whole
+/// elaboration and by the first one.
+pub fn first_forms_are_read_alike()
+    ensures { FirstFormsAreReadAlike }
 {}
 
 /// The sets that are built of the terms of a carried list are built sets among those of all forms, where no limit is passed.
