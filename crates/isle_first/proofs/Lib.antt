@@ -13,5 +13,6 @@ pub mod ReadAlike
 pub mod RuleNames
 pub mod SameTerms
 pub mod SoundRuns
+pub mod VariantNames
 pub mod building
 pub mod matching

@@ -7,6 +7,7 @@ ghost use Rattle.isle_first.specs.BuildingLaws.{BuildsSets, CountsSites, ShowsOv
 ghost use Rattle.isle_first.specs.EarlyLaws.{EarlyOverlapAgrees, EarlyArgumentsAgree, EarlySitesAgree};
 ghost use Rattle.isle_model.specs.first.CarriedRules.{CarriedRulesAgree};
 ghost use Rattle.isle_first.specs.WholeLaws.{CarriedListsElaborate, CarriedSetsAreBuilt, FirstFormsAreReadAlike};
+ghost use Rattle.isle_first.specs.VariantLaws.{VariantsAreReadApart};
 ghost use Rattle.isle_model.specs.first.Statements.{AcceptedTreesRun};
 ghost use Rattle.isle_first.specs.Sample.{rules, program, meaning, arguments, results_in, blank, blurred};
 ghost use Rattle.std.specs.Prelude.{◌≡◌, pos};
@@ -65,6 +66,11 @@ pub fn carried_lists_elaborate()
 /// elaboration and by the first one.
 pub fn first_forms_are_read_alike()
     ensures { FirstFormsAreReadAlike }
+{}
+
+/// A declared term that has the name of a variant is read by the first elaboration, and refused by the whole one.
+pub fn variants_are_read_apart()
+    ensures { VariantsAreReadApart }
 {}
 
 /// The sets that are built of the terms of a carried list are built sets among those of all forms, where no limit is passed.
