@@ -4,6 +4,7 @@ use Rattle.std.specs.Prelude.{Result, Ok, Err, IfOk, IfErr, MatchResult}
 use Rattle.std.specs.Global.{Vec}
 use Rattle.isle_rules.specs.VisitAnswers.{listed}
 use Rattle.std.proofs.lemmas.List.{append_assoc, append-nil, map-append}
+use Rattle.std.proofs.lemmas.Bool.{cases_lt}
 use Rattle.std.proofs.lemmas.List.Elements.{All-nil, All-push, All-weaker}
 use Rattle.isle_model.specs.sites.Sites.{Constraint, is_present, SiteTerm, pick_of, some_part, tuple_part, unfold_site}
 use Rattle.isle_model.specs.rules.Typed.{TypedPatterns, no_typed_pattern, typed_pattern_and}
@@ -13,7 +14,7 @@ use Rattle.isle_model.specs.lists.Tables.{Flags}
 use Rattle.isle_base.specs.declared.syntax.Limit.{Limit}
 use Rattle.isle_base.specs.declared.visit_fault.VisitFault.{VisitFault}
 use Rattle.isle_sets.specs.SiteTables.{AreFirst, IsTable}
-use Rattle.isle_builder.specs.VisitedSites.{built_sites, IsSiteOf, AreSitesOf, StandsAt, GoesTo, Makes, MakesAll, OpensTo, EndsBefore, EndsOpening, AnswersTo, answer_of, answered, fields_opened, outputs_opened}
+use Rattle.isle_builder.specs.VisitedSites.{built_sites, IsSiteOf, AreSitesOf, StandsAt, GoesTo, Makes, MakesAll, OpensTo, EndsBefore, EndsBy, EndsOpening, AnswersTo, answer_of, answered, fields_opened, outputs_opened}
 use Rattle.isle_builder.specs.declared.ruleset_builder.RuleSetBuilder.{RuleSetBuilder}
 use Rattle.isle_sets.proofs.ClosingTaken.{sites_append}
 use Rattle.isle_sets.proofs.FullTables.{first_with, want_weaker}
@@ -216,26 +217,30 @@ module _ (before : List SiteTerm) (old mid now : RuleSetBuilder) (v : Visit) (fl
       })
 
   -- it ended on the way there
-  opened_makes : (more : List SiteTerm) × ((open_call flags infallible call args v).visit.demands.made ≡ Call.demands.made ++ more)
-  opened_makes =
+  opened_makes : (qs : TypedPatterns) → (more : List SiteTerm) × ((open_call flags infallible call qs v).visit.demands.made ≡ Call.demands.made ++ more)
+  opened_makes qs =
       let a = answered_makes multi infallible call Call in
-      let parts = part_sites (answer_of multi infallible call) args in (
+      let parts = part_sites (answer_of multi infallible call) qs in (
         a.0 ++ parts,
-        ap (λ (q : Opened). q.visit.demands.made) (sym (call_same args)) ∙ ap (λ us. us ++ parts) a.1 ∙ append_assoc Call.demands.made a.0 parts,
+        ap (λ (q : Opened). q.visit.demands.made) (sym (call_same qs)) ∙ ap (λ us. us ++ parts) a.1 ∙ append_assoc Call.demands.made a.0 parts,
       )
 
-  pub call_ends : (b : RuleSetBuilder) (e : VisitFault) → EndsBefore before b Call e → EndsBefore before b (open_call flags infallible call args v).visit e
-  call_ends b e h = ends_later before b Call (open_call flags infallible call args v).visit opened_makes.0 e opened_makes.1 h
+  pub call_ends : (qs : TypedPatterns) (b : RuleSetBuilder) (e : VisitFault) → EndsBefore before b Call e → EndsBefore before b (open_call flags infallible call qs v).visit e
+  call_ends qs b e h = let m = opened_makes qs in ends_later before b Call (open_call flags infallible call qs v).visit m.0 e m.1 h
 
-  pub answer_ends : (b : RuleSetBuilder) (e : VisitFault) → EndsBefore before b Answered e → EndsBefore before b (open_call flags infallible call args v).visit e
-  answer_ends b e h =
-      ends_later before b Answered (open_call flags infallible call args v).visit (part_sites (answer_of multi infallible call) args) e (ap (λ (q : Opened). q.visit.demands.made) (sym (call_same args))) h
+  pub answer_ends : (qs : TypedPatterns) (b : RuleSetBuilder) (e : VisitFault) → EndsBefore before b Answered e → EndsBefore before b (open_call flags infallible call qs v).visit e
+  answer_ends qs b e h =
+      ends_later before b Answered (open_call flags infallible call qs v).visit (part_sites (answer_of multi infallible call) qs) e (ap (λ (q : Opened). q.visit.demands.made) (sym (call_same qs))) h
 
-  pub outputs_end : (b : RuleSetBuilder) (l : Limit) (TooMany : Type 0) (e : VisitFault) → EndsOpening before b (outputs_opened (answer_of multi infallible call) args Answered).visit l TooMany Answered e
-      → EndsOpening before b (open_call flags infallible call args v).visit l TooMany (open_call flags infallible call no_typed_pattern v).visit e
-  outputs_end b l TooMany e (inl h) = inl (subst (λ (q : Opened). EndsBefore before b q.visit e) (call_same args) h)
-  outputs_end b l TooMany e (inr h) =
-      inr (h.0, h.1, subst (StandsAt before b) (sym (making_none Answered) ∙ ap (λ (q : Opened). q.visit) (call_same no_typed_pattern)) h.2)
+  pub outputs_end : (b : RuleSetBuilder) (l : Limit) (most count : ℕ) (e : VisitFault) → EndsOpening before b (outputs_opened (answer_of multi infallible call) args Answered).visit l most count Answered e
+      → EndsOpening before b (open_call flags infallible call args v).visit l most count (open_call flags infallible call no_typed_pattern v).visit e
+  outputs_end b l most count e (inl h) = inl (h.0, subst (λ (q : Opened). EndsBefore before b q.visit e) (call_same args) h.1)
+  outputs_end b l most count e (inr h) =
+      inr (h.0, subst (λ w. EndsBy before b l w e) (sym (making_none Answered) ∙ ap (λ (q : Opened). q.visit) (call_same no_typed_pattern)) h.1)
+
+-- however many parts there are
+pub opening_ends : (before : List SiteTerm) (b : RuleSetBuilder) (w v : Visit) (l : Limit) (most count : ℕ) (e : VisitFault) → EndsBefore before b w e → EndsBefore before b v e → EndsOpening before b w l most count v e
+opening_ends before b w v l most count e h k = elim (cases_lt most count) [ inl m ↦ inr (m, inl k) | inr f ↦ inl (f, h) ]
 
 -- 10. an answer by its list
 pub listed_both : (r : Result (Vec ℕ) VisitFault) (P : List ℕ → Type 0) (Q : VisitFault → Type 0) → IfOk r (λ ids. P ids.items) → IfErr r Q → MatchResult (listed r) P Q

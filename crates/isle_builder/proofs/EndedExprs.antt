@@ -56,13 +56,13 @@ pub ends_on : (before : List SiteTerm) (b : RuleSetBuilder) (v w : Visit) (e : V
 ends_on before b v w e m h = ends_later before b v w m.0 e m.1 h
 
 -- 2. faults
-same_fault : {A : Type 0} (e f : VisitFault) → ◌≡◌ {A = Result A VisitFault} (Err e) (Err f) → e ≡ f
+pub same_fault : {A : Type 0} (e f : VisitFault) → ◌≡◌ {A = Result A VisitFault} (Err e) (Err f) → e ≡ f
 same_fault e f h = cc
 
-refused_ends : {A : Type 0} (before : List SiteTerm) (b : RuleSetBuilder) (w : Visit) (e : VisitFault) → ◌≡◌ {A = Result A VisitFault} (Err e) (Err (Memory alloc_error)) → EndsBefore before b w e
+pub refused_ends : {A : Type 0} (before : List SiteTerm) (b : RuleSetBuilder) (w : Visit) (e : VisitFault) → ◌≡◌ {A = Result A VisitFault} (Err e) (Err (Memory alloc_error)) → EndsBefore before b w e
 refused_ends before b w e h = subst (EndsBefore before b w) (sym (same_fault e (Memory alloc_error) h)) tt
 
-fault_passed : {A : Type 0} (before : List SiteTerm) (b : RuleSetBuilder) (w : Visit) (e f : VisitFault) → ◌≡◌ {A = Result A VisitFault} (Err e) (Err f) → EndsBefore before b w f → EndsBefore before b w e
+pub fault_passed : {A : Type 0} (before : List SiteTerm) (b : RuleSetBuilder) (w : Visit) (e f : VisitFault) → ◌≡◌ {A = Result A VisitFault} (Err e) (Err f) → EndsBefore before b w f → EndsBefore before b w e
 fault_passed before b w e f h ends = subst (EndsBefore before b w) (sym (same_fault e f h)) ends
 
 -- 3. a term's call

@@ -1,5 +1,6 @@
 pub mod FittingPatterns
 pub mod VisitedPatterns
+pub mod WalkedVisits
 pub mod BuilderCalls
 pub mod BuilderFields
 pub mod BuilderSteps
@@ -11,3 +12,5 @@ pub mod VisitedExprs
 pub mod RunsOfRules
 pub mod VisitedRules
 pub mod EndedExprs
+pub mod EndedPatterns
+pub mod EndedRules

@@ -1,5 +1,5 @@
 -- The visit of a pattern by a builder goes to where the definition's visit stands.
-use Rattle.std.proofs.Common.{◌≡◌, true≢false, ℕ, suc, ◌<◌, ◌==◌, Bool, true, false, List, [], ◌∷◌, length, map, Option, Some, None, if◌then◌else◌, slice_get, Result, Ok, is_ok, refl, sym, ap, ◌∙◌, subst, inl, inr, ⊎_elim, arith, eqb-true, eq-eqb}
+use Rattle.std.proofs.Common.{◌≡◌, true≢false, ℕ, suc, ◌<◌, ◌≤◌, ◌==◌, Bool, true, false, List, [], ◌∷◌, ◌++◌, length, map, Option, Some, None, if◌then◌else◌, slice_get, Result, Ok, is_ok, refl, sym, ap, ◌∙◌, subst, inl, inr, ⊎_elim, arith, eqb-true, eq-eqb}
 use Rattle.std.proofs.lemmas.Bool.{cases_Bool, cond-true, cond-false}
 use Rattle.std.specs.Ordering.{nat_cmp, is_eq, match_ordering}
 use Rattle.std.specs.declared.cmp.Ordering.TheVariants.{Less, Equal, Greater}
@@ -11,6 +11,7 @@ use Rattle.isle_model.specs.rules.Program.{Program, Kind, a_variant, a_struct, a
 use Rattle.isle_model.specs.rules.Typed.{TypedPattern, match_bind, match_var, match_bool, match_int, match_prim, match_term, match_any, match_and, TypedPatterns, no_typed_pattern, typed_pattern_and}
 use Rattle.isle_model.specs.sites.Sites.{Constraint, SiteTerm, is_bool, is_int, is_prim, is_variant, is_struct, variant_field, struct_field, unfold_site}
 use Rattle.isle_model.specs.sites.Demands.{Visit, Opened, site_term_eq, asking, binding, equating, making, or_no_site, var_site, pattern_count, open_term, visit_pattern, visit_each, visit_all}
+use Rattle.isle_model.specs.sites.Limits.{most_fields, most_outputs, Width, width_of, widths, widths_in}
 use Rattle.isle_model.proofs.Elements.{some_is}
 use Rattle.isle_base.specs.declared.visit_fault.VisitFault.{VisitFault}
 use Rattle.isle_rules.specs.PatternRuns.{part_types, OpensKind, Opens, PatternRun, PartsRun, EachRun}
@@ -19,6 +20,7 @@ use Rattle.isle_builder.specs.contracts.builder_patterns.RuleSetBuilderPatternVi
 use Rattle.isle_builder.specs.declared.ruleset_builder.RuleSetBuilder.{RuleSetBuilder}
 use Rattle.isle_builder.specs.VisitedSites.{built_sites, IsSiteOf, AreSitesOf, StandsAt, GoesTo, OpensTo, AsksEqual, fields_opened}
 use Rattle.isle_builder.proofs.BuilderFields.{goes_nowhere, goes_further, sites_stay, places_same}
+use Rattle.isle_builder.proofs.WalkedVisits.{PassNone, pass_both, few_fields, few_outputs}
 
 -- 1. what variables are bound to
 -- each variable is bound to the number of its site
@@ -96,7 +98,7 @@ abbrev mutual
   FitAll p (typed_pattern_and q rest) = Fits p q × FitAll p rest
 
 -- 3. a term's pattern is opened
-types_count : (args : TypedPatterns) → pattern_count args ≡ length (part_types args)
+pub types_count : (args : TypedPatterns) → pattern_count args ≡ length (part_types args)
 types_count no_typed_pattern = refl
 types_count (typed_pattern_and q rest) = ap suc (types_count rest)
 
@@ -104,38 +106,48 @@ module _ (before : List SiteTerm) (s mid : RuleSetBuilder) (v : Visit) (n term :
   abbrev U : SiteTerm
   U = unfold_site (built_sites s) n
 
-  kind_opened : (e : TermEntry) (ty : ℕ) (k : TermKindEntry) → e.ret_ty ≡ ty → length e.arg_tys ≡ pattern_count args → OpensKind ghosts e ty term (part_types args) n k s (Ok ids) mid
-      → OpensTo before s mid (open_term (kind_of (record e { kind = k })) term U args v) ids
+  abbrev pub OpensFew : Kind → Type 0
+  OpensFew k = OpensTo before s mid (open_term k term U args v) ids × PassNone (width_of k (pattern_count args))
+
+  kind_opened : (e : TermEntry) (ty : ℕ) (k : TermKindEntry) → e.ret_ty ≡ ty → length e.arg_tys ≡ pattern_count args → OpensKind ghosts e ty term (part_types args) n k s (Ok ids) mid → OpensFew (kind_of (record e { kind = k }))
   kind_opened e ty (variant_term variant) ret count run =
-      let fields = sym (places_same (variant_field U variant) 0 args) in
-      subst (λ us. OpensTo before s mid (record { inputs = us; visit = asking U (is_variant e.ret_ty variant (pattern_count args)) (making us v) }) ids) fields
-      (subst (λ t. OpensTo before s mid (fields_opened (is_variant t variant (pattern_count args)) U v) ids) (sym ret)
-      (subst (λ m. OpensTo before s mid (fields_opened (is_variant ty variant m) U v) ids) count (run before v h l)))
+      let opens = run before v h l in
+      let fields = sym (places_same (variant_field U variant) 0 args) in (
+        subst (λ us. OpensTo before s mid (record { inputs = us; visit = asking U (is_variant e.ret_ty variant (pattern_count args)) (making us v) }) ids) fields
+            (subst (λ t. OpensTo before s mid (fields_opened (is_variant t variant (pattern_count args)) U v) ids) (sym ret)
+            (subst (λ m. OpensTo before s mid (fields_opened (is_variant ty variant m) U v) ids) count opens.1)),
+        few_fields (pattern_count args) (subst (λ m. m ≤ most_fields) count opens.0),
+      )
   kind_opened e ty struct_term ret count run =
-      let fields = sym (places_same (struct_field U) 0 args) in
-      subst (λ us. OpensTo before s mid (record { inputs = us; visit = asking U (is_struct e.ret_ty (pattern_count args)) (making us v) }) ids) fields
-      (subst (λ t. OpensTo before s mid (fields_opened (is_struct t (pattern_count args)) U v) ids) (sym ret)
-      (subst (λ m. OpensTo before s mid (fields_opened (is_struct ty m) U v) ids) count (run before v h l)))
+      let opens = run before v h l in
+      let fields = sym (places_same (struct_field U) 0 args) in (
+        subst (λ us. OpensTo before s mid (record { inputs = us; visit = asking U (is_struct e.ret_ty (pattern_count args)) (making us v) }) ids) fields
+            (subst (λ t. OpensTo before s mid (fields_opened (is_struct t (pattern_count args)) U v) ids) (sym ret)
+            (subst (λ m. OpensTo before s mid (fields_opened (is_struct ty m) U v) ids) count opens.1)),
+        few_fields (pattern_count args) (subst (λ m. m ≤ most_fields) count opens.0),
+      )
   kind_opened e ty (declared_term flags c None) ret count run = absurd run
   kind_opened e ty (declared_term flags c (Some x)) ret count run =
-      ⊎_elim (λ r. absurd (true≢false (ap is_ok r.0))) (λ r. r before v flags args h l refl (types_count args)) run
+      ⊎_elim (λ r. absurd (true≢false (ap is_ok r.0)))
+      (λ r. let opens = r before v flags args h l refl (types_count args) in (opens.1, few_outputs (pattern_count args) (subst (λ m. m ≤ most_outputs) (sym (types_count args)) opens.0))) run
 
-  term_opened : (ty : ℕ) (o : Option TermEntry) → FitsTerm ty (pattern_count args) o → Opens ghosts ty term (part_types args) n o s (Ok ids) mid
-      → OpensTo before s mid (open_term (elim o as (λ _. Kind) [ None ↦ unknown | Some e ↦ kind_of e ]) term U args v) ids
+  pub term_opened : (ty : ℕ) (o : Option TermEntry) → FitsTerm ty (pattern_count args) o → Opens ghosts ty term (part_types args) n o s (Ok ids) mid
+      → OpensFew (elim o as (λ _. Kind) [ None ↦ unknown | Some e ↦ kind_of e ])
   term_opened ty None fits run = absurd fits
   term_opened ty (Some e) fits run = kind_opened e ty e.kind fits.0 fits.1 run
 
 -- 4. the visit
-abbrev State : Type 0
+abbrev pub State : Type 0
 State = RuleSetBuilder × BoundIds ℕ
 
--- from where a visit stands a builder, with its variables, goes to where another stands
-pub record VisitsTo (before : List SiteTerm) (s t : State) (w : Visit) : Type 0 where
+-- from where a visit stands a builder, with its variables, goes to where another stands, past terms that pass no limit
+pub record VisitsTo (before : List SiteTerm) (s t : State) (w : Visit) (passed : List Width) : Type 0 where
   pub goes : GoesTo before s.0 t.0 w
   pub knows : KnowsVars t.0 t.1 w
+  pub few : PassNone passed
 
-further : (before : List SiteTerm) (s m t : State) (v w : Visit) → VisitsTo before s m v → VisitsTo before m t w → VisitsTo before s t w
-further before s m t v w a b = record { goes = goes_further before s.0 m.0 t.0 v w a.goes b.goes; knows = b.knows }
+further : (before : List SiteTerm) (s m t : State) (v w : Visit) (ws vs : List Width) → VisitsTo before s m v ws → VisitsTo before m t w vs → VisitsTo before s t w (ws ++ vs)
+further before s m t v w ws vs a b = record { goes = goes_further before s.0 m.0 t.0 v w a.goes b.goes; knows = b.knows; few = pass_both ws vs a.few b.few }
 
 pub site_stays : (before : List SiteTerm) (s t : RuleSetBuilder) (w : Visit) (u : SiteTerm) (n : ℕ) → GoesTo before s t w → IsSiteOf s u n → IsSiteOf t u n
 site_stays before s t w u n g k = let l = k.within in let m = g.longer in record { within = omega (arith, l, m); number = g.kept n l ∙ k.number }
@@ -165,20 +177,20 @@ call_vars true i a b c v e f g = e
 call_vars false true a b c v e f g = f
 call_vars false false a b c v e f g = g
 
-open_vars : (k : Kind) (term : ℕ) (u : SiteTerm) (args : TypedPatterns) (v : Visit) → (open_term k term u args v).visit.vars ≡ v.vars
+pub open_vars : (k : Kind) (term : ℕ) (u : SiteTerm) (args : TypedPatterns) (v : Visit) → (open_term k term u args v).visit.vars ≡ v.vars
 open_vars (a_variant ty variant) term u args v = refl
 open_vars (a_struct ty) term u args v = refl
 open_vars (a_call flags infallible) term u args v = call_vars flags.multi infallible _ _ _ v refl refl refl
 open_vars unknown term u args v = refl
 
 -- of variables that stay
-goes_with : (before : List SiteTerm) (s t : State) (v w : Visit) → GoesTo before s.0 t.0 w → w.vars ≡ v.vars → t.1 ≡ s.1 → KnowsVars s.0 s.1 v → VisitsTo before s t w
-goes_with before s t v w g same stay knows = record { goes = g; knows = subst (λ vs. KnowsVars t.0 vs w) (sym stay) (knows_stay before s.0 t.0 s.1 v w same g knows) }
+pub goes_with : (before : List SiteTerm) (s t : State) (v w : Visit) → GoesTo before s.0 t.0 w → w.vars ≡ v.vars → t.1 ≡ s.1 → KnowsVars s.0 s.1 v → (ws : List Width) → PassNone ws → VisitsTo before s t w ws
+goes_with before s t v w g same stay knows ws few = record { goes = g; knows = subst (λ vs. KnowsVars t.0 vs w) (sym stay) (knows_stay before s.0 t.0 s.1 v w same g knows); few = few }
 
 asked_to : (before : List SiteTerm) (s t : State) (v : Visit) (u : SiteTerm) (n : ℕ) (c : Constraint) → KnowsVars s.0 s.1 v → IsSiteOf s.0 u n → GoesTo before s.0 t.0 (asking (unfold_site (built_sites s.0) n) c v)
-    → t.1 ≡ s.1 → VisitsTo before s t (asking u c v)
+    → t.1 ≡ s.1 → VisitsTo before s t (asking u c v) []
 asked_to before s t v u n c knows site g stay =
-    goes_with before s t v (asking u c v) (subst (λ w. GoesTo before s.0 t.0 (asking w c v)) site.number g) refl stay knows
+    goes_with before s t v (asking u c v) (subst (λ w. GoesTo before s.0 t.0 (asking w c v)) site.number g) refl stay knows [] refl
 
 -- two answers that are one
 pub one_answer : {A : Type 0} (a b : A) → ◌≡◌ {A = Result A VisitFault} (Ok a) (Ok b) → a ≡ b
@@ -187,7 +199,7 @@ one_answer a b e = cc
 module _ (p : Program) (before : List SiteTerm) where
   mutual
     pub pattern_visited : (q : TypedPattern) (n : ℕ) (s : State) (a : Unit {0}) (t : State) (v : Visit) (u : SiteTerm) → Fits p q → PatternRun ghosts p.terms q n s (Ok a) t
-        → StandsAt before s.0 v → KnowsVars s.0 s.1 v → IsSiteOf s.0 u n → VisitsTo before s t (visit_pattern p q u v)
+        → StandsAt before s.0 v → KnowsVars s.0 s.1 v → IsSiteOf s.0 u n → VisitsTo before s t (visit_pattern p q u v) (widths p q)
     pattern_visited (match_bind ty x of) n s a t v u fits run h knows site =
         ⊎_elim
         (λ r.
@@ -195,7 +207,7 @@ module _ (p : Program) (before : List SiteTerm) where
         let is : r.1 ≡ (s.0, with_bound s.1 x n) = λ i. (r.2.1 i, vars i) in
         let w = pattern_visited of n (s.0, with_bound s.1 x n) a t (binding x u v) u fits (subst (λ z. PatternRun ghosts p.terms of n z (Ok a) t) is r.3)
         (bound_stands before s.0 v x u h) (knows_more s.0 s.1 v x n u site knows) site in
-        record { goes = w.goes; knows = w.knows })
+        record { goes = w.goes; knows = w.knows; few = w.few })
         (λ e. absurd (true≢false (ap is_ok e.2))) run
     pattern_visited (match_var ty x) n s a t v u fits run h knows site =
         ⊎_elim
@@ -206,7 +218,7 @@ module _ (p : Program) (before : List SiteTerm) where
         let g : GoesTo before s.0 t.0 (equating u (var_site v x) v) =
         subst (λ w. GoesTo before s.0 t.0 (equating u w v)) k.number
         (subst (λ w. GoesTo before s.0 t.0 (equating w (unfold_site (built_sites s.0) m) v)) site.number (step site.within k.within before v h)) in
-        goes_with before s t v (equating u (var_site v x) v) g (equal_vars u (var_site v x) v) (r.3.1 ∙ r.2.0.2.1) knows)
+        goes_with before s t v (equating u (var_site v x) v) g (equal_vars u (var_site v x) v) (r.3.1 ∙ r.2.0.2.1) knows [] refl)
         (λ e. absurd (true≢false (ap is_ok e.2))) run
     pattern_visited (match_bool ty b) n s a t v u fits run h knows site = asked_to before s t v u n (is_bool b ty) knows site (run.0 site.within before v h) run.1
     pattern_visited (match_int ty z) n s a t v u fits run h knows site = asked_to before s t v u n (is_int z ty) knows site (run.0 site.within before v h) run.1
@@ -217,18 +229,18 @@ module _ (p : Program) (before : List SiteTerm) where
         let ids = r.0 in
         let mid = r.1 in
         let o = open_term (kind p term) term u args v in
-        let opens : OpensTo before s.0 mid.0 o ids =
-        subst (λ w. OpensTo before s.0 mid.0 (open_term (kind p term) term w args v) ids) site.number
-        (term_opened before s.0 mid.0 v n term args ids h site.within ty (slice_get p.terms term) fits.0 r.2.0) in
-        let first = goes_with before s mid v o.visit opens.goes (open_vars (kind p term) term u args v) r.2.1 knows in
-        further before s mid t o.visit (visit_each p args o.inputs o.visit) first (parts_visited args ids mid a t o.visit o.inputs fits.1 r.3 opens.goes.stands first.knows opens.inputs))
+        let own = width_of (kind p term) (pattern_count args) in
+        let few = term_opened before s.0 mid.0 v n term args ids h site.within ty (slice_get p.terms term) fits.0 r.2.0 in
+        let opens : OpensTo before s.0 mid.0 o ids = subst (λ w. OpensTo before s.0 mid.0 (open_term (kind p term) term w args v) ids) site.number few.0 in
+        let first = goes_with before s mid v o.visit opens.goes (open_vars (kind p term) term u args v) r.2.1 knows own few.1 in
+        further before s mid t o.visit (visit_each p args o.inputs o.visit) own (widths_in p args) first (parts_visited args ids mid a t o.visit o.inputs fits.1 r.3 opens.goes.stands first.knows opens.inputs))
         (λ e. absurd (true≢false (ap is_ok e.2))) run
-    pattern_visited (match_any ty) n s a t v u fits run h knows site = subst (λ z. VisitsTo before s z v) (sym run.1) (record { goes = goes_nowhere before s.0 v h; knows = knows })
+    pattern_visited (match_any ty) n s a t v u fits run h knows site = subst (λ z. VisitsTo before s z v []) (sym run.1) (record { goes = goes_nowhere before s.0 v h; knows = knows; few = refl })
     pattern_visited (match_and ty parts) n s a t v u fits run h knows site = each_visited parts n s a t v u fits run h knows site
 
     pub parts_visited : (qs : TypedPatterns) (ids : List ℕ) (s : State) (a : Unit {0}) (t : State) (v : Visit) (us : List SiteTerm) → FitAll p qs → PartsRun ghosts p.terms qs ids s (Ok a) t
-        → StandsAt before s.0 v → KnowsVars s.0 s.1 v → AreSitesOf s.0 us ids → VisitsTo before s t (visit_each p qs us v)
-    parts_visited no_typed_pattern [] s a t v us fits run h knows sites = subst (λ z. VisitsTo before s z v) (sym run.1) (record { goes = goes_nowhere before s.0 v h; knows = knows })
+        → StandsAt before s.0 v → KnowsVars s.0 s.1 v → AreSitesOf s.0 us ids → VisitsTo before s t (visit_each p qs us v) (widths_in p qs)
+    parts_visited no_typed_pattern [] s a t v us fits run h knows sites = subst (λ z. VisitsTo before s z v []) (sym run.1) (record { goes = goes_nowhere before s.0 v h; knows = knows; few = refl })
     parts_visited no_typed_pattern (id ∷ ids) s a t v us fits run h knows sites = absurd run
     parts_visited (typed_pattern_and q rest) [] s a t v us fits run h knows sites = absurd run
     parts_visited (typed_pattern_and q rest) (id ∷ ids) s a t v [] fits run h knows sites = absurd (let e = sites.numbers in cc)
@@ -241,18 +253,18 @@ module _ (p : Program) (before : List SiteTerm) where
         let w = visit_pattern p q u v in
         let first = pattern_visited q id s r.0 r.1 v u fits.0 r.2 h knows (record { within = sites.within 0 id (omega arith); number = here }) in
         let tail : AreSitesOf s.0 us ids = record { within = λ k d l. sites.within (suc k) d (omega (arith, l)); numbers = others } in
-        further before s r.1 t w (visit_each p rest us w) first
+        further before s r.1 t w (visit_each p rest us w) (widths p q) (widths_in p rest) first
         (parts_visited rest ids r.1 a t w us fits.1 r.3 first.goes.stands first.knows (sites_stay before s.0 r.1.0 w us ids first.goes tail)))
         (λ e. absurd (true≢false (ap is_ok e.2))) run
 
     pub each_visited : (qs : TypedPatterns) (n : ℕ) (s : State) (a : Unit {0}) (t : State) (v : Visit) (u : SiteTerm) → FitAll p qs → EachRun ghosts p.terms qs n s (Ok a) t
-        → StandsAt before s.0 v → KnowsVars s.0 s.1 v → IsSiteOf s.0 u n → VisitsTo before s t (visit_all p qs u v)
-    each_visited no_typed_pattern n s a t v u fits run h knows site = subst (λ z. VisitsTo before s z v) (sym run.1) (record { goes = goes_nowhere before s.0 v h; knows = knows })
+        → StandsAt before s.0 v → KnowsVars s.0 s.1 v → IsSiteOf s.0 u n → VisitsTo before s t (visit_all p qs u v) (widths_in p qs)
+    each_visited no_typed_pattern n s a t v u fits run h knows site = subst (λ z. VisitsTo before s z v []) (sym run.1) (record { goes = goes_nowhere before s.0 v h; knows = knows; few = refl })
     each_visited (typed_pattern_and q rest) n s a t v u fits run h knows site =
         ⊎_elim
         (λ r.
         let w = visit_pattern p q u v in
         let first = pattern_visited q n s r.0 r.1 v u fits.0 r.2 h knows site in
-        further before s r.1 t w (visit_all p rest u w) first
+        further before s r.1 t w (visit_all p rest u w) (widths p q) (widths_in p rest) first
         (each_visited rest n r.1 a t w u fits.1 r.3 first.goes.stands first.knows (site_stays before s.0 r.1.0 w u n first.goes site)))
         (λ e. absurd (true≢false (ap is_ok e.2))) run

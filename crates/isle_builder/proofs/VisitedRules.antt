@@ -1,10 +1,10 @@
 -- The visit of a rule by a builder goes to where the definition's visit stands.
-use Rattle.std.proofs.Common.{◌≡◌, ◌⊎◌, true≢false, ℕ, suc, ◌<◌, length, ◌==◌, Bool, true, ◌&&◌, ◌||◌, List, [], ◌∷◌, Option, Some, None, is_none, is_some, slice_get, is_ok, refl, sym, ap, ◌∙◌, subst, inl, inr, ⊎_elim, if◌then◌else◌}
+use Rattle.std.proofs.Common.{◌≡◌, ◌⊎◌, true≢false, ℕ, suc, ◌<◌, length, ◌==◌, nat_lt, Bool, true, ◌&&◌, ◌||◌, List, [], ◌∷◌, ◌++◌, flat_map, Option, Some, None, is_none, is_some, slice_get, is_ok, refl, sym, ap, ◌∙◌, subst, inl, inr, ⊎_elim, if◌then◌else◌}
 use Rattle.std.specs.Prelude.{Result, Ok, IfOk}
 use Rattle.isle_base.specs.declared.visit_fault.VisitFault.{VisitFault}
 use Rattle.isle_sets.proofs.SitesAdded.{weaker_ok}
 use Rattle.std.specs.Ordering.{nat_cmp, is_eq}
-use Rattle.std.proofs.lemmas.Bool.{cases_Bool, cond-true, cond-false, false≢true}
+use Rattle.std.proofs.lemmas.Bool.{cases_Bool, cond-true, cond-false, false≢true, lt-ltb}
 use Rattle.isle_model.specs.lists.Formed.{pattern_type, var_type, with_new, formed_pattern, formed_parts, formed_each, formed_list, formed_iflets, is_formed_rule}
 use Rattle.isle_model.specs.lists.Setting.{has_extractor}
 use Rattle.isle_model.specs.lists.Tables.{TermEntry}
@@ -14,6 +14,7 @@ use Rattle.isle_model.specs.rules.Program.{Program, is_partial}
 use Rattle.isle_model.specs.rules.Typed.{TypedPattern, match_bind, match_var, match_bool, match_int, match_prim, match_term, match_any, match_and, TypedPatterns, no_typed_pattern, typed_pattern_and, TypedIfLet, TypedRule}
 use Rattle.isle_model.specs.sites.Sites.{SiteTerm, argument, unfold_site}
 use Rattle.isle_model.specs.sites.Demands.{Visit, making, asking_all, unwraps, visit_start, visit_pattern, visit_expr, visit_args, visit_iflets, finished, valued, visit_rule}
+use Rattle.isle_model.specs.sites.Limits.{most_arguments, RuleLimit, arguments_limit, limits_in, limits_in_args, limits_of_shape}
 use Rattle.isle_model.specs.trees.Places.{is_in}
 use Rattle.isle_model.proofs.Elements.{none_some, some_is, or_split}
 use Rattle.isle_laws_demands.proofs.visits.RuleParts.{rule_parts, iflet_parts}
@@ -35,6 +36,7 @@ use Rattle.isle_builder.proofs.FittingPatterns.{formed_fits, first_there, passed
 use Rattle.isle_builder.proofs.RunsOfRules.{pattern_called, value_visited}
 use Rattle.isle_builder.proofs.VisitedExprs.{InScope, expr_visited, knows_on}
 use Rattle.isle_builder.proofs.VisitedPatterns.{KnowsVars, one_answer, knows_stay, pattern_visited, site_stays, tied}
+use Rattle.isle_builder.proofs.WalkedVisits.{both_empty}
 
 -- 1. what patterns bind can be used after them
 abbrev has : List (ℕ × ℕ) → ℕ → Bool
@@ -133,18 +135,30 @@ in_bound (b ∷ vs) x h =
           (r.0, cond-false (is_eq (nat_cmp x b.0.0)) (Some b.1) (bound_at vs x) (tied x b.0.0 ∙ f) ∙ r.1)
     ]
 
--- 2. where a visit stands, with what is known
-record Reaches (before : List SiteTerm) (p : Program) (s t : RuleSetBuilder) (w : Visit) (ws : BoundIds ℕ) (more : List (ℕ × ℕ)) : Type 0 where
-  goes : GoesTo before s t w
-  knows : KnowsVars t ws w
-  scope : InScope ws more
-  quiet : IsQuiet p w
+-- 2. where a visit stands, with what is known, past what passes no limit
+pub record Reaches (before : List SiteTerm) (p : Program) (s t : RuleSetBuilder) (w : Visit) (ws : BoundIds ℕ) (more : List (ℕ × ℕ)) (limits : List RuleLimit) : Type 0 where
+  pub goes : GoesTo before s t w
+  pub knows : KnowsVars t ws w
+  pub scope : InScope ws more
+  pub quiet : IsQuiet p w
+  pub few : limits ≡ []
+
+-- the limits that an if-let's pattern passes
+abbrev pub iflet_limits : Program → TypedIfLet → List RuleLimit
+iflet_limits p i = limits_in p i.lhs
+
+-- those of the argument at a place, and of the place itself
+abbrev pub arg_limits : Program → ℕ → TypedPattern → List RuleLimit
+arg_limits p i q = if nat_lt i most_arguments then limits_in p q else arguments_limit ∷ []
+
+pub arg_few : (p : Program) (i : ℕ) (q : TypedPattern) → i < most_arguments → limits_in p q ≡ [] → arg_limits p i q ≡ []
+arg_few p i q l e = cond-true (nat_lt i most_arguments) (limits_in p q) (arguments_limit ∷ []) (lt-ltb i most_arguments l) ∙ e
 
 module _ (p : Program) (before : List SiteTerm) where
   -- a pattern
-  pattern_reached : (q : TypedPattern) (u : SiteTerm) (n : ℕ) (vs : BoundIds ℕ) (vars more : List (ℕ × ℕ)) (s : RuleSetBuilder) (ws : BoundIds ℕ) (t : RuleSetBuilder) (v : Visit) → formed_pattern p q vars ≡ Some more
+  pub pattern_reached : (q : TypedPattern) (u : SiteTerm) (n : ℕ) (vs : BoundIds ℕ) (vars more : List (ℕ × ℕ)) (s : RuleSetBuilder) (ws : BoundIds ℕ) (t : RuleSetBuilder) (v : Visit) → formed_pattern p q vars ≡ Some more
       → PatternRun Patterns.ghosts p.terms q n (s, vs) (Ok tt) (t, ws) → StandsAt before s v → KnowsVars s vs v → InScope vs vars → IsQuiet p v → IsSiteOf s u n → IsPlain p u
-      → Reaches before p s t (visit_pattern p q u v) ws more
+      → Reaches before p s t (visit_pattern p q u v) ws more (limits_in p q)
   pattern_reached q u n vs vars more s ws t v formed run h knows scope quiet site plain =
       let a = pattern_visited p before q n (s, vs) tt (t, ws) v u (formed_fits p q vars more formed) run h knows site in
       let b = pattern_binds p q vars more formed in
@@ -158,19 +172,27 @@ module _ (p : Program) (before : List SiteTerm) where
               | inr i ↦ i
             ];
         quiet = pattern_quiet p q u v quiet plain;
+        few = a.few;
       }
 
-  reached_further : (s m t : RuleSetBuilder) (v w : Visit) (ws : BoundIds ℕ) (more : List (ℕ × ℕ)) → GoesTo before s m v → Reaches before p m t w ws more → Reaches before p s t w ws more
-  reached_further s m t v w ws more g r = record { goes = goes_further before s m t v w g r.goes; knows = r.knows; scope = r.scope; quiet = r.quiet }
+  reached_further : (s m t : RuleSetBuilder) (v w : Visit) (ws : BoundIds ℕ) (more : List (ℕ × ℕ)) (first rest : List RuleLimit) → GoesTo before s m v → first ≡ [] → Reaches before p m t w ws more rest
+      → Reaches before p s t w ws more (first ++ rest)
+  reached_further s m t v w ws more first rest g few r = record {
+    goes = goes_further before s m t v w g r.goes;
+    knows = r.knows;
+    scope = r.scope;
+    quiet = r.quiet;
+    few = both_empty first rest few r.few;
+  }
 
   -- 3. the arguments
-  args_reached : (qs : List TypedPattern) (tys : List ℕ) (i : ℕ) (vs : BoundIds ℕ) (vars more : List (ℕ × ℕ)) (s : RuleSetBuilder) (ws : BoundIds ℕ) (t : RuleSetBuilder) (v : Visit) → formed_list p qs tys vars ≡ Some more
+  pub args_reached : (qs : List TypedPattern) (tys : List ℕ) (i : ℕ) (vs : BoundIds ℕ) (vars more : List (ℕ × ℕ)) (s : RuleSetBuilder) (ws : BoundIds ℕ) (t : RuleSetBuilder) (v : Visit) → formed_list p qs tys vars ≡ Some more
       → ArgsRun Rules.ghosts Patterns.ghosts Exprs.ghosts p.terms qs tys i vs s (Ok ws) t → StandsAt before s v → KnowsVars s vs v → InScope vs vars → IsQuiet p v
-      → Reaches before p s t (visit_args p i qs v) ws more
+      → Reaches before p s t (visit_args p i qs v) ws more (limits_in_args p i qs)
   args_reached [] [] i vs vars more s ws t v formed run h knows scope quiet =
-      subst (λ z. Reaches before p s z v ws more) (sym run.1)
-      (subst (λ z. Reaches before p s s v z more) (sym (one_answer ws vs run.0))
-      (subst (Reaches before p s s v vs) (some_is vars more formed) (record { goes = goes_nowhere before s v h; knows = knows; scope = scope; quiet = quiet })))
+      subst (λ z. Reaches before p s z v ws more []) (sym run.1)
+      (subst (λ z. Reaches before p s s v z more []) (sym (one_answer ws vs run.0))
+      (subst (λ ms. Reaches before p s s v vs ms []) (some_is vars more formed) (record { goes = goes_nowhere before s v h; knows = knows; scope = scope; quiet = quiet; few = refl })))
   args_reached [] (ty ∷ tys) i vs vars more s ws t v formed run h knows scope quiet = absurd run
   args_reached (q ∷ qs) [] i vs vars more s ws t v formed run h knows scope quiet = absurd run
   args_reached (q ∷ qs) (ty ∷ tys) i vs vars more s ws t v formed run h knows scope quiet =
@@ -181,23 +203,26 @@ module _ (p : Program) (before : List SiteTerm) where
       let a = passed (pattern_type q == ty) (then_option (formed_pattern p q vars) (λ mid. formed_list p qs tys mid)) more formed in
       let b = first_there (formed_pattern p q vars) (λ mid. formed_list p qs tys mid) more a.1 in
       let u = making (argument i ∷ []) v in
-      let m = (r.2 before v h).1 in
+      let n = r.2 before v h in
+      let m = n.1 in
       let known = knows_stay before s r.1 vs v u refl m.goes knows in
       let w = visit_pattern p q (argument i) u in
       let first = pattern_reached q (argument i) r.0 vs vars b.0 r.1 k.0 k.1 u b.1 (pattern_called p.terms q r.0 vs r.1 k.1 k.0 k.2) m.goes.stands known scope (after_making p (argument i ∷ []) v quiet) m.site (argument_plain p i) in
       let rest = args_reached qs tys (suc i) k.0 b.0 more k.1 ws t w b.2 k.3 first.goes.stands first.knows first.scope first.quiet in
-      reached_further s r.1 t u (visit_args p (suc i) qs w) ws more m.goes (reached_further r.1 k.1 t w (visit_args p (suc i) qs w) ws more first.goes rest))
+      let last = visit_args p (suc i) qs w in
+      reached_further s r.1 t u last ws more [] (limits_in_args p i (q ∷ qs)) m.goes refl
+      (reached_further r.1 k.1 t w last ws more (arg_limits p i q) (limits_in_args p (suc i) qs) first.goes (arg_few p i q n.0 first.few) rest))
       (λ e. absurd (true≢false (ap is_ok e.2))) r.3)
       (λ e. absurd (true≢false (ap is_ok e.2))) run
 
   -- 4. the if-lets
-  iflets_reached : (is : List TypedIfLet) (vs : BoundIds ℕ) (vars more : List (ℕ × ℕ)) (s : RuleSetBuilder) (ws : BoundIds ℕ) (t : RuleSetBuilder) (v : Visit) → formed_iflets p is vars ≡ Some more
+  pub iflets_reached : (is : List TypedIfLet) (vs : BoundIds ℕ) (vars more : List (ℕ × ℕ)) (s : RuleSetBuilder) (ws : BoundIds ℕ) (t : RuleSetBuilder) (v : Visit) → formed_iflets p is vars ≡ Some more
       → IfLetsRun Rules.ghosts Patterns.ghosts Exprs.ghosts p.terms is vs s (Ok ws) t → StandsAt before s v → KnowsVars s vs v → InScope vs vars → IsQuiet p v
-      → Reaches before p s t (visit_iflets p is v) ws more
+      → Reaches before p s t (visit_iflets p is v) ws more (flat_map (iflet_limits p) is)
   iflets_reached [] vs vars more s ws t v formed run h knows scope quiet =
-      subst (λ z. Reaches before p s z v ws more) (sym run.1)
-      (subst (λ z. Reaches before p s s v z more) (sym (one_answer ws vs run.0))
-      (subst (Reaches before p s s v vs) (some_is vars more formed) (record { goes = goes_nowhere before s v h; knows = knows; scope = scope; quiet = quiet })))
+      subst (λ z. Reaches before p s z v ws more []) (sym run.1)
+      (subst (λ z. Reaches before p s s v z more []) (sym (one_answer ws vs run.0))
+      (subst (λ ms. Reaches before p s s v vs ms []) (some_is vars more formed) (record { goes = goes_nowhere before s v h; knows = knows; scope = scope; quiet = quiet; few = refl })))
   iflets_reached (i ∷ is) vs vars more s ws t v formed run h knows scope quiet =
       ⊎_elim
       (λ r.
@@ -221,14 +246,17 @@ module _ (p : Program) (before : List SiteTerm) where
       let first = pattern_reached i.lhs a.site k.0 vs vars f.mid k.1 l.0 l.1 w f.pattern (pattern_called p.terms i.lhs k.0 vs k.1 l.1 l.0 l.2) asked.stands later scope (after_asking_all p (unwraps a.site) a.visit still.after) site still.site in
       let rest = iflets_reached is l.0 f.mid more l.1 ws t z f.rest l.3 first.goes.stands first.knows first.scope first.quiet in
       let last = visit_iflets p is z in
-      reached_further s r.1 t a.visit last ws more value.goes (reached_further r.1 k.1 t w last ws more asked (reached_further k.1 l.1 t z last ws more first.goes rest)))
+      let all = flat_map (iflet_limits p) (i ∷ is) in
+      reached_further s r.1 t a.visit last ws more [] all value.goes refl
+      (reached_further r.1 k.1 t w last ws more [] all asked refl
+      (reached_further k.1 l.1 t z last ws more (iflet_limits p i) (flat_map (iflet_limits p) is) first.goes first.few rest)))
       (λ e. absurd (true≢false (ap is_ok e.2))) k.3)
       (λ e. absurd (true≢false (ap is_ok e.2))) r.3)
       (λ e. absurd (true≢false (ap is_ok e.2))) run
 
   -- 5. a rule
   pub rule_visited : (r : TypedRule) (s : RuleSetBuilder) (n : ℕ) (t : RuleSetBuilder) → is_formed_rule p r ≡ true → RuleRun Rules.ghosts Patterns.ghosts Exprs.ghosts p.terms r s (Ok n) t → StandsAt before s visit_start
-      → ValuesTo before s t (visit_expr p r.rhs (visit_iflets p r.iflets (visit_args p 0 r.args visit_start))) n
+      → ValuesTo before s t (visit_expr p r.rhs (visit_iflets p r.iflets (visit_args p 0 r.args visit_start))) n × (limits_of_shape p r ≡ [])
   rule_visited r s n t formed run h =
       ⊎_elim
       (λ a.
@@ -241,10 +269,11 @@ module _ (p : Program) (before : List SiteTerm) where
       let first = args_reached r.args f.entry.arg_tys 0 [] [] f.mid s a.0 a.1 visit_start f.args args h (λ x m e. absurd (none_some m e)) (λ x m e. absurd (none_some m e)) (start_quiet p) in
       let second = iflets_reached r.iflets a.0 f.mid f.vars a.1 b.0 b.1 u f.iflets b.2 first.goes.stands first.knows first.scope first.quiet in
       let third = expr_visited p before r.rhs b.0 f.vars b.1 n t w f.right (value_visited p.terms r.rhs b.0 b.1 t n b.3) second.goes.stands second.knows second.scope in
-      record {
+      let values : ValuesTo before s t (visit_expr p r.rhs w) n = record {
         goes = goes_further before s b.1 t w (visit_expr p r.rhs w).visit (goes_further before s a.1 b.1 u w first.goes second.goes) third.goes;
         site = third.site;
-      })
+      } in
+      (values, both_empty (limits_in_args p 0 r.args) (flat_map (iflet_limits p) r.iflets) first.few second.few))
       (λ e. absurd (true≢false (ap is_ok e.2))) a.3)
       (λ e. absurd (true≢false (ap is_ok e.2))) run
 
@@ -252,11 +281,11 @@ module _ (p : Program) (before : List SiteTerm) where
 pub rule_finished : (p : Program) (before : List SiteTerm) (r : TypedRule) (old mid new : RuleSetBuilder) (value : ℕ) (partial : Bool) (result : Result ℕ VisitFault) → partial ≡ is_partial p r.root_term
     → ValuesTo before old mid (visit_expr p r.rhs (visit_iflets p r.iflets (visit_args p 0 r.args visit_start))) value
     → ((w : Visit) → StandsAt before mid w → value < length (built_sites mid) → IfOk result (ValuesTo before mid new (finished partial (valued (unfold_site (built_sites mid) value) w))))
-    → IfOk result (ValuesTo before old new (visit_rule p r))
-rule_finished p before r old mid new value partial result is v finish =
+    → limits_of_shape p r ≡ [] → IfOk result (λ n. ValuesTo before old new (visit_rule p r) n × (limits_of_shape p r ≡ []))
+rule_finished p before r old mid new value partial result is v finish few =
     let a = visit_expr p r.rhs (visit_iflets p r.iflets (visit_args p 0 r.args visit_start)) in
-    weaker_ok (ValuesTo before mid new (finished partial (valued (unfold_site (built_sites mid) value) a.visit))) (ValuesTo before old new (visit_rule p r)) result
+    weaker_ok (ValuesTo before mid new (finished partial (valued (unfold_site (built_sites mid) value) a.visit))) (λ n. ValuesTo before old new (visit_rule p r) n × (limits_of_shape p r ≡ [])) result
     (λ n q.
     let made = subst (λ b. ValuesTo before mid new (finished b a) n) is (subst (λ u. ValuesTo before mid new (finished partial (valued u a.visit)) n) v.site.number q) in
-    record { goes = goes_further before old mid new a.visit (visit_rule p r).visit v.goes made.goes; site = made.site })
+    (record { goes = goes_further before old mid new a.visit (visit_rule p r).visit v.goes made.goes; site = made.site }, few))
     (finish a.visit v.goes.stands v.site.within)

@@ -1,15 +1,17 @@
 -- Where a builder of a rule set stands while a rule is visited: its sites and demands are those that the visit has met, by
 -- their numbers.
-use Rattle.std.specs.Prelude.{◌≡◌, ◌⊎◌, ◌↔◌, slice_get, ℕ, ◌<◌, ◌≤◌, Bool, not, if◌then◌else◌, List, [], ◌∷◌, length, map, Option, Some, None, Result, MatchResult, All, Contains, IsTrue}
+use Rattle.std.specs.Prelude.{◌≡◌, ◌⊎◌, ◌↔◌, slice_get, ℕ, suc, ◌<◌, ◌≤◌, Bool, not, if◌then◌else◌, List, [], ◌∷◌, length, map, Option, Some, None, Result, MatchResult, All, Contains, IsTrue}
 use Rattle.std.specs.Bool.{◌==◌}
 use Rattle.std.specs.Ordering.{nat_cmp}
 use Rattle.std.specs.BTreeSet.{insert_key}
 use Rattle.isle_base.specs.Stable.{contains}
 use Rattle.isle_model.specs.sites.Sites as Sites
 use Rattle.isle_model.specs.sites.Sites.{Site, SiteTerm, SiteTerms, argument, each_term, extractor_call, is_present, match_some_site, pick_of, some_part, unfold_site}
-use Rattle.isle_model.specs.rules.Typed.{TypedPatterns, no_typed_pattern}
+use Rattle.isle_model.specs.rules.Program.{Program}
+use Rattle.isle_model.specs.rules.Typed.{TypedPatterns, no_typed_pattern, TypedRule}
 use Rattle.isle_model.specs.lists.Tables.{Flags}
-use Rattle.isle_model.specs.sites.Limits.{most_arguments, most_fields, most_outputs}
+use Rattle.isle_model.specs.sites.Limits.{RuleLimit, arguments_limit, fields_limit, first_limit, most_arguments, most_fields, most_outputs, outputs_limit, sites_after_rule, sites_limit}
+use Rattle.isle_model.specs.sites.RuleSets.{StandFor}
 use Rattle.isle_model.specs.sites.Demands.{Visit, Valued, valued, visit_call, call_result, Opened, opened, open_call, output_sites, part_sites, pattern_count, with_sites, asking, asking_all, equating, iterating, making, unwraps}
 use Rattle.isle_model.specs.sites.Closure.{Unreachability, conflict, conflicts_met, before_closing, field_terms}
 use Rattle.isle_base.specs.declared.syntax.Limit.{Limit}
@@ -74,6 +76,26 @@ pub record Makes (before : List SiteTerm) (old new : RuleSetBuilder) (v : Visit)
 abbrev pub EndsBefore : List SiteTerm → RuleSetBuilder → Visit → VisitFault → Type 0
 EndsBefore before b v e = ForWantOfRoom (IsTable b.table × AreFirst (built_sites b) (with_sites before v.demands.made)) e
 
+-- a builder has these sites
+pub record HasSites (b : RuleSetBuilder) (terms : List SiteTerm) : Type 0 where
+  pub table : IsTable b.table
+  pub stand : StandFor (built_sites b) terms
+
+-- of the limits that a rule passes, after the sites of the rules before, a builder met this one first, and has the sites that
+-- were made until then
+pub record MeetsLimit (p : Program) (before : List SiteTerm) (r : TypedRule) (b : RuleSetBuilder) (l : RuleLimit) : Type 0 where
+  pub first : first_limit p before r ≡ Some l
+  pub sites : HasSites b (sites_after_rule p before r)
+
+-- why the visit of a rule ended early: memory was refused, or a limit was met
+abbrev pub EndsAtLimit : Program → List SiteTerm → TypedRule → RuleSetBuilder → VisitFault → Type 0
+EndsAtLimit p before r b (Faults.Memory e) = Unit {0}
+EndsAtLimit p before r b (Faults.Limit Limits.Fields) = MeetsLimit p before r b fields_limit
+EndsAtLimit p before r b (Faults.Limit Limits.Outputs) = MeetsLimit p before r b outputs_limit
+EndsAtLimit p before r b (Faults.Limit Limits.Arguments) = MeetsLimit p before r b arguments_limit
+EndsAtLimit p before r b (Faults.Limit Limits.Sites) = MeetsLimit p before r b sites_limit
+EndsAtLimit p before r b _ = ⊥
+
 -- a builder has gone on by making sites, which have these numbers
 pub record MakesAll (before : List SiteTerm) (old new : RuleSetBuilder) (v : Visit) (us : List SiteTerm) (ns : List ℕ) : Type 0 where
   pub goes : GoesTo before old new (making us v)
@@ -88,10 +110,14 @@ pub record OpensTo (before : List SiteTerm) (old new : RuleSetBuilder) (o : Open
   pub goes : GoesTo before old new o.visit
   pub inputs : AreSitesOf new o.inputs ns
 
--- a builder ended on its way there; or by the limit on the number of parts, where they are too many, and then it stands
--- where this visit does
-abbrev pub EndsOpening : List SiteTerm → RuleSetBuilder → Visit → Limit → Type 0 → Visit → VisitFault → Type 0
-EndsOpening before b w l TooMany v e = EndsBefore before b w e ⊎ ((e ≡ Faults.Limit l) × TooMany × StandsAt before b v)
+-- a builder ended on its way to where a visit stands, or by a limit once it stood there
+abbrev pub EndsBy : List SiteTerm → RuleSetBuilder → Limit → Visit → VisitFault → Type 0
+EndsBy before b l v e = EndsBefore before b v e ⊎ ((e ≡ Faults.Limit l) × StandsAt before b v)
+
+-- a builder that was to open so many parts ended: on its way to where the one visit stands, if there are no more than there
+-- may be; and else by the limit on their number, at the latest where the other stands
+abbrev pub EndsOpening : List SiteTerm → RuleSetBuilder → Visit → Limit → ℕ → ℕ → Visit → VisitFault → Type 0
+EndsOpening before b w l most count v e = ((count ≤ most) × EndsBefore before b w e) ⊎ ((most < count) × EndsBy before b l v e)
 
 -- the outputs of a call are open, where this is what it answers
 abbrev pub outputs_opened : SiteTerm → TypedPatterns → Visit → Opened
@@ -132,16 +158,16 @@ AsksEqual old a b r new =
 abbrev pub OpensFields : Sites.Constraint → ℕ → RuleSetBuilder → ℕ → Result (List ℕ) VisitFault → RuleSetBuilder → Type 0
 OpensFields c count old s r new =
     (before : List SiteTerm) (v : Visit) → StandsAt before old v → s < length (built_sites old)
-    → MatchResult r (OpensTo before old new (fields_opened c (unfold_site (built_sites old) s) v))
-    (EndsOpening before new (fields_opened c (unfold_site (built_sites old) s) v).visit Limits.Fields (most_fields < count) v)
+    → MatchResult r (λ ids. (count ≤ most_fields) × OpensTo before old new (fields_opened c (unfold_site (built_sites old) s) v) ids)
+    (EndsOpening before new (fields_opened c (unfold_site (built_sites old) s) v).visit Limits.Fields most_fields count v)
 
 -- and with a call that opens the outputs of an extractor, so many
 abbrev pub OpensExtractor : ℕ → ℕ → Bool → Bool → RuleSetBuilder → ℕ → Result (List ℕ) VisitFault → RuleSetBuilder → Type 0
 OpensExtractor term count infallible multi old s r new =
     (before : List SiteTerm) (v : Visit) (flags : Flags) (args : TypedPatterns) → StandsAt before old v → s < length (built_sites old) → flags.multi ≡ multi → pattern_count args ≡ count
     → let call = extractor_call term (unfold_site (built_sites old) s) in
-    MatchResult r (OpensTo before old new (open_call flags infallible call args v))
-    (EndsOpening before new (open_call flags infallible call args v).visit Limits.Outputs (most_outputs < count) (open_call flags infallible call no_typed_pattern v).visit)
+    MatchResult r (λ ids. (count ≤ most_outputs) × OpensTo before old new (open_call flags infallible call args v) ids)
+    (EndsOpening before new (open_call flags infallible call args v).visit Limits.Outputs most_outputs count (open_call flags infallible call no_typed_pattern v).visit)
 
 -- the sites that are made for what a constructor's call gives
 abbrev pub value_sites : Flags → SiteTerm → List SiteTerm
@@ -187,7 +213,7 @@ Constructs term pure infallible multi old inputs r new =
 abbrev pub MakesArgument : ℕ → RuleSetBuilder → Result ℕ VisitFault → RuleSetBuilder → Type 0
 MakesArgument i old r new =
     (before : List SiteTerm) (v : Visit) → StandsAt before old v
-    → MatchResult r (λ n. (i < most_arguments) × Makes before old new v (argument i) n) (EndsOpening before new (making (argument i ∷ []) v) Limits.Arguments (most_arguments ≤ i) v)
+    → MatchResult r (λ n. (i < most_arguments) × Makes before old new v (argument i) n) (EndsOpening before new (making (argument i ∷ []) v) Limits.Arguments most_arguments (suc i) v)
 
 -- keys of a set, and these
 abbrev pub with_keys : List ℕ → List ℕ → List ℕ

@@ -1,5 +1,5 @@
 //! What the calls of a pattern's visit make of sites, and ask of them.
-ghost use Rattle.std.specs.Prelude.{◌≡◌, ◌<◌, List, length, vec_len, IfErr, IfOk};
+ghost use Rattle.std.specs.Prelude.{◌≡◌, ◌<◌, ◌≤◌, List, length, vec_len, IfErr, IfOk};
 ghost use Rattle.isle_base.specs.declared.syntax.Limit.TheVariants as Limits;
 ghost use Rattle.isle_model.specs.lists.Tables.{Flags};
 ghost use Rattle.isle_model.specs.rules.Typed.{TypedPatterns, no_typed_pattern};
@@ -73,9 +73,9 @@ impl RuleSetBuilder {
         count: usize,
     ) -> Result<Vec<BindingId>, VisitFault>
         ensures opened { (before : List SiteTerm) (v : Visit) → StandsAt before self.old v → input < length (built_sites self.old)
-            → IfOk result (λ ids. OpensTo before self.old self.new (fields_opened (is_variant ty.0 variant.0 count) (unfold_site (built_sites self.old) input) v) ids.items) }
+            → IfOk result (λ ids. (count ≤ most_fields) × OpensTo before self.old self.new (fields_opened (is_variant ty.0 variant.0 count) (unfold_site (built_sites self.old) input) v) ids.items) }
         ensures full { (before : List SiteTerm) (v : Visit) → StandsAt before self.old v → input < length (built_sites self.old)
-            → IfErr result (EndsOpening before self.new (fields_opened (is_variant ty.0 variant.0 count) (unfold_site (built_sites self.old) input) v).visit Limits.Fields (most_fields < count) v) }
+            → IfErr result (EndsOpening before self.new (fields_opened (is_variant ty.0 variant.0 count) (unfold_site (built_sites self.old) input) v).visit Limits.Fields most_fields count v) }
         ensures count { IfOk result (λ ids. vec_len ids ≡ count) }
     {
         let Ok(fields) = TupleIndex::try_from(count) else {
@@ -101,9 +101,9 @@ impl RuleSetBuilder {
         count: usize,
     ) -> Result<Vec<BindingId>, VisitFault>
         ensures opened { (before : List SiteTerm) (v : Visit) → StandsAt before self.old v → input < length (built_sites self.old)
-            → IfOk result (λ ids. OpensTo before self.old self.new (fields_opened (is_struct ty.0 count) (unfold_site (built_sites self.old) input) v) ids.items) }
+            → IfOk result (λ ids. (count ≤ most_fields) × OpensTo before self.old self.new (fields_opened (is_struct ty.0 count) (unfold_site (built_sites self.old) input) v) ids.items) }
         ensures full { (before : List SiteTerm) (v : Visit) → StandsAt before self.old v → input < length (built_sites self.old)
-            → IfErr result (EndsOpening before self.new (fields_opened (is_struct ty.0 count) (unfold_site (built_sites self.old) input) v).visit Limits.Fields (most_fields < count) v) }
+            → IfErr result (EndsOpening before self.new (fields_opened (is_struct ty.0 count) (unfold_site (built_sites self.old) input) v).visit Limits.Fields most_fields count v) }
         ensures count { IfOk result (λ ids. vec_len ids ≡ count) }
     {
         let Ok(fields) = TupleIndex::try_from(count) else {
@@ -138,9 +138,9 @@ impl RuleSetBuilder {
     // The outputs of a call: one is the site itself, several are its parts, none has no site.
     fn open_outputs(&mut self, site: BindingId, count: usize) -> Result<Vec<BindingId>, VisitFault>
         ensures opened { (before : List SiteTerm) (v : Visit) (args : TypedPatterns) → StandsAt before self.old v → site < length (built_sites self.old) → pattern_count args ≡ count
-            → IfOk result (λ ids. OpensTo before self.old self.new (outputs_opened (unfold_site (built_sites self.old) site) args v) ids.items) }
+            → IfOk result (λ ids. (count ≤ most_outputs) × OpensTo before self.old self.new (outputs_opened (unfold_site (built_sites self.old) site) args v) ids.items) }
         ensures full { (before : List SiteTerm) (v : Visit) (args : TypedPatterns) → StandsAt before self.old v → site < length (built_sites self.old) → pattern_count args ≡ count
-            → IfErr result (EndsOpening before self.new (outputs_opened (unfold_site (built_sites self.old) site) args v).visit Limits.Outputs (most_outputs < count) v) }
+            → IfErr result (EndsOpening before self.new (outputs_opened (unfold_site (built_sites self.old) site) args v).visit Limits.Outputs most_outputs count v) }
         ensures count { IfOk result (λ ids. vec_len ids ≡ count) }
     {
         let Ok(parts) = TupleIndex::try_from(count) else {
@@ -191,11 +191,11 @@ impl RuleSetBuilder {
     ) -> Result<Vec<BindingId>, VisitFault>
         ensures opened { (before : List SiteTerm) (v : Visit) (flags : Flags) (args : TypedPatterns) → StandsAt before self.old v → input < length (built_sites self.old)
             → flags.multi ≡ multi → pattern_count args ≡ count
-            → IfOk result (λ ids. OpensTo before self.old self.new (open_call flags infallible (extractor_call term.0 (unfold_site (built_sites self.old) input)) args v) ids.items) }
+            → IfOk result (λ ids. (count ≤ most_outputs) × OpensTo before self.old self.new (open_call flags infallible (extractor_call term.0 (unfold_site (built_sites self.old) input)) args v) ids.items) }
         ensures full { (before : List SiteTerm) (v : Visit) (flags : Flags) (args : TypedPatterns) → StandsAt before self.old v → input < length (built_sites self.old)
             → flags.multi ≡ multi → pattern_count args ≡ count
             → IfErr result (EndsOpening before self.new (open_call flags infallible (extractor_call term.0 (unfold_site (built_sites self.old) input)) args v).visit
-            Limits.Outputs (most_outputs < count) (open_call flags infallible (extractor_call term.0 (unfold_site (built_sites self.old) input)) no_typed_pattern v).visit) }
+            Limits.Outputs most_outputs count (open_call flags infallible (extractor_call term.0 (unfold_site (built_sites self.old) input)) no_typed_pattern v).visit) }
         ensures count { IfOk result (λ ids. vec_len ids ≡ count) }
     {
         let call = self.make(Binding::Extractor {

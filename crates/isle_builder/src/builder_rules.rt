@@ -1,16 +1,16 @@
 //! What the calls of a rule's visit make of sites, and ask of them.
-ghost use Rattle.std.specs.Prelude.{◌≡◌, ◌<◌, ◌≤◌, ◌++◌, true, List, [], ◌∷◌, Ok, IsTrue, length, map, All, IfErr, IfOk, OnOk};
+ghost use Rattle.std.specs.Prelude.{◌≡◌, ◌<◌, ◌++◌, suc, true, List, [], ◌∷◌, Ok, IsTrue, length, map, All, IfErr, IfOk, OnOk};
 ghost use Rattle.isle_base.specs.declared.syntax.Limit.TheVariants as Limits;
 ghost use Rattle.isle_model.specs.sites.Sites.{SiteTerm, argument, sources_at, unfold_site};
 ghost use Rattle.isle_model.specs.lists.Formed.{is_formed_rule};
 ghost use Rattle.isle_model.specs.lists.Visitable.{is_visitable_rule};
 ghost use Rattle.isle_model.specs.rules.Program.{Program, is_partial};
 ghost use Rattle.isle_model.specs.sites.Demands.{Visit, asking_all, making, visit_rule, visit_start};
-ghost use Rattle.isle_model.specs.sites.Limits.{most_arguments};
+ghost use Rattle.isle_model.specs.sites.Limits.{limits_of_shape, most_arguments};
 ghost use Rattle.isle_rules.specs.RuleViews.{rule_view};
 ghost use Rattle.isle_sets.specs.SiteTables.{IsTable};
 ghost use Rattle.isle_terms.specs.TermViews.{term_views};
-ghost use Rattle.isle_builder.specs.VisitedSites.{AsksAnswers, EndsOpening, GoesTo, AreUnwrapped, Makes, MakesArgument, StandsAt, ValuesTo, built_sites, unwrapped_at, with_keys};
+ghost use Rattle.isle_builder.specs.VisitedSites.{AsksAnswers, EndsAtLimit, EndsOpening, GoesTo, AreUnwrapped, Makes, MakesArgument, StandsAt, ValuesTo, built_sites, unwrapped_at, with_keys};
 
 use crate::ruleset_builder::RuleSetBuilder;
 use isle_base::syntax::Limit;
@@ -27,11 +27,14 @@ impl RuleSetBuilder {
     ///
     /// # Errors
     ///
-    /// `Limit` where the rule passes one, `Memory` where memory is refused.
+    /// `Limit` where the rule passes one: the one that the visit meets first. The sites that were made until then stay, where
+    /// one would be one past 65,536 the first 65,536. `Memory` where memory is refused.
     pub fn visit_rule(&mut self, rule: &Rule, termenv: &TermEnv) -> Result<BindingId, VisitFault>
         requires visitable { IsTrue (is_visitable_rule (term_views termenv.now.terms.items) (rule_view rule.now)) }
         ensures visited { (p : Program) (before : List SiteTerm) → p.terms ≡ term_views termenv.now.terms.items → is_formed_rule p (rule_view rule.now) ≡ true → StandsAt before self.old visit_start
-            → IfOk result (ValuesTo before self.old self.new (visit_rule p (rule_view rule.now))) }
+            → IfOk result (λ n. ValuesTo before self.old self.new (visit_rule p (rule_view rule.now)) n × (limits_of_shape p (rule_view rule.now) ≡ [])) }
+        ensures limit { (p : Program) (before : List SiteTerm) → p.terms ≡ term_views termenv.now.terms.items → is_formed_rule p (rule_view rule.now) ≡ true → StandsAt before self.old visit_start
+            → IfErr result (EndsAtLimit p before (rule_view rule.now) self.new) }
     {
         let value = rule.visit(self.alloc, self, termenv)?;
         let partial = may_give_nothing(termenv, rule.root_term);
@@ -41,7 +44,7 @@ impl RuleSetBuilder {
     // The site of an argument.
     fn make_argument(&mut self, index: usize) -> Result<BindingId, VisitFault>
         ensures made { (before : List SiteTerm) (v : Visit) → StandsAt before self.old v → IfOk result (λ n. (index < most_arguments) × Makes before self.old self.new v (argument index) n) }
-        ensures full { (before : List SiteTerm) (v : Visit) → StandsAt before self.old v → IfErr result (EndsOpening before self.new (making (argument index ∷ []) v) Limits.Arguments (most_arguments ≤ index) v) }
+        ensures full { (before : List SiteTerm) (v : Visit) → StandsAt before self.old v → IfErr result (EndsOpening before self.new (making (argument index ∷ []) v) Limits.Arguments most_arguments (suc index) v) }
     {
         let Ok(index) = TupleIndex::try_from(index) else {
             return Err(VisitFault::Limit(Limit::Arguments));

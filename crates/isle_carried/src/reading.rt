@@ -53,7 +53,7 @@ pub fn read_carried(
     number_names(tyenv, defs)?;
     let mut errors = Vec::new(alloc);
     let mut rules = elaborate_rules(alloc, tyenv, &table, defs, &mut errors)?;
-    name_rules(&table.terms, &mut rules);
+    name_rules(&table.terms, &mut rules)?;
     let rule_map = map_names(alloc, tyenv, &rules, &mut errors)?;
     check_made(tyenv, &table.terms, &mut errors)?;
     if !errors.is_empty() {

@@ -4,6 +4,7 @@ mod Copies
 pub mod Defaults
 pub mod MapSteps
 pub mod NameSteps
+pub mod CountSteps
 pub mod DefinedSteps
 mod UsedTerms
 pub mod BoundVars

@@ -1,5 +1,6 @@
 -- What naming one rule after another does.
-use Rattle.std.specs.Prelude.{◌≡◌, ℕ, Bool, ◌||◌, ◌⊎◌, nat_eq, List, Option, Some, None, option_map, is_some, All, IsTrue, if◌then◌else◌}
+use Rattle.std.specs.Prelude.{◌≡◌, ℕ, ◌<◌, Bool, ◌||◌, ◌⊎◌, nat_eq, List, length, count_by, Option, Some, None, option_map, is_some, slice_get, All, IsTrue, if◌then◌else◌}
+use Rattle.std.specs.Bool.{◌==◌}
 use Rattle.isle_base.specs.declared.syntax.Error.{Error}
 use Rattle.isle_base.specs.Stable.{Entries, look_up}
 use Rattle.isle_model.specs.lists.Names.{IsDistinct}
@@ -11,6 +12,11 @@ use Rattle.isle_types.specs.declared.ids.RuleId.{RuleId}
 use Rattle.isle_types.specs.Envs.{same_symbol, symbol}
 use Rattle.isle_terms.specs.Terms.{has_constructor_term, has_extractor_term}
 use Rattle.isle_rules.specs.Noting.{NotesMore}
+
+-- how many of the rules each of so many terms has, by the terms' ids
+pub record AreCounts (terms : ℕ) (rules : List TypedRule) (counts : List ℕ) : Type 0 where
+  pub len : length counts ≡ terms
+  pub each : (t : ℕ) → t < terms → slice_get counts t ≡ Some (count_by (λ q. q.root_term == t) rules)
 
 -- the rule of the name of a number
 abbrev pub rule_in : Entries Sym RuleId → ℕ → Option ℕ

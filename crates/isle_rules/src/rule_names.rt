@@ -1,11 +1,11 @@
 //! The names of typed rules, and the terms that have none.
 
-ghost use Rattle.std.specs.Prelude.{◌≡◌, ℕ, IfOk, OnOk, All, IsTrue, if◌then◌else◌, not, ◌&&◌, is_some, count_by, option_map, map};
-ghost use Rattle.std.specs.Bool.{◌==◌};
+ghost use Rattle.std.specs.Prelude.{◌≡◌, List, IfOk, OnOk, OnErr, IsTrue, length, option_map};
 ghost use Rattle.isle_model.specs.lists.Elaborated.{named_rule, named_rules, term_name};
+ghost use Rattle.isle_model.specs.rules.Typed.{TypedRule};
 ghost use Rattle.isle_terms.specs.TermViews.{term_view, term_views};
 ghost use Rattle.isle_rules.specs.Elaborating.{Checks};
-ghost use Rattle.isle_rules.specs.RuleNaming.{MapsNames, NamesRule, is_defined_term, AreDefined};
+ghost use Rattle.isle_rules.specs.RuleNaming.{AreCounts, MapsNames, NamesRule, is_defined_term, AreDefined};
 ghost use Rattle.isle_rules.specs.RuleViews.{rule_view, rule_views};
 
 use crate::reports::{report, text_of};
@@ -17,30 +17,44 @@ use isle_types::{RuleId, Sym, TermId, TypeEnv};
 use std::alloc::{AllocError, Global};
 
 // Gives each rule without a name that is the only one of its term the term's name.
-pub fn name_rules(terms: &[Term], rules: &mut Vec<Rule>)
-    ensures { rule_views rules.new.items ≡ named_rules (term_views terms.now) (rule_views rules.old.items) }
+//
+// # Errors
+//
+// Where memory is refused. Nothing has changed then.
+pub fn name_rules(terms: &[Term], rules: &mut Vec<Rule>) -> Result<(), AllocError>
+    ensures names { OnOk result (rule_views rules.new.items ≡ named_rules (term_views terms.now) (rule_views rules.old.items)) }
+    ensures err { OnErr result (rules.new ≡ rules.old) }
 {
+    let counts = count_rules(terms, rules)?;
     for i in 0..rules.len() {
-        let name = name_for(terms, rules, &rules[i]);
+        let name = name_for(terms, &counts, &rules[i]);
         rules[i].name = name;
     }
+    Ok(())
 }
 
-// The name that a rule has, or gets, among these rules.
-fn name_for(terms: &[Term], rules: &[Rule], rule: &Rule) -> Option<Sym>
-    ensures { option_map (λ s. s.0) result ≡ (named_rule (term_views terms.now) (rule_views rules.now) (rule_view rule.now)).name }
+// How many rules each term has, by the terms' ids. Made once: to count anew for each rule takes the square of their number.
+fn count_rules(terms: &[Term], rules: &Vec<Rule>) -> Result<Vec<usize>, AllocError>
+    ensures { IfOk result (λ counts. AreCounts (length terms.now) (rule_views rules.now.items) counts.items) }
 {
-    if rule.name.is_none() && count_of(rules, rule.root_term) == 1 {
+    let mut counts = vec![in *rules.allocator(); 0; terms.len()]?;
+    for rule in rules {
+        if let Some(count) = counts.get_mut(rule.root_term.index()) {
+            *count += 1;
+        }
+    }
+    Ok(counts)
+}
+
+// The name that a rule has, or gets, among the rules that were counted.
+fn name_for(terms: &[Term], counts: &[usize], rule: &Rule) -> Option<Sym>
+    ensures { (rules : List TypedRule) → AreCounts (length terms.now) rules counts.now
+        → option_map (λ s. s.0) result ≡ (named_rule (term_views terms.now) rules (rule_view rule.now)).name }
+{
+    if rule.name.is_none() && counts.get(rule.root_term.index()) == Some(&1) {
         return name_of_term(terms, rule.root_term);
     }
     rule.name
-}
-
-// How many rules the term has.
-fn count_of(rules: &[Rule], term: TermId) -> usize
-    ensures { result ≡ count_by (λ q. q.root_term == term.0) (rule_views rules.now) }
-{
-    rules.iter().filter(|rule| rule.root_term == term).count()
 }
 
 fn name_of_term(terms: &[Term], term: TermId) -> Option<Sym>

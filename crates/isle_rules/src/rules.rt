@@ -1,10 +1,16 @@
 //! Typed rules and their parts.
 
+ghost use Rattle.std.specs.Prelude.{◌≡◌, IfOk, length, map, string_bytes};
+ghost use Rattle.isle_base.specs.Places.{printed_line};
+ghost use Rattle.isle_model.specs.claims.Questions.{identifier, HasIdentifier};
+ghost use Rattle.isle_types.specs.Envs.{names_of};
+ghost use Rattle.isle_rules.specs.RuleViews.{rule_view};
+
 use crate::exprs::Expr;
 use crate::patterns::Pattern;
-use isle_base::syntax::Pos;
-use isle_types::{RuleId, Sym, TermId, TypeId, VarId};
-use std::alloc::AllocError;
+use isle_base::syntax::{Files, Pos};
+use isle_types::{RuleId, Sym, TermId, TypeEnv, TypeId, VarId};
+use std::alloc::{AllocError, Global};
 
 /// A condition of a rule beyond its arguments: the pattern must match the value of the expression, and binds
 /// variables that what comes later may use.
@@ -65,10 +71,32 @@ pub struct Rule {
     pub name: Option<Sym>,
 }
 
-impl Clone for Rule {
-    ghost use Rattle.std.specs.Prelude.{◌≡◌};
-    ghost use Rattle.isle_rules.specs.RuleViews.{rule_view};
+impl Rule {
+    /// What the rule is referred to by: its name, or the text of its place where it has none. Condition: the name is
+    /// one of `tyenv`, or where there is none the rule's file is one of these. Upstream's `Rule::identifier`.
+    ///
+    /// # Errors
+    ///
+    /// Where memory is refused.
+    pub fn identifier(
+        &self,
+        alloc: Global,
+        tyenv: &TypeEnv,
+        files: &Files,
+    ) -> Result<String, AllocError>
+        requires name { HasIdentifier (names_of tyenv.now) (length files.now.names.items) (rule_view self.now) }
+        requires text { HasIdentifier (names_of tyenv.now) (length files.now.texts.items) (rule_view self.now) }
+        ensures { IfOk result (λ s. string_bytes s
+            ≡ identifier (names_of tyenv.now) (printed_line (map string_bytes files.now.names.items) (map string_bytes files.now.texts.items)) (rule_view self.now)) }
+    {
+        match self.name {
+            Some(name) => String::from_str(alloc, tyenv.text_of(name)),
+            None => self.pos.pretty_print_line(files, alloc),
+        }
+    }
+}
 
+impl Clone for Rule {
     ghost is_clone = { λ r s. rule_view s ≡ rule_view r };
 
     fn clone(&self) -> Result<Rule, AllocError> {

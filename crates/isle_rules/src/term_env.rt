@@ -12,7 +12,7 @@ ghost use Rattle.isle_types.specs.TypeViews.{type_views};
 ghost use Rattle.isle_terms.specs.Whole.{shown_by};
 ghost use Rattle.isle_rules.specs.ErrorViews.{error_views};
 ghost use Rattle.isle_rules.specs.ShownEnvs.{terms_shown_by, environment_shown_by};
-ghost use Rattle.isle_rules.specs.TermEnvs.{term_in_env, variant_term_in};
+ghost use Rattle.isle_rules.specs.TermEnvs.{term_in_env, rule_in_env, variant_term_in};
 ghost use Rattle.std.specs.Prelude.{◌≡◌, Some, IsSome, OnErr, option_map, option_and_then, string_bytes};
 
 use crate::rules::Rule;
@@ -106,6 +106,15 @@ impl TermEnv {
     {
         let sym = tyenv.intern(name)?;
         self.term_map.get(&sym).copied()
+    }
+
+    /// The rule of a name, or None where the name is no rule's. `tyenv` is the environment that the rules
+    /// were read with. Takes no memory. Upstream's `TermEnv::get_rule_by_name`.
+    pub fn get_rule_by_name(&self, tyenv: &TypeEnv, name: &Ident) -> Option<RuleId>
+        ensures { option_map (λ r. r.0) result ≡ option_and_then (rule_in_env self.now) (symbol_of tyenv.now (string_bytes name.now.0)) }
+    {
+        let sym = tyenv.intern(name)?;
+        self.rule_map.get(&sym).copied()
     }
 
     /// The term of a variant, by the ids of the enum and of the variant. Condition: the type is an enum of

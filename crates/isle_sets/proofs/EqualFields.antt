@@ -44,7 +44,7 @@ at_fields f g j (suc n) zero x y e k = (j, sym (some_is (f j) x e), sym (some_is
 at_fields f g j (suc n) (suc i) x y e k = at_fields f g (suc j) n i x y e k
 
 -- the same field of another site stands at its place
-moved_field : (c : Constraint) (u w : SiteTerm) (v : Option VariantId) (place : ℕ) → In (field_terms c u) (field_term v u place)
+pub moved_field : (c : Constraint) (u w : SiteTerm) (v : Option VariantId) (place : ℕ) → In (field_terms c u) (field_term v u place)
     → (i : ℕ) × (slice_get (field_terms c w) i ≡ Some (field_term v w place)) × (slice_get (field_terms c u) i ≡ Some (field_term v u place))
 moved_field (is_variant ty k n) u w (Some v) place h =
     let r = in_fields (variant_field u k) (variant_field w k) 0 n (variant_field u v.0 place) h in
@@ -187,7 +187,7 @@ module _ (sites : List Site) (before : List SiteTerm) (d : Demands) (h : Demande
       ap (class_name (class_names d)) a.is ∙ sym settled
       ∙ ap (class_name (class_names d)) ((λ k. field_term (form k) (term q.source) (place k)) ∙ sym b.is)
 
-  named_as_classes : (a b : ℕ) → class_head ks a ≡ class_head ks b → name a ≡ name b
+  pub named_as_classes : (a b : ℕ) → class_head ks a ≡ class_head ks b → name a ≡ name b
   named_as_classes = least name name_congruent name_equal
 
   -- 3b. the class of a tree: of a field by the class of its site
@@ -203,7 +203,7 @@ module _ (sites : List Site) (before : List SiteTerm) (d : Demands) (h : Demande
   first_part [] q = length sites
   first_part (p ∷ ps) q = if ghosts.eq (part_of_head ks p) q then class_head ks p.field else first_part ps q
 
-  class_of_term : SiteTerm → ℕ
+  pub class_of_term : SiteTerm → ℕ
   class_of_term (variant_field s k i) = first_part parts (B.MatchVariant (class_of_term s) (record { 0 = k }) i)
   class_of_term (struct_field s i) = first_part parts (B.ExtractStruct (class_of_term s) i)
   class_of_term u = head_or (number_below (length sites) u)
@@ -245,7 +245,7 @@ module _ (sites : List Site) (before : List SiteTerm) (d : Demands) (h : Demande
       ap head_or r.1 ∙ ap (class_head ks) (one_number r.0 a r.2 l (r.3 ∙ sym e))
 
   -- a field is of a site that the demands speak of
-  given_spoken : (w x : SiteTerm) → GivesField d w x → Contains (spoken_of d) w
+  pub given_spoken : (w x : SiteTerm) → GivesField d w x → Contains (spoken_of d) w
   given_spoken w x g = contains_from_in (spoken_of d) w (asked_spoken d (w, g.0) (in_from_contains d.constraints (w, g.0) g.1))
 
   variant_given : (w : SiteTerm) (k i : ℕ) → IsMentioned d (variant_field w k i) → GivesField d w (variant_field w k i)
@@ -279,7 +279,7 @@ module _ (sites : List Site) (before : List SiteTerm) (d : Demands) (h : Demande
       ap (first_part parts) (ap q (owner p.source each.source r.2) ∙ is p (class_head ks p.source) r.2 (sym r.3 ∙ each.is))
       ∙ part_found parts (λ x k. k) p i i ∙ ap (class_head ks) (one_number p.field a each.field l (r.3 ∙ sym e))
 
-  known_class : (u : SiteTerm) (a : ℕ) → a < length sites → term a ≡ u → IsMentioned d u → class_of_term u ≡ class_head ks a
+  pub known_class : (u : SiteTerm) (a : ℕ) → a < length sites → term a ≡ u → IsMentioned d u → class_of_term u ≡ class_head ks a
   unfolding class_of_term
   known_class (variant_field w k i) a l e known =
       let g = variant_given w k i known in
@@ -335,7 +335,7 @@ module _ (sites : List Site) (before : List SiteTerm) (d : Demands) (h : Demande
           let l : s.0 < length sites = omega (arith, c, w) in
           (s.0, l, some_is (term s.0) u (sym (v.held.stand.exact s.0 l) ∙ s.1))
 
-  class_fields : (k : Constraint) (a b x y : SiteTerm) (i : ℕ) → class_of_term a ≡ class_of_term b → slice_get (field_terms k a) i ≡ Some x → slice_get (field_terms k b) i ≡ Some y
+  pub class_fields : (k : Constraint) (a b x y : SiteTerm) (i : ℕ) → class_of_term a ≡ class_of_term b → slice_get (field_terms k a) i ≡ Some x → slice_get (field_terms k b) i ≡ Some y
       → class_of_term x ≡ class_of_term y
   unfolding class_of_term
   class_fields (is_variant ty k n) a b x y i e f g =
@@ -349,7 +349,7 @@ module _ (sites : List Site) (before : List SiteTerm) (d : Demands) (h : Demande
   class_fields (is_prim n) a b x y i e f g = absurd (none_some x f)
   class_fields is_present a b x y i e f g = absurd (none_some x f)
 
-  class_respects : RespectsDemands d class_of_term
+  pub class_respects : RespectsDemands d class_of_term
   class_respects = record { given = class_given; fields = λ a b t x y k i e f c g l. class_fields k a b x y i e g l }
 
   -- the classes are those of the closure

@@ -31,7 +31,7 @@ module _ (class : ℕ → ℕ) where
           by true e = ap (λ x. x && not (constraint_eq a.1 b.1)) e ∙ ap not (same_constraint a.1 b.1 (h b (inl refl) (eqb-true (class b.0) (class a.0) e)))
           by false e = ap (λ x. x && not (constraint_eq a.1 b.1)) e
 
-  agree_where : (a : ℕ × Constraint) (bs : List (ℕ × Constraint)) → first_other class a bs ≡ None → Agree a bs
+  pub agree_where : (a : ℕ × Constraint) (bs : List (ℕ × Constraint)) → first_other class a bs ≡ None → Agree a bs
   agree_where a [] e b i c = absurd i
   agree_where a (b ∷ bs) e x i c =
       elim (cases_Bool (differ_in class a b)) [
@@ -159,3 +159,14 @@ module _ (class : ℕ → ℕ) where
 
   pub conflict_is_first : (all : List (ℕ × Constraint)) → conflict_from class all all ≡ conflict_in class all all
   conflict_is_first all = from_is all [] all refl (λ x i. absurd i)
+
+  found_none : (a : ℕ × Constraint) (rest : List Unreachability) (o : Option Constraint) → found_at a rest o ≡ [] → (o ≡ None) × (rest ≡ [])
+  found_none a rest None e = (refl, e)
+  found_none a rest (Some b) e = absurd (not_empty (conflict a.1 b) [] e)
+
+  -- where there is none, no site's class is asked another thing
+  pub none_differs : (all list : List (ℕ × Constraint)) → conflict_in class all list ≡ [] → (a : ℕ × Constraint) → In list a → first_other class a all ≡ None
+  none_differs all [] e a i = absurd i
+  none_differs all (x ∷ list) e a (inl p) =
+      subst (λ (y : ℕ × Constraint). first_other class y all ≡ None) p (found_none x (conflict_in class all list) (first_other class x all) e).0
+  none_differs all (x ∷ list) e a (inr j) = none_differs all list (found_none x (conflict_in class all list) (first_other class x all) e).1 a j

@@ -1,6 +1,7 @@
 pub mod Ascending
 pub mod AskedClasses
 pub mod PartsAdded
+pub mod PartsLeft
 pub mod Rests
 pub mod ClassHeads
 pub mod ClassTests
@@ -8,6 +9,8 @@ pub mod ClosingNumbers
 pub mod ClosingSteps
 pub mod ClosingTaken
 pub mod ClosureConflicts
+pub mod ClosureCycles
+pub mod ClosureVerdicts
 pub mod DueKept
 pub mod EqualFields
 pub mod Equated

@@ -298,13 +298,18 @@ module _ (sites : List Site) (first : SourcesFirst sites) (before : List SiteTer
   find_field s x (is_prim name) n m l e f g i there = absurd there
   find_field s x is_present n m l e f g i there = absurd there
 
-  all_parts : (s x : SiteTerm) → GivesField d s x → Found s x
-  all_parts s x (c, i, there) =
-      let j = in_from_contains d.constraints (s, c) i in
+  -- each constrained site is listed
+  pub listed_number : (s : SiteTerm) (c : Constraint) → In d.constraints (s, c) → (n : ℕ) × (n < length sites) × (term n ≡ s) × In cs (n, c)
+  listed_number s c j =
       let kept = constraints_kept d.constraints once (s, c) j in
       let n = number_of s (in_from_contains (before_closing before d).made s (v.held.asked_made s c (contains_from_in (with_constraints [] d.constraints) (s, c) kept))) in
+      (n.0, n.1, n.2, there_held n.0 s c n.1 n.2 j)
+
+  all_parts : (s x : SiteTerm) → GivesField d s x → Found s x
+  all_parts s x (c, i, there) =
+      let n = listed_number s c (in_from_contains d.constraints (s, c) i) in
       let m = number_of x (in_with_sites before d.made x (inr (in_from_contains d.made x (v.made s x (c, i, there))))) in
-      find_field s x c n.0 m.0 n.1 n.2 m.1 m.2 (there_held n.0 s c n.1 n.2 j) (in_from_contains (field_terms c s) x there)
+      find_field s x c n.0 m.0 n.1 n.2 m.1 m.2 n.3 (in_from_contains (field_terms c s) x there)
 
   pub are_parts : ArePartsOf sites d parts
   are_parts = record { each = each_part; all = all_parts }

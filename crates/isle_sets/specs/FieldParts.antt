@@ -1,6 +1,7 @@
 -- Fields of sites that must be equal, over the numbers of sites.
-use Rattle.std.specs.Prelude.{◌≡◌, ◌≢◌, ℕ, ◌<◌, List, Option, Some, None, Contains, length, slice_get}
+use Rattle.std.specs.Prelude.{◌≡◌, ◌≢◌, ℕ, ◌<◌, List, Option, Some, None, Contains, length, nat_eq, slice_get}
 use Rattle.std.specs.HashMap.{HashMap, get}
+use Rattle.isle_disjointsets.specs.Partition.{IsPartition}
 use Rattle.isle_model.specs.sites.Sites.{Site, Constraint, is_variant, is_struct, SiteTerm, variant_field, struct_field, unfold_site}
 use Rattle.isle_model.specs.sites.Demands.{Demands}
 use Rattle.isle_types.specs.declared.ids.VariantId.{VariantId}
@@ -28,6 +29,13 @@ HaveOneName ks name = (a b : ℕ) → class_head ks a ≡ class_head ks b → na
 abbrev pub AreCongruent : {X : Type 0} → List Part → (ℕ → X) → Type 0
 AreCongruent parts name =
     (p q : Part) → Contains parts p → Contains parts q → p.variant ≡ q.variant → p.place ≡ q.place → name p.source ≡ name q.source → name p.field ≡ name q.field
+
+-- the least classes that hold those before, and in which parts are congruent
+pub record AreClosed (parts : List Part) (before after : List (List ℕ)) : Type 0 where
+  pub partition : IsPartition nat_eq before
+  pub kept : HaveOneName before (class_head after)
+  pub congruent : AreCongruent parts (class_head after)
+  pub least : (name : ℕ → SiteTerm) → AreCongruent parts name → HaveOneName before name → HaveOneName after name
 
 -- two parts that were in two classes are in one
 pub record JoinsMore (parts : List Part) (before after : List (List ℕ)) : Type 0 where

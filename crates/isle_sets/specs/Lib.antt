@@ -6,3 +6,4 @@ pub mod DemandsHeld
 pub mod Closings
 pub mod Verdicts
 pub mod FieldParts
+pub mod Endings

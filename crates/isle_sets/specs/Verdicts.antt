@@ -3,8 +3,8 @@ use Rattle.std.specs.Prelude.{◌≡◌, ◌<◌, ℕ, Bool, ◌&&◌, not, List
 use Rattle.std.specs.Option.{unwrap_or}
 use Rattle.isle_disjointsets.specs.Partition.{set_of}
 use Rattle.isle_model.specs.sites.Sites.{Site, Constraint, SiteTerm, variant_field, struct_field, unfold_site}
-use Rattle.isle_model.specs.sites.Demands.{Demands, constraint_eq, with_sites}
-use Rattle.isle_model.specs.sites.Closure.{Unreachability, conflict, cycle, before_closing, class_names, conflicts_met, field_terms, first_conflict, in_site_order, same_class, spoken_of, with_constrained}
+use Rattle.isle_model.specs.sites.Demands.{Demands, constraint_eq}
+use Rattle.isle_model.specs.sites.Closure.{Unreachability, conflict, cycle, before_closing, class_names, conflicts_met, field_terms, same_class, spoken_of}
 use Rattle.isle_sets.specs.Closings.{AreDemandsOf}
 use Rattle.isle_sets.specs.SiteViews.{constraint_view}
 use Rattle.isle_sets.specs.declared.demanded.Demanded.{Demanded}
@@ -87,8 +87,3 @@ abbrev pub conflict_asked : Option (Constraint × Option Constraint) → List Un
 conflict_asked None = []
 conflict_asked (Some (first, None)) = []
 conflict_asked (Some (first, Some other)) = conflict first other ∷ []
-
--- the conflict of a closure that is reported, by the order of the term's sites
-abbrev pub closure_conflict : List SiteTerm → Demands → List Unreachability
-closure_conflict before d =
-    let constrained = in_site_order (with_constrained (with_sites before d.made) d) d.constraints in first_conflict (class_names d) constrained constrained

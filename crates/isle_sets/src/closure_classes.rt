@@ -1,20 +1,15 @@
 //! The classes of the closure of a rule's demands: sites that must be equal, and the fields of equal sites that are of
 //! one variant or struct.
-ghost use Rattle.std.specs.Prelude.{◌≡◌, ◌≢◌, ◌⊎◌, ◌↔◌, ℕ, List, true, false, nat_eq, Some, Contains, IsTrue, IfOk, OnOk};
+ghost use Rattle.std.specs.Prelude.{◌≡◌, ◌≢◌, ◌⊎◌, ◌↔◌, ℕ, List, true, false, nat_eq, Some, Contains, IfOk, OnOk};
 ghost use Rattle.std.specs.HashMap.{get};
 ghost use Rattle.isle_disjointsets.specs.Partition.{IsPartition};
-ghost use Rattle.isle_model.specs.sites.Demands.{Demands};
 ghost use Rattle.isle_model.specs.sites.Sites.{SiteTerm};
-ghost use Rattle.isle_model.specs.trees.Places.{constraint_at};
-ghost use Rattle.isle_sets.specs.DemandsHeld.{constraint_held};
-ghost use Rattle.isle_sets.specs.FieldParts.{AreCongruent, HaveOneName, IsFieldPart, IsPartAt, IsPartBy, IsPartOfAny, JoinsFirst, JoinsMore, StandsFirst, field_binding, part_of_head};
-ghost use Rattle.isle_sets.specs.Listings.{ascends, sites_of};
+ghost use Rattle.isle_sets.specs.FieldParts.{AreClosed, AreCongruent, HaveOneName, IsFieldPart, IsPartAt, IsPartBy, IsPartOfAny, JoinsFirst, JoinsMore, StandsFirst, field_binding, part_of_head};
 ghost use Rattle.isle_sets.specs.SiteTables.{IsTable, table_sites};
 ghost use Rattle.isle_sets.specs.SiteViews.{constraint_view, constraint_views};
-ghost use Rattle.isle_sets.specs.Verdicts.{AreClassesOf, AreVisited, class_head};
+ghost use Rattle.isle_sets.specs.Verdicts.{class_head};
 ghost use Rattle.isle_sets.specs.contracts.trie_again.BindingPartialEq.TheImpl.{ghosts};
 
-use crate::demanded::Demanded;
 use crate::site_table::SiteTable;
 use crate::trie_again::{Binding, BindingId, Constraint, TupleIndex};
 use isle_disjointsets::disjointsets::DisjointSets;
@@ -33,13 +28,13 @@ pub(crate) fn class_of(classes: &DisjointSets<BindingId>, site: BindingId) -> Bi
     }
 }
 
-// A field of a site: the variant that it is a field of (none for a struct's), its place, and its own site.
+/// A field of a site: the variant that it is a field of (none for a struct's), its place, and its own site.
 #[derive(Clone, Copy)]
-struct Part {
-    source: BindingId,
-    variant: Option<VariantId>,
-    place: TupleIndex,
-    field: BindingId,
+pub(crate) struct Part {
+    pub(crate) source: BindingId,
+    pub(crate) variant: Option<VariantId>,
+    pub(crate) place: TupleIndex,
+    pub(crate) field: BindingId,
 }
 
 // The field of a site, of a variant or of a struct.
@@ -212,8 +207,12 @@ fn add_constrained(
     }
 }
 
-// The fields of all sites that are asked to be of a variant or a struct.
-fn list_parts(
+/// The fields of all sites that are asked to be of a variant or a struct.
+///
+/// # Errors
+///
+/// Where memory is refused.
+pub(crate) fn list_parts(
     alloc: Global,
     table: &SiteTable,
     constraints: &[(BindingId, Constraint)],
@@ -228,26 +227,19 @@ fn list_parts(
     Ok(parts)
 }
 
-/// The classes of the closure of a rule's demands, over the sites that its visit made: sites that must be equal are of
-/// one, and so are the fields of equal sites, place by place. The constraints are the demands', ascending by site.
+/// The least classes that hold these, and in which fields of one place of equal sites are equal.
 ///
 /// # Errors
 ///
 /// Where memory is refused.
 pub(crate) fn close_classes(
     alloc: Global,
-    table: &SiteTable,
-    demanded: &Demanded,
-    constraints: &[(BindingId, Constraint)],
+    equals: &DisjointSets<BindingId>,
+    parts: &[Part],
 ) -> Result<DisjointSets<BindingId>, AllocError>
-    requires table { IsTable table.now }
-    requires ascending { IsTrue (ascends (sites_of constraints.now)) }
-    requires asked { (s : ℕ) → constraint_at (constraint_views constraints.now) s ≡ constraint_held demanded.now s }
-    ensures { IfOk result (λ classes. (before : List SiteTerm) (d : Demands) → AreVisited (table_sites table.now) before d demanded.now
-        → AreClassesOf (table_sites table.now) classes d) }
+    ensures { IfOk result (λ classes. AreClosed parts.now equals.now classes) }
 {
-    let parts = list_parts(alloc, table, constraints)?;
-    let mut classes = demanded.equals.clone()?;
-    join_parts(alloc, &mut classes, &parts)?;
+    let mut classes = equals.clone()?;
+    join_parts(alloc, &mut classes, parts)?;
     Ok(classes)
 }

@@ -5,6 +5,7 @@ mod bindings;
 mod closing;
 mod closure_classes;
 mod constraints;
+mod cycles;
 pub mod demanded;
 mod listed;
 mod overlaps;

@@ -1,14 +1,16 @@
 //! Whether any value can meet what a rule demands: what is asked of the classes of sites that must be equal.
-ghost use Rattle.std.specs.Prelude.{◌≡◌, ℕ, List, None, Some, IfOk, if◌then◌else◌, option_map};
+ghost use Rattle.std.specs.Prelude.{◌≡◌, ℕ, List, [], ◌∷◌, None, Some, IfOk, if◌then◌else◌, option_map};
 ghost use Rattle.std.specs.BTreeMap.{get};
 ghost use Rattle.std.specs.Ordering.{nat_cmp};
-ghost use Rattle.isle_model.specs.sites.Demands.{Demands, constraint_eq};
+ghost use Rattle.isle_model.specs.sites.Closure.{cycle, first_filled, reported};
+ghost use Rattle.isle_model.specs.sites.Demands.{Demands, constraint_eq, with_sites};
 ghost use Rattle.isle_model.specs.sites.Sites.{SiteTerm};
 ghost use Rattle.isle_sets.specs.SiteTables.{IsTable, table_sites};
 ghost use Rattle.isle_sets.specs.SiteViews.{constraint_view, constraint_views};
-ghost use Rattle.isle_sets.specs.Verdicts.{AreVisited, asked_in, asked_view, class_head, closure_conflict, conflict_asked, conflict_in, report_views, with_asked};
+ghost use Rattle.isle_sets.specs.Verdicts.{AreVisited, asked_in, asked_view, class_head, conflict_asked, conflict_in, report_views, with_asked};
 
-use crate::closure_classes::{class_of, close_classes};
+use crate::closure_classes::{class_of, close_classes, list_parts};
+use crate::cycles::has_cycle;
 use crate::demanded::Demanded;
 use crate::overlaps::is_same_constraint;
 use crate::site_table::SiteTable;
@@ -125,18 +127,36 @@ fn find_conflict(
     Ok(None)
 }
 
-// The conflict of the closure of a rule's demands, over the sites that its visit made.
-fn conflict_of_closure(
+// The conflict, if there is one, else a cycle, if there is one.
+fn first_reason(conflict: Option<Unreachable>, cyclic: bool) -> Option<Unreachable>
+    ensures { report_views result ≡ first_filled (report_views conflict) (if cyclic then cycle ∷ [] else []) }
+{
+    match conflict {
+        Some(conflict) => Some(conflict),
+        None if cyclic => Some(Unreachable::Cycle),
+        None => None,
+    }
+}
+
+/// Why no value can meet what a rule demands, if none can, before the demands are closed: a conflict of the closure,
+/// else a cycle. The sites are those that the term's rules made up to this one's visit, which met no conflict.
+///
+/// # Errors
+///
+/// Where memory is refused.
+pub(crate) fn why_unreachable(
     alloc: Global,
     table: &SiteTable,
     demanded: &Demanded,
 ) -> Result<Option<Unreachable>, AllocError>
     requires { IsTable table.now }
     ensures { IfOk result (λ o. (before : List SiteTerm) (d : Demands) → AreVisited (table_sites table.now) before d demanded.now
-        → report_views o ≡ closure_conflict before d) }
+        → report_views o ≡ reported (with_sites before d.made) d) }
 {
     let constraints = demanded.list_constraints(alloc)?;
-    let classes = close_classes(alloc, table, demanded, &constraints)?;
+    let parts = list_parts(alloc, table, &constraints)?;
+    let classes = close_classes(alloc, &demanded.equals, &parts)?;
     let conflict = find_conflict(alloc, &classes, &constraints)?;
-    Ok(conflict)
+    let cyclic = has_cycle(alloc, &classes, parts)?;
+    Ok(first_reason(conflict, cyclic))
 }

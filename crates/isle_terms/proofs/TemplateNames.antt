@@ -5,15 +5,14 @@ use Rattle.std.proofs.lemmas.List.{map-append, take_more}
 use Rattle.std.proofs.lemmas.List.Elements.{All-cons, All-nil, All-contains, All-map, All-weaker, Contains-get_or}
 use Rattle.std.proofs.lemmas.Option.{same_Some}
 use Rattle.std.proofs.lemmas.Simd.{map-map}
-use Rattle.isle_model.specs.lists.Syntax.{Position, Name, PatternTree, var_pattern, bind_pattern, bool_pattern, int_pattern, prim_pattern, term_pattern, wildcard_pattern, and_pattern, macro_arg, PatternTrees, no_pattern, pattern_and}
-use Rattle.isle_model.specs.lists.TermTable.{terms_in, terms_in_all}
+use Rattle.isle_model.specs.lists.Syntax.{Position, Name, PatternTree}
+use Rattle.isle_model.specs.lists.TermTable.{terms_of, terms_in}
 use Rattle.isle_model.proofs.Members.{in_map, from_map}
 use Rattle.isle_base.specs.declared.syntax.Error.{Error}
 use Rattle.isle_base.specs.declared.syntax.Ident.{Ident}
 use Rattle.isle_base.specs.declared.syntax.Pos.{Pos}
 use Rattle.isle_base.specs.Places.{term_view}
 use Rattle.isle_base.specs.SyntaxViews.{name_view}
-use Rattle.isle_base.specs.Patterns.{terms_of, terms_of_all}
 use Rattle.isle_types.specs.declared.ids.TermId.{TermId}
 use Rattle.isle_types.specs.declared.type_env.TypeEnv.{TypeEnv}
 use Rattle.isle_terms.specs.declared.term_table.TermTable.{TermTable}
@@ -21,26 +20,6 @@ use Rattle.isle_terms.specs.Reading.{term_of_name}
 use Rattle.isle_terms.specs.Signing.{Notes}
 use Rattle.isle_terms.specs.Templating.{AddsFound, AreArguments, AreFound, HaveUnknown, IsFoundTerm}
 use Rattle.isle_terms.proofs.Noting.{both_note, notes_as}
-
--- the names of the terms of a pattern, without where they stand
-mutual
-  names_of_terms : (p : PatternTree) → map (λ (t : Position × Name). t.1) (terms_of p) ≡ terms_in p
-  names_of_terms (var_pattern v at) = refl
-  names_of_terms (bind_pattern v p at) = names_of_terms p
-  names_of_terms (bool_pattern b at) = refl
-  names_of_terms (int_pattern n at) = refl
-  names_of_terms (prim_pattern v at) = refl
-  names_of_terms (term_pattern v ps at) = ap (λ l. v ∷ l) (names_of_all ps)
-  names_of_terms (wildcard_pattern at) = refl
-  names_of_terms (and_pattern ps at) = names_of_all ps
-  names_of_terms (macro_arg n at) = refl
-
-  names_of_all : (ps : PatternTrees) → map (λ (t : Position × Name). t.1) (terms_of_all ps) ≡ terms_in_all ps
-  names_of_all no_pattern = refl
-  names_of_all (pattern_and p ps) =
-      map-append (λ (t : Position × Name). t.1) (terms_of p) (terms_of_all ps)
-      ∙ ap (λ l. l ++ map (λ (t : Position × Name). t.1) (terms_of_all ps)) (names_of_terms p)
-      ∙ ap (λ l. terms_in p ++ l) (names_of_all ps)
 
 -- the term of one more name
 pub next_found : {X : Type 0} (f : X → Name) (env : TypeEnv) (table : TermTable) (xs : List X) (i : ℕ) (x : X) → i < length xs → x ≡ get_or xs i x → (first es es' : List Error) (found found' : List TermId)
@@ -106,4 +85,3 @@ pub named_terms : (ts old : List (Pos × Bor Ident)) (p : PatternTree) → map (
 named_terms ts old p h none =
     sym (map-map (λ (t : Position × Name). t.1) (λ (t : Pos × Bor Ident). term_view t.0 t.1.now) ts)
     ∙ ap (map (λ (t : Position × Name). t.1)) (h ∙ ap (λ l. map (λ (t : Pos × Bor Ident). term_view t.0 t.1.now) l ++ terms_of p) none)
-    ∙ names_of_terms p

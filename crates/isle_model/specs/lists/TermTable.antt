@@ -160,17 +160,21 @@ abbrev mutual
 abbrev pub extractor_template : ExtractorTree → PatternTree
 extractor_template e = template (map (λ n. n.text) e.args) e.template
 
--- the terms that a pattern names, an outer one before its parts
+-- the terms that a pattern names, each with where it stands, an outer one before its parts
 abbrev mutual
-  pub terms_in : PatternTree → List Name
-  terms_in (bind_pattern name p at) = terms_in p
-  terms_in (term_pattern term ps at) = term ∷ terms_in_all ps
-  terms_in (and_pattern ps at) = terms_in_all ps
-  terms_in _ = []
+  pub terms_of : PatternTree → List (Position × Name)
+  terms_of (bind_pattern name p at) = terms_of p
+  terms_of (term_pattern term ps at) = (at, term) ∷ terms_of_all ps
+  terms_of (and_pattern ps at) = terms_of_all ps
+  terms_of _ = []
 
-  pub terms_in_all : PatternTrees → List Name
-  terms_in_all no_pattern = []
-  terms_in_all (pattern_and p ps) = terms_in p ++ terms_in_all ps
+  pub terms_of_all : PatternTrees → List (Position × Name)
+  terms_of_all no_pattern = []
+  terms_of_all (pattern_and p ps) = terms_of p ++ terms_of_all ps
+
+-- their names
+abbrev pub terms_in : PatternTree → List Name
+terms_in p = map (λ t. t.1) (terms_of p)
 
 -- the arguments that a pattern uses as a template, by number
 abbrev mutual

@@ -39,7 +39,7 @@ impl TermEnv {
         let mut work = Progress::new(alloc, Vec::new(alloc));
         let mut rules = self.collect_rules(tyenv, &mut work, defs)?;
         let mut errors = std::mem::replace(&mut work.errors, Vec::new(alloc));
-        name_rules(&self.terms, &mut rules);
+        name_rules(&self.terms, &mut rules)?;
         let rule_map = map_names(alloc, tyenv, &rules, &mut errors)?;
         check_defined(tyenv, &self.terms, &mut errors)?;
         self.check_constructors(tyenv, &mut errors, defs)?;

@@ -21,14 +21,14 @@ elaborate_rules-requires-clause-terms c = terms_more (definition_views c.args.de
 pub returns-then-not-is_empty-clause-answers : goal.returns-then-not-is_empty-clause-answers
 returns-then-not-is_empty-clause-answers c =
     let some = is_something c.check_made.new.errors.len c.is_empty.result c.check_made.new.errors.items c.check_made.new.errors.ok.0 c.is_empty.ensures c.if-not-is_empty.true in
-    let named = c.name_rules.ensures ∙ ap (λ ts. named_rules (term_views ts) (rule_views c.in_ok-rules.rules.items)) c.deref.ensures.value in
+    let named = c.in_ok-name_rules.ensures.names ∙ ap (λ ts. named_rules (term_views ts) (rule_views c.in_ok-rules.rules.items)) c.deref.ensures.value in
     let mapped = subst (λ rs. MapsNames c.elaborate_rules.new.errors.items c.map_names.new.errors.items (rule_views rs) c.in_ok-rule_map.rule_map) c.deref-2.ensures.value c.in_ok-rule_map.ensures in
     let made = subst (λ ts. Checks c.map_names.new.errors.items c.check_made.new.errors.items (AreMade (term_views ts))) c.deref-3.ensures.value c.in_ok-check_made.ensures in
     (some, λ v. at_err (definition_views c.args.defs.now) c.requires.valid c.in_ok-table.ensures.answers.0 c.in_ok-table.table.terms.items c.in_ok-table.ensures.answers.1.1.terms c.in_ok-rules.rules.items c.name_rules.new.rules.items named c.in_ok-rule_map.rule_map _ _ _ _ c.in_ok-rules.ensures mapped made c.new-errors.ensures.items some v.0 v.1)
 
 pub returns-then-not-is_empty-clause-no_limit : goal.returns-then-not-is_empty-clause-no_limit
 returns-then-not-is_empty-clause-no_limit c =
-    let named = c.name_rules.ensures ∙ ap (λ ts. named_rules (term_views ts) (rule_views c.in_ok-rules.rules.items)) c.deref.ensures.value in
+    let named = c.in_ok-name_rules.ensures.names ∙ ap (λ ts. named_rules (term_views ts) (rule_views c.in_ok-rules.rules.items)) c.deref.ensures.value in
     let mapped = subst (λ rs. MapsNames c.elaborate_rules.new.errors.items c.map_names.new.errors.items (rule_views rs) c.in_ok-rule_map.rule_map) c.deref-2.ensures.value c.in_ok-rule_map.ensures in
     let made = subst (λ ts. Checks c.map_names.new.errors.items c.check_made.new.errors.items (AreMade (term_views ts))) c.deref-3.ensures.value c.in_ok-check_made.ensures in
     plain_end (definition_views c.args.defs.now) c.requires.valid c.in_ok-table.ensures.answers.0 c.in_ok-table.table.terms.items c.in_ok-table.ensures.answers.1.1.terms c.in_ok-rules.rules.items c.name_rules.new.rules.items named c.in_ok-rule_map.rule_map _ _ _ _ c.in_ok-rules.ensures mapped made
@@ -37,7 +37,7 @@ returns-then-not-is_empty-clause-no_limit c =
 pub returns-clause-answers : goal.returns-clause-answers
 returns-clause-answers c =
     let none = is_nothing c.check_made.new.errors.len c.is_empty.result c.check_made.new.errors.items c.check_made.new.errors.ok.0 c.is_empty.ensures c.if-not-is_empty.false in
-    let named = c.name_rules.ensures ∙ ap (λ ts. named_rules (term_views ts) (rule_views c.in_ok-rules.rules.items)) c.deref.ensures.value in
+    let named = c.in_ok-name_rules.ensures.names ∙ ap (λ ts. named_rules (term_views ts) (rule_views c.in_ok-rules.rules.items)) c.deref.ensures.value in
     let mapped = subst (λ rs. MapsNames c.elaborate_rules.new.errors.items c.map_names.new.errors.items (rule_views rs) c.in_ok-rule_map.rule_map) c.deref-2.ensures.value c.in_ok-rule_map.ensures in
     let made = subst (λ ts. Checks c.map_names.new.errors.items c.check_made.new.errors.items (AreMade (term_views ts))) c.deref-3.ensures.value c.in_ok-check_made.ensures in
     let good = at_ok (definition_views c.args.defs.now) c.requires.valid c.in_ok-table.ensures.answers.0 c.in_ok-table.table.terms.items c.in_ok-table.ensures.answers.1.1.terms c.in_ok-rules.rules.items c.name_rules.new.rules.items named c.in_ok-rule_map.rule_map _ _ _ _ c.in_ok-rules.ensures mapped made none in

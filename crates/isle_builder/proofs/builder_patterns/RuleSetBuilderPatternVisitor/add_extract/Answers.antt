@@ -1,4 +1,4 @@
-use Rattle.std.proofs.Common.{◌≡◌, ◌<◌, length, sym, ◌∙◌, subst, arith}
+use Rattle.std.proofs.Common.{◌≡◌, ◌≤◌, length, sym, ◌∙◌, subst, arith}
 use Rattle.std.specs.Prelude.{MatchResult}
 use Rattle.std.proofs.lemmas.List.{length-map}
 use Rattle.isle_base.specs.declared.syntax.Limit.TheVariants as Limits
@@ -22,6 +22,6 @@ returns-clause-steps c before v flags args h l is e =
     let call = extractor_call c.args.term.0 (unfold_site (built_sites old) c.args.input) in
     let wanted = open_call flags c.args.infallible call args v in
     let limited = (open_call flags c.args.infallible call no_typed_pattern v).visit in
-    subst (λ k. MatchResult (listed c.open_extractor.result) (OpensTo before old new wanted) (EndsOpening before new wanted.visit Limits.Outputs (most_outputs < k) limited)) same
-    (listed_both c.open_extractor.result (OpensTo before old new wanted) (EndsOpening before new wanted.visit Limits.Outputs (most_outputs < c.len.result) limited)
+    subst (λ k. MatchResult (listed c.open_extractor.result) (λ ids. (k ≤ most_outputs) × OpensTo before old new wanted ids) (EndsOpening before new wanted.visit Limits.Outputs most_outputs k limited)) same
+    (listed_both c.open_extractor.result (λ ids. (c.len.result ≤ most_outputs) × OpensTo before old new wanted ids) (EndsOpening before new wanted.visit Limits.Outputs most_outputs c.len.result limited)
     (c.open_extractor.ensures.opened before v flags args h l is (e ∙ sym same)) (c.open_extractor.ensures.full before v flags args h l is (e ∙ sym same)))

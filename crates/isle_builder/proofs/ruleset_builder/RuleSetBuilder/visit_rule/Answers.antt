@@ -1,5 +1,8 @@
 use Rattle.std.proofs.Common.{sym, subst}
-use Rattle.std.specs.Prelude.{Ok}
+use Rattle.std.specs.Prelude.{Ok, Err}
+use Rattle.isle_sets.proofs.FullTables.{passed_on}
+use Rattle.isle_builder.specs.VisitedSites.{EndsAtLimit}
+use Rattle.isle_builder.proofs.EndedRules.{rule_ends, result_ends}
 use Rattle.isle_rules.specs.RuleRuns.{RuleRun}
 use Rattle.isle_rules.specs.RuleViews.{rule_view}
 use Rattle.isle_builder.specs.contracts.builder_patterns.RuleSetBuilderPatternVisitor.TheImpl as Patterns
@@ -8,11 +11,25 @@ use Rattle.isle_builder.specs.contracts.builder_rules.RuleSetBuilderRuleVisitor.
 use Rattle.isle_builder.proofs.VisitedRules.{rule_visited, rule_finished}
 use Rattle.isle_builder.proofs.ruleset_builder.RuleSetBuilder.visit_rule.Goals as goal
 
-pub returns : goal.returns
-returns c = record {
-  visited = λ p before same formed h.
-      let r = rule_view c.args.rule.now in
-      let run = subst (λ ts. RuleRun Rules.ghosts Patterns.ghosts Exprs.ghosts ts r c.args.self.now (Ok c.in_ok-value.value) c.visit.new.visitor) (sym same) c.in_ok-value.ensures.run in
-      rule_finished p before r c.args.self.now c.visit.new.visitor c.finish.new.self c.in_ok-value.value c.may_give_nothing-partial.result c.finish.result (c.may_give_nothing-partial.ensures p same)
-      (rule_visited p before r c.args.self.now c.in_ok-value.value c.visit.new.visitor formed run h) (λ w k l. c.finish.ensures.finished before w k l);
-}
+pub returns-clause-visited : goal.returns-clause-visited
+returns-clause-visited c p before same formed h =
+    let r = rule_view c.args.rule.now in
+    let run = subst (λ ts. RuleRun Rules.ghosts Patterns.ghosts Exprs.ghosts ts r c.args.self.now (Ok c.in_ok-value.value) c.visit.new.visitor) (sym same) c.in_ok-value.ensures.run in
+    let seen = rule_visited p before r c.args.self.now c.in_ok-value.value c.visit.new.visitor formed run h in
+    rule_finished p before r c.args.self.now c.visit.new.visitor c.finish.new.self c.in_ok-value.value c.may_give_nothing-partial.result c.finish.result (c.may_give_nothing-partial.ensures p same)
+    seen.0 (λ w k l. c.finish.ensures.finished before w k l) seen.1
+
+pub returns-clause-limit : goal.returns-clause-limit
+returns-clause-limit c p before same formed h =
+    let r = rule_view c.args.rule.now in
+    let run = subst (λ ts. RuleRun Rules.ghosts Patterns.ghosts Exprs.ghosts ts r c.args.self.now (Ok c.in_ok-value.value) c.visit.new.visitor) (sym same) c.in_ok-value.ensures.run in
+    let seen = rule_visited p before r c.args.self.now c.in_ok-value.value c.visit.new.visitor formed run h in
+    result_ends p before r c.args.self.now c.visit.new.visitor c.finish.new.self c.in_ok-value.value c.may_give_nothing-partial.result c.finish.result (c.may_give_nothing-partial.ensures p same)
+    seen.0 (λ w k l. c.finish.ensures.full before w k l) seen.1
+
+pub returns-in_err-value-clause-limit : goal.returns-in_err-value-clause-limit
+returns-in_err-value-clause-limit c p before same formed h =
+    let r = rule_view c.args.rule.now in
+    let e = c.in_err-value.field-0.0 in
+    let run = subst (λ ts. RuleRun Rules.ghosts Patterns.ghosts Exprs.ghosts ts r c.args.self.now (Err e) c.visit.new.visitor) (sym same) c.in_err-value.ensures.run in
+    passed_on c.from_residual.result e (EndsAtLimit p before r c.visit.new.visitor) c.from_residual.ensures (rule_ends p before r c.args.self.now e c.visit.new.visitor formed run h)

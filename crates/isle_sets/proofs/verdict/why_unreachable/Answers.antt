@@ -1,0 +1,26 @@
+use Rattle.std.proofs.Common.{◌≡◌, ◌↔◌, Contains, ap, ◌∙◌, subst}
+use Rattle.isle_sets.specs.FieldParts.{AreClosed, IsPartOfAny}
+use Rattle.isle_sets.specs.Listings.{ascends}
+use Rattle.isle_sets.specs.SiteTables.{table_sites}
+use Rattle.isle_sets.specs.SiteViews.{constraint_views}
+use Rattle.isle_sets.specs.Verdicts.{class_head, conflict_in, report_views}
+use Rattle.isle_sets.specs.declared.closure_classes.Part.{Part}
+use Rattle.isle_sets.proofs.ClosureVerdicts.{verdict_is}
+use Rattle.isle_sets.proofs.ListedParts.{views_sites}
+use Rattle.isle_sets.proofs.verdict.why_unreachable.Goals as goal
+
+pub returns : goal.returns
+returns c before d v =
+    let sites = table_sites c.args.table.now in
+    let h = c.args.demanded.now in
+    let listed = c.in_ok-constraints.constraints.items in
+    let told = c.in_ok-constraints.ensures in
+    let parts = c.in_ok-parts.parts.items in
+    let ks = c.in_ok-classes.classes in
+    let all = subst (λ l. (p : Part) → Contains parts p ↔ IsPartOfAny sites (constraint_views l) p) c.deref.ensures.value c.in_ok-parts.ensures in
+    let closed = subst (λ l. AreClosed l h.equals ks) c.deref-2.ensures.value c.in_ok-classes.ensures in
+    let reported = report_views c.in_ok-conflict.conflict in
+    let conflict = subst (λ l. reported ≡ conflict_in (class_head ks) (constraint_views l) (constraint_views l)) c.deref-3.ensures.value c.in_ok-conflict.ensures in
+    c.first_reason.ensures
+    ∙ verdict_is sites c.requires.sources before d h v (constraint_views listed) (ap ascends (views_sites listed) ∙ told.ascending) told.asked parts all ks closed reported c.in_ok-cyclic.cyclic conflict
+    c.in_ok-cyclic.ensures.cycle c.in_ok-cyclic.ensures.none
