@@ -5,3 +5,4 @@ pub mod Expressions
 pub mod Places
 pub mod Stable
 pub mod ErrorViews
+pub mod Noting

@@ -6,9 +6,9 @@ use Rattle.isle_model.specs.claims.Environments.{TypesRead, IsLeftByRefusal}
 use Rattle.isle_base.specs.declared.syntax.Error.{Error}
 use Rattle.isle_types.specs.declared.type_env.TypeEnv.{TypeEnv}
 use Rattle.isle_types.specs.EnvViews.{environment_view}
-use Rattle.isle_types.specs.Reading.{Reports}
+use Rattle.isle_base.specs.Noting.{NotesMore}
 use Rattle.isle_types.specs.VariantReading.{ReportsIf}
-use Rattle.isle_types.proofs.Reports.{both}
+use Rattle.isle_base.proofs.Noted.{both}
 use Rattle.isle_terms.specs.declared.term_table.TermTable.{TermTable}
 use Rattle.isle_terms.specs.Reading.{IsWithin}
 use Rattle.isle_terms.specs.Signing.{Notes, ReadsTerms}
@@ -16,8 +16,8 @@ use Rattle.isle_terms.specs.Signing.{Notes, ReadsTerms}
 -- one thing after another
 pub both_note : (A B W V : Type 0) (es mid es' : List Error) → Notes es mid A W → Notes mid es' B V → Notes es es' (A × B) (W ⊎ V)
 both_note A B W V es mid es' (inl a) (inl b) = inl (b.0 ∙ a.0, (a.1, b.1))
-both_note A B W V es mid es' (inl a) (inr b) = inr (subst (λ xs. Reports xs es') a.0 b.0, inr b.1)
-both_note A B W V es mid es' (inr a) (inl b) = inr (subst (Reports es) (sym b.0) a.0, inl a.1)
+both_note A B W V es mid es' (inl a) (inr b) = inr (subst (λ xs. NotesMore xs es') a.0 b.0, inr b.1)
+both_note A B W V es mid es' (inr a) (inl b) = inr (subst (NotesMore es) (sym b.0) a.0, inl a.1)
 both_note A B W V es mid es' (inr a) (inr b) = inr (both es mid es' a.0 b.0, inl a.1)
 
 -- the same, said in other words

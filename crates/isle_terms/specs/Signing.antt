@@ -13,7 +13,7 @@ use Rattle.isle_base.specs.declared.syntax.Error.{Error}
 use Rattle.isle_types.specs.declared.type_env.TypeEnv.{TypeEnv}
 use Rattle.isle_types.specs.Envs.{names_of, IsInterned}
 use Rattle.isle_types.specs.EnvViews.{environment_view}
-use Rattle.isle_types.specs.Reading.{Reports}
+use Rattle.isle_base.specs.Noting.{NotesMore}
 use Rattle.isle_types.specs.Stages.{ArePlain}
 use Rattle.isle_terms.specs.declared.term_table.TermTable.{TermTable}
 use Rattle.isle_terms.specs.TermTables.{term_at}
@@ -23,7 +23,7 @@ use Rattle.isle_terms.specs.Stages.{Finds, place_among, HasNoConverter}
 
 -- nothing was noted and this is right, or something was, and this is wrong
 abbrev pub Notes : List Error → List Error → Type 0 → Type 0 → Type 0
-Notes es es' Right Wrong = ((es' ≡ es) × Right) ⊎ (Reports es es' × Wrong)
+Notes es es' Right Wrong = ((es' ≡ es) × Right) ⊎ (NotesMore es es' × Wrong)
 
 -- there is no error so far, or the definitions, read with these types, have no term table
 abbrev pub SoFarByTypes : KnownTypes → List Definition → List Error → Type 0 → Type 0
