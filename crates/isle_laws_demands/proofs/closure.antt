@@ -6,6 +6,7 @@ pub mod Ending
 pub mod LimitsPassed
 pub mod LimitsReported
 pub mod Names
+pub mod Owners
 pub mod Reports
 pub mod Settled
 pub mod Verdict
