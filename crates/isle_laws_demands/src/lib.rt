@@ -99,7 +99,6 @@ pub fn reports_are_exact()
 {}
 
 /// No conflict is met exactly where the constraints of each site are one.
-#[tactic(auto, using(crate::proofs::closure::Reports::conflict_free_constraints_agree_lem))]
 pub fn conflict_free_constraints_agree()
     ensures { ConflictFreeConstraintsAgree }
 {}
