@@ -1,11 +1,10 @@
 -- In the demands of a rule each field that is spoken of is given by a constraint, and each that is given is made.
 use Rattle.std.proofs.Common.{◌≡◌, ◌⊎◌, ℕ, suc, Bool, true, false, if◌then◌else◌, List, [], ◌∷◌, ◌++◌, Some, None, Contains, flat_map, refl, sym, ap, subst, inl, inr, ◌∙◌}
-use Rattle.std.proofs.lemmas.Bool.{cases_Bool, cond-true, cond-false}
 use Rattle.isle_model.specs.lists.Tables.{Flags}
 use Rattle.isle_model.specs.rules.Program.{Program, Kind, a_variant, a_struct, a_call, unknown, kind}
 use Rattle.isle_model.specs.rules.Typed.{TypedPatterns, no_typed_pattern, typed_pattern_and, TypedRule}
-use Rattle.isle_model.specs.sites.Sites.{Constraint, is_variant, is_struct, is_bool, is_int, is_prim, is_present, SiteTerm, bool_term, int_term, prim_term, argument, extractor_call, constructor_call, pick_of, variant_made, variant_field, struct_made, struct_field, some_made, some_part, tuple_part, no_site, SiteTerms, no_site_term, site_term_and}
-use Rattle.isle_model.specs.sites.Demands.{Demands, demands_of, site_term_eq, Visit, making, asking, equating, iterating, calling, from_to, pattern_count, opened, output_sites, part_sites, open_call, open_term, ValuedAll, valued, call_result, call_sites, where_multi, visit_call, visit_term, unwraps, unwraps_all, asking_all}
+use Rattle.isle_model.specs.sites.Sites.{Constraint, is_variant, is_struct, is_present, SiteTerm, bool_term, int_term, prim_term, argument, extractor_call, constructor_call, pick_of, variant_made, variant_field, struct_made, struct_field, some_made, some_part, tuple_part, no_site, SiteTerms, no_site_term, site_term_and}
+use Rattle.isle_model.specs.sites.Demands.{Demands, demands_of, Visit, making, asking, equating, iterating, calling, from_to, pattern_count, opened, output_sites, part_sites, open_call, open_term, ValuedAll, valued, call_result, call_sites, where_multi, visit_call, visit_term, unwraps, unwraps_all, asking_all}
 use Rattle.isle_model.specs.sites.Closure.{fields_from, field_terms, with_owners, spoken_of}
 use Rattle.isle_model.proofs.Elements.{In, in_from_contains, contains_from_in, some_is, none_some, in_left, in_right, in_either, from_flat_map}
 use Rattle.isle_laws_demands.specs.FieldLaws.{IsGiven, FieldsAreGiven}
@@ -13,7 +12,7 @@ use Rattle.isle_laws_demands.proofs.closure.Classes.{with_sites_in}
 use Rattle.isle_laws_demands.proofs.closure.Owners.{owner_of, owner_of_field, owners_of_field, no_other_owner}
 use Rattle.isle_laws_demands.proofs.visits.Patterns.{in_numbers}
 use Rattle.isle_laws_demands.proofs.visits.Visited.{equated, at_left, at_right}
-use Rattle.isle_laws_demands.proofs.visits.WithSites.{IsLeaf, IsConstant, Onward, IsOpened, IsValued, AtEach, KeptWithSites, no_step, then_onward, rule_given}
+use Rattle.isle_laws_demands.proofs.visits.WithSites.{IsLeaf, by_leaf, constant_has_none, by_equating, Onward, IsOpened, IsValued, AtEach, KeptWithSites, no_step, then_onward, rule_given}
 
 -- 1. what is kept
 -- where a site is a field, a constraint of its owner gives it
@@ -107,36 +106,15 @@ equated_on a b v m n h = record {
 }
 
 equating_on : (a b : SiteTerm) (v : Visit) → GivesFields v.demands → IsGivenSite v.demands a → IsGivenSite v.demands b → OnwardGiven v.demands (equating a b v).demands
-equating_on a b v h m n =
-    elim (cases_Bool (site_term_eq a b)) [
-      | inl t ↦ subst (λ (w : Visit). OnwardGiven v.demands w.demands) (sym (cond-true (site_term_eq a b) v (equated a b v) t)) (no_step GivesFields IsGivenSite v.demands h)
-      | inr f ↦ subst (λ (w : Visit). OnwardGiven v.demands w.demands) (sym (cond-false (site_term_eq a b) v (equated a b v) f)) (equated_on a b v m.0 n.0 h)
-    ]
-
-constant_on : (s : SiteTerm) (c : Constraint) (v : Visit) → IsConstant c → GivesFields v.demands → IsGivenSite v.demands s → OnwardGiven v.demands (asking s c v).demands
-constant_on s (is_bool b ty) v l h m = asking_on s (is_bool b ty) v m.0 (λ x i. absurd i) h
-constant_on s (is_int z ty) v l h m = asking_on s (is_int z ty) v m.0 (λ x i. absurd i) h
-constant_on s (is_prim name) v l h m = asking_on s (is_prim name) v m.0 (λ x i. absurd i) h
-constant_on s (is_variant ty variant fields) v l h m = absurd l
-constant_on s (is_struct ty fields) v l h m = absurd l
-constant_on s is_present v l h m = absurd l
+equating_on a b v h m n = by_equating (λ w. OnwardGiven v.demands w.demands) a b v (no_step GivesFields IsGivenSite v.demands h) (equated_on a b v m.0 n.0 h)
 
 leaf_given : (d : Demands) (s : SiteTerm) → IsLeaf s → IsGivenSite d s
-leaf_given d (argument i) l = (no_field_given d.constraints (argument i) refl, λ u k. absurd k)
-leaf_given d (bool_term b ty) l = (no_field_given d.constraints (bool_term b ty) refl, λ u k. absurd k)
-leaf_given d (int_term z ty) l = (no_field_given d.constraints (int_term z ty) refl, λ u k. absurd k)
-leaf_given d (prim_term name) l = (no_field_given d.constraints (prim_term name) refl, λ u k. absurd k)
-leaf_given d (extractor_call t a) l = absurd l
-leaf_given d (constructor_call t args i) l = absurd l
-leaf_given d (pick_of a) l = absurd l
-leaf_given d (variant_made ty variant fields) l = absurd l
-leaf_given d (variant_field a variant i) l = absurd l
-leaf_given d (struct_made ty fields) l = absurd l
-leaf_given d (struct_field a i) l = absurd l
-leaf_given d (some_made a) l = absurd l
-leaf_given d (some_part a) l = absurd l
-leaf_given d (tuple_part a i) l = absurd l
-leaf_given d no_site l = absurd l
+leaf_given d =
+    by_leaf (IsGivenSite d)
+    (λ i. (no_field_given d.constraints (argument i) refl, λ u k. absurd k))
+    (λ b ty. (no_field_given d.constraints (bool_term b ty) refl, λ u k. absurd k))
+    (λ z ty. (no_field_given d.constraints (int_term z ty) refl, λ u k. absurd k))
+    (λ name. (no_field_given d.constraints (prim_term name) refl, λ u k. absurd k))
 
 -- 3. patterns of terms
 outputs_given : (d : Demands) (s : SiteTerm) (args : TypedPatterns) → IsGivenSite d s → (u : SiteTerm) → In (output_sites s args) u → IsGivenSite d u
@@ -259,7 +237,7 @@ fields_kept p = record {
   unbound = λ d. (no_field_given d.constraints no_site refl, λ u i. absurd i);
   leaf = λ s v l h. record { onward = making_on (s ∷ []) v h; site = leaf_given (making (s ∷ []) v).demands s l };
   equal = λ a b v h m n. equating_on a b v h m n;
-  constant = constant_on;
+  constant = λ s c v l h m. asking_on s c v m.0 (λ x i. absurd (constant_has_none c s x l i)) h;
   answers = λ s v h m. asking_all_on (unwraps s) v m.1 h;
   opened = λ t s args v h m. term_opened (kind p t) t s args v h m;
   given = λ t a h m. term_given (kind p t) t a h m;

@@ -1,14 +1,15 @@
 -- What each step of a visit keeps of its demands, and of the sites that it stands at, binds and values, the visits of
 -- patterns, expressions and rules keep.
-use Rattle.std.proofs.Common.{◌≡◌, ℕ, suc, ◌==◌, Bool, true, false, List, [], ◌∷◌, Some, refl, sym, subst, inl, inr}
+use Rattle.std.proofs.Common.{◌≡◌, ℕ, ℤ, suc, ◌==◌, Bool, true, false, List, [], ◌∷◌, Some, refl, sym, subst, inl, inr}
 use Rattle.std.proofs.lemmas.Bool.{cases_Bool, cond-true, cond-false}
 use Rattle.isle_model.specs.rules.Meaning.{look}
 use Rattle.isle_model.specs.rules.Program.{Program, Kind, a_variant, a_struct, a_call, unknown, kind, is_partial}
 use Rattle.isle_model.specs.rules.Typed.{TypedPattern, match_bind, match_var, match_bool, match_int, match_prim, match_term, match_any, match_and, TypedPatterns, no_typed_pattern, typed_pattern_and, TypedExpr, make_term, make_var, make_bool, make_int, make_prim, make_let, TypedExprs, no_typed_expr, typed_expr_and, TypedLets, no_typed_let, typed_let_and, TypedIfLet, TypedRule}
-use Rattle.isle_model.specs.sites.Sites.{Constraint, is_bool, is_int, is_prim, SiteTerm, bool_term, int_term, prim_term, argument, no_site, SiteTerms, no_site_term, site_term_and}
-use Rattle.isle_model.specs.sites.Demands.{Demands, Visit, visit_start, making, asking, equating, binding, or_no_site, var_site, Opened, open_call, open_term, visit_pattern, visit_each, visit_all, Valued, ValuedAll, valued, visit_call, visit_term, visit_expr, visit_exprs, visit_lets, unwraps, asking_all, visit_args, visit_iflets, finished, visit_rule}
+use Rattle.isle_model.specs.sites.Sites.{Constraint, is_variant, is_struct, is_bool, is_int, is_prim, is_present, SiteTerm, bool_term, int_term, prim_term, argument, extractor_call, constructor_call, pick_of, variant_made, variant_field, struct_made, struct_field, some_made, some_part, tuple_part, no_site, SiteTerms, no_site_term, site_term_and}
+use Rattle.isle_model.specs.sites.Demands.{Demands, site_term_eq, Visit, visit_start, making, asking, equating, binding, or_no_site, var_site, Opened, open_call, open_term, visit_pattern, visit_each, visit_all, Valued, ValuedAll, valued, visit_call, visit_term, visit_expr, visit_exprs, visit_lets, unwraps, asking_all, visit_args, visit_iflets, finished, visit_rule}
+use Rattle.isle_model.specs.sites.Closure.{field_terms}
 use Rattle.isle_model.proofs.Elements.{In}
-use Rattle.isle_laws_demands.proofs.visits.Visited.{equating_binds, asked_binds}
+use Rattle.isle_laws_demands.proofs.visits.Visited.{equated, equating_binds, asked_binds}
 
 -- 1. steps
 -- an argument, or a constant that an expression makes
@@ -19,12 +20,47 @@ IsLeaf (int_term z ty) = Unit {0}
 IsLeaf (prim_term name) = Unit {0}
 IsLeaf _ = ⊥
 
+pub by_leaf : (P : SiteTerm → Type 0) → ((i : ℕ) → P (argument i)) → ((b : Bool) (ty : ℕ) → P (bool_term b ty)) → ((z : ℤ) (ty : ℕ) → P (int_term z ty)) → ((name : ℕ) → P (prim_term name))
+    → (s : SiteTerm) → IsLeaf s → P s
+by_leaf P a b c d (argument i) l = a i
+by_leaf P a b c d (bool_term x ty) l = b x ty
+by_leaf P a b c d (int_term z ty) l = c z ty
+by_leaf P a b c d (prim_term name) l = d name
+by_leaf P a b c d (extractor_call t s) l = absurd l
+by_leaf P a b c d (constructor_call t args i) l = absurd l
+by_leaf P a b c d (pick_of s) l = absurd l
+by_leaf P a b c d (variant_made ty variant fields) l = absurd l
+by_leaf P a b c d (variant_field s variant i) l = absurd l
+by_leaf P a b c d (struct_made ty fields) l = absurd l
+by_leaf P a b c d (struct_field s i) l = absurd l
+by_leaf P a b c d (some_made s) l = absurd l
+by_leaf P a b c d (some_part s) l = absurd l
+by_leaf P a b c d (tuple_part s i) l = absurd l
+by_leaf P a b c d no_site l = absurd l
+
 -- a constraint that asks for a constant
 abbrev pub IsConstant : Constraint → Type 0
 IsConstant (is_bool b ty) = Unit {0}
 IsConstant (is_int z ty) = Unit {0}
 IsConstant (is_prim name) = Unit {0}
 IsConstant _ = ⊥
+
+-- constants have no fields
+pub constant_has_none : (c : Constraint) (s x : SiteTerm) → IsConstant c → In (field_terms c s) x → ⊥
+constant_has_none (is_bool b ty) s x l i = i
+constant_has_none (is_int z ty) s x l i = i
+constant_has_none (is_prim name) s x l i = i
+constant_has_none (is_variant ty variant fields) s x l i = l
+constant_has_none (is_struct ty fields) s x l i = l
+constant_has_none is_present s x l i = l
+
+-- what holds with an equality more, or as it was
+pub by_equating : (P : Visit → Type 0) (a b : SiteTerm) (v : Visit) → P v → P (equated a b v) → P (equating a b v)
+by_equating P a b v h k =
+    elim (cases_Bool (site_term_eq a b)) [
+      | inl t ↦ subst P (sym (cond-true (site_term_eq a b) v (equated a b v) t)) h
+      | inr f ↦ subst P (sym (cond-false (site_term_eq a b) v (equated a b v) f)) k
+    ]
 
 -- a fact of demands, and one of sites where demands stand
 module _ (R : Demands → Type 0) (Q : Demands → SiteTerm → Type 0) where
