@@ -10,7 +10,6 @@ pub mod Owners
 pub mod Reports
 pub mod Settled
 pub mod Verdict
-pub mod Visited
 pub mod VisitedRules
 pub mod Whole
 pub mod WholeClosing
