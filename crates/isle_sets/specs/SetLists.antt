@@ -1,0 +1,21 @@
+-- Disjoint sets of sites, as they are listed one after another.
+use Rattle.std.specs.Prelude.{◌≡◌, ℕ, ◌<◌, true, ◌||◌, List, nat_eq, take, All, Contains, IsTrue}
+use Rattle.std.specs.List.{flat_map}
+use Rattle.std.specs.Ordering.{nat_cmp}
+use Rattle.std.specs.BTreeSet.{BTreeSet, contains}
+use Rattle.isle_disjointsets.specs.Partition.{IsPartition, together}
+use Rattle.isle_model.specs.trees.Places.{joins_in}
+use Rattle.isle_sets.specs.Listings.{are_listed, ascends}
+
+-- all sites that are in a set are noted
+abbrev pub AreNoted : List (List ℕ) → BTreeSet ℕ → Type 0
+AreNoted sets noted = (a b : ℕ) → IsTrue (together nat_eq sets a b) → IsTrue (contains nat_cmp noted a)
+
+-- some of the sets of a whole are listed, and the rest have sites among these alone, which ascend
+pub record IsListedBefore (whole rest listed : List (List ℕ)) (later : List ℕ) : Type 0 where
+  pub partition : IsPartition nat_eq rest
+  pub parts : (a b : ℕ) → together nat_eq whole a b ≡ (joins_in listed a b || together nat_eq rest a b)
+  pub listed : IsTrue (are_listed listed)
+  pub ascending : IsTrue (ascends later)
+  pub left : (a : ℕ) → IsTrue (together nat_eq rest a a) → Contains later a
+  pub below : (a : ℕ) → IsTrue (together nat_eq rest a a) → All (λ n. n < a) (flat_map (take 1) listed)
