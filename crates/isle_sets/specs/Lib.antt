@@ -1,5 +1,6 @@
 pub mod SiteViews
 pub mod Listings
+pub mod SetLists
 pub mod Overlaps
 pub mod SiteTables
 pub mod DemandsHeld

@@ -7,6 +7,7 @@ mod closure_classes;
 mod constraints;
 mod cycles;
 pub mod demanded;
+mod equal_sites;
 mod listed;
 mod overlaps;
 mod rule_sets;
