@@ -3,3 +3,4 @@ pub mod ExprViews
 mod Files
 mod Copies
 mod Pairs
+pub mod Noted

@@ -4,3 +4,5 @@ pub mod Patterns
 pub mod Expressions
 pub mod Places
 pub mod Stable
+pub mod ErrorViews
+pub mod Noting

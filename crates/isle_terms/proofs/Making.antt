@@ -19,11 +19,11 @@ use Rattle.isle_types.specs.declared.type_env.TypeEnv.{TypeEnv}
 use Rattle.isle_types.specs.declared.types.Type as T
 use Rattle.isle_types.specs.declared.types.Variant.{Variant}
 use Rattle.isle_types.specs.Envs.{names_of, symbol_of, IsInterned}
-use Rattle.isle_types.specs.Reading.{Reports}
+use Rattle.isle_base.specs.Noting.{NotesMore}
 use Rattle.isle_types.specs.Types.{entry_field_types}
 use Rattle.isle_types.specs.TypeViews.{type_view, type_views, variant_view}
 use Rattle.isle_types.proofs.Inverse.{inverse_distinct}
-use Rattle.isle_types.proofs.Reports.{both}
+use Rattle.isle_base.proofs.Noted.{both}
 use Rattle.isle_terms.specs.declared.term_table.TermTable.{TermTable}
 use Rattle.isle_terms.specs.declared.term.Term.{Term}
 use Rattle.isle_terms.specs.Reading.{IsWithin}
@@ -119,8 +119,8 @@ taken_one n ys id old taken e met named fs env i m s once =
 -- terms are added, and then others
 pub adds_both : (xs ys : List ℕ) (gs hs : List (ℕ → TermEntry)) (a b c : TermTable) (es mid es' : List Error) → AddsMade xs gs a es b mid → AddsMade ys hs b mid c es' → AddsMade (xs ++ ys) (gs ++ hs) a es c es'
 adds_both xs ys gs hs a b c es mid es' (inl p) (inl q) = inl (q.0 ∙ p.0, grows_more xs ys gs hs a b c p.1 q.1)
-adds_both xs ys gs hs a b c es mid es' (inl p) (inr q) = inr (subst (λ l. Reports l es') p.0 q.0, taken_later xs ys gs a b p.1 q.1)
-adds_both xs ys gs hs a b c es mid es' (inr p) (inl q) = inr (subst (Reports es) (sym q.0) p.0, taken_first xs ys a p.1)
+adds_both xs ys gs hs a b c es mid es' (inl p) (inr q) = inr (subst (λ l. NotesMore l es') p.0 q.0, taken_later xs ys gs a b p.1 q.1)
+adds_both xs ys gs hs a b c es mid es' (inr p) (inl q) = inr (subst (NotesMore es) (sym q.0) p.0, taken_first xs ys a p.1)
 adds_both xs ys gs hs a b c es mid es' (inr p) (inr q) = inr (both es mid es' p.0 q.0, taken_first xs ys a p.1)
 
 abbrev pub numbers_of : List T.Type → List ℕ

@@ -6,9 +6,9 @@ use Rattle.isle_model.specs.claims.Environments.{TypesRead, IsLeftByRefusal}
 use Rattle.isle_base.specs.declared.syntax.Error.{Error}
 use Rattle.isle_types.specs.declared.type_env.TypeEnv.{TypeEnv}
 use Rattle.isle_types.specs.EnvViews.{environment_view}
-use Rattle.isle_types.specs.Reading.{Reports}
+use Rattle.isle_base.specs.Noting.{NotesMore}
 use Rattle.isle_types.specs.VariantReading.{ReportsIf}
-use Rattle.isle_types.proofs.Reports.{both}
+use Rattle.isle_base.proofs.Noted.{some_noted, both, still_ill_typed}
 use Rattle.isle_terms.specs.declared.term_table.TermTable.{TermTable}
 use Rattle.isle_terms.specs.Reading.{IsWithin}
 use Rattle.isle_terms.specs.Signing.{Notes, ReadsTerms}
@@ -16,8 +16,8 @@ use Rattle.isle_terms.specs.Signing.{Notes, ReadsTerms}
 -- one thing after another
 pub both_note : (A B W V : Type 0) (es mid es' : List Error) → Notes es mid A W → Notes mid es' B V → Notes es es' (A × B) (W ⊎ V)
 both_note A B W V es mid es' (inl a) (inl b) = inl (b.0 ∙ a.0, (a.1, b.1))
-both_note A B W V es mid es' (inl a) (inr b) = inr (subst (λ xs. Reports xs es') a.0 b.0, inr b.1)
-both_note A B W V es mid es' (inr a) (inl b) = inr (subst (Reports es) (sym b.0) a.0, inl a.1)
+both_note A B W V es mid es' (inl a) (inr b) = inr (subst (λ xs. NotesMore xs es') a.0 b.0, inr b.1)
+both_note A B W V es mid es' (inr a) (inl b) = inr (subst (NotesMore es) (sym b.0) a.0, inl a.1)
 both_note A B W V es mid es' (inr a) (inr b) = inr (both es mid es' a.0 b.0, inl a.1)
 
 -- the same, said in other words
@@ -37,16 +37,16 @@ pub step : (e : TypesRead) (defs : List Definition) (A B : TypeEnv → TermTable
 step e defs A B old new table table' es es' Right Wrong left within (inl a) right wrong s = record {
   left = left;
   within = within;
-  plain = rw a.0 s.plain;
+  ill_typed = rw a.0 s.ill_typed;
   so_far = ⊎_elim (λ r. inl (a.0 ∙ r.0, right r.1 a.1)) (λ w. inr (rw a.0 w.0, w.1)) s.so_far;
 }
 step e defs A B old new table table' es es' Right Wrong left within (inr a) right wrong s = record {
   left = left;
   within = within;
-  plain = a.0.plain s.plain;
-  so_far = inr (a.0.some, ⊎_elim (λ r. wrong r.1 a.1) (λ w. w.1) s.so_far);
+  ill_typed = still_ill_typed a.0 s.ill_typed;
+  so_far = inr (some_noted a.0, ⊎_elim (λ r. wrong r.1 a.1) (λ w. w.1) s.so_far);
 }
 
 -- what is right so far, said in other words
 pub reads_as : (e : TypesRead) (defs : List Definition) (A B : TypeEnv → TermTable → Type 0) (env : TypeEnv) (table : TermTable) (es : List Error) → (A env table → B env table) → ReadsTerms e defs A env table es → ReadsTerms e defs B env table es
-reads_as e defs A B env table es f s = record { left = s.left; within = s.within; plain = s.plain; so_far = ⊎_elim (λ r. inl (r.0, f r.1)) (λ w. inr w) s.so_far }
+reads_as e defs A B env table es f s = record { left = s.left; within = s.within; ill_typed = s.ill_typed; so_far = ⊎_elim (λ r. inl (r.0, f r.1)) (λ w. inr w) s.so_far }

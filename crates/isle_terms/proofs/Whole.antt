@@ -13,10 +13,13 @@ use Rattle.isle_model.specs.lists.Tables.{TypeEntry, TermEntry, declared_term, i
 use Rattle.isle_model.specs.lists.KnownTypes.{entry_numbers, IsWellFormed}
 use Rattle.isle_model.specs.lists.TermTable.{decl_flags, decl_trees, decl_names, rule_trees, extractor_trees, extractor_template, internal_extractors, function_of, made_by, term_names, term_names_met, terms_made, term_table, converters, IsValidTerms}
 use Rattle.isle_model.specs.claims.Environments.{TypesRead, AreReadable, AreTermsOf, IsLeftByRefusal, IsReadAs, terms_by_name, with_read_names}
+use Rattle.isle_model.specs.claims.Refusals.{RefusesTerms}
 use Rattle.isle_model.proofs.Members.{in_cases, nothing_in, get_from_member}
 use Rattle.isle_model.proofs.Names.{has_at, has_met, has_left, has_kept}
 use Rattle.isle_laws_lists.proofs.TermLaws.{all_made_only, terms_have_names_lem, terms_stand_at_ids_lem}
-use Rattle.isle_base.specs.Answers.{limit_of}
+use Rattle.isle_base.specs.ErrorViews.{error_views}
+use Rattle.isle_base.specs.Noting.{AreIllTyped}
+use Rattle.isle_base.proofs.Noted.{forms_of, some_views}
 use Rattle.isle_base.specs.declared.syntax.Error.{Error}
 use Rattle.isle_types.specs.declared.type_env.TypeEnv.{TypeEnv}
 use Rattle.isle_types.specs.Envs.{names_of}
@@ -45,7 +48,7 @@ pub first_declared : (e : TypesRead) (defs : List Definition) (env : TypeEnv) (t
 first_declared e defs env table es r terms ids converters none = record {
   left = record { more = []; types = subst (λ ns. IsReadAs (environment_view env) (with_read_names e ns)) (sym (append-nil e.known.names)) r };
   within = λ k n h. let a = ids k in absurd (cc);
-  plain = rw none (All-nil (λ e. limit_of e ≡ None));
+  ill_typed = subst AreIllTyped (sym none) (All-nil _);
   so_far = inl (
     none,
     record {
@@ -192,6 +195,12 @@ all_read e readable defs env old table before left x cr s = (valid, record { val
 
     types : IsReadAs (environment_view env) (with_read_names e (term_names_met e.known defs))
     types = subst (λ ns. IsReadAs (environment_view env) (with_read_names e ns)) (sym left.types.names ∙ s.stand.names) left.types
+
+-- errors after one of the groups: why the definitions are refused
+pub why_refused : (e : TypesRead) (defs : List Definition) (A : TypeEnv → TermTable → Type 0) (env : TypeEnv) (table : TermTable) (es : List Error) → ReadsTerms e defs A env table es → (length es ≡ 0 → ⊥) → RefusesTerms e defs (error_views es)
+why_refused e defs A env table es s some =
+    let noted : es ≡ [] → ⊥ = λ none. some (ap length none) in
+    record { some_error = some_views es noted; forms = forms_of es s.ill_typed; not_valid = ⊎_elim (λ r. absurd (noted r.0)) (λ w. w.1) s.so_far }
 
 -- two facts of what was answered
 pub both_ok : {T E : Type 0} (r : Result T E) (A B C : Type 0) → (A → B → C) → OnOk r A → OnOk r B → OnOk r C

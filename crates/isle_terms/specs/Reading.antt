@@ -8,7 +8,8 @@ use Rattle.isle_model.specs.lists.TermTable.{decl_flags, root_name}
 use Rattle.isle_base.specs.declared.syntax.Error.{Error}
 use Rattle.isle_types.specs.declared.type_env.TypeEnv.{TypeEnv}
 use Rattle.isle_types.specs.Envs.{names_of, symbol_of, type_of_name, IsInterned}
-use Rattle.isle_types.specs.Reading.{Reports, MeetsNames}
+use Rattle.isle_base.specs.Noting.{NotesMore}
+use Rattle.isle_types.specs.Reading.{MeetsNames}
 use Rattle.isle_terms.specs.declared.term_table.TermTable.{TermTable}
 use Rattle.isle_terms.specs.TermTables.{term_at}
 use Rattle.isle_terms.specs.TermViews.{term_views}
@@ -69,10 +70,10 @@ HasUnknown d env = (All (IsKnownInEnv env) d.arg_tys → ⊥) ⊎ (type_of_name 
 
 -- a declaration whose name was met, and has no term yet
 abbrev pub IsFreeOrReported : ℕ → TermTable → List Error → List Error → Type 0
-IsFreeOrReported name table es es' = ((es' ≡ es) × (term_at table name ≡ None)) ⊎ (Reports es es' × IsTakenByTerm name table)
+IsFreeOrReported name table es es' = ((es' ≡ es) × (term_at table name ≡ None)) ⊎ (NotesMore es es' × IsTakenByTerm name table)
 
 abbrev pub AddsOrReports : DeclTree → TypeEnv → ℕ → TermTable → TermTable → List Error → List Error → Type 0
-AddsOrReports d env name old new es es' = ((es' ≡ es) × AddsTerm d env name old new) ⊎ (Reports es es' × HasUnknown d env)
+AddsOrReports d env name old new es es' = ((es' ≡ es) × AddsTerm d env name old new) ⊎ (NotesMore es es' × HasUnknown d env)
 
 -- a term that is made by rules
 abbrev pub internal_kind : TermKindEntry → TermKindEntry

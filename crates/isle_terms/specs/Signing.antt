@@ -13,8 +13,7 @@ use Rattle.isle_base.specs.declared.syntax.Error.{Error}
 use Rattle.isle_types.specs.declared.type_env.TypeEnv.{TypeEnv}
 use Rattle.isle_types.specs.Envs.{names_of, IsInterned}
 use Rattle.isle_types.specs.EnvViews.{environment_view}
-use Rattle.isle_types.specs.Reading.{Reports}
-use Rattle.isle_types.specs.Stages.{ArePlain}
+use Rattle.isle_base.specs.Noting.{AreIllTyped, NotesMore}
 use Rattle.isle_terms.specs.declared.term_table.TermTable.{TermTable}
 use Rattle.isle_terms.specs.TermTables.{term_at}
 use Rattle.isle_terms.specs.TermViews.{term_views}
@@ -23,18 +22,18 @@ use Rattle.isle_terms.specs.Stages.{Finds, place_among, HasNoConverter}
 
 -- nothing was noted and this is right, or something was, and this is wrong
 abbrev pub Notes : List Error → List Error → Type 0 → Type 0 → Type 0
-Notes es es' Right Wrong = ((es' ≡ es) × Right) ⊎ (Reports es es' × Wrong)
+Notes es es' Right Wrong = ((es' ≡ es) × Right) ⊎ (NotesMore es es' × Wrong)
 
 -- there is no error so far, or the definitions, read with these types, have no term table
 abbrev pub SoFarByTypes : KnownTypes → List Definition → List Error → Type 0 → Type 0
 SoFarByTypes k defs es Right = ((es ≡ []) × Right) ⊎ ((es ≢ []) × (IsValidTerms k defs → ⊥))
 
--- names were met and all else of the types stays; looked-up terms are terms of the table; no limit was passed; and where
--- there is no error the table is right so far
+-- names were met and all else of the types stays; looked-up terms are terms of the table; each error says that
+-- something isn't right; and where there is no error the table is right so far
 pub record ReadsTerms (e : TypesRead) (defs : List Definition) (Right : TypeEnv → TermTable → Type 0) (env : TypeEnv) (table : TermTable) (es : List Error) : Type 0 where
   pub left : IsLeftByRefusal e (environment_view env)
   pub within : IsWithin table
-  pub plain : ArePlain es
+  pub ill_typed : AreIllTyped es
   pub so_far : SoFarByTypes e.known defs es (Right env table)
 
 -- terms, each with its id, from this id on

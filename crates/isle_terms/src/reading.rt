@@ -5,7 +5,7 @@ ghost use Rattle.std.specs.Prelude.{◌≡◌, ◌⊎◌, ◌++◌, ◌∷◌, [
 ghost use Rattle.isle_base.specs.SyntaxViews.{decl_view, name_view};
 ghost use Rattle.isle_types.specs.Envs.{names_of, IsInterned};
 ghost use Rattle.isle_model.specs.lists.Names.{number};
-ghost use Rattle.isle_types.specs.Reading.{Reports};
+ghost use Rattle.isle_base.specs.Noting.{NotesMore};
 ghost use Rattle.isle_terms.specs.TermTables.{term_at};
 ghost use Rattle.isle_terms.specs.TermViews.{term_view, term_views};
 ghost use Rattle.isle_terms.specs.Reading.{IsWithin, Interns, MayIntern, IsKnownInEnv, HaveTypes, IsFreeOrReported, AddsOrReports, internal_entry, signature_entry, term_of_name};
@@ -142,7 +142,7 @@ fn arg_types(
     names: &[Ident],
 ) -> Result<Option<Vec<TypeId>>, AllocError>
     ensures { IfOk result (λ o. MatchOption o
-        (Reports errors.old.items errors.new.items × (All (IsKnownInEnv tyenv.now) (map name_view names.now) → ⊥))
+        (NotesMore errors.old.items errors.new.items × (All (IsKnownInEnv tyenv.now) (map name_view names.now) → ⊥))
         (λ tys. (errors.new.items ≡ errors.old.items) × HaveTypes tyenv.now (map name_view names.now) (map (λ t. t.0) tys.items))) }
 {
     let mut arg_tys = Vec::new(*errors.allocator());
@@ -163,7 +163,7 @@ pub(crate) fn report_name(
     what: &str,
     name: &Ident,
 ) -> Result<(), AllocError>
-    ensures { OnOk result (Reports errors.old.items errors.new.items) }
+    ensures { OnOk result (NotesMore errors.old.items errors.new.items) }
 {
     let alloc = *errors.allocator();
     let msg = format!(in alloc; "{what} '{}'", name.0)?;

@@ -7,7 +7,10 @@ use Rattle.isle_model.specs.lists.Names.{number, has_name, AreNumbersOf}
 use Rattle.isle_model.specs.rules.Meaning.{look}
 use Rattle.isle_model.specs.rules.Outcome.{then_option}
 use Rattle.isle_model.specs.lists.TypeTable.{builtin_names, type_names, ConstantTree, constant_trees, type_names_met, last_definitions, type_of_number, type_or_first, constant_types, IsOfKnownType, IsValidTypes}
+use Rattle.isle_model.specs.claims.Refusals.{RefusesTypes}
 use Rattle.isle_base.specs.declared.syntax.Error.{Error}
+use Rattle.isle_base.specs.ErrorViews.{error_views}
+use Rattle.isle_base.proofs.Noted.{forms_of, some_views}
 use Rattle.isle_model.proofs.Bytes.{same_self}
 use Rattle.isle_model.proofs.Names.{found, has_at, has_met, has_right}
 use Rattle.isle_laws_lists.proofs.TypeLaws.{names_later, type_names_distinct, last_definition_counts_lem}
@@ -66,3 +69,6 @@ module _ (defs : List Definition) (env : TypeEnv) where
 
     pub at_err : es ≢ [] → IsValidTypes defs → ⊥
     at_err some v = ⊎_elim (λ right. some right.0) (λ wrong. wrong.1 v) s.so_far
+
+    pub why_refused : es ≢ [] → RefusesTypes defs (error_views es)
+    why_refused some = record { some_error = some_views es some; forms = forms_of es s.ill_typed; not_valid = at_err some }

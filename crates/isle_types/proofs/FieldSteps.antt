@@ -21,7 +21,8 @@ use Rattle.isle_types.specs.declared.types.TupleField.{TupleField}
 use Rattle.isle_types.specs.Envs.{names_of, symbol_of, type_at, type_of_name, IsInterned}
 use Rattle.isle_types.specs.VariantReading.{HasSeen}
 use Rattle.isle_types.specs.FieldReading.{was_seen, IsField, ReadsField, IsTupleField, ReadsTupleField}
-use Rattle.isle_types.specs.Reading.{MayReport, Reports, MeetsNames, AreRightFields}
+use Rattle.isle_base.specs.Noting.{MayNoteMore, NotesMore}
+use Rattle.isle_types.specs.Reading.{MeetsNames, AreRightFields}
 use Rattle.isle_types.specs.Stages.{Sees}
 use Rattle.isle_types.specs.TypeViews.{field_view, tuple_field_view}
 use Rattle.isle_model.proofs.ByNumber.{by_text}
@@ -212,9 +213,9 @@ module _ (fields : List S.StructField) (k : ℕ) (d : S.StructField) (within : k
   }
 
   -- at one that is wrong
-  pub reads_wrong : ReadsField (X.field_view d) id None env now seen new es' seen' → (defs : List Definition) → Sees old (all_type_names defs) → Reports es es' × (AreRightFields defs (struct_fields (map X.field_view fields)) → ⊥)
+  pub reads_wrong : ReadsField (X.field_view d) id None env now seen new es' seen' → (defs : List Definition) → Sees old (all_type_names defs) → NotesMore es es' × (AreRightFields defs (struct_fields (map X.field_view fields)) → ⊥)
   reads_wrong a defs sees = (
-    subst (λ es. Reports es es') s.unnoted a.0,
+    subst (λ es. NotesMore es es') s.unnoted a.0,
     λ right. ⊎_elim (not_twice defs (map X.field_view fields) (map X.field_view (drop (k + 1) fields)) (X.field_view d) read seen old env (so_far defs sees) new m i right) (has_type defs (map X.field_view fields) (map X.field_view (drop (k + 1) fields)) (X.field_view d) read seen old env (so_far defs sees) new m i right) a.1,
   )
 
@@ -295,9 +296,9 @@ module _ (fields : List U.TupleField) (k : ℕ) (d : U.TupleField) (within : k <
   }
 
   -- at one that is wrong
-  pub reads_wrong_tuple : ReadsTupleField (X.tuple_field_view d) id None env now es' → (defs : List Definition) → Sees env (all_type_names defs) → Reports es es' × (AreRightFields defs (tuple_fields (map X.tuple_field_view fields)) → ⊥)
-  reads_wrong_tuple a defs sees = (subst (λ es. Reports es es') s.unnoted a.0, wrong_part fields k d within here read env es now es' s i id defs sees a.1)
+  pub reads_wrong_tuple : ReadsTupleField (X.tuple_field_view d) id None env now es' → (defs : List Definition) → Sees env (all_type_names defs) → NotesMore es es' × (AreRightFields defs (tuple_fields (map X.tuple_field_view fields)) → ⊥)
+  reads_wrong_tuple a defs sees = (subst (λ es. NotesMore es es') s.unnoted a.0, wrong_part fields k d within here read env es now es' s i id defs sees a.1)
 
 -- what is noted after nothing was noted
-pub noted_after : (a b c : List Error) → b ≡ a → Reports b c → MayReport a c
-noted_after a b c same r = inr (subst (λ es. Reports es c) same r)
+pub noted_after : (a b c : List Error) → b ≡ a → NotesMore b c → MayNoteMore a c
+noted_after a b c same r = inr (subst (λ es. NotesMore es c) same r)

@@ -10,11 +10,13 @@ use Rattle.isle_model.specs.lists.TypeTable.{builtin_names, type_of, type_trees,
 use Rattle.isle_base.specs.declared.syntax.Def.{Def}
 use Rattle.isle_base.specs.declared.syntax.Error.{Error}
 use Rattle.isle_base.specs.SyntaxViews.{definition_view, definition_views}
+use Rattle.isle_base.proofs.Noted.{some_noted, still_ill_typed}
 use Rattle.isle_types.specs.declared.type_env.TypeEnv.{TypeEnv}
 use Rattle.isle_types.specs.declared.types.Type as T
 use Rattle.isle_types.specs.Envs.{names_of, IsInterned}
-use Rattle.isle_types.specs.Reading.{Reports, MayReport, MeetsNames, IsRightType}
-use Rattle.isle_types.specs.Stages.{Sees, ArePlain, SoFarOfTypes, Naming, NamesTypes, names_in_types, constant_names, entries_from, AreMet, Filling, FillsTypes}
+use Rattle.isle_base.specs.Noting.{AreIllTyped, NotesMore, MayNoteMore}
+use Rattle.isle_types.specs.Reading.{MeetsNames, IsRightType}
+use Rattle.isle_types.specs.Stages.{Sees, SoFarOfTypes, Naming, NamesTypes, names_in_types, constant_names, entries_from, AreMet, Filling, FillsTypes}
 use Rattle.isle_types.specs.TypeViews.{type_view, type_views}
 use Rattle.isle_types.specs.VariantReading.{FillsType, FillsDefinition}
 use Rattle.isle_types.proofs.EntriesStay.{AllMet, met_more, met_self, type_stays}
@@ -97,10 +99,10 @@ fill_other defs rest rest' env same n = record {
 abbrev Leaves : List Definition → List Definition → TypeEnv → List Error → Type 0
 Leaves defs rest new es' = SoFarOfTypes defs es' (Filling defs rest new)
 
-leave_type : (defs rest : List Definition) (t : TypeTree) (old new : TypeEnv) (es es' : List Error) → es ≡ [] → Filling defs (type_definition t ∷ rest) old → AreMet old (t.name.text ∷ []) → ((es' ≡ es) × FillsType defs t old new) ⊎ (Reports es es' × (IsRightType defs t → ⊥)) → Leaves defs rest new es'
+leave_type : (defs rest : List Definition) (t : TypeTree) (old new : TypeEnv) (es es' : List Error) → es ≡ [] → Filling defs (type_definition t ∷ rest) old → AreMet old (t.name.text ∷ []) → ((es' ≡ es) × FillsType defs t old new) ⊎ (NotesMore es es' × (IsRightType defs t → ⊥)) → Leaves defs rest new es'
 leave_type defs rest t old new es es' none n own (inl a) =
     inl (a.0 ∙ none, fill_right defs rest t old n (All-head (λ x. IsTrue (has_name (names_of old) x)) t.name.text [] own) new a.1)
-leave_type defs rest t old new es es' none n own (inr a) = inr (a.0.some, fill_wrong defs rest t old n a.1)
+leave_type defs rest t old new es es' none n own (inr a) = inr (some_noted a.0, fill_wrong defs rest t old n a.1)
 
 leave_other : (defs rest : List Definition) (d : Definition) (old new : TypeEnv) (es es' : List Error) → type_trees rest ≡ type_trees (d ∷ rest) → es ≡ [] → Filling defs (d ∷ rest) old → (es' ≡ es) × (new ≡ old) → Leaves defs rest new es'
 leave_other defs rest d old new es es' same none n a =
@@ -115,13 +117,13 @@ leave defs rest (rule_definition d) old new es es' none n own a = leave_other de
 leave defs rest (extern_definition d) old new es es' none n own a = leave_other defs rest (extern_definition d) old new es es' refl none n a
 leave defs rest other_definition old new es es' none n own a = leave_other defs rest other_definition old new es es' refl none n a
 
-plain_after : (es es' : List Error) → MayReport es es' → ArePlain es → ArePlain es'
-plain_after es es' (inl e) h = subst ArePlain (sym e) h
-plain_after es es' (inr r) h = r.plain h
+ill_typed_after : (es es' : List Error) → MayNoteMore es es' → AreIllTyped es → AreIllTyped es'
+ill_typed_after es es' (inl e) h = subst AreIllTyped (sym e) h
+ill_typed_after es es' (inr r) h = still_ill_typed r h
 
-some_after : (es es' : List Error) → MayReport es es' → es ≢ [] → es' ≢ []
+some_after : (es es' : List Error) → MayNoteMore es es' → es ≢ [] → es' ≢ []
 some_after es es' (inl e) h = λ none. h (sym e ∙ none)
-some_after es es' (inr r) h = r.some
+some_after es es' (inr r) h = some_noted r
 
 -- the names of the types of the definitions from a place on were met, where all were
 module _ (env : TypeEnv) where
@@ -146,7 +148,7 @@ module _ (env : TypeEnv) where
       met_from i defs (all_right Met (named (definition_view d)) (type_names (definition_views defs)) (split (definition_view d) (definition_views defs) h))
 
 -- after the definition at i
-pub next_type : (defs : List Def) (i : ℕ) (d : Def) → i < length defs → d ≡ get_or defs i d → (old new : TypeEnv) (es es' : List Error) → IsInterned new → FillsTypes (definition_views defs) (definition_views (drop i defs)) old es → MayReport es es' → ((all : List Definition) → Sees old (all_type_names all) → AreMet old (type_names (definition_view d ∷ [])) → FillsDefinition all (definition_view d) old es new es') → FillsTypes (definition_views defs) (definition_views (drop (i + 1) defs)) new es'
+pub next_type : (defs : List Def) (i : ℕ) (d : Def) → i < length defs → d ≡ get_or defs i d → (old new : TypeEnv) (es es' : List Error) → IsInterned new → FillsTypes (definition_views defs) (definition_views (drop i defs)) old es → MayNoteMore es es' → ((all : List Definition) → Sees old (all_type_names all) → AreMet old (type_names (definition_view d ∷ [])) → FillsDefinition all (definition_view d) old es new es') → FillsTypes (definition_views defs) (definition_views (drop (i + 1) defs)) new es'
 next_type defs i d within at old new es es' inverse s noted step =
     let rest = definition_views (drop (i + 1) defs) in
     let left : definition_views (drop i defs) ≡ definition_view d ∷ rest =
@@ -155,7 +157,7 @@ next_type defs i d within at old new es es' inverse s noted step =
     subst (λ ds. SoFarOfTypes (definition_views defs) es (Filling (definition_views defs) ds old)) left s.so_far in
     record {
       inverse = inverse;
-      plain = plain_after es es' noted s.plain;
+      ill_typed = ill_typed_after es es' noted s.ill_typed;
       so_far = ⊎_elim
           (λ right.
           let all : AreMet old (type_names (definition_views defs)) = all_right (Met old) builtin_names (type_names (definition_views defs)) right.1.met in

@@ -4,7 +4,6 @@ pub mod Places
 pub mod Seen
 pub mod Booting
 pub mod Naming
-pub mod Reports
 pub mod TypeMaps
 pub mod SeenNames
 pub mod SoFar

@@ -10,10 +10,11 @@ use Rattle.isle_base.specs.declared.syntax.Def.{Def}
 use Rattle.isle_base.specs.declared.syntax.Error.{Error}
 use Rattle.isle_base.specs.SyntaxViews.{definition_view, definition_views}
 use Rattle.isle_base.specs.Stable.{entry_count}
+use Rattle.isle_base.specs.Noting.{AreIllTyped}
 use Rattle.isle_types.specs.declared.type_env.TypeEnv.{TypeEnv}
 use Rattle.isle_types.specs.Envs.{names_of, symbol_of, IsInterned}
 use Rattle.isle_types.specs.Reading.{NamesType, IsTakenByType, NamesDefinition}
-use Rattle.isle_types.specs.Stages.{ArePlain, Naming, NamesTypes}
+use Rattle.isle_types.specs.Stages.{Naming, NamesTypes}
 use Rattle.isle_types.specs.TypeTables.{SeesTypes}
 use Rattle.isle_types.specs.TypeViews.{type_views}
 use Rattle.isle_types.proofs.Seen.{type_of_text, was_free, sees_type}
@@ -72,7 +73,7 @@ next_name defs i d within at old new es es' inverse s a =
 pub first_name : (defs : List Definition) (env : TypeEnv) (es : List Error) → SeesTypes env [] builtin_names → entry_count env.type_map ≡ 13 → es ≡ [] → NamesTypes defs defs env es
 first_name defs env es s count none = record {
   inverse = subst (λ ns. AreNumbersOf ns (symbol_of env)) (sym s.names) s.inverse;
-  plain = subst ArePlain (sym none) (All-nil _);
+  ill_typed = subst AreIllTyped (sym none) (All-nil _);
   so_far = inl (
     none,
     record {

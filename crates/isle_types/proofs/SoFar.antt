@@ -4,8 +4,9 @@ use Rattle.isle_model.specs.lists.Syntax.{Definition}
 use Rattle.isle_model.specs.lists.TypeTable.{IsValidTypes}
 use Rattle.isle_base.specs.declared.syntax.Error.{Error}
 use Rattle.isle_types.specs.declared.type_env.TypeEnv.{TypeEnv}
+use Rattle.isle_base.proofs.Noted.{some_noted, still_ill_typed}
 use Rattle.isle_types.specs.Envs.{IsInterned}
-use Rattle.isle_types.specs.Reading.{Reports}
+use Rattle.isle_base.specs.Noting.{NotesMore}
 use Rattle.isle_types.specs.Stages.{ReadsSoFar}
 
 module _ (defs : List Definition) (A B : TypeEnv → Type 0) (old new : TypeEnv) (es es' : List Error) (i : IsInterned new) where
@@ -13,16 +14,16 @@ module _ (defs : List Definition) (A B : TypeEnv → Type 0) (old new : TypeEnv)
   pub reads_on : es' ≡ es → (A old → B new) → ReadsSoFar defs A old es → ReadsSoFar defs B new es'
   reads_on same right s = record {
     inverse = i;
-    plain = rw same s.plain;
+    ill_typed = rw same s.ill_typed;
     so_far = ⊎_elim (λ r. inl (same ∙ r.0, right r.1)) (λ wrong. inr (rw same wrong.0, wrong.1)) s.so_far;
   }
 
   -- where the old environment was right, the definitions have no type table
-  pub reads_wrong : Reports es es' → (A old → IsValidTypes defs → ⊥) → ReadsSoFar defs A old es → ReadsSoFar defs B new es'
+  pub reads_wrong : NotesMore es es' → (A old → IsValidTypes defs → ⊥) → ReadsSoFar defs A old es → ReadsSoFar defs B new es'
   reads_wrong noted wrong s = record {
     inverse = i;
-    plain = noted.plain s.plain;
-    so_far = inr (noted.some, ⊎_elim (λ r. wrong r.1) (λ w. w.1) s.so_far);
+    ill_typed = still_ill_typed noted s.ill_typed;
+    so_far = inr (some_noted noted, ⊎_elim (λ r. wrong r.1) (λ w. w.1) s.so_far);
   }
 
 -- nothing was noted, and the environment is the same

@@ -17,13 +17,14 @@ use Rattle.isle_types.specs.declared.ids.Sym.{Sym}
 use Rattle.isle_types.specs.declared.type_env.TypeEnv.{TypeEnv}
 use Rattle.isle_types.specs.declared.types.Variant.{Variant}
 use Rattle.isle_types.specs.Envs.{names_of, IsInterned}
-use Rattle.isle_types.specs.Reading.{Reports, MayReport, MeetsNames, AreRightFields}
+use Rattle.isle_base.specs.Noting.{NotesMore, MayNoteMore}
+use Rattle.isle_types.specs.Reading.{MeetsNames, AreRightFields}
 use Rattle.isle_types.specs.Stages.{Sees}
 use Rattle.isle_types.specs.TypeViews.{variant_view}
 use Rattle.isle_types.specs.VariantReading.{HasSeen, VariantRead, ReadsVariant, VariantsRead, ReadsVariants}
 use Rattle.isle_types.proofs.EntriesStay.{AllMet, met_self, variants_stay}
 use Rattle.isle_types.proofs.NamesMet.{meet_more, sees_met}
-use Rattle.isle_types.proofs.Reports.{may_both}
+use Rattle.isle_base.proofs.Noted.{may_both}
 use Rattle.isle_types.proofs.RightTypes.{all_right}
 use Rattle.isle_model.proofs.FirstPlaces.{distinct_push, twice}
 
@@ -36,7 +37,7 @@ own_fields vs = map (λ v. v.fields) vs
 -- the first variants, these, are read
 pub record VariantsSoFar (ty : List ℕ) (done : List VariantTree) (read : List Variant) (old : TypeEnv) (es : List Error) (env : TypeEnv) (es' : List Error) (seen : Members Sym) : Type 0 where
   pub inverse : IsInterned env
-  pub noted : MayReport es es'
+  pub noted : MayNoteMore es es'
   pub reads : (defs : List Definition) → Sees old (all_type_names defs) → (es' ≡ es) × VariantsRead defs ty done read old env × HasSeen (names_of env) seen (own_names done)
 
 entries_push : (f : ℕ → VariantTree → VariantEntry) (n : ℕ) (xs : List VariantTree) (v : VariantTree) → map (λ p. f p.0 p.1) (enumerate_from n (xs ++ v ∷ [])) ≡ map (λ p. f p.0 p.1) (enumerate_from n xs) ++ f (n + length xs) v ∷ []
@@ -83,7 +84,7 @@ module _ (ty : List ℕ) (done : List VariantTree) (v : VariantTree) (id : ℕ) 
     pub seen_more : HasSeen (names_of new) more (own_names (done ++ v ∷ []))
     seen_more = subst (HasSeen (names_of new) more) (sym (map_push (λ x. x.name.text) done v)) a.sees
 
-  module _ (es es' es'' : List Error) (new : TypeEnv) (seen more : Members Sym) (s : VariantsSoFar ty done read old es env es' seen) (noted : MayReport es' es'') where
+  module _ (es es' es'' : List Error) (new : TypeEnv) (seen more : Members Sym) (s : VariantsSoFar ty done read old es env es' seen) (noted : MayNoteMore es' es'') where
     -- after one more variant
     pub run_more : (next : Variant) → id ≡ length read → IsInterned new → ((defs : List Definition) (earlier : List (List ℕ)) → Sees env (all_type_names defs) → HasSeen (names_of env) seen earlier → ReadsVariant defs ty id v earlier (Some next) env es' new es'' more) → VariantsSoFar ty (done ++ v ∷ []) (read ++ next ∷ []) old es new es'' more
     run_more next place i step = record {
@@ -102,7 +103,7 @@ module _ (ty : List ℕ) (done : List VariantTree) (v : VariantTree) (id : ℕ) 
         let a = step defs (own_names done) (sees_met (all_type_names defs) (flat_map (variant_names ty) done) old env r.1.meets sees) r.2 in
         let names : own_names done ++ v.name.text ∷ own_names rest ≡ own_names vs = sym (map-append (λ x. x.name.text) done (v ∷ rest)) ∙ ap own_names whole in
         let fields : own_fields vs ≡ own_fields done ++ v.fields ∷ own_fields rest = sym (ap own_fields whole) ∙ map-append (λ x. x.fields) done (v ∷ rest) in (
-          subst (λ l. Reports l es'') r.0 a.0,
+          subst (λ l. NotesMore l es'') r.0 a.0,
           λ distinct right.
               let own : AreRightFields defs v.fields = All-head (AreRightFields defs) v.fields (own_fields rest) (all_right (AreRightFields defs) (own_fields done) (v.fields ∷ own_fields rest) (subst (All (AreRightFields defs)) fields right)) in
               elim (place_from 0 v.name.text (own_names done)) as (λ o. place_from 0 v.name.text (own_names done) ≡ o → ⊥) [

@@ -5,7 +5,7 @@ use Rattle.isle_model.specs.lists.Names.{number, with_name}
 use Rattle.isle_base.specs.declared.syntax.Error.{Error}
 use Rattle.isle_types.specs.declared.type_env.TypeEnv.{TypeEnv}
 use Rattle.isle_types.specs.Envs.{names_of, constant_at, type_of_name}
-use Rattle.isle_types.specs.Reading.{Reports}
+use Rattle.isle_base.specs.Noting.{NotesMore}
 
 -- a name is met, and is that of a constant of a type that is known
 pub record TypesConstant (name ty : List ℕ) (old new : TypeEnv) : Type 0 where
@@ -19,7 +19,7 @@ pub record TypesConstant (name ty : List ℕ) (old new : TypeEnv) : Type 0 where
 
 -- a constant is read, or its type isn't known
 abbrev pub ReadsConstant : Name → Name → TypeEnv → List Error → TypeEnv → List Error → Type 0
-ReadsConstant name ty old es new es' = ((es' ≡ es) × TypesConstant name.text ty.text old new) ⊎ (Reports es es' × (type_of_name old ty.text ≡ None))
+ReadsConstant name ty old es new es' = ((es' ≡ es) × TypesConstant name.text ty.text old new) ⊎ (NotesMore es es' × (type_of_name old ty.text ≡ None))
 
 -- the constant that a definition makes is read
 abbrev pub ReadsDefinition : Definition → TypeEnv → List Error → TypeEnv → List Error → Type 0

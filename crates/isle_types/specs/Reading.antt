@@ -1,11 +1,11 @@
 -- What reading one definition does to a type environment and to the errors found so far.
-use Rattle.std.specs.Prelude.{◌≡◌, ◌≢◌, ℕ, ◌+◌, nat_eq, List, [], ◌∷◌, ◌++◌, ◌⊎◌, if◌then◌else◌, Option, Some, None, All}
+use Rattle.std.specs.Prelude.{◌≡◌, ℕ, ◌+◌, nat_eq, List, [], ◌∷◌, ◌++◌, ◌⊎◌, if◌then◌else◌, Option, Some, None, All}
 use Rattle.isle_model.specs.lists.Syntax.{FieldTrees, TypeTree, Definition, type_definition}
 use Rattle.isle_model.specs.lists.Names.{number, with_name, with_names}
 use Rattle.isle_model.specs.lists.Tables.{builtin_type}
 use Rattle.isle_model.specs.lists.TypeTable.{field_names, names_inside, field_lists_of, IsUnmarkedIfPrimitive, HasAtMostOneMark, HasDistinctVariants, HasDistinctFields, HasKnownTypes, field_entries, type_entry}
 use Rattle.isle_base.specs.declared.syntax.Error.{Error}
-use Rattle.isle_base.specs.Answers.{limit_of}
+use Rattle.isle_base.specs.Noting.{NotesMore}
 use Rattle.isle_base.specs.Stable.{entry_count}
 use Rattle.isle_types.specs.Builtin.{builtin_name, builtin_place}
 use Rattle.isle_types.specs.declared.builtin.BuiltinType.{BuiltinType}
@@ -14,15 +14,6 @@ use Rattle.isle_types.specs.declared.types.Fields.{Fields}
 use Rattle.isle_types.specs.declared.types.Type as T
 use Rattle.isle_types.specs.Envs.{names_of, type_at}
 use Rattle.isle_types.specs.TypeViews.{fields_view, type_view, type_views}
-
--- there are errors now, and no new one says that a limit was passed
-pub record Reports (old new : List Error) : Type 0 where
-  pub some : new ≢ []
-  pub plain : All (λ e. limit_of e ≡ None) old → All (λ e. limit_of e ≡ None) new
-
--- nothing was noted, or something was
-abbrev pub MayReport : List Error → List Error → Type 0
-MayReport old new = (new ≡ old) ⊎ Reports old new
 
 -- a name that was no type's becomes that of the next type
 pub record NamesType (name : List ℕ) (old new : TypeEnv) : Type 0 where
@@ -40,7 +31,7 @@ pub record IsTakenByType (name : List ℕ) (old : TypeEnv) : Type 0 where
 
 -- the name of a type's definition is read
 abbrev pub NamesDefinition : Definition → TypeEnv → List Error → TypeEnv → List Error → Type 0
-NamesDefinition (type_definition t) old es new es' = ((es' ≡ es) × NamesType t.name.text old new × (new.types ≡ old.types)) ⊎ (Reports es es' × IsTakenByType t.name.text old)
+NamesDefinition (type_definition t) old es new es' = ((es' ≡ es) × NamesType t.name.text old new × (new.types ≡ old.types)) ⊎ (NotesMore es es' × IsTakenByType t.name.text old)
 NamesDefinition _ old es new es' = (es' ≡ es) × (new ≡ old)
 
 -- a built-in type becomes the next type, unless its name is taken
@@ -64,7 +55,7 @@ pub record AreRightFields (defs : List Definition) (fields : FieldTrees) : Type 
 -- a list of fields becomes its entries, or it isn't right
 abbrev pub ReadsFields : List Definition → FieldTrees → Option Fields → TypeEnv → List Error → TypeEnv → List Error → Type 0
 ReadsFields defs fields (Some read) old es new es' = (es' ≡ es) × AreRightFields defs fields × MeetsNames (field_names fields) old new × (fields_view read ≡ field_entries defs (names_of new) fields)
-ReadsFields defs fields None old es new es' = Reports es es' × (AreRightFields defs fields → ⊥)
+ReadsFields defs fields None old es new es' = NotesMore es es' × (AreRightFields defs fields → ⊥)
 
 -- what a type must meet by itself
 pub record IsRightType (defs : List Definition) (t : TypeTree) : Type 0 where
@@ -76,4 +67,4 @@ pub record IsRightType (defs : List Definition) (t : TypeTree) : Type 0 where
 -- a type becomes its entry, or it isn't right
 abbrev pub ReadsType : List Definition → ℕ → TypeTree → Option T.Type → TypeEnv → List Error → TypeEnv → List Error → Type 0
 ReadsType defs id t (Some read) old es new es' = (es' ≡ es) × IsRightType defs t × MeetsNames (names_inside t.name.text t.value) old new × (type_view read ≡ type_entry defs (names_of new) id t)
-ReadsType defs id t None old es new es' = Reports es es' × (IsRightType defs t → ⊥)
+ReadsType defs id t None old es new es' = NotesMore es es' × (IsRightType defs t → ⊥)

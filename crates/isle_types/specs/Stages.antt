@@ -9,6 +9,7 @@ use Rattle.isle_model.specs.lists.Tables.{TypeEntry, builtin_type}
 use Rattle.isle_model.specs.lists.TypeTable.{builtin_names, type_trees, type_names, all_type_names, names_inside, ConstantTree, constant_trees, type_names_met, type_id, type_or_first, type_of_number, place_from, IsOfKnownType, IsValidTypes, builtin_from, type_entry, type_table}
 use Rattle.isle_base.specs.declared.syntax.Error.{Error}
 use Rattle.isle_base.specs.Answers.{limit_of}
+use Rattle.isle_base.specs.Noting.{AreIllTyped}
 use Rattle.isle_base.specs.Stable.{entry_count}
 use Rattle.isle_types.specs.declared.builtin.BuiltinType.{BuiltinType}
 use Rattle.isle_types.specs.declared.type_env.TypeEnv.{TypeEnv}
@@ -33,10 +34,10 @@ ArePlain es = All (λ e. limit_of e ≡ None) es
 abbrev pub SoFarOfTypes : List Definition → List Error → Type 0 → Type 0
 SoFarOfTypes defs es Right = ((es ≡ []) × Right) ⊎ ((es ≢ []) × (IsValidTypes defs → ⊥))
 
--- each name has its number, no limit was passed, and where there is no error the environment is right so far
+-- each name has its number, each error says that something isn't right, and where there is no error the environment is right so far
 pub record ReadsSoFar (defs : List Definition) (Right : TypeEnv → Type 0) (env : TypeEnv) (es : List Error) : Type 0 where
   pub inverse : IsInterned env
-  pub plain : ArePlain es
+  pub ill_typed : AreIllTyped es
   pub so_far : SoFarOfTypes defs es (Right env)
 
 -- these built-in types are left to be added

@@ -6,12 +6,15 @@ ghost use Rattle.isle_model.specs.lists.Names.{number};
 ghost use Rattle.isle_model.specs.lists.TypeTable.{IsValidTypes, builtin_names, type_names_met};
 ghost use Rattle.isle_model.specs.claims.Environments.{AreTypesOf};
 ghost use Rattle.isle_model.specs.claims.Questions.{IsWellFormedEnvironment};
-ghost use Rattle.isle_base.specs.Answers.{Answers, NoLimit};
+ghost use Rattle.isle_model.specs.claims.Refusals.{RefusesTypes};
+ghost use Rattle.isle_base.specs.Answers.{Answers, NoLimit, OnErrors};
+ghost use Rattle.isle_base.specs.ErrorViews.{error_views};
 ghost use Rattle.isle_base.specs.Stable.{entry_count};
 ghost use Rattle.isle_base.specs.SyntaxViews.{definition_view, definition_views, type_view};
 ghost use Rattle.isle_types.specs.EnvViews.{environment_view};
 ghost use Rattle.isle_types.specs.Envs.{names_of, type_at, IsInterned};
-ghost use Rattle.isle_types.specs.Reading.{Reports, AddsBuiltin, NamesType, NamesDefinition};
+ghost use Rattle.isle_base.specs.Noting.{NotesMore};
+ghost use Rattle.isle_types.specs.Reading.{AddsBuiltin, NamesType, NamesDefinition};
 ghost use Rattle.isle_types.specs.Stages.{Booting, NamesTypes};
 ghost use Rattle.isle_types.specs.TypeTables.{SeesTypes};
 
@@ -61,6 +64,7 @@ impl TypeEnv {
         ensures answers { Answers result (IsValidTypes (definition_views defs.now))
             (λ env. SeesTypes env (definition_views defs.now) (type_names_met (definition_views defs.now))) }
         ensures no_limit { NoLimit result }
+        ensures refused { OnErrors result (λ es. RefusesTypes (definition_views defs.now) (error_views es)) }
         ensures shown { IfOk result (λ env. AreTypesOf (definition_views defs.now) (environment_view env)) }
         ensures well_formed { IfOk result (λ env. IsWellFormedEnvironment (environment_view env)) }
     {
@@ -156,13 +160,13 @@ impl TypeEnv {
     }
 }
 
-/// Notes an error in the definition at a place: one more, and it says nothing of a limit.
+/// Notes that the definition at a place isn't right: one error more, after those so far.
 ///
 /// # Errors
 ///
 /// Where memory is refused.
 pub fn report(errors: &mut Vec<Error>, pos: Pos, msg: &str) -> Result<(), AllocError>
-    ensures { OnOk result (Reports errors.old.items errors.new.items) }
+    ensures { OnOk result (NotesMore errors.old.items errors.new.items) }
 {
     let msg = String::from_str(*errors.allocator(), msg)?;
     let span = Span::new_single(pos);
@@ -176,7 +180,7 @@ fn report_duplicate(
     ty: &syntax::Type,
     existing: TypeId,
 ) -> Result<(), AllocError>
-    ensures { OnOk result (Reports errors.old.items errors.new.items) }
+    ensures { OnOk result (NotesMore errors.old.items errors.new.items) }
 {
     let alloc = *errors.allocator();
     let twice = format!(in alloc; "Type with name '{}' defined more than once", ty.name.0)?;

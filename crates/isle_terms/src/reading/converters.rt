@@ -3,7 +3,7 @@
 ghost use Rattle.std.specs.Prelude.{[], OnOk};
 ghost use Rattle.isle_model.specs.claims.Environments.{TypesRead, AreReadable};
 ghost use Rattle.isle_base.specs.SyntaxViews.{converter_view, definition_view, definition_views};
-ghost use Rattle.isle_types.specs.Reading.{Reports};
+ghost use Rattle.isle_base.specs.Noting.{NotesMore};
 ghost use Rattle.isle_terms.specs.Reading.{IsWithin};
 ghost use Rattle.isle_terms.specs.Signing.{ReadsTerms};
 ghost use Rattle.isle_terms.specs.Converting.{ConvertersRead, ReadsConverter, ReadsIfConverter};
@@ -86,7 +86,7 @@ impl TermTable {
 
 // Notes a converter of a pair of types that has one already.
 fn report_converted(errors: &mut Vec<Error>, converter: &Converter) -> Result<(), AllocError>
-    ensures { OnOk result (Reports errors.old.items errors.new.items) }
+    ensures { OnOk result (NotesMore errors.old.items errors.new.items) }
 {
     let alloc = *errors.allocator();
     let msg = format!(in alloc;

@@ -7,7 +7,7 @@ ghost use Rattle.isle_model.specs.lists.Tables.{external_constructor, external_e
 ghost use Rattle.isle_base.specs.SyntaxViews.{definition_view, definition_views, extern_view, name_view, position};
 ghost use Rattle.isle_types.specs.Envs.{IsInterned};
 ghost use Rattle.isle_types.specs.EnvViews.{environment_view};
-ghost use Rattle.isle_types.specs.Reading.{Reports};
+ghost use Rattle.isle_base.specs.Noting.{NotesMore};
 ghost use Rattle.isle_types.specs.VariantReading.{ReportsIf};
 ghost use Rattle.isle_terms.specs.Externing.{lacks_constructor, lacks_extractor, made_by_this, taken_by_this, ReadsKind};
 ghost use Rattle.isle_terms.specs.ExternStages.{ExternsRead, ReadsExtern, ReadsIfExtern};
@@ -219,7 +219,7 @@ fn report_second(
     pos: Pos,
     earlier: &ExtractorKind,
 ) -> Result<(), AllocError>
-    ensures { OnOk result (Reports errors.old.items errors.new.items) }
+    ensures { OnOk result (NotesMore errors.old.items errors.new.items) }
 {
     let (second, first) = match earlier {
         ExtractorKind::ExternalExtractor { .. } => (
@@ -242,7 +242,7 @@ fn report_after(
     what: &str,
     name: &Ident,
 ) -> Result<(), AllocError>
-    ensures { OnOk result (Reports errors.old.items errors.new.items) }
+    ensures { OnOk result (NotesMore errors.old.items errors.new.items) }
 {
     let alloc = *errors.allocator();
     let msg = format!(in alloc; "{what} {}", name.0)?;

@@ -5,7 +5,7 @@ ghost use Rattle.std.specs.List.{flat_map};
 ghost use Rattle.isle_model.specs.lists.TermTable.{made_by, terms_made, variant_as_term, struct_as_term};
 ghost use Rattle.isle_base.specs.SyntaxViews.{position};
 ghost use Rattle.isle_types.specs.TypeViews.{fields_view, type_view, type_views, variant_view};
-ghost use Rattle.isle_types.specs.Reading.{Reports};
+ghost use Rattle.isle_base.specs.Noting.{NotesMore};
 ghost use Rattle.isle_terms.specs.Reading.{IsWithin};
 ghost use Rattle.isle_terms.specs.TermViews.{kind_view};
 ghost use Rattle.isle_terms.specs.Signing.{AddsMade, PushesTerm, made_entry};
@@ -155,7 +155,7 @@ fn report_taken(
     what: &str,
     name: Sym,
 ) -> Result<(), AllocError>
-    ensures { OnOk result (Reports errors.old.items errors.new.items) }
+    ensures { OnOk result (NotesMore errors.old.items errors.new.items) }
 {
     let alloc = *errors.allocator();
     let msg = format!(in alloc; "{what} '{}'", tyenv.text_of(name))?;

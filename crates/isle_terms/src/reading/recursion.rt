@@ -3,7 +3,7 @@
 //! root it is met from. The path is kept in a list, so that a long chain of templates takes no stack.
 
 ghost use Rattle.std.specs.Prelude.{◌≡◌, ◌+◌, ◌-◌, ◌<◌, ◌^◌, All, IfOk, IfSome, OnOk, MatchOption, Some, get_or, is_some, length, option_map, slice_get};
-ghost use Rattle.isle_types.specs.Reading.{Reports};
+ghost use Rattle.isle_base.specs.Noting.{NotesMore};
 ghost use Rattle.isle_terms.specs.Signing.{Notes};
 ghost use Rattle.isle_terms.specs.TermViews.{term_view};
 ghost use Rattle.isle_terms.specs.Templating.{AreCallees, callees_of};
@@ -91,7 +91,7 @@ impl TermTable {
     ) -> Result<(), AllocError>
         requires root { root.0 < length self.now.terms.items }
         requires path { All (λ t. t.0 < length self.now.terms.items) path.now }
-        ensures { OnOk result (Reports errors.old.items errors.new.items) }
+        ensures { OnOk result (NotesMore errors.old.items errors.new.items) }
     {
         let alloc = *errors.allocator();
         let name = tyenv.text_of(self.terms[root.index()].name);

@@ -4,7 +4,7 @@ ghost use Rattle.std.specs.Prelude.{◌≡◌, ◌++◌, ◌<◌, ◌≤◌, [],
 ghost use Rattle.isle_model.specs.claims.Environments.{TypesRead, AreReadable};
 ghost use Rattle.isle_model.specs.lists.TermTable.{arguments_in, extractor_template, terms_in};
 ghost use Rattle.isle_base.specs.SyntaxViews.{definition_view, definition_views, extractor_view, name_view, pattern_view};
-ghost use Rattle.isle_types.specs.Reading.{Reports};
+ghost use Rattle.isle_base.specs.Noting.{NotesMore};
 ghost use Rattle.isle_types.specs.VariantReading.{ReportsIf};
 ghost use Rattle.isle_terms.specs.Reading.{IsWithin, term_of_name};
 ghost use Rattle.isle_terms.specs.Signing.{Notes, ReadsTerms};
@@ -269,7 +269,7 @@ fn report_unknown(
     term: &Ident,
     name: &Ident,
 ) -> Result<(), AllocError>
-    ensures { OnOk result (Reports errors.old.items errors.new.items) }
+    ensures { OnOk result (NotesMore errors.old.items errors.new.items) }
 {
     let alloc = *errors.allocator();
     let msg = format!(in alloc;
@@ -320,7 +320,7 @@ fn report_again(
     pos: Pos,
     earlier: &ExtractorKind,
 ) -> Result<(), AllocError>
-    ensures { OnOk result (Reports errors.old.items errors.new.items) }
+    ensures { OnOk result (NotesMore errors.old.items errors.new.items) }
 {
     report(errors, pos, "Duplicate extractor definition")?;
     let what = "Extractor was already defined here";

@@ -3,7 +3,9 @@
 ghost use Rattle.std.specs.Prelude.{[], OnErr, OnOk};
 ghost use Rattle.isle_model.specs.claims.Environments.{TypesRead, AreReadable, AreTermsOf, IsLeftByRefusal, IsReadAs};
 ghost use Rattle.isle_model.specs.lists.TermTable.{IsValidTerms};
-ghost use Rattle.isle_base.specs.Answers.{Answers, NoLimit};
+ghost use Rattle.isle_model.specs.claims.Refusals.{RefusesTerms};
+ghost use Rattle.isle_base.specs.Answers.{Answers, NoLimit, OnErrors};
+ghost use Rattle.isle_base.specs.ErrorViews.{error_views};
 ghost use Rattle.isle_base.specs.SyntaxViews.{definition_views};
 ghost use Rattle.isle_types.specs.EnvViews.{environment_view};
 ghost use Rattle.isle_terms.specs.Recursion.{ExtractorsRead};
@@ -34,6 +36,7 @@ impl TermTable {
             (λ table. AreTermsOf read (definition_views defs.now) (shown_by table) (environment_view tyenv.new)) }
         ensures left { OnErr result (IsLeftByRefusal read (environment_view tyenv.new)) }
         ensures no_limit { NoLimit result }
+        ensures refused { OnErrors result (λ es. RefusesTerms read (definition_views defs.now) (error_views es)) }
     {
         let mut table = TermTable {
             terms: Vec::new(alloc),

@@ -5,7 +5,7 @@ ghost use Rattle.std.specs.Prelude.{◌≡◌, ◌&&◌, [], map, option_map, On
 ghost use Rattle.isle_model.specs.lists.Syntax.{enum_value, struct_value};
 ghost use Rattle.isle_base.specs.SyntaxViews.{name_view, fields_view, variant_view, type_view, definition_view, definition_views};
 ghost use Rattle.isle_types.specs.Envs.{names_of, IsInterned};
-ghost use Rattle.isle_types.specs.Reading.{Reports, MayReport};
+ghost use Rattle.isle_base.specs.Noting.{NotesMore, MayNoteMore};
 ghost use Rattle.isle_types.specs.Promises.{TypeIsRead, PrimitiveIsRead, ValueIsRead, VariantsAreRead, OneVariantIsRead, DefinitionIsFilled};
 ghost use Rattle.isle_types.specs.Stages.{NamesTypes, FillsTypes};
 ghost use Rattle.isle_types.specs.VariantReading.{ReportsIf, IsNumberOf};
@@ -29,7 +29,7 @@ impl TypeEnv {
     ) -> Result<Option<Type>, AllocError>
         requires { IsInterned self.old }
         ensures inverse { IsInterned self.new }
-        ensures noted { OnOk result (MayReport errors.old.items errors.new.items) }
+        ensures noted { OnOk result (MayNoteMore errors.old.items errors.new.items) }
         ensures reads { IfOk result (λ o. TypeIsRead id.0 (type_view ty.now) o self.old errors.old.items self.new errors.new.items) }
     {
         let name = self.intern_mut(&ty.name)?;
@@ -50,7 +50,7 @@ impl TypeEnv {
     ) -> Result<Option<Type>, AllocError>
         requires { IsInterned self.old }
         ensures inverse { IsInterned self.new }
-        ensures noted { OnOk result (MayReport errors.old.items errors.new.items) }
+        ensures noted { OnOk result (MayNoteMore errors.old.items errors.new.items) }
         ensures reads { IfOk result (λ o. PrimitiveIsRead id.0 (type_view ty.now) (name_view inner.now) o
             self.old errors.old.items self.new errors.new.items) }
     {
@@ -78,7 +78,7 @@ impl TypeEnv {
         requires inverse { IsInterned self.old }
         requires name { IsNumberOf name.0 (string_bytes ty.now.name.0) (names_of self.old) }
         ensures inverse { IsInterned self.new }
-        ensures noted { OnOk result (MayReport errors.old.items errors.new.items) }
+        ensures noted { OnOk result (MayNoteMore errors.old.items errors.new.items) }
         ensures reads { IfOk result (λ o. ValueIsRead id.0 (type_view ty.now) (enum_value (map variant_view variants.now)) o
             self.old errors.old.items self.new errors.new.items) }
     {
@@ -110,7 +110,7 @@ impl TypeEnv {
         requires inverse { IsInterned self.old }
         requires name { IsNumberOf name.0 (string_bytes ty.now.name.0) (names_of self.old) }
         ensures inverse { IsInterned self.new }
-        ensures noted { OnOk result (MayReport errors.old.items errors.new.items) }
+        ensures noted { OnOk result (MayNoteMore errors.old.items errors.new.items) }
         ensures reads { IfOk result (λ o. ValueIsRead id.0 (type_view ty.now) (struct_value (fields_view fields.now)) o
             self.old errors.old.items self.new errors.new.items) }
     {
@@ -139,7 +139,7 @@ impl TypeEnv {
     ) -> Result<Option<Vec<Variant>>, AllocError>
         requires { IsInterned self.old }
         ensures inverse { IsInterned self.new }
-        ensures noted { OnOk result (MayReport errors.old.items errors.new.items) }
+        ensures noted { OnOk result (MayNoteMore errors.old.items errors.new.items) }
         ensures reads { IfOk result (λ o. VariantsAreRead (string_bytes ty.now.0) (map variant_view variants.now) (option_map (λ v. v.items) o)
             self.old errors.old.items self.new errors.new.items) }
     {
@@ -167,7 +167,7 @@ impl TypeEnv {
     ) -> Result<Option<Variant>, AllocError>
         requires { IsInterned self.old }
         ensures inverse { IsInterned self.new }
-        ensures noted { OnOk result (MayReport errors.old.items errors.new.items) }
+        ensures noted { OnOk result (MayNoteMore errors.old.items errors.new.items) }
         ensures reads { IfOk result (λ o. OneVariantIsRead (string_bytes ty.now.0) id.0 (variant_view variant.now) o
             self.old errors.old.items seen.old self.new errors.new.items seen.new) }
     {
@@ -194,7 +194,7 @@ impl TypeEnv {
     fn fill_definition(&mut self, errors: &mut Vec<Error>, def: &Def) -> Result<(), AllocError>
         requires { IsInterned self.old }
         ensures inverse { IsInterned self.new }
-        ensures noted { OnOk result (MayReport errors.old.items errors.new.items) }
+        ensures noted { OnOk result (MayNoteMore errors.old.items errors.new.items) }
         ensures fills { OnOk result (DefinitionIsFilled (definition_view def.now) self.old errors.old.items self.new errors.new.items) }
     {
         let Def::TypeDef(ty) = def else {
@@ -240,7 +240,7 @@ fn report_duplicate_variant(
     errors: &mut Vec<Error>,
     variant: &syntax::Variant,
 ) -> Result<(), AllocError>
-    ensures { OnOk result (Reports errors.old.items errors.new.items) }
+    ensures { OnOk result (NotesMore errors.old.items errors.new.items) }
 {
     let alloc = *errors.allocator();
     let text = format!(in alloc; "Duplicate variant name in type: '{}'", variant.name.0)?;

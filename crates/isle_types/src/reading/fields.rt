@@ -7,7 +7,8 @@ ghost use Rattle.isle_base.specs.SyntaxViews.{fields_view, field_view, tuple_fie
 ghost use Rattle.isle_types.specs.Envs.{IsInterned};
 ghost use Rattle.isle_types.specs.FieldReading.{ReadsField, ReadsTupleField};
 ghost use Rattle.isle_types.specs.Promises.{FieldsAreRead};
-ghost use Rattle.isle_types.specs.Reading.{MayReport, MeetsNames, Reports};
+ghost use Rattle.isle_base.specs.Noting.{MayNoteMore, NotesMore};
+ghost use Rattle.isle_types.specs.Reading.{MeetsNames};
 
 use crate::ids::{FieldId, Sym};
 use crate::reading::report;
@@ -29,7 +30,7 @@ impl TypeEnv {
     ) -> Result<Option<Fields>, AllocError>
         requires { IsInterned self.old }
         ensures inverse { IsInterned self.new }
-        ensures noted { OnOk result (MayReport errors.old.items errors.new.items) }
+        ensures noted { OnOk result (MayNoteMore errors.old.items errors.new.items) }
         ensures reads { IfOk result (λ o. FieldsAreRead (fields_view fields.now) o self.old errors.old.items self.new errors.new.items) }
     {
         match fields {
@@ -54,7 +55,7 @@ impl TypeEnv {
     ) -> Result<Option<StructFields>, AllocError>
         requires { IsInterned self.old }
         ensures inverse { IsInterned self.new }
-        ensures noted { OnOk result (MayReport errors.old.items errors.new.items) }
+        ensures noted { OnOk result (MayNoteMore errors.old.items errors.new.items) }
         ensures reads { IfOk result (λ o. FieldsAreRead (struct_fields (map field_view fields.now)) (option_map Fields.Struct o)
             self.old errors.old.items self.new errors.new.items) }
     {
@@ -107,7 +108,7 @@ impl TypeEnv {
         variant: Option<&Ident>,
     ) -> Result<Option<TupleFields>, AllocError>
         requires { IsInterned self.now }
-        ensures noted { OnOk result (MayReport errors.old.items errors.new.items) }
+        ensures noted { OnOk result (MayNoteMore errors.old.items errors.new.items) }
         ensures reads { IfOk result (λ o. FieldsAreRead (tuple_fields (map tuple_field_view fields.now)) (option_map Fields.Tuple o)
             self.now errors.old.items self.now errors.new.items) }
     {
@@ -148,7 +149,7 @@ fn report_duplicate_field(
     field: &syntax::StructField,
     variant: Option<&Ident>,
 ) -> Result<(), AllocError>
-    ensures { OnOk result (Reports errors.old.items errors.new.items) }
+    ensures { OnOk result (NotesMore errors.old.items errors.new.items) }
 {
     let alloc = *errors.allocator();
     let name = &field.name.0;
@@ -171,7 +172,7 @@ fn report_unknown_type(
     field: &str,
     variant: Option<&Ident>,
 ) -> Result<(), AllocError>
-    ensures { OnOk result (Reports errors.old.items errors.new.items) }
+    ensures { OnOk result (NotesMore errors.old.items errors.new.items) }
 {
     let alloc = *errors.allocator();
     let msg = match variant {

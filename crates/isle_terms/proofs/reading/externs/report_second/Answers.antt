@@ -1,5 +1,5 @@
 use Rattle.std.proofs.lemmas.Result.{on_ok_weaker}
-use Rattle.isle_types.proofs.Reports.{both}
+use Rattle.isle_base.proofs.Noted.{both}
 use Rattle.isle_terms.proofs.reading.externs.report_second.Goals as goal
 
 pub returns : goal.returns

@@ -2,7 +2,7 @@ use Rattle.std.proofs.Common.{◌≡◌, ◌≤◌, None, length, sym, subst, in
 use Rattle.std.proofs.lemmas.List.{take_all}
 use Rattle.std.proofs.lemmas.Result.{on_ok_weaker}
 use Rattle.isle_terms.specs.TermTables.{term_at}
-use Rattle.isle_types.specs.Reading.{Reports}
+use Rattle.isle_base.specs.Noting.{NotesMore}
 use Rattle.isle_terms.specs.Signing.{GrowsBy}
 use Rattle.isle_terms.proofs.Making.{none_mapped, some_mapped, next_variant, taken_variant, variant_numbers_of, variant_entries_of}
 use Rattle.isle_terms.proofs.term_table.TermTable.add_variants.Goals as goal
@@ -11,7 +11,7 @@ pub returns-then-contains_key-clause-adds : goal.returns-then-contains_key-claus
 returns-then-contains_key-clause-adds c =
     let taken = some_mapped (λ t. t.0) _ (sym c.contains_key.ensures.value ∙ c.if-contains_key.true) in
     on_ok_weaker c.report_taken.result (λ r. inr (
-      subst (λ l. Reports l c.report_taken.new.errors.items) c.loop-variant.invariant.1 r,
+      subst (λ l. NotesMore l c.report_taken.new.errors.items) c.loop-variant.invariant.1 r,
       taken_variant c.args.ty.0 c.args.variants.now c.loop-variant.variant-index c.variant-item.result (search rules) c.variant-item.is c.args.self.now c.loop-variant.self taken.0 taken.1 c.loop-variant.invariant.2,
     )) c.report_taken.ensures
 

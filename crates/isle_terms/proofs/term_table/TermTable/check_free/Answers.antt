@@ -1,6 +1,6 @@
 use Rattle.std.proofs.Common.{◌≡◌, Some, option_map, sym, ap, inr}
 use Rattle.std.proofs.lemmas.Result.{on_ok_weaker}
-use Rattle.isle_types.proofs.Reports.{both}
+use Rattle.isle_base.proofs.Noted.{both}
 use Rattle.isle_terms.specs.TermTables.{term_at}
 use Rattle.isle_terms.proofs.term_table.TermTable.check_free.Goals as goal
 

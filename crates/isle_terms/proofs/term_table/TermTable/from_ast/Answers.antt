@@ -5,7 +5,7 @@ use Rattle.isle_terms.specs.Converting.{ConvertersRead}
 use Rattle.isle_terms.specs.ExternStages.{ExternsRead}
 use Rattle.isle_terms.specs.Recursion.{ExtractorsRead}
 use Rattle.isle_terms.proofs.Rooting.{nothing}
-use Rattle.isle_terms.proofs.Whole.{first_declared, first_extern, right_now, all_read}
+use Rattle.isle_terms.proofs.Whole.{first_declared, first_extern, right_now, all_read, why_refused}
 use Rattle.isle_terms.proofs.term_table.TermTable.from_ast.Goals as goal
 
 pub read_signatures-requires : goal.read_signatures-requires
@@ -35,3 +35,15 @@ returns-clause-answers g c =
     let converters = right_now g.read defs (ConvertersRead g.read defs defs) env c.read_converters.new.self c.read_converters.new.errors.items c.in_ok-read_converters.ensures (nothing _ none_then) in
     let externs = right_now g.read defs (ExternsRead g.read defs defs) c.read_externs.new.tyenv c.read_externs.new.self c.read_externs.new.errors.items c.in_ok-read_externs.ensures.reads (nothing _ none_left) in
     all_read g.read c.requires.0 defs c.read_externs.new.tyenv env c.read_externs.new.self c.read_definitions.new.self c.in_ok-read_externs.ensures.left extractors (c.read_converters.new.self, converters) externs
+
+pub returns-then-not-is_empty-clause-refused : goal.returns-then-not-is_empty-clause-refused
+returns-then-not-is_empty-clause-refused g c = why_refused g.read _ _ _ _ _ c.in_ok-read_signatures.ensures.reads (search rules)
+
+pub returns-then-not-is_empty-2-clause-refused : goal.returns-then-not-is_empty-2-clause-refused
+returns-then-not-is_empty-2-clause-refused g c = why_refused g.read _ _ _ _ _ c.in_ok-read_definitions.ensures (search rules)
+
+pub returns-then-not-is_empty-3-clause-refused : goal.returns-then-not-is_empty-3-clause-refused
+returns-then-not-is_empty-3-clause-refused g c = why_refused g.read _ _ _ _ _ c.in_ok-read_converters.ensures (search rules)
+
+pub returns-then-not-is_empty-4-clause-refused : goal.returns-then-not-is_empty-4-clause-refused
+returns-then-not-is_empty-4-clause-refused g c = why_refused g.read _ _ _ _ _ c.in_ok-read_externs.ensures.reads (search rules)

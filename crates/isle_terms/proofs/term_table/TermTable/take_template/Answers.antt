@@ -5,7 +5,7 @@ use Rattle.std.proofs.lemmas.Option.{same_Some}
 use Rattle.isle_model.specs.lists.Tables.{TermEntry, internal_extractor}
 use Rattle.isle_model.specs.lists.TermTable.{arguments_in, extractor_template}
 use Rattle.isle_base.specs.SyntaxViews.{extractor_view, pattern_view}
-use Rattle.isle_types.specs.Reading.{Reports}
+use Rattle.isle_base.specs.Noting.{NotesMore}
 use Rattle.isle_types.specs.VariantReading.{ReportsIf}
 use Rattle.isle_terms.specs.TermViews.{term_view, term_views}
 use Rattle.isle_terms.specs.Externing.{taken_by_this, with_kind}
@@ -63,7 +63,7 @@ returns-clause-notes c =
       },
     ))
     (λ r. inr (
-      subst (λ es. Reports es c.check_arguments.new.errors.items) noted r.0,
+      subst (λ es. NotesMore es c.check_arguments.new.errors.items) noted r.0,
       record {
         entry = term_view c.index-2.result.now;
         at = at;

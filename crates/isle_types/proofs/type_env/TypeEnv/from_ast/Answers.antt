@@ -1,6 +1,7 @@
 use Rattle.std.proofs.Common.{◌≡◌, [], ap, length, rules}
+use Rattle.isle_base.proofs.Noted.{name_no_limit}
 use Rattle.isle_types.proofs.Naming.{first_name}
-use Rattle.isle_types.proofs.Ending.{at_ok, at_err}
+use Rattle.isle_types.proofs.Ending.{at_ok, at_err, why_refused}
 use Rattle.isle_types.proofs.WellFormedEnvs.{types_shown, well_formed}
 use Rattle.isle_types.proofs.type_env.TypeEnv.from_ast.Goals as goal
 use Rattle.std.proofs.lemmas.List.{nil_from_length}
@@ -30,3 +31,11 @@ returns-else-is_empty-clause-answers c =
     let many : length c.read_constants.new.errors.items ≡ 0 → ⊥ = search rules in
     let some : c.read_constants.new.errors.items ≡ [] → ⊥ = λ e. many (ap length e) in
     (some, at_err _ _ _ c.in_ok-read_constants.ensures some)
+
+pub returns-else-is_empty-clause-no_limit : goal.returns-else-is_empty-clause-no_limit
+returns-else-is_empty-clause-no_limit c = name_no_limit _ c.in_ok-read_constants.ensures.ill_typed
+
+pub returns-else-is_empty-clause-refused : goal.returns-else-is_empty-clause-refused
+returns-else-is_empty-clause-refused c =
+    let many : length c.read_constants.new.errors.items ≡ 0 → ⊥ = search rules in
+    why_refused _ _ _ c.in_ok-read_constants.ensures (λ e. many (ap length e))

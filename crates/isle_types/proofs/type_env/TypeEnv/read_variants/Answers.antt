@@ -2,7 +2,7 @@ use Rattle.std.proofs.Common.{rules, ◌≡◌, ◌<◌, ◌≤◌, length, map,
 use Rattle.std.proofs.lemmas.List.{take_all}
 use Rattle.isle_base.specs.SyntaxViews.{variant_view}
 use Rattle.isle_types.specs.VariantReading.{VariantsRead}
-use Rattle.isle_types.proofs.Reports.{may_both}
+use Rattle.isle_base.proofs.Noted.{may_both}
 use Rattle.isle_types.proofs.VariantRuns.{run_more, run_wrong, one_more, all_there}
 use Rattle.isle_types.proofs.type_env.TypeEnv.read_variants.Goals as goal
 
