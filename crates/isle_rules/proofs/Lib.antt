@@ -20,6 +20,7 @@ pub mod Readings
 pub mod Bindings
 pub mod Scopes
 pub mod PatternLeaves
+mod TermCopies
 pub mod TermsFound
 pub mod PatternUsing
 pub mod PatternLists

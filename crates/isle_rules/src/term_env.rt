@@ -13,14 +13,14 @@ ghost use Rattle.isle_terms.specs.Whole.{shown_by};
 ghost use Rattle.isle_rules.specs.ErrorViews.{error_views};
 ghost use Rattle.isle_rules.specs.ShownEnvs.{terms_shown_by, environment_shown_by};
 ghost use Rattle.isle_rules.specs.TermEnvs.{term_in_env, rule_in_env, variant_term_in};
-ghost use Rattle.std.specs.Prelude.{◌≡◌, Some, IsSome, OnErr, option_map, option_and_then, string_bytes};
+ghost use Rattle.std.specs.Prelude.{◌≡◌, Some, IsSome, IfOk, OnErr, option_map, option_and_then, string_bytes};
 
 use crate::rules::Rule;
 use isle_base::stablemapset::StableMap;
 use isle_base::syntax::{Def, Fault, Ident};
 use isle_terms::{Term, TermTable};
 use isle_types::{RuleId, Sym, TermId, TypeEnv, TypeId, VariantId};
-use std::alloc::Global;
+use std::alloc::{AllocError, Global};
 
 /// All terms, and all rules in typed form: what the meaning of a list of definitions is read from.
 #[derive(Debug)]
@@ -127,6 +127,24 @@ impl TermEnv {
     {
         let variant = tyenv.get_variant(ty, variant);
         self.term_map[&variant.fullname]
+    }
+
+    /// Another environment that shows the same. Stands for upstream's `Clone`, since memory can be refused.
+    ///
+    /// # Errors
+    ///
+    /// Where memory is refused.
+    pub fn clone(&self) -> Result<TermEnv, AllocError>
+        ensures { IfOk result (λ copy. environment_shown_by copy ≡ environment_shown_by self.now) }
+    {
+        Ok(TermEnv {
+            terms: self.terms.clone()?,
+            term_map: self.term_map.clone()?,
+            rules: self.rules.clone()?,
+            rule_map: self.rule_map.clone()?,
+            converters: self.converters.clone()?,
+            expand_internal_extractors: self.expand_internal_extractors,
+        })
     }
 }
 
