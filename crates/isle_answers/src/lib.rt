@@ -2,6 +2,6 @@
 #![tactic(auto)]
 
 pub mod rows;
+mod rules;
 pub mod run;
-mod terms;
 pub mod texts;

@@ -29,9 +29,9 @@ pub fn run_rows<R: Read + Drop, O: Write, E: Write>(
 /// A row is a line that begins with `# `, a name after it, and the text up to the next such line. What stands before the
 /// first row is passed over. Words after the name say how the row is answered: `no-expand`, internal extractors aren't
 /// expanded; `lines`, places are lines and columns of the row's text; `prefixes`, in place of the whole text each
-/// beginning of it that ends with a line is answered, after a line `## ` with the number of its lines; `terms`, types and
-/// terms alone are read, of all forms, and where nothing is wrong with them the answer is a line with their number; `rules`,
-/// rules are read too, of all forms, and further lines have their names and variables; `typed`, their typed parts too.
+/// beginning of it that ends with a line is answered, after a line `## ` with the number of its lines; `rules`, nothing is
+/// lowered, and where nothing is wrong with the rules the answer is a line with the number of terms and a line for each
+/// rule, with its name and its variables; `typed`, the same with the typed parts of each rule.
 pub fn answers(alloc: Global, text: &str) -> Result<String, AllocError> {
     let mut out = String::new(alloc);
     let mut row = Row {
@@ -89,8 +89,6 @@ fn wanted_by(line: &str) -> Wanted {
         Wanted::TypedRules
     } else if has_word(line, "rules") {
         Wanted::Rules
-    } else if has_word(line, "terms") {
-        Wanted::Terms
     } else {
         Wanted::Trees
     }

@@ -1,6 +1,6 @@
 //! Definitions as text, and what is answered to them.
 
-use crate::terms::{answer_to_rules, answer_to_terms};
+use crate::rules::answer_to_rules;
 use isle_base::syntax::Def;
 use isle_printing::places::Places;
 use isle_program::answers::{Answer, answer_to};
@@ -20,14 +20,11 @@ pub struct Asked {
     pub wanted: Wanted,
 }
 
-/// What is answered to definitions where nothing is wrong with them. Lowering doesn't carry all forms yet, and reading
-/// terms and rules does.
+/// What is answered to definitions where nothing is wrong with them.
 #[derive(Clone, Copy)]
 pub enum Wanted {
     /// Their trees.
     Trees,
-    /// The number of their terms: rules aren't read.
-    Terms,
     /// The number of their terms, and each rule's name and variables.
     Rules,
     /// The same with each rule's parts, typed.
@@ -53,7 +50,6 @@ fn answer_to_defs(
     let places = places(text, defs, asked);
     match asked.wanted {
         Wanted::Trees => answer_to(alloc, defs, asked.expand, places),
-        Wanted::Terms => answer_to_terms(alloc, defs, places),
         Wanted::Rules => answer_to_rules(alloc, defs, asked.expand, false, places),
         Wanted::TypedRules => answer_to_rules(alloc, defs, asked.expand, true, places),
     }

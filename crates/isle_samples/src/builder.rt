@@ -1,15 +1,18 @@
 //! Lists of definitions, written out one after another.
 
 ghost use Rattle.std.specs.Prelude.{◌≡◌, [], IfOk, OnOk, OnErr, map, length};
-ghost use Rattle.isle_base.specs.SyntaxViews.{decl_view, definition_view, definition_views, expr_view, field_view, fields_view, name_view, pattern_view, pattern_views, position, rule_view, type_value_view, variant_view};
-ghost use Rattle.isle_model.specs.lists.Syntax.{declaration, int_expr, int_pattern, rule_definition, struct_fields};
-ghost use Rattle.isle_samples.specs.Written.{WritesOne, at, decl_at, field_in, name_at, name_in, primitive_at, plain_rule_at, type_in, use_at, var_at, variant_in, written};
+ghost use Rattle.isle_base.specs.SyntaxViews.{decl_view, definition_view, definition_views, expr_view, extractor_view, field_view, fields_view, name_view, pattern_view, pattern_views, position, rule_view, type_value_view, variant_view};
+ghost use Rattle.isle_model.specs.lists.Syntax.{declaration, rule_definition, struct_fields, term_pattern, type_definition};
+ghost use Rattle.isle_examples.specs.Written.{at, conversion as conversion_at, constructor_by as constructor_at, decl as decl_at, enum as enum_at, extractor as extractor_def_at, extractor_by as extractor_by_at, decl_by_template as extractor_at, name as name_at, primitive as primitive_at, rule_tree as rule_at};
+ghost use Rattle.isle_samples.specs.Written.{WritesOne, field_in, name_in, type_in, variant_in, written};
 
 use isle_base::syntax::{
-    Decl, Def, Expr, Fields, Ident, Pattern, Pos, Rule, StructField, StructFields, Type, TypeValue,
-    Variant,
+    Converter, Decl, Def, Expr, Extern, Extractor, Fields, Ident, Pattern, Pos, Rule, StructField,
+    StructFields, Type, TypeValue, Variant,
 };
 use std::alloc::{AllocError, Global};
+
+mod parts;
 
 /// A list of definitions that is being written. Every position inside definition number d, counted
 /// from 0, is offset d of file 0, where a call isn't given another one.
@@ -83,7 +86,7 @@ impl Definitions {
 
     /// Adds `(type NAME (primitive INNER))`.
     pub fn primitive(&mut self, name: &str, inner: &str) -> Result<(), AllocError>
-        ensures added { OnOk result (WritesOne self.old self.new (λ d. primitive_at d name.now inner.now)) }
+        ensures added { OnOk result (WritesOne self.old self.new (λ d. type_definition (primitive_at d name.now inner.now))) }
         ensures err { OnErr result (written self.new ≡ written self.old) }
     {
         let pos = self.pos();
@@ -111,6 +114,15 @@ impl Definitions {
             ty,
             pos,
         }))
+    }
+
+    /// Adds `(type NAME (enum VARIANTS ..))`.
+    pub fn enumeration(&mut self, name: &str, variants: Vec<Variant>) -> Result<(), AllocError>
+        ensures added { OnOk result (WritesOne self.old self.new (λ d. type_definition (enum_at d name.now (map variant_view variants.items)))) }
+        ensures err { OnErr result (written self.new ≡ written self.old) }
+    {
+        let pos = self.pos();
+        self.define(pos, name, false, TypeValue::Enum(variants, pos))
     }
 
     /// `(NAME FIELDS ..)`, a variant at a position.
@@ -180,6 +192,79 @@ impl Definitions {
         self.push(Def::Decl(decl))
     }
 
+    /// Adds `(extern constructor TERM FUNCTION)`.
+    pub fn constructor(&mut self, term: &str, function: &str) -> Result<(), AllocError>
+        ensures added { OnOk result (WritesOne self.old self.new (λ d. constructor_at d term.now function.now)) }
+        ensures err { OnErr result (written self.new ≡ written self.old) }
+    {
+        let pos = self.pos();
+        let (term, func) = (self.ident(term)?, self.ident(function)?);
+        self.push(Def::Extern(Extern::Constructor { term, func, pos }))
+    }
+
+    /// Adds `(extern extractor TERM FUNCTION)`.
+    pub fn outer_extractor(&mut self, term: &str, function: &str) -> Result<(), AllocError>
+        ensures added { OnOk result (WritesOne self.old self.new (λ d. extractor_by_at d term.now function.now)) }
+        ensures err { OnErr result (written self.new ≡ written self.old) }
+    {
+        let pos = self.pos();
+        let (term, func) = (self.ident(term)?, self.ident(function)?);
+        self.push(Def::Extern(Extern::Extractor {
+            term,
+            func,
+            pos,
+            infallible: false,
+        }))
+    }
+
+    /// Adds `(extractor (TERM ARGS ..) TEMPLATE)`.
+    pub fn extractor(
+        &mut self,
+        term: &str,
+        args: &[&str],
+        template: Pattern,
+    ) -> Result<(), AllocError>
+        ensures added { OnOk result (WritesOne self.old self.new (λ d. extractor_def_at d term.now (map (λ a. a.now) args.now) (pattern_view template))) }
+        ensures err { OnErr result (written self.new ≡ written self.old) }
+    {
+        let extractor = self.extractor_of(term, args, template)?;
+        self.push(Def::Extractor(extractor))
+    }
+
+    // That extractor.
+    fn extractor_of(
+        &self,
+        term: &str,
+        args: &[&str],
+        template: Pattern,
+    ) -> Result<Extractor, AllocError>
+        ensures { IfOk result (λ e. extractor_view e ≡ extractor_at (length (written self.now)) term.now (map (λ a. a.now) args.now) (pattern_view template)) }
+    {
+        let (term, args) = (self.ident(term)?, self.idents(args)?);
+        Ok(Extractor {
+            term,
+            args,
+            template,
+            pos: self.pos(),
+        })
+    }
+
+    /// Adds `(convert INNER OUTER TERM)`.
+    pub fn convert(&mut self, inner: &str, outer: &str, term: &str) -> Result<(), AllocError>
+        ensures added { OnOk result (WritesOne self.old self.new (λ d. conversion_at d inner.now outer.now term.now)) }
+        ensures err { OnErr result (written self.new ≡ written self.old) }
+    {
+        let pos = self.pos();
+        let term = self.ident(term)?;
+        let (inner_ty, outer_ty) = (self.ident(inner)?, self.ident(outer)?);
+        self.push(Def::Converter(Converter {
+            term,
+            inner_ty,
+            outer_ty,
+            pos,
+        }))
+    }
+
     /// `(rule PRIO (TERM ARGS ..) EXPR)` without if-lets and without a name.
     pub fn rule_of(
         &self,
@@ -188,7 +273,7 @@ impl Definitions {
         args: Vec<Pattern>,
         expr: Expr,
     ) -> Result<Rule, AllocError>
-        ensures { IfOk result (λ r. rule_view r ≡ plain_rule_at (length (written self.now)) prio term.now (pattern_views args.items) (expr_view expr)) }
+        ensures { IfOk result (λ r. rule_view r ≡ record (rule_at (length (written self.now)) (term_pattern (name_at (length (written self.now)) term.now) (pattern_views args.items) (at (length (written self.now)))) (expr_view expr)) { prio = prio }) }
     {
         let pos = self.pos();
         let pattern = Pattern::Term {
@@ -214,50 +299,10 @@ impl Definitions {
         args: Vec<Pattern>,
         expr: Expr,
     ) -> Result<(), AllocError>
-        ensures added { OnOk result (WritesOne self.old self.new (λ d. rule_definition (plain_rule_at d prio term.now (pattern_views args.items) (expr_view expr)))) }
+        ensures added { OnOk result (WritesOne self.old self.new (λ d. rule_definition (record (rule_at d (term_pattern (name_at d term.now) (pattern_views args.items) (at d)) (expr_view expr)) { prio = prio }))) }
         ensures err { OnErr result (written self.new ≡ written self.old) }
     {
         let rule = self.rule_of(prio, term, args, expr)?;
         self.push(Def::Rule(rule))
-    }
-
-    /// A variable as a pattern.
-    pub fn var(&self, name: &str) -> Result<Pattern, AllocError>
-        ensures { IfOk result (λ q. pattern_view q ≡ var_at (length (written self.now)) name.now) }
-    {
-        Ok(Pattern::Var {
-            var: self.ident(name)?,
-            pos: self.pos(),
-        })
-    }
-
-    /// An integer literal as a pattern.
-    pub fn int(&self, val: i128) -> Pattern
-        ensures { pattern_view result ≡ int_pattern val (at (length (written self.now))) }
-    {
-        Pattern::ConstInt {
-            val,
-            pos: self.pos(),
-        }
-    }
-
-    /// A variable as an expression.
-    pub fn use_of(&self, name: &str) -> Result<Expr, AllocError>
-        ensures { IfOk result (λ e. expr_view e ≡ use_at (length (written self.now)) name.now) }
-    {
-        Ok(Expr::Var {
-            name: self.ident(name)?,
-            pos: self.pos(),
-        })
-    }
-
-    /// An integer literal as an expression.
-    pub fn literal(&self, val: i128) -> Expr
-        ensures { expr_view result ≡ int_expr val (at (length (written self.now))) }
-    {
-        Expr::ConstInt {
-            val,
-            pos: self.pos(),
-        }
     }
 }

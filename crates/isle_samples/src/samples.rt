@@ -1,73 +1,37 @@
 //! The samples that the program lowers, by name.
 
 ghost use Rattle.std.specs.Prelude.{◌≡◌, IfOk, option_map};
-ghost use Rattle.isle_base.specs.SyntaxViews.{definition_views, position};
-ghost use Rattle.isle_samples.specs.Written.{at, builtin_definitions, fall_definitions, sample_definitions, types_definitions};
+ghost use Rattle.isle_base.specs.SyntaxViews.{definition_views};
+ghost use Rattle.isle_samples.specs.Written.{sample_definitions};
 
-use crate::builder::Definitions;
-use isle_base::syntax::{Def, Pos, TypeValue};
+use isle_base::syntax::Def;
 use std::alloc::{AllocError, Global};
+
+mod constructors;
+mod equalities;
+mod extractors;
+mod literals;
+mod types;
+mod variants;
 
 /// The definitions of the sample with this name, or None where there is no such sample.
 pub fn sample(alloc: Global, name: &str) -> Result<Option<Vec<Def>>, AllocError>
     ensures { IfOk result (λ defs. option_map (λ d. definition_views d.items) defs ≡ sample_definitions name.now) }
 {
-    match name {
-        "empty" => Ok(Some(Vec::new(alloc))),
-        "fall" => Ok(Some(fall(alloc)?)),
-        "types" => Ok(Some(types(alloc)?)),
-        "builtin" => Ok(Some(builtin(alloc)?)),
-        _ => Ok(None),
+    if let Some(defs) = types::sample(alloc, name)? {
+        return Ok(Some(defs));
     }
-}
-
-// (decl f (u8) u8) (rule 1 (f 1) 10) (rule (f x) x)
-fn fall(alloc: Global) -> Result<Vec<Def>, AllocError>
-    ensures { IfOk result (λ defs. definition_views defs.items ≡ fall_definitions) }
-{
-    let mut defs = Definitions::new(alloc);
-    defs.declare("f", &["u8"], "u8")?;
-    defs.rule(Some(1), "f", vec![in alloc; defs.int(1)]?, defs.literal(10))?;
-    defs.rule(
-        None,
-        "f",
-        vec![in alloc; defs.var("x")?]?,
-        defs.use_of("x")?,
-    )?;
-    Ok(defs.into_vec())
-}
-
-// (type UImm8 (primitive UImm8)) at offset 19 and (type A extern (enum (B (f1 u32) (f2 u32)) (C (f1
-// u32)))) at offset 62, its variants B and C at 77 and 99. What is inside a definition stands where that
-// does, and what is inside a variant where the variant does.
-fn types(alloc: Global) -> Result<Vec<Def>, AllocError>
-    ensures { IfOk result (λ defs. definition_views defs.items ≡ types_definitions) }
-{
-    let mut defs = Definitions::new(alloc);
-    let inner = TypeValue::Primitive(defs.ident_at(place(19), "UImm8")?, place(19));
-    defs.define(place(19), "UImm8", false, inner)?;
-    let b = defs.fields(place(77), &[("f1", "u32"), ("f2", "u32")])?;
-    let c = defs.fields(place(99), &[("f1", "u32")])?;
-    let variants = vec![in alloc;
-        defs.variant(place(77), "B", b)?,
-        defs.variant(place(99), "C", c)?,
-    ]?;
-    defs.define(place(62), "A", true, TypeValue::Enum(variants, place(62)))?;
-    Ok(defs.into_vec())
-}
-
-// A place in file 0.
-fn place(offset: usize) -> Pos
-    ensures { position result ≡ at offset }
-{
-    Pos { file: 0, offset }
-}
-
-// (type u8 (primitive X))
-fn builtin(alloc: Global) -> Result<Vec<Def>, AllocError>
-    ensures { IfOk result (λ defs. definition_views defs.items ≡ builtin_definitions) }
-{
-    let mut defs = Definitions::new(alloc);
-    defs.primitive("u8", "X")?;
-    Ok(defs.into_vec())
+    if let Some(defs) = literals::sample(alloc, name)? {
+        return Ok(Some(defs));
+    }
+    if let Some(defs) = equalities::sample(alloc, name)? {
+        return Ok(Some(defs));
+    }
+    if let Some(defs) = variants::sample(alloc, name)? {
+        return Ok(Some(defs));
+    }
+    if let Some(defs) = extractors::sample(alloc, name)? {
+        return Ok(Some(defs));
+    }
+    constructors::sample(alloc, name)
 }

@@ -1,25 +1,15 @@
-//! What is answered to the terms and rules of definitions, of all forms, while lowering doesn't carry them all.
+//! What is answered to definitions where their rules are wanted as they are read, without trees.
 
 use isle_base::syntax::{Def, Fault};
 use isle_printing::errors::error_lines;
 use isle_printing::places::Places;
 use isle_program::answers::Answer;
 use isle_rules::{Rule, TermEnv};
-use isle_terms::TermTable;
 use isle_types::TypeEnv;
 use std::alloc::{AllocError, Global};
 
-// The number of the terms of these definitions in a line, or one line for each error of their types and terms.
-pub(crate) fn answer_to_terms(
-    alloc: Global,
-    defs: &[Def],
-    places: Places<'_>,
-) -> Result<Answer, AllocError> {
-    let text = text_of_terms(alloc, defs);
-    answer_with(alloc, text, places)
-}
-
-// The same with their rules: a line for each, with its name and its variables, and its parts below it where `parts` says so.
+// The number of the terms of these definitions in a line and a line for each rule, with its name and its variables, and its
+// parts below it where `parts` says so; or one line for each error of reading them.
 pub(crate) fn answer_to_rules(
     alloc: Global,
     defs: &[Def],
@@ -42,12 +32,6 @@ fn answer_with(
         Err(Fault::Errors(errors)) => Ok(Answer::Errors(error_lines(alloc, &errors, places)?)),
         Err(Fault::Memory(e)) => Err(e),
     }
-}
-
-fn text_of_terms(alloc: Global, defs: &[Def]) -> Result<String, Fault> {
-    let mut tyenv = TypeEnv::from_ast(alloc, defs)?;
-    let table = TermTable::from_ast(alloc, &mut tyenv, defs)?;
-    Ok(number_of_terms(alloc, table.terms.len())?)
 }
 
 fn text_of_rules(alloc: Global, defs: &[Def], expand: bool, parts: bool) -> Result<String, Fault> {
