@@ -1,5 +1,12 @@
-//! Tests of what programs answer to their words, and of what they do where output fails.
+//! Tests of what programs answer to their words, and of what they do where output fails; and of trees, judged by code that
+//! shares nothing with the code that makes them.
 #![tactic(auto)]
 
+#[cfg(test)]
+mod generated;
+#[cfg(test)]
+mod judge;
+#[cfg(test)]
+mod places;
 #[cfg(test)]
 mod tests;

@@ -1,0 +1,226 @@
+// Trees of generated definitions, judged; and trees that the judge refuses.
+use crate::generated::{FORMS, list};
+use crate::judge::{Fault, judge};
+use cranelift_isle::lower::{Lowered, lower};
+use isle_base::syntax;
+use isle_base::syntax::Pos;
+use isle_serialize::serialize::{Block, ControlFlow, EvalStep, MatchArm};
+use isle_sets::trie_again::{BindingId, Constraint};
+use isle_text::read;
+use isle_types::TypeId;
+use std::alloc::{AllocError, Global};
+use std::process::Abort;
+use std::test::Fail;
+
+// Terms of more sites are passed over.
+const MOST_SITES: usize = 12;
+
+// What the definitions of a text become, or None where they are refused.
+fn lowered(alloc: Global, text: &str) -> Result<Option<Lowered>, Fail> {
+    let defs = read(alloc, 0, text)?;
+    match lower(alloc, &defs, true) {
+        Ok(lowered) => Ok(Some(lowered)),
+        Err(syntax::Fault::Errors(_)) => Ok(None),
+        Err(syntax::Fault::Memory(e)) => Err(Fail::from(e)),
+    }
+}
+
+// Judges the trees of a list, and says how many there are: those of refused definitions, or of many sites, aren't.
+fn judged(rt: &impl Abort, alloc: Global, number: u64) -> Result<usize, Fail> {
+    let text = list(alloc, number, FORMS)?;
+    let mut count = 0usize;
+    if let Some(lowered) = lowered(alloc, &text)? {
+        for term in &lowered.terms {
+            if term.rules.bindings.len() <= MOST_SITES {
+                let fault = judge(alloc, &term.rules, &term.block)?;
+                assert_eq!(rt; fault, None, "list {number}");
+                count = count.saturating_add(1);
+            }
+        }
+    }
+    Ok(count)
+}
+
+// Judges a hundred lists, of which 40 or more have a tree.
+fn judge_hundred(rt: &impl Abort, alloc: Global, first: u64) -> Result<(), Fail> {
+    let mut count = 0usize;
+    for number in first..first.saturating_add(100) {
+        count = count.saturating_add(judged(rt, alloc, number)?);
+    }
+    assert!(rt; count >= 40);
+    Ok(())
+}
+
+#[test]
+fn first_hundred_trees_are_best(rt: HostRuntime) -> Result<(), Fail> {
+    judge_hundred(&rt, rt.alloc(), 0)
+}
+
+#[test]
+fn probe(rt: HostRuntime) -> Result<(), Fail> {
+    let alloc = rt.alloc();
+    let mut count = 0usize;
+    for number in 0..500 {
+        count = count.saturating_add(judged(&rt, alloc, number)?);
+    }
+    println!(rt; "{count}")?;
+    Ok(())
+}
+
+// A list with a tree of two steps, the first of which has two arms:
+// match b1 { 2: return b3, 5: match b0 { 1: return b2 } }, match b0 { 1: return b4 }
+const TWO_STEPS: &str = "(decl f (u8 u8) u8)
+(rule 2 (f 1 5) 12)
+(rule 1 (f _ 2) 11)
+(rule 0 (f 1 _) 10)";
+
+// The same with other priorities.
+const OTHERS_FIRST: &str = "(decl f (u8 u8) u8)
+(rule 2 (f 1 5) 12)
+(rule 0 (f _ 2) 11)
+(rule 1 (f 1 _) 10)";
+
+// What is changed in a tree.
+#[derive(Clone, Copy)]
+enum Change {
+    Nothing,
+    StepsReversed,
+    StepLeftOut,
+    ArmsReversed,
+    ArmLeftOut,
+    SiteBound,
+}
+
+fn apply(change: Change, block: &mut Block) -> Result<(), AllocError> {
+    match change {
+        Change::Nothing => {}
+        Change::StepsReversed => block.steps.reverse(),
+        Change::StepLeftOut => {
+            let _ = block.steps.pop();
+        }
+        Change::ArmsReversed | Change::ArmLeftOut | Change::SiteBound => {
+            if let Some(step) = block.steps.first_mut() {
+                apply_to_step(change, step)?;
+            }
+        }
+    }
+    Ok(())
+}
+
+fn apply_to_step(change: Change, step: &mut EvalStep) -> Result<(), AllocError> {
+    if let (Change::SiteBound, _) = (change, 0) {
+        return Ok(step.bind_order.push(BindingId::from(0))?);
+    }
+    if let ControlFlow::Match { arms, .. } = &mut step.check {
+        if let Change::ArmsReversed = change {
+            arms.reverse();
+        } else {
+            let _ = arms.pop();
+        }
+    }
+    Ok(())
+}
+
+// The trees of a text's terms, each changed, are judged so.
+fn expect(rt: &impl Abort, alloc: Global, change: Change, want: Option<Fault>) -> Result<(), Fail> {
+    if let Some(mut lowered) = lowered(alloc, TWO_STEPS)? {
+        for term in &mut lowered.terms {
+            apply(change, &mut term.block)?;
+            assert_eq!(rt; judge(alloc, &term.rules, &term.block)?, want);
+        }
+    }
+    Ok(())
+}
+
+#[test]
+fn refuses_changed_trees(rt: HostRuntime) -> Result<(), Fail> {
+    let alloc = rt.alloc();
+    for (change, want) in [
+        (Change::Nothing, None),
+        (Change::StepsReversed, Some(Fault::Greatest)),
+        (Change::StepLeftOut, Some(Fault::Returns)),
+        (Change::ArmsReversed, Some(Fault::ArmOrder)),
+        (Change::ArmLeftOut, Some(Fault::Returns)),
+        (Change::SiteBound, Some(Fault::BindOrder)),
+    ] {
+        expect(&rt, alloc, change, want)?;
+    }
+    Ok(())
+}
+
+// A match with one arm.
+fn match_one(alloc: Global, source: u16, val: i128, body: Block) -> Result<Block, AllocError> {
+    let ty = TypeId::U8;
+    let arm = MatchArm {
+        constraint: Constraint::ConstInt { val, ty },
+        bindings: Vec::new(alloc),
+        body,
+    };
+    one_step(
+        alloc,
+        ControlFlow::Match {
+            source: BindingId::from(source),
+            arms: vec![in alloc; arm]?,
+        },
+    )
+}
+
+fn one_step(alloc: Global, check: ControlFlow) -> Result<Block, AllocError> {
+    let step = EvalStep {
+        bind_order: Vec::new(alloc),
+        check,
+    };
+    Ok(Block {
+        steps: vec![in alloc; step]?,
+    })
+}
+
+// Of two tests that cover the one rule, that of the smaller site is the greater.
+#[test]
+fn refuses_lesser_tests(rt: HostRuntime) -> Result<(), Fail> {
+    let alloc = rt.alloc();
+    let text = "(decl f (u8 u8) u8) (rule (f 1 2) 10)";
+    let Some(lowered) = lowered(alloc, text)? else {
+        return Ok(());
+    };
+    for term in &lowered.terms {
+        for (first, second, want) in [
+            ((0, 1), (1, 2), None),
+            ((1, 2), (0, 1), Some(Fault::Greatest)),
+            ((0, 1), (0, 1), Some(Fault::Open)),
+            ((0, 2), (1, 2), Some(Fault::ArmRules)),
+        ] {
+            let (pos, result) = (
+                Pos {
+                    file: 0,
+                    offset: 20,
+                },
+                BindingId::from(2),
+            );
+            let end = one_step(alloc, ControlFlow::Return { pos, result })?;
+            let inner = match_one(alloc, second.0, second.1, end)?;
+            let block = match_one(alloc, first.0, first.1, inner)?;
+            assert_eq!(rt; judge(alloc, &term.rules, &block)?, want);
+        }
+    }
+    Ok(())
+}
+
+// The tree of a list isn't that of the same one with other priorities.
+#[test]
+fn refuses_trees_of_other_rules(rt: HostRuntime) -> Result<(), Fail> {
+    let alloc = rt.alloc();
+    let (Some(one), Some(other)) = (lowered(alloc, TWO_STEPS)?, lowered(alloc, OTHERS_FIRST)?)
+    else {
+        return Ok(());
+    };
+    for term in &one.terms {
+        for tree in &other.terms {
+            assert_eq!(rt;
+                judge(alloc, &term.rules, &tree.block)?,
+                Some(Fault::Greatest)
+            );
+        }
+    }
+    Ok(())
+}
