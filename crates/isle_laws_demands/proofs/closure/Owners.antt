@@ -1,5 +1,5 @@
 -- The site whose field a site is.
-use Rattle.std.proofs.Common.{◌≡◌, [], ◌∷◌, Option, Some, None, refl, sym, ap, subst, ◌∙◌}
+use Rattle.std.proofs.Common.{◌≡◌, ℕ, [], ◌∷◌, Option, Some, None, refl, sym, subst, ◌∙◌}
 use Rattle.isle_model.specs.sites.Sites.{Constraint, is_variant, is_struct, is_bool, is_int, is_prim, is_present, SiteTerm, bool_term, int_term, prim_term, argument, extractor_call, constructor_call, pick_of, variant_made, variant_field, struct_made, struct_field, some_made, some_part, tuple_part, no_site}
 use Rattle.isle_model.specs.sites.Closure.{field_terms, with_owners}
 use Rattle.isle_model.proofs.Elements.{In, none_some}
@@ -30,22 +30,21 @@ by_owners P alone field (some_part a) = alone (some_part a) refl refl
 by_owners P alone field (tuple_part a f) = alone (tuple_part a f) refl refl
 by_owners P alone field no_site = alone no_site refl refl
 
+-- what holds of all fields of a site holds of those that a constraint gives it
+pub by_field : (P : SiteTerm → Type 0) (a : SiteTerm) → ((variant i : ℕ) → P (variant_field a variant i)) → ((i : ℕ) → P (struct_field a i)) → (c : Constraint) (x : SiteTerm) → In (field_terms c a) x → P x
+by_field P a f g (is_variant ty variant n) x i = let k = in_fields (variant_field a variant) 0 n x i in subst P k.2 (f variant k.0)
+by_field P a f g (is_struct ty n) x i = let k = in_fields (struct_field a) 0 n x i in subst P k.2 (g k.0)
+by_field P a f g (is_bool v ty) x i = absurd i
+by_field P a f g (is_int z ty) x i = absurd i
+by_field P a f g (is_prim name) x i = absurd i
+by_field P a f g is_present x i = absurd i
+
 pub owner_of_field : (c : Constraint) (a x : SiteTerm) → In (field_terms c a) x → owner_of x ≡ Some a
-owner_of_field (is_variant ty variant n) a x i = let k = in_fields (variant_field a variant) 0 n x i in ap owner_of (sym k.2)
-owner_of_field (is_struct ty n) a x i = let k = in_fields (struct_field a) 0 n x i in ap owner_of (sym k.2)
-owner_of_field (is_bool v ty) a x i = absurd i
-owner_of_field (is_int z ty) a x i = absurd i
-owner_of_field (is_prim name) a x i = absurd i
-owner_of_field is_present a x i = absurd i
+owner_of_field c a = by_field (λ x. owner_of x ≡ Some a) a (λ variant i. refl) (λ i. refl) c
 
 -- the owners of a field are itself and those of its owner
 pub owners_of_field : (c : Constraint) (a x : SiteTerm) → In (field_terms c a) x → with_owners x ≡ x ∷ with_owners a
-owners_of_field (is_variant ty variant n) a x i = let k = in_fields (variant_field a variant) 0 n x i in subst (λ y. with_owners y ≡ y ∷ with_owners a) k.2 refl
-owners_of_field (is_struct ty n) a x i = let k = in_fields (struct_field a) 0 n x i in subst (λ y. with_owners y ≡ y ∷ with_owners a) k.2 refl
-owners_of_field (is_bool v ty) a x i = absurd i
-owners_of_field (is_int z ty) a x i = absurd i
-owners_of_field (is_prim name) a x i = absurd i
-owners_of_field is_present a x i = absurd i
+owners_of_field c a = by_field (λ x. with_owners x ≡ x ∷ with_owners a) a (λ variant i. refl) (λ i. refl) c
 
 -- of what is no field there is no other
 pub no_other_owner : (s : SiteTerm) → owner_of s ≡ None → with_owners s ≡ s ∷ []

@@ -1,19 +1,18 @@
 -- A visit goes over calls of multi terms, and constrains no such call, nor does the closing of its demands.
-use Rattle.std.proofs.Common.{◌≡◌, ℕ, suc, Bool, true, false, List, [], ◌∷◌, Contains, refl, sym, ap, subst, inl, inr, ◌∙◌}
+use Rattle.std.proofs.Common.{◌≡◌, ℕ, Bool, true, false, List, [], ◌∷◌, Contains, refl, sym, ap, subst, inl, inr, ◌∙◌}
 use Rattle.std.proofs.lemmas.Bool.{false≢true}
 use Rattle.isle_model.specs.lists.Tables.{Flags}
-use Rattle.isle_model.specs.rules.Program.{Program, Kind, a_variant, a_struct, a_call, unknown, kind, flags_of, is_multi, is_partial}
-use Rattle.isle_model.specs.sites.Sites.{Constraint, is_variant, is_struct, is_bool, is_int, is_prim, is_present, SiteTerm, extractor_call, constructor_call, pick_of, variant_made, variant_field, struct_made, struct_field, some_made, some_part, tuple_part, no_site, SiteTerms, no_site_term, site_term_and}
-use Rattle.isle_model.specs.rules.Typed.{TypedPatterns, no_typed_pattern, typed_pattern_and, TypedRule}
-use Rattle.isle_model.specs.sites.Demands.{Demands, demands_of, Visit, making, asking, equating, iterating, calling, from_to, pattern_count, Opened, opened, output_sites, part_sites, open_call, open_term, Valued, ValuedAll, valued, call_result, call_sites, where_multi, visit_call, visit_term, unwraps, unwraps_all, asking_all}
+use Rattle.isle_model.specs.rules.Program.{Program, a_call, kind, flags_of, is_multi}
+use Rattle.isle_model.specs.sites.Sites.{Constraint, is_present, SiteTerm, extractor_call, constructor_call, some_part, SiteTerms}
+use Rattle.isle_model.specs.rules.Typed.{TypedRule}
+use Rattle.isle_model.specs.sites.Demands.{Demands, demands_of, Visit, making, asking, equating, iterating, calling, unwraps, unwraps_all, asking_all}
 use Rattle.isle_model.specs.sites.Closure.{field_terms, Joined, given, itself, turned, chained, at_field, closed}
 use Rattle.isle_model.proofs.Elements.{In, in_from_contains, in_either, in_slice}
 use Rattle.isle_laws_demands.proofs.closure.Closing.{closing_is_sound_lem}
 use Rattle.isle_model.specs.sites.DemandedGates.{IsMultiCall, HasNoPartialMulti, GoesOverMultiCalls}
-use Rattle.isle_laws_demands.proofs.visits.Patterns.{in_numbers}
+use Rattle.isle_laws_demands.proofs.closure.Owners.{by_field}
 use Rattle.isle_laws_demands.proofs.visits.Visited.{equated}
-use Rattle.isle_laws_demands.proofs.visits.WithSites.{IsLeaf, by_leaf, by_equating, Onward, AtEach, KeptWithSites, rule_given}
-use Rattle.isle_laws_demands.proofs.visits.Closing.{in_fields}
+use Rattle.isle_laws_demands.proofs.visits.WithSites.{IsLeaf, by_leaf, by_equating, Onward, AtEach, KeptWithSites, unwrapped_at_each, rule_given}
 
 module _ (p : Program) (neither : HasNoPartialMulti p) where
   -- no multi call
@@ -39,12 +38,6 @@ module _ (p : Program) (neither : HasNoPartialMulti p) where
 
   onward : (d e : Demands) → IsApart e → OnwardApart d e
   onward d e h = record { holds = h; stays = λ s o. o }
-
-  after_making : (ts : List SiteTerm) (v : Visit) → IsApart v.demands → IsApart (making ts v).demands
-  after_making ts v h = record { asked = h.asked; equal = h.equal; calls = h.calls }
-
-  after_calling : (s : SiteTerm) (v : Visit) → IsApart v.demands → IsApart (calling s v).demands
-  after_calling s v h = record { asked = h.asked; equal = h.equal; calls = h.calls }
 
   after_iterating : (s : SiteTerm) (v : Visit) → IsApart v.demands → IsMultiCall p s → IsApart (iterating s v).demands
   after_iterating s v h m = record {
@@ -80,112 +73,48 @@ module _ (p : Program) (neither : HasNoPartialMulti p) where
   leaf_plain : (s : SiteTerm) → IsLeaf s → IsPlain s
   leaf_plain = by_leaf IsPlain (λ i. (λ m. m, λ s k. absurd k)) (λ b ty. (λ m. m, λ s k. absurd k)) (λ z ty. (λ m. m, λ s k. absurd k)) (λ name. (λ m. m, λ s k. absurd k))
 
-  nothing_plain : IsPlain no_site
-  nothing_plain = (λ m. m, λ s i. absurd i)
+  -- none of these unwraps a multi call, nor does the answer of another call
+  all_unwrapped : (d : Demands) (us : SiteTerms) → AtEach IsApart StaysPlain d us → (s : SiteTerm) → In (unwraps_all us) s → IsOther s
+  all_unwrapped d = unwrapped_at_each IsApart StaysPlain IsOther d (λ u m. m.1)
 
-  -- a term's pattern, opened
-  record OpensApart (o : Opened) : Type 0 where
-    after : IsApart o.visit.demands
-    inputs : (u : SiteTerm) → In o.inputs u → IsPlain u
+  part_plain : (call : SiteTerm) → IsOther call → ((s : SiteTerm) → In (unwraps call) s → IsOther s) → IsPlain (some_part call)
+  part_plain call o deep = (λ m. m, λ s i. elim i [ inl q ↦ subst IsOther q o | inr j ↦ deep s j ])
 
-  outputs_plain : (s : SiteTerm) (args : TypedPatterns) → IsPlain s → (u : SiteTerm) → In (output_sites s args) u → IsPlain u
-  outputs_plain s no_typed_pattern h u i = absurd i
-  outputs_plain s (typed_pattern_and q no_typed_pattern) h u i = elim i [ inl e ↦ subst IsPlain e h | inr n ↦ absurd n ]
-  outputs_plain s (typed_pattern_and q (typed_pattern_and r rs)) h u i =
-      let k = in_numbers (tuple_part s) 0 (typed_pattern_and q (typed_pattern_and r rs)) u i in subst IsPlain k.2 (λ m. m, h.1)
+  -- what a term of this kind is
+  its_multi : (t : ℕ) (flags : Flags) (infallible : Bool) → kind p t ≡ a_call flags infallible → is_multi p t ≡ flags.multi
+  its_multi t flags infallible e = ap (λ k. (flags_of k).multi) e
 
-  with_parts : (s : SiteTerm) (args : TypedPatterns) (w : Visit) → IsApart w.demands → IsPlain s → OpensApart (opened (output_sites s args) (making (part_sites s args) w))
-  with_parts s args w h o = record { after = after_making (part_sites s args) w h; inputs = outputs_plain s args o }
-
-  call_opened : (pure multi partial rec infallible : Bool) (t : ℕ) (s : SiteTerm) (args : TypedPatterns) (v : Visit) → is_multi p t ≡ multi → IsApart v.demands → IsPlain s
-      → OpensApart (open_call (record { pure = pure; multi = multi; partial = partial; rec = rec }) infallible (extractor_call t s) args v)
-  call_opened pure true partial rec infallible t s args v e h o =
-      let call = extractor_call t s in
-      with_parts (pick_of call) args (iterating call (making (call ∷ (pick_of call ∷ [])) v))
-      (after_iterating call (making (call ∷ (pick_of call ∷ [])) v) (after_making (call ∷ (pick_of call ∷ [])) v h) e) (λ m. m, o.1)
-  call_opened pure false partial rec true t s args v e h o =
-      with_parts (extractor_call t s) args (making (extractor_call t s ∷ []) v) (after_making (extractor_call t s ∷ []) v h) (λ m. false≢true (sym e ∙ m), o.1)
-  call_opened pure false partial rec false t s args v e h o =
-      let call = extractor_call t s in
-      let other : IsOther call = λ m. false≢true (sym e ∙ m) in
-      with_parts (some_part call) args (asking call is_present (making (call ∷ (some_part call ∷ [])) v))
-      (after_asking call is_present (making (call ∷ (some_part call ∷ [])) v) (after_making (call ∷ (some_part call ∷ [])) v h) other)
-      (λ m. m, λ u i. elim i [ inl q ↦ subst IsOther q other | inr j ↦ o.1 u j ])
-
-  term_opened : (k : Kind) (t : ℕ) (s : SiteTerm) (args : TypedPatterns) (v : Visit) → kind p t ≡ k → IsApart v.demands → IsPlain s → OpensApart (open_term k t s args v)
-  term_opened (a_variant ty variant) t s args v e h o =
-      let fields = from_to (variant_field s variant) 0 args in
-      record {
-        after = after_asking s (is_variant ty variant (pattern_count args)) (making fields v) (after_making fields v h) o.0;
-        inputs = λ u i. let k = in_numbers (variant_field s variant) 0 args u i in subst IsPlain k.2 (λ m. m, o.1);
-      }
-  term_opened (a_struct ty) t s args v e h o =
-      let fields = from_to (struct_field s) 0 args in
-      record {
-        after = after_asking s (is_struct ty (pattern_count args)) (making fields v) (after_making fields v h) o.0;
-        inputs = λ u i. let k = in_numbers (struct_field s) 0 args u i in subst IsPlain k.2 (λ m. m, o.1);
-      }
-  term_opened (a_call flags infallible) t s args v e h o =
-      call_opened flags.pure flags.multi flags.partial flags.rec infallible t s args v (ap (λ k. (flags_of k).multi) e) h o
-  term_opened unknown t s args v e h o = record { after = h; inputs = λ u i. absurd i }
-
-  -- an expression's value
-  record GivesApart (a : Valued) : Type 0 where
-    after : IsApart a.visit.demands
-    site : IsPlain a.site
-
-  -- no call that these unwrap is a multi call
-  abbrev AreUnwrapped : SiteTerms → Type 0
-  AreUnwrapped us = (s : SiteTerm) → In (unwraps_all us) s → IsOther s
-
-  call_given : (pure multi partial rec : Bool) (t i : ℕ) (args : SiteTerms) (v : Visit) → is_multi p t ≡ multi → is_partial p t ≡ partial → IsApart v.demands → AreUnwrapped args
-      → GivesApart (valued (call_result (record { pure = pure; multi = multi; partial = partial; rec = rec }) (constructor_call t args i))
-      (where_multi (record { pure = pure; multi = multi; partial = partial; rec = rec }) (constructor_call t args i) (making (call_sites (record { pure = pure; multi = multi; partial = partial; rec = rec }) (constructor_call t args i)) v)))
-  call_given pure true true rec t i args v e f h o = absurd (neither t e f)
-  call_given pure true false rec t i args v e f h o =
-      let call = constructor_call t args i in
-      record { after = after_iterating call (making (call ∷ (pick_of call ∷ [])) v) (after_making (call ∷ (pick_of call ∷ [])) v h) e; site = (λ m. m, o) }
-  call_given pure false true rec t i args v e f h o =
-      let call = constructor_call t args i in
-      let other : IsOther call = λ m. false≢true (sym e ∙ m) in
-      record { after = after_making (call ∷ (some_part call ∷ [])) v h; site = (λ m. m, λ s k. elim k [ inl q ↦ subst IsOther q other | inr j ↦ o s j ]) }
-  call_given pure false false rec t i args v e f h o =
-      record { after = after_making (constructor_call t args i ∷ []) v h; site = (λ m. false≢true (sym e ∙ m), o) }
-
-  call_valued : (pure multi partial rec : Bool) (t : ℕ) (args : SiteTerms) (v : Visit) → is_multi p t ≡ multi → is_partial p t ≡ partial → IsApart v.demands → AreUnwrapped args
-      → GivesApart (visit_call (record { pure = pure; multi = multi; partial = partial; rec = rec }) t args v)
-  call_valued true multi partial rec t args v e f h o = call_given true multi partial rec t 0 args v e f h o
-  call_valued false multi partial rec t args v e f h o =
-      let flags : Flags = record { pure = false; multi = multi; partial = partial; rec = rec } in
-      let call = constructor_call t args (suc v.impure_calls) in
-      let c = call_given false multi partial rec t (suc v.impure_calls) args v e f h o in
-      record { after = after_calling (call_result flags call) (where_multi flags call (making (call_sites flags call) v)) c.after; site = c.site }
-
-  term_valued : (k : Kind) (t : ℕ) (a : ValuedAll) → kind p t ≡ k → IsApart a.visit.demands → AreUnwrapped a.sites → GivesApart (visit_term k t a)
-  term_valued (a_variant ty variant) t a e h o = record { after = after_making (variant_made ty variant a.sites ∷ []) a.visit h; site = (λ m. m, o) }
-  term_valued (a_struct ty) t a e h o = record { after = after_making (struct_made ty a.sites ∷ []) a.visit h; site = (λ m. m, o) }
-  term_valued (a_call flags infallible) t a e h o =
-      call_valued flags.pure flags.multi flags.partial flags.rec t a.sites a.visit (ap (λ k. (flags_of k).multi) e) (ap (λ k. (flags_of k).partial) e) h o
-  term_valued unknown t a e h o = record { after = h; site = nothing_plain }
-
-  all_unwrapped : (d : Demands) (us : SiteTerms) → AtEach IsApart StaysPlain d us → AreUnwrapped us
-  all_unwrapped d no_site_term h s i = absurd i
-  all_unwrapped d (site_term_and u us) h s i = elim (in_either (unwraps u) (unwraps_all us) s i) [ inl j ↦ h.0.1 s j | inr j ↦ all_unwrapped d us h.1 s j ]
+  not_multi : (t : ℕ) (flags : Flags) (infallible : Bool) → kind p t ≡ a_call flags infallible → flags.multi ≡ false → is_multi p t ≡ true → ⊥
+  not_multi t flags infallible e f m = false≢true (sym (its_multi t flags infallible e ∙ f) ∙ m)
 
   apart_kept : KeptWithSites IsApart StaysPlain p
   apart_kept = record {
-    unbound = λ d. nothing_plain;
-    leaf = λ s v l h. record { onward = onward v.demands (making (s ∷ []) v).demands (after_making (s ∷ []) v h); site = leaf_plain s l };
-    equal = λ a b v h m n. onward v.demands (equating a b v).demands (by_equating (λ w. IsApart w.demands) a b v h (after_equated a b v h m.0 n.0));
-    constant = λ s c v l h m. onward v.demands (asking s c v).demands (after_asking s c v h m.0);
-    answers = λ s v h m. onward v.demands (asking_all (unwraps s) v).demands (after_asking_all (unwraps s) v h m.1);
-    opened = λ t s args v h m.
-        let o = term_opened (kind p t) t s args v refl h m in
-        record { onward = onward v.demands (open_term (kind p t) t s args v).visit.demands o.after; inputs = o.inputs };
-    given = λ t a h m.
-        let g = term_valued (kind p t) t a refl h (all_unwrapped a.visit.demands a.sites m) in
-        record { onward = onward a.visit.demands (visit_term (kind p t) t a).visit.demands g.after; site = g.site };
-    result = λ a h m. record { onward = onward a.visit.demands (making (some_made a.site ∷ []) a.visit).demands (after_making (some_made a.site ∷ []) a.visit h); site = (λ n. n, m.1) };
+    unbound = λ d. (λ m. m, λ s i. absurd i);
+    leaf = λ d s l n. leaf_plain s l;
+    variant = λ d ty variant us n m. (λ k. k, all_unwrapped d us m);
+    struct = λ d ty us n m. (λ k. k, all_unwrapped d us m);
+    result = λ d s n m. (λ k. k, m.1);
+    tuple = λ d s i n m. (λ k. k, m.1);
+    field = λ d c s x n a i m. by_field IsPlain s (λ variant j. (λ k. k, m.1)) (λ j. (λ k. k, m.1)) c x i;
+    extracted = λ d t s flags e f n m. (not_multi t flags true e f, m.1);
+    answer = λ d t i us flags b e f n m.
+        part_plain (constructor_call t us i) (λ k. neither t k (ap (λ x. (flags_of x).partial) e ∙ f)) (all_unwrapped d us m);
+    pick = λ d t i us n m. (λ k. k, all_unwrapped d us m);
+    call = λ d t i us flags b e f g n m. (not_multi t flags b e g, all_unwrapped d us m);
+    makes = λ ts v h. onward v.demands (making ts v).demands (record { asked = h.asked; equal = h.equal; calls = h.calls });
+    calls = λ s v h. onward v.demands (calling s v).demands (record { asked = h.asked; equal = h.equal; calls = h.calls });
+    equates = λ a b v h m n. onward v.demands (equating a b v).demands (by_equating (λ w. IsApart w.demands) a b v h (after_equated a b v h m.0 n.0));
+    asks = λ s c v f h m. onward v.demands (asking s c v).demands (after_asking s c v h m.0);
+    asks_all = λ s v h m. onward v.demands (asking_all (unwraps s) v).demands (after_asking_all (unwraps s) v h m.1);
+    asks_call = λ t s v flags e f n h m.
+        let call = extractor_call t s in
+        let o : IsOther call = not_multi t flags false e f in
+        record { onward = onward v.demands (asking call is_present v).demands (after_asking call is_present v h o); site = part_plain call o m.1 };
+    iterates_extractor = λ t s v flags b e f n h m.
+        let call = extractor_call t s in
+        record { onward = onward v.demands (iterating call v).demands (after_iterating call v h (its_multi t flags b e ∙ f)); site = (λ k. k, m.1) };
+    iterates_constructor = λ t i us v flags b e f h.
+        let call = constructor_call t us i in onward v.demands (iterating call v).demands (after_iterating call v h (its_multi t flags b e ∙ f));
   }
 
   rule_apart : (r : TypedRule) → IsApart (demands_of p r)
@@ -193,12 +122,7 @@ module _ (p : Program) (neither : HasNoPartialMulti p) where
 
   -- fields are no calls
   field_other : (c : Constraint) (s u : SiteTerm) → In (field_terms c s) u → IsOther u
-  field_other (is_variant ty variant fields) s u i = let k = in_fields (variant_field s variant) 0 fields u i in subst IsOther k.2 (λ m. m)
-  field_other (is_struct ty fields) s u i = let k = in_fields (struct_field s) 0 fields u i in subst IsOther k.2 (λ m. m)
-  field_other (is_bool b ty) s u i = absurd i
-  field_other (is_int z ty) s u i = absurd i
-  field_other (is_prim name) s u i = absurd i
-  field_other is_present s u i = absurd i
+  field_other c s = by_field IsOther s (λ variant i. λ m. m) (λ i. λ m. m) c
 
   -- what must equal what is no multi call is none
   joined_other : (r : TypedRule) {a b : SiteTerm} → Joined (demands_of p r) a b → (IsOther a → IsOther b) × (IsOther b → IsOther a)

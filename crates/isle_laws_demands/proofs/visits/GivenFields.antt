@@ -1,18 +1,16 @@
 -- In the demands of a rule each field that is spoken of is given by a constraint, and each that is given is made.
-use Rattle.std.proofs.Common.{◌≡◌, ◌⊎◌, ℕ, suc, Bool, true, false, if◌then◌else◌, List, [], ◌∷◌, ◌++◌, Some, None, Contains, flat_map, refl, sym, ap, subst, inl, inr, ◌∙◌}
-use Rattle.isle_model.specs.lists.Tables.{Flags}
-use Rattle.isle_model.specs.rules.Program.{Program, Kind, a_variant, a_struct, a_call, unknown, kind}
-use Rattle.isle_model.specs.rules.Typed.{TypedPatterns, no_typed_pattern, typed_pattern_and, TypedRule}
-use Rattle.isle_model.specs.sites.Sites.{Constraint, is_variant, is_struct, is_present, SiteTerm, bool_term, int_term, prim_term, argument, extractor_call, constructor_call, pick_of, variant_made, variant_field, struct_made, struct_field, some_made, some_part, tuple_part, no_site, SiteTerms, no_site_term, site_term_and}
-use Rattle.isle_model.specs.sites.Demands.{Demands, demands_of, Visit, making, asking, equating, iterating, calling, from_to, pattern_count, opened, output_sites, part_sites, open_call, open_term, ValuedAll, valued, call_result, call_sites, where_multi, visit_call, visit_term, unwraps, unwraps_all, asking_all}
-use Rattle.isle_model.specs.sites.Closure.{fields_from, field_terms, with_owners, spoken_of}
-use Rattle.isle_model.proofs.Elements.{In, in_from_contains, contains_from_in, some_is, none_some, in_left, in_right, in_either, from_flat_map}
+use Rattle.std.proofs.Common.{◌≡◌, ◌⊎◌, List, [], ◌∷◌, ◌++◌, Some, None, Contains, flat_map, refl, sym, ap, subst, inl, inr, ◌∙◌}
+use Rattle.isle_model.specs.rules.Program.{Program}
+use Rattle.isle_model.specs.rules.Typed.{TypedRule}
+use Rattle.isle_model.specs.sites.Sites.{Constraint, is_present, SiteTerm, bool_term, int_term, prim_term, argument, extractor_call, constructor_call, pick_of, variant_made, variant_field, struct_made, struct_field, some_made, some_part, tuple_part, no_site, SiteTerms}
+use Rattle.isle_model.specs.sites.Demands.{Demands, demands_of, Visit, making, asking, equating, iterating, calling, unwraps, unwraps_all, asking_all}
+use Rattle.isle_model.specs.sites.Closure.{field_terms, with_owners, spoken_of}
+use Rattle.isle_model.proofs.Elements.{In, in_from_contains, contains_from_in, some_is, none_some, in_left, in_either, from_flat_map}
 use Rattle.isle_laws_demands.specs.FieldLaws.{IsGiven, FieldsAreGiven}
 use Rattle.isle_laws_demands.proofs.closure.Classes.{with_sites_in}
-use Rattle.isle_laws_demands.proofs.closure.Owners.{owner_of, owner_of_field, owners_of_field, no_other_owner}
-use Rattle.isle_laws_demands.proofs.visits.Patterns.{in_numbers}
-use Rattle.isle_laws_demands.proofs.visits.Visited.{equated, at_left, at_right}
-use Rattle.isle_laws_demands.proofs.visits.WithSites.{IsLeaf, by_leaf, constant_has_none, by_equating, Onward, IsOpened, IsValued, AtEach, KeptWithSites, no_step, then_onward, rule_given}
+use Rattle.isle_laws_demands.proofs.closure.Owners.{owner_of, by_field, owner_of_field, owners_of_field, no_other_owner}
+use Rattle.isle_laws_demands.proofs.visits.Visited.{equated, at_left}
+use Rattle.isle_laws_demands.proofs.visits.WithSites.{IsLeaf, by_leaf, by_equating, Onward, AtEach, KeptWithSites, unwrapped_at_each, no_step, then_onward, rule_given}
 
 -- 1. what is kept
 -- where a site is a field, a constraint of its owner gives it
@@ -116,132 +114,39 @@ leaf_given d =
     (λ z ty. (no_field_given d.constraints (int_term z ty) refl, λ u k. absurd k))
     (λ name. (no_field_given d.constraints (prim_term name) refl, λ u k. absurd k))
 
--- 3. patterns of terms
-outputs_given : (d : Demands) (s : SiteTerm) (args : TypedPatterns) → IsGivenSite d s → (u : SiteTerm) → In (output_sites s args) u → IsGivenSite d u
-outputs_given d s no_typed_pattern m u i = absurd i
-outputs_given d s (typed_pattern_and q no_typed_pattern) m u i = elim i [ inl e ↦ subst (IsGivenSite d) e m | inr n ↦ absurd n ]
-outputs_given d s (typed_pattern_and q (typed_pattern_and r rs)) m u i =
-    let k = in_numbers (tuple_part s) 0 (typed_pattern_and q (typed_pattern_and r rs)) u i in
-    subst (IsGivenSite d) k.2 (no_field_given d.constraints (tuple_part s k.0) refl, m.1)
-
-with_parts : (v w : Visit) (s : SiteTerm) (args : TypedPatterns) → OnwardGiven v.demands w.demands → IsGivenSite w.demands s → IsOpened GivesFields IsGivenSite v.demands (opened (output_sites s args) (making (part_sites s args) w))
-with_parts v w s args o m = record {
-  onward = then_onward GivesFields IsGivenSite v.demands w.demands (making (part_sites s args) w).demands o (making_on (part_sites s args) w o.holds);
-  inputs = outputs_given (making (part_sites s args) w).demands s args m;
-}
-
-call_opened : (pure multi partial rec infallible : Bool) (t : ℕ) (s : SiteTerm) (args : TypedPatterns) (v : Visit) → GivesFields v.demands → IsGivenSite v.demands s
-    → IsOpened GivesFields IsGivenSite v.demands (open_call (record { pure = pure; multi = multi; partial = partial; rec = rec }) infallible (extractor_call t s) args v)
-call_opened pure true partial rec infallible t s args v h m =
-    let call = extractor_call t s in
-    let made = making (call ∷ (pick_of call ∷ [])) v in
-    let a = making_on (call ∷ (pick_of call ∷ [])) v h in
-    with_parts v (iterating call made) (pick_of call) args
-    (then_onward GivesFields IsGivenSite v.demands made.demands (iterating call made).demands a (iterating_on call made a.holds))
-    (no_field_given v.demands.constraints (pick_of call) refl, m.1)
-call_opened pure false partial rec true t s args v h m =
-    let call = extractor_call t s in
-    with_parts v (making (call ∷ []) v) call args (making_on (call ∷ []) v h) (no_field_given v.demands.constraints call refl, m.1)
-call_opened pure false partial rec false t s args v h m =
-    let call = extractor_call t s in
-    let made = making (call ∷ (some_part call ∷ [])) v in
-    let w = asking call is_present made in
-    let a = making_on (call ∷ (some_part call ∷ [])) v h in
-    with_parts v w (some_part call) args
-    (then_onward GivesFields IsGivenSite v.demands made.demands w.demands a (asking_on call is_present made (no_field_given v.demands.constraints call refl) (λ x i. absurd i) a.holds))
-    (no_field_given w.demands.constraints (some_part call) refl, λ u i. elim i [ inl e ↦ ap owner_of (sym e) | inr j ↦ m.1 u j ])
-
-same_fields : (f : ℕ → SiteTerm) (i : ℕ) (args : TypedPatterns) → from_to f i args ≡ fields_from f i (pattern_count args)
-same_fields f i no_typed_pattern = refl
-same_fields f i (typed_pattern_and q qs) = ap (λ l. f i ∷ l) (same_fields f (suc i) qs)
-
--- a site that is asked for fields, which are made first
-fields_opened : (fields : List SiteTerm) (s : SiteTerm) (c : Constraint) (v : Visit) → fields ≡ field_terms c s → ((u : SiteTerm) → In fields u → unwraps u ≡ unwraps s)
-    → GivesFields v.demands → IsGivenSite v.demands s → IsOpened GivesFields IsGivenSite v.demands (opened fields (asking s c (making fields v)))
-fields_opened fields s c v same deep h m =
-    let made = making fields v in
-    let w = asking s c made in
-    let a = making_on fields v h in
-    let b = asking_on s c made m.0 (λ x i. in_right v.demands.made fields x (subst (λ l. In l x) (sym same) i)) a.holds in
-    record {
-      onward = then_onward GivesFields IsGivenSite v.demands made.demands w.demands a b;
-      inputs = λ u i. (
-        field_given w.demands.constraints c s u (at_right v.demands.constraints (s, c)) (subst (λ l. In l u) same i) (b.stays s m).0,
-        λ x j. m.1 x (subst (λ l. In l x) (deep u i) j),
-      );
-    }
-
-term_opened : (k : Kind) (t : ℕ) (s : SiteTerm) (args : TypedPatterns) (v : Visit) → GivesFields v.demands → IsGivenSite v.demands s → IsOpened GivesFields IsGivenSite v.demands (open_term k t s args v)
-term_opened (a_variant ty variant) t s args v h m =
-    fields_opened (from_to (variant_field s variant) 0 args) s (is_variant ty variant (pattern_count args)) v (same_fields (variant_field s variant) 0 args)
-    (λ u i. let k = in_numbers (variant_field s variant) 0 args u i in ap unwraps (sym k.2)) h m
-term_opened (a_struct ty) t s args v h m =
-    fields_opened (from_to (struct_field s) 0 args) s (is_struct ty (pattern_count args)) v (same_fields (struct_field s) 0 args)
-    (λ u i. let k = in_numbers (struct_field s) 0 args u i in ap unwraps (sym k.2)) h m
-term_opened (a_call flags infallible) t s args v h m = call_opened flags.pure flags.multi flags.partial flags.rec infallible t s args v h m
-term_opened unknown t s args v h m = record { onward = no_step GivesFields IsGivenSite v.demands h; inputs = λ u i. absurd i }
-
--- 4. values of terms
--- none of these unwraps a field
+-- what these unwrap are no fields, nor is a call
 all_unwrapped : (d : Demands) (ss : SiteTerms) → AtEach GivesFields IsGivenSite d ss → (u : SiteTerm) → In (unwraps_all ss) u → owner_of u ≡ None
-all_unwrapped d no_site_term h u i = absurd i
-all_unwrapped d (site_term_and s ss) h u i =
-    elim (in_either (unwraps s) (unwraps_all ss) u i) [ inl j ↦ h.0.1 u j | inr j ↦ all_unwrapped d ss h.1 u j ]
+all_unwrapped d = unwrapped_at_each GivesFields IsGivenSite (λ u. owner_of u ≡ None) d (λ s m. m.1)
 
-result_given : (d : Demands) (flags : Flags) (call : SiteTerm) → owner_of call ≡ None → ((u : SiteTerm) → In (unwraps call) u → owner_of u ≡ None) → IsGivenSite d (call_result flags call)
-result_given d flags call n deep = by flags.partial flags.multi
-  where
-    by : (partial multi : Bool) → IsGivenSite d (if partial then some_part call else (if multi then pick_of call else call))
-    by true multi = (no_field_given d.constraints (some_part call) refl, λ u i. elim i [ inl e ↦ ap owner_of (sym e) ∙ n | inr j ↦ deep u j ])
-    by false true = (no_field_given d.constraints (pick_of call) refl, deep)
-    by false false = (no_field_given d.constraints call n, deep)
+part_given : (d : Demands) (call : SiteTerm) → owner_of call ≡ None → ((u : SiteTerm) → In (unwraps call) u → owner_of u ≡ None) → IsGivenSite d (some_part call)
+part_given d call n deep = (no_field_given d.constraints (some_part call) refl, λ u i. elim i [ inl e ↦ ap owner_of (sym e) ∙ n | inr j ↦ deep u j ])
 
-multi_on : (flags : Flags) (call : SiteTerm) (v : Visit) → GivesFields v.demands → OnwardGiven v.demands (where_multi flags call v).demands
-multi_on flags call v h = by flags.multi
-  where
-    by : (multi : Bool) → OnwardGiven v.demands (if multi then iterating call v else v).demands
-    by true = iterating_on call v h
-    by false = no_step GivesFields IsGivenSite v.demands h
-
-call_made : (flags : Flags) (call : SiteTerm) (v : Visit) → GivesFields v.demands → OnwardGiven v.demands (where_multi flags call (making (call_sites flags call) v)).demands
-call_made flags call v h =
-    let made = making (call_sites flags call) v in
-    let a = making_on (call_sites flags call) v h in
-    then_onward GivesFields IsGivenSite v.demands made.demands (where_multi flags call made).demands a (multi_on flags call made a.holds)
-
-call_given : (flags : Flags) (t : ℕ) (args : SiteTerms) (v : Visit) → GivesFields v.demands → ((u : SiteTerm) → In (unwraps_all args) u → owner_of u ≡ None) → IsValued GivesFields IsGivenSite v.demands (visit_call flags t args v)
-call_given flags t args v h deep = by flags.pure
-  where
-    by : (pure : Bool) → IsValued GivesFields IsGivenSite v.demands (if pure
-        then (let call = constructor_call t args 0 in valued (call_result flags call) (where_multi flags call (making (call_sites flags call) v)))
-        else (let call = constructor_call t args (suc v.impure_calls) in valued (call_result flags call) (calling (call_result flags call) (where_multi flags call (making (call_sites flags call) v)))))
-    by true = let call = constructor_call t args 0 in record { onward = call_made flags call v h; site = result_given (where_multi flags call (making (call_sites flags call) v)).demands flags call refl deep }
-    by false =
-        let call = constructor_call t args (suc v.impure_calls) in
-        let w = where_multi flags call (making (call_sites flags call) v) in
-        let a = call_made flags call v h in
-        let z = calling (call_result flags call) w in
-        record { onward = then_onward GivesFields IsGivenSite v.demands w.demands z.demands a (calling_on (call_result flags call) w a.holds); site = result_given z.demands flags call refl deep }
-
-term_given : (k : Kind) (t : ℕ) (a : ValuedAll) → GivesFields a.visit.demands → AtEach GivesFields IsGivenSite a.visit.demands a.sites → IsValued GivesFields IsGivenSite a.visit.demands (visit_term k t a)
-term_given (a_variant ty variant) t a h m =
-    let s = variant_made ty variant a.sites in record { onward = making_on (s ∷ []) a.visit h; site = (no_field_given a.visit.demands.constraints s refl, all_unwrapped a.visit.demands a.sites m) }
-term_given (a_struct ty) t a h m =
-    let s = struct_made ty a.sites in record { onward = making_on (s ∷ []) a.visit h; site = (no_field_given a.visit.demands.constraints s refl, all_unwrapped a.visit.demands a.sites m) }
-term_given (a_call flags infallible) t a h m = call_given flags t a.sites a.visit h (all_unwrapped a.visit.demands a.sites m)
-term_given unknown t a h m = record { onward = no_step GivesFields IsGivenSite a.visit.demands h; site = (no_field_given a.visit.demands.constraints no_site refl, λ u i. absurd i) }
-
--- 5. rules
+-- 3. rules
 fields_kept : (p : Program) → KeptWithSites GivesFields IsGivenSite p
 fields_kept p = record {
   unbound = λ d. (no_field_given d.constraints no_site refl, λ u i. absurd i);
-  leaf = λ s v l h. record { onward = making_on (s ∷ []) v h; site = leaf_given (making (s ∷ []) v).demands s l };
-  equal = λ a b v h m n. equating_on a b v h m n;
-  constant = λ s c v l h m. asking_on s c v m.0 (λ x i. absurd (constant_has_none c s x l i)) h;
-  answers = λ s v h m. asking_all_on (unwraps s) v m.1 h;
-  opened = λ t s args v h m. term_opened (kind p t) t s args v h m;
-  given = λ t a h m. term_given (kind p t) t a h m;
-  result = λ a h m. record { onward = making_on (some_made a.site ∷ []) a.visit h; site = (no_field_given a.visit.demands.constraints (some_made a.site) refl, m.1) };
+  leaf = λ d s l n. leaf_given d s l;
+  variant = λ d ty variant ss n m. (no_field_given d.constraints (variant_made ty variant ss) refl, all_unwrapped d ss m);
+  struct = λ d ty ss n m. (no_field_given d.constraints (struct_made ty ss) refl, all_unwrapped d ss m);
+  result = λ d s n m. (no_field_given d.constraints (some_made s) refl, m.1);
+  tuple = λ d s i n m. (no_field_given d.constraints (tuple_part s i) refl, m.1);
+  field = λ d c s x n a i m. (field_given d.constraints c s x a i m.0, by_field (λ y. (u : SiteTerm) → In (unwraps y) u → owner_of u ≡ None) s (λ variant j. m.1) (λ j. m.1) c x i);
+  extracted = λ d t s flags e f n m. (no_field_given d.constraints (extractor_call t s) refl, m.1);
+  answer = λ d t i ss flags b e f n m. part_given d (constructor_call t ss i) refl (all_unwrapped d ss m);
+  pick = λ d t i ss n m. (no_field_given d.constraints (pick_of (constructor_call t ss i)) refl, all_unwrapped d ss m);
+  call = λ d t i ss flags b e f g n m. (no_field_given d.constraints (constructor_call t ss i) refl, all_unwrapped d ss m);
+  makes = making_on;
+  calls = calling_on;
+  equates = equating_on;
+  asks = λ s c v f h m. asking_on s c v m.0 f h;
+  asks_all = λ s v h m. asking_all_on (unwraps s) v m.1 h;
+  asks_call = λ t s v flags e f n h m.
+      let call = extractor_call t s in
+      record { onward = asking_on call is_present v (no_field_given v.demands.constraints call refl) (λ x i. absurd i) h; site = part_given (asking call is_present v).demands call refl m.1 };
+  iterates_extractor = λ t s v flags b e f n h m.
+      let call = extractor_call t s in
+      record { onward = iterating_on call v h; site = (no_field_given v.demands.constraints (pick_of call) refl, m.1) };
+  iterates_constructor = λ t i ss v flags b e f h. iterating_on (constructor_call t ss i) v h;
 }
 
 rule_gives : (p : Program) (r : TypedRule) → GivesFields (demands_of p r)

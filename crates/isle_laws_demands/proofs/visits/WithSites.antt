@@ -1,15 +1,17 @@
 -- What each step of a visit keeps of its demands, and of the sites that it stands at, binds and values, the visits of
 -- patterns, expressions and rules keep.
-use Rattle.std.proofs.Common.{◌≡◌, ℕ, ℤ, suc, ◌==◌, Bool, true, false, List, [], ◌∷◌, Some, refl, sym, subst, inl, inr}
+use Rattle.std.proofs.Common.{◌≡◌, ℕ, ℤ, suc, Contains, ap, ◌==◌, Bool, true, false, List, [], ◌∷◌, Some, refl, sym, subst, inl, inr}
 use Rattle.std.proofs.lemmas.Bool.{cases_Bool, cond-true, cond-false}
+use Rattle.isle_model.specs.lists.Tables.{Flags}
 use Rattle.isle_model.specs.rules.Meaning.{look}
 use Rattle.isle_model.specs.rules.Program.{Program, Kind, a_variant, a_struct, a_call, unknown, kind, is_partial}
 use Rattle.isle_model.specs.rules.Typed.{TypedPattern, match_bind, match_var, match_bool, match_int, match_prim, match_term, match_any, match_and, TypedPatterns, no_typed_pattern, typed_pattern_and, TypedExpr, make_term, make_var, make_bool, make_int, make_prim, make_let, TypedExprs, no_typed_expr, typed_expr_and, TypedLets, no_typed_let, typed_let_and, TypedIfLet, TypedRule}
 use Rattle.isle_model.specs.sites.Sites.{Constraint, is_variant, is_struct, is_bool, is_int, is_prim, is_present, SiteTerm, bool_term, int_term, prim_term, argument, extractor_call, constructor_call, pick_of, variant_made, variant_field, struct_made, struct_field, some_made, some_part, tuple_part, no_site, SiteTerms, no_site_term, site_term_and}
-use Rattle.isle_model.specs.sites.Demands.{Demands, site_term_eq, Visit, visit_start, making, asking, equating, binding, or_no_site, var_site, Opened, open_call, open_term, visit_pattern, visit_each, visit_all, Valued, ValuedAll, valued, visit_call, visit_term, visit_expr, visit_exprs, visit_lets, unwraps, asking_all, visit_args, visit_iflets, finished, visit_rule}
-use Rattle.isle_model.specs.sites.Closure.{field_terms}
-use Rattle.isle_model.proofs.Elements.{In}
-use Rattle.isle_laws_demands.proofs.visits.Visited.{equated, equating_binds, asked_binds}
+use Rattle.isle_model.specs.sites.Demands.{Demands, site_term_eq, Visit, visit_start, making, asking, equating, iterating, calling, binding, from_to, pattern_count, opened, output_sites, part_sites, call_result, call_sites, where_multi, unwraps_all, or_no_site, var_site, Opened, open_call, open_term, visit_pattern, visit_each, visit_all, Valued, ValuedAll, valued, visit_call, visit_term, visit_expr, visit_exprs, visit_lets, unwraps, asking_all, visit_args, visit_iflets, finished, visit_rule}
+use Rattle.isle_model.specs.sites.Closure.{fields_from, field_terms}
+use Rattle.isle_model.proofs.Elements.{In, in_right, in_either}
+use Rattle.isle_laws_demands.proofs.visits.Patterns.{in_numbers}
+use Rattle.isle_laws_demands.proofs.visits.Visited.{equated, equating_binds, asked_binds, at_right}
 
 -- 1. steps
 -- an argument, or a constant that an expression makes
@@ -37,22 +39,6 @@ by_leaf P a b c d (some_made s) l = absurd l
 by_leaf P a b c d (some_part s) l = absurd l
 by_leaf P a b c d (tuple_part s i) l = absurd l
 by_leaf P a b c d no_site l = absurd l
-
--- a constraint that asks for a constant
-abbrev pub IsConstant : Constraint → Type 0
-IsConstant (is_bool b ty) = Unit {0}
-IsConstant (is_int z ty) = Unit {0}
-IsConstant (is_prim name) = Unit {0}
-IsConstant _ = ⊥
-
--- constants have no fields
-pub constant_has_none : (c : Constraint) (s x : SiteTerm) → IsConstant c → In (field_terms c s) x → ⊥
-constant_has_none (is_bool b ty) s x l i = i
-constant_has_none (is_int z ty) s x l i = i
-constant_has_none (is_prim name) s x l i = i
-constant_has_none (is_variant ty variant fields) s x l i = l
-constant_has_none (is_struct ty fields) s x l i = l
-constant_has_none is_present s x l i = l
 
 -- what holds with an equality more, or as it was
 pub by_equating : (P : Visit → Type 0) (a b : SiteTerm) (v : Visit) → P v → P (equated a b v) → P (equating a b v)
@@ -84,16 +70,36 @@ module _ (R : Demands → Type 0) (Q : Demands → SiteTerm → Type 0) where
   AtEach d no_site_term = Unit {0}
   AtEach d (site_term_and s ss) = Q d s × AtEach d ss
 
-  -- the steps of a visit keep both facts
+  -- what is made of sites keeps both facts: of a site once it is made, of demands with each step
   pub record KeptWithSites (p : Program) : Type 0 where
     pub unbound : (d : Demands) → Q d no_site
-    pub leaf : (s : SiteTerm) (v : Visit) → IsLeaf s → R v.demands → IsValued v.demands (valued s (making (s ∷ []) v))
-    pub equal : (a b : SiteTerm) (v : Visit) → R v.demands → Q v.demands a → Q v.demands b → Onward v.demands (equating a b v).demands
-    pub constant : (s : SiteTerm) (c : Constraint) (v : Visit) → IsConstant c → R v.demands → Q v.demands s → Onward v.demands (asking s c v).demands
-    pub answers : (s : SiteTerm) (v : Visit) → R v.demands → Q v.demands s → Onward v.demands (asking_all (unwraps s) v).demands
-    pub opened : (t : ℕ) (s : SiteTerm) (args : TypedPatterns) (v : Visit) → R v.demands → Q v.demands s → IsOpened v.demands (open_term (kind p t) t s args v)
-    pub given : (t : ℕ) (a : ValuedAll) → R a.visit.demands → AtEach a.visit.demands a.sites → IsValued a.visit.demands (visit_term (kind p t) t a)
-    pub result : (a : Valued) → R a.visit.demands → Q a.visit.demands a.site → IsValued a.visit.demands (finished true a)
+    pub leaf : (d : Demands) (s : SiteTerm) → IsLeaf s → In d.made s → Q d s
+    pub variant : (d : Demands) (ty variant : ℕ) (ss : SiteTerms) → In d.made (variant_made ty variant ss) → AtEach d ss → Q d (variant_made ty variant ss)
+    pub struct : (d : Demands) (ty : ℕ) (ss : SiteTerms) → In d.made (struct_made ty ss) → AtEach d ss → Q d (struct_made ty ss)
+    pub result : (d : Demands) (s : SiteTerm) → In d.made (some_made s) → Q d s → Q d (some_made s)
+    pub tuple : (d : Demands) (s : SiteTerm) (i : ℕ) → In d.made (tuple_part s i) → Q d s → Q d (tuple_part s i)
+    pub field : (d : Demands) (c : Constraint) (s x : SiteTerm) → In d.made x → Contains d.constraints (s, c) → In (field_terms c s) x → Q d s → Q d x
+    -- an extractor's call that always answers one value
+    pub extracted : (d : Demands) (t : ℕ) (s : SiteTerm) (flags : Flags) → kind p t ≡ a_call flags true → flags.multi ≡ false → In d.made (extractor_call t s) → Q d s → Q d (extractor_call t s)
+    -- what a constructor's call gives: a partial one its answer, a multi one each answer, another one itself
+    pub answer : (d : Demands) (t i : ℕ) (ss : SiteTerms) (flags : Flags) (infallible : Bool) → kind p t ≡ a_call flags infallible → flags.partial ≡ true
+        → In d.made (some_part (constructor_call t ss i)) → AtEach d ss → Q d (some_part (constructor_call t ss i))
+    pub pick : (d : Demands) (t i : ℕ) (ss : SiteTerms) → In d.made (pick_of (constructor_call t ss i)) → AtEach d ss → Q d (pick_of (constructor_call t ss i))
+    pub call : (d : Demands) (t i : ℕ) (ss : SiteTerms) (flags : Flags) (infallible : Bool) → kind p t ≡ a_call flags infallible → flags.partial ≡ false → flags.multi ≡ false
+        → In d.made (constructor_call t ss i) → AtEach d ss → Q d (constructor_call t ss i)
+    pub makes : (ts : List SiteTerm) (v : Visit) → R v.demands → Onward v.demands (making ts v).demands
+    pub calls : (s : SiteTerm) (v : Visit) → R v.demands → Onward v.demands (calling s v).demands
+    pub equates : (a b : SiteTerm) (v : Visit) → R v.demands → Q v.demands a → Q v.demands b → Onward v.demands (equating a b v).demands
+    -- fields are made before a site is asked to have them
+    pub asks : (s : SiteTerm) (c : Constraint) (v : Visit) → ((x : SiteTerm) → In (field_terms c s) x → In v.demands.made x) → R v.demands → Q v.demands s → Onward v.demands (asking s c v).demands
+    pub asks_all : (s : SiteTerm) (v : Visit) → R v.demands → Q v.demands s → Onward v.demands (asking_all (unwraps s) v).demands
+    -- an extractor's call that may answer nothing, and one that is gone over
+    pub asks_call : (t : ℕ) (s : SiteTerm) (v : Visit) (flags : Flags) → kind p t ≡ a_call flags false → flags.multi ≡ false → In v.demands.made (some_part (extractor_call t s)) → R v.demands → Q v.demands s
+        → IsValued v.demands (valued (some_part (extractor_call t s)) (asking (extractor_call t s) is_present v))
+    pub iterates_extractor : (t : ℕ) (s : SiteTerm) (v : Visit) (flags : Flags) (infallible : Bool) → kind p t ≡ a_call flags infallible → flags.multi ≡ true → In v.demands.made (pick_of (extractor_call t s)) → R v.demands → Q v.demands s
+        → IsValued v.demands (valued (pick_of (extractor_call t s)) (iterating (extractor_call t s) v))
+    pub iterates_constructor : (t i : ℕ) (ss : SiteTerms) (v : Visit) (flags : Flags) (infallible : Bool) → kind p t ≡ a_call flags infallible → flags.multi ≡ true → R v.demands
+        → Onward v.demands (iterating (constructor_call t ss i) v).demands
 
   pub no_step : (d : Demands) → R d → Onward d d
   no_step d h = record { holds = h; stays = λ s m. m }
@@ -136,6 +142,12 @@ module _ (R : Demands → Type 0) (Q : Demands → SiteTerm → Type 0) where
   each_stays d e f no_site_term h = tt
   each_stays d e f (site_term_and s ss) h = (f s h.0, each_stays d e f ss h.1)
 
+  -- what the sites unwrap
+  pub unwrapped_at_each : (U : SiteTerm → Type 0) (d : Demands) → ((s : SiteTerm) → Q d s → (u : SiteTerm) → In (unwraps s) u → U u) → (ss : SiteTerms) → AtEach d ss → (u : SiteTerm) → In (unwraps_all ss) u → U u
+  unwrapped_at_each U d f no_site_term h u i = absurd i
+  unwrapped_at_each U d f (site_term_and s ss) h u i =
+      elim (in_either (unwraps s) (unwraps_all ss) u i) [ inl j ↦ f s h.0 u j | inr j ↦ unwrapped_at_each U d f ss h.1 u j ]
+
 -- 2. terms bind nothing
 call_binds : (pure multi partial rec infallible : Bool) (call : SiteTerm) (args : TypedPatterns) (v : Visit) → (open_call (record { pure = pure; multi = multi; partial = partial; rec = rec }) infallible call args v).visit.vars ≡ v.vars
 call_binds pure true partial rec infallible call args v = refl
@@ -160,7 +172,142 @@ term_binds (a_struct ty) t a = refl
 term_binds (a_call flags infallible) t a = value_binds flags.pure flags.multi flags.partial flags.rec t a.sites a.visit
 term_binds unknown t a = refl
 
--- 3. visits
+-- 3. terms
+same_fields : (f : ℕ → SiteTerm) (i : ℕ) (args : TypedPatterns) → from_to f i args ≡ fields_from f i (pattern_count args)
+same_fields f i no_typed_pattern = refl
+same_fields f i (typed_pattern_and q qs) = ap (λ l. f i ∷ l) (same_fields f (suc i) qs)
+
+module _ (p : Program) (R : Demands → Type 0) (Q : Demands → SiteTerm → Type 0) (k : KeptWithSites R Q p) where
+  outputs_at : (w : Visit) (s : SiteTerm) (args : TypedPatterns) → Onward R Q w.demands (making (part_sites s args) w).demands → Q w.demands s → (u : SiteTerm) → In (output_sites s args) u → Q (making (part_sites s args) w).demands u
+  outputs_at w s no_typed_pattern o m u i = absurd i
+  outputs_at w s (typed_pattern_and q no_typed_pattern) o m u i = elim i [ inl e ↦ o.stays u (subst (Q w.demands) e m) | inr n ↦ absurd n ]
+  outputs_at w s (typed_pattern_and q (typed_pattern_and r rs)) o m u i =
+      let args = typed_pattern_and q (typed_pattern_and r rs) in
+      let d = (making (part_sites s args) w).demands in
+      let n = in_numbers (tuple_part s) 0 args u i in
+      subst (Q d) n.2 (k.tuple d s n.0 (in_right w.demands.made (part_sites s args) (tuple_part s n.0) (subst (In (part_sites s args)) (sym n.2) i)) (o.stays s m))
+
+  with_parts : (d : Demands) (w : Visit) (s : SiteTerm) (args : TypedPatterns) → Onward R Q d w.demands → Q w.demands s → IsOpened R Q d (opened (output_sites s args) (making (part_sites s args) w))
+  with_parts d w s args a m =
+      let b = k.makes (part_sites s args) w a.holds in
+      record { onward = then_onward R Q d w.demands (making (part_sites s args) w).demands a b; inputs = outputs_at w s args b m }
+
+  call_opened : (pure multi partial rec infallible : Bool) (t : ℕ) (s : SiteTerm) (args : TypedPatterns) (v : Visit) → kind p t ≡ a_call (record { pure = pure; multi = multi; partial = partial; rec = rec }) infallible → R v.demands → Q v.demands s
+      → IsOpened R Q v.demands (open_call (record { pure = pure; multi = multi; partial = partial; rec = rec }) infallible (extractor_call t s) args v)
+  call_opened pure true partial rec infallible t s args v e h m =
+      let call = extractor_call t s in
+      let sites = call ∷ (pick_of call ∷ []) in
+      let w = making sites v in
+      let a = k.makes sites v h in
+      let b = k.iterates_extractor t s w (record { pure = pure; multi = true; partial = partial; rec = rec }) infallible e refl (in_right v.demands.made sites (pick_of call) (inr (inl refl))) a.holds (a.stays s m) in
+      with_parts v.demands (iterating call w) (pick_of call) args (then_onward R Q v.demands w.demands (iterating call w).demands a b.onward) b.site
+  call_opened pure false partial rec true t s args v e h m =
+      let call = extractor_call t s in
+      let w = making (call ∷ []) v in
+      let a = k.makes (call ∷ []) v h in
+      with_parts v.demands w call args a (k.extracted w.demands t s (record { pure = pure; multi = false; partial = partial; rec = rec }) e refl (in_right v.demands.made (call ∷ []) call (inl refl)) (a.stays s m))
+  call_opened pure false partial rec false t s args v e h m =
+      let call = extractor_call t s in
+      let sites = call ∷ (some_part call ∷ []) in
+      let w = making sites v in
+      let a = k.makes sites v h in
+      let b = k.asks_call t s w (record { pure = pure; multi = false; partial = partial; rec = rec }) e refl (in_right v.demands.made sites (some_part call) (inr (inl refl))) a.holds (a.stays s m) in
+      with_parts v.demands (asking call is_present w) (some_part call) args (then_onward R Q v.demands w.demands (asking call is_present w).demands a b.onward) b.site
+
+  -- a site that is asked for fields, which are made first
+  fields_opened : (fields : List SiteTerm) (s : SiteTerm) (c : Constraint) (v : Visit) → fields ≡ field_terms c s → R v.demands → Q v.demands s → IsOpened R Q v.demands (opened fields (asking s c (making fields v)))
+  fields_opened fields s c v same h m =
+      let w = making fields v in
+      let z = asking s c w in
+      let a = k.makes fields v h in
+      let b = k.asks s c w (λ x i. in_right v.demands.made fields x (subst (λ l. In l x) (sym same) i)) a.holds (a.stays s m) in
+      let o = then_onward R Q v.demands w.demands z.demands a b in
+      record {
+        onward = o;
+        inputs = λ u i. k.field z.demands c s u (in_right v.demands.made fields u i) (at_right v.demands.constraints (s, c)) (subst (λ l. In l u) same i) (o.stays s m);
+      }
+
+  term_opened : (n : Kind) (t : ℕ) (s : SiteTerm) (args : TypedPatterns) (v : Visit) → kind p t ≡ n → R v.demands → Q v.demands s → IsOpened R Q v.demands (open_term n t s args v)
+  term_opened (a_variant ty variant) t s args v e h m = fields_opened (from_to (variant_field s variant) 0 args) s (is_variant ty variant (pattern_count args)) v (same_fields (variant_field s variant) 0 args) h m
+  term_opened (a_struct ty) t s args v e h m = fields_opened (from_to (struct_field s) 0 args) s (is_struct ty (pattern_count args)) v (same_fields (struct_field s) 0 args) h m
+  term_opened (a_call flags infallible) t s args v e h m = call_opened flags.pure flags.multi flags.partial flags.rec infallible t s args v e h m
+  term_opened unknown t s args v e h m = record { onward = no_step R Q v.demands h; inputs = λ u i. absurd i }
+
+  call_given : (pure multi partial rec infallible : Bool) (t i : ℕ) (ss : SiteTerms) (v : Visit) → kind p t ≡ a_call (record { pure = pure; multi = multi; partial = partial; rec = rec }) infallible → R v.demands → AtEach R Q v.demands ss
+      → IsValued R Q v.demands (valued (call_result (record { pure = pure; multi = multi; partial = partial; rec = rec }) (constructor_call t ss i))
+      (where_multi (record { pure = pure; multi = multi; partial = partial; rec = rec }) (constructor_call t ss i) (making (call_sites (record { pure = pure; multi = multi; partial = partial; rec = rec }) (constructor_call t ss i)) v)))
+  call_given pure multi partial rec infallible t i ss v e h m = by multi partial e
+    where
+      c : SiteTerm
+      c = constructor_call t ss i
+
+      flags : Bool → Bool → Flags
+      flags y z = record { pure = pure; multi = y; partial = z; rec = rec }
+
+      part : List SiteTerm
+      part = c ∷ (some_part c ∷ [])
+
+      picks : List SiteTerm
+      picks = c ∷ (pick_of c ∷ [])
+
+      by : (y z : Bool) → kind p t ≡ a_call (flags y z) infallible → IsValued R Q v.demands (valued (call_result (flags y z) c) (where_multi (flags y z) c (making (call_sites (flags y z) c) v)))
+      by true true f =
+          let w = making part v in
+          let a = k.makes part v h in
+          let b = k.iterates_constructor t i ss w (flags true true) infallible f refl a.holds in
+          record {
+            onward = then_onward R Q v.demands w.demands (iterating c w).demands a b;
+            site = b.stays (some_part c) (k.answer w.demands t i ss (flags true true) infallible f refl (in_right v.demands.made part (some_part c) (inr (inl refl))) (each_stays R Q v.demands w.demands a.stays ss m));
+          }
+      by false true f =
+          let w = making part v in
+          let a = k.makes part v h in
+          record {
+            onward = a;
+            site = k.answer w.demands t i ss (flags false true) infallible f refl (in_right v.demands.made part (some_part c) (inr (inl refl))) (each_stays R Q v.demands w.demands a.stays ss m);
+          }
+      by true false f =
+          let w = making picks v in
+          let a = k.makes picks v h in
+          let b = k.iterates_constructor t i ss w (flags true false) infallible f refl a.holds in
+          record {
+            onward = then_onward R Q v.demands w.demands (iterating c w).demands a b;
+            site = b.stays (pick_of c) (k.pick w.demands t i ss (in_right v.demands.made picks (pick_of c) (inr (inl refl))) (each_stays R Q v.demands w.demands a.stays ss m));
+          }
+      by false false f =
+          let w = making (c ∷ []) v in
+          let a = k.makes (c ∷ []) v h in
+          record {
+            onward = a;
+            site = k.call w.demands t i ss (flags false false) infallible f refl refl (in_right v.demands.made (c ∷ []) c (inl refl)) (each_stays R Q v.demands w.demands a.stays ss m);
+          }
+
+  call_valued : (pure multi partial rec infallible : Bool) (t : ℕ) (ss : SiteTerms) (v : Visit) → kind p t ≡ a_call (record { pure = pure; multi = multi; partial = partial; rec = rec }) infallible → R v.demands → AtEach R Q v.demands ss
+      → IsValued R Q v.demands (visit_call (record { pure = pure; multi = multi; partial = partial; rec = rec }) t ss v)
+  call_valued true multi partial rec infallible t ss v e h m = call_given true multi partial rec infallible t 0 ss v e h m
+  call_valued false multi partial rec infallible t ss v e h m =
+      let flags : Flags = record { pure = false; multi = multi; partial = partial; rec = rec } in
+      let c = constructor_call t ss (suc v.impure_calls) in
+      let a = call_given false multi partial rec infallible t (suc v.impure_calls) ss v e h m in
+      let w = where_multi flags c (making (call_sites flags c) v) in
+      let b = k.calls (call_result flags c) w a.onward.holds in
+      record { onward = then_onward R Q v.demands w.demands (calling (call_result flags c) w).demands a.onward b; site = b.stays (call_result flags c) a.site }
+
+  term_valued : (n : Kind) (t : ℕ) (a : ValuedAll) → kind p t ≡ n → R a.visit.demands → AtEach R Q a.visit.demands a.sites → IsValued R Q a.visit.demands (visit_term n t a)
+  term_valued (a_variant ty variant) t a e h m =
+      let s = variant_made ty variant a.sites in
+      let w = making (s ∷ []) a.visit in
+      let o = k.makes (s ∷ []) a.visit h in
+      record { onward = o; site = k.variant w.demands ty variant a.sites (in_right a.visit.demands.made (s ∷ []) s (inl refl)) (each_stays R Q a.visit.demands w.demands o.stays a.sites m) }
+  term_valued (a_struct ty) t a e h m =
+      let s = struct_made ty a.sites in
+      let w = making (s ∷ []) a.visit in
+      let o = k.makes (s ∷ []) a.visit h in
+      record { onward = o; site = k.struct w.demands ty a.sites (in_right a.visit.demands.made (s ∷ []) s (inl refl)) (each_stays R Q a.visit.demands w.demands o.stays a.sites m) }
+  term_valued (a_call flags infallible) t a e h m = call_valued flags.pure flags.multi flags.partial flags.rec infallible t a.sites a.visit e h m
+  term_valued unknown t a e h m = record { onward = no_step R Q a.visit.demands h; site = k.unbound a.visit.demands }
+
+-- 4. visits
 module _ (p : Program) (R : Demands → Type 0) (Q : Demands → SiteTerm → Type 0) (k : KeptWithSites R Q p) where
   pub var_at : (v : Visit) → IsAt R Q v → (x : ℕ) → Q v.demands (var_site v x)
   var_at v h x = in_vars v.vars h.vars
@@ -177,13 +324,13 @@ module _ (p : Program) (R : Demands → Type 0) (Q : Demands → SiteTerm → Ty
     pub pattern_past : (q : TypedPattern) (s : SiteTerm) (v : Visit) → IsAt R Q v → Q v.demands s → Past R Q v (visit_pattern p q s v)
     pattern_past (match_bind ty x sub) s v h m =
         let b = binding_past R Q x s v h m in then_past R Q v (binding x s v) (visit_pattern p sub s (binding x s v)) b (pattern_past sub s (binding x s v) b.at m)
-    pattern_past (match_var ty x) s v h m = step_past R Q v (equating s (var_site v x) v) (equating_binds s (var_site v x) v) h (k.equal s (var_site v x) v h.holds m (var_at v h x))
-    pattern_past (match_bool ty b) s v h m = step_past R Q v (asking s (is_bool b ty) v) refl h (k.constant s (is_bool b ty) v tt h.holds m)
-    pattern_past (match_int ty z) s v h m = step_past R Q v (asking s (is_int z ty) v) refl h (k.constant s (is_int z ty) v tt h.holds m)
-    pattern_past (match_prim ty name) s v h m = step_past R Q v (asking s (is_prim name) v) refl h (k.constant s (is_prim name) v tt h.holds m)
+    pattern_past (match_var ty x) s v h m = step_past R Q v (equating s (var_site v x) v) (equating_binds s (var_site v x) v) h (k.equates s (var_site v x) v h.holds m (var_at v h x))
+    pattern_past (match_bool ty b) s v h m = step_past R Q v (asking s (is_bool b ty) v) refl h (k.asks s (is_bool b ty) v (λ x i. absurd i) h.holds m)
+    pattern_past (match_int ty z) s v h m = step_past R Q v (asking s (is_int z ty) v) refl h (k.asks s (is_int z ty) v (λ x i. absurd i) h.holds m)
+    pattern_past (match_prim ty name) s v h m = step_past R Q v (asking s (is_prim name) v) refl h (k.asks s (is_prim name) v (λ x i. absurd i) h.holds m)
     pattern_past (match_term ty t args) s v h m =
         let o = open_term (kind p t) t s args v in
-        let a = k.opened t s args v h.holds m in
+        let a = term_opened p R Q k (kind p t) t s args v refl h.holds m in
         let b = step_past R Q v o.visit (open_binds (kind p t) t s args v) h a.onward in
         then_past R Q v o.visit (visit_each p args o.inputs o.visit) b (each_past args o.inputs o.visit b.at a.inputs)
     pattern_past (match_any ty) s v h m = still_at R Q v h
@@ -206,14 +353,17 @@ module _ (p : Program) (R : Demands → Type 0) (Q : Demands → SiteTerm → Ty
 
   -- a leaf that is made where a visit stands
   leaf_given : (s : SiteTerm) (v : Visit) → IsLeaf s → IsAt R Q v → Given R Q v (valued s (making (s ∷ []) v))
-  leaf_given s v l h = let a = k.leaf s v l h.holds in record { past = step_past R Q v (making (s ∷ []) v) refl h a.onward; site = a.site }
+  leaf_given s v l h =
+      let w = making (s ∷ []) v in
+      let a = k.makes (s ∷ []) v h.holds in
+      record { past = step_past R Q v w refl h a; site = k.leaf w.demands s l (in_right v.demands.made (s ∷ []) s (inl refl)) }
 
   mutual
     pub expr_given : (x : TypedExpr) (v : Visit) → IsAt R Q v → Given R Q v (visit_expr p x v)
     expr_given (make_term ty t args) v h =
         let a = visit_exprs p args v in
         let b = exprs_given args v h in
-        let c = k.given t a b.0.at.holds b.1 in
+        let c = term_valued p R Q k (kind p t) t a refl b.0.at.holds b.1 in
         let w = (visit_term (kind p t) t a).visit in
         record { past = then_past R Q v a.visit w b.0 (step_past R Q a.visit w (term_binds (kind p t) t a) b.0.at c.onward); site = c.site }
     expr_given (make_var ty x) v h = record { past = still_at R Q v h; site = var_at v h x }
@@ -245,7 +395,7 @@ module _ (p : Program) (R : Demands → Type 0) (Q : Demands → SiteTerm → Ty
         (then_past R Q u (binding x s u) (visit_lets p rest (binding x s u)) b (lets_past rest (binding x s u) b.at))
 
   pub answers_past : (s : SiteTerm) (v : Visit) → IsAt R Q v → Q v.demands s → Past R Q v (asking_all (unwraps s) v)
-  answers_past s v h m = step_past R Q v (asking_all (unwraps s) v) (asked_binds (unwraps s) v) h (k.answers s v h.holds m)
+  answers_past s v h m = step_past R Q v (asking_all (unwraps s) v) (asked_binds (unwraps s) v) h (k.asks_all s v h.holds m)
 
   pub args_past : (i : ℕ) (qs : List TypedPattern) (v : Visit) → IsAt R Q v → Past R Q v (visit_args p i qs v)
   args_past i [] v h = still_at R Q v h
@@ -272,7 +422,11 @@ module _ (p : Program) (R : Demands → Type 0) (Q : Demands → SiteTerm → Ty
   -- in a partial term the result is made last
   finished_given : (b : Bool) (a : Valued) → R a.visit.demands → Q a.visit.demands a.site → IsValued R Q a.visit.demands (finished b a)
   finished_given false a h m = record { onward = no_step R Q a.visit.demands h; site = m }
-  finished_given true a h m = k.result a h m
+  finished_given true a h m =
+      let s = some_made a.site in
+      let w = making (s ∷ []) a.visit in
+      let o = k.makes (s ∷ []) a.visit h in
+      record { onward = o; site = k.result w.demands a.site (in_right a.visit.demands.made (s ∷ []) s (inl refl)) (o.stays a.site m) }
 
   -- so a rule's whole visit keeps both, and the fact of sites holds of the result
   pub rule_given : (r : TypedRule) → R visit_start.demands → R (visit_rule p r).visit.demands × Q (visit_rule p r).visit.demands (visit_rule p r).site
