@@ -8,3 +8,4 @@ pub mod Closings
 pub mod Verdicts
 pub mod FieldParts
 pub mod Endings
+pub mod VariantTerms

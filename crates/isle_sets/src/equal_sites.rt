@@ -63,6 +63,14 @@ impl EqualSites {
         sets
     }
 
+    /// Whether a site must equal another one.
+    pub(crate) fn contains(&self, site: BindingId) -> bool
+        ensures value { result ≡ together nat_eq self.now site site }
+        ensures partition { IsPartition nat_eq self.now }
+    {
+        self.sets.in_same_set(site, site)
+    }
+
     /// Two sites that differ must be equal.
     ///
     /// # Errors
@@ -88,7 +96,8 @@ impl EqualSites {
         ensures ascending { IfOk result (λ set. IsStrictlySortedBy nat_cmp set.items) }
         ensures rest { OnOk result ((a b : ℕ) → together nat_eq self.new a b ≡ (together nat_eq self.old a b && not (together nat_eq self.old site a))) }
     {
-        self.sets.remove_set_of(site)
+        let set = self.sets.remove_set_of(site)?;
+        Ok(set)
     }
 
     /// The sets as lists, each ascending, by their least sites.

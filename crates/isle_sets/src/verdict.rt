@@ -144,7 +144,7 @@ fn first_reason(conflict: Option<Unreachable>, cyclic: bool) -> Option<Unreachab
 /// # Errors
 ///
 /// Where memory is refused.
-pub(crate) fn why_unreachable(
+pub fn why_unreachable(
     alloc: Global,
     table: &SiteTable,
     demanded: &Demanded,
