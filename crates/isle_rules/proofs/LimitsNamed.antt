@@ -1,15 +1,16 @@
--- Which limits the errors of reading the rules of a list name: those that a rule passed.
-use Rattle.std.proofs.Common.{◌≡◌, Bool, List, [], refl, sym, subst, inl, inr}
+-- Why reading the rules of a list is refused, and which limits its errors name: those that a rule passed.
+use Rattle.std.proofs.Common.{◌≡◌, ◌≢◌, All, Bool, List, [], None, refl, sym, subst, inl, inr}
+use Rattle.std.proofs.lemmas.List.Elements.{All-contains, All-weaker}
 use Rattle.std.specs.Prelude.{Result, Ok, Err, IsErr, IsErrAnd}
-use Rattle.isle_base.specs.Answers.{NoLimit, OnErrors}
+use Rattle.isle_base.specs.Answers.{NoLimit, OnErrors, limit_of}
 use Rattle.isle_base.specs.declared.syntax.Fault.{Fault}
 use Rattle.isle_base.specs.declared.syntax.Fault.TheVariants.{Errors, Memory}
 use Rattle.isle_base.specs.declared.syntax.Error.{Error}
 use Rattle.isle_base.specs.Stable.{Entries}
 use Rattle.isle_model.specs.lists.Syntax.{Position, RuleTree, Definition}
-use Rattle.isle_model.specs.lists.TermTable.{rule_trees}
-use Rattle.isle_model.specs.claims.Environments.{TypesRead, AreReadable, setting_of, AreTermsOf}
-use Rattle.isle_model.specs.claims.Refusals.{NamedLimit, NamesOnlyPassed, PassedInReading}
+use Rattle.isle_model.specs.lists.TermTable.{rule_trees, term_names_met}
+use Rattle.isle_model.specs.claims.Environments.{TypesRead, AreReadable, HasTypedRules, setting_of, AreTermsOf}
+use Rattle.isle_model.specs.claims.Refusals.{NamedLimit, Refusal, ill_typed, unreachable, overlapping, shadowing, past_limit, NamesOnlyPassed, PassedInReading, IsIllTyped, IsOfReading, RefusesTerms, RefusesRules}
 use Rattle.isle_model.specs.rules.Typed.{TypedRule}
 use Rattle.isle_types.specs.declared.ids.RuleId.{RuleId}
 use Rattle.isle_types.specs.declared.ids.Sym.{Sym}
@@ -27,7 +28,7 @@ use Rattle.isle_rules.specs.RuleNaming.{MapsNames}
 use Rattle.isle_rules.specs.ShownEnvs.{terms_shown_by}
 use Rattle.isle_rules.specs.Translating.{IsSettingOf}
 use Rattle.isle_rules.proofs.NamedTerms.{terms_named}
-use Rattle.isle_rules.proofs.RuleErrorSteps.{each_then, may_noted, wrong_of_rules, names_only_passed, no_limit_named}
+use Rattle.isle_rules.proofs.RuleErrorSteps.{each_then, may_noted, wrong_of_rules, names_only_passed, refuses_rules, no_limit_named}
 use Rattle.isle_rules.proofs.ShownSettings.{setting_shown, terms_once}
 
 pub mapped_noted : (old new : List Error) (rules : List TypedRule) (m : Entries Sym RuleId) → MapsNames old new rules m → MayNoteMore old new
@@ -39,21 +40,55 @@ pub noted_to_the_end : (env : TermEnv) (old : TypeEnv) (trees : List RuleTree) (
 noted_to_the_end env old trees read after notes more e is =
     each_then (IsOfRules e trees (names_of old)) [] read after (notes e is) (may_noted (IsOfRules e trees (names_of old)) (wrong_of_rules e trees (names_of old)) read after more)
 
-module _ (e : TypesRead) (r : AreReadable e) (defs : List Definition) (table : TermTable) (old : TypeEnv) (a : AreTermsOf e defs (shown_by table) (environment_view old)) where
-  pub limits_named : (env : TermEnv) → terms_shown_by env ≡ shown_by table → (expand : Bool) → env.expand_internal_extractors ≡ expand → (errors : List Error)
-      → NotesOfRules env old (rule_trees defs) [] errors → NamesOnlyPassed (PassedInReading e defs expand) (error_views errors)
-  limits_named env shown expand flag errors notes =
-      let own : AreTermsOf e defs (terms_shown_by env) (environment_view old) = subst (λ t. AreTermsOf e defs t (environment_view old)) (sym shown) a in
-      let is : IsSettingOf old env (setting_of e defs expand) = subst (λ b. IsSettingOf old env (setting_of e defs b)) flag (setting_shown e r defs env old own) in
-      let inverse : IsInterned old = record { numbered = a.types.inverse.numbered; named = a.types.inverse.named } in
-      let k = terms_named env old (setting_of e defs expand) inverse is (terms_once e r defs env old own) in
-      names_only_passed e defs expand r a.valid (subst (AreTermsNamed (setting_of e defs expand)) a.types.names k) env old is a.types.names errors errors notes (inl refl)
+-- the errors of the rules, by the tables of the terms
+module _ (e : TypesRead) (r : AreReadable e) (defs : List Definition) (table : TermTable) (old : TypeEnv) (a : AreTermsOf e defs (shown_by table) (environment_view old))
+    (env : TermEnv) (shown : terms_shown_by env ≡ shown_by table) (expand : Bool) (flag : env.expand_internal_extractors ≡ expand) (errors : List Error) (notes : NotesOfRules env old (rule_trees defs) [] errors) where
+  own : AreTermsOf e defs (terms_shown_by env) (environment_view old)
+  own = subst (λ t. AreTermsOf e defs t (environment_view old)) (sym shown) a
 
--- errors on terms name no limit, and they are passed on
-pub named_by_none : {X : Type 0} (Passed : NamedLimit → Position → Type 0) (r : Result X Fault) (f : Fault) → IsErr r × IsErrAnd r (λ y. y ≡ f) → NoLimit {A = TermTable} (Err f) → OnErrors r (λ es. NamesOnlyPassed Passed (error_views es))
-named_by_none Passed (Ok x) f h n = tt
-named_by_none {X} Passed (Err y) f h n = of_fault y (subst (λ z. NoLimit {A = TermTable} (Err z)) (sym h.1) n)
+  is : IsSettingOf old env (setting_of e defs expand)
+  is = subst (λ b. IsSettingOf old env (setting_of e defs b)) flag (setting_shown e r defs env old own)
+
+  inverse : IsInterned old
+  inverse = record { numbered = a.types.inverse.numbered; named = a.types.inverse.named }
+
+  terms : AreTermsNamed (setting_of e defs expand) (term_names_met e.known defs)
+  terms = subst (AreTermsNamed (setting_of e defs expand)) a.types.names (terms_named env old (setting_of e defs expand) inverse is (terms_once e r defs env old own))
+
+  pub limits_named : NamesOnlyPassed (PassedInReading e defs expand) (error_views errors)
+  limits_named = names_only_passed e defs expand r a.valid terms env old is a.types.names errors errors notes (inl refl)
+
+  pub refused_by_rules : errors ≢ [] → (HasTypedRules e defs expand → ⊥) → RefusesRules e defs expand (error_views errors)
+  refused_by_rules = refuses_rules e defs expand r a.valid terms env old is a.types.names errors errors notes (inl refl)
+
+-- what the errors of the terms say is passed on
+pub passed_on : {X : Type 0} (P Q : List Error → Type 0) → ((es : List Error) → P es → Q es) → (r : Result X Fault) (f : Fault) → IsErr r × IsErrAnd r (λ y. y ≡ f) → OnErrors {A = TermTable} (Err f) P → OnErrors r Q
+passed_on P Q same (Ok x) f h n = tt
+passed_on {X} P Q same (Err y) f h n = of_fault y (subst (λ z. OnErrors {A = TermTable} (Err z) P) (sym h.1) n)
   where
-    of_fault : (z : Fault) → NoLimit {A = TermTable} (Err z) → OnErrors {A = X} (Err z) (λ es. NamesOnlyPassed Passed (error_views es))
-    of_fault (Errors es) n = no_limit_named Passed es.items n
+    of_fault : (z : Fault) → OnErrors {A = TermTable} (Err z) P → OnErrors {A = X} (Err z) Q
+    of_fault (Errors es) n = same es.items n
     of_fault (Memory e) n = tt
+
+-- they name no limit
+pub named_by_none : {X : Type 0} (Passed : NamedLimit → Position → Type 0) (r : Result X Fault) (f : Fault) → IsErr r × IsErrAnd r (λ y. y ≡ f) → NoLimit {A = TermTable} (Err f) → OnErrors r (λ es. NamesOnlyPassed Passed (error_views es))
+named_by_none Passed r f h n = passed_on (All (λ e. limit_of e ≡ None)) (λ es. NamesOnlyPassed Passed (error_views es)) (no_limit_named Passed) r f h n
+
+of_reading : (x : Refusal) → IsIllTyped x → IsOfReading x
+of_reading (ill_typed at) h = h
+of_reading (unreachable at) h = absurd h
+of_reading (overlapping rules) h = absurd h
+of_reading (shadowing shadowed mask) h = absurd h
+of_reading (past_limit l at) h = absurd h
+
+-- without terms there are no rules
+refused_without_terms : (e : TypesRead) (defs : List Definition) (expand : Bool) (errors : List Refusal) → RefusesTerms e defs errors → RefusesRules e defs expand errors
+refused_without_terms e defs expand errors t = record {
+  some_error = t.some_error;
+  forms = All-weaker IsIllTyped IsOfReading of_reading errors t.forms;
+  limits = λ l at here. absurd (All-contains IsIllTyped errors (past_limit l at) t.forms here);
+  no_rules = λ rules. t.not_valid rules.1.terms;
+}
+
+pub refused_by_terms : {X : Type 0} (e : TypesRead) (defs : List Definition) (expand : Bool) (r : Result X Fault) (f : Fault) → IsErr r × IsErrAnd r (λ y. y ≡ f) → OnErrors {A = TermTable} (Err f) (λ es. RefusesTerms e defs (error_views es)) → OnErrors r (λ es. RefusesRules e defs expand (error_views es))
+refused_by_terms e defs expand r f h n = passed_on (λ es. RefusesTerms e defs (error_views es)) (λ es. RefusesRules e defs expand (error_views es)) (λ es t. refused_without_terms e defs expand (error_views es) t) r f h n

@@ -3,6 +3,7 @@ use Rattle.std.proofs.Common.{◌≡◌, ◌≢◌, ℕ, ◌<◌, Bool, true, fa
 use Rattle.std.proofs.lemmas.List.{append-nil}
 use Rattle.std.proofs.lemmas.List.Elements.{All-nil, All-cons, All-append, All-weaker, All-contains, Contains-get_or}
 use Rattle.std.proofs.lemmas.Option.{none-some, same_Some}
+use Rattle.isle_base.proofs.Noted.{some_views}
 use Rattle.isle_base.specs.Answers.{limit_of}
 use Rattle.isle_base.specs.declared.syntax.Def.{Def}
 use Rattle.isle_base.specs.declared.syntax.Error.{Error}
@@ -225,10 +226,6 @@ module _ (e : Setting) (names : List (List ℕ)) (k : AreTermsNamed e names) (r 
       ] refl
 
 -- 6. the errors of a list
-some_views : (es : List Error) → es ≢ [] → error_views es ≢ []
-some_views [] some none = some refl
-some_views (x ∷ es) some none = absurd (cc)
-
 module _ (e : TypesRead) (defs : List Definition) (expand : Bool) (readable : AreReadable e) (valid : IsValidTerms e.known defs) (k : AreTermsNamed (setting_of e defs expand) (term_names_met e.known defs)) where
   abbrev OfList : Refusal → Type 0
   OfList = IsOfRules (setting_of e defs expand) (rule_trees defs) (term_names_met e.known defs)

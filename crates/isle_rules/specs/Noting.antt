@@ -1,16 +1,2 @@
--- What is noted while rules are read.
-use Rattle.std.specs.Prelude.{◌≡◌, ◌≢◌, ◌⊎◌, List, [], ◌++◌, All}
-use Rattle.isle_model.specs.claims.Refusals.{IsIllTyped}
-use Rattle.isle_base.specs.declared.syntax.Error.{Error}
-use Rattle.isle_rules.specs.ErrorViews.{error_view}
-
--- at least one more error, each of which says that something isn't right, and none that a limit was passed
-pub record NotesMore (old new : List Error) : Type 0 where
-  pub more : List Error
-  pub added : new ≡ old ++ more
-  pub some_more : more ≢ []
-  pub forms : All (λ e. IsIllTyped (error_view e)) more
-
--- nothing was noted, or something was
-abbrev pub MayNoteMore : List Error → List Error → Type 0
-MayNoteMore old new = (new ≡ old) ⊎ NotesMore old new
+-- What is noted while rules are read, as isle_base has it.
+pub use Rattle.isle_base.specs.Noting.{AreIllTyped, NotesMore, MayNoteMore}

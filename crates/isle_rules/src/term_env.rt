@@ -4,7 +4,7 @@ ghost use Rattle.isle_base.specs.Answers.{Answers, OnErrors};
 ghost use Rattle.isle_base.specs.SyntaxViews.{definition_views};
 ghost use Rattle.isle_model.specs.claims.Environments.{TypesRead, AreReadable, AreRulesOf, HasTypedRules, IsLeftByRefusal, IsReadAs};
 ghost use Rattle.isle_model.specs.claims.Questions.{variant_by_id};
-ghost use Rattle.isle_model.specs.claims.Refusals.{NamesOnlyPassed, PassedInReading};
+ghost use Rattle.isle_model.specs.claims.Refusals.{NamesOnlyPassed, PassedInReading, RefusesRules};
 ghost use Rattle.isle_model.specs.lists.Elaborated.{TypedRules};
 ghost use Rattle.isle_types.specs.Envs.{symbol_of};
 ghost use Rattle.isle_types.specs.EnvViews.{environment_view};
@@ -69,6 +69,7 @@ impl TermEnv {
             (λ env. (rules : TypedRules) × AreRulesOf read (definition_views defs.now) expand_internal_extractors rules (environment_shown_by env) (environment_view tyenv.new)) }
         ensures left { OnErr result (IsLeftByRefusal read (environment_view tyenv.new)) }
         ensures limits { OnErrors result (λ es. NamesOnlyPassed (PassedInReading read (definition_views defs.now) expand_internal_extractors) (error_views es)) }
+        ensures refused { OnErrors result (λ es. RefusesRules read (definition_views defs.now) expand_internal_extractors (error_views es)) }
     {
         let table = TermTable::from_ast(alloc, tyenv, defs)?;
         let mut env = TermEnv::with_terms(alloc, table, expand_internal_extractors);

@@ -2,7 +2,7 @@ use Rattle.std.proofs.Common.{◌∙◌}
 use Rattle.isle_base.specs.SyntaxViews.{definition_views}
 use Rattle.isle_model.specs.claims.Refusals.{PassedInReading}
 use Rattle.isle_rules.specs.RulesRead.{rules_of}
-use Rattle.isle_rules.proofs.LimitsNamed.{limits_named, named_by_none}
+use Rattle.isle_rules.proofs.LimitsNamed.{limits_named, named_by_none, refused_by_rules, refused_by_terms}
 use Rattle.isle_rules.proofs.EnvironmentsAtEnd.{left_in_the_end, all_read, could_be_read, whatever, is_nothing, is_something, wrong_in_the_end, right_in_the_end, read_by_terms}
 use Rattle.isle_rules.proofs.term_env.TermEnv.from_ast.Goals as goal
 
@@ -41,3 +41,13 @@ returns-then-not-is_empty-clause-limits g c =
 pub returns-in_err-table-clause-limits : goal.returns-in_err-table-clause-limits
 returns-in_err-table-clause-limits g c =
     named_by_none (PassedInReading g.read (definition_views c.args.defs.now) c.args.expand_internal_extractors) c.from_residual.result c.in_err-table.field-0.0 c.from_residual.ensures c.in_err-table.ensures.no_limit
+
+pub returns-then-not-is_empty-clause-refused : goal.returns-then-not-is_empty-clause-refused
+returns-then-not-is_empty-clause-refused g c =
+    let wrong = returns-then-not-is_empty-clause-answers g c in
+    refused_by_rules g.read c.requires.0 (definition_views c.args.defs.now) c.in_ok-table.table c.from_ast.new.tyenv c.in_ok-table.ensures.answers.1 c.with_terms-env.result c.with_terms-env.ensures.terms c.args.expand_internal_extractors c.with_terms-env.ensures.expand
+    c.in_ok-errors.errors.items c.in_ok-errors.ensures.notes wrong.0 wrong.1
+
+pub returns-in_err-table-clause-refused : goal.returns-in_err-table-clause-refused
+returns-in_err-table-clause-refused g c =
+    refused_by_terms g.read (definition_views c.args.defs.now) c.args.expand_internal_extractors c.from_residual.result c.in_err-table.field-0.0 c.from_residual.ensures c.in_err-table.ensures.refused
