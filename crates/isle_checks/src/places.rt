@@ -215,13 +215,21 @@ fn needs(rule: &Rule, test: Test) -> bool {
     }
 }
 
-// Whether the rule needs the test, and each one here needs it too or has no higher priority.
-fn is_covered(set: &RuleSet, here: &[usize], test: Test, rule: &Rule) -> bool {
-    needs(rule, test)
-        && here.iter().all(|other| match set.rules.get(*other) {
-            Some(other) => needs(other, test) || other.prio <= rule.prio,
-            None => true,
-        })
+// Whether a rule needs the test, and each one here needs it too or has no higher priority.
+fn is_covered(set: &RuleSet, here: &[usize], test: Test, number: usize) -> bool {
+    match set.rules.get(number) {
+        Some(rule) => needs(rule, test)
+            && here.iter().all(|other| is_no_bar(set, rule, test, *other)),
+        None => false,
+    }
+}
+
+// Whether a rule needs the test or has no higher priority than this one.
+fn is_no_bar(set: &RuleSet, rule: &Rule, test: Test, number: usize) -> bool {
+    match set.rules.get(number) {
+        Some(other) => needs(other, test) || other.prio <= rule.prio,
+        None => true,
+    }
 }
 
 // The rules of a place that a test there covers.
@@ -231,15 +239,11 @@ pub fn cover(
     place: &Place,
     test: Test,
 ) -> Result<Vec<usize>, AllocError> {
-    let mut covered = Vec::new(alloc);
-    for number in &place.here {
-        if let Some(rule) = set.rules.get(*number) {
-            if is_covered(set, &place.here, test, rule) {
-                covered.push(*number)?;
-            }
-        }
-    }
-    Ok(covered)
+    let here = &place.here;
+    here.iter()
+        .copied()
+        .filter(|number| is_covered(set, here, test, *number))
+        .collect(alloc)
 }
 
 // The score of a test, by its definition.
