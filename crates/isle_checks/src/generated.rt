@@ -87,7 +87,7 @@ pub const ALL: Forms<'static> = Forms {
         Form::MultiCall,
     ],
     conditions: true,
-    arguments: 2,
+    arguments: 3,
 };
 
 // What all rules but those of the first forms speak of.
@@ -135,6 +135,14 @@ enum Name {
     Struct,
 }
 
+// What stands around the parts of a pattern or an expression, and the types of these.
+#[derive(Clone, Copy)]
+struct Shape {
+    open: &'static str,
+    parts: &'static [Kind],
+    close: &'static str,
+}
+
 // What a list is written by.
 #[derive(Drop)]
 struct Maker<'a> {
@@ -144,6 +152,8 @@ struct Maker<'a> {
     flag: Flag,
     // The variables that the rule has bound so far.
     bound: Vec<Name>,
+    // Whether it has a variable before `@`.
+    has_whole: bool,
 }
 
 // The list of this number: a term, and up to six rules.
@@ -154,6 +164,7 @@ pub fn list(alloc: Global, number: u64, forms: Forms<'_>) -> Result<String, Allo
         forms,
         flag: Flag::Plain,
         bound: Vec::new(alloc),
+        has_whole: false,
     };
     maker.push_list(alloc)?;
     let Maker { text, .. } = maker;
@@ -203,9 +214,9 @@ impl Maker<'_> {
     fn kinds(&mut self, alloc: Global) -> Result<Vec<Kind>, AllocError> {
         let mut kinds = Vec::new(alloc);
         for _ in 0..=self.below(self.forms.arguments) {
-            kinds.push(match self.below(5) {
-                0 if self.forms.conditions => Kind::Enum,
-                1 if self.forms.conditions => Kind::Struct,
+            kinds.push(match self.below(6) {
+                0 | 1 if self.forms.conditions => Kind::Enum,
+                2 if self.forms.conditions => Kind::Struct,
                 _ => Kind::Number,
             })?;
         }
@@ -255,6 +266,7 @@ impl Maker<'_> {
         last: u64,
     ) -> Result<(), AllocError> {
         self.bound.clear();
+        self.has_whole = false;
         match self.flag {
             Flag::Multi => self.push("(rule (f")?,
             _ => write!(self.text, "(rule {prio} (f")?,
@@ -264,7 +276,7 @@ impl Maker<'_> {
             if self.below(last.saturating_add(1)) > prio {
                 self.push_new_name(*kind)?;
             } else {
-                self.push_pattern(*kind, 2)?;
+                self.push_argument(*kind)?;
             }
         }
         self.push(")")?;
@@ -272,8 +284,7 @@ impl Maker<'_> {
             self.push_if_let()?;
         }
         self.push(" ")?;
-        let depth = if self.below(4) == 0 { 2 } else { 1 };
-        self.push_expression(answer, depth)?;
+        self.push_expression(answer)?;
         self.push(")\n")
     }
 
@@ -282,7 +293,7 @@ impl Maker<'_> {
         // chosen before the pattern binds further variables, which the call can't use
         let part = self.bound_name(Kind::Number);
         self.push(" (if-let ")?;
-        self.push_pattern(Kind::Number, 0)?;
+        self.push_part(Kind::Number)?;
         let call = match self.below(3) {
             0 => " (pc ",
             1 if self.flag == Flag::Multi => " (pm ",
@@ -365,64 +376,71 @@ impl Maker<'_> {
         form
     }
 
-    // A pattern of a type, with parts at most so deep.
-    #[cycle(pattern)]
-    fn push_pattern(&mut self, kind: Kind, depth: usize) -> Result<(), AllocError> {
+    // A pattern of a type. The variable before `@` that it may have is bound for what follows.
+    fn push_argument(&mut self, kind: Kind) -> Result<(), AllocError> {
+        self.push_pattern(kind)?;
+        if self.has_whole && !self.bound.contains(&Name::Whole) {
+            self.bound.push(Name::Whole)?;
+        }
+        Ok(())
+    }
+
+    // A pattern of a type, whose parts may have parts.
+    fn push_pattern(&mut self, kind: Kind) -> Result<(), AllocError> {
         let form = self.pattern_form(kind);
-        if depth == 0 {
+        let Some(shape) = self.pattern_shape(form, kind) else {
             return self.push_leaf(form, kind);
-        }
-        let depth = depth - 1;
-        match (form, kind) {
-            (Form::Bind, _) => self.push_binding(kind, depth),
-            (Form::And, _) => self.push_parts("(and", &[kind, kind], depth),
-            (Form::Variant, Kind::Enum) => match self.below(3) {
-                0 => self.push_parts("(T.A", &[Kind::Number, Kind::Number], depth),
-                1 => self.push_parts("(T.B", &[Kind::Number], depth),
-                _ => self.push("(T.C)"),
-            },
-            (Form::Struct, Kind::Struct) => {
-                self.push_parts("(S", &[Kind::Number, Kind::Truth], depth)
-            }
-            (_, Kind::Number) => self.push_extractor(form, kind, depth),
-            _ => self.push_leaf(form, kind),
-        }
-    }
-
-    // A pattern that is an extractor's, or else one without parts.
-    #[cycle(pattern)]
-    fn push_extractor(&mut self, form: Form, kind: Kind, depth: usize) -> Result<(), AllocError> {
-        match form {
-            Form::Fallible => self.push_parts("(e", &[kind], depth),
-            Form::Infallible => self.push_parts("(i", &[kind], depth),
-            Form::Pair => self.push_parts("(h", &[kind, kind], depth),
-            Form::Template => self.push_parts("(d", &[kind], depth),
-            Form::MultiExtractor if self.flag == Flag::Multi => {
-                self.push_parts("(me", &[kind], depth)
-            }
-            _ => self.push_leaf(form, kind),
-        }
-    }
-
-    // A variable and a pattern, or else the pattern alone.
-    #[cycle(pattern)]
-    fn push_binding(&mut self, kind: Kind, depth: usize) -> Result<(), AllocError> {
-        if kind != Kind::Number || self.bound.contains(&Name::Whole) {
-            return self.push_pattern(kind, depth);
-        }
-        self.push("w @ ")?;
-        self.push_pattern(kind, depth)?;
-        Ok(self.bound.push(Name::Whole)?)
-    }
-
-    #[cycle(pattern)]
-    fn push_parts(&mut self, head: &str, kinds: &[Kind], depth: usize) -> Result<(), AllocError> {
-        self.push(head)?;
-        for kind in kinds {
+        };
+        self.push(shape.open)?;
+        for part in shape.parts {
             self.push(" ")?;
-            self.push_pattern(*kind, depth)?;
+            self.push_part(*part)?;
         }
-        self.push(")")
+        self.push(shape.close)
+    }
+
+    // A pattern of a type, whose parts have none.
+    fn push_part(&mut self, kind: Kind) -> Result<(), AllocError> {
+        let form = self.pattern_form(kind);
+        let Some(shape) = self.pattern_shape(form, kind) else {
+            return self.push_leaf(form, kind);
+        };
+        self.push(shape.open)?;
+        for part in shape.parts {
+            let form = self.pattern_form(*part);
+            self.push(" ")?;
+            self.push_leaf(form, *part)?;
+        }
+        self.push(shape.close)
+    }
+
+    // What stands around the parts of a pattern of this form, None where it has none.
+    fn pattern_shape(&mut self, form: Form, kind: Kind) -> Option<Shape> {
+        match (form, kind) {
+            (Form::And, Kind::Number) => Some(shaped("(and", &[Kind::Number, Kind::Number], ")")),
+            (Form::And, Kind::Enum) => Some(shaped("(and", &[Kind::Enum, Kind::Enum], ")")),
+            (Form::Bind, Kind::Number) => self.binding_shape(),
+            (Form::Variant, Kind::Enum) => match self.below(3) {
+                0 => Some(shaped("(T.A", &[Kind::Number, Kind::Number], ")")),
+                1 => Some(shaped("(T.B", &[Kind::Number], ")")),
+                _ => None,
+            },
+            (Form::Struct, Kind::Struct) => Some(shaped("(S", &[Kind::Number, Kind::Truth], ")")),
+            (Form::MultiExtractor, Kind::Number) if self.flag == Flag::Multi => {
+                Some(shaped("(me", &[Kind::Number], ")"))
+            }
+            (_, Kind::Number) => extractor_shape(form),
+            _ => None,
+        }
+    }
+
+    // A variable before `@`, of which a rule has one.
+    fn binding_shape(&mut self) -> Option<Shape> {
+        if self.has_whole {
+            return None;
+        }
+        self.has_whole = true;
+        Some(shaped("w @", &[Kind::Number], ""))
     }
 
     // An expression without parts.
@@ -441,53 +459,73 @@ impl Maker<'_> {
         }
     }
 
-    // An expression of a type, with parts at most so deep.
-    #[cycle(expression)]
-    fn push_expression(&mut self, kind: Kind, depth: usize) -> Result<(), AllocError> {
+    // An expression of a type, whose parts may have parts.
+    fn push_expression(&mut self, kind: Kind) -> Result<(), AllocError> {
         let from = self.forms.expressions;
         let form = self.pick(from);
-        if depth == 0 {
+        let Some(shape) = self.expression_shape(form, kind) else {
             return self.push_value(form, kind);
-        }
-        let depth = depth - 1;
-        match (form, kind) {
-            (Form::Let, _) => {
-                self.push("(let ((v u8 ")?;
-                self.push_expression(Kind::Number, depth)?;
-                self.push(")) ")?;
-                self.push_call(if kind == Kind::Enum { "(T.B" } else { "(pc" }, " v")
-            }
-            (_, Kind::Enum) => match self.below(2) {
-                0 => self.push_made("(T.A", &[Kind::Number, Kind::Number], depth),
-                _ => self.push_made("(T.B", &[Kind::Number], depth),
-            },
-            (Form::Pure, Kind::Number) => self.push_made("(pc", &[kind], depth),
-            (Form::Impure, Kind::Number) => self.push_made("(im", &[kind], depth),
-            (Form::Partial, Kind::Number) if self.flag == Flag::Partial => {
-                self.push_made("(pp", &[kind], depth)
-            }
-            (Form::MultiCall, Kind::Number) if self.flag == Flag::Multi => {
-                self.push_made("(pm", &[kind], depth)
-            }
-            _ => self.push_value(form, kind),
-        }
-    }
-
-    #[cycle(expression)]
-    fn push_made(&mut self, head: &str, kinds: &[Kind], depth: usize) -> Result<(), AllocError> {
-        self.push(head)?;
-        for kind in kinds {
+        };
+        self.push(shape.open)?;
+        for part in shape.parts {
             self.push(" ")?;
-            self.push_expression(*kind, depth)?;
+            self.push_operand(*part)?;
         }
-        self.push(")")
+        self.push(shape.close)
     }
 
-    // What ends a let: a call of its variable.
-    fn push_call(&mut self, head: &str, part: &str) -> Result<(), AllocError> {
-        self.push(head)?;
-        self.push(part)?;
-        self.push("))")
+    // An expression of a type, whose parts have none.
+    fn push_operand(&mut self, kind: Kind) -> Result<(), AllocError> {
+        let from = self.forms.expressions;
+        let form = self.pick(from);
+        let Some(shape) = self.expression_shape(form, kind) else {
+            return self.push_value(form, kind);
+        };
+        self.push(shape.open)?;
+        for part in shape.parts {
+            self.push(" ")?;
+            self.push_value(Form::Bound, *part)?;
+        }
+        self.push(shape.close)
+    }
+
+    // What stands around the parts of an expression of this form, None where it has none.
+    fn expression_shape(&mut self, form: Form, kind: Kind) -> Option<Shape> {
+        match (form, kind) {
+            (Form::Let, Kind::Enum) => {
+                Some(shaped("(let ((v u8", &[Kind::Number], ")) (T.B v))"))
+            }
+            (Form::Let, _) => Some(shaped("(let ((v u8", &[Kind::Number], ")) (pc v))")),
+            (_, Kind::Enum) => match self.below(3) {
+                0 => Some(shaped("(T.A", &[Kind::Number, Kind::Number], ")")),
+                1 => Some(shaped("(T.B", &[Kind::Number], ")")),
+                _ => None,
+            },
+            (Form::Pure, _) => Some(shaped("(pc", &[Kind::Number], ")")),
+            (Form::Impure, _) => Some(shaped("(im", &[Kind::Number], ")")),
+            (Form::Partial, _) if self.flag == Flag::Partial => {
+                Some(shaped("(pp", &[Kind::Number], ")"))
+            }
+            (Form::MultiCall, _) if self.flag == Flag::Multi => {
+                Some(shaped("(pm", &[Kind::Number], ")"))
+            }
+            _ => None,
+        }
+    }
+}
+
+fn shaped(open: &'static str, parts: &'static [Kind], close: &'static str) -> Shape {
+    Shape { open, parts, close }
+}
+
+// What stands around the part of an extractor's pattern.
+fn extractor_shape(form: Form) -> Option<Shape> {
+    match form {
+        Form::Fallible => Some(shaped("(e", &[Kind::Number], ")")),
+        Form::Infallible => Some(shaped("(i", &[Kind::Number], ")")),
+        Form::Pair => Some(shaped("(h", &[Kind::Number, Kind::Number], ")")),
+        Form::Template => Some(shaped("(d", &[Kind::Number], ")")),
+        _ => None,
     }
 }
 
