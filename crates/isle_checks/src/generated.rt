@@ -1,7 +1,7 @@
 // Lists of definitions as text, made by a sequence of numbers that look random and are the same in each run.
 use std::alloc::{AllocError, Global};
 
-// What patterns, right sides and if-lets are made of, beside wildcards and integers.
+// What patterns and expressions are made of, beside wildcards.
 #[derive(Clone, Copy, PartialEq, Eq)]
 pub enum Form {
     // Patterns.
@@ -22,57 +22,73 @@ pub enum Form {
     // Expressions.
     Literal,
     Bound,
-    Make,
     Let,
     Pure,
     Impure,
     Partial,
     MultiCall,
-    // Statements.
-    IfLet,
+}
+
+// What lists are made of. A form that stands twice is taken twice as often.
+#[derive(Clone, Copy)]
+pub struct Forms<'a> {
+    patterns: &'a [Form],
+    expressions: &'a [Form],
+    conditions: bool,
+    // The most arguments.
+    arguments: u64,
 }
 
 // The forms that lists are made of: those that `lower` carries so far. `ALL` is to stand in its place once it carries all.
-pub const FORMS: &[Form] = &FIRST;
+pub const FORMS: Forms<'static> = FIRST;
 
 // Whole numbers, wildcards and variables that are bound once.
-const FIRST: [Form; 5] = [
-    Form::Integer,
-    Form::Integer,
-    Form::Variable,
-    Form::Literal,
-    Form::Bound,
-];
+const FIRST: Forms<'static> = Forms {
+    patterns: &[Form::Integer, Form::Integer, Form::Variable],
+    expressions: &[Form::Literal, Form::Bound],
+    conditions: false,
+    arguments: 3,
+};
 
-// What else there is. A form that stands twice is taken twice as often.
-pub const ALL: [Form; 26] = [
-    Form::Integer,
-    Form::Integer,
-    Form::Integer,
-    Form::Variable,
-    Form::Equal,
-    Form::Bind,
-    Form::And,
-    Form::Truth,
-    Form::Constant,
-    Form::Variant,
-    Form::Variant,
-    Form::Struct,
-    Form::Fallible,
-    Form::Infallible,
-    Form::Pair,
-    Form::Template,
-    Form::MultiExtractor,
-    Form::Literal,
-    Form::Bound,
-    Form::Make,
-    Form::Let,
-    Form::Pure,
-    Form::Impure,
-    Form::Partial,
-    Form::MultiCall,
-    Form::IfLet,
-];
+// All forms.
+pub const ALL: Forms<'static> = Forms {
+    patterns: &[
+        Form::Integer,
+        Form::Integer,
+        Form::Integer,
+        Form::Equal,
+        Form::Equal,
+        Form::Equal,
+        Form::Equal,
+        Form::Bind,
+        Form::And,
+        Form::Truth,
+        Form::Constant,
+        Form::Variant,
+        Form::Variant,
+        Form::Struct,
+        Form::Struct,
+        Form::Fallible,
+        Form::Infallible,
+        Form::Pair,
+        Form::Template,
+        Form::MultiExtractor,
+    ],
+    expressions: &[
+        Form::Literal,
+        Form::Literal,
+        Form::Bound,
+        Form::Bound,
+        Form::Bound,
+        Form::Let,
+        Form::Pure,
+        Form::Impure,
+        Form::Partial,
+        Form::MultiCall,
+    ],
+    conditions: true,
+    arguments: 3,
+};
 
 // What all rules but those of the first forms speak of.
 const SHARED: &str = "(type T (enum (A (x u8) (y u8)) (B (x u8)) C))
@@ -112,29 +128,43 @@ enum Name {
     A,
     B,
     C,
+    // What stands before `@`.
+    Whole,
     Truth,
     Enum,
     Struct,
 }
 
+// What stands around the parts of a pattern or an expression, and the types of these.
+#[derive(Clone, Copy)]
+struct Shape {
+    open: &'static str,
+    parts: &'static [Kind],
+    close: &'static str,
+}
+
+// What a list is written by.
 #[derive(Drop)]
 struct Maker<'a> {
     text: String,
     state: u64,
-    forms: &'a [Form],
+    forms: Forms<'a>,
     flag: Flag,
     // The variables that the rule has bound so far.
     bound: Vec<Name>,
+    // Whether it has a variable before `@`.
+    has_whole: bool,
 }
 
-// The list of this number, made of these forms: a term of up to three arguments, and up to six rules.
-pub fn list(alloc: Global, number: u64, forms: &[Form]) -> Result<String, AllocError> {
+// The list of this number: a term, and up to six rules.
+pub fn list(alloc: Global, number: u64, forms: Forms<'_>) -> Result<String, AllocError> {
     let mut maker = Maker {
         text: String::new(alloc),
         state: number.wrapping_mul(2_654_435_761),
         forms,
         flag: Flag::Plain,
         bound: Vec::new(alloc),
+        has_whole: false,
     };
     maker.push_list(alloc)?;
     let Maker { text, .. } = maker;
@@ -151,19 +181,10 @@ impl Maker<'_> {
         (self.state >> 33).checked_rem(limit).unwrap_or(0)
     }
 
-    // One of these, or else the other.
-    fn pick<T: Copy>(&mut self, from: &[T], other: T) -> T {
+    // One of these forms, or else an integer.
+    fn pick(&mut self, from: &[Form]) -> Form {
         let place = self.below(from.len() as u64);
-        from.get(place as usize).copied().unwrap_or(other)
-    }
-
-    fn has(&self, form: Form) -> bool {
-        self.forms.contains(&form)
-    }
-
-    fn form(&mut self) -> Form {
-        let forms = self.forms;
-        self.pick(forms, Form::Integer)
+        from.get(place as usize).copied().unwrap_or(Form::Integer)
     }
 
     fn push(&mut self, text: &str) -> Result<(), AllocError> {
@@ -171,54 +192,44 @@ impl Maker<'_> {
     }
 
     fn push_list(&mut self, alloc: Global) -> Result<(), AllocError> {
-        if self.has(Form::Variant) {
+        if self.forms.conditions {
             self.push(SHARED)?;
+            self.flag = match self.below(3) {
+                0 => Flag::Plain,
+                1 => Flag::Partial,
+                _ => Flag::Multi,
+            };
         }
-        let mut kinds = Vec::new(alloc);
-        for _ in 0..=self.below(3) {
-            kinds.push(self.kind())?;
-        }
-        let answer = if self.has(Form::Make) && self.below(3) == 0 {
+        let kinds = self.kinds(alloc)?;
+        let answer = if self.forms.conditions && self.below(4) == 0 {
             Kind::Enum
         } else {
             Kind::Number
         };
         self.push_term(&kinds, answer)?;
-        let rules = self.below(6);
-        let order = self.below(3);
-        for number in 0..=rules {
-            let prio = match order {
-                0 => number,
-                1 => rules.saturating_sub(number),
-                _ => self.below(3),
-            };
-            self.push_rule(&kinds, answer, prio)?;
-        }
-        Ok(())
+        self.push_rules(&kinds, answer)
     }
 
-    // The type of an argument.
-    fn kind(&mut self) -> Kind {
-        if self.has(Form::Variant) {
-            self.pick(
-                &[Kind::Number, Kind::Number, Kind::Enum, Kind::Struct],
-                Kind::Number,
-            )
-        } else {
-            Kind::Number
+    // The types of the arguments.
+    fn kinds(&mut self, alloc: Global) -> Result<Vec<Kind>, AllocError> {
+        let mut kinds = Vec::new(alloc);
+        for _ in 0..=self.below(self.forms.arguments) {
+            kinds.push(match self.below(6) {
+                0 | 1 if self.forms.conditions => Kind::Enum,
+                2 if self.forms.conditions => Kind::Struct,
+                _ => Kind::Number,
+            })?;
         }
+        Ok(kinds)
     }
 
     fn push_term(&mut self, kinds: &[Kind], answer: Kind) -> Result<(), AllocError> {
-        self.push("(decl ")?;
-        if self.has(Form::Partial) {
-            self.flag = self.pick(&[Flag::Plain, Flag::Partial, Flag::Multi], Flag::Plain);
-        }
         let flag = match self.flag {
             Flag::Plain => "",
             Flag::Partial => "partial ",
             Flag::Multi => "multi ",
         };
+        self.push("(decl ")?;
         self.push(flag)?;
         self.push("f (")?;
         for kind in kinds {
@@ -230,19 +241,50 @@ impl Maker<'_> {
         self.push(")\n")
     }
 
-    fn push_rule(&mut self, kinds: &[Kind], answer: Kind, prio: u64) -> Result<(), AllocError> {
+    // Rules whose priorities ascend, descend, or are alike.
+    fn push_rules(&mut self, kinds: &[Kind], answer: Kind) -> Result<(), AllocError> {
+        let (most, other) = (self.below(6), self.below(6));
+        let last = most.min(other);
+        let order = self.below(8);
+        for number in 0..=last {
+            let prio = match order {
+                0 => self.below(3),
+                1..=4 => number,
+                _ => last.saturating_sub(number),
+            };
+            self.push_rule(kinds, answer, prio, last)?;
+        }
+        Ok(())
+    }
+
+    // A rule. Those of greater priority ask for more, so that few are shadowed.
+    fn push_rule(
+        &mut self,
+        kinds: &[Kind],
+        answer: Kind,
+        prio: u64,
+        last: u64,
+    ) -> Result<(), AllocError> {
         self.bound.clear();
-        write!(self.text, "(rule {prio} (f")?;
+        self.has_whole = false;
+        match self.flag {
+            Flag::Multi => self.push("(rule (f")?,
+            _ => write!(self.text, "(rule {prio} (f")?,
+        }
         for kind in kinds {
             self.push(" ")?;
-            self.push_pattern(*kind, 2)?;
+            if self.below(last.saturating_add(1)) > prio {
+                self.push_new_name(*kind)?;
+            } else {
+                self.push_argument(*kind)?;
+            }
         }
         self.push(")")?;
-        if self.has(Form::IfLet) && self.below(3) == 0 {
+        if self.forms.conditions && self.below(4) == 0 {
             self.push_if_let()?;
         }
         self.push(" ")?;
-        self.push_expression(answer, 2)?;
+        self.push_expression(answer)?;
         self.push(")\n")
     }
 
@@ -251,7 +293,7 @@ impl Maker<'_> {
         // chosen before the pattern binds further variables, which the call can't use
         let part = self.bound_name(Kind::Number);
         self.push(" (if-let ")?;
-        self.push_pattern(Kind::Number, 0)?;
+        self.push_part(Kind::Number)?;
         let call = match self.below(3) {
             0 => " (pc ",
             1 if self.flag == Flag::Multi => " (pm ",
@@ -271,7 +313,7 @@ impl Maker<'_> {
     }
 
     fn push_integer(&mut self) -> Result<(), AllocError> {
-        let value = self.below(3);
+        let value = self.below(2);
         write!(self.text, "{value}")
     }
 
@@ -311,66 +353,94 @@ impl Maker<'_> {
         match (form, kind) {
             (Form::Integer, Kind::Number) => self.push_integer(),
             (Form::Truth, Kind::Truth) => self.push("true"),
-            (Form::Integer, Kind::Truth) if self.has(Form::Truth) => self.push("false"),
             (Form::Constant, Kind::Number) => self.push("$K"),
             (Form::Variant, Kind::Enum) => self.push("(T.C)"),
             (Form::Equal, _) => match self.bound_name(kind) {
                 Some(name) => self.push(name_of(name)),
-                None => self.push("_"),
+                None => self.push_new_name(kind),
             },
             (Form::Variable, _) => self.push_new_name(kind),
             _ => self.push("_"),
         }
     }
 
-    // A pattern of a type, with parts at most so deep.
-    #[cycle(pattern)]
-    fn push_pattern(&mut self, kind: Kind, depth: usize) -> Result<(), AllocError> {
-        let form = self.form();
-        if depth == 0 {
+    // A form of patterns of this type, where one is found soon.
+    fn pattern_form(&mut self, kind: Kind) -> Form {
+        let from = self.forms.patterns;
+        let mut form = self.pick(from);
+        for _ in 0..3 {
+            if !has_patterns_of(form, kind) {
+                form = self.pick(from);
+            }
+        }
+        form
+    }
+
+    // A pattern of a type. The variable before `@` that it may have is bound for what follows.
+    fn push_argument(&mut self, kind: Kind) -> Result<(), AllocError> {
+        self.push_pattern(kind)?;
+        if self.has_whole && !self.bound.contains(&Name::Whole) {
+            self.bound.push(Name::Whole)?;
+        }
+        Ok(())
+    }
+
+    // A pattern of a type, whose parts may have parts.
+    fn push_pattern(&mut self, kind: Kind) -> Result<(), AllocError> {
+        let form = self.pattern_form(kind);
+        let Some(shape) = self.pattern_shape(form, kind) else {
             return self.push_leaf(form, kind);
-        }
-        let depth = depth - 1;
-        match (form, kind) {
-            (Form::Bind, _) => self.push_binding(kind, depth),
-            (Form::And, _) => self.push_parts("(and", &[kind, kind], depth),
-            (Form::Variant, Kind::Enum) => match self.below(3) {
-                0 => self.push_parts("(T.A", &[Kind::Number, Kind::Number], depth),
-                1 => self.push_parts("(T.B", &[Kind::Number], depth),
-                _ => self.push("(T.C)"),
-            },
-            (Form::Struct, Kind::Struct) => {
-                self.push_parts("(S", &[Kind::Number, Kind::Truth], depth)
-            }
-            (Form::Fallible, Kind::Number) => self.push_parts("(e", &[kind], depth),
-            (Form::Infallible, Kind::Number) => self.push_parts("(i", &[kind], depth),
-            (Form::Pair, Kind::Number) => self.push_parts("(h", &[kind, kind], depth),
-            (Form::Template, Kind::Number) => self.push_parts("(d", &[kind], depth),
-            (Form::MultiExtractor, Kind::Number) if self.flag == Flag::Multi => {
-                self.push_parts("(me", &[kind], depth)
-            }
-            _ => self.push_leaf(form, kind),
-        }
-    }
-
-    // A variable that isn't bound and a pattern, or else the pattern alone.
-    #[cycle(pattern)]
-    fn push_binding(&mut self, kind: Kind, depth: usize) -> Result<(), AllocError> {
-        if let Some(name) = self.new_name(kind)? {
-            self.push(name_of(name))?;
-            self.push(" @ ")?;
-        }
-        self.push_pattern(kind, depth)
-    }
-
-    #[cycle(pattern)]
-    fn push_parts(&mut self, head: &str, kinds: &[Kind], depth: usize) -> Result<(), AllocError> {
-        self.push(head)?;
-        for kind in kinds {
+        };
+        self.push(shape.open)?;
+        for part in shape.parts {
             self.push(" ")?;
-            self.push_pattern(*kind, depth)?;
+            self.push_part(*part)?;
         }
-        self.push(")")
+        self.push(shape.close)
+    }
+
+    // A pattern of a type, whose parts have none.
+    fn push_part(&mut self, kind: Kind) -> Result<(), AllocError> {
+        let form = self.pattern_form(kind);
+        let Some(shape) = self.pattern_shape(form, kind) else {
+            return self.push_leaf(form, kind);
+        };
+        self.push(shape.open)?;
+        for part in shape.parts {
+            let form = self.pattern_form(*part);
+            self.push(" ")?;
+            self.push_leaf(form, *part)?;
+        }
+        self.push(shape.close)
+    }
+
+    // What stands around the parts of a pattern of this form, None where it has none.
+    fn pattern_shape(&mut self, form: Form, kind: Kind) -> Option<Shape> {
+        match (form, kind) {
+            (Form::And, Kind::Number) => Some(shaped("(and", &[Kind::Number, Kind::Number], ")")),
+            (Form::And, Kind::Enum) => Some(shaped("(and", &[Kind::Enum, Kind::Enum], ")")),
+            (Form::Bind, Kind::Number) => self.binding_shape(),
+            (Form::Variant, Kind::Enum) => match self.below(3) {
+                0 => Some(shaped("(T.A", &[Kind::Number, Kind::Number], ")")),
+                1 => Some(shaped("(T.B", &[Kind::Number], ")")),
+                _ => None,
+            },
+            (Form::Struct, Kind::Struct) => Some(shaped("(S", &[Kind::Number, Kind::Truth], ")")),
+            (Form::MultiExtractor, Kind::Number) if self.flag == Flag::Multi => {
+                Some(shaped("(me", &[Kind::Number], ")"))
+            }
+            (_, Kind::Number) => extractor_shape(form),
+            _ => None,
+        }
+    }
+
+    // A variable before `@`, of which a rule has one.
+    fn binding_shape(&mut self) -> Option<Shape> {
+        if self.has_whole {
+            return None;
+        }
+        self.has_whole = true;
+        Some(shaped("w @", &[Kind::Number], ""))
     }
 
     // An expression without parts.
@@ -389,52 +459,84 @@ impl Maker<'_> {
         }
     }
 
-    // An expression of a type, with parts at most so deep.
-    #[cycle(expression)]
-    fn push_expression(&mut self, kind: Kind, depth: usize) -> Result<(), AllocError> {
-        let form = self.form();
-        if depth == 0 {
+    // An expression of a type, whose parts may have parts.
+    fn push_expression(&mut self, kind: Kind) -> Result<(), AllocError> {
+        let from = self.forms.expressions;
+        let form = self.pick(from);
+        let Some(shape) = self.expression_shape(form, kind) else {
             return self.push_value(form, kind);
-        }
-        let depth = depth - 1;
-        match (form, kind) {
-            (Form::Let, _) => {
-                self.push("(let ((w u8 ")?;
-                self.push_expression(Kind::Number, depth)?;
-                self.push(")) ")?;
-                self.push_call(if kind == Kind::Enum { "(T.B" } else { "(pc" }, " w")
-            }
-            (_, Kind::Enum) => match self.below(2) {
-                0 => self.push_made("(T.A", &[Kind::Number, Kind::Number], depth),
-                _ => self.push_made("(T.B", &[Kind::Number], depth),
-            },
-            (Form::Pure, Kind::Number) => self.push_made("(pc", &[kind], depth),
-            (Form::Impure, Kind::Number) => self.push_made("(im", &[kind], depth),
-            (Form::Partial, Kind::Number) if self.flag == Flag::Partial => {
-                self.push_made("(pp", &[kind], depth)
-            }
-            (Form::MultiCall, Kind::Number) if self.flag == Flag::Multi => {
-                self.push_made("(pm", &[kind], depth)
-            }
-            _ => self.push_value(form, kind),
-        }
-    }
-
-    #[cycle(expression)]
-    fn push_made(&mut self, head: &str, kinds: &[Kind], depth: usize) -> Result<(), AllocError> {
-        self.push(head)?;
-        for kind in kinds {
+        };
+        self.push(shape.open)?;
+        for part in shape.parts {
             self.push(" ")?;
-            self.push_expression(*kind, depth)?;
+            self.push_operand(*part)?;
         }
-        self.push(")")
+        self.push(shape.close)
     }
 
-    // What ends a let: a call of its variable.
-    fn push_call(&mut self, head: &str, part: &str) -> Result<(), AllocError> {
-        self.push(head)?;
-        self.push(part)?;
-        self.push("))")
+    // An expression of a type, whose parts have none.
+    fn push_operand(&mut self, kind: Kind) -> Result<(), AllocError> {
+        let from = self.forms.expressions;
+        let form = self.pick(from);
+        let Some(shape) = self.expression_shape(form, kind) else {
+            return self.push_value(form, kind);
+        };
+        self.push(shape.open)?;
+        for part in shape.parts {
+            self.push(" ")?;
+            self.push_value(Form::Bound, *part)?;
+        }
+        self.push(shape.close)
+    }
+
+    // What stands around the parts of an expression of this form, None where it has none.
+    fn expression_shape(&mut self, form: Form, kind: Kind) -> Option<Shape> {
+        match (form, kind) {
+            (Form::Let, Kind::Enum) => {
+                Some(shaped("(let ((v u8", &[Kind::Number], ")) (T.B v))"))
+            }
+            (Form::Let, _) => Some(shaped("(let ((v u8", &[Kind::Number], ")) (pc v))")),
+            (_, Kind::Enum) => match self.below(3) {
+                0 => Some(shaped("(T.A", &[Kind::Number, Kind::Number], ")")),
+                1 => Some(shaped("(T.B", &[Kind::Number], ")")),
+                _ => None,
+            },
+            (Form::Pure, _) => Some(shaped("(pc", &[Kind::Number], ")")),
+            (Form::Impure, _) => Some(shaped("(im", &[Kind::Number], ")")),
+            (Form::Partial, _) if self.flag == Flag::Partial => {
+                Some(shaped("(pp", &[Kind::Number], ")"))
+            }
+            (Form::MultiCall, _) if self.flag == Flag::Multi => {
+                Some(shaped("(pm", &[Kind::Number], ")"))
+            }
+            _ => None,
+        }
+    }
+}
+
+fn shaped(open: &'static str, parts: &'static [Kind], close: &'static str) -> Shape {
+    Shape { open, parts, close }
+}
+
+// What stands around the part of an extractor's pattern.
+fn extractor_shape(form: Form) -> Option<Shape> {
+    match form {
+        Form::Fallible => Some(shaped("(e", &[Kind::Number], ")")),
+        Form::Infallible => Some(shaped("(i", &[Kind::Number], ")")),
+        Form::Pair => Some(shaped("(h", &[Kind::Number, Kind::Number], ")")),
+        Form::Template => Some(shaped("(d", &[Kind::Number], ")")),
+        _ => None,
+    }
+}
+
+// Whether a form has patterns of this type.
+fn has_patterns_of(form: Form, kind: Kind) -> bool {
+    match form {
+        Form::Variable | Form::Equal | Form::Bind | Form::And => true,
+        Form::Truth => kind == Kind::Truth,
+        Form::Variant => kind == Kind::Enum,
+        Form::Struct => kind == Kind::Struct,
+        _ => kind == Kind::Number,
     }
 }
 
@@ -452,6 +554,7 @@ fn name_of(name: Name) -> &'static str {
         Name::A => "a",
         Name::B => "b",
         Name::C => "c",
+        Name::Whole => "w",
         Name::Truth => "q",
         Name::Enum => "t",
         Name::Struct => "s",
@@ -460,7 +563,7 @@ fn name_of(name: Name) -> &'static str {
 
 fn kind_of(name: Name) -> Kind {
     match name {
-        Name::A | Name::B | Name::C => Kind::Number,
+        Name::A | Name::B | Name::C | Name::Whole => Kind::Number,
         Name::Truth => Kind::Truth,
         Name::Enum => Kind::Enum,
         Name::Struct => Kind::Struct,

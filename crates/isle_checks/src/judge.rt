@@ -372,7 +372,7 @@ fn judge_arm(
         None => false,
     });
     want(asks && !rules.is_empty(), Fault::ArmRules)?;
-    let fields = fields_of(alloc, set, source, arm.constraint)?;
+    let fields = fields_of(alloc, set, source, &arm.constraint)?;
     want(
         fields.as_slice() == arm.bindings.as_slice(),
         Fault::ArmFields,
@@ -384,7 +384,7 @@ fn fields_of(
     alloc: Global,
     set: &RuleSet,
     source: BindingId,
-    constraint: Constraint,
+    constraint: &Constraint,
 ) -> Result<Vec<Option<BindingId>>, AllocError> {
     let count = match constraint {
         Constraint::Variant { fields, .. } | Constraint::Struct { fields, .. } => fields.index(),
@@ -402,7 +402,7 @@ fn fields_of(
 fn field_at(
     set: &RuleSet,
     of: BindingId,
-    constraint: Constraint,
+    constraint: &Constraint,
     place: usize,
 ) -> Option<BindingId> {
     for (number, binding) in set.bindings.iter().enumerate() {
@@ -413,7 +413,7 @@ fn field_at(
     None
 }
 
-fn is_field(binding: &Binding, of: BindingId, constraint: Constraint, place: usize) -> bool {
+fn is_field(binding: &Binding, of: BindingId, constraint: &Constraint, place: usize) -> bool {
     match (binding, constraint) {
         (
             Binding::MatchVariant {
@@ -422,7 +422,7 @@ fn is_field(binding: &Binding, of: BindingId, constraint: Constraint, place: usi
                 field,
             },
             Constraint::Variant { variant: asked, .. },
-        ) => *source == of && *variant == asked && field.index() == place,
+        ) => *source == of && *variant == *asked && field.index() == place,
         (Binding::ExtractStruct { source, field }, Constraint::Struct { .. }) => {
             *source == of && field.index() == place
         }

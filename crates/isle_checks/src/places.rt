@@ -215,13 +215,21 @@ fn needs(rule: &Rule, test: Test) -> bool {
     }
 }
 
-// Whether the rule needs the test, and each one here needs it too or has no higher priority.
-fn is_covered(set: &RuleSet, here: &[usize], test: Test, rule: &Rule) -> bool {
-    needs(rule, test)
-        && here.iter().all(|other| match set.rules.get(*other) {
-            Some(other) => needs(other, test) || other.prio <= rule.prio,
-            None => true,
-        })
+// Whether a rule needs the test, and each one here needs it too or has no higher priority.
+fn is_covered(set: &RuleSet, here: &[usize], test: Test, number: usize) -> bool {
+    match set.rules.get(number) {
+        Some(rule) => needs(rule, test)
+            && here.iter().all(|other| is_no_bar(set, rule, test, *other)),
+        None => false,
+    }
+}
+
+// Whether a rule needs the test or has no higher priority than this one.
+fn is_no_bar(set: &RuleSet, rule: &Rule, test: Test, number: usize) -> bool {
+    match set.rules.get(number) {
+        Some(other) => needs(other, test) || other.prio <= rule.prio,
+        None => true,
+    }
 }
 
 // The rules of a place that a test there covers.
@@ -231,15 +239,11 @@ pub fn cover(
     place: &Place,
     test: Test,
 ) -> Result<Vec<usize>, AllocError> {
-    let mut covered = Vec::new(alloc);
-    for number in &place.here {
-        if let Some(rule) = set.rules.get(*number) {
-            if is_covered(set, &place.here, test, rule) {
-                covered.push(*number)?;
-            }
-        }
-    }
-    Ok(covered)
+    let here = &place.here;
+    here.iter()
+        .copied()
+        .filter(|number| is_covered(set, here, test, *number))
+        .collect(alloc)
 }
 
 // The score of a test, by its definition.
@@ -283,29 +287,61 @@ pub fn bind_order(
     place: &Place,
     used: &[BindingId],
 ) -> Result<Vec<BindingId>, AllocError> {
-    let mut listed = Vec::new(alloc);
-    for site in used {
-        push_below(set, &place.emitted, set.bindings.len(), *site, &mut listed)?;
-    }
+    let orders = orders(alloc, set, place)?;
+    let mut listed = orders_of(alloc, &orders, used)?;
     listed.retain(|site| !is_in_place(set, *site));
     Ok(listed)
 }
 
-// Adds the sites of which a site is made, at most so deep, and then itself, where they aren't emitted or listed.
-fn push_below(
-    set: &RuleSet,
-    emitted: &[BindingId],
-    depth: usize,
+// For each site what is to be made for it, itself the last: nothing where it is emitted.
+fn orders(alloc: Global, set: &RuleSet, place: &Place) -> Result<Vec<Vec<BindingId>>, AllocError> {
+    let mut orders: Vec<Vec<BindingId>> = Vec::new(alloc);
+    for site in sites(alloc, set)? {
+        let order = if place.emitted.contains(&site) {
+            Vec::new(alloc)
+        } else {
+            order_with(alloc, &orders, sources_of(set, site), site)?
+        };
+        orders.push(order)?;
+    }
+    Ok(orders)
+}
+
+// What is to be made for the sources of a site, and then the site.
+fn order_with(
+    alloc: Global,
+    orders: &[Vec<BindingId>],
+    sources: &[BindingId],
     site: BindingId,
-    listed: &mut Vec<BindingId>,
-) -> Result<(), AllocError> {
-    if depth == 0 || emitted.contains(&site) || listed.contains(&site) {
-        return Ok(());
+) -> Result<Vec<BindingId>, AllocError> {
+    let mut order = orders_of(alloc, orders, sources)?;
+    order.push(site)?;
+    Ok(order)
+}
+
+// What is to be made for these sites, one after the other.
+fn orders_of(
+    alloc: Global,
+    orders: &[Vec<BindingId>],
+    used: &[BindingId],
+) -> Result<Vec<BindingId>, AllocError> {
+    let mut listed = Vec::new(alloc);
+    for site in used {
+        if let Some(order) = orders.get(site.index()) {
+            push_new(&mut listed, order)?;
+        }
     }
-    for source in sources_of(set, site) {
-        push_below(set, emitted, depth - 1, *source, listed)?;
+    Ok(listed)
+}
+
+// Adds those that aren't there yet.
+fn push_new(listed: &mut Vec<BindingId>, order: &[BindingId]) -> Result<(), AllocError> {
+    for site in order {
+        if !listed.contains(site) {
+            listed.push(*site)?;
+        }
     }
-    Ok(listed.push(site)?)
+    Ok(())
 }
 
 // Whether a site is written where it is used.

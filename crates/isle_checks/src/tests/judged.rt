@@ -1,7 +1,7 @@
 // Trees of generated definitions, judged; and trees that the judge refuses.
 use crate::generated::{FORMS, list};
 use crate::judge::{Fault, judge};
-use cranelift_isle::lower::{Lowered, lower};
+use cranelift_isle::lower::{Lowered, LoweredTerm, lower};
 use isle_base::syntax;
 use isle_base::syntax::Pos;
 use isle_serialize::serialize::{Block, ControlFlow, EvalStep, MatchArm};
@@ -29,16 +29,33 @@ fn lowered(alloc: Global, text: &str) -> Result<Option<Lowered>, Fail> {
 fn judged(rt: &impl Abort, alloc: Global, number: u64) -> Result<usize, Fail> {
     let text = list(alloc, number, FORMS)?;
     let mut count = 0usize;
-    if let Some(lowered) = lowered(alloc, &text)? {
-        for term in &lowered.terms {
+    if let Some(mut lowered) = lowered(alloc, &text)? {
+        for term in &mut lowered.terms {
             if term.rules.bindings.len() <= MOST_SITES {
-                let fault = judge(alloc, &term.rules, &term.block)?;
-                assert_eq!(rt; fault, None, "list {number}");
+                judge_both_ways(rt, alloc, number, term)?;
                 count = count.saturating_add(1);
             }
         }
     }
     Ok(count)
+}
+
+// A term's tree is a best one, and isn't where its steps stand the other way round.
+fn judge_both_ways(
+    rt: &impl Abort,
+    alloc: Global,
+    number: u64,
+    term: &mut LoweredTerm,
+) -> Result<(), Fail> {
+    let fault = judge(alloc, &term.rules, &term.block)?;
+    assert_eq!(rt; fault, None, "list {number}");
+    term.block.steps.reverse();
+    let fault = judge(alloc, &term.rules, &term.block)?;
+    assert!(rt;
+        fault.is_some() || term.block.steps.len() == 1,
+        "list {number}"
+    );
+    Ok(())
 }
 
 // Judges a hundred lists, of which 40 or more have a tree.
@@ -47,24 +64,33 @@ fn judge_hundred(rt: &impl Abort, alloc: Global, first: u64) -> Result<(), Fail>
     for number in first..first.saturating_add(100) {
         count = count.saturating_add(judged(rt, alloc, number)?);
     }
-    assert!(rt; count >= 40);
+    assert!(rt; count >= 40, "{count} trees");
     Ok(())
 }
 
 #[test]
-fn first_hundred_trees_are_best(rt: HostRuntime) -> Result<(), Fail> {
+fn lists_below_100_have_best_trees(rt: HostRuntime) -> Result<(), Fail> {
     judge_hundred(&rt, rt.alloc(), 0)
 }
 
 #[test]
-fn probe(rt: HostRuntime) -> Result<(), Fail> {
-    let alloc = rt.alloc();
-    let mut count = 0usize;
-    for number in 0..500 {
-        count = count.saturating_add(judged(&rt, alloc, number)?);
-    }
-    println!(rt; "{count}")?;
-    Ok(())
+fn lists_from_100_have_best_trees(rt: HostRuntime) -> Result<(), Fail> {
+    judge_hundred(&rt, rt.alloc(), 100)
+}
+
+#[test]
+fn lists_from_200_have_best_trees(rt: HostRuntime) -> Result<(), Fail> {
+    judge_hundred(&rt, rt.alloc(), 200)
+}
+
+#[test]
+fn lists_from_300_have_best_trees(rt: HostRuntime) -> Result<(), Fail> {
+    judge_hundred(&rt, rt.alloc(), 300)
+}
+
+#[test]
+fn lists_from_400_have_best_trees(rt: HostRuntime) -> Result<(), Fail> {
+    judge_hundred(&rt, rt.alloc(), 400)
 }
 
 // A list with a tree of two steps, the first of which has two arms:
@@ -95,11 +121,9 @@ fn apply(change: Change, block: &mut Block) -> Result<(), AllocError> {
     match change {
         Change::Nothing => {}
         Change::StepsReversed => block.steps.reverse(),
-        Change::StepLeftOut => {
-            let _ = block.steps.pop();
-        }
+        Change::StepLeftOut => block.steps.truncate(1),
         Change::ArmsReversed | Change::ArmLeftOut | Change::SiteBound => {
-            if let Some(step) = block.steps.first_mut() {
+            for step in &mut block.steps {
                 apply_to_step(change, step)?;
             }
         }
@@ -108,26 +132,32 @@ fn apply(change: Change, block: &mut Block) -> Result<(), AllocError> {
 }
 
 fn apply_to_step(change: Change, step: &mut EvalStep) -> Result<(), AllocError> {
-    if let (Change::SiteBound, _) = (change, 0) {
-        return Ok(step.bind_order.push(BindingId::from(0))?);
-    }
-    if let ControlFlow::Match { arms, .. } = &mut step.check {
-        if let Change::ArmsReversed = change {
-            arms.reverse();
-        } else {
-            let _ = arms.pop();
+    match change {
+        Change::SiteBound => Ok(step.bind_order.push(BindingId::from(0))?),
+        _ => {
+            if let ControlFlow::Match { arms, .. } = &mut step.check {
+                apply_to_arms(change, arms);
+            }
+            Ok(())
         }
     }
-    Ok(())
+}
+
+fn apply_to_arms(change: Change, arms: &mut Vec<MatchArm>) {
+    match change {
+        Change::ArmsReversed => arms.reverse(),
+        _ => arms.truncate(1),
+    }
 }
 
 // The trees of a text's terms, each changed, are judged so.
 fn expect(rt: &impl Abort, alloc: Global, change: Change, want: Option<Fault>) -> Result<(), Fail> {
-    if let Some(mut lowered) = lowered(alloc, TWO_STEPS)? {
-        for term in &mut lowered.terms {
-            apply(change, &mut term.block)?;
-            assert_eq!(rt; judge(alloc, &term.rules, &term.block)?, want);
-        }
+    let Some(mut lowered) = lowered(alloc, TWO_STEPS)? else {
+        return Ok(());
+    };
+    for term in &mut lowered.terms {
+        apply(change, &mut term.block)?;
+        assert_eq!(rt; judge(alloc, &term.rules, &term.block)?, want);
     }
     Ok(())
 }
