@@ -1,13 +1,18 @@
 -- All sites that are in a set stay noted.
-use Rattle.std.proofs.Common.{◌≡◌, ℕ, true, ◌&&◌, ◌||◌, List, sym, ap, ◌∙◌, subst, inl, inr, eqb-true}
+use Rattle.std.proofs.Common.{◌≡◌, ℕ, true, false, ◌&&◌, List, [], refl, sym, ap, ◌∙◌, subst, inl, inr, eqb-true}
 use Rattle.std.specs.Prelude.{nat_eq}
 use Rattle.std.specs.Ordering.{nat_cmp}
 use Rattle.std.specs.BTreeSet.{BTreeSet, contains, IsUnchanged, Updates}
 use Rattle.std.proofs.lemmas.Bool.{and_parts}
-use Rattle.isle_disjointsets.specs.Partition.{joined, merged, together, together_after}
+use Rattle.isle_disjointsets.specs.Partition.{joined, merged, set_of, together, together_after}
 use Rattle.isle_model.proofs.Elements.{or_split}
 use Rattle.isle_sets.specs.SetLists.{AreNoted}
 use Rattle.isle_sets.proofs.DueKept.{still_open}
+
+-- no sets have nothing in one
+pub none_together : (a b : ℕ) → together nat_eq [] a b ≡ false
+unfolding set_of
+none_together a b = refl
 
 pub noted_still : (sets : List (List ℕ)) (s n : BTreeSet ℕ) (x : ℕ) → AreNoted sets s → Updates nat_cmp s n x true → AreNoted sets n
 noted_still sets s n x noted u a b h = still_open s n x u b (noted a b h)

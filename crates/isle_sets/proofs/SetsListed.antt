@@ -1,15 +1,14 @@
 -- Disjoint sets are listed one after another, by their least members.
-use Rattle.std.proofs.Common.{◌≡◌, ℕ, suc, ◌<◌, ◌==◌, nat_lt, Bool, true, false, not, ◌&&◌, ◌||◌, List, [], ◌∷◌, ◌++◌, length, refl, sym, ap, ◌∙◌, subst, inl, inr, arith, eqb-true, eq-eqb, ltb-true}
+use Rattle.std.proofs.Common.{◌≡◌, ℕ, ◌<◌, ◌==◌, nat_lt, Bool, true, false, not, ◌&&◌, ◌||◌, List, [], ◌∷◌, ◌++◌, length, refl, sym, ap, ◌∙◌, subst, inl, inr, arith, eqb-true, eq-eqb, ltb-true}
 use Rattle.std.specs.Prelude.{nat_eq, take}
 use Rattle.std.specs.List.{flat_map, list_all, list_any}
 use Rattle.std.specs.List.Sorted.{IsStrictlySortedBy}
 use Rattle.std.specs.Ordering.{nat_cmp, is_eq}
 use Rattle.std.specs.BTreeSet.{BTreeSet, contains}
-use Rattle.std.proofs.lemmas.Bool.{cases_Bool, and_parts, and_from, or_left, or_right, or_cases, false_from_ne_true, false≢true, lt-ltb}
+use Rattle.std.proofs.lemmas.Bool.{cases_Bool, and_parts, and_from, or_left, or_cases, false_from_ne_true, false≢true, lt-ltb}
 use Rattle.std.proofs.lemmas.Grind.{flat_map-append}
-use Rattle.std.proofs.lemmas.List.{append-nil}
 use Rattle.std.proofs.lemmas.List.Folds.{list_all-append, list_any-append}
-use Rattle.isle_disjointsets.specs.Partition.{in_set, set_of, together, IsPartition}
+use Rattle.isle_disjointsets.specs.Partition.{in_set, together, IsPartition}
 use Rattle.isle_model.specs.trees.Places.{is_in, joins_in}
 use Rattle.isle_sets.specs.Listings.{are_listed, ascends, is_below_first, is_listed_class}
 use Rattle.isle_sets.specs.SetLists.{AreNoted, IsListedBefore}

@@ -33,9 +33,9 @@ impl Binding {
     {
         match self {
             Binding::Extractor { term, .. } | Binding::Constructor { term, .. } => Some(*term),
-            Binding::MakeVariant { ty, variant, .. } => Some(
-                termenv.get_variant_term(tyenv, *ty, *variant),
-            ),
+            Binding::MakeVariant { ty, variant, .. } => Some(termenv.get_variant_term(
+                tyenv, *ty, *variant,
+            )),
             Binding::ConstBool { .. }
             | Binding::ConstInt { .. }
             | Binding::ConstPrim { .. }

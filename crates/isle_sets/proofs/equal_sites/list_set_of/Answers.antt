@@ -1,9 +1,9 @@
-use Rattle.std.proofs.Common.{◌≡◌, ◌==◌, [], ◌∷◌, ◌++◌, sym, ap, ◌∙◌, subst, refl, length}
+use Rattle.std.proofs.Common.{◌≡◌, ◌==◌, [], ◌∷◌, ◌++◌, sym, ap, ◌∙◌, subst, length}
 use Rattle.std.proofs.lemmas.Bool.{false≢true}
 use Rattle.std.proofs.lemmas.List.{map-append}
 use Rattle.isle_sets.specs.Listings.{class_lists}
 use Rattle.isle_sets.specs.SetLists.{IsListedBefore}
-use Rattle.isle_sets.proofs.SetsListed.{none_listed, some_listed}
+use Rattle.isle_sets.proofs.SetsListed.{some_listed}
 use Rattle.isle_sets.proofs.equal_sites.list_set_of.Goals as goal
 
 pub returns-in_ok-push : goal.returns-in_ok-push

@@ -1,4 +1,4 @@
-use Rattle.std.proofs.Common.{◌≡◌, [], ◌∷◌, sym, subst, rules}
+use Rattle.std.proofs.Common.{◌≡◌, [], ◌∷◌, subst, rules}
 use Rattle.isle_sets.specs.Listings.{class_lists}
 use Rattle.isle_sets.specs.SetLists.{IsListedBefore}
 use Rattle.isle_sets.proofs.SetsListed.{listing_starts, listing_ends}

@@ -1,11 +1,7 @@
-use Rattle.std.proofs.Common.{◌≡◌, ℕ, [], refl, ap, ◌∙◌, subst, rules}
+use Rattle.std.proofs.Common.{◌≡◌, [], refl, ◌∙◌}
 use Rattle.std.specs.Bool.{◌==◌}
-use Rattle.std.specs.Prelude.{nat_eq}
 use Rattle.isle_base.specs.Stable.{contains}
-use Rattle.isle_laws_demands.specs.RuleByRule.{AreListedAs}
-use Rattle.isle_model.specs.trees.Places.{joins_in}
-use Rattle.isle_sets.specs.Listings.{class_lists}
-use Rattle.isle_sets.specs.SiteViews.{constraint_views, member_sites}
+use Rattle.isle_sets.specs.SiteViews.{member_sites}
 use Rattle.isle_sets.proofs.DemandsListed.{demands_listed}
 use Rattle.isle_sets.proofs.JoinedSets.{together_joins}
 use Rattle.isle_sets.proofs.SitesIn.{none_passing}
