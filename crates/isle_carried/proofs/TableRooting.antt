@@ -19,6 +19,7 @@ use Rattle.isle_base.specs.declared.syntax.Def.{Def}
 use Rattle.isle_base.specs.declared.syntax.Error.{Error}
 use Rattle.isle_base.specs.Stable.{look_up}
 use Rattle.isle_base.specs.SyntaxViews.{definition_view, definition_views}
+use Rattle.isle_base.proofs.Noted.{some_noted, still_plain}
 use Rattle.isle_types.specs.declared.type_env.TypeEnv.{TypeEnv}
 use Rattle.isle_types.specs.Envs.{names_of, symbol_of, same_symbol, symbol}
 use Rattle.isle_types.specs.TypeTables.{SeesTypes}
@@ -118,8 +119,8 @@ step_rule defs rest r env old new es es' w s (inl a) = record {
 }
 step_rule defs rest r env old new es es' w s (inr a) = record {
   within = w;
-  plain = a.0.plain s.plain;
-  so_far = inr (a.0.some, ⊎_elim (λ right. root_wrong defs rest r env old right.1 a.1) (λ wrong. wrong.1) s.so_far);
+  plain = still_plain a.0 s.plain;
+  so_far = inr (some_noted a.0, ⊎_elim (λ right. root_wrong defs rest r env old right.1 a.1) (λ wrong. wrong.1) s.so_far);
 }
 
 -- after another definition

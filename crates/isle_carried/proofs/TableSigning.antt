@@ -16,9 +16,9 @@ use Rattle.isle_base.specs.Answers.{limit_of}
 use Rattle.isle_base.specs.SyntaxViews.{definition_view, definition_views}
 use Rattle.isle_types.specs.declared.type_env.TypeEnv.{TypeEnv}
 use Rattle.isle_types.specs.Envs.{names_of, symbol_of, IsInterned}
-use Rattle.isle_types.specs.Reading.{Reports}
+use Rattle.isle_base.specs.Noting.{NotesMore}
 use Rattle.isle_types.specs.TypeTables.{SeesTypes}
-use Rattle.isle_types.proofs.Reports.{both}
+use Rattle.isle_base.proofs.Noted.{some_noted, both, still_plain}
 use Rattle.isle_model.proofs.FirstPlaces.{distinct_push, twice}
 use Rattle.isle_model.proofs.Names.{number_stays}
 use Rattle.isle_terms.specs.declared.term_table.TermTable.{TermTable}
@@ -103,8 +103,8 @@ module _ (defs rest : List Definition) (d : DeclTree) (old : TypeEnv) (table : T
 -- a name is looked at first, and then the types
 pub decl_read : (d : DeclTree) (old new : TypeEnv) (table table' : TermTable) (es mid es' : List Error) → is_carried_term (declaration d) ≡ true → Interns d.term.text old new → IsFreeOrReported (number (names_of old) d.term.text) table es mid → AddsOrReports d new (number (names_of old) d.term.text) table table' mid es' → ReadsDecl d old table es new table' es'
 decl_read d old new table table' es mid es' carried n (inl f) (inl a) = inl (a.0 ∙ f.0, record { carried = carried; interns = n; free = f.1; adds = a.1 })
-decl_read d old new table table' es mid es' carried n (inl f) (inr a) = inr (subst (λ xs. Reports xs es') f.0 a.0, inr (inr (n, a.1)))
-decl_read d old new table table' es mid es' carried n (inr f) (inl a) = inr (subst (Reports es) (sym a.0) f.0, inr (inl f.1))
+decl_read d old new table table' es mid es' carried n (inl f) (inr a) = inr (subst (λ xs. NotesMore xs es') f.0 a.0, inr (inr (n, a.1)))
+decl_read d old new table table' es mid es' carried n (inr f) (inl a) = inr (subst (NotesMore es) (sym a.0) f.0, inr (inl f.1))
 decl_read d old new table table' es mid es' carried n (inr f) (inr a) = inr (both es mid es' f.0 a.0, inr (inl f.1))
 
 -- after a declaration
@@ -120,8 +120,8 @@ step_decl defs rest d old new table table' es es' i w s (inl a) = record {
 step_decl defs rest d old new table table' es es' i w s (inr a) = record {
   inverse = i;
   within = w;
-  plain = a.0.plain s.plain;
-  so_far = inr (a.0.some, ⊎_elim (λ right. sign_wrong defs rest d old table right.1 new a.1) (λ wrong. wrong.1) s.so_far);
+  plain = still_plain a.0 s.plain;
+  so_far = inr (some_noted a.0, ⊎_elim (λ right. sign_wrong defs rest d old table right.1 new a.1) (λ wrong. wrong.1) s.so_far);
 }
 
 -- after another definition, of which there is nothing to say
@@ -157,9 +157,9 @@ step_other defs rest d old new table table' es es' same names i w s (inl a) = re
 step_other defs rest d old new table table' es es' same names i w s (inr a) = record {
   inverse = i;
   within = w;
-  plain = a.0.plain s.plain;
+  plain = still_plain a.0 s.plain;
   so_far = inr (
-    a.0.some,
+    some_noted a.0,
     ⊎_elim
         (λ right. λ v. false≢true (sym a.1 ∙ All-head IsCarried d rest (right.1.valid_carried v.carried)))
         (λ wrong. wrong.1) s.so_far,

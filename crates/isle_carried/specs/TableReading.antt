@@ -9,7 +9,8 @@ use Rattle.isle_model.specs.first.TermTable.{is_carried_term}
 use Rattle.isle_base.specs.declared.syntax.Error.{Error}
 use Rattle.isle_types.specs.declared.type_env.TypeEnv.{TypeEnv}
 use Rattle.isle_types.specs.Envs.{names_of, symbol_of, type_of_name, IsInterned}
-use Rattle.isle_types.specs.Reading.{Reports, MeetsNames}
+use Rattle.isle_base.specs.Noting.{NotesMore}
+use Rattle.isle_types.specs.Reading.{MeetsNames}
 use Rattle.isle_terms.specs.declared.term_table.TermTable.{TermTable}
 use Rattle.isle_terms.specs.TermTables.{term_at}
 use Rattle.isle_terms.specs.TermViews.{term_views}
@@ -28,12 +29,12 @@ IsWrong d old new table =
     (is_carried_term (declaration d) ≡ false) ⊎ (IsTakenByTerm (number (names_of old) d.term.text) table ⊎ (Interns d.term.text old new × HasUnknown d new))
 
 abbrev pub ReadsDecl : DeclTree → TypeEnv → TermTable → List Error → TypeEnv → TermTable → List Error → Type 0
-ReadsDecl d old table es new table' es' = ((es' ≡ es) × ReadsRight d old new table table') ⊎ (Reports es es' × IsWrong d old new table)
+ReadsDecl d old table es new table' es' = ((es' ≡ es) × ReadsRight d old new table table') ⊎ (NotesMore es es' × IsWrong d old new table)
 
 -- what a definition says of terms is read
 abbrev pub ReadsOther : Definition → TypeEnv → TermTable → List Error → TypeEnv → TermTable → List Error → Type 0
 ReadsOther d old table es new table' es' =
-    ((es' ≡ es) × (new ≡ old) × (table' ≡ table) × (is_carried_term d ≡ true)) ⊎ (Reports es es' × (is_carried_term d ≡ false))
+    ((es' ≡ es) × (new ≡ old) × (table' ≡ table) × (is_carried_term d ≡ true)) ⊎ (NotesMore es es' × (is_carried_term d ≡ false))
 
 abbrev pub ReadsSignature : Definition → TypeEnv → TermTable → List Error → TypeEnv → TermTable → List Error → Type 0
 ReadsSignature (declaration d) old table es new table' es' = ReadsDecl d old table es new table' es'
@@ -54,7 +55,7 @@ pub record MarksRoot (r : RuleTree) (env : TypeEnv) (old new : TermTable) : Type
   pub converters : new.converters ≡ old.converters
 
 abbrev pub ReadsRule : RuleTree → TypeEnv → TermTable → List Error → TermTable → List Error → Type 0
-ReadsRule r env old es new es' = ((es' ≡ es) × MarksRoot r env old new) ⊎ (Reports es es' × (root_term_id env old r ≡ None))
+ReadsRule r env old es new es' = ((es' ≡ es) × MarksRoot r env old new) ⊎ (NotesMore es es' × (root_term_id env old r ≡ None))
 
 -- what a definition says of the terms that rules make is read
 abbrev pub ReadsRoot : Definition → TypeEnv → TermTable → List Error → TermTable → List Error → Type 0

@@ -50,4 +50,4 @@ pub mod DefinedTerms
 pub mod ShownSettings
 pub mod RulesAtEnd
 pub mod EnvironmentsAtEnd
-pub mod LimitsNamed
+pub mod RulesRefused

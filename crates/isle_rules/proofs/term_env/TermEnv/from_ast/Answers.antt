@@ -2,7 +2,7 @@ use Rattle.std.proofs.Common.{◌∙◌}
 use Rattle.isle_base.specs.SyntaxViews.{definition_views}
 use Rattle.isle_model.specs.claims.Refusals.{PassedInReading}
 use Rattle.isle_rules.specs.RulesRead.{rules_of}
-use Rattle.isle_rules.proofs.LimitsNamed.{limits_named, named_by_none, refused_by_rules, refused_by_terms}
+use Rattle.isle_rules.proofs.RulesRefused.{limits_named, named_by_none, refused_by_rules, refused_by_terms}
 use Rattle.isle_rules.proofs.EnvironmentsAtEnd.{left_in_the_end, all_read, could_be_read, whatever, is_nothing, is_something, wrong_in_the_end, right_in_the_end, read_by_terms}
 use Rattle.isle_rules.proofs.term_env.TermEnv.from_ast.Goals as goal
 

@@ -8,7 +8,7 @@ use Rattle.isle_rules.specs.RuleLists.{CollectsRules}
 use Rattle.isle_rules.specs.RuleNaming.{MapsNames, AreDefined}
 use Rattle.isle_rules.specs.RuleViews.{rule_views}
 use Rattle.isle_rules.specs.RuleErrors.{NotesOfRules}
-use Rattle.isle_rules.proofs.LimitsNamed.{mapped_noted, noted_to_the_end}
+use Rattle.isle_rules.proofs.RulesRefused.{mapped_noted, noted_to_the_end}
 use Rattle.isle_rules.proofs.Noted.{may_both, may_check}
 use Rattle.isle_rules.proofs.RulesAtEnd.{rules_end}
 use Rattle.isle_rules.proofs.term_env.TermEnv.read_rules.Goals as goal
