@@ -1,1 +1,2 @@
 pub mod VisitedSites
+pub mod Built
