@@ -5,4 +5,6 @@ pub mod build;
 mod builder_exprs;
 mod builder_patterns;
 mod builder_rules;
+mod refusals;
 pub mod ruleset_builder;
+mod term_sets;

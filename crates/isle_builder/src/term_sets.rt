@@ -1,0 +1,128 @@
+//! The rule set of a term, as its rules are read one after another.
+
+use crate::refusals::{report_conflicts, report_limit, report_unreachable};
+use crate::ruleset_builder::RuleSetBuilder;
+use isle_base::stablemapset::StableSet;
+use isle_base::syntax::{Error, Pos};
+use isle_base::visit_fault::VisitFault;
+use isle_rules::{Rule, TermEnv};
+use isle_sets::demanded::Demanded;
+use isle_sets::trie_again::{self, BindingId, RuleSet};
+use isle_sets::verdict::why_unreachable;
+use std::alloc::{AllocError, Global};
+use std::mem;
+
+// The rules of a term that are read so far, and their sites.
+pub(crate) struct TermSet {
+    builder: RuleSetBuilder,
+    // The rules that aren't left out, in rule order.
+    rules: Vec<trie_again::Rule>,
+}
+
+impl Drop for TermSet {
+    fn drop(self) {
+        let Self {
+            builder: _,
+            rules: _,
+        } = self;
+    }
+}
+
+impl TermSet {
+    // Before the first rule of a term.
+    pub(crate) fn new(alloc: Global) -> TermSet {
+        TermSet {
+            builder: RuleSetBuilder::new(alloc),
+            rules: Vec::new(alloc),
+        }
+    }
+
+    // The set, after the last rule of the term.
+    pub(crate) fn into_rule_set(self) -> RuleSet {
+        let Self { builder, rules } = self;
+        RuleSet {
+            rules,
+            bindings: builder.into_bindings(),
+        }
+    }
+
+    // Reads the next rule of the term: it is added, or left out with its errors, and its sites stay.
+    pub(crate) fn add_rule(
+        &mut self,
+        rule: &Rule,
+        termenv: &TermEnv,
+        errors: &mut Vec<Error>,
+    ) -> Result<(), AllocError> {
+        self.builder.start_rule();
+        match self.builder.visit_rule(rule, termenv) {
+            Ok(value) => self.add_visited(rule, value, errors),
+            Err(fault) => report_fault(errors, fault, rule.pos),
+        }
+    }
+
+    // A rule whose visit is done, with the site of its result.
+    fn add_visited(
+        &mut self,
+        rule: &Rule,
+        value: BindingId,
+        errors: &mut Vec<Error>,
+    ) -> Result<(), AllocError> {
+        if !self.builder.conflicts.is_empty() {
+            return report_conflicts(errors, &self.builder.conflicts, rule.pos);
+        }
+        let alloc = self.builder.alloc;
+        match why_unreachable(alloc, &self.builder.table, &self.builder.demanded)? {
+            Some(why) => report_unreachable(errors, why, rule.pos),
+            None => self.add_reachable(rule, value, errors),
+        }
+    }
+
+    // A rule that values can match.
+    fn add_reachable(
+        &mut self,
+        rule: &Rule,
+        value: BindingId,
+        errors: &mut Vec<Error>,
+    ) -> Result<(), AllocError> {
+        match self.builder.close() {
+            Ok(()) => self.push_rule(rule, value),
+            Err(fault) => report_fault(errors, fault, rule.pos),
+        }
+    }
+
+    // A rule whose demands are closed.
+    fn push_rule(&mut self, rule: &Rule, value: BindingId) -> Result<(), AllocError> {
+        let listed = self.builder.list_rule(rule, value)?;
+        self.rules.push(listed)?;
+        Ok(())
+    }
+}
+
+impl RuleSetBuilder {
+    // The rule by its closed demands, and its calls.
+    fn list_rule(
+        &mut self,
+        rule: &Rule,
+        value: BindingId,
+    ) -> Result<trie_again::Rule, AllocError> {
+        let alloc = self.alloc;
+        let demanded = mem::replace(&mut self.demanded, Demanded::new(alloc));
+        let mut listed = trie_again::Rule::demanding(alloc, demanded)?;
+        listed.id = rule.id;
+        listed.pos = rule.pos;
+        listed.prio = rule.prio;
+        listed.name = rule.name;
+        listed.iterators = mem::replace(&mut self.iterators, StableSet::new(alloc));
+        listed.impure = mem::replace(&mut self.impure, Vec::new(alloc));
+        listed.result = value;
+        Ok(listed)
+    }
+}
+
+// A rule is left out for the limit that it passes; or memory was refused.
+fn report_fault(errors: &mut Vec<Error>, fault: VisitFault, pos: Pos) -> Result<(), AllocError> {
+    match &fault {
+        VisitFault::Limit(limit) => report_limit(errors, *limit, pos),
+        VisitFault::Memory(_) | VisitFault::Stopped => Err(AllocError),
+    }
+}
