@@ -6,10 +6,10 @@ pub mod Ending
 pub mod LimitsPassed
 pub mod LimitsReported
 pub mod Names
+pub mod Owners
 pub mod Reports
 pub mod Settled
 pub mod Verdict
-pub mod Visited
 pub mod VisitedRules
 pub mod Whole
 pub mod WholeClosing

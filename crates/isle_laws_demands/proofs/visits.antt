@@ -13,6 +13,7 @@ pub mod Elaborated
 pub mod ElaboratedCalls
 pub mod Exprs
 pub mod Gates
+pub mod GivenFields
 pub mod GoneOver
 pub mod Kept
 pub mod Once
@@ -27,3 +28,4 @@ pub mod Sets
 pub mod Unfolding
 pub mod Visited
 pub mod WholeDemands
+pub mod WithSites

@@ -1,6 +1,7 @@
 pub mod AcceptLaws
 pub mod BuiltLaws
 pub mod ClosureLaws
+pub mod FieldLaws
 pub mod MatchLaws
 pub mod OutcomeLaws
 pub mod RefusalLaws

@@ -6,6 +6,7 @@
 
 ghost use Rattle.isle_laws_demands.specs.ClosureLaws.{JoinedIsEquivalence, ClassesBoundJoined, VerdictIsExact, NamesAreExact, ClosingAddsNothing, ConstraintsAreKept, ClosingIsSound, OverlapIsSymmetric, OverlapIsExact, ClashIsExact, FirstLimitIsPassed, PassedLimitIsMet, ClosingIsWhole, ReportsAreExact, ShadowsAreExact, VisitsMakeEqualSites, PlainClosingEnds, ClosingEnds};
 ghost use Rattle.isle_laws_demands.specs.AcceptLaws.{ElaboratedRulesHaveTerms, RulesAreJudged, ListsAreAccepted, ListsAreNotAccepted};
+ghost use Rattle.isle_laws_demands.specs.FieldLaws.{ConflictFreeConstraintsAgree, FieldsAreGiven};
 ghost use Rattle.isle_laws_demands.specs.ReportLaws.{CheckIsExact, OverlapsAreListedOnce, ListedRulesOverlap, MasksAreReportedOnce, ReportedMasksShadow};
 ghost use Rattle.isle_laws_demands.specs.RuleByRule.{BuildingEnds, BuildingGoesOn, BuildingStarts, BuiltSetsAreAnswered, FullSitesStay, LimitsAreMet, ListedDemandsStand, OrderAsksTheSame, SetsEndBuilt, SetsGoPastRules, SetsStartEmpty, WalksEndAtLimits};
 ghost use Rattle.isle_laws_demands.specs.SetOverlapLaws.{SetRulesOverlapAsTheirDemands, OverlapOfSetRulesIsSymmetric, SetRulesConstrainAsTheirDemands};
@@ -95,6 +96,17 @@ pub fn closing_is_whole()
 /// Something is reported of demands exactly where they can't be met.
 pub fn reports_are_exact()
     ensures { ReportsAreExact }
+{}
+
+/// No conflict is met exactly where the constraints of each site are one.
+pub fn conflict_free_constraints_agree()
+    ensures { ConflictFreeConstraintsAgree }
+{}
+
+/// In the demands of a rule each field that is spoken of is given by a constraint, and each that is given is made.
+#[tactic(auto, using(crate::proofs::visits::GivenFields::fields_are_given_lem))]
+pub fn fields_are_given()
+    ensures { FieldsAreGiven }
 {}
 
 /// The test of shadows is exact.

@@ -3,7 +3,7 @@
 use Rattle.std.proofs.Common.{◌≡◌, ◌⊎◌, ◌+◌, ℕ, zero, suc, ◌<◌, ◌≤◌, Bool, true, false, not, ◌&&◌, cond, if◌then◌else◌, ◌*◌, List, [], ◌∷◌, length, Option, Some, None, sum_by, count_by, flat_map, refl, sym, ap, ◌∙◌, subst, inl, inr, arith}
 use Rattle.std.proofs.lemmas.Bool.{cases_Bool, cond-true, cond-false, and_parts, and_from, false≢true}
 use Rattle.std.proofs.lemmas.List.Sums.{sum_by-cons}
-use Rattle.isle_model.specs.sites.Sites.{Constraint, is_variant, is_struct, is_bool, is_int, is_prim, is_present, SiteTerm, bool_term, int_term, prim_term, argument, extractor_call, constructor_call, pick_of, variant_made, variant_field, struct_made, struct_field, some_made, some_part, tuple_part, no_site}
+use Rattle.isle_model.specs.sites.Sites.{Constraint, SiteTerm, bool_term, int_term, prim_term, argument, extractor_call, constructor_call, pick_of, variant_made, variant_field, struct_made, struct_field, some_made, some_part, tuple_part, no_site}
 use Rattle.isle_model.specs.sites.Demands.{Demands, site_term_eq, has_site}
 use Rattle.isle_model.specs.sites.Closure.{field_terms, with_owners, constraint_of, Closed, class_at, without_class_of, merged_all, ascending, is_in_class, next_constrained, field_equalities, taken, closing, before_closing, most_closing_steps}
 use Rattle.isle_model.specs.sites.Limits.{most_sites}
@@ -12,44 +12,10 @@ use Rattle.isle_model.proofs.Elements.{In, some_is, none_some, any_in, in_any, i
 use Rattle.isle_model.proofs.SameSites.{term_means, term_same}
 use Rattle.isle_model.proofs.SitesMade.{in_has, has_in}
 use Rattle.isle_laws_demands.proofs.closure.Classes.{in_with_sites}
+use Rattle.isle_laws_demands.proofs.closure.Owners.{owner_of, by_owners, owner_of_field}
 use Rattle.isle_laws_demands.proofs.closure.Whole.{IsApart, own_class, class_found, without_in, AllIn, each_apart, each_all_in, equality_members}
-use Rattle.isle_laws_demands.proofs.visits.Closing.{in_fields}
 
--- 1. owners
--- the site whose field a site is
-abbrev owner_of : SiteTerm → Option SiteTerm
-owner_of (variant_field a variant i) = Some a
-owner_of (struct_field a i) = Some a
-owner_of s = None
-
--- what holds of sites that are no fields, and of a field where it holds of its owner
-by_owners : (P : SiteTerm → Type 0) → ((s : SiteTerm) → owner_of s ≡ None → with_owners s ≡ s ∷ [] → P s)
-    → ((s a : SiteTerm) → owner_of s ≡ Some a → with_owners s ≡ s ∷ with_owners a → P a → P s) → (s : SiteTerm) → P s
-by_owners P alone field (variant_field a variant i) = field (variant_field a variant i) a refl refl (by_owners P alone field a)
-by_owners P alone field (struct_field a i) = field (struct_field a i) a refl refl (by_owners P alone field a)
-by_owners P alone field (bool_term b ty) = alone (bool_term b ty) refl refl
-by_owners P alone field (int_term z ty) = alone (int_term z ty) refl refl
-by_owners P alone field (prim_term n) = alone (prim_term n) refl refl
-by_owners P alone field (argument i) = alone (argument i) refl refl
-by_owners P alone field (extractor_call t a) = alone (extractor_call t a) refl refl
-by_owners P alone field (constructor_call t xs i) = alone (constructor_call t xs i) refl refl
-by_owners P alone field (pick_of a) = alone (pick_of a) refl refl
-by_owners P alone field (variant_made s i xs) = alone (variant_made s i xs) refl refl
-by_owners P alone field (struct_made s xs) = alone (struct_made s xs) refl refl
-by_owners P alone field (some_made a) = alone (some_made a) refl refl
-by_owners P alone field (some_part a) = alone (some_part a) refl refl
-by_owners P alone field (tuple_part a f) = alone (tuple_part a f) refl refl
-by_owners P alone field no_site = alone no_site refl refl
-
-owner_of_field : (c : Constraint) (a x : SiteTerm) → In (field_terms c a) x → owner_of x ≡ Some a
-owner_of_field (is_variant ty variant n) a x i = let k = in_fields (variant_field a variant) 0 n x i in ap owner_of (sym k.2)
-owner_of_field (is_struct ty n) a x i = let k = in_fields (struct_field a) 0 n x i in ap owner_of (sym k.2)
-owner_of_field (is_bool v ty) a x i = absurd i
-owner_of_field (is_int z ty) a x i = absurd i
-owner_of_field (is_prim name) a x i = absurd i
-owner_of_field is_present a x i = absurd i
-
--- 2. counting owners
+-- 1. counting owners
 -- one for a test that passes
 abbrev bit : Bool → ℕ
 bit b = cond b 1 0
@@ -94,7 +60,7 @@ module _ (took after was : SiteTerm → Bool) (from : (x : SiteTerm) → took x 
       (λ t. elim (new s t) [ inl k ↦ inl k | inr k ↦ inr (ap took (some_is a k.0 (sym o ∙ k.1)) ∙ k.2) ]) in
       omega (arith, x, y, l, h))
 
--- 3. a site has no more owners among sites than there are
+-- 2. a site has no more owners among sites than there are
 -- how deep a field stands
 depth : SiteTerm → ℕ
 depth (variant_field a variant i) = suc (depth a)
@@ -216,7 +182,7 @@ owners_among (y ∷ us) p h s =
           | inr f ↦ inl (and_from (p x) (not (site_term_eq y x)) t (ap not f))
         ]
 
--- 4. pairs of a site of a list and one of its owners that is in the list and in a class
+-- 3. pairs of a site of a list and one of its owners that is in the list and in a class
 abbrev is_held : List SiteTerm → List (List SiteTerm) → SiteTerm → Bool
 is_held us ks x = has_site us x && is_in_class ks x
 
@@ -255,7 +221,7 @@ less_in_one f g h (x ∷ xs) m (inr i) l =
     let d = h x in
     omega (arith, a, b, c, d)
 
--- 5. a step
+-- 4. a step
 -- the site that is taken is made, and in a class
 record IsNext (ks : List (List SiteTerm)) (made : List SiteTerm) (s : SiteTerm) : Type 0 where
   made_site : In made s
@@ -354,7 +320,7 @@ module _ (us : List SiteTerm) (k : Closed) (apart : IsApart k.classes) (within :
       (λ u. let l = less u in omega (arith, l)) us c.0 (within c.0 next.made_site)
       (let l = less c.0 in let t = ap bit (in_has members c.0 next_member) in omega (arith, l, t))
 
--- 6. the closing
+-- 5. the closing
 -- sites stay made
 made_stay : (n : ℕ) (k : Closed) (x : SiteTerm) → In k.made x → In (closing n k).made x
 made_stay zero k x i = i

@@ -5,8 +5,9 @@ use Rattle.std.specs.List.{list_any}
 use Rattle.isle_model.specs.sites.Sites.{Constraint, SiteTerm}
 use Rattle.isle_model.specs.sites.Demands.{Demands, site_term_eq, constraint_eq}
 use Rattle.isle_model.specs.sites.Closure.{IsUnreachable, same_class, class_names, differs_in_class, has_conflict, has_cycle, Unreachability, conflict, cycle, constraint_of, conflict_with, conflicts_met, constraint_at_site, in_site_order, first_differing, first_conflict, first_filled, with_constrained, reported}
-use Rattle.isle_model.proofs.Elements.{In, some_is, none_some, in_any, or_split, from_flat_map, in_flat_map, map_in}
+use Rattle.isle_model.proofs.Elements.{In, in_from_contains, contains_from_in, some_is, none_some, in_any, or_split, from_flat_map, in_flat_map, map_in}
 use Rattle.isle_model.proofs.SameSites.{same_term, constraint_means, same_constraint}
+use Rattle.isle_laws_demands.specs.FieldLaws.{ConflictFreeConstraintsAgree}
 use Rattle.isle_laws_demands.proofs.closure.Names.{same_name}
 use Rattle.isle_laws_demands.proofs.closure.Classes.{HasNoConflict, no_conflict, in_with_sites}
 use Rattle.isle_laws_demands.proofs.closure.Closing.{OneEach, found_constraint, one_each}
@@ -95,6 +96,17 @@ each_first had (c ∷ cs) e x (inl p) =
 each_first had (c ∷ cs) e x (inr i) =
     let q = joined_empty (conflict_with (constraint_of had c.0) c.1) (conflicts_met (had ++ c ∷ []) cs) e in
     subst (λ l. constraint_of l x.0 ≡ Some x.1) (joined_assoc had cs c) (each_first (had ++ c ∷ []) cs q.1 x i)
+
+-- and so there is one, as where each site has one none is met
+pub conflict_free_constraints_agree_lem : ConflictFreeConstraintsAgree
+conflict_free_constraints_agree_lem d = (
+  λ e s a b i j.
+      let first = each_first [] d.constraints e in
+      some_is a b (sym (first (s, a) (in_from_contains d.constraints (s, a) i)) ∙ first (s, b) (in_from_contains d.constraints (s, b) j)),
+  λ one.
+      none_met d.constraints (λ s a b i j. one s a b (contains_from_in d.constraints (s, a) i) (contains_from_in d.constraints (s, b) j))
+      [] d.constraints (λ x i. absurd i) (λ x i. i),
+)
 
 -- constrained sites in order
 at_site_in : (cs : List (SiteTerm × Constraint)) (s : SiteTerm) (o : Option Constraint) → constraint_of cs s ≡ o → (x : SiteTerm × Constraint)

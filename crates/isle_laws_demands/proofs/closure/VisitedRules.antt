@@ -1,107 +1,101 @@
--- What a rule's visit equates is made by it, form by form.
-use Rattle.std.proofs.Common.{◌≡◌, ◌⊎◌, ℕ, suc, Bool, true, false, if◌then◌else◌, List, [], ◌∷◌, Contains, refl, sym, ap, subst, inl, inr}
+-- The sites that a rule's visit equates are made by it, but for variables that nothing binds.
+use Rattle.std.proofs.Common.{◌≡◌, ◌⊎◌, ℕ, suc, Bool, true, false, if◌then◌else◌, List, [], ◌∷◌, Contains, refl, subst, inl, inr}
 use Rattle.isle_model.specs.lists.Tables.{Flags}
-use Rattle.isle_model.specs.rules.Program.{Program, Kind, a_variant, a_struct, a_call, unknown, kind, is_partial}
-use Rattle.isle_model.specs.sites.Sites.{Constraint, is_variant, is_struct, is_bool, is_int, is_prim, is_present, SiteTerm, bool_term, int_term, prim_term, argument, extractor_call, constructor_call, pick_of, variant_made, variant_field, struct_made, struct_field, some_made, some_part, tuple_part, no_site, SiteTerms}
-use Rattle.isle_model.specs.rules.Typed.{TypedPattern, match_bind, match_var, match_bool, match_int, match_prim, match_term, match_any, match_and, TypedPatterns, no_typed_pattern, typed_pattern_and, TypedExpr, make_term, make_var, make_bool, make_int, make_prim, make_let, TypedExprs, no_typed_expr, typed_expr_and, TypedLets, no_typed_let, typed_let_and, TypedIfLet, TypedRule}
-use Rattle.isle_model.specs.sites.Demands.{demands_of, Visit, visit_start, making, asking, iterating, calling, binding, var_site, from_to, pattern_count, Opened, opened, output_sites, part_sites, open_call, open_term, visit_pattern, visit_each, visit_all, Valued, ValuedAll, valued, call_result, call_sites, where_multi, visit_call, visit_term, visit_expr, visit_exprs, visit_lets, unwraps, asking_all, visit_args, visit_iflets, finished, visit_rule}
-use Rattle.isle_model.proofs.Elements.{In, in_from_contains, contains_from_in}
-use Rattle.isle_laws_demands.proofs.closure.Visited.{IsMade, IsSound, Later, made_stays, now, then_later, later_making, is_made, later_asking, later_iterating, later_calling, later_binding, later_equating, var_made}
+use Rattle.isle_model.specs.rules.Program.{Program, Kind, a_variant, a_struct, a_call, unknown, kind}
+use Rattle.isle_model.specs.sites.Sites.{Constraint, is_variant, is_struct, is_present, SiteTerm, extractor_call, constructor_call, pick_of, variant_made, variant_field, struct_made, struct_field, some_made, some_part, tuple_part, no_site, SiteTerms}
+use Rattle.isle_model.specs.rules.Typed.{TypedPatterns, no_typed_pattern, typed_pattern_and, TypedRule}
+use Rattle.isle_model.specs.sites.Demands.{Demands, demands_of, Visit, making, asking, iterating, calling, from_to, pattern_count, opened, output_sites, part_sites, open_call, open_term, ValuedAll, valued, call_result, call_sites, where_multi, visit_call, visit_term, unwraps, asking_all}
+use Rattle.isle_model.proofs.Elements.{In, in_from_contains, contains_from_in, in_left, in_right, in_either}
+use Rattle.isle_laws_demands.proofs.visits.Visited.{equated}
+use Rattle.isle_laws_demands.proofs.visits.WithSites.{by_equating, Onward, IsOpened, IsValued, KeptWithSites, no_step, then_onward, rule_given}
 
--- a term's pattern, opened: a later visit that made the inputs of the parts
-record IsOpened (v : Visit) (o : Opened) : Type 0 where
-  later : Later v o.visit
-  inputs : (u : SiteTerm) → In o.inputs u → IsMade o.visit u
+-- a site that is made, or none
+abbrev IsMade : Demands → SiteTerm → Type 0
+IsMade d s = In d.made s ⊎ (s ≡ no_site)
 
-outputs_made : (s : SiteTerm) (args : TypedPatterns) (w : Visit) → IsSound w → IsMade w s → (u : SiteTerm) → In (output_sites s args) u → IsMade (making (part_sites s args) w) u
-outputs_made s no_typed_pattern w h m u i = absurd i
-outputs_made s (typed_pattern_and q no_typed_pattern) w h m u i =
-    elim i [ inl e ↦ made_stays w (making [] w) (later_making [] w h) u (subst (IsMade w) e m) | inr n ↦ absurd n ]
-outputs_made s (typed_pattern_and q (typed_pattern_and r rs)) w h m u i = is_made (from_to (tuple_part s) 0 (typed_pattern_and q (typed_pattern_and r rs))) w u i
+-- what is equated is made
+abbrev MakesEqual : Demands → Type 0
+MakesEqual d = (e : SiteTerm × SiteTerm) → In d.equalities e → IsMade d e.0 × IsMade d e.1
 
-with_parts : (v w : Visit) (s : SiteTerm) (args : TypedPatterns) → Later v w → IsMade w s → IsOpened v (opened (output_sites s args) (making (part_sites s args) w))
-with_parts v w s args l m = record {
-  later = then_later v w (making (part_sites s args) w) l (later_making (part_sites s args) w l.sound);
-  inputs = outputs_made s args w l.sound m;
+abbrev OnwardMade : Demands → Demands → Type 0
+OnwardMade = Onward MakesEqual IsMade
+
+-- 1. steps
+making_on : (ts : List SiteTerm) (v : Visit) → MakesEqual v.demands → OnwardMade v.demands (making ts v).demands
+making_on ts v h = record { holds = λ e i. (kept e.0 (h e i).0, kept e.1 (h e i).1); stays = kept }
+  where
+    kept : (s : SiteTerm) → IsMade v.demands s → IsMade (making ts v).demands s
+    kept s m = elim m [ inl i ↦ inl (in_left v.demands.made ts s i) | inr e ↦ inr e ]
+
+is_made : (ts : List SiteTerm) (v : Visit) (s : SiteTerm) → In ts s → IsMade (making ts v).demands s
+is_made ts v s i = inl (in_right v.demands.made ts s i)
+
+-- steps after these, which make and equate nothing
+then_iterating : (d : Demands) (s : SiteTerm) (v : Visit) → OnwardMade d v.demands → OnwardMade d (iterating s v).demands
+then_iterating d s v a = record { holds = a.holds; stays = a.stays }
+
+then_asking : (d : Demands) (s : SiteTerm) (c : Constraint) (v : Visit) → OnwardMade d v.demands → OnwardMade d (asking s c v).demands
+then_asking d s c v a = record { holds = a.holds; stays = a.stays }
+
+then_calling : (d : Demands) (s : SiteTerm) (v : Visit) → OnwardMade d v.demands → OnwardMade d (calling s v).demands
+then_calling d s v a = record { holds = a.holds; stays = a.stays }
+
+then_asking_all : (d : Demands) (ss : List SiteTerm) (v : Visit) → OnwardMade d v.demands → OnwardMade d (asking_all ss v).demands
+then_asking_all d [] v a = a
+then_asking_all d (s ∷ ss) v a = then_asking_all d ss (asking s is_present v) (then_asking d s is_present v a)
+
+then_where_multi : (d : Demands) (flags : Flags) (call : SiteTerm) (v : Visit) → OnwardMade d v.demands → OnwardMade d (where_multi flags call v).demands
+then_where_multi d flags call v a = by flags.multi
+  where
+    by : (b : Bool) → OnwardMade d (if b then iterating call v else v).demands
+    by true = then_iterating d call v a
+    by false = a
+
+equated_on : (a b : SiteTerm) (v : Visit) → MakesEqual v.demands → IsMade v.demands a → IsMade v.demands b → OnwardMade v.demands (equated a b v).demands
+equated_on a b v h m n = record {
+  holds = λ e i. elim (in_either v.demands.equalities ((a, b) ∷ []) e i) [
+    | inl j ↦ h e j
+    | inr j ↦ elim j [ inl q ↦ subst (λ (x : SiteTerm × SiteTerm). IsMade v.demands x.0 × IsMade v.demands x.1) q (m, n) | inr x ↦ absurd x ]
+  ];
+  stays = λ s k. k;
 }
 
-call_opened : (multi infallible : Bool) (flags : Flags) → flags.multi ≡ multi → (call : SiteTerm) (args : TypedPatterns) (v : Visit) → IsSound v → IsOpened v (open_call flags infallible call args v)
-call_opened multi infallible flags e call args v h = subst (IsOpened v) (sym (ap (λ b. by b infallible) e)) (of multi infallible)
-  where
-    by : Bool → Bool → Opened
-    by b i =
-        if b
-        then opened (output_sites (pick_of call) args) (making (part_sites (pick_of call) args) (iterating call (making (call ∷ (pick_of call ∷ [])) v)))
-        else (if i
-        then opened (output_sites call args) (making (part_sites call args) (making (call ∷ []) v))
-        else opened (output_sites (some_part call) args) (making (part_sites (some_part call) args) (asking call is_present (making (call ∷ (some_part call ∷ [])) v))))
+-- 2. patterns of terms
+outputs_made : (s : SiteTerm) (args : TypedPatterns) (w : Visit) → MakesEqual w.demands → IsMade w.demands s → (u : SiteTerm) → In (output_sites s args) u → IsMade (making (part_sites s args) w).demands u
+outputs_made s no_typed_pattern w h m u i = absurd i
+outputs_made s (typed_pattern_and q no_typed_pattern) w h m u i =
+    elim i [ inl e ↦ (making_on [] w h).stays u (subst (IsMade w.demands) e m) | inr n ↦ absurd n ]
+outputs_made s (typed_pattern_and q (typed_pattern_and r rs)) w h m u i = is_made (from_to (tuple_part s) 0 (typed_pattern_and q (typed_pattern_and r rs))) w u i
 
-    of : (b i : Bool) → IsOpened v (by b i)
-    of true i =
-        let made = later_making (call ∷ (pick_of call ∷ [])) v h in
-        let gone = later_iterating call (making (call ∷ (pick_of call ∷ [])) v) made.sound in
-        with_parts v (iterating call (making (call ∷ (pick_of call ∷ [])) v)) (pick_of call) args
-        (then_later v (making (call ∷ (pick_of call ∷ [])) v) (iterating call (making (call ∷ (pick_of call ∷ [])) v)) made gone)
-        (is_made (call ∷ (pick_of call ∷ [])) v (pick_of call) (inr (inl refl)))
-    of false true =
-        with_parts v (making (call ∷ []) v) call args (later_making (call ∷ []) v h) (is_made (call ∷ []) v call (inl refl))
-    of false false =
-        let made = later_making (call ∷ (some_part call ∷ [])) v h in
-        let gone = later_asking call is_present (making (call ∷ (some_part call ∷ [])) v) made.sound in
-        with_parts v (asking call is_present (making (call ∷ (some_part call ∷ [])) v)) (some_part call) args
-        (then_later v (making (call ∷ (some_part call ∷ [])) v) (asking call is_present (making (call ∷ (some_part call ∷ [])) v)) made gone)
-        (is_made (call ∷ (some_part call ∷ [])) v (some_part call) (inr (inl refl)))
+with_parts : (d : Demands) (w : Visit) (s : SiteTerm) (args : TypedPatterns) → OnwardMade d w.demands → IsMade w.demands s → IsOpened MakesEqual IsMade d (opened (output_sites s args) (making (part_sites s args) w))
+with_parts d w s args a m = record {
+  onward = then_onward MakesEqual IsMade d w.demands (making (part_sites s args) w).demands a (making_on (part_sites s args) w a.holds);
+  inputs = outputs_made s args w a.holds m;
+}
 
-fields_opened : (fields : List SiteTerm) (s : SiteTerm) (c : Constraint) (v : Visit) → IsSound v → IsOpened v (opened fields (asking s c (making fields v)))
-fields_opened fields s c v h =
-    let made = later_making fields v h in
-    record {
-      later = then_later v (making fields v) (asking s c (making fields v)) made (later_asking s c (making fields v) made.sound);
-      inputs = λ u i. is_made fields v u i;
-    }
+call_opened : (pure multi partial rec infallible : Bool) (call : SiteTerm) (args : TypedPatterns) (v : Visit) → MakesEqual v.demands
+    → IsOpened MakesEqual IsMade v.demands (open_call (record { pure = pure; multi = multi; partial = partial; rec = rec }) infallible call args v)
+call_opened pure true partial rec infallible call args v h =
+    let made = making (call ∷ (pick_of call ∷ [])) v in
+    with_parts v.demands (iterating call made) (pick_of call) args (then_iterating v.demands call made (making_on (call ∷ (pick_of call ∷ [])) v h))
+    (is_made (call ∷ (pick_of call ∷ [])) v (pick_of call) (inr (inl refl)))
+call_opened pure false partial rec true call args v h =
+    with_parts v.demands (making (call ∷ []) v) call args (making_on (call ∷ []) v h) (is_made (call ∷ []) v call (inl refl))
+call_opened pure false partial rec false call args v h =
+    let made = making (call ∷ (some_part call ∷ [])) v in
+    with_parts v.demands (asking call is_present made) (some_part call) args (then_asking v.demands call is_present made (making_on (call ∷ (some_part call ∷ [])) v h))
+    (is_made (call ∷ (some_part call ∷ [])) v (some_part call) (inr (inl refl)))
 
-term_opened : (k : Kind) (t : ℕ) (s : SiteTerm) (args : TypedPatterns) (v : Visit) → IsSound v → IsOpened v (open_term k t s args v)
+fields_opened : (fields : List SiteTerm) (s : SiteTerm) (c : Constraint) (v : Visit) → MakesEqual v.demands → IsOpened MakesEqual IsMade v.demands (opened fields (asking s c (making fields v)))
+fields_opened fields s c v h = record { onward = then_asking v.demands s c (making fields v) (making_on fields v h); inputs = λ u i. is_made fields v u i }
+
+term_opened : (k : Kind) (t : ℕ) (s : SiteTerm) (args : TypedPatterns) (v : Visit) → MakesEqual v.demands → IsOpened MakesEqual IsMade v.demands (open_term k t s args v)
 term_opened (a_variant ty variant) t s args v h = fields_opened (from_to (variant_field s variant) 0 args) s (is_variant ty variant (pattern_count args)) v h
 term_opened (a_struct ty) t s args v h = fields_opened (from_to (struct_field s) 0 args) s (is_struct ty (pattern_count args)) v h
-term_opened (a_call flags infallible) t s args v h = call_opened flags.multi infallible flags refl (extractor_call t s) args v h
-term_opened unknown t s args v h = record { later = now v h; inputs = λ u i. absurd i }
+term_opened (a_call flags infallible) t s args v h = call_opened flags.pure flags.multi flags.partial flags.rec infallible (extractor_call t s) args v h
+term_opened unknown t s args v h = record { onward = no_step MakesEqual IsMade v.demands h; inputs = λ u i. absurd i }
 
-mutual
-  pattern_later : (p : Program) (q : TypedPattern) (s : SiteTerm) (v : Visit) → IsSound v → IsMade v s → Later v (visit_pattern p q s v)
-  pattern_later p (match_bind ty x sub) s v h m =
-      let b = later_binding x s v h m in
-      then_later v (binding x s v) (visit_pattern p sub s (binding x s v)) b (pattern_later p sub s (binding x s v) b.sound m)
-  pattern_later p (match_var ty x) s v h m = later_equating s (var_site v x) v h m (var_made v h x)
-  pattern_later p (match_bool ty b) s v h m = later_asking s (is_bool b ty) v h
-  pattern_later p (match_int ty z) s v h m = later_asking s (is_int z ty) v h
-  pattern_later p (match_prim ty name) s v h m = later_asking s (is_prim name) v h
-  pattern_later p (match_term ty t args) s v h m =
-      let o = term_opened (kind p t) t s args v h in
-      then_later v (open_term (kind p t) t s args v).visit (visit_each p args (open_term (kind p t) t s args v).inputs (open_term (kind p t) t s args v).visit) o.later
-      (each_later p args (open_term (kind p t) t s args v).inputs (open_term (kind p t) t s args v).visit o.later.sound o.inputs)
-  pattern_later p (match_any ty) s v h m = now v h
-  pattern_later p (match_and ty subs) s v h m = all_later p subs s v h m
-
-  each_later : (p : Program) (qs : TypedPatterns) (ss : List SiteTerm) (v : Visit) → IsSound v → ((u : SiteTerm) → In ss u → IsMade v u) → Later v (visit_each p qs ss v)
-  each_later p no_typed_pattern ss v h f = now v h
-  each_later p (typed_pattern_and q qs) [] v h f = now v h
-  each_later p (typed_pattern_and q qs) (s ∷ ss) v h f =
-      let a = pattern_later p q s v h (f s (inl refl)) in
-      then_later v (visit_pattern p q s v) (visit_each p qs ss (visit_pattern p q s v)) a
-      (each_later p qs ss (visit_pattern p q s v) a.sound (λ u i. made_stays v (visit_pattern p q s v) a u (f u (inr i))))
-
-  all_later : (p : Program) (qs : TypedPatterns) (s : SiteTerm) (v : Visit) → IsSound v → IsMade v s → Later v (visit_all p qs s v)
-  all_later p no_typed_pattern s v h m = now v h
-  all_later p (typed_pattern_and q qs) s v h m =
-      let a = pattern_later p q s v h m in
-      then_later v (visit_pattern p q s v) (visit_all p qs s (visit_pattern p q s v)) a
-      (all_later p qs s (visit_pattern p q s v) a.sound (made_stays v (visit_pattern p q s v) a s m))
-
--- an expression's value: a later visit that made its site
-record IsValued (v : Visit) (a : Valued) : Type 0 where
-  later : Later v a.visit
-  site : IsMade a.visit a.site
-
+-- 3. values of terms
 result_in : (flags : Flags) (call : SiteTerm) → In (call_sites flags call) (call_result flags call)
 result_in flags call = of flags.partial flags.multi
   where
@@ -110,124 +104,56 @@ result_in flags call = of flags.partial flags.multi
     of false true = inr (inl refl)
     of false false = inl refl
 
-multi_later : (flags : Flags) (call : SiteTerm) (v : Visit) → IsSound v → Later v (where_multi flags call v)
-multi_later flags call v h = of flags.multi
-  where
-    of : (b : Bool) → Later v (if b then iterating call v else v)
-    of true = later_iterating call v h
-    of false = now v h
-
-call_made : (flags : Flags) (call : SiteTerm) (v : Visit) → IsSound v → IsValued v (valued (call_result flags call) (where_multi flags call (making (call_sites flags call) v)))
+call_made : (flags : Flags) (call : SiteTerm) (v : Visit) → MakesEqual v.demands → IsValued MakesEqual IsMade v.demands (valued (call_result flags call) (where_multi flags call (making (call_sites flags call) v)))
 call_made flags call v h =
-    let made = later_making (call_sites flags call) v h in
-    let gone = multi_later flags call (making (call_sites flags call) v) made.sound in
+    let made = making (call_sites flags call) v in
+    let a = making_on (call_sites flags call) v h in
     record {
-      later = then_later v (making (call_sites flags call) v) (where_multi flags call (making (call_sites flags call) v)) made gone;
-      site = made_stays (making (call_sites flags call) v) (where_multi flags call (making (call_sites flags call) v)) gone (call_result flags call)
+      onward = then_where_multi v.demands flags call made a;
+      site = (then_where_multi made.demands flags call made (no_step MakesEqual IsMade made.demands a.holds)).stays (call_result flags call)
           (is_made (call_sites flags call) v (call_result flags call) (result_in flags call));
     }
 
-called : (v : Visit) (a : Valued) → IsValued v a → IsValued v (valued a.site (calling a.site a.visit))
-called v a w = record { later = then_later v a.visit (calling a.site a.visit) w.later (later_calling a.site a.visit w.later.sound); site = w.site }
-
-visited_call : (flags : Flags) (t : ℕ) (args : SiteTerms) (v : Visit) → IsSound v → IsValued v (visit_call flags t args v)
+visited_call : (flags : Flags) (t : ℕ) (args : SiteTerms) (v : Visit) → MakesEqual v.demands → IsValued MakesEqual IsMade v.demands (visit_call flags t args v)
 visited_call flags t args v h = of flags.pure
   where
-    of : (pure : Bool) → IsValued v (if pure
+    of : (pure : Bool) → IsValued MakesEqual IsMade v.demands (if pure
         then (let call = constructor_call t args 0 in valued (call_result flags call) (where_multi flags call (making (call_sites flags call) v)))
         else (let call = constructor_call t args (suc v.impure_calls) in valued (call_result flags call) (calling (call_result flags call) (where_multi flags call (making (call_sites flags call) v)))))
     of true = call_made flags (constructor_call t args 0) v h
     of false =
-        called v (valued (call_result flags (constructor_call t args (suc v.impure_calls))) (where_multi flags (constructor_call t args (suc v.impure_calls)) (making (call_sites flags (constructor_call t args (suc v.impure_calls))) v)))
-        (call_made flags (constructor_call t args (suc v.impure_calls)) v h)
+        let call = constructor_call t args (suc v.impure_calls) in
+        let a = call_made flags call v h in
+        record { onward = then_calling v.demands (call_result flags call) (where_multi flags call (making (call_sites flags call) v)) a.onward; site = a.site }
 
-one_made : (s : SiteTerm) (v : Visit) → IsSound v → IsValued v (valued s (making (s ∷ []) v))
-one_made s v h = record { later = later_making (s ∷ []) v h; site = is_made (s ∷ []) v s (inl refl) }
+one_made : (s : SiteTerm) (v : Visit) → MakesEqual v.demands → IsValued MakesEqual IsMade v.demands (valued s (making (s ∷ []) v))
+one_made s v h = record { onward = making_on (s ∷ []) v h; site = is_made (s ∷ []) v s (inl refl) }
 
-visited_term : (k : Kind) (t : ℕ) (a : ValuedAll) → IsSound a.visit → IsValued a.visit (visit_term k t a)
+visited_term : (k : Kind) (t : ℕ) (a : ValuedAll) → MakesEqual a.visit.demands → IsValued MakesEqual IsMade a.visit.demands (visit_term k t a)
 visited_term (a_variant ty variant) t a h = one_made (variant_made ty variant a.sites) a.visit h
 visited_term (a_struct ty) t a h = one_made (struct_made ty a.sites) a.visit h
 visited_term (a_call flags infallible) t a h = visited_call flags t a.sites a.visit h
-visited_term unknown t a h = record { later = now a.visit h; site = inr refl }
+visited_term unknown t a h = record { onward = no_step MakesEqual IsMade a.visit.demands h; site = inr refl }
 
-after_later : (v w : Visit) (a : Valued) → Later v w → IsValued w a → IsValued v a
-after_later v w a l x = record { later = then_later v w a.visit l x.later; site = x.site }
+-- 4. rules
+equal_kept : (p : Program) → KeptWithSites MakesEqual IsMade p
+equal_kept p = record {
+  unbound = λ d. inr refl;
+  leaf = λ s v l h. one_made s v h;
+  equal = λ a b v h m n. by_equating (λ w. OnwardMade v.demands w.demands) a b v (no_step MakesEqual IsMade v.demands h) (equated_on a b v h m n);
+  constant = λ s c v l h m. then_asking v.demands s c v (no_step MakesEqual IsMade v.demands h);
+  answers = λ s v h m. then_asking_all v.demands (unwraps s) v (no_step MakesEqual IsMade v.demands h);
+  opened = λ t s args v h m. term_opened (kind p t) t s args v h;
+  given = λ t a h m. visited_term (kind p t) t a h;
+  result = λ a h m. one_made (some_made a.site) a.visit h;
+}
 
-mutual
-  expr_valued : (p : Program) (e : TypedExpr) (v : Visit) → IsSound v → IsValued v (visit_expr p e v)
-  expr_valued p (make_term ty t args) v h =
-      let l = exprs_later p args v h in
-      after_later v (visit_exprs p args v).visit (visit_term (kind p t) t (visit_exprs p args v)) l (visited_term (kind p t) t (visit_exprs p args v) l.sound)
-  expr_valued p (make_var ty x) v h = record { later = now v h; site = var_made v h x }
-  expr_valued p (make_bool ty b) v h = one_made (bool_term b ty) v h
-  expr_valued p (make_int ty z) v h = one_made (int_term z ty) v h
-  expr_valued p (make_prim ty name) v h = one_made (prim_term name) v h
-  expr_valued p (make_let ty defs body) v h =
-      let l = lets_later p defs v h in
-      after_later v (visit_lets p defs v) (visit_expr p body (visit_lets p defs v)) l (expr_valued p body (visit_lets p defs v) l.sound)
-
-  exprs_later : (p : Program) (es : TypedExprs) (v : Visit) → IsSound v → Later v (visit_exprs p es v).visit
-  exprs_later p no_typed_expr v h = now v h
-  exprs_later p (typed_expr_and x xs) v h =
-      let a = expr_valued p x v h in
-      then_later v (visit_expr p x v).visit (visit_exprs p xs (visit_expr p x v).visit).visit a.later (exprs_later p xs (visit_expr p x v).visit a.later.sound)
-
-  lets_later : (p : Program) (ds : TypedLets) (v : Visit) → IsSound v → Later v (visit_lets p ds v)
-  lets_later p no_typed_let v h = now v h
-  lets_later p (typed_let_and x ty value rest) v h =
-      let a = expr_valued p value v h in
-      let b = later_binding x (visit_expr p value v).site (visit_expr p value v).visit a.later.sound a.site in
-      then_later v (visit_expr p value v).visit (visit_lets p rest (binding x (visit_expr p value v).site (visit_expr p value v).visit)) a.later
-      (then_later (visit_expr p value v).visit (binding x (visit_expr p value v).site (visit_expr p value v).visit) (visit_lets p rest (binding x (visit_expr p value v).site (visit_expr p value v).visit)) b
-      (lets_later p rest (binding x (visit_expr p value v).site (visit_expr p value v).visit) b.sound))
-
-asked_later : (ss : List SiteTerm) (v : Visit) → IsSound v → Later v (asking_all ss v)
-asked_later [] v h = now v h
-asked_later (s ∷ ss) v h =
-    let a = later_asking s is_present v h in then_later v (asking s is_present v) (asking_all ss (asking s is_present v)) a (asked_later ss (asking s is_present v) a.sound)
-
-args_later : (p : Program) (i : ℕ) (qs : List TypedPattern) (v : Visit) → IsSound v → Later v (visit_args p i qs v)
-args_later p i [] v h = now v h
-args_later p i (q ∷ qs) v h =
-    let a = later_making (argument i ∷ []) v h in
-    let b = pattern_later p q (argument i) (making (argument i ∷ []) v) a.sound (is_made (argument i ∷ []) v (argument i) (inl refl)) in
-    let c = args_later p (suc i) qs (visit_pattern p q (argument i) (making (argument i ∷ []) v)) b.sound in
-    then_later v (making (argument i ∷ []) v) (visit_args p (suc i) qs (visit_pattern p q (argument i) (making (argument i ∷ []) v))) a
-    (then_later (making (argument i ∷ []) v) (visit_pattern p q (argument i) (making (argument i ∷ []) v)) (visit_args p (suc i) qs (visit_pattern p q (argument i) (making (argument i ∷ []) v))) b c)
-
-iflet_later : (p : Program) (i : TypedIfLet) (v : Visit) → IsSound v
-    → Later v (visit_pattern p i.lhs (visit_expr p i.rhs v).site (asking_all (unwraps (visit_expr p i.rhs v).site) (visit_expr p i.rhs v).visit))
-iflet_later p i v h =
-    let a = expr_valued p i.rhs v h in
-    let w = asking_all (unwraps (visit_expr p i.rhs v).site) (visit_expr p i.rhs v).visit in
-    let b = asked_later (unwraps (visit_expr p i.rhs v).site) (visit_expr p i.rhs v).visit a.later.sound in
-    let m = made_stays (visit_expr p i.rhs v).visit w b (visit_expr p i.rhs v).site a.site in
-    then_later v (visit_expr p i.rhs v).visit (visit_pattern p i.lhs (visit_expr p i.rhs v).site w) a.later
-    (then_later (visit_expr p i.rhs v).visit w (visit_pattern p i.lhs (visit_expr p i.rhs v).site w) b (pattern_later p i.lhs (visit_expr p i.rhs v).site w b.sound m))
-
-iflets_later : (p : Program) (is : List TypedIfLet) (v : Visit) → IsSound v → Later v (visit_iflets p is v)
-iflets_later p [] v h = now v h
-iflets_later p (i ∷ is) v h =
-    let a = iflet_later p i v h in
-    let w = visit_pattern p i.lhs (visit_expr p i.rhs v).site (asking_all (unwraps (visit_expr p i.rhs v).site) (visit_expr p i.rhs v).visit) in
-    then_later v w (visit_iflets p is w) a (iflets_later p is w a.sound)
-
-finished_sound : (b : Bool) (a : Valued) → IsSound a.visit → IsSound (finished b a).visit
-finished_sound false a h = h
-finished_sound true a h = (later_making (some_made a.site ∷ []) a.visit h).sound
-
-rule_sound : (p : Program) (r : TypedRule) → IsSound (visit_rule p r).visit
-rule_sound p r =
-    let a = args_later p 0 r.args visit_start (record { vars = λ e i. absurd i; equal = λ e i. absurd i }) in
-    let b = iflets_later p r.iflets (visit_args p 0 r.args visit_start) a.sound in
-    let c = expr_valued p r.rhs (visit_iflets p r.iflets (visit_args p 0 r.args visit_start)) b.sound in
-    finished_sound (is_partial p r.root_term) (visit_expr p r.rhs (visit_iflets p r.iflets (visit_args p 0 r.args visit_start))) c.later.sound
-
-shown : (v : Visit) (s : SiteTerm) → IsMade v s → Contains v.demands.made s ⊎ (s ≡ no_site)
-shown v s m = elim m [ inl i ↦ inl (contains_from_in v.demands.made s i) | inr e ↦ inr e ]
+shown : (d : Demands) (s : SiteTerm) → IsMade d s → Contains d.made s ⊎ (s ≡ no_site)
+shown d s m = elim m [ inl i ↦ inl (contains_from_in d.made s i) | inr e ↦ inr e ]
 
 pub visits_make_lem : (p : Program) (r : TypedRule) (a b : SiteTerm) → Contains (demands_of p r).equalities (a, b)
     → (Contains (demands_of p r).made a ⊎ (a ≡ no_site)) × (Contains (demands_of p r).made b ⊎ (b ≡ no_site))
 visits_make_lem p r a b i =
-    let m = (rule_sound p r).equal (a, b) (in_from_contains (demands_of p r).equalities (a, b) i) in
-    (shown (visit_rule p r).visit a m.0, shown (visit_rule p r).visit b m.1)
+    let d = demands_of p r in
+    let m = (rule_given p MakesEqual IsMade (equal_kept p) r (λ e j. absurd j)).0 (a, b) (in_from_contains d.equalities (a, b) i) in
+    (shown d a m.0, shown d b m.1)
