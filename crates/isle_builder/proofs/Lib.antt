@@ -14,3 +14,6 @@ pub mod VisitedRules
 pub mod EndedExprs
 pub mod EndedPatterns
 pub mod EndedRules
+pub mod GrownSites
+pub mod PassingSites
+pub mod PassedRules

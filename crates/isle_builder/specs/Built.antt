@@ -38,9 +38,9 @@ pub record WereBuilt (env : TermEnv) (p : Program) (sets : List (TermId × RuleS
   pub errors_are : error_views errors ≡ report_views reports
 
 -- an environment has the terms and the typed rules of a list of definitions
-pub record ShowsElaborated (e : TypesRead) (defs : List Definition) (rules : TypedRules) (env : TermEnv) : Type 0 where
+pub record ShowsElaborated (e : TypesRead) (defs : List Definition) (typed : TypedRules) (env : TermEnv) : Type 0 where
   pub terms : term_views env.terms.items ≡ term_table e.known defs
-  pub rules : rule_views env.rules.items ≡ rules.rules
+  pub rules : rule_views env.rules.items ≡ typed.rules
 
 -- an environment is that of some list that elaborates
 pub record IsOfElaborated (env : TermEnv) : Type 0 where

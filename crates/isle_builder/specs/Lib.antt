@@ -1,2 +1,3 @@
 pub mod VisitedSites
 pub mod Built
+pub mod AddedRules

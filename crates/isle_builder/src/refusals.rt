@@ -1,4 +1,9 @@
 //! The errors of rules that are left out, with their texts.
+ghost use Rattle.std.specs.Prelude.{◌≡◌, ◌++◌, ◌∷◌, [], OnOk};
+ghost use Rattle.isle_base.specs.SyntaxViews.{position};
+ghost use Rattle.isle_model.specs.claims.Refusals.{past_limit, unreachable};
+ghost use Rattle.isle_rules.specs.ErrorViews.{error_views, limit_view};
+ghost use Rattle.isle_builder.specs.AddedRules.{unreachable_each};
 
 use isle_base::syntax::{Error, Limit, Pos, Span};
 use isle_sets::trie_again::Constraint;
@@ -50,7 +55,9 @@ pub(crate) fn report_unreachable(
     errors: &mut Vec<Error>,
     why: Unreachable,
     pos: Pos,
-) -> Result<(), AllocError> {
+) -> Result<(), AllocError>
+    ensures { OnOk result (error_views errors.new.items ≡ error_views errors.old.items ++ unreachable (position pos) ∷ []) }
+{
     let msg = unreachable_text(*errors.allocator(), why)?;
     let span = Span::new_single(pos);
     errors.push(Error::UnreachableError { msg, span })?;
@@ -62,7 +69,9 @@ pub(crate) fn report_conflicts(
     errors: &mut Vec<Error>,
     conflicts: &[(Constraint, Constraint)],
     pos: Pos,
-) -> Result<(), AllocError> {
+) -> Result<(), AllocError>
+    ensures { OnOk result (error_views errors.new.items ≡ error_views errors.old.items ++ unreachable_each conflicts.now pos) }
+{
     for (first, second) in conflicts {
         let why = Unreachable::Conflict {
             first: *first,
@@ -78,7 +87,9 @@ pub(crate) fn report_limit(
     errors: &mut Vec<Error>,
     limit: Limit,
     pos: Pos,
-) -> Result<(), AllocError> {
+) -> Result<(), AllocError>
+    ensures { OnOk result (error_views errors.new.items ≡ error_views errors.old.items ++ past_limit (limit_view limit) (position pos) ∷ []) }
+{
     let msg = String::from_str(*errors.allocator(), limit_text(limit))?;
     let span = Span::new_single(pos);
     errors.push(Error::LimitError { limit, msg, span })?;

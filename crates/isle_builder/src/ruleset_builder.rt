@@ -94,6 +94,7 @@ impl RuleSetBuilder {
         ensures full { (before : List SiteTerm) (v : Visit) → StandsAt before self.old v
             → IfErr result (EndsFull (built_sites self.new) (closing most_closing_steps (before_closing before v.demands))) }
         ensures kept { IfErr result (ForWantOfRoom (IsTable self.new.table)) }
+        ensures calls { (self.new.iterators ≡ self.old.iterators) × (self.new.impure ≡ self.old.impure) }
     {
         self.demanded.close(self.alloc, &mut self.table)
     }

@@ -1,4 +1,21 @@
 //! The rule set of a term, as its rules are read one after another.
+ghost use Rattle.std.specs.Prelude.{◌≡◌, ◌<◌, List, [], ◌∷◌, false, length, true, IfOk, IsTrue, OnOk};
+ghost use Rattle.isle_model.specs.lists.Formed.{is_formed_rule};
+ghost use Rattle.isle_model.specs.lists.Names.{IsDistinct};
+ghost use Rattle.isle_model.specs.lists.Visitable.{is_visitable_rule};
+ghost use Rattle.isle_model.specs.rules.Program.{Program};
+ghost use Rattle.isle_model.specs.sites.Closure.{Closed, is_unreachable};
+ghost use Rattle.isle_model.specs.sites.Demands.{Visit, demands_of, visit_rule};
+ghost use Rattle.isle_model.specs.sites.Limits.{limits_of_shape};
+ghost use Rattle.isle_model.specs.sites.Sites.{SiteTerm};
+ghost use Rattle.isle_laws_demands.specs.RuleByRule.{nothing_built};
+ghost use Rattle.isle_rules.specs.RuleViews.{rule_view};
+ghost use Rattle.isle_sets.specs.Closings.{AreDemandsOf};
+ghost use Rattle.isle_sets.specs.SiteTables.{IsTable};
+ghost use Rattle.isle_sets.specs.SiteViews.{set_rule_view, set_view};
+ghost use Rattle.isle_terms.specs.TermViews.{term_views};
+ghost use Rattle.isle_builder.specs.AddedRules.{GoesOn, IsListed, set_so_far};
+ghost use Rattle.isle_builder.specs.VisitedSites.{IsSiteOf, StandsAt, built_sites};
 
 use crate::refusals::{report_conflicts, report_limit, report_unreachable};
 use crate::ruleset_builder::RuleSetBuilder;
@@ -30,7 +47,10 @@ impl Drop for TermSet {
 
 impl TermSet {
     // Before the first rule of a term.
-    pub(crate) fn new(alloc: Global) -> TermSet {
+    pub(crate) fn new(alloc: Global) -> TermSet
+        ensures empty { set_so_far result ≡ nothing_built }
+        ensures table { IsTable result.builder.table }
+    {
         TermSet {
             builder: RuleSetBuilder::new(alloc),
             rules: Vec::new(alloc),
@@ -38,7 +58,9 @@ impl TermSet {
     }
 
     // The set, after the last rule of the term.
-    pub(crate) fn into_rule_set(self) -> RuleSet {
+    pub(crate) fn into_rule_set(self) -> RuleSet
+        ensures { set_view result ≡ set_so_far self }
+    {
         let Self { builder, rules } = self;
         RuleSet {
             rules,
@@ -52,7 +74,12 @@ impl TermSet {
         rule: &Rule,
         termenv: &TermEnv,
         errors: &mut Vec<Error>,
-    ) -> Result<(), AllocError> {
+    ) -> Result<(), AllocError>
+        requires visitable { IsTrue (is_visitable_rule (term_views termenv.now.terms.items) (rule_view rule.now)) }
+        ensures { (p : Program) (before : List SiteTerm) → p.terms ≡ term_views termenv.now.terms.items → is_formed_rule p (rule_view rule.now) ≡ true
+            → IsTable self.old.builder.table → IsDistinct before → StandFor (built_sites self.old.builder) before
+            → OnOk result (GoesOn p before (rule_view rule.now) self.old self.new errors.old.items errors.new.items) }
+    {
         self.builder.start_rule();
         match self.builder.visit_rule(rule, termenv) {
             Ok(value) => self.add_visited(rule, value, errors),
@@ -66,7 +93,12 @@ impl TermSet {
         rule: &Rule,
         value: BindingId,
         errors: &mut Vec<Error>,
-    ) -> Result<(), AllocError> {
+    ) -> Result<(), AllocError>
+        requires table { IsTable self.old.builder.table }
+        ensures { (p : Program) (before : List SiteTerm) → limits_of_shape p (rule_view rule.now) ≡ []
+            → StandsAt before self.old.builder (visit_rule p (rule_view rule.now)).visit → IsSiteOf self.old.builder (visit_rule p (rule_view rule.now)).site value
+            → OnOk result (GoesOn p before (rule_view rule.now) self.old self.new errors.old.items errors.new.items) }
+    {
         if !self.builder.conflicts.is_empty() {
             return report_conflicts(errors, &self.builder.conflicts, rule.pos);
         }
@@ -83,7 +115,12 @@ impl TermSet {
         rule: &Rule,
         value: BindingId,
         errors: &mut Vec<Error>,
-    ) -> Result<(), AllocError> {
+    ) -> Result<(), AllocError>
+        requires visited { (before : List SiteTerm) × (v : Visit) × StandsAt before self.old.builder v }
+        ensures { (p : Program) (before : List SiteTerm) → limits_of_shape p (rule_view rule.now) ≡ [] → is_unreachable (demands_of p (rule_view rule.now)) ≡ false
+            → StandsAt before self.old.builder (visit_rule p (rule_view rule.now)).visit → IsSiteOf self.old.builder (visit_rule p (rule_view rule.now)).site value
+            → OnOk result (GoesOn p before (rule_view rule.now) self.old self.new errors.old.items errors.new.items) }
+    {
         match self.builder.close() {
             Ok(()) => self.push_rule(rule, value),
             Err(fault) => report_fault(errors, fault, rule.pos),
@@ -104,7 +141,10 @@ impl RuleSetBuilder {
         &mut self,
         rule: &Rule,
         value: BindingId,
-    ) -> Result<trie_again::Rule, AllocError> {
+    ) -> Result<trie_again::Rule, AllocError>
+        ensures listed { (k : Closed) → AreDemandsOf (built_sites self.old) self.old.demanded k → IfOk result (λ r. IsListed self.old k rule.now value (set_rule_view r)) }
+        ensures table { self.new.table ≡ self.old.table }
+    {
         let alloc = self.alloc;
         let demanded = mem::replace(&mut self.demanded, Demanded::new(alloc));
         let mut listed = trie_again::Rule::demanding(alloc, demanded)?;
