@@ -1,5 +1,5 @@
 -- Sites that were there stay first where more are made, so they stand for what they did.
-use Rattle.std.proofs.Common.{◌≡◌, ℕ, ◌<◌, ◌≤◌, nat_lt, List, [], ◌∷◌, ◌++◌, length, take, min, Some, None, Option, slice_get, Contains, refl, sym, ap, ◌∙◌, subst, inl, inr, arith}
+use Rattle.std.proofs.Common.{◌≡◌, ℕ, zero, suc, ◌<◌, ◌≤◌, nat_lt, List, [], ◌∷◌, ◌++◌, length, take, min, Some, None, Option, slice_get, Contains, refl, sym, ap, ◌∙◌, subst, inl, inr, arith}
 use Rattle.std.proofs.lemmas.Bool.{cases_Bool, cond-true, cond-false}
 use Rattle.std.proofs.lemmas.List.{length-append, length-take, get_or-take, get_or_append_left}
 use Rattle.std.proofs.lemmas.Option.{slice_get-get_or, same_Some}
@@ -23,19 +23,20 @@ pub record StayFirst (before after : List SiteTerm) : Type 0 where
   pub there : (s : ℕ) → s < length before → slice_get after s ≡ slice_get before s
 
 at_place : (xs ys : List SiteTerm) (s : ℕ) → s < length xs → slice_get (xs ++ ys) s ≡ slice_get xs s
-at_place (x ∷ xs) ys 0 l = refl
+at_place [] ys s l = absurd (let m : ⊥ = omega (arith, l) in m)
+at_place (x ∷ xs) ys zero l = refl
 at_place (x ∷ xs) ys (suc s) l = at_place xs ys s (omega (arith, l))
 
 in_front : (n : ℕ) (xs : List SiteTerm) (s : ℕ) → s < n → slice_get (take n xs) s ≡ slice_get xs s
-in_front 0 xs s l = absurd (let m : ⊥ = omega (arith, l) in m)
+in_front zero xs s l = absurd (let m : ⊥ = omega (arith, l) in m)
 in_front (suc n) [] s l = refl
-in_front (suc n) (x ∷ xs) 0 l = refl
+in_front (suc n) (x ∷ xs) zero l = refl
 in_front (suc n) (x ∷ xs) (suc s) l = in_front n xs s (omega (arith, l))
 
-stays_itself : (before : List SiteTerm) → StayFirst before before
+pub stays_itself : (before : List SiteTerm) → StayFirst before before
 stays_itself before = record { longer = omega arith; there = λ s l. refl }
 
-stays_then : (before mid after : List SiteTerm) → StayFirst before mid → StayFirst mid after → StayFirst before after
+pub stays_then : (before mid after : List SiteTerm) → StayFirst before mid → StayFirst mid after → StayFirst before after
 stays_then before mid after h g = record {
   longer = let a = h.longer in let b = g.longer in omega (arith, a, b);
   there = λ s l. g.there s (let a = h.longer in omega (arith, a, l)) ∙ h.there s l;
@@ -46,11 +47,11 @@ stays_with before made =
     let g = grows made before in
     subst (StayFirst before) (sym g.1) (record { longer = let e = length-append before g.0 in omega (arith, e); there = at_place before g.0 })
 
-stays_closed : (before : List SiteTerm) (d : Demands) → StayFirst before (closed before d).made
+pub stays_closed : (before : List SiteTerm) (d : Demands) → StayFirst (with_sites before d.made) (closed before d).made
 stays_closed before d =
-    closing_keeps (λ k. StayFirst before k.made)
-    (λ k h c e. stays_then before k.made (with_sites k.made (flat_map (field_terms c.1) (ascending k.made (class_at k.classes c.0)))) h (stays_with k.made (flat_map (field_terms c.1) (ascending k.made (class_at k.classes c.0)))))
-    most_closing_steps (before_closing before d) (stays_with before d.made)
+    closing_keeps (λ k. StayFirst (with_sites before d.made) k.made)
+    (λ k h c e. stays_then (with_sites before d.made) k.made (with_sites k.made (flat_map (field_terms c.1) (ascending k.made (class_at k.classes c.0)))) h (stays_with k.made (flat_map (field_terms c.1) (ascending k.made (class_at k.classes c.0)))))
+    most_closing_steps (before_closing before d) (stays_itself (with_sites before d.made))
 
 stays_reached : (p : Program) (before : List SiteTerm) (r : TypedRule) → StayFirst before (sites_reached p before r)
 stays_reached p before r =
@@ -67,17 +68,18 @@ stays_reached p before r =
         let d = demands_of p r in
         elim (cases_Bool (is_unreachable d)) [
           | inl t ↦ subst (StayFirst before) (sym (cond-true (is_unreachable d) (with_sites before d.made) (closed before d).made t)) (stays_with before d.made)
-          | inr f ↦ subst (StayFirst before) (sym (cond-false (is_unreachable d) (with_sites before d.made) (closed before d).made f)) (stays_closed before d)
+          | inr f ↦ subst (StayFirst before) (sym (cond-false (is_unreachable d) (with_sites before d.made) (closed before d).made f)) (stays_then before (with_sites before d.made) (closed before d).made (stays_with before d.made) (stays_closed before d))
         ]
 
--- so they do after a rule, where there was room for them
+-- and where no more are kept than there may be
+pub stays_in_front : (before after : List SiteTerm) → length before ≤ most_sites → StayFirst before after → StayFirst before (take most_sites after)
+stays_in_front before after few h = record {
+  longer = let e = length-take most_sites after in let l = h.longer in omega (arith, e, l, few);
+  there = λ s l. in_front most_sites after s (omega (arith, l, few)) ∙ h.there s l;
+}
+
 pub stays_after : (p : Program) (before : List SiteTerm) (r : TypedRule) → length before ≤ most_sites → StayFirst before (sites_after_rule p before r)
-stays_after p before r few =
-    let h = stays_reached p before r in
-    record {
-      longer = let e = length-take most_sites (sites_reached p before r) in let l = h.longer in omega (arith, e, l, few);
-      there = λ s l. in_front most_sites (sites_reached p before r) s (omega (arith, l, few)) ∙ h.there s l;
-    }
+stays_after p before r few = stays_in_front before (sites_reached p before r) few (stays_reached p before r)
 
 -- a table whose sites stand for such has grown
 pub table_grown : (old : List Site) (new : SiteTable) (before after : List SiteTerm) → IsTable new → StandFor old before → StandFor (table_sites new) after → StayFirst before after → HaveGrown old (table_sites new)

@@ -17,3 +17,6 @@ pub mod EndedRules
 pub mod GrownSites
 pub mod PassingSites
 pub mod PassedRules
+pub mod RulesReported
+pub mod TermsAscending
+pub mod BuildingLists

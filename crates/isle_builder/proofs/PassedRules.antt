@@ -1,5 +1,5 @@
 -- The set of a term goes on past a rule: the rule is left out for a limit or since it can't be reached, or it is added.
-use Rattle.std.proofs.Common.{◌≡◌, ℕ, ◌<◌, ◌≤◌, true≢false, true, false, List, [], ◌∷◌, ◌++◌, length, map, All, None, Some, Contains, IsTrue, refl, sym, ap, ◌∙◌, subst, inl, inr, arith}
+use Rattle.std.proofs.Common.{◌≡◌, ℕ, ◌<◌, ◌≤◌, true≢false, true, false, List, [], ◌∷◌, ◌++◌, length, map, take, All, None, Some, Contains, IsTrue, refl, sym, ap, ◌∙◌, subst, inl, inr, arith}
 use Rattle.std.proofs.lemmas.Bool.{cases_Bool, cond-true, cond-false}
 use Rattle.std.proofs.lemmas.List.Elements.{All-contains, All-head, All-tail}
 use Rattle.std.specs.Bool.{◌==◌}
@@ -9,8 +9,8 @@ use Rattle.isle_model.specs.rules.Typed.{TypedRule}
 use Rattle.isle_model.specs.sites.Sites.{Constraint, Site, SetRule, SiteSet, SiteTerm, unfold_site}
 use Rattle.isle_model.specs.sites.Demands.{demands_of, result_of, visit_rule, with_sites}
 use Rattle.isle_model.specs.sites.Closure.{Unreachability, before_closing, closed, closing, is_unreachable, most_closing_steps, reported}
-use Rattle.isle_model.specs.sites.Limits.{RuleLimit, first_limit, limits_of_shape, most_sites, sites_after_rule, sites_limit, sites_reached, sites_wanted, walked_rule, made_walking}
-use Rattle.isle_model.specs.sites.Overlap.{built_rule, limit_passed, not_reached}
+use Rattle.isle_model.specs.sites.Limits.{RuleLimit, first_limit, limits_of_shape, made_walking, most_sites, sites_after_rule, sites_limit, sites_wanted, walked_rule}
+use Rattle.isle_model.specs.sites.Overlap.{RuleReport, built_rule, limit_passed, not_reached}
 use Rattle.isle_model.specs.sites.RuleSets.{AsksFor, Equates, GoesOver, IsRuleOf, StandFor}
 use Rattle.isle_model.proofs.Elements.{contains_from_in, in_from_contains}
 use Rattle.isle_model.proofs.Members.{all_members}
@@ -22,16 +22,16 @@ use Rattle.isle_laws_demands.proofs.closure.Settled.{verdict_is_exact_lem}
 use Rattle.isle_rules.specs.RuleViews.{rule_view}
 use Rattle.isle_rules.specs.declared.rules.Rule.{Rule}
 use Rattle.isle_sets.specs.Closings.{GoOn}
-use Rattle.isle_sets.specs.SiteTables.{IsTable, table_sites}
+use Rattle.isle_sets.specs.SiteTables.{AreFirst, IsTable}
 use Rattle.isle_sets.specs.SiteViews.{member_sites}
 use Rattle.isle_builder.specs.AddedRules.{IsListed}
 use Rattle.isle_builder.specs.VisitedSites.{IsSiteOf, MeetsLimit, StandsAt, built_sites}
 use Rattle.isle_builder.specs.declared.ruleset_builder.RuleSetBuilder.{RuleSetBuilder}
-use Rattle.isle_builder.proofs.EndedRules.{too_many}
-use Rattle.isle_builder.proofs.GrownSites.{stays_after, table_grown}
+use Rattle.isle_builder.proofs.EndedRules.{never_ended, too_many}
+use Rattle.isle_builder.proofs.GrownSites.{StayFirst, stays_closed, stays_in_front, table_grown}
 use Rattle.isle_builder.proofs.PassingSites.{from_passing, in_passing, passing_once}
 
-abbrev set_with : List SetRule → List Site → SiteSet
+abbrev pub set_with : List SetRule → List Site → SiteSet
 set_with rules sites = record { rules = rules; sites = sites }
 
 -- sites that go no further
@@ -39,7 +39,7 @@ same_grown : (b : RuleSetBuilder) → IsTable b.table → HaveGrown (built_sites
 same_grown b table = record { kept = λ s l. refl; longer = omega arith; few = table.few; sources = table.sources }
 
 -- a set goes on that has grown before
-pub grown_then : (old mid new : List Site) → HaveGrown mid new → ((s : ℕ) → s < length old → unfold_site mid s ≡ unfold_site old s) → length old ≤ length mid → HaveGrown old new
+grown_then : (old mid new : List Site) → HaveGrown mid new → ((s : ℕ) → s < length old → unfold_site mid s ≡ unfold_site old s) → length old ≤ length mid → HaveGrown old new
 grown_then old mid new g kept longer = record {
   kept = λ s l. g.kept s (omega (arith, l, longer)) ∙ kept s l;
   longer = let m = g.longer in omega (arith, m, longer);
@@ -49,12 +49,10 @@ grown_then old mid new g kept longer = record {
 
 module _ (p : Program) (before : List SiteTerm) (r : TypedRule) (rules : List SetRule) where
   -- 1. a limit is met
-  pub passes_limit : (old : List Site) (b : RuleSetBuilder) (limit : RuleLimit) → StandFor old before → length old ≤ most_sites → MeetsLimit p before r b limit
+  pub passes_limit : (old : List Site) (whole : List SiteTerm) (b : RuleSetBuilder) (limit : RuleLimit) → StandFor old whole → StayFirst whole (sites_after_rule p before r) → MeetsLimit p before r b limit
       → GoesPast p before r (set_with rules old) (set_with rules (built_sites b)) (limit_passed limit r.at ∷ [])
-  passes_limit old b limit stand few m =
-      limit_met limit
-      (table_grown old b.table before (sites_after_rule p before r) m.sites.table stand m.sites.stand (stays_after p before r (let e = stand.count in omega (arith, e, few))))
-      m.first m.sites.stand refl
+  passes_limit old whole b limit stand stay m =
+      limit_met limit (table_grown old b.table whole (sites_after_rule p before r) m.sites.table stand m.sites.stand stay) m.first m.sites.stand refl
 
   -- 2. the rule can't be reached
   module _ (b : RuleSetBuilder) (h : StandsAt before b (visit_rule p r).visit) (none : limits_of_shape p r ≡ []) where
@@ -94,6 +92,19 @@ module _ (p : Program) (before : List SiteTerm) (r : TypedRule) (rules : List Se
     module _ (reachable : is_unreachable (demands_of p r) ≡ false) where
       closed_wanted : sites_wanted p before r ≡ (closed before (demands_of p r)).made
       closed_wanted = cond-false (is_unreachable (demands_of p r)) (with_sites before (demands_of p r).made) (closed before (demands_of p r)).made reachable
+
+      -- its closing ended for want of room
+      pub closing_full_met : (after : RuleSetBuilder) → IsTable after.table → AreFirst (built_sites after) (closing most_closing_steps (before_closing before (demands_of p r))).made → MeetsLimit p before r after sites_limit
+      closing_full_met after table first =
+          too_many p before r after table
+          (subst (AreFirst (built_sites after)) (sym (cond-false (walked_rule p r).ended (with_sites before (made_walking p (walked_rule p r))) (sites_wanted p before r) (never_ended p before r after none) ∙ closed_wanted)) first)
+
+      -- the sites of the visit stay then
+      pub visited_stay : StayFirst (with_sites before (demands_of p r).made) (sites_after_rule p before r)
+      visited_stay =
+          subst (λ ts. StayFirst (with_sites before (demands_of p r).made) (take most_sites ts))
+          (sym (cond-false (walked_rule p r).ended (with_sites before (made_walking p (walked_rule p r))) (sites_wanted p before r) (never_ended p before r b none) ∙ closed_wanted))
+          (stays_in_front (with_sites before (demands_of p r).made) (closed before (demands_of p r)).made (let n = h.demands.stand.count in let few = h.table.few in omega (arith, n, few)) (stays_closed before (demands_of p r)))
 
       module _ (after : RuleSetBuilder) (table : IsTable after.table) (go : GoOn (built_sites b) (built_sites after) after.demanded (closing most_closing_steps (before_closing before (demands_of p r))))
         (same_iterators : after.iterators ≡ b.iterators) (same_impure : after.impure ≡ b.impure) where
@@ -149,9 +160,19 @@ module _ (p : Program) (before : List SiteTerm) (r : TypedRule) (rules : List Se
               );
             }
 
-        pub passes_added : (from : Rule) (value : ℕ) (rule : SetRule) → rule_view from ≡ r → IsSiteOf b (visit_rule p r).site value
+        pub passes_added : (from : Rule) (value : ℕ) (rule : SetRule) (more : List SetRule) → more ≡ rules ++ rule ∷ [] → rule_view from ≡ r → IsSiteOf b (visit_rule p r).site value
             → IsListed after (closing most_closing_steps (before_closing before (demands_of p r))) from value rule
-            → GoesPast p before r (set_with rules (built_sites b)) (set_with (rules ++ rule ∷ []) (built_sites after)) []
-        passes_added from value rule view site l =
+            → GoesPast p before r (set_with rules (built_sites b)) (set_with more (built_sites after)) []
+        passes_added from value rule more last view site l =
             rule_added rule closed_grown (no_limit (closed before (demands_of p r)).made closed_wanted (built_sites after) table.few go.demands.stand)
-            reachable go.demands.stand refl (is_rule from value rule view site l)
+            reachable go.demands.stand last (is_rule from value rule view site l)
+
+-- from a set before, whose sites were kept
+pub goes_past_from : (p : Program) (before : List SiteTerm) (r : TypedRule) (old mid new : SiteSet) (said : List RuleReport) → mid.rules ≡ old.rules → ((s : ℕ) → s < length old.sites → unfold_site mid.sites s ≡ unfold_site old.sites s) → length old.sites ≤ length mid.sites
+    → GoesPast p before r mid new said → GoesPast p before r old new said
+goes_past_from p before r old mid new said same kept longer (rule_added rule g none reachable stand rules is_rule) =
+    rule_added rule (grown_then old.sites mid.sites new.sites g kept longer) none reachable stand (rules ∙ ap (λ l. l ++ rule ∷ []) same) is_rule
+goes_past_from p before r old mid new said same kept longer (rule_unreachable g none cant stand rules) =
+    rule_unreachable (grown_then old.sites mid.sites new.sites g kept longer) none cant stand (rules ∙ same)
+goes_past_from p before r old mid new said same kept longer (limit_met limit g first stand rules) =
+    limit_met limit (grown_then old.sites mid.sites new.sites g kept longer) first stand (rules ∙ same)

@@ -1,8 +1,5 @@
 //! The rule set of a term, as its rules are read one after another.
-ghost use Rattle.std.specs.Prelude.{◌≡◌, ◌<◌, List, [], ◌∷◌, false, length, true, IfOk, IsTrue, OnOk};
-ghost use Rattle.isle_model.specs.lists.Formed.{is_formed_rule};
-ghost use Rattle.isle_model.specs.lists.Names.{IsDistinct};
-ghost use Rattle.isle_model.specs.lists.Visitable.{is_visitable_rule};
+ghost use Rattle.std.specs.Prelude.{◌≡◌, List, [], false, IfOk, OnOk};
 ghost use Rattle.isle_model.specs.rules.Program.{Program};
 ghost use Rattle.isle_model.specs.sites.Closure.{Closed, is_unreachable};
 ghost use Rattle.isle_model.specs.sites.Demands.{Visit, demands_of, visit_rule};
@@ -13,8 +10,7 @@ ghost use Rattle.isle_rules.specs.RuleViews.{rule_view};
 ghost use Rattle.isle_sets.specs.Closings.{AreDemandsOf};
 ghost use Rattle.isle_sets.specs.SiteTables.{IsTable};
 ghost use Rattle.isle_sets.specs.SiteViews.{set_rule_view, set_view};
-ghost use Rattle.isle_terms.specs.TermViews.{term_views};
-ghost use Rattle.isle_builder.specs.AddedRules.{GoesOn, IsListed, set_so_far};
+ghost use Rattle.isle_builder.specs.AddedRules.{AddsListed, GoesOn, IsListed, MayAddRule, ReportsLimit, set_so_far};
 ghost use Rattle.isle_builder.specs.VisitedSites.{IsSiteOf, StandsAt, built_sites};
 
 use crate::refusals::{report_conflicts, report_limit, report_unreachable};
@@ -75,9 +71,8 @@ impl TermSet {
         termenv: &TermEnv,
         errors: &mut Vec<Error>,
     ) -> Result<(), AllocError>
-        requires visitable { IsTrue (is_visitable_rule (term_views termenv.now.terms.items) (rule_view rule.now)) }
-        ensures { (p : Program) (before : List SiteTerm) → p.terms ≡ term_views termenv.now.terms.items → is_formed_rule p (rule_view rule.now) ≡ true
-            → IsTable self.old.builder.table → IsDistinct before → StandFor (built_sites self.old.builder) before
+        requires may { (p : Program) × (before : List SiteTerm) × MayAddRule termenv.now (rule_view rule.now) self.old.builder p before }
+        ensures { (p : Program) (before : List SiteTerm) → MayAddRule termenv.now (rule_view rule.now) self.old.builder p before
             → OnOk result (GoesOn p before (rule_view rule.now) self.old self.new errors.old.items errors.new.items) }
     {
         self.builder.start_rule();
@@ -94,7 +89,7 @@ impl TermSet {
         value: BindingId,
         errors: &mut Vec<Error>,
     ) -> Result<(), AllocError>
-        requires table { IsTable self.old.builder.table }
+        requires visited { (before : List SiteTerm) × (v : Visit) × StandsAt before self.old.builder v }
         ensures { (p : Program) (before : List SiteTerm) → limits_of_shape p (rule_view rule.now) ≡ []
             → StandsAt before self.old.builder (visit_rule p (rule_view rule.now)).visit → IsSiteOf self.old.builder (visit_rule p (rule_view rule.now)).site value
             → OnOk result (GoesOn p before (rule_view rule.now) self.old self.new errors.old.items errors.new.items) }
@@ -128,7 +123,10 @@ impl TermSet {
     }
 
     // A rule whose demands are closed.
-    fn push_rule(&mut self, rule: &Rule, value: BindingId) -> Result<(), AllocError> {
+    fn push_rule(&mut self, rule: &Rule, value: BindingId) -> Result<(), AllocError>
+        ensures added { (k : Closed) → AreDemandsOf (built_sites self.old.builder) self.old.builder.demanded k → OnOk result (AddsListed self.old.builder k rule.now value self.old self.new) }
+        ensures table { self.new.builder.table ≡ self.old.builder.table }
+    {
         let listed = self.builder.list_rule(rule, value)?;
         self.rules.push(listed)?;
         Ok(())
@@ -160,7 +158,9 @@ impl RuleSetBuilder {
 }
 
 // A rule is left out for the limit that it passes; or memory was refused.
-fn report_fault(errors: &mut Vec<Error>, fault: VisitFault, pos: Pos) -> Result<(), AllocError> {
+fn report_fault(errors: &mut Vec<Error>, fault: VisitFault, pos: Pos) -> Result<(), AllocError>
+    ensures { OnOk result (ReportsLimit errors.old.items errors.new.items fault pos) }
+{
     match &fault {
         VisitFault::Limit(limit) => report_limit(errors, *limit, pos),
         VisitFault::Memory(_) | VisitFault::Stopped => Err(AllocError),
