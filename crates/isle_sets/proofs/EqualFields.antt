@@ -5,6 +5,7 @@ use Rattle.std.specs.Prelude.{nat_eq}
 use Rattle.std.proofs.lemmas.Bool.{cases_Bool, cond-true, cond-false, and_parts, and_from, false≢true, both_ways}
 use Rattle.std.proofs.lemmas.Option.{slice_get_within}
 use Rattle.isle_disjointsets.specs.Partition.{IsPartition}
+use Rattle.isle_laws_demands.specs.FieldLaws.{GivesField}
 use Rattle.isle_model.specs.sites.Sites.{Site, Constraint, is_variant, is_struct, is_bool, is_int, is_prim, is_present, SiteTerm, bool_term, int_term, prim_term, argument, extractor_call, constructor_call, pick_of, variant_made, variant_field, struct_made, struct_field, some_made, some_part, tuple_part, no_site, unfold_site}
 use Rattle.isle_model.specs.sites.Demands.{Demands, site_term_eq}
 use Rattle.isle_model.specs.sites.Closure.{fields_from, field_terms, class_name, same_class, class_names, spoken_of, before_closing, merged_all}
@@ -17,7 +18,7 @@ use Rattle.isle_laws_demands.proofs.closure.Settled.{names_settled}
 use Rattle.isle_laws_demands.proofs.overlaps.Overlaps.{bool_same}
 use Rattle.isle_types.specs.declared.ids.VariantId.{VariantId}
 use Rattle.isle_sets.specs.Closings.{are_in_one_class}
-use Rattle.isle_sets.specs.Verdicts.{AreClassesOf, AreVisited, GivesField, IsMentioned, class_head}
+use Rattle.isle_sets.specs.Verdicts.{AreClassesOf, AreVisited, IsMentioned, class_head}
 use Rattle.isle_sets.specs.FieldParts.{field_binding, part_of_head, HaveOneName, AreCongruent, field_term, ArePartsOf}
 use Rattle.isle_sets.specs.contracts.trie_again.BindingPartialEq.TheImpl.{ghosts}
 use Rattle.isle_sets.specs.declared.trie_again.Binding.{Binding}

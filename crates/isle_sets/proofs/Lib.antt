@@ -11,6 +11,7 @@ pub mod ClosingTaken
 pub mod ClosureConflicts
 pub mod ClosureCycles
 pub mod ClosureVerdicts
+pub mod DemandsListed
 pub mod DueKept
 pub mod EqualFields
 pub mod Equated
@@ -19,9 +20,12 @@ pub mod FieldJoins
 pub mod FieldSites
 pub mod FoundSites
 pub mod FullTables
+pub mod NotedSites
+pub mod JoinedSets
 pub mod ListedConstraints
 pub mod ListedParts
 pub mod SameBindings
+pub mod SetsListed
 pub mod SideBySide
 pub mod SitesAdded
 pub mod SitesGrown

@@ -35,7 +35,7 @@ sorted_ascend (n ∷ []) s = refl
 sorted_ascend (n ∷ m ∷ ns) s =
     and_from (is_below_first n (m ∷ ns)) (ascends (m ∷ ns)) (is_below n m (sorted_head nat_cmp n (m ∷ ns) s).0) (sorted_ascend (m ∷ ns) (sorted_tail nat_cmp n (m ∷ ns) s))
 
-tied : (a b : ℕ) → is_eq (nat_cmp a b) ≡ (b == a)
+pub tied : (a b : ℕ) → is_eq (nat_cmp a b) ≡ (b == a)
 tied a b =
     unsigned_tied a b
     ∙ elim (cases_Bool (a == b)) [

@@ -3,6 +3,7 @@ use Rattle.std.proofs.Common.{◌≡◌, ◌↔◌, ◌==◌, ℕ, zero, suc, �
 use Rattle.std.proofs.lemmas.Bool.{cases_Bool, cond-true, cond-false, and_parts, both_ways, false_from_ne_true}
 use Rattle.std.proofs.lemmas.List.{append-nil}
 use Rattle.std.proofs.lemmas.Option.{slice_get_within}
+use Rattle.isle_laws_demands.specs.FieldLaws.{GivesField}
 use Rattle.isle_model.specs.trees.Places.{constraint_at}
 use Rattle.isle_model.specs.sites.Sites.{Site, bool_site, int_site, prim_site, argument_site, extractor_site, constructor_site, iterator_site, make_variant_site, match_variant_site, make_struct_site, extract_struct_site, make_some_site, match_some_site, match_tuple_site, Constraint, is_variant, is_struct, is_bool, is_int, is_prim, is_present, sources_of, sources_at, SiteTerm, variant_field, struct_field, no_site, layer, layer_at, unfold_site}
 use Rattle.isle_model.specs.sites.Demands.{Demands, site_term_eq, constraint_eq}
@@ -18,7 +19,7 @@ use Rattle.isle_sets.specs.DemandsHeld.{constraint_held}
 use Rattle.isle_sets.specs.Listings.{ascends, is_below_first, sites_of}
 use Rattle.isle_sets.specs.SiteViews.{constraint_views, site_view}
 use Rattle.isle_sets.specs.declared.trie_again.Constraint.{Constraint as Code}
-use Rattle.isle_sets.specs.Verdicts.{AreVisited, GivesField}
+use Rattle.isle_sets.specs.Verdicts.{AreVisited}
 use Rattle.isle_sets.specs.FieldParts.{field_binding, field_term, ArePartsOf, IsPartOfSite, IsPartBy, IsPartOfAny}
 use Rattle.isle_sets.specs.declared.demanded.Demanded.{Demanded}
 use Rattle.isle_sets.specs.declared.closure_classes.Part.{Part}

@@ -1,5 +1,6 @@
 pub mod SiteViews
 pub mod Listings
+pub mod SetLists
 pub mod Overlaps
 pub mod SiteTables
 pub mod DemandsHeld
@@ -7,3 +8,4 @@ pub mod Closings
 pub mod Verdicts
 pub mod FieldParts
 pub mod Endings
+pub mod VariantTerms

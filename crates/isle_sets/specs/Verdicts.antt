@@ -2,9 +2,10 @@
 use Rattle.std.specs.Prelude.{◌≡◌, ◌<◌, ℕ, Bool, ◌&&◌, not, List, [], ◌∷◌, Option, Some, None, nat_eq, if◌then◌else◌, slice_get, Contains, ◌⊎◌, length, option_map}
 use Rattle.std.specs.Option.{unwrap_or}
 use Rattle.isle_disjointsets.specs.Partition.{set_of}
-use Rattle.isle_model.specs.sites.Sites.{Site, Constraint, SiteTerm, variant_field, struct_field, unfold_site}
+use Rattle.isle_laws_demands.specs.FieldLaws.{GivesField, IsGiven}
+use Rattle.isle_model.specs.sites.Sites.{Site, Constraint, SiteTerm, unfold_site}
 use Rattle.isle_model.specs.sites.Demands.{Demands, constraint_eq}
-use Rattle.isle_model.specs.sites.Closure.{Unreachability, conflict, cycle, before_closing, class_names, conflicts_met, field_terms, same_class, spoken_of}
+use Rattle.isle_model.specs.sites.Closure.{Unreachability, conflict, cycle, before_closing, class_names, conflicts_met, same_class, spoken_of}
 use Rattle.isle_sets.specs.Closings.{AreDemandsOf}
 use Rattle.isle_sets.specs.SiteViews.{constraint_view}
 use Rattle.isle_sets.specs.declared.demanded.Demanded.{Demanded}
@@ -20,16 +21,6 @@ report_view U.Cycle = cycle
 abbrev pub report_views : Option Unreachable → List Unreachability
 report_views None = []
 report_views (Some u) = report_view u ∷ []
-
--- a constraint of a site gives it this field
-abbrev pub GivesField : Demands → SiteTerm → SiteTerm → Type 0
-GivesField d s x = (c : Constraint) × Contains d.constraints (s, c) × Contains (field_terms c s) x
-
--- where a site is a field, some constraint gives it
-abbrev pub IsGiven : Demands → SiteTerm → Type 0
-IsGiven d (variant_field s variant i) = GivesField d s (variant_field s variant i)
-IsGiven d (struct_field s i) = GivesField d s (struct_field s i)
-IsGiven d s = Unit {0}
 
 -- the demands of a visit that met no conflict, before their closing: the fields that they speak of are asked for, and
 -- all fields that they ask for are made

@@ -68,9 +68,10 @@ impl Demanded {
         ensures { MatchOption result ((r : ℕ) → is_due_with self.now r site ≡ false)
             (λ c. (constraint_held self.now site ≡ Some (constraint_view c)) × IsTrue (is_due self.now site)) }
     {
-        match self.equals.find(site) {
-            Some(_) => self.constraints.get(&site).copied(),
-            None => None,
+        if self.equals.contains(site) {
+            self.constraints.get(&site).copied()
+        } else {
+            None
         }
     }
 

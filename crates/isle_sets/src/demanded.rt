@@ -5,6 +5,7 @@ ghost use Rattle.isle_sets.specs.Closings.{KeepsDue};
 ghost use Rattle.isle_sets.specs.DemandsHeld.{constraint_held, first_kept, IsConflict, are_equated, equated_too, equated_each};
 ghost use Rattle.isle_sets.specs.SiteViews.{constraint_view};
 
+use crate::equal_sites::EqualSites;
 use crate::overlaps::is_same_constraint;
 use crate::trie_again::{BindingId, Constraint};
 use isle_disjointsets::disjointsets::DisjointSets;
@@ -16,7 +17,7 @@ pub struct Demanded {
     // Of each site what is asked first, by its number.
     pub(crate) constraints: BTreeMap<BindingId, Constraint>,
     // Sites that must be equal.
-    pub(crate) equals: DisjointSets<BindingId>,
+    pub(crate) equals: EqualSites,
     // Sites that the closing has yet to look at: all that have a constraint and must equal another one, and it may be
     // others.
     pub(crate) open: BTreeSet<BindingId>,
@@ -41,7 +42,7 @@ impl Demanded {
     {
         Demanded {
             constraints: BTreeMap::new(alloc),
-            equals: DisjointSets::new(alloc),
+            equals: EqualSites::new(alloc),
             open: BTreeSet::new(alloc),
         }
     }
@@ -109,6 +110,18 @@ impl Demanded {
             self.equate(firsts[i], seconds[i])?;
         }
         Ok(())
+    }
+
+    /// The sites that must be equal, by themselves.
+    pub fn into_equals(self) -> DisjointSets<BindingId>
+        ensures { result ≡ self.equals }
+    {
+        let Self {
+            constraints: _,
+            equals,
+            open: _,
+        } = self;
+        equals.into_sets()
     }
 }
 

@@ -1,16 +1,17 @@
 //! The rules of each term as sets of demands on binding sites, and which of them overlap.
 #![tactic(auto)]
 
-mod bindings;
+pub mod bindings;
 mod closing;
 mod closure_classes;
 mod constraints;
 mod cycles;
 pub mod demanded;
+mod equal_sites;
 mod listed;
 mod overlaps;
 mod rule_sets;
 pub mod rules;
 pub mod site_table;
 pub mod trie_again;
-mod verdict;
+pub mod verdict;

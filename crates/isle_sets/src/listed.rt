@@ -1,8 +1,10 @@
-//! What the demands of a rule are as lists that a set keeps: what is asked of sites, ascending by site.
-ghost use Rattle.std.specs.Prelude.{◌≡◌, ℕ, IsTrue, IfOk};
-ghost use Rattle.isle_model.specs.trees.Places.{constraint_at};
-ghost use Rattle.isle_sets.specs.DemandsHeld.{constraint_held};
-ghost use Rattle.isle_sets.specs.Listings.{ascends, sites_of};
+//! What the demands of a rule are as lists that a set keeps: what is asked of sites, ascending by site, and the classes of
+//! sites that must be equal.
+ghost use Rattle.std.specs.Prelude.{◌≡◌, ℕ, IsTrue, IfOk, nat_eq};
+ghost use Rattle.isle_disjointsets.specs.Partition.{IsPartition};
+ghost use Rattle.isle_model.specs.trees.Places.{constraint_at, joins_in};
+ghost use Rattle.isle_sets.specs.DemandsHeld.{are_equated, constraint_held};
+ghost use Rattle.isle_sets.specs.Listings.{are_listed, ascends, class_lists, sites_of};
 ghost use Rattle.isle_sets.specs.SiteViews.{constraint_views};
 
 use crate::demanded::Demanded;
@@ -27,5 +29,18 @@ impl Demanded {
             listed.push((*site, *constraint))?;
         }
         Ok(listed)
+    }
+
+    /// The classes of sites that must be equal: each ascending and of two sites or more, by their least sites.
+    ///
+    /// # Errors
+    ///
+    /// Where memory is refused.
+    pub fn list_classes(&self, alloc: Global) -> Result<Vec<Vec<BindingId>>, AllocError>
+        ensures listed { IfOk result (λ v. IsTrue (are_listed (class_lists v.items))) }
+        ensures joined { IfOk result (λ v. (a b : ℕ) → joins_in (class_lists v.items) a b ≡ are_equated self.now a b) }
+        ensures partition { IfOk result (λ v. IsPartition nat_eq self.now.equals) }
+    {
+        self.equals.list(alloc)
     }
 }

@@ -1,15 +1,20 @@
 //! What is asked of one rule of a set.
-ghost use Rattle.std.specs.Prelude.{◌≡◌, ℕ, IsTrue, option_map};
+ghost use Rattle.std.specs.Prelude.{◌≡◌, ℕ, List, IfOk, IsTrue, option_map};
+ghost use Rattle.isle_laws_demands.specs.RuleByRule.{AreListedAs};
+ghost use Rattle.isle_model.specs.sites.Closure.{Closed};
+ghost use Rattle.isle_model.specs.sites.Sites.{Site};
 ghost use Rattle.isle_model.specs.trees.Places.{constraint_at, joins_in};
+ghost use Rattle.isle_sets.specs.Closings.{AreDemandsOf};
 ghost use Rattle.isle_sets.specs.Listings.{are_listed, ascends, class_lists, sites_of};
 ghost use Rattle.isle_sets.specs.SiteViews.{constraint_view, constraint_views, empty_rule, set_rule_view};
 
+use crate::demanded::Demanded;
 use crate::trie_again::{BindingId, Constraint, Rule};
 use isle_base::stablemapset::StableSet;
 use isle_base::syntax::Pos;
 use isle_disjointsets::disjointsets::DisjointSets;
 use isle_types::RuleId;
-use std::alloc::Global;
+use std::alloc::{AllocError, Global};
 
 impl Rule {
     /// A rule that demands nothing: zeros, no name and empty parts.
@@ -28,6 +33,33 @@ impl Rule {
             result: BindingId(0),
             classes: Vec::new(alloc),
         }
+    }
+
+    /// A rule that demands these, and is nothing else yet: zeros, no name, no calls.
+    ///
+    /// # Errors
+    ///
+    /// Where memory is refused.
+    pub fn demanding(alloc: Global, demanded: Demanded) -> Result<Rule, AllocError>
+        ensures listed { (sites : List Site) (k : Closed) → AreDemandsOf sites demanded k
+            → IfOk result (λ r. AreListedAs sites k (set_rule_view r).constraints (set_rule_view r).classes) }
+        ensures nothing_else { IfOk result (λ r. set_rule_view r
+            ≡ record empty_rule { constraints = (set_rule_view r).constraints; classes = (set_rule_view r).classes }) }
+    {
+        let constraints = demanded.list_constraints(alloc)?;
+        let classes = demanded.list_classes(alloc)?;
+        Ok(Rule {
+            id: RuleId(0),
+            pos: Pos { file: 0, offset: 0 },
+            constraints,
+            equals: demanded.into_equals(),
+            iterators: StableSet::new(alloc),
+            prio: 0,
+            name: None,
+            impure: Vec::new(alloc),
+            result: BindingId(0),
+            classes,
+        })
     }
 
     /// What the rule asks of sites, ascending by site, each site once.

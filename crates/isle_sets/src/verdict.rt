@@ -144,7 +144,7 @@ fn first_reason(conflict: Option<Unreachable>, cyclic: bool) -> Option<Unreachab
 /// # Errors
 ///
 /// Where memory is refused.
-pub(crate) fn why_unreachable(
+pub fn why_unreachable(
     alloc: Global,
     table: &SiteTable,
     demanded: &Demanded,
@@ -155,7 +155,7 @@ pub(crate) fn why_unreachable(
 {
     let constraints = demanded.list_constraints(alloc)?;
     let parts = list_parts(alloc, table, &constraints)?;
-    let classes = close_classes(alloc, &demanded.equals, &parts)?;
+    let classes = close_classes(alloc, demanded.equals.sets(), &parts)?;
     let conflict = find_conflict(alloc, &classes, &constraints)?;
     let cyclic = has_cycle(alloc, &classes, parts)?;
     Ok(first_reason(conflict, cyclic))

@@ -18,7 +18,7 @@ returns c before d v =
     let parts = c.in_ok-parts.parts.items in
     let ks = c.in_ok-classes.classes in
     let all = subst (λ l. (p : Part) → Contains parts p ↔ IsPartOfAny sites (constraint_views l) p) c.deref.ensures.value c.in_ok-parts.ensures in
-    let closed = subst (λ l. AreClosed l h.equals ks) c.deref-2.ensures.value c.in_ok-classes.ensures in
+    let closed = subst (λ l. AreClosed l h.equals ks) c.deref-2.ensures.value (subst (λ e. AreClosed c.deref-2.result.now e ks) c.sets.ensures c.in_ok-classes.ensures) in
     let reported = report_views c.in_ok-conflict.conflict in
     let conflict = subst (λ l. reported ≡ conflict_in (class_head ks) (constraint_views l) (constraint_views l)) c.deref-3.ensures.value c.in_ok-conflict.ensures in
     c.first_reason.ensures
