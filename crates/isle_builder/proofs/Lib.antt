@@ -14,3 +14,9 @@ pub mod VisitedRules
 pub mod EndedExprs
 pub mod EndedPatterns
 pub mod EndedRules
+pub mod GrownSites
+pub mod PassingSites
+pub mod PassedRules
+pub mod RulesReported
+pub mod TermsAscending
+pub mod BuildingLists

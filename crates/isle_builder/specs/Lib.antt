@@ -1,1 +1,3 @@
 pub mod VisitedSites
+pub mod Built
+pub mod AddedRules

@@ -7,7 +7,7 @@ ghost use Rattle.isle_model.specs.sites.Demands.{Visit, asking, calling, equatin
 ghost use Rattle.isle_sets.specs.SiteTables.{ForWantOfRoom, HasSources, IsTable};
 ghost use Rattle.isle_model.specs.sites.Closure.{before_closing, closing, most_closing_steps};
 ghost use Rattle.isle_sets.specs.Closings.{EndsFull, GoOn};
-ghost use Rattle.isle_sets.specs.SiteViews.{constraint_view, site_view};
+ghost use Rattle.isle_sets.specs.SiteViews.{constraint_view, site_view, site_views};
 ghost use Rattle.isle_builder.specs.VisitedSites.{EndsBefore, GoesTo, Makes, StandsAt, built_sites, conflict_beside, conflict_view};
 
 use isle_base::stablemapset::StableSet;
@@ -71,6 +71,21 @@ impl RuleSetBuilder {
         self.impure = Vec::new(self.alloc);
     }
 
+    // What each site of the term stands for.
+    pub(crate) fn into_bindings(self) -> Vec<Binding>
+        ensures { site_views result.items ≡ built_sites self }
+    {
+        let Self {
+            alloc: _,
+            table,
+            demanded: _,
+            conflicts: _,
+            iterators: _,
+            impure: _,
+        } = self;
+        table.into_bindings()
+    }
+
     // Closes the demands of the rule, once it is visited.
     pub(crate) fn close(&mut self) -> Result<(), VisitFault>
         requires { (before : List SiteTerm) × (v : Visit) × StandsAt before self.old v }
@@ -79,6 +94,7 @@ impl RuleSetBuilder {
         ensures full { (before : List SiteTerm) (v : Visit) → StandsAt before self.old v
             → IfErr result (EndsFull (built_sites self.new) (closing most_closing_steps (before_closing before v.demands))) }
         ensures kept { IfErr result (ForWantOfRoom (IsTable self.new.table)) }
+        ensures calls { (self.new.iterators ≡ self.old.iterators) × (self.new.impure ≡ self.old.impure) }
     {
         self.demanded.close(self.alloc, &mut self.table)
     }

@@ -3,7 +3,7 @@ ghost use Rattle.std.specs.Prelude.{◌≡◌, ◌<◌, [], length, map, IfErr, 
 ghost use Rattle.isle_model.specs.sites.Sites.{extract_struct_site, match_variant_site, layer, unfold_site};
 ghost use Rattle.isle_model.specs.sites.Closure.{field_terms};
 ghost use Rattle.isle_model.specs.sites.SetRules.{each_place};
-ghost use Rattle.isle_sets.specs.SiteViews.{constraint_view, site_view};
+ghost use Rattle.isle_sets.specs.SiteViews.{constraint_view, site_view, site_views};
 ghost use Rattle.isle_sets.specs.SiteTables.{AddsFields, AddsSite, AddsSites, ForWantOfRoom, HasNoRoom, IsAbsent, IsSiteNumber, IsTable, LacksRoom, MayAdd, table_sites};
 
 use crate::trie_again::{Binding, BindingId, Constraint, TupleIndex};
@@ -161,6 +161,17 @@ impl SiteTable {
             Constraint::Struct { fields, .. } => self.add_struct_fields(alloc, source, fields),
             _ => Ok(Vec::new(alloc)),
         }
+    }
+
+    /// What each site stands for, by its number.
+    pub fn into_bindings(self) -> Vec<Binding>
+        ensures { site_views result.items ≡ table_sites self }
+    {
+        let Self {
+            bindings,
+            numbers: _,
+        } = self;
+        bindings
     }
 
     // The next number, for a binding that has no site.

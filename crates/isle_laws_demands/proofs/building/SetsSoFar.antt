@@ -67,7 +67,7 @@ none_of_term t (q ∷ done) e =
 
 module _ (p : Program) (done : List TypedRule) (old : ℕ → Option SiteSet) (reports : List RuleReport) (h : AreBuiltSoFar p done old reports) where
   -- the set of a term, or nothing, stands where its rules are
-  stands : (t : ℕ) → StandsAfter p (of_one_term t done) (or_nothing_built (old t))
+  pub stands : (t : ℕ) → StandsAfter p (of_one_term t done) (or_nothing_built (old t))
   stands t = by (old t) refl
     where
       by : (o : Option SiteSet) → old t ≡ o → StandsAfter p (of_one_term t done) (or_nothing_built o)

@@ -51,7 +51,7 @@ once_reached p before r h =
 pub once_after_rule : (p : Program) (before : List SiteTerm) (r : TypedRule) → IsDistinct before → IsDistinct (sites_after_rule p before r)
 once_after_rule p before r h = distinct_taken most_sites (sites_reached p before r) (once_reached p before r h)
 
-once_after : (p : Program) (before : List SiteTerm) (rs : List TypedRule) → IsDistinct before → IsDistinct (sites_after_rules p before rs)
+pub once_after : (p : Program) (before : List SiteTerm) (rs : List TypedRule) → IsDistinct before → IsDistinct (sites_after_rules p before rs)
 once_after p before [] h = h
 once_after p before (r ∷ rs) h = once_after p (sites_after_rule p before r) rs (once_after_rule p before r h)
 

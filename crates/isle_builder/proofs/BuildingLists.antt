@@ -1,0 +1,110 @@
+-- Building goes on by one rule after another, and what there is after the last.
+use Rattle.std.proofs.Common.{◌≡◌, ◌≢◌, ◌==◌, false≢true, ℕ, suc, ◌<◌, Bool, true, false, List, [], ◌∷◌, ◌++◌, length, map, take, None, Some, Option, slice_get, option_map, Contains, refl, sym, ap, ◌∙◌, subst, inl, inr, arith, eqb-true, eq-eqb}
+use Rattle.std.specs.BTreeMap.{BTreeMap, IsOrdered, get, is_at}
+use Rattle.std.specs.Map.{lookup}
+use Rattle.std.specs.Ordering.{nat_cmp}
+use Rattle.std.proofs.lemmas.Bool.{cases_Bool}
+use Rattle.std.proofs.lemmas.List.{map-append}
+use Rattle.std.proofs.lemmas.Option.{same_Some}
+use Rattle.isle_model.specs.claims.Environments.{TypesRead, IsElaborated, program_of}
+use Rattle.isle_model.specs.claims.Layers.{BuildAnswers}
+use Rattle.isle_model.specs.claims.Refusals.{refusal_of}
+use Rattle.isle_model.specs.lists.Elaborated.{TypedRules}
+use Rattle.isle_model.specs.lists.Formed.{is_formed_rule, RulesAreFormed}
+use Rattle.isle_model.specs.lists.Syntax.{Definition}
+use Rattle.isle_model.specs.rules.Program.{Program}
+use Rattle.isle_model.specs.rules.Typed.{TypedRule}
+use Rattle.isle_model.specs.sites.Limits.{sites_after_rules}
+use Rattle.isle_model.specs.sites.Overlap.{build_reports}
+use Rattle.isle_model.specs.sites.RuleSets.{StandFor}
+use Rattle.isle_model.specs.sites.Sites.{SiteSet}
+use Rattle.isle_model.proofs.Elements.{in_slice, none_some}
+use Rattle.isle_model.proofs.Positions.{distinct_nil}
+use Rattle.isle_laws_demands.specs.RuleByRule.{AreBuiltSoFar, BuiltSetsAreAnswered, GoesPast, of_one_term, or_nothing_built}
+use Rattle.isle_laws_demands.proofs.building.SetsSoFar.{building_ends_lem, building_goes_on_lem, building_starts_lem, stands}
+use Rattle.isle_laws_demands.proofs.overlaps.Judged.{elaborated_rules_have_terms_lem}
+use Rattle.isle_laws_demands.proofs.visits.Elaborated.{elaborated_rules_hang}
+use Rattle.isle_laws_demands.proofs.visits.Once.{once_after}
+use Rattle.isle_laws_lists.specs.TypingLaws.{ListsAgree}
+use Rattle.isle_base.specs.declared.syntax.Error.{Error}
+use Rattle.isle_types.specs.declared.ids.TermId.{TermId}
+use Rattle.isle_rules.specs.ErrorViews.{error_views}
+use Rattle.isle_rules.specs.RuleViews.{rule_view, rule_views}
+use Rattle.isle_rules.specs.declared.rules.Rule.{Rule}
+use Rattle.isle_rules.specs.declared.term_env.TermEnv.{TermEnv}
+use Rattle.isle_sets.specs.SiteTables.{IsTable}
+use Rattle.isle_sets.specs.declared.trie_again.RuleSet.{RuleSet}
+use Rattle.isle_builder.specs.AddedRules.{GoesOn, MayAddRule, MayGoOn, StandAfter, set_at, set_so_far, sets_so_far}
+use Rattle.isle_builder.specs.Built.{ShowsElaborated, WereBuilt, report_views, term_set_views}
+use Rattle.isle_builder.specs.declared.term_sets.TermSet.{TermSet}
+use Rattle.isle_builder.proofs.TermsAscending.{looked_up, terms_listed}
+
+-- 1. one more rule
+module _ (env : TermEnv) (p : Program) (done : List TypedRule) (r : TypedRule) (sets : BTreeMap ℕ TermSet) (errors : List Error) (h : MayGoOn env r p done sets errors)
+  (taken : TermSet) (start : set_so_far taken ≡ or_nothing_built (set_at sets r.root_term)) where
+  -- the set of its term may go past it
+  pub may_add : IsTable taken.builder.table → MayAddRule env r taken.builder p (sites_after_rules p [] (of_one_term r.root_term done))
+  may_add table = record {
+    terms = h.terms;
+    formed = h.formed;
+    table = table;
+    once = once_after p [] (of_one_term r.root_term done) distinct_nil;
+    stand = subst (λ (s : SiteSet). StandFor s.sites (sites_after_rules p [] (of_one_term r.root_term done))) (sym start) (stands p done (set_at sets) h.stand.reports h.stand.built r.root_term).sites;
+  }
+
+  -- and then the sets stand after it
+  pub goes_on_next : (mid new : BTreeMap ℕ TermSet) (set : TermSet) (more : List Error) → ((t : ℕ) → t ≢ r.root_term → get nat_cmp mid t ≡ get nat_cmp sets t)
+      → GoesOn p (sites_after_rules p [] (of_one_term r.root_term done)) r taken set errors more → get nat_cmp new r.root_term ≡ Some set → ((t : ℕ) → t ≢ r.root_term → get nat_cmp new t ≡ get nat_cmp mid t)
+      → StandAfter p (done ++ r ∷ []) new more
+  goes_on_next mid new set more left g at others = record {
+    reports = h.stand.reports ++ g.said;
+    built = building_goes_on_lem p done r (set_at sets) (set_at new) h.stand.reports g.said h.stand.built (record {
+      set = set_so_far set;
+      here = ap (option_map set_so_far) at;
+      others = λ t n. ap (option_map set_so_far) (others t n ∙ left t n);
+      goes = subst (λ s. GoesPast p (sites_after_rules p [] (of_one_term r.root_term done)) r s (set_so_far set) g.said) start g.goes;
+    });
+    tables = λ t s e.
+        elim (cases_Bool (t == r.root_term)) [
+          | inl y ↦ subst (λ x. IsTable x.builder.table) (same_Some set s (sym at ∙ subst (λ u. get nat_cmp new u ≡ Some s) (eqb-true t r.root_term y) e)) g.table
+          | inr n ↦ let apart : t ≢ r.root_term = λ q. false≢true (sym n ∙ eq-eqb t r.root_term q) in h.stand.tables t s (sym (others t apart ∙ left t apart) ∙ e)
+        ];
+    reported = g.reports ∙ ap (λ l. l ++ report_views g.said) h.stand.reported ∙ sym (map-append refusal_of h.stand.reports g.said);
+  }
+
+-- 2. before the first
+pub nothing_read : (p : Program) (sets : BTreeMap ℕ TermSet) (errors : List Error) → sets.entries ≡ [] → errors ≡ [] → StandAfter p [] sets errors
+nothing_read p sets errors none no_error = record {
+  reports = [];
+  built = subst (λ es. AreBuiltSoFar p [] (λ t. option_map set_so_far (lookup (is_at (nat_cmp t)) es)) []) (sym none) (building_starts_lem p);
+  tables = λ t s e. absurd (none_some s (sym (ap (lookup (is_at (nat_cmp t))) none) ∙ e));
+  reported = ap error_views no_error;
+}
+
+-- 3. of a list that elaborates
+module _ (e : TypesRead) (defs : List Definition) (expand : Bool) (rules : TypedRules) (h : IsElaborated e defs expand rules) (env : TermEnv) (shown : ShowsElaborated e defs rules env) where
+  abbrev pub whole : Program
+  whole = program_of e defs rules.rules
+
+  -- its next rule may be read
+  pub may_go_on : RulesAreFormed → ListsAgree → (i : ℕ) (r : Rule) (sets : BTreeMap ℕ TermSet) (errors : List Error) → slice_get (rule_views env.rules.items) i ≡ Some (rule_view r)
+      → StandAfter whole (take i rules.rules) sets errors → MayGoOn env (rule_view r) whole (take i rules.rules) sets errors
+  may_go_on formed agree i r sets errors at s = record {
+    terms = sym shown.terms;
+    formed = (elaborated_rules_hang formed agree e defs expand rules h (rule_view r) (in_slice rules.rules i (rule_view r) (ap (λ l. slice_get l i) (sym shown.rules) ∙ at))).0;
+    stand = s;
+  }
+
+  -- after the last, all is built
+  pub all_built : BuiltSetsAreAnswered → (sets : BTreeMap ℕ TermSet) (errors : List Error) (listed : List (TermId × RuleSet)) → IsOrdered nat_cmp sets
+      → term_set_views listed ≡ sets_so_far sets.entries → StandAfter whole rules.rules sets errors → WereBuilt env whole listed errors (build_reports whole)
+  all_built answered sets errors listed ordered same s =
+      let views = sets_so_far sets.entries in
+      let known = elaborated_rules_have_terms_lem e defs expand rules h in
+      let built = building_ends_lem whole (set_at sets) views s.reports s.built (looked_up sets ordered) in
+      record {
+        terms = sym shown.terms;
+        known = known;
+        answers = subst (λ v. BuildAnswers whole v (build_reports whole)) (sym same) (answered e defs expand rules views h (terms_listed sets ordered whole known s.built.terms) built.0);
+        errors_are = s.reported ∙ ap report_views built.1;
+      }

@@ -1,0 +1,12 @@
+use Rattle.std.proofs.Common.{Bool, List, take}
+use Rattle.isle_model.specs.claims.Environments.{IsElaborated, TypesRead, program_of}
+use Rattle.isle_model.specs.lists.Elaborated.{TypedRules}
+use Rattle.isle_model.specs.lists.Syntax.{Definition}
+use Rattle.isle_builder.specs.AddedRules.{StandAfter}
+use Rattle.isle_builder.specs.Built.{ShowsElaborated}
+use Rattle.isle_builder.proofs.build.build.Given as goal
+
+abbrev pub invariant-loop-rule : goal.invariant-loop-rule
+invariant-loop-rule l =
+    (e : TypesRead) (defs : List Definition) (expand : Bool) (rules : TypedRules) → IsElaborated e defs expand rules → ShowsElaborated e defs rules l.fn.termenv
+    → StandAfter (program_of e defs rules.rules) (take l.rule-index rules.rules) l.sets l.errors.items

@@ -1,0 +1,106 @@
+-- The set of a term, as its rules are read one after another, and what is reported of a rule.
+use Rattle.std.specs.Prelude.{◌≡◌, ℕ, true, List, [], ◌∷◌, ◌++◌, map, Option, Some, option_map}
+use Rattle.std.specs.BTreeMap.{BTreeMap, get}
+use Rattle.std.specs.Ordering.{nat_cmp}
+use Rattle.isle_model.specs.lists.Formed.{is_formed_rule}
+use Rattle.isle_model.specs.lists.Names.{IsDistinct}
+use Rattle.isle_model.specs.rules.Typed.{TypedRule}
+use Rattle.isle_model.specs.rules.Program.{Program}
+use Rattle.isle_model.specs.sites.Sites.{SetRule, SiteSet, SiteTerm}
+use Rattle.isle_model.specs.sites.Closure.{Closed}
+use Rattle.isle_model.specs.sites.Overlap.{RuleReport}
+use Rattle.isle_model.specs.sites.RuleSets.{StandFor}
+use Rattle.isle_model.specs.claims.Refusals.{Refusal, past_limit, unreachable}
+use Rattle.isle_laws_demands.specs.RuleByRule.{AreBuiltSoFar, AreListedAs, GoesPast}
+use Rattle.isle_base.specs.SyntaxViews.{position}
+use Rattle.isle_base.specs.declared.syntax.Error.{Error}
+use Rattle.isle_base.specs.declared.syntax.Limit.{Limit}
+use Rattle.isle_base.specs.declared.visit_fault.VisitFault.{VisitFault}
+use Rattle.isle_base.specs.declared.visit_fault.VisitFault.TheVariants as Faults
+use Rattle.isle_base.specs.declared.syntax.Pos.{Pos}
+use Rattle.isle_terms.specs.TermViews.{term_views}
+use Rattle.isle_rules.specs.ErrorViews.{error_views, limit_view}
+use Rattle.isle_rules.specs.RuleViews.{rule_view}
+use Rattle.isle_rules.specs.declared.rules.Rule.{Rule}
+use Rattle.isle_rules.specs.declared.term_env.TermEnv.{TermEnv}
+use Rattle.isle_sets.specs.SiteTables.{IsTable}
+use Rattle.isle_sets.specs.SiteViews.{member_sites, set_rule_views}
+use Rattle.isle_builder.specs.Built.{report_views}
+use Rattle.isle_builder.specs.VisitedSites.{built_sites}
+use Rattle.isle_builder.specs.declared.ruleset_builder.RuleSetBuilder.{RuleSetBuilder}
+use Rattle.isle_builder.specs.declared.term_sets.TermSet.{TermSet}
+
+-- the set so far
+abbrev pub set_so_far : TermSet → SiteSet
+set_so_far s = record { rules = set_rule_views s.rules.items; sites = built_sites s.builder }
+
+-- errors, and those of these reports
+abbrev pub Reports : List Error → List Error → List RuleReport → Type 0
+Reports errors more said = error_views more ≡ error_views errors ++ report_views said
+
+-- errors, and one more for each of some things, that the rule there can't be reached
+abbrev pub unreachable_each : {X : Type 0} → List X → Pos → List Refusal
+unreachable_each whys pos = map (λ why. unreachable (position pos)) whys
+
+-- the set of a term goes on past a rule, after these sites of the term's rules before, and errors are added
+pub record GoesOn (p : Program) (before : List SiteTerm) (r : TypedRule) (old new : TermSet) (errors more : List Error) : Type 0 where
+  pub said : List RuleReport
+  pub goes : GoesPast p before r (set_so_far old) (set_so_far new) said
+  pub table : IsTable new.builder.table
+  pub reports : Reports errors more said
+
+-- a rule of a set has these demands, and the calls, place and priority of the rule that it came from
+pub record IsListed (b : RuleSetBuilder) (k : Closed) (from : Rule) (value : ℕ) (r : SetRule) : Type 0 where
+  pub demands : AreListedAs (built_sites b) k r.constraints r.classes
+  pub id : r.id ≡ (rule_view from).id
+  pub at : r.at ≡ (rule_view from).at
+  pub prio : r.prio ≡ (rule_view from).prio
+  pub name : r.name ≡ (rule_view from).name
+  pub iterators : r.iterators ≡ member_sites b.iterators
+  pub impure : r.impure ≡ b.impure.items
+  pub result : r.result ≡ value
+
+-- such a rule is added to a set
+pub record AddsListed (b : RuleSetBuilder) (k : Closed) (from : Rule) (value : ℕ) (old new : TermSet) : Type 0 where
+  pub rule : SetRule
+  pub listed : IsListed b k from value rule
+  pub last : set_rule_views new.rules.items ≡ set_rule_views old.rules.items ++ rule ∷ []
+
+-- errors, and one more, of the limit that a visit met
+pub record ReportsLimit (errors more : List Error) (fault : VisitFault) (pos : Pos) : Type 0 where
+  pub limit : Limit
+  pub met : fault ≡ Faults.Limit limit
+  pub reported : error_views more ≡ error_views errors ++ past_limit (limit_view limit) (position pos) ∷ []
+
+-- a rule may be read next into a set: it hangs together in a program with these terms, and the set's sites stand for these
+pub record MayAddRule (env : TermEnv) (r : TypedRule) (b : RuleSetBuilder) (p : Program) (before : List SiteTerm) : Type 0 where
+  pub terms : p.terms ≡ term_views env.terms.items
+  pub formed : is_formed_rule p r ≡ true
+  pub table : IsTable b.table
+  pub once : IsDistinct before
+  pub stand : StandFor (built_sites b) before
+
+-- the set so far of each term that has one, by its number
+abbrev pub set_at : BTreeMap ℕ TermSet → ℕ → Option SiteSet
+set_at sets t = option_map set_so_far (get nat_cmp sets t)
+
+-- the sets so far of a list, each with the number of its term
+abbrev pub sets_so_far : List (ℕ × TermSet) → List (ℕ × SiteSet)
+sets_so_far es = map (λ e. (e.0, set_so_far e.1)) es
+
+-- each has a table of its sites
+abbrev pub AreTables : BTreeMap ℕ TermSet → Type 0
+AreTables sets = (t : ℕ) (s : TermSet) → get nat_cmp sets t ≡ Some s → IsTable s.builder.table
+
+-- after some rules of a program: where its sets stand, and what was reported
+pub record StandAfter (p : Program) (done : List TypedRule) (sets : BTreeMap ℕ TermSet) (errors : List Error) : Type 0 where
+  pub reports : List RuleReport
+  pub built : AreBuiltSoFar p done (set_at sets) reports
+  pub tables : AreTables sets
+  pub reported : error_views errors ≡ report_views reports
+
+-- a rule may be read next, after these
+pub record MayGoOn (env : TermEnv) (r : TypedRule) (p : Program) (done : List TypedRule) (sets : BTreeMap ℕ TermSet) (errors : List Error) : Type 0 where
+  pub terms : p.terms ≡ term_views env.terms.items
+  pub formed : is_formed_rule p r ≡ true
+  pub stand : StandAfter p done sets errors
