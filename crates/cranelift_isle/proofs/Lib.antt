@@ -1,3 +1,3 @@
-pub mod SharedTrees
 pub mod TreesSoFar
+pub mod SharedTrees
 pub mod Lowered

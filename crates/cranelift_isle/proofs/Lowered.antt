@@ -1,131 +1,105 @@
--- What the environments and sets of a list of definitions give, put together.
-use Rattle.std.proofs.Common.{◌≡◌, ℕ, ◌<◌, Bool, false, List, [], ◌∷◌, length, map, Option, Some, None, Err, refl, sym, ap, ◌∙◌, subst}
-use Rattle.std.specs.Prelude.{All, slice_index_or, vec_len}
-use Rattle.std.proofs.lemmas.List.{length-map}
+-- The trees of checked sets, and the errors that there are in place of them, as answers to definitions.
+use Rattle.std.proofs.Common.{◌≡◌, ℕ, Bool, List, [], ◌∷◌, map, Some, Err, refl, sym, ap, ◌∙◌, subst}
+use Rattle.std.specs.Prelude.{All, slice_index_or}
 use Rattle.std.proofs.lemmas.List.Elements.{All-nil, All-cons, All-head, All-tail}
+use Rattle.isle_base.specs.Answers.{Answers, OnErrors}
 use Rattle.isle_base.specs.declared.syntax.Error.{Error}
-use Rattle.isle_base.specs.declared.syntax.Limit.{Limit}
-use Rattle.isle_base.specs.declared.syntax.Limit.TheVariants.{Fields, Outputs, Arguments, Sites, Nesting, Expansions}
 use Rattle.isle_base.specs.declared.syntax.Fault.{Fault}
 use Rattle.isle_base.specs.declared.syntax.Fault.TheVariants.{Memory, Errors}
-use Rattle.isle_base.specs.Answers.{limit_of, Answers, OnErrors}
-use Rattle.isle_model.specs.lists.Syntax.{Definition}
-use Rattle.isle_model.specs.rules.Typed.{TypedRule}
+use Rattle.isle_model.specs.lists.Syntax.{Position, Definition}
+use Rattle.isle_model.specs.lists.TypeTable.{IsValidTypes}
+use Rattle.isle_model.specs.lists.Elaborated.{TypedRules}
 use Rattle.isle_model.specs.rules.Program.{Program}
-use Rattle.isle_model.specs.first.Simple.{IsSimpleRule}
 use Rattle.isle_model.specs.sites.Sites.{SiteSet}
-use Rattle.isle_model.specs.trees.Sound.{IsSound}
-use Rattle.isle_model.specs.claims.Layers.{IsBuiltForSome}
-use Rattle.isle_model.specs.first.Built.{IsBuiltSet}
-use Rattle.isle_model.specs.first.TermTable.{term_entries}
-use Rattle.isle_model.specs.first.Elaboration.{IsCarriedElaborated, carried_program_of}
-use Rattle.isle_model.specs.first.Accepted.{IsCarriedAccepted}
-use Rattle.isle_first.proofs.CarriedSets.{carried_sets_are_built_lem}
-use Rattle.isle_first.proofs.SameTerms.{simple_same, built_set_same, terms_with_rules_same, passes_arguments_same, passes_sites_same, overlaps_same}
-use Rattle.isle_first.proofs.matching.Accepted.{accepted_trees_run_lem}
-use Rattle.isle_first.proofs.matching.SimpleElaborated.{all_single, elaborated_simple, elaborated_known}
-use Rattle.isle_terms.specs.TermViews as Terms
-use Rattle.isle_rules.specs.declared.term_env.TermEnv.{TermEnv}
-use Rattle.isle_rules.specs.RuleViews.{rule_views}
-use Rattle.isle_carried.specs.CarriedEnvs.{SeesRules}
-use Rattle.isle_building.specs.Buildings.{env_program, IsPassed, AreSetsOf}
-use Rattle.isle_building.specs.Clashes.{IsSimplyBuildable}
-use Rattle.cranelift_isle.specs.Lowerings.{TermView, AreSimplyLowered, ChoosesAsSource, LimitPassed}
+use Rattle.isle_model.specs.sites.RuleSets.{IsBuilt}
+use Rattle.isle_model.specs.claims.Environments.{TypesRead, types_read, IsElaborated, IsRead, TypeEnvironment, TermEnvironment, AreRulesOf}
+use Rattle.isle_model.specs.claims.Layers.{own_program, IsAccepted, IsBuiltForSome, CheckAnswers, CheckReports, LoweredTerm, AreLowered, LoweringAnswers, BestTreesKeepTheHeadline}
+use Rattle.isle_model.specs.claims.Refusals.{refusal_of, NamesOnlyPassed, PassedInReading, PassedInBuilding}
+use Rattle.isle_model.proofs.Mapped.{nothing_mapped}
+use Rattle.isle_rules.specs.ErrorViews.{error_views}
+use Rattle.isle_overlap.specs.Checks.{IsChecked, ReportsAreErrors}
+use Rattle.cranelift_isle.specs.declared.lower.Lowered.{Lowered}
+use Rattle.cranelift_isle.specs.Lowerings.{set_of_term, AreAccepted, IsLowered, OfAccepted, ChooseAsSource, CollectBags, SharesTests, PassedInLowering, in_reading, in_building}
 
-pub same_rules : {X : Type 0} (x y : X) → Some x ≡ Some y → x ≡ y
-same_rules x y e = cc
+same_rules : (a b : TypedRules) → Some a ≡ Some b → a ≡ b
+same_rules a b e = cc
+
+-- a list has one list of typed rules at most
+one_typing : (e : TypesRead) (defs : List Definition) (expand : Bool) (a b : TypedRules) → IsElaborated e defs expand a → IsElaborated e defs expand b → a ≡ b
+one_typing e defs expand a b x y = same_rules a b (sym x.elaborate.typed ∙ y.elaborate.typed)
 
 all_unmap : {X Y : Type 0} (P : Y → Type 0) (f : X → Y) (xs : List X) → All P (map f xs) → All (λ x. P (f x)) xs
 all_unmap P f [] a = All-nil (λ x. P (f x))
 all_unmap P f (x ∷ xs) a = All-cons (λ x. P (f x)) x xs (All-head P (f x) (map f xs) a) (all_unmap P f xs (All-tail P (f x) (map f xs) a))
 
-ids_are : (ts : List TermView) → map (λ t. t.id) ts ≡ map (λ b. b.0) (map (λ t. let b : ℕ × SiteSet = (t.id, t.set) in b) ts)
-ids_are [] = refl
-ids_are (t ∷ ts) = ap (λ l. t.id ∷ l) (ids_are ts)
+terms_are : (ts : List LoweredTerm) → map (λ t. t.term) ts ≡ map (λ b. b.0) (map set_of_term ts)
+terms_are [] = refl
+terms_are (t ∷ ts) = ap (λ l. t.term ∷ l) (terms_are ts)
 
--- 1. an environment of elaborated definitions
-module _ (defs : List Definition) (rules : List TypedRule) (expand : Bool) (env : TermEnv) (e : IsCarriedElaborated defs rules) (s : SeesRules env defs rules expand) where
+module _ (defs : List Definition) (expand : Bool) (rules : TypedRules) (read : IsRead defs expand rules) where
   abbrev p : Program
-  p = carried_program_of defs rules
+  p = own_program defs rules
 
-  abbrev q : Program
-  q = env_program env
+  -- 1. with whatever typed rules the definitions are accepted, they are these
+  pub same_typing : (other : TypedRules) → IsAccepted defs expand other → other ≡ rules
+  same_typing other is = one_typing (types_read defs) defs expand other rules is.read.elaborated read.elaborated
 
-  pub simple : All (IsSimpleRule q) (rule_views env.rules.items)
-  simple = subst (All (IsSimpleRule q)) (sym s.rules) (λ k d h. simple_same p q (slice_index_or rules k d) (sym s.terms) (elaborated_simple defs rules e.terms e.elaborated k d h))
+  -- 2. sets that were checked
+  module _ (sets : List (ℕ × SiteSet)) (checked : CheckAnswers p sets) where
+    pub accepted : IsAccepted defs expand rules
+    accepted = record { read = read; checkable = checked.checkable }
 
-  pub known : vec_len env.terms ≡ length env.terms.items → All (λ r. r.root_term < vec_len env.terms) (rule_views env.rules.items)
-  known n =
-      let count : length (term_entries defs) ≡ vec_len env.terms = sym (ap length s.terms) ∙ length-map env.terms.items Terms.term_view ∙ sym n in
-      subst (λ k. All (λ r. r.root_term < k) (rule_views env.rules.items)) count
-      (subst (All (λ r. r.root_term < length (term_entries defs))) (sym s.rules) (elaborated_known defs rules e.terms e.elaborated))
-
-  pub accepted : IsSimplyBuildable q → IsCarriedAccepted defs rules
-  accepted b = record {
-    types = e.types;
-    terms = e.terms;
-    defined = e.defined;
-    elaborated = e.elaborated;
-    arguments = λ h. b.arguments (passes_arguments_same p q (sym s.terms) (sym s.rules) h);
-    sites = λ h. b.sites (passes_sites_same p q (sym s.terms) (sym s.rules) h);
-    overlaps = λ t i j o. b.overlaps t i j (overlaps_same p q (sym s.terms) (sym s.rules) t i j o);
-  }
-
-  pub buildable : (typed : List TypedRule) → IsCarriedAccepted defs typed → IsSimplyBuildable q
-  buildable typed a =
-      let same : typed ≡ rules = same_rules typed rules (sym a.elaborated.typed ∙ e.elaborated.typed) in
-      let a' = subst (IsCarriedAccepted defs) same a in
-      record {
-        arguments = λ h. a'.arguments (passes_arguments_same q p s.terms s.rules h);
-        sites = λ h. a'.sites (passes_sites_same q p s.terms s.rules h);
-        overlaps = λ t i j o. a'.overlaps t i j (overlaps_same q p s.terms s.rules t i j o);
-      }
-
-  -- 2. its sets are built sets
-  pub built_for_some : (sets : List (ℕ × SiteSet)) → AreSetsOf q sets → All (λ b. IsBuiltForSome b.1) sets
-  built_for_some sets a k d h =
-      let b = slice_index_or sets k d in
-      carried_sets_are_built_lem defs expand rules b.0 b.1 e (λ l. a.few_arguments (passes_arguments_same p q (sym s.terms) (sym s.rules) l)) (λ l. a.few_sites (passes_sites_same p q (sym s.terms) (sym s.rules) l))
-      (a.simple k d h) (built_set_same q p s.terms s.rules b.0 b.1 (a.built k d h))
-
-  -- 3. the terms of its sets
-  module _ (sets : List (ℕ × SiteSet)) (ts : List TermView) (a : AreSetsOf q sets) (same : map (λ t. let b : ℕ × SiteSet = (t.id, t.set) in b) ts ≡ sets) (sound : All (λ t. IsSound t.set false t.tree) ts) where
-    built : All (λ t. IsBuiltSet p t.id t.set) ts
-    built k d h =
-        built_set_same q p s.terms s.rules (slice_index_or ts k d).id (slice_index_or ts k d).set
-        (all_unmap (λ b. IsBuiltSet q b.0 b.1) (λ t. let b : ℕ × SiteSet = (t.id, t.set) in b) ts (subst (All (λ b. IsBuiltSet q b.0 b.1)) (sym same) a.built) k d h)
-
-    pub lowered : AreSimplyLowered p ts
-    lowered = record {
-      ids = ids_are ts ∙ ap (map (λ b. b.0)) same ∙ a.terms ∙ terms_with_rules_same q p s.terms s.rules;
-      built = built;
-      sound = λ k d h. subst (λ m. IsSound (slice_index_or ts k d).set m (slice_index_or ts k d).tree) (sym (all_single defs rules e.terms (slice_index_or ts k d).id)) (sound k d h);
+    pub built_for_some : All (λ b. IsBuiltForSome b.1) sets
+    built_for_some k d h = record {
+      types = types_read defs;
+      defs = defs;
+      expand = expand;
+      rules = rules;
+      term = (slice_index_or sets k d).0;
+      elaborated = read.elaborated;
+      built = checked.given.built k d h;
     }
 
-    pub chooses : IsSimplyBuildable q → ChoosesAsSource p ts
-    chooses b k d h =
-        let t = slice_index_or ts k d in
-        accepted_trees_run_lem defs rules t.id t.set t.tree e.types e.terms e.elaborated ((accepted b).overlaps t.id)
-        (built k d h).rules (built k d h).sites (lowered.sound k d h)
+    -- 3. their best trees
+    module _ (law : BestTreesKeepTheHeadline) (ts : List LoweredTerm) (same : map set_of_term ts ≡ sets) (shared : All (λ t. SharesTests t.set t.tree) ts) where
+      built : All (λ t. IsBuilt p t.term t.set) ts
+      built = all_unmap (λ b. IsBuilt p b.0 b.1) set_of_term ts (subst (All (λ b. IsBuilt p b.0 b.1)) (sym same) checked.given.built)
 
-  -- 4. limits
-  passed : (o : Option Limit) → IsPassed q o → LimitPassed defs o
-  passed None h = tt
-  passed (Some Arguments) h = (rules, e, passes_arguments_same q p s.terms s.rules h)
-  passed (Some Sites) h = (rules, e, passes_sites_same q p s.terms s.rules h)
-  passed (Some Fields) h = absurd h
-  passed (Some Outputs) h = absurd h
-  passed (Some Nesting) h = absurd h
-  passed (Some Expansions) h = absurd h
+      lowered : AreLowered p ts
+      lowered = record {
+        each = terms_are ts ∙ ap (map (λ b. b.0)) same ∙ checked.given.terms;
+        lowered = λ k d h. law defs expand rules (slice_index_or ts k d) accepted (built k d h) (shared k d h).best;
+      }
 
-  pub limits_passed : (es : List Error) → All (λ e. IsPassed q (limit_of e)) es → All (λ e. LimitPassed defs (limit_of e)) es
-  limits_passed es h k d w = passed (limit_of (slice_index_or es k d)) (h k d w)
+      pub answers : (types : TypeEnvironment) (terms : TermEnvironment) → AreRulesOf (types_read defs) defs expand rules terms types → LoweringAnswers defs expand types terms rules ts
+      answers types terms environments = record { accepted = accepted; environments = environments; trees = lowered }
 
--- where no error names a limit
-pub no_limits_passed : (defs : List Definition) (es : List Error) → All (λ e. limit_of e ≡ None) es → All (λ e. LimitPassed defs (limit_of e)) es
-no_limits_passed defs es h k d w = subst (LimitPassed defs) (sym (h k d w)) tt
+      pub chosen : OfAccepted defs expand (ChooseAsSource ts)
+      chosen other is = subst (λ r. ChooseAsSource ts (own_program defs r)) (sym (same_typing other is)) (λ k d h. (lowered.lowered k d h).headline.runs)
 
--- an answer with errors, or want of memory, says the same of a claim that gives another one
+      pub collected : OfAccepted defs expand (CollectBags ts)
+      collected other is = subst (λ r. CollectBags ts (own_program defs r)) (sym (same_typing other is)) (λ k d h. (lowered.lowered k d h).collects)
+
+  -- 4. errors of the check
+  module _ (es : List Error) (wrong : ReportsAreErrors p es) where
+    some_error : es ≡ [] → ⊥
+    some_error e = wrong.reported.some_report (nothing_mapped refusal_of wrong.reports (sym wrong.are ∙ ap error_views e))
+
+    not_accepted : AreAccepted defs expand → ⊥
+    not_accepted a = wrong.reported.refused (subst (λ r. IsAccepted defs expand r) (same_typing a.0 a.1) a.1).checkable
+
+    passed_in_building : NamesOnlyPassed (PassedInLowering defs expand) (error_views es)
+    passed_in_building l at is = in_building l at rules read (subst (NamesOnlyPassed (PassedInBuilding p)) (sym wrong.are) wrong.reported.limits l at is)
+
+  pub refused_by_check : (f : Fault) → IsChecked p (Err f) → Answers {A = Lowered} (Err f) (AreAccepted defs expand) (IsLowered defs expand)
+  refused_by_check (Errors es) c = (some_error es.items c, not_accepted es.items c)
+  refused_by_check (Memory m) c = tt
+
+  pub limits_of_check : (f : Fault) → IsChecked p (Err f) → OnErrors {A = Lowered} (Err f) (λ es. NamesOnlyPassed (PassedInLowering defs expand) (error_views es))
+  limits_of_check (Errors es) c = passed_in_building es.items c
+  limits_of_check (Memory m) c = tt
+
+-- 5. errors of reading: an answer with errors, or want of memory, says the same of a claim that gives another one
 pub refused_so : (A B : Type 0) (f : Fault) (claim wider : Type 0) (says : A → Type 0) (also : B → Type 0) → (claim → wider) → Answers {A = B} (Err f) wider also → Answers {A = A} (Err f) claim says
 refused_so A B (Errors es) claim wider says also give h = (h.0, λ c. h.1 (give c))
 refused_so A B (Memory m) claim wider says also give h = tt
@@ -133,3 +107,7 @@ refused_so A B (Memory m) claim wider says also give h = tt
 pub limits_so : (A B : Type 0) (f : Fault) (P Q : List Error → Type 0) → ((es : List Error) → P es → Q es) → OnErrors {A = B} (Err f) P → OnErrors {A = A} (Err f) Q
 limits_so A B (Errors es) P Q give h = give es.items h
 limits_so A B (Memory m) P Q give h = tt
+
+pub passed_in_reading : (defs : List Definition) (expand : Bool) → IsValidTypes defs → (es : List Error) → NamesOnlyPassed (PassedInReading (types_read defs) defs expand) (error_views es)
+    → NamesOnlyPassed (PassedInLowering defs expand) (error_views es)
+passed_in_reading defs expand valid es limits l at is = in_reading l at valid (limits l at is)

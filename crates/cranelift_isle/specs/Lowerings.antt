@@ -1,64 +1,71 @@
 -- What lowering a list of definitions gives.
-use Rattle.std.specs.Prelude.{◌≡◌, ℕ, Bool, List, map, Option, Some, None, All}
-use Rattle.isle_base.specs.declared.syntax.Limit.{Limit}
-use Rattle.isle_model.specs.lists.Syntax.{Definition}
-use Rattle.isle_model.specs.rules.Typed.{TypedRule}
-use Rattle.isle_model.specs.rules.Program.{Program, is_multi, terms_with_rules}
+use Rattle.std.specs.Prelude.{ℕ, Bool, List, map, All}
+use Rattle.isle_model.specs.lists.Syntax.{Position, Definition}
+use Rattle.isle_model.specs.lists.TypeTable.{IsValidTypes}
+use Rattle.isle_model.specs.lists.Elaborated.{TypedRules}
+use Rattle.isle_model.specs.rules.Program.{Program}
 use Rattle.isle_model.specs.sites.Sites.{SiteSet}
 use Rattle.isle_model.specs.trees.Trees.{Tree}
-use Rattle.isle_model.specs.trees.Sound.{IsSound}
 use Rattle.isle_model.specs.trees.Best.{IsBestTree}
-use Rattle.isle_model.specs.claims.Layers.{TestsAreShared, MeansItsSet, BindsBeforeUse}
-use Rattle.isle_model.specs.first.Built.{IsBuiltSet}
+use Rattle.isle_model.specs.trees.Collects.{CollectsTheBag}
+use Rattle.isle_model.specs.claims.Environments.{types_read, IsRead}
 use Rattle.isle_model.specs.claims.Headline.{RunsAsChosen}
-use Rattle.isle_model.specs.first.Elaboration.{IsCarriedElaborated, all_names, carried_program_of}
-use Rattle.isle_types.specs.TypeTables.{SeesTypes}
-use Rattle.isle_carried.specs.CarriedEnvs.{SeesRules}
-use Rattle.cranelift_isle.specs.declared.lower.LoweredTerm.{LoweredTerm}
-use Rattle.cranelift_isle.specs.declared.lower.Lowered.{Lowered}
+use Rattle.isle_model.specs.claims.Layers.{own_program, IsAccepted, LoweredTerm, LoweringAnswers, TestsAreShared, MeansItsSet, BindsBeforeUse}
+use Rattle.isle_model.specs.claims.Refusals.{NamedLimit, PassedInReading, PassedInBuilding}
+use Rattle.isle_types.specs.EnvViews.{environment_view}
+use Rattle.isle_rules.specs.ShownEnvs.{environment_shown_by}
 use Rattle.isle_sets.specs.SiteViews.{set_view}
 use Rattle.isle_serialize.specs.TreeViews.{tree_view}
-use Rattle.isle_building.specs.Buildings.{IsPassed}
+use Rattle.cranelift_isle.specs.declared.lower.LoweredTerm as Code
+use Rattle.cranelift_isle.specs.declared.lower.Lowered.{Lowered}
 
--- what each term became: its number, its rule set, its tree
-pub record TermView : Type 0 where
-  pub id : ℕ
-  pub set : SiteSet
-  pub tree : Tree
+-- what each term became: its built set and its tree
+abbrev pub lowered_view : Code.LoweredTerm → LoweredTerm
+lowered_view t = record { term = t.id.0; set = set_view t.rules; tree = tree_view t.block }
 
-abbrev pub lowered_view : LoweredTerm → TermView
-lowered_view t = record { id = t.id.0; set = set_view t.rules; tree = tree_view t.block }
-
-abbrev pub lowered_views : List LoweredTerm → List TermView
+abbrev pub lowered_views : List Code.LoweredTerm → List LoweredTerm
 lowered_views ts = map lowered_view ts
 
--- each term with rules stands once, ascending, with the set that is built of its rules, and with a sound tree, in which
--- each rule has one return
-pub record AreSimplyLowered (p : Program) (ts : List TermView) : Type 0 where
-  pub ids : map (λ t. t.id) ts ≡ terms_with_rules p
-  pub built : All (λ t. IsBuiltSet p t.id t.set) ts
-  pub sound : All (λ t. IsSound t.set (is_multi p t.id) t.tree) ts
+-- a term with its set, without its tree
+abbrev pub set_of_term : LoweredTerm → ℕ × SiteSet
+set_of_term t = (t.term, t.set)
 
--- the environments are the tables and the typed rules of the definitions, and the terms are those of these rules
-pub record IsLowered (l : Lowered) (defs : List Definition) (typed : List TypedRule) (expanded : Bool) : Type 0 where
-  pub types : SeesTypes l.tyenv defs (all_names defs)
-  pub rules : SeesRules l.termenv defs typed expanded
-  pub terms : AreSimplyLowered (carried_program_of defs typed) (lowered_views l.terms.items)
+-- definitions are accepted: their types and terms are valid, each rule has a typed rule, and the rules can be told apart
+abbrev pub AreAccepted : List Definition → Bool → Type 0
+AreAccepted defs expand = (rules : TypedRules) × IsAccepted defs expand rules
 
--- the tree of each term runs as a test of every rule by priority would
-abbrev pub ChoosesAsSource : Program → List TermView → Type 0
-ChoosesAsSource p ts = All (λ t. RunsAsChosen p t.id t.set.sites t.tree) ts
+-- what they become: their environments, and each term with rules once, ascending, with its built set and the tree that keeps
+-- the headline
+abbrev pub IsLowered : List Definition → Bool → Lowered → Type 0
+IsLowered defs expand l =
+    (rules : TypedRules) × LoweringAnswers defs expand (environment_view l.tyenv) (environment_shown_by l.termenv) rules (lowered_views l.terms.items)
+
+-- a fact of the program of accepted definitions
+abbrev pub OfAccepted : List Definition → Bool → (Program → Type 0) → Type 0
+OfAccepted defs expand P = (rules : TypedRules) → IsAccepted defs expand rules → P (own_program defs rules)
+
+-- the tree of each term runs as a test of every source rule by priority would: it has the outcome of the matching rule of
+-- greatest priority, or no rule and no impure calls
+abbrev pub ChooseAsSource : List LoweredTerm → Program → Type 0
+ChooseAsSource ts p = All (λ t. RunsAsChosen p t.term t.set.sites t.tree) ts
+
+-- the tree of each multi term collects the bag of the rules' results
+abbrev pub CollectBags : List LoweredTerm → Program → Type 0
+CollectBags ts p = All (λ t. CollectsTheBag p t.term t.set.sites t.tree) ts
 
 -- a tree shares tests: it is a best tree of its set, at each place the greatest test for exactly the rules that it covers;
--- so nowhere would an open test cover more rules than the test made; it means what its set does; and it binds each site
--- before it is used
+-- so nowhere would an open test cover more rules than the test made; and it means what its set does
 pub record SharesTests (set : SiteSet) (tree : Tree) : Type 0 where
   pub best : IsBestTree set tree
   pub most : TestsAreShared set tree
   pub meaning : MeansItsSet set tree
-  pub binds : (multi : Bool) → BindsBeforeUse set multi tree
 
--- where an error names a limit, some rule of the definitions passes it
-abbrev pub LimitPassed : List Definition → Option Limit → Type 0
-LimitPassed defs None = Unit {0}
-LimitPassed defs (Some l) = (typed : List TypedRule) × IsCarriedElaborated defs typed × IsPassed (carried_program_of defs typed) (Some l)
+-- it binds each site before it is used, in each step that a run reaches, and, read as a multi term's, in every step
+abbrev pub BindsBeforeAnyUse : SiteSet → Tree → Type 0
+BindsBeforeAnyUse set tree = (multi : Bool) → BindsBeforeUse set multi tree
+
+-- a limit is passed while definitions are lowered: by a rule while the rules are read, or while those that were read are
+-- built
+pub data PassedInLowering (defs : List Definition) (expand : Bool) : NamedLimit → Position → Type 0 where
+  in_reading : (l : NamedLimit) (at : Position) → IsValidTypes defs → PassedInReading (types_read defs) defs expand l at → PassedInLowering defs expand l at
+  in_building : (l : NamedLimit) (at : Position) (rules : TypedRules) → IsRead defs expand rules → PassedInBuilding (own_program defs rules) l at → PassedInLowering defs expand l at

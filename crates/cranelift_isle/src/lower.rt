@@ -1,25 +1,21 @@
 //! From definitions to trees of tests, in one call.
 
-ghost use Rattle.std.specs.Prelude.{◌≡◌, false, List, map, Some, All, IfOk};
-ghost use Rattle.isle_base.specs.Answers.{Answers, OnErrors, limit_of};
+ghost use Rattle.std.specs.Prelude.{◌≡◌, List, map, All, IfOk};
+ghost use Rattle.isle_base.specs.Answers.{Answers, OnErrors};
 ghost use Rattle.isle_base.specs.SyntaxViews.{definition_views};
-ghost use Rattle.isle_model.specs.rules.Typed.{TypedRule};
-ghost use Rattle.isle_model.specs.trees.Sound.{IsSound};
 ghost use Rattle.isle_model.specs.claims.Layers.{IsBuiltForSome};
-ghost use Rattle.isle_model.specs.first.Elaboration.{carried_typed_rules, carried_program_of};
-ghost use Rattle.isle_model.specs.first.Accepted.{IsCarriedAccepted};
-ghost use Rattle.isle_model.specs.first.Building.{IsSimpleSet};
-ghost use Rattle.isle_building.specs.Buildings.{term_set_views};
+ghost use Rattle.isle_model.specs.claims.Refusals.{NamesOnlyPassed};
+ghost use Rattle.isle_rules.specs.ErrorViews.{error_views};
+ghost use Rattle.isle_builder.specs.Built.{term_set_views};
 ghost use Rattle.isle_sets.specs.SiteViews.{set_view};
 ghost use Rattle.isle_serialize.specs.TreeViews.{tree_view};
-ghost use Rattle.cranelift_isle.specs.Lowerings.{lowered_views, IsLowered, ChoosesAsSource, SharesTests, LimitPassed};
+ghost use Rattle.cranelift_isle.specs.Lowerings.{lowered_views, set_of_term, AreAccepted, IsLowered, OfAccepted, ChooseAsSource, SharesTests, CollectBags, BindsBeforeAnyUse, PassedInLowering};
 
 use isle_base::syntax::{Def, Fault};
-use isle_building::building::sets_of;
-use isle_carried::read_carried;
 use isle_laws_trees::{
-    best_trees_bind_before_use, best_trees_of_built_sets_are_sound, best_trees_share_most,
+    best_trees_bind_before_use, best_trees_keep_the_headline, best_trees_share_most,
 };
+use isle_overlap::overlap::check;
 use isle_rules::TermEnv;
 use isle_serialize::serialize::{Block, serialize};
 use isle_sets::trie_again::RuleSet;
@@ -68,32 +64,38 @@ impl Drop for Lowered {
 
 /// The trees of all terms with rules. The whole way: types and terms, typed rules, rule sets, trees.
 ///
-/// `expand` says whether uses of internal extractors are replaced by their templates. Errors are those of the first
-/// layer that refuses the definitions: type errors of `TypeEnv::from_ast` and `TermEnv::from_ast`; then limit errors
-/// (more than 256 arguments of a term with rules, more than 65,536 binding sites of a term) and the overlap of two
-/// rules of one priority. So far extractors, converters, externs of terms, partial and multi declarations, if-lets, and
-/// rules beyond integer literals, wildcards and variables bound once on the left, an integer literal or a variable on
-/// the right, are answered with the error `not carried yet`. The upstream crate leaves the chaining of these passes to
-/// its callers.
+/// `expand` says whether uses of internal extractors are replaced by their templates. The upstream crate leaves the
+/// chaining of these passes to its callers.
+///
+/// # Errors
+///
+/// `Fault::Errors` has those of the first pass that refuses the definitions: of `TypeEnv::from_ast` (type errors); of
+/// `TermEnv::from_ast` (type errors, and limits on expansions); or of `check` (rules that can't match, limits on what a
+/// rule makes, overlaps and shadows). `Fault::Memory` where memory is refused.
 pub fn lower(alloc: Global, defs: &[Def], expand: bool) -> Result<Lowered, Fault>
-    // Ok exactly where the definitions are accepted, and then the environments and trees of these definitions
-    ensures accepted { Answers result
-        ((typed : List TypedRule) × IsCarriedAccepted (definition_views defs.now) typed)
-        (λ l. (typed : List TypedRule) × IsCarriedAccepted (definition_views defs.now) typed × IsLowered l (definition_views defs.now) typed expand) }
+    // Ok exactly where the definitions are accepted, and then their environments, rule sets and trees
+    ensures accepted { Answers result (AreAccepted (definition_views defs.now) expand) (IsLowered (definition_views defs.now) expand) }
 
     // each tree chooses as a test of every source rule by priority would
-    ensures chosen { IfOk result (λ l. (typed : List TypedRule) → carried_typed_rules (definition_views defs.now) ≡ Some typed
-        → ChoosesAsSource (carried_program_of (definition_views defs.now) typed) (lowered_views l.terms.items)) }
+    ensures chosen { IfOk result (λ l. OfAccepted (definition_views defs.now) expand (ChooseAsSource (lowered_views l.terms.items))) }
 
     // each tree is a best tree of its set: nowhere would an open test cover more rules than the test made
     ensures shared { IfOk result (λ l. All (λ t. SharesTests t.set t.tree) (lowered_views l.terms.items)) }
 
-    // an error names a limit only where it was passed
-    ensures limits { OnErrors result (All (λ e. LimitPassed (definition_views defs.now) (limit_of e))) }
+    // in a multi term each tree collects the bag of the rules' results
+    ensures collected { IfOk result (λ l. OfAccepted (definition_views defs.now) expand (CollectBags (lowered_views l.terms.items))) }
+
+    // each tree binds sites before it uses them
+    ensures bound { IfOk result (λ l. All (λ t. BindsBeforeAnyUse t.set t.tree) (lowered_views l.terms.items)) }
+
+    // an error names a limit only where a rule passes it
+    ensures limits { OnErrors result (λ es. NamesOnlyPassed (PassedInLowering (definition_views defs.now) expand) (error_views es)) }
 {
+    // a law, without code: the best trees of accepted definitions keep the headline
+    best_trees_keep_the_headline();
     let mut tyenv = TypeEnv::from_ast(alloc, defs)?;
-    let termenv = read_carried(alloc, &mut tyenv, defs, expand)?;
-    let sets = sets_of(alloc, &termenv)?;
+    let termenv = TermEnv::from_ast(alloc, &mut tyenv, defs, expand)?;
+    let sets = check(alloc, &termenv)?;
     let terms = trees_of(alloc, sets)?;
     Ok(Lowered {
         tyenv,
@@ -105,10 +107,9 @@ pub fn lower(alloc: Global, defs: &[Def], expand: bool) -> Result<Lowered, Fault
 // The tree of each set.
 fn trees_of(alloc: Global, sets: Vec<(TermId, RuleSet)>) -> Result<Vec<LoweredTerm>, AllocError>
     requires built { All (λ b. IsBuiltForSome b.1) (term_set_views sets.items) }
-    requires simple { All (λ b. IsSimpleSet b.1) (term_set_views sets.items) }
-    ensures same { IfOk result (λ ts. map (λ t. (t.id, t.set)) (lowered_views ts.items) ≡ term_set_views sets.items) }
-    ensures sound { IfOk result (λ ts. All (λ t. IsSound t.set false t.tree) (lowered_views ts.items)) }
+    ensures same { IfOk result (λ ts. map set_of_term (lowered_views ts.items) ≡ term_set_views sets.items) }
     ensures shared { IfOk result (λ ts. All (λ t. SharesTests t.set t.tree) (lowered_views ts.items)) }
+    ensures bound { IfOk result (λ ts. All (λ t. BindsBeforeAnyUse t.set t.tree) (lowered_views ts.items)) }
 {
     let mut terms = Vec::new(alloc);
     for (id, rules) in sets {
@@ -118,15 +119,13 @@ fn trees_of(alloc: Global, sets: Vec<(TermId, RuleSet)>) -> Result<Vec<LoweredTe
     Ok(terms)
 }
 
-// The tree of a set whose rules go over no calls.
+// The tree of a set.
 fn tree_of(alloc: Global, set: &RuleSet) -> Result<Block, AllocError>
     requires built { IsBuiltForSome (set_view set.now) }
-    requires simple { IsSimpleSet (set_view set.now) }
-    ensures sound { IfOk result (λ block. IsSound (set_view set.now) false (tree_view block)) }
     ensures shared { IfOk result (λ block. SharesTests (set_view set.now) (tree_view block)) }
+    ensures bound { IfOk result (λ block. BindsBeforeAnyUse (set_view set.now) (tree_view block)) }
 {
     // laws, without code: what a best tree of a built set is besides
-    best_trees_of_built_sets_are_sound();
     best_trees_share_most();
     best_trees_bind_before_use();
     serialize(alloc, set)

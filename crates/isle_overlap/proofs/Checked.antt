@@ -14,10 +14,9 @@ use Rattle.isle_base.specs.declared.syntax.Error.{Error}
 use Rattle.isle_types.specs.declared.ids.TermId.{TermId}
 use Rattle.isle_rules.specs.declared.term_env.TermEnv.{TermEnv}
 use Rattle.isle_sets.specs.declared.trie_again.RuleSet.{RuleSet}
-use Rattle.isle_building.specs.Buildings.{env_program, term_set_views}
+use Rattle.isle_builder.specs.Built.{term_set_views, WereBuilt, report_views}
+use Rattle.isle_overlap.specs.Checks.{env_program, ReportsAreErrors}
 use Rattle.isle_rules.specs.ErrorViews.{error_view, error_views}
-use Rattle.isle_overlap.specs.ErrorViews.{report_views}
-use Rattle.isle_overlap.specs.Checks.{WereBuilt, ReportsAreErrors}
 
 abbrev multi_among : List TermEntry → ℕ → Bool
 multi_among terms t = (flags_of (elim (slice_get terms t) [ None ↦ unknown | Some e ↦ kind_of e ])).multi

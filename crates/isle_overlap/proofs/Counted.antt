@@ -17,7 +17,7 @@ use Rattle.isle_base.specs.declared.syntax.Error.{Error}
 use Rattle.isle_base.specs.declared.syntax.Pos.{Pos}
 use Rattle.isle_overlap.specs.Comparisons.{positions}
 use Rattle.isle_rules.specs.ErrorViews.{error_views}
-use Rattle.isle_overlap.specs.ErrorViews.{report_views}
+use Rattle.isle_builder.specs.Built.{report_views}
 use Rattle.isle_overlap.specs.Graphs.{neighbours, ends_of, count_at, listed_at, same_pos, times, counts_before, unreported, count_left}
 use Rattle.isle_overlap.proofs.Reporting.{kept_pairs, stands, filtered_map, kept_from, left_of, left_kept, degree_left, no_reports, one_report, none_left_over, ends_kept, no_more_than}
 

@@ -15,7 +15,7 @@ use Rattle.isle_model.proofs.Elements.{some_is}
 use Rattle.isle_base.specs.SyntaxViews.{position}
 use Rattle.isle_base.specs.declared.syntax.Pos.{Pos}
 use Rattle.isle_overlap.specs.Comparisons.{AreGrouped, list_views, masked_view, masked_views, positions, masked_pair, wrong_behind, masked_behind, wrong_rows, masked_rows, of_mask, shadow_of, shadows_of}
-use Rattle.isle_overlap.specs.ErrorViews.{report_views}
+use Rattle.isle_builder.specs.Built.{report_views}
 
 -- 1. wrong overlaps
 abbrev Two : Type 0

@@ -25,7 +25,8 @@ use Rattle.isle_base.specs.contracts.syntax.PosEq.TheImpl.Laws.{laws-law}
 use Rattle.isle_base.specs.contracts.syntax.PosPartialEq.TheImpl as E
 use Rattle.isle_overlap.specs.Comparisons.{positions}
 use Rattle.isle_rules.specs.ErrorViews.{span_starts, error_view, error_views}
-use Rattle.isle_overlap.specs.ErrorViews.{report_views, first_start, error_pos}
+use Rattle.isle_builder.specs.Built.{report_views}
+use Rattle.isle_overlap.specs.ErrorViews.{first_start, error_pos}
 use Rattle.isle_overlap.proofs.Ascents.{Ascend, AreAbove, ascending_is}
 use Rattle.isle_overlap.proofs.Orders.{placed, ordered_by, map_in_order, sorted_is}
 

@@ -1,27 +1,23 @@
 -- What checking answers of a program, and of sets that were built.
-use Rattle.std.specs.Prelude.{◌≡◌, List, Result, Ok, Err, ⊤}
+use Rattle.std.specs.Prelude.{◌≡◌, List, [], Result, Ok, Err, ⊤}
 use Rattle.std.specs.Global.{Vec}
 use Rattle.isle_model.specs.rules.Program.{Program}
 use Rattle.isle_model.specs.sites.Overlap.{RuleReport}
-use Rattle.isle_model.specs.claims.Layers.{BuildAnswers, CheckAnswers, CheckReports}
-use Rattle.isle_laws_demands.specs.ReportLaws.{RulesHaveTerms}
+use Rattle.isle_model.specs.claims.Layers.{CheckAnswers, CheckReports}
 use Rattle.isle_base.specs.declared.syntax.Error.{Error}
 use Rattle.isle_base.specs.declared.syntax.Fault.{Fault}
 use Rattle.isle_base.specs.declared.syntax.Fault.TheVariants.{Memory, Errors}
 use Rattle.isle_types.specs.declared.ids.TermId.{TermId}
 use Rattle.isle_terms.specs.TermViews.{term_views}
+use Rattle.isle_rules.specs.RuleViews.{rule_views}
 use Rattle.isle_rules.specs.declared.term_env.TermEnv.{TermEnv}
 use Rattle.isle_sets.specs.declared.trie_again.RuleSet.{RuleSet}
-use Rattle.isle_building.specs.Buildings.{term_set_views}
+use Rattle.isle_builder.specs.Built.{term_set_views, report_views}
 use Rattle.isle_rules.specs.ErrorViews.{error_views}
-use Rattle.isle_overlap.specs.ErrorViews.{report_views}
 
--- sets and errors that building gave for a program, whose terms are those of an environment
-pub record WereBuilt (env : TermEnv) (p : Program) (sets : List (TermId × RuleSet)) (errors : List Error) (reports : List RuleReport) : Type 0 where
-  pub terms : p.terms ≡ term_views env.terms.items
-  pub known : RulesHaveTerms p
-  pub answers : BuildAnswers p (term_set_views sets) reports
-  pub errors_are : error_views errors ≡ report_views reports
+-- the terms and rules of an environment, as a program; which terms are multi needs no more of it
+abbrev pub env_program : TermEnv → Program
+env_program env = record { types = []; constants = []; terms = term_views env.terms.items; rules = rule_views env.rules.items }
 
 -- these errors are what is to be reported of a program
 pub record ReportsAreErrors (p : Program) (errors : List Error) : Type 0 where

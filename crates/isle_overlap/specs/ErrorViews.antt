@@ -1,15 +1,9 @@
--- What reports are as errors, and where errors stand.
-use Rattle.std.specs.Prelude.{List, [], ◌∷◌, map}
-use Rattle.isle_model.specs.sites.Overlap.{RuleReport}
-use Rattle.isle_model.specs.claims.Refusals.{Refusal, refusal_of}
+-- Where errors stand.
+use Rattle.std.specs.Prelude.{List, [], ◌∷◌}
 use Rattle.isle_base.specs.declared.syntax.Error.{Error}
 use Rattle.isle_base.specs.declared.syntax.Error.TheVariants.{TypeError, UnreachableError, OverlapError, ShadowedError, LimitError}
 use Rattle.isle_base.specs.declared.syntax.Pos.{Pos}
 use Rattle.isle_base.specs.declared.syntax.Span.{Span}
-
--- reports, as the errors that they are answered as
-abbrev pub report_views : List RuleReport → List Refusal
-report_views rs = map refusal_of rs
 
 -- the first of places, or the default one
 abbrev pub first_start : List Span → Pos

@@ -1,19 +1,23 @@
 //! The check of overlaps: rules of one priority that may both match, and rules that others mask.
-ghost use Rattle.std.specs.Prelude.{◌^◌, List, false, if◌then◌else◌, slice_index_or, ◌≡◌, ◌++◌, ◌∷◌, [], ◌+◌, ◌-◌, ◌<◌, ℕ, All, IfOk, OnOk, drop, length, map, vec_len};
+ghost use Rattle.std.specs.Prelude.{◌^◌, Bool, List, false, if◌then◌else◌, slice_index_or, ◌≡◌, ◌++◌, ◌∷◌, [], ◌+◌, ◌-◌, ◌<◌, ℕ, All, IfOk, OnOk, drop, length, map, vec_len};
+ghost use Rattle.isle_model.specs.lists.Syntax.{Definition};
+ghost use Rattle.isle_model.specs.lists.Elaborated.{TypedRules};
 ghost use Rattle.isle_model.specs.rules.Program.{Program, is_multi};
+ghost use Rattle.isle_model.specs.claims.Environments.{IsElaborated, TypesRead, program_of};
 ghost use Rattle.isle_model.specs.claims.Refusals.{overlapping};
 ghost use Rattle.isle_model.specs.sites.Overlap.{RuleReport, ascending_positions, by_position, degree, has_end, other_end, overlap_reports, rule_shadows, rules_overlap};
 ghost use Rattle.isle_model.specs.sites.SetRules.{compared_in, is_mask_of, overlap_wrongly, reports_of_sets, shadows_among, shadows_in_sets, wrong_among, wrong_in_sets};
 ghost use Rattle.isle_base.specs.SyntaxViews.{position};
-ghost use Rattle.isle_building.specs.Buildings.{env_program, term_set_views};
+ghost use Rattle.isle_builder.specs.Built.{IsOfElaborated, ShowsElaborated, WereBuilt, report_views, term_set_views};
+ghost use Rattle.isle_overlap.specs.Checks.{IsChecked, env_program};
 ghost use Rattle.isle_sets.specs.SiteViews.{set_rule_view, set_rule_views, set_view};
-ghost use Rattle.isle_overlap.specs.Checks.{IsChecked, WereBuilt};
 ghost use Rattle.isle_overlap.specs.Comparisons.{AreGrouped, list_views, masked_behind, masked_pair, masked_rows, masked_views, pair_views, positions, shadow_of, shadows_of, wrong_behind, wrong_pair, wrong_rows};
 ghost use Rattle.isle_rules.specs.ErrorViews.{error_view, error_views, span_starts};
-ghost use Rattle.isle_overlap.specs.ErrorViews.{error_pos, report_views};
+ghost use Rattle.isle_overlap.specs.ErrorViews.{error_pos};
 ghost use Rattle.isle_overlap.specs.Graphs.{count_at, count_left, counts_before, ends_of, listed_at, neighbours, same_pos, times, unreported};
 
 use isle_base::syntax::{Error, Fault, Pos, Span};
+use isle_builder::build::build;
 use isle_rules::TermEnv;
 use isle_sets::trie_again::{Overlap, Rule, RuleSet};
 use isle_terms::TermKind;
@@ -560,4 +564,22 @@ pub fn check_built(
     } else {
         Err(Fault::Errors(errors))
     }
+}
+
+/// The rule set of each term with rules, ascending by term, where the rules can be told apart: each one is reachable and
+/// passes no limit, no two of one term and priority may both match, and none is never taken since another one matches
+/// wherever it does. Rules of multi terms are not compared. `termenv` is the environment of a list of definitions that
+/// elaborates. Upstream's `overlap::check`, with the rule sets that it builds.
+///
+/// # Errors
+///
+/// `Fault::Errors` has the errors of rules that are left out, in rule order, as `build` gives them; then those of overlaps
+/// and shadows, as `check_overlaps` gives them. `Fault::Memory` where memory is refused.
+pub fn check(alloc: Global, termenv: &TermEnv) -> Result<Vec<(TermId, RuleSet)>, Fault>
+    requires elaborated { IsOfElaborated termenv.now }
+    ensures checked { (e : TypesRead) (defs : List Definition) (expand : Bool) (rules : TypedRules) → IsElaborated e defs expand rules → ShowsElaborated e defs rules termenv.now
+        → IsChecked (program_of e defs rules.rules) result }
+{
+    let (sets, errors) = build(alloc, termenv)?;
+    check_built(alloc, termenv, sets, errors)
 }

@@ -1,6 +1,6 @@
 //! What is answered to definitions: the text of their trees, or of what is wrong with them.
 
-ghost use Rattle.std.specs.Prelude.{◌≡◌, ◌≢◌, ◌≤◌, ◌⊎◌, IfOk, List};
+ghost use Rattle.std.specs.Prelude.{◌≡◌, ◌≢◌, ◌≤◌, ◌⊎◌, IfOk, Bool, List};
 ghost use Rattle.isle_base.specs.SyntaxViews.{definition_views};
 ghost use Rattle.isle_model.specs.lists.Syntax.{Definition};
 ghost use Rattle.isle_program.specs.Statuses.{IsAnswerTo, IsStatusOf};
@@ -31,7 +31,7 @@ pub fn answer_to(
     expand: bool,
     places: Places<'_>,
 ) -> Result<Answer, AllocError>
-    ensures { IfOk result (IsAnswerTo (definition_views defs.now)) }
+    ensures { IfOk result (IsAnswerTo (definition_views defs.now) expand) }
 {
     match lower(alloc, defs, expand) {
         Ok(lowered) => Ok(Answer::Trees(trees(alloc, &lowered)?)),
@@ -51,7 +51,7 @@ pub fn write_answer<O: Write, E: Write>(
     ensures known { result ≤ 4 }
     ensures used { result ≢ 2 }
     // of the definitions that are answered to, the status says whether they are accepted
-    ensures lowered { (defs : List Definition) → IfOk answer (IsAnswerTo defs) → IsStatusOf defs result }
+    ensures lowered { (defs : List Definition) (expand : Bool) → IfOk answer (IsAnswerTo defs expand) → IsStatusOf defs expand result }
 {
     match answer {
         Ok(Answer::Trees(text)) => write_text(text.as_str(), out, err),

@@ -29,7 +29,7 @@ pub fn run<O: Write, E: Write>(alloc: Global, words: &[String], out: &mut O, err
     ensures unnamed { names_sample (map string_bytes words.now) ≡ false → result ≢ 2 → result ≡ 3 }
 
     // of a sample, the status says whether its definitions are accepted
-    ensures lowered { (defs : List Definition) → named_definitions (map string_bytes words.now) ≡ Some defs → IsStatusOf defs result }
+    ensures lowered { (defs : List Definition) → named_definitions (map string_bytes words.now) ≡ Some defs → IsStatusOf defs true result }
 {
     match sample_of(alloc, words) {
         Ok(Some(defs)) => write_answer(answer_to(alloc, &defs, true, Places::Files), out, err),

@@ -2,8 +2,8 @@ use Rattle.std.proofs.Common.{ap, refl, ◌∙◌, map}
 use Rattle.isle_model.specs.rules.Program.{is_multi}
 use Rattle.isle_model.specs.sites.Overlap.{rule_shadows}
 use Rattle.isle_model.specs.sites.SetRules.{compared_in, shadows_among, shadows_in_sets, wrong_in_sets}
-use Rattle.isle_building.specs.Buildings.{env_program, term_set_view, term_set_views}
-use Rattle.isle_overlap.specs.ErrorViews.{report_views}
+use Rattle.isle_builder.specs.Built.{term_set_view, term_set_views, report_views}
+use Rattle.isle_overlap.specs.Checks.{env_program}
 use Rattle.isle_overlap.proofs.Gone.{rest_at, more, no_more}
 use Rattle.isle_overlap.proofs.Rows.{views_append}
 use Rattle.isle_overlap.proofs.overlap.check_sets.Goals as goal
