@@ -1,2 +1,3 @@
-// Programs whose output fails.
+// Programs whose output fails, and what is answered to each sample.
 mod program;
+mod samples;
