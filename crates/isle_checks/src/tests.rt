@@ -1,4 +1,5 @@
 // Trees of generated definitions, judged; and trees that the judge refuses.
 mod judged;
-// Programs whose output fails.
+// Programs whose output fails, and what is answered to each sample.
 mod program;
+mod samples;

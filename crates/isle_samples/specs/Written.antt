@@ -2,7 +2,7 @@
 use Rattle.std.specs.Prelude.{◌≡◌, ℕ, pos, Bool, true, false, List, [], ◌∷◌, ◌++◌, length, Option, Some, None, codes, if◌then◌else◌}
 use Rattle.std.specs.Option.{option_or}
 use Rattle.std.specs.Str.{bytes_eq}
-use Rattle.isle_model.specs.lists.Syntax.{Position, Name, FieldTree, FieldTrees, struct_fields, unit_fields, VariantTree, TypeValueTree, primitive_value, enum_value, Definition, type_definition, declaration}
+use Rattle.isle_model.specs.lists.Syntax.{Position, Name, FieldTree, FieldTrees, struct_fields, unit_fields, VariantTree, TypeValueTree, primitive_value, enum_value, RuleTree, Definition, type_definition, declaration}
 use Rattle.isle_base.specs.SyntaxViews.{definition_views}
 use Rattle.isle_examples.specs.Below.{below_defs}
 use Rattle.isle_examples.specs.Conflict.{conflict_defs}
@@ -25,7 +25,7 @@ use Rattle.isle_examples.specs.Unused.{unused_defs}
 use Rattle.isle_examples.specs.Used.{used_defs}
 use Rattle.isle_examples.specs.VariantEq.{variant_eq_defs}
 use Rattle.isle_examples.specs.Wrap.{wrap_defs}
-use Rattle.isle_examples.specs.Written.{at, both, call, declared, enum, extractor_by, field, name, numbers, of_f, primitive, rule_if, rule_to_one, term, var, variable, variant}
+use Rattle.isle_examples.specs.Written.{any, at, both, call, declared, enum, extractor_by, field, let_one, name, number, numbers, of_f, primitive, rule_if, rule_to_one, rule_tree, term, var, variable, variant}
 use Rattle.isle_samples.specs.declared.builder.Definitions.{Definitions}
 
 -- the definitions written so far
@@ -87,6 +87,17 @@ iflet_definitions =
     declaration (record (numbers 0 (codes "e")) { pure = true }) ∷ extractor_by 1 (codes "e") (codes "e_fn") ∷ declaration (numbers 2 (codes "f"))
     ∷ rule_if 3 (of_f 3 (var 3 (codes "x") ∷ [])) (var 3 (codes "y")) (call 3 (codes "e") (variable 3 (codes "x") ∷ [])) (variable 3 (codes "y")) ∷ []
 
+-- the rule of the samples `unused` and `used`: (rule (f x) (if-let _ (let ((y u8 (pp x))) BODY)) 7)
+abbrev pub rule_ending_with : ℕ → List ℕ → RuleTree
+rule_ending_with d body =
+    record (rule_tree d (of_f d (var d (codes "x") ∷ [])) (number d (pos 7))) {
+      iflets = record {
+        pattern = any d;
+        expr = let_one d (codes "y") (codes "u8") (call d (codes "pp") (variable d (codes "x") ∷ [])) (variable d body);
+        at = at d;
+      } ∷ [];
+    }
+
 -- the samples of types, and that of nothing
 abbrev pub type_sample : List ℕ → Option (List Definition)
 type_sample name =
@@ -125,21 +136,25 @@ abbrev pub extractor_sample : List ℕ → Option (List Definition)
 extractor_sample name =
     if bytes_eq (codes "extract") name then Some extract_defs
     else (if bytes_eq (codes "endless") name then Some endless_defs
-    else (if bytes_eq (codes "iflet") name then Some iflet_definitions
-    else (if bytes_eq (codes "multi-ext") name then Some multi_ext_defs else None)))
+    else (if bytes_eq (codes "iflet") name then Some iflet_definitions else None))
 
--- the samples of constructors
+-- the samples of constructors that answer once, or not at all
 abbrev pub constructor_sample : List ℕ → Option (List Definition)
 constructor_sample name =
     if bytes_eq (codes "partial") name then Some partial_defs
     else (if bytes_eq (codes "effects") name then Some effects_defs
     else (if bytes_eq (codes "unused") name then Some unused_defs
-    else (if bytes_eq (codes "used") name then Some used_defs
-    else (if bytes_eq (codes "multi") name then Some multi_defs
-    else (if bytes_eq (codes "shared") name then Some shared_defs else None)))))
+    else (if bytes_eq (codes "used") name then Some used_defs else None)))
+
+-- the samples of calls that answer several times, and of terms that may
+abbrev pub multi_sample : List ℕ → Option (List Definition)
+multi_sample name =
+    if bytes_eq (codes "multi") name then Some multi_defs
+    else (if bytes_eq (codes "multi-ext") name then Some multi_ext_defs
+    else (if bytes_eq (codes "shared") name then Some shared_defs else None))
 
 -- the definitions of the sample with a name, where there is one
 abbrev pub sample_definitions : List ℕ → Option (List Definition)
 sample_definitions name =
     option_or (type_sample name) (option_or (literal_sample name) (option_or (equal_sample name)
-    (option_or (variant_sample name) (option_or (extractor_sample name) (constructor_sample name)))))
+    (option_or (variant_sample name) (option_or (extractor_sample name) (option_or (constructor_sample name) (multi_sample name))))))

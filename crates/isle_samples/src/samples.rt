@@ -11,6 +11,7 @@ mod constructors;
 mod equalities;
 mod extractors;
 mod literals;
+mod multis;
 mod types;
 mod variants;
 
@@ -33,5 +34,8 @@ pub fn sample(alloc: Global, name: &str) -> Result<Option<Vec<Def>>, AllocError>
     if let Some(defs) = extractors::sample(alloc, name)? {
         return Ok(Some(defs));
     }
-    constructors::sample(alloc, name)
+    if let Some(defs) = constructors::sample(alloc, name)? {
+        return Ok(Some(defs));
+    }
+    multis::sample(alloc, name)
 }

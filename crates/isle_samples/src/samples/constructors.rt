@@ -1,18 +1,16 @@
-//! Samples of constructors.
+//! Samples of constructors that answer once, or not at all.
 
 ghost use Rattle.std.specs.Prelude.{◌≡◌, IfOk, option_map, ◌∷◌, [], length};
-ghost use Rattle.isle_base.specs.SyntaxViews.{definition_views, expr_view};
+ghost use Rattle.isle_base.specs.SyntaxViews.{definition_views, expr_view, rule_view};
 ghost use Rattle.isle_examples.specs.Effects.{effects_defs};
-ghost use Rattle.isle_examples.specs.Multi.{multi_defs};
 ghost use Rattle.isle_examples.specs.Partial.{partial_defs};
-ghost use Rattle.isle_examples.specs.Shared.{shared_defs};
 ghost use Rattle.isle_examples.specs.Unused.{unused_defs};
 ghost use Rattle.isle_examples.specs.Used.{ending_with, used_defs};
 ghost use Rattle.isle_examples.specs.Written.{call};
-ghost use Rattle.isle_samples.specs.Written.{constructor_sample, written};
+ghost use Rattle.isle_samples.specs.Written.{constructor_sample, rule_ending_with, written};
 
 use crate::builder::Definitions;
-use isle_base::syntax::{Def, Expr};
+use isle_base::syntax::{Def, Expr, Rule};
 use std::alloc::{AllocError, Global};
 
 // The definitions of the sample with a name, where it is one of these.
@@ -24,8 +22,6 @@ pub(crate) fn sample(alloc: Global, name: &str) -> Result<Option<Vec<Def>>, Allo
         "effects" => Ok(Some(effects(alloc)?)),
         "unused" => Ok(Some(partial_let(alloc, "x")?)),
         "used" => Ok(Some(partial_let(alloc, "y")?)),
-        "multi" => Ok(Some(multi(alloc)?)),
-        "shared" => Ok(Some(shared(alloc)?)),
         _ => Ok(None),
     }
 }
@@ -74,45 +70,6 @@ fn effects(alloc: Global) -> Result<Vec<Def>, AllocError>
     Ok(defs.into_vec())
 }
 
-// (decl pure multi m (u8) u8) (extern constructor m m_fn) (decl multi f (u8) u8) (rule (f x) (m x)) (rule (f 1) 9)
-fn multi(alloc: Global) -> Result<Vec<Def>, AllocError>
-    ensures { IfOk result (λ defs. definition_views defs.items ≡ multi_defs) }
-{
-    let mut defs = Definitions::new(alloc);
-    let mut m = defs.decl("m", &["u8"], "u8")?;
-    m.pure = true;
-    m.multi = true;
-    defs.push(Def::Decl(m))?;
-    defs.constructor("m", "m_fn")?;
-    let mut f = defs.decl("f", &["u8"], "u8")?;
-    f.multi = true;
-    defs.push(Def::Decl(f))?;
-    let called = of(alloc, &defs, "m", defs.use_of("x")?)?;
-    defs.rule(None, "f", vec![in alloc; defs.var("x")?]?, called)?;
-    defs.rule(None, "f", vec![in alloc; defs.int(1)]?, defs.literal(9))?;
-    Ok(defs.into_vec())
-}
-
-// (decl pure p (u8) u8) (extern constructor p p_fn) (decl multi f (u8) u8) (rule (f x) (p x)) (rule (f x) (p (p x)))
-fn shared(alloc: Global) -> Result<Vec<Def>, AllocError>
-    ensures { IfOk result (λ defs. definition_views defs.items ≡ shared_defs) }
-{
-    let mut defs = Definitions::new(alloc);
-    let mut p = defs.decl("p", &["u8"], "u8")?;
-    p.pure = true;
-    defs.push(Def::Decl(p))?;
-    defs.constructor("p", "p_fn")?;
-    let mut f = defs.decl("f", &["u8"], "u8")?;
-    f.multi = true;
-    defs.push(Def::Decl(f))?;
-    let once = of(alloc, &defs, "p", defs.use_of("x")?)?;
-    defs.rule(None, "f", vec![in alloc; defs.var("x")?]?, once)?;
-    let once = of(alloc, &defs, "p", defs.use_of("x")?)?;
-    let twice = of(alloc, &defs, "p", once)?;
-    defs.rule(None, "f", vec![in alloc; defs.var("x")?]?, twice)?;
-    Ok(defs.into_vec())
-}
-
 // (decl pure partial pp (u8) u8) (extern constructor pp pp_fn) (decl f (u8) u8)
 // (rule (f x) (if-let _ (let ((y u8 (pp x))) BODY)) 7)
 fn partial_let(alloc: Global, body: &str) -> Result<Vec<Def>, AllocError>
@@ -125,16 +82,28 @@ fn partial_let(alloc: Global, body: &str) -> Result<Vec<Def>, AllocError>
     defs.push(Def::Decl(pp))?;
     defs.constructor("pp", "pp_fn")?;
     defs.declare("f", &["u8"], "u8")?;
-    let called = of(alloc, &defs, "pp", defs.use_of("x")?)?;
-    let value = defs.let_one("y", "u8", called, defs.use_of(body)?)?;
-    let mut rule = defs.rule_of(None, "f", vec![in alloc; defs.var("x")?]?, defs.literal(7))?;
-    rule.iflets.push(defs.iflet(defs.any(), value))?;
-    defs.push(Def::Rule(rule))?;
+    defs.push(Def::Rule(let_rule(alloc, &defs, body)?))?;
     Ok(defs.into_vec())
 }
 
+// (rule (f x) (if-let _ (let ((y u8 (pp x))) BODY)) 7)
+fn let_rule(alloc: Global, defs: &Definitions, body: &str) -> Result<Rule, AllocError>
+    ensures { IfOk result (λ r. rule_view r ≡ rule_ending_with (length (written defs.now)) body.now) }
+{
+    let called = of(alloc, defs, "pp", defs.use_of("x")?)?;
+    let value = defs.let_one("y", "u8", called, defs.use_of(body)?)?;
+    let mut rule = defs.rule_of(None, "f", vec![in alloc; defs.var("x")?]?, defs.literal(7))?;
+    rule.iflets.push(defs.iflet(defs.any(), value))?;
+    Ok(rule)
+}
+
 // (NAME ARG)
-fn of(alloc: Global, defs: &Definitions, name: &str, arg: Expr) -> Result<Expr, AllocError>
+pub(crate) fn of(
+    alloc: Global,
+    defs: &Definitions,
+    name: &str,
+    arg: Expr,
+) -> Result<Expr, AllocError>
     ensures { IfOk result (λ e. expr_view e ≡ call (length (written defs.now)) name.now (expr_view arg ∷ [])) }
 {
     defs.call(name, vec![in alloc; arg]?)

@@ -4,7 +4,6 @@ ghost use Rattle.std.specs.Prelude.{◌≡◌, IfOk, option_map};
 ghost use Rattle.isle_base.specs.SyntaxViews.{definition_views};
 ghost use Rattle.isle_examples.specs.Expansions.{endless_defs};
 ghost use Rattle.isle_examples.specs.Extract.{extract_defs};
-ghost use Rattle.isle_examples.specs.MultiExt.{multi_ext_defs};
 ghost use Rattle.isle_samples.specs.Written.{extractor_sample, iflet_definitions};
 
 use crate::builder::Definitions;
@@ -19,7 +18,6 @@ pub(crate) fn sample(alloc: Global, name: &str) -> Result<Option<Vec<Def>>, Allo
         "extract" => Ok(Some(extract(alloc)?)),
         "endless" => Ok(Some(endless(alloc)?)),
         "iflet" => Ok(Some(iflet(alloc)?)),
-        "multi-ext" => Ok(Some(multi_ext(alloc)?)),
         _ => Ok(None),
     }
 }
@@ -78,20 +76,5 @@ fn iflet(alloc: Global) -> Result<Vec<Def>, AllocError>
     let value = defs.call("e", vec![in alloc; defs.use_of("x")?]?)?;
     rule.iflets.push(defs.iflet(defs.var("y")?, value))?;
     defs.push(Def::Rule(rule))?;
-    Ok(defs.into_vec())
-}
-
-// (decl multi me (u8) u8) (extern extractor me me_fn) (decl f (u8) u8) (rule (f (me x)) x)
-fn multi_ext(alloc: Global) -> Result<Vec<Def>, AllocError>
-    ensures { IfOk result (λ defs. definition_views defs.items ≡ multi_ext_defs) }
-{
-    let mut defs = Definitions::new(alloc);
-    let mut me = defs.decl("me", &["u8"], "u8")?;
-    me.multi = true;
-    defs.push(Def::Decl(me))?;
-    defs.outer_extractor("me", "me_fn")?;
-    defs.declare("f", &["u8"], "u8")?;
-    let any = defs.term("me", vec![in alloc; defs.var("x")?]?)?;
-    defs.rule(None, "f", vec![in alloc; any]?, defs.use_of("x")?)?;
     Ok(defs.into_vec())
 }

@@ -1,5 +1,5 @@
 // What visitors are shown of typed rules. Types are named by their numbers, as u8 by 1.
-ghost use Rattle.std.specs.Prelude.{◌≡◌, IfOk, IsTrue};
+ghost use Rattle.std.specs.Prelude.{◌≡◌, IfOk, IsTrue, None};
 ghost use Rattle.isle_rules.specs.RuleViews.{rule_view};
 ghost use Rattle.isle_model.specs.lists.Visitable.{is_visitable_rule};
 ghost use Rattle.isle_terms.specs.TermViews.{term_views};
@@ -59,7 +59,8 @@ pub fn env(alloc: Global, terms: Vec<Term>) -> TermEnv
 
 // A rule of term 0.
 pub fn rule(alloc: Global, args: Vec<Pattern>, iflets: Vec<IfLet>, rhs: Expr) -> Rule
-    ensures { (result.root_term.0 ≡ 0) × (result.args ≡ args) × (result.iflets ≡ iflets) × (result.rhs ≡ rhs) }
+    ensures parts { (result.root_term.0 ≡ 0) × (result.args ≡ args) × (result.iflets ≡ iflets) × (result.rhs ≡ rhs) }
+    ensures place { (result.pos.file ≡ 0) × (result.pos.offset ≡ 0) × (result.name ≡ None) }
 {
     Rule {
         id: RuleId(0),
