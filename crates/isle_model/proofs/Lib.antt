@@ -18,5 +18,4 @@ pub mod Positions
 pub mod Priorities
 pub mod SameSites
 pub mod SitesMade
-pub mod TypeNames
 pub mod ValuesEqual

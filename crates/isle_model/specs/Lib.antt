@@ -1,5 +1,4 @@
 pub mod claims
-pub mod first
 pub mod lists
 pub mod rules
 pub mod sites

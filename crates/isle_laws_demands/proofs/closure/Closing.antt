@@ -5,15 +5,12 @@ use Rattle.std.specs.List.{zip}
 use Rattle.isle_model.specs.rules.Program.{Program}
 use Rattle.isle_model.specs.rules.Typed.{TypedRule}
 use Rattle.isle_model.specs.sites.Sites.{Constraint, SiteTerm}
-use Rattle.isle_model.specs.sites.Demands.{Demands, demands_of, site_term_eq, has_site, with_sites, differ}
-use Rattle.isle_model.specs.first.Built.{may_overlap}
+use Rattle.isle_model.specs.sites.Demands.{Demands, demands_of, site_term_eq, has_site, with_sites}
 use Rattle.isle_model.specs.sites.Closure.{Joined, given, itself, turned, chained, at_field, field_terms, HasConstraint, IsUnreachable, two_at_a_site, constraint_of, Closed, class_at, without_class_of, merged_classes, merged_all, with_constraint, with_constraints, ascending, is_in_class, next_constrained, field_equalities, taken, closing, before_closing, begins_with, in_order, most_closing_steps, closed, two_in_a_class}
-use Rattle.isle_model.specs.sites.Overlap.{overlaps}
 use Rattle.isle_laws_demands.specs.ClosureLaws.{ClosedFollows, HasEnded}
 use Rattle.isle_model.proofs.Elements.{In, in_from_contains, contains_from_in, some_is, none_some, in_left, in_right, in_either, in_map, from_flat_map, in_zip, in_filter, passed_filter}
 use Rattle.isle_model.proofs.SameSites.{term_means, constraint_cases}
 use Rattle.isle_model.proofs.SitesMade.{has_in}
-use Rattle.isle_laws_demands.proofs.overlaps.Overlaps.{differ_means, differ_from, bool_same}
 use Rattle.isle_model.proofs.Options.{is_there}
 
 -- where no class is left, nothing is taken
@@ -145,37 +142,6 @@ one_each d n s a b i j =
       | inl e ↦ e
       | inr m ↦ absurd (n (two_at_a_site s a b (contains_from_in d.constraints (s, a) i) (contains_from_in d.constraints (s, b) j) m))
     ]
-
-differ_on_closed : (as' bs : List (SiteTerm × Constraint)) → OneEach as' → OneEach bs → differ (with_constraints [] as') (with_constraints [] bs) ≡ differ as' bs
-differ_on_closed as' bs f g =
-    bool_same (differ (with_constraints [] as') (with_constraints [] bs)) (differ as' bs)
-    (λ h.
-    let x = differ_means (with_constraints [] as') (with_constraints [] bs) h in
-    differ_from as' bs (record {
-      site = x.site;
-      first = x.first;
-      second = x.second;
-      in_first = from_constraints as' (x.site, x.first) x.in_first;
-      in_second = from_constraints bs (x.site, x.second) x.in_second;
-      two = x.two;
-    }))
-    (λ h.
-    let x = differ_means as' bs h in
-    differ_from (with_constraints [] as') (with_constraints [] bs) (record {
-      site = x.site;
-      first = x.first;
-      second = x.second;
-      in_first = constraints_kept as' f (x.site, x.first) x.in_first;
-      in_second = constraints_kept bs g (x.site, x.second) x.in_second;
-      two = x.two;
-    }))
-
-pub agrees_lem : (p : Program) (r s : TypedRule) (before after : List SiteTerm)
-    → (demands_of p r).equalities ≡ [] → (demands_of p s).equalities ≡ [] → (IsUnreachable (demands_of p r) → ⊥) → (IsUnreachable (demands_of p s) → ⊥)
-    → overlaps (closed before (demands_of p r)) (closed after (demands_of p s)) ≡ may_overlap p r s
-agrees_lem p r s before after e f g h =
-    (λ i. overlaps (closing_adds_nothing_lem before (demands_of p r) e i) (closing_adds_nothing_lem after (demands_of p s) f i))
-    ∙ ap not (differ_on_closed (demands_of p r).constraints (demands_of p s).constraints (one_each (demands_of p r) g) (one_each (demands_of p s) h))
 
 -- what each step of the closing keeps, the closing keeps
 pub closing_keeps : (P : Closed → Type 0)

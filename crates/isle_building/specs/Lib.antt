@@ -1,2 +1,0 @@
-pub mod Buildings
-pub mod Clashes

@@ -1,5 +1,0 @@
-pub mod BuildingLaws
-pub mod EarlyLaws
-pub mod FallLaws
-pub mod Sample
-pub mod WholeLaws
