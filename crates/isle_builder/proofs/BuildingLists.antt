@@ -1,11 +1,11 @@
 -- Building goes on by one rule after another, and what there is after the last.
-use Rattle.std.proofs.Common.{◌≡◌, ◌≢◌, ◌==◌, false≢true, ℕ, suc, ◌<◌, Bool, true, false, List, [], ◌∷◌, ◌++◌, length, map, take, None, Some, Option, slice_get, option_map, Contains, refl, sym, ap, ◌∙◌, subst, inl, inr, arith, eqb-true, eq-eqb}
+use Rattle.std.proofs.Common.{◌≡◌, ◌≢◌, ◌==◌, ℕ, zero, suc, ◌+◌, ◌<◌, ◌≤◌, Bool, true, false, List, [], ◌∷◌, ◌++◌, length, map, take, None, Some, Option, slice_get, get_or, option_map, Contains, refl, sym, ap, ◌∙◌, subst, inl, inr, arith, eqb-true, eq-eqb, add-one}
 use Rattle.std.specs.BTreeMap.{BTreeMap, IsOrdered, get, is_at}
 use Rattle.std.specs.Map.{lookup}
 use Rattle.std.specs.Ordering.{nat_cmp}
-use Rattle.std.proofs.lemmas.Bool.{cases_Bool}
-use Rattle.std.proofs.lemmas.List.{map-append}
-use Rattle.std.proofs.lemmas.Option.{same_Some}
+use Rattle.std.proofs.lemmas.Bool.{cases_Bool, false≢true}
+use Rattle.std.proofs.lemmas.List.{length-map, map-append, take_all}
+use Rattle.std.proofs.lemmas.Option.{same_Some, slice_get-map, slice_get_read}
 use Rattle.isle_model.specs.claims.Environments.{TypesRead, IsElaborated, program_of}
 use Rattle.isle_model.specs.claims.Layers.{BuildAnswers}
 use Rattle.isle_model.specs.claims.Refusals.{refusal_of}
@@ -81,6 +81,15 @@ nothing_read p sets errors none no_error = record {
   reported = ap error_views no_error;
 }
 
+-- a rule of the list, by its place
+pub rule_at : (rs : List Rule) (i : ℕ) (r : Rule) → i < length rs → r ≡ get_or rs i r → slice_get (rule_views rs) i ≡ Some (rule_view r)
+rule_at rs i r l e = slice_get-map rule_view rs i ∙ ap (option_map rule_view) (slice_get_read rs (length rs) i r refl l e)
+
+take_next : (xs : List TypedRule) (i : ℕ) (x : TypedRule) → slice_get xs i ≡ Some x → take (suc i) xs ≡ take i xs ++ x ∷ []
+take_next [] i x e = absurd (none_some x e)
+take_next (y ∷ xs) zero x e = ap (λ z. z ∷ []) (same_Some y x e)
+take_next (y ∷ xs) (suc i) x e = ap (λ l. y ∷ l) (take_next xs i x e)
+
 -- 3. of a list that elaborates
 module _ (e : TypesRead) (defs : List Definition) (expand : Bool) (rules : TypedRules) (h : IsElaborated e defs expand rules) (env : TermEnv) (shown : ShowsElaborated e defs rules env) where
   abbrev pub whole : Program
@@ -94,6 +103,17 @@ module _ (e : TypesRead) (defs : List Definition) (expand : Bool) (rules : Typed
     formed = (elaborated_rules_hang formed agree e defs expand rules h (rule_view r) (in_slice rules.rules i (rule_view r) (ap (λ l. slice_get l i) (sym shown.rules) ∙ at))).0;
     stand = s;
   }
+
+  -- and then they stand after one more
+  pub one_more_read : (i : ℕ) (r : Rule) (sets : BTreeMap ℕ TermSet) (errors : List Error) → slice_get (rule_views env.rules.items) i ≡ Some (rule_view r)
+      → StandAfter whole (take i rules.rules ++ rule_view r ∷ []) sets errors → StandAfter whole (take (i + 1) rules.rules) sets errors
+  one_more_read i r sets errors at s =
+      subst (λ done. StandAfter whole done sets errors) (sym (ap (λ n. take n rules.rules) (add-one i) ∙ take_next rules.rules i (rule_view r) (ap (λ l. slice_get l i) (sym shown.rules) ∙ at))) s
+
+  pub all_read : (i : ℕ) (sets : BTreeMap ℕ TermSet) (errors : List Error) → length env.rules.items ≤ i → StandAfter whole (take i rules.rules) sets errors → StandAfter whole rules.rules sets errors
+  all_read i sets errors past s =
+      let same : length rules.rules ≡ length env.rules.items = sym (ap length shown.rules) ∙ length-map rule_view env.rules.items in
+      subst (λ done. StandAfter whole done sets errors) (take_all i rules.rules (omega (arith, same, past))) s
 
   -- after the last, all is built
   pub all_built : BuiltSetsAreAnswered → (sets : BTreeMap ℕ TermSet) (errors : List Error) (listed : List (TermId × RuleSet)) → IsOrdered nat_cmp sets

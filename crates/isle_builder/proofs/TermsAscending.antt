@@ -32,7 +32,7 @@ ascending_are f [] n [] s within all = refl
 ascending_are f [] n (k ∷ ks) s within all = let w = within k (inl refl) in let a = w.0 in let b = w.1 in absurd (let m : ⊥ = omega (arith, a, b) in m)
 ascending_are f (x ∷ xs) n ks s within all =
     elim (cases_Bool (f n)) [
-      | inl t ↦ first ks s within all t (all n (omega arith) (omega arith) t)
+      | inl t ↦ first (ascending_are f xs (suc n)) ks s within all t (all n (omega arith) (omega arith) t)
       | inr u ↦
           ascending_are f xs (suc n) ks s (λ k i. let w = within k i in let a = w.0 in let b = w.1 in let d = other k w.2 u in (omega (arith, a, d), omega (arith, b), w.2))
           (λ k a b t. all k (omega (arith, a)) (omega (arith, b)) t)
@@ -42,10 +42,11 @@ ascending_are f (x ∷ xs) n ks s within all =
     other : (k : ℕ) → f k ≡ true → f n ≡ false → k ≢ n
     other k t u e = true≢false (sym t ∙ ap f e ∙ u)
 
-    first : (ks : List ℕ) → IsStrictlySortedBy nat_cmp ks → ((k : ℕ) → In ks k → (n ≤ k) × (k < n + length (x ∷ xs)) × (f k ≡ true)) → ((k : ℕ) → n ≤ k → k < n + length (x ∷ xs) → f k ≡ true → In ks k)
+    first : ((ks : List ℕ) → IsStrictlySortedBy nat_cmp ks → ((k : ℕ) → In ks k → (suc n ≤ k) × (k < suc n + length xs) × (f k ≡ true)) → ((k : ℕ) → suc n ≤ k → k < suc n + length xs → f k ≡ true → In ks k) → ks ≡ filter f (numbers_from (suc n) xs))
+        → (ks : List ℕ) → IsStrictlySortedBy nat_cmp ks → ((k : ℕ) → In ks k → (n ≤ k) × (k < n + length (x ∷ xs)) × (f k ≡ true)) → ((k : ℕ) → n ≤ k → k < n + length (x ∷ xs) → f k ≡ true → In ks k)
         → f n ≡ true → In ks n → ks ≡ filter f (numbers_from n (x ∷ xs))
-    first [] s within all t i = absurd i
-    first (k ∷ ks) s within all t i =
+    first go_on [] s within all t i = absurd i
+    first go_on (k ∷ ks) s within all t i =
         (λ j. least i j ∷ rest j)
         ∙ sym (cond-true (f n) (n ∷ filter f (numbers_from (suc n) xs)) (filter f (numbers_from (suc n) xs)) t)
       where
@@ -59,7 +60,7 @@ ascending_are f (x ∷ xs) n ks s within all =
 
         rest : ks ≡ filter f (numbers_from (suc n) xs)
         rest =
-            ascending_are f xs (suc n) ks (sorted_tail nat_cmp k ks s)
+            go_on ks (sorted_tail nat_cmp k ks s)
             (λ m j. let w = within m (inr j) in let b = w.1 in let l = after_first k ks s m j in let g = least i in (omega (arith, l, g), omega (arith, b), w.2))
             (λ m a b u. later m (all m (omega (arith, a)) (omega (arith, b)) u) a)
 
@@ -102,11 +103,11 @@ module _ (sets : BTreeMap ℕ TermSet) (ordered : IsOrdered nat_cmp sets) where
   some_view None = refl
   some_view (Some s) = refl
 
-  same_keys : (es : List (ℕ × TermSet)) → map (λ s. s.0) (map (λ (e : ℕ × TermSet). (e.0, set_so_far e.1)) es) ≡ map (λ (e : ℕ × TermSet). e.0) es
+  same_keys : (es : List (ℕ × TermSet)) → map (λ (s : ℕ × SiteSet). s.0) (map (λ (e : ℕ × TermSet). (e.0, set_so_far e.1)) es) ≡ map (λ (e : ℕ × TermSet). e.0) es
   same_keys [] = refl
   same_keys (e ∷ es) = ap (λ l. e.0 ∷ l) (same_keys es)
 
-  pub terms_listed : (p : Program) → RulesHaveTerms p → ((t : ℕ) → is_some (set_at sets t) ≡ list_any (λ r. r.root_term == t) p.rules) → map (λ s. s.0) listed ≡ terms_with_rules p
+  pub terms_listed : (p : Program) → RulesHaveTerms p → ((t : ℕ) → is_some (set_at sets t) ≡ list_any (λ r. r.root_term == t) p.rules) → map (λ (s : ℕ × SiteSet). s.0) listed ≡ terms_with_rules p
   terms_listed p known all =
       same_keys sets.entries
       ∙ ascending_are (λ t. list_any (λ r. r.root_term == t) p.rules) p.terms 0 (keys sets) ordered
