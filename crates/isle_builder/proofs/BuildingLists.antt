@@ -112,7 +112,7 @@ module _ (e : TypesRead) (defs : List Definition) (expand : Bool) (rules : Typed
 
   pub all_read : (i : ℕ) (sets : BTreeMap ℕ TermSet) (errors : List Error) → length env.rules.items ≤ i → StandAfter whole (take i rules.rules) sets errors → StandAfter whole rules.rules sets errors
   all_read i sets errors past s =
-      let same : length rules.rules ≡ length env.rules.items = sym (ap length shown.rules) ∙ length-map rule_view env.rules.items in
+      let same : length rules.rules ≡ length env.rules.items = sym (ap length shown.rules) ∙ length-map env.rules.items rule_view in
       subst (λ done. StandAfter whole done sets errors) (take_all i rules.rules (omega (arith, same, past))) s
 
   -- after the last, all is built
