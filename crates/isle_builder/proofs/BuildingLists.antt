@@ -1,5 +1,5 @@
 -- Building goes on by one rule after another, and what there is after the last.
-use Rattle.std.proofs.Common.{◌≡◌, ◌≢◌, ◌==◌, ℕ, zero, suc, ◌+◌, ◌<◌, ◌≤◌, Bool, true, false, List, [], ◌∷◌, ◌++◌, length, map, take, None, Some, Option, slice_get, get_or, option_map, Contains, refl, sym, ap, ◌∙◌, subst, inl, inr, arith, eqb-true, eq-eqb, add-one}
+use Rattle.std.proofs.Common.{◌≡◌, ◌≢◌, ◌==◌, ℕ, zero, suc, ◌+◌, ◌<◌, ◌≤◌, Bool, List, [], ◌∷◌, ◌++◌, length, take, Some, slice_get, get_or, option_map, refl, sym, ap, ◌∙◌, subst, inl, inr, arith, eqb-true, eq-eqb, add-one}
 use Rattle.std.specs.BTreeMap.{BTreeMap, IsOrdered, get, is_at}
 use Rattle.std.specs.Map.{lookup}
 use Rattle.std.specs.Ordering.{nat_cmp}
@@ -10,7 +10,7 @@ use Rattle.isle_model.specs.claims.Environments.{TypesRead, IsElaborated, progra
 use Rattle.isle_model.specs.claims.Layers.{BuildAnswers}
 use Rattle.isle_model.specs.claims.Refusals.{refusal_of}
 use Rattle.isle_model.specs.lists.Elaborated.{TypedRules}
-use Rattle.isle_model.specs.lists.Formed.{is_formed_rule, RulesAreFormed}
+use Rattle.isle_model.specs.lists.Formed.{RulesAreFormed}
 use Rattle.isle_model.specs.lists.Syntax.{Definition}
 use Rattle.isle_model.specs.rules.Program.{Program}
 use Rattle.isle_model.specs.rules.Typed.{TypedRule}
@@ -41,7 +41,7 @@ use Rattle.isle_builder.proofs.TermsAscending.{looked_up, terms_listed}
 
 -- 1. one more rule
 module _ (env : TermEnv) (p : Program) (done : List TypedRule) (r : TypedRule) (sets : BTreeMap ℕ TermSet) (errors : List Error) (h : MayGoOn env r p done sets errors)
-  (taken : TermSet) (start : set_so_far taken ≡ or_nothing_built (set_at sets r.root_term)) where
+    (taken : TermSet) (start : set_so_far taken ≡ or_nothing_built (set_at sets r.root_term)) where
   -- the set of its term may go past it
   pub may_add : IsTable taken.builder.table → MayAddRule env r taken.builder p (sites_after_rules p [] (of_one_term r.root_term done))
   may_add table = record {
@@ -112,7 +112,7 @@ module _ (e : TypesRead) (defs : List Definition) (expand : Bool) (rules : Typed
 
   pub all_read : (i : ℕ) (sets : BTreeMap ℕ TermSet) (errors : List Error) → length env.rules.items ≤ i → StandAfter whole (take i rules.rules) sets errors → StandAfter whole rules.rules sets errors
   all_read i sets errors past s =
-      let same : length rules.rules ≡ length env.rules.items = sym (ap length shown.rules) ∙ length-map rule_view env.rules.items in
+      let same : length rules.rules ≡ length env.rules.items = sym (ap length shown.rules) ∙ length-map env.rules.items rule_view in
       subst (λ done. StandAfter whole done sets errors) (take_all i rules.rules (omega (arith, same, past))) s
 
   -- after the last, all is built

@@ -1,13 +1,13 @@
 -- Sites that were there stay first where more are made, so they stand for what they did.
-use Rattle.std.proofs.Common.{◌≡◌, ℕ, zero, suc, ◌<◌, ◌≤◌, nat_lt, List, [], ◌∷◌, ◌++◌, length, take, min, Some, None, Option, slice_get, Contains, refl, sym, ap, ◌∙◌, subst, inl, inr, arith}
+use Rattle.std.proofs.Common.{◌≡◌, ℕ, zero, suc, ◌<◌, ◌≤◌, List, [], ◌∷◌, ◌++◌, length, take, slice_get, refl, sym, ◌∙◌, subst, inl, inr, arith}
 use Rattle.std.proofs.lemmas.Bool.{cases_Bool, cond-true, cond-false}
-use Rattle.std.proofs.lemmas.List.{length-append, length-take, get_or-take, get_or_append_left}
-use Rattle.std.proofs.lemmas.Option.{slice_get-get_or, same_Some}
+use Rattle.std.proofs.lemmas.List.{length-append, length-take}
+use Rattle.std.proofs.lemmas.Option.{same_Some}
 use Rattle.isle_model.specs.rules.Program.{Program}
 use Rattle.isle_model.specs.rules.Typed.{TypedRule}
-use Rattle.isle_model.specs.sites.Sites.{Constraint, Site, SiteTerm, sources_at, unfold_site}
+use Rattle.isle_model.specs.sites.Sites.{Site, SiteTerm, unfold_site}
 use Rattle.isle_model.specs.sites.Demands.{Demands, demands_of, with_sites}
-use Rattle.isle_model.specs.sites.Closure.{Closed, ascending, before_closing, class_at, closed, closing, field_terms, is_unreachable, most_closing_steps, taken}
+use Rattle.isle_model.specs.sites.Closure.{ascending, before_closing, class_at, closed, field_terms, is_unreachable, most_closing_steps}
 use Rattle.isle_model.specs.sites.Limits.{made_walking, most_sites, sites_after_rule, sites_reached, sites_wanted, walked_rule}
 use Rattle.isle_model.specs.sites.RuleSets.{StandFor}
 use Rattle.isle_laws_demands.specs.RuleByRule.{HaveGrown}

@@ -1,17 +1,17 @@
 -- The set of a term goes on past a rule: the rule is left out for a limit or since it can't be reached, or it is added.
-use Rattle.std.proofs.Common.{◌≡◌, ℕ, ◌<◌, ◌≤◌, true≢false, true, false, List, [], ◌∷◌, ◌++◌, length, map, take, All, None, Some, Contains, IsTrue, refl, sym, ap, ◌∙◌, subst, inl, inr, arith}
+use Rattle.std.proofs.Common.{◌≡◌, ℕ, ◌<◌, ◌≤◌, true≢false, true, false, List, [], ◌∷◌, ◌++◌, length, map, take, All, None, Contains, refl, sym, ap, ◌∙◌, subst, inl, inr, arith}
 use Rattle.std.proofs.lemmas.Bool.{cases_Bool, cond-true, cond-false}
 use Rattle.std.proofs.lemmas.List.Elements.{All-contains, All-head, All-tail}
 use Rattle.std.specs.Bool.{◌==◌}
 use Rattle.isle_base.specs.Stable.{contains}
 use Rattle.isle_model.specs.rules.Program.{Program}
 use Rattle.isle_model.specs.rules.Typed.{TypedRule}
-use Rattle.isle_model.specs.sites.Sites.{Constraint, Site, SetRule, SiteSet, SiteTerm, unfold_site}
-use Rattle.isle_model.specs.sites.Demands.{demands_of, result_of, visit_rule, with_sites}
+use Rattle.isle_model.specs.sites.Sites.{Site, SetRule, SiteSet, SiteTerm, unfold_site}
+use Rattle.isle_model.specs.sites.Demands.{demands_of, visit_rule, with_sites}
 use Rattle.isle_model.specs.sites.Closure.{Unreachability, before_closing, closed, closing, is_unreachable, most_closing_steps, reported}
 use Rattle.isle_model.specs.sites.Limits.{RuleLimit, first_limit, limits_of_shape, made_walking, most_sites, sites_after_rule, sites_limit, sites_wanted, walked_rule}
 use Rattle.isle_model.specs.sites.Overlap.{RuleReport, built_rule, limit_passed, not_reached}
-use Rattle.isle_model.specs.sites.RuleSets.{AsksFor, Equates, GoesOver, IsRuleOf, StandFor}
+use Rattle.isle_model.specs.sites.RuleSets.{GoesOver, IsRuleOf, StandFor}
 use Rattle.isle_model.proofs.Elements.{contains_from_in, in_from_contains}
 use Rattle.isle_model.proofs.Members.{all_members}
 use Rattle.isle_laws_demands.specs.RuleByRule.{GoesPast, HaveGrown, limit_met, rule_added, rule_unreachable}
@@ -107,7 +107,7 @@ module _ (p : Program) (before : List SiteTerm) (r : TypedRule) (rules : List Se
           (stays_in_front (with_sites before (demands_of p r).made) (closed before (demands_of p r)).made (let n = h.demands.stand.count in let few = h.table.few in omega (arith, n, few)) (stays_closed before (demands_of p r)))
 
       module _ (after : RuleSetBuilder) (table : IsTable after.table) (go : GoOn (built_sites b) (built_sites after) after.demanded (closing most_closing_steps (before_closing before (demands_of p r))))
-        (same_iterators : after.iterators ≡ b.iterators) (same_impure : after.impure ≡ b.impure) where
+          (same_iterators : after.iterators ≡ b.iterators) (same_impure : after.impure ≡ b.impure) where
         further : (s : ℕ) → s < length (built_sites b) → s < length (built_sites after)
         further s l = let m = go.longer in omega (arith, l, m)
 

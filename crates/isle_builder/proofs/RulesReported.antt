@@ -23,11 +23,11 @@ use Rattle.isle_rules.specs.ErrorViews.{error_views, limit_view}
 use Rattle.isle_rules.specs.RuleViews.{rule_view}
 use Rattle.isle_rules.specs.declared.rules.Rule.{Rule}
 use Rattle.isle_sets.specs.Closings.{EndsFull, GoOn}
-use Rattle.isle_sets.specs.SiteTables.{AreFirst, ForWantOfRoom, IsTable, table_sites}
+use Rattle.isle_sets.specs.SiteTables.{ForWantOfRoom, IsTable, table_sites}
 use Rattle.isle_sets.specs.SiteViews.{set_rule_views}
 use Rattle.isle_sets.specs.Verdicts.{AreVisited}
 use Rattle.isle_sets.specs.declared.trie_again.Constraint.{Constraint}
-use Rattle.isle_builder.specs.AddedRules.{AddsListed, GoesOn, Reports, ReportsLimit, set_so_far, unreachable_each}
+use Rattle.isle_builder.specs.AddedRules.{AddsListed, GoesOn, ReportsLimit, set_so_far, unreachable_each}
 use Rattle.isle_builder.specs.Built.{report_views}
 use Rattle.isle_builder.specs.VisitedSites.{EndsAtLimit, IsSiteOf, MeetsLimit, StandsAt, built_sites, conflict_view}
 use Rattle.isle_builder.specs.declared.ruleset_builder.RuleSetBuilder.{RuleSetBuilder}
@@ -118,8 +118,8 @@ visited_fields p before r b h e =
 
 -- 4. the rule is added
 module _ (p : Program) (before : List SiteTerm) (r : TypedRule) (old : TermSet) (h : StandsAt before old.builder (visit_rule p r).visit) (none : limits_of_shape p r ≡ []) (reachable : is_unreachable (demands_of p r) ≡ false)
-  (after : RuleSetBuilder) (table : IsTable after.table) (go : GoOn (built_sites old.builder) (built_sites after) after.demanded (closing most_closing_steps (before_closing before (demands_of p r))))
-  (same_iterators : after.iterators ≡ old.builder.iterators) (same_impure : after.impure ≡ old.builder.impure) where
+    (after : RuleSetBuilder) (table : IsTable after.table) (go : GoOn (built_sites old.builder) (built_sites after) after.demanded (closing most_closing_steps (before_closing before (demands_of p r))))
+    (same_iterators : after.iterators ≡ old.builder.iterators) (same_impure : after.impure ≡ old.builder.impure) where
   pub goes_on_added : (from : Rule) (value : ℕ) (mid new : TermSet) (errors : List Error) → rule_view from ≡ r → IsSiteOf old.builder (visit_rule p r).site value → mid.rules ≡ old.rules → new.builder.table ≡ after.table
       → AddsListed after (closing most_closing_steps (before_closing before (demands_of p r))) from value mid new → GoesOn p before r old new errors errors
   goes_on_added from value mid new errors view site rules tables l = record {

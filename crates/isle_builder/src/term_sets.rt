@@ -135,11 +135,7 @@ impl TermSet {
 
 impl RuleSetBuilder {
     // The rule by its closed demands, and its calls.
-    fn list_rule(
-        &mut self,
-        rule: &Rule,
-        value: BindingId,
-    ) -> Result<trie_again::Rule, AllocError>
+    fn list_rule(&mut self, rule: &Rule, value: BindingId) -> Result<trie_again::Rule, AllocError>
         ensures listed { (k : Closed) → AreDemandsOf (built_sites self.old) self.old.demanded k → IfOk result (λ r. IsListed self.old k rule.now value (set_rule_view r)) }
         ensures table { self.new.table ≡ self.old.table }
     {
@@ -157,7 +153,7 @@ impl RuleSetBuilder {
     }
 }
 
-// A rule is left out for the limit that it passes; or memory was refused.
+// A rule is left out for the limit that it passes; or memory was refused. A builder never stops a visit itself.
 fn report_fault(errors: &mut Vec<Error>, fault: VisitFault, pos: Pos) -> Result<(), AllocError>
     ensures { OnOk result (ReportsLimit errors.old.items errors.new.items fault pos) }
 {
