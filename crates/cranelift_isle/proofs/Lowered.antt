@@ -99,11 +99,7 @@ module _ (defs : List Definition) (expand : Bool) (rules : TypedRules) (read : I
   limits_of_check (Errors es) c = passed_in_building es.items c
   limits_of_check (Memory m) c = tt
 
--- 5. errors of reading: an answer with errors, or want of memory, says the same of a claim that gives another one
-pub refused_so : (A B : Type 0) (f : Fault) (claim wider : Type 0) (says : A → Type 0) (also : B → Type 0) → (claim → wider) → Answers {A = B} (Err f) wider also → Answers {A = A} (Err f) claim says
-refused_so A B (Errors es) claim wider says also give h = (h.0, λ c. h.1 (give c))
-refused_so A B (Memory m) claim wider says also give h = tt
-
+-- 5. errors of reading: what they give of an answer's errors, they give of another answer with these
 pub limits_so : (A B : Type 0) (f : Fault) (P Q : List Error → Type 0) → ((es : List Error) → P es → Q es) → OnErrors {A = B} (Err f) P → OnErrors {A = A} (Err f) Q
 limits_so A B (Errors es) P Q give h = give es.items h
 limits_so A B (Memory m) P Q give h = tt

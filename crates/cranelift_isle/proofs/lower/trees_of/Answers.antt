@@ -17,14 +17,14 @@ loop-id-init c =
       ap (λ ts. map set_of_term (lowered_views ts) ++ term_set_views c.into_iter-id-iterator.result.rest.items) n ∙ ap term_set_views h,
       subst (λ ts. All (λ t. SharesTests t.set t.tree) (lowered_views ts)) (sym n) (All-nil (λ t. SharesTests t.set t.tree)),
       subst (λ ts. All (λ t. BindsBeforeAnyUse t.set t.tree) (lowered_views ts)) (sym n) (All-nil (λ t. BindsBeforeAnyUse t.set t.tree)),
-      subst (λ l. All (λ b. IsBuiltForSome b.1) (term_set_views l)) (sym h) c.requires,
+      subst (λ l. All (λ b. IsBuiltForSome b.1) (term_set_views l)) (sym h) c.requires.built,
     )
 
 pub tree_of-requires : goal.tree_of-requires
 tree_of-requires c =
     let s = c.in-Some.ensures.steps.0 in
     let built = subst (λ l. All (λ b. IsBuiltForSome b.1) (term_set_views l)) s c.loop-id.invariant.3 in
-    All-head (λ b. IsBuiltForSome b.1) (term_set_view (c.in-Some.id, c.in-Some.rules)) (term_set_views c.next.new.self.rest.items) built
+    record { built = All-head (λ b. IsBuiltForSome b.1) (term_set_view (c.in-Some.id, c.in-Some.rules)) (term_set_views c.next.new.self.rest.items) built }
 
 pub loop-id-preserved : goal.loop-id-preserved
 loop-id-preserved c =
