@@ -34,7 +34,7 @@ use Rattle.isle_rules.specs.declared.rules.Rule.{Rule}
 use Rattle.isle_rules.specs.declared.term_env.TermEnv.{TermEnv}
 use Rattle.isle_sets.specs.SiteTables.{IsTable}
 use Rattle.isle_sets.specs.declared.trie_again.RuleSet.{RuleSet}
-use Rattle.isle_builder.specs.AddedRules.{GoesOn, MayAddRule, MayGoOn, StandAfter, set_at, set_so_far, sets_so_far}
+use Rattle.isle_builder.specs.AddedRules.{SetGoesOn, MayAddRule, MayGoOn, StandAfter, set_at, set_so_far, sets_so_far}
 use Rattle.isle_builder.specs.Built.{ShowsElaborated, WereBuilt, report_views, term_set_views}
 use Rattle.isle_builder.specs.declared.term_sets.TermSet.{TermSet}
 use Rattle.isle_builder.proofs.TermsAscending.{looked_up, terms_listed}
@@ -54,7 +54,7 @@ module _ (env : TermEnv) (p : Program) (done : List TypedRule) (r : TypedRule) (
 
   -- and then the sets stand after it
   pub goes_on_next : (mid new : BTreeMap ℕ TermSet) (set : TermSet) (more : List Error) → ((t : ℕ) → t ≢ r.root_term → get nat_cmp mid t ≡ get nat_cmp sets t)
-      → GoesOn p (sites_after_rules p [] (of_one_term r.root_term done)) r taken set errors more → get nat_cmp new r.root_term ≡ Some set → ((t : ℕ) → t ≢ r.root_term → get nat_cmp new t ≡ get nat_cmp mid t)
+      → SetGoesOn p (sites_after_rules p [] (of_one_term r.root_term done)) r taken set errors more → get nat_cmp new r.root_term ≡ Some set → ((t : ℕ) → t ≢ r.root_term → get nat_cmp new t ≡ get nat_cmp mid t)
       → StandAfter p (done ++ r ∷ []) new more
   goes_on_next mid new set more left g at others = record {
     reports = h.stand.reports ++ g.said;

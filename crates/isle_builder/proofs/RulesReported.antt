@@ -27,7 +27,7 @@ use Rattle.isle_sets.specs.SiteTables.{ForWantOfRoom, IsTable, table_sites}
 use Rattle.isle_sets.specs.SiteViews.{set_rule_views}
 use Rattle.isle_sets.specs.Verdicts.{AreVisited}
 use Rattle.isle_sets.specs.declared.trie_again.Constraint.{Constraint}
-use Rattle.isle_builder.specs.AddedRules.{AddsListed, GoesOn, ReportsLimit, set_so_far, unreachable_each}
+use Rattle.isle_builder.specs.AddedRules.{AddsListed, SetGoesOn, ReportsLimit, set_so_far, unreachable_each}
 use Rattle.isle_builder.specs.Built.{report_views}
 use Rattle.isle_builder.specs.VisitedSites.{EndsAtLimit, IsSiteOf, MeetsLimit, StandsAt, built_sites, conflict_view}
 use Rattle.isle_builder.specs.declared.ruleset_builder.RuleSetBuilder.{RuleSetBuilder}
@@ -57,7 +57,7 @@ module _ (p : Program) (before : List SiteTerm) (r : TypedRule) (b : RuleSetBuil
 
   -- 2. a limit that is met in the visit, or in the closing
   pub goes_on_limited : (old new : TermSet) (fault : VisitFault) (whole : List SiteTerm) → new.builder ≡ b → new.rules ≡ old.rules → position pos ≡ r.at
-      → StandFor (built_sites old.builder) whole → StayFirst whole (sites_after_rule p before r) → EndsAtLimit p before r b fault → ReportsLimit errors more fault pos → GoesOn p before r old new errors more
+      → StandFor (built_sites old.builder) whole → StayFirst whole (sites_after_rule p before r) → EndsAtLimit p before r b fault → ReportsLimit errors more fault pos → SetGoesOn p before r old new errors more
   goes_on_limited old new fault whole same rules at stand stay ends rep =
       let n = by_limit rep.limit (subst (EndsAtLimit p before r b) rep.met ends) rep.reported in
       record {
@@ -93,7 +93,7 @@ reported_first order d us e = ap (λ l. first_filled l (others order d)) e
 module _ (p : Program) (before : List SiteTerm) (r : TypedRule) (s : TermSet) (h : StandsAt before s.builder (visit_rule p r).visit) (none : limits_of_shape p r ≡ []) (errors more : List Error) (pos : Pos) (at : position pos ≡ r.at) where
   -- what is reported is one error each
   goes_on_unreachable : {X : Type 0} (f : X → Unreachability) (x : X) (xs : List X) → reported (with_sites before (demands_of p r).made) (demands_of p r) ≡ map f (x ∷ xs)
-      → error_views more ≡ error_views errors ++ unreachable_each (x ∷ xs) pos → GoesOn p before r s s errors more
+      → error_views more ≡ error_views errors ++ unreachable_each (x ∷ xs) pos → SetGoesOn p before r s s errors more
   goes_on_unreachable f x xs e rep = record {
     said = map (λ why. not_reached why r.at) (map f (x ∷ xs));
     goes = passes_unreachable p before r (set_rule_views s.rules.items) s.builder h none (f x) (map f xs) e;
@@ -101,13 +101,13 @@ module _ (p : Program) (before : List SiteTerm) (r : TypedRule) (s : TermSet) (h
     reports = rep ∙ ap (λ l. error_views errors ++ l) (each_reported pos f (x ∷ xs)) ∙ ap (λ a. error_views errors ++ report_views (map (λ why. not_reached why a) (map f (x ∷ xs)))) at;
   }
 
-  pub goes_on_conflicting : (cs : List (Constraint × Constraint)) → s.builder.conflicts.items ≡ cs → (cs ≡ [] → ⊥) → error_views more ≡ error_views errors ++ unreachable_each cs pos → GoesOn p before r s s errors more
+  pub goes_on_conflicting : (cs : List (Constraint × Constraint)) → s.builder.conflicts.items ≡ cs → (cs ≡ [] → ⊥) → error_views more ≡ error_views errors ++ unreachable_each cs pos → SetGoesOn p before r s s errors more
   goes_on_conflicting [] e some rep = absurd (some refl)
   goes_on_conflicting (c ∷ cs) e some rep =
       goes_on_unreachable conflict_view c cs
       (reported_first (with_sites before (demands_of p r).made) (demands_of p r) (map conflict_view (c ∷ cs)) (sym h.conflicts ∙ ap (map conflict_view) e)) rep
 
-  pub goes_on_refused : (u : Unreachability) → reported (with_sites before (demands_of p r).made) (demands_of p r) ≡ u ∷ [] → error_views more ≡ error_views errors ++ unreachable (position pos) ∷ [] → GoesOn p before r s s errors more
+  pub goes_on_refused : (u : Unreachability) → reported (with_sites before (demands_of p r).made) (demands_of p r) ≡ u ∷ [] → error_views more ≡ error_views errors ++ unreachable (position pos) ∷ [] → SetGoesOn p before r s s errors more
   goes_on_refused u e rep = goes_on_unreachable (λ w. w) u [] e rep
 
 -- a visit that met no conflict, as the verdict takes it
@@ -121,7 +121,7 @@ module _ (p : Program) (before : List SiteTerm) (r : TypedRule) (old : TermSet) 
     (after : RuleSetBuilder) (table : IsTable after.table) (go : GoOn (built_sites old.builder) (built_sites after) after.demanded (closing most_closing_steps (before_closing before (demands_of p r))))
     (same_iterators : after.iterators ≡ old.builder.iterators) (same_impure : after.impure ≡ old.builder.impure) where
   pub goes_on_added : (from : Rule) (value : ℕ) (mid new : TermSet) (errors : List Error) → rule_view from ≡ r → IsSiteOf old.builder (visit_rule p r).site value → mid.rules ≡ old.rules → new.builder.table ≡ after.table
-      → AddsListed after (closing most_closing_steps (before_closing before (demands_of p r))) from value mid new → GoesOn p before r old new errors errors
+      → AddsListed after (closing most_closing_steps (before_closing before (demands_of p r))) from value mid new → SetGoesOn p before r old new errors errors
   goes_on_added from value mid new errors view site rules tables l = record {
     said = [];
     goes = subst (λ t. GoesPast p before r (set_so_far old) (set_with (set_rule_views new.rules.items) (table_sites t)) []) (sym tables)
@@ -134,7 +134,7 @@ module _ (p : Program) (before : List SiteTerm) (r : TypedRule) (old : TermSet) 
 -- 5. a set that goes on from one whose sites were kept
 pub goes_on_from : (p : Program) (before : List SiteTerm) (r : TypedRule) (old mid new : TermSet) (errors more : List Error) → mid.rules ≡ old.rules
     → ((s : ℕ) → s < length (built_sites old.builder) → unfold_site (built_sites mid.builder) s ≡ unfold_site (built_sites old.builder) s) → length (built_sites old.builder) ≤ length (built_sites mid.builder)
-    → GoesOn p before r mid new errors more → GoesOn p before r old new errors more
+    → SetGoesOn p before r mid new errors more → SetGoesOn p before r old new errors more
 goes_on_from p before r old mid new errors more same kept longer g = record {
   said = g.said;
   goes = goes_past_from p before r (set_so_far old) (set_so_far mid) (set_so_far new) g.said (ap (λ rs. set_rule_views rs.items) same) kept longer g.goes;

@@ -43,7 +43,7 @@ abbrev pub unreachable_each : {X : Type 0} → List X → Pos → List Refusal
 unreachable_each whys pos = map (λ why. unreachable (position pos)) whys
 
 -- the set of a term goes on past a rule, after these sites of the term's rules before, and errors are added
-pub record GoesOn (p : Program) (before : List SiteTerm) (r : TypedRule) (old new : TermSet) (errors more : List Error) : Type 0 where
+pub record SetGoesOn (p : Program) (before : List SiteTerm) (r : TypedRule) (old new : TermSet) (errors more : List Error) : Type 0 where
   pub said : List RuleReport
   pub goes : GoesPast p before r (set_so_far old) (set_so_far new) said
   pub table : IsTable new.builder.table

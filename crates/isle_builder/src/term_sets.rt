@@ -10,7 +10,7 @@ ghost use Rattle.isle_rules.specs.RuleViews.{rule_view};
 ghost use Rattle.isle_sets.specs.Closings.{AreDemandsOf};
 ghost use Rattle.isle_sets.specs.SiteTables.{IsTable};
 ghost use Rattle.isle_sets.specs.SiteViews.{set_rule_view, set_view};
-ghost use Rattle.isle_builder.specs.AddedRules.{AddsListed, GoesOn, IsListed, MayAddRule, ReportsLimit, set_so_far};
+ghost use Rattle.isle_builder.specs.AddedRules.{AddsListed, SetGoesOn, IsListed, MayAddRule, ReportsLimit, set_so_far};
 ghost use Rattle.isle_builder.specs.VisitedSites.{IsSiteOf, StandsAt, built_sites};
 
 use crate::refusals::{report_conflicts, report_limit, report_unreachable};
@@ -73,7 +73,7 @@ impl TermSet {
     ) -> Result<(), AllocError>
         requires may { (p : Program) × (before : List SiteTerm) × MayAddRule termenv.now (rule_view rule.now) self.old.builder p before }
         ensures { (p : Program) (before : List SiteTerm) → MayAddRule termenv.now (rule_view rule.now) self.old.builder p before
-            → OnOk result (GoesOn p before (rule_view rule.now) self.old self.new errors.old.items errors.new.items) }
+            → OnOk result (SetGoesOn p before (rule_view rule.now) self.old self.new errors.old.items errors.new.items) }
     {
         self.builder.start_rule();
         match self.builder.visit_rule(rule, termenv) {
@@ -92,7 +92,7 @@ impl TermSet {
         requires visited { (before : List SiteTerm) × (v : Visit) × StandsAt before self.old.builder v }
         ensures { (p : Program) (before : List SiteTerm) → limits_of_shape p (rule_view rule.now) ≡ []
             → StandsAt before self.old.builder (visit_rule p (rule_view rule.now)).visit → IsSiteOf self.old.builder (visit_rule p (rule_view rule.now)).site value
-            → OnOk result (GoesOn p before (rule_view rule.now) self.old self.new errors.old.items errors.new.items) }
+            → OnOk result (SetGoesOn p before (rule_view rule.now) self.old self.new errors.old.items errors.new.items) }
     {
         if !self.builder.conflicts.is_empty() {
             return report_conflicts(errors, &self.builder.conflicts, rule.pos);
@@ -114,7 +114,7 @@ impl TermSet {
         requires visited { (before : List SiteTerm) × (v : Visit) × StandsAt before self.old.builder v }
         ensures { (p : Program) (before : List SiteTerm) → limits_of_shape p (rule_view rule.now) ≡ [] → is_unreachable (demands_of p (rule_view rule.now)) ≡ false
             → StandsAt before self.old.builder (visit_rule p (rule_view rule.now)).visit → IsSiteOf self.old.builder (visit_rule p (rule_view rule.now)).site value
-            → OnOk result (GoesOn p before (rule_view rule.now) self.old self.new errors.old.items errors.new.items) }
+            → OnOk result (SetGoesOn p before (rule_view rule.now) self.old self.new errors.old.items errors.new.items) }
     {
         match self.builder.close() {
             Ok(()) => self.push_rule(rule, value),
