@@ -23,11 +23,7 @@ contains_in s a = of s.keys
     of [] = refl
     of (k ∷ ks) = let e = tied a k in let r = of ks in λ i. e i || r i
 
--- 2. numbers that ascend
-above_first : (n m : ℕ) (xs : List ℕ) → is_below_first n (m ∷ xs) ≡ true → n < m
-above_first n m xs h = ltb-true n m h
-
--- the first is below the others
+-- 2. numbers that ascend: the first is below the others
 pub below_rest : (x : ℕ) (xs : List ℕ) (a : ℕ) → ascends (x ∷ xs) ≡ true → is_in a xs ≡ true → x < a
 below_rest x [] a h i = absurd (false≢true i)
 below_rest x (y ∷ xs) a h i =

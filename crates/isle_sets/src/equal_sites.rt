@@ -1,11 +1,11 @@
 //! Sites that must be equal: disjoint sets that can be listed.
-ghost use Rattle.std.specs.Prelude.{◌≡◌, ◌&&◌, ◌∷◌, ℕ, List, [], false, not, nat_eq, slice_get, IfOk, OnOk, IsTrue};
+ghost use Rattle.std.specs.Prelude.{◌≡◌, ◌&&◌, ◌∷◌, ℕ, List, [], false, not, nat_eq, IfOk, OnOk, IsTrue};
 ghost use Rattle.std.specs.List.Sorted.{IsStrictlySortedBy};
 ghost use Rattle.std.specs.Ordering.{nat_cmp};
-ghost use Rattle.isle_disjointsets.specs.Partition.{IsPartition, in_set, set_of, together, together_after};
+ghost use Rattle.isle_disjointsets.specs.Partition.{IsPartition, in_set, together, together_after};
 ghost use Rattle.isle_model.specs.trees.Places.{joins_in};
 ghost use Rattle.isle_sets.specs.Listings.{are_listed, class_lists};
-ghost use Rattle.isle_sets.specs.SetLists.{AreNoted, IsListedBefore};
+ghost use Rattle.isle_sets.specs.SetLists.{IsListedBefore};
 
 use crate::trie_again::BindingId;
 use isle_disjointsets::disjointsets::DisjointSets;

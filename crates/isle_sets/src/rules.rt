@@ -35,7 +35,8 @@ impl Rule {
         }
     }
 
-    /// A rule that demands these, and is nothing else yet: zeros, no name, no calls.
+    /// A rule that demands these, and is nothing else yet: zeros, no name, no calls. Its other parts are set after; upstream
+    /// fills `RuleSetBuilder::current_rule` as it goes.
     ///
     /// # Errors
     ///

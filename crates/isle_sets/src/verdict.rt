@@ -19,7 +19,7 @@ use isle_disjointsets::disjointsets::DisjointSets;
 use std::alloc::{AllocError, Global};
 use std::collections::BTreeMap;
 
-/// Why no value can meet what a rule demands.
+/// Why no value can meet what a rule demands. Upstream's `UnreachableError`, which knows no cycles.
 #[derive(Clone, Copy, Debug, PartialEq, Eq)]
 pub enum Unreachable {
     /// Sites that must be equal are asked to meet two constraints.
