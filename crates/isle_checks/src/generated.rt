@@ -39,19 +39,8 @@ pub struct Forms<'a> {
     arguments: u64,
 }
 
-// The forms that lists are made of: those that `lower` carries so far. `ALL` is to stand in its place once it carries all.
-pub const FORMS: Forms<'static> = FIRST;
-
-// Whole numbers, wildcards and variables that are bound once.
-const FIRST: Forms<'static> = Forms {
-    patterns: &[Form::Integer, Form::Integer, Form::Variable],
-    expressions: &[Form::Literal, Form::Bound],
-    conditions: false,
-    arguments: 3,
-};
-
 // All forms.
-pub const ALL: Forms<'static> = Forms {
+pub const FORMS: Forms<'static> = Forms {
     patterns: &[
         Form::Integer,
         Form::Integer,

@@ -48,3 +48,15 @@ fn what_a_rule_is_called(rt: HostRuntime) -> Result<(), Fail> {
     assert_eq!(rt; rule.identifier(alloc, &env, &files)?.as_str(), "u8");
     Ok(())
 }
+
+// A clone of an environment shows the same.
+#[test]
+fn a_clone_shows_the_same(rt: HostRuntime) -> Result<(), Fail> {
+    let alloc = rt.alloc();
+    let (tyenv, env) = types_and_rules(alloc, &read(alloc, 0, NAMED)?)?;
+    let copy = env.clone()?;
+    assert!(rt; copy.terms.len() == 2 && copy.rules.len() == 3);
+    let name = Ident(String::from_str(alloc, "n")?, Pos { file: 0, offset: 0 });
+    assert_eq!(rt; copy.get_rule_by_name(&tyenv, &name), Some(RuleId(0)));
+    Ok(())
+}
