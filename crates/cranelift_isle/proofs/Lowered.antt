@@ -13,7 +13,7 @@ use Rattle.isle_model.specs.rules.Program.{Program}
 use Rattle.isle_model.specs.sites.Sites.{SiteSet}
 use Rattle.isle_model.specs.sites.RuleSets.{IsBuilt}
 use Rattle.isle_model.specs.claims.Environments.{TypesRead, types_read, IsElaborated, IsRead, TypeEnvironment, TermEnvironment, AreRulesOf}
-use Rattle.isle_model.specs.claims.Layers.{own_program, IsAccepted, IsBuiltForSome, CheckAnswers, CheckReports, LoweredTerm, AreLowered, LoweringAnswers, BestTreesKeepTheHeadline}
+use Rattle.isle_model.specs.claims.Layers.{own_program, IsAccepted, IsBuiltForSome, CheckAnswers, CheckReports, LoweredTerm, AreLowered, LoweringAnswers, RefusedBy, by_check, BestTreesKeepTheHeadline}
 use Rattle.isle_model.specs.claims.Refusals.{refusal_of, NamesOnlyPassed, PassedInReading, PassedInBuilding}
 use Rattle.isle_model.proofs.Mapped.{nothing_mapped}
 use Rattle.isle_rules.specs.ErrorViews.{error_views}
@@ -95,14 +95,18 @@ module _ (defs : List Definition) (expand : Bool) (rules : TypedRules) (read : I
   refused_by_check (Errors es) c = (some_error es.items c, not_accepted es.items c)
   refused_by_check (Memory m) c = tt
 
+  pub why_refused : (f : Fault) → IsChecked p (Err f) → OnErrors {A = Lowered} (Err f) (λ es. RefusedBy defs expand (error_views es))
+  why_refused (Errors es) c = subst (RefusedBy defs expand) (sym c.are) (by_check rules c.reports read c.reported)
+  why_refused (Memory m) c = tt
+
   pub limits_of_check : (f : Fault) → IsChecked p (Err f) → OnErrors {A = Lowered} (Err f) (λ es. NamesOnlyPassed (PassedInLowering defs expand) (error_views es))
   limits_of_check (Errors es) c = passed_in_building es.items c
   limits_of_check (Memory m) c = tt
 
 -- 5. errors of reading: what they give of an answer's errors, they give of another answer with these
-pub limits_so : (A B : Type 0) (f : Fault) (P Q : List Error → Type 0) → ((es : List Error) → P es → Q es) → OnErrors {A = B} (Err f) P → OnErrors {A = A} (Err f) Q
-limits_so A B (Errors es) P Q give h = give es.items h
-limits_so A B (Memory m) P Q give h = tt
+pub errors_so : (A B : Type 0) (f : Fault) (P Q : List Error → Type 0) → ((es : List Error) → P es → Q es) → OnErrors {A = B} (Err f) P → OnErrors {A = A} (Err f) Q
+errors_so A B (Errors es) P Q give h = give es.items h
+errors_so A B (Memory m) P Q give h = tt
 
 pub passed_in_reading : (defs : List Definition) (expand : Bool) → IsValidTypes defs → (es : List Error) → NamesOnlyPassed (PassedInReading (types_read defs) defs expand) (error_views es)
     → NamesOnlyPassed (PassedInLowering defs expand) (error_views es)

@@ -3,7 +3,7 @@
 ghost use Rattle.std.specs.Prelude.{◌≡◌, List, map, All, IfOk};
 ghost use Rattle.isle_base.specs.Answers.{Answers, OnErrors};
 ghost use Rattle.isle_base.specs.SyntaxViews.{definition_views};
-ghost use Rattle.isle_model.specs.claims.Layers.{IsBuiltForSome};
+ghost use Rattle.isle_model.specs.claims.Layers.{IsBuiltForSome, RefusedBy};
 ghost use Rattle.isle_model.specs.claims.Refusals.{NamesOnlyPassed};
 ghost use Rattle.isle_rules.specs.ErrorViews.{error_views};
 ghost use Rattle.isle_builder.specs.Built.{term_set_views};
@@ -87,6 +87,9 @@ pub fn lower(alloc: Global, defs: &[Def], expand: bool) -> Result<Lowered, Fault
 
     // each tree binds sites before it uses them
     ensures bound { IfOk result (λ l. All (λ t. BindsBeforeAnyUse t.set t.tree) (lowered_views l.terms.items)) }
+
+    // errors say by which pass the definitions are refused, and why
+    ensures refused { OnErrors result (λ es. RefusedBy (definition_views defs.now) expand (error_views es)) }
 
     // an error names a limit only where a rule passes it
     ensures limits { OnErrors result (λ es. NamesOnlyPassed (PassedInLowering (definition_views defs.now) expand) (error_views es)) }
