@@ -1,6 +1,10 @@
 //! Long lists of definitions: some written as trees, some as text and read.
 
 use crate::definitions::definitions;
+use crate::rule_texts::{
+    rule_of_calls, rule_of_equal_arguments, rule_of_equal_fields, rule_of_equal_nested,
+    rule_of_literals, rule_of_nested, terms_with_forms,
+};
 use isle_base::syntax::Def;
 use isle_text::errors::ReadFault;
 use isle_text::read;
@@ -21,6 +25,22 @@ pub enum Kind {
     RulesOfOneTerm,
     /// One rule, with as many variables: half in its patterns, half in a let.
     Variables,
+    /// Rules of several forms that can be told apart, ten of each term.
+    Forms,
+    /// One term, and its rules of several forms, which can be told apart.
+    FormsOfOneTerm,
+    /// One rule, with as many literals.
+    Literals,
+    /// One rule, with as many variables that must be equal.
+    EqualFields,
+    /// One rule of equal arguments, which have as many fields.
+    EqualArguments,
+    /// One rule that looks as deep into its argument.
+    Nested,
+    /// One rule that looks deep into three arguments that are equal.
+    EqualNested,
+    /// One rule of calls, each of what the one before gave.
+    Calls,
 }
 
 impl Kind {
@@ -32,18 +52,42 @@ impl Kind {
             Kind::Rules => "rules",
             Kind::RulesOfOneTerm => "rules of one term",
             Kind::Variables => "variables of one rule",
+            Kind::Forms => "rules of several forms",
+            Kind::FormsOfOneTerm => "rules of several forms of one term",
+            Kind::Literals => "literals of one rule",
+            Kind::EqualFields => "equal variables of one rule",
+            Kind::EqualArguments => "fields of equal arguments",
+            Kind::Nested => "fields in one another",
+            Kind::EqualNested => "fields in one another, equal in threes",
+            Kind::Calls => "sites of calls in one another",
         }
     }
 }
 
-/// A list of so many definitions, or up to nine fewer, whole groups alone; or with so many rules or variables.
+/// A list of so many definitions, or up to nine fewer, whole groups alone; or with so many rules, variables or sites.
 pub fn definitions_of(alloc: Global, kind: Kind, size: usize) -> io::Result<Vec<Def>> {
     match kind {
         Kind::Types => Ok(definitions(alloc, size)?),
-        Kind::Terms => read_text(alloc, terms(alloc, size / 10)?.as_str()),
-        Kind::Rules => read_text(alloc, rules(alloc, size / 10)?.as_str()),
-        Kind::RulesOfOneTerm => read_text(alloc, rules_of_one_term(alloc, size)?.as_str()),
-        Kind::Variables => read_text(alloc, rule_of_variables(alloc, size / 2)?.as_str()),
+        _ => read_text(alloc, text_of(alloc, kind, size)?.as_str()),
+    }
+}
+
+// The text of such a list, none of types, which are no text.
+fn text_of(alloc: Global, kind: Kind, size: usize) -> Result<String, AllocError> {
+    match kind {
+        Kind::Types => Ok(String::new(alloc)),
+        Kind::Terms => terms(alloc, size / 10),
+        Kind::Rules => rules(alloc, size / 10),
+        Kind::RulesOfOneTerm => rules_of_one_term(alloc, size),
+        Kind::Variables => rule_of_variables(alloc, size / 2),
+        Kind::Forms => terms_with_forms(alloc, size / 10, 10),
+        Kind::FormsOfOneTerm => terms_with_forms(alloc, size.min(1), size),
+        Kind::Literals => rule_of_literals(alloc, size),
+        Kind::EqualFields => rule_of_equal_fields(alloc, size),
+        Kind::EqualArguments => rule_of_equal_arguments(alloc, size),
+        Kind::Nested => rule_of_nested(alloc, size),
+        Kind::EqualNested => rule_of_equal_nested(alloc, size),
+        Kind::Calls => rule_of_calls(alloc, size),
     }
 }
 

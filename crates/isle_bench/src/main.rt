@@ -1,38 +1,49 @@
-//! How long the tables of long lists take: `rt run -- times` reads lists of 1,000, 10,000 and
-//! 100,000 definitions, rules or variables. `rt run -- SIZE ..` reads lists of these sizes, and prints no times.
+//! How long the steps from definitions to trees take: `rt run -- times` makes lists of three sizes for each, and prints
+//! the time of that step alone, of `lower` that of all steps. `rt run -- SIZE ..` takes lists of these sizes, and prints no
+//! times.
 #![tactic(auto)]
 
 mod definitions;
 mod lists;
+mod rule_texts;
 mod tables;
 
 use lists::{Kind, definitions_of};
 use std::alloc::{AllocError, Global};
 use std::io::ErrorKind;
 use std::rt::{Clock, Env};
-use std::time::Instant;
 use std::{env, io};
 use tables::Table;
 
-// The sizes of which times are printed.
-const SIZES: [usize; 3] = [1000, 10_000, 100_000];
-
-// What is read: how far, and a list of what.
-const READINGS: [(Table, Kind); 5] = [
-    (Table::Types, Kind::Types),
-    (Table::Terms, Kind::Terms),
-    (Table::Rules, Kind::Rules),
-    (Table::Rules, Kind::RulesOfOneTerm),
-    (Table::Rules, Kind::Variables),
+// What is read: how far, a list of what, and the sizes of which times are printed. One rule has 65,536 sites at most, and
+// deep ones take long.
+const READINGS: [(Table, Kind, [usize; 3]); 17] = [
+    (Table::Types, Kind::Types, [1000, 10_000, 100_000]),
+    (Table::Terms, Kind::Terms, [1000, 10_000, 100_000]),
+    (Table::Rules, Kind::Rules, [1000, 10_000, 100_000]),
+    (Table::Rules, Kind::RulesOfOneTerm, [1000, 10_000, 100_000]),
+    (Table::Rules, Kind::Variables, [1000, 10_000, 100_000]),
+    (Table::Sets, Kind::Forms, [200, 1000, 3000]),
+    (Table::Sets, Kind::FormsOfOneTerm, [200, 1000, 3000]),
+    (Table::Sets, Kind::RulesOfOneTerm, [1000, 10_000, 65_535]),
+    (Table::Sets, Kind::Literals, [1000, 10_000, 65_536]),
+    (Table::Sets, Kind::EqualFields, [3000, 10_000, 30_000]),
+    (Table::Sets, Kind::EqualArguments, [3000, 10_000, 30_000]),
+    (Table::Sets, Kind::Nested, [300, 1000, 3000]),
+    (Table::Sets, Kind::EqualNested, [300, 1000, 3000]),
+    (Table::Sets, Kind::Calls, [300, 1000, 3000]),
+    (Table::Checked, Kind::FormsOfOneTerm, [200, 1000, 3000]),
+    (Table::Trees, Kind::RulesOfOneTerm, [30, 100, 300]),
+    (Table::Trees, Kind::FormsOfOneTerm, [30, 100, 300]),
 ];
 
 fn main(rt: HostRuntime) -> io::Result<()> {
     let sizes = sizes(&rt, rt.alloc())?;
-    for (table, kind) in READINGS {
+    for (table, kind, timed) in READINGS {
         if sizes.is_empty() {
-            print_times(&rt, rt.alloc(), table, kind)?;
+            print_times(&rt, rt.alloc(), table, kind, timed)?;
         } else {
-            print_counts(&rt, rt.alloc(), table, kind, &sizes)?;
+            print_counts(&rt, rt.alloc(), table, kind, timed, &sizes)?;
         }
     }
     Ok(())
@@ -57,48 +68,60 @@ fn sizes(rt: &(impl Env + Alloc), alloc: Global) -> io::Result<Vec<usize>> {
     }
 }
 
-// For each size what the table of a list has.
+// For each size what the table of a list has. Sizes past those of which times are printed are left out.
 fn print_counts(
-    rt: &impl Print,
+    rt: &(impl Clock + Print),
     alloc: Global,
     table: Table,
     kind: Kind,
+    timed: [usize; 3],
     sizes: &[usize],
 ) -> io::Result<()> {
     for size in sizes {
-        let defs = definitions_of(alloc, kind, *size)?;
-        let counts = table.read(alloc, &defs)?;
-        println!(rt; "{} definitions: {counts}", defs.len())?;
+        if *size <= timed[2] {
+            let defs = definitions_of(alloc, kind, *size)?;
+            let counts = table.read(rt, alloc, &defs)?.counts;
+            println!(rt; "{} definitions: {counts}", defs.len())?;
+        }
     }
     Ok(())
 }
 
-// For each size the time that the table of a list takes, and how many times the time of the size before.
+// For each size the time that the last step to the table of a list takes, and how many times the time of the size before.
 fn print_times(
     rt: &(impl Clock + Print),
     alloc: Global,
     table: Table,
     kind: Kind,
+    timed: [usize; 3],
 ) -> io::Result<()> {
     let mut before = None;
-    for size in SIZES {
-        let micros = time(rt, alloc, table, kind, size)?;
+    for size in timed {
+        let defs = definitions_of(alloc, kind, size)?;
+        let micros = table.read(rt, alloc, &defs)?.micros;
         let growth = growth(alloc, before, micros)?;
-        let name = kind.name();
-        println!(rt; "{size} {name}: {} ms{growth}", micros / 1000)?;
+        print_time(rt, table, kind, size, micros, &growth)?;
         before = Some(micros);
     }
     Ok(())
 }
 
-// The microseconds that the table of a list of so many definitions takes.
-fn time(rt: &impl Clock, alloc: Global, table: Table, kind: Kind, size: usize) -> io::Result<u128> {
-    let defs = definitions_of(alloc, kind, size)?;
-    let start = Instant::now(rt)?;
-    let counts = table.read(alloc, &defs)?;
-    let micros = start.elapsed(rt)?.as_micros();
-    drop(counts);
-    Ok(micros)
+// The line of one time, to a tenth of a millisecond.
+fn print_time(
+    rt: &impl Print,
+    table: Table,
+    kind: Kind,
+    size: usize,
+    micros: u128,
+    growth: &str,
+) -> io::Result<()> {
+    let whole = micros / 1000;
+    let tenths = micros % 1000 / 100;
+    println!(rt;
+        "{}: {size} {}: {whole}.{tenths} ms{growth}",
+        table.name(),
+        kind.name()
+    )
 }
 
 // How many times the time before a time is, to a tenth.
