@@ -38,15 +38,14 @@ fn unreachable_text(alloc: Global, why: Unreachable) -> Result<String, AllocErro
     }
 }
 
-// What a limit allows at most.
-fn limit_text(limit: Limit) -> &'static str {
+// What a limit allows at most. Those on expansions are met before rules are typed, so no visit meets them.
+fn limit_text(limit: Limit) -> Option<&'static str> {
     match limit {
-        Limit::Fields => "more than 255 fields are matched",
-        Limit::Outputs => "more than 255 extractor outputs",
-        Limit::Arguments => "more than 256 arguments",
-        Limit::Sites => "more than 65536 binding sites",
-        Limit::Nesting => "expansions nest deeper than 256",
-        Limit::Expansions => "more than 65536 expansions in one rule",
+        Limit::Fields => Some("more than 255 fields are matched"),
+        Limit::Outputs => Some("more than 255 extractor outputs"),
+        Limit::Arguments => Some("more than 256 arguments"),
+        Limit::Sites => Some("more than 65536 binding sites"),
+        Limit::Nesting | Limit::Expansions => None,
     }
 }
 
@@ -90,7 +89,10 @@ pub(crate) fn report_limit(
 ) -> Result<(), AllocError>
     ensures { OnOk result (error_views errors.new.items ≡ error_views errors.old.items ++ past_limit (limit_view limit) (position pos) ∷ []) }
 {
-    let msg = String::from_str(*errors.allocator(), limit_text(limit))?;
+    let Some(text) = limit_text(limit) else {
+        return Err(AllocError);
+    };
+    let msg = String::from_str(*errors.allocator(), text)?;
     let span = Span::new_single(pos);
     errors.push(Error::LimitError { limit, msg, span })?;
     Ok(())
