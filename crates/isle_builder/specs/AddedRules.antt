@@ -8,6 +8,8 @@ use Rattle.isle_model.specs.rules.Typed.{TypedRule}
 use Rattle.isle_model.specs.rules.Program.{Program}
 use Rattle.isle_model.specs.sites.Sites.{SetRule, SiteSet, SiteTerm}
 use Rattle.isle_model.specs.sites.Closure.{Closed}
+use Rattle.isle_model.specs.sites.Demands.{visit_rule}
+use Rattle.isle_model.specs.sites.Limits.{limits_of_shape}
 use Rattle.isle_model.specs.sites.Overlap.{RuleReport}
 use Rattle.isle_model.specs.sites.RuleSets.{StandFor}
 use Rattle.isle_model.specs.claims.Refusals.{Refusal, past_limit, unreachable}
@@ -26,7 +28,7 @@ use Rattle.isle_rules.specs.declared.term_env.TermEnv.{TermEnv}
 use Rattle.isle_sets.specs.SiteTables.{IsTable}
 use Rattle.isle_sets.specs.SiteViews.{member_sites, set_rule_views}
 use Rattle.isle_builder.specs.Built.{report_views}
-use Rattle.isle_builder.specs.VisitedSites.{built_sites}
+use Rattle.isle_builder.specs.VisitedSites.{IsSiteOf, StandsAt, built_sites}
 use Rattle.isle_builder.specs.declared.ruleset_builder.RuleSetBuilder.{RuleSetBuilder}
 use Rattle.isle_builder.specs.declared.term_sets.TermSet.{TermSet}
 
@@ -65,6 +67,12 @@ pub record AddsListed (b : RuleSetBuilder) (k : Closed) (from : Rule) (value : �
   pub rule : SetRule
   pub listed : IsListed b k from value rule
   pub last : set_rule_views new.rules.items ≡ set_rule_views old.rules.items ++ rule ∷ []
+
+-- the visit of a rule is done: it passes no limit that its shape shows, and the site of its result has this number
+pub record WasVisited (p : Program) (before : List SiteTerm) (r : TypedRule) (b : RuleSetBuilder) (value : ℕ) : Type 0 where
+  pub few : limits_of_shape p r ≡ []
+  pub stands : StandsAt before b (visit_rule p r).visit
+  pub site : IsSiteOf b (visit_rule p r).site value
 
 -- errors, and one more, of the limit that a visit met
 pub record ReportsLimit (errors more : List Error) (fault : VisitFault) (pos : Pos) : Type 0 where

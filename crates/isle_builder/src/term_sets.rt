@@ -1,17 +1,16 @@
 //! The rule set of a term, as its rules are read one after another.
-ghost use Rattle.std.specs.Prelude.{◌≡◌, List, [], false, IfOk, OnOk};
+ghost use Rattle.std.specs.Prelude.{◌≡◌, List, false, IfOk, OnOk};
 ghost use Rattle.isle_model.specs.rules.Program.{Program};
 ghost use Rattle.isle_model.specs.sites.Closure.{Closed, is_unreachable};
-ghost use Rattle.isle_model.specs.sites.Demands.{Visit, demands_of, visit_rule};
-ghost use Rattle.isle_model.specs.sites.Limits.{limits_of_shape};
+ghost use Rattle.isle_model.specs.sites.Demands.{Visit, demands_of};
 ghost use Rattle.isle_model.specs.sites.Sites.{SiteTerm};
 ghost use Rattle.isle_laws_demands.specs.RuleByRule.{nothing_built};
 ghost use Rattle.isle_rules.specs.RuleViews.{rule_view};
 ghost use Rattle.isle_sets.specs.Closings.{AreDemandsOf};
 ghost use Rattle.isle_sets.specs.SiteTables.{IsTable};
 ghost use Rattle.isle_sets.specs.SiteViews.{set_rule_view, set_view};
-ghost use Rattle.isle_builder.specs.AddedRules.{AddsListed, SetGoesOn, IsListed, MayAddRule, ReportsLimit, set_so_far};
-ghost use Rattle.isle_builder.specs.VisitedSites.{IsSiteOf, StandsAt, built_sites};
+ghost use Rattle.isle_builder.specs.AddedRules.{AddsListed, SetGoesOn, IsListed, MayAddRule, ReportsLimit, WasVisited, set_so_far};
+ghost use Rattle.isle_builder.specs.VisitedSites.{StandsAt, built_sites};
 
 use crate::refusals::{report_conflicts, report_limit, report_unreachable};
 use crate::ruleset_builder::RuleSetBuilder;
@@ -90,8 +89,7 @@ impl TermSet {
         errors: &mut Vec<Error>,
     ) -> Result<(), AllocError>
         requires visited { (before : List SiteTerm) × (v : Visit) × StandsAt before self.old.builder v }
-        ensures { (p : Program) (before : List SiteTerm) → limits_of_shape p (rule_view rule.now) ≡ []
-            → StandsAt before self.old.builder (visit_rule p (rule_view rule.now)).visit → IsSiteOf self.old.builder (visit_rule p (rule_view rule.now)).site value
+        ensures { (p : Program) (before : List SiteTerm) → WasVisited p before (rule_view rule.now) self.old.builder value
             → OnOk result (SetGoesOn p before (rule_view rule.now) self.old self.new errors.old.items errors.new.items) }
     {
         if !self.builder.conflicts.is_empty() {
@@ -112,8 +110,7 @@ impl TermSet {
         errors: &mut Vec<Error>,
     ) -> Result<(), AllocError>
         requires visited { (before : List SiteTerm) × (v : Visit) × StandsAt before self.old.builder v }
-        ensures { (p : Program) (before : List SiteTerm) → limits_of_shape p (rule_view rule.now) ≡ [] → is_unreachable (demands_of p (rule_view rule.now)) ≡ false
-            → StandsAt before self.old.builder (visit_rule p (rule_view rule.now)).visit → IsSiteOf self.old.builder (visit_rule p (rule_view rule.now)).site value
+        ensures { (p : Program) (before : List SiteTerm) → WasVisited p before (rule_view rule.now) self.old.builder value → is_unreachable (demands_of p (rule_view rule.now)) ≡ false
             → OnOk result (SetGoesOn p before (rule_view rule.now) self.old self.new errors.old.items errors.new.items) }
     {
         match self.builder.close() {

@@ -35,7 +35,7 @@ returns-in-Ok c p before m =
     (goes_on_from p before r c.args.self.now mid c.add_visited.new.self c.args.errors.now.items c.add_visited.new.errors.items refl
     (λ s l. v.0.goes.kept s (subst (λ ss. s < length ss) (sym same) l) ∙ ap (λ ss. unfold_site ss s) same)
     (subst (λ ss. length ss ≤ length (built_sites c.visit_rule.new.self)) same v.0.goes.longer))
-    (c.add_visited.ensures p before v.1 v.0.goes.stands v.0.site)
+    (c.add_visited.ensures p before (record { few = v.1; stands = v.0.goes.stands; site = v.0.site }))
 
 pub returns-in-Err : goal.returns-in-Err
 returns-in-Err c p before m =
