@@ -1,5 +1,5 @@
 -- A visit walks all of patterns that pass no limit, and what it hasn't walked of others changes nothing.
-use Rattle.std.proofs.Common.{◌≡◌, ◌<◌, ◌≤◌, ℕ, suc, Bool, true, false, nat_lt, if◌then◌else◌, List, [], ◌∷◌, ◌++◌, flat_map, is_some, slice_get, refl, sym, ap, ◌∙◌, arith}
+use Rattle.std.proofs.Common.{◌≡◌, ◌<◌, ◌≤◌, ℕ, zero, suc, Bool, true, false, nat_lt, if◌then◌else◌, List, [], ◌∷◌, ◌++◌, flat_map, is_some, slice_get, refl, sym, ap, ◌∙◌, arith}
 use Rattle.std.proofs.lemmas.Bool.{cond-true, cond-false, le-ltb, lt-ltb}
 use Rattle.std.proofs.lemmas.Grind.{flat_map-append}
 use Rattle.isle_model.specs.rules.Program.{Program, Kind, a_variant, a_struct, a_call, unknown, kind}
@@ -69,25 +69,32 @@ patterns_counted p (typed_pattern_and q qs) = of (patterns_counted p qs) (walked
 places_alike : (f : ℕ → SiteTerm) (xs ys : TypedPatterns) → pattern_count xs ≡ pattern_count ys → from_to f 0 xs ≡ from_to f 0 ys
 places_alike f xs ys e = places_same f 0 xs ∙ ap (λ n. fields_from f 0 n) e ∙ sym (places_same f 0 ys)
 
+-- the outputs of a call, and their sites, by how many there are
+abbrev outputs_of : SiteTerm → ℕ → List SiteTerm
+outputs_of s zero = []
+outputs_of s (suc zero) = s ∷ []
+outputs_of s (suc (suc n)) = fields_from (tuple_part s) 0 (suc (suc n))
+
+abbrev parts_of : SiteTerm → ℕ → List SiteTerm
+parts_of s zero = []
+parts_of s (suc zero) = []
+parts_of s (suc (suc n)) = fields_from (tuple_part s) 0 (suc (suc n))
+
+outputs_by : (s : SiteTerm) (qs : TypedPatterns) → output_sites s qs ≡ outputs_of s (pattern_count qs)
+outputs_by s no_typed_pattern = refl
+outputs_by s (typed_pattern_and q no_typed_pattern) = refl
+outputs_by s (typed_pattern_and q (typed_pattern_and r rs)) = places_same (tuple_part s) 0 (typed_pattern_and q (typed_pattern_and r rs))
+
+parts_by : (s : SiteTerm) (qs : TypedPatterns) → part_sites s qs ≡ parts_of s (pattern_count qs)
+parts_by s no_typed_pattern = refl
+parts_by s (typed_pattern_and q no_typed_pattern) = refl
+parts_by s (typed_pattern_and q (typed_pattern_and r rs)) = places_same (tuple_part s) 0 (typed_pattern_and q (typed_pattern_and r rs))
+
 outputs_alike : (s : SiteTerm) (xs ys : TypedPatterns) → pattern_count xs ≡ pattern_count ys → output_sites s xs ≡ output_sites s ys
-outputs_alike s no_typed_pattern no_typed_pattern e = refl
-outputs_alike s no_typed_pattern (typed_pattern_and r rs) e = absurd (omega (arith, e))
-outputs_alike s (typed_pattern_and q qs) no_typed_pattern e = absurd (omega (arith, e))
-outputs_alike s (typed_pattern_and q no_typed_pattern) (typed_pattern_and r no_typed_pattern) e = refl
-outputs_alike s (typed_pattern_and q no_typed_pattern) (typed_pattern_and r (typed_pattern_and t ts)) e = absurd (omega (arith, e))
-outputs_alike s (typed_pattern_and q (typed_pattern_and t ts)) (typed_pattern_and r no_typed_pattern) e = absurd (omega (arith, e))
-outputs_alike s (typed_pattern_and q (typed_pattern_and t ts)) (typed_pattern_and r (typed_pattern_and u us)) e =
-    places_alike (tuple_part s) (typed_pattern_and q (typed_pattern_and t ts)) (typed_pattern_and r (typed_pattern_and u us)) e
+outputs_alike s xs ys e = outputs_by s xs ∙ ap (outputs_of s) e ∙ sym (outputs_by s ys)
 
 parts_alike : (s : SiteTerm) (xs ys : TypedPatterns) → pattern_count xs ≡ pattern_count ys → part_sites s xs ≡ part_sites s ys
-parts_alike s no_typed_pattern no_typed_pattern e = refl
-parts_alike s no_typed_pattern (typed_pattern_and r rs) e = absurd (omega (arith, e))
-parts_alike s (typed_pattern_and q qs) no_typed_pattern e = absurd (omega (arith, e))
-parts_alike s (typed_pattern_and q no_typed_pattern) (typed_pattern_and r no_typed_pattern) e = refl
-parts_alike s (typed_pattern_and q no_typed_pattern) (typed_pattern_and r (typed_pattern_and t ts)) e = absurd (omega (arith, e))
-parts_alike s (typed_pattern_and q (typed_pattern_and t ts)) (typed_pattern_and r no_typed_pattern) e = absurd (omega (arith, e))
-parts_alike s (typed_pattern_and q (typed_pattern_and t ts)) (typed_pattern_and r (typed_pattern_and u us)) e =
-    places_alike (tuple_part s) (typed_pattern_and q (typed_pattern_and t ts)) (typed_pattern_and r (typed_pattern_and u us)) e
+parts_alike s xs ys e = parts_by s xs ∙ ap (parts_of s) e ∙ sym (parts_by s ys)
 
 pub opened_alike : (k : Kind) (t : ℕ) (s : SiteTerm) (xs ys : TypedPatterns) (v : Visit) → pattern_count xs ≡ pattern_count ys → open_term k t s xs v ≡ open_term k t s ys v
 opened_alike (a_variant ty variant) t s xs ys v e =
