@@ -255,7 +255,7 @@ module _ (p : Program) (before : List SiteTerm) where
       (λ e. absurd (true≢false (ap is_ok e.2))) run
 
   -- 5. a rule
-  pub rule_visited : (r : TypedRule) (s : RuleSetBuilder) (n : ℕ) (t : RuleSetBuilder) → is_formed_rule p r ≡ true → RuleRun Rules.ghosts Patterns.ghosts Exprs.ghosts p.terms r s (Ok n) t → StandsAt before s visit_start
+  rule_visited : (r : TypedRule) (s : RuleSetBuilder) (n : ℕ) (t : RuleSetBuilder) → is_formed_rule p r ≡ true → RuleRun Rules.ghosts Patterns.ghosts Exprs.ghosts p.terms r s (Ok n) t → StandsAt before s visit_start
       → ValuesTo before s t (visit_expr p r.rhs (visit_iflets p r.iflets (visit_args p 0 r.args visit_start))) n × (limits_of_shape p r ≡ [])
   rule_visited r s n t formed run h =
       ⊎_elim
@@ -276,6 +276,12 @@ module _ (p : Program) (before : List SiteTerm) where
       (values, both_empty (limits_in_args p 0 r.args) (flat_map (iflet_limits p) r.iflets) first.few second.few))
       (λ e. absurd (true≢false (ap is_ok e.2))) a.3)
       (λ e. absurd (true≢false (ap is_ok e.2))) run
+
+pub rule_seen : (p : Program) (before : List SiteTerm) (r : TypedRule) (terms : List TermEntry) (s : RuleSetBuilder) (n : ℕ) (t : RuleSetBuilder) → p.terms ≡ terms → is_formed_rule p r ≡ true
+    → RuleRun Rules.ghosts Patterns.ghosts Exprs.ghosts terms r s (Ok n) t → StandsAt before s visit_start
+    → ValuesTo before s t (visit_expr p r.rhs (visit_iflets p r.iflets (visit_args p 0 r.args visit_start))) n × (limits_of_shape p r ≡ [])
+rule_seen p before r terms s n t same formed run h =
+    rule_visited p before r s n t formed (subst (λ ts. RuleRun Rules.ghosts Patterns.ghosts Exprs.ghosts ts r s (Ok n) t) (sym same) run) h
 
 -- 6. its result, in a partial term one that is there
 pub rule_finished : (p : Program) (before : List SiteTerm) (r : TypedRule) (old mid new : RuleSetBuilder) (value : ℕ) (partial : Bool) (result : Result ℕ VisitFault) → partial ≡ is_partial p r.root_term

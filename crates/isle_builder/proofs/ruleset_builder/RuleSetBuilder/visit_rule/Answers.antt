@@ -1,5 +1,5 @@
 use Rattle.std.proofs.Common.{sym, subst}
-use Rattle.std.specs.Prelude.{Ok, Err}
+use Rattle.std.specs.Prelude.{Err}
 use Rattle.isle_sets.proofs.FullTables.{passed_on}
 use Rattle.isle_builder.specs.VisitedSites.{EndsAtLimit}
 use Rattle.isle_builder.proofs.EndedRules.{rule_ends, result_ends}
@@ -8,23 +8,19 @@ use Rattle.isle_rules.specs.RuleViews.{rule_view}
 use Rattle.isle_builder.specs.contracts.builder_patterns.RuleSetBuilderPatternVisitor.TheImpl as Patterns
 use Rattle.isle_builder.specs.contracts.builder_exprs.RuleSetBuilderExprVisitor.TheImpl as Exprs
 use Rattle.isle_builder.specs.contracts.builder_rules.RuleSetBuilderRuleVisitor.TheImpl as Rules
-use Rattle.isle_builder.proofs.VisitedRules.{rule_visited, rule_finished}
+use Rattle.isle_builder.proofs.VisitedRules.{rule_finished, rule_seen}
 use Rattle.isle_builder.proofs.ruleset_builder.RuleSetBuilder.visit_rule.Goals as goal
 
 pub returns-clause-visited : goal.returns-clause-visited
 returns-clause-visited c p before same formed h =
-    let r = rule_view c.args.rule.now in
-    let run = subst (λ ts. RuleRun Rules.ghosts Patterns.ghosts Exprs.ghosts ts r c.args.self.now (Ok c.in_ok-value.value) c.visit.new.visitor) (sym same) c.in_ok-value.ensures.run in
-    let seen = rule_visited p before r c.args.self.now c.in_ok-value.value c.visit.new.visitor formed run h in
-    rule_finished p before r c.args.self.now c.visit.new.visitor c.finish.new.self c.in_ok-value.value c.may_give_nothing-partial.result c.finish.result (c.may_give_nothing-partial.ensures p same)
+    let seen = rule_seen p before (rule_view c.args.rule.now) _ c.args.self.now c.in_ok-value.value c.visit.new.visitor same formed c.in_ok-value.ensures.run h in
+    rule_finished p before (rule_view c.args.rule.now) c.args.self.now c.visit.new.visitor c.finish.new.self c.in_ok-value.value c.may_give_nothing-partial.result c.finish.result (c.may_give_nothing-partial.ensures p same)
     seen.0 (λ w k l. c.finish.ensures.finished before w k l) seen.1
 
 pub returns-clause-limit : goal.returns-clause-limit
 returns-clause-limit c p before same formed h =
-    let r = rule_view c.args.rule.now in
-    let run = subst (λ ts. RuleRun Rules.ghosts Patterns.ghosts Exprs.ghosts ts r c.args.self.now (Ok c.in_ok-value.value) c.visit.new.visitor) (sym same) c.in_ok-value.ensures.run in
-    let seen = rule_visited p before r c.args.self.now c.in_ok-value.value c.visit.new.visitor formed run h in
-    result_ends p before r c.args.self.now c.visit.new.visitor c.finish.new.self c.in_ok-value.value c.may_give_nothing-partial.result c.finish.result (c.may_give_nothing-partial.ensures p same)
+    let seen = rule_seen p before (rule_view c.args.rule.now) _ c.args.self.now c.in_ok-value.value c.visit.new.visitor same formed c.in_ok-value.ensures.run h in
+    result_ends p before (rule_view c.args.rule.now) c.args.self.now c.visit.new.visitor c.finish.new.self c.in_ok-value.value c.may_give_nothing-partial.result c.finish.result (c.may_give_nothing-partial.ensures p same)
     seen.0 (λ w k l. c.finish.ensures.full before w k l) seen.1
 
 pub returns-in_err-value-clause-limit : goal.returns-in_err-value-clause-limit
