@@ -1,24 +1,30 @@
 -- A builder makes sites one after another.
-use Rattle.std.proofs.Common.{◌≡◌, Bool, true, false, if◌then◌else◌, inl, inr, ℕ, zero, suc, ◌+◌, ◌<◌, List, [], ◌∷◌, ◌++◌, length, refl, sym, ap, ap₂, ◌∙◌, subst, arith, add-one}
+use Rattle.std.proofs.Common.{◌≡◌, Bool, Contains, true, false, if◌then◌else◌, inl, inr, ℕ, zero, suc, ◌+◌, ◌<◌, ◌≤◌, List, [], ◌∷◌, ◌++◌, length, refl, sym, ap, ap₂, ◌∙◌, subst, arith, add-one}
 use Rattle.std.specs.Prelude.{Result, Ok, Err, IfOk, IfErr, MatchResult}
 use Rattle.std.specs.Global.{Vec}
 use Rattle.isle_rules.specs.VisitAnswers.{listed}
 use Rattle.std.proofs.lemmas.List.{append_assoc, append-nil, map-append}
 use Rattle.std.proofs.lemmas.Bool.{cases_lt}
+use Rattle.std.proofs.lemmas.Result.{IfErr-weaker}
 use Rattle.std.proofs.lemmas.List.Elements.{All-nil, All-push, All-weaker}
-use Rattle.isle_model.specs.sites.Sites.{Constraint, is_present, SiteTerm, pick_of, some_part, tuple_part, unfold_site}
+use Rattle.isle_model.specs.sites.Sites.{Constraint, is_present, Site, SiteTerm, layer, pick_of, some_part, sources_of, tuple_part, unfold_site}
 use Rattle.isle_model.specs.rules.Typed.{TypedPatterns, no_typed_pattern, typed_pattern_and}
 use Rattle.isle_model.specs.sites.Demands.{Visit, with_sites, asking, iterating, making, from_to, pattern_count, Opened, opened, open_call, output_sites, part_sites}
 use Rattle.isle_model.specs.sites.Closure.{fields_from, field_terms}
+use Rattle.isle_model.specs.sites.Limits.{most_outputs}
 use Rattle.isle_model.specs.lists.Tables.{Flags}
 use Rattle.isle_base.specs.declared.syntax.Limit.{Limit}
+use Rattle.isle_base.specs.declared.syntax.Limit.TheVariants as Limits
 use Rattle.isle_base.specs.declared.visit_fault.VisitFault.{VisitFault}
-use Rattle.isle_sets.specs.SiteTables.{AreFirst, IsTable}
-use Rattle.isle_builder.specs.VisitedSites.{built_sites, IsSiteOf, AreSitesOf, StandsAt, GoesTo, Makes, MakesAll, OpensTo, EndsBefore, EndsBy, EndsOpening, AnswersTo, answer_of, answered, fields_opened, outputs_opened}
+use Rattle.isle_model.proofs.Members.{in_alone}
+use Rattle.isle_sets.specs.SiteTables.{AreFirst, HasSources, IsTable}
+use Rattle.isle_builder.specs.VisitedSites.{built_sites, part_of, part_site, IsSiteOf, AreSitesOf, StandsAt, GoesTo, Makes, MakesAll, OpensTo, EndsBefore, EndsBy, EndsOpening, AnswersTo, answer_of, answered, fields_opened, outputs_opened}
+use Rattle.isle_builder.specs.declared.builder_patterns.Parts.{Parts}
+use Rattle.isle_builder.specs.declared.builder_patterns.Parts.TheVariants as AllParts
 use Rattle.isle_builder.specs.declared.ruleset_builder.RuleSetBuilder.{RuleSetBuilder}
 use Rattle.isle_sets.proofs.ClosingTaken.{sites_append}
 use Rattle.isle_sets.proofs.FullTables.{first_with, want_weaker}
-use Rattle.isle_sets.proofs.SitesAdded.{same_all}
+use Rattle.isle_sets.proofs.SitesAdded.{same_all, weaker_ok}
 
 -- 1. visits that make sites
 pub making_twice : (us ts : List SiteTerm) (v : Visit) → making ts (making us v) ≡ making (us ++ ts) v
@@ -106,7 +112,43 @@ field_ends before b v f u i n e l is h =
     ∙ ap (λ us. us ++ split.0) (sym (append_assoc v.demands.made (fields_from f 0 i) (f i ∷ []))) in
     ends_later before b first (making (fields_from f 0 n) v) split.0 e made (subst (λ t. EndsBefore before b (making (t ∷ []) (making (fields_from f 0 i) v)) e) is h)
 
--- 6. the fields of a site are made, and then it is asked to have them
+-- 6. parts of a site, one more of them
+pub below_one : (b : RuleSetBuilder) (s : ℕ) → s < length (built_sites b) → (a : ℕ) → Contains (s ∷ []) a → a < length (built_sites b)
+below_one b s l a c = subst (λ k. k < length (built_sites b)) (in_alone s a c) l
+
+part_layer : (f : ℕ → SiteTerm) (parts : Parts) (s i : ℕ) → layer f (part_site parts s i) ≡ part_of parts (f s) i
+part_layer f (AllParts.Variant variant) s i = refl
+part_layer f AllParts.Struct s i = refl
+part_layer f AllParts.Outputs s i = refl
+
+part_source : (parts : Parts) (s i : ℕ) → sources_of (part_site parts s i) ≡ s ∷ []
+part_source (AllParts.Variant variant) s i = refl
+part_source AllParts.Struct s i = refl
+part_source AllParts.Outputs s i = refl
+
+module _ (before : List SiteTerm) (old now : RuleSetBuilder) (v : Visit) (parts : Parts) (s i place : ℕ) (ns : List ℕ) (binding : Site) (there : s < length (built_sites old)) (at : place ≡ i)
+    (is : binding ≡ part_site parts s place) (m : MakesAll before old now v (fields_from (part_of parts (unfold_site (built_sites old) s)) 0 i) ns) where
+  abbrev Part : ℕ → SiteTerm
+  Part = part_of parts (unfold_site (built_sites old) s)
+
+  pub part_below : HasSources (built_sites now) binding
+  part_below a c =
+      let longer = m.goes.longer in
+      below_one now s (omega (arith, there, longer)) a (subst (λ ss. Contains ss a) (ap sources_of is ∙ part_source parts s place) c)
+
+  part_is : layer (unfold_site (built_sites now)) binding ≡ Part i
+  part_is = ap (layer (unfold_site (built_sites now))) is ∙ part_layer (unfold_site (built_sites now)) parts s place ∙ ap₂ (part_of parts) (m.goes.kept s there) at
+
+  pub part_made : (new : RuleSetBuilder) (n : ℕ) (ns' : List ℕ) → Makes before now new (making (fields_from Part 0 i) v) (layer (unfold_site (built_sites now)) binding) n → ns' ≡ ns ++ n ∷ []
+      → MakesAll before old new v (fields_from Part 0 (i + 1)) ns'
+  part_made new n ns' one pushed =
+      subst (λ us. MakesAll before old new v us ns') (field_more_of Part i) (one_made before old now new v (fields_from Part 0 i) ns ns' _ (Part i) n m one part_is pushed)
+
+  pub part_ends : (new : RuleSetBuilder) (count : ℕ) (e : VisitFault) → i < count → EndsBefore before new (making (layer (unfold_site (built_sites now)) binding ∷ []) (making (fields_from Part 0 i) v)) e
+      → EndsBefore before new (making (fields_from Part 0 count) v) e
+  part_ends new count e l h = field_ends before new v Part _ i count e l part_is h
+
+-- they are made, and then it is asked to have them
 pub fields_open : (before : List SiteTerm) (old mid new : RuleSetBuilder) (v : Visit) (c : Constraint) (s : ℕ) (ids : List ℕ) → s < length (built_sites old)
     → MakesAll before old mid v (field_terms c (unfold_site (built_sites old) s)) ids
     → ((w : Visit) → StandsAt before mid w → s < length (built_sites mid) → GoesTo before mid new (asking (unfold_site (built_sites mid) s) c w))
@@ -134,18 +176,20 @@ parts_are u (typed_pattern_and q no_typed_pattern) n e l = absurd (omega (arith,
 parts_are u (typed_pattern_and q (typed_pattern_and r rs)) n e l =
     let same = places_same (tuple_part u) 0 (typed_pattern_and q (typed_pattern_and r rs)) ∙ ap (fields_from (tuple_part u) 0) e in (same, same)
 
-pub parts_open : (before : List SiteTerm) (old new : RuleSetBuilder) (v : Visit) (u : SiteTerm) (args : TypedPatterns) (n : ℕ) (ids : List ℕ) → pattern_count args ≡ n → 1 < n
-    → MakesAll before old new v (fields_from (tuple_part u) 0 n) ids → OpensTo before old new (outputs_opened u args v) ids
-parts_open before old new v u args n ids e l m =
-    let p = parts_are u args n e l in
-    record {
-      goes = subst (λ us. GoesTo before old new (making us v)) (sym p.0) m.goes;
-      inputs = subst (λ us. AreSitesOf new us ids) (sym p.1) m.sites;
-    }
+module _ (before : List SiteTerm) (old new : RuleSetBuilder) (v : Visit) (u : SiteTerm) (args : TypedPatterns) (n count : ℕ) (r : Result (Vec ℕ) VisitFault) (same : n ≡ count) (few : count ≤ most_outputs)
+    (is : pattern_count args ≡ count) (several : 1 < n) where
+  parts : (part_sites u args ≡ fields_from (tuple_part u) 0 n) × (output_sites u args ≡ fields_from (tuple_part u) 0 n)
+  parts = parts_are u args n (is ∙ sym same) several
 
-pub parts_end : (before : List SiteTerm) (b : RuleSetBuilder) (v : Visit) (u : SiteTerm) (args : TypedPatterns) (n : ℕ) (e : VisitFault) → pattern_count args ≡ n → 1 < n
-    → EndsBefore before b (making (fields_from (tuple_part u) 0 n) v) e → EndsBefore before b (outputs_opened u args v).visit e
-parts_end before b v u args n e same l h = subst (λ us. EndsBefore before b (making us v) e) (sym (parts_are u args n same l).0) h
+  pub parts_open : IfOk r (λ ids. MakesAll before old new v (fields_from (tuple_part u) 0 n) ids.items) → IfOk r (λ ids. (count ≤ most_outputs) × OpensTo before old new (outputs_opened u args v) ids.items)
+  parts_open =
+      weaker_ok (λ ids. MakesAll before old new v (fields_from (tuple_part u) 0 n) ids.items) (λ ids. (count ≤ most_outputs) × OpensTo before old new (outputs_opened u args v) ids.items) r
+      (λ ids m. (few, record { goes = subst (λ us. GoesTo before old new (making us v)) (sym parts.0) m.goes; inputs = subst (λ us. AreSitesOf new us ids.items) (sym parts.1) m.sites }))
+
+  pub parts_end : IfErr r (EndsBefore before new (making (fields_from (tuple_part u) 0 n) v)) → IfErr r (EndsOpening before new (outputs_opened u args v).visit Limits.Outputs most_outputs count v)
+  parts_end =
+      IfErr-weaker r (EndsBefore before new (making (fields_from (tuple_part u) 0 n) v)) (EndsOpening before new (outputs_opened u args v).visit Limits.Outputs most_outputs count v)
+      (λ e h. inl (few, subst (λ us. EndsBefore before new (making us v) e) (sym parts.0) h))
 
 -- 8. answers of a call
 pub many_answered : (before : List SiteTerm) (old mid new : RuleSetBuilder) (v : Visit) (s n : ℕ) (u : SiteTerm) → s < length (built_sites old) → u ≡ unfold_site (built_sites old) s
@@ -177,6 +221,10 @@ answered_makes true i call v = (pick_of call ∷ [], refl)
 answered_makes false true call v = ([], sym (append-nil v.demands.made))
 answered_makes false false call v = (some_part call ∷ [], refl)
 
+-- however many parts there are
+pub opening_ends : (before : List SiteTerm) (b : RuleSetBuilder) (w v : Visit) (l : Limit) (most count : ℕ) (e : VisitFault) → EndsBefore before b w e → EndsBefore before b v e → EndsOpening before b w l most count v e
+opening_ends before b w v l most count e h k = elim (cases_lt most count) [ inl m ↦ inr (m, inl k) | inr f ↦ inl (f, h) ]
+
 -- 9. an extractor's call, with its answer and its outputs
 call_opened : (multi infallible : Bool) (call : SiteTerm) (args : TypedPatterns) (v : Visit)
     → outputs_opened (answer_of multi infallible call) args (answered multi infallible call (making (call ∷ []) v))
@@ -189,35 +237,24 @@ call_opened true i call args v = ap (λ w. outputs_opened (pick_of call) args (i
 call_opened false true call args v = refl
 call_opened false false call args v = ap (λ w. outputs_opened (some_part call) args (asking call is_present w)) (making_twice (call ∷ []) (some_part call ∷ []) v)
 
-module _ (before : List SiteTerm) (old mid now : RuleSetBuilder) (v : Visit) (flags : Flags) (multi infallible : Bool) (is : flags.multi ≡ multi) (args : TypedPatterns) (call : SiteTerm) (s n : ℕ) where
+module _ (before : List SiteTerm) (v : Visit) (flags : Flags) (multi infallible : Bool) (is : flags.multi ≡ multi) (call : SiteTerm) where
   abbrev Call : Visit
   Call = making (call ∷ []) v
 
   abbrev Answered : Visit
   Answered = answered multi infallible call Call
 
-  call_same : (qs : TypedPatterns) → outputs_opened (answer_of multi infallible call) qs Answered ≡ open_call flags infallible call qs v
+  abbrev Wanted : TypedPatterns → Opened
+  Wanted args = open_call flags infallible call args v
+
+  -- it ended, however many outputs there are
+  abbrev EndsCall : RuleSetBuilder → ℕ → TypedPatterns → VisitFault → Type 0
+  EndsCall b count args e = EndsOpening before b (Wanted args).visit Limits.Outputs most_outputs count (Wanted no_typed_pattern).visit e
+
+  call_same : (qs : TypedPatterns) → outputs_opened (answer_of multi infallible call) qs Answered ≡ Wanted qs
   call_same qs = subst (λ m. outputs_opened (answer_of m infallible call) qs (answered m infallible call Call) ≡ open_call flags infallible call qs v) is (call_opened flags.multi infallible call qs v)
 
-  -- the call and its answer
-  pub call_answers : Makes before old mid v call s → ((w : Visit) → StandsAt before mid w → s < length (built_sites mid) → AnswersTo before mid now multi infallible (unfold_site (built_sites mid) s) w n)
-      → AnswersTo before mid now multi infallible call Call n
-  call_answers m next = subst (λ u. AnswersTo before mid now multi infallible u Call n) m.site.number (next Call m.goes.stands m.site.within)
-
-  -- and its outputs
-  pub call_opens : (new : RuleSetBuilder) (ids : List ℕ) → Makes before old mid v call s → AnswersTo before mid now multi infallible call Call n
-      → OpensTo before now new (outputs_opened (unfold_site (built_sites now) n) args Answered) ids → OpensTo before old new (open_call flags infallible call args v) ids
-  call_opens new ids m a o =
-      let p = subst (λ u. OpensTo before now new (outputs_opened u args Answered) ids) a.site.number o in
-      let whole = outputs_opened (answer_of multi infallible call) args Answered in
-      subst (λ q. OpensTo before old new q ids) (call_same args)
-      (record {
-        goes = goes_further before old now new Answered whole.visit (goes_further before old mid now Call Answered m.goes a.goes) p.goes;
-        inputs = p.inputs;
-      })
-
-  -- it ended on the way there
-  opened_makes : (qs : TypedPatterns) → (more : List SiteTerm) × ((open_call flags infallible call qs v).visit.demands.made ≡ Call.demands.made ++ more)
+  opened_makes : (qs : TypedPatterns) → (more : List SiteTerm) × ((Wanted qs).visit.demands.made ≡ Call.demands.made ++ more)
   opened_makes qs =
       let a = answered_makes multi infallible call Call in
       let parts = part_sites (answer_of multi infallible call) qs in (
@@ -225,22 +262,52 @@ module _ (before : List SiteTerm) (old mid now : RuleSetBuilder) (v : Visit) (fl
         ap (λ (q : Opened). q.visit.demands.made) (sym (call_same qs)) ∙ ap (λ us. us ++ parts) a.1 ∙ append_assoc Call.demands.made a.0 parts,
       )
 
-  pub call_ends : (qs : TypedPatterns) (b : RuleSetBuilder) (e : VisitFault) → EndsBefore before b Call e → EndsBefore before b (open_call flags infallible call qs v).visit e
-  call_ends qs b e h = let m = opened_makes qs in ends_later before b Call (open_call flags infallible call qs v).visit m.0 e m.1 h
+  ends_either : (args : TypedPatterns) (count : ℕ) (b : RuleSetBuilder) (e : VisitFault) → ((qs : TypedPatterns) → EndsBefore before b (Wanted qs).visit e) → EndsCall b count args e
+  ends_either args count b e h = opening_ends before b (Wanted args).visit (Wanted no_typed_pattern).visit Limits.Outputs most_outputs count e (h args) (h no_typed_pattern)
 
-  pub answer_ends : (qs : TypedPatterns) (b : RuleSetBuilder) (e : VisitFault) → EndsBefore before b Answered e → EndsBefore before b (open_call flags infallible call qs v).visit e
-  answer_ends qs b e h =
-      ends_later before b Answered (open_call flags infallible call qs v).visit (part_sites (answer_of multi infallible call) qs) e (ap (λ (q : Opened). q.visit.demands.made) (sym (call_same qs))) h
+  pub call_ends : (args : TypedPatterns) (count : ℕ) (b : RuleSetBuilder) (e : VisitFault) → EndsBefore before b Call e → EndsCall b count args e
+  call_ends args count b e h = ends_either args count b e (λ qs. let m = opened_makes qs in ends_later before b Call (Wanted qs).visit m.0 e m.1 h)
 
-  pub outputs_end : (b : RuleSetBuilder) (l : Limit) (most count : ℕ) (e : VisitFault) → EndsOpening before b (outputs_opened (answer_of multi infallible call) args Answered).visit l most count Answered e
-      → EndsOpening before b (open_call flags infallible call args v).visit l most count (open_call flags infallible call no_typed_pattern v).visit e
-  outputs_end b l most count e (inl h) = inl (h.0, subst (λ (q : Opened). EndsBefore before b q.visit e) (call_same args) h.1)
-  outputs_end b l most count e (inr h) =
-      inr (h.0, subst (λ w. EndsBy before b l w e) (sym (making_none Answered) ∙ ap (λ (q : Opened). q.visit) (call_same no_typed_pattern)) h.1)
+  module _ (old mid : RuleSetBuilder) (s : ℕ) (m : Makes before old mid v call s) where
+    pub answer_ends : (args : TypedPatterns) (count : ℕ) (b : RuleSetBuilder) (e : VisitFault)
+        → ((w : Visit) → StandsAt before mid w → s < length (built_sites mid) → EndsBefore before b (answered multi infallible (unfold_site (built_sites mid) s) w) e) → EndsCall b count args e
+    answer_ends args count b e full =
+        let h = subst (λ u. EndsBefore before b (answered multi infallible u Call) e) m.site.number (full Call m.goes.stands m.site.within) in
+        ends_either args count b e
+        (λ qs. ends_later before b Answered (Wanted qs).visit (part_sites (answer_of multi infallible call) qs) e (ap (λ (q : Opened). q.visit.demands.made) (sym (call_same qs))) h)
 
--- however many parts there are
-pub opening_ends : (before : List SiteTerm) (b : RuleSetBuilder) (w v : Visit) (l : Limit) (most count : ℕ) (e : VisitFault) → EndsBefore before b w e → EndsBefore before b v e → EndsOpening before b w l most count v e
-opening_ends before b w v l most count e h k = elim (cases_lt most count) [ inl m ↦ inr (m, inl k) | inr f ↦ inl (f, h) ]
+    -- the call is made and has answered, and its outputs follow
+    module _ (now : RuleSetBuilder) (n : ℕ) (next : (w : Visit) → StandsAt before mid w → s < length (built_sites mid) → AnswersTo before mid now multi infallible (unfold_site (built_sites mid) s) w n)
+        (new : RuleSetBuilder) (r : Result (Vec ℕ) VisitFault) (args : TypedPatterns) (count : ℕ) where
+      answers : AnswersTo before mid now multi infallible call Call n
+      answers = subst (λ u. AnswersTo before mid now multi infallible u Call n) m.site.number (next Call m.goes.stands m.site.within)
+
+      pub call_opens : (StandsAt before now Answered → n < length (built_sites now) → IfOk r (λ ids. (count ≤ most_outputs) × OpensTo before now new (outputs_opened (unfold_site (built_sites now) n) args Answered) ids.items))
+          → IfOk r (λ ids. (count ≤ most_outputs) × OpensTo before old new (Wanted args) ids.items)
+      call_opens opened =
+          weaker_ok (λ ids. (count ≤ most_outputs) × OpensTo before now new (outputs_opened (unfold_site (built_sites now) n) args Answered) ids.items)
+          (λ ids. (count ≤ most_outputs) × OpensTo before old new (Wanted args) ids.items) r
+          (λ ids o. (o.0, whole ids.items (subst (λ u. OpensTo before now new (outputs_opened u args Answered) ids.items) answers.site.number o.1)))
+          (opened answers.goes.stands answers.site.within)
+        where
+          whole : (ids : List ℕ) → OpensTo before now new (outputs_opened (answer_of multi infallible call) args Answered) ids → OpensTo before old new (Wanted args) ids
+          whole ids o =
+              subst (λ q. OpensTo before old new q ids) (call_same args)
+              (record {
+                goes = goes_further before old now new Answered (outputs_opened (answer_of multi infallible call) args Answered).visit (goes_further before old mid now Call Answered m.goes answers.goes) o.goes;
+                inputs = o.inputs;
+              })
+
+      pub outputs_end : (StandsAt before now Answered → n < length (built_sites now)
+          → IfErr r (EndsOpening before new (outputs_opened (unfold_site (built_sites now) n) args Answered).visit Limits.Outputs most_outputs count Answered)) → IfErr r (EndsCall new count args)
+      outputs_end full =
+          IfErr-weaker r (EndsOpening before new (outputs_opened (unfold_site (built_sites now) n) args Answered).visit Limits.Outputs most_outputs count Answered) (EndsCall new count args)
+          (λ e k. ends e (subst (λ u. EndsOpening before new (outputs_opened u args Answered).visit Limits.Outputs most_outputs count Answered e) answers.site.number k))
+          (full answers.goes.stands answers.site.within)
+        where
+          ends : (e : VisitFault) → EndsOpening before new (outputs_opened (answer_of multi infallible call) args Answered).visit Limits.Outputs most_outputs count Answered e → EndsCall new count args e
+          ends e (inl h) = inl (h.0, subst (λ (q : Opened). EndsBefore before new q.visit e) (call_same args) h.1)
+          ends e (inr h) = inr (h.0, subst (λ w. EndsBy before new Limits.Outputs w e) (sym (making_none Answered) ∙ ap (λ (q : Opened). q.visit) (call_same no_typed_pattern)) h.1)
 
 -- 10. an answer by its list
 pub listed_both : (r : Result (Vec ℕ) VisitFault) (P : List ℕ → Type 0) (Q : VisitFault → Type 0) → IfOk r (λ ids. P ids.items) → IfErr r Q → MatchResult (listed r) P Q

@@ -6,7 +6,7 @@ use Rattle.std.specs.Ordering.{nat_cmp}
 use Rattle.std.specs.BTreeSet.{insert_key}
 use Rattle.isle_base.specs.Stable.{contains}
 use Rattle.isle_model.specs.sites.Sites as Sites
-use Rattle.isle_model.specs.sites.Sites.{Site, SiteTerm, SiteTerms, argument, each_term, extractor_call, is_present, match_some_site, pick_of, some_part, unfold_site}
+use Rattle.isle_model.specs.sites.Sites.{Site, SiteTerm, SiteTerms, argument, each_term, extract_struct_site, extractor_call, is_present, match_some_site, match_tuple_site, match_variant_site, pick_of, some_part, struct_field, tuple_part, unfold_site, variant_field}
 use Rattle.isle_model.specs.rules.Program.{Program}
 use Rattle.isle_model.specs.rules.Typed.{TypedPatterns, no_typed_pattern, TypedRule}
 use Rattle.isle_model.specs.lists.Tables.{Flags}
@@ -22,6 +22,8 @@ use Rattle.isle_sets.specs.SiteTables.{AreFirst, ForWantOfRoom, IsTable, table_s
 use Rattle.isle_sets.specs.SiteViews.{constraint_view}
 use Rattle.isle_sets.specs.Closings.{AreDemandsOf, KeepsDue}
 use Rattle.isle_sets.specs.declared.trie_again.Constraint.{Constraint}
+use Rattle.isle_builder.specs.declared.builder_patterns.Parts.{Parts}
+use Rattle.isle_builder.specs.declared.builder_patterns.Parts.TheVariants as AllParts
 use Rattle.isle_builder.specs.declared.ruleset_builder.RuleSetBuilder.{RuleSetBuilder}
 
 -- the sites of a builder's table
@@ -100,6 +102,17 @@ EndsAtLimit p before r b _ = ⊥
 pub record MakesAll (before : List SiteTerm) (old new : RuleSetBuilder) (v : Visit) (us : List SiteTerm) (ns : List ℕ) : Type 0 where
   pub goes : GoesTo before old new (making us v)
   pub sites : AreSitesOf new us ns
+
+-- the part of a site at a place, and what it stands for
+abbrev pub part_site : Parts → ℕ → ℕ → Site
+part_site (AllParts.Variant variant) source i = match_variant_site source variant.0 i
+part_site AllParts.Struct source i = extract_struct_site source i
+part_site AllParts.Outputs source i = match_tuple_site source i
+
+abbrev pub part_of : Parts → SiteTerm → ℕ → SiteTerm
+part_of (AllParts.Variant variant) u = variant_field u variant.0
+part_of AllParts.Struct u = struct_field u
+part_of AllParts.Outputs u = tuple_part u
 
 -- the fields that a constraint gives a site are open, and the site is asked to meet it
 abbrev pub fields_opened : Sites.Constraint → SiteTerm → Visit → Opened

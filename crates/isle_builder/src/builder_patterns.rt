@@ -3,11 +3,12 @@ ghost use Rattle.std.specs.Prelude.{◌≡◌, ◌<◌, ◌≤◌, List, length,
 ghost use Rattle.isle_base.specs.declared.syntax.Limit.TheVariants as Limits;
 ghost use Rattle.isle_model.specs.lists.Tables.{Flags};
 ghost use Rattle.isle_model.specs.rules.Typed.{TypedPatterns, no_typed_pattern};
-ghost use Rattle.isle_model.specs.sites.Sites.{SiteTerm, extractor_call, is_bool, is_int, is_prim, is_struct, is_variant, struct_field, tuple_part, unfold_site, variant_field};
+ghost use Rattle.isle_model.specs.sites.Sites.{SiteTerm, extractor_call, is_bool, is_int, is_prim, is_struct, is_variant, unfold_site};
 ghost use Rattle.isle_model.specs.sites.Demands.{Visit, making, open_call, pattern_count};
 ghost use Rattle.isle_model.specs.sites.Closure.{fields_from};
 ghost use Rattle.isle_model.specs.sites.Limits.{most_fields, most_outputs};
-ghost use Rattle.isle_builder.specs.VisitedSites.{AnswersTo, Asks, EndsBefore, EndsOpening, AsksEqual, MakesAll, OpensExtractor, OpensFields, OpensTo, StandsAt, answered, built_sites, fields_opened, outputs_opened};
+ghost use Rattle.isle_sets.specs.SiteViews.{site_view};
+ghost use Rattle.isle_builder.specs.VisitedSites.{AnswersTo, Asks, EndsBefore, EndsOpening, AsksEqual, MakesAll, OpensExtractor, OpensFields, OpensTo, StandsAt, answered, built_sites, fields_opened, outputs_opened, part_of, part_site};
 
 use crate::ruleset_builder::RuleSetBuilder;
 use isle_base::syntax::Limit;
@@ -16,49 +17,53 @@ use isle_rules::PatternVisitor;
 use isle_sets::trie_again::{Binding, BindingId, Constraint, TupleIndex};
 use isle_types::{Sym, TermId, TypeId, VariantId};
 
-impl RuleSetBuilder {
-    // The sites of a variant's fields, in order, new ones where they aren't there.
-    fn make_variant_fields(
-        &mut self,
-        source: BindingId,
-        variant: VariantId,
-        fields: TupleIndex,
-    ) -> Result<Vec<BindingId>, VisitFault>
-        ensures made { (before : List SiteTerm) (v : Visit) → StandsAt before self.old v → source < length (built_sites self.old)
-            → IfOk result (λ ids. MakesAll before self.old self.new v (fields_from (variant_field (unfold_site (built_sites self.old) source) variant.0) 0 fields) ids.items) }
-        ensures full { (before : List SiteTerm) (v : Visit) → StandsAt before self.old v → source < length (built_sites self.old)
-            → IfErr result (EndsBefore before self.new (making (fields_from (variant_field (unfold_site (built_sites self.old) source) variant.0) 0 fields) v)) }
-        ensures count { IfOk result (λ ids. vec_len ids ≡ fields) }
+// What the parts of a site are.
+#[derive(Clone, Copy)]
+pub(crate) enum Parts {
+    // The fields of this variant.
+    Variant(VariantId),
+    // The fields of a struct.
+    Struct,
+    // The outputs of a call.
+    Outputs,
+}
+
+impl Parts {
+    // The part of a site at a place.
+    fn binding(self, source: BindingId, field: TupleIndex) -> Binding
+        ensures { site_view result ≡ part_site self source field }
     {
-        let mut ids = Vec::new(self.alloc);
-        for place in 0..fields.as_u8() {
-            let field = TupleIndex::from(place);
-            let id = self.make(Binding::MatchVariant {
+        match self {
+            Parts::Variant(variant) => Binding::MatchVariant {
                 source,
                 variant,
                 field,
-            })?;
-            ids.push(id)?;
+            },
+            Parts::Struct => Binding::ExtractStruct { source, field },
+            Parts::Outputs => Binding::MatchTuple { source, field },
         }
-        Ok(ids)
     }
+}
 
-    // The sites of a struct's fields, likewise.
-    fn make_struct_fields(
+impl RuleSetBuilder {
+    // The sites of a site's parts, in order, new ones where they aren't there.
+    fn make_parts(
         &mut self,
         source: BindingId,
-        fields: TupleIndex,
+        parts: Parts,
+        count: TupleIndex,
     ) -> Result<Vec<BindingId>, VisitFault>
         ensures made { (before : List SiteTerm) (v : Visit) → StandsAt before self.old v → source < length (built_sites self.old)
-            → IfOk result (λ ids. MakesAll before self.old self.new v (fields_from (struct_field (unfold_site (built_sites self.old) source)) 0 fields) ids.items) }
+            → IfOk result (λ ids. MakesAll before self.old self.new v (fields_from (part_of parts (unfold_site (built_sites self.old) source)) 0 count) ids.items) }
         ensures full { (before : List SiteTerm) (v : Visit) → StandsAt before self.old v → source < length (built_sites self.old)
-            → IfErr result (EndsBefore before self.new (making (fields_from (struct_field (unfold_site (built_sites self.old) source)) 0 fields) v)) }
-        ensures count { IfOk result (λ ids. vec_len ids ≡ fields) }
+            → IfErr result (EndsBefore before self.new (making (fields_from (part_of parts (unfold_site (built_sites self.old) source)) 0 count) v)) }
+        ensures count { IfOk result (λ ids. vec_len ids ≡ count) }
     {
         let mut ids = Vec::new(self.alloc);
-        for place in 0..fields.as_u8() {
+        for place in 0..count.as_u8() {
             let field = TupleIndex::from(place);
-            let id = self.make(Binding::ExtractStruct { source, field })?;
+            let part = parts.binding(source, field);
+            let id = self.make(part)?;
             ids.push(id)?;
         }
         Ok(ids)
@@ -81,7 +86,7 @@ impl RuleSetBuilder {
         let Ok(fields) = TupleIndex::try_from(count) else {
             return Err(VisitFault::Limit(Limit::Fields));
         };
-        let ids = self.make_variant_fields(input, variant, fields)?;
+        let ids = self.make_parts(input, Parts::Variant(variant), fields)?;
         self.ask(
             input,
             &Constraint::Variant {
@@ -109,29 +114,8 @@ impl RuleSetBuilder {
         let Ok(fields) = TupleIndex::try_from(count) else {
             return Err(VisitFault::Limit(Limit::Fields));
         };
-        let ids = self.make_struct_fields(input, fields)?;
+        let ids = self.make_parts(input, Parts::Struct, fields)?;
         self.ask(input, &Constraint::Struct { ty, fields })?;
-        Ok(ids)
-    }
-
-    // The sites of a tuple's parts, in order, new ones where they aren't there.
-    fn make_parts(
-        &mut self,
-        source: BindingId,
-        parts: TupleIndex,
-    ) -> Result<Vec<BindingId>, VisitFault>
-        ensures made { (before : List SiteTerm) (v : Visit) → StandsAt before self.old v → source < length (built_sites self.old)
-            → IfOk result (λ ids. MakesAll before self.old self.new v (fields_from (tuple_part (unfold_site (built_sites self.old) source)) 0 parts) ids.items) }
-        ensures full { (before : List SiteTerm) (v : Visit) → StandsAt before self.old v → source < length (built_sites self.old)
-            → IfErr result (EndsBefore before self.new (making (fields_from (tuple_part (unfold_site (built_sites self.old) source)) 0 parts) v)) }
-        ensures count { IfOk result (λ ids. vec_len ids ≡ parts) }
-    {
-        let mut ids = Vec::new(self.alloc);
-        for place in 0..parts.as_u8() {
-            let field = TupleIndex::from(place);
-            let id = self.make(Binding::MatchTuple { source, field })?;
-            ids.push(id)?;
-        }
         Ok(ids)
     }
 
@@ -152,7 +136,7 @@ impl RuleSetBuilder {
         if count == 1 {
             return Ok(vec![in self.alloc; site]?);
         }
-        self.make_parts(site, parts)
+        self.make_parts(site, Parts::Outputs, parts)
     }
 
     // What a call answers: one of its answers where there may be many, what is in its answer where there may be none.

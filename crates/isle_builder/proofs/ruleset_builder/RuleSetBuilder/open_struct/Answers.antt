@@ -7,7 +7,7 @@ use Rattle.isle_builder.proofs.ruleset_builder.RuleSetBuilder.open_struct.Goals 
 pub returns-clause-opened : goal.returns-clause-opened
 returns-clause-opened c before v h l =
     let old = c.args.self.now in
-    let mid = c.make_struct_fields.new.self in
+    let mid = c.make_parts.new.self in
     let new = c.ask.new.self in
     let same : c.in-Ok.fields ≡ c.args.count = omega (arith, c.in-Ok.ensures) in (
       omega (arith, c.in-Ok.ensures),
