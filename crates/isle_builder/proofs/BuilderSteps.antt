@@ -7,7 +7,7 @@ use Rattle.std.proofs.lemmas.Bool.{cases_Bool, cond-true, cond-false, false≢tr
 use Rattle.std.proofs.lemmas.List.{append_assoc, append-nil, length_push, map-append}
 use Rattle.std.proofs.lemmas.List.Elements.{All-nil, All-push, All-weaker, Contains-append_left, Contains-append_right, Contains-append_cases}
 use Rattle.isle_base.specs.Stable.{Members, contains}
-use Rattle.isle_model.specs.sites.Sites.{Site, Constraint, SiteTerm, layer, unfold_site}
+use Rattle.isle_model.specs.sites.Sites.{Site, Constraint, is_present, SiteTerm, layer, unfold_site}
 use Rattle.isle_model.specs.sites.Demands.{site_term_eq, has_site, Visit, with_sites, asking, calling, equating, iterating, making, visit_start}
 use Rattle.isle_model.specs.sites.Closure.{Closed, conflict_with, conflicts_met, constraint_of, with_constraint, with_constraints, class_at, merged_classes, before_closing}
 use Rattle.isle_model.specs.sites.RuleSets.{StandFor}
@@ -21,7 +21,7 @@ use Rattle.isle_sets.specs.DemandsHeld.{constraint_held, are_equated, first_kept
 use Rattle.isle_sets.specs.SiteTables.{AreFirst, ForWantOfRoom, HasNoRoom, HasSources, IsTable, StandsFor, table_sites}
 use Rattle.isle_sets.specs.SiteViews.{constraint_view}
 use Rattle.isle_sets.specs.Closings.{AreDemandsOf, KeepsDue}
-use Rattle.isle_builder.specs.VisitedSites.{built_sites, conflict_beside, conflict_view, StandsAt, GoesTo, Makes, EndsBefore}
+use Rattle.isle_builder.specs.VisitedSites.{AreAnswered, AsksUnwrapped, built_sites, conflict_beside, conflict_view, StandsAt, GoesTo, Makes, EndsBefore}
 use Rattle.isle_base.specs.declared.visit_fault.VisitFault.{VisitFault}
 use Rattle.isle_sets.specs.declared.trie_again.Constraint as C
 use Rattle.isle_sets.specs.declared.demanded.Demanded.{Demanded}
@@ -120,7 +120,7 @@ module _ (before : List SiteTerm) (v : Visit) where
 
 -- 3. a site is made
 abbrev pub with_table : RuleSetBuilder → SiteTable → RuleSetBuilder
-with_table b t = record { alloc = b.alloc; table = t; demanded = b.demanded; conflicts = b.conflicts; iterators = b.iterators; impure = b.impure }
+with_table b t = record b { table = t }
 
 module _ (before : List SiteTerm) (b : RuleSetBuilder) (t : SiteTable) (v : Visit) (s : Site) (n : ℕ) (h : StandsAt before b v) (table : IsTable t)
     (longer : length (built_sites b) ≤ length (table_sites t))
@@ -147,6 +147,7 @@ module _ (before : List SiteTerm) (b : RuleSetBuilder) (t : SiteTable) (v : Visi
           numbers = same_all (unfold_site (table_sites t)) (unfold_site (built_sites b)) (length (built_sites b)) b.impure.items st.kept h.impure.within ∙ h.impure.numbers;
         };
         calls = h.calls;
+        answered = λ r c. let g = h.answered r c in let l = g.0 in (omega (arith, l, longer), subst (AsksUnwrapped v) (sym (st.kept r l)) g.1);
       };
       kept = st.kept;
       longer = longer;
@@ -167,7 +168,7 @@ site_ends before b t v s e h below none table =
 
 -- 4. a site is asked something
 abbrev pub with_demanded : RuleSetBuilder → Demanded → Vec (C.Constraint × C.Constraint) → RuleSetBuilder
-with_demanded b e w = record { alloc = b.alloc; table = b.table; demanded = e; conflicts = w; iterators = b.iterators; impure = b.impure }
+with_demanded b e w = record b { demanded = e; conflicts = w }
 
 module _ (before : List SiteTerm) (b : RuleSetBuilder) (v : Visit) (h : StandsAt before b v) where
   abbrev sites : List Site
@@ -202,6 +203,7 @@ module _ (before : List SiteTerm) (b : RuleSetBuilder) (v : Visit) (h : StandsAt
           all_gone_over = h.all_gone_over;
           impure = record { within = h.impure.within; numbers = h.impure.numbers };
           calls = h.calls;
+          answered = λ r t. let g = h.answered r t in (g.0, λ u i. Contains-append_left v.demands.constraints ((f s, k) ∷ []) (u, is_present) (g.1 u i));
         };
         kept = λ r m. refl;
         longer = omega arith;
@@ -231,6 +233,7 @@ module _ (before : List SiteTerm) (b : RuleSetBuilder) (v : Visit) (h : StandsAt
           all_gone_over = λ u c. h.all_gone_over u (subst (λ l. Contains l u) its c);
           impure = record { within = h.impure.within; numbers = h.impure.numbers ∙ sym im };
           calls = h.calls ∙ sym calls;
+          answered = λ r c. let g = h.answered r c in (g.0, λ u i. subst (λ l. Contains l (u, is_present)) (sym cs) (g.1 u i));
         };
         kept = λ r m. refl;
         longer = omega arith;
@@ -238,7 +241,7 @@ module _ (before : List SiteTerm) (b : RuleSetBuilder) (v : Visit) (h : StandsAt
 
   -- 5. a call is gone over, or is one of the impure ones
   pub call_gone_over : (its : Members ℕ) (s : ℕ) → s < length sites → ((x : ℕ) → contains ◌==◌ its x ≡ (if s == x then true else contains ◌==◌ b.iterators x))
-      → GoesTo before b (record { alloc = b.alloc; table = b.table; demanded = b.demanded; conflicts = b.conflicts; iterators = its; impure = b.impure }) (iterating (f s) v)
+      → GoesTo before b (record b { iterators = its }) (iterating (f s) v)
   call_gone_over its s l has = record {
     stands = record {
       table = h.table;
@@ -259,6 +262,7 @@ module _ (before : List SiteTerm) (b : RuleSetBuilder) (v : Visit) (h : StandsAt
           ];
       impure = record { within = h.impure.within; numbers = h.impure.numbers };
       calls = h.calls;
+      answered = h.answered;
     };
     kept = λ r m. refl;
     longer = omega arith;
@@ -269,7 +273,7 @@ module _ (before : List SiteTerm) (b : RuleSetBuilder) (v : Visit) (h : StandsAt
       either_way false c e = e
 
   pub call_made : (im : Vec ℕ) (s : ℕ) → s < length sites → im.items ≡ b.impure.items ++ s ∷ []
-      → GoesTo before b (record { alloc = b.alloc; table = b.table; demanded = b.demanded; conflicts = b.conflicts; iterators = b.iterators; impure = im }) (calling (f s) v)
+      → GoesTo before b (record b { impure = im }) (calling (f s) v)
   call_made im s l pushed = record {
     stands = record {
       table = h.table;
@@ -283,6 +287,7 @@ module _ (before : List SiteTerm) (b : RuleSetBuilder) (v : Visit) (h : StandsAt
         numbers = ap (map f) pushed ∙ map-append f b.impure.items (s ∷ []) ∙ ap (λ us. us ++ f s ∷ []) h.impure.numbers;
       };
       calls = ap length pushed ∙ length_push b.impure.items s ∙ add-one (length b.impure.items) ∙ ap suc h.calls;
+      answered = h.answered;
     };
     kept = λ r m. refl;
     longer = omega arith;
@@ -293,9 +298,12 @@ ok_both P Q (Ok x) p q = (p, q)
 ok_both P Q (Err e) p q = tt
 
 -- before a visit
+pub nothing_answered : (sites : List Site) (v : Visit) (none : Members ℕ) → ((s : ℕ) → contains ◌==◌ none s ≡ false) → AreAnswered sites v none
+nothing_answered sites v none e s t = absurd (false≢true (sym (e s) ∙ t))
+
 pub nothing_visited : (before : List SiteTerm) (b : RuleSetBuilder) → IsTable b.table → KeepsDue b.demanded → IsDistinct before → StandFor (built_sites b) before → ((s : ℕ) → constraint_held b.demanded s ≡ None)
-    → ((p q : ℕ) → are_equated b.demanded p q ≡ false) → b.conflicts.items ≡ [] → ((x : ℕ) → contains ◌==◌ b.iterators x ≡ false) → b.impure.items ≡ [] → StandsAt before b visit_start
-nothing_visited before b table due once stand asked equal no_conflict no_iterator no_call = record {
+    → ((p q : ℕ) → are_equated b.demanded p q ≡ false) → b.conflicts.items ≡ [] → ((x : ℕ) → contains ◌==◌ b.iterators x ≡ false) → b.impure.items ≡ [] → ((x : ℕ) → contains ◌==◌ b.answered x ≡ false) → StandsAt before b visit_start
+nothing_visited before b table due once stand asked equal no_conflict no_iterator no_call no_answer = record {
   table = table;
   due = due;
   demands = record {
@@ -314,6 +322,7 @@ nothing_visited before b table due once stand asked equal no_conflict no_iterato
   all_gone_over = λ u i. absurd (nothing_in u i);
   impure = record { within = subst (All (λ r. r < length (built_sites b))) (sym no_call) (All-nil (λ r. r < length (built_sites b))); numbers = ap (map (unfold_site (built_sites b))) no_call };
   calls = ap length no_call;
+  answered = nothing_answered (built_sites b) visit_start b.answered no_answer;
 }
 
 -- and without any site

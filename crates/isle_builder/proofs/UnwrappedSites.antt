@@ -1,18 +1,21 @@
 -- The calls that a site unwraps are found by taking sites apart, the greatest first.
-use Rattle.std.proofs.Common.{cond, false, nat_eq, nat_lt, ltb-true, get_or, drop, ◌≡◌, ◌⊎◌, ℕ, suc, ◌+◌, ◌<◌, ◌≤◌, List, [], ◌∷◌, ◌++◌, length, map, Option, Some, None, slice_get, All, refl, sym, ap, ◌∙◌, subst, inl, inr, arith}
+use Rattle.std.proofs.Common.{cond, Bool, true, false, eqb-true, if◌then◌else◌, nat_eq, nat_lt, ltb-true, get_or, drop, ◌≡◌, ◌⊎◌, ℕ, suc, ◌+◌, ◌<◌, ◌≤◌, List, [], ◌∷◌, ◌++◌, length, map, Option, Some, None, slice_get, All, refl, sym, ap, ◌∙◌, subst, inl, inr, arith}
 use Rattle.std.proofs.lemmas.List.{map-append}
 use Rattle.std.proofs.lemmas.Bool.{cases_Bool, cond-true, cond-false, false≢true}
 use Rattle.std.specs.Ordering.{is_lt, nat_cmp, match_ordering}
 use Rattle.std.specs.declared.cmp.Ordering.TheVariants.{Less, Equal, Greater}
 use Rattle.std.specs.BTreeSet.{insert_key}
+use Rattle.std.specs.Bool.{◌==◌}
+use Rattle.std.specs.Prelude.{IsTrue}
 use Rattle.std.proofs.lemmas.Map.Lookups.{exact_unsigned}
 use Rattle.isle_model.specs.sites.Sites.{Site, bool_site, int_site, prim_site, argument_site, extractor_site, constructor_site, iterator_site, make_variant_site, match_variant_site, make_struct_site, extract_struct_site, make_some_site, match_some_site, match_tuple_site, sources_of, sources_at, SiteTerm, each_term, layer, layer_at, unfold_site}
 use Rattle.isle_model.specs.sites.Demands.{unwraps, unwraps_all}
 use Rattle.isle_model.proofs.Elements.{In, in_from_contains, contains_from_in, in_either, in_left, in_right}
 use Rattle.isle_model.proofs.Members.{all_members}
 use Rattle.isle_laws_demands.proofs.visits.Unfolding.{SourcesFirst, unfolds}
+use Rattle.isle_base.specs.Stable.{Members, contains}
 use Rattle.isle_sets.proofs.Rests.{rest_is}
-use Rattle.isle_builder.specs.VisitedSites.{AreUnwrapped, unwrapped_at, unwrapped_source, with_keys}
+use Rattle.isle_builder.specs.VisitedSites.{AreUnwrapped, IsWalked, unwrapped_at, unwrapped_source, with_keys}
 
 -- 1. keys
 inserted : (keys : List ℕ) (k t : ℕ) → In (insert_key nat_cmp keys k) t → In keys t ⊎ (k ≡ t)
@@ -180,30 +183,54 @@ unwrapped_at_source : (o : Option Site) (c : ℕ) → In (elim o [ None ↦ [] |
 unwrapped_at_source None c i = i
 unwrapped_at_source (Some b) c i = unwrapped_is_source b c i
 
--- 3. after some steps: the sites that are due, and the calls that were found
-pub record Searched (sites : List Site) (s : ℕ) (due calls : List ℕ) (steps : ℕ) : Type 0 where
+-- 3. after some steps: the sites that are walked, those that are due, and the calls that were found
+-- what a site unwraps is one of the calls, or a site unwraps it that is due or was walked before
+abbrev IsCovered : List Site → Members ℕ → List ℕ → List ℕ → ℕ → Type 0
+IsCovered sites before due calls s =
+    (u : SiteTerm) → In (unwraps (unfold_site sites s)) u
+    → In (map (unfold_site sites) calls) u ⊎ ((t : ℕ) × (In due t ⊎ IsTrue (contains ◌==◌ before t)) × In (unwraps (unfold_site sites t)) u)
+
+-- a site was walked before, or is now, after all that are due
+abbrev IsPassed : List Site → Members ℕ → List ℕ → List ℕ → ℕ → Type 0
+IsPassed sites before due calls s = IsTrue (contains ◌==◌ before s) ⊎ (((t : ℕ) → In due t → t < s) × (s < length sites) × IsCovered sites before due calls s)
+
+pub record Searched (sites : List Site) (s : ℕ) (before walked : Members ℕ) (due calls : List ℕ) (steps : ℕ) : Type 0 where
   pub below : (t : ℕ) → In due t → t + steps ≤ s
   pub within : (c : ℕ) → In calls c → c < length sites
   pub found : (u : SiteTerm) → In (map (unfold_site sites) calls) u → In (unwraps (unfold_site sites s)) u
   pub each : (t : ℕ) (u : SiteTerm) → In due t → In (unwraps (unfold_site sites t)) u → In (unwraps (unfold_site sites s)) u
-  pub all : (u : SiteTerm) → In (unwraps (unfold_site sites s)) u → In (map (unfold_site sites) calls) u ⊎ ((t : ℕ) × In due t × In (unwraps (unfold_site sites t)) u)
+  pub all : IsCovered sites before due calls s
+  pub passed : (t : ℕ) → IsTrue (contains ◌==◌ walked t) → IsPassed sites before due calls t
 
-pub search_starts : (sites : List Site) (s : ℕ) (due calls : List ℕ) → due ≡ s ∷ [] → calls ≡ [] → Searched sites s due calls 0
-search_starts sites s due calls one none =
-    subst (λ d. Searched sites s d calls 0) (sym one) (subst (λ cs. Searched sites s (s ∷ []) cs 0) (sym none) (record {
+pub search_starts : (sites : List Site) (s : ℕ) (before : Members ℕ) (due calls : List ℕ) → due ≡ s ∷ [] → calls ≡ [] → Searched sites s before before due calls 0
+search_starts sites s before due calls one none =
+    subst (λ d. Searched sites s before before d calls 0) (sym one) (subst (λ cs. Searched sites s before before (s ∷ []) cs 0) (sym none) (record {
       below = λ t i. elim i [ inl e ↦ omega (arith, e) | inr n ↦ absurd n ];
       within = λ c i. absurd i;
       found = λ u i. absurd i;
       each = λ t u i j. elim i [ inl e ↦ subst (λ x. In (unwraps (unfold_site sites x)) u) (sym e) j | inr n ↦ absurd n ];
-      all = λ u i. inr (s, inl refl, i);
+      all = λ u i. inr (s, inl (inl refl), i);
+      passed = λ t w. inl w;
     }))
 
-module _ (sites : List Site) (first : SourcesFirst sites) (s : ℕ) (there : s < length sites) where
+unless : (w : Bool) (xs : List ℕ) (x : ℕ) → In (if w then [] else xs) x → In xs x
+unless true xs x i = absurd i
+unless false xs x i = i
+
+module _ (sites : List Site) (first : SourcesFirst sites) (s : ℕ) (there : s < length sites) (before : Members ℕ) where
   abbrev f : ℕ → SiteTerm
   f = unfold_site sites
 
-  module _ (due rest next calls found : List ℕ) (k steps : ℕ) (taken : due ≡ rest ++ k ∷ []) (less : (t : ℕ) → In rest t → t < k) (more : next ≡ with_keys rest (sources_at sites k))
-      (noted : found ≡ calls ++ unwrapped_at sites k) (h : Searched sites s due calls steps) where
+  module _ (walked after : Members ℕ) (due rest next calls found : List ℕ) (k steps : ℕ) (taken : due ≡ rest ++ k ∷ []) (less : (t : ℕ) → In rest t → t < k)
+      (noted : (t : ℕ) → contains ◌==◌ after t ≡ (if k == t then true else contains ◌==◌ walked t))
+      (more : next ≡ with_keys rest (if contains ◌==◌ walked k then [] else sources_at sites k))
+      (got : found ≡ calls ++ (if contains ◌==◌ walked k then [] else unwrapped_at sites k)) (h : Searched sites s before walked due calls steps) where
+    abbrev sources : List ℕ
+    sources = if contains ◌==◌ walked k then [] else sources_at sites k
+
+    abbrev unwrapped : List ℕ
+    unwrapped = if contains ◌==◌ walked k then [] else unwrapped_at sites k
+
     greatest : In due k
     greatest = subst (λ d. In d k) (sym taken) (in_right rest (k ∷ []) k (inl refl))
 
@@ -214,7 +241,7 @@ module _ (sites : List Site) (first : SourcesFirst sites) (s : ℕ) (there : s <
     source t i = first k t (contains_from_in (sources_at sites k) t i)
 
     either : (t : ℕ) → In next t → In rest t ⊎ In (sources_at sites k) t
-    either t i = keys_from rest (sources_at sites k) t (subst (λ d. In d t) more i)
+    either t i = elim (keys_from rest sources t (subst (λ d. In d t) more i)) [ inl j ↦ inl j | inr j ↦ inr (unless (contains ◌==◌ walked k) (sources_at sites k) t j) ]
 
     less_again : (t : ℕ) → In next t → t < k
     less_again t i = elim (either t i) [ inl j ↦ less t j | inr j ↦ source t j ]
@@ -222,34 +249,84 @@ module _ (sites : List Site) (first : SourcesFirst sites) (s : ℕ) (there : s <
     of_k : (u : SiteTerm) → In (unwraps (layer_at f (slice_get sites k))) u → In (unwraps (f s)) u
     of_k u i = h.each k u greatest (subst (λ w. In (unwraps w) u) (sym (unfolds sites first k)) i)
 
+    calls_are : map f found ≡ map f calls ++ map f unwrapped
+    calls_are = ap (map f) got ∙ map-append f calls unwrapped
+
+    unwrapped_mapped : (w : Bool) (u : SiteTerm) → In (map f (if w then [] else unwrapped_at sites k)) u → In (map f (unwrapped_at sites k)) u
+    unwrapped_mapped true u i = absurd i
+    unwrapped_mapped false u i = i
+
     calls_either : (u : SiteTerm) → In (map f found) u → In (map f calls) u ⊎ In (map f (unwrapped_at sites k)) u
-    calls_either u i = in_either (map f calls) (map f (unwrapped_at sites k)) u (subst (λ l. In l u) (ap (map f) noted ∙ map-append f calls (unwrapped_at sites k)) i)
+    calls_either u i =
+        elim (in_either (map f calls) (map f unwrapped) u (subst (λ l. In l u) calls_are i)) [ inl j ↦ inl j | inr j ↦ inr (unwrapped_mapped (contains ◌==◌ walked k) u j) ]
 
-    to_calls : (u : SiteTerm) → In (map f calls ++ map f (unwrapped_at sites k)) u → In (map f found) u
-    to_calls u i = subst (λ l. In l u) (sym (ap (map f) noted ∙ map-append f calls (unwrapped_at sites k))) i
+    calls_stay : (u : SiteTerm) → In (map f calls) u → In (map f found) u
+    calls_stay u i = subst (λ l. In l u) (sym calls_are) (in_left (map f calls) (map f unwrapped) u i)
 
-    of_due : (u : SiteTerm) (t : ℕ) → In due t → In (unwraps (f t)) u → In (map f found) u ⊎ ((x : ℕ) × In next x × In (unwraps (f x)) u)
-    of_due u t i j =
-        elim (in_either rest (k ∷ []) t (subst (λ d. In d t) taken i)) [
-          | inl a ↦ inr (t, subst (λ d. In d t) (sym more) (keys_stay rest (sources_at sites k) t a), j)
-          | inr a ↦
-              elim a [
-                | inl e ↦
-                    elim (from_at f u (slice_get sites k) (subst (λ w. In (unwraps w) u) (unfolds sites first k) (subst (λ x. In (unwraps (f x)) u) (sym e) j))) [
-                      | inl m ↦ inl (to_calls u (in_right (map f calls) (map f (unwrapped_at sites k)) u m))
-                      | inr d ↦ inr (d.0, subst (λ l. In l d.0) (sym more) (keys_come rest (sources_at sites k) d.0 d.1), d.2)
-                    ]
-                | inr n ↦ absurd n
+    -- what the site that is taken unwraps: it was walked before, or its sources are due now
+    abbrev IsHeld : SiteTerm → Type 0
+    IsHeld u = In (map f found) u ⊎ ((t : ℕ) × (In next t ⊎ IsTrue (contains ◌==◌ before t)) × In (unwraps (f t)) u)
+
+    of_taken : (u : SiteTerm) → In (unwraps (f k)) u → IsHeld u
+    of_taken u i =
+        elim (cases_Bool (contains ◌==◌ walked k)) [
+          | inl w ↦
+              elim (h.passed k w) [
+                | inl b ↦ inr (k, inr b, i)
+                | inr p ↦ let l = p.0 k greatest in absurd (omega (arith, l))
+              ]
+          | inr w ↦
+              elim (from_at f u (slice_get sites k) (subst (λ x. In (unwraps x) u) (unfolds sites first k) i)) [
+                | inl m ↦
+                    inl (subst (λ l. In l u) (sym calls_are)
+                    (in_right (map f calls) (map f unwrapped) u (subst (λ b. In (map f (if b then [] else unwrapped_at sites k)) u) (sym w) m)))
+                | inr d ↦
+                    inr (d.0, inl (subst (λ l. In l d.0) (sym more) (keys_come rest sources d.0 (subst (λ b. In (if b then [] else sources_at sites k) d.0) (sym w) d.1))), d.2)
               ]
         ]
 
-    pub search_goes_on : Searched sites s next found (suc steps)
+    of_due : (u : SiteTerm) (t : ℕ) → In due t → In (unwraps (f t)) u → IsHeld u
+    of_due u t i j =
+        elim (in_either rest (k ∷ []) t (subst (λ d. In d t) taken i)) [
+          | inl a ↦ inr (t, inl (subst (λ d. In d t) (sym more) (keys_stay rest sources t a)), j)
+          | inr a ↦ elim a [ inl e ↦ of_taken u (subst (λ x. In (unwraps (f x)) u) (sym e) j) | inr n ↦ absurd n ]
+        ]
+
+    still_covered : (t : ℕ) → IsCovered sites before due calls t → IsCovered sites before next found t
+    still_covered t c u i =
+        elim (c u i) [
+          | inl j ↦ inl (calls_stay u j)
+          | inr d ↦ elim d.1 [ inl j ↦ of_due u d.0 j d.2 | inr b ↦ inr (d.0, inr b, d.2) ]
+        ]
+
+    taken_within : k < length sites
+    taken_within = let b = h.below k greatest in omega (arith, b, there)
+
+    still_passed : (t : ℕ) → IsTrue (contains ◌==◌ after t) → IsPassed sites before next found t
+    still_passed t w =
+        elim (cases_Bool (k == t)) [
+          | inl e ↦ subst (IsPassed sites before next found) (eqb-true k t e) (inr (less_again, taken_within, of_taken))
+          | inr n ↦
+              elim (h.passed t (sym (noted t ∙ cond-false (k == t) true (contains ◌==◌ walked t) n) ∙ w)) [
+                | inl b ↦ inl b
+                | inr p ↦
+                    inr (
+                      λ x i. elim (either x i) [ inl j ↦ p.0 x (other x j) | inr j ↦ let l = source x j in let m = p.0 k greatest in omega (arith, l, m) ],
+                      p.1,
+                      still_covered t p.2,
+                    )
+              ]
+        ]
+
+    pub search_goes_on : Searched sites s before after next found (suc steps)
     search_goes_on = record {
       below = λ t i. let a = less_again t i in let b = h.below k greatest in omega (arith, a, b);
       within = λ c i.
-          elim (in_either calls (unwrapped_at sites k) c (subst (λ l. In l c) noted i)) [
+          elim (in_either calls unwrapped c (subst (λ l. In l c) got i)) [
             | inl j ↦ h.within c j
-            | inr j ↦ let a = source c (unwrapped_at_source (slice_get sites k) c j) in let b = h.below k greatest in omega (arith, a, b, there)
+            | inr j ↦
+                let a = source c (unwrapped_at_source (slice_get sites k) c (unless (contains ◌==◌ walked k) (unwrapped_at sites k) c j)) in
+                omega (arith, a, taken_within)
           ];
       found = λ u i. elim (calls_either u i) [ inl j ↦ h.found u j | inr j ↦ of_k u (itself_at f u (slice_get sites k) j) ];
       each = λ t u i j.
@@ -257,22 +334,25 @@ module _ (sites : List Site) (first : SourcesFirst sites) (s : ℕ) (there : s <
             | inl a ↦ h.each t u (other t a) j
             | inr a ↦ of_k u (to_at f u (slice_get sites k) (t, a, j))
           ];
-      all = λ u i.
-          elim (h.all u i) [
-            | inl j ↦ inl (to_calls u (in_left (map f calls) (map f (unwrapped_at sites k)) u j))
-            | inr d ↦ of_due u d.0 d.1 d.2
-          ];
+      all = still_covered s h.all;
+      passed = still_passed;
     }
 
   -- nothing is due any more
-  pub search_ends : (due calls : List ℕ) (steps : ℕ) → ((t : ℕ) → In due t → ⊥) → Searched sites s due calls steps → AreUnwrapped sites s calls
-  search_ends due calls steps none h = record {
+  pub search_ends : (walked : Members ℕ) (due calls : List ℕ) (steps : ℕ) → ((t : ℕ) → In due t → ⊥) → Searched sites s before walked due calls steps → AreUnwrapped sites s before walked calls
+  search_ends walked due calls steps none h = record {
     within = all_members (λ n. n < length sites) calls (λ n i. h.within n (in_from_contains calls n i));
-    unwrapped = λ u. (
-      λ i. contains_from_in (unwraps (f s)) u (h.found u (in_from_contains (map f calls) u i)),
-      λ i. elim (h.all u (in_from_contains (unwraps (f s)) u i)) [ inl j ↦ contains_from_in (map f calls) u j | inr d ↦ absurd (none d.0 d.1) ],
-    );
+    unwrapped = λ u i. contains_from_in (unwraps (f s)) u (h.found u (in_from_contains (map f calls) u i));
+    all = ended s h.all;
+    walked = λ t w. elim (h.passed t w) [ inl b ↦ inl b | inr p ↦ inr (p.1, ended t p.2) ];
   }
+    where
+      ended : (t : ℕ) → IsCovered sites before due calls t → IsWalked sites before calls t
+      ended t c u i =
+          elim (c u (in_from_contains (unwraps (f t)) u i)) [
+            | inl j ↦ inl (contains_from_in (map f calls) u j)
+            | inr d ↦ elim d.1 [ inl j ↦ absurd (none d.0 j) | inr b ↦ inr (d.0, b, contains_from_in (unwraps (f d.0)) u d.2) ]
+          ]
 
 -- 4. the greatest is taken first
 less : (a b : ℕ) → nat_cmp a b ≡ Less → a < b

@@ -163,6 +163,7 @@ bound_stands before b v x u h = record {
   all_gone_over = h.all_gone_over;
   impure = record { within = h.impure.within; numbers = h.impure.numbers };
   calls = h.calls;
+  answered = h.answered;
 }
 
 equal_vars : (a b : SiteTerm) (v : Visit) → (equating a b v).vars ≡ v.vars

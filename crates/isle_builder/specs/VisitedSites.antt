@@ -1,10 +1,10 @@
 -- Where a builder of a rule set stands while a rule is visited: its sites and demands are those that the visit has met, by
 -- their numbers.
-use Rattle.std.specs.Prelude.{◌≡◌, ◌⊎◌, ◌↔◌, slice_get, ℕ, suc, ◌<◌, ◌≤◌, Bool, not, if◌then◌else◌, List, [], ◌∷◌, length, map, Option, Some, None, Result, MatchResult, All, Contains, IsTrue}
+use Rattle.std.specs.Prelude.{◌≡◌, ◌⊎◌, slice_get, ℕ, suc, ◌<◌, ◌≤◌, Bool, not, if◌then◌else◌, List, [], ◌∷◌, length, map, Option, Some, None, Result, MatchResult, All, Contains, IsTrue}
 use Rattle.std.specs.Bool.{◌==◌}
 use Rattle.std.specs.Ordering.{nat_cmp}
 use Rattle.std.specs.BTreeSet.{insert_key}
-use Rattle.isle_base.specs.Stable.{contains}
+use Rattle.isle_base.specs.Stable.{Members, contains}
 use Rattle.isle_model.specs.sites.Sites as Sites
 use Rattle.isle_model.specs.sites.Sites.{Site, SiteTerm, SiteTerms, argument, each_term, extract_struct_site, extractor_call, is_present, match_some_site, match_tuple_site, match_variant_site, pick_of, some_part, struct_field, tuple_part, unfold_site, variant_field}
 use Rattle.isle_model.specs.rules.Program.{Program}
@@ -49,9 +49,17 @@ abbrev pub conflict_beside : Option Constraint → Sites.Constraint → List Unr
 conflict_beside None c = []
 conflict_beside (Some b) c = conflict (constraint_view b) c ∷ []
 
+-- a visit has asked each call that a value unwraps to answer
+abbrev pub AsksUnwrapped : Visit → SiteTerm → Type 0
+AsksUnwrapped v u = (call : SiteTerm) → Contains (unwraps u) call → Contains v.demands.constraints (call, is_present)
+
+-- and so for each of these sites of a builder
+abbrev pub AreAnswered : List Site → Visit → Members ℕ → Type 0
+AreAnswered sites v walked = (s : ℕ) → IsTrue (contains ◌==◌ walked s) → (s < length sites) × AsksUnwrapped v (unfold_site sites s)
+
 -- a builder stands where a visit does, after these sites of the term's rules before: it has the sites that were made
 -- before or in the visit, the demands that the visit has met, the conflicts among them in their order, the calls that the
--- rule goes over, and its impure calls in order, as many as were met
+-- rule goes over, its impure calls in order, as many as were met, and sites whose unwrapped calls are asked to answer
 pub record StandsAt (before : List SiteTerm) (b : RuleSetBuilder) (v : Visit) : Type 0 where
   pub table : IsTable b.table
   pub due : KeepsDue b.demanded
@@ -61,6 +69,7 @@ pub record StandsAt (before : List SiteTerm) (b : RuleSetBuilder) (v : Visit) : 
   pub all_gone_over : (u : SiteTerm) → Contains v.demands.iterators u → (s : ℕ) × IsTrue (contains ◌==◌ b.iterators s) × (unfold_site (built_sites b) s ≡ u)
   pub impure : AreSitesOf b v.demands.impure b.impure.items
   pub calls : length b.impure.items ≡ v.impure_calls
+  pub answered : AreAnswered (built_sites b) v b.answered
 
 -- a builder has gone on to stand where a visit does, and the sites that it had stand for what they did
 pub record GoesTo (before : List SiteTerm) (old new : RuleSetBuilder) (v : Visit) : Type 0 where
@@ -241,10 +250,19 @@ unwrapped_source _ = []
 abbrev pub unwrapped_at : List Site → ℕ → List ℕ
 unwrapped_at sites s = elim (slice_get sites s) [ None ↦ [] | Some b ↦ unwrapped_source b ]
 
--- these are the calls whose answers a site unwraps, at any depth, in whatever order
-pub record AreUnwrapped (sites : List Site) (s : ℕ) (calls : List ℕ) : Type 0 where
+-- what a site unwraps, at any depth, is one of these calls, or a site that was walked before unwraps it
+abbrev pub IsWalked : List Site → Members ℕ → List ℕ → ℕ → Type 0
+IsWalked sites before calls s =
+    (u : SiteTerm) → Contains (unwraps (unfold_site sites s)) u
+    → Contains (map (unfold_site sites) calls) u ⊎ ((t : ℕ) × IsTrue (contains ◌==◌ before t) × Contains (unwraps (unfold_site sites t)) u)
+
+-- a site was walked, and others beside those that were before: these calls are among those whose answers it unwraps, in
+-- whatever order
+pub record AreUnwrapped (sites : List Site) (s : ℕ) (before after : Members ℕ) (calls : List ℕ) : Type 0 where
   pub within : All (λ n. n < length sites) calls
-  pub unwrapped : (u : SiteTerm) → Contains (map (unfold_site sites) calls) u ↔ Contains (unwraps (unfold_site sites s)) u
+  pub unwrapped : (u : SiteTerm) → Contains (map (unfold_site sites) calls) u → Contains (unwraps (unfold_site sites s)) u
+  pub all : IsWalked sites before calls s
+  pub walked : (t : ℕ) → IsTrue (contains ◌==◌ after t) → IsTrue (contains ◌==◌ before t) ⊎ ((t < length sites) × IsWalked sites before calls t)
 
 -- a visit has asked the calls that a value unwraps nothing but to answer
 abbrev pub AsksNothingElse : Visit → SiteTerm → Type 0

@@ -1,18 +1,21 @@
 //! What the calls of a rule's visit make of sites, and ask of them.
-ghost use Rattle.std.specs.Prelude.{◌≡◌, ◌<◌, ◌++◌, suc, true, List, [], ◌∷◌, Ok, IsTrue, length, map, All, IfErr, IfOk, OnOk};
+ghost use Rattle.std.specs.Prelude.{◌≡◌, ◌<◌, ◌++◌, ℕ, suc, true, if◌then◌else◌, List, [], ◌∷◌, Ok, IsTrue, length, map, All, IfErr, IfOk, OnOk};
+ghost use Rattle.std.specs.Bool.{◌==◌};
+ghost use Rattle.isle_base.specs.Stable.{contains};
 ghost use Rattle.isle_base.specs.declared.syntax.Limit.TheVariants as Limits;
 ghost use Rattle.isle_model.specs.sites.Sites.{SiteTerm, argument, sources_at, unfold_site};
 ghost use Rattle.isle_model.specs.lists.Formed.{is_formed_rule};
 ghost use Rattle.isle_model.specs.lists.Visitable.{is_visitable_rule};
 ghost use Rattle.isle_model.specs.rules.Program.{Program, is_partial};
-ghost use Rattle.isle_model.specs.sites.Demands.{Visit, asking_all, making, visit_rule, visit_start};
+ghost use Rattle.isle_model.specs.sites.Demands.{Visit, asking_all, making, unwraps, visit_rule, visit_start};
 ghost use Rattle.isle_model.specs.sites.Limits.{limits_of_shape, most_arguments};
 ghost use Rattle.isle_rules.specs.RuleViews.{rule_view};
 ghost use Rattle.isle_sets.specs.SiteTables.{IsTable};
 ghost use Rattle.isle_terms.specs.TermViews.{term_views};
-ghost use Rattle.isle_builder.specs.VisitedSites.{AsksAnswers, EndsAtLimit, EndsOpening, GoesTo, AreUnwrapped, Makes, MakesArgument, StandsAt, ValuesTo, built_sites, unwrapped_at, with_keys};
+ghost use Rattle.isle_builder.specs.VisitedSites.{AsksAnswers, AsksNothingElse, EndsAtLimit, EndsOpening, GoesTo, AreUnwrapped, Makes, MakesArgument, StandsAt, ValuesTo, built_sites, unwrapped_at, with_keys};
 
 use crate::ruleset_builder::RuleSetBuilder;
+use isle_base::stablemapset::StableSet;
 use isle_base::syntax::Limit;
 use isle_base::visit_fault::VisitFault;
 use isle_rules::{Body, Rule, RuleVisitor, TermEnv, VisitedExpr};
@@ -20,6 +23,7 @@ use isle_sets::trie_again::{Binding, BindingId, Constraint, TupleIndex};
 use isle_types::{TermId, TypeId};
 use std::alloc::AllocError;
 use std::collections::BTreeSet;
+use std::mem;
 
 impl RuleSetBuilder {
     /// Visits a typed rule of the term: the site of its result. `termenv` is the rule's environment. What the answer says
@@ -52,16 +56,22 @@ impl RuleSetBuilder {
         self.make(Binding::Argument { index })
     }
 
-    // Takes a site apart: its sources are due then, and where it is what a call answers, unwrapped, the call is noted.
+    // Takes a site apart that wasn't yet: its sources are due then, and where it is what a call answers, unwrapped, the
+    // call is noted.
     fn take_apart(
         &self,
         site: BindingId,
+        walked: &mut StableSet<BindingId>,
         due: &mut BTreeSet<BindingId>,
         calls: &mut Vec<BindingId>,
     ) -> Result<(), AllocError>
-        ensures due { OnOk result (due.new.keys ≡ with_keys due.old.keys (sources_at (built_sites self.now) site)) }
-        ensures calls { OnOk result (calls.new.items ≡ calls.old.items ++ unwrapped_at (built_sites self.now) site) }
+        ensures walked { OnOk result ((s : ℕ) → contains ◌==◌ walked.new s ≡ (if site == s then true else contains ◌==◌ walked.old s)) }
+        ensures due { OnOk result (due.new.keys ≡ with_keys due.old.keys (if contains ◌==◌ walked.old site then [] else sources_at (built_sites self.now) site)) }
+        ensures calls { OnOk result (calls.new.items ≡ calls.old.items ++ (if contains ◌==◌ walked.old site then [] else unwrapped_at (built_sites self.now) site)) }
     {
+        if !walked.insert(site)? {
+            return Ok(());
+        }
         let Some(binding) = self.table.binding(site) else {
             return Ok(());
         };
@@ -72,10 +82,14 @@ impl RuleSetBuilder {
         Ok(())
     }
 
-    // The calls whose answers a site unwraps, at any depth. A site has a greater number than its sources, so each is taken
-    // apart once, however many share it.
-    fn unwrapped_calls(&self, site: BindingId) -> Result<Vec<BindingId>, AllocError>
-        ensures { IsTable self.now.table → site < length (built_sites self.now) → IfOk result (λ calls. AreUnwrapped (built_sites self.now) site calls.items) }
+    // The calls whose answers a site unwraps, at any depth, but for those of sites that are walked already. A site has a
+    // greater number than its sources, so each is taken apart once, however many share it.
+    fn unwrapped_calls(
+        &self,
+        site: BindingId,
+        walked: &mut StableSet<BindingId>,
+    ) -> Result<Vec<BindingId>, AllocError>
+        ensures { IsTable self.now.table → site < length (built_sites self.now) → IfOk result (λ calls. AreUnwrapped (built_sites self.now) site walked.old walked.new calls.items) }
     {
         let mut calls = Vec::new(self.alloc);
         let mut due = BTreeSet::new(self.alloc);
@@ -84,9 +98,22 @@ impl RuleSetBuilder {
             let Some(next) = due.pop_last() else {
                 return Ok(calls);
             };
-            self.take_apart(next, &mut due, &mut calls)?;
+            self.take_apart(next, walked, &mut due, &mut calls)?;
         }
         Ok(calls)
+    }
+
+    // Asks each call that a site unwraps to answer. A rule walks each site once, however many if-lets stand on it.
+    fn ask_unwrapped(&mut self, site: BindingId) -> Result<(), AllocError>
+        ensures { (before : List SiteTerm) (v : Visit) → StandsAt before self.old v → site < length (built_sites self.old) → AsksNothingElse v (unfold_site (built_sites self.old) site)
+            → OnOk result (GoesTo before self.old self.new (asking_all (unwraps (unfold_site (built_sites self.old) site)) v)) }
+    {
+        let alloc = self.alloc;
+        let mut walked = mem::replace(&mut self.answered, StableSet::new(alloc));
+        let calls = self.unwrapped_calls(site, &mut walked)?;
+        self.ask_answers(&calls)?;
+        self.answered = walked;
+        Ok(())
     }
 
     // Asks each of these calls to answer.
@@ -167,8 +194,7 @@ impl RuleVisitor for RuleSetBuilder {
     }
 
     fn expr_as_pattern(&mut self, expr: BindingId) -> Result<BindingId, VisitFault> {
-        let calls = self.unwrapped_calls(expr)?;
-        self.ask_answers(&calls)?;
+        self.ask_unwrapped(expr)?;
         Ok(expr)
     }
 

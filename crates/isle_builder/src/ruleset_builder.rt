@@ -30,6 +30,8 @@ pub struct RuleSetBuilder {
     pub(crate) iterators: StableSet<BindingId>,
     // The rule's impure calls, each by the last site that was made for it, since that one's value is used.
     pub(crate) impure: Vec<BindingId>,
+    // Sites of which all calls that they unwrap are asked to answer, so that none is walked twice for one rule.
+    pub(crate) answered: StableSet<BindingId>,
 }
 
 impl Drop for RuleSetBuilder {
@@ -41,6 +43,7 @@ impl Drop for RuleSetBuilder {
             conflicts: _,
             iterators: _,
             impure: _,
+            answered: _,
         } = self;
     }
 }
@@ -57,6 +60,7 @@ impl RuleSetBuilder {
             conflicts: Vec::new(alloc),
             iterators: StableSet::new(alloc),
             impure: Vec::new(alloc),
+            answered: StableSet::new(alloc),
         }
     }
 
@@ -69,6 +73,7 @@ impl RuleSetBuilder {
         self.conflicts = Vec::new(self.alloc);
         self.iterators = StableSet::new(self.alloc);
         self.impure = Vec::new(self.alloc);
+        self.answered = StableSet::new(self.alloc);
     }
 
     // What each site of the term stands for.
@@ -82,6 +87,7 @@ impl RuleSetBuilder {
             conflicts: _,
             iterators: _,
             impure: _,
+            answered: _,
         } = self;
         table.into_bindings()
     }

@@ -8,23 +8,24 @@ use Rattle.isle_builder.proofs.ruleset_builder.RuleSetBuilder.unwrapped_calls.Go
 
 pub loop-init : goal.loop-init
 loop-init c table there =
-    search_starts (built_sites c.args.self.now) c.args.site _ _ (c.in_ok-insert.ensures.keys ∙ ap (λ keys. insert_key nat_cmp keys c.args.site) c.new-due.ensures.empty) c.new-calls.ensures.items
+    search_starts (built_sites c.args.self.now) c.args.site c.args.walked.now _ _ (c.in_ok-insert.ensures.keys ∙ ap (λ keys. insert_key nat_cmp keys c.args.site) c.new-due.ensures.empty) c.new-calls.ensures.items
 
 pub loop-preserved : goal.loop-preserved
 loop-preserved c table there =
     let sites = built_sites c.args.self.now in
     let k = c.in-Some.next in
-    subst (Searched sites c.args.site c.take_apart.new.due.keys c.take_apart.new.calls.items) (sym (add-one c.loop.counter))
-    (search_goes_on sites table.sources c.args.site there c.loop.due.keys c.pop_last.new.self.keys c.take_apart.new.due.keys c.loop.calls.items c.take_apart.new.calls.items k c.loop.counter
-    c.in-Some.ensures.removal (all_less c.pop_last.new.self.keys k c.in-Some.ensures.all_below) c.in_ok-take_apart.ensures.due c.in_ok-take_apart.ensures.calls (c.loop.invariant table there))
+    let apart = c.in_ok-take_apart.ensures in
+    subst (Searched sites c.args.site c.args.walked.now c.take_apart.new.walked c.take_apart.new.due.keys c.take_apart.new.calls.items) (sym (add-one c.loop.counter))
+    (search_goes_on sites table.sources c.args.site there c.args.walked.now c.loop.walked c.take_apart.new.walked c.loop.due.keys c.pop_last.new.self.keys c.take_apart.new.due.keys c.loop.calls.items
+    c.take_apart.new.calls.items k c.loop.counter c.in-Some.ensures.removal (all_less c.pop_last.new.self.keys k c.in-Some.ensures.all_below) apart.walked apart.due apart.calls (c.loop.invariant table there))
 
 pub returns-in_default : goal.returns-in_default
 returns-in_default c table there =
-    search_ends (built_sites c.args.self.now) table.sources c.args.site there c.loop.due.keys c.loop.calls.items c.loop.counter
+    search_ends (built_sites c.args.self.now) table.sources c.args.site there c.args.walked.now c.loop.walked c.loop.due.keys c.loop.calls.items c.loop.counter
     (none_left c.loop.due.keys (λ l. false≢true (c.in_default.ensures.variant.1 l))) (c.loop.invariant table there)
 
 pub returns : goal.returns
 returns c table there =
     let h = c.loop.invariant table there in
-    search_ends (built_sites c.args.self.now) table.sources c.args.site there c.loop.due.keys c.loop.calls.items c.loop.counter
+    search_ends (built_sites c.args.self.now) table.sources c.args.site there c.args.walked.now c.loop.walked c.loop.due.keys c.loop.calls.items c.loop.counter
     (λ t i. let b = h.below t i in omega (arith, b)) h
