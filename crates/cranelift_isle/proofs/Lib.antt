@@ -1,3 +1,4 @@
 pub mod TreesSoFar
 pub mod SharedTrees
 pub mod Lowered
+pub mod Checked

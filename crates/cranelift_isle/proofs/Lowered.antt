@@ -1,6 +1,7 @@
 -- The trees of checked sets, and the errors that there are in place of them, as answers to definitions.
-use Rattle.std.proofs.Common.{◌≡◌, ℕ, Bool, List, [], ◌∷◌, map, Some, Err, refl, sym, ap, ◌∙◌, subst}
-use Rattle.std.specs.Prelude.{All, slice_index_or}
+use Rattle.std.proofs.Common.{◌≡◌, ℕ, Bool, List, [], ◌∷◌, map, Some, Ok, Err, refl, sym, ap, ◌∙◌, subst}
+use Rattle.std.specs.Prelude.{All, Result, slice_index_or}
+use Rattle.std.specs.Global.{Vec}
 use Rattle.std.proofs.lemmas.List.Elements.{All-nil, All-cons, All-head, All-tail}
 use Rattle.isle_base.specs.Answers.{Answers, OnErrors}
 use Rattle.isle_base.specs.declared.syntax.Error.{Error}
@@ -12,12 +13,17 @@ use Rattle.isle_model.specs.lists.Elaborated.{TypedRules}
 use Rattle.isle_model.specs.rules.Program.{Program}
 use Rattle.isle_model.specs.sites.Sites.{SiteSet}
 use Rattle.isle_model.specs.sites.RuleSets.{IsBuilt}
-use Rattle.isle_model.specs.claims.Environments.{TypesRead, types_read, IsElaborated, IsRead, TypeEnvironment, TermEnvironment, AreRulesOf}
-use Rattle.isle_model.specs.claims.Layers.{own_program, IsAccepted, IsBuiltForSome, CheckAnswers, CheckReports, LoweredTerm, AreLowered, LoweringAnswers, RefusedBy, by_check, BestTreesKeepTheHeadline}
+use Rattle.isle_model.specs.claims.Environments.{TypesRead, types_read, IsElaborated, IsRead, TypeEnvironment, AreRulesOf, program_of}
+use Rattle.isle_model.specs.claims.Layers.{own_program, IsAccepted, IsBuiltForSome, CheckAnswers, LoweredTerm, AreLowered, LoweringAnswers, RefusedBy, by_check, BestTreesKeepTheHeadline}
 use Rattle.isle_model.specs.claims.Refusals.{refusal_of, NamesOnlyPassed, PassedInReading, PassedInBuilding}
 use Rattle.isle_model.proofs.Mapped.{nothing_mapped}
+use Rattle.isle_types.specs.declared.ids.TermId.{TermId}
 use Rattle.isle_rules.specs.ErrorViews.{error_views}
-use Rattle.isle_overlap.specs.Checks.{IsChecked, ReportsAreErrors}
+use Rattle.isle_rules.specs.ShownEnvs.{environment_shown_by}
+use Rattle.isle_rules.specs.declared.term_env.TermEnv.{TermEnv}
+use Rattle.isle_sets.specs.declared.trie_again.RuleSet.{RuleSet}
+use Rattle.isle_builder.specs.Built.{IsOfElaborated, ShowsElaborated, term_set_views}
+use Rattle.cranelift_isle.specs.Checks.{IsChecked, ReportsAreErrors}
 use Rattle.cranelift_isle.specs.declared.lower.Lowered.{Lowered}
 use Rattle.cranelift_isle.specs.Lowerings.{set_of_term, AreAccepted, IsLowered, OfAccepted, ChooseAsSource, CollectBags, SharesTests, PassedInLowering, in_reading, in_building}
 
@@ -36,43 +42,88 @@ terms_are : (ts : List LoweredTerm) → map (λ t. t.term) ts ≡ map (λ b. b.0
 terms_are [] = refl
 terms_are (t ∷ ts) = ap (λ l. t.term ∷ l) (terms_are ts)
 
-module _ (defs : List Definition) (expand : Bool) (rules : TypedRules) (read : IsRead defs expand rules) where
+-- definitions were read: their types are valid, and an environment has their terms and their typed rules
+pub record WereRead (defs : List Definition) (expand : Bool) (env : TermEnv) (types : TypeEnvironment) : Type 0 where
+  pub valid : IsValidTypes defs
+  pub rules : (rules : TypedRules) × AreRulesOf (types_read defs) defs expand rules (environment_shown_by env) types
+
+pub were_read : (defs : List Definition) (expand : Bool) (env : TermEnv) (types : TypeEnvironment) → IsValidTypes defs
+    → (rules : TypedRules) × AreRulesOf (types_read defs) defs expand rules (environment_shown_by env) types → WereRead defs expand env types
+were_read defs expand env types v r = record { valid = v; rules = r }
+
+-- what checking an environment answers of each list that the environment is of
+abbrev pub AnswersCheck : TermEnv → Result (Vec (TermId × RuleSet)) Fault → Type 0
+AnswersCheck env result =
+    (e : TypesRead) (defs : List Definition) (expand : Bool) (rules : TypedRules) → IsElaborated e defs expand rules → ShowsElaborated e defs rules env → IsChecked (program_of e defs rules.rules) result
+
+module _ {defs : List Definition} {expand : Bool} {env : TermEnv} {types : TypeEnvironment} (read : WereRead defs expand env types) where
+  abbrev rules : TypedRules
+  rules = read.rules.0
+
   abbrev p : Program
   p = own_program defs rules
 
+  elaborated : IsElaborated (types_read defs) defs expand rules
+  elaborated = read.rules.1.elaborated
+
+  is_read : IsRead defs expand rules
+  is_read = record { types = read.valid; elaborated = elaborated }
+
+  shown : ShowsElaborated (types_read defs) defs rules env
+  shown = record { terms = read.rules.1.rows.table; rules = read.rules.1.typed }
+
+  pub of_elaborated : IsOfElaborated env
+  of_elaborated = record {
+    types = types_read defs;
+    defs = defs;
+    expand = expand;
+    rules = rules;
+    elaborated = elaborated;
+    shown = shown;
+  }
+
+  checked_as : (result : Result (Vec (TermId × RuleSet)) Fault) → AnswersCheck env result → IsChecked p result
+  checked_as result check = check (types_read defs) defs expand rules elaborated shown
+
   -- 1. with whatever typed rules the definitions are accepted, they are these
-  pub same_typing : (other : TypedRules) → IsAccepted defs expand other → other ≡ rules
-  same_typing other is = one_typing (types_read defs) defs expand other rules is.read.elaborated read.elaborated
+  same_typing : (other : TypedRules) → IsAccepted defs expand other → other ≡ rules
+  same_typing other is = one_typing (types_read defs) defs expand other rules is.read.elaborated elaborated
 
   -- 2. sets that were checked
-  module _ (sets : List (ℕ × SiteSet)) (checked : CheckAnswers p sets) where
-    pub accepted : IsAccepted defs expand rules
-    accepted = record { read = read; checkable = checked.checkable }
+  module _ (sets : Vec (TermId × RuleSet)) (check : AnswersCheck env (Ok sets)) where
+    checked : CheckAnswers p (term_set_views sets.items)
+    checked = checked_as (Ok sets) check
 
-    pub built_for_some : All (λ b. IsBuiltForSome b.1) sets
+    is_accepted : IsAccepted defs expand rules
+    is_accepted = record { read = is_read; checkable = checked.checkable }
+
+    pub accepted : AreAccepted defs expand
+    accepted = (rules, is_accepted)
+
+    pub built_for_some : All (λ b. IsBuiltForSome b.1) (term_set_views sets.items)
     built_for_some k d h = record {
       types = types_read defs;
       defs = defs;
       expand = expand;
       rules = rules;
-      term = (slice_index_or sets k d).0;
-      elaborated = read.elaborated;
+      term = (slice_index_or (term_set_views sets.items) k d).0;
+      elaborated = elaborated;
       built = checked.given.built k d h;
     }
 
     -- 3. their best trees
-    module _ (law : BestTreesKeepTheHeadline) (ts : List LoweredTerm) (same : map set_of_term ts ≡ sets) (shared : All (λ t. SharesTests t.set t.tree) ts) where
+    module _ (law : BestTreesKeepTheHeadline) (ts : List LoweredTerm) (same : map set_of_term ts ≡ term_set_views sets.items) (shared : All (λ t. SharesTests t.set t.tree) ts) where
       built : All (λ t. IsBuilt p t.term t.set) ts
       built = all_unmap (λ b. IsBuilt p b.0 b.1) set_of_term ts (subst (All (λ b. IsBuilt p b.0 b.1)) (sym same) checked.given.built)
 
       lowered : AreLowered p ts
       lowered = record {
         each = terms_are ts ∙ ap (map (λ b. b.0)) same ∙ checked.given.terms;
-        lowered = λ k d h. law defs expand rules (slice_index_or ts k d) accepted (built k d h) (shared k d h).best;
+        lowered = λ k d h. law defs expand rules (slice_index_or ts k d) is_accepted (built k d h) (shared k d h).best;
       }
 
-      pub answers : (types : TypeEnvironment) (terms : TermEnvironment) → AreRulesOf (types_read defs) defs expand rules terms types → LoweringAnswers defs expand types terms rules ts
-      answers types terms environments = record { accepted = accepted; environments = environments; trees = lowered }
+      pub answers : (rules : TypedRules) × LoweringAnswers defs expand types (environment_shown_by env) rules ts
+      answers = (rules, record { accepted = is_accepted; environments = read.rules.1; trees = lowered })
 
       pub chosen : OfAccepted defs expand (ChooseAsSource ts)
       chosen other is = subst (λ r. ChooseAsSource ts (own_program defs r)) (sym (same_typing other is)) (λ k d h. (lowered.lowered k d h).headline.runs)
@@ -89,19 +140,29 @@ module _ (defs : List Definition) (expand : Bool) (rules : TypedRules) (read : I
     not_accepted a = wrong.reported.refused (subst (λ r. IsAccepted defs expand r) (same_typing a.0 a.1) a.1).checkable
 
     passed_in_building : NamesOnlyPassed (PassedInLowering defs expand) (error_views es)
-    passed_in_building l at is = in_building l at rules read (subst (NamesOnlyPassed (PassedInBuilding p)) (sym wrong.are) wrong.reported.limits l at is)
+    passed_in_building l at is = in_building l at rules is_read (subst (NamesOnlyPassed (PassedInBuilding p)) (sym wrong.are) wrong.reported.limits l at is)
 
-  pub refused_by_check : (f : Fault) → IsChecked p (Err f) → Answers {A = Lowered} (Err f) (AreAccepted defs expand) (IsLowered defs expand)
-  refused_by_check (Errors es) c = (some_error es.items c, not_accepted es.items c)
-  refused_by_check (Memory m) c = tt
+  refused_as : (f : Fault) → IsChecked p (Err f) → Answers {A = Lowered} (Err f) (AreAccepted defs expand) (IsLowered defs expand)
+  refused_as (Errors es) c = (some_error es.items c, not_accepted es.items c)
+  refused_as (Memory m) c = tt
 
-  pub why_refused : (f : Fault) → IsChecked p (Err f) → OnErrors {A = Lowered} (Err f) (λ es. RefusedBy defs expand (error_views es))
-  why_refused (Errors es) c = subst (RefusedBy defs expand) (sym c.are) (by_check rules c.reports read c.reported)
-  why_refused (Memory m) c = tt
+  refused_why : (f : Fault) → IsChecked p (Err f) → OnErrors {A = Lowered} (Err f) (λ es. RefusedBy defs expand (error_views es))
+  refused_why (Errors es) c = subst (RefusedBy defs expand) (sym c.are) (by_check rules c.reports is_read c.reported)
+  refused_why (Memory m) c = tt
 
-  pub limits_of_check : (f : Fault) → IsChecked p (Err f) → OnErrors {A = Lowered} (Err f) (λ es. NamesOnlyPassed (PassedInLowering defs expand) (error_views es))
-  limits_of_check (Errors es) c = passed_in_building es.items c
-  limits_of_check (Memory m) c = tt
+  limits_as : (f : Fault) → IsChecked p (Err f) → OnErrors {A = Lowered} (Err f) (λ es. NamesOnlyPassed (PassedInLowering defs expand) (error_views es))
+  limits_as (Errors es) c = passed_in_building es.items c
+  limits_as (Memory m) c = tt
+
+  module _ (r : Result Lowered Fault) (f : Fault) (is : r ≡ Err f) (check : AnswersCheck env (Err f)) where
+    pub refused_by_check : Answers r (AreAccepted defs expand) (IsLowered defs expand)
+    refused_by_check = subst (λ x. Answers x (AreAccepted defs expand) (IsLowered defs expand)) (sym is) (refused_as f (checked_as (Err f) check))
+
+    pub why_refused : OnErrors r (λ es. RefusedBy defs expand (error_views es))
+    why_refused = subst (λ x. OnErrors x (λ es. RefusedBy defs expand (error_views es))) (sym is) (refused_why f (checked_as (Err f) check))
+
+    pub limits_of_check : OnErrors r (λ es. NamesOnlyPassed (PassedInLowering defs expand) (error_views es))
+    limits_of_check = subst (λ x. OnErrors x (λ es. NamesOnlyPassed (PassedInLowering defs expand) (error_views es))) (sym is) (limits_as f (checked_as (Err f) check))
 
 -- 5. errors of reading: what they give of an answer's errors, they give of another answer with these
 pub errors_so : (A B : Type 0) (f : Fault) (P Q : List Error → Type 0) → ((es : List Error) → P es → Q es) → OnErrors {A = B} (Err f) P → OnErrors {A = A} (Err f) Q

@@ -1,1 +1,2 @@
 pub mod Lowerings
+pub mod Checks

@@ -4,9 +4,9 @@
 
 pub use isle_base::{stablemapset, syntax};
 pub use isle_disjointsets::disjointsets;
-pub use isle_overlap::overlap;
 pub use isle_serialize::serialize;
 
 pub mod lower;
+pub mod overlap;
 pub mod sema;
 pub mod trie_again;

@@ -11,11 +11,11 @@ ghost use Rattle.isle_sets.specs.SiteViews.{set_view};
 ghost use Rattle.isle_serialize.specs.TreeViews.{tree_view};
 ghost use Rattle.cranelift_isle.specs.Lowerings.{lowered_views, set_of_term, AreAccepted, IsLowered, OfAccepted, ChooseAsSource, SharesTests, CollectBags, BindsBeforeAnyUse, PassedInLowering};
 
+use crate::overlap::check;
 use isle_base::syntax::{Def, Fault};
 use isle_laws_trees::{
     best_trees_bind_before_use, best_trees_keep_the_headline, best_trees_share_most,
 };
-use isle_overlap::overlap::check;
 use isle_rules::TermEnv;
 use isle_serialize::serialize::{Block, serialize};
 use isle_sets::trie_again::RuleSet;

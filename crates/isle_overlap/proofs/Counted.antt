@@ -9,15 +9,14 @@ use Rattle.std.proofs.lemmas.List.Elements.{filter_agree}
 use Rattle.std.proofs.lemmas.List.Filters.{length-filter_more}
 use Rattle.isle_model.specs.lists.Syntax.{Position}
 use Rattle.isle_model.specs.sites.Overlap.{position_eq, position_lt, has_end, other_end, degree, is_reported_before, overlap_reports, overlap_reports_in, rules_overlap, ascending_positions}
-use Rattle.isle_model.specs.claims.Refusals.{overlapping}
+use Rattle.isle_model.specs.claims.Refusals.{overlapping, refusal_of}
 use Rattle.isle_model.proofs.Elements.{In}
 use Rattle.isle_laws_demands.proofs.overlaps.Listed.{position_means, in_ascending, left_over, no_longer}
 use Rattle.isle_base.specs.SyntaxViews.{position}
 use Rattle.isle_base.specs.declared.syntax.Error.{Error}
 use Rattle.isle_base.specs.declared.syntax.Pos.{Pos}
 use Rattle.isle_overlap.specs.Comparisons.{positions}
-use Rattle.isle_rules.specs.ErrorViews.{error_views}
-use Rattle.isle_builder.specs.Built.{report_views}
+use Rattle.isle_base.specs.ErrorViews.{error_views}
 use Rattle.isle_overlap.specs.Graphs.{neighbours, ends_of, count_at, listed_at, same_pos, times, counts_before, unreported, count_left}
 use Rattle.isle_overlap.proofs.Reporting.{kept_pairs, stands, filtered_map, kept_from, left_of, left_kept, degree_left, no_reports, one_report, none_left_over, ends_kept, no_more_than}
 
@@ -54,7 +53,7 @@ both_listed old mid new first second q apart e f =
 pub record IsSoFar (pairs : List (Position × Position)) (counts : BTreeMap Pos ℕ) (errors : List Error) (n : ℕ) : Type 0 where
   pub kept : Position → Bool
   pub counted : (q : Pos) → count_at counts q ≡ degree (kept_pairs kept pairs) (position q)
-  pub reported : error_views errors ++ report_views (map rules_overlap (overlap_reports_in n (kept_pairs kept pairs))) ≡ report_views (map rules_overlap (overlap_reports pairs))
+  pub reported : error_views errors ++ map refusal_of (map rules_overlap (overlap_reports_in n (kept_pairs kept pairs))) ≡ map refusal_of (map rules_overlap (overlap_reports pairs))
 
 all_kept : (ps : List (Position × Position)) → kept_pairs (λ p. true) ps ≡ ps
 all_kept [] = refl
@@ -65,8 +64,8 @@ so_far_none pairs counts errors n e l c = record {
   kept = λ p. true;
   counted = λ q. c q ∙ ap (λ ps. degree ps (position q)) (sym (all_kept pairs));
   reported =
-      ap (λ x. error_views x ++ report_views (map rules_overlap (overlap_reports_in n (kept_pairs (λ p. true) pairs)))) e
-      ∙ (λ k. report_views (map rules_overlap (overlap_reports_in (l k) (all_kept pairs k))));
+      ap (λ x. error_views x ++ map refusal_of (map rules_overlap (overlap_reports_in n (kept_pairs (λ p. true) pairs)))) e
+      ∙ (λ k. map refusal_of (map rules_overlap (overlap_reports_in (l k) (all_kept pairs k))));
 }
 
 -- the rules of the overlaps are among these
@@ -94,14 +93,14 @@ module _ (pairs : List (Position × Position)) (rules : List Pos) (counts : BTre
       ∙ sym (same_before (get_or rules r.0 at) at) ∙ first r.0 at r.1
 
   -- where the first rule has no overlap left, none has
-  pub so_far_all : count_at counts at ≡ 0 → error_views errors ≡ report_views (map rules_overlap (overlap_reports pairs))
+  pub so_far_all : count_at counts at ≡ 0 → error_views errors ≡ map refusal_of (map rules_overlap (overlap_reports pairs))
   so_far_all z =
       let none = none_left_over (kept_pairs s.kept pairs) (λ y i.
       let most = no_more_than (degree (kept_pairs s.kept pairs) y) (degree (kept_pairs s.kept pairs) (position at)) (position_lt (position at) y) (none_before y i) in
       let c = s.counted at in
       omega (arith, most, c, z)) in
       sym (append-nil (error_views errors))
-      ∙ (λ k. error_views errors ++ report_views (map rules_overlap (sym (ap (overlap_reports_in n) none ∙ no_reports n) k)))
+      ∙ (λ k. error_views errors ++ map refusal_of (map rules_overlap (sym (ap (overlap_reports_in n) none ∙ no_reports n) k)))
       ∙ s.reported
 
   -- one more report
@@ -114,10 +113,10 @@ module _ (pairs : List (Position × Position)) (rules : List Pos) (counts : BTre
     kept = λ p. s.kept p && not (position_eq p (position at));
     counted = λ q. counted q ∙ left_counts q ∙ sym (degree_left (position at) (position q) (kept_pairs s.kept pairs)) ∙ ap (λ ps. degree ps (position q)) (left_kept (position at) s.kept pairs);
     reported =
-        (λ k. added k ++ report_views (map rules_overlap (overlap_reports_in m (sym (left_kept (position at) s.kept pairs) k))))
-        ∙ append_assoc (error_views errors) (overlapping (position at ∷ ascending_positions (positions (unreported others counts at))) ∷ []) (report_views (map rules_overlap (overlap_reports_in m (left_over (position at) (kept_pairs s.kept pairs)))))
-        ∙ (λ k. error_views errors ++ (overlapping (position at ∷ ascending_positions (found k)) ∷ report_views (map rules_overlap (overlap_reports_in m (left_over (position at) (kept_pairs s.kept pairs))))))
-        ∙ (λ k. error_views errors ++ report_views (map rules_overlap (sym (ap (λ x. overlap_reports_in x (kept_pairs s.kept pairs)) is ∙ one_report m (kept_pairs s.kept pairs) (position at) positive none_before) k)))
+        (λ k. added k ++ map refusal_of (map rules_overlap (overlap_reports_in m (sym (left_kept (position at) s.kept pairs) k))))
+        ∙ append_assoc (error_views errors) (overlapping (position at ∷ ascending_positions (positions (unreported others counts at))) ∷ []) (map refusal_of (map rules_overlap (overlap_reports_in m (left_over (position at) (kept_pairs s.kept pairs)))))
+        ∙ (λ k. error_views errors ++ (overlapping (position at ∷ ascending_positions (found k)) ∷ map refusal_of (map rules_overlap (overlap_reports_in m (left_over (position at) (kept_pairs s.kept pairs))))))
+        ∙ (λ k. error_views errors ++ map refusal_of (map rules_overlap (sym (ap (λ x. overlap_reports_in x (kept_pairs s.kept pairs)) is ∙ one_report m (kept_pairs s.kept pairs) (position at) positive none_before) k)))
         ∙ s.reported;
   }
     where
@@ -151,8 +150,8 @@ no_fuel : (ps : List (Position × Position)) → overlap_reports_in 0 ps ≡ []
 no_fuel [] = refl
 no_fuel (e ∷ ps) = refl
 
-pub so_far_end : (pairs : List (Position × Position)) (counts : BTreeMap Pos ℕ) (errors : List Error) (n : ℕ) → n ≡ 0 → IsSoFar pairs counts errors n → error_views errors ≡ report_views (map rules_overlap (overlap_reports pairs))
+pub so_far_end : (pairs : List (Position × Position)) (counts : BTreeMap Pos ℕ) (errors : List Error) (n : ℕ) → n ≡ 0 → IsSoFar pairs counts errors n → error_views errors ≡ map refusal_of (map rules_overlap (overlap_reports pairs))
 so_far_end pairs counts errors n e s =
     sym (append-nil (error_views errors))
-    ∙ (λ k. error_views errors ++ report_views (map rules_overlap (sym (ap (λ x. overlap_reports_in x (kept_pairs s.kept pairs)) e ∙ no_fuel (kept_pairs s.kept pairs)) k)))
+    ∙ (λ k. error_views errors ++ map refusal_of (map rules_overlap (sym (ap (λ x. overlap_reports_in x (kept_pairs s.kept pairs)) e ∙ no_fuel (kept_pairs s.kept pairs)) k)))
     ∙ s.reported

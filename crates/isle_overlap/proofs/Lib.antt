@@ -5,4 +5,3 @@ pub mod Orders
 pub mod Sorted
 pub mod Reporting
 pub mod Counted
-pub mod Checked

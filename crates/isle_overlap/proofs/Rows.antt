@@ -15,7 +15,6 @@ use Rattle.isle_model.proofs.Elements.{some_is}
 use Rattle.isle_base.specs.SyntaxViews.{position}
 use Rattle.isle_base.specs.declared.syntax.Pos.{Pos}
 use Rattle.isle_overlap.specs.Comparisons.{AreGrouped, list_views, masked_view, masked_views, positions, masked_pair, wrong_behind, masked_behind, wrong_rows, masked_rows, of_mask, shadow_of, shadows_of}
-use Rattle.isle_builder.specs.Built.{report_views}
 
 -- 1. wrong overlaps
 abbrev Two : Type 0
@@ -126,15 +125,15 @@ rows_are i (r ∷ rs) (suc n) m q g e =
     ∙ kept_first (λ s. s.at) (is_mask_of q r) r (filter (is_mask_of q) rs) (of_mask m (masked_rows (i + 1) rs)) (rows_are (i + 1) rs n m q g (omega (arith, e)))
 
 -- 3. the errors of masks
-shadow_is : (r : SetRule) (fs : List SetRule) → shadow_of r (map (λ s. s.at) fs) ≡ report_views (map rule_shadows (shadow_report_of r fs))
+shadow_is : (r : SetRule) (fs : List SetRule) → shadow_of r (map (λ s. s.at) fs) ≡ map refusal_of (map rule_shadows (shadow_report_of r fs))
 shadow_is r [] = refl
 shadow_is r (f ∷ fs) = refl
 
-pub views_append : (as' bs : List ShadowReport) → report_views (map rule_shadows (as' ++ bs)) ≡ report_views (map rule_shadows as') ++ report_views (map rule_shadows bs)
-views_append as' bs = ap report_views (map-append rule_shadows as' bs) ∙ map-append refusal_of (map rule_shadows as') (map rule_shadows bs)
+pub views_append : (as' bs : List ShadowReport) → map refusal_of (map rule_shadows (as' ++ bs)) ≡ map refusal_of (map rule_shadows as') ++ map refusal_of (map rule_shadows bs)
+views_append as' bs = ap (map refusal_of) (map-append rule_shadows as' bs) ∙ map-append refusal_of (map rule_shadows as') (map rule_shadows bs)
 
 pub shadows_are : (all xs : List SetRule) (ls : List (List Position)) → length ls ≡ length xs → ((n : ℕ) (q : SetRule) → slice_get xs n ≡ Some q → get_or ls n [] ≡ map (λ s. s.at) (filter (is_mask_of q) all))
-    → shadows_of xs ls ≡ report_views (map rule_shadows (flat_map (λ m. shadow_report_of m (filter (is_mask_of m) all)) xs))
+    → shadows_of xs ls ≡ map refusal_of (map rule_shadows (flat_map (λ m. shadow_report_of m (filter (is_mask_of m) all)) xs))
 shadows_are all [] ls e h = refl
 shadows_are all (x ∷ xs) [] e h = absurd (omega (arith, e))
 shadows_are all (x ∷ xs) (l ∷ ls) e h =
@@ -170,7 +169,7 @@ below_length (y ∷ xs) zero x e = omega arith
 below_length (y ∷ xs) (suc n) x e = let l = below_length xs n x e in omega (arith, l)
 
 pub shadows_found : (all : List SetRule) (ls : List (Vec Pos)) (es : List (ℕ × Position)) → length ls ≡ length all → es ≡ masked_rows 0 all → AreGrouped ls es
-    → shadows_of all (list_views ls) ≡ report_views (map rule_shadows (shadows_among all))
+    → shadows_of all (list_views ls) ≡ map refusal_of (map rule_shadows (shadows_among all))
 shadows_found all ls es n e g =
     let many = length-map ls (λ v. positions v.items) in
     shadows_are all all (list_views ls) (many ∙ n)

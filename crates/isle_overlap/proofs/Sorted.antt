@@ -1,5 +1,5 @@
 -- Errors and positions in order.
-use Rattle.std.proofs.Common.{◌≡◌, ◌==◌, ◌&&◌, ◌||◌, Bool, true, false, cond, nat_lt, if◌then◌else◌, List, [], ◌∷◌, Contains, filter, refl, sym, ap, ap₂, ◌∙◌, subst, inl, inr, eqb-true}
+use Rattle.std.proofs.Common.{◌≡◌, ◌==◌, ◌&&◌, ◌||◌, Bool, true, false, cond, nat_lt, if◌then◌else◌, List, [], ◌∷◌, Contains, filter, map, refl, sym, ap, ap₂, ◌∙◌, subst, inl, inr, eqb-true}
 use Rattle.std.proofs.lemmas.Bool.{and_parts}
 use Rattle.std.specs.Prelude.{IsPermutation}
 use Rattle.std.specs.Cmp.{IsStrictWeakOrder}
@@ -24,8 +24,7 @@ use Rattle.isle_base.specs.contracts.syntax.PosOrd.TheImpl.Laws.{total-law, matc
 use Rattle.isle_base.specs.contracts.syntax.PosEq.TheImpl.Laws.{laws-law}
 use Rattle.isle_base.specs.contracts.syntax.PosPartialEq.TheImpl as E
 use Rattle.isle_overlap.specs.Comparisons.{positions}
-use Rattle.isle_rules.specs.ErrorViews.{span_starts, error_view, error_views}
-use Rattle.isle_builder.specs.Built.{report_views}
+use Rattle.isle_base.specs.ErrorViews.{span_starts, error_view, error_views}
 use Rattle.isle_overlap.specs.ErrorViews.{first_start, error_pos}
 use Rattle.isle_overlap.proofs.Ascents.{Ascend, AreAbove, ascending_is}
 use Rattle.isle_overlap.proofs.Orders.{placed, ordered_by, map_in_order, sorted_is}
@@ -81,10 +80,10 @@ by_position_is : (rs : List RuleReport) → by_position rs ≡ ordered_by comes_
 by_position_is [] = refl
 by_position_is (r ∷ rs) = with_is r (by_position rs) ∙ ap (placed comes_first r) (by_position_is rs)
 
-pub reports_in_order : (rs : List RuleReport) → report_views (by_position rs) ≡ ordered_by earlier (report_views rs)
+pub reports_in_order : (rs : List RuleReport) → map refusal_of (by_position rs) ≡ ordered_by earlier (map refusal_of rs)
 reports_in_order rs =
-    ap report_views (by_position_is rs)
-    ∙ (λ k. report_views (ordered_by (λ a b. position_lt (report_place a k) (report_place b k)) rs))
+    ap (map refusal_of) (by_position_is rs)
+    ∙ (λ k. map refusal_of (ordered_by (λ a b. position_lt (report_place a k) (report_place b k)) rs))
     ∙ map_in_order refusal_of earlier rs
 
 abbrev pub before_in_place : Error → Error → Bool
@@ -97,7 +96,7 @@ strict : IsStrictWeakOrder before_in_place
 strict = ranks_by total-law error_pos
 
 pub errors_in_order : (xs ys : List Error) (reports : List RuleReport) → IsSortedBy before_in_place ys → ((z : Error) → filter (ties before_in_place z) ys ≡ filter (ties before_in_place z) xs)
-    → error_views xs ≡ report_views reports → error_views ys ≡ report_views (by_position reports)
+    → error_views xs ≡ map refusal_of reports → error_views ys ≡ map refusal_of (by_position reports)
 errors_in_order xs ys reports s f e =
     ap error_views (sorted_is before_in_place strict xs ys s f)
     ∙ (λ k. error_views (ordered_by (λ a b. same_order a b k) xs))

@@ -1,4 +1,4 @@
 pub mod ErrorViews
 pub mod Comparisons
 pub mod Graphs
-pub mod Checks
+pub mod Found

@@ -1,29 +1,87 @@
 //! The check of overlaps: rules of one priority that may both match, and rules that others mask.
-ghost use Rattle.std.specs.Prelude.{◌^◌, Bool, List, false, if◌then◌else◌, slice_index_or, ◌≡◌, ◌++◌, ◌∷◌, [], ◌+◌, ◌-◌, ◌<◌, ℕ, All, IfOk, OnOk, drop, length, map, vec_len};
-ghost use Rattle.isle_model.specs.lists.Syntax.{Definition};
-ghost use Rattle.isle_model.specs.lists.Elaborated.{TypedRules};
-ghost use Rattle.isle_model.specs.rules.Program.{Program, is_multi};
-ghost use Rattle.isle_model.specs.claims.Environments.{IsElaborated, TypesRead, program_of};
-ghost use Rattle.isle_model.specs.claims.Refusals.{overlapping};
-ghost use Rattle.isle_model.specs.sites.Overlap.{RuleReport, ascending_positions, by_position, degree, has_end, other_end, overlap_reports, rule_shadows, rules_overlap};
-ghost use Rattle.isle_model.specs.sites.SetRules.{compared_in, is_mask_of, overlap_wrongly, reports_of_sets, shadows_among, shadows_in_sets, wrong_among, wrong_in_sets};
+ghost use Rattle.std.specs.Prelude.{◌^◌, List, false, if◌then◌else◌, slice_index_or, ◌≡◌, ◌++◌, ◌∷◌, [], ◌+◌, ◌-◌, ◌<◌, ℕ, All, IfOk, OnOk, drop, length, map, vec_len};
+ghost use Rattle.isle_model.specs.claims.Refusals.{overlapping, refusal_of};
+ghost use Rattle.isle_model.specs.sites.Overlap.{RuleReport, ShadowReport, ascending_positions, by_position, degree, has_end, other_end, overlap_reports, rule_shadows, rules_overlap};
+ghost use Rattle.isle_model.specs.sites.SetRules.{is_mask_of, overlap_wrongly, shadows_among, wrong_among};
+ghost use Rattle.isle_base.specs.ErrorViews.{error_view, error_views, span_starts};
 ghost use Rattle.isle_base.specs.SyntaxViews.{position};
-ghost use Rattle.isle_builder.specs.Built.{IsOfElaborated, ShowsElaborated, WereBuilt, report_views, term_set_views};
-ghost use Rattle.isle_overlap.specs.Checks.{IsChecked, env_program};
-ghost use Rattle.isle_sets.specs.SiteViews.{set_rule_view, set_rule_views, set_view};
+ghost use Rattle.isle_sets.specs.SiteViews.{set_rule_view, set_rule_views};
 ghost use Rattle.isle_overlap.specs.Comparisons.{AreGrouped, list_views, masked_behind, masked_pair, masked_rows, masked_views, pair_views, positions, shadow_of, shadows_of, wrong_behind, wrong_pair, wrong_rows};
-ghost use Rattle.isle_rules.specs.ErrorViews.{error_view, error_views, span_starts};
 ghost use Rattle.isle_overlap.specs.ErrorViews.{error_pos};
+ghost use Rattle.isle_overlap.specs.Found.{found_shadows, found_wrong};
 ghost use Rattle.isle_overlap.specs.Graphs.{count_at, count_left, counts_before, ends_of, listed_at, neighbours, same_pos, times, unreported};
 
-use isle_base::syntax::{Error, Fault, Pos, Span};
-use isle_builder::build::build;
-use isle_rules::TermEnv;
-use isle_sets::trie_again::{Overlap, Rule, RuleSet};
-use isle_terms::TermKind;
-use isle_types::TermId;
+use isle_base::syntax::{Error, Pos, Span};
+use isle_sets::trie_again::{Overlap, Rule};
 use std::alloc::{AllocError, Global};
 use std::collections::BTreeMap;
+
+/// What is wrong with rules that were compared: rules of one set and priority that may both match, and rules that are never
+/// taken since another one matches wherever they do. Upstream's `Errors`.
+pub struct Errors {
+    // The places of each two rules of one priority that may both match, the earlier rule first.
+    wrong: Vec<(Pos, Pos)>,
+    // An error for each rule that masks others.
+    shadows: Vec<Error>,
+}
+
+impl Drop for Errors {
+    fn drop(self) {
+        let Self {
+            wrong: _,
+            shadows: _,
+        } = self;
+    }
+}
+
+impl Errors {
+    /// Nothing, before any rules are compared.
+    pub fn new(alloc: Global) -> Errors
+        ensures wrong { found_wrong result ≡ [] }
+        ensures shadows { found_shadows result ≡ [] }
+    {
+        Errors {
+            wrong: Vec::new(alloc),
+            shadows: Vec::new(alloc),
+        }
+    }
+
+    /// Adds what is wrong with the rules of one set: each two of one priority that may both match, in rule order, and each
+    /// rule that masks others, with these. Upstream's `check_pair`, for each two rules.
+    ///
+    /// # Errors
+    ///
+    /// Where memory is refused.
+    pub fn check_rules(&mut self, alloc: Global, rules: &[Rule]) -> Result<(), AllocError>
+        ensures wrong { OnOk result (found_wrong self.new ≡ found_wrong self.old ++ wrong_among (set_rule_views rules.now)) }
+        ensures shadows { OnOk result (found_shadows self.new
+            ≡ found_shadows self.old ++ map refusal_of (map rule_shadows (shadows_among (set_rule_views rules.now)))) }
+    {
+        let mut masked = Vec::new(alloc);
+        check_pairs(rules, &mut self.wrong, &mut masked)?;
+        let lists = masked_by_each(alloc, rules.len(), &masked)?;
+        add_shadows(alloc, rules, &lists, &mut self.shadows)?;
+        Ok(())
+    }
+
+    /// The errors, by the place of their first rule or mask, overlaps before shadows at one place. Of the overlaps, the
+    /// rule with the most is reported first, of several the latest, with the others of these overlaps by place; then the
+    /// same of the overlaps that are left. A shadow lists the rules that its mask masks, in rule order. Upstream's
+    /// `report`, whose further rules come in the order of a hash set.
+    ///
+    /// # Errors
+    ///
+    /// Where memory is refused.
+    pub fn report(self, alloc: Global) -> Result<Vec<Error>, AllocError>
+        ensures { IfOk result (λ v. (shadows : List ShadowReport) → found_shadows self ≡ map refusal_of (map rule_shadows shadows)
+            → error_views v.items ≡ map refusal_of (by_position (map rules_overlap (overlap_reports (found_wrong self)) ++ map rule_shadows shadows))) }
+    {
+        let Errors { wrong, mut shadows } = self;
+        let mut errors = overlap_errors(alloc, &wrong)?;
+        errors.append(&mut shadows)?;
+        by_place(errors)
+    }
+}
 
 // Whether two rules have one priority and may both match.
 fn overlap_wrongly(left: &Rule, right: &Rule) -> bool
@@ -186,78 +244,6 @@ fn add_shadows(
 {
     for i in 0..rules.len() {
         add_shadow(alloc, &rules[i], &lists[i], errors)?;
-    }
-    Ok(())
-}
-
-// Adds the wrong overlaps of a term's rules, and the errors of those that mask others.
-fn check_rules(
-    alloc: Global,
-    rules: &[Rule],
-    wrong: &mut Vec<(Pos, Pos)>,
-    errors: &mut Vec<Error>,
-) -> Result<(), AllocError>
-    ensures wrong { OnOk result (pair_views wrong.new.items ≡ pair_views wrong.old.items ++ wrong_among (set_rule_views rules.now)) }
-    ensures shadows { OnOk result (error_views errors.new.items
-        ≡ error_views errors.old.items ++ report_views (map rule_shadows (shadows_among (set_rule_views rules.now)))) }
-{
-    let mut masked = Vec::new(alloc);
-    check_pairs(rules, wrong, &mut masked)?;
-    let lists = masked_by_each(alloc, rules.len(), &masked)?;
-    add_shadows(alloc, rules, &lists, errors)?;
-    Ok(())
-}
-
-// Whether a term may give many values: then no rule stands in the way of another.
-fn is_multi(termenv: &TermEnv, term: TermId) -> bool
-    ensures { result ≡ is_multi (env_program termenv.now) term.0 }
-{
-    match termenv.terms.get(term.index()) {
-        Some(term) => match &term.kind {
-            TermKind::Decl { flags, .. } => flags.multi,
-            TermKind::EnumVariant { .. } | TermKind::Struct => false,
-        },
-        None => false,
-    }
-}
-
-// Adds the wrong overlaps of a set, and the errors of rules that mask others: nothing of a multi term.
-fn check_set(
-    alloc: Global,
-    termenv: &TermEnv,
-    term: TermId,
-    set: &RuleSet,
-    wrong: &mut Vec<(Pos, Pos)>,
-    errors: &mut Vec<Error>,
-) -> Result<(), AllocError>
-    ensures wrong { OnOk result (pair_views wrong.new.items
-        ≡ pair_views wrong.old.items ++ wrong_among (compared_in (is_multi (env_program termenv.now)) (term.0, set_view set.now))) }
-    ensures shadows { OnOk result (error_views errors.new.items
-        ≡ error_views errors.old.items
-        ++ report_views (map rule_shadows (shadows_among (compared_in (is_multi (env_program termenv.now)) (term.0, set_view set.now))))) }
-{
-    if is_multi(termenv, term) {
-        return Ok(());
-    }
-    check_rules(alloc, &set.rules, wrong, errors)?;
-    Ok(())
-}
-
-// Adds the wrong overlaps of sets, and the errors of rules that mask others.
-fn check_sets(
-    alloc: Global,
-    termenv: &TermEnv,
-    sets: &[(TermId, RuleSet)],
-    wrong: &mut Vec<(Pos, Pos)>,
-    errors: &mut Vec<Error>,
-) -> Result<(), AllocError>
-    ensures wrong { OnOk result (pair_views wrong.new.items
-        ≡ pair_views wrong.old.items ++ wrong_in_sets (is_multi (env_program termenv.now)) (term_set_views sets.now)) }
-    ensures shadows { OnOk result (error_views errors.new.items
-        ≡ error_views errors.old.items ++ report_views (map rule_shadows (shadows_in_sets (is_multi (env_program termenv.now)) (term_set_views sets.now)))) }
-{
-    for set in sets {
-        check_set(alloc, termenv, set.0, &set.1, wrong, errors)?;
     }
     Ok(())
 }
@@ -472,7 +458,7 @@ fn report(
 // The errors of wrong overlaps. The rule with the most of them is reported first, of several the latest, with all that it
 // overlaps; then the same of the overlaps that are left.
 fn overlap_errors(alloc: Global, wrong: &[(Pos, Pos)]) -> Result<Vec<Error>, AllocError>
-    ensures { IfOk result (λ v. error_views v.items ≡ report_views (map rules_overlap (overlap_reports (pair_views wrong.now)))) }
+    ensures { IfOk result (λ v. error_views v.items ≡ map refusal_of (map rules_overlap (overlap_reports (pair_views wrong.now)))) }
 {
     let most = wrong.len();
     let mut errors = Vec::new(alloc);
@@ -508,78 +494,9 @@ fn place_of(error: &Error) -> Pos
 
 // Errors by place, those of one place as they stood.
 fn by_place(mut errors: Vec<Error>) -> Result<Vec<Error>, AllocError>
-    ensures { IfOk result (λ v. (reports : List RuleReport) → error_views errors.items ≡ report_views reports
-        → error_views v.items ≡ report_views (by_position reports)) }
+    ensures { IfOk result (λ v. (reports : List RuleReport) → error_views errors.items ≡ map refusal_of reports
+        → error_views v.items ≡ map refusal_of (by_position reports)) }
 {
     errors.sort_by_key(place_of)?;
     Ok(errors)
-}
-
-/// What is wrong with rule sets: rules of one term and priority that may both match, and rules that are never taken since
-/// another one matches wherever they do. No error where there is nothing.
-///
-/// The errors stand by the place of their first rule or mask, overlaps before shadows at one place. Of the overlaps, the
-/// rule with the most is reported first, of several the latest, with the others of these overlaps by place; then the same
-/// of the overlaps that are left. A shadow lists the rules that its mask masks, in rule order. The rules of multi terms
-/// are not compared: all that match are taken. Upstream's `check_overlaps` with `Errors::report`, whose further rules come
-/// in the order of a hash set.
-///
-/// # Errors
-///
-/// Where memory is refused.
-pub fn check_overlaps(
-    alloc: Global,
-    termenv: &TermEnv,
-    sets: &[(TermId, RuleSet)],
-) -> Result<Vec<Error>, AllocError>
-    ensures { IfOk result (λ v. error_views v.items ≡ report_views (reports_of_sets (is_multi (env_program termenv.now)) (term_set_views sets.now))) }
-{
-    let mut wrong = Vec::new(alloc);
-    let mut shadows = Vec::new(alloc);
-    check_sets(alloc, termenv, sets, &mut wrong, &mut shadows)?;
-    let mut errors = overlap_errors(alloc, &wrong)?;
-    errors.append(&mut shadows)?;
-    by_place(errors)
-}
-
-/// What checking gives of sets and errors that were built: the sets, where there is no error and nothing is wrong with the
-/// sets. Each set stands with its term; the errors are those of rules that were left out of the sets.
-///
-/// # Errors
-///
-/// `Fault::Errors` where there is any: those that were handed in, then those of overlaps and shadows, as `check_overlaps`
-/// gives them. `Fault::Memory` where memory is refused.
-pub fn check_built(
-    alloc: Global,
-    termenv: &TermEnv,
-    sets: Vec<(TermId, RuleSet)>,
-    mut errors: Vec<Error>,
-) -> Result<Vec<(TermId, RuleSet)>, Fault>
-    ensures { (p : Program) (reports : List RuleReport) → WereBuilt termenv.now p sets.items errors.items reports → IsChecked p result }
-{
-    let mut found = check_overlaps(alloc, termenv, &sets)?;
-    errors.append(&mut found)?;
-    if errors.is_empty() {
-        Ok(sets)
-    } else {
-        Err(Fault::Errors(errors))
-    }
-}
-
-/// The rule set of each term with rules, ascending by term, where the rules can be told apart: each one is reachable and
-/// passes no limit, no two of one term and priority may both match, and none is never taken since another one matches
-/// wherever it does. Rules of multi terms are not compared. `termenv` is the environment of a list of definitions that
-/// elaborates. Upstream's `overlap::check`, with the rule sets that it builds.
-///
-/// # Errors
-///
-/// `Fault::Errors` has the errors of rules that are left out, in rule order, as `build` gives them; then those of overlaps
-/// and shadows, as `check_overlaps` gives them. `Fault::Memory` where memory is refused.
-pub fn check(alloc: Global, termenv: &TermEnv) -> Result<Vec<(TermId, RuleSet)>, Fault>
-    requires elaborated { IsOfElaborated termenv.now }
-    ensures checked { (e : TypesRead) (defs : List Definition) (expand : Bool) (rules : TypedRules) → IsElaborated e defs expand rules → ShowsElaborated e defs rules termenv.now
-        → IsChecked (program_of e defs rules.rules) result }
-{
-    let (sets, errors) = build(alloc, termenv)?;
-    check_built(alloc, termenv, sets, errors)
 }

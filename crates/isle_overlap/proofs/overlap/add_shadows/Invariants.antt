@@ -1,7 +1,7 @@
 use Rattle.std.proofs.Common.{◌≡◌, ◌++◌, drop}
 use Rattle.isle_sets.specs.SiteViews.{set_rule_views}
 use Rattle.isle_overlap.specs.Comparisons.{list_views, shadows_of}
-use Rattle.isle_rules.specs.ErrorViews.{error_views}
+use Rattle.isle_base.specs.ErrorViews.{error_views}
 use Rattle.isle_overlap.proofs.overlap.add_shadows.Given as goal
 
 abbrev pub invariant-loop-i : goal.invariant-loop-i

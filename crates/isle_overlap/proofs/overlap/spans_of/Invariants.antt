@@ -1,6 +1,6 @@
 use Rattle.std.proofs.Common.{◌≡◌, take}
 use Rattle.isle_overlap.specs.Comparisons.{positions}
-use Rattle.isle_rules.specs.ErrorViews.{span_starts}
+use Rattle.isle_base.specs.ErrorViews.{span_starts}
 use Rattle.isle_overlap.proofs.overlap.spans_of.Given as goal
 
 abbrev pub invariant-loop-place : goal.invariant-loop-place

@@ -4,9 +4,9 @@ use Rattle.std.proofs.lemmas.List.{nil_from_length}
 use Rattle.isle_model.specs.rules.Program.{is_multi}
 use Rattle.isle_model.specs.sites.SetRules.{reports_of_sets}
 use Rattle.isle_builder.specs.Built.{term_set_views, report_views}
-use Rattle.isle_overlap.specs.Checks.{env_program}
-use Rattle.isle_overlap.proofs.Checked.{nothing_found, something_found}
-use Rattle.isle_overlap.proofs.overlap.check_built.Goals as goal
+use Rattle.cranelift_isle.specs.Checks.{env_program}
+use Rattle.cranelift_isle.proofs.Checked.{nothing_found, something_found}
+use Rattle.cranelift_isle.proofs.overlap.check_built.Goals as goal
 
 pub returns-then-is_empty : goal.returns-then-is_empty
 returns-then-is_empty c = λ p reports built.

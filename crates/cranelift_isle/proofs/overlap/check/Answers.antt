@@ -1,6 +1,6 @@
 use Rattle.isle_model.specs.sites.Overlap.{build_reports}
 use Rattle.isle_model.specs.claims.Environments.{program_of}
-use Rattle.isle_overlap.proofs.overlap.check.Goals as goal
+use Rattle.cranelift_isle.proofs.overlap.check.Goals as goal
 
 pub returns : goal.returns
 returns c = record {

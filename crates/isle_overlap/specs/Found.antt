@@ -1,0 +1,15 @@
+-- What was found of rules that were compared.
+use Rattle.std.specs.Prelude.{List}
+use Rattle.isle_model.specs.lists.Syntax.{Position}
+use Rattle.isle_model.specs.claims.Refusals.{Refusal}
+use Rattle.isle_base.specs.ErrorViews.{error_views}
+use Rattle.isle_overlap.specs.Comparisons.{pair_views}
+use Rattle.isle_overlap.specs.declared.overlap.Errors.{Errors}
+
+-- the wrong overlaps, by the positions of their rules
+abbrev pub found_wrong : Errors → List (Position × Position)
+found_wrong e = pair_views e.wrong.items
+
+-- the errors of rules that mask others
+abbrev pub found_shadows : Errors → List Refusal
+found_shadows e = error_views e.shadows.items
