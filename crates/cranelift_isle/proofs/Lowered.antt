@@ -1,5 +1,5 @@
 -- The trees of checked sets, and the errors that there are in place of them, as answers to definitions.
-use Rattle.std.proofs.Common.{◌≡◌, ℕ, Bool, List, [], ◌∷◌, map, Some, Ok, Err, refl, sym, ap, ◌∙◌, subst}
+use Rattle.std.proofs.Common.{◌≡◌, Bool, List, [], ◌∷◌, map, Some, Ok, Err, refl, sym, ap, ◌∙◌, subst}
 use Rattle.std.specs.Prelude.{All, Result, slice_index_or}
 use Rattle.std.specs.Global.{Vec}
 use Rattle.std.proofs.lemmas.List.Elements.{All-nil, All-cons, All-head, All-tail}
@@ -7,11 +7,10 @@ use Rattle.isle_base.specs.Answers.{Answers, OnErrors}
 use Rattle.isle_base.specs.declared.syntax.Error.{Error}
 use Rattle.isle_base.specs.declared.syntax.Fault.{Fault}
 use Rattle.isle_base.specs.declared.syntax.Fault.TheVariants.{Memory, Errors}
-use Rattle.isle_model.specs.lists.Syntax.{Position, Definition}
+use Rattle.isle_model.specs.lists.Syntax.{Definition}
 use Rattle.isle_model.specs.lists.TypeTable.{IsValidTypes}
 use Rattle.isle_model.specs.lists.Elaborated.{TypedRules}
 use Rattle.isle_model.specs.rules.Program.{Program}
-use Rattle.isle_model.specs.sites.Sites.{SiteSet}
 use Rattle.isle_model.specs.sites.RuleSets.{IsBuilt}
 use Rattle.isle_model.specs.claims.Environments.{TypesRead, types_read, IsElaborated, IsRead, TypeEnvironment, AreRulesOf, program_of}
 use Rattle.isle_model.specs.claims.Layers.{own_program, IsAccepted, IsBuiltForSome, CheckAnswers, LoweredTerm, AreLowered, LoweringAnswers, RefusedBy, by_check, BestTreesKeepTheHeadline}
