@@ -1,38 +1,45 @@
-//! How long the tables of long lists take: `rt run -- times` reads lists of 1,000, 10,000 and
-//! 100,000 definitions, rules or variables. `rt run -- SIZE ..` reads lists of these sizes, and prints no times.
+//! How long the steps from definitions to trees take: `rt run -- times` makes lists of three sizes for each, and prints
+//! the time of that step alone, of `lower` that of all steps. `rt run -- SIZE ..` makes lists of these sizes, but no longer
+//! ones than the former, and prints no times.
 #![tactic(auto)]
 
 mod definitions;
 mod lists;
 mod tables;
+mod texts;
 
 use lists::{Kind, definitions_of};
 use std::alloc::{AllocError, Global};
 use std::io::ErrorKind;
 use std::rt::{Clock, Env};
-use std::time::Instant;
 use std::{env, io};
 use tables::Table;
 
-// The sizes of which times are printed.
-const SIZES: [usize; 3] = [1000, 10_000, 100_000];
-
-// What is read: how far, and a list of what.
-const READINGS: [(Table, Kind); 5] = [
-    (Table::Types, Kind::Types),
-    (Table::Terms, Kind::Terms),
-    (Table::Rules, Kind::Rules),
-    (Table::Rules, Kind::RulesOfOneTerm),
-    (Table::Rules, Kind::Variables),
+// What is read: into what, a list of what, and the sizes of which times are printed. A term has at most 65,536 sites.
+const READINGS: [(Table, Kind, [usize; 3]); 14] = [
+    (Table::Types, Kind::Types, [1000, 10_000, 100_000]),
+    (Table::Terms, Kind::Terms, [1000, 10_000, 100_000]),
+    (Table::Rules, Kind::Rules, [1000, 10_000, 100_000]),
+    (Table::Rules, Kind::RulesOfOneTerm, [1000, 10_000, 100_000]),
+    (Table::Rules, Kind::Variables, [1000, 10_000, 100_000]),
+    (Table::Sets, Kind::Forms, [200, 1000, 3000]),
+    (Table::Sets, Kind::FormsOfOneTerm, [200, 1000, 3000]),
+    (Table::Sets, Kind::Literals, [1000, 10_000, 65_536]),
+    (Table::Sets, Kind::EqualSites, [1000, 10_000, 30_000]),
+    (Table::Sets, Kind::DeepFields, [300, 1000, 3000]),
+    (Table::Sets, Kind::Calls, [300, 1000, 3000]),
+    (Table::Checked, Kind::FormsOfOneTerm, [200, 1000, 3000]),
+    (Table::Trees, Kind::RulesOfOneTerm, [30, 100, 300]),
+    (Table::Trees, Kind::FormsOfOneTerm, [30, 100, 300]),
 ];
 
 fn main(rt: HostRuntime) -> io::Result<()> {
     let sizes = sizes(&rt, rt.alloc())?;
-    for (table, kind) in READINGS {
+    for (table, kind, timed) in READINGS {
         if sizes.is_empty() {
-            print_times(&rt, rt.alloc(), table, kind)?;
+            print_times(&rt, rt.alloc(), table, kind, timed)?;
         } else {
-            print_counts(&rt, rt.alloc(), table, kind, &sizes)?;
+            print_counts(&rt, rt.alloc(), table, kind, timed[2], &sizes)?;
         }
     }
     Ok(())
@@ -57,59 +64,63 @@ fn sizes(rt: &(impl Env + Alloc), alloc: Global) -> io::Result<Vec<usize>> {
     }
 }
 
-// For each size what the table of a list has.
+// For each size, up to the greatest, what the table of a list has.
 fn print_counts(
-    rt: &impl Print,
+    rt: &(impl Clock + Print),
     alloc: Global,
     table: Table,
     kind: Kind,
+    greatest: usize,
     sizes: &[usize],
 ) -> io::Result<()> {
     for size in sizes {
-        let defs = definitions_of(alloc, kind, *size)?;
-        let counts = table.read(alloc, &defs)?;
-        println!(rt; "{} definitions: {counts}", defs.len())?;
+        if *size <= greatest {
+            let defs = definitions_of(alloc, kind, *size)?;
+            let counts = table.read(rt, alloc, &defs)?.counts;
+            println!(rt; "{} definitions: {counts}", defs.len())?;
+        }
     }
     Ok(())
 }
 
-// For each size the time that the table of a list takes, and how many times the time of the size before.
+// For each size the time that the table of a list takes, and how many times the time and the size before they are.
 fn print_times(
     rt: &(impl Clock + Print),
     alloc: Global,
     table: Table,
     kind: Kind,
+    sizes: [usize; 3],
 ) -> io::Result<()> {
     let mut before = None;
-    for size in SIZES {
-        let micros = time(rt, alloc, table, kind, size)?;
-        let growth = growth(alloc, before, micros)?;
-        let name = kind.name();
-        println!(rt; "{size} {name}: {} ms{growth}", micros / 1000)?;
-        before = Some(micros);
+    for size in sizes {
+        let defs = definitions_of(alloc, kind, size)?;
+        let micros = table.read(rt, alloc, &defs)?.micros;
+        let millis = ratio(alloc, micros, 1000)?;
+        let growth = growth(alloc, before, size, micros)?;
+        let of = kind.name();
+        println!(rt; "{}: {size} {of}: {millis} ms{growth}", table.name())?;
+        before = Some((size, micros));
     }
     Ok(())
 }
 
-// The microseconds that the table of a list of so many definitions takes.
-fn time(rt: &impl Clock, alloc: Global, table: Table, kind: Kind, size: usize) -> io::Result<u128> {
-    let defs = definitions_of(alloc, kind, size)?;
-    let start = Instant::now(rt)?;
-    let counts = table.read(alloc, &defs)?;
-    let micros = start.elapsed(rt)?.as_micros();
-    drop(counts);
-    Ok(micros)
-}
-
-// How many times the time before a time is, to a tenth.
-fn growth(alloc: Global, before: Option<u128>, micros: u128) -> Result<String, AllocError> {
-    let Some(before) = before else {
+// How many times the time and the size before a time and a size are.
+fn growth(
+    alloc: Global,
+    before: Option<(usize, u128)>,
+    size: usize,
+    micros: u128,
+) -> Result<String, AllocError> {
+    let Some((size_before, micros_before)) = before else {
         return Ok(String::new(alloc));
     };
-    let tenths = micros.saturating_mul(10) / before.max(1);
-    format!(in alloc;
-        ", {}.{} times as long as the size before",
-        tenths / 10,
-        tenths % 10
-    )
+    let longer = ratio(alloc, micros, micros_before)?;
+    let larger = ratio(alloc, size as u128, size_before as u128)?;
+    format!(in alloc; ", {longer} times as long for {larger} times the size")
+}
+
+// How many times one number is in another, to a tenth.
+fn ratio(alloc: Global, number: u128, part: u128) -> Result<String, AllocError> {
+    let tenths = number.saturating_mul(10) / part.max(1);
+    format!(in alloc; "{}.{}", tenths / 10, tenths % 10)
 }
