@@ -4,3 +4,4 @@ pub use isle_builder::build::build;
 pub use isle_sets::trie_again::{
     Binding, BindingId, Constraint, OutOfRange, Overlap, Rule, RuleSet, TupleIndex,
 };
+pub use isle_types::VariantTerms;

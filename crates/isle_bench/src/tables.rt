@@ -3,9 +3,9 @@ ghost use Rattle.std.specs.Prelude.{IfOk};
 ghost use Rattle.isle_builder.specs.Built.{IsOfElaborated};
 
 use cranelift_isle::lower::lower;
+use cranelift_isle::overlap::check;
 use isle_base::syntax::{Def, Fault};
 use isle_builder::build::build;
-use isle_overlap::overlap::check;
 use isle_rules::TermEnv;
 use isle_sets::trie_again::RuleSet;
 use isle_terms::TermTable;

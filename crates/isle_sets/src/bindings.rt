@@ -7,8 +7,7 @@ ghost use Rattle.isle_sets.specs.VariantTerms.{HasTermIfMade};
 ghost use Rattle.isle_types.specs.TypeViews.{type_views};
 
 use crate::trie_again::{Binding, BindingId};
-pub use isle_types::VariantTerms;
-use isle_types::{TermId, TypeEnv};
+use isle_types::{TermId, TypeEnv, VariantTerms};
 use std::slice;
 
 impl Binding {
