@@ -12,7 +12,7 @@ use Rattle.std.proofs.lemmas.List.Filters.{length-filter_both}
 use Rattle.std.proofs.lemmas.List.Elements.{filter-append}
 use Rattle.std.proofs.lemmas.List.Sums.{length-filter, count_by-le-length}
 use Rattle.isle_model.proofs.Elements.{In, contains_from_in, in_from_contains, in_left, in_right, in_either, in_filter, filter_from, passed_filter}
-use Rattle.isle_sets.specs.Endings.{AreTaken, ClassEnds, class_ends, GoOnForEver, count_in, items_of, listed_at, times, wholes_in}
+use Rattle.isle_sets.specs.Endings.{class_ends, ClassEnds, count_in, GoOnForEver, items_of, listed_at, PartsAreTaken, times, wholes_in}
 use Rattle.isle_sets.specs.Verdicts.{class_head}
 use Rattle.isle_sets.specs.declared.closure_classes.Part.{Part}
 
@@ -146,7 +146,7 @@ last_more ks parts p counts last next k is e had = record {
     of false f c other = absurd other
 
 -- 3. one part of each of some classes is left out
-pub taken_none : (before : ℕ → ℕ) (ended : List ℕ) → AreTaken before before [] ended ended
+pub taken_none : (before : ℕ → ℕ) (ended : List ℕ) → PartsAreTaken before before [] ended ended
 taken_none before ended = record {
   counts = λ k. omega arith;
   kept = λ k i. i;
@@ -155,8 +155,8 @@ taken_none before ended = record {
   few = omega arith;
 }
 
-pub taken_more : (before after next : ℕ → ℕ) (wholes ended now then' : List ℕ) (whole : ℕ) → AreTaken before after wholes ended now → ((k : ℕ) → next k ≡ after k - cond (nat_eq whole k) 1 0)
-    → then' ≡ now ++ (if nat_eq (next whole) 0 then whole ∷ [] else []) → AreTaken before next (wholes ++ whole ∷ []) ended then'
+pub taken_more : (before after next : ℕ → ℕ) (wholes ended now then' : List ℕ) (whole : ℕ) → PartsAreTaken before after wholes ended now → ((k : ℕ) → next k ≡ after k - cond (nat_eq whole k) 1 0)
+    → then' ≡ now ++ (if nat_eq (next whole) 0 then whole ∷ [] else []) → PartsAreTaken before next (wholes ++ whole ∷ []) ended then'
 taken_more before after next wholes ended now then' whole t e f = record {
   counts = λ k. let was = t.counts k in let is = e k in let more = times_more k in omega (arith, was, is, more);
   kept = λ k i. still k (t.kept k i);
@@ -263,7 +263,7 @@ module _ (ks : List (List ℕ)) (parts : List Part) where
 
     -- the parts whose class ends are left out
     pub one_taken : (rest : List ℕ) (k : ℕ) → AreCounted left wholes counts (rest ++ k ∷ []) number → (wholes' : ℕ → List ℕ) (counts' : ℕ → ℕ) (now : List ℕ) (number' : ℕ)
-        → number' + length (wholes k) ≡ number → ((q : ℕ) → wholes' q ≡ (if nat_eq k q then [] else wholes q)) → AreTaken counts counts' (wholes k) rest now
+        → number' + length (wholes k) ≡ number → ((q : ℕ) → wholes' q ≡ (if nat_eq k q then [] else wholes q)) → PartsAreTaken counts counts' (wholes k) rest now
         → AreCounted (filter (λ p. not (nat_eq (class p) k)) left) wholes' counts' now number'
     one_taken rest k a wholes' counts' now number' minus without t = record {
       are_left = record {

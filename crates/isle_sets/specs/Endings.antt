@@ -43,7 +43,7 @@ abbrev pub times : ℕ → List ℕ → ℕ
 times class ks = length (filter (λ k. nat_eq k class) ks)
 
 -- one part of each of some classes is left out, and classes of which none is left are now among those that end
-pub record AreTaken (before after : ℕ → ℕ) (wholes ended now : List ℕ) : Type 0 where
+pub record PartsAreTaken (before after : ℕ → ℕ) (wholes ended now : List ℕ) : Type 0 where
   pub counts : (k : ℕ) → after k ≡ before k - times k wholes
   pub kept : (k : ℕ) → Contains ended k → Contains now k
   pub met : (k : ℕ) → 0 < before k → after k ≡ 0 → Contains now k

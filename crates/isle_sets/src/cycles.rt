@@ -1,6 +1,6 @@
 //! Classes of a closure that are parts of themselves, at any depth.
 ghost use Rattle.std.specs.Prelude.{◌≡◌, ◌<◌, ◌+◌, ◌-◌, ◌^◌, ◌++◌, ◌∷◌, [], ℕ, List, Contains, true, false, length, nat_eq, IfOk, OnOk, if◌then◌else◌};
-ghost use Rattle.isle_sets.specs.Endings.{AreTaken, ClassEnds, GoOnForEver, count_at, count_in, listed_at, wholes_in};
+ghost use Rattle.isle_sets.specs.Endings.{ClassEnds, count_at, count_in, GoOnForEver, listed_at, PartsAreTaken, wholes_in};
 ghost use Rattle.isle_sets.specs.Verdicts.{class_head};
 ghost use Rattle.isle_sets.specs.declared.closure_classes.Part.{Part};
 
@@ -135,7 +135,7 @@ fn take_parts(
     ended: &mut Vec<BindingId>,
     wholes: &[BindingId],
 ) -> Result<(), AllocError>
-    ensures { OnOk result (AreTaken (count_at counts.old) (count_at counts.new) wholes.now ended.old.items ended.new.items) }
+    ensures { OnOk result (PartsAreTaken (count_at counts.old) (count_at counts.new) wholes.now ended.old.items ended.new.items) }
 {
     for whole in wholes {
         take_part(counts, ended, *whole)?;

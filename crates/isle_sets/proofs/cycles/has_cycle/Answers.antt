@@ -3,7 +3,7 @@ use Rattle.std.specs.List.{filter}
 use Rattle.std.specs.Prelude.{nat_eq}
 use Rattle.std.proofs.lemmas.Bool.{false≢true, ltb-true, ltb-false}
 use Rattle.std.proofs.lemmas.List.{length-append}
-use Rattle.isle_sets.specs.Endings.{AreTaken, count_at, listed_at}
+use Rattle.isle_sets.specs.Endings.{count_at, listed_at, PartsAreTaken}
 use Rattle.isle_sets.specs.Verdicts.{class_head}
 use Rattle.isle_sets.proofs.PartsLeft.{AreCounted, counting_starts, few_kept, one_taken, none_left, go_on, no_items}
 use Rattle.isle_sets.proofs.cycles.has_cycle.Goals as goal
@@ -50,7 +50,7 @@ loop-class-smaller c =
     let counted = count_at c.take_parts.new.counts in
     let now = c.take_parts.new.ended.items in
     let ended : c.loop-class.ended.items ≡ rest ++ k ∷ [] = c.in-Some.ensures.items in
-    let taken : AreTaken counts counted (wholes k) rest now = subst (λ l. AreTaken counts counted l rest now) (c.deref.ensures.value ∙ c.take_wholes-above.ensures.taken) c.in_ok-take_parts.ensures in
+    let taken : PartsAreTaken counts counted (wholes k) rest now = subst (λ l. PartsAreTaken counts counted l rest now) (c.deref.ensures.value ∙ c.take_wholes-above.ensures.taken) c.in_ok-take_parts.ensures in
     let one = ap length ended in
     let two = length-append rest (k ∷ []) in
     let more = taken.few in
@@ -75,7 +75,7 @@ loop-class-preserved c =
     let counted = count_at c.take_parts.new.counts in
     let now = c.take_parts.new.ended.items in
     let ended : c.loop-class.ended.items ≡ rest ++ k ∷ [] = c.in-Some.ensures.items in
-    let taken : AreTaken counts counted (wholes k) rest now = subst (λ l. AreTaken counts counted l rest now) (c.deref.ensures.value ∙ c.take_wholes-above.ensures.taken) c.in_ok-take_parts.ensures in
+    let taken : PartsAreTaken counts counted (wholes k) rest now = subst (λ l. PartsAreTaken counts counted l rest now) (c.deref.ensures.value ∙ c.take_wholes-above.ensures.taken) c.in_ok-take_parts.ensures in
     let minus : (number - c.len-left.result) + length (wholes k) ≡ number = omega (arith, kept, size, many, few) in
     let before = subst (λ l. AreCounted ks parts left wholes counts l number) ended c.loop-class.invariant.1 in (
       filter (λ p. not (nat_eq (class_head ks p.field) k)) left,
