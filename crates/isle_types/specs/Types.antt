@@ -1,15 +1,8 @@
 -- What a client reads off an entry of the type table.
-use Rattle.std.specs.Prelude.{ℕ, Bool, true, false, List, [], map, Option, Some, None, nat_lt, slice_get}
+use Rattle.std.specs.Prelude.{ℕ, Bool, true, false, List, Option, Some, None, nat_lt, slice_get}
 use Rattle.isle_model.specs.lists.Syntax.{Position}
 use Rattle.isle_model.specs.lists.TypeTable.{builtin_names}
-use Rattle.isle_model.specs.lists.Tables.{FieldEntries, unit_entries, struct_entries, tuple_entries, TypeEntry, builtin_type, primitive_type, enum_type, struct_type}
-
--- the number of a type
-abbrev pub type_id_of : TypeEntry → ℕ
-type_id_of (builtin_type place) = place
-type_id_of (primitive_type id name at) = id
-type_id_of (enum_type name id is_extern is_nodebug variants at) = id
-type_id_of (struct_type name id is_extern is_nodebug fields at) = id
+use Rattle.isle_model.specs.lists.Tables.{TypeEntry, builtin_type, primitive_type, enum_type, struct_type}
 
 -- the text of a type's name, where there is a name of that number
 abbrev pub type_text : List (List ℕ) → TypeEntry → Option (List ℕ)
@@ -36,9 +29,3 @@ is_int_type (builtin_type place) = nat_lt 0 place
 is_int_type (primitive_type id name at) = false
 is_int_type (enum_type name id is_extern is_nodebug variants at) = false
 is_int_type (struct_type name id is_extern is_nodebug fields at) = false
-
--- the types of the fields, in order
-abbrev pub entry_field_types : FieldEntries → List ℕ
-entry_field_types unit_entries = []
-entry_field_types (struct_entries fields) = map (λ f. f.ty) fields
-entry_field_types (tuple_entries fields) = map (λ f. f.ty) fields

@@ -1,9 +1,11 @@
 //! The types that a type table holds, with their variants and fields.
 
 ghost use Rattle.std.specs.Prelude.{◌≡◌, IfOk, IsSome, Some, map, option_map};
+ghost use Rattle.isle_model.specs.rules.Values.{field_types};
+ghost use Rattle.isle_model.specs.lists.KnownTypes.{entry_id};
 ghost use Rattle.isle_base.specs.SyntaxViews.{position};
 ghost use Rattle.isle_types.specs.Envs.{names_of};
-ghost use Rattle.isle_types.specs.Types.{type_text, entry_field_types, type_id_of, type_pos_of, is_primitive_type, is_int_type};
+ghost use Rattle.isle_types.specs.Types.{type_text, type_pos_of, is_primitive_type, is_int_type};
 ghost use Rattle.isle_types.specs.TypeViews.{fields_view, type_view};
 
 use crate::builtin::BuiltinType;
@@ -119,7 +121,7 @@ pub struct TupleField {
 impl Type {
     /// The id of the type: its place in `TypeEnv::types`.
     pub fn id(&self) -> TypeId
-        ensures { result.0 ≡ type_id_of (type_view self.now) }
+        ensures { result.0 ≡ entry_id (type_view self.now) }
     {
         match self {
             Type::Builtin(builtin) => TypeId::builtin(*builtin),
@@ -172,7 +174,7 @@ impl Fields {
     /// The types of the fields, in order. An error where memory is refused.
     #[tactic(auto, using(crate::proofs::FieldTypes::types_of_struct, crate::proofs::FieldTypes::types_of_tuple))]
     pub fn types(&self, alloc: Global) -> Result<Vec<TypeId>, AllocError>
-        ensures { IfOk result (λ v. map (λ ty. ty.0) v.items ≡ entry_field_types (fields_view self.now)) }
+        ensures { IfOk result (λ v. map (λ ty. ty.0) v.items ≡ field_types (fields_view self.now)) }
     {
         match self {
             Fields::Unit => Ok(Vec::new(alloc)),
