@@ -1,9 +1,9 @@
 -- Reading converters by types that are handed in, one definition after another.
-use Rattle.std.proofs.Common.{◌≡◌, ◌==◌, ◌&&◌, ℕ, zero, suc, ◌+◌, ◌<◌, Bool, true, false, cond, List, [], ◌∷◌, ◌++◌, length, take, drop, get_or, map, slice_get, Option, None, Some, is_some, unwrap_or, option_map, All, refl, sym, ap, subst, ◌∙◌, inl, inr, eqb-true}
+use Rattle.std.proofs.Common.{◌≡◌, ◌==◌, ◌&&◌, ℕ, zero, suc, ◌+◌, Bool, true, false, cond, List, [], ◌∷◌, ◌++◌, map, slice_get, Option, None, Some, is_some, unwrap_or, option_map, All, refl, sym, ap, subst, ◌∙◌, inl, inr, eqb-true}
 use Rattle.std.proofs.Math.Path.{ap₂}
 use Rattle.std.proofs.lemmas.Bool.{false≢true}
 use Rattle.std.proofs.lemmas.Bool.Decides.{Decides-eqb}
-use Rattle.std.proofs.lemmas.List.{append-nil, map-append}
+use Rattle.std.proofs.lemmas.List.{map-append}
 use Rattle.std.proofs.lemmas.List.Concat.{flat_map-append}
 use Rattle.std.proofs.lemmas.List.Elements.{All-push}
 use Rattle.std.proofs.lemmas.Option.{same_Some, slice_get_within, slice_get-map}
@@ -16,10 +16,8 @@ use Rattle.isle_model.specs.lists.TermTable.{decl_names, rule_trees, extractor_t
 use Rattle.isle_model.specs.claims.Environments.{TypesRead, AreReadable, IsLeftByRefusal}
 use Rattle.isle_model.proofs.Positions.{distinct_push, twice}
 use Rattle.isle_laws_lists.proofs.Converters.{converters_stand_once_lem}
-use Rattle.isle_base.specs.declared.syntax.Def.{Def}
 use Rattle.isle_base.specs.declared.syntax.Error.{Error}
 use Rattle.isle_base.specs.Stable.{Entries, look_up}
-use Rattle.isle_base.specs.SyntaxViews.{definition_view, definition_views}
 use Rattle.isle_types.specs.declared.type_env.TypeEnv.{TypeEnv}
 use Rattle.isle_types.specs.Envs.{same_symbol, symbol, type_of_name}
 use Rattle.isle_types.specs.EnvViews.{environment_view}
@@ -32,8 +30,8 @@ use Rattle.isle_terms.specs.Reading.{IsWithin, term_of_name}
 use Rattle.isle_terms.specs.Stages.{constructor_after}
 use Rattle.isle_terms.specs.Signing.{ReadsTerms}
 use Rattle.isle_terms.specs.Converting.{type_by_id, converter_at, pair_of, converter_entry, template_after, ConvertersRead, Converts, IsWrongConverter, ReadsIfConverter}
-use Rattle.isle_terms.proofs.Declaring.{at_middle, taken_next, around}
-use Rattle.isle_terms.proofs.Noting.{step}
+use Rattle.isle_terms.proofs.Declaring.{at_middle, nothing_more}
+use Rattle.isle_terms.proofs.Noting.{passed_over, step}
 use Rattle.isle_terms.proofs.Standing.{term_is}
 use Rattle.isle_terms.proofs.TypesStaying.{left_interned, type_is}
 
@@ -197,18 +195,16 @@ module _ (e : TypesRead) (readable : AreReadable e) (defs read rest : List Defin
 module _ (e : TypesRead) (readable : AreReadable e) (defs read rest : List Definition) (env : TypeEnv) (table table' : TermTable) (es es' : List Error) (w : IsWithin table') where
   other : (d : Definition) → converter_of d ≡ [] → (es' ≡ es) × (table' ≡ table) → ReadsTerms e defs (ConvertersRead e defs read) env table es → ReadsTerms e defs (ConvertersRead e defs (read ++ d ∷ [])) env table' es'
   other d none same s =
-      let trees : converter_trees (read ++ d ∷ []) ≡ converter_trees read = flat_map-append converter_of read (d ∷ []) ∙ ap (λ l. converter_trees read ++ (l ++ [])) none ∙ append-nil (converter_trees read) in
+      let trees : converter_trees (read ++ d ∷ []) ≡ converter_trees read = nothing_more converter_of read d none in
       let go : ConvertersRead e defs read env table → ConvertersRead e defs (read ++ d ∷ []) env table = λ h. record {
         stand = h.stand;
         known = subst (All (IsKnownConverter e.known defs)) (sym trees) h.known;
         distinct = subst (λ cs. IsDistinct (map pair_of cs)) (sym trees) h.distinct;
         conversions = λ i o. h.conversions i o ∙ ap (λ cs. look (λ k. (k.0 == i) && (k.1 == o)) (map (converter_entry e.known defs) cs)) (sym trees);
       } in
-      step e defs (ConvertersRead e defs read) (ConvertersRead e defs (read ++ d ∷ [])) env env table table' es es' (Unit {0}) ⊥ s.left w (inl (same.0, tt))
-      (λ h _. subst (ConvertersRead e defs (read ++ d ∷ []) env) (sym same.1) (go h))
-      (λ h x _. x) s
+      passed_over e defs (ConvertersRead e defs read) (ConvertersRead e defs (read ++ d ∷ [])) env env table table' es es' s.left w (same.0, refl, same.1) go s
 
-  next : (d : Definition) → defs ≡ read ++ d ∷ rest → ReadsIfConverter d env table es table' es' → ReadsTerms e defs (ConvertersRead e defs read) env table es → ReadsTerms e defs (ConvertersRead e defs (read ++ d ∷ [])) env table' es'
+  pub next : (d : Definition) → defs ≡ read ++ d ∷ rest → ReadsIfConverter d env table es table' es' → ReadsTerms e defs (ConvertersRead e defs read) env table es → ReadsTerms e defs (ConvertersRead e defs (read ++ d ∷ [])) env table' es'
   next (converter_definition c) whole a s =
       step e defs (ConvertersRead e defs read) (ConvertersRead e defs (read ++ converter_definition c ∷ [])) env env table table' es es' (Converts c env table table') (IsWrongConverter c env table) s.left w a
       (λ h x. converter_right e readable defs read rest c whole env table s.left h table' x)
@@ -219,15 +215,6 @@ module _ (e : TypesRead) (readable : AreReadable e) (defs read rest : List Defin
   next (rule_definition d) whole a s = other (rule_definition d) refl a s
   next (extern_definition d) whole a s = other (extern_definition d) refl a s
   next other_definition whole a s = other other_definition refl a s
-
--- after the definition at i
-pub next_converter : (e : TypesRead) → AreReadable e → (defs : List Def) (i : ℕ) (d : Def) → i < length defs → d ≡ get_or defs i d → (env : TypeEnv) (table table' : TermTable) (es es' : List Error) → IsWithin table'
-    → ReadsIfConverter (definition_view d) env table es table' es'
-    → ReadsTerms e (definition_views defs) (ConvertersRead e (definition_views defs) (definition_views (take i defs))) env table es
-    → ReadsTerms e (definition_views defs) (ConvertersRead e (definition_views defs) (definition_views (take (i + 1) defs))) env table' es'
-next_converter e r defs i d within here env table table' es es' w a s =
-    subst (λ ds. ReadsTerms e (definition_views defs) (ConvertersRead e (definition_views defs) ds) env table' es') (sym (taken_next defs i d within here))
-    (next e r (definition_views defs) (definition_views (take i defs)) (definition_views (drop (i + 1) defs)) env table table' es es' w (definition_view d) (around defs i d within here) a s)
 
 -- what is looked up at a pair of types, after one more
 pub read_conversions : (old new : Entries (TypeId × TypeId) TermId) (a b : TypeId) (t : TermId) → ((x : TypeId × TypeId) → look_up same_types new x ≡ cond (same_types (a, b) x) (Some t) (look_up same_types old x))

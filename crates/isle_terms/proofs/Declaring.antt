@@ -32,7 +32,7 @@ use Rattle.isle_terms.specs.Stages.{place_among}
 use Rattle.isle_terms.specs.Signing.{ReadsTerms, with_ids, declared_alone, HoldsTerms, AreRightDeclarations, Declaring, Declares, IsWrongDeclaration, ReadsDeclaration, ReadsIfDeclared, Notes}
 use Rattle.isle_terms.proofs.Finding.{at_number, finds_next}
 use Rattle.isle_terms.proofs.TypesStaying.{left_more, type_is, may_intern}
-use Rattle.isle_terms.proofs.Noting.{both_note, if_noted, notes_as, step}
+use Rattle.isle_terms.proofs.Noting.{both_note, if_noted, notes_as, passed_over, step}
 
 -- one more term, with the next id
 pub one_more : (i n : ℕ) (fs : List (ℕ → TermEntry)) (f : ℕ → TermEntry) → i + length fs ≡ n → with_ids i (fs ++ f ∷ []) ≡ with_ids i fs ++ f n ∷ []
@@ -188,6 +188,10 @@ declaration_read d old new table table' es one two es' n f m a =
           (λ w. ⊎_elim (λ u. ⊎_elim (λ t. inl t) (λ m. inr (inl m)) u) (λ x. inr (inr x)) w) all;
     }
 
+-- a definition that says nothing of a kind adds nothing
+pub nothing_more : {X : Type 0} (f : Definition → List X) (read : List Definition) (d : Definition) → f d ≡ [] → flat_map f (read ++ d ∷ []) ≡ flat_map f read
+nothing_more f read d none = flat_map-append f read (d ∷ []) ∙ ap (λ l. flat_map f read ++ (l ++ [])) none ∙ append-nil (flat_map f read)
+
 -- the definitions before one, and after it
 module _ (defs : List Def) (i : ℕ) (d : Def) (within : i < length defs) (here : d ≡ get_or defs i d) where
   pub taken_next : definition_views (take (i + 1) defs) ≡ definition_views (take i defs) ++ definition_view d ∷ []
@@ -202,14 +206,12 @@ module _ (defs : List Def) (i : ℕ) (d : Def) (within : i < length defs) (here 
 module _ (e : TypesRead) (r : AreReadable e) (defs read rest : List Definition) (old new : TypeEnv) (table table' : TermTable) (es es' : List Error) (m : MayIntern old new) (w : IsWithin table') where
   other : (d : Definition) → decl_of d ≡ [] → (es' ≡ es) × (new ≡ old) × (table' ≡ table) → ReadsTerms e defs (Declaring e defs read) old table es → ReadsTerms e defs (Declaring e defs (read ++ d ∷ [])) new table' es'
   other d none same s =
-      let trees : decl_trees (read ++ d ∷ []) ≡ decl_trees read = flat_map-append decl_of read (d ∷ []) ∙ ap (λ l. decl_trees read ++ (l ++ [])) none ∙ append-nil (decl_trees read) in
+      let trees : decl_trees (read ++ d ∷ []) ≡ decl_trees read = nothing_more decl_of read d none in
       let go : Declaring e defs read old table → Declaring e defs (read ++ d ∷ []) old table = λ h. record {
         has = subst (λ ds. HoldsTerms e (map (λ d. d.term.text) ds) (map (λ d. d.term.text) ds) (map (declared_alone e defs) ds) old table) (sym trees) h.has;
         right = subst (AreRightDeclarations e.known) (sym trees) h.right;
       } in
-      step e defs (Declaring e defs read) (Declaring e defs (read ++ d ∷ [])) old new table table' es es' (Unit {0}) ⊥ (left_more e r old s.left new m) w (inl (same.0, tt))
-      (λ h _. subst (λ env. Declaring e defs (read ++ d ∷ []) env table') (sym same.1) (subst (Declaring e defs (read ++ d ∷ []) old) (sym same.2) (go h)))
-      (λ h x _. x) s
+      passed_over e defs (Declaring e defs read) (Declaring e defs (read ++ d ∷ [])) old new table table' es es' (left_more e r old s.left new m) w same go s
 
   pub next : (d : Definition) → defs ≡ read ++ d ∷ rest → ReadsIfDeclared d old table es new table' es' → ReadsTerms e defs (Declaring e defs read) old table es → ReadsTerms e defs (Declaring e defs (read ++ d ∷ [])) new table' es'
   next (declaration d) whole a s =
@@ -222,12 +224,3 @@ module _ (e : TypesRead) (r : AreReadable e) (defs read rest : List Definition) 
   next (rule_definition d) whole a s = other (rule_definition d) refl a s
   next (extern_definition d) whole a s = other (extern_definition d) refl a s
   next other_definition whole a s = other other_definition refl a s
-
--- after the definition at i
-pub next_declaration : (e : TypesRead) → AreReadable e → (defs : List Def) (i : ℕ) (d : Def) → i < length defs → d ≡ get_or defs i d → (old new : TypeEnv) (table table' : TermTable) (es es' : List Error) → MayIntern old new → IsWithin table'
-    → ReadsIfDeclared (definition_view d) old table es new table' es'
-    → ReadsTerms e (definition_views defs) (Declaring e (definition_views defs) (definition_views (take i defs))) old table es
-    → ReadsTerms e (definition_views defs) (Declaring e (definition_views defs) (definition_views (take (i + 1) defs))) new table' es'
-next_declaration e r defs i d within here old new table table' es es' m w a s =
-    subst (λ ds. ReadsTerms e (definition_views defs) (Declaring e (definition_views defs) ds) new table' es') (sym (taken_next defs i d within here))
-    (next e r (definition_views defs) (definition_views (take i defs)) (definition_views (drop (i + 1) defs)) old new table table' es es' m w (definition_view d) (around defs i d within here) a s)

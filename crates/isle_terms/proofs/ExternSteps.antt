@@ -1,5 +1,5 @@
 -- Reading external constructors and extractors by types that are handed in, one definition after another.
-use Rattle.std.proofs.Common.{◌≡◌, ◌||◌, ℕ, ◌+◌, ◌<◌, not, Bool, true, false, cond, List, [], ◌∷◌, ◌++◌, ◌⊎◌, length, take, drop, get_or, map, slice_get, Option, None, Some, is_some, option_map, Contains, refl, sym, ap, subst, ◌∙◌, inl, inr}
+use Rattle.std.proofs.Common.{◌≡◌, ◌||◌, ℕ, ◌+◌, not, Bool, true, false, cond, List, [], ◌∷◌, ◌++◌, ◌⊎◌, map, slice_get, Option, None, Some, is_some, option_map, Contains, refl, sym, ap, subst, ◌∙◌, inl, inr}
 use Rattle.std.specs.List.{find, flat_map}
 use Rattle.std.specs.Str.{bytes_eq}
 use Rattle.std.proofs.lemmas.Bool.{false≢true}
@@ -15,10 +15,8 @@ use Rattle.isle_model.specs.claims.Environments.{TypesRead, AreReadable, IsLeftB
 use Rattle.isle_model.proofs.Members.{member_from_get, get_from_member}
 use Rattle.isle_model.proofs.Names.{found, absent, number_stays, with_names_append}
 use Rattle.isle_model.proofs.Positions.{distinct_push, twice}
-use Rattle.isle_base.specs.declared.syntax.Def.{Def}
 use Rattle.isle_base.specs.declared.syntax.Error.{Error}
 use Rattle.isle_base.specs.Stable.{look_up}
-use Rattle.isle_base.specs.SyntaxViews.{definition_view, definition_views}
 use Rattle.isle_types.specs.declared.type_env.TypeEnv.{TypeEnv}
 use Rattle.isle_types.specs.Envs.{names_of, IsInterned}
 use Rattle.isle_types.specs.EnvViews.{environment_view}
@@ -28,17 +26,13 @@ use Rattle.isle_terms.specs.Reading.{IsWithin, Interns, MayIntern, term_of_name}
 use Rattle.isle_terms.specs.Signing.{ReadsTerms, declared_so_far}
 use Rattle.isle_terms.specs.Standing.{Stand, is_declared_kind}
 use Rattle.isle_terms.specs.Converting.{type_by_id}
-use Rattle.isle_terms.specs.Externing.{lacks_constructor, lacks_extractor, made_by_this, taken_by_this, with_kind, ChangesKind, HasOtherKind}
+use Rattle.isle_terms.specs.KindChanges.{lacks_constructor, lacks_extractor, made_by_this, taken_by_this, with_kind, ChangesKind, HasOtherKind}
 use Rattle.isle_terms.specs.ExternStages.{function_after, external_after, AreRightConstructors, AreRightExternals, ExternsRead, ReadsIfExtern}
-use Rattle.isle_terms.proofs.Declaring.{at_middle, taken_next, around}
+use Rattle.isle_terms.proofs.Declaring.{at_middle, nothing_more}
 use Rattle.isle_terms.proofs.FirstOfTerm.{known_other, known_new, not_known, was_known, none_stands}
-use Rattle.isle_terms.proofs.Noting.{step}
+use Rattle.isle_terms.proofs.Noting.{passed_over, step}
 use Rattle.isle_terms.proofs.Standing.{entry_found, nothing_found, stands_on, stands_named}
 use Rattle.isle_terms.proofs.TypesStaying.{left_interned, left_more}
-
--- a definition that says nothing of this kind adds nothing
-nothing_more : {X : Type 0} (f : Definition → List X) (read : List Definition) (d : Definition) → f d ≡ [] → flat_map f (read ++ d ∷ []) ≡ flat_map f read
-nothing_more f read d none = flat_map-append f read (d ∷ []) ∙ ap (λ l. flat_map f read ++ (l ++ [])) none ∙ append-nil (flat_map f read)
 
 -- a kind that passes is that of a declared term
 constructor_lacks : (k : TermKindEntry) → lacks_constructor k ≡ true → is_declared_kind k ≡ false → ⊥
@@ -65,7 +59,7 @@ module _ (e : TypesRead) (defs : List Definition) (cs rest : List ConstructorTre
   abbrev by_rules : List ℕ → Option ConstructorEntry
   by_rules x = Some internal_constructor
 
-  pub constructor_right : (new : TermTable) → ChangesKind lacks_constructor (made_by_this (function_entry c)) c.term env table new
+  pub constructor_right : (new : TermTable) → ChangesKind lacks_constructor (made_by_this (function_entry c)) (term_of_name env table c.term) table new
       → Stand e defs met (function_after e defs (cs ++ c ∷ [])) taken env new × AreRightConstructors defs (cs ++ c ∷ [])
   constructor_right new a =
       elim (entry_found e defs met (function_after e defs cs) taken env table i s c.term a.id a.entry a.found a.at) [
@@ -87,7 +81,7 @@ module _ (e : TypesRead) (defs : List Definition) (cs rest : List ConstructorTre
   constructor_declared : IsValidTerms e.known defs → IsDeclaredTerm defs c.term
   constructor_declared v = at_middle (λ t. IsDeclaredTerm defs t.term) cs c rest (constructor_trees defs) trees v.terms_of_constructors
 
-  pub constructor_wrong : (term_of_name env table c.term ≡ None) ⊎ HasOtherKind lacks_constructor c.term env table → IsValidTerms e.known defs → ⊥
+  pub constructor_wrong : (term_of_name env table c.term ≡ None) ⊎ HasOtherKind lacks_constructor (term_of_name env table c.term) table → IsValidTerms e.known defs → ⊥
   constructor_wrong (inl none) v =
       false≢true (sym (ap is_some (nothing_found e defs met (function_after e defs cs) taken env table i s c.term none)) ∙ constructor_declared v)
   constructor_wrong (inr m) v =
@@ -121,7 +115,7 @@ module _ (e : TypesRead) (defs : List Definition) (ts rest : List ExternalTree) 
         | false ↦ λ g. template_there us x g
       ] h
 
-  pub external_right : (new : TermTable) → ChangesKind lacks_extractor (taken_by_this (external_entry t)) t.term env table new
+  pub external_right : (new : TermTable) → ChangesKind lacks_extractor (taken_by_this (external_entry t)) (term_of_name env table t.term) table new
       → Stand e defs met made (external_after e defs (ts ++ t ∷ [])) env new × AreRightExternals defs (ts ++ t ∷ [])
   external_right new a =
       elim (entry_found e defs met made (external_after e defs ts) env table i s t.term a.id a.entry a.found a.at) [
@@ -161,7 +155,7 @@ module _ (e : TypesRead) (defs : List Definition) (ts rest : List ExternalTree) 
       twice (internal_extractors defs ++ map extracted_by ts) (map extracted_by rest) (internal_extractors defs ++ external_extractors defs) t.term.text g.0 v.one_extractor all_extracted
       (slice_get_within (internal_extractors defs ++ map extracted_by ts) g.0 t.term.text g.1) g.1
 
-  pub external_wrong : (term_of_name env table t.term ≡ None) ⊎ HasOtherKind lacks_extractor t.term env table → IsValidTerms e.known defs → ⊥
+  pub external_wrong : (term_of_name env table t.term ≡ None) ⊎ HasOtherKind lacks_extractor (term_of_name env table t.term) table → IsValidTerms e.known defs → ⊥
   external_wrong (inl none) v =
       false≢true (sym (ap is_some (nothing_found e defs met made (external_after e defs ts) env table i s t.term none)) ∙ external_declared v)
   external_wrong (inr m) v =
@@ -209,9 +203,7 @@ module _ (e : TypesRead) (readable : AreReadable e) (defs read rest : List Defin
         externals = subst (AreRightExternals defs) (sym (nothing_more external_extractor_of read d ts)) h.externals;
         conversions = h.conversions;
       } in
-      step e defs (ExternsRead e defs read) (ExternsRead e defs (read ++ d ∷ [])) old new table table' es es' (Unit {0}) ⊥ (left_more e readable old s.left new m) w (inl (same.0, tt))
-      (λ h _. subst (λ env. ExternsRead e defs (read ++ d ∷ []) env table') (sym same.1) (subst (ExternsRead e defs (read ++ d ∷ []) old) (sym same.2) (go h)))
-      (λ h x _. x) s
+      passed_over e defs (ExternsRead e defs read) (ExternsRead e defs (read ++ d ∷ [])) old new table table' es es' (left_more e readable old s.left new m) w same go s
 
   constructor : (term function : Name) (at : Position) → defs ≡ read ++ extern_definition (extern_constructor term function at) ∷ rest → ReadsIfExtern (extern_definition (extern_constructor term function at)) old table es new table' es'
       → ReadsTerms e defs (ExternsRead e defs read) old table es → ReadsTerms e defs (ExternsRead e defs (read ++ extern_definition (extern_constructor term function at) ∷ [])) new table' es'
@@ -225,10 +217,10 @@ module _ (e : TypesRead) (readable : AreReadable e) (defs read rest : List Defin
       let taken : List ℕ → Option ExtractorEntry = external_after e defs (external_trees read) in
       let stand = λ (h : ExternsRead e defs read old table). function_met e defs read rest d whole function.text refl (function_after e defs (constructor_trees read)) taken old table (interned s.left) h.stand new a.0 in
       let number_is = λ (h : ExternsRead e defs read old table). function_number e defs read rest d whole function.text refl (function_after e defs (constructor_trees read)) taken old table (interned s.left) h.stand new a.0 in
-      step e defs (ExternsRead e defs read) (ExternsRead e defs (read ++ d ∷ [])) old new table table' es es' (ChangesKind lacks_constructor (made_by_this (external_constructor (number (names_of old) function.text))) term new table table') ((term_of_name new table term ≡ None) ⊎ HasOtherKind lacks_constructor term new table)
+      step e defs (ExternsRead e defs read) (ExternsRead e defs (read ++ d ∷ [])) old new table table' es es' (ChangesKind lacks_constructor (made_by_this (external_constructor (number (names_of old) function.text))) (term_of_name new table term) table table') ((term_of_name new table term ≡ None) ⊎ HasOtherKind lacks_constructor (term_of_name new table term) table)
       (left_more e readable old s.left new m) w a.1
       (λ h x.
-      let y = subst (λ k. ChangesKind lacks_constructor (made_by_this (external_constructor k)) term new table table') (number_is h) x in
+      let y = subst (λ k. ChangesKind lacks_constructor (made_by_this (external_constructor k)) (term_of_name new table term) table table') (number_is h) x in
       let r = constructor_right e defs (constructor_trees read) (constructor_trees rest) c trees met taken new table a.0.inverse (stand h) h.constructors table' y in
       record {
         stand = subst (λ l. Stand e defs met (function_after e defs l) (external_after e defs (external_trees (read ++ d ∷ []))) new table') (sym more)
@@ -251,10 +243,10 @@ module _ (e : TypesRead) (readable : AreReadable e) (defs read rest : List Defin
       let made : List ℕ → Option ConstructorEntry = function_after e defs (constructor_trees read) in
       let stand = λ (h : ExternsRead e defs read old table). function_met e defs read rest d whole function.text refl made (external_after e defs (external_trees read)) old table (interned s.left) h.stand new a.0 in
       let number_is = λ (h : ExternsRead e defs read old table). function_number e defs read rest d whole function.text refl made (external_after e defs (external_trees read)) old table (interned s.left) h.stand new a.0 in
-      step e defs (ExternsRead e defs read) (ExternsRead e defs (read ++ d ∷ [])) old new table table' es es' (ChangesKind lacks_extractor (taken_by_this (external_extractor (number (names_of old) function.text) infallible at)) term new table table') ((term_of_name new table term ≡ None) ⊎ HasOtherKind lacks_extractor term new table)
+      step e defs (ExternsRead e defs read) (ExternsRead e defs (read ++ d ∷ [])) old new table table' es es' (ChangesKind lacks_extractor (taken_by_this (external_extractor (number (names_of old) function.text) infallible at)) (term_of_name new table term) table table') ((term_of_name new table term ≡ None) ⊎ HasOtherKind lacks_extractor (term_of_name new table term) table)
       (left_more e readable old s.left new m) w a.1
       (λ h x.
-      let y = subst (λ k. ChangesKind lacks_extractor (taken_by_this (external_extractor k infallible at)) term new table table') (number_is h) x in
+      let y = subst (λ k. ChangesKind lacks_extractor (taken_by_this (external_extractor k infallible at)) (term_of_name new table term) table table') (number_is h) x in
       let r = external_right e defs (external_trees read) (external_trees rest) t trees met made new table a.0.inverse (stand h) h.externals table' y in
       record {
         stand = subst (λ l. Stand e defs met (function_after e defs (constructor_trees (read ++ d ∷ []))) (external_after e defs l) new table') (sym more)
@@ -275,12 +267,3 @@ module _ (e : TypesRead) (readable : AreReadable e) (defs read rest : List Defin
   next (converter_definition d) whole a s = other (converter_definition d) refl refl refl a s
   next (rule_definition d) whole a s = other (rule_definition d) refl refl refl a s
   next other_definition whole a s = other other_definition refl refl refl a s
-
--- after the definition at i
-pub next_extern : (e : TypesRead) → AreReadable e → (defs : List Def) (i : ℕ) (d : Def) → i < length defs → d ≡ get_or defs i d → (old new : TypeEnv) (table table' : TermTable) (es es' : List Error) → MayIntern old new → IsWithin table'
-    → ReadsIfExtern (definition_view d) old table es new table' es'
-    → ReadsTerms e (definition_views defs) (ExternsRead e (definition_views defs) (definition_views (take i defs))) old table es
-    → ReadsTerms e (definition_views defs) (ExternsRead e (definition_views defs) (definition_views (take (i + 1) defs))) new table' es'
-next_extern e r defs i d within here old new table table' es es' m w a s =
-    subst (λ ds. ReadsTerms e (definition_views defs) (ExternsRead e (definition_views defs) ds) new table' es') (sym (taken_next defs i d within here))
-    (next e r (definition_views defs) (definition_views (take i defs)) (definition_views (drop (i + 1) defs)) old new table table' es es' m w (definition_view d) (around defs i d within here) a s)

@@ -13,6 +13,7 @@ pub mod RootSteps
 pub mod ConverterSteps
 pub mod KindChanges
 pub mod ExternSteps
+pub mod FormSteps
 pub mod Callees
 pub mod TemplateNames
 pub mod TemplateSteps

@@ -6,8 +6,7 @@ use Rattle.std.proofs.lemmas.List.Concat.{flat_map-append}
 use Rattle.std.proofs.lemmas.List.Elements.{filter_map-append}
 use Rattle.std.proofs.lemmas.Option.{same_Some, slice_get-get_or}
 use Rattle.isle_model.specs.lists.Names.{number, has_name, with_name, IsDistinct}
-use Rattle.isle_model.specs.rules.Values.{field_types}
-use Rattle.isle_model.specs.lists.Tables.{FieldEntries, unit_entries, struct_entries, tuple_entries, TermEntry}
+use Rattle.isle_model.specs.lists.Tables.{TermEntry}
 use Rattle.isle_model.specs.lists.TermTable.{made_by, terms_made, variant_as_term}
 use Rattle.isle_model.specs.claims.Environments.{TypesRead}
 use Rattle.isle_model.proofs.FirstPlaces.{twice}
@@ -20,7 +19,6 @@ use Rattle.isle_types.specs.declared.types.Type as T
 use Rattle.isle_types.specs.declared.types.Variant.{Variant}
 use Rattle.isle_types.specs.Envs.{names_of, symbol_of, IsInterned}
 use Rattle.isle_base.specs.Noting.{NotesMore}
-use Rattle.isle_types.specs.Types.{entry_field_types}
 use Rattle.isle_types.specs.TypeViews.{type_view, type_views, variant_view}
 use Rattle.isle_types.proofs.Inverse.{inverse_distinct}
 use Rattle.isle_base.proofs.Noted.{both}
@@ -33,11 +31,6 @@ use Rattle.isle_terms.specs.Stages.{place_among}
 use Rattle.isle_terms.specs.Signing.{HoldsTerms, texts_at, NumbersAreMet, PushesTerm, GrowsBy, AreTaken, AddsMade}
 use Rattle.isle_terms.proofs.Declaring.{adds_term}
 use Rattle.isle_terms.proofs.Finding.{at_number}
-
-pub types_of_fields : (fs : FieldEntries) → entry_field_types fs ≡ field_types fs
-types_of_fields unit_entries = refl
-types_of_fields (struct_entries fields) = refl
-types_of_fields (tuple_entries fields) = refl
 
 pub none_mapped : {X Y : Type 0} (f : X → Y) (o : Option X) → is_some o ≡ false → option_map f o ≡ None
 none_mapped f None h = refl

@@ -47,6 +47,15 @@ step e defs A B old new table table' es es' Right Wrong left within (inr a) righ
   so_far = inr (some_noted a.0, ⊎_elim (λ r. wrong r.1 a.1) (λ w. w.1) s.so_far);
 }
 
+-- a definition of another form is passed over
+pub passed_over : (e : TypesRead) (defs : List Definition) (A B : TypeEnv → TermTable → Type 0) (old new : TypeEnv) (table table' : TermTable) (es es' : List Error)
+    → IsLeftByRefusal e (environment_view new) → IsWithin table' → (es' ≡ es) × (new ≡ old) × (table' ≡ table) → (A old table → B old table)
+    → ReadsTerms e defs A old table es → ReadsTerms e defs B new table' es'
+passed_over e defs A B old new table table' es es' left within same go s =
+    step e defs A B old new table table' es es' (Unit {0}) ⊥ left within (inl (same.0, tt))
+    (λ h _. subst (λ env. B env table') (sym same.1) (subst (B old) (sym same.2) (go h)))
+    (λ h x _. x) s
+
 -- what is right so far, said in other words
 pub reads_as : (e : TypesRead) (defs : List Definition) (A B : TypeEnv → TermTable → Type 0) (env : TypeEnv) (table : TermTable) (es : List Error) → (A env table → B env table) → ReadsTerms e defs A env table es → ReadsTerms e defs B env table es
 reads_as e defs A B env table es f s = record { left = s.left; within = s.within; ill_typed = s.ill_typed; so_far = ⊎_elim (λ r. inl (r.0, f r.1)) (λ w. inr w) s.so_far }

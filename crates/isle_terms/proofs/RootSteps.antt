@@ -1,28 +1,26 @@
 -- Reading which terms the rules are of, by types that are handed in, one definition after another.
-use Rattle.std.proofs.Common.{◌≡◌, ℕ, ◌+◌, ◌<◌, false, List, [], ◌∷◌, ◌++◌, length, take, drop, get_or, Option, None, Some, ◌⊎◌, is_some, All, refl, sym, ap, subst, ◌∙◌, inl, inr}
+use Rattle.std.proofs.Common.{◌≡◌, ℕ, ◌+◌, false, List, [], ◌∷◌, ◌++◌, Option, None, Some, ◌⊎◌, is_some, All, refl, sym, ap, subst, ◌∙◌, inl, inr}
 use Rattle.std.proofs.lemmas.Bool.{false≢true}
-use Rattle.std.proofs.lemmas.List.{append-nil}
 use Rattle.std.proofs.lemmas.List.Concat.{flat_map-append}
 use Rattle.std.proofs.lemmas.List.Elements.{All-push}
 use Rattle.isle_model.specs.lists.Syntax.{Name, RuleTree, Definition, type_definition, declaration, extractor_definition, converter_definition, rule_definition, extern_definition, other_definition}
 use Rattle.isle_model.specs.rules.Outcome.{then_option}
-use Rattle.isle_model.specs.lists.Tables.{ConstructorEntry, ExtractorEntry, declared_term}
+use Rattle.isle_model.specs.lists.Tables.{ConstructorEntry, internal_constructor, ExtractorEntry, declared_term}
 use Rattle.isle_model.specs.lists.TermTable.{decl_flags, decl_names, rule_of, rule_trees, term_id, term_names_met, root_name, is_declared, HasDeclaredRoot, IsValidTerms}
 use Rattle.isle_model.specs.claims.Environments.{TypesRead, AreReadable, IsLeftByRefusal}
 use Rattle.isle_model.proofs.Options.{then_some}
-use Rattle.isle_base.specs.declared.syntax.Def.{Def}
 use Rattle.isle_base.specs.declared.syntax.Error.{Error}
-use Rattle.isle_base.specs.SyntaxViews.{definition_view, definition_views}
 use Rattle.isle_types.specs.declared.type_env.TypeEnv.{TypeEnv}
 use Rattle.isle_types.specs.Envs.{IsInterned}
 use Rattle.isle_types.specs.EnvViews.{environment_view}
 use Rattle.isle_terms.specs.declared.term_table.TermTable.{TermTable}
-use Rattle.isle_terms.specs.Reading.{IsWithin, internal_entry, root_term_id, term_of_name}
+use Rattle.isle_terms.specs.Reading.{IsWithin, root_term_id, term_of_name}
 use Rattle.isle_terms.specs.Stages.{constructor_after}
 use Rattle.isle_terms.specs.Signing.{ReadsTerms, declared_so_far}
-use Rattle.isle_terms.specs.Standing.{Stand, RootsRead, IsOfDeclared, IsOfMade, ReadsIfRule}
-use Rattle.isle_terms.proofs.Declaring.{at_middle, taken_next, around}
-use Rattle.isle_terms.proofs.Noting.{step}
+use Rattle.isle_terms.specs.KindChanges.{made_by_this, with_kind, ChangesKind, HasOtherKind}
+use Rattle.isle_terms.specs.Standing.{Stand, is_declared_kind, RootsRead, ReadsIfRule}
+use Rattle.isle_terms.proofs.Declaring.{at_middle, nothing_more}
+use Rattle.isle_terms.proofs.Noting.{passed_over, step}
 use Rattle.isle_terms.proofs.Rooting.{same_constructor, new_constructor}
 use Rattle.isle_terms.proofs.Standing.{declared_found, made_found, nothing_found, stands_on}
 use Rattle.isle_terms.proofs.TypesStaying.{left_interned}
@@ -46,15 +44,22 @@ module _ (e : TypesRead) (defs read rest : List Definition) (r : RuleTree) (whol
   abbrev nothing : List ℕ → Option ExtractorEntry
   nothing x = None
 
-  pub rule_rooted : (new : TermTable) → IsOfDeclared r env old new → RootsRead e defs (read ++ rule_definition r ∷ []) env new
+  -- the rule is of a declared term, or of one that a type makes
+  abbrev Rooted : TermTable → Type 0
+  Rooted new = ChangesKind is_declared_kind (made_by_this internal_constructor) (root_term_id env old r) old new
+
+  abbrev Unrooted : Type 0
+  Unrooted = HasOtherKind is_declared_kind (root_term_id env old r) old
+
+  pub rule_rooted : (new : TermTable) → Rooted new → RootsRead e defs (read ++ rule_definition r ∷ []) env new
   rule_rooted new d =
-      let named = then_some (root_name r.pattern) (term_of_name env old) d.id d.root in
+      let named = then_some (root_name r.pattern) (term_of_name env old) d.id d.found in
       let x : List ℕ = named.0.text in
-      let place : term_id defs x ≡ Some d.id = declared_found e defs (decl_names defs) before nothing env old interned s.stand named.0 d.id d.entry named.2 d.at d.declared in
+      let place : term_id defs x ≡ Some d.id = declared_found e defs (decl_names defs) before nothing env old interned s.stand named.0 d.id d.entry named.2 d.at d.passes in
       let rooted : HasDeclaredRoot defs r = ap (is_declared defs) named.1 ∙ ap is_some place in
       record {
         stand = subst (λ rs. Stand e defs (decl_names defs) (constructor_after rs) nothing env new) (sym more)
-            (stands_on e defs (decl_names defs) before nothing env old interned s.stand x d.id internal_entry after nothing new place d.changes
+            (stands_on e defs (decl_names defs) before nothing env old interned s.stand x d.id (with_kind (made_by_this internal_constructor)) after nothing new place d.changes
             (λ t j h. ap (λ m. record (declared_so_far e.known (term_names_met e.known defs) before nothing t j) { kind = declared_term (decl_flags t) m None }) (same_constructor defs (rule_trees read) r named.0 named.1 t.term.text h))
             (λ t j h. ap (λ m. record (declared_so_far e.known (term_names_met e.known defs) before nothing t j) { kind = declared_term (decl_flags t) m None }) (new_constructor defs (rule_trees read) r named.0 named.1 t.term.text h)));
         roots = subst (All (HasDeclaredRoot defs)) (sym more) (All-push (HasDeclaredRoot defs) (rule_trees read) r s.roots rooted);
@@ -68,30 +73,28 @@ module _ (e : TypesRead) (defs read rest : List Definition) (r : RuleTree) (whol
   unrooted None h = refl
   unrooted (Some n) h = ap is_some (nothing_found e defs (decl_names defs) before nothing env old interned s.stand n h)
 
-  pub rule_unrooted : (root_term_id env old r ≡ None) ⊎ IsOfMade r env old → IsValidTerms e.known defs → ⊥
+  pub rule_unrooted : (root_term_id env old r ≡ None) ⊎ Unrooted → IsValidTerms e.known defs → ⊥
   rule_unrooted (inl none) v = false≢true (sym (unrooted (root_name r.pattern) none) ∙ declared_root v)
   rule_unrooted (inr m) v =
-      let named = then_some (root_name r.pattern) (term_of_name env old) m.id m.root in
-      let none : term_id defs named.0.text ≡ None = made_found e defs (decl_names defs) before nothing env old interned s.stand named.0 m.id m.entry named.2 m.at m.made in
+      let named = then_some (root_name r.pattern) (term_of_name env old) m.id m.found in
+      let none : term_id defs named.0.text ≡ None = made_found e defs (decl_names defs) before nothing env old interned s.stand named.0 m.id m.entry named.2 m.at m.fails in
       let other : is_declared defs (root_name r.pattern) ≡ false = ap (is_declared defs) named.1 ∙ ap is_some none in
       false≢true (sym other ∙ declared_root v)
 
 module _ (e : TypesRead) (readable : AreReadable e) (defs read rest : List Definition) (env : TypeEnv) (table table' : TermTable) (es es' : List Error) (w : IsWithin table') where
   other : (d : Definition) → rule_of d ≡ [] → (es' ≡ es) × (table' ≡ table) → ReadsTerms e defs (RootsRead e defs read) env table es → ReadsTerms e defs (RootsRead e defs (read ++ d ∷ [])) env table' es'
   other d none same s =
-      let trees : rule_trees (read ++ d ∷ []) ≡ rule_trees read = flat_map-append rule_of read (d ∷ []) ∙ ap (λ l. rule_trees read ++ (l ++ [])) none ∙ append-nil (rule_trees read) in
+      let trees : rule_trees (read ++ d ∷ []) ≡ rule_trees read = nothing_more rule_of read d none in
       let go : RootsRead e defs read env table → RootsRead e defs (read ++ d ∷ []) env table = λ h. record {
         stand = subst (λ rs. Stand e defs (decl_names defs) (constructor_after rs) (λ x. None) env table) (sym trees) h.stand;
         roots = subst (All (HasDeclaredRoot defs)) (sym trees) h.roots;
         converters = h.converters;
       } in
-      step e defs (RootsRead e defs read) (RootsRead e defs (read ++ d ∷ [])) env env table table' es es' (Unit {0}) ⊥ s.left w (inl (same.0, tt))
-      (λ h _. subst (RootsRead e defs (read ++ d ∷ []) env) (sym same.1) (go h))
-      (λ h x _. x) s
+      passed_over e defs (RootsRead e defs read) (RootsRead e defs (read ++ d ∷ [])) env env table table' es es' s.left w (same.0, refl, same.1) go s
 
-  next : (d : Definition) → defs ≡ read ++ d ∷ rest → ReadsIfRule d env table es table' es' → ReadsTerms e defs (RootsRead e defs read) env table es → ReadsTerms e defs (RootsRead e defs (read ++ d ∷ [])) env table' es'
+  pub next : (d : Definition) → defs ≡ read ++ d ∷ rest → ReadsIfRule d env table es table' es' → ReadsTerms e defs (RootsRead e defs read) env table es → ReadsTerms e defs (RootsRead e defs (read ++ d ∷ [])) env table' es'
   next (rule_definition r) whole a s =
-      step e defs (RootsRead e defs read) (RootsRead e defs (read ++ rule_definition r ∷ [])) env env table table' es es' (IsOfDeclared r env table table') ((root_term_id env table r ≡ None) ⊎ IsOfMade r env table) s.left w a
+      step e defs (RootsRead e defs read) (RootsRead e defs (read ++ rule_definition r ∷ [])) env env table table' es es' (ChangesKind is_declared_kind (made_by_this internal_constructor) (root_term_id env table r) table table') ((root_term_id env table r ≡ None) ⊎ HasOtherKind is_declared_kind (root_term_id env table r) table) s.left w a
       (λ h x. rule_rooted e defs read rest r whole env table s.left readable h table' x)
       (λ h x v. rule_unrooted e defs read rest r whole env table s.left readable h x v) s
   next (declaration d) whole a s = other (declaration d) refl a s
@@ -100,12 +103,3 @@ module _ (e : TypesRead) (readable : AreReadable e) (defs read rest : List Defin
   next (converter_definition d) whole a s = other (converter_definition d) refl a s
   next (extern_definition d) whole a s = other (extern_definition d) refl a s
   next other_definition whole a s = other other_definition refl a s
-
--- after the definition at i
-pub next_rule_root : (e : TypesRead) → AreReadable e → (defs : List Def) (i : ℕ) (d : Def) → i < length defs → d ≡ get_or defs i d → (env : TypeEnv) (table table' : TermTable) (es es' : List Error) → IsWithin table'
-    → ReadsIfRule (definition_view d) env table es table' es'
-    → ReadsTerms e (definition_views defs) (RootsRead e (definition_views defs) (definition_views (take i defs))) env table es
-    → ReadsTerms e (definition_views defs) (RootsRead e (definition_views defs) (definition_views (take (i + 1) defs))) env table' es'
-next_rule_root e r defs i d within here env table table' es es' w a s =
-    subst (λ ds. ReadsTerms e (definition_views defs) (RootsRead e (definition_views defs) ds) env table' es') (sym (taken_next defs i d within here))
-    (next e r (definition_views defs) (definition_views (take i defs)) (definition_views (drop (i + 1) defs)) env table table' es es' w (definition_view d) (around defs i d within here) a s)

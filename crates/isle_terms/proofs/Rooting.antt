@@ -7,15 +7,17 @@ use Rattle.std.proofs.lemmas.List.Folds.{list_any-append}
 use Rattle.std.proofs.lemmas.Slice.Eq.{bytes_eq-Decides}
 use Rattle.isle_model.specs.lists.Syntax.{Name, RuleTree, Definition}
 use Rattle.isle_model.specs.lists.Names.{number, has_name, IsDistinct}
+use Rattle.isle_model.specs.rules.Outcome.{then_option}
 use Rattle.isle_model.specs.lists.Tables.{internal_constructor}
 use Rattle.isle_model.specs.lists.TermTable.{root_name, has_root, is_rule_of}
 use Rattle.isle_base.specs.declared.syntax.Error.{Error}
 use Rattle.std.proofs.Math.Bool.{or-true, or-false}
 use Rattle.isle_model.proofs.Bytes.{same_bytes}
 use Rattle.isle_model.proofs.Names.{found}
+use Rattle.isle_types.specs.declared.type_env.TypeEnv.{TypeEnv}
 use Rattle.isle_terms.specs.declared.term_table.TermTable.{TermTable}
 use Rattle.isle_terms.specs.TermTables.{term_at}
-use Rattle.isle_terms.specs.Reading.{IsWithin}
+use Rattle.isle_terms.specs.Reading.{IsWithin, root_term_id, term_of_name}
 use Rattle.isle_terms.specs.Stages.{constructor_after}
 
 pub nothing : (es : List Error) → length es ≡ 0 → es ≡ []
@@ -26,6 +28,10 @@ nothing (x ∷ xs) e = absurd (omega arith)
 pub is_within : (table : TermTable) → IsWithin table → (o : Option ℕ) (id : ℕ) → Some id ≡ option_and_then (term_at table) o → id < length table.terms.items
 is_within table w None id h = absurd (cc)
 is_within table w (Some k) id h = w k id (sym h)
+
+-- the term of the name of a rule's root is that of the rule
+pub root_found : (env : TypeEnv) (table : TermTable) (r : RuleTree) (n : Name) (id : ℕ) → root_name r.pattern ≡ Some n → Some id ≡ term_of_name env table n → root_term_id env table r ≡ Some id
+root_found env table r n id root named = ap (λ o. then_option o (term_of_name env table)) root ∙ sym named
 
 turned : (x y : List ℕ) → bytes_eq x y ≡ true → bytes_eq y x ≡ true
 turned x y e = (bytes_eq-Decides y x).1 (sym (same_bytes x y e))

@@ -5,7 +5,7 @@ use Rattle.std.specs.Str.{bytes_eq}
 use Rattle.std.specs.declared.alloc.Global.{Global}
 use Rattle.std.proofs.lemmas.Bool.{false≢true}
 use Rattle.std.proofs.lemmas.Bool.Decides.{Decides-eqb}
-use Rattle.std.proofs.lemmas.List.{append-nil, length-map, map-append}
+use Rattle.std.proofs.lemmas.List.{length-map, map-append}
 use Rattle.std.proofs.lemmas.List.Concat.{flat_map-append}
 use Rattle.std.proofs.lemmas.List.Elements.{All-push, All-weaker, Contains-append_left, Contains-push, Contains-push_cases}
 use Rattle.std.proofs.lemmas.List.Sorted.{Contains-permutation, IsPermutation-sym}
@@ -33,13 +33,13 @@ use Rattle.isle_terms.specs.Stages.{constructor_after, place_among}
 use Rattle.isle_terms.specs.Signing.{ReadsTerms, declared_so_far}
 use Rattle.isle_terms.specs.Standing.{Stand, is_declared_kind}
 use Rattle.isle_terms.specs.Converting.{template_after}
-use Rattle.isle_terms.specs.Externing.{taken_by_this, with_kind}
+use Rattle.isle_terms.specs.KindChanges.{taken_by_this, with_kind}
 use Rattle.isle_terms.specs.Templating.{callees_of, may_have_template, AreArguments, AreRightExtractors, CallsAreOf, IsCall, IsExtractor, IsFoundTerm, IsWrongOfTerm, ReadsIfTemplate, TemplatesRead}
 use Rattle.isle_terms.proofs.Changing.{place_at}
-use Rattle.isle_terms.proofs.Declaring.{at_middle, taken_next, around}
+use Rattle.isle_terms.proofs.Declaring.{at_middle, taken_next, around, nothing_more}
 use Rattle.isle_terms.proofs.FirstOfTerm.{known_other, known_new, not_known, was_known, none_stands}
 use Rattle.isle_terms.proofs.Making.{distinct_left}
-use Rattle.isle_terms.proofs.Noting.{step}
+use Rattle.isle_terms.proofs.Noting.{passed_over, step}
 use Rattle.isle_terms.proofs.Rooting.{one_before}
 use Rattle.isle_terms.proofs.Standing.{entry_found, nothing_found, stands_on, term_is}
 use Rattle.isle_terms.proofs.TemplateNames.{found_all, found_one, name_found}
@@ -261,7 +261,7 @@ module _ (e : TypesRead) (readable : AreReadable e) (defs read rest : List Defin
 
   other : (d : Definition) → extractor_of d ≡ [] → (es' ≡ es) × (table' ≡ table) × (callees' ≡ callees) × (b ≡ true) → ReadsTerms e defs (TemplatesRead e defs read callees) env table es → ReadsTerms e defs (Goes d) env table' es'
   other d none same s =
-      let trees : extractor_trees (read ++ d ∷ []) ≡ extractor_trees read = flat_map-append extractor_of read (d ∷ []) ∙ ap (λ l. extractor_trees read ++ (l ++ [])) none ∙ append-nil (extractor_trees read) in
+      let trees : extractor_trees (read ++ d ∷ []) ≡ extractor_trees read = nothing_more extractor_of read d none in
       let go : TemplatesRead e defs read callees env table → TemplatesRead e defs (read ++ d ∷ []) callees env table = λ h. record {
         stand = subst (λ es. Stand e defs (decl_names defs) (constructor_after (rule_trees defs)) (template_after es) env table) (sym trees) h.stand;
         roots = h.roots;
@@ -269,9 +269,8 @@ module _ (e : TypesRead) (readable : AreReadable e) (defs read rest : List Defin
         calls = subst (λ es. CallsAreOf e defs es callees) (sym trees) h.calls;
         converters = h.converters;
       } in
-      step e defs (TemplatesRead e defs read callees) (Goes d) env env table table' es es' (Unit {0}) ⊥ s.left w (inl (same.0, tt))
-      (λ h _. (same.3, subst (λ cs. TemplatesRead e defs (read ++ d ∷ []) cs env table') (sym same.2) (subst (TemplatesRead e defs (read ++ d ∷ []) callees env) (sym same.1) (go h))))
-      (λ h x _. x) s
+      passed_over e defs (TemplatesRead e defs read callees) (Goes d) env env table table' es es' s.left w (same.0, refl, same.1)
+      (λ h. (same.3, subst (λ cs. TemplatesRead e defs (read ++ d ∷ []) cs env table) (sym same.2) (go h))) s
 
   next : (d : Definition) → defs ≡ read ++ d ∷ rest → ReadsIfTemplate d env table callees es table' callees' es' b → ReadsTerms e defs (TemplatesRead e defs read callees) env table es → ReadsTerms e defs (Goes d) env table' es'
   next (extractor_definition x) whole a s =

@@ -152,9 +152,9 @@ made_names_met ns [] x c = absurd (nothing_in x c)
 made_names_met ns (m ∷ ms) x c = one_name_met ns (filter_map (slice_get ns) ms) m x (slice_get ns m) refl (made_names_met ns ms x) c
 
 -- nothing is wrong: these are the terms of the list
-pub all_read : (e : TypesRead) → AreReadable e → (defs : List Definition) (env old : TypeEnv) (table before : TermTable) → IsLeftByRefusal e (environment_view env) → ExtractorsRead e defs old before → (cr : (mid : TermTable) × ConvertersRead e defs defs old mid) → ExternsRead e defs defs env table
+pub all_read : (e : TypesRead) → AreReadable e → (defs : List Definition) (old mid env : TypeEnv) (before between table : TermTable) → IsLeftByRefusal e (environment_view env) → ExtractorsRead e defs old before → ConvertersRead e defs defs mid between → ExternsRead e defs defs env table
     → IsValidTerms e.known defs × AreTermsOf e defs (shown_by table) (environment_view env)
-all_read e readable defs env old table before left x cr s = (valid, record { valid = valid; rows = record { table = s.stand.terms; look_ups = look_ups; conversions = s.conversions }; types = types })
+all_read e readable defs old mid env before between table left x cs s = (valid, record { valid = valid; rows = record { table = s.stand.terms; look_ups = look_ups; conversions = s.conversions }; types = types })
   where
     valid : IsValidTerms e.known defs
     valid = record {
@@ -174,8 +174,8 @@ all_read e readable defs env old table before left x cr s = (valid, record { val
       no_macro_args = x.right.no_macro_args;
       declared_arguments = x.right.arguments;
       acyclic = x.acyclic;
-      known_converters = cr.1.known;
-      one_converter = cr.1.distinct;
+      known_converters = cs.known;
+      one_converter = cs.distinct;
     }
 
     met : (y : List ℕ) → Contains (term_names e.known defs) y → has_name (term_names_met e.known defs) y ≡ true

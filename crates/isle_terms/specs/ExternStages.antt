@@ -13,10 +13,10 @@ use Rattle.isle_base.specs.declared.syntax.Error.{Error}
 use Rattle.isle_types.specs.declared.type_env.TypeEnv.{TypeEnv}
 use Rattle.isle_types.specs.Envs.{names_of}
 use Rattle.isle_terms.specs.declared.term_table.TermTable.{TermTable}
-use Rattle.isle_terms.specs.Reading.{Interns}
+use Rattle.isle_terms.specs.Reading.{Interns, term_of_name}
 use Rattle.isle_terms.specs.Standing.{Stand}
 use Rattle.isle_terms.specs.Converting.{converter_at}
-use Rattle.isle_terms.specs.Externing.{lacks_constructor, lacks_extractor, made_by_this, taken_by_this, ReadsKind}
+use Rattle.isle_terms.specs.KindChanges.{lacks_constructor, lacks_extractor, made_by_this, taken_by_this, ReadsKind}
 
 -- what makes a term of a name, when these external constructors are read
 abbrev pub function_after : TypesRead → List Definition → List ConstructorTree → List ℕ → Option ConstructorEntry
@@ -52,9 +52,9 @@ pub record ExternsRead (e : TypesRead) (defs read : List Definition) (env : Type
 -- it apart
 abbrev pub ReadsExtern : ExternTree → TypeEnv → TermTable → List Error → TypeEnv → TermTable → List Error → Type 0
 ReadsExtern (extern_constructor term function at) old table es new table' es' =
-    Interns function.text old new × ReadsKind lacks_constructor (made_by_this (external_constructor (number (names_of old) function.text))) term new table es table' es'
+    Interns function.text old new × ReadsKind lacks_constructor (made_by_this (external_constructor (number (names_of old) function.text))) (term_of_name new table term) table es table' es'
 ReadsExtern (extern_extractor term function at infallible) old table es new table' es' =
-    Interns function.text old new × ReadsKind lacks_extractor (taken_by_this (external_extractor (number (names_of old) function.text) infallible at)) term new table es table' es'
+    Interns function.text old new × ReadsKind lacks_extractor (taken_by_this (external_extractor (number (names_of old) function.text) infallible at)) (term_of_name new table term) table es table' es'
 ReadsExtern (extern_const name ty at) old table es new table' es' = (es' ≡ es) × (new ≡ old) × (table' ≡ table)
 
 -- a definition is read, if it is external

@@ -5,10 +5,11 @@ pub mod Reading
 pub mod Stages
 pub mod SignatureViews
 pub mod Signing
+pub mod KindChanges
 pub mod Standing
 pub mod Converting
-pub mod Externing
 pub mod ExternStages
+pub mod Forms
 pub mod Templating
 pub mod Recursion
 pub mod Whole

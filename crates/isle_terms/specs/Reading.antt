@@ -3,7 +3,7 @@ use Rattle.std.specs.Prelude.{◌≡◌, ℕ, ◌<◌, nat_eq, List, [], ◌∷�
 use Rattle.isle_model.specs.lists.Syntax.{Name, DeclTree, RuleTree}
 use Rattle.isle_model.specs.lists.Names.{with_name}
 use Rattle.isle_model.specs.rules.Outcome.{then_option}
-use Rattle.isle_model.specs.lists.Tables.{internal_constructor, TermKindEntry, variant_term, struct_term, declared_term, TermEntry}
+use Rattle.isle_model.specs.lists.Tables.{declared_term, TermEntry}
 use Rattle.isle_model.specs.lists.TermTable.{decl_flags, root_name}
 use Rattle.isle_base.specs.declared.syntax.Error.{Error}
 use Rattle.isle_types.specs.declared.type_env.TypeEnv.{TypeEnv}
@@ -74,15 +74,6 @@ IsFreeOrReported name table es es' = ((es' ≡ es) × (term_at table name ≡ No
 
 abbrev pub AddsOrReports : DeclTree → TypeEnv → ℕ → TermTable → TermTable → List Error → List Error → Type 0
 AddsOrReports d env name old new es es' = ((es' ≡ es) × AddsTerm d env name old new) ⊎ (NotesMore es es' × HasUnknown d env)
-
--- a term that is made by rules
-abbrev pub internal_kind : TermKindEntry → TermKindEntry
-internal_kind (variant_term variant) = variant_term variant
-internal_kind struct_term = struct_term
-internal_kind (declared_term flags constructor_kind extractor_kind) = declared_term flags (Some internal_constructor) extractor_kind
-
-abbrev pub internal_entry : TermEntry → TermEntry
-internal_entry e = record { id = e.id; at = e.at; name = e.name; arg_tys = e.arg_tys; ret_ty = e.ret_ty; kind = internal_kind e.kind }
 
 -- the term that a rule is of
 abbrev pub root_term_id : TypeEnv → TermTable → RuleTree → Option ℕ

@@ -1,8 +1,8 @@
 -- Whether templates come back to themselves, by the terms that each names, and how far the search for it is.
-use Rattle.std.specs.Prelude.{◌≡◌, ℕ, ◌+◌, ◌-◌, ◌<◌, ◌⊎◌, Bool, true, false, nat_eq, cond, List, [], ◌∷◌, ◌++◌, length, map, take, replicate, set, sum_by, Option, None, Some, All, Contains, IfSome, slice_get, Vec, ⊤}
+use Rattle.std.specs.Prelude.{◌≡◌, ℕ, ◌+◌, ◌-◌, ◌<◌, ◌⊎◌, Bool, true, false, nat_eq, cond, List, [], ◌∷◌, ◌++◌, length, map, take, replicate, set, sum_by, Option, Some, All, Contains, IfSome, slice_get, Vec, ⊤}
 use Rattle.std.specs.declared.alloc.Global.{Global}
 use Rattle.isle_model.specs.lists.Syntax.{Definition}
-use Rattle.isle_model.specs.lists.Tables.{ExtractorEntry, internal_extractor, external_extractor, TermKindEntry, variant_term, struct_term, declared_term, TermEntry}
+use Rattle.isle_model.specs.lists.Tables.{ExtractorEntry, internal_extractor, TermKindEntry, TermEntry}
 use Rattle.isle_model.specs.lists.TermTable.{decl_names, rule_trees, extractor_trees, HasDeclaredRoot, IsAcyclic}
 use Rattle.isle_model.specs.claims.Environments.{TypesRead}
 use Rattle.isle_types.specs.declared.ids.TermId.{TermId}
@@ -11,6 +11,7 @@ use Rattle.isle_terms.specs.declared.reading.recursion.Mark.{Mark}
 use Rattle.isle_terms.specs.declared.reading.recursion.Mark.TheVariants.{Unmet, Met, Ends}
 use Rattle.isle_terms.specs.declared.reading.recursion.Search.{Search}
 use Rattle.isle_terms.specs.declared.term_table.TermTable.{TermTable}
+use Rattle.isle_terms.specs.Terms.{of_declared}
 use Rattle.isle_terms.specs.TermViews.{term_views}
 use Rattle.isle_terms.specs.Stages.{HasNoConverter, constructor_after}
 use Rattle.isle_terms.specs.Standing.{Stand}
@@ -126,14 +127,11 @@ pub record IsWayBack (callees : List (Vec TermId Global)) (root : TermId) (searc
 
 -- whether a term has a template
 abbrev pub is_template : Option ExtractorEntry → Bool
-is_template None = false
 is_template (Some (internal_extractor template)) = true
-is_template (Some (external_extractor name infallible at)) = false
+is_template _ = false
 
 abbrev pub has_template : TermKindEntry → Bool
-has_template (variant_term variant) = false
-has_template struct_term = false
-has_template (declared_term flags constructor_kind extractor_kind) = is_template extractor_kind
+has_template k = of_declared (λ flags made taken. is_template taken) false k
 
 -- each term that names one has a template
 abbrev pub HaveTemplates : TermTable → List (Vec TermId Global) → Type 0

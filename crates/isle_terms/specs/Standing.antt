@@ -1,10 +1,10 @@
 -- How far the reading of terms by types that are handed in is, once all terms stand: what makes each and what takes it apart
 -- is read then.
-use Rattle.std.specs.Prelude.{◌≡◌, ℕ, zero, suc, Bool, true, false, List, [], ◌∷◌, ◌++◌, ◌⊎◌, map, Option, None, Some, All, slice_get}
+use Rattle.std.specs.Prelude.{◌≡◌, Bool, true, false, List, ◌++◌, map, Option, None, All}
 use Rattle.std.specs.List.{flat_map}
 use Rattle.isle_model.specs.lists.Syntax.{RuleTree, Definition, rule_definition}
 use Rattle.isle_model.specs.lists.Names.{with_names, IsDistinct}
-use Rattle.isle_model.specs.lists.Tables.{ConstructorEntry, ExtractorEntry, TermKindEntry, variant_term, struct_term, declared_term, TermEntry}
+use Rattle.isle_model.specs.lists.Tables.{ConstructorEntry, internal_constructor, ExtractorEntry, TermKindEntry}
 use Rattle.isle_model.specs.lists.TermTable.{decl_trees, decl_names, rule_trees, term_names, term_names_met, terms_made, HasDeclaredRoot}
 use Rattle.isle_model.specs.claims.Environments.{TypesRead}
 use Rattle.isle_base.specs.declared.syntax.Error.{Error}
@@ -12,10 +12,12 @@ use Rattle.isle_types.specs.declared.type_env.TypeEnv.{TypeEnv}
 use Rattle.isle_types.specs.Envs.{names_of}
 use Rattle.isle_terms.specs.declared.term_table.TermTable.{TermTable}
 use Rattle.isle_terms.specs.TermTables.{term_at}
+use Rattle.isle_terms.specs.Terms.{of_declared}
 use Rattle.isle_terms.specs.TermViews.{term_views}
-use Rattle.isle_terms.specs.Reading.{internal_entry, root_term_id}
+use Rattle.isle_terms.specs.Reading.{root_term_id}
 use Rattle.isle_terms.specs.Stages.{Finds, place_among, HasNoConverter, constructor_after}
-use Rattle.isle_terms.specs.Signing.{with_ids, declared_so_far, AreRightDeclarations, Notes}
+use Rattle.isle_terms.specs.Signing.{with_ids, declared_so_far, AreRightDeclarations}
+use Rattle.isle_terms.specs.KindChanges.{made_by_this, ReadsKind}
 
 -- all terms stand, each found by its name, and these names were met; of the declared ones it is known so far what makes them
 -- and what takes them apart
@@ -28,21 +30,7 @@ pub record Stand (e : TypesRead) (defs : List Definition) (met : List (List ℕ)
 
 -- whether a term is a declared one
 abbrev pub is_declared_kind : TermKindEntry → Bool
-is_declared_kind (variant_term variant) = false
-is_declared_kind struct_term = false
-is_declared_kind (declared_term flags constructor_kind extractor_kind) = true
-
--- the entries, of which one is changed
-abbrev pub change : (TermEntry → TermEntry) → ℕ → List TermEntry → List TermEntry
-change g n [] = []
-change g zero (e ∷ es) = g e ∷ es
-change g (suc n) (e ∷ es) = e ∷ change g n es
-
--- one term is changed, and nothing else
-pub record Changes (g : TermEntry → TermEntry) (id : ℕ) (old new : TermTable) : Type 0 where
-  pub terms : term_views new.terms.items ≡ change g id (term_views old.terms.items)
-  pub term_map : new.term_map ≡ old.term_map
-  pub converters : new.converters ≡ old.converters
+is_declared_kind k = of_declared (λ flags made taken. true) false k
 
 -- the terms of the rules among the first definitions are read
 pub record RootsRead (e : TypesRead) (defs read : List Definition) (env : TypeEnv) (table : TermTable) : Type 0 where
@@ -50,26 +38,9 @@ pub record RootsRead (e : TypesRead) (defs read : List Definition) (env : TypeEn
   pub roots : All (HasDeclaredRoot defs) (rule_trees read)
   pub converters : HasNoConverter table
 
--- a rule is of a declared term, which is made by rules now
-pub record IsOfDeclared (r : RuleTree) (env : TypeEnv) (old new : TermTable) : Type 0 where
-  pub id : ℕ
-  pub root : root_term_id env old r ≡ Some id
-  pub entry : TermEntry
-  pub at : slice_get (term_views old.terms.items) id ≡ Some entry
-  pub declared : is_declared_kind entry.kind ≡ true
-  pub changes : Changes internal_entry id old new
-
--- a rule is of a term that a type makes
-pub record IsOfMade (r : RuleTree) (env : TypeEnv) (old : TermTable) : Type 0 where
-  pub id : ℕ
-  pub root : root_term_id env old r ≡ Some id
-  pub entry : TermEntry
-  pub at : slice_get (term_views old.terms.items) id ≡ Some entry
-  pub made : is_declared_kind entry.kind ≡ false
-
--- a rule is of a declared term, or of no term or of one that a type makes
+-- a rule is of a declared term, which is made by rules now, or of no term or of one that a type makes
 abbrev pub ReadsRuleRoot : RuleTree → TypeEnv → TermTable → List Error → TermTable → List Error → Type 0
-ReadsRuleRoot r env old es new es' = Notes es es' (IsOfDeclared r env old new) ((root_term_id env old r ≡ None) ⊎ IsOfMade r env old)
+ReadsRuleRoot r env old es new es' = ReadsKind is_declared_kind (made_by_this internal_constructor) (root_term_id env old r) old es new es'
 
 -- a definition is read, if it is a rule
 abbrev pub ReadsIfRule : Definition → TypeEnv → TermTable → List Error → TermTable → List Error → Type 0

@@ -4,20 +4,21 @@ use Rattle.std.specs.List.Sorted.{IsPermutation}
 use Rattle.std.specs.declared.alloc.Global.{Global}
 use Rattle.isle_model.specs.lists.Syntax.{Name, ExtractorTree, Definition, extractor_definition}
 use Rattle.isle_model.specs.lists.Names.{IsDistinct}
-use Rattle.isle_model.specs.lists.Tables.{internal_extractor, TermKindEntry, variant_term, struct_term, declared_term, TermEntry}
+use Rattle.isle_model.specs.lists.Tables.{internal_extractor, TermKindEntry, TermEntry}
 use Rattle.isle_model.specs.lists.TermTable.{decl_names, rule_trees, extractor_trees, extractor_template, terms_in, arguments_in, term_named, HasDeclaredRoot, IsDeclaredTerm, IsOfPlainTerm, NamesKnownTerms, HoldsNoMacroArg, UsesDeclaredArguments}
 use Rattle.isle_model.specs.claims.Environments.{TypesRead}
 use Rattle.isle_base.specs.declared.syntax.Error.{Error}
 use Rattle.isle_types.specs.declared.ids.TermId.{TermId}
 use Rattle.isle_types.specs.declared.type_env.TypeEnv.{TypeEnv}
 use Rattle.isle_terms.specs.declared.term_table.TermTable.{TermTable}
+use Rattle.isle_terms.specs.Terms.{of_declared}
 use Rattle.isle_terms.specs.TermViews.{term_views}
 use Rattle.isle_terms.specs.Reading.{term_of_name}
 use Rattle.isle_terms.specs.Stages.{HasNoConverter, constructor_after}
 use Rattle.isle_terms.specs.Signing.{Notes}
-use Rattle.isle_terms.specs.Standing.{Stand, Changes}
+use Rattle.isle_terms.specs.Standing.{Stand}
 use Rattle.isle_terms.specs.Converting.{template_after}
-use Rattle.isle_terms.specs.Externing.{taken_by_this, with_kind}
+use Rattle.isle_terms.specs.KindChanges.{taken_by_this, with_kind, Changes}
 
 -- the terms that the template of a term names
 abbrev pub callees_of : List (Vec TermId Global) → ℕ → List ℕ
@@ -72,9 +73,7 @@ pub record TemplatesRead (e : TypesRead) (defs read : List Definition) (callees 
 
 -- whether a term can have an internal extractor: a declared one that nothing takes apart yet, and that isn't multi
 abbrev pub may_have_template : TermKindEntry → Bool
-may_have_template (variant_term variant) = false
-may_have_template struct_term = false
-may_have_template (declared_term flags constructor_kind extractor_kind) = not (is_some extractor_kind) && not flags.multi
+may_have_template k = of_declared (λ flags made taken. not (is_some taken) && not flags.multi) false k
 
 -- these are the terms of these names
 abbrev pub AreFound : TypeEnv → TermTable → List Name → List ℕ → Type 0

@@ -6,7 +6,6 @@ mod signature;
 mod term;
 mod term_table;
 
-pub use reading::set_internal;
 pub use signature::{ExternalSig, ReturnKind};
 pub use term::{ConstructorKind, ExtractorKind, Term, TermFlags, TermKind};
 pub use term_table::TermTable;

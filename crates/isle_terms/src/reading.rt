@@ -7,19 +7,20 @@ ghost use Rattle.isle_types.specs.Envs.{names_of, IsInterned};
 ghost use Rattle.isle_model.specs.lists.Names.{number};
 ghost use Rattle.isle_base.specs.Noting.{NotesMore};
 ghost use Rattle.isle_terms.specs.TermTables.{term_at};
-ghost use Rattle.isle_terms.specs.TermViews.{term_view, term_views};
-ghost use Rattle.isle_terms.specs.Reading.{IsWithin, Interns, MayIntern, IsKnownInEnv, HaveTypes, IsFreeOrReported, AddsOrReports, internal_entry, signature_entry, term_of_name};
+ghost use Rattle.isle_terms.specs.TermViews.{term_views};
+ghost use Rattle.isle_terms.specs.Reading.{IsWithin, Interns, MayIntern, IsKnownInEnv, HaveTypes, IsFreeOrReported, AddsOrReports, signature_entry, term_of_name};
 
 mod converters;
 mod declarations;
 mod externs;
+mod forms;
 mod made;
 mod recursion;
 mod roots;
 mod templates;
 mod whole;
 
-use crate::term::{ConstructorKind, Term, TermFlags, TermKind};
+use crate::term::{Term, TermFlags, TermKind};
 use crate::term_table::TermTable;
 use isle_base::syntax::{Decl, Error, Ident, Pos};
 use isle_types::{Sym, TermId, TypeEnv, TypeId, report};
@@ -120,19 +121,6 @@ pub(crate) fn meet_name(tyenv: &mut TypeEnv, name: &Ident) -> Result<Sym, AllocE
     ensures number { IfOk result (λ s. s.0 ≡ number (names_of tyenv.old) (name_view name.now).text) }
 {
     tyenv.intern_mut(name)
-}
-
-// Makes a declared term one that rules make.
-pub fn set_internal(term: &mut Term)
-    ensures { term_view term.new ≡ internal_entry (term_view term.old) }
-{
-    if let TermKind::Decl {
-        constructor_kind,
-        ..
-    } = &mut term.kind
-    {
-        *constructor_kind = Some(ConstructorKind::InternalConstructor);
-    }
 }
 
 // The types of these names, or None and an error at the first one that isn't a type's.

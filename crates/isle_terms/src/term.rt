@@ -2,7 +2,7 @@
 
 ghost use Rattle.std.specs.Prelude.{◌≡◌, true};
 ghost use Rattle.isle_terms.specs.Terms.{is_variant_term, is_struct_term, is_partial_term, is_recursive_term, has_constructor_term, has_extractor_term, has_external_extractor_term, has_external_constructor_term, has_internal_constructor_term};
-ghost use Rattle.isle_terms.specs.Externing.{made_by_this, taken_by_this, with_kind};
+ghost use Rattle.isle_terms.specs.KindChanges.{made_by_this, taken_by_this, with_kind};
 ghost use Rattle.isle_terms.specs.TermViews.{constructor_view, extractor_view, term_view};
 
 use isle_base::syntax::{Pattern, Pos};

@@ -1,57 +1,20 @@
 //! How converters are read: each is the term that a conversion from one type to another calls.
 
-ghost use Rattle.std.specs.Prelude.{[], OnOk};
-ghost use Rattle.isle_model.specs.claims.Environments.{TypesRead, AreReadable};
-ghost use Rattle.isle_base.specs.SyntaxViews.{converter_view, definition_view, definition_views};
+ghost use Rattle.std.specs.Prelude.{OnOk};
+ghost use Rattle.isle_base.specs.SyntaxViews.{converter_view};
 ghost use Rattle.isle_base.specs.Noting.{NotesMore};
 ghost use Rattle.isle_terms.specs.Reading.{IsWithin};
-ghost use Rattle.isle_terms.specs.Signing.{ReadsTerms};
-ghost use Rattle.isle_terms.specs.Converting.{ConvertersRead, ReadsConverter, ReadsIfConverter};
+ghost use Rattle.isle_terms.specs.Converting.{ReadsConverter};
 
 use crate::reading::report_name;
 use crate::term_table::TermTable;
-use isle_base::syntax::{Converter, Def, Error};
+use isle_base::syntax::{Converter, Error};
 use isle_types::{TypeEnv, report};
 use std::alloc::AllocError;
 
 impl TermTable {
-    // Reads all converters.
-    pub(crate) fn read_converters(
-        &mut self,
-        tyenv: &TypeEnv,
-        errors: &mut Vec<Error>,
-        defs: &[Def],
-    ) -> Result<(), AllocError>
-        ghost read: { TypesRead }
-        requires readable { AreReadable read }
-        requires start { ReadsTerms read (definition_views defs.now) (ConvertersRead read (definition_views defs.now) []) tyenv.now self.old errors.old.items }
-        ensures { OnOk result (ReadsTerms read (definition_views defs.now) (ConvertersRead read (definition_views defs.now) (definition_views defs.now)) tyenv.now self.new errors.new.items) }
-    {
-        for def in defs {
-            self.read_if_converter(tyenv, errors, def)?;
-        }
-        Ok(())
-    }
-
-    // Reads a definition, if it is a converter.
-    fn read_if_converter(
-        &mut self,
-        tyenv: &TypeEnv,
-        errors: &mut Vec<Error>,
-        def: &Def,
-    ) -> Result<(), AllocError>
-        requires { IsWithin self.old }
-        ensures within { OnOk result (IsWithin self.new) }
-        ensures reads { OnOk result (ReadsIfConverter (definition_view def.now) tyenv.now self.old errors.old.items self.new errors.new.items) }
-    {
-        let Def::Converter(converter) = def else {
-            return Ok(());
-        };
-        self.read_converter(tyenv, errors, converter)
-    }
-
     // Reads a converter: the first one of a pair of types.
-    fn read_converter(
+    pub(crate) fn read_converter(
         &mut self,
         tyenv: &TypeEnv,
         errors: &mut Vec<Error>,

@@ -1,68 +1,27 @@
 //! How external constructors and extractors are read: functions from outside that make values of declared
 //! terms or take them apart.
 
-ghost use Rattle.std.specs.Prelude.{◌≡◌, [], not, IfOk, OnOk};
-ghost use Rattle.isle_model.specs.claims.Environments.{TypesRead, AreReadable, IsLeftByRefusal};
+ghost use Rattle.std.specs.Prelude.{◌≡◌, not, IfOk, OnOk};
 ghost use Rattle.isle_model.specs.lists.Tables.{external_constructor, external_extractor};
-ghost use Rattle.isle_base.specs.SyntaxViews.{definition_view, definition_views, extern_view, name_view, position};
+ghost use Rattle.isle_base.specs.SyntaxViews.{extern_view, name_view, position};
 ghost use Rattle.isle_types.specs.Envs.{IsInterned};
-ghost use Rattle.isle_types.specs.EnvViews.{environment_view};
 ghost use Rattle.isle_base.specs.Noting.{NotesMore};
 ghost use Rattle.isle_types.specs.VariantReading.{ReportsIf};
-ghost use Rattle.isle_terms.specs.Externing.{lacks_constructor, lacks_extractor, made_by_this, taken_by_this, ReadsKind};
-ghost use Rattle.isle_terms.specs.ExternStages.{ExternsRead, ReadsExtern, ReadsIfExtern};
-ghost use Rattle.isle_terms.specs.Reading.{IsWithin, MayIntern};
-ghost use Rattle.isle_terms.specs.Signing.{ReadsTerms};
+ghost use Rattle.isle_terms.specs.KindChanges.{lacks_constructor, lacks_extractor, made_by_this, taken_by_this, ReadsKind};
+ghost use Rattle.isle_terms.specs.ExternStages.{ReadsExtern};
+ghost use Rattle.isle_terms.specs.Reading.{IsWithin, MayIntern, term_of_name};
 ghost use Rattle.isle_terms.specs.TermViews.{term_view};
 
 use crate::reading::{meet_name, report_name};
 use crate::term::{ConstructorKind, ExtractorKind, Term, TermKind};
 use crate::term_table::TermTable;
-use isle_base::syntax::{Def, Error, Extern, Ident, Pos};
+use isle_base::syntax::{Error, Extern, Ident, Pos};
 use isle_types::{Sym, TypeEnv, report};
 use std::alloc::AllocError;
 
 impl TermTable {
-    // Reads all external constructors and extractors.
-    pub(crate) fn read_externs(
-        &mut self,
-        tyenv: &mut TypeEnv,
-        errors: &mut Vec<Error>,
-        defs: &[Def],
-    ) -> Result<(), AllocError>
-        ghost read: { TypesRead }
-        requires readable { AreReadable read }
-        requires start { ReadsTerms read (definition_views defs.now) (ExternsRead read (definition_views defs.now) []) tyenv.old self.old errors.old.items }
-        ensures left { IsLeftByRefusal read (environment_view tyenv.new) }
-        ensures reads { OnOk result (ReadsTerms read (definition_views defs.now) (ExternsRead read (definition_views defs.now) (definition_views defs.now)) tyenv.new self.new errors.new.items) }
-    {
-        for def in defs {
-            self.read_if_extern(tyenv, errors, def)?;
-        }
-        Ok(())
-    }
-
-    // Reads a definition, if it is an external constructor or extractor.
-    fn read_if_extern(
-        &mut self,
-        tyenv: &mut TypeEnv,
-        errors: &mut Vec<Error>,
-        def: &Def,
-    ) -> Result<(), AllocError>
-        requires inverse { IsInterned tyenv.old }
-        requires within { IsWithin self.old }
-        ensures interns { MayIntern tyenv.old tyenv.new }
-        ensures within { OnOk result (IsWithin self.new) }
-        ensures reads { OnOk result (ReadsIfExtern (definition_view def.now) tyenv.old self.old errors.old.items tyenv.new self.new errors.new.items) }
-    {
-        let Def::Extern(extern_def) = def else {
-            return Ok(());
-        };
-        self.read_extern(tyenv, errors, extern_def)
-    }
-
     // Reads an external constructor or extractor. Constants are read with the types.
-    fn read_extern(
+    pub(crate) fn read_extern(
         &mut self,
         tyenv: &mut TypeEnv,
         errors: &mut Vec<Error>,
@@ -103,7 +62,7 @@ impl TermTable {
     ) -> Result<(), AllocError>
         requires { IsWithin self.old }
         ensures within { OnOk result (IsWithin self.new) }
-        ensures reads { OnOk result (ReadsKind lacks_constructor (made_by_this (external_constructor name.0)) (name_view term.now) tyenv.now self.old errors.old.items self.new errors.new.items) }
+        ensures reads { OnOk result (ReadsKind lacks_constructor (made_by_this (external_constructor name.0)) (term_of_name tyenv.now self.old (name_view term.now)) self.old errors.old.items self.new errors.new.items) }
     {
         let Some(id) = self.find_term(tyenv, term) else {
             return report_name(errors, pos, "Constructor declared on undefined term", term);
@@ -127,7 +86,7 @@ impl TermTable {
     ) -> Result<(), AllocError>
         requires { IsWithin self.old }
         ensures within { OnOk result (IsWithin self.new) }
-        ensures reads { OnOk result (ReadsKind lacks_extractor (taken_by_this (external_extractor name.0 infallible (position pos))) (name_view term.now) tyenv.now self.old errors.old.items self.new errors.new.items) }
+        ensures reads { OnOk result (ReadsKind lacks_extractor (taken_by_this (external_extractor name.0 infallible (position pos))) (term_of_name tyenv.now self.old (name_view term.now)) self.old errors.old.items self.new errors.new.items) }
     {
         let Some(id) = self.find_term(tyenv, term) else {
             return report_name(errors, pos, "Extractor declared on undefined term", term);

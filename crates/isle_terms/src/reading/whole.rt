@@ -13,6 +13,7 @@ ghost use Rattle.isle_terms.specs.Signing.{Declaring, ReadsTerms};
 ghost use Rattle.isle_terms.specs.Standing.{RootsRead};
 ghost use Rattle.isle_terms.specs.Whole.{shown_by};
 
+use crate::reading::forms::Form;
 use crate::term_table::TermTable;
 use isle_base::stablemapset::StableMap;
 use isle_base::syntax::{Def, Error, Fault};
@@ -52,11 +53,11 @@ impl TermTable {
         if !errors.is_empty() {
             return Err(Fault::Errors(errors));
         }
-        table.read_converters(tyenv, &mut errors, defs)?;
+        table.read_all(tyenv, &mut errors, defs, Form::Converter)?;
         if !errors.is_empty() {
             return Err(Fault::Errors(errors));
         }
-        table.read_externs(tyenv, &mut errors, defs)?;
+        table.read_all(tyenv, &mut errors, defs, Form::Extern)?;
         if !errors.is_empty() {
             return Err(Fault::Errors(errors));
         }
@@ -76,23 +77,24 @@ impl TermTable {
         ensures left { IsLeftByRefusal read (environment_view tyenv.new) }
         ensures reads { OnOk result (ReadsTerms read (definition_views defs.now) (RootsRead read (definition_views defs.now) []) tyenv.new self.new errors.new.items) }
     {
-        self.read_declarations(tyenv, errors, defs)?;
+        self.read_all(tyenv, errors, defs, Form::Declaration)?;
         self.add_made_terms(tyenv, errors)
     }
 
     // Reads which terms the rules are of, and all internal extractors.
     fn read_definitions(
         &mut self,
-        tyenv: &TypeEnv,
+        tyenv: &mut TypeEnv,
         errors: &mut Vec<Error>,
         defs: &[Def],
     ) -> Result<(), AllocError>
         ghost read: { TypesRead }
         requires readable { AreReadable read }
-        requires start { ReadsTerms read (definition_views defs.now) (RootsRead read (definition_views defs.now) []) tyenv.now self.old errors.old.items }
-        ensures { OnOk result (ReadsTerms read (definition_views defs.now) (ExtractorsRead read (definition_views defs.now)) tyenv.now self.new errors.new.items) }
+        requires start { ReadsTerms read (definition_views defs.now) (RootsRead read (definition_views defs.now) []) tyenv.old self.old errors.old.items }
+        ensures left { IsLeftByRefusal read (environment_view tyenv.new) }
+        ensures reads { OnOk result (ReadsTerms read (definition_views defs.now) (ExtractorsRead read (definition_views defs.now)) tyenv.new self.new errors.new.items) }
     {
-        self.read_roots(tyenv, errors, defs)?;
+        self.read_all(tyenv, errors, defs, Form::Rule)?;
         self.collect_extractor_templates(tyenv, errors, defs)
     }
 }

@@ -6,8 +6,8 @@ ghost-read_signatures g a = g.read
 abbrev pub ghost-read_definitions : goal.ghost-read_definitions
 ghost-read_definitions g a = g.read
 
-abbrev pub ghost-read_converters : goal.ghost-read_converters
-ghost-read_converters g a = g.read
+abbrev pub ghost-read_all : goal.ghost-read_all
+ghost-read_all g a = g.read
 
-abbrev pub ghost-read_externs : goal.ghost-read_externs
-ghost-read_externs g a = g.read
+abbrev pub ghost-read_all-2 : goal.ghost-read_all-2
+ghost-read_all-2 g a = g.read

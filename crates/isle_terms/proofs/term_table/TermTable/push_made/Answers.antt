@@ -4,14 +4,14 @@ use Rattle.isle_base.specs.SyntaxViews.{position}
 use Rattle.isle_types.specs.TypeViews.{fields_view}
 use Rattle.isle_terms.specs.TermViews.{kind_view}
 use Rattle.isle_terms.specs.Signing.{made_entry}
-use Rattle.isle_terms.proofs.Making.{types_of_fields, pushed_entry, within_push}
+use Rattle.isle_terms.proofs.Making.{pushed_entry, within_push}
 use Rattle.isle_terms.proofs.TermMaps.{read_ids}
 use Rattle.isle_terms.proofs.term_table.TermTable.push_made.Goals as goal
 
 pub returns-clause-pushes : goal.returns-clause-pushes
 returns-clause-pushes c =
     let n : c.len.result ≡ length c.args.self.now.terms.items = c.len.ensures ∙ c.args.self.now.terms.ok.0 in
-    let tys : map (λ t. t.0) c.in_ok-arg_tys.arg_tys.items ≡ field_types (fields_view c.args.fields.now) = c.in_ok-arg_tys.ensures ∙ types_of_fields (fields_view c.args.fields.now) in
+    let tys : map (λ t. t.0) c.in_ok-arg_tys.arg_tys.items ≡ field_types (fields_view c.args.fields.now) = c.in_ok-arg_tys.ensures in
     record {
       ids = λ k. rw (← n) (read_ids c.args.self.now.term_map c.insert.new.self c.args.name _ c.in_ok-insert.ensures.has k);
       terms = rw (← n) (pushed_entry c.args.self.now.terms.items c.push.new.self.items _ (made_entry c.args.name.0 c.args.ret_ty.0 (fields_view c.args.fields.now) (position c.args.decl_pos) (kind_view c.args.kind)) c.len.result c.in_ok-push.ensures.items (rw tys));

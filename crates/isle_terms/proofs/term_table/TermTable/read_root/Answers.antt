@@ -1,60 +1,21 @@
-use Rattle.std.proofs.Common.{◌≡◌, ◌<◌, Some, is_none, true, false, length, get_or, refl, sym, ap, ◌∙◌, inl, inr}
-use Rattle.std.proofs.Math.ListN.{set}
+use Rattle.std.proofs.Common.{is_none, refl, sym, ap}
 use Rattle.std.proofs.lemmas.Result.{on_ok_weaker}
-use Rattle.isle_model.specs.rules.Outcome.{then_option}
-use Rattle.isle_model.specs.lists.TermTable.{root_name}
-use Rattle.isle_base.specs.SyntaxViews.{name_view, rule_view, pattern_view}
-use Rattle.isle_types.specs.Envs.{symbol_of}
-use Rattle.isle_terms.specs.TermViews.{term_view, term_views}
-use Rattle.isle_terms.specs.Reading.{internal_entry, root_term_id, term_of_name}
-use Rattle.isle_terms.specs.Standing.{is_declared_kind}
-use Rattle.isle_terms.proofs.Changing.{changes_one, view_at, not_there}
-use Rattle.isle_terms.proofs.Rooting.{is_within}
+use Rattle.isle_base.specs.SyntaxViews.{name_view, rule_view}
+use Rattle.isle_terms.proofs.Changing.{not_there}
+use Rattle.isle_terms.proofs.KindChanges.{kind_refused, kind_changed}
+use Rattle.isle_terms.proofs.Rooting.{root_found}
 use Rattle.isle_terms.proofs.term_table.TermTable.read_root.Goals as goal
 
 pub returns-in-Some-what_is_no_root-clause-reads : goal.returns-in-Some-what_is_no_root-clause-reads
 returns-in-Some-what_is_no_root-clause-reads c =
-    let name : root_name (pattern_view c.args.rule.now.pattern) ≡ Some (name_view c.in-Some.root.now) = sym c.in-Some.ensures in
-    let root : root_term_id c.args.tyenv.now c.args.self.now (rule_view c.args.rule.now) ≡ Some c.in-Some-find_term.id.0 =
-    ap (λ o. then_option o (term_of_name c.args.tyenv.now c.args.self.now)) name ∙ sym c.in-Some-find_term.ensures in
-    let within : c.in-Some-find_term.id.0 < length c.args.self.now.terms.items = is_within c.args.self.now c.requires (symbol_of c.args.tyenv.now (name_view c.in-Some.root.now).text) c.in-Some-find_term.id.0 c.in-Some-find_term.ensures in
-    let items = c.args.self.now.terms.items in
-    let value : c.index-2.result.now ≡ get_or items c.in-Some-find_term.id.0 c.index-2.result.now = c.index-2.ensures ∙ ap (λ k. get_or items k c.index-2.result.now) c.index.ensures in
-    let kind : is_declared_kind (term_view c.index-2.result.now).kind ≡ false = sym c.what_is_no_root.ensures ∙ ap is_none c.in-Some-what_is_no_root.is in
-    on_ok_weaker c.report-in-Some-what_is_no_root.result (λ r. inr (
-      r,
-      inr (record {
-        id = c.in-Some-find_term.id.0;
-        root = root;
-        entry = term_view c.index-2.result.now;
-        at = view_at items c.in-Some-find_term.id.0 c.index-2.result.now c.index-2.result.now within value;
-        made = kind;
-      }),
-    )) c.report-in-Some-what_is_no_root.ensures
+    let named = c.in-Some-find_term.ensures in
+    let found = root_found c.args.tyenv.now c.args.self.now (rule_view c.args.rule.now) (name_view c.in-Some.root.now) _ (sym c.in-Some.ensures) named in
+    on_ok_weaker c.report-in-Some-what_is_no_root.result
+    (kind_refused _ _ _ _ _ _ c.requires _ _ named found c.index-2.result.now _ c.index.ensures c.index-2.ensures _ c.what_is_no_root.ensures (ap is_none c.in-Some-what_is_no_root.is)) c.report-in-Some-what_is_no_root.ensures
 
 pub returns-clause-reads : goal.returns-clause-reads
 returns-clause-reads c =
-    let name : root_name (pattern_view c.args.rule.now.pattern) ≡ Some (name_view c.in-Some.root.now) = sym c.in-Some.ensures in
-    let root : root_term_id c.args.tyenv.now c.args.self.now (rule_view c.args.rule.now) ≡ Some c.in-Some-find_term.id.0 =
-    ap (λ o. then_option o (term_of_name c.args.tyenv.now c.args.self.now)) name ∙ sym c.in-Some-find_term.ensures in
-    let within : c.in-Some-find_term.id.0 < length c.args.self.now.terms.items = is_within c.args.self.now c.requires (symbol_of c.args.tyenv.now (name_view c.in-Some.root.now).text) c.in-Some-find_term.id.0 c.in-Some-find_term.ensures in
-    let items = c.args.self.now.terms.items in
-    let value : c.index-2.result.now ≡ get_or items c.in-Some-find_term.id.0 c.index-2.result.now = c.index-2.ensures ∙ ap (λ k. get_or items k c.index-2.result.now) c.index.ensures in
-    let again : c.index_mut.result.now ≡ get_or items c.in-Some-find_term.id.0 c.index_mut.result.now = c.index_mut.ensures.value ∙ ap (λ k. get_or items k c.index_mut.result.now) c.index-3.ensures in
-    let kind : is_declared_kind (term_view c.index-2.result.now).kind ≡ true = sym c.what_is_no_root.ensures ∙ not_there c.what_is_no_root.result (λ x h. c.in_default-what_is_no_root.not-Some x h) in
-    inl (
-      refl,
-      record {
-        id = c.in-Some-find_term.id.0;
-        root = root;
-        entry = term_view c.index-2.result.now;
-        at = view_at items c.in-Some-find_term.id.0 c.index-2.result.now c.index-2.result.now within value;
-        declared = kind;
-        changes = record {
-          terms = ap (λ k. term_views (set items k c.set_internal.new.term)) c.index-3.ensures
-              ∙ changes_one internal_entry items c.in-Some-find_term.id.0 c.set_internal.new.term c.index_mut.result.now within (c.set_internal.ensures ∙ ap (λ t. internal_entry (term_view t)) again);
-          term_map = refl;
-          converters = refl;
-        };
-      },
-    )
+    let named = c.in-Some-find_term.ensures in
+    let found = root_found c.args.tyenv.now c.args.self.now (rule_view c.args.rule.now) (name_view c.in-Some.root.now) _ (sym c.in-Some.ensures) named in
+    kind_changed _ _ _ _ _ _ c.requires _ _ named found c.index-2.result.now _ c.index.ensures c.index-2.ensures _ c.what_is_no_root.ensures (not_there c.what_is_no_root.result (λ x h. c.in_default-what_is_no_root.not-Some x h)) refl
+    _ c.set_constructor.new.self _ _ c.index-3.ensures refl refl refl c.index_mut.ensures.value c.set_constructor.ensures

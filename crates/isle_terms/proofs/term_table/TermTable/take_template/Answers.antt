@@ -8,8 +8,7 @@ use Rattle.isle_base.specs.SyntaxViews.{extractor_view, pattern_view}
 use Rattle.isle_base.specs.Noting.{NotesMore}
 use Rattle.isle_types.specs.VariantReading.{ReportsIf}
 use Rattle.isle_terms.specs.TermViews.{term_view, term_views}
-use Rattle.isle_terms.specs.Externing.{taken_by_this, with_kind}
-use Rattle.isle_terms.specs.Standing.{change}
+use Rattle.isle_terms.specs.KindChanges.{taken_by_this, with_kind, change}
 use Rattle.isle_terms.specs.Templating.{AreArguments}
 use Rattle.isle_terms.proofs.Changing.{changes_one, view_at}
 use Rattle.isle_terms.proofs.term_table.TermTable.take_template.Goals as goal

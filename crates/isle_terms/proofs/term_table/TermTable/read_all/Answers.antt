@@ -1,0 +1,12 @@
+use Rattle.std.proofs.Common.{rules}
+use Rattle.isle_terms.proofs.FormSteps.{next_definition}
+use Rattle.isle_terms.proofs.TypesStaying.{left_more}
+use Rattle.isle_terms.proofs.term_table.TermTable.read_all.Goals as goal
+
+pub returns-in_err-read_one-clause-left : goal.returns-in_err-read_one-clause-left
+returns-in_err-read_one-clause-left g c = left_more _ c.requires.0 _ c.loop-def.invariant.left _ c.read_one.ensures.interns
+
+pub loop-def-preserved : goal.loop-def-preserved
+loop-def-preserved g c =
+    let a = c.in_ok-read_one.ensures in
+    next_definition c.args.form _ c.requires.0 c.args.defs.now c.loop-def.def-index c.def-item.result (search rules) c.def-item.is _ _ _ _ _ _ a.interns a.within a.reads c.loop-def.invariant
