@@ -21,7 +21,7 @@ use std::alloc::{AllocError, Global};
 // # Errors
 //
 // Where memory is refused. Nothing has changed then.
-pub fn name_rules(terms: &[Term], rules: &mut Vec<Rule>) -> Result<(), AllocError>
+pub(crate) fn name_rules(terms: &[Term], rules: &mut Vec<Rule>) -> Result<(), AllocError>
     ensures names { OnOk result (rule_views rules.new.items ≡ named_rules (term_views terms.now) (rule_views rules.old.items)) }
     ensures err { OnErr result (rules.new ≡ rules.old) }
 {
@@ -67,7 +67,7 @@ fn name_of_term(terms: &[Term], term: TermId) -> Option<Sym>
 }
 
 // Each named rule by its name. A name that an earlier rule has is noted.
-pub fn map_names(
+pub(crate) fn map_names(
     alloc: Global,
     tyenv: &TypeEnv,
     rules: &[Rule],
@@ -94,9 +94,8 @@ fn map_name(
         return Ok(());
     };
     if rule_map.contains_key(&name) {
-        let alloc = *errors.allocator();
-        let msg = format!(in alloc; "Duplicate rule name: '{}'", text_of(tyenv, name))?;
-        return report(errors, rule.pos, msg.as_str());
+        let msg = format_args!("Duplicate rule name: '{}'", text_of(tyenv, name));
+        return report(errors, rule.pos, msg);
     }
     rule_map.insert(name, rule.id)?;
     Ok(())
@@ -122,10 +121,7 @@ fn check_term(tyenv: &TypeEnv, term: &Term, errors: &mut Vec<Error>) -> Result<(
     if term.has_constructor() || term.has_extractor() {
         return Ok(());
     }
-    let alloc = *errors.allocator();
     let name = text_of(tyenv, term.name);
-    let msg = format!(in alloc;
-        "no rules, extractor, or external definition for declaration '{name}'"
-    )?;
-    report(errors, term.decl_pos, msg.as_str())
+    let msg = format_args!("no rules, extractor, or external definition for declaration '{name}'");
+    report(errors, term.decl_pos, msg)
 }

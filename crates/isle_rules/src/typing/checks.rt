@@ -12,6 +12,7 @@ use crate::reports::{report, type_text};
 use isle_base::syntax::{Error, Ident, Pos};
 use isle_types::{Sym, TypeEnv, TypeId};
 use std::alloc::AllocError;
+use std::fmt::Display;
 
 /// Whether integers stand for values of the type: of a built-in integer type, or of a primitive one.
 pub(crate) fn check_integer(
@@ -26,12 +27,9 @@ pub(crate) fn check_integer(
     if has_integers(tyenv, ty) {
         return Ok(());
     }
-    let alloc = *errors.allocator();
     let name = type_text(tyenv, ty);
-    let msg = format!(in alloc;
-        "expected non-integer type {name}, but found integer literal '{val}'"
-    )?;
-    report(errors, pos, msg.as_str())
+    let msg = format_args!("expected non-integer type {name}, but found integer literal '{val}'");
+    report(errors, pos, msg)
 }
 
 // Whether integers stand for values of the type.
@@ -57,12 +55,41 @@ pub(crate) fn check_bool(
     if ty == TypeId::BOOL {
         return Ok(());
     }
-    let alloc = *errors.allocator();
     let name = type_text(tyenv, ty);
-    let msg = format!(in alloc;
-        "Boolean literal '{val}' has type bool but we need {name} in context"
-    )?;
-    report(errors, pos, msg.as_str())
+    let msg = format_args!("Boolean literal '{val}' has type bool but we need {name} in context");
+    report(errors, pos, msg)
+}
+
+/// Whether a type is the one that is wanted; else this is noted.
+pub(crate) fn check_same<M: Display + Drop>(
+    errors: &mut Vec<Error>,
+    pos: Pos,
+    has: TypeId,
+    want: TypeId,
+    msg: M,
+) -> Result<(), AllocError>
+    ensures { OnOk result (Checks errors.old.items errors.new.items (has.0 ≡ want.0)) }
+{
+    if has == want {
+        return Ok(());
+    }
+    report(errors, pos, msg)
+}
+
+/// Whether a type is the one that is expected, where one is; else this is noted.
+pub(crate) fn check_expected<M: Display + Drop>(
+    errors: &mut Vec<Error>,
+    pos: Pos,
+    has: TypeId,
+    want: Option<TypeId>,
+    msg: M,
+) -> Result<(), AllocError>
+    ensures { OnOk result (Checks errors.old.items errors.new.items (is_expected (expected want) has.0 ≡ true)) }
+{
+    if meets_expected(has, want) {
+        return Ok(());
+    }
+    report(errors, pos, msg)
 }
 
 /// Whether there are as many arguments as the term has.
@@ -78,12 +105,11 @@ pub(crate) fn check_count(
     if got == expect {
         return Ok(());
     }
-    let alloc = *errors.allocator();
-    let msg = format!(in alloc;
-        "Incorrect argument count for term '{}': got {got}, expect {expect}",
-        term.0
-    )?;
-    report(errors, pos, msg.as_str())
+    let name = term.0.as_str();
+    let msg = format_args!(
+        "Incorrect argument count for term '{name}': got {got}, expect {expect}"
+    );
+    report(errors, pos, msg)
 }
 
 /// The type of the constant of a name.

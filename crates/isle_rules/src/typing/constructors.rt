@@ -10,7 +10,7 @@ ghost use Rattle.isle_rules.specs.Constructors.{is_made, uses_of_rule, uses_of_d
 ghost use Rattle.isle_rules.specs.Elaborating.{Checks};
 ghost use Rattle.isle_rules.specs.PatternUses.{found_term};
 
-use crate::reports::report;
+use crate::reports::report_unmade;
 use crate::term_env::TermEnv;
 use isle_base::syntax::{Def, Error, Expr, Ident, IfLet, Pos, Rule};
 use isle_types::TypeEnv;
@@ -33,12 +33,7 @@ impl TermEnv {
         if term.has_constructor() {
             return Ok(());
         }
-        let alloc = *errors.allocator();
-        let msg = format!(in alloc;
-            "term `{}` cannot be used in an expression because it does not have a constructor",
-            name.0
-        )?;
-        report(errors, pos, msg.as_str())
+        report_unmade(errors, pos, name.0.as_str())
     }
 
     // The same of each of these uses.

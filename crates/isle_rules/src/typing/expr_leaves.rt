@@ -116,12 +116,11 @@ fn report_constant(
 ) -> Result<(), AllocError>
     ensures { OnOk result (NotesMore errors.old.items errors.new.items) }
 {
-    let alloc = *errors.allocator();
+    let name = val.0.as_str();
     let want = expected_text(tyenv, want);
     let has = type_text(tyenv, has);
-    let msg = format!(in alloc;
-        "Constant '{}' has wrong type: expected {want}, but is actually {has}",
-        val.0
-    )?;
-    report(errors, pos, msg.as_str())
+    let msg = format_args!(
+        "Constant '{name}' has wrong type: expected {want}, but is actually {has}"
+    );
+    report(errors, pos, msg)
 }

@@ -15,10 +15,10 @@ ghost use Rattle.isle_rules.specs.Progress.{newest, Remains};
 ghost use Rattle.isle_rules.specs.RuleViews.{var_view};
 ghost use Rattle.isle_rules.specs.Translating.{standing};
 
-use crate::reports::{expected_text, report, text_of, type_text};
+use crate::reports::{check, expected_text, report, report_unmade, text_of, type_text};
 use crate::rules::BoundVar;
 use crate::term_env::TermEnv;
-use crate::typing::checks::{check_count, meets_expected};
+use crate::typing::checks::{check_count, check_expected};
 use crate::typing::progress::{Progress, Stop};
 use isle_base::syntax::{Error, Expr, Ident, Pos};
 use isle_terms::{Term, TermFlags, TermKind};
@@ -101,7 +101,7 @@ impl TermEnv {
             return Ok(VarUse::Conversion(inside, left));
         }
         if let Some(by) = self.declared_converter(bound.ty, expected_ty) {
-            report_unmade(tyenv, &mut work.errors, pos, by)?;
+            report_unmade(&mut work.errors, pos, text_of(tyenv, by.name))?;
             return Ok(VarUse::Wrong);
         }
         check_variable(tyenv, &mut work.errors, pos, name, bound.ty, expected_ty)?;
@@ -136,7 +136,7 @@ impl TermEnv {
             return Ok(CallUse::Conversion(inside, left));
         }
         if let Some(by) = self.declared_converter(term.ret_ty, expected_ty) {
-            report_unmade(tyenv, &mut work.errors, pos, by)?;
+            report_unmade(&mut work.errors, pos, text_of(tyenv, by.name))?;
             return Ok(CallUse::Wrong);
         }
         check_call(tyenv, work, term, sym, args.len(), pos, expected_ty, flags)?;
@@ -178,17 +178,11 @@ fn check_variable(
 ) -> Result<(), AllocError>
     ensures { OnOk result (Checks errors.old.items errors.new.items (is_expected (expected want) has.0 ≡ true)) }
 {
-    if meets_expected(has, want) {
-        return Ok(());
-    }
-    let alloc = *errors.allocator();
-    let want = expected_text(tyenv, want);
-    let has = type_text(tyenv, has);
-    let msg = format!(in alloc;
-        "Variable '{}' has type {has} but we need {want} in context",
-        name.0
-    )?;
-    report(errors, pos, msg.as_str())
+    let name = name.0.as_str();
+    let wanted = expected_text(tyenv, want);
+    let own = type_text(tyenv, has);
+    let msg = format_args!("Variable '{name}' has type {own} but we need {wanted} in context");
+    check_expected(errors, pos, has, want, msg)
 }
 
 // Whether a call has the type that is expected, where one is, the flags in force allow it, and it has as many arguments as
@@ -223,19 +217,15 @@ fn check_type(
 ) -> Result<(), AllocError>
     ensures { OnOk result (Checks errors.old.items errors.new.items (is_expected (expected want) has.0 ≡ true)) }
 {
-    if meets_expected(has, want) {
-        return Ok(());
-    }
-    let alloc = *errors.allocator();
-    let want = expected_text(tyenv, want);
-    let has = type_text(tyenv, has);
-    let msg = format!(in alloc;
-        "Mismatched types: expression expects type '{want}' but term has return type '{has}'"
-    )?;
-    report(errors, pos, msg.as_str())
+    let wanted = expected_text(tyenv, want);
+    let own = type_text(tyenv, has);
+    let msg = format_args!(
+        "Mismatched types: expression expects type '{wanted}' but term has return type '{own}'"
+    );
+    check_expected(errors, pos, has, want, msg)
 }
 
-// Whether the flags in force allow a call; else each that forbids it is noted.
+// Whether the flags in force allow a call; else each that forbids it is noted, with what helps.
 fn check_flags(
     errors: &mut Vec<Error>,
     pos: Pos,
@@ -248,104 +238,55 @@ fn check_flags(
     let TermKind::Decl { flags: own, .. } = &term.kind else {
         return Ok(());
     };
-    check_pure(errors, pos, sym, flags, *own)?;
-    check_multi(errors, pos, sym, flags, *own)?;
-    check_partial(errors, pos, sym, flags, *own)?;
+    let name = sym.0.as_str();
+    let msg = format_args!("Used non-pure constructor '{name}' in pure expression context");
+    check(errors, pos, is_pure_enough(flags, *own), msg)?;
+    let msg = format_args!("Used multi-constructor '{name}' but this rule is not in a multi-term");
+    check(errors, pos, is_single_enough(flags, *own), msg)?;
+    let more = help_for_partial(flags);
+    let msg = format_args!(
+        "Rule can't use partial constructor '{name}' on RHS; try moving it to if-let{more}"
+    );
+    check(errors, pos, is_total_enough(flags, *own), msg)?;
     Ok(())
 }
 
-// Whether the term is pure where it has to be; else this is noted.
-fn check_pure(
-    errors: &mut Vec<Error>,
-    pos: Pos,
-    sym: &Ident,
-    flags: TermFlags,
-    own: TermFlags,
-) -> Result<(), AllocError>
-    ensures { OnOk result (Checks errors.old.items errors.new.items (not flags.pure || own.pure ≡ true)) }
-{
-    if !flags.pure || own.pure {
-        return Ok(());
-    }
-    let alloc = *errors.allocator();
-    let msg = format!(in alloc;
-        "Used non-pure constructor '{}' in pure expression context",
-        sym.0
-    )?;
-    report(errors, pos, msg.as_str())
-}
-
-// Whether the term gives one value at most where that has to be; else this is noted.
-fn check_multi(
-    errors: &mut Vec<Error>,
-    pos: Pos,
-    sym: &Ident,
-    flags: TermFlags,
-    own: TermFlags,
-) -> Result<(), AllocError>
-    ensures { OnOk result (Checks errors.old.items errors.new.items (flags.multi || not own.multi ≡ true)) }
-{
-    if flags.multi || !own.multi {
-        return Ok(());
-    }
-    let alloc = *errors.allocator();
-    let msg = format!(in alloc;
-        "Used multi-constructor '{}' but this rule is not in a multi-term",
-        sym.0
-    )?;
-    report(errors, pos, msg.as_str())
-}
-
-// Whether the term always gives a value where that has to be; else this is noted, with what helps.
-fn check_partial(
-    errors: &mut Vec<Error>,
-    pos: Pos,
-    sym: &Ident,
-    flags: TermFlags,
-    own: TermFlags,
-) -> Result<(), AllocError>
-    ensures { OnOk result (Checks errors.old.items errors.new.items (flags.partial || not own.partial ≡ true)) }
-{
-    if flags.partial || !own.partial {
-        return Ok(());
-    }
-    let alloc = *errors.allocator();
-    let more = if flags.multi {
+// What else helps where a term may give no value and the flags in force forbid that.
+fn help_for_partial(flags: TermFlags) -> &'static str {
+    if flags.multi {
         ""
     } else {
         " or make this rule's term partial too"
-    };
-    let msg = format!(in alloc;
-        "Rule can't use partial constructor '{}' on RHS; try moving it to if-let{more}",
-        sym.0
-    )?;
-    report(errors, pos, msg.as_str())
+    }
 }
 
-// Notes that a converter has no constructor.
-fn report_unmade(
-    tyenv: &TypeEnv,
-    errors: &mut Vec<Error>,
-    pos: Pos,
-    by: &Term,
-) -> Result<(), AllocError>
-    ensures { OnOk result (NotesMore errors.old.items errors.new.items) }
+// Whether a term of flags of its own is pure where the flags in force ask for that.
+fn is_pure_enough(flags: TermFlags, own: TermFlags) -> bool
+    ensures { result ≡ (not flags.pure || own.pure) }
 {
-    let alloc = *errors.allocator();
-    let name = text_of(tyenv, by.name);
-    let msg = format!(in alloc;
-        "term `{name}` cannot be used in an expression because it does not have a constructor"
-    )?;
-    report(errors, pos, msg.as_str())
+    !flags.pure || own.pure
+}
+
+// Whether it gives one value at most, or more are allowed.
+fn is_single_enough(flags: TermFlags, own: TermFlags) -> bool
+    ensures { result ≡ (flags.multi || not own.multi) }
+{
+    flags.multi || !own.multi
+}
+
+// Whether it always gives a value, or none is allowed.
+fn is_total_enough(flags: TermFlags, own: TermFlags) -> bool
+    ensures { result ≡ (flags.partial || not own.partial) }
+{
+    flags.partial || !own.partial
 }
 
 // Notes that no variable has the name.
 fn report_variable(errors: &mut Vec<Error>, pos: Pos, name: &Ident) -> Result<(), AllocError>
     ensures { OnOk result (NotesMore errors.old.items errors.new.items) }
 {
-    let alloc = *errors.allocator();
-    let msg = format!(in alloc; "Unknown variable '{}'", name.0)?;
-    report(errors, pos, msg.as_str())
+    let msg = format_args!("Unknown variable '{}'", name.0);
+    report(errors, pos, msg)
 }
 
 // Notes that no term has the name, which may be that of a variable.
@@ -357,11 +298,10 @@ fn report_unknown(
 ) -> Result<(), AllocError>
     ensures { OnOk result (NotesMore work.old.errors.items work.new.errors.items) }
 {
-    let alloc = *work.errors.allocator();
     let hint = match find_var(tyenv, work, sym) {
         Some(_) => { ". Variable binding under this name exists; try removing the parens?" }
         None => "",
     };
-    let msg = format!(in alloc; "Unknown term in expression: '{}'{hint}", sym.0)?;
-    report(&mut work.errors, pos, msg.as_str())
+    let msg = format_args!("Unknown term in expression: '{}'{hint}", sym.0);
+    report(&mut work.errors, pos, msg)
 }

@@ -42,9 +42,8 @@ pub(crate) fn begin_def(
 fn report_type(errors: &mut Vec<Error>, pos: Pos, def: &LetDef) -> Result<(), AllocError>
     ensures { OnOk result (NotesMore errors.old.items errors.new.items) }
 {
-    let alloc = *errors.allocator();
-    let msg = format!(in alloc; "Unknown type {} for variable '{}'", def.ty.0, def.var.0)?;
-    report(errors, pos, msg.as_str())
+    let msg = format_args!("Unknown type {} for variable '{}'", def.ty.0, def.var.0);
+    report(errors, pos, msg)
 }
 
 /// Binds the name of a definition to its value, and keeps what the name stood for before.

@@ -13,7 +13,7 @@ ghost use Rattle.isle_rules.specs.Translating.{standing, Keeps, MayTranslate};
 use crate::patterns::Pattern;
 use crate::reports::{report, type_text};
 use crate::term_env::TermEnv;
-use crate::typing::checks::{check_bool, check_integer, constant_type};
+use crate::typing::checks::{check_bool, check_integer, check_same, constant_type};
 use crate::typing::progress::{Progress, Stop};
 use isle_base::syntax::{Error, Ident, Pos};
 use isle_types::{Sym, TypeEnv, TypeId};
@@ -95,7 +95,8 @@ impl TermEnv {
             report(&mut work.errors, pos, "Unknown constant")?;
             return Ok(None);
         };
-        check_constant(&mut work.errors, pos, ty, expected_ty)?;
+        let msg = "Type mismatch for constant";
+        check_same(&mut work.errors, pos, ty, expected_ty, msg)?;
         Ok(Some(Pattern::ConstPrim(ty, name)))
     }
 
@@ -154,32 +155,13 @@ fn check_bound(
 ) -> Result<(), AllocError>
     ensures { OnOk result (Checks errors.old.items errors.new.items (has.0 ≡ want.0)) }
 {
-    if has == want {
-        return Ok(());
-    }
-    let alloc = *errors.allocator();
-    let expects = type_text(tyenv, want);
-    let has = type_text(tyenv, has);
-    let msg = format!(in alloc;
-        "Mismatched types: pattern expects type '{expects}' but already-bound var '{}' has type '{has}'",
-        var.0
-    )?;
-    report(errors, pos, msg.as_str())
-}
-
-// Whether a constant has the type that is expected; else this is noted.
-fn check_constant(
-    errors: &mut Vec<Error>,
-    pos: Pos,
-    has: TypeId,
-    want: TypeId,
-) -> Result<(), AllocError>
-    ensures { OnOk result (Checks errors.old.items errors.new.items (has.0 ≡ want.0)) }
-{
-    if has == want {
-        return Ok(());
-    }
-    report(errors, pos, "Type mismatch for constant")
+    let name = var.0.as_str();
+    let wanted = type_text(tyenv, want);
+    let own = type_text(tyenv, has);
+    let msg = format_args!(
+        "Mismatched types: pattern expects type '{wanted}' but already-bound var '{name}' has type '{own}'"
+    );
+    check_same(errors, pos, has, want, msg)
 }
 
 // Whether a name stands for no variable; else this is noted.
@@ -190,7 +172,6 @@ fn check_new(work: &mut Progress, name: Sym, var: &Ident, pos: Pos) -> Result<()
     if work.lookup(name).is_none() {
         return Ok(());
     }
-    let alloc = *work.errors.allocator();
-    let msg = format!(in alloc; "Re-bound variable name in LHS pattern: '{}'", var.0)?;
-    report(&mut work.errors, pos, msg.as_str())
+    let msg = format_args!("Re-bound variable name in LHS pattern: '{}'", var.0);
+    report(&mut work.errors, pos, msg)
 }

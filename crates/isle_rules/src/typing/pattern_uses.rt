@@ -14,7 +14,7 @@ ghost use Rattle.isle_rules.specs.Translating.{standing};
 
 use crate::reports::{report, type_text};
 use crate::term_env::TermEnv;
-use crate::typing::checks::check_count;
+use crate::typing::checks::{check_count, check_same};
 use crate::typing::progress::{Progress, Stop};
 use isle_base::syntax::{Error, Ident, Pattern, Pos};
 use isle_terms::{ExtractorKind, Term, TermKind};
@@ -154,16 +154,12 @@ fn check_type(
 ) -> Result<(), AllocError>
     ensures { OnOk result (Checks errors.old.items errors.new.items (has.0 ≡ want.0)) }
 {
-    if has == want {
-        return Ok(());
-    }
-    let alloc = *errors.allocator();
-    let want = type_text(tyenv, want);
-    let has = type_text(tyenv, has);
-    let msg = format!(in alloc;
-        "Mismatched types: pattern expects type '{want}' but term has return type '{has}'"
-    )?;
-    report(errors, pos, msg.as_str())
+    let wanted = type_text(tyenv, want);
+    let own = type_text(tyenv, has);
+    let msg = format_args!(
+        "Mismatched types: pattern expects type '{wanted}' but term has return type '{own}'"
+    );
+    check_same(errors, pos, has, want, msg)
 }
 
 // Whether a term has an extractor; else this is noted.
@@ -178,19 +174,17 @@ fn check_extractor(
     if term.has_extractor() {
         return Ok(());
     }
-    let alloc = *errors.allocator();
-    let msg = format!(in alloc;
+    let msg = format_args!(
         "Cannot use term '{}' that does not have a defined extractor in a left-hand side pattern",
         sym.0
-    )?;
-    report(errors, pos, msg.as_str())
+    );
+    report(errors, pos, msg)
 }
 
 // Notes that no term has the name.
 fn report_unknown(errors: &mut Vec<Error>, pos: Pos, sym: &Ident) -> Result<(), AllocError>
     ensures { OnOk result (NotesMore errors.old.items errors.new.items) }
 {
-    let alloc = *errors.allocator();
-    let msg = format!(in alloc; "Unknown term in pattern: '{}'", sym.0)?;
-    report(errors, pos, msg.as_str())
+    let msg = format_args!("Unknown term in pattern: '{}'", sym.0);
+    report(errors, pos, msg)
 }

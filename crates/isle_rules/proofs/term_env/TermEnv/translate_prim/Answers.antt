@@ -23,4 +23,4 @@ returns-clause-made c =
     prim_used c.args.self.now (standing c.args.tyenv.now c.args.work.now) _ (name_view c.args.val.now) (position c.args.pos) c.args.expected_ty.0 c.in_ok-name.ensures.names
     c.in-Some.ty.0 c.in_ok-name.name.0
     (c.in-Some.ensures ∙ ap (λ t. option_map (λ i. i.0) (look_up same_symbol t (symbol c.in_ok-name.name.0))) c.intern_mut.ensures.const_types ∙ ap (constant_at c.args.tyenv.now) c.in_ok-name.ensures.number)
-    c.in_ok-name.ensures.number (record { vars = refl; names = λ k. refl; expansions = refl }) c.in_ok-check_constant.ensures
+    c.in_ok-name.ensures.number (record { vars = refl; names = λ k. refl; expansions = refl }) c.in_ok-check_same.ensures

@@ -1,4 +1,4 @@
-use Rattle.std.proofs.Common.{◌≡◌, true, sym, subst}
+use Rattle.std.proofs.Common.{◌≡◌, Bool, true, sym, subst}
 use Rattle.isle_terms.specs.TermViews.{flags_view, kind_view}
 use Rattle.isle_rules.specs.Elaborating.{Checks}
 use Rattle.isle_rules.specs.ExprUses.{allowed}
@@ -7,5 +7,6 @@ use Rattle.isle_rules.proofs.typing.expr_uses.check_flags.Goals as goal
 
 pub returns : goal.returns
 returns c =
-    subst (λ k. Checks c.args.errors.now.items c.check_partial.new.errors.items (allowed (flags_view c.args.flags) (kind_view k) ≡ true)) (sym c.in-Decl.is)
-    (checks_and _ _ _ _ _ c.in_ok-check_pure.ensures (checks_and _ _ _ _ _ c.in_ok-check_multi.ensures c.in_ok-check_partial.ensures))
+    subst (λ k. Checks c.args.errors.now.items c.check-3.new.errors.items (allowed (flags_view c.args.flags) (kind_view k) ≡ true)) (sym c.in-Decl.is)
+    (checks_and _ _ _ _ _ (subst (λ (b : Bool). Checks c.args.errors.now.items c.check.new.errors.items (b ≡ true)) c.is_pure_enough.ensures c.in_ok-check.ensures)
+    (checks_and _ _ _ _ _ (subst (λ (b : Bool). Checks c.check.new.errors.items c.check-2.new.errors.items (b ≡ true)) c.is_single_enough.ensures c.in_ok-check-2.ensures) (subst (λ (b : Bool). Checks c.check-2.new.errors.items c.check-3.new.errors.items (b ≡ true)) c.is_total_enough.ensures c.in_ok-check-3.ensures)))
