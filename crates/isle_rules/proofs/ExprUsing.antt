@@ -5,7 +5,7 @@ use Rattle.std.proofs.lemmas.Option.{none-some}
 use Rattle.isle_base.specs.declared.syntax.Expr.{Expr}
 use Rattle.isle_base.specs.SyntaxViews as S
 use Rattle.isle_model.specs.lists.Syntax.{Position, Name, ExprTree, ExprTrees, no_expr, expr_and, term_expr, var_expr}
-use Rattle.isle_model.specs.lists.Names.{number, has_name}
+use Rattle.isle_model.specs.lists.Names.{number}
 use Rattle.isle_model.specs.lists.Tables.{Flags, TermKindEntry, variant_term, struct_term, declared_term, TermEntry}
 use Rattle.isle_model.specs.lists.Expansions.{wrapped_expr}
 use Rattle.isle_model.specs.lists.Setting.{Setting, Scope, var_of, var_named, that, has_constructor, is_callable, is_expected, expr_converter}
@@ -13,8 +13,6 @@ use Rattle.isle_model.specs.lists.Typings.{Typing, plain, made_into, counted}
 use Rattle.isle_model.specs.lists.Elaborated.{as_expected, deeper_expr, elaborated_expr, args_with}
 use Rattle.isle_model.specs.rules.Outcome.{then_option}
 use Rattle.isle_model.specs.rules.Typed.{TypedExpr, make_term, make_var, typed_expr_and, TypedVar}
-use Rattle.isle_model.proofs.ByNumber.{looked_up}
-use Rattle.isle_model.proofs.Names.{last}
 use Rattle.isle_laws_lists.proofs.Typings.{expected_itself}
 use Rattle.isle_types.specs.Envs.{names_of, symbol_of, IsInterned}
 use Rattle.isle_rules.specs.Noting.{NotesMore}
@@ -31,7 +29,8 @@ use Rattle.isle_rules.proofs.MadeSettings.{callable_made, term_made, converter_m
 use Rattle.isle_rules.proofs.PatternLeaves.{tested}
 use Rattle.isle_rules.proofs.ExprLeaves.{is_false}
 use Rattle.isle_rules.proofs.PatternUsing.{expansion_stops, found_so, that_same, followed_none}
-use Rattle.isle_rules.proofs.Scopes.{still}
+use Rattle.isle_rules.proofs.MetNames.{by_number}
+use Rattle.isle_rules.proofs.Scopes.{still, unmoved}
 
 -- lists of expressions
 pub list_length : (xs : List Expr) → length (expr_list (S.expr_views xs)) ≡ length xs
@@ -99,12 +98,7 @@ module _ (env : TermEnv) (old : Standing) (whole : ExprTree) (at : Position) (fl
     expands = record {
       errors = one.errors;
       expansions = one.expansions;
-      shows = λ e multi s is sh. record {
-        names = same ∙ sh.names;
-        vars = one.vars ∙ sh.vars;
-        visible = λ k. one.names k ∙ sh.visible k;
-        met = λ k v h. subst (λ (ns : List (List ℕ)). k < length ns) (sym same) (sh.met k v (sym (one.names k) ∙ h));
-      };
+      shows = λ e multi s is sh. unmoved old new s same one.vars one.names sh;
       becomes = conversion;
     };
   }
@@ -118,19 +112,7 @@ module _ (env : TermEnv) (old : Standing) (whole : ExprTree) (at : Position) (fl
 module _ (env : TermEnv) (old : Standing) (inv : IsInterned old.tyenv) (name : Name) (at : Position) (flags : Flags) (ty : Option ℕ) where
   var_found : (o : Option TypedVar) → o ≡ option_and_then (newest old.work) (symbol_of old.tyenv name.text) → (s : Scope) → Shows old s → var_of s name.text ≡ o
   var_found o h s sh =
-      ap (λ ns. var_named (number ns name.text) s.visible) (sym sh.names) ∙ sym (sh.visible (number (names_of old.tyenv) name.text)) ∙ by_number ∙ sym h
-    where
-      past : (o : Option TypedVar) → newest old.work (number (names_of old.tyenv) name.text) ≡ o → has_name (names_of old.tyenv) name.text ≡ false → o ≡ None
-      past None k none = refl
-      past (Some v) k none = absurd (let l = sh.met (number (names_of old.tyenv) name.text) v k in let m = last (names_of old.tyenv) name.text none in omega (arith, l, m))
-
-      by_number : newest old.work (number (names_of old.tyenv) name.text) ≡ option_and_then (newest old.work) (symbol_of old.tyenv name.text)
-      by_number =
-          sym (ap (option_and_then (newest old.work)) (looked_up (names_of old.tyenv) (symbol_of old.tyenv) inv.numbered inv.named name.text)
-          ∙ (elim (has_name (names_of old.tyenv) name.text) as (λ b. has_name (names_of old.tyenv) name.text ≡ b → option_and_then (newest old.work) (cond b (Some (number (names_of old.tyenv) name.text)) None) ≡ newest old.work (number (names_of old.tyenv) name.text)) [
-            | true ↦ λ _. refl
-            | false ↦ λ none. sym (past (newest old.work (number (names_of old.tyenv) name.text)) refl none)
-          ] refl))
+      ap (λ ns. var_named (number ns name.text) s.visible) (sym sh.names) ∙ sym (sh.visible (number (names_of old.tyenv) name.text)) ∙ by_number (newest old.work) old.tyenv inv name.text sh.met ∙ sym h
 
   abbrev var : ExprTree
   var = var_expr name at

@@ -2,7 +2,7 @@
 use Rattle.std.proofs.Common.{◌≡◌, ℕ, ◌+◌, ◌<◌, ◌≤◌, Bool, List, [], ◌∷◌, ◌++◌, length, map, take, drop, get_or, Option, Some, None, Result, Ok, Err, Vec, refl, sym, ap, subst, ◌∙◌, inl, inr, ◌⊎◌, ⊎_elim, arith}
 use Rattle.std.specs.Option.{option_to_list}
 use Rattle.std.specs.declared.alloc.Global.{Global}
-use Rattle.std.proofs.lemmas.List.{take_more, take_all, take-append-drop, map-append, length-map}
+use Rattle.std.proofs.lemmas.List.{take_more, take-append-drop, map-append, length-map}
 use Rattle.isle_base.specs.declared.syntax.Pattern as T
 use Rattle.isle_types.specs.declared.ids.TypeId.{TypeId}
 use Rattle.isle_rules.specs.declared.patterns.Pattern.{Pattern}
@@ -15,7 +15,7 @@ use Rattle.isle_model.specs.lists.Syntax.{IfLetTree}
 use Rattle.isle_model.specs.lists.Tables.{Flags}
 use Rattle.isle_model.specs.rules.Typed.{TypedIfLet}
 use Rattle.isle_model.specs.lists.Setting.{Setting, Scope}
-use Rattle.isle_model.specs.lists.Typings.{Typing, plain, made_into, joined_typing, followed}
+use Rattle.isle_model.specs.lists.Typings.{made_into, followed}
 use Rattle.isle_types.specs.Envs.{names_of}
 use Rattle.isle_rules.specs.Noting.{NotesMore, MayNoteMore}
 use Rattle.isle_rules.specs.declared.rules.IfLet as R
@@ -27,54 +27,24 @@ use Rattle.isle_rules.specs.Progress.{Remains}
 use Rattle.isle_rules.specs.RuleReadings.{iflet_reading, iflets_reading}
 use Rattle.isle_rules.specs.RuleViews.{iflet_view}
 use Rattle.isle_rules.specs.Translating.{Standing, Keeps, Reading, IsSettingOf, IsTranslated, IsReported, KeepsNoted, StaysNoted, Stops, MayTranslate, Translates}
-use Rattle.isle_rules.proofs.PatternLists.{same_typing}
+use Rattle.isle_rules.proofs.TypedLists.{Listing, SoFar, single, from_none, regroup, alone, one_done, one_stops}
 use Rattle.isle_rules.proofs.Noted.{may_both}
-use Rattle.isle_rules.proofs.Readings.{made_done, made_reported, made_stops, reported_then, reported_stops, then_done, then_reported, then_stops, first_stops}
-use Rattle.isle_rules.proofs.Scopes.{still, plain_made}
+use Rattle.isle_rules.proofs.Readings.{reported_then, reported_stops, first_stops}
+use Rattle.isle_rules.proofs.Scopes.{still}
 
-module _ {X : Type 0} where
-  -- what is read from nothing on is all
-  from_none : (s : Scope) (o : Option (Typing (List X))) → o ≡ joined_typing ◌++◌ (plain [] s) o
-  from_none s None = refl
-  from_none s (Some a) = same_typing a.made a.scope a.expansions (0 + a.expansions) (omega arith)
-
-  -- one, then some and then others
-  regroup : (o : Option (Typing X)) (whole first second : Scope → Option (Typing (List X)))
-      → ((s : Scope) → whole s ≡ followed ◌++◌ (first s) (λ b. second b.scope))
-      → followed ◌∷◌ o (λ a. whole a.scope) ≡ followed ◌++◌ (followed ◌∷◌ o (λ a. first a.scope)) (λ b. second b.scope)
-  regroup None whole first second law = refl
-  regroup (Some a) whole first second law =
-      ap (joined_typing ◌∷◌ a) (law a.scope)
-      ∙ (elim (first a.scope) as (λ o. joined_typing ◌∷◌ a (followed ◌++◌ o (λ b. second b.scope)) ≡ followed ◌++◌ (joined_typing ◌∷◌ a o) (λ b. second b.scope)) [
-        | None ↦ refl
-        | Some b ↦ elim (second b.scope) as (λ o. joined_typing ◌∷◌ a (joined_typing ◌++◌ b o)
-            ≡ joined_typing ◌++◌ (record { made = a.made ∷ b.made; scope = b.scope; expansions = a.expansions + b.expansions }) o) [
-              | None ↦ refl
-              | Some c ↦ same_typing (a.made ∷ (b.made ++ c.made)) c.scope (a.expansions + (b.expansions + c.expansions)) (a.expansions + b.expansions + c.expansions) (omega arith)
-            ]
-      ])
-
-  -- one alone
-  alone : (o : Option (Typing X)) → followed ◌∷◌ o (λ a. Some (plain [] a.scope)) ≡ made_into (λ x. x ∷ []) o
-  alone None = refl
-  alone (Some a) = same_typing (a.made ∷ []) a.scope (a.expansions + 0) a.expansions (omega arith)
+abbrev iflets : Listing TypedIfLet (List TypedIfLet)
+iflets = record { none = []; and = ◌∷◌; appended = ◌++◌; first = λ q. refl; onward = λ a p q. refl }
 
 module _ (e : Setting) (multi : Bool) (c : ℕ) (flags : Flags) where
-  pub iflets_after : (is js : List IfLetTree) (s : Scope) → iflets_reading (is ++ js) flags e multi c s ≡ followed ◌++◌ (iflets_reading is flags e multi c s) (λ a. iflets_reading js flags e multi c a.scope)
-  iflets_after [] js s = from_none s (iflets_reading js flags e multi c s)
+  iflets_after : (is js : List IfLetTree) (s : Scope) → iflets_reading (is ++ js) flags e multi c s ≡ followed ◌++◌ (iflets_reading is flags e multi c s) (λ a. iflets_reading js flags e multi c a.scope)
+  iflets_after [] js s = from_none iflets s (iflets_reading js flags e multi c s)
   iflets_after (i ∷ is) js s =
-      regroup (iflet_reading i flags e multi c s) (λ r. iflets_reading (is ++ js) flags e multi c r) (λ r. iflets_reading is flags e multi c r) (λ r. iflets_reading js flags e multi c r)
+      regroup iflets (iflet_reading i flags e multi c s) (λ r. iflets_reading (is ++ js) flags e multi c r) (λ r. iflets_reading is flags e multi c r) (λ r. iflets_reading js flags e multi c r)
       (λ r. iflets_after is js r)
 
 -- so far
 abbrev pub IfLetsSoFar : TermEnv → Standing → Standing → ℕ → Reading (List TypedIfLet) → List R.IfLet → Type 0
-IfLetsSoFar env old now d reading made = IsTranslated env old now d reading (map iflet_view made) ⊎ IsReported env old now reading
-
-pub no_iflet_yet : (env : TermEnv) (old : Standing) (d : ℕ) (flags : Flags) (made : List R.IfLet) → made ≡ [] → IfLetsSoFar env old old d (iflets_reading [] flags) made
-no_iflet_yet env old d flags made none = inl (record {
-  errors = refl;
-  made = λ e multi s is sh. plain_made (λ c. iflets_reading [] flags e multi c s) d (map iflet_view made) old old s (λ c. ap (λ ms. Some (plain (map iflet_view ms) s)) (sym none)) sh refl;
-})
+IfLetsSoFar = SoFar (map iflet_view)
 
 -- one more if-let
 module _ (env : TermEnv) (old mid new : Standing) (d : ℕ) (flags : Flags) (all : List IfLet) (i : ℕ) (one : IfLet) (w : i < length all) (one_is : one ≡ get_or all i one) (keeps : Keeps old.tyenv mid.tyenv)
@@ -98,14 +68,11 @@ module _ (env : TermEnv) (old mid new : Standing) (d : ℕ) (flags : Flags) (all
       ∙ ap (λ ts. iflets_reading ts flags e multi c s) (map-append S.iflet_view (take i all) (one ∷ []))
       ∙ iflets_after e multi c flags (map S.iflet_view (take i all)) (S.iflet_view one ∷ []) s
 
-  last_is : (e : Setting) (multi : Bool) (c : ℕ) (s : Scope) → last_one e multi c s ≡ made_into (λ x. x ∷ []) (alone_one e multi c s)
-  last_is e multi c s = alone (alone_one e multi c s)
+  last_is : (e : Setting) (multi : Bool) (c : ℕ) (s : Scope) → last_one e multi c s ≡ made_into (single iflets) (alone_one e multi c s)
+  last_is e multi c s = alone iflets (alone_one e multi c s)
 
   pub next_iflet : (o : Option R.IfLet) → MayTranslate env mid new d alone_one iflet_view (Ok o) → IfLetsSoFar env old new d after (made ++ option_to_list o)
-  next_iflet None y = inr (then_reported env old mid new d before (λ q. last_one) after ◌++◌ further (map iflet_view made) keeps sofar (made_reported env mid new d alone_one last_one (λ x. x ∷ []) last_is y))
-  next_iflet (Some p) y =
-      let both = then_done env old mid new d before (λ q. last_one) after ◌++◌ further (map iflet_view made) (iflet_view p ∷ []) keeps sofar (made_done env mid new d alone_one last_one (λ x. x ∷ []) last_is (iflet_view p) y) in
-      rw (map-append iflet_view made (p ∷ [])) both
+  next_iflet = one_done iflets iflet_view (map iflet_view) (λ vs v. map-append iflet_view vs (v ∷ [])) env old mid new d before alone_one last_one after last_is further made keeps sofar
 
   pub iflet_stops : (stop : Stop) → Stops env mid new d alone_one stop → Stops env old new d (iflets_reading (map S.iflet_view all) flags) stop
   iflet_stops stop y =
@@ -115,11 +82,7 @@ module _ (env : TermEnv) (old mid new : Standing) (d : ℕ) (flags : Flags) (all
       ∙ ap (λ ts. iflets_reading ts flags e multi c s) (map-append S.iflet_view (take (i + 1) all) (drop (i + 1) all))
       ∙ iflets_after e multi c flags (map S.iflet_view (take (i + 1) all)) (map S.iflet_view (drop (i + 1) all)) s)
       stop
-      (then_stops env old mid new d before (λ q. last_one) after ◌++◌ further (map iflet_view made) keeps sofar stop (made_stops env mid new d alone_one last_one (λ x. x ∷ []) last_is stop y))
-
-pub all_iflets : (env : TermEnv) (old new : Standing) (d : ℕ) (flags : Flags) (all : List IfLet) (i : ℕ) (made : List R.IfLet) → length all ≤ i → IfLetsSoFar env old new d (iflets_reading (map S.iflet_view (take i all)) flags) made
-    → IfLetsSoFar env old new d (iflets_reading (map S.iflet_view all) flags) made
-all_iflets env old new d flags all i made w sofar = subst (λ ds. IfLetsSoFar env old new d (iflets_reading (map S.iflet_view ds) flags) made) (take_all i all w) sofar
+      (one_stops iflets iflet_view (map iflet_view) (λ vs v. map-append iflet_view vs (v ∷ [])) env old mid new d before alone_one last_one after last_is further made keeps sofar stop y)
 
 -- after a check of a fact without which nothing can be made
 module _ {Q : Type 0} (env : TermEnv) (old mid new : Standing) (d : ℕ) (reading : Reading Q) (P : Type 0) (same : mid.tyenv ≡ old.tyenv) (r : Remains old.work mid.work)

@@ -1,9 +1,9 @@
 -- Lets, from what their definitions and their body became.
-use Rattle.std.proofs.Common.{◌≡◌, ℕ, suc, ◌+◌, ◌<◌, ◌≤◌, ◌||◌, Bool, true, false, cond, nat_eq, List, [], ◌∷◌, ◌++◌, length, take, drop, get_or, Option, Some, None, option_and_then, Ok, Box, refl, sym, ap, subst, ◌∙◌, inl, inr, ◌⊎◌, ⊎_elim, arith}
+use Rattle.std.proofs.Common.{◌≡◌, ℕ, suc, ◌+◌, ◌<◌, ◌||◌, Bool, true, false, cond, nat_eq, List, [], ◌∷◌, ◌++◌, length, take, drop, get_or, Option, Some, None, option_and_then, Ok, Box, refl, sym, ap, subst, ◌∙◌, inl, inr, ◌⊎◌, ⊎_elim, arith}
 use Rattle.std.specs.Option.{option_to_list}
 use Rattle.std.specs.Str.{bytes_eq}
 use Rattle.std.specs.declared.alloc.Global.{Global}
-use Rattle.std.proofs.lemmas.List.{take_more, take_all, take-append-drop, length-append}
+use Rattle.std.proofs.lemmas.List.{take_more, take-append-drop, length-append}
 use Rattle.std.specs.List.{position_from}
 use Rattle.isle_base.specs.declared.syntax.LetDef.{LetDef}
 use Rattle.isle_base.specs.SyntaxViews as S
@@ -16,8 +16,7 @@ use Rattle.isle_model.specs.lists.Setting as M
 use Rattle.isle_model.specs.lists.Setting.{Setting, Scope, met, bound, after_let, var_named}
 use Rattle.isle_model.specs.lists.Typings.{Typing, plain, scoped, joined_typing, followed}
 use Rattle.isle_model.specs.lists.Elaborated.{before_rest, bound_let, typed_let, elaborated_expr, lets_with, deeper_expr, most_expansions}
-use Rattle.isle_model.proofs.ByNumber.{looked_up}
-use Rattle.isle_model.proofs.Names.{last, known_name, number_new, has_new, has_left}
+use Rattle.isle_model.proofs.Names.{known_name, number_new, has_new, has_left}
 use Rattle.isle_laws_lists.proofs.Typings.{scoped_gives}
 use Rattle.isle_types.specs.declared.ids.Sym.{Sym}
 use Rattle.isle_types.specs.declared.ids.TypeId.{TypeId}
@@ -34,7 +33,8 @@ use Rattle.isle_rules.specs.ExprViews.{expr_view, let_views, let_parts}
 use Rattle.isle_rules.specs.Lets.{with_let, before_all, HidesAs, Defines, BindsDef, Closes, DefinesOne}
 use Rattle.isle_rules.specs.Progress.{newest, BindsNext, Remains}
 use Rattle.isle_rules.specs.Translating.{Standing, Keeps, IsSettingOf, Shows, Reading, Wherever, IsOnlyTyping, IsTranslated, IsReported, Stops}
-use Rattle.isle_rules.proofs.PatternLists.{same_typing}
+use Rattle.isle_rules.proofs.TypedLists.{same_typing}
+use Rattle.isle_rules.proofs.MetNames.{by_number}
 use Rattle.isle_rules.proofs.Noted.{may_both}
 use Rattle.isle_rules.proofs.Readings.{becomes_same, keep_setting, reported_then, then_done, then_reported, then_stops, first_stops, may_report}
 use Rattle.isle_rules.proofs.Scopes.{met_shows, bound_shows, as_many, plain_made}
@@ -75,19 +75,7 @@ module _ (env : TermEnv) (old mid : Standing) (name ty : Name) (value : ExprTree
   type_found : (o : Option ℕ) → o ≡ type_of_name old.tyenv ty.text → (e : Setting) (s : Scope) → IsSettingOf old.tyenv env e → Shows old s → M.type_of_name e s ty.text ≡ o
   type_found o h e s is sh =
       ap (λ ns. position_from (λ n. nat_eq n (number ns ty.text)) 0 e.type_names) (sym sh.names)
-      ∙ sym (is.type_names (number (names_of old.tyenv) ty.text)) ∙ by_number ∙ sym h
-    where
-      past : (o : Option ℕ) → type_at old.tyenv (number (names_of old.tyenv) ty.text) ≡ o → has_name (names_of old.tyenv) ty.text ≡ false → o ≡ None
-      past None k none = refl
-      past (Some i) k none = absurd (let l = is.types_met (number (names_of old.tyenv) ty.text) i k in let m = last (names_of old.tyenv) ty.text none in omega (arith, l, m))
-
-      by_number : type_at old.tyenv (number (names_of old.tyenv) ty.text) ≡ option_and_then (type_at old.tyenv) (symbol_of old.tyenv ty.text)
-      by_number =
-          sym (ap (option_and_then (type_at old.tyenv)) (looked_up (names_of old.tyenv) (symbol_of old.tyenv) inv.numbered inv.named ty.text)
-          ∙ (elim (has_name (names_of old.tyenv) ty.text) as (λ b. has_name (names_of old.tyenv) ty.text ≡ b → option_and_then (type_at old.tyenv) (cond b (Some (number (names_of old.tyenv) ty.text)) None) ≡ type_at old.tyenv (number (names_of old.tyenv) ty.text)) [
-            | true ↦ λ _. refl
-            | false ↦ λ none. sym (past (type_at old.tyenv (number (names_of old.tyenv) ty.text)) refl none)
-          ] refl))
+      ∙ sym (is.type_names (number (names_of old.tyenv) ty.text)) ∙ by_number (type_at old.tyenv) old.tyenv inv ty.text is.types_met ∙ sym h
 
   pub def_unknown : None ≡ type_of_name old.tyenv ty.text → NotesMore old.work.errors.items mid.work.errors.items → IsReported env old mid one
   def_unknown none more = record {
@@ -190,7 +178,7 @@ parts_joined (m ∷ ms) b = ap (typed_let_and m.0.0 m.1.0 (expr_view m.2.value))
 
 from_none : (s : Scope) (o : Option (Typing TypedLets)) → o ≡ joined_typing lets_joined (plain no_typed_let s) o
 from_none s None = refl
-from_none s (Some a) = same_typing a.made a.scope a.expansions (0 + a.expansions) (omega arith)
+from_none s (Some a) = same_typing a.made a.made a.scope a.expansions (0 + a.expansions) refl (omega arith)
 
 -- a definition, then some and then others
 regroup : (x own : ℕ) (v : TypedExpr) (t : Scope) (n : ℕ) (o : Option (Typing TypedLets)) (second : Scope → Option (Typing TypedLets))
@@ -200,7 +188,7 @@ regroup x own v t n None second = refl
 regroup x own v t n (Some c) second = elim (second c.scope) as (λ o. joined_typing before_rest (record { made = typed_let_and x own v; scope = t; expansions = n }) (joined_typing lets_joined c o)
     ≡ joined_typing lets_joined (record { made = typed_let_and x own v c.made; scope = c.scope; expansions = n + c.expansions }) o) [
       | None ↦ refl
-      | Some f ↦ same_typing (typed_let_and x own v (lets_joined c.made f.made)) f.scope (n + (c.expansions + f.expansions)) (n + c.expansions + f.expansions) (omega arith)
+      | Some f ↦ same_typing (typed_let_and x own v (lets_joined c.made f.made)) (typed_let_and x own v (lets_joined c.made f.made)) f.scope (n + (c.expansions + f.expansions)) (n + c.expansions + f.expansions) refl (omega arith)
     ]
 
 module _ (x : List ℕ) (whole first second : Scope → Option (Typing TypedLets)) (law : (t : Scope) → whole t ≡ followed lets_joined (first t) (λ a. second a.scope)) where
@@ -280,10 +268,6 @@ module _ (env : TermEnv) (old mid new : Standing) (d : ℕ) (flags : Flags) (def
       first_stops env old mid new d after (λ q. lets_reading (S.let_views (drop (i + 1) defs)) flags) (lets_reading (S.let_views defs) flags) lets_joined
       (λ e multi c s. ap (λ ds. lets_reading (S.let_views ds) flags e multi c s) (sym (take-append-drop (i + 1) defs)) ∙ lets_after (all_made e) flags c (take (i + 1) defs) (drop (i + 1) defs) s)
       stop (then_stops env old mid new d before (λ q. last_one) after lets_joined further (let_parts (let_views made)) keeps so_far stop y)
-
-pub all_defs : (env : TermEnv) (old new : Standing) (d : ℕ) (flags : Flags) (defs : List LetDef) (i : ℕ) (made : List (VarId × TypeId × Box Expr Global)) (first hidden : List (Sym × Option BoundVar)) → length defs ≤ i
-    → Defines env old new d (lets_reading (S.let_views (take i defs)) flags) (let_parts (let_views made)) first hidden → Defines env old new d (lets_reading (S.let_views defs) flags) (let_parts (let_views made)) first hidden
-all_defs env old new d flags defs i made first hidden w sofar = subst (λ ds. Defines env old new d (lets_reading (S.let_views ds) flags) (let_parts (let_views made)) first hidden) (take_all i defs w) sofar
 
 -- a whole let
 abbrev in_scope : Scope → Typing TypedExpr → Typing TypedExpr

@@ -21,8 +21,10 @@ pub mod Bindings
 pub mod Scopes
 pub mod PatternLeaves
 mod TermCopies
+pub mod MetNames
 pub mod TermsFound
 pub mod PatternUsing
+pub mod TypedLists
 pub mod PatternLists
 pub mod PatternSizes
 pub mod PatternForms

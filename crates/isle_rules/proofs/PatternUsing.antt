@@ -30,7 +30,7 @@ use Rattle.isle_rules.specs.PatternReadings.{pattern_reading, parts_reading}
 use Rattle.isle_rules.specs.PatternUses.{found_term, found_converter, found_template, inside_term, IsExpansionOf, TakesParts}
 use Rattle.isle_rules.specs.Translating.{Standing, Reading, IsSettingOf, Shows, Wherever, IsReported, Stops, ExpandsTo, converter_in, expanding}
 use Rattle.isle_rules.proofs.Noted.{both, may_check}
-use Rattle.isle_rules.proofs.Scopes.{still}
+use Rattle.isle_rules.proofs.Scopes.{still, unmoved}
 use Rattle.isle_rules.proofs.TermsFound.{found_named}
 
 -- one fact after another is checked
@@ -39,9 +39,6 @@ checks_both a b c P Q (inl x) (inl y) = inl (y.0 ∙ x.0, (x.1, y.1))
 checks_both a b c P Q (inl x) (inr y) = inr (subst (λ es. NotesMore es c) x.0 y.0, λ h. y.1 h.1)
 checks_both a b c P Q (inr x) (inl y) = inr (subst (NotesMore a) (sym y.0) x.0, λ h. x.1 h.0)
 checks_both a b c P Q (inr x) (inr y) = inr (both a b c x.0 y.0, λ h. x.1 h.0)
-
-pub remains_both : {p q r : _} → Remains p q → Remains q r → Remains p r
-remains_both x y = record { vars = y.vars ∙ x.vars; names = λ k. y.names k ∙ x.names k; expansions = y.expansions ∙ x.expansions }
 
 -- what an expansion makes takes one at least
 pub takes_one : {Q : Type 0} (o : ℕ → Option (Typing Q)) (c : ℕ) (a : Typing Q) → expanding o c ≡ Some a → 1 ≤ a.expansions
@@ -157,12 +154,7 @@ module _ (env : TermEnv) (old : Standing) (inv : IsInterned old.tyenv) (name : N
       converted_use new same one = record {
         errors = one.errors;
         expansions = one.expansions;
-        shows = λ e multi s is sh. record {
-          names = same ∙ sh.names;
-          vars = one.vars ∙ sh.vars;
-          visible = λ k. one.names k ∙ sh.visible k;
-          met = λ k v h. subst (λ (ns : List (List ℕ)). k < length ns) (sym same) (sh.met k v (sym (one.names k) ∙ h));
-        };
+        shows = λ e multi s is sh. unmoved old new s same one.vars one.names sh;
         becomes = conversion;
       }
 
@@ -284,12 +276,7 @@ module _ (env : TermEnv) (old : Standing) (inv : IsInterned old.tyenv) (name : N
                 (λ ok. inl (record {
                   errors = one.errors ∙ ok.0;
                   expansions = one.expansions ∙ ap (λ k. k + 1) r.expansions;
-                  shows = λ e multi s is sh. let m = still old mid s same r sh in record {
-                    names = here ∙ m.names;
-                    vars = one.vars ∙ m.vars;
-                    visible = λ k. one.names k ∙ m.visible k;
-                    met = λ k v h. subst (λ (ns : List (List ℕ)). k < length ns) (sym here) (m.met k v (sym (one.names k) ∙ h));
-                  };
+                  shows = λ e multi s is sh. unmoved mid new s here one.vars one.names (still old mid s same r sh);
                   becomes = matched ok.1;
                 }))
                 (λ wrong.

@@ -21,14 +21,18 @@ pub longer_names : (ns : List (List ℕ)) (x : List ℕ) → length ns ≤ lengt
 longer_names ns x =
     elim (has_name ns x) as (λ b. length ns ≤ length (cond b ns (ns ++ x ∷ []))) [ true ↦ omega arith | false ↦ let e = length-append ns (x ∷ []) in omega (arith, e) ]
 
--- where at most errors were noted the scope is that before
-pub still : (old new : Standing) (s : Scope) → names_of new.tyenv ≡ names_of old.tyenv → Remains old.work new.work → Shows old s → Shows new s
-still old new s same r sh = record {
+-- where no name was met, no variable was bound and names stand for what they stood for, the scope is that before
+pub unmoved : (old new : Standing) (s : Scope) → names_of new.tyenv ≡ names_of old.tyenv → vars_of new.work ≡ vars_of old.work → ((k : ℕ) → newest new.work k ≡ newest old.work k) → Shows old s → Shows new s
+unmoved old new s same vars names sh = record {
   names = same ∙ sh.names;
-  vars = r.vars ∙ sh.vars;
-  visible = λ k. r.names k ∙ sh.visible k;
-  met = λ k v h. subst (λ (ns : List (List ℕ)). k < length ns) (sym same) (sh.met k v (sym (r.names k) ∙ h));
+  vars = vars ∙ sh.vars;
+  visible = λ k. names k ∙ sh.visible k;
+  met = λ k v h. subst (λ (ns : List (List ℕ)). k < length ns) (sym same) (sh.met k v (sym (names k) ∙ h));
 }
+
+-- so it is where at most errors were noted
+pub still : (old new : Standing) (s : Scope) → names_of new.tyenv ≡ names_of old.tyenv → Remains old.work new.work → Shows old s → Shows new s
+still old new s same r sh = unmoved old new s same r.vars r.names sh
 
 -- a name was met
 pub met_shows : (old new : Standing) (s : Scope) (x : List ℕ) → names_of new.tyenv ≡ with_name (names_of old.tyenv) x → Remains old.work new.work → Shows old s → Shows new (met s x)

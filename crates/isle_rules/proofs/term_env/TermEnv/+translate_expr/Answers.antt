@@ -12,11 +12,12 @@ use Rattle.isle_rules.specs.ExprViews.{expr_view, let_views, let_parts}
 use Rattle.isle_rules.specs.Translating.{standing}
 use Rattle.isle_rules.proofs.Defaults.{same_default}
 use Rattle.isle_rules.proofs.ExprBridges.{row_exprs-hidden}
-use Rattle.isle_rules.proofs.ExprLists.{none_yet, next_arg, arg_stops}
+use Rattle.isle_rules.proofs.ExprLists.{made_exprs, expr_args}
 use Rattle.isle_rules.proofs.ExprSizes.{expr_size, exprs_size, lets_size, less, inside_less, smaller_arg, smaller_def}
 use Rattle.isle_rules.proofs.ExprForms.{seen_call, seen_let, args_done, args_stop}
 use Rattle.isle_rules.proofs.LetForms.{def_unknown, def_reported, def_stops, def_done, no_def_yet, next_def, next_stops, let_first_stops, let_reported, let_stops, let_done}
 use Rattle.isle_rules.proofs.Readings.{stop_is, stop_keeps, stays_on, may_report, keep_none, keep_on, expanded_done}
+use Rattle.isle_rules.proofs.TypedLists.{none_yet, next_arg, arg_stops}
 use Rattle.isle_rules.proofs.term_env.TermEnv.+translate_expr.Goals as goal
 
 pub translate_expr-use_in_expr-requires-clause-whole : goal.translate_expr-use_in_expr-requires-clause-whole
@@ -115,7 +116,7 @@ translate_exprs-translate_expr-requires t c =
 pub translate_exprs-loop-i-init : goal.translate_exprs-loop-i-init
 translate_exprs-loop-i-init t c = (
   keep_none c.args.tyenv.now c.requires,
-  none_yet c.args.self.now (standing c.args.tyenv.now c.args.work.now) c.args.nesting (args_reading no_expr (flags_view c.args.flags) []) c.new-parts.result.items c.new-parts.ensures.items (λ e multi k s. refl),
+  none_yet made_exprs c.args.self.now (standing c.args.tyenv.now c.args.work.now) c.args.nesting (args_reading no_expr (flags_view c.args.flags) []) c.new-parts.result.items c.new-parts.ensures.items (λ e multi k s. refl),
 )
 
 pub translate_exprs-returns-in_err-part-clause-made : goal.translate_exprs-returns-in_err-part-clause-made
@@ -124,7 +125,7 @@ translate_exprs-returns-in_err-part-clause-made t c =
     let v : c.loop-i.i < length c.args.tys.now = search rules in
     let ty : TypeId = get_or c.args.tys.now c.loop-i.i (record { 0 = 0 }) in
     rw (stop_is c.from_residual.result c.in_err-part.field-0.0 c.from_residual.ensures)
-    (arg_stops c.args.self.now (standing c.args.tyenv.now c.args.work.now) (standing c.loop-i.tyenv c.loop-i.work) (standing c.translate_expr.new.tyenv c.translate_expr.new.work) c.args.nesting (flags_view c.args.flags)
+    (arg_stops (expr_args (flags_view c.args.flags)) c.args.self.now (standing c.args.tyenv.now c.args.work.now) (standing c.loop-i.tyenv c.loop-i.work) (standing c.translate_expr.new.tyenv c.translate_expr.new.work) c.args.nesting
     c.args.args.now c.args.tys.now c.loop-i.i c.index-args-i.result ty w v c.index-args-i.is (same_default c.args.tys.now c.loop-i.i (record { 0 = 0 }) ty v) c.loop-i.invariant.0
     c.loop-i.parts.items c.loop-i.invariant.1 c.in_err-part.field-0.0 c.in_err-part.ensures.made)
 
@@ -144,7 +145,7 @@ translate_exprs-loop-i-preserved t c =
     let pushed = c.in_ok-push_expr.ensures in (
       keep_on c.args.tyenv.now c.loop-i.tyenv c.translate_expr.new.tyenv c.loop-i.invariant.0 c.translate_expr.ensures.keeps,
       rw pushed
-          (next_arg c.args.self.now (standing c.args.tyenv.now c.args.work.now) (standing c.loop-i.tyenv c.loop-i.work) (standing c.translate_expr.new.tyenv c.translate_expr.new.work) c.args.nesting (flags_view c.args.flags)
+          (next_arg (expr_args (flags_view c.args.flags)) c.args.self.now (standing c.args.tyenv.now c.args.work.now) (standing c.loop-i.tyenv c.loop-i.work) (standing c.translate_expr.new.tyenv c.translate_expr.new.work) c.args.nesting
           c.args.args.now c.args.tys.now c.loop-i.i c.index-args-i.result ty w v c.index-args-i.is (same_default c.args.tys.now c.loop-i.i (record { 0 = 0 }) ty v) c.loop-i.invariant.0
           c.loop-i.parts.items c.loop-i.invariant.1 c.in_ok-part.part c.in_ok-part.ensures.made),
     )

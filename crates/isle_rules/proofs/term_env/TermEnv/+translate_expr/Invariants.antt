@@ -5,9 +5,10 @@ use Rattle.isle_rules.specs.ExprReadings.{args_reading, lets_reading}
 use Rattle.isle_rules.specs.ExprViews.{let_views, let_parts}
 use Rattle.isle_rules.specs.Lets.{Defines}
 use Rattle.isle_rules.specs.Translating.{standing, Keeps}
-use Rattle.isle_rules.proofs.ExprLists.{SoFar}
+use Rattle.isle_rules.proofs.ExprLists.{made_exprs}
 use Rattle.isle_rules.proofs.ExprSizes.{expr_size, exprs_size, lets_size}
 use Rattle.isle_rules.proofs.PatternSizes.{grown}
+use Rattle.isle_rules.proofs.TypedLists.{SoFar}
 use Rattle.isle_rules.proofs.term_env.TermEnv.+translate_expr.Given as goal
 
 abbrev pub decreases-translate_expr : goal.decreases-translate_expr
@@ -28,7 +29,7 @@ decreases-translate_def l = grown 4 l.nesting (suc (expr_size (S.expr_view l.def
 abbrev pub invariant-translate_exprs-loop-i : goal.invariant-translate_exprs-loop-i
 invariant-translate_exprs-loop-i l =
     Keeps l.fn.tyenv l.tyenv
-    × SoFar l.self (standing l.fn.tyenv l.fn.work) (standing l.tyenv l.work) l.nesting (args_reading (S.expr_views (take l.i l.args)) (flags_view l.flags) (map (λ t. t.0) (take l.i l.tys))) l.parts.items
+    × SoFar made_exprs l.self (standing l.fn.tyenv l.fn.work) (standing l.tyenv l.work) l.nesting (args_reading (S.expr_views (take l.i l.args)) (flags_view l.flags) (map (λ t. t.0) (take l.i l.tys))) l.parts.items
 
 abbrev pub invariant-translate_defs-loop-def : goal.invariant-translate_defs-loop-def
 invariant-translate_defs-loop-def l =

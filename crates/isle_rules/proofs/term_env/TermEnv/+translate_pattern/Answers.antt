@@ -13,10 +13,11 @@ use Rattle.isle_rules.specs.PatternViews.{pattern_view, pattern_views, pattern_p
 use Rattle.isle_rules.specs.Translating.{standing}
 use Rattle.isle_rules.proofs.Defaults.{same_default}
 use Rattle.isle_rules.proofs.PatternBridges.{row_patterns-hidden}
-use Rattle.isle_rules.proofs.PatternLists.{none_yet, next_part, part_stops, next_each, each_stops}
+use Rattle.isle_rules.proofs.PatternLists.{made_patterns, pattern_args, next_each, each_stops}
 use Rattle.isle_rules.proofs.PatternSizes.{tree_size, trees_size, growth, grown, smaller, deeper_smaller, expansion_smaller, smaller_part}
 use Rattle.isle_rules.proofs.PatternForms.{seen_bind, seen_term, seen_and, any_used, bind_done, bind_reported, bind_stops, parts_done, parts_stop}
 use Rattle.isle_rules.proofs.Readings.{stop_is, stop_keeps, stays_on, may_report, keep_none, keep_on, made_done, made_stops, expanded_done}
+use Rattle.isle_rules.proofs.TypedLists.{none_yet, next_arg, arg_stops}
 use Rattle.isle_rules.proofs.term_env.TermEnv.+translate_pattern.Goals as goal
 
 pub translate_pattern-returns-in_err-made-in-BindPattern-clause-made : goal.translate_pattern-returns-in_err-made-in-BindPattern-clause-made
@@ -153,7 +154,7 @@ translate_each-translate_pattern-requires t c =
 pub translate_args-loop-i-init : goal.translate_args-loop-i-init
 translate_args-loop-i-init t c = (
   keep_none c.args.tyenv.now c.requires,
-  none_yet c.args.self.now (standing c.args.tyenv.now c.args.work.now) c.args.nesting (parts_reading no_pattern []) c.new-parts.result.items c.new-parts.ensures.items (λ e multi k s. refl),
+  none_yet made_patterns c.args.self.now (standing c.args.tyenv.now c.args.work.now) c.args.nesting (parts_reading no_pattern []) c.new-parts.result.items c.new-parts.ensures.items (λ e multi k s. refl),
 )
 
 pub translate_args-returns-in_err-part-clause-made : goal.translate_args-returns-in_err-part-clause-made
@@ -162,7 +163,7 @@ translate_args-returns-in_err-part-clause-made t c =
     let v : c.loop-i.i < length c.args.tys.now = search rules in
     let ty : TypeId = get_or c.args.tys.now c.loop-i.i (record { 0 = 0 }) in
     rw (stop_is c.from_residual.result c.in_err-part.field-0.0 c.from_residual.ensures)
-    (part_stops c.args.self.now (standing c.args.tyenv.now c.args.work.now) (standing c.loop-i.tyenv c.loop-i.work) (standing c.translate_pattern.new.tyenv c.translate_pattern.new.work) c.args.nesting
+    (arg_stops pattern_args c.args.self.now (standing c.args.tyenv.now c.args.work.now) (standing c.loop-i.tyenv c.loop-i.work) (standing c.translate_pattern.new.tyenv c.translate_pattern.new.work) c.args.nesting
     c.args.args.now c.args.tys.now c.loop-i.i c.index-args-i.result ty w v c.index-args-i.is (same_default c.args.tys.now c.loop-i.i (record { 0 = 0 }) ty v) c.loop-i.invariant.0
     c.loop-i.parts.items c.loop-i.invariant.1 c.in_err-part.field-0.0 c.in_err-part.ensures.made)
 
@@ -182,7 +183,7 @@ translate_args-loop-i-preserved t c =
     let pushed = c.in_ok-push_part.ensures in (
       keep_on c.args.tyenv.now c.loop-i.tyenv c.translate_pattern.new.tyenv c.loop-i.invariant.0 c.translate_pattern.ensures.keeps,
       rw pushed
-          (next_part c.args.self.now (standing c.args.tyenv.now c.args.work.now) (standing c.loop-i.tyenv c.loop-i.work) (standing c.translate_pattern.new.tyenv c.translate_pattern.new.work) c.args.nesting
+          (next_arg pattern_args c.args.self.now (standing c.args.tyenv.now c.args.work.now) (standing c.loop-i.tyenv c.loop-i.work) (standing c.translate_pattern.new.tyenv c.translate_pattern.new.work) c.args.nesting
           c.args.args.now c.args.tys.now c.loop-i.i c.index-args-i.result ty w v c.index-args-i.is (same_default c.args.tys.now c.loop-i.i (record { 0 = 0 }) ty v) c.loop-i.invariant.0
           c.loop-i.parts.items c.loop-i.invariant.1 c.in_ok-part.part c.in_ok-part.ensures.made),
     )
@@ -190,7 +191,7 @@ translate_args-loop-i-preserved t c =
 pub translate_each-loop-subpat-init : goal.translate_each-loop-subpat-init
 translate_each-loop-subpat-init t c = (
   keep_none c.args.tyenv.now c.requires,
-  none_yet c.args.self.now (standing c.args.tyenv.now c.args.work.now) c.args.nesting (each_reading no_pattern c.args.expected_ty.0) c.new-parts.result.items c.new-parts.ensures.items (λ e multi k s. refl),
+  none_yet made_patterns c.args.self.now (standing c.args.tyenv.now c.args.work.now) c.args.nesting (each_reading no_pattern c.args.expected_ty.0) c.new-parts.result.items c.new-parts.ensures.items (λ e multi k s. refl),
 )
 
 pub translate_each-returns-in_err-part-clause-made : goal.translate_each-returns-in_err-part-clause-made

@@ -3,8 +3,9 @@ use Rattle.isle_base.specs.SyntaxViews as S
 use Rattle.isle_terms.specs.TermViews.{term_views}
 use Rattle.isle_rules.specs.PatternReadings.{parts_reading, each_reading}
 use Rattle.isle_rules.specs.Translating.{standing, Keeps}
-use Rattle.isle_rules.proofs.PatternLists.{SoFar}
+use Rattle.isle_rules.proofs.PatternLists.{made_patterns}
 use Rattle.isle_rules.proofs.PatternSizes.{tree_size, trees_size, growth, grown}
+use Rattle.isle_rules.proofs.TypedLists.{SoFar}
 use Rattle.isle_rules.proofs.term_env.TermEnv.+translate_pattern.Given as goal
 
 abbrev pub decreases-translate_pattern : goal.decreases-translate_pattern
@@ -19,9 +20,9 @@ decreases-translate_each l = grown (growth (term_views l.self.now.terms.items)) 
 abbrev pub invariant-translate_args-loop-i : goal.invariant-translate_args-loop-i
 invariant-translate_args-loop-i l =
     Keeps l.fn.tyenv l.tyenv
-    × SoFar l.self (standing l.fn.tyenv l.fn.work) (standing l.tyenv l.work) l.nesting (parts_reading (S.pattern_views (take l.i l.args)) (map (λ t. t.0) (take l.i l.tys))) l.parts.items
+    × SoFar made_patterns l.self (standing l.fn.tyenv l.fn.work) (standing l.tyenv l.work) l.nesting (parts_reading (S.pattern_views (take l.i l.args)) (map (λ t. t.0) (take l.i l.tys))) l.parts.items
 
 abbrev pub invariant-translate_each-loop-subpat : goal.invariant-translate_each-loop-subpat
 invariant-translate_each-loop-subpat l =
     Keeps l.fn.tyenv l.tyenv
-    × SoFar l.self (standing l.fn.tyenv l.fn.work) (standing l.tyenv l.work) l.nesting (each_reading (S.pattern_views (take l.subpat-index l.subpats)) l.expected_ty.0) l.parts.items
+    × SoFar made_patterns l.self (standing l.fn.tyenv l.fn.work) (standing l.tyenv l.work) l.nesting (each_reading (S.pattern_views (take l.subpat-index l.subpats)) l.expected_ty.0) l.parts.items

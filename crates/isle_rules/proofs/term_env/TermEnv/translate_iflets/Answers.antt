@@ -1,11 +1,15 @@
+use Rattle.std.proofs.Common.{map, []}
 use Rattle.isle_terms.specs.TermViews.{flags_view}
+use Rattle.isle_rules.specs.RuleReadings.{iflets_reading}
+use Rattle.isle_rules.specs.RuleViews.{iflet_view}
 use Rattle.isle_rules.specs.Translating.{standing}
-use Rattle.isle_rules.proofs.IfLetLists.{no_iflet_yet, next_iflet, iflet_stops}
+use Rattle.isle_rules.proofs.IfLetLists.{next_iflet, iflet_stops}
 use Rattle.isle_rules.proofs.Readings.{stop_is, keep_none, keep_on}
+use Rattle.isle_rules.proofs.TypedLists.{none_yet}
 use Rattle.isle_rules.proofs.term_env.TermEnv.translate_iflets.Goals as goal
 
 pub loop-iflet-init : goal.loop-iflet-init
-loop-iflet-init c = (keep_none c.args.tyenv.now c.requires, no_iflet_yet c.args.self.now (standing c.args.tyenv.now c.args.work.now) c.args.nesting (flags_view c.args.flags) c.new-made.result.items c.new-made.ensures.items)
+loop-iflet-init c = (keep_none c.args.tyenv.now c.requires, none_yet (map iflet_view) c.args.self.now (standing c.args.tyenv.now c.args.work.now) c.args.nesting (iflets_reading [] (flags_view c.args.flags)) c.new-made.result.items c.new-made.ensures.items (λ e multi k s. refl))
 
 pub returns-in_err-one-clause-made : goal.returns-in_err-one-clause-made
 returns-in_err-one-clause-made c =
