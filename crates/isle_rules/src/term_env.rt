@@ -19,7 +19,7 @@ use crate::rules::Rule;
 use isle_base::stablemapset::StableMap;
 use isle_base::syntax::{Def, Fault, Ident};
 use isle_terms::{Term, TermTable};
-use isle_types::{RuleId, Sym, TermId, TypeEnv, TypeId, VariantId};
+use isle_types::{RuleId, Sym, TermId, TypeEnv, TypeId, VariantId, VariantTerms};
 use std::alloc::{AllocError, Global};
 
 /// All terms, and all rules in typed form: what the meaning of a list of definitions is read from.
@@ -146,6 +146,17 @@ impl TermEnv {
             converters: self.converters.clone()?,
             expand_internal_extractors: self.expand_internal_extractors,
         })
+    }
+}
+
+// What crates below ask of an environment of terms.
+impl VariantTerms for TermEnv {
+    ghost use Rattle.isle_rules.specs.TermEnvs.{term_in_env};
+
+    ghost term_of_name = { term_in_env };
+
+    fn get_variant_term(&self, tyenv: &TypeEnv, ty: TypeId, variant: VariantId) -> TermId {
+        TermEnv::get_variant_term(self, tyenv, ty, variant)
     }
 }
 
