@@ -34,7 +34,7 @@ whole = built_demands_are_whole_lem rules_are_formed lists_agree
 answered : (defs : List Definition) (rules : TypedRules) (t : ℕ) (set : SiteSet) → IsElaborated (types_read defs) defs true rules → t ∷ [] ≡ terms_with_rules (own_program defs rules)
     → IsBuilt (own_program defs rules) t set → BuildAnswers (own_program defs rules) ((t, set) ∷ []) (build_reports (own_program defs rules))
 answered defs rules t set h terms built =
-    built_sets_are_answered_lem (can_be_served_lem rules_are_formed lists_agree (elaborated_rules_demand_gates_lem rules_are_formed lists_agree))
+    built_sets_are_answered_lem whole (can_be_served_lem rules_are_formed lists_agree (elaborated_rules_demand_gates_lem rules_are_formed lists_agree))
     (λ e ds expand rs u s a b. record {
       match = built_sets_match_by_demands_lem whole e ds expand rs u s a b;
       outcome = taken_lem e ds expand rs u s a b;

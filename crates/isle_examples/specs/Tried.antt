@@ -5,10 +5,9 @@ use Rattle.isle_model.specs.rules.Picks.{matches_under}
 use Rattle.isle_model.specs.rules.Program.{Program, rules_of}
 use Rattle.isle_model.specs.rules.Typed.{TypedRule}
 use Rattle.isle_model.specs.rules.Values.{Value, no_value, of_variant}
-use Rattle.isle_model.specs.sites.Closure.{ClosedDemandsHold, DemandsHold}
+use Rattle.isle_model.specs.sites.Closure.{ClosedDemandsHold, ClosedIsWhole, DemandsHold}
 use Rattle.isle_model.specs.sites.Demands.{demands_of}
 use Rattle.isle_model.specs.sites.Serves.{TellsConstantsApart}
-use Rattle.isle_laws_demands.specs.ClosureLaws.{ClosedIsWhole}
 use Rattle.isle_laws_demands.specs.MatchLaws.{IsTried}
 use Rattle.isle_examples.specs.ConstEq.{const_eq_program, const_eq_rule}
 use Rattle.isle_examples.specs.Cycle.{one_step_program, one_step_rule}

@@ -7,12 +7,12 @@ use Rattle.isle_model.specs.rules.Program.{Program}
 use Rattle.isle_model.specs.rules.Typed.{TypedRule}
 use Rattle.isle_model.specs.sites.Sites.{Constraint, SiteTerm, SiteSet}
 use Rattle.isle_model.specs.sites.Demands.{demands_of}
-use Rattle.isle_model.specs.sites.Closure.{closed}
-use Rattle.isle_model.specs.sites.Overlap.{BuiltRule, is_built, built_rules}
+use Rattle.isle_model.specs.sites.Closure.{ClosedIsWhole, closed}
+use Rattle.isle_model.specs.sites.Overlap.{is_built}
 use Rattle.isle_model.specs.sites.RuleSets.{IsBuilt}
 use Rattle.isle_model.specs.claims.Environments.{TypesRead, IsElaborated, program_of}
-use Rattle.isle_model.specs.claims.SetMeanings.{ConstrainsOrEquates}
-use Rattle.isle_laws_demands.specs.ClosureLaws.{EqualSitesAreMade, ClosedIsWhole}
+use Rattle.isle_model.specs.claims.SetMeanings.{ConstrainsOrEquates, DemandsAreWhole}
+use Rattle.isle_laws_demands.specs.ClosureLaws.{EqualSitesAreMade}
 
 -- the closed demands of a built rule are all that follows, where its visit makes the sites that it equates
 abbrev pub ClosingsOfBuiltRulesAreWhole : Type 0
@@ -39,4 +39,4 @@ FormedRulesMakeEqualSites = (p : Program) (r : TypedRule) → is_formed_rule p r
 abbrev pub BuiltDemandsAreWhole : Type 0
 BuiltDemandsAreWhole =
     (e : TypesRead) (defs : List Definition) (expand : Bool) (rules : TypedRules) (t : ℕ) → IsElaborated e defs expand rules
-    → (b : BuiltRule) → Contains (built_rules (program_of e defs rules.rules) t) b → ClosedIsWhole (demands_of (program_of e defs rules.rules) b.rule) b.demands
+    → DemandsAreWhole (program_of e defs rules.rules) t

@@ -1,11 +1,11 @@
 -- What theory proves of the closure of demands, of limits, and of overlap.
-use Rattle.std.specs.Prelude.{[], ◌≡◌, ◌⊎◌, ◌≢◌, ℕ, true, List, Some, None, slice_get, Contains, ◌↔◌}
+use Rattle.std.specs.Prelude.{[], ◌≡◌, ◌⊎◌, ℕ, true, List, Some, None, slice_get, Contains, ◌↔◌}
 use Rattle.std.specs.Bool.{Decides}
 use Rattle.isle_model.specs.rules.Typed.{TypedRule}
 use Rattle.isle_model.specs.rules.Program.{Program}
 use Rattle.isle_model.specs.sites.Sites.{Constraint, SiteTerm, no_site}
 use Rattle.isle_model.specs.sites.Demands.{Demands, demands_of, with_sites}
-use Rattle.isle_model.specs.sites.Closure.{field_terms, Joined, HasConstraint, IsClosedEquality, IsUnreachable, is_unreachable, reported, same_class, class_names, spoken_of, with_constraints, Closed, next_constrained, closing, before_closing, most_closing_steps, closed}
+use Rattle.isle_model.specs.sites.Closure.{field_terms, Joined, HasConstraint, IsUnreachable, is_unreachable, reported, same_class, class_names, spoken_of, with_constraints, Closed, ClosedIsWhole, next_constrained, closing, before_closing, most_closing_steps, closed}
 use Rattle.isle_model.specs.sites.Limits.{RuleLimit, first_limit, PassesLimit}
 use Rattle.isle_model.specs.sites.Overlap.{Overlaps, overlaps, IsSubsetPair, is_subset_pair, BuiltRule, is_built, clash, Shadows, shadows}
 
@@ -95,11 +95,6 @@ EqualSitesAreMade d = (a b : SiteTerm) → Contains d.equalities (a, b) → Cont
 -- no class is left to be taken where the closing stops
 abbrev pub HasEnded : Closed → Type 0
 HasEnded k = next_constrained k.classes k.constraints k.made ≡ None
-
--- closed demands are all that follows: the constraints that sites must meet, and the equalities of those that have none
-pub record ClosedIsWhole (d : Demands) (k : Closed) : Type 0 where
-  pub constraints : (s : SiteTerm) (c : Constraint) → Contains k.constraints (s, c) ↔ HasConstraint d s c
-  pub equalities : (a b : SiteTerm) → (a ≢ b) × ((class : List SiteTerm) × Contains k.classes class × Contains class a × Contains class b) ↔ IsClosedEquality d a b
 
 -- where demands can be met and their closing ended, the closed demands are whole
 abbrev pub ClosingIsWhole : Type 0

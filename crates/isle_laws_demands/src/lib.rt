@@ -453,6 +453,7 @@ pub fn building_ends()
 pub fn built_sets_are_answered()
     ensures { BuiltSetsAreAnswered }
 {
+    built_demands_are_whole();
     built_sets_can_be_served();
     built_sets_mean_their_rules();
     built_rules_are_told_apart();

@@ -6,14 +6,13 @@ use Rattle.isle_model.specs.trees.Run.{world_of}
 use Rattle.isle_model.specs.trees.Collects.{demands_hold}
 use Rattle.isle_model.specs.sites.Sites.{Site, SetRule, SiteSet}
 use Rattle.isle_model.specs.sites.Demands.{demands_of}
-use Rattle.isle_model.specs.sites.Closure.{DemandsHold, closed, ClosedDemandsHold}
+use Rattle.isle_model.specs.sites.Closure.{ClosedIsWhole, DemandsHold, closed, ClosedDemandsHold}
 use Rattle.isle_model.specs.sites.Overlap.{BuiltRule, built_rules}
 use Rattle.isle_model.specs.sites.RuleSets.{IsRuleOf, AreRulesOfSet, IsBuilt}
 use Rattle.isle_model.specs.claims.Environments.{program_of}
 use Rattle.isle_model.specs.claims.SetMeanings.{AreOneRule}
 use Rattle.isle_model.proofs.Elements.{in_from_contains, contains_from_in, in_slice, some_is, none_some}
 use Rattle.isle_laws_demands.specs.BuiltLaws.{BuiltDemandsAreWhole}
-use Rattle.isle_laws_demands.specs.ClosureLaws.{ClosedIsWhole}
 use Rattle.isle_laws_demands.specs.MatchLaws.{IsTried, BuiltDemandsHoldAlike, BuiltSetsMatchByDemands}
 use Rattle.isle_laws_demands.proofs.overlaps.Overlaps.{bool_same}
 use Rattle.isle_laws_demands.proofs.visits.Built.{was_built}

@@ -9,10 +9,9 @@ use Rattle.isle_model.specs.rules.Picks.{field_of_variant, field_of_struct}
 use Rattle.isle_model.specs.trees.Run.{as_value, from_value, content_fields}
 use Rattle.isle_model.specs.sites.Sites.{Constraint, is_variant, is_struct, is_bool, is_int, is_prim, is_present, SiteTerm, variant_field, struct_field}
 use Rattle.isle_model.specs.sites.Demands.{Demands, has_site}
-use Rattle.isle_model.specs.sites.Closure.{fields_from, field_terms, Joined, given, itself, at_field, HasConstraint, Closed, class_at, without_class_of, begins_with, ascending, field_equalities, taken, closing, before_closing, in_order, most_closing_steps, closed, ClosedDemandsHold}
+use Rattle.isle_model.specs.sites.Closure.{fields_from, field_terms, Joined, given, itself, at_field, HasConstraint, Closed, ClosedIsWhole, class_at, without_class_of, begins_with, ascending, field_equalities, taken, closing, before_closing, in_order, most_closing_steps, closed, ClosedDemandsHold}
 use Rattle.isle_model.proofs.Elements.{In, in_from_contains, contains_from_in, in_map, in_filter, passed_filter, from_flat_map, some_is}
 use Rattle.isle_model.proofs.SameSites.{term_cases}
-use Rattle.isle_laws_demands.specs.ClosureLaws.{ClosedIsWhole}
 use Rattle.isle_model.proofs.SitesMade.{has_in}
 use Rattle.isle_laws_demands.proofs.closure.Closing.{FollowsSoFar, constraint_carried, in_class_joined, next_asked, taken_follows, before_closing_follows, in_order_follows, closing_keeps}
 use Rattle.isle_laws_demands.proofs.closure.Whole.{AllIn, each_all_in, without_in, equality_members}

@@ -4,10 +4,10 @@ use Rattle.isle_model.specs.claims.Environments.{program_of}
 use Rattle.isle_model.specs.lists.Formed.{RulesAreFormed}
 use Rattle.isle_model.specs.rules.Program.{rules_of}
 use Rattle.isle_model.specs.sites.Demands.{demands_of}
+use Rattle.isle_model.specs.sites.Closure.{ClosedIsWhole}
 use Rattle.isle_model.specs.sites.Overlap.{BuiltRule, built_rules}
 use Rattle.isle_laws_lists.specs.TypingLaws.{ListsAgree}
 use Rattle.isle_laws_demands.specs.BuiltLaws.{BuiltDemandsAreWhole}
-use Rattle.isle_laws_demands.specs.ClosureLaws.{ClosedIsWhole}
 use Rattle.isle_model.proofs.Elements.{in_from_contains, in_filter}
 use Rattle.isle_laws_demands.proofs.closure.BuiltRules.{closings_of_built_rules_are_whole_lem}
 use Rattle.isle_laws_demands.proofs.visits.BoundSites.{formed_rules_make_equal_sites_lem}

@@ -19,13 +19,15 @@ use Rattle.isle_model.specs.lists.Elaborated.{TypedRules}
 use Rattle.isle_model.specs.claims.Environments.{types_read, TypesRead, IsElaborated, IsRead, program_of, TypeEnvironment, TermEnvironment, AreRulesOf}
 use Rattle.isle_model.specs.claims.Refusals.{Refusal, refusal_of, NamesOnlyPassed, PassedInBuilding, RefusesTypes, RefusesRules}
 use Rattle.isle_model.specs.sites.RuleSets.{IsBuilt}
-use Rattle.isle_model.specs.claims.SetMeanings.{CanBeServed, MeansItsRules, TellsRulesApart}
+use Rattle.isle_model.specs.claims.SetMeanings.{CanBeServed, DemandsAreWhole, MeansItsRules, TellsRulesApart}
 
--- each term with rules, ascending, also where every rule is left out, with its built set: what those who use it rest on
--- holds of it, it means what its typed rules do, and overlaps and shadows tell its rules apart
+-- each term with rules, ascending, also where every rule is left out, with its built set: its rules ask for all that
+-- follows from what theirs demand, and for nothing else; what those who use it rest on holds of it, it means what its typed
+-- rules do, and overlaps and shadows tell its rules apart
 pub record AreBuiltSets (p : Program) (sets : List (ℕ × SiteSet)) : Type 0 where
   pub terms : map (λ s. s.0) sets ≡ terms_with_rules p
   pub built : All (λ s. IsBuilt p s.0 s.1) sets
+  pub whole : All (λ s. DemandsAreWhole p s.0) sets
   pub served : All (λ s. CanBeServed p s.0 s.1) sets
   pub meaning : All (λ s. MeansItsRules p s.0 s.1) sets
   pub apart : All (λ s. TellsRulesApart p s.0) sets

@@ -12,6 +12,7 @@ use Rattle.isle_model.specs.rules.Typed.{TypedIfLet, TypedRule}
 use Rattle.isle_model.specs.rules.Program.{Program, is_multi, arg_types, rules_of}
 use Rattle.isle_model.specs.sites.Sites.{Site, Constraint, SetRule, SiteSet, sources_at, SiteTerm, unfold_site}
 use Rattle.isle_model.specs.sites.Demands.{demands_of, Visit, visit_start, visit_args, visit_pattern, visit_expr, has_site}
+use Rattle.isle_model.specs.sites.Closure.{ClosedIsWhole}
 use Rattle.isle_model.specs.trees.Places.{joins_in, all_below}
 use Rattle.isle_model.specs.sites.Gates.{gate_demanded}
 use Rattle.isle_model.specs.sites.Serves.{Serves, TellsConstantsApart}
@@ -24,6 +25,10 @@ use Rattle.isle_model.specs.trees.WellBuilt.{HasOnePriority}
 use Rattle.isle_model.specs.lists.Elaborated.{TypedRules}
 use Rattle.isle_model.specs.claims.Environments.{TypesRead, IsElaborated, program_of}
 use Rattle.isle_model.specs.sites.RuleSets.{IsBuilt}
+
+-- the closed demands of each built rule of a term are all that follows from what its visit demands
+abbrev pub DemandsAreWhole : Program → ℕ → Type 0
+DemandsAreWhole p t = (b : BuiltRule) → Contains (built_rules p t) b → ClosedIsWhole (demands_of p b.rule) b.demands
 
 -- a constrained site of a rule is in no class of it
 abbrev pub ConstrainsOrEquates : SetRule → Type 0

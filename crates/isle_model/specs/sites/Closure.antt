@@ -1,6 +1,6 @@
 -- The closure of a rule's demands: what follows from its constraints and equalities, when nothing can meet them, and
 -- the demands that are left once each constraint stands at every site that must meet it.
-use Rattle.std.specs.Prelude.{◌≡◌, ◌≢◌, ℕ, zero, suc, Bool, true, false, not, ◌&&◌, ◌||◌, List, [], ◌∷◌, ◌++◌, length, map, Option, Some, None, is_some, if◌then◌else◌, slice_get, Contains, IsTrue}
+use Rattle.std.specs.Prelude.{◌≡◌, ◌≢◌, ℕ, zero, suc, Bool, true, false, not, ◌&&◌, ◌||◌, List, [], ◌∷◌, ◌++◌, length, map, Option, Some, None, is_some, if◌then◌else◌, slice_get, Contains, IsTrue, ◌↔◌}
 use Rattle.std.specs.List.{filter, flat_map, list_any, zip}
 use Rattle.isle_model.specs.rules.Values.{Value}
 use Rattle.isle_model.specs.rules.Meaning.{Content, one, Meaning, look}
@@ -317,6 +317,11 @@ most_closing_steps = 4295098369
 -- the closed demands of a reachable rule, after the sites of the term's rules before
 abbrev pub closed : List SiteTerm → Demands → Closed
 closed before d = in_order (closing most_closing_steps (before_closing before d))
+
+-- closed demands are all that follows: the constraints that sites must meet, and the equalities of those that have none
+pub record ClosedIsWhole (d : Demands) (k : Closed) : Type 0 where
+  pub constraints : (s : SiteTerm) (c : Constraint) → Contains k.constraints (s, c) ↔ HasConstraint d s c
+  pub equalities : (a b : SiteTerm) → (a ≢ b) × ((class : List SiteTerm) × Contains k.classes class × Contains class a × Contains class b) ↔ IsClosedEquality d a b
 
 -- a constraint is met under a pick: the site has a content that meets it
 pub record IsMet (m : Meaning) (args : List Value) (k : Pick) (s : SiteTerm) (c : Constraint) : Type 0 where
