@@ -10,7 +10,7 @@ use Rattle.isle_model.specs.rules.Values.{Value, no_value, value_and}
 use Rattle.isle_model.specs.sites.Sites.{constructor_site}
 use Rattle.isle_model.specs.trees.Collects.{IsPureSite, IsPureAt}
 use Rattle.isle_model.specs.trees.Places.{all_below, bind_order, is_in, is_in_place, nothing_around, return_uses, waits}
-use Rattle.isle_model.specs.trees.Run.{Bound, Env, World, all_bound, as_value, at_start, bound_to, constructed, now_bound, or_else, or_next, run_check, run_tree, then_bind, used, with_bound}
+use Rattle.isle_model.specs.trees.Run.{Bound, Env, World, all_bound, as_value, at_start, bound_to, constructed, now_bound, or_else, or_next, run_check, run_tree, then_bind, used, on_bound}
 use Rattle.isle_model.specs.trees.SetRuns.{IsTaken}
 use Rattle.isle_model.specs.trees.Trees.{no_step, return_at, step}
 use Rattle.isle_examples.specs.Impure.{ImpureIsCalled, after_call, call_on_argument, im_called, impure_set, the_call}
@@ -27,7 +27,7 @@ order_is false = refl
 
 module _ (m : Meaning) (v : Value) (env : Env) where
   abbrev then_returns : Bound → Outcome
-  then_returns b = with_bound (then_bind b (λ e calls. all_bound e calls)) at_start (λ e t. or_next (run_check (return_at call_on_argument.at 1) (im_called m v) e t) (run_tree no_step (im_called m v) e))
+  then_returns b = on_bound (then_bind b (λ e calls. all_bound e calls)) at_start (λ e t. or_next (run_check (return_at call_on_argument.at 1) (im_called m v) e t) (run_tree no_step (im_called m v) e))
 
   answered : (a : Option Content) → then_returns (now_bound env (the_call v) 1 a) ≡ after_call v a
   answered None = refl

@@ -5,7 +5,7 @@ use Rattle.isle_model.proofs.Members.{in_alone, in_cases}
 use Rattle.isle_model.specs.lists.Setting.{bool_type}
 use Rattle.isle_model.specs.rules.Program.{rules_of}
 use Rattle.isle_model.specs.rules.Values.{truth}
-use Rattle.isle_model.specs.sites.Serves.{has_parts, tested_constants, written_type}
+use Rattle.isle_model.specs.sites.Serves.{is_type_with_parts, tested_constants, written_type}
 use Rattle.isle_model.specs.sites.Sites.{SiteTerm, bool_term, prim_term}
 use Rattle.isle_examples.proofs.Served.{serves_without_calls}
 use Rattle.isle_examples.specs.MeaningForms.{v}
@@ -33,8 +33,8 @@ one_of_each a b ty (inl e) (inr f) s t = absurd (two_types a b ty e f s t)
 one_of_each a b ty (inr e) (inl f) s t = absurd (two_types b a ty f e t s)
 
 -- u8 has no parts
-no_parts : (b : Bool) (ty : ℕ) → (if b then Some 1 else None) ≡ Some ty → has_parts (slice_get constants_program.types ty) ≡ false
-no_parts true ty e = subst (λ n. has_parts (slice_get constants_program.types n) ≡ false) (same_Some 1 ty e) refl
+no_parts : (b : Bool) (ty : ℕ) → (if b then Some 1 else None) ≡ Some ty → is_type_with_parts (slice_get constants_program.types ty) ≡ false
+no_parts true ty e = subst (λ n. is_type_with_parts (slice_get constants_program.types n) ≡ false) (same_Some 1 ty e) refl
 no_parts false ty e = absurd (none-some ty e)
 
 pub constants_are_served : ConstantsAreServed

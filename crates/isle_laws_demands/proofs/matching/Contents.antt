@@ -3,7 +3,7 @@ use Rattle.std.proofs.Common.{◌≡◌, ◌⊎◌, ℕ, ℤ, suc, ◌+◌, Bool
 use Rattle.std.proofs.lemmas.Bool.{and_parts, false≢true}
 use Rattle.std.specs.List.{list_all}
 use Rattle.isle_model.specs.rules.Values.{Value, Values, no_value, value_and, listed, well_typed, all_well_typed}
-use Rattle.isle_model.specs.rules.Meaning.{Content, one, parts, nothing, just, many, contents, Meaning, bool_literal, int_literal, literal_value, constant_value, extractor_answer, pure_answer, outputs, answered}
+use Rattle.isle_model.specs.rules.Meaning.{Content, one, parts, nothing, just, many, contents, Meaning, bool_literal, int_literal, literal_value, constant_value, extractor_answer, pure_answer, outputs, answered_outputs}
 use Rattle.isle_model.specs.rules.Outcome.{then_option}
 use Rattle.isle_model.specs.rules.Program.{Program, kind}
 use Rattle.isle_model.specs.rules.Typed.{TypedPatterns, no_typed_pattern, typed_pattern_and}
@@ -116,7 +116,7 @@ picked_fits p optional tys k s nothing d h e = absurd (none_some d e)
 picked_fits p optional tys k s (just c) d h e = absurd (none_some d e)
 
 -- what fits is answered as what it puts out
-pub fits_answered : (p : Program) (tys : List ℕ) (d : Content) → fits_one p tys d ≡ true → answered d ≡ outputs d
+pub fits_answered : (p : Program) (tys : List ℕ) (d : Content) → fits_one p tys d ≡ true → answered_outputs d ≡ outputs d
 fits_answered p tys (one v) h = refl
 fits_answered p tys (parts vs) h = refl
 fits_answered p [] nothing h = absurd (false≢true h)

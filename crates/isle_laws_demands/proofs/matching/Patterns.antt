@@ -3,7 +3,7 @@ use Rattle.std.proofs.Common.{if◌then◌else◌, ◌≡◌, ℕ, ◌+◌, ◌=
 use Rattle.std.proofs.lemmas.Bool.{and_parts, cases_Bool, cond-true, cond-false, false≢true}
 use Rattle.isle_model.specs.lists.Tables.{Flags, TermEntry}
 use Rattle.isle_model.specs.rules.Values.{is_atom_type, Value, truth, atom, of_variant, of_struct, Values, no_value, value_and, listed, all_well_typed, variant_types, struct_types}
-use Rattle.isle_model.specs.rules.Meaning.{Content, one, just, bool_literal, int_literal, literal_value, constant_value, extractor_answer, answered, look}
+use Rattle.isle_model.specs.rules.Meaning.{Content, one, just, bool_literal, int_literal, literal_value, constant_value, extractor_answer, answered_outputs, look}
 use Rattle.isle_model.specs.rules.Outcome.{then_option}
 use Rattle.isle_model.specs.rules.Matching.{parts_seen}
 use Rattle.isle_model.specs.rules.Program.{Program, Kind, a_variant, a_struct, a_call, unknown, kind, kind_of}
@@ -184,7 +184,7 @@ module _ (g : Given) (z : Visit) (h : IsAnswered g z.demands) (parts : HasTypedP
   p = g.program
 
   abbrev call_parts : Bool → ℕ → SiteTerm → Value → Option Values
-  call_parts multi t s x = then_option (then_option (extractor_answer g.meaning t x) (taken_answer multi g.pick (extractor_call t s))) answered
+  call_parts multi t s x = then_option (then_option (extractor_answer g.meaning t x) (taken_answer multi g.pick (extractor_call t s))) answered_outputs
 
   module _ (t : ℕ) (e : TermEntry) (there : slice_get p.terms t ≡ Some e) (s : SiteTerm) (x : Value) (ty : ℕ) (here : Here g s ty x) (args : TypedPatterns) (n : AsMany args e.arg_tys) (v : Visit) where
     abbrev call : SiteTerm
@@ -207,11 +207,11 @@ module _ (g : Given) (z : Visit) (h : IsAnswered g z.demands) (parts : HasTypedP
     -- the outputs of a call's answer
     from_outputs : (multi : Bool) (u : SiteTerm) (d : Content) (w : PutOut g u args e.arg_tys d) → then_option (extractor_answer g.meaning t x) (taken_answer multi g.pick call) ≡ Some d → fits_one p e.arg_tys d ≡ true
         → call_parts multi t s x ≡ Some w.values
-    from_outputs multi u d w q f = ap (λ o. then_option o answered) q ∙ fits_answered p e.arg_tys d f ∙ w.out
+    from_outputs multi u d w q f = ap (λ o. then_option o answered_outputs) q ∙ fits_answered p e.arg_tys d f ∙ w.out
 
     -- the outputs of what a call that may answer nothing has answered
     from_just : (u : SiteTerm) (c d : Content) (w : PutOut g u args e.arg_tys d) → extractor_answer g.meaning t x ≡ Some c → c ≡ just d → call_parts false t s x ≡ Some w.values
-    from_just u c d w q j = ap (λ o. then_option (then_option o (taken_answer false g.pick call)) answered) (q ∙ ap Some j) ∙ w.out
+    from_just u c d w q j = ap (λ o. then_option (then_option o (taken_answer false g.pick call)) answered_outputs) (q ∙ ap Some j) ∙ w.out
 
     call_opens : (pure multi partial rec infallible : Bool) → kind p t ≡ a_call (record { pure = pure; multi = multi; partial = partial; rec = rec }) infallible
         → Grown (open_call (record { pure = pure; multi = multi; partial = partial; rec = rec }) infallible call args v).visit z
@@ -246,7 +246,7 @@ module _ (g : Given) (z : Visit) (h : IsAnswered g z.demands) (parts : HasTypedP
         let f = fits_maybe (record { pure = pure; multi = false; partial = partial; rec = rec }) c.answer q c.right in
         elim (maybe_fits p e.arg_tys c.answer f) [
           | inl i ↦
-              let none : call_parts false t s x ≡ None = ap (λ y. then_option (then_option y (taken_answer false g.pick call)) answered) (c.there ∙ ap Some i) in
+              let none : call_parts false t s x ≡ None = ap (λ y. then_option (then_option y (taken_answer false g.pick call)) answered_outputs) (c.there ∙ ap Some i) in
               record {
                 binds = refl;
                 met = λ a ws j. absurd (none_some ws (sym none ∙ j));

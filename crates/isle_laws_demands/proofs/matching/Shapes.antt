@@ -7,7 +7,7 @@ use Rattle.isle_model.specs.rules.Values.{Value, truth, atom, of_variant, of_str
 use Rattle.isle_model.specs.rules.Meaning.{Content, one, parts, nothing, just, many, Meaning, bool_literal, int_literal, literal_value, constant_value}
 use Rattle.isle_model.specs.trees.Run.{content_fields, all_one}
 use Rattle.isle_model.specs.sites.Sites.{Constraint, is_variant, is_struct, is_bool, is_int, is_prim, is_present}
-use Rattle.isle_model.specs.sites.Serves.{has_parts}
+use Rattle.isle_model.specs.sites.Serves.{is_type_with_parts}
 use Rattle.isle_laws_demands.proofs.matching.Demanded.{constant_found}
 
 -- the first type is that of booleans, and each type stands at its id
@@ -44,21 +44,21 @@ no_fields : (types : List TypeEntry) (vs : Values) → all_well_typed types None
 no_fields types no_value = refl
 no_fields types (value_and v vs) = refl
 
-pub no_variant : (types : List TypeEntry) (o : Option TypeEntry) (i : ℕ) (vs : Values) → has_parts o ≡ false → all_well_typed types (variant_types o i) vs ≡ true → ⊥
+pub no_variant : (types : List TypeEntry) (o : Option TypeEntry) (i : ℕ) (vs : Values) → is_type_with_parts o ≡ false → all_well_typed types (variant_types o i) vs ≡ true → ⊥
 no_variant types None i vs h t = false≢true (sym (no_fields types vs) ∙ t)
 no_variant types (Some (builtin_type n)) i vs h t = false≢true (sym (no_fields types vs) ∙ t)
 no_variant types (Some (primitive_type id name at)) i vs h t = false≢true (sym (no_fields types vs) ∙ t)
 no_variant types (Some (enum_type name id a b ws at)) i vs h t = false≢true (sym h)
 no_variant types (Some (struct_type name id a b fs at)) i vs h t = false≢true (sym h)
 
-pub no_struct : (types : List TypeEntry) (o : Option TypeEntry) (vs : Values) → has_parts o ≡ false → all_well_typed types (struct_types o) vs ≡ true → ⊥
+pub no_struct : (types : List TypeEntry) (o : Option TypeEntry) (vs : Values) → is_type_with_parts o ≡ false → all_well_typed types (struct_types o) vs ≡ true → ⊥
 no_struct types None vs h t = false≢true (sym (no_fields types vs) ∙ t)
 no_struct types (Some (builtin_type n)) vs h t = false≢true (sym (no_fields types vs) ∙ t)
 no_struct types (Some (primitive_type id name at)) vs h t = false≢true (sym (no_fields types vs) ∙ t)
 no_struct types (Some (enum_type name id a b ws at)) vs h t = false≢true (sym h)
 no_struct types (Some (struct_type name id a b fs at)) vs h t = false≢true (sym h)
 
-pub atom_without_parts : (o : Option TypeEntry) → is_atom_type o ≡ true → has_parts o ≡ false
+pub atom_without_parts : (o : Option TypeEntry) → is_atom_type o ≡ true → is_type_with_parts o ≡ false
 atom_without_parts None h = absurd (false≢true h)
 atom_without_parts (Some (builtin_type n)) h = refl
 atom_without_parts (Some (primitive_type id name at)) h = refl

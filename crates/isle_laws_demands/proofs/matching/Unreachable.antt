@@ -11,7 +11,7 @@ use Rattle.isle_model.specs.trees.Run.{as_value, from_value}
 use Rattle.isle_model.specs.sites.Sites.{Constraint, is_variant, is_struct, is_bool, is_int, is_prim, is_present, SiteTerm, bool_term, int_term, prim_term, variant_field, struct_field}
 use Rattle.isle_model.specs.sites.Demands.{Demands, demands_of}
 use Rattle.isle_model.specs.sites.Closure.{fields_from, field_terms, Joined, given, itself, turned, chained, at_field, HasConstraint, IsPartOf, IsProperPart, directly, deeper, IsUnreachable, two_at_a_site, two_in_a_class, part_of_itself}
-use Rattle.isle_model.specs.sites.Serves.{asked_by, asked, constant_site, constant_type, typed_as, written_type, written_value, has_parts, tested_constants, Serves, TellsConstantsApart}
+use Rattle.isle_model.specs.sites.Serves.{asked_by, asked, constant_site, constant_type, typed_as, written_type, written_value, is_type_with_parts, tested_constants, Serves, TellsConstantsApart}
 use Rattle.isle_model.proofs.Elements.{In, in_from_contains, contains_from_in, in_right, in_flat_map, slice_in, some_is, none_some}
 use Rattle.isle_model.proofs.Members.{get_within}
 use Rattle.isle_laws_demands.proofs.matching.Contents.{Given, content_of}
@@ -96,7 +96,7 @@ module _ (g : Given) (rs : List TypedRule) (types : HasTypes g.program.types) (a
     pub written : written_type q u ≡ Some ty
     pub worth : written_value g.meaning u ≡ Some value
     pub typed : well_typed q.types ty value ≡ true
-    pub atomic : has_parts (slice_get q.types ty) ≡ false
+    pub atomic : is_type_with_parts (slice_get q.types ty) ≡ false
     pub tested : Contains (tested_constants q rs) u
 
   abbrev pub Shape : Option Content → Constraint → Type 0
@@ -334,7 +334,7 @@ module _ (g : Given) (r : TypedRule) (rs : List TypedRule) (here : Contains rs r
 
     -- the content of a site that is asked to be a constant
     constant_at : (s : SiteTerm) (c : Constraint) (u : SiteTerm) (k : In d.constraints (s, c)) → In (constant_site c) u → (ty : ℕ) (v : Value) → (met.asked (s, c) k).0.content ≡ one v
-        → written_value m u ≡ Some v → written_type p u ≡ Some ty → well_typed p.types ty v ≡ true → has_parts (slice_get p.types ty) ≡ false → IsConstant g rs types apart (content_of g s) u
+        → written_value m u ≡ Some v → written_type p u ≡ Some ty → well_typed p.types ty v ≡ true → is_type_with_parts (slice_get p.types ty) ≡ false → IsConstant g rs types apart (content_of g s) u
     constant_at s c u k i ty v same worth written typed atomic = record {
       value = v;
       there = (met.asked (s, c) k).0.held ∙ ap Some same;
@@ -354,7 +354,7 @@ module _ (g : Given) (r : TypedRule) (rs : List TypedRule) (here : Contains rs r
         let f = has_form m (is_bool b ty) a.content a.meets in
         constant_at s (is_bool b ty) (bool_term b ty) k (inl refl) ty f.0 f.1 f.2 refl
         (holds_there (literal_value m (bool_literal b ty)) (well_typed p.types ty) f.0 f.2 (served.bools b ty (is_asked s (is_bool b ty) (bool_term b ty) k (inl refl))))
-        (ap (λ n. has_parts (slice_get p.types n)) (formed (s, is_bool b ty) k) ∙ ap has_parts types.first)
+        (ap (λ n. is_type_with_parts (slice_get p.types n)) (formed (s, is_bool b ty) k) ∙ ap is_type_with_parts types.first)
     asked_shape s (is_int z ty) k =
         let a = (met.asked (s, is_int z ty) k).0 in
         let f = has_form m (is_int z ty) a.content a.meets in

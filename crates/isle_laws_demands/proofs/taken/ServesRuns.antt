@@ -15,13 +15,13 @@ use Rattle.isle_model.specs.sites.Demands.{demands_of}
 use Rattle.isle_model.specs.sites.Closure.{HasConstraint, closed}
 use Rattle.isle_model.specs.sites.Overlap.{BuiltRule, built_rules}
 use Rattle.isle_model.specs.sites.RuleSets.{IsRuleOf, IsBuilt}
-use Rattle.isle_model.specs.sites.Serves.{asked_by, asked, constant_site, typed_as, written_type, written_value, has_parts, tested_constants, Serves, TellsConstantsApart}
+use Rattle.isle_model.specs.sites.Serves.{asked_by, asked, constant_site, typed_as, written_type, written_value, is_type_with_parts, tested_constants, Serves, TellsConstantsApart}
 use Rattle.isle_model.specs.claims.Environments.{TypesRead, IsElaborated, program_of}
 use Rattle.isle_model.specs.trees.Places.{joins_in, below, all_below, waits, each_field, fields_of}
 use Rattle.isle_model.specs.trees.Run.{World, all_one, where_constant, content_fields, world_of}
 use Rattle.isle_model.specs.trees.Collects.{content_at, meets, IsPureAt}
 use Rattle.isle_model.proofs.Elements.{In, in_from_contains, contains_from_in, in_right, in_flat_map, none_some, some_is}
-use Rattle.isle_model.proofs.Members.{in_head, in_alone, all_members, from_flat_map}
+use Rattle.isle_model.proofs.Members.{in_head}
 use Rattle.isle_model.proofs.Members as members
 use Rattle.isle_laws_lists.proofs.FormedRules.{rules_are_formed}
 use Rattle.isle_laws_lists.proofs.TypedRules as typed_rules
@@ -213,7 +213,7 @@ module _ (e : TypesRead) (defs : List Definition) (expand : Bool) (rules : Typed
   -- the content that meets a constant's constraint is its value, of its type, which has no parts
   constant_shape : (s ty : ℕ) (d : Constraint) (a : IsAsked s d) (u : SiteTerm) → In (constant_site d) u → (c : Content) → content_at w k s ≡ Some c
       → (v : Value) × (c ≡ one v) × (written_value m u ≡ Some v) → written_type p u ≡ Some ty
-      → (Contains (asked p rs) u → IsSomeAnd (written_value m u) (λ v. IsTrue (well_typed p.types ty v))) → has_parts (slice_get p.types ty) ≡ false
+      → (Contains (asked p rs) u → IsSomeAnd (written_value m u) (λ v. IsTrue (well_typed p.types ty v))) → is_type_with_parts (slice_get p.types ty) ≡ false
       → IsConstant (given p m args k) rs types apart (content_at w k s) u
   constant_shape s ty d a u i c x g written has atomic = record {
     value = g.0;
@@ -237,7 +237,7 @@ module _ (e : TypesRead) (defs : List Definition) (expand : Bool) (rules : Typed
       (g.0, x ∙ ap Some g.1, same_count (struct_types (slice_get p.types ty)) g.0 f z.0 (asked_formed s (is_struct ty f) a))
   shape_at s (is_bool v ty) a c x y =
       constant_shape s ty (is_bool v ty) a (bool_term v ty) (inl refl) c x (has_form m (is_bool v ty) c y) refl (served.bools v ty)
-      (ap (λ i. has_parts (slice_get p.types i)) (asked_formed s (is_bool v ty) a) ∙ ap has_parts types.first)
+      (ap (λ i. is_type_with_parts (slice_get p.types i)) (asked_formed s (is_bool v ty) a) ∙ ap is_type_with_parts types.first)
   shape_at s (is_int z ty) a c x y =
       constant_shape s ty (is_int z ty) a (int_term z ty) (inl refl) c x (has_form m (is_int z ty) c y) refl (served.ints z ty)
       (atom_without_parts (slice_get p.types ty) (asked_formed s (is_int z ty) a))

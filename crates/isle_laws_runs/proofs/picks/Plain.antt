@@ -1,7 +1,7 @@
 -- Without multi calls the two families of matching agree, whatever the pick.
 use Rattle.std.proofs.Common.{◌≡◌, ◌==◌, arith, ℕ, suc, Bool, true, false, cond, List, [], ◌∷◌, ◌++◌, length, Option, Some, None, refl, ap, ap₂, ◌∙◌}
 use Rattle.isle_model.specs.rules.Values.{Value, Values, no_value, value_and, value_eq}
-use Rattle.isle_model.specs.rules.Meaning.{Content, Meaning, look, literal_value, bool_literal, int_literal, constant_value, extractor_answer, pure_answer, impure_answer, answered}
+use Rattle.isle_model.specs.rules.Meaning.{Content, Meaning, look, literal_value, bool_literal, int_literal, constant_value, extractor_answer, pure_answer, impure_answer, answered_outputs}
 use Rattle.isle_model.specs.rules.Outcome.{Call, then_option}
 use Rattle.isle_model.specs.rules.Program.{Program, Kind, a_variant, a_struct, a_call, unknown, flags_of, kind, is_partial}
 use Rattle.isle_model.specs.rules.Matching.{Vars, var_value, where_equal, parts_seen, holds, each_holds, all_hold, single, pure_term, pure_value, pure_values, pure_lets, args_hold, iflets_hold}
@@ -88,7 +88,7 @@ answer_same false k call (Some c) f e = refl
 parts_same : (kd : Kind) (m : Meaning) (k : Pick) (t : ℕ) (s : SiteTerm) (v : Value) → (flags_of kd).multi ≡ false → parts_under kd m k t s v ≡ parts_seen kd m t v
 parts_same (a_variant ty variant) m k t s v h = refl
 parts_same (a_struct ty) m k t s v h = refl
-parts_same (a_call flags infallible) m k t s v h = answer_same flags.multi k (extractor_call t s) (extractor_answer m t v) answered h
+parts_same (a_call flags infallible) m k t s v h = answer_same flags.multi k (extractor_call t s) (extractor_answer m t v) answered_outputs h
 parts_same unknown m k t s v h = refl
 
 term_same : (kd : Kind) (m : Meaning) (k : Pick) (t : ℕ) (ss : SiteTerms) (vs : Values) → (flags_of kd).multi ≡ false → term_under kd m k t ss vs ≡ pure_term kd m t vs

@@ -1,7 +1,7 @@
 -- Picks that give each call the same place act alike.
 use Rattle.std.proofs.Common.{◌≡◌, ℕ, suc, Bool, true, false, cond, List, [], ◌∷◌, ◌++◌, length, Option, Some, None, refl, ap, ◌∙◌}
 use Rattle.isle_model.specs.rules.Values.{Value, Values, no_value, value_and}
-use Rattle.isle_model.specs.rules.Meaning.{Content, Meaning, extractor_answer, pure_answer, impure_answer, answered}
+use Rattle.isle_model.specs.rules.Meaning.{Content, Meaning, extractor_answer, pure_answer, impure_answer, answered_outputs}
 use Rattle.isle_model.specs.rules.Outcome.{Call, then_option}
 use Rattle.isle_model.specs.rules.Program.{Program, Kind, a_variant, a_struct, a_call, unknown, kind, is_partial}
 use Rattle.isle_model.specs.rules.Matching.{single}
@@ -27,7 +27,7 @@ module _ (p : Program) (m : Meaning) (k l : Pick) (g : GiveSamePlaces k l) where
   parts_same : (kd : Kind) (t : ℕ) (s : SiteTerm) (v : Value) → parts_under kd m k t s v ≡ parts_under kd m l t s v
   parts_same (a_variant ty variant) t s v = refl
   parts_same (a_struct ty) t s v = refl
-  parts_same (a_call flags infallible) t s v = λ j. then_option (then_option (extractor_answer m t v) (λ c. taken_same m k l g flags.multi (extractor_call t s) c j)) answered
+  parts_same (a_call flags infallible) t s v = λ j. then_option (then_option (extractor_answer m t v) (λ c. taken_same m k l g flags.multi (extractor_call t s) c j)) answered_outputs
   parts_same unknown t s v = refl
 
   mutual

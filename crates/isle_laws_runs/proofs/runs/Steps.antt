@@ -8,7 +8,7 @@ use Rattle.isle_model.specs.rules.Picks.{Pick}
 use Rattle.isle_model.specs.sites.Sites.{iterator_site, Constraint, SetRule}
 use Rattle.isle_model.specs.trees.Trees.{Tree, step, Check, match_at, equal_at, loop_at, Arms, arm}
 use Rattle.isle_model.specs.trees.Places.{Around, joins_in, available, all_below, fields_of, field_sites, bind_order, in_arm}
-use Rattle.isle_model.specs.trees.Run.{World, Env, used, as_value, bind_all, all_bound, Trace, content_fields, on_met, on_equal, on_many, iterated, with_env, with_content, with_bound, ending_at, or_next, for_each, run_tree, run_check, run_arms}
+use Rattle.isle_model.specs.trees.Run.{World, Env, used, as_value, bind_all, all_bound, Trace, content_fields, on_met, on_equal, on_many, iterated, with_env, with_content, on_bound, ending_at, or_next, for_each, run_tree, run_check, run_arms}
 use Rattle.isle_model.specs.trees.Collects.{content_at, meets, IsPureAt}
 use Rattle.isle_model.proofs.ValuesEqual.{eq_means, eq_same}
 use Rattle.isle_model.proofs.Members.{in_head, in_tail, in_cases, in_alone}
@@ -25,7 +25,7 @@ trace done = record { calls = []; results = done }
 -- a step whose sites are bound
 pub step_runs : (w : World) (binds : List ℕ) (check : Check) (rest : Tree) (env env' : Env) (done : List Content) → bind_all w env [] binds ≡ all_bound env' []
     → run_tree (step binds check rest) w env (trace done) ≡ or_next (run_check check w env' (trace done)) (run_tree rest w env')
-step_runs w binds check rest env env' done h = ap (λ b. with_bound b (trace done) (λ env'' t. or_next (run_check check w env'' t) (run_tree rest w env''))) h
+step_runs w binds check rest env env' done h = ap (λ b. on_bound b (trace done) (λ env'' t. or_next (run_check check w env'' t) (run_tree rest w env''))) h
 
 -- two values are one, or an equality goes on without its body
 pub values_cases : (u v : Value)

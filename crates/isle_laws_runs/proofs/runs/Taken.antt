@@ -8,7 +8,7 @@ use Rattle.isle_model.specs.sites.Sites.{match_some_site, SetRule}
 use Rattle.isle_model.specs.sites.Gates.{gate_demanded}
 use Rattle.isle_model.specs.trees.Trees.{Tree, no_step, step, return_at}
 use Rattle.isle_model.specs.trees.Places.{Around, is_in, waits, below, all_below, bind_order, return_uses}
-use Rattle.isle_model.specs.trees.Run.{World, Env, used, Bound, all_bound, unwrap_failed, no_content_there, bind_all, Trace, at_start, with_bound, or_next, with_content, returned, run_tree, run_check}
+use Rattle.isle_model.specs.trees.Run.{World, Env, used, Bound, all_bound, unwrap_failed, no_content_there, bind_all, Trace, at_start, on_bound, or_next, with_content, returned, run_tree, run_check}
 use Rattle.isle_model.specs.trees.Sound.{IsTested}
 use Rattle.isle_model.specs.trees.Collects.{IsPureAt}
 use Rattle.isle_model.specs.trees.SetRuns.{tested_sites, IsUnwrap, IsTestedRule, IsReached, IsTaken}
@@ -24,9 +24,9 @@ module _ (w : World) (single : w.multi ≡ false) where
   last_here (Some c) t go = ap (λ m. or_next (returned m t c) go) single ∙ sym (ap (λ m. returned m t c) single)
 
   abbrev Returns : SetRule → Bound → Outcome
-  Returns r b = with_bound b at_start (λ env t. run_check (return_at r.at r.result) w env t)
+  Returns r b = on_bound b at_start (λ env t. run_check (return_at r.at r.result) w env t)
 
-  return_last : (r : SetRule) (rest : Tree) (b : Bound) → with_bound b at_start (λ env t. or_next (run_check (return_at r.at r.result) w env t) (run_tree rest w env)) ≡ Returns r b
+  return_last : (r : SetRule) (rest : Tree) (b : Bound) → on_bound b at_start (λ env t. or_next (run_check (return_at r.at r.result) w env t) (run_tree rest w env)) ≡ Returns r b
   return_last r rest (all_bound env calls) = last_here (used w env r.result) _ (run_tree rest w env)
   return_last r rest (unwrap_failed calls) = refl
   return_last r rest (no_content_there calls) = refl

@@ -12,7 +12,7 @@ use Rattle.isle_model.specs.rules.Outcome.{Call, Outcome, then_option}
 use Rattle.isle_model.specs.rules.Picks.{Pick, part_of_some, call_answer, site_content, site_values, HasContent}
 use Rattle.isle_model.specs.sites.Sites.{Site, bool_site, int_site, prim_site, argument_site, extractor_site, constructor_site, iterator_site, make_variant_site, match_variant_site, make_struct_site, extract_struct_site, make_some_site, match_some_site, match_tuple_site, SiteTerm, constructor_call, some_part, SiteTerms, each_term, unfold_site, SetRule, sources_of, sources_at}
 use Rattle.isle_model.specs.trees.Places.{Around, is_in, waits, is_in_place, below, all_below, each_after, listed_below, return_uses}
-use Rattle.isle_model.specs.trees.Run.{World, Env, bound_to, used, used_values, as_value, part_at, Bound, all_bound, unwrap_failed, now_bound, unwrapped, constructed, bind_site, then_bind, bind_all, at_start, with_bound, or_next, with_content, returned, run_tree, run_check}
+use Rattle.isle_model.specs.trees.Run.{World, Env, bound_to, used, used_values, as_value, part_at, Bound, all_bound, unwrap_failed, now_bound, unwrapped, constructed, bind_site, then_bind, bind_all, at_start, on_bound, or_next, with_content, returned, run_tree, run_check}
 use Rattle.isle_model.specs.trees.Trees.{no_step, return_at}
 use Rattle.isle_model.specs.trees.Collects.{content_at, IsPureSite, IsPureAt}
 use Rattle.isle_model.specs.trees.SetRuns.{IsUnwrap, IsReachedUnder, IsTakenUnder}
@@ -640,7 +640,7 @@ module _ (w : World) (k : Pick) (before : SourcesBefore w.sites) (ar : Around) (
       -- 9. all answers in order, then the result
       module _ (at : Position) (result : ℕ) (multi : w.multi ≡ false) where
         abbrev ends : Bound → Outcome
-        ends b = with_bound b at_start (λ env t. or_next (run_check (return_at at result) w env t) (run_tree no_step w env))
+        ends b = on_bound b at_start (λ env t. or_next (run_check (return_at at result) w env t) (run_tree no_step w env))
 
         abbrev list_one : List ℕ → ℕ → List ℕ
         list_one done s = listed_below (suc s) w.sites ar.emitted done s

@@ -10,7 +10,7 @@ use Rattle.isle_model.specs.rules.Picks.{part_of_some}
 use Rattle.isle_model.specs.sites.Sites.{Site, match_some_site, SetRule, sources_at}
 use Rattle.isle_model.specs.trees.Places.{Around, is_in, waits, is_in_place, below, all_below, each_after, listed_below, return_uses}
 use Rattle.isle_model.specs.trees.Trees.{no_step, return_at}
-use Rattle.isle_model.specs.trees.Run.{World, Env, bound_to, used, Bound, all_bound, unwrap_failed, no_content_there, unwrapped, bind_site, then_bind, bind_all, at_start, with_bound, or_next, with_content, returned, run_tree, run_check}
+use Rattle.isle_model.specs.trees.Run.{World, Env, bound_to, used, Bound, all_bound, unwrap_failed, no_content_there, unwrapped, bind_site, then_bind, bind_all, at_start, on_bound, or_next, with_content, returned, run_tree, run_check}
 use Rattle.isle_model.specs.trees.Collects.{content_at}
 use Rattle.isle_model.specs.trees.SetRuns.{IsUnwrap, IsReached, IsTaken, TakenOnce}
 use Rattle.isle_model.proofs.Members.{nothing_in, in_head, in_tail, in_cases, in_alone, in_flat_map, member_found, member_is_in}
@@ -320,7 +320,7 @@ module _ (w : World) (before : SourcesBefore w.sites) where
   order ss = each_after (λ done s. critical_below w before (suc s) done s) [] ss
 
   abbrev ends : SetRule → Bound → Outcome
-  ends r b = with_bound b at_start (λ env t. or_next (run_check (return_at r.at r.result) w env t) (run_tree no_step w env))
+  ends r b = on_bound b at_start (λ env t. or_next (run_check (return_at r.at r.result) w env t) (run_tree no_step w env))
 
   ends_alike : (start : Env) (held : Held w [] start Settled) (ar : Around) (env : Env) (reached : IsReached w ar env) (r : SetRule) (done : List ℕ) (b b' : Bound) → In start held ar env reached done r.result
       → Alike start held ar env reached done b b' → ends r b ≡ ends r b'

@@ -2,7 +2,7 @@
 use Rattle.std.specs.Prelude.{ℕ, ◌&&◌, List, [], ◌∷◌, Option, Some, None, if◌then◌else◌}
 use Rattle.std.specs.Bool.{◌==◌}
 use Rattle.isle_model.specs.rules.Values.{Value, of_variant, of_struct, Values, no_value, value_and, value_eq}
-use Rattle.isle_model.specs.rules.Meaning.{Content, one, just, Meaning, look, bool_literal, int_literal, literal_value, constant_value, extractor_answer, pure_answer, answered}
+use Rattle.isle_model.specs.rules.Meaning.{Content, one, just, Meaning, look, bool_literal, int_literal, literal_value, constant_value, extractor_answer, pure_answer, answered_outputs}
 use Rattle.isle_model.specs.rules.Outcome.{then_option}
 use Rattle.isle_model.specs.rules.Program.{Program, Kind, a_variant, a_struct, a_call, unknown, kind}
 use Rattle.isle_model.specs.rules.Typed.{TypedPattern, match_bind, match_var, match_bool, match_int, match_prim, match_term, match_any, match_and, TypedPatterns, no_typed_pattern, typed_pattern_and, TypedExpr, make_term, make_var, make_bool, make_int, make_prim, make_let, TypedExprs, no_typed_expr, typed_expr_and, TypedLets, no_typed_let, typed_let_and, TypedIfLet, TypedRule}
@@ -23,7 +23,7 @@ where_equal (Some w) v e = if value_eq w v then Some e else None
 abbrev pub parts_seen : Kind → Meaning → ℕ → Value → Option Values
 parts_seen (a_variant ty variant) m t (of_variant s i fields) = if (s == ty) && (i == variant) then Some fields else None
 parts_seen (a_struct ty) m t (of_struct s fields) = if s == ty then Some fields else None
-parts_seen (a_call flags infallible) m t v = then_option (extractor_answer m t v) answered
+parts_seen (a_call flags infallible) m t v = then_option (extractor_answer m t v) answered_outputs
 parts_seen _ m t v = None
 
 -- a typed pattern holds of a value, and takes the variables on

@@ -69,7 +69,7 @@ outputs (parts vs) = Some vs
 outputs _ = None
 
 -- the outputs of a call that may answer nothing
-abbrev pub answered : Content → Option Values
-answered (just c) = outputs c
-answered nothing = None
-answered c = outputs c
+abbrev pub answered_outputs : Content → Option Values
+answered_outputs (just c) = outputs c
+answered_outputs nothing = None
+answered_outputs c = outputs c

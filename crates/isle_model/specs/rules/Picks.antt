@@ -3,7 +3,7 @@ use Rattle.std.specs.Prelude.{◌≡◌, ℕ, zero, suc, ◌<◌, Bool, true, fa
 use Rattle.std.specs.Bool.{◌==◌}
 use Rattle.std.specs.List.{flat_map}
 use Rattle.isle_model.specs.rules.Values.{Value, of_variant, of_struct, Values, no_value, value_and, value_eq, listed}
-use Rattle.isle_model.specs.rules.Meaning.{Content, one, just, many, Contents, contents, Meaning, look, bool_literal, int_literal, literal_value, constant_value, extractor_answer, pure_answer, impure_answer, answered}
+use Rattle.isle_model.specs.rules.Meaning.{Content, one, just, many, Contents, contents, Meaning, look, bool_literal, int_literal, literal_value, constant_value, extractor_answer, pure_answer, impure_answer, answered_outputs}
 use Rattle.isle_model.specs.rules.Outcome.{Call, Outcome, then_option}
 use Rattle.isle_model.specs.rules.Program.{Program, Kind, a_variant, a_struct, a_call, unknown, kind, is_partial, numbers_from}
 use Rattle.isle_model.specs.rules.Matching.{parts_seen, single, pure_term}
@@ -156,7 +156,7 @@ where_same (Some w) v e = if value_eq w v then Some e else None
 
 -- what the parts of a term's pattern are matched with
 abbrev pub parts_under : Kind → Meaning → Pick → ℕ → SiteTerm → Value → Option Values
-parts_under (a_call flags infallible) m k t s v = then_option (then_option (extractor_answer m t v) (taken_answer flags.multi k (extractor_call t s))) answered
+parts_under (a_call flags infallible) m k t s v = then_option (then_option (extractor_answer m t v) (taken_answer flags.multi k (extractor_call t s))) answered_outputs
 parts_under (a_variant ty variant) m k t s v = parts_seen (a_variant ty variant) m t v
 parts_under (a_struct ty) m k t s v = parts_seen (a_struct ty) m t v
 parts_under unknown m k t s v = parts_seen unknown m t v

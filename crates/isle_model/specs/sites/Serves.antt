@@ -119,10 +119,10 @@ written_value m (prim_term name) = constant_value m name
 written_value m _ = None
 
 -- a type whose values have parts
-abbrev pub has_parts : Option TypeEntry → Bool
-has_parts (Some (enum_type name id is_extern is_nodebug variants at)) = true
-has_parts (Some (struct_type name id is_extern is_nodebug fields at)) = true
-has_parts _ = false
+abbrev pub is_type_with_parts : Option TypeEntry → Bool
+is_type_with_parts (Some (enum_type name id is_extern is_nodebug variants at)) = true
+is_type_with_parts (Some (struct_type name id is_extern is_nodebug fields at)) = true
+is_type_with_parts _ = false
 
 -- the constants that the patterns of rules name
 abbrev pub tested_constants : Program → List TypedRule → List SiteTerm
@@ -134,4 +134,4 @@ pub record TellsConstantsApart (p : Program) (m : Meaning) (rs : List TypedRule)
   pub different : (a b : SiteTerm) (ty : ℕ) (v : Value) → Contains (tested_constants p rs) a → Contains (tested_constants p rs) b
       → written_type p a ≡ Some ty → written_type p b ≡ Some ty → written_value m a ≡ Some v → written_value m b ≡ Some v → a ≡ b
   pub without_parts : (r : TypedRule) (s : SiteTerm) (name ty : ℕ) → Contains rs r → Contains (demands_of p r).constraints (s, is_prim name)
-      → constant_type p name ≡ Some ty → has_parts (slice_get p.types ty) ≡ false
+      → constant_type p name ≡ Some ty → is_type_with_parts (slice_get p.types ty) ≡ false

@@ -120,10 +120,10 @@ ending_at ending t = record { calls = t.calls; results = t.results; ending = end
 abbrev pub with_calls : Trace → List Call → Trace
 with_calls t calls = record { calls = calls; results = t.results }
 
-abbrev pub with_bound : Bound → Trace → (Env → Trace → Outcome) → Outcome
-with_bound (all_bound env calls) t go = go env (with_calls t calls)
-with_bound (unwrap_failed calls) t go = ending_at failed (with_calls t calls)
-with_bound (no_content_there calls) t go = ending_at stuck (with_calls t calls)
+abbrev pub on_bound : Bound → Trace → (Env → Trace → Outcome) → Outcome
+on_bound (all_bound env calls) t go = go env (with_calls t calls)
+on_bound (unwrap_failed calls) t go = ending_at failed (with_calls t calls)
+on_bound (no_content_there calls) t go = ending_at stuck (with_calls t calls)
 
 -- the next step follows where a step ran through
 abbrev pub on_ending : Ending → Trace → (Trace → Outcome) → Outcome
@@ -204,7 +204,7 @@ abbrev mutual
   pub run_tree : Tree → World → Env → Trace → Outcome
   run_tree no_step w env t = ending_at ran_through t
   run_tree (step binds check rest) w env t =
-      with_bound (bind_all w env t.calls binds) t (λ env' t'. or_next (run_check check w env' t') (run_tree rest w env'))
+      on_bound (bind_all w env t.calls binds) t (λ env' t'. or_next (run_check check w env' t') (run_tree rest w env'))
 
   pub run_check : Check → World → Env → Trace → Outcome
   run_check (match_at source arms) w env t = with_content (used w env source) t (λ c. run_arms arms w c env t)
