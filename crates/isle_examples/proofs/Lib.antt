@@ -12,7 +12,6 @@ pub mod ImpureTaken
 pub mod LeftOver
 pub mod ListStages
 pub mod Lowered
-pub mod Marked
 pub mod Matchable
 pub mod Mended
 pub mod Multi

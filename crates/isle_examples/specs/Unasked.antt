@@ -9,7 +9,6 @@ use Rattle.std.specs.Prelude.{◌≡◌, ◌∷◌, [], pos, true, false, List, 
 use Rattle.isle_model.specs.claims.Layers.{own_program}
 use Rattle.isle_model.specs.lists.Elaborated.{TypedRules}
 use Rattle.isle_model.specs.lists.Syntax.{Definition, declaration}
-use Rattle.isle_model.specs.lists.Tables.{TermEntry}
 use Rattle.isle_model.specs.rules.Program.{Program}
 use Rattle.isle_model.specs.rules.Typed.{TypedRule, make_int, make_term, make_var, match_any}
 use Rattle.isle_model.specs.sites.Gates.{gate_demanded}
@@ -17,7 +16,7 @@ use Rattle.isle_model.specs.sites.Sites.{SetRule, SiteSet, argument_site, constr
 use Rattle.isle_model.specs.trees.Trees.{Tree, no_step}
 use Rattle.isle_examples.specs.SetForms.{a_rule, byte, returning}
 use Rattle.isle_examples.specs.Stages.{Sample}
-use Rattle.isle_examples.specs.TypedForms.{bind_any, by_constructor, by_rules, e_list, flags, make_let_one, number_term, rules_and_names, typed, typed_iflet, typed_var, u8}
+use Rattle.isle_examples.specs.TypedForms.{bind_any, e_list, make_let_one, rules_and_names, typed, typed_iflet, typed_var, u8}
 use Rattle.isle_examples.specs.Written.{any, call, constructor_by, let_one, number, numbers, of_f, rule_if, var, variable}
 
 abbrev pub unasked_defs : List Definition
@@ -27,10 +26,6 @@ unasked_defs =
     ∷ declaration (record (numbers 4 (codes "f")) { multi = true })
     ∷ rule_if 5 (of_f 5 (var 5 (codes "x") ∷ [])) (any 5)
     (let_one 5 (codes "y") (codes "u8") (call 5 (codes "m") (call 5 (codes "pp") (variable 5 (codes "x") ∷ []) ∷ [])) (variable 5 (codes "x"))) (number 5 (pos 7)) ∷ []
-
-abbrev pub unasked_terms : List TermEntry
-unasked_terms =
-    number_term 0 0 13 (by_constructor (flags true false true) 16) ∷ number_term 1 2 14 (by_constructor (flags true true false) 17) ∷ number_term 2 4 15 (by_rules (flags false true false)) ∷ []
 
 abbrev pub unasked_rule : TypedRule
 unasked_rule = record (typed 0 5 2 (pos 0) (Some 15) (typed_var 0 18 u8 ∷ typed_var 1 19 u8 ∷ []) (bind_any u8 0 ∷ []) (make_int u8 (pos 7))) {

@@ -4,14 +4,13 @@ use Rattle.std.specs.List.{flat_map, list_all}
 use Rattle.std.proofs.lemmas.Bool.{and_parts, and_from, or_cases, false≢true}
 use Rattle.std.proofs.lemmas.Bool.Decides.{Decides-int_eq}
 use Rattle.std.proofs.lemmas.Option.{none-some, same_Some}
-use Rattle.std.proofs.lemmas.List.Elements.{All-nil}
 use Rattle.isle_model.specs.rules.Program.{numbers_from, Program, is_multi}
 use Rattle.isle_model.specs.lists.Names.{IsDistinct}
 use Rattle.isle_model.specs.sites.Sites.{Site, Constraint, SetRule, SiteSet, SiteTerm, unfold_site}
 use Rattle.isle_model.specs.sites.Demands.{has_site}
 use Rattle.isle_model.specs.sites.Closure.{Closed}
 use Rattle.isle_model.specs.sites.Overlap.{BuiltRule, built_rules}
-use Rattle.isle_model.proofs.Members.{nothing_in, member_from_get, each_passes, all_members, in_map, from_map, member_found, member_is_in}
+use Rattle.isle_model.proofs.Members.{member_from_get, each_passes, all_members, in_map, from_map, member_found, member_is_in}
 use Rattle.isle_laws_trees.proofs.WellBuilt.{set_passes, passes_well_built}
 use Rattle.isle_laws_trees.proofs.Exact.{not_exact}
 use Rattle.isle_laws_trees.proofs.Few.{members, joined_member}
@@ -49,14 +48,6 @@ asks sites k cs below same once = record {
   once = once;
 }
 
-pub equates_nothing : (sites : List Site) (k : Closed) → k.classes ≡ [] → Equates sites k []
-equates_nothing sites k none = record {
-  joined = λ a b t. absurd (false≢true t);
-  all_joined = λ class u v i j l. absurd (nothing_in class (subst (λ cs. Contains cs class) none i));
-  once = λ j k x p q. absurd (none-some x p);
-  many = All-nil (λ c. 2 ≤ length c);
-}
-
 pub goes_over : (sites : List Site) (calls : List SiteTerm) (its : List ℕ) → are_below (length sites) its ≡ true → map (unfold_site sites) its ≡ calls → IsDistinct its
     → GoesOver sites calls its
 goes_over sites calls its below same once = record {
@@ -80,15 +71,6 @@ stand sites terms same = record {
   exact = λ s l. subst (λ ts. slice_get ts s ≡ Some (unfold_site sites s)) same (numbered (unfold_site sites) 0 sites s l ∙ ap (λ k. Some (unfold_site sites k)) (omega arith));
   count = subst (λ ts. length sites ≡ length ts) same (as_many (unfold_site sites) 0 sites);
 }
-
-pub two_apart : (a b : ℕ) → a < b → IsDistinct (a ∷ (b ∷ []))
-two_apart a b l zero zero x p q = refl
-two_apart a b l zero (suc zero) x p q = (let e = same_Some a x p in let f = same_Some b x q in omega arith)
-two_apart a b l zero (suc (suc k)) x p q = absurd (none-some x q)
-two_apart a b l (suc zero) zero x p q = (let e = same_Some b x p in let f = same_Some a x q in omega arith)
-two_apart a b l (suc zero) (suc zero) x p q = refl
-two_apart a b l (suc zero) (suc (suc k)) x p q = absurd (none-some x q)
-two_apart a b l (suc (suc j)) k x p q = absurd (none-some x p)
 
 -- a constrained site of a rule stands in no class of it
 abbrev pub keeps_apart : SetRule → Bool

@@ -53,10 +53,6 @@ class_within ps qs h a b e = joined_same (class qs) ps (pairs_same ps qs h) a b 
 not_joined : (ps : List (ℕ × ℕ)) (a b : ℕ) → joins ps a b ≡ false → class ps a ≡ class ps b → ⊥
 not_joined ps a b f e = false≢true (sym f ∙ eq-eqb (class ps a) (class ps b) e)
 
-independent_tail : (pre ps : List (ℕ × ℕ)) → Independent (pre ++ ps) → Independent ps
-independent_tail [] ps h = h
-independent_tail (q ∷ pre) ps h = independent_tail pre ps h.1
-
 others_apart : (pre : List (ℕ × ℕ)) (p : ℕ × ℕ) (post : List (ℕ × ℕ)) → Independent (pre ++ (p ∷ post)) → class (pre ++ post) p.0 ≡ class (pre ++ post) p.1 → ⊥
 others_apart [] p post h e = not_joined post p.0 p.1 h.0 e
 others_apart (q ∷ pre) p post h e = by (others_apart pre p post h.1) (class_cases q (pre ++ post) p.0) (class_cases q (pre ++ post) p.1)

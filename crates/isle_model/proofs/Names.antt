@@ -88,12 +88,6 @@ has_left xs ys x h = has_append xs ys x ∙ ap (λ b. b || has_name ys x) h
 pub has_right : (xs ys : List (List ℕ)) (x : List ℕ) → has_name ys x ≡ true → has_name (xs ++ ys) x ≡ true
 has_right xs ys x h = has_append xs ys x ∙ or_second (has_name xs x) (has_name ys x) h
 
-pub missing_left : (xs ys : List (List ℕ)) (x : List ℕ) → has_name (xs ++ ys) x ≡ false → has_name xs x ≡ false
-missing_left xs ys x e = or_left (has_name xs x) (has_name ys x) (sym (has_append xs ys x) ∙ e)
-
-pub missing_both : (xs ys : List (List ℕ)) (x : List ℕ) → has_name xs x ≡ false → has_name ys x ≡ false → has_name (xs ++ ys) x ≡ false
-missing_both xs ys x e f = has_append xs ys x ∙ ap (λ b. b || has_name ys x) e ∙ f
-
 -- one more name
 pub known_name : (ns : List (List ℕ)) (x : List ℕ) → has_name ns x ≡ true → with_name ns x ≡ ns
 known_name ns x e = ap (λ b. cond b ns (ns ++ x ∷ [])) e
@@ -180,10 +174,6 @@ has_met ns (y ∷ ys) x h =
 pub missing_before : (ns xs : List (List ℕ)) (x : List ℕ) → has_name (with_names ns xs) x ≡ false → has_name ns x ≡ false
 missing_before ns xs x e =
     elim (cases_Bool (has_name ns x)) [ inl there ↦ absurd (false≢true (sym e ∙ has_kept ns xs x there)) | inr none ↦ none ]
-
-pub missing_among : (ns xs : List (List ℕ)) (x : List ℕ) → has_name (with_names ns xs) x ≡ false → has_name xs x ≡ false
-missing_among ns xs x e =
-    elim (cases_Bool (has_name xs x)) [ inl there ↦ absurd (false≢true (sym e ∙ has_met ns xs x there)) | inr none ↦ none ]
 
 pub get_kept : (ns ys : List (List ℕ)) (k : ℕ) (x : List ℕ) → slice_get ns k ≡ Some x → slice_get (with_names ns ys) k ≡ Some x
 get_kept ns [] k x h = h

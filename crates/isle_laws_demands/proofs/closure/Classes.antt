@@ -77,9 +77,6 @@ place_of_field rs cs (is_prim name) a i x e = absurd (none_some x e)
 place_of_field rs cs is_present a i x e = absurd (none_some x e)
 
 -- the sites of a list without repetition are those of the list
-with_one : List SiteTerm → SiteTerm → List SiteTerm
-with_one ts s = if has_site ts s then ts else ts ++ s ∷ []
-
 in_with_one : (ts : List SiteTerm) (s x : SiteTerm) → In ts x ⊎ (s ≡ x) → In (if has_site ts s then ts else ts ++ s ∷ []) x
 in_with_one ts s x h =
     elim (cases_Bool (has_site ts s)) [

@@ -25,12 +25,6 @@ width_passed (outputs_taken n) l i =
       | inr f ↦ absurd (subst (λ k. In k l) (cond-false (nat_lt most_outputs n) (outputs_limit ∷ []) [] f) i)
     ]
 
--- where a limit of the rule's shape comes from
-record FromWidth (p : Program) (r : TypedRule) (l : RuleLimit) : Type 0 where
-  width : Width
-  there : In (widths_of_rule p r) width
-  passed : PassedBy width l
-
 from_args : (p : Program) (i : ℕ) (qs : List TypedPattern) (l : RuleLimit) → In (limits_in_args p i qs) l
     → ((l ≡ arguments_limit) × (most_arguments < i + length qs)) ⊎ ((w : Width) × In (flat_map (widths p) qs) w × PassedBy w l)
 from_args p i [] l n = absurd n

@@ -4,10 +4,10 @@ use Rattle.isle_model.specs.lists.Tables.{Flags}
 use Rattle.isle_model.specs.rules.Program.{Program, Kind, a_variant, a_struct, a_call, unknown, kind, is_partial}
 use Rattle.isle_model.specs.sites.Sites.{Constraint, is_variant, is_struct, is_present, SiteTerm, extractor_call, constructor_call, pick_of, variant_made, variant_field, struct_made, struct_field, some_made, some_part, SiteTerms}
 use Rattle.isle_model.specs.rules.Typed.{TypedPattern, TypedPatterns, TypedExpr, TypedExprs, TypedLets, TypedIfLet, TypedRule}
-use Rattle.isle_model.specs.sites.Demands.{Visit, site_term_eq, making, asking, equating, iterating, calling, binding, from_to, pattern_count, part_sites, open_call, open_term, visit_pattern, visit_each, visit_all, Valued, ValuedAll, call_result, call_sites, where_multi, visit_call, visit_term, visit_expr, visit_exprs, visit_lets, unwraps, asking_all, visit_args, visit_iflets, finished}
+use Rattle.isle_model.specs.sites.Demands.{Visit, site_term_eq, making, asking, equating, iterating, calling, binding, from_to, pattern_count, part_sites, open_call, open_term, visit_pattern, visit_each, visit_all, Valued, ValuedAll, call_result, call_sites, where_multi, visit_call, visit_term, visit_expr, visit_exprs, visit_lets, asking_all, visit_args, visit_iflets, finished}
 use Rattle.isle_model.proofs.Elements.{In, in_left}
 use Rattle.isle_model.proofs.Either.{either}
-use Rattle.isle_laws_demands.proofs.visits.Kept.{KeptByTests, KeptByValues, pattern_kept, each_kept, all_kept, expr_kept, exprs_kept, lets_kept, iflet_kept, iflets_kept, args_kept}
+use Rattle.isle_laws_demands.proofs.visits.Kept.{KeptByTests, KeptByValues, pattern_kept, each_kept, all_kept, expr_kept, exprs_kept, lets_kept, iflets_kept, args_kept}
 
 -- a later visit
 pub record Grown (v w : Visit) : Type 0 where
@@ -168,10 +168,6 @@ values_grow p v = record {
   made = λ ts w g. then_grown v w (making ts w) g (grown_making ts w);
   valued = λ t b g. then_grown v b.visit (visit_term (kind p t) t b).visit g (term_adds (kind p t) t b).grown;
 }
-
-pub iflet_grown : (p : Program) (i : TypedIfLet) (v : Visit)
-    → Grown v (visit_pattern p i.lhs (visit_expr p i.rhs v).site (asking_all (unwraps (visit_expr p i.rhs v).site) (visit_expr p i.rhs v).visit))
-iflet_grown p i v = iflet_kept p (Grown v) (tests_grow p v) (values_grow p v) i v (now v)
 
 pub iflets_grown : (p : Program) (is : List TypedIfLet) (v : Visit) → Grown v (visit_iflets p is v)
 iflets_grown p is v = iflets_kept p (Grown v) (tests_grow p v) (values_grow p v) is v (now v)

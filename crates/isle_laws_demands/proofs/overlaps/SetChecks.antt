@@ -1,13 +1,11 @@
 -- What checking answers of sets that were built: the sets, or what there is to report.
-use Rattle.std.proofs.Common.{◌≡◌, ◌≢◌, ℕ, false, List, [], ◌∷◌, ◌++◌, map, All, refl, sym, ap, ◌∙◌, subst, inl, inr}
+use Rattle.std.proofs.Common.{◌≡◌, false, List, [], ◌∷◌, ◌++◌, map, All, refl, sym, ◌∙◌, subst, inl, inr}
 use Rattle.std.proofs.lemmas.Bool.{cases_Bool, cond-true, cond-false}
 use Rattle.std.proofs.lemmas.List.Elements.{All-nil, All-cons, All-head, All-tail, All-append}
-use Rattle.isle_model.specs.rules.Program.{Program, is_multi}
-use Rattle.isle_model.specs.sites.Sites.{SiteSet}
-use Rattle.isle_model.specs.sites.Overlap.{RuleReport, OverlapReport, ShadowReport, rules_overlap, rule_shadows, report_position, position_lt, with_report, by_position, overlap_reports, wrong_overlaps, shadow_reports, overlap_and_shadow_reports, build_reports, check_reports}
+use Rattle.isle_model.specs.rules.Program.{Program}
+use Rattle.isle_model.specs.sites.Overlap.{RuleReport, OverlapReport, ShadowReport, rules_overlap, rule_shadows, report_position, position_lt, with_report, by_position, overlap_reports, wrong_overlaps, shadow_reports, overlap_and_shadow_reports, check_reports}
 use Rattle.isle_model.specs.claims.Refusals.{refusal_of, NamesOnlyPassed, PassedInBuilding}
-use Rattle.isle_model.specs.claims.Layers.{is_left_out, BuildAnswers, CheckAnswers, CheckReports}
-use Rattle.isle_laws_demands.specs.ReportLaws.{RulesHaveTerms}
+use Rattle.isle_model.specs.claims.Layers.{is_left_out}
 use Rattle.isle_laws_demands.specs.SetReportLaws.{all_reports, BuiltSetsAreChecked}
 use Rattle.isle_laws_demands.proofs.closure.LimitsReported.{reports_name_passed_limits_lem}
 use Rattle.isle_laws_demands.proofs.overlaps.Checked.{check_is_exact_lem}

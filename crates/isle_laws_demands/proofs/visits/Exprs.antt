@@ -14,7 +14,7 @@ use Rattle.isle_model.specs.lists.Formed.{var_type, with_new, is_formed_expr, ar
 use Rattle.isle_model.proofs.Elements.{some_is}
 use Rattle.isle_model.specs.sites.DemandedGates.{AsksAnswer, IsPureCall, AllGatesDemanded, IsPureExpr, ArePureExprs, ArePureLets}
 use Rattle.isle_laws_demands.proofs.visits.Calls.{NewCalls, no_call, then_calls, one_call, CallsAlone, CallAlone, LetsCallAlone}
-use Rattle.isle_laws_demands.proofs.visits.Gates.{all_stay, unasked}
+use Rattle.isle_laws_demands.proofs.visits.Gates.{unasked}
 use Rattle.isle_laws_demands.proofs.visits.Visited.{Good, Later, good_stays, now, then_later, later_making, later_calling, later_binding, later_iterating, at_right, AreGood, Same, bound_good, good_and, good_later, then_same, same_binding}
 use Rattle.isle_laws_demands.proofs.visits.Patterns.{from_then, from_new}
 use Rattle.isle_laws_lists.proofs.FormedParts.{from_if, has_type, from_vars, from_entry}
@@ -22,9 +22,6 @@ use Rattle.isle_laws_lists.proofs.FormedParts.{from_if, has_type, from_vars, fro
 -- the gates of all sites of a list
 abbrev AllGood : Bool → Bool → Visit → SiteTerms → Type 0
 AllGood asked pure v us = AllGatesDemanded asked pure v.demands.constraints v.demands.iterators us
-
-all_good_stay : (asked pure : Bool) (v w : Visit) → Later v w → (us : SiteTerms) → AllGood asked pure v us → AllGood asked pure w us
-all_good_stay asked pure v w l us = all_stay v.demands.constraints w.demands.constraints v.demands.iterators w.demands.iterators l.more l.calls asked pure us
 
 -- an expression's value, where answers don't matter
 pub record IsValued (pure : Bool) (vars : List (ℕ × ℕ)) (v : Visit) (a : Valued) : Type 0 where

@@ -76,9 +76,6 @@ module _ (w : World) (pick : Pick) (before : SourcesBefore w.sites) where
       ap (λ o. then_option o (λ x. part_at x field)) (p source q.0 (in_head source []) q.1) ∙ sym l
   read_in_place env s (Some _) c at h p e = absurd (false≢true h)
 
-  sources_here : (s : ℕ) (u : ℕ) (o : Option Site) → slice_get w.sites s ≡ o → Contains (sources_in o) u → Contains (sources_at w.sites s) u
-  sources_here s u o at c = subst (λ x. Contains (sources_in x) u) (sym at) c
-
   -- 2. what is kept can be read
   module _ (env : Env) (Kept : ℕ → Type 0) (held : Held w pick env Kept) where
     parts_kept : (s : ℕ) → Kept s → PartsBound env (slice_get w.sites s)

@@ -77,6 +77,6 @@ abbrev pub kind_numbers : TermKindEntry → List ℕ
 kind_numbers (declared_term flags constructor_kind extractor_kind) = constructor_number constructor_kind ++ extractor_number extractor_kind
 kind_numbers _ = []
 
--- the condition on who asks for a signature: the names of the term and of its functions are names of the environment
+-- the names of the term and of its functions are names of the environment; in a signature one that isn't is the empty text
 abbrev pub HasNamesFor : List (List ℕ) → TermEntry → Type 0
 HasNamesFor names t = All (λ n. n < length names) (t.name ∷ kind_numbers t.kind)

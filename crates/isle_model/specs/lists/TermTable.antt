@@ -5,7 +5,6 @@ use Rattle.std.specs.List.{flat_map, filter_map, enumerate_from, list_any, find,
 use Rattle.std.specs.Str.{bytes_eq}
 use Rattle.isle_model.specs.lists.Syntax.{Position, Name, PatternTree, var_pattern, bind_pattern, bool_pattern, int_pattern, prim_pattern, term_pattern, wildcard_pattern, and_pattern, macro_arg, PatternTrees, no_pattern, pattern_and, DeclTree, ExtractorTree, ConverterTree, RuleTree, Definition, extractor_definition, converter_definition, extern_definition, extern_constructor, extern_extractor, declaration, rule_definition}
 use Rattle.isle_model.specs.lists.Names.{number, has_name, with_names, IsDistinct}
-use Rattle.isle_model.specs.rules.Outcome.{then_option}
 use Rattle.isle_model.specs.rules.Values.{field_types}
 use Rattle.isle_model.specs.lists.Tables.{FieldEntries, VariantEntry, TypeEntry, builtin_type, primitive_type, enum_type, struct_type, ConstructorEntry, internal_constructor, external_constructor, ExtractorEntry, internal_extractor, external_extractor, variant_term, struct_term, declared_term, TermEntry, Flags}
 use Rattle.isle_model.specs.lists.TypeTable.{place_from, IsKnownType}
@@ -124,10 +123,6 @@ term_names_met k defs = with_names k.names (decl_names defs ++ flat_map function
 -- the id of the term of a name
 abbrev pub term_named : KnownTypes → List Definition → List ℕ → Option ℕ
 term_named k defs x = place_from 0 x (term_names k defs)
-
--- the id of the term whose name has this number among names
-abbrev pub term_of_number : KnownTypes → List Definition → List (List ℕ) → ℕ → Option ℕ
-term_of_number k defs names n = then_option (slice_get names n) (term_named k defs)
 
 -- an argument in the place of a form, where there is one
 abbrev pub argument_or : Option ℕ → Position → PatternTree → PatternTree

@@ -1,6 +1,6 @@
 -- What a typed rule asks of the sites of its term: its demands, in the order of the visit, on trees without numbers.
 use Rattle.std.specs.Prelude.{ℕ, suc, Bool, true, false, ◌&&◌, List, [], ◌∷◌, ◌++◌, Option, Some, None, if◌then◌else◌, ◌||◌, not}
-use Rattle.std.specs.List.{flat_map, list_any}
+use Rattle.std.specs.List.{list_any}
 use Rattle.std.specs.Bool.{◌==◌}
 use Rattle.std.specs.Ordering.{int_eq}
 use Rattle.std.proofs.Math.Bool.{beq}
@@ -279,10 +279,6 @@ has_site (t ∷ ts) s = site_term_eq t s || has_site ts s
 abbrev pub with_sites : List SiteTerm → List SiteTerm → List SiteTerm
 with_sites ts [] = ts
 with_sites ts (s ∷ rest) = with_sites (if has_site ts s then ts else ts ++ s ∷ []) rest
-
--- the sites that the rules of a term make, in order, each once
-abbrev pub sites_made : Program → List TypedRule → List SiteTerm
-sites_made p rules = with_sites [] (flat_map (λ r. (demands_of p r).made) rules)
 
 abbrev pub constraint_eq : Constraint → Constraint → Bool
 constraint_eq (is_variant s i n) (is_variant t j m) = (s == t) && (i == j) && (n == m)
