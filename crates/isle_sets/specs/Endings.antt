@@ -1,6 +1,10 @@
 -- Classes that are parts of classes, at any depth, over the numbers of sites.
-use Rattle.std.specs.Prelude.{◌≡◌, ℕ, Bool, List, Contains, nat_eq}
-use Rattle.std.specs.List.{list_any}
+use Rattle.std.specs.Prelude.{◌≡◌, ◌⊎◌, ℕ, ◌+◌, ◌-◌, ◌<◌, ◌≤◌, List, [], length, map, Contains, Option, Some, None, nat_eq}
+use Rattle.std.specs.BTreeMap.{BTreeMap, get}
+use Rattle.std.specs.Global.{Vec}
+use Rattle.std.specs.List.{filter}
+use Rattle.std.specs.Option.{unwrap_or}
+use Rattle.std.specs.Ordering.{nat_cmp}
 use Rattle.isle_sets.specs.Verdicts.{class_head}
 use Rattle.isle_sets.specs.declared.closure_classes.Part.{Part}
 
@@ -15,10 +19,33 @@ pub record GoOnForEver (ks : List (List ℕ)) (parts left : List Part) : Type 0 
   pub there : Contains left one
   pub next : (p : Part) → Contains left p → (q : Part) × Contains left q × (class_head ks q.source ≡ class_head ks p.field)
 
--- whether a class has parts among these
-abbrev pub has_parts : List (List ℕ) → List Part → ℕ → Bool
-has_parts ks parts class = list_any (λ p. nat_eq (class_head ks p.source) class) parts
+-- how many parts of a class are among these
+abbrev pub count_in : List (List ℕ) → List Part → ℕ → ℕ
+count_in ks parts class = length (filter (λ p. nat_eq (class_head ks p.source) class) parts)
 
--- whether the class of a part has parts among these
-abbrev pub goes_on : List (List ℕ) → List Part → Part → Bool
-goes_on ks parts p = has_parts ks parts (class_head ks p.field)
+-- the classes that a class is a part of, once for each of these parts
+abbrev pub wholes_in : List (List ℕ) → List Part → ℕ → List ℕ
+wholes_in ks parts class = map (λ p. class_head ks p.source) (filter (λ p. nat_eq (class_head ks p.field) class) parts)
+
+-- what maps have of a class: a number, and classes
+abbrev pub count_at : BTreeMap ℕ ℕ → ℕ → ℕ
+count_at m class = unwrap_or (get nat_cmp m class) 0
+
+abbrev pub items_of : Option (Vec ℕ) → List ℕ
+items_of None = []
+items_of (Some v) = v.items
+
+abbrev pub listed_at : BTreeMap ℕ (Vec ℕ) → ℕ → List ℕ
+listed_at m class = items_of (get nat_cmp m class)
+
+-- how often a class stands in a list
+abbrev pub times : ℕ → List ℕ → ℕ
+times class ks = length (filter (λ k. nat_eq k class) ks)
+
+-- one part of each of some classes is left out, and classes of which none is left are now among those that end
+pub record AreTaken (before after : ℕ → ℕ) (wholes ended now : List ℕ) : Type 0 where
+  pub counts : (k : ℕ) → after k ≡ before k - times k wholes
+  pub kept : (k : ℕ) → Contains ended k → Contains now k
+  pub met : (k : ℕ) → 0 < before k → after k ≡ 0 → Contains now k
+  pub only : (k : ℕ) → Contains now k → Contains ended k ⊎ (after k ≡ 0)
+  pub few : length now ≤ length ended + length wholes

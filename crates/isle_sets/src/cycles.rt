@@ -1,9 +1,6 @@
 //! Classes of a closure that are parts of themselves, at any depth.
-ghost use Rattle.std.specs.Prelude.{◌≡◌, ℕ, List, true, false, IfOk};
-ghost use Rattle.std.specs.BTreeSet.{contains};
-ghost use Rattle.std.specs.List.{filter};
-ghost use Rattle.std.specs.Ordering.{nat_cmp};
-ghost use Rattle.isle_sets.specs.Endings.{ClassEnds, GoOnForEver, goes_on, has_parts};
+ghost use Rattle.std.specs.Prelude.{◌≡◌, ◌<◌, ◌+◌, ◌-◌, ◌^◌, ◌++◌, ◌∷◌, [], ℕ, List, Contains, true, false, length, nat_eq, IfOk, OnOk, if◌then◌else◌};
+ghost use Rattle.isle_sets.specs.Endings.{AreTaken, ClassEnds, GoOnForEver, count_at, count_in, listed_at, wholes_in};
 ghost use Rattle.isle_sets.specs.Verdicts.{class_head};
 ghost use Rattle.isle_sets.specs.declared.closure_classes.Part.{Part};
 
@@ -11,60 +8,143 @@ use crate::closure_classes::{Part, class_of};
 use crate::trie_again::BindingId;
 use isle_disjointsets::disjointsets::DisjointSets;
 use std::alloc::{AllocError, Global};
-use std::collections::BTreeSet;
+use std::collections::BTreeMap;
 
-// The classes that these are parts of.
-fn whole_classes(
+// How many parts of a class are left.
+fn count(counts: &BTreeMap<BindingId, usize>, class: BindingId) -> usize
+    ensures { result ≡ count_at counts.now class }
+{
+    match counts.get(&class) {
+        Some(count) => *count,
+        None => 0,
+    }
+}
+
+// A class has one part more.
+fn add_one(counts: &mut BTreeMap<BindingId, usize>, class: BindingId) -> Result<(), AllocError>
+    requires { count_at counts.old class < 2 ^ 64 - 1 }
+    ensures { OnOk result ((k : ℕ) → count_at counts.new k ≡ count_at counts.old k + (if nat_eq class k then 1 else 0)) }
+{
+    let more = count(counts, class) + 1;
+    counts.insert(class, more)?;
+    Ok(())
+}
+
+// How many parts each class has.
+fn counts_of(
     alloc: Global,
     classes: &DisjointSets<BindingId>,
     parts: &[Part],
-) -> Result<BTreeSet<BindingId>, AllocError>
-    ensures { IfOk result (λ s. (class : ℕ) → contains nat_cmp s class ≡ has_parts classes.now parts.now class) }
+) -> Result<BTreeMap<BindingId, usize>, AllocError>
+    requires { length parts.now < 2 ^ 64 }
+    ensures { IfOk result (λ m. (class : ℕ) → count_at m class ≡ count_in classes.now parts.now class) }
 {
-    let mut wholes = BTreeSet::new(alloc);
+    let mut counts = BTreeMap::new(alloc);
     for part in parts {
-        wholes.insert(class_of(classes, part.source))?;
+        add_one(&mut counts, class_of(classes, part.source))?;
+    }
+    Ok(counts)
+}
+
+// The classes that a class is a part of are no longer kept for it.
+fn take_wholes(
+    alloc: Global,
+    wholes: &mut BTreeMap<BindingId, Vec<BindingId>>,
+    class: BindingId,
+) -> Vec<BindingId>
+    ensures taken { result.items ≡ listed_at wholes.old class }
+    ensures rest { (k : ℕ) → listed_at wholes.new k ≡ (if nat_eq class k then [] else listed_at wholes.old k) }
+{
+    match wholes.remove(&class) {
+        Some(taken) => taken,
+        None => Vec::new(alloc),
+    }
+}
+
+// A class is a part of another one.
+fn add_whole(
+    alloc: Global,
+    wholes: &mut BTreeMap<BindingId, Vec<BindingId>>,
+    class: BindingId,
+    whole: BindingId,
+) -> Result<(), AllocError>
+    ensures { OnOk result ((k : ℕ) → listed_at wholes.new k ≡ listed_at wholes.old k ++ (if nat_eq class k then whole ∷ [] else [])) }
+{
+    let mut listed = take_wholes(alloc, wholes, class);
+    listed.push(whole)?;
+    wholes.insert(class, listed)?;
+    Ok(())
+}
+
+// The classes that each class is a part of, once for each part.
+fn wholes_of(
+    alloc: Global,
+    classes: &DisjointSets<BindingId>,
+    parts: &[Part],
+) -> Result<BTreeMap<BindingId, Vec<BindingId>>, AllocError>
+    ensures { IfOk result (λ m. (class : ℕ) → listed_at m class ≡ wholes_in classes.now parts.now class) }
+{
+    let mut wholes = BTreeMap::new(alloc);
+    for part in parts {
+        let class = class_of(classes, part.field);
+        add_whole(alloc, &mut wholes, class, class_of(classes, part.source))?;
     }
     Ok(wholes)
 }
 
-// Whether the class of a part is one of these.
-fn is_within(wholes: &BTreeSet<BindingId>, classes: &DisjointSets<BindingId>, part: Part) -> bool
-    ensures { result ≡ contains nat_cmp wholes.now (class_head classes.now part.field) }
-{
-    wholes.contains(&class_of(classes, part.field))
-}
-
-// Those of some parts whose class is one of these.
-fn parts_within(
-    alloc: Global,
-    wholes: &BTreeSet<BindingId>,
-    classes: &DisjointSets<BindingId>,
-    parts: &[Part],
-) -> Result<Vec<Part>, AllocError>
-    ensures { IfOk result (λ v. v.items ≡ filter (λ p. contains nat_cmp wholes.now (class_head classes.now p.field)) parts.now) }
-{
-    parts
-        .iter()
-        .copied()
-        .filter(|part| is_within(wholes, classes, *part))
-        .collect(alloc)
-}
-
-// Those of some parts whose class has parts among them.
-fn parts_with_parts(
+// The classes of parts, of those that have no parts themselves.
+fn last_classes(
     alloc: Global,
     classes: &DisjointSets<BindingId>,
+    counts: &BTreeMap<BindingId, usize>,
     parts: &[Part],
-) -> Result<Vec<Part>, AllocError>
-    ensures { IfOk result (λ v. v.items ≡ filter (goes_on classes.now parts.now) parts.now) }
+) -> Result<Vec<BindingId>, AllocError>
+    ensures all { IfOk result (λ v. (p : Part) → Contains parts.now p → count_at counts.now (class_head classes.now p.field) ≡ 0 → Contains v.items (class_head classes.now p.field)) }
+    ensures only { IfOk result (λ v. (k : ℕ) → Contains v.items k → count_at counts.now k ≡ 0) }
 {
-    let wholes = whole_classes(alloc, classes, parts)?;
-    parts_within(alloc, &wholes, classes, parts)
+    let mut last = Vec::new(alloc);
+    for part in parts {
+        let class = class_of(classes, part.field);
+        if count(counts, class) == 0 {
+            last.push(class)?;
+        }
+    }
+    Ok(last)
+}
+
+// A part of a class is left out. The class ends where no other is left.
+fn take_part(
+    counts: &mut BTreeMap<BindingId, usize>,
+    ended: &mut Vec<BindingId>,
+    class: BindingId,
+) -> Result<(), AllocError>
+    ensures counts { OnOk result ((k : ℕ) → count_at counts.new k ≡ count_at counts.old k - (if nat_eq class k then 1 else 0)) }
+    ensures ended { OnOk result (ended.new.items ≡ ended.old.items ++ (if nat_eq (count_at counts.new class) 0 then class ∷ [] else [])) }
+{
+    let left = count(counts, class).saturating_sub(1);
+    counts.insert(class, left)?;
+    if left == 0 {
+        ended.push(class)?;
+    }
+    Ok(())
+}
+
+// A part of each of some classes is left out.
+fn take_parts(
+    counts: &mut BTreeMap<BindingId, usize>,
+    ended: &mut Vec<BindingId>,
+    wholes: &[BindingId],
+) -> Result<(), AllocError>
+    ensures { OnOk result (AreTaken (count_at counts.old) (count_at counts.new) wholes.now ended.old.items ended.new.items) }
+{
+    for whole in wholes {
+        take_part(counts, ended, *whole)?;
+    }
+    Ok(())
 }
 
 /// Whether parts, their parts and so on never end: a class is then a part of itself. Parts whose class has none are
-/// left out until each that is left has some.
+/// left out, each once, as long as there are some.
 ///
 /// # Errors
 ///
@@ -72,17 +152,19 @@ fn parts_with_parts(
 pub(crate) fn has_cycle(
     alloc: Global,
     classes: &DisjointSets<BindingId>,
-    parts: Vec<Part>,
+    parts: &[Part],
 ) -> Result<bool, AllocError>
-    ensures cycle { IfOk result (λ b. b ≡ true → (left : List Part) × GoOnForEver classes.now parts.items left) }
-    ensures none { IfOk result (λ b. b ≡ false → (class : ℕ) → ClassEnds classes.now parts.items class) }
+    ensures cycle { IfOk result (λ b. b ≡ true → (left : List Part) × GoOnForEver classes.now parts.now left) }
+    ensures none { IfOk result (λ b. b ≡ false → (class : ℕ) → ClassEnds classes.now parts.now class) }
 {
-    let mut left = parts;
-    loop {
-        let next = parts_with_parts(alloc, classes, &left)?;
-        if next.len() == left.len() {
-            return Ok(!left.is_empty());
-        }
-        left = next;
+    let mut left = parts.len();
+    let mut wholes = wholes_of(alloc, classes, parts)?;
+    let mut counts = counts_of(alloc, classes, parts)?;
+    let mut ended = last_classes(alloc, classes, &counts, parts)?;
+    while let Some(class) = ended.pop() {
+        let above = take_wholes(alloc, &mut wholes, class);
+        left -= above.len();
+        take_parts(&mut counts, &mut ended, &above)?;
     }
+    Ok(left > 0)
 }

@@ -11,7 +11,7 @@ mod equal_sites;
 mod listed;
 mod overlaps;
 mod rule_sets;
-pub mod rules;
+mod rules;
 pub mod site_table;
 pub mod trie_again;
 pub mod verdict;

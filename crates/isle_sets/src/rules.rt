@@ -6,7 +6,7 @@ ghost use Rattle.isle_model.specs.sites.Sites.{Site};
 ghost use Rattle.isle_model.specs.trees.Places.{constraint_at, joins_in};
 ghost use Rattle.isle_sets.specs.Closings.{AreDemandsOf};
 ghost use Rattle.isle_sets.specs.Listings.{are_listed, ascends, class_lists, sites_of};
-ghost use Rattle.isle_sets.specs.SiteViews.{constraint_view, constraint_views, empty_rule, set_rule_view};
+ghost use Rattle.isle_sets.specs.SiteViews.{constraint_view, empty_rule, set_rule_view};
 
 use crate::demanded::Demanded;
 use crate::trie_again::{BindingId, Constraint, Rule};
@@ -90,13 +90,4 @@ impl Rule {
         }
         None
     }
-}
-
-/// The rule with these constraints in place of its own.
-pub fn with_constraints(mut rule: Rule, constraints: Vec<(BindingId, Constraint)>) -> Rule
-    requires ascending { IsTrue (ascends (sites_of constraints.items)) }
-    ensures { set_rule_view result ≡ record (set_rule_view rule) { constraints = constraint_views constraints.items } }
-{
-    rule.constraints = constraints;
-    rule
 }

@@ -157,6 +157,6 @@ pub fn why_unreachable(
     let parts = list_parts(alloc, table, &constraints)?;
     let classes = close_classes(alloc, demanded.equals.sets(), &parts)?;
     let conflict = find_conflict(alloc, &classes, &constraints)?;
-    let cyclic = has_cycle(alloc, &classes, parts)?;
+    let cyclic = has_cycle(alloc, &classes, &parts)?;
     Ok(first_reason(conflict, cyclic))
 }

@@ -1,43 +1,104 @@
-use Rattle.std.proofs.Common.{◌≡◌, ◌≢◌, ◌<◌, length, ap, sym, subst, arith}
+use Rattle.std.proofs.Common.{◌≡◌, ◌+◌, ◌-◌, ◌<◌, ◌++◌, [], ◌∷◌, not, length, refl, ap, ◌∙◌, subst, arith}
 use Rattle.std.specs.List.{filter}
-use Rattle.isle_sets.specs.Endings.{goes_on}
-use Rattle.isle_sets.proofs.PartsLeft.{AreLeft, all_left, fewer_left, filter_shorter, go_on, none_left, nothing_left, some_left}
+use Rattle.std.specs.Prelude.{nat_eq}
+use Rattle.std.proofs.lemmas.Bool.{false≢true, ltb-true, ltb-false}
+use Rattle.std.proofs.lemmas.List.{length-append}
+use Rattle.isle_sets.specs.Endings.{AreTaken, count_at, listed_at}
+use Rattle.isle_sets.specs.Verdicts.{class_head}
+use Rattle.isle_sets.proofs.PartsLeft.{AreCounted, counting_starts, few_kept, one_taken, none_left, go_on, no_items}
 use Rattle.isle_sets.proofs.cycles.has_cycle.Goals as goal
 
-pub loop-left-init : goal.loop-left-init
-loop-left-init c = all_left c.args.classes.now c.args.parts.items
+pub loop-class-init : goal.loop-class-init
+loop-class-init c = (
+  c.args.parts.now,
+  counting_starts c.args.classes.now c.args.parts.now (listed_at c.in_ok-wholes.wholes) (count_at c.in_ok-counts.counts) c.in_ok-ended.ended.items (length c.args.parts.now) refl c.in_ok-wholes.ensures c.in_ok-counts.ensures
+      c.in_ok-ended.ensures.all c.in_ok-ended.ensures.only,
+)
 
-pub loop-left-preserved : goal.loop-left-preserved
-loop-left-preserved c =
+pub overflow_sub-left : goal.overflow_sub-left
+overflow_sub-left c =
     let ks = c.args.classes.now in
-    let left = c.loop-left.left.items in
-    let fewer : c.in_ok-next.next.items ≡ filter (goes_on ks left) left = subst (λ l. c.in_ok-next.next.items ≡ filter (goes_on ks l) l) c.deref.ensures.value c.in_ok-next.ensures in
-    subst (AreLeft ks c.args.parts.items) (sym fewer) (fewer_left ks c.args.parts.items left c.loop-left.invariant)
+    let parts = c.args.parts.now in
+    let left = c.loop-class.invariant.0 in
+    let wholes = listed_at c.loop-class.wholes in
+    let counts = count_at c.loop-class.counts in
+    let number = c.loop-class.left in
+    let k = c.in-Some.class in
+    let rest = c.pop.new.self.items in
+    let above = c.take_wholes-above.result in
+    let kept = ap length c.take_wholes-above.ensures.taken in
+    let size = above.ok.0 in
+    let many = c.len-left.ensures in
+    let few = few_kept ks parts left wholes counts number c.loop-class.ended.items c.loop-class.invariant.1 k in
+    omega (arith, kept, size, many, few)
 
-pub loop-left-smaller : goal.loop-left-smaller
-loop-left-smaller c =
+pub loop-class-smaller : goal.loop-class-smaller
+loop-class-smaller c =
     let ks = c.args.classes.now in
-    let left = c.loop-left.left.items in
-    let fewer : c.in_ok-next.next.items ≡ filter (goes_on ks left) left = subst (λ l. c.in_ok-next.next.items ≡ filter (goes_on ks l) l) c.deref.ensures.value c.in_ok-next.ensures in
-    let count = ap length fewer in
-    let n = c.in_ok-next.next.ok.0 in
-    let m = c.loop-left.left.ok.0 in
-    let other : length (filter (goes_on ks left) left) ≢ length left = λ q. omega (arith, q, count, n, m, c.if-len.false, c.len.ensures, c.len-in-loop-left.ensures) in
-    subst (λ l. length l < length left) (sym fewer) (filter_shorter (goes_on ks left) left other)
+    let parts = c.args.parts.now in
+    let left = c.loop-class.invariant.0 in
+    let wholes = listed_at c.loop-class.wholes in
+    let counts = count_at c.loop-class.counts in
+    let number = c.loop-class.left in
+    let k = c.in-Some.class in
+    let rest = c.pop.new.self.items in
+    let above = c.take_wholes-above.result in
+    let kept = ap length c.take_wholes-above.ensures.taken in
+    let size = above.ok.0 in
+    let many = c.len-left.ensures in
+    let few = few_kept ks parts left wholes counts number c.loop-class.ended.items c.loop-class.invariant.1 k in
+    let counted = count_at c.take_parts.new.counts in
+    let now = c.take_parts.new.ended.items in
+    let ended : c.loop-class.ended.items ≡ rest ++ k ∷ [] = c.in-Some.ensures.items in
+    let taken : AreTaken counts counted (wholes k) rest now = subst (λ l. AreTaken counts counted l rest now) (c.deref.ensures.value ∙ c.take_wholes-above.ensures.taken) c.in_ok-take_parts.ensures in
+    let one = ap length ended in
+    let two = length-append rest (k ∷ []) in
+    let more = taken.few in
+    let less : (number - c.len-left.result) + (number - c.len-left.result) + length now < number + number + length c.loop-class.ended.items = omega (arith, kept, size, many, few, one, two, more) in
+    less
 
-pub returns-then-len-clause-cycle : goal.returns-then-len-clause-cycle
-returns-then-len-clause-cycle c some =
+pub loop-class-preserved : goal.loop-class-preserved
+loop-class-preserved c =
     let ks = c.args.classes.now in
-    let left = c.loop-left.left.items in
-    let fewer : c.in_ok-next.next.items ≡ filter (goes_on ks left) left = subst (λ l. c.in_ok-next.next.items ≡ filter (goes_on ks l) l) c.deref.ensures.value c.in_ok-next.ensures in
-    let count = ap length fewer in
-    let n = c.in_ok-next.next.ok.0 in
-    let m = c.loop-left.left.ok.0 in
-    let same : length (filter (goes_on ks left) left) ≡ length left = omega (arith, count, n, m, c.if-len.true, c.len.ensures, c.len-in-loop-left.ensures) in
-    let one = some_left left c.loop-left.left.len c.is_empty.result m c.is_empty.ensures some in
-    (left, go_on ks c.args.parts.items left c.loop-left.invariant same one.0 one.1)
+    let parts = c.args.parts.now in
+    let left = c.loop-class.invariant.0 in
+    let wholes = listed_at c.loop-class.wholes in
+    let counts = count_at c.loop-class.counts in
+    let number = c.loop-class.left in
+    let k = c.in-Some.class in
+    let rest = c.pop.new.self.items in
+    let above = c.take_wholes-above.result in
+    let kept = ap length c.take_wholes-above.ensures.taken in
+    let size = above.ok.0 in
+    let many = c.len-left.ensures in
+    let few = few_kept ks parts left wholes counts number c.loop-class.ended.items c.loop-class.invariant.1 k in
+    let counted = count_at c.take_parts.new.counts in
+    let now = c.take_parts.new.ended.items in
+    let ended : c.loop-class.ended.items ≡ rest ++ k ∷ [] = c.in-Some.ensures.items in
+    let taken : AreTaken counts counted (wholes k) rest now = subst (λ l. AreTaken counts counted l rest now) (c.deref.ensures.value ∙ c.take_wholes-above.ensures.taken) c.in_ok-take_parts.ensures in
+    let minus : (number - c.len-left.result) + length (wholes k) ≡ number = omega (arith, kept, size, many, few) in
+    let before = subst (λ l. AreCounted ks parts left wholes counts l number) ended c.loop-class.invariant.1 in (
+      filter (λ p. not (nat_eq (class_head ks p.field) k)) left,
+      one_taken ks parts left wholes counts number rest k before (listed_at c.take_wholes-above.new.wholes) counted now (number - c.len-left.result) minus c.take_wholes-above.ensures.rest taken,
+    )
 
-pub returns-then-len-clause-none : goal.returns-then-len-clause-none
-returns-then-len-clause-none c none =
-    let left = c.loop-left.left.items in
-    none_left c.args.classes.now c.args.parts.items left c.loop-left.invariant (nothing_left left c.loop-left.left.len c.is_empty.result c.loop-left.left.ok.0 c.is_empty.ensures none)
+pub returns-clause-cycle : goal.returns-clause-cycle
+returns-clause-cycle c some =
+    let ks = c.args.classes.now in
+    let parts = c.args.parts.now in
+    let left = c.loop-class.invariant.0 in
+    let wholes = listed_at c.loop-class.wholes in
+    let counts = count_at c.loop-class.counts in
+    let number = c.loop-class.left in
+    let ended : c.loop-class.ended.items ≡ [] = no_items c.loop-class.ended.items c.loop-class.ended.len c.loop-class.ended.ok.0 (λ one. false≢true (c.in_default.ensures.variant.1 one)) in
+    (left, go_on ks parts left wholes counts number (subst (λ l. AreCounted ks parts left wholes counts l number) ended c.loop-class.invariant.1) (ltb-true 0 number some))
+
+pub returns-clause-none : goal.returns-clause-none
+returns-clause-none c none =
+    let ks = c.args.classes.now in
+    let parts = c.args.parts.now in
+    let left = c.loop-class.invariant.0 in
+    let wholes = listed_at c.loop-class.wholes in
+    let counts = count_at c.loop-class.counts in
+    let number : c.loop-class.left ≡ 0 = (let least = ltb-false 0 c.loop-class.left none in omega (arith, least)) in
+    none_left ks parts left wholes counts c.loop-class.ended.items (subst (AreCounted ks parts left wholes counts c.loop-class.ended.items) number c.loop-class.invariant.1)

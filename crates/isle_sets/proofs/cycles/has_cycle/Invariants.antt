@@ -1,9 +1,11 @@
-use Rattle.std.proofs.Common.{length}
-use Rattle.isle_sets.proofs.PartsLeft.{AreLeft}
+use Rattle.std.proofs.Common.{List, ◌+◌, length}
+use Rattle.isle_sets.specs.Endings.{count_at, listed_at}
+use Rattle.isle_sets.specs.declared.closure_classes.Part.{Part}
+use Rattle.isle_sets.proofs.PartsLeft.{AreCounted}
 use Rattle.isle_sets.proofs.cycles.has_cycle.Given as goal
 
-abbrev pub invariant-loop-left : goal.invariant-loop-left
-invariant-loop-left l = AreLeft l.classes l.fn.parts.items l.left.items
+abbrev pub invariant-loop-class : goal.invariant-loop-class
+invariant-loop-class l = (left : List Part) × AreCounted l.classes l.parts left (listed_at l.wholes) (count_at l.counts) l.ended.items l.left
 
-abbrev pub decreases-loop-left : goal.decreases-loop-left
-decreases-loop-left l = length l.left.items
+abbrev pub decreases-loop-class : goal.decreases-loop-class
+decreases-loop-class l = l.left + l.left + length l.ended.items

@@ -1,4 +1,5 @@
-use Rattle.std.proofs.Common.{◌≡◌, ◌↔◌, Contains, ap, ◌∙◌, subst}
+use Rattle.std.proofs.Common.{◌≡◌, ◌↔◌, ℕ, true, false, List, Contains, ap, ◌∙◌, subst}
+use Rattle.isle_sets.specs.Endings.{ClassEnds, GoOnForEver}
 use Rattle.isle_sets.specs.FieldParts.{AreClosed, IsPartOfAny}
 use Rattle.isle_sets.specs.Listings.{ascends}
 use Rattle.isle_sets.specs.SiteTables.{table_sites}
@@ -21,6 +22,8 @@ returns c before d v =
     let closed = subst (λ l. AreClosed l h.equals ks) c.deref-2.ensures.value (subst (λ e. AreClosed c.deref-2.result.now e ks) c.sets.ensures c.in_ok-classes.ensures) in
     let reported = report_views c.in_ok-conflict.conflict in
     let conflict = subst (λ l. reported ≡ conflict_in (class_head ks) (constraint_views l) (constraint_views l)) c.deref-3.ensures.value c.in_ok-conflict.ensures in
+    let cyclic = c.in_ok-cyclic.cyclic in
+    let cycle = subst (λ l. cyclic ≡ true → (left : List Part) × GoOnForEver ks l left) c.deref-4.ensures.value c.in_ok-cyclic.ensures.cycle in
+    let none = subst (λ l. cyclic ≡ false → (class : ℕ) → ClassEnds ks l class) c.deref-4.ensures.value c.in_ok-cyclic.ensures.none in
     c.first_reason.ensures
-    ∙ verdict_is sites c.requires.sources before d h v (constraint_views listed) (ap ascends (views_sites listed) ∙ told.ascending) told.asked parts all ks closed reported c.in_ok-cyclic.cyclic conflict
-    c.in_ok-cyclic.ensures.cycle c.in_ok-cyclic.ensures.none
+    ∙ verdict_is sites c.requires.sources before d h v (constraint_views listed) (ap ascends (views_sites listed) ∙ told.ascending) told.asked parts all ks closed reported cyclic conflict cycle none
