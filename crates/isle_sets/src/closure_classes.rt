@@ -1,6 +1,6 @@
 //! The classes of the closure of a rule's demands: sites that must be equal, and the fields of equal sites that are of
 //! one variant or struct.
-ghost use Rattle.std.specs.Prelude.{◌≡◌, ◌≢◌, ◌⊎◌, ◌↔◌, ℕ, List, true, false, nat_eq, Some, Contains, IfOk, OnOk};
+ghost use Rattle.std.specs.Prelude.{◌≡◌, ◌≢◌, ◌⊎◌, ◌↔◌, ℕ, List, true, false, nat_eq, Some, Contains, IfOk, IfSome, OnOk};
 ghost use Rattle.std.specs.HashMap.{get};
 ghost use Rattle.isle_disjointsets.specs.Partition.{IsPartition};
 ghost use Rattle.isle_model.specs.sites.Sites.{SiteTerm};
@@ -15,7 +15,11 @@ use crate::trie_again::{Binding, BindingId, Constraint, TupleIndex};
 use isle_disjointsets::disjointsets::DisjointSets;
 use isle_types::VariantId;
 use std::alloc::{AllocError, Global};
-use std::collections::HashMap;
+use std::collections::{BTreeMap, HashMap};
+
+// How often a part is looked at, at most: once, and each time that its source comes to a class of twice as many of the
+// 65,536 sites.
+const MOST_LOOKS: usize = 17;
 
 /// The site by which the class of a site goes: the site itself where it must equal no other.
 pub(crate) fn class_of(classes: &DisjointSets<BindingId>, site: BindingId) -> BindingId
@@ -104,6 +108,123 @@ fn join_part(
     }
 }
 
+// Parts that are to be looked at, by their numbers.
+struct Looks {
+    // Those of each class that were looked at, by the site that it went by.
+    by_class: BTreeMap<BindingId, Vec<usize>>,
+    open: Vec<usize>,
+}
+
+impl Drop for Looks {
+    fn drop(self) {
+        let Self {
+            by_class: _,
+            open: _,
+        } = self;
+    }
+}
+
+impl Looks {
+    // So many parts are to be looked at.
+    fn new(alloc: Global, count: usize) -> Result<Looks, AllocError> {
+        let mut open = Vec::new(alloc);
+        for number in 0..count {
+            open.push(number)?;
+        }
+        Ok(Looks {
+            by_class: BTreeMap::new(alloc),
+            open,
+        })
+    }
+
+    // The next part, with its number.
+    fn next(&mut self, parts: &[Part]) -> Option<(usize, Part)>
+        ensures { IfSome result (λ x. Contains parts.now x.1) }
+    {
+        let number = self.open.pop()?;
+        let part = parts.get(number)?;
+        Some((number, *part))
+    }
+
+    // A part of a class is looked at.
+    fn note(&mut self, class: BindingId, number: usize) -> Result<(), AllocError> {
+        self.by_class.entry(class)?.or_default().push(number)?;
+        Ok(())
+    }
+
+    // The parts of a class that goes by another site now are to be looked at again.
+    fn reopen(&mut self, before: BindingId, now: BindingId) -> Result<(), AllocError> {
+        if before == now {
+            return Ok(());
+        }
+        if let Some(mut moved) = self.by_class.remove(&before) {
+            self.open.append(&mut moved)?;
+        }
+        Ok(())
+    }
+}
+
+// The first part met of the class and place of a part: its own site where none was.
+fn first_met(
+    classes: &DisjointSets<BindingId>,
+    firsts: &HashMap<Binding, BindingId>,
+    part: &Part,
+) -> BindingId {
+    let key = part_of_head(classes, part);
+    match firsts.get(&key).copied() {
+        Some(first) => first,
+        None => part.field,
+    }
+}
+
+// A part is equal to the first one met of its class and place. The parts of the class that goes by another site then are
+// to be looked at again.
+fn look_at(
+    classes: &mut DisjointSets<BindingId>,
+    firsts: &mut HashMap<Binding, BindingId>,
+    looks: &mut Looks,
+    number: usize,
+    part: &Part,
+) -> Result<(), AllocError>
+    ensures kept { OnOk result (HaveOneName classes.old (class_head classes.new)) }
+    ensures least { OnOk result ((name : ℕ → SiteTerm) → HaveOneName classes.old name
+        → ((first : ℕ) → get ghosts.eq firsts.old (part_of_head classes.old part.now) ≡ Some first → name first ≡ name part.now.field) → HaveOneName classes.new name) }
+    ensures firsts { OnOk result ((q : Binding) (first : ℕ) → get ghosts.eq firsts.old q ≡ Some first → get ghosts.eq firsts.new q ≡ Some first) }
+    ensures added { OnOk result ((q : Binding) (first : ℕ) → get ghosts.eq firsts.new q ≡ Some first
+        → (get ghosts.eq firsts.old q ≡ Some first) ⊎ ((ghosts.eq (part_of_head classes.old part.now) q ≡ true) × (first ≡ part.now.field))) }
+    ensures partition { OnOk result (IsPartition nat_eq classes.old) }
+{
+    let one = class_of(classes, first_met(classes, firsts, part));
+    let other = class_of(classes, part.field);
+    looks.note(class_of(classes, part.source), number)?;
+    join_part(classes, firsts, part)?;
+    let now = class_of(classes, part.field);
+    looks.reopen(one, now)?;
+    looks.reopen(other, now)?;
+    Ok(())
+}
+
+// Fields of one place of equal sites are made equal from class to class. A part is looked at again only where its class
+// goes by another site, and so not once for each round.
+fn join_ahead(
+    alloc: Global,
+    classes: &mut DisjointSets<BindingId>,
+    parts: &[Part],
+) -> Result<(), AllocError>
+    ensures kept { OnOk result (HaveOneName classes.old (class_head classes.new)) }
+    ensures least { OnOk result ((name : ℕ → SiteTerm) → AreCongruent parts.now name → HaveOneName classes.old name → HaveOneName classes.new name) }
+{
+    let mut firsts = HashMap::new(alloc);
+    let mut looks = Looks::new(alloc, parts.len())?;
+    for _ in 0..parts.len().saturating_mul(MOST_LOOKS) {
+        let Some((number, part)) = looks.next(parts) else {
+            return Ok(());
+        };
+        look_at(classes, &mut firsts, &mut looks, number, &part)?;
+    }
+    Ok(())
+}
+
 // Fields of one place of equal sites are equal, for one round over them. Whether any weren't yet.
 fn join_round(
     alloc: Global,
@@ -125,7 +246,8 @@ fn join_round(
     Ok(changed)
 }
 
-// Fields of one place of equal sites are equal: the least classes in which it is so.
+// Fields of one place of equal sites are equal: the least classes in which it is so. The last round finds nothing left to
+// join, and so does mostly the first.
 fn join_parts(
     alloc: Global,
     classes: &mut DisjointSets<BindingId>,
@@ -135,6 +257,7 @@ fn join_parts(
     ensures congruent { OnOk result (AreCongruent parts.now (class_head classes.new)) }
     ensures least { OnOk result ((name : ℕ → SiteTerm) → AreCongruent parts.now name → HaveOneName classes.old name → HaveOneName classes.new name) }
 {
+    join_ahead(alloc, classes, parts)?;
     while join_round(alloc, classes, parts)? {}
     Ok(())
 }
