@@ -5,22 +5,25 @@ use Rattle.std.proofs.lemmas.List.Filters.{length-filter_both}
 use Rattle.isle_model.specs.sites.Sites.{iterator_site, SetRule, SiteSet}
 use Rattle.isle_model.specs.trees.Trees.{Tree, step, join, Check, m_match, m_equal, m_loop, m_no_step, m_no_arm}
 use Rattle.isle_model.specs.trees.Places as Places
-use Rattle.isle_model.specs.trees.Places.{is_in, joins, available, bind_order, in_equal, after_step}
+use Rattle.isle_model.specs.trees.Places.{is_in, joins, available, bind_order, in_equal, in_loop, after_step}
 use Rattle.isle_model.specs.trees.Tests.{Test, match_test, equal_test, loop_test, is_needed, needs_at, is_covered, cover, sources_around, is_at_hand, is_open_site, IsOpen}
 use Rattle.isle_model.proofs.Members.{in_cases, from_filter, some_member, member_found, member_from_get}
 use Rattle.isle_laws_trees.proofs.Passing.{sources_there}
 use Rattle.isle_sets.specs.Listings.{ascends}
 use Rattle.isle_serialize.specs.declared.around.Around.{Around}
 use Rattle.isle_serialize.specs.declared.steps.NextTest.{NextTest}
+use Rattle.isle_serialize.specs.declared.serialize.Block.{Block}
+use Rattle.isle_serialize.specs.declared.serialize.ControlFlow.{Equal, Loop}
 use Rattle.isle_serialize.specs.declared.serialize.EvalStep.{EvalStep}
 use Rattle.isle_serialize.specs.AroundViews.{around_view, IsInside, ArePairsWithin, after_uses, arm_around, loop_around}
 use Rattle.isle_serialize.specs.Growing.{IsBestFrom, AreEnds, IsBestBody, CanGrow, IsPlace, IsStepOf, test_sites, test_emits, IsNextTest}
 use Rattle.isle_serialize.specs.TestViews.{test_view, IsChosen}
-use Rattle.isle_serialize.specs.TreeViews.{check_view, steps_view}
+use Rattle.isle_serialize.specs.TreeViews.{tree_view, check_view, steps_view}
 use Rattle.isle_serialize.proofs.Ascents.{ascends_kept}
 use Rattle.isle_serialize.proofs.Growth.{match_more, equal_more, loop_more, ends_close, from_alike}
-use Rattle.isle_serialize.proofs.InsideSteps.{inside_alike, loop_after}
+use Rattle.isle_serialize.proofs.InsideSteps.{inside_alike, loop_inside, loop_after}
 use Rattle.isle_serialize.proofs.StepsJoined.{step_joined, steps_joined}
+use Rattle.isle_serialize.proofs.TreeLaws.{equal_seen, loop_seen}
 use Rattle.isle_serialize.proofs.Untried.{untried, untried_same, untried_source, untried_pair}
 
 not_true : (b : Bool) → not b ≡ true → b ≡ false
@@ -182,6 +185,9 @@ module _ (set : SiteSet) where
         let k = open_pair out a b o in
         untried_pair n a b out (around_view inside) k.0 k.1 k.2 (λ x. ap (is_in x) i.sources) i.joined
 
+    pub equal_body : (a b : ℕ) (body : Block) → IsInside (around_view inside) (in_equal set out a b) → IsBestFrom set (around_view inside) here (tree_view body) → IsBestBody set out (equal_test a b) here (check_view (Equal a b body))
+    equal_body a b body i best = (tree_view body, equal_seen a b body, from_alike set (around_view inside) (in_equal set out a b) here (tree_view body) (inside_alike inside (in_equal set out a b) i) best)
+
     pub loop_place : (call result : ℕ) → IsPlace set out here → IsInside (around_view inside) (loop_around set out call result) → IsPlace set (around_view inside) here
     loop_place call result p i = record { pairs = subst (ArePairsWithin n) (sym i.joined) p.pairs; ascending = p.ascending }
 
@@ -189,6 +195,10 @@ module _ (set : SiteSet) where
     loop_fewer call result o i =
         let k = open_site out call o in
         untried_source n call out (around_view inside) k.0 k.1 (λ x. ap (is_in x) i.sources) i.joined
+
+    pub loop_body : (call result : ℕ) (body : Block) → slice_get set.sites result ≡ Some (iterator_site call) → IsInside (around_view inside) (loop_around set out call result)
+        → IsBestFrom set (around_view inside) here (tree_view body) → IsBestBody set out (loop_test call) here (check_view (Loop result body))
+    loop_body call result body at i best = (result, tree_view body, loop_seen result body, at, from_alike set (around_view inside) (in_loop set out result) here (tree_view body) (loop_inside set around call result at inside i) best)
 
     pub arm_place : (s : ℕ) (fields : List (Option ℕ)) → IsPlace set out here → IsInside (around_view inside) (arm_around set out s fields) → IsPlace set (around_view inside) here
     arm_place s fields p i = record { pairs = subst (ArePairsWithin n) (sym i.joined) p.pairs; ascending = p.ascending }

@@ -2,7 +2,7 @@
 use Rattle.std.proofs.Common.{◌≡◌, ℕ, zero, suc, ◌+◌, ◌<◌, ◌≤◌, ◌==◌, nat_lt, Bool, true, false, not, ◌&&◌, ◌||◌, cond, List, [], ◌∷◌, ◌++◌, map, length, take, get_or, Option, Some, None, slice_get, slice_index_or, Contains, refl, sym, ap, ◌∙◌, subst, inl, inr, ◌⊎◌, arith, ltb-false, lt-ltb, length-append}
 use Rattle.std.specs.List.{filter, flat_map, list_all, list_any}
 use Rattle.std.proofs.lemmas.Bool.{cases_Bool, cond-true, cond-false, false≢true, cases_lt, or_left, or_right, or_cases, and_parts, and_from}
-use Rattle.std.proofs.lemmas.List.{take_more}
+use Rattle.std.proofs.lemmas.List.{append-nil, map-append, take_all, take_more}
 use Rattle.std.proofs.lemmas.List.Elements.{Contains-append_left, Contains-append_right, Contains-append_cases}
 use Rattle.std.proofs.lemmas.Grind.{flat_map-append}
 use Rattle.isle_model.specs.sites.Sites.{SetRule, SiteSet}
@@ -16,7 +16,7 @@ use Rattle.isle_laws_trees.proofs.Scores.{scores_are_ordered_lem}
 use Rattle.isle_serialize.specs.declared.tests.Test.{Test}
 use Rattle.isle_serialize.specs.declared.tests.Test.TheVariants.{Match, Equal, Loop}
 use Rattle.isle_serialize.specs.AroundViews.{availability, class_names}
-use Rattle.isle_serialize.specs.TestViews.{test_view, test_views, pairs_at, greater_test, IsGreatestOf, IsChosen, AreUseful}
+use Rattle.isle_serialize.specs.TestViews.{test_view, test_views, is_free, is_pair, pairs_at, greater_test, IsGreatestOf, IsChosen, AreUseful}
 use Rattle.isle_serialize.proofs.Tables.{table_entry, marked_site, names_start}
 
 -- 1. numbers below n
@@ -26,12 +26,6 @@ length_up_to (suc n) = let k = length_up_to n in length-append (up_to n) (n ∷ 
 
 pub up_to_at : (n i d : ℕ) → i < n → get_or (up_to n) i d ≡ i
 up_to_at n i d l = ap (λ t. get_or t i d) (names_start n) ∙ table_entry (class []) n i d l
-
-take_all : (xs : List ℕ) (n : ℕ) → n ≡ length xs → take n xs ≡ xs
-take_all [] zero e = refl
-take_all [] (suc n) e = refl
-take_all (x ∷ xs) zero e = absurd (omega arith)
-take_all (x ∷ xs) (suc n) e = ap (λ l. x ∷ l) (take_all xs n (omega arith))
 
 take_first : (xs ys : List ℕ) (n : ℕ) → n ≤ length xs → take n (xs ++ ys) ≡ take n xs
 take_first [] [] zero l = refl
@@ -45,7 +39,7 @@ take_up_to zero zero l = refl
 take_up_to zero (suc i) l = absurd (omega arith)
 take_up_to (suc n) i l =
     elim (cases_lt n i) [
-      | inl m ↦ let e : i ≡ suc n = omega arith in let k = length_up_to (suc n) in take_all (up_to (suc n)) i (e ∙ sym k) ∙ ap up_to (sym e)
+      | inl m ↦ let e : i ≡ suc n = omega arith in let k = length_up_to (suc n) in take_all i (up_to (suc n)) (omega (arith, e, k)) ∙ ap up_to (sym e)
       | inr m ↦ let k = length_up_to n in take_first (up_to n) (n ∷ []) i (omega (arith, k, m)) ∙ take_up_to n i (omega arith)
     ]
 
@@ -58,20 +52,16 @@ bounds_at sites i b e l g =
 
 pub pairs_step : (available : List Bool) (names sites : List ℕ) (i b : ℕ) (tests next : List Test) (part : List ℕ) → sites ≡ up_to (length sites) → i < length sites → b ≡ get_or sites i b → part ≡ take b sites
     → tests ≡ flat_map (pairs_at available names) (take i sites)
-    → next ≡ tests ++ map (λ a. Equal a b) (filter (λ a. slice_index_or available a false && slice_index_or available b false && not (slice_index_or names a a == slice_index_or names b b)) part)
+    → next ≡ tests ++ map (λ a. Equal a b) (filter (is_pair available names b) part)
     → next ≡ flat_map (pairs_at available names) (take (i + 1) sites)
 pairs_step available names sites i b tests next part e l g p f h =
     let same : b ≡ i = g ∙ ap (λ t. get_or t i b) e ∙ up_to_at (length sites) i b l in
     let below : part ≡ up_to b = p ∙ ap (take b) e ∙ take_up_to (length sites) b (omega arith) in
-    let kept = λ (xs : List ℕ). map (λ a. Equal a b) (filter (λ a. slice_index_or available a false && slice_index_or available b false && not (slice_index_or names a a == slice_index_or names b b)) xs) in
+    let kept = λ (xs : List ℕ). map (λ a. Equal a b) (filter (is_pair available names b) xs) in
     h ∙ ap (λ t. t ++ kept part) f ∙ ap (λ t. flat_map (pairs_at available names) (take i sites) ++ kept t) below
-    ∙ ap (λ t. flat_map (pairs_at available names) (take i sites) ++ t) (sym (append_nothing (pairs_at available names b)))
+    ∙ ap (λ t. flat_map (pairs_at available names) (take i sites) ++ t) (sym (append-nil (pairs_at available names b)))
     ∙ sym (flat_map-append (pairs_at available names) (take i sites) (b ∷ []))
     ∙ ap (flat_map (pairs_at available names)) (ap (λ x. take i sites ++ x ∷ []) g ∙ sym (take_more sites i b l))
-  where
-    append_nothing : (xs : List Test) → xs ++ [] ≡ xs
-    append_nothing [] = refl
-    append_nothing (x ∷ xs) = ap (λ l. x ∷ l) (append_nothing xs)
 
 -- 3. the tables give the open tests
 module _ {X : Type 0} where
@@ -82,67 +72,61 @@ module _ {X : Type 0} where
       let r = kept_alike p q xs (λ y c. h y (in_tail x y xs c)) in
       λ i. cond (e i) (x ∷ r i) (r i)
 
-mapped_append : {X Y : Type 0} (f : X → Y) (xs ys : List X) → map f (xs ++ ys) ≡ map f xs ++ map f ys
-mapped_append f [] ys = refl
-mapped_append f (x ∷ xs) ys = ap (λ l. f x ∷ l) (mapped_append f xs ys)
-
 mapped_twice : {X Y Z : Type 0} (f : Y → Z) (g : X → Y) (h : X → Z) (xs : List X) → ((x : X) → f (g x) ≡ h x) → map f (map g xs) ≡ map h xs
 mapped_twice f g h [] e = refl
 mapped_twice f g h (x ∷ xs) e = let a = e x in let r = mapped_twice f g h xs e in λ i. a i ∷ r i
 
 module _ (set : SiteSet) (ar : Around) where
-  abbrev n : ℕ
-  n = length set.sites
+  abbrev many : ℕ
+  many = length set.sites
 
-  abbrev at : List Bool
-  at = availability set ar
+  abbrev all_at : List Bool
+  all_at = availability set ar
 
-  abbrev names : List ℕ
-  names = class_names set ar
+  abbrev classes_at : List ℕ
+  classes_at = class_names set ar
 
-  open_is : (sources : List ℕ) → sources ≡ Tests.sources_around ar → filter (λ s. slice_index_or at s false && not (is_in s sources)) (up_to n) ≡ open_sites set ar
+  open_is : (sources : List ℕ) → sources ≡ Tests.sources_around ar → filter (is_free all_at sources) (up_to many) ≡ open_sites set ar
   open_is sources e =
-      kept_alike (λ s. slice_index_or at s false && not (is_in s sources)) (is_open_site set ar) (up_to n)
-      (λ s c. let m = marked_site (available set.sites ar) n s in λ i. m i && not (is_in s (e i)))
+      kept_alike (is_free all_at sources) (is_open_site set ar) (up_to many)
+      (λ s c. let m = marked_site (available set.sites ar) many s in λ i. m i && not (is_in s (e i)))
 
-  pair_is : (b : ℕ) → b < n → test_views (pairs_at at names b) ≡ open_pairs_at set ar b
+  pair_is : (b : ℕ) → b < many → test_views (pairs_at all_at classes_at b) ≡ open_pairs_at set ar b
   pair_is b l =
-      mapped_twice test_view (λ a. Equal a b) (λ a. equal_test a b) (filter (λ a. slice_index_or at a false && slice_index_or at b false && not (slice_index_or names a a == slice_index_or names b b)) (up_to b)) (λ a. refl)
+      mapped_twice test_view (λ a. Equal a b) (λ a. equal_test a b) (filter (is_pair all_at classes_at b) (up_to b)) (λ a. refl)
       ∙ ap (map (λ a. equal_test a b))
-      (kept_alike (λ a. slice_index_or at a false && slice_index_or at b false && not (slice_index_or names a a == slice_index_or names b b)) (λ a. is_open_pair set ar a b) (up_to b)
+      (kept_alike (is_pair all_at classes_at b) (λ a. is_open_pair set ar a b) (up_to b)
       (λ a c.
       let k = from_up_to b a c in
-      let m = marked_site (available set.sites ar) n a in
-      let m' = marked_site (available set.sites ar) n b in
-      let x = table_entry (class ar.joined) n a a (omega arith) in
-      let y = table_entry (class ar.joined) n b b l in
+      let m = marked_site (available set.sites ar) many a in
+      let m' = marked_site (available set.sites ar) many b in
+      let x = table_entry (class ar.joined) many a a (omega arith) in
+      let y = table_entry (class ar.joined) many b b l in
       (λ i. m i && m' i && not (x i == y i)) ∙ (λ i. (sym (less a k) i && is_at_hand set ar a) && is_at_hand set ar b && not (joins ar.joined a b))))
     where
       less : (a : ℕ) → a < b → nat_lt a b ≡ true
       less a k = lt-ltb a b k
 
-  pairs_are : (m : ℕ) → m ≤ n → test_views (flat_map (pairs_at at names) (up_to m)) ≡ flat_map (open_pairs_at set ar) (up_to m)
+  pairs_are : (m : ℕ) → m ≤ many → test_views (flat_map (pairs_at all_at classes_at) (up_to m)) ≡ flat_map (open_pairs_at set ar) (up_to m)
   pairs_are zero l = refl
   pairs_are (suc m) l =
-      ap test_views (flat_map-append (pairs_at at names) (up_to m) (m ∷ []))
-      ∙ mapped_append test_view (flat_map (pairs_at at names) (up_to m)) (flat_map (pairs_at at names) (m ∷ []))
-      ∙ (let a = pairs_are m (omega arith) in let b = ap (map test_view) (ends (pairs_at at names m)) ∙ pair_is m (omega arith) ∙ sym (ends (open_pairs_at set ar m)) in λ i. a i ++ b i)
+      ap test_views (flat_map-append (pairs_at all_at classes_at) (up_to m) (m ∷ []))
+      ∙ map-append test_view (flat_map (pairs_at all_at classes_at) (up_to m)) (flat_map (pairs_at all_at classes_at) (m ∷ []))
+      ∙ (let a = pairs_are m (omega arith) in
+      let b = ap (map test_view) (append-nil (pairs_at all_at classes_at m)) ∙ pair_is m (omega arith) ∙ sym (append-nil (open_pairs_at set ar m)) in
+      λ i. a i ++ b i)
       ∙ sym (flat_map-append (open_pairs_at set ar) (up_to m) (m ∷ []))
-    where
-      ends : {X : Type 0} (xs : List X) → xs ++ [] ≡ xs
-      ends [] = refl
-      ends (x ∷ xs) = ap (λ l. x ∷ l) (ends xs)
 
-  tests_are : (free sites sources : List ℕ) (pairs : List Test) → sources ≡ Tests.sources_around ar → sites ≡ up_to n
-      → free ≡ filter (λ s. slice_index_or at s false && not (is_in s sources)) sites → pairs ≡ flat_map (pairs_at at names) sites
+  tests_are : (free sites sources : List ℕ) (pairs : List Test) → sources ≡ Tests.sources_around ar → sites ≡ up_to many
+      → free ≡ filter (is_free all_at sources) sites → pairs ≡ flat_map (pairs_at all_at classes_at) sites
       → test_views ((map Match free ++ pairs) ++ map Loop free) ≡ open_tests set ar
   tests_are free sites sources pairs e f g h =
-      let o : free ≡ open_sites set ar = g ∙ ap (filter (λ s. slice_index_or at s false && not (is_in s sources))) f ∙ open_is sources e in
-      let p : test_views pairs ≡ flat_map (open_pairs_at set ar) (up_to n) = ap test_views (h ∙ ap (flat_map (pairs_at at names)) f) ∙ pairs_are n (omega arith) in
+      let o : free ≡ open_sites set ar = g ∙ ap (filter (is_free all_at sources)) f ∙ open_is sources e in
+      let p : test_views pairs ≡ flat_map (open_pairs_at set ar) (up_to many) = ap test_views (h ∙ ap (flat_map (pairs_at all_at classes_at)) f) ∙ pairs_are many (omega arith) in
       let a = mapped_twice test_view Match match_test free (λ s. refl) ∙ ap (map match_test) o in
       let c = mapped_twice test_view Loop loop_test free (λ s. refl) ∙ ap (map loop_test) o in
-      mapped_append test_view (map Match free ++ pairs) (map Loop free)
-      ∙ ap (λ l. l ++ test_views (map Loop free)) (mapped_append test_view (map Match free) pairs)
+      map-append test_view (map Match free ++ pairs) (map Loop free)
+      ∙ ap (λ l. l ++ test_views (map Loop free)) (map-append test_view (map Match free) pairs)
       ∙ (λ i. (a i ++ p i) ++ c i)
 
 -- 4. the greatest
@@ -232,61 +216,52 @@ module _ (rules : List SetRule) (here : List ℕ) where
   other_apart a b f = covers_none (equal_test a b) (λ i c n. false≢true (sym f ∙ passes_any (needs_at rules (equal_test b b)) here i c (other_needs (slice_get rules i) a b n)))
 
 module _ (set : SiteSet) (ar : Around) (here : List ℕ) where
-  abbrev many : ℕ
-  many = length set.sites
-
-  abbrev all_at : List Bool
-  all_at = availability set ar
-
-  abbrev classes_at : List ℕ
-  classes_at = class_names set ar
-
   -- the sites that are available and stand in an equality
   abbrev pub equated : List Bool
-  equated = map (λ s. slice_index_or all_at s false && IsEquated set.rules here s) (up_to many)
+  equated = map (λ s. slice_index_or (all_at set ar) s false && IsEquated set.rules here s) (up_to (many set ar))
 
   abbrev IsPair : List Bool → ℕ → ℕ → Bool
-  IsPair at b a = slice_index_or at a false && slice_index_or at b false && not (slice_index_or classes_at a a == slice_index_or classes_at b b)
+  IsPair at = is_pair at (classes_at set ar)
 
-  entry : (s : ℕ) → s < many → slice_index_or equated s false ≡ (slice_index_or all_at s false && IsEquated set.rules here s)
-  entry s l = table_entry (λ s. slice_index_or all_at s false && IsEquated set.rules here s) many s false l
+  entry : (s : ℕ) → s < (many set ar) → slice_index_or equated s false ≡ (slice_index_or (all_at set ar) s false && IsEquated set.rules here s)
+  entry s l = table_entry (λ s. slice_index_or (all_at set ar) s false && IsEquated set.rules here s) (many set ar) s false l
 
   abbrev Apart : ℕ → ℕ → Bool
-  Apart a b = not (slice_index_or classes_at a a == slice_index_or classes_at b b)
+  Apart a b = not (slice_index_or (classes_at set ar) a a == slice_index_or (classes_at set ar) b b)
 
-  open_still : (a b : ℕ) → a < b → b < many → IsPair equated b a ≡ true → IsPair all_at b a ≡ true
+  open_still : (a b : ℕ) → a < b → b < (many set ar) → IsPair equated b a ≡ true → IsPair (all_at set ar) b a ≡ true
   open_still a b k l h =
       let one = and_parts (slice_index_or equated a false && slice_index_or equated b false) (Apart a b) h in
       let two = and_parts (slice_index_or equated a false) (slice_index_or equated b false) one.0 in
-      let x = and_parts (slice_index_or all_at a false) (IsEquated set.rules here a) (sym (entry a (omega (arith, k, l))) ∙ two.0) in
-      let y = and_parts (slice_index_or all_at b false) (IsEquated set.rules here b) (sym (entry b l) ∙ two.1) in
-      and_from (slice_index_or all_at a false && slice_index_or all_at b false) (Apart a b) (and_from (slice_index_or all_at a false) (slice_index_or all_at b false) x.0 y.0) one.1
+      let x = and_parts (slice_index_or (all_at set ar) a false) (IsEquated set.rules here a) (sym (entry a (omega (arith, k, l))) ∙ two.0) in
+      let y = and_parts (slice_index_or (all_at set ar) b false) (IsEquated set.rules here b) (sym (entry b l) ∙ two.1) in
+      and_from (slice_index_or (all_at set ar) a false && slice_index_or (all_at set ar) b false) (Apart a b) (and_from (slice_index_or (all_at set ar) a false) (slice_index_or (all_at set ar) b false) x.0 y.0) one.1
 
-  equated_too : (a b : ℕ) → a < b → b < many → IsEquated set.rules here a ≡ true → IsEquated set.rules here b ≡ true → IsPair all_at b a ≡ true → IsPair equated b a ≡ true
+  equated_too : (a b : ℕ) → a < b → b < (many set ar) → IsEquated set.rules here a ≡ true → IsEquated set.rules here b ≡ true → IsPair (all_at set ar) b a ≡ true → IsPair equated b a ≡ true
   equated_too a b k l x y h =
-      let one = and_parts (slice_index_or all_at a false && slice_index_or all_at b false) (Apart a b) h in
-      let two = and_parts (slice_index_or all_at a false) (slice_index_or all_at b false) one.0 in
+      let one = and_parts (slice_index_or (all_at set ar) a false && slice_index_or (all_at set ar) b false) (Apart a b) h in
+      let two = and_parts (slice_index_or (all_at set ar) a false) (slice_index_or (all_at set ar) b false) one.0 in
       and_from (slice_index_or equated a false && slice_index_or equated b false) (Apart a b)
       (and_from (slice_index_or equated a false) (slice_index_or equated b false)
-      (entry a (omega (arith, k, l)) ∙ and_from (slice_index_or all_at a false) (IsEquated set.rules here a) two.0 x)
-      (entry b l ∙ and_from (slice_index_or all_at b false) (IsEquated set.rules here b) two.1 y)) one.1
+      (entry a (omega (arith, k, l)) ∙ and_from (slice_index_or (all_at set ar) a false) (IsEquated set.rules here a) two.0 x)
+      (entry b l ∙ and_from (slice_index_or (all_at set ar) b false) (IsEquated set.rules here b) two.1 y)) one.1
 
-  pair_still : (b : ℕ) (t : Test) → b < many → Contains (pairs_at equated classes_at b) t → Contains (pairs_at all_at classes_at b) t
+  pair_still : (b : ℕ) (t : Test) → b < (many set ar) → Contains (pairs_at equated (classes_at set ar) b) t → Contains (pairs_at (all_at set ar) (classes_at set ar) b) t
   pair_still b t l c =
       let m = from_map (λ a. Equal a b) (filter (IsPair equated b) (up_to b)) t c in
       let f = from_filter (IsPair equated b) (up_to b) m.0 m.1 in
-      subst (Contains (pairs_at all_at classes_at b)) m.2
-      (in_map (λ a. Equal a b) (filter (IsPair all_at b) (up_to b)) m.0 (in_filter (IsPair all_at b) (up_to b) m.0 f.0 (open_still m.0 b (from_up_to b m.0 f.0) l f.1)))
+      subst (Contains (pairs_at (all_at set ar) (classes_at set ar) b)) m.2
+      (in_map (λ a. Equal a b) (filter (IsPair (all_at set ar) b) (up_to b)) m.0 (in_filter (IsPair (all_at set ar) b) (up_to b) m.0 f.0 (open_still m.0 b (from_up_to b m.0 f.0) l f.1)))
 
-  pair_or_none : (b : ℕ) (t : Test) → b < many → Contains (pairs_at all_at classes_at b) t → Contains (pairs_at equated classes_at b) t ⊎ (cover set.rules here (test_view t) ≡ [])
+  pair_or_none : (b : ℕ) (t : Test) → b < (many set ar) → Contains (pairs_at (all_at set ar) (classes_at set ar) b) t → Contains (pairs_at equated (classes_at set ar) b) t ⊎ (cover set.rules here (test_view t) ≡ [])
   pair_or_none b t l c =
-      let m = from_map (λ a. Equal a b) (filter (IsPair all_at b) (up_to b)) t c in
-      let f = from_filter (IsPair all_at b) (up_to b) m.0 m.1 in
+      let m = from_map (λ a. Equal a b) (filter (IsPair (all_at set ar) b) (up_to b)) t c in
+      let f = from_filter (IsPair (all_at set ar) b) (up_to b) m.0 m.1 in
       elim (cases_Bool (IsEquated set.rules here m.0)) [
         | inl x ↦
             elim (cases_Bool (IsEquated set.rules here b)) [
               | inl y ↦
-                  inl (subst (Contains (pairs_at equated classes_at b)) m.2
+                  inl (subst (Contains (pairs_at equated (classes_at set ar) b)) m.2
                   (in_map (λ a. Equal a b) (filter (IsPair equated b) (up_to b)) m.0 (in_filter (IsPair equated b) (up_to b) m.0 f.0 (equated_too m.0 b (from_up_to b m.0 f.0) l x y f.1))))
               | inr g ↦ inr (subst (λ u. cover set.rules here (test_view u) ≡ []) m.2 (other_apart set.rules here m.0 b g))
             ]
@@ -295,52 +270,52 @@ module _ (set : SiteSet) (ar : Around) (here : List ℕ) where
 
   -- matches, these pairs, and loops
   abbrev Listed : List ℕ → List Bool → List Test
-  Listed free at = (map Match free ++ flat_map (pairs_at at classes_at) (up_to many)) ++ map Loop free
+  Listed free at = (map Match free ++ flat_map (pairs_at at (classes_at set ar)) (up_to (many set ar))) ++ map Loop free
 
-  listed_still : (free : List ℕ) (t : Test) → Contains (Listed free equated) t → Contains (Listed free all_at) t
+  listed_still : (free : List ℕ) (t : Test) → Contains (Listed free equated) t → Contains (Listed free (all_at set ar)) t
   listed_still free t c =
-      elim (Contains-append_cases (map Match free ++ flat_map (pairs_at equated classes_at) (up_to many)) (map Loop free) t c) [
+      elim (Contains-append_cases (map Match free ++ flat_map (pairs_at equated (classes_at set ar)) (up_to (many set ar))) (map Loop free) t c) [
         | inl d ↦
-            Contains-append_left (map Match free ++ flat_map (pairs_at all_at classes_at) (up_to many)) (map Loop free) t
-            (elim (Contains-append_cases (map Match free) (flat_map (pairs_at equated classes_at) (up_to many)) t d) [
-              | inl e ↦ Contains-append_left (map Match free) (flat_map (pairs_at all_at classes_at) (up_to many)) t e
+            Contains-append_left (map Match free ++ flat_map (pairs_at (all_at set ar) (classes_at set ar)) (up_to (many set ar))) (map Loop free) t
+            (elim (Contains-append_cases (map Match free) (flat_map (pairs_at equated (classes_at set ar)) (up_to (many set ar))) t d) [
+              | inl e ↦ Contains-append_left (map Match free) (flat_map (pairs_at (all_at set ar) (classes_at set ar)) (up_to (many set ar))) t e
               | inr e ↦
-                  let q = from_flat_map (pairs_at equated classes_at) (up_to many) t e in
-                  Contains-append_right (map Match free) (flat_map (pairs_at all_at classes_at) (up_to many)) t
-                  (in_flat_map (pairs_at all_at classes_at) (up_to many) q.0 t q.1 (pair_still q.0 t (from_up_to many q.0 q.1) q.2))
+                  let q = from_flat_map (pairs_at equated (classes_at set ar)) (up_to (many set ar)) t e in
+                  Contains-append_right (map Match free) (flat_map (pairs_at (all_at set ar) (classes_at set ar)) (up_to (many set ar))) t
+                  (in_flat_map (pairs_at (all_at set ar) (classes_at set ar)) (up_to (many set ar)) q.0 t q.1 (pair_still q.0 t (from_up_to (many set ar) q.0 q.1) q.2))
             ])
-        | inr d ↦ Contains-append_right (map Match free ++ flat_map (pairs_at all_at classes_at) (up_to many)) (map Loop free) t d
+        | inr d ↦ Contains-append_right (map Match free ++ flat_map (pairs_at (all_at set ar) (classes_at set ar)) (up_to (many set ar))) (map Loop free) t d
       ]
 
-  listed_or_none : (free : List ℕ) (t : Test) → Contains (Listed free all_at) t → Contains (Listed free equated) t ⊎ (cover set.rules here (test_view t) ≡ [])
+  listed_or_none : (free : List ℕ) (t : Test) → Contains (Listed free (all_at set ar)) t → Contains (Listed free equated) t ⊎ (cover set.rules here (test_view t) ≡ [])
   listed_or_none free t c =
-      elim (Contains-append_cases (map Match free ++ flat_map (pairs_at all_at classes_at) (up_to many)) (map Loop free) t c) [
+      elim (Contains-append_cases (map Match free ++ flat_map (pairs_at (all_at set ar) (classes_at set ar)) (up_to (many set ar))) (map Loop free) t c) [
         | inl d ↦
-            elim (Contains-append_cases (map Match free) (flat_map (pairs_at all_at classes_at) (up_to many)) t d) [
+            elim (Contains-append_cases (map Match free) (flat_map (pairs_at (all_at set ar) (classes_at set ar)) (up_to (many set ar))) t d) [
               | inl e ↦
-                  inl (Contains-append_left (map Match free ++ flat_map (pairs_at equated classes_at) (up_to many)) (map Loop free) t
-                  (Contains-append_left (map Match free) (flat_map (pairs_at equated classes_at) (up_to many)) t e))
+                  inl (Contains-append_left (map Match free ++ flat_map (pairs_at equated (classes_at set ar)) (up_to (many set ar))) (map Loop free) t
+                  (Contains-append_left (map Match free) (flat_map (pairs_at equated (classes_at set ar)) (up_to (many set ar))) t e))
               | inr e ↦
-                  let q = from_flat_map (pairs_at all_at classes_at) (up_to many) t e in
-                  elim (pair_or_none q.0 t (from_up_to many q.0 q.1) q.2) [
+                  let q = from_flat_map (pairs_at (all_at set ar) (classes_at set ar)) (up_to (many set ar)) t e in
+                  elim (pair_or_none q.0 t (from_up_to (many set ar) q.0 q.1) q.2) [
                     | inl p ↦
-                        inl (Contains-append_left (map Match free ++ flat_map (pairs_at equated classes_at) (up_to many)) (map Loop free) t
-                        (Contains-append_right (map Match free) (flat_map (pairs_at equated classes_at) (up_to many)) t
-                        (in_flat_map (pairs_at equated classes_at) (up_to many) q.0 t q.1 p)))
+                        inl (Contains-append_left (map Match free ++ flat_map (pairs_at equated (classes_at set ar)) (up_to (many set ar))) (map Loop free) t
+                        (Contains-append_right (map Match free) (flat_map (pairs_at equated (classes_at set ar)) (up_to (many set ar))) t
+                        (in_flat_map (pairs_at equated (classes_at set ar)) (up_to (many set ar)) q.0 t q.1 p)))
                     | inr n ↦ inr n
                   ]
             ]
-        | inr d ↦ inl (Contains-append_right (map Match free ++ flat_map (pairs_at equated classes_at) (up_to many)) (map Loop free) t d)
+        | inr d ↦ inl (Contains-append_right (map Match free ++ flat_map (pairs_at equated (classes_at set ar)) (up_to (many set ar))) (map Loop free) t d)
       ]
 
-  pub are_useful : (free sources : List ℕ) → sources ≡ Tests.sources_around ar → free ≡ filter (λ s. slice_index_or all_at s false && not (is_in s sources)) (up_to many)
+  pub are_useful : (free sources : List ℕ) → sources ≡ Tests.sources_around ar → free ≡ filter (is_free (all_at set ar) sources) (up_to (many set ar))
       → AreUseful set ar here (Listed free equated)
   are_useful free sources e g =
-      let all = tests_are set ar free (up_to many) sources (flat_map (pairs_at all_at classes_at) (up_to many)) e refl g refl in
+      let all = tests_are set ar free (up_to (many set ar)) sources (flat_map (pairs_at (all_at set ar) (classes_at set ar)) (up_to (many set ar))) e refl g refl in
       record {
-        open_here = λ t c. listed_open set ar (test_view t) (subst (λ l. Contains l (test_view t)) all (in_map test_view (Listed free all_at) t (listed_still free t c)));
+        open_here = λ t c. listed_open set ar (test_view t) (subst (λ l. Contains l (test_view t)) all (in_map test_view (Listed free (all_at set ar)) t (listed_still free t c)));
         others = λ u o.
-            let r = from_map test_view (Listed free all_at) u (subst (λ l. Contains l u) (sym all) (open_listed set ar u o)) in
+            let r = from_map test_view (Listed free (all_at set ar)) u (subst (λ l. Contains l u) (sym all) (open_listed set ar u o)) in
             elim (listed_or_none free r.0 r.1) [
               | inl c ↦ inl (r.0, c, r.2)
               | inr n ↦ inr (subst (λ v. cover set.rules here v ≡ []) r.2 n)

@@ -33,22 +33,14 @@ pub record IsInside (kept ar : Places.Around) : Type 0 where
 abbrev pub after_uses : SiteSet → Places.Around → List ℕ → Places.Around
 after_uses set ar used = record { tested = ar.tested; joined = ar.joined; looped = ar.looped; brought = ar.brought; emitted = all_below set.sites used ++ ar.emitted }
 
+-- around the body of an arm or a loop of this source, which brings these sites
+abbrev pub brings : Places.Around → ℕ → List ℕ → Places.Around
+brings ar s sites = record { tested = []; joined = ar.joined; looped = s ∷ ar.looped; brought = sites ++ ar.brought; emitted = sites ++ ar.emitted }
+
 -- around the body of an arm, whatever its constraint
 abbrev pub arm_around : SiteSet → Places.Around → ℕ → List (Option ℕ) → Places.Around
-arm_around set ar s fields = record {
-  tested = [];
-  joined = ar.joined;
-  looped = s ∷ ar.looped;
-  brought = field_sites fields ++ ar.brought;
-  emitted = field_sites fields ++ (all_below set.sites (s ∷ []) ++ ar.emitted);
-}
+arm_around set ar s fields = brings (after_uses set ar (s ∷ [])) s (field_sites fields)
 
 -- around the body of a loop over a call
 abbrev pub loop_around : SiteSet → Places.Around → ℕ → ℕ → Places.Around
-loop_around set ar call result = record {
-  tested = [];
-  joined = ar.joined;
-  looped = call ∷ ar.looped;
-  brought = result ∷ ar.brought;
-  emitted = result ∷ (all_below set.sites (sources_at set.sites call) ++ ar.emitted);
-}
+loop_around set ar call result = brings (after_uses set ar (sources_at set.sites call)) call (result ∷ [])

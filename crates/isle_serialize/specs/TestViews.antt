@@ -2,7 +2,7 @@
 use Rattle.std.specs.Prelude.{◌≡◌, ◌≢◌, ◌⊎◌, ℕ, Bool, false, not, ◌&&◌, ◌==◌, List, [], map, Option, Some, None, Contains, slice_index_or, if◌then◌else◌}
 use Rattle.std.specs.List.{filter}
 use Rattle.isle_model.specs.sites.Sites.{SiteSet}
-use Rattle.isle_model.specs.trees.Places.{Around}
+use Rattle.isle_model.specs.trees.Places.{Around, is_in}
 use Rattle.isle_model.specs.trees.Sound.{as_number}
 use Rattle.isle_model.specs.trees.Tests as Tests
 use Rattle.isle_model.specs.trees.Tests.{match_test, equal_test, loop_test, cover, IsOpen, up_to, score, is_greater}
@@ -27,10 +27,17 @@ abbrev pub IsChosen : SiteSet → Around → List ℕ → Option Tests.Test → 
 IsChosen set ar here None = (u : Tests.Test) → IsOpen set ar u → cover set.rules here u ≡ []
 IsChosen set ar here (Some t) = IsGreatest set ar here t × (cover set.rules here t ≢ [])
 
--- the open pairs of which b is the greater, by tables of the available sites and of the names of classes
+-- whether a site is marked in a table of all sites, and not one of these
+abbrev pub is_free : List Bool → List ℕ → ℕ → Bool
+is_free available sources s = slice_index_or available s false && not (is_in s sources)
+
+-- whether b and a are both marked and not of one class, by tables of the available sites and of the names of classes
+abbrev pub is_pair : List Bool → List ℕ → ℕ → ℕ → Bool
+is_pair available names b a = slice_index_or available a false && slice_index_or available b false && not (slice_index_or names a a == slice_index_or names b b)
+
+-- the open pairs of which b is the greater
 abbrev pub pairs_at : List Bool → List ℕ → ℕ → List Test
-pairs_at available names b =
-    map (λ a. Equal a b) (filter (λ a. slice_index_or available a false && slice_index_or available b false && not (slice_index_or names a a == slice_index_or names b b)) (up_to b))
+pairs_at available names b = map (λ a. Equal a b) (filter (is_pair available names b) (up_to b))
 
 -- the one of the greater score, the first where there is no other
 abbrev pub greater_test : SiteSet → Around → List ℕ → Option Test → Test → Test

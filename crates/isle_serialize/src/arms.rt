@@ -78,36 +78,20 @@ fn asks(set: &RuleSet, source: BindingId, constraint: Constraint, number: usize)
     }
 }
 
-// The rules that ask this of a site.
-fn asking(
+// The rules that ask this of a site, and those that don't.
+fn parted(
     alloc: Global,
     set: &RuleSet,
     source: BindingId,
     constraint: Constraint,
     here: &[usize],
-) -> Result<Vec<usize>, AllocError>
-    ensures { IfOk result (λ v. v.items ≡ filter (Growing.asks (set_view set.now).rules source (constraint_view constraint)) here.now) }
+) -> Result<(Vec<usize>, Vec<usize>), AllocError>
+    ensures asking { IfOk result (λ p. p.0.items ≡ filter (Growing.asks (set_view set.now).rules source (constraint_view constraint)) here.now) }
+    ensures others { IfOk result (λ p. p.1.items ≡ filter (λ i. not (Growing.asks (set_view set.now).rules source (constraint_view constraint) i)) here.now) }
 {
     here.iter()
         .copied()
-        .filter(|number| asks(set, source, constraint, *number))
-        .collect(alloc)
-}
-
-// The rules that don't.
-fn not_asking(
-    alloc: Global,
-    set: &RuleSet,
-    source: BindingId,
-    constraint: Constraint,
-    here: &[usize],
-) -> Result<Vec<usize>, AllocError>
-    ensures { IfOk result (λ v. v.items ≡ filter (λ i. not (Growing.asks (set_view set.now).rules source (constraint_view constraint) i)) here.now) }
-{
-    here.iter()
-        .copied()
-        .filter(|number| !asks(set, source, constraint, *number))
-        .collect(alloc)
+        .partition(alloc, |number| asks(set, source, constraint, *number))
 }
 
 /// The next arm of a match, of the least constraint that some of these rules ask of its source, and none where none of
@@ -126,12 +110,13 @@ pub fn next_arm(
         return Ok(None);
     };
     let fields = fields_of(alloc, set, source, &constraint)?;
+    let (asking, others) = parted(alloc, set, source, constraint, here)?;
     let inside = in_arm(alloc, set, around, source, &fields)?;
     Ok(Some(NextArm {
         constraint,
         fields,
-        asking: asking(alloc, set, source, constraint, here)?,
-        others: not_asking(alloc, set, source, constraint, here)?,
+        asking,
+        others,
         inside,
     }))
 }

@@ -91,10 +91,7 @@ pub fn all_sites(alloc: Global, set: &RuleSet) -> Result<Vec<BindingId>, AllocEr
 pub fn is_marked(site: BindingId, table: &[bool]) -> bool
     ensures { result ≡ slice_index_or table.now site false }
 {
-    match table.get(site.index()) {
-        Some(mark) => *mark,
-        None => false,
-    }
+    table.get(site.index()).copied().unwrap_or(false)
 }
 
 // Whether all these sites are marked.
@@ -133,10 +130,7 @@ pub fn available_sites(
 pub fn class_of(site: BindingId, names: &[BindingId]) -> BindingId
     ensures { result ≡ slice_index_or names.now site site }
 {
-    match names.get(site.index()) {
-        Some(name) => *name,
-        None => site,
-    }
+    names.get(site.index()).copied().unwrap_or(site)
 }
 
 // The name of a class after the classes of these two names were joined.

@@ -4,7 +4,7 @@ ghost use Rattle.std.specs.Prelude.{◌≡◌, ◌<◌, ◌++◌, ℕ, Contains,
 ghost use Rattle.isle_model.specs.sites.Sites.{sources_at};
 ghost use Rattle.isle_model.specs.trees.Places as Places;
 ghost use Rattle.isle_sets.specs.SiteViews.{set_view};
-ghost use Rattle.isle_serialize.specs.AroundViews.{around_view, IsInside, after_uses, arm_around, loop_around};
+ghost use Rattle.isle_serialize.specs.AroundViews.{around_view, IsInside, after_uses, brings, arm_around, loop_around};
 
 use crate::around::Around;
 use crate::binds::{all_below, sources_of};
@@ -56,6 +56,23 @@ pub fn after_step(
     })
 }
 
+// Around the body of an arm or a loop of a source, which brings these sites, where what it uses is emitted.
+fn bringing(
+    alloc: Global,
+    around: Around,
+    source: BindingId,
+    sites: &[BindingId],
+) -> Result<Around, AllocError>
+    ensures { IfOk result (λ r. around_view r ≡ brings (around_view around) source sites.now) }
+{
+    Ok(Around {
+        sources: chained(alloc, &[source], &around.sources)?,
+        joined: around.joined,
+        brought: chained(alloc, sites, &around.brought)?,
+        emitted: chained(alloc, sites, &around.emitted)?,
+    })
+}
+
 /// Around the body of an arm that brings these fields of a source.
 pub fn in_arm(
     alloc: Global,
@@ -68,14 +85,12 @@ pub fn in_arm(
     ensures { IfOk result (λ r. IsInside (around_view r) (arm_around (set_view set.now) (around_view around.now) source fields.now)) }
 {
     let brought = field_sites(alloc, fields)?;
-    let below = all_below(alloc, set, &[source])?;
-    let used = chained(alloc, &below, &around.emitted)?;
-    Ok(Around {
-        sources: chained(alloc, &[source], &around.sources)?,
-        joined: Vec::from_slice(alloc, &around.joined)?,
-        emitted: chained(alloc, &brought, &used)?,
-        brought: chained(alloc, &brought, &around.brought)?,
-    })
+    bringing(
+        alloc,
+        after_step(alloc, set, around, &[source])?,
+        source,
+        &brought,
+    )
 }
 
 /// Around the body of an equality.
@@ -89,16 +104,9 @@ pub fn in_equal(
     requires { (s a : ℕ) → Contains (sources_at (set_view set.now).sites s) a → a < s }
     ensures { IfOk result (λ r. IsInside (around_view r) (Places.in_equal (set_view set.now) (around_view around.now) a b)) }
 {
-    let below = all_below(alloc, set, &[a, b])?;
-    let mut joined = Vec::new(alloc);
-    joined.push((a, b))?;
-    joined.extend_from_slice(&around.joined)?;
-    Ok(Around {
-        sources: Vec::from_slice(alloc, &around.sources)?,
-        joined,
-        brought: Vec::from_slice(alloc, &around.brought)?,
-        emitted: chained(alloc, &below, &around.emitted)?,
-    })
+    let mut inside = after_step(alloc, set, around, &[a, b])?;
+    inside.joined.insert(0, (a, b))?;
+    Ok(inside)
 }
 
 /// Around the body of a loop over a call's answers, each of which a site stands for.
@@ -112,12 +120,6 @@ pub fn in_loop(
     requires { (s a : ℕ) → Contains (sources_at (set_view set.now).sites s) a → a < s }
     ensures { IfOk result (λ r. IsInside (around_view r) (loop_around (set_view set.now) (around_view around.now) call each)) }
 {
-    let below = all_below(alloc, set, sources_of(set, call))?;
-    let used = chained(alloc, &below, &around.emitted)?;
-    Ok(Around {
-        sources: chained(alloc, &[call], &around.sources)?,
-        joined: Vec::from_slice(alloc, &around.joined)?,
-        brought: chained(alloc, &[each], &around.brought)?,
-        emitted: chained(alloc, &[each], &used)?,
-    })
+    let after = after_step(alloc, set, around, sources_of(set, call))?;
+    bringing(alloc, after, call, &[each])
 }

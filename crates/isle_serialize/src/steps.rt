@@ -11,7 +11,7 @@ use crate::around::Around;
 use crate::binds::{bind_order, sources_of};
 use crate::fields::iterator_of;
 use crate::inside::after_step;
-use crate::tests::{Test, chosen_test, cover, uncovered};
+use crate::tests::{Test, chosen_test, parted};
 use isle_sets::trie_again::{BindingId, RuleSet};
 use std::alloc::{AllocError, Global};
 
@@ -78,11 +78,12 @@ pub fn next_test(
         return Ok(None);
     };
     let sites = sites_of(alloc, &test)?;
+    let (covered, others) = parted(alloc, set, here, &test)?;
     Ok(Some(NextTest {
         test,
         binds: bind_order(alloc, set, around, &sites)?,
-        covered: cover(alloc, set, here, &test)?,
-        others: uncovered(alloc, set, here, &test)?,
+        covered,
+        others,
         after: after_test(alloc, set, around, &test)?,
     }))
 }

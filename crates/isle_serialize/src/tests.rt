@@ -1,6 +1,6 @@
 //! What can be tested at a place of a tree, and which test is the greatest.
 
-ghost use Rattle.std.specs.Prelude.{◌≡◌, ◌<◌, ◌≤◌, ◌&&◌, ◌||◌, ◌==◌, not, false, ℕ, Some, option_map, Contains, IfOk, length, map, slice_get, slice_index_or};
+ghost use Rattle.std.specs.Prelude.{◌≡◌, ◌<◌, ◌≤◌, ◌++◌, ◌&&◌, ◌||◌, not, false, ℕ, Some, option_map, Contains, IfOk, length, map, slice_get, slice_index_or};
 ghost use Rattle.std.specs.List.{list_all, list_any, filter, flat_map};
 ghost use Rattle.isle_model.specs.sites.Sites.{sources_at};
 ghost use Rattle.isle_model.specs.trees.Places.{is_in, joins_in};
@@ -8,7 +8,7 @@ ghost use Rattle.isle_model.specs.trees.Tests as Tests;
 ghost use Rattle.isle_sets.specs.SiteViews.{set_rule_view, set_view};
 ghost use Rattle.isle_serialize.specs.AroundViews.{around_view, ArePairsWithin};
 ghost use Rattle.isle_serialize.specs.declared.tests.Test.TheVariants as Test;
-ghost use Rattle.isle_serialize.specs.TestViews.{test_view, score_view, pairs_at, greater_test, IsGreatestOf, IsChosen, AreUseful};
+ghost use Rattle.isle_serialize.specs.TestViews.{test_view, score_view, is_free, is_pair, pairs_at, greater_test, IsGreatestOf, IsChosen, AreUseful};
 
 use crate::around::{
     Around, all_sites, available_sites, class_of, is_among, is_marked, joined_sites,
@@ -127,34 +127,19 @@ pub fn is_covered(set: &RuleSet, here: &[usize], test: &Test, number: usize) -> 
     needs_at(set, test, number) && can_all_follow(set, here, test, number)
 }
 
-/// The rules of a place that a test covers.
-pub fn cover(
+/// The rules of a place that a test covers, and those that it doesn't.
+pub fn parted(
     alloc: Global,
     set: &RuleSet,
     here: &[usize],
     test: &Test,
-) -> Result<Vec<usize>, AllocError>
-    ensures { IfOk result (λ v. v.items ≡ Tests.cover (set_view set.now).rules here.now (test_view test.now)) }
+) -> Result<(Vec<usize>, Vec<usize>), AllocError>
+    ensures covered { IfOk result (λ p. p.0.items ≡ Tests.cover (set_view set.now).rules here.now (test_view test.now)) }
+    ensures others { IfOk result (λ p. p.1.items ≡ filter (λ i. not (Tests.is_covered (set_view set.now).rules here.now (test_view test.now) i)) here.now) }
 {
     here.iter()
         .copied()
-        .filter(|number| is_covered(set, here, test, *number))
-        .collect(alloc)
-}
-
-/// The rules of a place that a test doesn't cover.
-pub fn uncovered(
-    alloc: Global,
-    set: &RuleSet,
-    here: &[usize],
-    test: &Test,
-) -> Result<Vec<usize>, AllocError>
-    ensures { IfOk result (λ v. v.items ≡ filter (λ i. not (Tests.is_covered (set_view set.now).rules here.now (test_view test.now) i)) here.now) }
-{
-    here.iter()
-        .copied()
-        .filter(|number| !is_covered(set, here, test, *number))
-        .collect(alloc)
+        .partition(alloc, |number| is_covered(set, here, test, *number))
 }
 
 // How many rules of a place a test covers.
@@ -216,7 +201,7 @@ pub fn is_greater(x: Score, y: Score) -> bool
 
 // Whether a site is available, and no arm or loop around has it as its source.
 fn is_open_site(around: &Around, available: &[bool], site: BindingId) -> bool
-    ensures { result ≡ (slice_index_or available.now site false && not (is_in site around.now.sources.items)) }
+    ensures { result ≡ is_free available.now around.now.sources.items site }
 {
     is_marked(site, available) && !is_among(site, &around.sources)
 }
@@ -228,7 +213,7 @@ fn open_sites(
     available: &[bool],
     sites: &[BindingId],
 ) -> Result<Vec<BindingId>, AllocError>
-    ensures { IfOk result (λ v. v.items ≡ filter (λ s. slice_index_or available.now s false && not (is_in s around.now.sources.items)) sites.now) }
+    ensures { IfOk result (λ v. v.items ≡ filter (is_free available.now around.now.sources.items) sites.now) }
 {
     sites
         .iter()
@@ -237,29 +222,25 @@ fn open_sites(
         .collect(alloc)
 }
 
-// A match of each of these sites.
-fn matches_of(alloc: Global, sites: &[BindingId]) -> Result<Vec<Test>, AllocError>
-    ensures { IfOk result (λ v. v.items ≡ map Test.Match sites.now) }
+// A match and a loop of each of these sites, and these equalities between them.
+fn tests_of(
+    alloc: Global,
+    sites: &[BindingId],
+    equalities: &[Test],
+) -> Result<Vec<Test>, AllocError>
+    ensures { IfOk result (λ v. v.items ≡ (map Test.Match sites.now ++ equalities.now) ++ map Test.Loop sites.now) }
 {
     sites
         .iter()
         .map(|site| Test::Match { source: *site })
-        .collect(alloc)
-}
-
-// A loop over the answers of each of these sites.
-fn loops_of(alloc: Global, sites: &[BindingId]) -> Result<Vec<Test>, AllocError>
-    ensures { IfOk result (λ v. v.items ≡ map Test.Loop sites.now) }
-{
-    sites
-        .iter()
-        .map(|site| Test::Loop { source: *site })
+        .chain(equalities.iter().copied())
+        .chain(sites.iter().map(|site| Test::Loop { source: *site }))
         .collect(alloc)
 }
 
 // Whether two sites are available, and the equalities around don't join them.
 fn is_open_pair(available: &[bool], names: &[BindingId], a: BindingId, b: BindingId) -> bool
-    ensures { result ≡ (slice_index_or available.now a false && slice_index_or available.now b false && not (slice_index_or names.now a a == slice_index_or names.now b b)) }
+    ensures { result ≡ is_pair available.now names.now b a }
 {
     is_marked(a, available) && is_marked(b, available) && class_of(a, names) != class_of(b, names)
 }
@@ -272,7 +253,7 @@ fn equalities_of(
     sites: &[BindingId],
     b: BindingId,
 ) -> Result<Vec<Test>, AllocError>
-    ensures { IfOk result (λ v. v.items ≡ map (λ a. Test.Equal a b) (filter (λ a. slice_index_or available.now a false && slice_index_or available.now b false && not (slice_index_or names.now a a == slice_index_or names.now b b)) sites.now)) }
+    ensures { IfOk result (λ v. v.items ≡ map (λ a. Test.Equal a b) (filter (is_pair available.now names.now b) sites.now)) }
 {
     sites
         .iter()
@@ -323,12 +304,8 @@ pub fn useful_tests(
     let names = joined_sites(alloc, set, around)?;
     let free = open_sites(alloc, around, &available, &sites)?;
     let equated = equated_sites(alloc, set, here, &available, &sites)?;
-    let mut tests = matches_of(alloc, &free)?;
-    let mut equalities = all_equalities(alloc, &equated, &names, &sites)?;
-    let mut loops = loops_of(alloc, &free)?;
-    tests.append(&mut equalities)?;
-    tests.append(&mut loops)?;
-    Ok(tests)
+    let equalities = all_equalities(alloc, &equated, &names, &sites)?;
+    tests_of(alloc, &free, &equalities)
 }
 
 // The open pairs of these sites, by the greater one.

@@ -1,5 +1,4 @@
 use Rattle.std.proofs.Common.{◌≡◌, ◌<◌, None, length, refl, sym, subst, arith, rules}
-use Rattle.isle_model.specs.trees.Places as Places
 use Rattle.isle_sets.specs.SiteViews.{set_view}
 use Rattle.isle_serialize.specs.declared.serialize.ControlFlow.{Match, Equal, Loop}
 use Rattle.isle_serialize.specs.declared.serialize.MatchArm.{roll-MatchArm}
@@ -8,10 +7,8 @@ use Rattle.isle_serialize.specs.Growing.{IsBestFrom, IsBestBody, IsStepOf, IsLea
 use Rattle.isle_serialize.specs.TestViews.{test_view, IsChosen}
 use Rattle.isle_serialize.specs.TreeViews.{tree_view, arms_view, check_view}
 use Rattle.isle_serialize.proofs.ArmSteps.{ArmsGrow, arms_start, fewer_left, asking_place, arms_more, arms_whole}
-use Rattle.isle_serialize.proofs.Growth.{from_alike}
-use Rattle.isle_serialize.proofs.InsideSteps.{inside_alike, loop_inside}
-use Rattle.isle_serialize.proofs.PlaceSteps.{covered_place, covered_step, fewer_others, block_more, block_whole, equal_place, equal_fewer, loop_place, loop_fewer, arm_place, arm_fewer, pick_made}
-use Rattle.isle_serialize.proofs.TreeLaws.{block_seen, match_seen, equal_seen, loop_seen, arm_seen}
+use Rattle.isle_serialize.proofs.PlaceSteps.{covered_place, covered_step, fewer_others, block_more, block_whole, equal_place, equal_fewer, equal_body, loop_place, loop_fewer, loop_body, arm_place, arm_fewer, pick_made}
+use Rattle.isle_serialize.proofs.TreeLaws.{block_seen, match_seen, arm_seen}
 use Rattle.isle_serialize.proofs.Untried.{untried}
 use Rattle.isle_serialize.proofs.best.+grow.Goals as goal
 
@@ -90,29 +87,19 @@ check_of-returns-in_ok-arms_of-in-Match t c =
 pub check_of-returns-in_ok-block_of-in-Equal : goal.check_of-returns-in_ok-block_of-in-Equal
 check_of-returns-in_ok-block_of-in-Equal t c =
     let set = set_view c.args.set.now in
-    let around = c.args.around.now in
-    let ar = around_view around in
-    let inside = c.in_ok-inside-in-Equal.inside in
     let here = c.args.here.items in
     let body = c.in_ok-block_of-in-Equal.field-0 in
-    let a = c.in-Equal.a in
-    let b = c.in-Equal.b in
-    let best = from_alike set (around_view inside) (Places.in_equal set ar a b) here (tree_view body) (inside_alike inside (Places.in_equal set ar a b) c.in_ok-inside-in-Equal.ensures) c.in_ok-block_of-in-Equal.ensures in
-    subst (λ u. IsBestBody set ar (test_view u) here (check_view (Equal a b body))) (sym c.in-Equal.is) (tree_view body, equal_seen a b body, best)
+    subst (λ u. IsBestBody set (around_view c.args.around.now) (test_view u) here (check_view (Equal c.in-Equal.a c.in-Equal.b body))) (sym c.in-Equal.is)
+    (equal_body set c.args.around.now c.in_ok-inside-in-Equal.inside here c.in-Equal.a c.in-Equal.b body c.in_ok-inside-in-Equal.ensures c.in_ok-block_of-in-Equal.ensures)
 
 pub check_of-returns-in_ok-block_of-in-Loop : goal.check_of-returns-in_ok-block_of-in-Loop
 check_of-returns-in_ok-block_of-in-Loop t c =
     let set = set_view c.args.set.now in
-    let around = c.args.around.now in
-    let ar = around_view around in
-    let inside = c.in_ok-inside-in-Loop.inside in
     let here = c.args.here.items in
-    let body = c.in_ok-block_of-in-Loop.field-0 in
-    let call = c.in-Loop.source in
     let result = c.pick_of-result.result in
-    let at = c.pick_of-result.ensures in
-    let best = from_alike set (around_view inside) (Places.in_loop set ar result) here (tree_view body) (loop_inside set around call result at inside c.in_ok-inside-in-Loop.ensures) c.in_ok-block_of-in-Loop.ensures in
-    subst (λ u. IsBestBody set ar (test_view u) here (check_view (Loop result body))) (sym c.in-Loop.is) (result, tree_view body, loop_seen result body, at, best)
+    let body = c.in_ok-block_of-in-Loop.field-0 in
+    subst (λ u. IsBestBody set (around_view c.args.around.now) (test_view u) here (check_view (Loop result body))) (sym c.in-Loop.is)
+    (loop_body set c.args.around.now c.in_ok-inside-in-Loop.inside here c.in-Loop.source result body c.pick_of-result.ensures c.in_ok-inside-in-Loop.ensures c.in_ok-block_of-in-Loop.ensures)
 
 -- arms
 pub arms_of-loop-left-init : goal.arms_of-loop-left-init
