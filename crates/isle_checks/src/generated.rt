@@ -273,7 +273,7 @@ impl Maker<'_> {
             self.push_if_let()?;
         }
         self.push(" ")?;
-        self.push_expression(answer)?;
+        self.push_expression(answer, 2)?;
         self.push(")\n")
     }
 
@@ -282,7 +282,7 @@ impl Maker<'_> {
         // chosen before the pattern binds further variables, which the call can't use
         let part = self.bound_name(Kind::Number);
         self.push(" (if-let ")?;
-        self.push_part(Kind::Number)?;
+        self.push_pattern(Kind::Number, 1)?;
         let call = match self.below(3) {
             0 => " (pc ",
             1 if self.flag == Flag::Multi => " (pm ",
@@ -367,38 +367,26 @@ impl Maker<'_> {
 
     // A pattern of a type. The variable before `@` that it may have is bound for what follows.
     fn push_argument(&mut self, kind: Kind) -> Result<(), AllocError> {
-        self.push_pattern(kind)?;
+        self.push_pattern(kind, 2)?;
         if self.has_whole && !self.bound.contains(&Name::Whole) {
             self.bound.push(Name::Whole)?;
         }
         Ok(())
     }
 
-    // A pattern of a type, whose parts may have parts.
-    fn push_pattern(&mut self, kind: Kind) -> Result<(), AllocError> {
+    // A pattern of a type, with parts in so many levels at most.
+    fn push_pattern(&mut self, kind: Kind, levels: u8) -> Result<(), AllocError> {
         let form = self.pattern_form(kind);
-        let Some(shape) = self.pattern_shape(form, kind) else {
+        if levels == 0 {
             return self.push_leaf(form, kind);
-        };
-        self.push(shape.open)?;
-        for part in shape.parts {
-            self.push(" ")?;
-            self.push_part(*part)?;
         }
-        self.push(shape.close)
-    }
-
-    // A pattern of a type, whose parts have none.
-    fn push_part(&mut self, kind: Kind) -> Result<(), AllocError> {
-        let form = self.pattern_form(kind);
         let Some(shape) = self.pattern_shape(form, kind) else {
             return self.push_leaf(form, kind);
         };
         self.push(shape.open)?;
         for part in shape.parts {
-            let form = self.pattern_form(*part);
             self.push(" ")?;
-            self.push_leaf(form, *part)?;
+            self.push_pattern(*part, levels - 1)?;
         }
         self.push(shape.close)
     }
@@ -448,23 +436,11 @@ impl Maker<'_> {
         }
     }
 
-    // An expression of a type, whose parts may have parts.
-    fn push_expression(&mut self, kind: Kind) -> Result<(), AllocError> {
-        let from = self.forms.expressions;
-        let form = self.pick(from);
-        let Some(shape) = self.expression_shape(form, kind) else {
-            return self.push_value(form, kind);
-        };
-        self.push(shape.open)?;
-        for part in shape.parts {
-            self.push(" ")?;
-            self.push_operand(*part)?;
+    // An expression of a type, with parts in so many levels at most.
+    fn push_expression(&mut self, kind: Kind, levels: u8) -> Result<(), AllocError> {
+        if levels == 0 {
+            return self.push_value(Form::Bound, kind);
         }
-        self.push(shape.close)
-    }
-
-    // An expression of a type, whose parts have none.
-    fn push_operand(&mut self, kind: Kind) -> Result<(), AllocError> {
         let from = self.forms.expressions;
         let form = self.pick(from);
         let Some(shape) = self.expression_shape(form, kind) else {
@@ -473,7 +449,7 @@ impl Maker<'_> {
         self.push(shape.open)?;
         for part in shape.parts {
             self.push(" ")?;
-            self.push_value(Form::Bound, *part)?;
+            self.push_expression(*part, levels - 1)?;
         }
         self.push(shape.close)
     }
