@@ -1,5 +1,8 @@
 //! What the tests read: the types of definitions with their terms, or with their rules.
 
+ghost use Rattle.std.specs.Prelude.{IfOk};
+ghost use Rattle.isle_builder.specs.Built.{IsOfElaborated};
+
 use isle_base::syntax::{Def, Fault};
 use isle_rules::TermEnv;
 use isle_terms::TermTable;
@@ -14,7 +17,9 @@ pub fn types_and_terms(alloc: Global, defs: &[Def]) -> Result<(TypeEnv, TermTabl
 }
 
 /// The types and the rules of definitions.
-pub fn types_and_rules(alloc: Global, defs: &[Def]) -> Result<(TypeEnv, TermEnv), Fault> {
+pub fn types_and_rules(alloc: Global, defs: &[Def]) -> Result<(TypeEnv, TermEnv), Fault>
+    ensures { IfOk result (λ x. IsOfElaborated x.1) }
+{
     let mut tyenv = TypeEnv::from_ast(alloc, defs)?;
     let env = TermEnv::from_ast(alloc, &mut tyenv, defs, true)?;
     Ok((tyenv, env))

@@ -1,15 +1,15 @@
 // The sets that are built of typed rules, and what is asked of them.
-ghost use Rattle.std.specs.Prelude.{IfOk};
 ghost use Rattle.isle_builder.specs.Built.{IsOfElaborated};
 
-use isle_base::syntax::{Def, Error, Fault, Limit};
+use crate::readings::types_and_rules;
+use isle_base::syntax::{Error, Limit};
 use isle_builder::build::build;
 use isle_printing::errors::error_lines;
 use isle_printing::places::Places;
 use isle_rules::TermEnv;
 use isle_sets::trie_again::{Binding, BindingId, Constraint, Overlap, Rule, RuleSet};
 use isle_text::read;
-use isle_types::{TermId, TypeEnv, TypeId};
+use isle_types::{TermId, TypeId};
 use std::alloc::{AllocError, Global};
 use std::process::Abort;
 use std::test::Fail;
@@ -23,25 +23,22 @@ fn int(val: i128) -> Binding {
     Binding::ConstInt { val, ty }
 }
 
-// The typed rules of definitions.
-fn rules_of(alloc: Global, defs: &[Def]) -> Result<TermEnv, Fault>
-    ensures { IfOk result IsOfElaborated }
-{
-    let mut tyenv = TypeEnv::from_ast(alloc, defs)?;
-    let env = TermEnv::from_ast(alloc, &mut tyenv, defs, true)?;
-    Ok(env)
-}
-
 // The set of the only term with rules, and the errors of its rules that are left out.
-fn set_of(alloc: Global, text: &str) -> Result<(RuleSet, Vec<Error>), Fail> {
-    let env = rules_of(alloc, &read(alloc, 0, text)?)?;
-    let (sets, errors) = build(alloc, &env)?;
+fn set_in(alloc: Global, env: &TermEnv) -> Result<(RuleSet, Vec<Error>), Fail>
+    requires { IsOfElaborated env.now }
+{
+    let (sets, errors) = build(alloc, env)?;
     for (term, set) in sets {
         if term == TermId(0) {
             return Ok((set, errors));
         }
     }
     Err(Fail::from("no set of the first term"))
+}
+
+fn set_of(alloc: Global, text: &str) -> Result<(RuleSet, Vec<Error>), Fail> {
+    let (_, env) = types_and_rules(alloc, &read(alloc, 0, text)?)?;
+    set_in(alloc, &env)
 }
 
 const TWO_RULES: &str = "(decl f (u8 u8) u8) (rule (f x @ 2 (and x 3)) 1) (rule (f 4 _) 5)";

@@ -1,6 +1,22 @@
+use Rattle.std.proofs.Common.{true}
+use Rattle.isle_base.specs.SyntaxViews.{definition_views}
 use Rattle.isle_laws_lists.proofs.OwnTypes.{own_types_are_readable_lem}
+use Rattle.isle_model.specs.claims.Environments.{types_read}
 use Rattle.isle_table_checks.proofs.readings.types_and_rules.Goals as goal
 
 -- valid types can be read, and the type table is read as them
 pub from_ast-requires-2 : goal.from_ast-requires-2
 from_ast-requires-2 c = let shown = c.in_ok-tyenv.ensures.shown in (own_types_are_readable_lem _ shown.valid, shown.shown)
+
+-- the environment is that of the definitions
+pub returns : goal.returns
+returns c =
+    let a = c.in_ok-env.ensures.answers.1 in
+    record {
+      types = types_read (definition_views c.args.defs.now);
+      defs = definition_views c.args.defs.now;
+      expand = true;
+      rules = a.0;
+      elaborated = a.1.elaborated;
+      shown = record { terms = a.1.rows.table; rules = a.1.typed };
+    }
