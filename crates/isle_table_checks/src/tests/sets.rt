@@ -1,5 +1,11 @@
 // The sets that are built of typed rules, and what is asked of them.
+ghost use Rattle.std.specs.Prelude.{IsSome, IsTrue};
 ghost use Rattle.isle_builder.specs.Built.{IsOfElaborated};
+ghost use Rattle.isle_model.specs.claims.Questions.{variant_by_id};
+ghost use Rattle.isle_rules.specs.TermEnvs.{term_in_env, variant_term_in};
+ghost use Rattle.isle_sets.specs.SiteViews.{site_view};
+ghost use Rattle.isle_sets.specs.VariantTerms.{HasTermIfMade};
+ghost use Rattle.isle_types.specs.TypeViews.{type_views};
 
 use crate::readings::types_and_rules;
 use isle_base::syntax::{Error, Limit};
@@ -9,7 +15,7 @@ use isle_printing::places::Places;
 use isle_rules::TermEnv;
 use isle_sets::trie_again::{Binding, BindingId, Constraint, Overlap, Rule, RuleSet};
 use isle_text::read;
-use isle_types::{TermId, TypeId};
+use isle_types::{TermId, Type, TypeEnv, TypeId, VariantId};
 use std::alloc::{AllocError, Global};
 use std::process::Abort;
 use std::test::Fail;
@@ -75,6 +81,66 @@ fn what_an_arm_brings(rt: HostRuntime) -> Result<(), Fail> {
     let brought = Constraint::Some.bindings_for(rt.alloc(), site(0))?;
     let wanted = Binding::MatchSome { source: site(0) };
     assert!(rt; brought.len() == 1 && brought.first() == Some(&wanted));
+    Ok(())
+}
+
+// Whether a variant is one of these types', and its full name a term's.
+fn has_variant_term(tyenv: &TypeEnv, env: &TermEnv, ty: TypeId, variant: VariantId) -> bool
+    ensures variant { IsTrue result → IsSome (variant_by_id (type_views tyenv.now.types.items) ty.0 variant.0) }
+    ensures term { IsTrue result → IsSome (variant_term_in env.now tyenv.now ty.0 variant.0) }
+{
+    let Some(Type::Enum { variants, .. }) = tyenv.types.get(ty.index()) else {
+        return false;
+    };
+    match variants.get(variant.index()) {
+        Some(variant) => env.term_map.get(&variant.fullname).is_some(),
+        None => false,
+    }
+}
+
+// Whether the variant that a site makes, if it makes one, is one of these types', and its full name a term's.
+fn has_term_if_made(tyenv: &TypeEnv, env: &TermEnv, site: &Binding) -> bool
+    ensures { IsTrue result → HasTermIfMade (type_views tyenv.now.types.items) (term_in_env env.now) (site_view site.now) }
+{
+    match site {
+        Binding::MakeVariant { ty, variant, .. } => has_variant_term(tyenv, env, *ty, *variant),
+        _ => true,
+    }
+}
+
+// The term that a site speaks of, by its name.
+fn term_name<'a>(
+    tyenv: &'a TypeEnv,
+    env: &'a TermEnv,
+    site: &Binding,
+) -> Result<Option<&'a str>, Fail> {
+    if !has_term_if_made(tyenv, env, site) {
+        return Err(Fail::from("a variant without a term"));
+    }
+    let Some(id) = site.term(tyenv, env) else {
+        return Ok(None);
+    };
+    let Some(term) = env.terms.get(id.index()) else {
+        return Err(Fail::from("no such term"));
+    };
+    Ok(Some(tyenv.text_of(term.name)))
+}
+
+// What a call and a made variant are the terms of; a constant is of none.
+#[test]
+fn which_terms_sites_speak_of(rt: HostRuntime) -> Result<(), Fail> {
+    let alloc = rt.alloc();
+    let text =
+        "(type T (enum (A) (B (x u8)))) (decl f (u8) T) (decl g (u8) u8) (extern constructor g g_fn) (rule (f _) (T.B (g 2)))";
+    let (tyenv, env) = types_and_rules(alloc, &read(alloc, 0, text)?)?;
+    let (set, _) = set_in(alloc, &env)?;
+    let [argument, constant, call, made] = set.bindings.as_slice() else {
+        return Err(Fail::from("not four sites"));
+    };
+    assert_eq!(rt; term_name(&tyenv, &env, argument)?, None);
+    assert_eq!(rt; term_name(&tyenv, &env, constant)?, None);
+    assert_eq!(rt; term_name(&tyenv, &env, call)?, Some("g"));
+    assert_eq!(rt; term_name(&tyenv, &env, made)?, Some("T.B"));
     Ok(())
 }
 
