@@ -1,6 +1,6 @@
 -- What is kept of a place says the same as what is around it, inside tests too.
 use Rattle.std.proofs.Common.{◌≡◌, ℕ, List, [], ◌∷◌, ◌++◌, Option, Some, slice_get, flat_map, refl, sym, ap, ◌∙◌}
-use Rattle.std.proofs.lemmas.List.{append_assoc}
+use Rattle.std.proofs.lemmas.List.{append-nil, append_assoc}
 use Rattle.isle_model.specs.sites.Sites.{iterator_site, Constraint, SiteSet, sources_at}
 use Rattle.isle_model.specs.trees.Trees.{m_loop, m_no_step}
 use Rattle.isle_model.specs.trees.Places as Places
@@ -12,10 +12,6 @@ use Rattle.isle_serialize.proofs.Alike.{Alike}
 
 pub inside_alike : (a : Around) (ar : Places.Around) → IsInside (around_view a) ar → Alike (around_view a) ar
 inside_alike a ar h = record { sources = λ s. ap (is_in s) h.sources; joined = h.joined; brought = h.brought; emitted = h.emitted }
-
-nothing_behind : (xs : List ℕ) → xs ++ [] ≡ xs
-nothing_behind [] = refl
-nothing_behind (x ∷ xs) = ap (λ l. x ∷ l) (nothing_behind xs)
 
 module _ (set : SiteSet) (around : Around) where
   abbrev ar : Places.Around
@@ -37,7 +33,7 @@ module _ (set : SiteSet) (around : Around) where
     one_source = sources_there set result call at
 
     below : flat_map (λ s. all_below set.sites (sources_at set.sites s)) (sources_at set.sites result) ≡ all_below set.sites (sources_at set.sites call)
-    below = ap (flat_map (λ s. all_below set.sites (sources_at set.sites s))) one_source ∙ nothing_behind (all_below set.sites (sources_at set.sites call))
+    below = ap (flat_map (λ s. all_below set.sites (sources_at set.sites s))) one_source ∙ append-nil (all_below set.sites (sources_at set.sites call))
 
     pub loop_inside : (a : Around) → IsInside (around_view a) (loop_around set ar call result) → Alike (around_view a) (in_loop set ar result)
     loop_inside a h =

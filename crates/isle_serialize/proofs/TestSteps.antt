@@ -2,7 +2,7 @@
 use Rattle.std.proofs.Common.{◌≡◌, ℕ, zero, suc, ◌+◌, ◌<◌, ◌≤◌, ◌==◌, nat_lt, Bool, true, false, not, ◌&&◌, ◌||◌, cond, List, [], ◌∷◌, ◌++◌, map, length, take, get_or, Option, Some, None, slice_get, slice_index_or, Contains, refl, sym, ap, ◌∙◌, subst, inl, inr, ◌⊎◌, arith, ltb-false, lt-ltb, length-append}
 use Rattle.std.specs.List.{filter, flat_map, list_all, list_any}
 use Rattle.std.proofs.lemmas.Bool.{cases_Bool, cond-true, cond-false, false≢true, cases_lt, or_left, or_right, or_cases, and_parts, and_from}
-use Rattle.std.proofs.lemmas.List.{append-nil, map-append, take_all, take_more}
+use Rattle.std.proofs.lemmas.List.{append-nil, map-append, nil_from_length, take_all, take_more}
 use Rattle.std.proofs.lemmas.List.Elements.{Contains-append_left, Contains-append_right, Contains-append_cases}
 use Rattle.std.proofs.lemmas.Grind.{flat_map-append}
 use Rattle.isle_model.specs.sites.Sites.{SetRule, SiteSet}
@@ -11,12 +11,14 @@ use Rattle.isle_model.specs.trees.Tests as Tests
 use Rattle.isle_model.specs.trees.Tests.{match_test, equal_test, loop_test, cover, is_at_hand, is_open_site, is_open_pair, IsOpen, up_to, open_sites, open_pairs_at, open_tests, score, is_greater, is_needed, needs_at, is_lower, is_covered}
 use Rattle.isle_model.specs.trees.Best.{IsGreatest}
 use Rattle.isle_model.proofs.Members.{nothing_in, in_head, in_tail, in_alone, from_up_to, in_map, from_map, in_filter, from_filter, in_flat_map, from_flat_map, passes_any}
+use Rattle.isle_laws_runs.proofs.runs.Demanded.{joined_itself, joined_back}
 use Rattle.isle_laws_trees.proofs.OpenTests.{open_listed, listed_open}
 use Rattle.isle_laws_trees.proofs.Scores.{scores_are_ordered_lem}
 use Rattle.isle_serialize.specs.declared.tests.Test.{Test}
 use Rattle.isle_serialize.specs.declared.tests.Test.TheVariants.{Match, Equal, Loop}
 use Rattle.isle_serialize.specs.AroundViews.{availability, class_names}
 use Rattle.isle_serialize.specs.TestViews.{test_view, test_views, is_free, is_pair, pairs_at, greater_test, IsGreatestOf, IsChosen, AreUseful}
+use Rattle.isle_serialize.proofs.Growth.{none_kept}
 use Rattle.isle_serialize.proofs.Tables.{table_entry, marked_site, names_start}
 
 -- 1. numbers below n
@@ -171,30 +173,13 @@ module _ (rules : List SetRule) (here : List ℕ) where
   abbrev IsEquated : ℕ → Bool
   IsEquated s = list_any (needs_at rules (equal_test s s)) here
 
-  -- a class that has two sites has each of them
-  first_joined : (cs : List (List ℕ)) (a b : ℕ) → joins_in cs a b ≡ true → joins_in cs a a ≡ true
-  first_joined [] a b h = h
-  first_joined (c ∷ cs) a b h =
-      elim (or_cases (is_in a c && is_in b c) (joins_in cs a b) h) [
-        | inl t ↦ let q = and_parts (is_in a c) (is_in b c) t in or_left (is_in a c && is_in a c) (joins_in cs a a) (and_from (is_in a c) (is_in a c) q.0 q.0)
-        | inr r ↦ or_right (is_in a c && is_in a c) (joins_in cs a a) (first_joined cs a b r)
-      ]
-
-  other_joined : (cs : List (List ℕ)) (a b : ℕ) → joins_in cs a b ≡ true → joins_in cs b b ≡ true
-  other_joined [] a b h = h
-  other_joined (c ∷ cs) a b h =
-      elim (or_cases (is_in a c && is_in b c) (joins_in cs a b) h) [
-        | inl t ↦ let q = and_parts (is_in a c) (is_in b c) t in or_left (is_in b c && is_in b c) (joins_in cs b b) (and_from (is_in b c) (is_in b c) q.1 q.1)
-        | inr r ↦ or_right (is_in b c && is_in b c) (joins_in cs b b) (other_joined cs a b r)
-      ]
-
   first_needs : (o : Option SetRule) (a b : ℕ) → is_needed (equal_test a b) o ≡ true → is_needed (equal_test a a) o ≡ true
   first_needs None a b h = h
-  first_needs (Some r) a b h = first_joined r.classes a b h
+  first_needs (Some r) a b h = joined_itself r.classes a b h
 
   other_needs : (o : Option SetRule) (a b : ℕ) → is_needed (equal_test a b) o ≡ true → is_needed (equal_test b b) o ≡ true
   other_needs None a b h = h
-  other_needs (Some r) a b h = other_joined r.classes a b h
+  other_needs (Some r) a b h = joined_itself r.classes b a (joined_back r.classes a b h)
 
   -- what a test covers needs it
   covers_none : (t : Tests.Test) → ((i : ℕ) → Contains here i → needs_at rules t i ≡ true → ⊥) → cover rules here t ≡ []
@@ -204,10 +189,6 @@ module _ (rules : List SetRule) (here : List ℕ) where
         | inl y ↦ absurd (h i c (and_parts (needs_at rules t i) (list_all (λ j. needs_at rules t j || not (is_lower rules i j)) here) y).0)
         | inr f ↦ f
       ])
-    where
-      none_kept : (p : ℕ → Bool) (xs : List ℕ) → ((x : ℕ) → Contains xs x → p x ≡ false) → filter p xs ≡ []
-      none_kept p [] h = refl
-      none_kept p (x ∷ xs) h = cond-false (p x) (x ∷ filter p xs) (filter p xs) (h x (in_head x xs)) ∙ none_kept p xs (λ y c. h y (in_tail x y xs c))
 
   pub first_apart : (a b : ℕ) → IsEquated a ≡ false → cover rules here (equal_test a b) ≡ []
   first_apart a b f = covers_none (equal_test a b) (λ i c n. false≢true (sym f ∙ passes_any (needs_at rules (equal_test a a)) here i c (first_needs (slice_get rules i) a b n)))
@@ -331,10 +312,6 @@ count_is set ar here (match_test s) = refl
 count_is set ar here (equal_test a b) = refl
 count_is set ar here (loop_test s) = refl
 
-nothing_of : (xs : List ℕ) → length xs ≡ 0 → xs ≡ []
-nothing_of [] e = refl
-nothing_of (x ∷ xs) e = absurd (omega arith)
-
 module _ (set : SiteSet) (ar : Around) (here : List ℕ) (tests : List Test) (useful : AreUseful set ar here tests) where
   abbrev rank : Tests.Test → Tests.Score
   rank u = score set ar here u
@@ -385,6 +362,6 @@ module _ (set : SiteSet) (ar : Around) (here : List ℕ) (tests : List Test) (us
     | inl r ↦
         let f = subst (λ v. is_greater (rank v) (rank (test_view t)) ≡ false) r.2 (g.1 r.0 r.1) in
         let k = counts_less (test_view t) u f in
-        nothing_of (cover set.rules here u) (omega (arith, k, e, l))
+        nil_from_length (cover set.rules here u) (omega (arith, k, e, l))
     | inr n ↦ n
   ]

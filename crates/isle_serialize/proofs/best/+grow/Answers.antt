@@ -1,10 +1,10 @@
-use Rattle.std.proofs.Common.{◌≡◌, ◌<◌, None, length, refl, sym, subst, arith, rules}
+use Rattle.std.proofs.Common.{◌≡◌, ◌<◌, length, refl, sym, subst, subst₂, arith, rules}
 use Rattle.isle_sets.specs.SiteViews.{set_view}
 use Rattle.isle_serialize.specs.declared.serialize.ControlFlow.{Match, Equal, Loop}
 use Rattle.isle_serialize.specs.declared.serialize.MatchArm.{roll-MatchArm}
 use Rattle.isle_serialize.specs.AroundViews.{around_view}
-use Rattle.isle_serialize.specs.Growing.{IsBestFrom, IsBestBody, IsStepOf, IsLeastAsked, IsNextTest, IsNext, IsNextArm, IsNextArmOf}
-use Rattle.isle_serialize.specs.TestViews.{test_view, IsChosen}
+use Rattle.isle_serialize.specs.Growing.{IsBestFrom, IsBestBody, IsStepOf, IsNext, IsNextArmOf}
+use Rattle.isle_serialize.specs.TestViews.{test_view}
 use Rattle.isle_serialize.specs.TreeViews.{tree_view, arms_view, check_view}
 use Rattle.isle_serialize.proofs.ArmSteps.{ArmsGrow, arms_start, fewer_left, asking_place, arms_more, arms_whole}
 use Rattle.isle_serialize.proofs.PlaceSteps.{covered_place, covered_step, fewer_others, block_more, block_whole, equal_place, equal_fewer, equal_body, loop_place, loop_fewer, loop_body, arm_place, arm_fewer, pick_made}
@@ -19,7 +19,7 @@ block_of-check_of-requires t c =
     let ar = around_view c.loop-around.around in
     let left = c.loop-around.left.items in
     let next = c.in-Some.next in
-    let h = subst (λ l. IsNextTest set ar l next) c.deref.ensures.value (subst (IsNext set ar c.deref.result.now) c.in-Some.is c.in_ok-next.ensures) in
+    let h = subst₂ (IsNext set ar) c.deref.ensures.value c.in-Some.is c.in_ok-next.ensures in
     let same : untried (length set.sites) ar ≡ untried (length set.sites) (around_view c.args.around) = c.loop-around.invariant.as_many in
     (search (rules, arith, same), (c.requires.set, (covered_place set ar left next h c.loop-around.invariant.place, covered_step set ar left next h)))
 
@@ -28,7 +28,7 @@ block_of-loop-around-smaller t c =
     let set = set_view c.args.set.now in
     let ar = around_view c.loop-around.around in
     let next = c.in-Some.next in
-    let h = subst (λ l. IsNextTest set ar l next) c.deref.ensures.value (subst (IsNext set ar c.deref.result.now) c.in-Some.is c.in_ok-next.ensures) in
+    let h = subst₂ (IsNext set ar) c.deref.ensures.value c.in-Some.is c.in_ok-next.ensures in
     fewer_others set ar c.loop-around.left.items next h
 
 pub block_of-loop-around-preserved : goal.block_of-loop-around-preserved
@@ -36,7 +36,7 @@ block_of-loop-around-preserved t c =
     let set = set_view c.args.set.now in
     let ar = around_view c.loop-around.around in
     let next = c.in-Some.next in
-    let h = subst (λ l. IsNextTest set ar l next) c.deref.ensures.value (subst (IsNext set ar c.deref.result.now) c.in-Some.is c.in_ok-next.ensures) in
+    let h = subst₂ (IsNext set ar) c.deref.ensures.value c.in-Some.is c.in_ok-next.ensures in
     block_more set (around_view c.args.around) c.args.here.items c.loop-around.around c.loop-around.left.items next c.loop-around.steps.items c.push.new.self.items
     (record { bind_order = next.binds; check = c.in_ok-check.check }) h refl c.in_ok-check.ensures c.in_ok-push.ensures.items c.loop-around.invariant
 
@@ -45,7 +45,7 @@ block_of-returns t c =
     let set = set_view c.args.set.now in
     let ar = around_view c.loop-around.around in
     let left = c.loop-around.left.items in
-    let over = subst (λ l. IsChosen set ar l None) c.deref.ensures.value (subst (IsNext set ar c.deref.result.now) c.in_default.is c.in_ok-next.ensures) in
+    let over = subst₂ (IsNext set ar) c.deref.ensures.value c.in_default.is c.in_ok-next.ensures in
     subst (IsBestFrom set (around_view c.args.around) c.args.here.items) (sym (block_seen c.append.new.self))
     (block_whole set (around_view c.args.around) c.args.here.items ar left c.loop-around.steps.items c.in_ok-ends.ends.items c.append.new.self.items over c.in_ok-ends.ensures c.in_ok-append.ensures.items c.loop-around.invariant)
 
@@ -114,7 +114,7 @@ arms_of-block_of-requires t c =
     let around = c.args.around.now in
     let left = c.loop-left.left.items in
     let next = c.in-Some.next in
-    let h = subst (λ l. IsNextArm set (around_view around) c.args.source l next) c.deref.ensures.value (subst (IsNextArmOf set (around_view around) c.args.source c.deref.result.now) c.in-Some.is c.in_ok-next.ensures) in
+    let h = subst₂ (IsNextArmOf set (around_view around) c.args.source) c.deref.ensures.value c.in-Some.is c.in_ok-next.ensures in
     let smaller : untried (length set.sites) (around_view next.inside) < untried (length set.sites) (around_view around) = arm_fewer set around next.inside left c.args.source next.fields.items c.requires.step.open_here h.inside in (
       search (rules, arith, smaller),
       (
@@ -128,7 +128,7 @@ arms_of-loop-left-smaller t c =
     let set = set_view c.args.set.now in
     let around = c.args.around.now in
     let next = c.in-Some.next in
-    let h = subst (λ l. IsNextArm set (around_view around) c.args.source l next) c.deref.ensures.value (subst (IsNextArmOf set (around_view around) c.args.source c.deref.result.now) c.in-Some.is c.in_ok-next.ensures) in
+    let h = subst₂ (IsNextArmOf set (around_view around) c.args.source) c.deref.ensures.value c.in-Some.is c.in_ok-next.ensures in
     fewer_left set around c.args.source c.args.here.items c.loop-left.left.items next h
 
 pub arms_of-loop-left-preserved : goal.arms_of-loop-left-preserved
@@ -137,7 +137,7 @@ arms_of-loop-left-preserved t c =
     let around = c.args.around.now in
     let next = c.in-Some.next in
     let body = c.in_ok-block_of.field-0 in
-    let h = subst (λ l. IsNextArm set (around_view around) c.args.source l next) c.deref.ensures.value (subst (IsNextArmOf set (around_view around) c.args.source c.deref.result.now) c.in-Some.is c.in_ok-next.ensures) in
+    let h = subst₂ (IsNextArmOf set (around_view around) c.args.source) c.deref.ensures.value c.in-Some.is c.in_ok-next.ensures in
     arms_more set around c.args.source c.args.here.items c.loop-left.left.items next h c.loop-left.arms.items c.push.new.self.items
     (roll-MatchArm record { constraint = next.constraint; bindings = next.fields; body = body }) (tree_view body) c.in_ok-push.ensures.items
     (λ rest. arm_seen next.constraint next.fields body rest) c.in_ok-block_of.ensures c.loop-left.invariant
@@ -147,5 +147,5 @@ arms_of-returns t c =
     let set = set_view c.args.set.now in
     let around = c.args.around.now in
     let left = c.loop-left.left.items in
-    let none = subst (λ l. IsLeastAsked set.rules c.args.source l None) c.deref.ensures.value (subst (IsNextArmOf set (around_view around) c.args.source c.deref.result.now) c.in_default.is c.in_ok-next.ensures) in
+    let none = subst₂ (IsNextArmOf set (around_view around) c.args.source) c.deref.ensures.value c.in_default.is c.in_ok-next.ensures in
     arms_whole set around c.args.source c.args.here.items left c.loop-left.arms.items none c.requires.step c.loop-left.invariant
