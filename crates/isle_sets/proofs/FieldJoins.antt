@@ -136,6 +136,16 @@ module _ {S : Type 0} (parts done : List Part) (old ks after : List (List ℕ)) 
     joined = kept m.first.field m.second.field m.joined;
   }
 
+  -- as far as no round is looked at
+  pub joined_more : IsRound parts [] old after next false
+  joined_more = record {
+    kept = next_kept;
+    least = next_least;
+    known = next_known;
+    settled = λ e q i. absurd i;
+    more = λ e. absurd (false≢true e);
+  }
+
   pub round_stays : (after ≡ ks) × StandsFirst after next p → IsRound parts (done ++ p ∷ []) old after next changed
   round_stays stayed = record {
     kept = next_kept;

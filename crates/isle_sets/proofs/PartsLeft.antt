@@ -12,7 +12,7 @@ use Rattle.std.proofs.lemmas.List.Filters.{length-filter_both}
 use Rattle.std.proofs.lemmas.List.Elements.{filter-append}
 use Rattle.std.proofs.lemmas.List.Sums.{length-filter, count_by-le-length}
 use Rattle.isle_model.proofs.Elements.{In, contains_from_in, in_from_contains, in_left, in_right, in_either, in_filter, filter_from, passed_filter}
-use Rattle.isle_sets.specs.Endings.{class_ends, ClassEnds, count_in, GoOnForEver, items_of, listed_at, PartsAreTaken, times, wholes_in}
+use Rattle.isle_sets.specs.Endings.{class_ends, ClassEnds, ClassIsTaken, count_in, GoOnForEver, items_of, listed_at, PartsAreTaken, times, wholes_in}
 use Rattle.isle_sets.specs.Verdicts.{class_head}
 use Rattle.isle_sets.specs.declared.closure_classes.Part.{Part}
 
@@ -77,8 +77,8 @@ one_in [] n = absurd (n refl)
 one_in (y ∷ xs) n = (y, inl refl)
 
 -- 2. classes by the maps that have them
--- a class is listed for one more
-pub listed_more : (old mid new : BTreeMap ℕ (Vec ℕ)) (class whole : ℕ) (listed : Vec ℕ) → listed.items ≡ listed_at old class ++ whole ∷ [] → ((k : ℕ) → listed_at mid k ≡ (if nat_eq class k then [] else listed_at old k))
+-- the list of a class has one more
+pub listed_more : {X : Type 0} (old mid new : BTreeMap ℕ (Vec X)) (class : ℕ) (whole : X) (listed : Vec X) → listed.items ≡ listed_at old class ++ whole ∷ [] → ((k : ℕ) → listed_at mid k ≡ (if nat_eq class k then [] else listed_at old k))
     → Updates nat_cmp mid new class (Some listed) → (k : ℕ) → listed_at new k ≡ listed_at old k ++ (if nat_eq class k then whole ∷ [] else [])
 listed_more old mid new class whole listed e rest u k =
     elim (cases_Bool (nat_eq class k)) [
@@ -261,11 +261,20 @@ module _ (ks : List (List ℕ)) (parts : List Part) where
         let all = a.many in
         omega (arith, is, images, two, all)
 
+    -- leaving out a class that ends makes less of what is left to be done
+    pub fewer_left : (rest : List ℕ) (k : ℕ) → AreCounted left wholes counts (rest ++ k ∷ []) number → (wholes' : ℕ → List ℕ) (counts' : ℕ → ℕ) (now : List ℕ) (many : ℕ)
+        → ClassIsTaken wholes wholes' counts counts' k rest now many → (number - many) + (number - many) + length now < number + number + length (rest ++ k ∷ [])
+    fewer_left rest k a wholes' counts' now many t =
+        let few = few_kept (rest ++ k ∷ []) a k in
+        let is = t.many in
+        let more = t.parts.few in
+        let all = length-append rest (k ∷ []) in
+        omega (arith, few, is, more, all)
+
     -- the parts whose class ends are left out
-    pub one_taken : (rest : List ℕ) (k : ℕ) → AreCounted left wholes counts (rest ++ k ∷ []) number → (wholes' : ℕ → List ℕ) (counts' : ℕ → ℕ) (now : List ℕ) (number' : ℕ)
-        → number' + length (wholes k) ≡ number → ((q : ℕ) → wholes' q ≡ (if nat_eq k q then [] else wholes q)) → PartsAreTaken counts counts' (wholes k) rest now
-        → AreCounted (filter (λ p. not (nat_eq (class p) k)) left) wholes' counts' now number'
-    one_taken rest k a wholes' counts' now number' minus without t = record {
+    pub one_taken : (rest : List ℕ) (k : ℕ) → AreCounted left wholes counts (rest ++ k ∷ []) number → (wholes' : ℕ → List ℕ) (counts' : ℕ → ℕ) (now : List ℕ) (many : ℕ)
+        → ClassIsTaken wholes wholes' counts counts' k rest now many → AreCounted (filter (λ p. not (nat_eq (class p) k)) left) wholes' counts' now (number - many)
+    one_taken rest k a wholes' counts' now taken_many taken = record {
       are_left = record {
         within = λ p i. a.are_left.within p (in_filter other left p i);
         gone = λ p i. elim (a.are_left.gone p i) [
@@ -282,26 +291,27 @@ module _ (ks : List (List ℕ)) (parts : List Part) where
           let images = length-map (filter (λ p. nat_eq (class p) k) left) whole in
           let two = length-filter_both (λ p. nat_eq (class p) k) other (λ p. refl) left in
           let all = a.many in
-          omega (arith, is, images, two, all, minus);
-      kept = λ q. without q ∙ kept_still q (cases_Bool (nat_eq k q));
+          let most = taken.many in
+          omega (arith, is, images, two, all, most);
+      kept = λ q. taken.rest q ∙ kept_still q (cases_Bool (nat_eq k q));
       counted = λ q.
           let was = a.counted q in
-          let is = t.counts q in
-          let taken = ap (times q) (a.kept k) ∙ filter_images whole (λ j. nat_eq j q) (filter (λ p. nat_eq (class p) k) left) in
+          let is = taken.parts.counts q in
+          let gone = ap (times q) (a.kept k) ∙ filter_images whole (λ j. nat_eq j q) (filter (λ p. nat_eq (class p) k) left) in
           let two = split_filter (λ p. nat_eq (whole p) q) (λ p. nat_eq (class p) k) left in
-          omega (arith, was, is, taken, two);
+          omega (arith, was, is, gone, two);
       all = λ p i none.
           let j = in_filter other left p i in
           elim (cases_nat (counts (class p))) [
             | inl z ↦
                 elim (in_either rest (k ∷ []) (class p) (a.all p j z)) [
-                  | inl r ↦ in_from_contains now (class p) (t.kept (class p) (contains_from_in rest (class p) r))
+                  | inl r ↦ in_from_contains now (class p) (taken.parts.kept (class p) (contains_from_in rest (class p) r))
                   | inr o ↦ absurd (another p i o)
                 ]
-            | inr n ↦ in_from_contains now (class p) (t.met (class p) (omega (arith, n)) none)
+            | inr n ↦ in_from_contains now (class p) (taken.parts.met (class p) (omega (arith, n)) none)
           ];
-      only = λ q i. elim (t.only q (contains_from_in now q i)) [
-        | inl r ↦ let z = a.only q (in_left rest (k ∷ []) q (in_from_contains rest q r)) in let is = t.counts q in omega (arith, z, is)
+      only = λ q i. elim (taken.parts.only q (contains_from_in now q i)) [
+        | inl r ↦ let z = a.only q (in_left rest (k ∷ []) q (in_from_contains rest q r)) in let is = taken.parts.counts q in omega (arith, z, is)
         | inr z ↦ z
       ];
     }

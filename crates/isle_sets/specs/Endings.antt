@@ -1,5 +1,5 @@
 -- Classes that are parts of classes, at any depth, over the numbers of sites.
-use Rattle.std.specs.Prelude.{◌≡◌, ◌⊎◌, ℕ, ◌+◌, ◌-◌, ◌<◌, ◌≤◌, List, [], length, map, Contains, Option, Some, None, nat_eq}
+use Rattle.std.specs.Prelude.{◌≡◌, ◌⊎◌, ℕ, ◌+◌, ◌-◌, ◌<◌, ◌≤◌, List, [], length, map, Contains, Option, Some, None, nat_eq, if◌then◌else◌}
 use Rattle.std.specs.BTreeMap.{BTreeMap, get}
 use Rattle.std.specs.Global.{Vec}
 use Rattle.std.specs.List.{filter}
@@ -27,15 +27,15 @@ count_in ks parts class = length (filter (λ p. nat_eq (class_head ks p.source) 
 abbrev pub wholes_in : List (List ℕ) → List Part → ℕ → List ℕ
 wholes_in ks parts class = map (λ p. class_head ks p.source) (filter (λ p. nat_eq (class_head ks p.field) class) parts)
 
--- what maps have of a class: a number, and classes
+-- what maps have of a class: a number, and a list
 abbrev pub count_at : BTreeMap ℕ ℕ → ℕ → ℕ
 count_at m class = unwrap_or (get nat_cmp m class) 0
 
-abbrev pub items_of : Option (Vec ℕ) → List ℕ
+abbrev pub items_of : {X : Type 0} → Option (Vec X) → List X
 items_of None = []
 items_of (Some v) = v.items
 
-abbrev pub listed_at : BTreeMap ℕ (Vec ℕ) → ℕ → List ℕ
+abbrev pub listed_at : {X : Type 0} → BTreeMap ℕ (Vec X) → ℕ → List X
 listed_at m class = items_of (get nat_cmp m class)
 
 -- how often a class stands in a list
@@ -49,3 +49,9 @@ pub record PartsAreTaken (before after : ℕ → ℕ) (wholes ended now : List �
   pub met : (k : ℕ) → 0 < before k → after k ≡ 0 → Contains now k
   pub only : (k : ℕ) → Contains now k → Contains ended k ⊎ (after k ≡ 0)
   pub few : length now ≤ length ended + length wholes
+
+-- a class that ends is left out, as a part of so many
+pub record ClassIsTaken (wholes others : ℕ → List ℕ) (before after : ℕ → ℕ) (class : ℕ) (ended now : List ℕ) (number : ℕ) : Type 0 where
+  pub many : number ≡ length (wholes class)
+  pub rest : (k : ℕ) → others k ≡ (if nat_eq class k then [] else wholes k)
+  pub parts : PartsAreTaken before after (wholes class) ended now

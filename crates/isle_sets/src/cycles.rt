@@ -1,9 +1,10 @@
 //! Classes of a closure that are parts of themselves, at any depth.
 ghost use Rattle.std.specs.Prelude.{◌≡◌, ◌<◌, ◌+◌, ◌-◌, ◌^◌, ◌++◌, ◌∷◌, [], ℕ, List, Contains, true, false, length, nat_eq, IfOk, OnOk, if◌then◌else◌};
-ghost use Rattle.isle_sets.specs.Endings.{ClassEnds, count_at, count_in, GoOnForEver, listed_at, PartsAreTaken, wholes_in};
+ghost use Rattle.isle_sets.specs.Endings.{ClassEnds, ClassIsTaken, count_at, count_in, GoOnForEver, listed_at, PartsAreTaken, wholes_in};
 ghost use Rattle.isle_sets.specs.Verdicts.{class_head};
 ghost use Rattle.isle_sets.specs.declared.closure_classes.Part.{Part};
 
+use crate::class_lists::{add_to_list, take_list};
 use crate::closure_classes::{Part, class_of};
 use crate::trie_again::BindingId;
 use isle_disjointsets::disjointsets::DisjointSets;
@@ -46,36 +47,6 @@ fn counts_of(
     Ok(counts)
 }
 
-// The classes that a class is a part of are no longer kept for it.
-fn take_wholes(
-    alloc: Global,
-    wholes: &mut BTreeMap<BindingId, Vec<BindingId>>,
-    class: BindingId,
-) -> Vec<BindingId>
-    ensures taken { result.items ≡ listed_at wholes.old class }
-    ensures rest { (k : ℕ) → listed_at wholes.new k ≡ (if nat_eq class k then [] else listed_at wholes.old k) }
-{
-    match wholes.remove(&class) {
-        Some(taken) => taken,
-        None => Vec::new(alloc),
-    }
-}
-
-// A class is a part of another one.
-fn add_whole(
-    alloc: Global,
-    wholes: &mut BTreeMap<BindingId, Vec<BindingId>>,
-    class: BindingId,
-    whole: BindingId,
-) -> Result<(), AllocError>
-    ensures { OnOk result ((k : ℕ) → listed_at wholes.new k ≡ listed_at wholes.old k ++ (if nat_eq class k then whole ∷ [] else [])) }
-{
-    let mut listed = take_wholes(alloc, wholes, class);
-    listed.push(whole)?;
-    wholes.insert(class, listed)?;
-    Ok(())
-}
-
 // The classes that each class is a part of, once for each part.
 fn wholes_of(
     alloc: Global,
@@ -87,7 +58,7 @@ fn wholes_of(
     let mut wholes = BTreeMap::new(alloc);
     for part in parts {
         let class = class_of(classes, part.field);
-        add_whole(alloc, &mut wholes, class, class_of(classes, part.source))?;
+        add_to_list(alloc, &mut wholes, class, class_of(classes, part.source))?;
     }
     Ok(wholes)
 }
@@ -143,6 +114,21 @@ fn take_parts(
     Ok(())
 }
 
+// A class that has no parts is left out, as a part of so many.
+fn take_class(
+    alloc: Global,
+    wholes: &mut BTreeMap<BindingId, Vec<BindingId>>,
+    counts: &mut BTreeMap<BindingId, usize>,
+    ended: &mut Vec<BindingId>,
+    class: BindingId,
+) -> Result<usize, AllocError>
+    ensures { IfOk result (ClassIsTaken (listed_at wholes.old) (listed_at wholes.new) (count_at counts.old) (count_at counts.new) class ended.old.items ended.new.items) }
+{
+    let above = take_list(alloc, wholes, class);
+    take_parts(counts, ended, &above)?;
+    Ok(above.len())
+}
+
 /// Whether parts, their parts and so on never end: a class is then a part of itself. Parts whose class has none are
 /// left out, each once, as long as there are some.
 ///
@@ -162,9 +148,7 @@ pub(crate) fn has_cycle(
     let mut counts = counts_of(alloc, classes, parts)?;
     let mut ended = last_classes(alloc, classes, &counts, parts)?;
     while let Some(class) = ended.pop() {
-        let above = take_wholes(alloc, &mut wholes, class);
-        left -= above.len();
-        take_parts(&mut counts, &mut ended, &above)?;
+        left -= take_class(alloc, &mut wholes, &mut counts, &mut ended, class)?;
     }
     Ok(left > 0)
 }

@@ -2,6 +2,7 @@
 #![tactic(auto)]
 
 pub mod bindings;
+mod class_lists;
 mod closing;
 mod closure_classes;
 mod constraints;
