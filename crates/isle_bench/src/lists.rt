@@ -2,8 +2,8 @@
 
 use crate::definitions::definitions;
 use crate::texts::{
-    rule_of_calls, rule_of_deep_fields, rule_of_equal_sites, rule_of_literals, rule_of_variables,
-    rules, rules_of_one_term, terms, terms_with_forms,
+    rule_of_calls, rule_of_deep_fields, rule_of_equal_sites, rule_of_joined_fields,
+    rule_of_literals, rule_of_variables, rules, rules_of_one_term, terms, terms_with_forms,
 };
 use isle_base::syntax::Def;
 use isle_text::errors::ReadFault;
@@ -35,6 +35,8 @@ pub enum Kind {
     EqualSites,
     /// One rule, with as many sites, each a field of another one, in three equal arguments.
     DeepFields,
+    /// The same, where the fields of two of the arguments are equal by variables before closing joins those of the third.
+    JoinedFields,
     /// One rule, with as many sites of calls, each of what another one gives.
     Calls,
 }
@@ -53,6 +55,7 @@ impl Kind {
             Kind::Literals => "literals of one rule",
             Kind::EqualSites => "equal sites of one rule",
             Kind::DeepFields => "deep fields of one rule",
+            Kind::JoinedFields => "deep fields of one rule, joined by variables",
             Kind::Calls => "sites of calls of one rule",
         }
     }
@@ -73,6 +76,7 @@ pub fn definitions_of(alloc: Global, kind: Kind, size: usize) -> io::Result<Vec<
         Kind::Literals => read_text(alloc, rule_of_literals(alloc, size)?.as_str()),
         Kind::EqualSites => read_text(alloc, rule_of_equal_sites(alloc, size)?.as_str()),
         Kind::DeepFields => read_text(alloc, rule_of_deep_fields(alloc, size)?.as_str()),
+        Kind::JoinedFields => read_text(alloc, rule_of_joined_fields(alloc, size)?.as_str()),
         Kind::Calls => read_text(alloc, rule_of_calls(alloc, size)?.as_str()),
     }
 }

@@ -1,6 +1,8 @@
 //! How long the steps from definitions to trees take: `rt run -- times` makes lists of three sizes for each, and prints
-//! the time of that step alone, of `lower` that of all steps. `rt run -- SIZE ..` makes lists of these sizes, but no longer
-//! ones than the former, and prints no times.
+//! the time of that step alone, of `lower` that of all steps. Each time is the mean over as many lists of one size as
+//! have the greatest size together, all made before the first is read: so a short list finds no more in the processor's
+//! caches than a long one. `rt run -- SIZE ..` makes lists of these sizes, but no longer ones than the former, and prints
+//! no times.
 #![tactic(auto)]
 
 mod definitions;
@@ -8,6 +10,7 @@ mod lists;
 mod tables;
 mod texts;
 
+use isle_base::syntax::Def;
 use lists::{Kind, definitions_of};
 use std::alloc::{AllocError, Global};
 use std::io::ErrorKind;
@@ -16,7 +19,7 @@ use std::{env, io};
 use tables::Table;
 
 // What is read: into what, a list of what, and the sizes of which times are printed. A term has at most 65,536 sites.
-const READINGS: [(Table, Kind, [usize; 3]); 14] = [
+const READINGS: [(Table, Kind, [usize; 3]); 15] = [
     (Table::Types, Kind::Types, [1000, 10_000, 100_000]),
     (Table::Terms, Kind::Terms, [1000, 10_000, 100_000]),
     (Table::Rules, Kind::Rules, [1000, 10_000, 100_000]),
@@ -26,8 +29,9 @@ const READINGS: [(Table, Kind, [usize; 3]); 14] = [
     (Table::Sets, Kind::FormsOfOneTerm, [200, 1000, 3000]),
     (Table::Sets, Kind::Literals, [1000, 10_000, 65_536]),
     (Table::Sets, Kind::EqualSites, [1000, 10_000, 30_000]),
-    (Table::Sets, Kind::DeepFields, [300, 1000, 3000]),
-    (Table::Sets, Kind::Calls, [300, 1000, 3000]),
+    (Table::Sets, Kind::DeepFields, [300, 3000, 30_000]),
+    (Table::Sets, Kind::JoinedFields, [300, 1000, 3000]),
+    (Table::Sets, Kind::Calls, [300, 3000, 30_000]),
     (Table::Checked, Kind::FormsOfOneTerm, [200, 1000, 3000]),
     (Table::Trees, Kind::RulesOfOneTerm, [30, 100, 300]),
     (Table::Trees, Kind::FormsOfOneTerm, [30, 100, 300]),
@@ -93,8 +97,8 @@ fn print_times(
 ) -> io::Result<()> {
     let mut before = None;
     for size in sizes {
-        let defs = definitions_of(alloc, kind, size)?;
-        let micros = table.read(rt, alloc, &defs)?.micros;
+        let lists = lists_of(alloc, kind, size, sizes[2] / size.max(1))?;
+        let micros = mean_micros(rt, alloc, table, &lists)?;
         let millis = ratio(alloc, micros, 1000)?;
         let growth = growth(alloc, before, size, micros)?;
         let of = kind.name();
@@ -102,6 +106,29 @@ fn print_times(
         before = Some((size, micros));
     }
     Ok(())
+}
+
+// So many lists of one size.
+fn lists_of(alloc: Global, kind: Kind, size: usize, count: usize) -> io::Result<Vec<Vec<Def>>> {
+    let mut lists = Vec::new(alloc);
+    for _ in 0..count {
+        lists.push(definitions_of(alloc, kind, size)?)?;
+    }
+    Ok(lists)
+}
+
+// How long the table of one of these lists takes in the mean.
+fn mean_micros(
+    rt: &(impl Clock + Print),
+    alloc: Global,
+    table: Table,
+    lists: &[Vec<Def>],
+) -> io::Result<u128> {
+    let mut micros = 0u128;
+    for defs in lists {
+        micros = micros.saturating_add(table.read(rt, alloc, defs)?.micros);
+    }
+    Ok(micros / (lists.len() as u128).max(1))
 }
 
 // How many times the time and the size before a time and a size are.

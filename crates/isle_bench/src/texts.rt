@@ -1,4 +1,5 @@
 //! The texts of long lists.
+ghost use Rattle.std.specs.Prelude.{◌≤◌};
 
 use std::alloc::{AllocError, Global};
 
@@ -14,6 +15,14 @@ const FORMS: &str = "(type E (enum (A (x u32)) B))
 
 // The most fields that a variant may have.
 const MOST_FIELDS: usize = 255;
+
+// What rules look deep into.
+const CHAIN: &str = "(type T (enum (A (next T)) B))
+(decl f (T T T) u8)
+";
+
+// So many steps are nested in one pattern or expression, which may be nested 255 deep.
+const STEPS: usize = 100;
 
 /// So many groups of ten definitions, each of which speaks of another group too: an enum, an extractor from inside and one
 /// from outside, a converter, and a term with a rule.
@@ -167,33 +176,81 @@ fn push_times(out: &mut String, text: &str, count: usize) -> Result<(), AllocErr
 /// A rule of three equal arguments that looks so deep into the first two that all three have as many fields, or up to two
 /// fewer: closing the rule's demands makes those of the third.
 pub fn rule_of_deep_fields(alloc: Global, size: usize) -> Result<String, AllocError> {
-    let mut out = String::from_str(
-        alloc,
-        "(type T (enum (A (next T)) B))\n(decl f (T T T) u8)\n",
-    )?;
+    let mut out = String::from_str(alloc, CHAIN)?;
     out.push_str("(rule (f x0 (and x0 y0) x0)")?;
-    push_steps(&mut out, 'x', size / 3)?;
-    push_steps(&mut out, 'y', size / 3)?;
+    push_looks(&mut out, 'x', size / 3)?;
+    push_looks(&mut out, 'y', size / 3)?;
     out.push_str(" 1)\n")?;
     Ok(out)
 }
 
-// If-lets, each of which names what is one step deeper.
-fn push_steps(out: &mut String, name: char, depth: usize) -> Result<(), AllocError> {
-    for k in 0..depth {
-        let next = k + 1;
-        write!(out, " (if-let (T.A {name}{next}) {name}{k})")?;
+/// The same of a rule that looks into all three, where each field of the second is equal to that of the third: closing the
+/// rule's demands joins that of the first to them, from the outermost in.
+pub fn rule_of_joined_fields(alloc: Global, size: usize) -> Result<String, AllocError> {
+    let mut out = String::from_str(alloc, CHAIN)?;
+    out.push_str("(rule (f x0 (and x0 y0) (and x0 z0))")?;
+    push_looks(&mut out, 'x', size / 3)?;
+    push_shared_looks(&mut out, 'y', size / 3)?;
+    push_shared_looks(&mut out, 'z', size / 3)?;
+    out.push_str(" 1)\n")?;
+    Ok(out)
+}
+
+// If-lets that look so deep into what a name and 0 stand for. Each names what is deepest.
+fn push_looks(out: &mut String, name: char, depth: usize) -> Result<(), AllocError> {
+    for k in 0..depth.div_ceil(STEPS) {
+        let (from, to) = part(k, depth);
+        out.push_str(" (if-let ")?;
+        push_times(out, "(T.A ", to - from)?;
+        write!(out, "{name}{to}")?;
+        push_times(out, ")", to - from)?;
+        write!(out, " {name}{from})")?;
     }
     Ok(())
+}
+
+// The same, where what is met at each step has the name v too, and so is equal to what had it before.
+fn push_shared_looks(out: &mut String, name: char, depth: usize) -> Result<(), AllocError> {
+    for k in 0..depth.div_ceil(STEPS) {
+        let (from, to) = part(k, depth);
+        out.push_str(" (if-let ")?;
+        push_shared_steps(out, from, to)?;
+        write!(out, "{name}{to}")?;
+        push_times(out, "))", to - from)?;
+        write!(out, " {name}{from})")?;
+    }
+    Ok(())
+}
+
+fn push_shared_steps(out: &mut String, from: usize, to: usize) -> Result<(), AllocError> {
+    for k in from..to {
+        let next = k + 1;
+        write!(out, "(T.A (and v{next} ")?;
+    }
+    Ok(())
+}
+
+// The part of this number of so many steps: the step before its first one, and its last one.
+fn part(number: usize, steps: usize) -> (usize, usize)
+    ensures { result.0 ≤ result.1 }
+{
+    let from = number.saturating_mul(STEPS).min(steps);
+    let to = from.saturating_add(STEPS).min(steps);
+    (from, to)
 }
 
 /// A rule with calls that make so many sites, two each, or one fewer: each call is of what the one before gave.
 pub fn rule_of_calls(alloc: Global, size: usize) -> Result<String, AllocError> {
     let mut out = String::from_str(alloc, FORMS)?;
     out.push_str("(decl f (u32) u8)\n(rule (f x0)")?;
-    for k in 0..size / 2 {
-        let next = k + 1;
-        write!(out, " (if-let x{next} (h x{k}))")?;
+    let calls = size / 2;
+    for k in 0..calls.div_ceil(STEPS) {
+        let (from, to) = part(k, calls);
+        write!(out, " (if-let x{to} ")?;
+        push_times(&mut out, "(h ", to - from)?;
+        write!(out, "x{from}")?;
+        push_times(&mut out, ")", to - from)?;
+        out.push_str(")")?;
     }
     out.push_str(" 1)\n")?;
     Ok(out)
