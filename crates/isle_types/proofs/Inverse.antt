@@ -1,7 +1,12 @@
 -- Names and look-ups of them, with one more name.
-use Rattle.std.proofs.Common.{◌≡◌, ℕ, true, false, cond, List, [], ◌∷◌, ◌++◌, length, Option, Some, option_map, slice_get, refl, sym, ap, ◌∙◌, ⊎_elim}
+use Rattle.std.proofs.Common.{◌≡◌, ℕ, true, false, cond, List, [], ◌∷◌, ◌++◌, length, Option, None, Some, option_map, slice_get, string_bytes, refl, sym, ap, ◌∙◌, ⊎_elim}
+use Rattle.std.specs.HashMap.{HashMap, get, get_by_text}
 use Rattle.std.specs.Map.{update}
 use Rattle.std.specs.Str.{bytes_eq}
+use Rattle.std.specs.String.{string_eq}
+use Rattle.std.specs.declared.string.String.{String}
+use Rattle.std.proofs.lemmas.Map.Entries.{place_from_lookup}
+use Rattle.std.proofs.lemmas.Map.Text.{hash_map_text_same}
 use Rattle.isle_model.specs.lists.Names.{IsDistinct, AreNumbersOf}
 use Rattle.isle_model.proofs.Bytes.{same_bytes, differ}
 use Rattle.isle_model.proofs.Positions.{get_front, get_middle, get_push_cases}
@@ -39,3 +44,21 @@ module _ (names : List (List ℕ)) (old new : List ℕ → Option ℕ) (i : AreN
 -- each name stands once
 pub inverse_distinct : (names : List (List ℕ)) (look : List ℕ → Option ℕ) → AreNumbersOf names look → IsDistinct names
 inverse_distinct names look i j k x p q = let first = i.numbered x j p in let second = i.numbered x k q in cc
+
+-- a map in another order is looked up as before
+module _ {Y X S : Type 0} (m n : HashMap (String Y) X S) (same : (k : String Y) → get string_eq n k ≡ get string_eq m k) (q : List ℕ) where
+  at_key : (k : String Y) → bytes_eq q (string_bytes k) ≡ true → get_by_text n q ≡ get_by_text m q
+  at_key k e = let s = same_bytes q (string_bytes k) e in sym (hash_map_text_same k q n.entries s).0 ∙ same k ∙ (hash_map_text_same k q m.entries s).0
+
+  at_place : (l : HashMap (String Y) X S) (v : X) → get_by_text l q ≡ Some v → get_by_text n q ≡ get_by_text m q
+  at_place l v h = let p = place_from_lookup (λ k. bytes_eq q (string_bytes k)) l.entries v h in at_key p.1 p.3
+
+  pub looked_up_as_before : get_by_text n q ≡ get_by_text m q
+  looked_up_as_before =
+      elim (get_by_text n q) as (λ o. get_by_text n q ≡ o → get_by_text n q ≡ get_by_text m q) [
+        | Some v ↦ λ h. at_place n v h
+        | None ↦ λ h. elim (get_by_text m q) as (λ o. get_by_text m q ≡ o → get_by_text n q ≡ get_by_text m q) [
+          | Some v ↦ λ g. at_place m v g
+          | None ↦ λ g. h ∙ sym g
+        ] refl
+      ] refl

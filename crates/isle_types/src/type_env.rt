@@ -101,6 +101,25 @@ impl TypeEnv {
         }
     }
 
+    /// Keeps room for so many names in all: tables that grow by and by are copied each time. All names, types
+    /// and constants stay.
+    ///
+    /// # Errors
+    ///
+    /// Where memory is refused.
+    pub fn reserve_names(&mut self, count: usize) -> Result<(), AllocError>
+        ensures names { names_of self.new ≡ names_of self.old }
+        ensures symbols { (q : List ℕ) → symbol_of self.new q ≡ symbol_of self.old q }
+        ensures types { self.new.types ≡ self.old.types }
+        ensures type_map { self.new.type_map ≡ self.old.type_map }
+        ensures const_types { self.new.const_types ≡ self.old.const_types }
+        ensures errors { self.new.errors ≡ self.old.errors }
+    {
+        let more = count.saturating_sub(self.syms.len());
+        self.syms.reserve(more)?;
+        self.sym_map.reserve(more)
+    }
+
     // The id of the name of a text.
     fn look_up_text(&self, name: &str) -> Option<Sym>
         ensures looked_up { option_map (λ s. s.0) result ≡ symbol_of self.now name.now }
