@@ -43,7 +43,7 @@ impl TypeEnv {
         ensures shown { IfOk result (λ env. AreTypesOf [] (environment_view env)) }
         ensures well_formed { IfOk result (λ env. IsWellFormedEnvironment (environment_view env)) }
     {
-        let mut env = TypeEnv::empty(alloc);
+        let mut env = TypeEnv::with_room(alloc, BuiltinType::ALL.len())?;
         env.add_builtins(&BuiltinType::ALL)?;
         Ok(env)
     }
@@ -68,7 +68,8 @@ impl TypeEnv {
         ensures shown { IfOk result (λ env. AreTypesOf (definition_views defs.now) (environment_view env)) }
         ensures well_formed { IfOk result (λ env. IsWellFormedEnvironment (environment_view env)) }
     {
-        let mut env = TypeEnv::try_default(alloc)?;
+        let mut env = TypeEnv::with_room(alloc, defs.len())?;
+        env.add_builtins(&BuiltinType::ALL)?;
         let mut errors = Vec::new(alloc);
         env.name_types(&mut errors, defs)?;
         env.fill_types(&mut errors, defs)?;
@@ -80,18 +81,19 @@ impl TypeEnv {
         }
     }
 
-    // A table of nothing.
-    fn empty(alloc: Global) -> TypeEnv
-        ensures { Booting result BuiltinType.ALL }
+    // A table of nothing, with room for so many names: long lists have about as many names as definitions, and a
+    // table that grows by and by is copied each time.
+    fn with_room(alloc: Global, names: usize) -> Result<TypeEnv, AllocError>
+        ensures { IfOk result (λ env. Booting env BuiltinType.ALL) }
     {
-        TypeEnv {
-            syms: Vec::new(alloc),
-            sym_map: HashMap::new(alloc),
+        Ok(TypeEnv {
+            syms: Vec::with_capacity(alloc, names)?,
+            sym_map: HashMap::with_capacity(alloc, names)?,
             types: Vec::new(alloc),
             type_map: StableMap::new(alloc),
             const_types: StableMap::new(alloc),
             errors: Vec::new(alloc),
-        }
+        })
     }
 
     // Makes a name that of the next type. The type that has the name already, where one does.

@@ -1,5 +1,6 @@
 use Rattle.std.proofs.Common.{◌≡◌, [], ap, length, rules}
 use Rattle.isle_base.proofs.Noted.{name_no_limit}
+use Rattle.isle_types.proofs.Booting.{booted, booted_count}
 use Rattle.isle_types.proofs.Naming.{first_name}
 use Rattle.isle_types.proofs.Ending.{at_ok, at_err, why_refused}
 use Rattle.isle_types.proofs.WellFormedEnvs.{types_shown, well_formed}
@@ -7,7 +8,9 @@ use Rattle.isle_types.proofs.type_env.TypeEnv.from_ast.Goals as goal
 use Rattle.std.proofs.lemmas.List.{nil_from_length}
 
 pub name_types-requires : goal.name_types-requires
-name_types-requires c = first_name _ _ _ c.in_ok-env.ensures.table c.in_ok-env.ensures.count c.new-errors.ensures.items
+name_types-requires c =
+    let b = c.in_ok-add_builtins.ensures in
+    first_name _ _ _ (booted _ b) (booted_count _ b) c.new-errors.ensures.items
 
 pub returns-then-is_empty-clause-answers : goal.returns-then-is_empty-clause-answers
 returns-then-is_empty-clause-answers c =
