@@ -32,7 +32,7 @@ use Rattle.isle_terms.specs.Reading.{IsWithin}
 use Rattle.isle_terms.specs.Stages.{HasNoConverter, constructor_after, place_among}
 use Rattle.isle_terms.specs.Signing.{with_ids, declared_so_far, declared_alone, AddsMade, AreTaken, Declaring, GrowsBy, NumbersAreMet, ReadsTerms}
 use Rattle.isle_terms.specs.Standing.{RootsRead}
-use Rattle.isle_terms.specs.Converting.{ConvertersRead, template_after}
+use Rattle.isle_terms.specs.Converting.{type_by_id, ConvertersRead, template_after}
 use Rattle.isle_terms.specs.ExternStages.{external_after, function_after, ExternsRead}
 use Rattle.isle_terms.specs.Recursion.{ExtractorsRead}
 use Rattle.isle_terms.specs.Whole.{shown_by}
@@ -109,6 +109,16 @@ template_or e defs x =
       | true ↦ λ _. refl
       | false ↦ λ h. ap (option_map (λ t. internal_extractor (extractor_template t))) (no_template (extractor_trees defs) x h)
     ] refl
+
+-- before the converters
+pub first_converter : (e : TypesRead) (defs : List Definition) (env : TypeEnv) (table : TermTable) (es : List Error) → ReadsTerms e defs (ExtractorsRead e defs) env table es → ReadsTerms e defs (ConvertersRead e defs []) env table es
+first_converter e defs env table es s =
+    reads_as e defs (ExtractorsRead e defs) (ConvertersRead e defs []) env table es (λ h. record {
+      stand = h.stand;
+      known = All-nil _;
+      distinct = λ j k x p q. absurd (cc);
+      conversions = λ i o. ap (option_map (λ t. t.0)) (h.converters (type_by_id i, type_by_id o));
+    }) s
 
 -- before the external functions
 pub first_extern : (e : TypesRead) (defs : List Definition) (env : TypeEnv) (table : TermTable) (es : List Error) → IsDistinct (internal_extractors defs) → ReadsTerms e defs (ConvertersRead e defs defs) env table es → ReadsTerms e defs (ExternsRead e defs []) env table es

@@ -145,7 +145,7 @@ fn arg_types(
         (NotesMore errors.old.items errors.new.items × (All (IsKnownInEnv tyenv.now) (map name_view names.now) → ⊥))
         (λ tys. (errors.new.items ≡ errors.old.items) × HaveTypes tyenv.now (map name_view names.now) (map (λ t. t.0) tys.items))) }
 {
-    let mut arg_tys = Vec::new(*errors.allocator());
+    let mut arg_tys = Vec::with_capacity(*errors.allocator(), names.len())?;
     for name in names {
         let Some(ty) = tyenv.get_type_by_name(name) else {
             report_name(errors, name.1, "Unknown arg type:", name)?;

@@ -236,7 +236,7 @@ impl TermTable {
 fn no_callees(alloc: Global, count: usize) -> Result<Vec<Vec<TermId>>, AllocError>
     ensures { IfOk result (λ cs. NameNothing count cs.items) }
 {
-    let mut callees = Vec::new(alloc);
+    let mut callees = Vec::with_capacity(alloc, count)?;
     for _id in 0..count {
         callees.push(Vec::new(alloc))?;
     }

@@ -1,6 +1,6 @@
 //! How the whole term table is read, group by group. Each group is read only where nothing is wrong so far.
 
-ghost use Rattle.std.specs.Prelude.{[], OnErr, OnOk};
+ghost use Rattle.std.specs.Prelude.{◌≡◌, ℕ, None, [], IfOk, OnErr, OnOk};
 ghost use Rattle.isle_model.specs.claims.Environments.{TypesRead, AreReadable, AreTermsOf, IsLeftByRefusal, IsReadAs};
 ghost use Rattle.isle_model.specs.lists.TermTable.{IsValidTerms};
 ghost use Rattle.isle_model.specs.claims.Refusals.{RefusesTerms};
@@ -10,7 +10,9 @@ ghost use Rattle.isle_base.specs.SyntaxViews.{definition_views};
 ghost use Rattle.isle_types.specs.EnvViews.{environment_view};
 ghost use Rattle.isle_terms.specs.Recursion.{ExtractorsRead};
 ghost use Rattle.isle_terms.specs.Signing.{Declaring, ReadsTerms};
+ghost use Rattle.isle_terms.specs.Stages.{HasNoConverter};
 ghost use Rattle.isle_terms.specs.Standing.{RootsRead};
+ghost use Rattle.isle_terms.specs.TermTables.{term_at};
 ghost use Rattle.isle_terms.specs.Whole.{shown_by};
 
 use crate::term_table::TermTable;
@@ -18,6 +20,7 @@ use isle_base::stablemapset::StableMap;
 use isle_base::syntax::{Def, Error, Fault};
 use isle_types::TypeEnv;
 use std::alloc::{AllocError, Global};
+use std::collections::HashMap;
 
 impl TermTable {
     /// The terms of a list of definitions, of all forms, by any types that are handed in as `tyenv`, a
@@ -38,11 +41,7 @@ impl TermTable {
         ensures no_limit { NoLimit result }
         ensures refused { OnErrors result (λ es. RefusesTerms read (definition_views defs.now) (error_views es)) }
     {
-        let mut table = TermTable {
-            terms: Vec::new(alloc),
-            term_map: StableMap::new(alloc),
-            converters: StableMap::new(alloc),
-        };
+        let mut table = TermTable::with_room(alloc, defs.len())?;
         let mut errors = Vec::new(alloc);
         table.read_signatures(tyenv, &mut errors, defs)?;
         if !errors.is_empty() {
@@ -61,6 +60,20 @@ impl TermTable {
             return Err(Fault::Errors(errors));
         }
         Ok(table)
+    }
+
+    // A table of nothing, with room for so many terms: long lists have about as many terms as definitions, and a table
+    // that grows by and by is copied each time.
+    fn with_room(alloc: Global, terms: usize) -> Result<TermTable, AllocError>
+        ensures terms { IfOk result (λ table. table.terms.items ≡ []) }
+        ensures ids { IfOk result (λ table. (k : ℕ) → term_at table k ≡ None) }
+        ensures converters { IfOk result HasNoConverter }
+    {
+        Ok(TermTable {
+            terms: Vec::with_capacity(alloc, terms)?,
+            term_map: StableMap::from(HashMap::with_capacity(alloc, terms)?),
+            converters: StableMap::new(alloc),
+        })
     }
 
     // Reads all declarations, and adds the terms that types make.

@@ -1,18 +1,21 @@
-use Rattle.std.proofs.Common.{◌≡◌, length, option_map, ap, rules}
+use Rattle.std.proofs.Common.{◌≡◌, length, rules}
 use Rattle.isle_base.specs.SyntaxViews.{definition_views}
-use Rattle.isle_types.specs.Envs.{symbol}
+use Rattle.isle_base.proofs.Noted.{name_no_limit}
 use Rattle.isle_terms.specs.Converting.{ConvertersRead}
 use Rattle.isle_terms.specs.ExternStages.{ExternsRead}
 use Rattle.isle_terms.specs.Recursion.{ExtractorsRead}
 use Rattle.isle_terms.proofs.Rooting.{nothing}
-use Rattle.isle_terms.proofs.Whole.{first_declared, first_extern, right_now, all_read, why_refused}
+use Rattle.isle_terms.proofs.Whole.{first_converter, first_declared, first_extern, right_now, all_read, why_refused}
 use Rattle.isle_terms.proofs.term_table.TermTable.from_ast.Goals as goal
 
 pub read_signatures-requires : goal.read_signatures-requires
 read_signatures-requires g c = (
   c.requires.0,
-  first_declared g.read (definition_views c.args.defs.now) c.args.tyenv.now _ c.new-errors.result.items c.requires.1 c.new.ensures.items (λ k. ap (option_map (λ t. t.0)) (c.new-2.ensures.none (symbol k))) c.new-3.ensures.none c.new-errors.ensures.items,
+  first_declared g.read (definition_views c.args.defs.now) c.args.tyenv.now _ c.new-errors.result.items c.requires.1 c.in_ok-table.ensures.terms c.in_ok-table.ensures.ids c.in_ok-table.ensures.converters c.new-errors.ensures.items,
 )
+
+pub read_converters-requires : goal.read_converters-requires
+read_converters-requires g c = (c.requires.0, first_converter _ _ _ _ _ c.in_ok-read_definitions.ensures)
 
 pub read_externs-requires : goal.read_externs-requires
 read_externs-requires g c =
@@ -47,3 +50,12 @@ returns-then-not-is_empty-3-clause-refused g c = why_refused g.read _ _ _ _ _ c.
 
 pub returns-then-not-is_empty-4-clause-refused : goal.returns-then-not-is_empty-4-clause-refused
 returns-then-not-is_empty-4-clause-refused g c = why_refused g.read _ _ _ _ _ c.in_ok-read_externs.ensures.reads (search rules)
+
+pub returns-then-not-is_empty-2-clause-no_limit : goal.returns-then-not-is_empty-2-clause-no_limit
+returns-then-not-is_empty-2-clause-no_limit g c = name_no_limit _ c.in_ok-read_definitions.ensures.ill_typed
+
+pub returns-then-not-is_empty-3-clause-no_limit : goal.returns-then-not-is_empty-3-clause-no_limit
+returns-then-not-is_empty-3-clause-no_limit g c = name_no_limit _ c.in_ok-read_converters.ensures.ill_typed
+
+pub returns-then-not-is_empty-4-clause-no_limit : goal.returns-then-not-is_empty-4-clause-no_limit
+returns-then-not-is_empty-4-clause-no_limit g c = name_no_limit _ c.in_ok-read_externs.ensures.reads.ill_typed
