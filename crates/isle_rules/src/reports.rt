@@ -1,11 +1,11 @@
-//! How what is wrong with rules is noted, and the texts of names and types, for messages.
+//! How what is wrong with rules is noted, and the texts of types, for messages.
 
 ghost use Rattle.std.specs.Prelude.{◌≡◌, true, OnOk};
 ghost use Rattle.isle_rules.specs.Elaborating.{Checks};
 ghost use Rattle.isle_rules.specs.Noting.{NotesMore};
 
 use isle_base::syntax::{Error, Pos, Span};
-use isle_types::{Sym, Type, TypeEnv, TypeId};
+use isle_types::{Type, TypeEnv, TypeId};
 use std::alloc::AllocError;
 use std::fmt::Display;
 
@@ -48,20 +48,12 @@ pub(crate) fn report_unmade(errors: &mut Vec<Error>, pos: Pos, name: &str) -> Re
     report(errors, pos, msg)
 }
 
-// The text of a name, for messages. Nothing where the id is no name's.
-pub(crate) fn text_of(tyenv: &TypeEnv, name: Sym) -> &str {
-    match tyenv.syms.get(name.index()) {
-        Some(text) => text.as_str(),
-        None => "",
-    }
-}
-
 // The name of a type, for messages. Nothing where the id is no type's.
 pub(crate) fn type_text(tyenv: &TypeEnv, ty: TypeId) -> &str {
     match tyenv.types.get(ty.index()) {
         Some(Type::Builtin(builtin)) => builtin.name(),
         Some(Type::Primitive(_, name, _) | Type::Enum { name, .. } | Type::Struct { name, .. }) => {
-            text_of(tyenv, *name)
+            tyenv.text_of(*name)
         }
         None => "",
     }

@@ -8,7 +8,7 @@ ghost use Rattle.isle_rules.specs.Elaborating.{Checks};
 ghost use Rattle.isle_rules.specs.RuleNaming.{AreCounts, MapsNames, NamesRule, is_defined_term, AreDefined};
 ghost use Rattle.isle_rules.specs.RuleViews.{rule_view, rule_views};
 
-use crate::reports::{report, text_of};
+use crate::reports::report;
 use crate::rules::Rule;
 use isle_base::stablemapset::StableMap;
 use isle_base::syntax::Error;
@@ -94,7 +94,7 @@ fn map_name(
         return Ok(());
     };
     if rule_map.contains_key(&name) {
-        let msg = format_args!("Duplicate rule name: '{}'", text_of(tyenv, name));
+        let msg = format_args!("Duplicate rule name: '{}'", tyenv.text_of(name));
         return report(errors, rule.pos, msg);
     }
     rule_map.insert(name, rule.id)?;
@@ -121,7 +121,7 @@ fn check_term(tyenv: &TypeEnv, term: &Term, errors: &mut Vec<Error>) -> Result<(
     if term.has_constructor() || term.has_extractor() {
         return Ok(());
     }
-    let name = text_of(tyenv, term.name);
+    let name = tyenv.text_of(term.name);
     let msg = format_args!("no rules, extractor, or external definition for declaration '{name}'");
     report(errors, term.decl_pos, msg)
 }

@@ -76,22 +76,6 @@ pub(crate) fn check_same<M: Display + Drop>(
     report(errors, pos, msg)
 }
 
-/// Whether a type is the one that is expected, where one is; else this is noted.
-pub(crate) fn check_expected<M: Display + Drop>(
-    errors: &mut Vec<Error>,
-    pos: Pos,
-    has: TypeId,
-    want: Option<TypeId>,
-    msg: M,
-) -> Result<(), AllocError>
-    ensures { OnOk result (Checks errors.old.items errors.new.items (is_expected (expected want) has.0 ≡ true)) }
-{
-    if meets_expected(has, want) {
-        return Ok(());
-    }
-    report(errors, pos, msg)
-}
-
 /// Whether there are as many arguments as the term has.
 pub(crate) fn check_count(
     errors: &mut Vec<Error>,

@@ -15,10 +15,10 @@ ghost use Rattle.isle_rules.specs.Progress.{newest, Remains};
 ghost use Rattle.isle_rules.specs.RuleViews.{var_view};
 ghost use Rattle.isle_rules.specs.Translating.{standing};
 
-use crate::reports::{check, expected_text, report, report_unmade, text_of, type_text};
+use crate::reports::{check, expected_text, report, report_unmade, type_text};
 use crate::rules::BoundVar;
 use crate::term_env::TermEnv;
-use crate::typing::checks::{check_count, check_expected};
+use crate::typing::checks::{check_count, meets_expected};
 use crate::typing::progress::{Progress, Stop};
 use isle_base::syntax::{Error, Expr, Ident, Pos};
 use isle_terms::{Term, TermFlags, TermKind};
@@ -101,7 +101,7 @@ impl TermEnv {
             return Ok(VarUse::Conversion(inside, left));
         }
         if let Some(by) = self.declared_converter(bound.ty, expected_ty) {
-            report_unmade(&mut work.errors, pos, text_of(tyenv, by.name))?;
+            report_unmade(&mut work.errors, pos, tyenv.text_of(by.name))?;
             return Ok(VarUse::Wrong);
         }
         check_variable(tyenv, &mut work.errors, pos, name, bound.ty, expected_ty)?;
@@ -136,7 +136,7 @@ impl TermEnv {
             return Ok(CallUse::Conversion(inside, left));
         }
         if let Some(by) = self.declared_converter(term.ret_ty, expected_ty) {
-            report_unmade(&mut work.errors, pos, text_of(tyenv, by.name))?;
+            report_unmade(&mut work.errors, pos, tyenv.text_of(by.name))?;
             return Ok(CallUse::Wrong);
         }
         check_call(tyenv, work, term, sym, args.len(), pos, expected_ty, flags)?;
@@ -178,11 +178,14 @@ fn check_variable(
 ) -> Result<(), AllocError>
     ensures { OnOk result (Checks errors.old.items errors.new.items (is_expected (expected want) has.0 ≡ true)) }
 {
+    if meets_expected(has, want) {
+        return Ok(());
+    }
     let name = name.0.as_str();
     let wanted = expected_text(tyenv, want);
     let own = type_text(tyenv, has);
     let msg = format_args!("Variable '{name}' has type {own} but we need {wanted} in context");
-    check_expected(errors, pos, has, want, msg)
+    report(errors, pos, msg)
 }
 
 // Whether a call has the type that is expected, where one is, the flags in force allow it, and it has as many arguments as
@@ -217,12 +220,15 @@ fn check_type(
 ) -> Result<(), AllocError>
     ensures { OnOk result (Checks errors.old.items errors.new.items (is_expected (expected want) has.0 ≡ true)) }
 {
+    if meets_expected(has, want) {
+        return Ok(());
+    }
     let wanted = expected_text(tyenv, want);
     let own = type_text(tyenv, has);
     let msg = format_args!(
         "Mismatched types: expression expects type '{wanted}' but term has return type '{own}'"
     );
-    check_expected(errors, pos, has, want, msg)
+    report(errors, pos, msg)
 }
 
 // Whether the flags in force allow a call; else each that forbids it is noted, with what helps.

@@ -119,8 +119,9 @@ impl TermEnv {
             (args_reading (S.expr_views args.now) (flags_view flags) (map (λ t. t.0) tys.now)) (λ v. expr_parts (expr_views v.items)) result }
         ensures errors { StaysNoted (standing tyenv.old work.old) (standing tyenv.new work.new) result }
     {
-        let mut parts = Vec::new(*self.terms.allocator());
-        for i in 0..args.len().min(tys.len()) {
+        let count = args.len().min(tys.len());
+        let mut parts = Vec::with_capacity(*self.terms.allocator(), count)?;
+        for i in 0..count {
             let part = self.translate_expr(tyenv, work, &args[i], Some(tys[i]), flags, nesting)?;
             push_expr(&mut parts, part)?;
         }
@@ -173,7 +174,7 @@ impl TermEnv {
         ensures made { DefinesAll self.now (standing tyenv.old work.old) (standing tyenv.new work.new) nesting
             (lets_reading (S.let_views defs.now) (flags_view flags)) hidden.old.items hidden.new.items result }
     {
-        let mut bindings = Vec::new(*self.terms.allocator());
+        let mut bindings = Vec::with_capacity(*self.terms.allocator(), defs.len())?;
         for def in defs {
             let made = self.translate_def(tyenv, work, hidden, def, pos, flags, nesting)?;
             push_def(&mut bindings, made)?;

@@ -155,13 +155,16 @@ fn check_bound(
 ) -> Result<(), AllocError>
     ensures { OnOk result (Checks errors.old.items errors.new.items (has.0 ≡ want.0)) }
 {
+    if has == want {
+        return Ok(());
+    }
     let name = var.0.as_str();
     let wanted = type_text(tyenv, want);
     let own = type_text(tyenv, has);
     let msg = format_args!(
         "Mismatched types: pattern expects type '{wanted}' but already-bound var '{name}' has type '{own}'"
     );
-    check_same(errors, pos, has, want, msg)
+    report(errors, pos, msg)
 }
 
 // Whether a name stands for no variable; else this is noted.

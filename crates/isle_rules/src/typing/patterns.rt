@@ -112,8 +112,9 @@ impl TermEnv {
             (parts_reading (S.pattern_views args.now) (map (λ t. t.0) tys.now)) (λ v. pattern_parts (pattern_views v.items)) result }
         ensures errors { StaysNoted (standing tyenv.old work.old) (standing tyenv.new work.new) result }
     {
-        let mut parts = Vec::new(*self.terms.allocator());
-        for i in 0..args.len().min(tys.len()) {
+        let count = args.len().min(tys.len());
+        let mut parts = Vec::with_capacity(*self.terms.allocator(), count)?;
+        for i in 0..count {
             let part = self.translate_pattern(tyenv, work, &args[i], tys[i], nesting)?;
             push_part(&mut parts, part)?;
         }
@@ -135,7 +136,7 @@ impl TermEnv {
         ensures made { Translates self.now (standing tyenv.old work.old) (standing tyenv.new work.new) nesting
             (each_reading (S.pattern_views subpats.now) expected_ty.0) (λ v. pattern_parts (pattern_views v.items)) result }
     {
-        let mut parts = Vec::new(*self.terms.allocator());
+        let mut parts = Vec::with_capacity(*self.terms.allocator(), subpats.len())?;
         for subpat in subpats {
             let part = self.translate_pattern(tyenv, work, subpat, expected_ty, nesting)?;
             push_part(&mut parts, part)?;

@@ -115,7 +115,7 @@ translate_exprs-translate_expr-requires t c =
 pub translate_exprs-loop-i-init : goal.translate_exprs-loop-i-init
 translate_exprs-loop-i-init t c = (
   keep_none c.args.tyenv.now c.requires,
-  none_yet c.args.self.now (standing c.args.tyenv.now c.args.work.now) c.args.nesting (args_reading no_expr (flags_view c.args.flags) []) c.new-parts.result.items c.new-parts.ensures.items (λ e multi k s. refl),
+  none_yet c.args.self.now (standing c.args.tyenv.now c.args.work.now) c.args.nesting (args_reading no_expr (flags_view c.args.flags) []) c.in_ok-parts.parts.items c.in_ok-parts.ensures.items (λ e multi k s. refl),
 )
 
 pub translate_exprs-returns-in_err-part-clause-made : goal.translate_exprs-returns-in_err-part-clause-made
@@ -123,7 +123,7 @@ translate_exprs-returns-in_err-part-clause-made t c =
     let w : c.loop-i.i < length c.args.args.now = search rules in
     let v : c.loop-i.i < length c.args.tys.now = search rules in
     let ty : TypeId = get_or c.args.tys.now c.loop-i.i (record { 0 = 0 }) in
-    rw (stop_is c.from_residual.result c.in_err-part.field-0.0 c.from_residual.ensures)
+    rw (stop_is c.from_residual-in_err-part.result c.in_err-part.field-0.0 c.from_residual-in_err-part.ensures)
     (arg_stops c.args.self.now (standing c.args.tyenv.now c.args.work.now) (standing c.loop-i.tyenv c.loop-i.work) (standing c.translate_expr.new.tyenv c.translate_expr.new.work) c.args.nesting (flags_view c.args.flags)
     c.args.args.now c.args.tys.now c.loop-i.i c.index-args-i.result ty w v c.index-args-i.is (same_default c.args.tys.now c.loop-i.i (record { 0 = 0 }) ty v) c.loop-i.invariant.0
     c.loop-i.parts.items c.loop-i.invariant.1 c.in_err-part.field-0.0 c.in_err-part.ensures.made)
@@ -131,7 +131,7 @@ translate_exprs-returns-in_err-part-clause-made t c =
 pub translate_exprs-returns-in_err-part-clause-errors : goal.translate_exprs-returns-in_err-part-clause-errors
 translate_exprs-returns-in_err-part-clause-errors t c =
     let ty : TypeId = get_or c.args.tys.now c.loop-i.i (record { 0 = 0 }) in
-    rw (stop_is c.from_residual.result c.in_err-part.field-0.0 c.from_residual.ensures)
+    rw (stop_is c.from_residual-in_err-part.result c.in_err-part.field-0.0 c.from_residual-in_err-part.ensures)
     (stays_on (standing c.args.tyenv.now c.args.work.now) (standing c.loop-i.tyenv c.loop-i.work) (standing c.translate_expr.new.tyenv c.translate_expr.new.work) c.in_err-part.field-0.0
     (may_report c.args.self.now (standing c.args.tyenv.now c.args.work.now) (standing c.loop-i.tyenv c.loop-i.work) c.args.nesting _ _ c.loop-i.invariant.1) (stop_keeps c.args.self.now (standing c.loop-i.tyenv c.loop-i.work) (standing c.translate_expr.new.tyenv c.translate_expr.new.work) c.args.nesting
     (expr_reading (S.expr_view c.index-args-i.result) (flags_view c.args.flags) (Some ty.0)) c.in_err-part.field-0.0 c.in_err-part.ensures.made))
@@ -191,7 +191,7 @@ translate_let-returns-clause-made t c =
 pub translate_defs-loop-def-init : goal.translate_defs-loop-def-init
 translate_defs-loop-def-init t c = (
   keep_none c.args.tyenv.now c.requires,
-  no_def_yet c.args.self.now (standing c.args.tyenv.now c.args.work.now) c.args.nesting (flags_view c.args.flags) c.args.hidden.now.items c.new-bindings.result.items c.new-bindings.ensures.items,
+  no_def_yet c.args.self.now (standing c.args.tyenv.now c.args.work.now) c.args.nesting (flags_view c.args.flags) c.args.hidden.now.items c.in_ok-bindings.bindings.items c.in_ok-bindings.ensures.items,
 )
 
 pub translate_defs-translate_def-requires : goal.translate_defs-translate_def-requires
@@ -203,7 +203,7 @@ translate_defs-translate_def-requires t c =
 
 pub translate_defs-returns-in_err-made-clause-made : goal.translate_defs-returns-in_err-made-clause-made
 translate_defs-returns-in_err-made-clause-made t c =
-    rw (stop_is c.from_residual.result c.in_err-made.field-0.0 c.from_residual.ensures)
+    rw (stop_is c.from_residual-in_err-made.result c.in_err-made.field-0.0 c.from_residual-in_err-made.ensures)
     (next_stops c.args.self.now (standing c.args.tyenv.now c.args.work.now) (standing c.loop-def.tyenv c.loop-def.work) (standing c.translate_def.new.tyenv c.translate_def.new.work) c.args.nesting (flags_view c.args.flags)
     c.args.defs.now c.loop-def.def-index c.def-item.result c.loop-def-test.true c.def-item.is c.loop-def.invariant.0 c.loop-def.bindings.items c.args.hidden.now.items c.loop-def.hidden.items c.loop-def.invariant.1
     c.in_err-made.field-0.0 c.in_err-made.ensures.made)

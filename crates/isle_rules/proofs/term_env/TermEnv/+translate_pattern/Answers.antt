@@ -153,7 +153,7 @@ translate_each-translate_pattern-requires t c =
 pub translate_args-loop-i-init : goal.translate_args-loop-i-init
 translate_args-loop-i-init t c = (
   keep_none c.args.tyenv.now c.requires,
-  none_yet c.args.self.now (standing c.args.tyenv.now c.args.work.now) c.args.nesting (parts_reading no_pattern []) c.new-parts.result.items c.new-parts.ensures.items (λ e multi k s. refl),
+  none_yet c.args.self.now (standing c.args.tyenv.now c.args.work.now) c.args.nesting (parts_reading no_pattern []) c.in_ok-parts.parts.items c.in_ok-parts.ensures.items (λ e multi k s. refl),
 )
 
 pub translate_args-returns-in_err-part-clause-made : goal.translate_args-returns-in_err-part-clause-made
@@ -161,7 +161,7 @@ translate_args-returns-in_err-part-clause-made t c =
     let w : c.loop-i.i < length c.args.args.now = search rules in
     let v : c.loop-i.i < length c.args.tys.now = search rules in
     let ty : TypeId = get_or c.args.tys.now c.loop-i.i (record { 0 = 0 }) in
-    rw (stop_is c.from_residual.result c.in_err-part.field-0.0 c.from_residual.ensures)
+    rw (stop_is c.from_residual-in_err-part.result c.in_err-part.field-0.0 c.from_residual-in_err-part.ensures)
     (part_stops c.args.self.now (standing c.args.tyenv.now c.args.work.now) (standing c.loop-i.tyenv c.loop-i.work) (standing c.translate_pattern.new.tyenv c.translate_pattern.new.work) c.args.nesting
     c.args.args.now c.args.tys.now c.loop-i.i c.index-args-i.result ty w v c.index-args-i.is (same_default c.args.tys.now c.loop-i.i (record { 0 = 0 }) ty v) c.loop-i.invariant.0
     c.loop-i.parts.items c.loop-i.invariant.1 c.in_err-part.field-0.0 c.in_err-part.ensures.made)
@@ -169,7 +169,7 @@ translate_args-returns-in_err-part-clause-made t c =
 pub translate_args-returns-in_err-part-clause-errors : goal.translate_args-returns-in_err-part-clause-errors
 translate_args-returns-in_err-part-clause-errors t c =
     let ty : TypeId = get_or c.args.tys.now c.loop-i.i (record { 0 = 0 }) in
-    rw (stop_is c.from_residual.result c.in_err-part.field-0.0 c.from_residual.ensures)
+    rw (stop_is c.from_residual-in_err-part.result c.in_err-part.field-0.0 c.from_residual-in_err-part.ensures)
     (stays_on (standing c.args.tyenv.now c.args.work.now) (standing c.loop-i.tyenv c.loop-i.work) (standing c.translate_pattern.new.tyenv c.translate_pattern.new.work) c.in_err-part.field-0.0
     (may_report c.args.self.now (standing c.args.tyenv.now c.args.work.now) (standing c.loop-i.tyenv c.loop-i.work) c.args.nesting _ _ c.loop-i.invariant.1) (stop_keeps c.args.self.now (standing c.loop-i.tyenv c.loop-i.work) (standing c.translate_pattern.new.tyenv c.translate_pattern.new.work) c.args.nesting
     (pattern_reading (S.pattern_view c.index-args-i.result) ty.0) c.in_err-part.field-0.0 c.in_err-part.ensures.made))
@@ -190,12 +190,12 @@ translate_args-loop-i-preserved t c =
 pub translate_each-loop-subpat-init : goal.translate_each-loop-subpat-init
 translate_each-loop-subpat-init t c = (
   keep_none c.args.tyenv.now c.requires,
-  none_yet c.args.self.now (standing c.args.tyenv.now c.args.work.now) c.args.nesting (each_reading no_pattern c.args.expected_ty.0) c.new-parts.result.items c.new-parts.ensures.items (λ e multi k s. refl),
+  none_yet c.args.self.now (standing c.args.tyenv.now c.args.work.now) c.args.nesting (each_reading no_pattern c.args.expected_ty.0) c.in_ok-parts.parts.items c.in_ok-parts.ensures.items (λ e multi k s. refl),
 )
 
 pub translate_each-returns-in_err-part-clause-made : goal.translate_each-returns-in_err-part-clause-made
 translate_each-returns-in_err-part-clause-made t c =
-    rw (stop_is c.from_residual.result c.in_err-part.field-0.0 c.from_residual.ensures)
+    rw (stop_is c.from_residual-in_err-part.result c.in_err-part.field-0.0 c.from_residual-in_err-part.ensures)
     (each_stops c.args.self.now (standing c.args.tyenv.now c.args.work.now) (standing c.loop-subpat.tyenv c.loop-subpat.work) (standing c.translate_pattern.new.tyenv c.translate_pattern.new.work) c.args.nesting
     c.args.subpats.now c.args.expected_ty.0 c.loop-subpat.subpat-index c.subpat-item.result c.loop-subpat-test.true c.subpat-item.is c.loop-subpat.invariant.0
     c.loop-subpat.parts.items c.loop-subpat.invariant.1 c.in_err-part.field-0.0 c.in_err-part.ensures.made)
