@@ -1,12 +1,13 @@
 //! How long the steps from definitions to trees take: `rt run -- times` makes lists of three sizes for each, and prints
 //! the time of that step alone, of `lower` that of all steps. Each time is the mean over as many lists of one size as
-//! have the greatest size together, all made before the first is read: so a short list finds no more in the processor's
-//! caches than a long one. `rt run -- SIZE ..` makes lists of these sizes, but no longer ones than the former, and prints
-//! no times.
+//! have the greatest size together, each step taken for all of them before the next: so a short list finds no more in
+//! the processor's caches than a long one. `rt run -- SIZE ..` makes lists of these sizes, but no longer ones than the
+//! former, and prints no times.
 #![tactic(auto)]
 
 mod definitions;
 mod lists;
+mod stages;
 mod tables;
 mod texts;
 
@@ -79,9 +80,11 @@ fn print_counts(
 ) -> io::Result<()> {
     for size in sizes {
         if *size <= greatest {
-            let defs = definitions_of(alloc, kind, *size)?;
-            let counts = table.read(rt, alloc, &defs)?.counts;
-            println!(rt; "{} definitions: {counts}", defs.len())?;
+            let mut lists = Vec::new(alloc);
+            lists.push(definitions_of(alloc, kind, *size)?)?;
+            let count = lists[0].len();
+            let counts = table.read(rt, alloc, lists)?.counts;
+            println!(rt; "{count} definitions: {counts}")?;
         }
     }
     Ok(())
@@ -98,7 +101,8 @@ fn print_times(
     let mut before = None;
     for size in sizes {
         let lists = lists_of(alloc, kind, size, sizes[2] / size.max(1))?;
-        let micros = mean_micros(rt, alloc, table, &lists)?;
+        let count = lists.len() as u128;
+        let micros = table.read(rt, alloc, lists)?.micros / count.max(1);
         let millis = ratio(alloc, micros, 1000)?;
         let growth = growth(alloc, before, size, micros)?;
         let of = kind.name();
@@ -115,20 +119,6 @@ fn lists_of(alloc: Global, kind: Kind, size: usize, count: usize) -> io::Result<
         lists.push(definitions_of(alloc, kind, size)?)?;
     }
     Ok(lists)
-}
-
-// How long the table of one of these lists takes in the mean.
-fn mean_micros(
-    rt: &(impl Clock + Print),
-    alloc: Global,
-    table: Table,
-    lists: &[Vec<Def>],
-) -> io::Result<u128> {
-    let mut micros = 0u128;
-    for defs in lists {
-        micros = micros.saturating_add(table.read(rt, alloc, defs)?.micros);
-    }
-    Ok(micros / (lists.len() as u128).max(1))
 }
 
 // How many times the time and the size before a time and a size are.

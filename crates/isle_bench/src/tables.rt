@@ -1,10 +1,11 @@
-//! What lists of definitions are made into, and how long the last step takes.
-ghost use Rattle.std.specs.Prelude.{IfOk};
-ghost use Rattle.isle_builder.specs.Built.{IsOfElaborated};
+//! What lists of definitions are made into, and how long the last step takes. Each step is taken for all lists before the
+//! next one, and all that it makes is kept to the end: so the step before leaves nothing of a list in the processor's
+//! caches, and a list gets no memory that an earlier one gave back.
 
-use cranelift_isle::lower::lower;
+use crate::stages::{ListWithRules, ListWithTerms, ListWithTypes};
+use cranelift_isle::lower::{Lowered, lower};
 use cranelift_isle::overlap::check;
-use isle_base::syntax::{Def, Fault};
+use isle_base::syntax::{Def, Error, Fault};
 use isle_builder::build::build;
 use isle_rules::TermEnv;
 use isle_sets::trie_again::RuleSet;
@@ -33,19 +34,11 @@ pub enum Table {
     Trees,
 }
 
-/// What a table has, in words, and the microseconds that its last step took.
+/// What the table of the last of some lists has, in words, and the microseconds that the last step took for all of them.
 #[derive(Drop)]
 pub struct Reading {
     pub counts: String,
     pub micros: u128,
-}
-
-// The typed rules of a list, and the microseconds that typing them took.
-#[derive(Drop)]
-struct TypedRules {
-    tyenv: TypeEnv,
-    termenv: TermEnv,
-    micros: u128,
 }
 
 // Why a table can't be read.
@@ -88,15 +81,15 @@ impl Table {
         }
     }
 
-    /// Reads a list in which nothing is wrong.
-    pub fn read(self, rt: &impl Clock, alloc: Global, defs: &[Def]) -> io::Result<Reading> {
+    /// Reads lists in which nothing is wrong.
+    pub fn read(self, rt: &impl Clock, alloc: Global, lists: Vec<Vec<Def>>) -> io::Result<Reading> {
         let reading = match self {
-            Table::Types => types(rt, alloc, defs),
-            Table::Terms => terms(rt, alloc, defs),
-            Table::Rules => rules(rt, alloc, defs),
-            Table::Sets => sets(rt, alloc, defs),
-            Table::Checked => checked(rt, alloc, defs),
-            Table::Trees => trees(rt, alloc, defs),
+            Table::Types => types(rt, alloc, lists),
+            Table::Terms => terms(rt, alloc, lists),
+            Table::Rules => rules(rt, alloc, lists),
+            Table::Sets => sets(rt, alloc, lists),
+            Table::Checked => checked(rt, alloc, lists),
+            Table::Trees => trees(rt, alloc, &lists),
         };
         match reading {
             Ok(reading) => Ok(reading),
@@ -107,11 +100,74 @@ impl Table {
     }
 }
 
-fn types(rt: &impl Clock, alloc: Global, defs: &[Def]) -> Result<Reading, Stop> {
+// All lists with their types.
+fn with_types(alloc: Global, lists: Vec<Vec<Def>>) -> Result<Vec<ListWithTypes>, Fault> {
+    let mut made = Vec::with_capacity(alloc, lists.len())?;
+    for defs in lists {
+        made.push(ListWithTypes::new(alloc, defs)?)?;
+    }
+    Ok(made)
+}
+
+// All lists with their terms.
+fn with_terms(alloc: Global, lists: Vec<ListWithTypes>) -> Result<Vec<ListWithTerms>, Fault> {
+    let mut made = Vec::with_capacity(alloc, lists.len())?;
+    for list in lists {
+        made.push(list.with_terms(alloc)?)?;
+    }
+    Ok(made)
+}
+
+// All lists with their rules.
+fn with_rules(alloc: Global, lists: Vec<ListWithTypes>) -> Result<Vec<ListWithRules>, Fault> {
+    let mut made = Vec::with_capacity(alloc, lists.len())?;
+    for list in lists {
+        made.push(list.with_rules(alloc)?)?;
+    }
+    Ok(made)
+}
+
+// The rule sets of all lists, with the errors of the rules that are left out.
+fn built(
+    alloc: Global,
+    lists: &[ListWithRules],
+) -> Result<Vec<(Vec<(TermId, RuleSet)>, Vec<Error>)>, Fault> {
+    let mut made = Vec::with_capacity(alloc, lists.len())?;
+    for list in lists {
+        made.push(build(alloc, list.termenv())?)?;
+    }
+    Ok(made)
+}
+
+// The rule sets of all lists, in which rules can be told apart.
+fn all_checked(
+    alloc: Global,
+    lists: &[ListWithRules],
+) -> Result<Vec<Vec<(TermId, RuleSet)>>, Fault> {
+    let mut made = Vec::with_capacity(alloc, lists.len())?;
+    for list in lists {
+        made.push(check(alloc, list.termenv())?)?;
+    }
+    Ok(made)
+}
+
+// The trees of all lists.
+fn lowered(alloc: Global, lists: &[Vec<Def>]) -> Result<Vec<Lowered>, Fault> {
+    let mut made = Vec::with_capacity(alloc, lists.len())?;
+    for defs in lists {
+        made.push(lower(alloc, defs, true)?)?;
+    }
+    Ok(made)
+}
+
+fn types(rt: &impl Clock, alloc: Global, lists: Vec<Vec<Def>>) -> Result<Reading, Stop> {
     let start = Instant::now(rt)?;
-    let env = TypeEnv::from_ast(alloc, defs)?;
+    let made = with_types(alloc, lists)?;
     let micros = start.elapsed(rt)?.as_micros();
-    let counts = type_counts(alloc, &env)?;
+    let counts = match made.last() {
+        Some(list) => type_counts(alloc, &list.tyenv)?,
+        None => String::new(alloc),
+    };
     Ok(Reading { counts, micros })
 }
 
@@ -124,12 +180,15 @@ fn type_counts(alloc: Global, env: &TypeEnv) -> Result<String, AllocError> {
     )
 }
 
-fn terms(rt: &impl Clock, alloc: Global, defs: &[Def]) -> Result<Reading, Stop> {
-    let mut tyenv = TypeEnv::from_ast(alloc, defs)?;
+fn terms(rt: &impl Clock, alloc: Global, lists: Vec<Vec<Def>>) -> Result<Reading, Stop> {
+    let typed = with_types(alloc, lists)?;
     let start = Instant::now(rt)?;
-    let table = TermTable::from_ast(alloc, &mut tyenv, defs)?;
+    let made = with_terms(alloc, typed)?;
     let micros = start.elapsed(rt)?.as_micros();
-    let counts = term_counts(alloc, &tyenv, &table)?;
+    let counts = match made.last() {
+        Some(list) => term_counts(alloc, &list.tyenv, &list.table)?,
+        None => String::new(alloc),
+    };
     Ok(Reading { counts, micros })
 }
 
@@ -142,10 +201,15 @@ fn term_counts(alloc: Global, tyenv: &TypeEnv, table: &TermTable) -> Result<Stri
     )
 }
 
-fn rules(rt: &impl Clock, alloc: Global, defs: &[Def]) -> Result<Reading, Stop> {
-    let typed = typed_rules(rt, alloc, defs)?;
-    let counts = rule_counts(alloc, &typed.tyenv, &typed.termenv)?;
-    let micros = typed.micros;
+fn rules(rt: &impl Clock, alloc: Global, lists: Vec<Vec<Def>>) -> Result<Reading, Stop> {
+    let typed = with_types(alloc, lists)?;
+    let start = Instant::now(rt)?;
+    let made = with_rules(alloc, typed)?;
+    let micros = start.elapsed(rt)?.as_micros();
+    let counts = match made.last() {
+        Some(list) => rule_counts(alloc, list.tyenv(), list.termenv())?,
+        None => String::new(alloc),
+    };
     Ok(Reading { counts, micros })
 }
 
@@ -159,36 +223,36 @@ fn rule_counts(alloc: Global, tyenv: &TypeEnv, env: &TermEnv) -> Result<String, 
     )
 }
 
-fn typed_rules(rt: &impl Clock, alloc: Global, defs: &[Def]) -> Result<TypedRules, Stop>
-    ensures { IfOk result (λ typed. IsOfElaborated typed.termenv) }
-{
-    let mut tyenv = TypeEnv::from_ast(alloc, defs)?;
+fn sets(rt: &impl Clock, alloc: Global, lists: Vec<Vec<Def>>) -> Result<Reading, Stop> {
+    let typed = with_rules(alloc, with_types(alloc, lists)?)?;
     let start = Instant::now(rt)?;
-    let termenv = TermEnv::from_ast(alloc, &mut tyenv, defs, true)?;
+    let made = built(alloc, &typed)?;
     let micros = start.elapsed(rt)?.as_micros();
-    Ok(TypedRules {
-        tyenv,
-        termenv,
-        micros,
-    })
-}
-
-fn sets(rt: &impl Clock, alloc: Global, defs: &[Def]) -> Result<Reading, Stop> {
-    let typed = typed_rules(rt, alloc, defs)?;
-    let start = Instant::now(rt)?;
-    let (sets, errors) = build(alloc, &typed.termenv)?;
-    let micros = start.elapsed(rt)?.as_micros();
-    let sizes = set_counts(alloc, &sets)?;
-    let counts = format!(in alloc; "{sizes}, {} errors", errors.len())?;
+    let counts = match made.last() {
+        Some(both) => built_counts(alloc, &both.0, &both.1)?,
+        None => String::new(alloc),
+    };
     Ok(Reading { counts, micros })
 }
 
-fn checked(rt: &impl Clock, alloc: Global, defs: &[Def]) -> Result<Reading, Stop> {
-    let typed = typed_rules(rt, alloc, defs)?;
+fn built_counts(
+    alloc: Global,
+    sets: &[(TermId, RuleSet)],
+    errors: &[Error],
+) -> Result<String, AllocError> {
+    let sizes = set_counts(alloc, sets)?;
+    format!(in alloc; "{sizes}, {} errors", errors.len())
+}
+
+fn checked(rt: &impl Clock, alloc: Global, lists: Vec<Vec<Def>>) -> Result<Reading, Stop> {
+    let typed = with_rules(alloc, with_types(alloc, lists)?)?;
     let start = Instant::now(rt)?;
-    let sets = check(alloc, &typed.termenv)?;
+    let made = all_checked(alloc, &typed)?;
     let micros = start.elapsed(rt)?.as_micros();
-    let counts = set_counts(alloc, &sets)?;
+    let counts = match made.last() {
+        Some(sets) => set_counts(alloc, sets)?,
+        None => String::new(alloc),
+    };
     Ok(Reading { counts, micros })
 }
 
@@ -202,11 +266,14 @@ fn set_counts(alloc: Global, sets: &[(TermId, RuleSet)]) -> Result<String, Alloc
     format!(in alloc; "{} sets, {rules} rules, {sites} sites", sets.len())
 }
 
-fn trees(rt: &impl Clock, alloc: Global, defs: &[Def]) -> Result<Reading, Stop> {
+fn trees(rt: &impl Clock, alloc: Global, lists: &[Vec<Def>]) -> Result<Reading, Stop> {
     let start = Instant::now(rt)?;
-    let lowered = lower(alloc, defs, true)?;
+    let made = lowered(alloc, lists)?;
     let micros = start.elapsed(rt)?.as_micros();
-    let counts = tree_counts(alloc, lowered.terms.len(), lowered.termenv.rules.len())?;
+    let counts = match made.last() {
+        Some(list) => tree_counts(alloc, list.terms.len(), list.termenv.rules.len())?,
+        None => String::new(alloc),
+    };
     Ok(Reading { counts, micros })
 }
 
