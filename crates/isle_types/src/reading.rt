@@ -36,16 +36,14 @@ impl TypeEnv {
     /// A table of the built-in types alone, each with its place in `BuiltinType::ALL` as its id and
     /// as that of its name. It is well formed: terms and rules can be read with it. An error where memory
     /// is refused. Stands for upstream's `Default`.
-    #[tactic(auto, using(crate::proofs::Booting::booted, crate::proofs::Booting::booted_count))]
+    #[tactic(auto, using(crate::proofs::Booting::booted, crate::proofs::Booting::booted_count, crate::proofs::WellFormedEnvs::builtins_shown, crate::proofs::WellFormedEnvs::builtins_well_formed))]
     pub fn try_default(alloc: Global) -> Result<TypeEnv, AllocError>
         ensures table { IfOk result (λ env. SeesTypes env [] builtin_names) }
         ensures count { IfOk result (λ env. entry_count env.type_map ≡ 13) }
         ensures shown { IfOk result (λ env. AreTypesOf [] (environment_view env)) }
         ensures well_formed { IfOk result (λ env. IsWellFormedEnvironment (environment_view env)) }
     {
-        let mut env = TypeEnv::with_room(alloc, BuiltinType::ALL.len())?;
-        env.add_builtins(&BuiltinType::ALL)?;
-        Ok(env)
+        TypeEnv::with_builtins(alloc, BuiltinType::ALL.len())
     }
 
     /// The type table of a list of definitions, upstream's `TypeEnv::from_ast`. The built-in types come
@@ -68,8 +66,7 @@ impl TypeEnv {
         ensures shown { IfOk result (λ env. AreTypesOf (definition_views defs.now) (environment_view env)) }
         ensures well_formed { IfOk result (λ env. IsWellFormedEnvironment (environment_view env)) }
     {
-        let mut env = TypeEnv::with_room(alloc, defs.len())?;
-        env.add_builtins(&BuiltinType::ALL)?;
+        let mut env = TypeEnv::with_builtins(alloc, defs.len())?;
         let mut errors = Vec::new(alloc);
         env.name_types(&mut errors, defs)?;
         env.fill_types(&mut errors, defs)?;
@@ -81,19 +78,21 @@ impl TypeEnv {
         }
     }
 
-    // A table of nothing, with room for so many names: long lists have about as many names as definitions, and a
-    // table that grows by and by is copied each time.
-    fn with_room(alloc: Global, names: usize) -> Result<TypeEnv, AllocError>
-        ensures { IfOk result (λ env. Booting env BuiltinType.ALL) }
+    // A table of the built-in types alone, with room for so many names: long lists have about as many names as
+    // definitions, and a table that grows by and by is copied each time.
+    fn with_builtins(alloc: Global, names: usize) -> Result<TypeEnv, AllocError>
+        ensures { IfOk result (λ env. Booting env []) }
     {
-        Ok(TypeEnv {
+        let mut env = TypeEnv {
             syms: Vec::with_capacity(alloc, names)?,
             sym_map: HashMap::with_capacity(alloc, names)?,
             types: Vec::new(alloc),
             type_map: StableMap::new(alloc),
             const_types: StableMap::new(alloc),
             errors: Vec::new(alloc),
-        })
+        };
+        env.add_builtins(&BuiltinType::ALL)?;
+        Ok(env)
     }
 
     // Makes a name that of the next type. The type that has the name already, where one does.

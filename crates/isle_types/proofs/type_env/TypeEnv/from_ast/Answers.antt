@@ -9,7 +9,7 @@ use Rattle.std.proofs.lemmas.List.{nil_from_length}
 
 pub name_types-requires : goal.name_types-requires
 name_types-requires c =
-    let b = c.in_ok-add_builtins.ensures in
+    let b = c.in_ok-env.ensures in
     first_name _ _ _ (booted _ b) (booted_count _ b) c.new-errors.ensures.items
 
 pub returns-then-is_empty-clause-answers : goal.returns-then-is_empty-clause-answers
