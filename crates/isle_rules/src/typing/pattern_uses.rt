@@ -14,7 +14,7 @@ ghost use Rattle.isle_rules.specs.Translating.{standing};
 
 use crate::reports::{report, type_text};
 use crate::term_env::TermEnv;
-use crate::typing::checks::{check_count, check_same};
+use crate::typing::checks::check_count;
 use crate::typing::progress::{Progress, Stop};
 use isle_base::syntax::{Error, Ident, Pattern, Pos};
 use isle_terms::{ExtractorKind, Term, TermKind};
@@ -154,12 +154,15 @@ fn check_type(
 ) -> Result<(), AllocError>
     ensures { OnOk result (Checks errors.old.items errors.new.items (has.0 ≡ want.0)) }
 {
+    if has == want {
+        return Ok(());
+    }
     let wanted = type_text(tyenv, want);
     let own = type_text(tyenv, has);
     let msg = format_args!(
         "Mismatched types: pattern expects type '{wanted}' but term has return type '{own}'"
     );
-    check_same(errors, pos, has, want, msg)
+    report(errors, pos, msg)
 }
 
 // Whether a term has an extractor; else this is noted.
