@@ -86,7 +86,7 @@ impl TermEnv {
         ensures reads { IfOk result (λ v. CollectsRules self.now tyenv.old tyenv.new work.old.errors.items work.new.errors.items (rule_trees (definition_views defs.now)) (rule_views v.items)) }
         ensures notes { OnOk result (NotesOfRules self.now tyenv.old (rule_trees (definition_views defs.now)) work.old.errors.items work.new.errors.items) }
     {
-        let mut rules = Vec::new(*self.terms.allocator());
+        let mut rules = Vec::with_capacity(*self.terms.allocator(), defs.len())?;
         for def in defs {
             self.collect_definition(tyenv, work, def, &mut rules)?;
         }

@@ -9,7 +9,7 @@ use Rattle.isle_rules.proofs.term_env.TermEnv.collect_rules.Goals as goal
 pub loop-def-init : goal.loop-def-init
 loop-def-init c = (
   keep_none c.args.tyenv.now c.requires,
-  first_reading c.args.self.now c.args.tyenv.now c.args.work.now.errors.items (rule_trees (definition_views c.args.defs.now)) c.new-rules.result.items c.new-rules.ensures.items,
+  first_reading c.args.self.now c.args.tyenv.now c.args.work.now.errors.items (rule_trees (definition_views c.args.defs.now)) c.in_ok-rules.rules.items c.in_ok-rules.ensures.items,
   none_noted c.args.self.now c.args.tyenv.now c.args.work.now.errors.items (rule_trees (definition_views c.args.defs.now)),
 )
 
