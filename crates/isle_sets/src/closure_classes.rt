@@ -115,14 +115,14 @@ fn join_part(
 struct Looks {
     // Those that were looked at, by the site by which the class of their source goes.
     by_class: BTreeMap<BindingId, Vec<usize>>,
-    open: Vec<usize>,
+    waiting: Vec<usize>,
 }
 
 impl Drop for Looks {
     fn drop(self) {
         let Self {
             by_class: _,
-            open: _,
+            waiting: _,
         } = self;
     }
 }
@@ -132,13 +132,13 @@ impl Looks {
     fn new(alloc: Global, count: usize) -> Result<Looks, AllocError>
         ensures none { IfOk result (λ looks. (class : ℕ) → listed_at looks.by_class class ≡ []) }
     {
-        let mut open = Vec::new(alloc);
+        let mut waiting = Vec::new(alloc);
         for number in 0..count {
-            open.push(number)?;
+            waiting.push(number)?;
         }
         Ok(Looks {
             by_class: BTreeMap::new(alloc),
-            open,
+            waiting,
         })
     }
 
@@ -146,10 +146,10 @@ impl Looks {
     fn next(&mut self, parts: &[Part]) -> Option<(usize, Part)>
         ensures there { IfSome result (λ x. Contains parts.now x.1) }
         ensures part { IfSome result (λ x. slice_get parts.now x.0 ≡ Some x.1) }
-        ensures open { IfSome result (λ x. self.old.open.items ≡ self.new.open.items ++ x.0 ∷ []) }
+        ensures waiting { IfSome result (λ x. self.old.waiting.items ≡ self.new.waiting.items ++ x.0 ∷ []) }
         ensures kept { self.new.by_class ≡ self.old.by_class }
     {
-        let number = self.open.pop()?;
+        let number = self.waiting.pop()?;
         let part = parts.get(number)?;
         Some((number, *part))
     }
@@ -157,21 +157,21 @@ impl Looks {
     // A part of a class is looked at.
     fn note(&mut self, class: BindingId, number: usize) -> Result<(), AllocError>
         ensures listed { OnOk result ((k : ℕ) → listed_at self.new.by_class k ≡ listed_at self.old.by_class k ++ (if nat_eq class k then number ∷ [] else [])) }
-        ensures open { self.new.open ≡ self.old.open }
+        ensures waiting { self.new.waiting ≡ self.old.waiting }
     {
-        add_to_list(*self.open.allocator(), &mut self.by_class, class, number)
+        add_to_list(*self.waiting.allocator(), &mut self.by_class, class, number)
     }
 
     // The parts of a class that goes by another site now are to be looked at again.
     fn reopen(&mut self, before: BindingId, now: BindingId) -> Result<(), AllocError>
-        ensures open { OnOk result (self.new.open.items ≡ self.old.open.items ++ (if nat_eq before now then [] else listed_at self.old.by_class before)) }
+        ensures waiting { OnOk result (self.new.waiting.items ≡ self.old.waiting.items ++ (if nat_eq before now then [] else listed_at self.old.by_class before)) }
         ensures rest { OnOk result ((k : ℕ) → listed_at self.new.by_class k ≡ (if not (nat_eq before now) && nat_eq before k then [] else listed_at self.old.by_class k)) }
     {
         if before == now {
             return Ok(());
         }
-        let mut moved = take_list(*self.open.allocator(), &mut self.by_class, before);
-        self.open.append(&mut moved)?;
+        let mut moved = take_list(*self.waiting.allocator(), &mut self.by_class, before);
+        self.waiting.append(&mut moved)?;
         Ok(())
     }
 }
