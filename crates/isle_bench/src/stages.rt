@@ -1,13 +1,17 @@
-//! Lists at the stages from definitions to typed rules. What a stage was made of is kept beside it.
+//! Lists at the stages from definitions to trees. What a stage was made of is kept beside it.
 ghost use Rattle.isle_base.specs.SyntaxViews.{definition_views};
 ghost use Rattle.isle_builder.specs.Built.{IsOfElaborated};
 ghost use Rattle.isle_model.specs.claims.Environments.{AreTypesOf};
 ghost use Rattle.isle_types.specs.EnvViews.{environment_view};
 
-use isle_base::syntax::{Def, Fault};
+use cranelift_isle::lower::{Lowered, lower};
+use cranelift_isle::overlap::check;
+use isle_base::syntax::{Def, Error, Fault};
+use isle_builder::build::build;
 use isle_rules::TermEnv;
+use isle_sets::trie_again::RuleSet;
 use isle_terms::TermTable;
-use isle_types::TypeEnv;
+use isle_types::{TermId, TypeEnv};
 use std::alloc::Global;
 use std::marker::Model;
 
@@ -32,6 +36,21 @@ pub struct ListWithRules {
     defs: Vec<Def>,
     tyenv: TypeEnv,
     termenv: TermEnv,
+}
+
+/// A list with the rule sets of its terms, and the errors of the rules that are left out.
+#[derive(Drop)]
+pub struct ListWithSets {
+    pub list: ListWithRules,
+    pub sets: Vec<(TermId, RuleSet)>,
+    pub errors: Vec<Error>,
+}
+
+/// A list with its trees.
+#[derive(Drop)]
+pub struct ListWithTrees {
+    pub defs: Vec<Def>,
+    pub lowered: Lowered,
 }
 
 impl Model for ListWithRules {
@@ -92,5 +111,33 @@ impl ListWithRules {
         ensures { IsOfElaborated result.now }
     {
         &self.termenv
+    }
+
+    /// Makes its rule sets.
+    pub fn with_sets(self, alloc: Global) -> Result<ListWithSets, Fault> {
+        let (sets, errors) = build(alloc, self.termenv())?;
+        Ok(ListWithSets {
+            list: self,
+            sets,
+            errors,
+        })
+    }
+
+    /// Makes its rule sets, in which rules can be told apart.
+    pub fn checked(self, alloc: Global) -> Result<ListWithSets, Fault> {
+        let sets = check(alloc, self.termenv())?;
+        Ok(ListWithSets {
+            list: self,
+            sets,
+            errors: Vec::new(alloc),
+        })
+    }
+}
+
+impl ListWithTrees {
+    /// Lowers a list.
+    pub fn new(alloc: Global, defs: Vec<Def>) -> Result<ListWithTrees, Fault> {
+        let lowered = lower(alloc, &defs, true)?;
+        Ok(ListWithTrees { defs, lowered })
     }
 }

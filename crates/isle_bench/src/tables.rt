@@ -2,15 +2,11 @@
 //! next one, and all that it makes is kept to the end: so the step before leaves nothing of a list in the processor's
 //! caches, and a list gets no memory that an earlier one gave back.
 
-use crate::stages::{ListWithRules, ListWithTerms, ListWithTypes};
-use cranelift_isle::lower::{Lowered, lower};
-use cranelift_isle::overlap::check;
-use isle_base::syntax::{Def, Error, Fault};
-use isle_builder::build::build;
-use isle_rules::TermEnv;
+use crate::stages::{ListWithRules, ListWithSets, ListWithTerms, ListWithTrees, ListWithTypes};
+use cranelift_isle::lower::Lowered;
+use isle_base::syntax::{Def, Fault};
 use isle_sets::trie_again::RuleSet;
-use isle_terms::TermTable;
-use isle_types::{TermId, TypeEnv};
+use isle_types::TermId;
 use std::alloc::{AllocError, Global};
 use std::io;
 use std::io::ErrorKind;
@@ -89,7 +85,7 @@ impl Table {
             Table::Rules => rules(rt, alloc, lists),
             Table::Sets => sets(rt, alloc, lists),
             Table::Checked => checked(rt, alloc, lists),
-            Table::Trees => trees(rt, alloc, &lists),
+            Table::Trees => trees(rt, alloc, lists),
         };
         match reading {
             Ok(reading) => Ok(reading),
@@ -100,160 +96,119 @@ impl Table {
     }
 }
 
-// All lists with their types.
-fn with_types(alloc: Global, lists: Vec<Vec<Def>>) -> Result<Vec<ListWithTypes>, Fault> {
-    let mut made = Vec::with_capacity(alloc, lists.len())?;
-    for defs in lists {
-        made.push(ListWithTypes::new(alloc, defs)?)?;
-    }
-    Ok(made)
-}
-
-// All lists with their terms.
-fn with_terms(alloc: Global, lists: Vec<ListWithTypes>) -> Result<Vec<ListWithTerms>, Fault> {
-    let mut made = Vec::with_capacity(alloc, lists.len())?;
-    for list in lists {
-        made.push(list.with_terms(alloc)?)?;
-    }
-    Ok(made)
-}
-
-// All lists with their rules.
-fn with_rules(alloc: Global, lists: Vec<ListWithTypes>) -> Result<Vec<ListWithRules>, Fault> {
-    let mut made = Vec::with_capacity(alloc, lists.len())?;
-    for list in lists {
-        made.push(list.with_rules(alloc)?)?;
-    }
-    Ok(made)
-}
-
-// The rule sets of all lists, with the errors of the rules that are left out.
-fn built(
+// What a step makes of each of these.
+fn all<T: Drop, U: Drop, F: FnMut(T) -> Result<U, Fault> + Drop>(
     alloc: Global,
-    lists: &[ListWithRules],
-) -> Result<Vec<(Vec<(TermId, RuleSet)>, Vec<Error>)>, Fault> {
-    let mut made = Vec::with_capacity(alloc, lists.len())?;
-    for list in lists {
-        made.push(build(alloc, list.termenv())?)?;
+    items: Vec<T>,
+    mut step: F,
+) -> Result<Vec<U>, Fault>
+    requires { F.IsAlwaysCallable step }
+{
+    let mut made = Vec::with_capacity(alloc, items.len())?;
+    for item in items {
+        made.push(step(item)?)?;
     }
     Ok(made)
 }
 
-// The rule sets of all lists, in which rules can be told apart.
-fn all_checked(
+// The same, with the time that it takes, and what the last that is made has.
+fn timed<
+    T: Drop,
+    U: Drop,
+    F: FnMut(T) -> Result<U, Fault> + Drop,
+    C: FnOnce(&U) -> Result<String, AllocError> + Drop,
+>(
+    rt: &impl Clock,
     alloc: Global,
-    lists: &[ListWithRules],
-) -> Result<Vec<Vec<(TermId, RuleSet)>>, Fault> {
-    let mut made = Vec::with_capacity(alloc, lists.len())?;
-    for list in lists {
-        made.push(check(alloc, list.termenv())?)?;
-    }
-    Ok(made)
-}
-
-// The trees of all lists.
-fn lowered(alloc: Global, lists: &[Vec<Def>]) -> Result<Vec<Lowered>, Fault> {
-    let mut made = Vec::with_capacity(alloc, lists.len())?;
-    for defs in lists {
-        made.push(lower(alloc, defs, true)?)?;
-    }
-    Ok(made)
-}
-
-fn types(rt: &impl Clock, alloc: Global, lists: Vec<Vec<Def>>) -> Result<Reading, Stop> {
+    items: Vec<T>,
+    step: F,
+    counts: C,
+) -> Result<Reading, Stop>
+    requires step { F.IsAlwaysCallable step }
+    requires counts { C.IsAlwaysCallable counts }
+{
     let start = Instant::now(rt)?;
-    let made = with_types(alloc, lists)?;
+    let made = all(alloc, items, step)?;
     let micros = start.elapsed(rt)?.as_micros();
     let counts = match made.last() {
-        Some(list) => type_counts(alloc, &list.tyenv)?,
+        Some(last) => counts(last)?,
         None => String::new(alloc),
     };
     Ok(Reading { counts, micros })
 }
 
-fn type_counts(alloc: Global, env: &TypeEnv) -> Result<String, AllocError> {
+// All lists with their types.
+fn with_types(alloc: Global, lists: Vec<Vec<Def>>) -> Result<Vec<ListWithTypes>, Fault> {
+    all(alloc, lists, |defs| ListWithTypes::new(alloc, defs))
+}
+
+// All lists with their rules.
+fn with_rules(alloc: Global, lists: Vec<Vec<Def>>) -> Result<Vec<ListWithRules>, Fault> {
+    let typed = with_types(alloc, lists)?;
+    all(alloc, typed, |list: ListWithTypes| list.with_rules(alloc))
+}
+
+fn types(rt: &impl Clock, alloc: Global, lists: Vec<Vec<Def>>) -> Result<Reading, Stop> {
+    let step = |defs| ListWithTypes::new(alloc, defs);
+    timed(rt, alloc, lists, step, |list| type_counts(alloc, list))
+}
+
+fn type_counts(alloc: Global, list: &ListWithTypes) -> Result<String, AllocError> {
     format!(in alloc;
         "{} types, {} names, {} constants",
-        env.types.len(),
-        env.syms.len(),
-        env.const_types.len()
+        list.tyenv.types.len(),
+        list.tyenv.syms.len(),
+        list.tyenv.const_types.len()
     )
 }
 
 fn terms(rt: &impl Clock, alloc: Global, lists: Vec<Vec<Def>>) -> Result<Reading, Stop> {
     let typed = with_types(alloc, lists)?;
-    let start = Instant::now(rt)?;
-    let made = with_terms(alloc, typed)?;
-    let micros = start.elapsed(rt)?.as_micros();
-    let counts = match made.last() {
-        Some(list) => term_counts(alloc, &list.tyenv, &list.table)?,
-        None => String::new(alloc),
-    };
-    Ok(Reading { counts, micros })
+    let step = |list: ListWithTypes| list.with_terms(alloc);
+    timed(rt, alloc, typed, step, |list| term_counts(alloc, list))
 }
 
-fn term_counts(alloc: Global, tyenv: &TypeEnv, table: &TermTable) -> Result<String, AllocError> {
+fn term_counts(alloc: Global, list: &ListWithTerms) -> Result<String, AllocError> {
     format!(in alloc;
         "{} terms, {} names, {} conversions",
-        table.terms.len(),
-        tyenv.syms.len(),
-        table.converters.len()
+        list.table.terms.len(),
+        list.tyenv.syms.len(),
+        list.table.converters.len()
     )
 }
 
 fn rules(rt: &impl Clock, alloc: Global, lists: Vec<Vec<Def>>) -> Result<Reading, Stop> {
     let typed = with_types(alloc, lists)?;
-    let start = Instant::now(rt)?;
-    let made = with_rules(alloc, typed)?;
-    let micros = start.elapsed(rt)?.as_micros();
-    let counts = match made.last() {
-        Some(list) => rule_counts(alloc, list.tyenv(), list.termenv())?,
-        None => String::new(alloc),
-    };
-    Ok(Reading { counts, micros })
+    let step = |list: ListWithTypes| list.with_rules(alloc);
+    timed(rt, alloc, typed, step, |list| rule_counts(alloc, list))
 }
 
-fn rule_counts(alloc: Global, tyenv: &TypeEnv, env: &TermEnv) -> Result<String, AllocError> {
+fn rule_counts(alloc: Global, list: &ListWithRules) -> Result<String, AllocError> {
+    let env = list.termenv();
     format!(in alloc;
         "{} rules, {} of them with a name, {} terms, {} names",
         env.rules.len(),
         env.rule_map.len(),
         env.terms.len(),
-        tyenv.syms.len()
+        list.tyenv().syms.len()
     )
 }
 
 fn sets(rt: &impl Clock, alloc: Global, lists: Vec<Vec<Def>>) -> Result<Reading, Stop> {
-    let typed = with_rules(alloc, with_types(alloc, lists)?)?;
-    let start = Instant::now(rt)?;
-    let made = built(alloc, &typed)?;
-    let micros = start.elapsed(rt)?.as_micros();
-    let counts = match made.last() {
-        Some(both) => built_counts(alloc, &both.0, &both.1)?,
-        None => String::new(alloc),
-    };
-    Ok(Reading { counts, micros })
+    let ruled = with_rules(alloc, lists)?;
+    let step = |list: ListWithRules| list.with_sets(alloc);
+    timed(rt, alloc, ruled, step, |list| built_counts(alloc, list))
 }
 
-fn built_counts(
-    alloc: Global,
-    sets: &[(TermId, RuleSet)],
-    errors: &[Error],
-) -> Result<String, AllocError> {
-    let sizes = set_counts(alloc, sets)?;
-    format!(in alloc; "{sizes}, {} errors", errors.len())
+fn built_counts(alloc: Global, list: &ListWithSets) -> Result<String, AllocError> {
+    let sizes = set_counts(alloc, &list.sets)?;
+    format!(in alloc; "{sizes}, {} errors", list.errors.len())
 }
 
 fn checked(rt: &impl Clock, alloc: Global, lists: Vec<Vec<Def>>) -> Result<Reading, Stop> {
-    let typed = with_rules(alloc, with_types(alloc, lists)?)?;
-    let start = Instant::now(rt)?;
-    let made = all_checked(alloc, &typed)?;
-    let micros = start.elapsed(rt)?.as_micros();
-    let counts = match made.last() {
-        Some(sets) => set_counts(alloc, sets)?,
-        None => String::new(alloc),
-    };
-    Ok(Reading { counts, micros })
+    let ruled = with_rules(alloc, lists)?;
+    let step = |list: ListWithRules| list.checked(alloc);
+    timed(rt, alloc, ruled, step, |list| set_counts(alloc, &list.sets))
 }
 
 fn set_counts(alloc: Global, sets: &[(TermId, RuleSet)]) -> Result<String, AllocError> {
@@ -266,17 +221,12 @@ fn set_counts(alloc: Global, sets: &[(TermId, RuleSet)]) -> Result<String, Alloc
     format!(in alloc; "{} sets, {rules} rules, {sites} sites", sets.len())
 }
 
-fn trees(rt: &impl Clock, alloc: Global, lists: &[Vec<Def>]) -> Result<Reading, Stop> {
-    let start = Instant::now(rt)?;
-    let made = lowered(alloc, lists)?;
-    let micros = start.elapsed(rt)?.as_micros();
-    let counts = match made.last() {
-        Some(list) => tree_counts(alloc, list.terms.len(), list.termenv.rules.len())?,
-        None => String::new(alloc),
-    };
-    Ok(Reading { counts, micros })
+fn trees(rt: &impl Clock, alloc: Global, lists: Vec<Vec<Def>>) -> Result<Reading, Stop> {
+    let step = |defs| ListWithTrees::new(alloc, defs);
+    timed(rt, alloc, lists, step, |list| tree_counts(alloc, &list.lowered))
 }
 
-fn tree_counts(alloc: Global, trees: usize, rules: usize) -> Result<String, AllocError> {
-    format!(in alloc; "{trees} trees, {rules} rules")
+fn tree_counts(alloc: Global, lowered: &Lowered) -> Result<String, AllocError> {
+    let trees = lowered.terms.len();
+    format!(in alloc; "{trees} trees, {} rules", lowered.termenv.rules.len())
 }
