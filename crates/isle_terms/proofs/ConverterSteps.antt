@@ -1,22 +1,25 @@
 -- Reading converters by types that are handed in, one definition after another.
-use Rattle.std.proofs.Common.{◌≡◌, ◌==◌, ◌&&◌, ℕ, zero, suc, Bool, true, false, cond, List, [], ◌∷◌, ◌++◌, map, slice_get, Option, None, Some, is_some, unwrap_or, option_map, refl, sym, ap, subst, ◌∙◌, inl, inr, eqb-true}
+use Rattle.std.proofs.Common.{◌≡◌, ◌==◌, ◌&&◌, ℕ, zero, suc, ◌+◌, ◌<◌, Bool, true, false, cond, List, [], ◌∷◌, ◌++◌, length, take, drop, get_or, map, slice_get, Option, None, Some, is_some, unwrap_or, option_map, All, refl, sym, ap, subst, ◌∙◌, inl, inr, eqb-true}
 use Rattle.std.proofs.Math.Path.{ap₂}
 use Rattle.std.proofs.lemmas.Bool.{false≢true}
 use Rattle.std.proofs.lemmas.Bool.Decides.{Decides-eqb}
-use Rattle.std.proofs.lemmas.List.{map-append}
+use Rattle.std.proofs.lemmas.List.{append-nil, map-append}
+use Rattle.std.proofs.lemmas.List.Concat.{flat_map-append}
 use Rattle.std.proofs.lemmas.List.Elements.{All-push}
 use Rattle.std.proofs.lemmas.Option.{same_Some, slice_get_within, slice_get-map}
-use Rattle.isle_model.specs.lists.Syntax.{Name, ConverterTree, Definition}
+use Rattle.isle_model.specs.lists.Syntax.{Name, ConverterTree, Definition, type_definition, declaration, extractor_definition, converter_definition, rule_definition, extern_definition, other_definition}
 use Rattle.isle_model.specs.lists.Names.{IsDistinct}
 use Rattle.isle_model.specs.rules.Meaning.{look}
 use Rattle.isle_model.specs.lists.TypeTable.{IsKnownType}
 use Rattle.isle_model.specs.lists.KnownTypes.{type_named, known_type}
-use Rattle.isle_model.specs.lists.TermTable.{decl_names, rule_trees, extractor_trees, converter_trees, term_named, known_term, IsKnownTerm, IsKnownConverter, IsValidTerms}
+use Rattle.isle_model.specs.lists.TermTable.{decl_names, rule_trees, extractor_trees, converter_of, converter_trees, converted_pairs, term_named, known_term, IsKnownTerm, IsKnownConverter, IsValidTerms}
 use Rattle.isle_model.specs.claims.Environments.{TypesRead, AreReadable, IsLeftByRefusal}
 use Rattle.isle_model.proofs.Positions.{distinct_push, twice}
 use Rattle.isle_laws_lists.proofs.Converters.{converters_stand_once_lem}
+use Rattle.isle_base.specs.declared.syntax.Def.{Def}
 use Rattle.isle_base.specs.declared.syntax.Error.{Error}
 use Rattle.isle_base.specs.Stable.{Entries, look_up}
+use Rattle.isle_base.specs.SyntaxViews.{definition_view, definition_views}
 use Rattle.isle_types.specs.declared.type_env.TypeEnv.{TypeEnv}
 use Rattle.isle_types.specs.Envs.{same_symbol, symbol, type_of_name}
 use Rattle.isle_types.specs.EnvViews.{environment_view}
@@ -28,8 +31,8 @@ use Rattle.isle_terms.specs.TermViews.{term_views}
 use Rattle.isle_terms.specs.Reading.{IsWithin, term_of_name}
 use Rattle.isle_terms.specs.Stages.{constructor_after}
 use Rattle.isle_terms.specs.Signing.{ReadsTerms}
-use Rattle.isle_terms.specs.Converting.{type_by_id, converter_at, pair_of, converter_entry, template_after, ConvertersRead, Converts, IsWrongConverter, ReadsConverter}
-use Rattle.isle_terms.proofs.Declaring.{at_middle}
+use Rattle.isle_terms.specs.Converting.{type_by_id, converter_at, pair_of, converter_entry, template_after, ConvertersRead, Converts, IsWrongConverter, ReadsIfConverter}
+use Rattle.isle_terms.proofs.Declaring.{at_middle, taken_next, around}
 use Rattle.isle_terms.proofs.Noting.{step}
 use Rattle.isle_terms.proofs.Standing.{term_is}
 use Rattle.isle_terms.proofs.TypesStaying.{left_interned, type_is}
@@ -89,7 +92,13 @@ option_map_some : {X Y : Type 0} (f : X → Y) (o : Option X) (y : Y) → option
 option_map_some f None y h = absurd (cc)
 option_map_some f (Some x) y h = (x, refl, same_Some (f x) y h)
 
-module _ (e : TypesRead) (readable : AreReadable e) (defs : List Definition) (read rest : List ConverterTree) (c : ConverterTree) (trees : converter_trees defs ≡ read ++ c ∷ rest) (env : TypeEnv) (old : TermTable) (left : IsLeftByRefusal e (environment_view env)) (s : ConvertersRead e defs read env old) where
+module _ (e : TypesRead) (readable : AreReadable e) (defs read rest : List Definition) (c : ConverterTree) (whole : defs ≡ read ++ converter_definition c ∷ rest) (env : TypeEnv) (old : TermTable) (left : IsLeftByRefusal e (environment_view env)) (s : ConvertersRead e defs read env old) where
+  trees : converter_trees defs ≡ converter_trees read ++ c ∷ converter_trees rest
+  trees = ap converter_trees whole ∙ flat_map-append converter_of read (converter_definition c ∷ rest)
+
+  more : converter_trees (read ++ converter_definition c ∷ []) ≡ converter_trees read ++ c ∷ []
+  more = flat_map-append converter_of read (converter_definition c ∷ [])
+
   abbrev entry : ConverterTree → (ℕ × ℕ) × ℕ
   entry = converter_entry e.known defs
 
@@ -115,16 +124,16 @@ module _ (e : TypesRead) (readable : AreReadable e) (defs : List Definition) (re
     term : (known_term e.known defs c.term ≡ a.term) × IsKnownTerm e.known defs c.term
     term = term_known c.term a.term a.term_is
 
-    none_so_far : look (is_pair a.inner a.outer) (map entry read) ≡ None
+    none_so_far : look (is_pair a.inner a.outer) (map entry (converter_trees read)) ≡ None
     none_so_far = sym (s.conversions a.inner a.outer) ∙ a.free
 
-    fresh : (j : ℕ) → slice_get (map pair_of read) j ≡ Some (pair_of c) → ⊥
+    fresh : (j : ℕ) → slice_get (converted_pairs read) j ≡ Some (pair_of c) → ⊥
     fresh j h =
-        let d = option_map_some pair_of (slice_get read j) (pair_of c) (sym (slice_get-map pair_of read j) ∙ h) in
+        let d = option_map_some pair_of (slice_get (converter_trees read) j) (pair_of c) (sym (slice_get-map pair_of (converter_trees read) j) ∙ h) in
         let first : known_type e.known d.0.inner_ty ≡ a.inner = ap (λ (p : List ℕ × List ℕ). unwrap_or (type_named e.known p.0) 0) d.2 ∙ (inner).0 in
         let second : known_type e.known d.0.outer_ty ≡ a.outer = ap (λ (p : List ℕ × List ℕ). unwrap_or (type_named e.known p.1) 0) d.2 ∙ (outer).0 in
         let pass : is_pair a.inner a.outer (entry d.0).0 ≡ true = ap (λ n. is_pair a.inner a.outer (n, known_type e.known d.0.outer_ty)) first ∙ ap (λ n. is_pair a.inner a.outer (a.inner, n)) second ∙ same_pair a.inner a.outer in
-        look_passes entry (is_pair a.inner a.outer) read j d.0 d.1 pass none_so_far
+        look_passes entry (is_pair a.inner a.outer) (converter_trees read) j d.0 d.1 pass none_so_far
 
     same_entry : entry c ≡ ((a.inner, a.outer), a.term)
     same_entry =
@@ -132,17 +141,17 @@ module _ (e : TypesRead) (readable : AreReadable e) (defs : List Definition) (re
         ∙ ap (λ n. ((a.inner, n), known_term e.known defs c.term)) (outer).0
         ∙ ap (λ n. ((a.inner, a.outer), n)) (term).0
 
-    answers : (i o : ℕ) → converter_at new i o ≡ look (is_pair i o) (map entry read ++ ((a.inner, a.outer), a.term) ∷ [])
+    answers : (i o : ℕ) → converter_at new i o ≡ look (is_pair i o) (map entry (converter_trees read) ++ ((a.inner, a.outer), a.term) ∷ [])
     answers i o =
-        a.conversions i o ∙ (elim (is_pair i o (a.inner, a.outer)) as (λ b. is_pair i o (a.inner, a.outer) ≡ b → cond b (Some a.term) (converter_at old i o) ≡ look (is_pair i o) (map entry read ++ ((a.inner, a.outer), a.term) ∷ [])) [
+        a.conversions i o ∙ (elim (is_pair i o (a.inner, a.outer)) as (λ b. is_pair i o (a.inner, a.outer) ≡ b → cond b (Some a.term) (converter_at old i o) ≡ look (is_pair i o) (map entry (converter_trees read) ++ ((a.inner, a.outer), a.term) ∷ [])) [
           | true ↦ λ t.
               let is = pair_is (a.inner, a.outer) i o t in
-              let none : look (is_pair i o) (map entry read) ≡ None = subst (λ k. look (is_pair i k) (map entry read) ≡ None) is.1 (subst (λ k. look (is_pair k a.outer) (map entry read) ≡ None) is.0 none_so_far) in
-              sym (look_push (is_pair i o) (map entry read) ((a.inner, a.outer), a.term) none ∙ ap (λ b. cond b (Some a.term) None) t)
-          | false ↦ λ f. s.conversions i o ∙ sym (look_other (is_pair i o) (map entry read) ((a.inner, a.outer), a.term) f)
+              let none : look (is_pair i o) (map entry (converter_trees read)) ≡ None = subst (λ k. look (is_pair i k) (map entry (converter_trees read)) ≡ None) is.1 (subst (λ k. look (is_pair k a.outer) (map entry (converter_trees read)) ≡ None) is.0 none_so_far) in
+              sym (look_push (is_pair i o) (map entry (converter_trees read)) ((a.inner, a.outer), a.term) none ∙ ap (λ b. cond b (Some a.term) None) t)
+          | false ↦ λ f. s.conversions i o ∙ sym (look_other (is_pair i o) (map entry (converter_trees read)) ((a.inner, a.outer), a.term) f)
         ] refl)
 
-    pub converter_right : ConvertersRead e defs (read ++ c ∷ []) env new
+    pub converter_right : ConvertersRead e defs (read ++ converter_definition c ∷ []) env new
     converter_right = record {
       stand = record {
         names = s.stand.names;
@@ -151,9 +160,9 @@ module _ (e : TypesRead) (readable : AreReadable e) (defs : List Definition) (re
         right = s.stand.right;
         terms = ap (λ v. term_views v.items) a.terms ∙ s.stand.terms;
       };
-      known = All-push (IsKnownConverter e.known defs) read c s.known ((term).1, (inner).1, (outer).1);
-      distinct = subst IsDistinct (sym (map-append pair_of read (c ∷ []))) (distinct_push (map pair_of read) (pair_of c) s.distinct fresh);
-      conversions = λ i o. answers i o ∙ ap (λ x. look (is_pair i o) (map entry read ++ x ∷ [])) (sym same_entry) ∙ ap (look (is_pair i o)) (sym (map-append entry read (c ∷ [])));
+      known = subst (All (IsKnownConverter e.known defs)) (sym more) (All-push (IsKnownConverter e.known defs) (converter_trees read) c s.known ((term).1, (inner).1, (outer).1));
+      distinct = subst (λ cs. IsDistinct (map pair_of cs)) (sym more) (subst IsDistinct (sym (map-append pair_of (converter_trees read) (c ∷ []))) (distinct_push (converted_pairs read) (pair_of c) s.distinct fresh));
+      conversions = λ i o. answers i o ∙ ap (λ x. look (is_pair i o) (map entry (converter_trees read) ++ x ∷ [])) (sym same_entry) ∙ ap (look (is_pair i o)) (sym (map-append entry (converter_trees read) (c ∷ [])) ∙ ap (map entry) (sym more));
     }
 
   abbrev keys : ConverterTree → ℕ × ℕ
@@ -163,11 +172,11 @@ module _ (e : TypesRead) (readable : AreReadable e) (defs : List Definition) (re
   keys_of [] = refl
   keys_of (d ∷ ds) = ap (λ l. keys d ∷ l) (keys_of ds)
 
-  there : (j : ℕ) (d : ConverterTree) → slice_get read j ≡ Some d → keys d ≡ keys c → slice_get (map keys read) j ≡ Some (keys c)
-  there j d h same = slice_get-map keys read j ∙ ap (option_map keys) h ∙ ap Some same
+  there : (j : ℕ) (d : ConverterTree) → slice_get (converter_trees read) j ≡ Some d → keys d ≡ keys c → slice_get (map keys (converter_trees read)) j ≡ Some (keys c)
+  there j d h same = slice_get-map keys (converter_trees read) j ∙ ap (option_map keys) h ∙ ap Some same
 
   known_if_valid : IsValidTerms e.known defs → IsKnownConverter e.known defs c
-  known_if_valid v = at_middle (IsKnownConverter e.known defs) read c rest (converter_trees defs) trees v.known_converters
+  known_if_valid v = at_middle (IsKnownConverter e.known defs) (converter_trees read) c (converter_trees rest) (converter_trees defs) trees v.known_converters
 
   pub converter_wrong : IsWrongConverter c env old → IsValidTerms e.known defs → ⊥
   converter_wrong (inl none) v = false≢true (sym (ap is_some (sym (type_of c.inner_ty) ∙ none)) ∙ (known_if_valid v).1)
@@ -176,24 +185,49 @@ module _ (e : TypesRead) (readable : AreReadable e) (defs : List Definition) (re
   converter_wrong (inr (inr (inr m))) v =
       let inner = known_is c.inner_ty m.inner m.inner_is in
       let outer = known_is c.outer_ty m.outer m.outer_is in
-      let found = look_passed entry (is_pair m.inner m.outer) read m.id (sym (s.conversions m.inner m.outer) ∙ m.taken) in
+      let found = look_passed entry (is_pair m.inner m.outer) (converter_trees read) m.id (sym (s.conversions m.inner m.outer) ∙ m.taken) in
       let is = pair_is (entry found.1).0 m.inner m.outer found.3 in
       let same : (entry found.1).0 ≡ (entry c).0 = pair_same (entry found.1).0 (entry c).0 (is.0 ∙ sym inner.0) (is.1 ∙ sym outer.0) in
       let once : IsDistinct (map keys (converter_trees defs)) = subst IsDistinct (keys_of (converter_trees defs)) (converters_stand_once_lem e.known defs v) in
-      twice (map keys read) (map keys rest) (map keys (converter_trees defs)) (keys c) found.0 once
-      (sym (ap (map keys) trees ∙ map-append keys read (c ∷ rest)))
-      (slice_get_within (map keys read) found.0 (keys c) (there found.0 found.1 found.2 same))
+      twice (map keys (converter_trees read)) (map keys (converter_trees rest)) (map keys (converter_trees defs)) (keys c) found.0 once
+      (sym (ap (map keys) trees ∙ map-append keys (converter_trees read) (c ∷ converter_trees rest)))
+      (slice_get_within (map keys (converter_trees read)) found.0 (keys c) (there found.0 found.1 found.2 same))
       (there found.0 found.1 found.2 same)
 
--- after the next converter
-pub next_converter : (e : TypesRead) → AreReadable e → (defs : List Definition) (read read' rest : List ConverterTree) (c : ConverterTree) → converter_trees defs ≡ read ++ c ∷ rest → read' ≡ read ++ c ∷ []
-    → (env : TypeEnv) (table table' : TermTable) (es es' : List Error) → IsWithin table' → ReadsConverter c env table es table' es'
-    → ReadsTerms e defs (ConvertersRead e defs read) env table es → ReadsTerms e defs (ConvertersRead e defs read') env table' es'
-next_converter e readable defs read read' rest c trees more env table table' es es' w a s =
-    subst (λ cs. ReadsTerms e defs (ConvertersRead e defs cs) env table' es') (sym more)
-    (step e defs (ConvertersRead e defs read) (ConvertersRead e defs (read ++ c ∷ [])) env env table table' es es' (Converts c env table table') (IsWrongConverter c env table) s.left w a
-    (λ h x. converter_right e readable defs read rest c trees env table s.left h table' x)
-    (λ h x v. converter_wrong e readable defs read rest c trees env table s.left h x v) s)
+module _ (e : TypesRead) (readable : AreReadable e) (defs read rest : List Definition) (env : TypeEnv) (table table' : TermTable) (es es' : List Error) (w : IsWithin table') where
+  other : (d : Definition) → converter_of d ≡ [] → (es' ≡ es) × (table' ≡ table) → ReadsTerms e defs (ConvertersRead e defs read) env table es → ReadsTerms e defs (ConvertersRead e defs (read ++ d ∷ [])) env table' es'
+  other d none same s =
+      let trees : converter_trees (read ++ d ∷ []) ≡ converter_trees read = flat_map-append converter_of read (d ∷ []) ∙ ap (λ l. converter_trees read ++ (l ++ [])) none ∙ append-nil (converter_trees read) in
+      let go : ConvertersRead e defs read env table → ConvertersRead e defs (read ++ d ∷ []) env table = λ h. record {
+        stand = h.stand;
+        known = subst (All (IsKnownConverter e.known defs)) (sym trees) h.known;
+        distinct = subst (λ cs. IsDistinct (map pair_of cs)) (sym trees) h.distinct;
+        conversions = λ i o. h.conversions i o ∙ ap (λ cs. look (λ k. (k.0 == i) && (k.1 == o)) (map (converter_entry e.known defs) cs)) (sym trees);
+      } in
+      step e defs (ConvertersRead e defs read) (ConvertersRead e defs (read ++ d ∷ [])) env env table table' es es' (Unit {0}) ⊥ s.left w (inl (same.0, tt))
+      (λ h _. subst (ConvertersRead e defs (read ++ d ∷ []) env) (sym same.1) (go h))
+      (λ h x _. x) s
+
+  next : (d : Definition) → defs ≡ read ++ d ∷ rest → ReadsIfConverter d env table es table' es' → ReadsTerms e defs (ConvertersRead e defs read) env table es → ReadsTerms e defs (ConvertersRead e defs (read ++ d ∷ [])) env table' es'
+  next (converter_definition c) whole a s =
+      step e defs (ConvertersRead e defs read) (ConvertersRead e defs (read ++ converter_definition c ∷ [])) env env table table' es es' (Converts c env table table') (IsWrongConverter c env table) s.left w a
+      (λ h x. converter_right e readable defs read rest c whole env table s.left h table' x)
+      (λ h x v. converter_wrong e readable defs read rest c whole env table s.left h x v) s
+  next (declaration d) whole a s = other (declaration d) refl a s
+  next (type_definition d) whole a s = other (type_definition d) refl a s
+  next (extractor_definition d) whole a s = other (extractor_definition d) refl a s
+  next (rule_definition d) whole a s = other (rule_definition d) refl a s
+  next (extern_definition d) whole a s = other (extern_definition d) refl a s
+  next other_definition whole a s = other other_definition refl a s
+
+-- after the definition at i
+pub next_converter : (e : TypesRead) → AreReadable e → (defs : List Def) (i : ℕ) (d : Def) → i < length defs → d ≡ get_or defs i d → (env : TypeEnv) (table table' : TermTable) (es es' : List Error) → IsWithin table'
+    → ReadsIfConverter (definition_view d) env table es table' es'
+    → ReadsTerms e (definition_views defs) (ConvertersRead e (definition_views defs) (definition_views (take i defs))) env table es
+    → ReadsTerms e (definition_views defs) (ConvertersRead e (definition_views defs) (definition_views (take (i + 1) defs))) env table' es'
+next_converter e r defs i d within here env table table' es es' w a s =
+    subst (λ ds. ReadsTerms e (definition_views defs) (ConvertersRead e (definition_views defs) ds) env table' es') (sym (taken_next defs i d within here))
+    (next e r (definition_views defs) (definition_views (take i defs)) (definition_views (drop (i + 1) defs)) env table table' es es' w (definition_view d) (around defs i d within here) a s)
 
 -- what is looked up at a pair of types, after one more
 pub read_conversions : (old new : Entries (TypeId × TypeId) TermId) (a b : TypeId) (t : TermId) → ((x : TypeId × TypeId) → look_up same_types new x ≡ cond (same_types (a, b) x) (Some t) (look_up same_types old x))

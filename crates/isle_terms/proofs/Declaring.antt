@@ -1,22 +1,25 @@
 -- Reading declarations by types that are handed in, one definition after another.
-use Rattle.std.proofs.Common.{◌≡◌, ◌&&◌, ℕ, ◌+◌, Bool, true, false, not, cond, nat_eq, Contains, List, [], ◌∷◌, ◌++◌, ◌⊎◌, length, map, slice_get, None, Some, is_some, unwrap_or, All, IsTrue, refl, sym, ap, subst, ◌∙◌, arith, inl, inr, ⊎_elim}
+use Rattle.std.proofs.Common.{◌≡◌, ◌&&◌, ℕ, ◌+◌, ◌<◌, Bool, true, false, not, cond, nat_eq, Contains, List, [], ◌∷◌, ◌++◌, ◌⊎◌, length, take, drop, get_or, map, slice_get, None, Some, is_some, unwrap_or, All, IsTrue, refl, sym, ap, subst, ◌∙◌, arith, inl, inr, ⊎_elim}
 use Rattle.std.specs.List.{enumerate_from, filter_map, flat_map}
 use Rattle.std.proofs.lemmas.Bool.{false≢true}
-use Rattle.std.proofs.lemmas.List.{append_assoc, length_push, length-map, map-append}
+use Rattle.std.proofs.lemmas.List.{append_assoc, append-nil, at_drop_more, take_more, take-append-drop, length_push, length-map, map-append}
+use Rattle.std.proofs.lemmas.List.Concat.{flat_map-append}
 use Rattle.std.proofs.lemmas.List.FromFn.{length-enumerate_from}
 use Rattle.std.proofs.lemmas.List.Elements.{All-nil, All-cons, All-push, All-contains, All-weaker}
-use Rattle.isle_model.specs.lists.Syntax.{Name, DeclTree, Definition}
+use Rattle.isle_model.specs.lists.Syntax.{Name, DeclTree, Definition, type_definition, declaration, extractor_definition, converter_definition, rule_definition, extern_definition, other_definition}
 use Rattle.isle_model.specs.lists.Names.{number, with_name, with_names}
 use Rattle.isle_model.specs.lists.Tables.{TermEntry}
 use Rattle.isle_model.specs.lists.TypeTable.{IsKnownType}
 use Rattle.isle_model.specs.lists.KnownTypes.{KnownTypes, type_named, known_type}
-use Rattle.isle_model.specs.lists.TermTable.{decl_trees, decl_names, function_of, term_names, term_names_met, made_by, HasKnownArguments, HasKnownResult, IsNotBothMultiAndPartial, IsValidTerms}
+use Rattle.isle_model.specs.lists.TermTable.{decl_of, decl_trees, decl_names, function_of, term_names, term_names_met, made_by, HasKnownArguments, HasKnownResult, IsNotBothMultiAndPartial, IsValidTerms}
 use Rattle.isle_model.specs.claims.Environments.{TypesRead, AreReadable, IsLeftByRefusal}
 use Rattle.isle_model.proofs.FirstPlaces.{distinct_push, twice}
 use Rattle.isle_model.proofs.Members.{member_from_get}
 use Rattle.isle_model.proofs.Names.{number_stays, with_names_append}
 use Rattle.isle_model.proofs.Positions.{get_middle}
+use Rattle.isle_base.specs.declared.syntax.Def.{Def}
 use Rattle.isle_base.specs.declared.syntax.Error.{Error}
+use Rattle.isle_base.specs.SyntaxViews.{definition_view, definition_views}
 use Rattle.isle_types.specs.declared.type_env.TypeEnv.{TypeEnv}
 use Rattle.isle_types.specs.Envs.{names_of, symbol_of, type_of_name, IsInterned}
 use Rattle.isle_types.specs.EnvViews.{environment_view}
@@ -26,7 +29,7 @@ use Rattle.isle_terms.specs.TermTables.{term_at}
 use Rattle.isle_terms.specs.TermViews.{term_view, term_views}
 use Rattle.isle_terms.specs.Reading.{IsWithin, Interns, MayIntern, HaveTypes, HasUnknown, IsKnownInEnv, AddsTerm, IsTakenByTerm, IsFreeOrReported, AddsOrReports, signature_entry}
 use Rattle.isle_terms.specs.Stages.{place_among}
-use Rattle.isle_terms.specs.Signing.{ReadsTerms, with_ids, declared_alone, HoldsTerms, Declaring, Declares, IsWrongDeclaration, ReadsDeclaration, Notes}
+use Rattle.isle_terms.specs.Signing.{ReadsTerms, with_ids, declared_alone, HoldsTerms, AreRightDeclarations, Declaring, Declares, IsWrongDeclaration, ReadsDeclaration, ReadsIfDeclared, Notes}
 use Rattle.isle_terms.proofs.Finding.{at_number, finds_next}
 use Rattle.isle_terms.proofs.TypesStaying.{left_more, type_is, may_intern}
 use Rattle.isle_terms.proofs.Noting.{both_note, if_noted, notes_as, step}
@@ -68,8 +71,11 @@ module _ (e : TypesRead) (met named : List (List ℕ)) (fs : List (ℕ → TermE
       }
 
 -- what a list says with one more definition
-abbrev names_in : List DeclTree → List (List ℕ)
-names_in ds = map (λ d. d.term.text) ds
+decls_more : (read : List Definition) (d : DeclTree) → decl_trees (read ++ declaration d ∷ []) ≡ decl_trees read ++ d ∷ []
+decls_more read d = flat_map-append decl_of read (declaration d ∷ [])
+
+names_more : (read : List Definition) (d : DeclTree) → decl_names (read ++ declaration d ∷ []) ≡ decl_names read ++ d.term.text ∷ []
+names_more read d = ap (map (λ d. d.term.text)) (decls_more read d) ∙ map-append (λ d. d.term.text) (decl_trees read) (d ∷ [])
 
 pub with_names_push : (ns xs : List (List ℕ)) (x : List ℕ) → with_name (with_names ns xs) x ≡ with_names ns (xs ++ x ∷ [])
 with_names_push ns xs x = sym (with_names_append ns xs (x ∷ []))
@@ -106,34 +112,37 @@ module _ (e : TypesRead) (r : AreReadable e) (env : TypeEnv) (left : IsLeftByRef
       (λ a. a (All-weaker (IsKnownType k.type_names) (IsKnownInEnv env) was_known d.arg_tys args))
       (λ none. false≢true (subst (λ o. is_some o ≡ true) none (was_known d.ret_ty result))) u
 
-module _ (e : TypesRead) (r : AreReadable e) (defs : List Definition) (read rest : List DeclTree) (d : DeclTree) (trees : decl_trees defs ≡ read ++ d ∷ rest) (old : TypeEnv) (table : TermTable) (left : IsLeftByRefusal e (environment_view old)) (s : Declaring e defs read old table) (new : TypeEnv) (n : Interns d.term.text old new) where
-  names : decl_names defs ≡ names_in read ++ d.term.text ∷ names_in rest
-  names = ap names_in trees ∙ map-append (λ d. d.term.text) read (d ∷ rest)
+module _ (e : TypesRead) (r : AreReadable e) (defs read rest : List Definition) (d : DeclTree) (whole : defs ≡ read ++ declaration d ∷ rest) (old : TypeEnv) (table : TermTable) (left : IsLeftByRefusal e (environment_view old)) (s : Declaring e defs read old table) (new : TypeEnv) (n : Interns d.term.text old new) where
+  trees : decl_trees defs ≡ decl_trees read ++ d ∷ decl_trees rest
+  trees = ap decl_trees whole ∙ flat_map-append decl_of read (declaration d ∷ rest)
+
+  names : decl_names defs ≡ decl_names read ++ d.term.text ∷ decl_names rest
+  names = ap (map (λ d. d.term.text)) trees ∙ map-append (λ d. d.term.text) (decl_trees read) (d ∷ decl_trees rest)
 
   left_new : IsLeftByRefusal e (environment_view new)
   left_new = left_more e r old left new (may_intern d.term.text old new n)
 
-  place_here : term_at table (number (names_of old) d.term.text) ≡ place_among (names_in read) d.term.text
-  place_here = at_number (names_of old) (term_at table) (place_among (names_in read)) s.has.finds d.term.text
+  place_here : term_at table (number (names_of old) d.term.text) ≡ place_among (decl_names read) d.term.text
+  place_here = at_number (names_of old) (term_at table) (place_among (decl_names read)) s.has.finds d.term.text
 
   pub wrong : IsWrongDeclaration d old new table → IsValidTerms e.known defs → ⊥
   wrong w v =
       ⊎_elim
-      (λ taken. twice (names_in read) (names_in rest ++ filter_map (slice_get e.known.names) (flat_map made_by e.known.types)) (term_names e.known defs) d.term.text taken.id v.distinct
-      (sym (append_assoc (names_in read) (d.term.text ∷ names_in rest) (filter_map (slice_get e.known.names) (flat_map made_by e.known.types))) ∙ ap (λ l. l ++ filter_map (slice_get e.known.names) (flat_map made_by e.known.types)) (sym names))
+      (λ taken. twice (decl_names read) (decl_names rest ++ filter_map (slice_get e.known.names) (flat_map made_by e.known.types)) (term_names e.known defs) d.term.text taken.id v.distinct
+      (sym (append_assoc (decl_names read) (d.term.text ∷ decl_names rest) (filter_map (slice_get e.known.names) (flat_map made_by e.known.types))) ∙ ap (λ l. l ++ filter_map (slice_get e.known.names) (flat_map made_by e.known.types)) (sym names))
       (sym place_here ∙ taken.taken))
       (λ u. ⊎_elim
-      (λ both. both_marks d both (at_middle IsNotBothMultiAndPartial read d rest (decl_trees defs) trees v.marks))
-      (λ unknown. unknown_wrong e r new left_new d unknown (at_middle (HasKnownArguments e.known) read d rest (decl_trees defs) trees v.types_of_arguments) (at_middle (HasKnownResult e.known) read d rest (decl_trees defs) trees v.types_of_results)) u) w
+      (λ both. both_marks d both (at_middle IsNotBothMultiAndPartial (decl_trees read) d (decl_trees rest) (decl_trees defs) trees v.marks))
+      (λ unknown. unknown_wrong e r new left_new d unknown (at_middle (HasKnownArguments e.known) (decl_trees read) d (decl_trees rest) (decl_trees defs) trees v.types_of_arguments) (at_middle (HasKnownResult e.known) (decl_trees read) d (decl_trees rest) (decl_trees defs) trees v.types_of_results)) u) w
 
   module _ (table' : TermTable) (a : Declares d old new table table') where
     same_number : number (names_of old) d.term.text ≡ number (term_names_met e.known defs) d.term.text
     same_number =
-        let after : List (List ℕ) = names_in rest ++ flat_map function_of defs in
+        let after : List (List ℕ) = decl_names rest ++ flat_map function_of defs in
         let all : term_names_met e.known defs ≡ with_names (with_name (names_of old) d.term.text) after =
         ap (λ ns. with_names e.known.names (ns ++ flat_map function_of defs)) names
-        ∙ ap (with_names e.known.names) (append_assoc (names_in read) (d.term.text ∷ names_in rest) (flat_map function_of defs))
-        ∙ with_names_append e.known.names (names_in read) (d.term.text ∷ after)
+        ∙ ap (with_names e.known.names) (append_assoc (decl_names read) (d.term.text ∷ decl_names rest) (flat_map function_of defs))
+        ∙ with_names_append e.known.names (decl_names read) (d.term.text ∷ after)
         ∙ ap (λ ns. with_names (with_name ns d.term.text) after) (sym s.has.names) in
         sym (ap (λ ns. number ns d.term.text) all ∙ number_stays (names_of old) after d.term.text)
 
@@ -149,18 +158,18 @@ module _ (e : TypesRead) (r : AreReadable e) (defs : List Definition) (read rest
         ∙ ap (λ ts. signature_entry (length table.terms.items) (number (term_names_met e.known defs) d.term.text) ts a.adds.ret_ty d) (args).0
         ∙ ap (λ t. signature_entry (length table.terms.items) (number (term_names_met e.known defs) d.term.text) (map (known_type e.known) d.arg_tys) t d) (result).0
 
-    pub right : Declaring e defs (read ++ d ∷ []) new table'
+    pub right : Declaring e defs (read ++ declaration d ∷ []) new table'
     right = record {
-      has = subst (λ ns. HoldsTerms e ns ns (map (declared_alone e defs) (read ++ d ∷ [])) new table') (sym (map-append (λ d. d.term.text) read (d ∷ [])))
-          (subst (λ fs. HoldsTerms e (names_in read ++ d.term.text ∷ []) (names_in read ++ d.term.text ∷ []) fs new table') (sym (map-append (declared_alone e defs) read (d ∷ [])))
-          (adds_term e (names_in read) (names_in read) (map (declared_alone e defs) read) old table s.has d.term.text (declared_alone e defs d) (names_in read ++ d.term.text ∷ []) new table'
-          (n.names ∙ ap (λ ns. with_name ns d.term.text) s.has.names ∙ with_names_push e.known.names (names_in read) d.term.text) n.names n.inverse a.free a.adds.ids
+      has = subst (λ ns. HoldsTerms e ns ns (map (declared_alone e defs) (decl_trees (read ++ declaration d ∷ []))) new table') (sym (names_more read d))
+          (subst (λ fs. HoldsTerms e (decl_names read ++ d.term.text ∷ []) (decl_names read ++ d.term.text ∷ []) fs new table') (sym (ap (map (declared_alone e defs)) (decls_more read d) ∙ map-append (declared_alone e defs) (decl_trees read) (d ∷ [])))
+          (adds_term e (decl_names read) (decl_names read) (map (declared_alone e defs) (decl_trees read)) old table s.has d.term.text (declared_alone e defs d) (decl_names read ++ d.term.text ∷ []) new table'
+          (n.names ∙ ap (λ ns. with_name ns d.term.text) s.has.names ∙ with_names_push e.known.names (decl_names read) d.term.text) n.names n.inverse a.free a.adds.ids
           (a.adds.terms ∙ ap (λ t. term_views table.terms.items ++ t ∷ []) same_entry) a.adds.converters));
-      right = record {
-        arguments = All-push (HasKnownArguments e.known) read d s.right.arguments (args).1;
-        results = All-push (HasKnownResult e.known) read d s.right.results (result).1;
-        marks = All-push IsNotBothMultiAndPartial read d s.right.marks a.marks;
-      };
+      right = subst (AreRightDeclarations e.known) (sym (decls_more read d)) (record {
+        arguments = All-push (HasKnownArguments e.known) (decl_trees read) d s.right.arguments (args).1;
+        results = All-push (HasKnownResult e.known) (decl_trees read) d s.right.results (result).1;
+        marks = All-push IsNotBothMultiAndPartial (decl_trees read) d s.right.marks a.marks;
+      });
     }
 
 -- a declaration's name is looked at first, then its marks, then its types
@@ -179,12 +188,46 @@ declaration_read d old new table table' es one two es' n f m a =
           (λ w. ⊎_elim (λ u. ⊎_elim (λ t. inl t) (λ m. inr (inl m)) u) (λ x. inr (inr x)) w) all;
     }
 
--- after the next declaration
-pub next_declaration : (e : TypesRead) → AreReadable e → (defs : List Definition) (read read' rest : List DeclTree) (d : DeclTree) → decl_trees defs ≡ read ++ d ∷ rest → read' ≡ read ++ d ∷ []
-    → (old new : TypeEnv) (table table' : TermTable) (es es' : List Error) → MayIntern old new → IsWithin table' → ReadsDeclaration d old table es new table' es'
-    → ReadsTerms e defs (Declaring e defs read) old table es → ReadsTerms e defs (Declaring e defs read') new table' es'
-next_declaration e r defs read read' rest d trees more old new table table' es es' m w a s =
-    subst (λ ds. ReadsTerms e defs (Declaring e defs ds) new table' es') (sym more)
-    (step e defs (Declaring e defs read) (Declaring e defs (read ++ d ∷ [])) old new table table' es es' (Declares d old new table table') (IsWrongDeclaration d old new table) (left_more e r old s.left new m) w a.reads
-    (λ h x. right e r defs read rest d trees old table s.left h new a.interns table' x)
-    (λ h x v. wrong e r defs read rest d trees old table s.left h new a.interns x v) s)
+-- the definitions before one, and after it
+module _ (defs : List Def) (i : ℕ) (d : Def) (within : i < length defs) (here : d ≡ get_or defs i d) where
+  pub taken_next : definition_views (take (i + 1) defs) ≡ definition_views (take i defs) ++ definition_view d ∷ []
+  taken_next = ap definition_views (take_more defs i d within ∙ ap (λ x. take i defs ++ x ∷ []) (sym here)) ∙ map-append definition_view (take i defs) (d ∷ [])
+
+  pub around : definition_views defs ≡ definition_views (take i defs) ++ definition_view d ∷ definition_views (drop (i + 1) defs)
+  around =
+      ap definition_views (sym (take-append-drop i defs))
+      ∙ map-append definition_view (take i defs) (drop i defs)
+      ∙ ap (λ l. definition_views (take i defs) ++ l) (at_drop_more definition_views defs i d within ∙ ap (λ x. definition_view x ∷ definition_views (drop (i + 1) defs)) (sym here))
+
+module _ (e : TypesRead) (r : AreReadable e) (defs read rest : List Definition) (old new : TypeEnv) (table table' : TermTable) (es es' : List Error) (m : MayIntern old new) (w : IsWithin table') where
+  other : (d : Definition) → decl_of d ≡ [] → (es' ≡ es) × (new ≡ old) × (table' ≡ table) → ReadsTerms e defs (Declaring e defs read) old table es → ReadsTerms e defs (Declaring e defs (read ++ d ∷ [])) new table' es'
+  other d none same s =
+      let trees : decl_trees (read ++ d ∷ []) ≡ decl_trees read = flat_map-append decl_of read (d ∷ []) ∙ ap (λ l. decl_trees read ++ (l ++ [])) none ∙ append-nil (decl_trees read) in
+      let go : Declaring e defs read old table → Declaring e defs (read ++ d ∷ []) old table = λ h. record {
+        has = subst (λ ds. HoldsTerms e (map (λ d. d.term.text) ds) (map (λ d. d.term.text) ds) (map (declared_alone e defs) ds) old table) (sym trees) h.has;
+        right = subst (AreRightDeclarations e.known) (sym trees) h.right;
+      } in
+      step e defs (Declaring e defs read) (Declaring e defs (read ++ d ∷ [])) old new table table' es es' (Unit {0}) ⊥ (left_more e r old s.left new m) w (inl (same.0, tt))
+      (λ h _. subst (λ env. Declaring e defs (read ++ d ∷ []) env table') (sym same.1) (subst (Declaring e defs (read ++ d ∷ []) old) (sym same.2) (go h)))
+      (λ h x _. x) s
+
+  pub next : (d : Definition) → defs ≡ read ++ d ∷ rest → ReadsIfDeclared d old table es new table' es' → ReadsTerms e defs (Declaring e defs read) old table es → ReadsTerms e defs (Declaring e defs (read ++ d ∷ [])) new table' es'
+  next (declaration d) whole a s =
+      step e defs (Declaring e defs read) (Declaring e defs (read ++ declaration d ∷ [])) old new table table' es es' (Declares d old new table table') (IsWrongDeclaration d old new table) (left_more e r old s.left new m) w a.reads
+      (λ h x. right e r defs read rest d whole old table s.left h new a.interns table' x)
+      (λ h x v. wrong e r defs read rest d whole old table s.left h new a.interns x v) s
+  next (type_definition d) whole a s = other (type_definition d) refl a s
+  next (extractor_definition d) whole a s = other (extractor_definition d) refl a s
+  next (converter_definition d) whole a s = other (converter_definition d) refl a s
+  next (rule_definition d) whole a s = other (rule_definition d) refl a s
+  next (extern_definition d) whole a s = other (extern_definition d) refl a s
+  next other_definition whole a s = other other_definition refl a s
+
+-- after the definition at i
+pub next_declaration : (e : TypesRead) → AreReadable e → (defs : List Def) (i : ℕ) (d : Def) → i < length defs → d ≡ get_or defs i d → (old new : TypeEnv) (table table' : TermTable) (es es' : List Error) → MayIntern old new → IsWithin table'
+    → ReadsIfDeclared (definition_view d) old table es new table' es'
+    → ReadsTerms e (definition_views defs) (Declaring e (definition_views defs) (definition_views (take i defs))) old table es
+    → ReadsTerms e (definition_views defs) (Declaring e (definition_views defs) (definition_views (take (i + 1) defs))) new table' es'
+next_declaration e r defs i d within here old new table table' es es' m w a s =
+    subst (λ ds. ReadsTerms e (definition_views defs) (Declaring e (definition_views defs) ds) new table' es') (sym (taken_next defs i d within here))
+    (next e r (definition_views defs) (definition_views (take i defs)) (definition_views (drop (i + 1) defs)) old new table table' es es' m w (definition_view d) (around defs i d within here) a s)

@@ -1,5 +1,5 @@
 -- Reading external constructors and extractors by types that are handed in, one definition after another.
-use Rattle.std.proofs.Common.{◌≡◌, ◌||◌, ℕ, not, Bool, true, false, cond, List, [], ◌∷◌, ◌++◌, ◌⊎◌, map, slice_get, Option, None, Some, is_some, option_map, Contains, refl, sym, ap, subst, ◌∙◌, inl, inr}
+use Rattle.std.proofs.Common.{◌≡◌, ◌||◌, ℕ, ◌+◌, ◌<◌, not, Bool, true, false, cond, List, [], ◌∷◌, ◌++◌, ◌⊎◌, length, take, drop, get_or, map, slice_get, Option, None, Some, is_some, option_map, Contains, refl, sym, ap, subst, ◌∙◌, inl, inr}
 use Rattle.std.specs.List.{find, flat_map}
 use Rattle.std.specs.Str.{bytes_eq}
 use Rattle.std.proofs.lemmas.Bool.{false≢true}
@@ -7,7 +7,7 @@ use Rattle.std.proofs.lemmas.List.{append_assoc, append-nil, map-append}
 use Rattle.std.proofs.lemmas.List.Concat.{flat_map-append}
 use Rattle.std.proofs.lemmas.List.Elements.{All-push, Contains-append_left, Contains-append_right, Contains-append_cases}
 use Rattle.std.proofs.lemmas.Option.{slice_get_within}
-use Rattle.isle_model.specs.lists.Syntax.{Name, Position, ExtractorTree, ExternTree, Definition, type_definition, declaration, extractor_definition, converter_definition, rule_definition, extern_definition, other_definition, extern_constructor, extern_extractor, extern_const}
+use Rattle.isle_model.specs.lists.Syntax.{Name, Position, ExtractorTree, Definition, type_definition, declaration, extractor_definition, converter_definition, rule_definition, extern_definition, other_definition, extern_constructor, extern_extractor, extern_const}
 use Rattle.isle_model.specs.lists.Names.{number, has_name, with_name, with_names, IsDistinct}
 use Rattle.isle_model.specs.lists.Tables.{ConstructorEntry, internal_constructor, external_constructor, ExtractorEntry, internal_extractor, external_extractor, TermKindEntry, variant_term, struct_term, declared_term, TermEntry}
 use Rattle.isle_model.specs.lists.TermTable.{ConstructorTree, ExternalTree, decl_flags, decl_names, function_of, external_constructor_of, external_extractor_of, constructor_trees, external_trees, extractor_trees, internal_extractors, external_extractors, extractor_template, has_rules, term_names_met, IsDeclaredTerm, IsWithoutRules, IsValidTerms}
@@ -15,8 +15,10 @@ use Rattle.isle_model.specs.claims.Environments.{TypesRead, AreReadable, IsLeftB
 use Rattle.isle_model.proofs.Members.{member_from_get, get_from_member}
 use Rattle.isle_model.proofs.Names.{found, absent, number_stays, with_names_append}
 use Rattle.isle_model.proofs.Positions.{distinct_push, twice}
+use Rattle.isle_base.specs.declared.syntax.Def.{Def}
 use Rattle.isle_base.specs.declared.syntax.Error.{Error}
 use Rattle.isle_base.specs.Stable.{look_up}
+use Rattle.isle_base.specs.SyntaxViews.{definition_view, definition_views}
 use Rattle.isle_types.specs.declared.type_env.TypeEnv.{TypeEnv}
 use Rattle.isle_types.specs.Envs.{names_of, IsInterned}
 use Rattle.isle_types.specs.EnvViews.{environment_view}
@@ -27,11 +29,10 @@ use Rattle.isle_terms.specs.Signing.{ReadsTerms, declared_so_far}
 use Rattle.isle_terms.specs.Standing.{Stand, is_declared_kind}
 use Rattle.isle_terms.specs.Converting.{type_by_id}
 use Rattle.isle_terms.specs.Externing.{lacks_constructor, lacks_extractor, made_by_this, taken_by_this, with_kind, ChangesKind, HasOtherKind}
-use Rattle.isle_terms.specs.ExternStages.{function_after, external_after, AreRightConstructors, AreRightExternals, ExternsRead, ReadsExtern}
-use Rattle.isle_terms.specs.ByKind.{extern_of}
-use Rattle.isle_terms.proofs.Declaring.{at_middle}
+use Rattle.isle_terms.specs.ExternStages.{function_after, external_after, AreRightConstructors, AreRightExternals, ExternsRead, ReadsIfExtern}
+use Rattle.isle_terms.proofs.Declaring.{at_middle, taken_next, around}
 use Rattle.isle_terms.proofs.FirstOfTerm.{known_other, known_new, not_known, was_known, none_stands}
-use Rattle.isle_terms.proofs.Noting.{reads_as, step}
+use Rattle.isle_terms.proofs.Noting.{step}
 use Rattle.isle_terms.proofs.Standing.{entry_found, nothing_found, stands_on, stands_named}
 use Rattle.isle_terms.proofs.TypesStaying.{left_interned, left_more}
 
@@ -174,47 +175,13 @@ module _ (e : TypesRead) (defs : List Definition) (ts rest : List ExternalTree) 
             ]
       ]
 
--- two lists say the same of external functions
-pub record SameExterns (defs ds : List Definition) : Type 0 where
-  pub functions : flat_map function_of defs ≡ flat_map function_of ds
-  pub constructors : constructor_trees defs ≡ constructor_trees ds
-  pub externals : external_trees defs ≡ external_trees ds
-
--- so does a list of the external definitions alone
-abbrev externally : Definition → List Definition
-externally d = map extern_definition (extern_of d)
-
-alone : (d : Definition) → SameExterns (d ∷ []) (externally d)
-alone (extern_definition x) = record { functions = refl; constructors = refl; externals = refl }
-alone (declaration d) = record { functions = refl; constructors = refl; externals = refl }
-alone (type_definition d) = record { functions = refl; constructors = refl; externals = refl }
-alone (extractor_definition d) = record { functions = refl; constructors = refl; externals = refl }
-alone (converter_definition d) = record { functions = refl; constructors = refl; externals = refl }
-alone (rule_definition d) = record { functions = refl; constructors = refl; externals = refl }
-alone other_definition = record { functions = refl; constructors = refl; externals = refl }
-
-same_of : {X : Type 0} (f : Definition → List X) → ((d : Definition) → flat_map f (d ∷ []) ≡ flat_map f (externally d)) → (defs : List Definition) → flat_map f defs ≡ flat_map f (map extern_definition (flat_map extern_of defs))
-same_of f one [] = refl
-same_of f one (d ∷ ds) =
-    ap (λ l. l ++ flat_map f ds) (sym (append-nil (f d)) ∙ one d)
-    ∙ ap (λ l. flat_map f (externally d) ++ l) (same_of f one ds)
-    ∙ sym (flat_map-append f (externally d) (map extern_definition (flat_map extern_of ds)))
-    ∙ ap (flat_map f) (sym (map-append extern_definition (extern_of d) (flat_map extern_of ds)))
-
-same_externs : (defs : List Definition) (xs : List ExternTree) → xs ≡ flat_map extern_of defs → SameExterns defs (map extern_definition xs)
-same_externs defs xs all = subst (λ l. SameExterns defs (map extern_definition l)) (sym all) (record {
-  functions = same_of function_of (λ d. (alone d).functions) defs;
-  constructors = same_of external_constructor_of (λ d. (alone d).constructors) defs;
-  externals = same_of external_extractor_of (λ d. (alone d).externals) defs;
-})
-
 -- the name of a function is met, and nothing else
-module _ (e : TypesRead) (defs read rest : List Definition) (d : Definition) (whole : SameExterns defs (read ++ d ∷ rest)) (f : List ℕ) (names : function_of d ≡ f ∷ []) (made : List ℕ → Option ConstructorEntry) (taken : List ℕ → Option ExtractorEntry) (old : TypeEnv) (table : TermTable) (i : IsInterned old) (s : Stand e defs (decl_names defs ++ flat_map function_of read) made taken old table) (new : TypeEnv) (n : Interns f old new) where
+module _ (e : TypesRead) (defs read rest : List Definition) (d : Definition) (whole : defs ≡ read ++ d ∷ rest) (f : List ℕ) (names : function_of d ≡ f ∷ []) (made : List ℕ → Option ConstructorEntry) (taken : List ℕ → Option ExtractorEntry) (old : TypeEnv) (table : TermTable) (i : IsInterned old) (s : Stand e defs (decl_names defs ++ flat_map function_of read) made taken old table) (new : TypeEnv) (n : Interns f old new) where
   pub function_number : number (names_of old) f ≡ number (term_names_met e.known defs) f
   function_number =
       let after : List (List ℕ) = flat_map function_of rest in
       let all : term_names_met e.known defs ≡ with_names (with_name (names_of old) f) after =
-      ap (λ l. with_names e.known.names (decl_names defs ++ l)) whole.functions
+      ap (λ ds. with_names e.known.names (decl_names defs ++ flat_map function_of ds)) whole
       ∙ ap (λ l. with_names e.known.names (decl_names defs ++ l)) (flat_map-append function_of read (d ∷ rest) ∙ ap (λ l. flat_map function_of read ++ (l ++ after)) names)
       ∙ ap (with_names e.known.names) (sym (append_assoc (decl_names defs) (flat_map function_of read) (f ∷ after)))
       ∙ with_names_append e.known.names (decl_names defs ++ flat_map function_of read) (f ∷ after)
@@ -246,12 +213,12 @@ module _ (e : TypesRead) (readable : AreReadable e) (defs read rest : List Defin
       (λ h _. subst (λ env. ExternsRead e defs (read ++ d ∷ []) env table') (sym same.1) (subst (ExternsRead e defs (read ++ d ∷ []) old) (sym same.2) (go h)))
       (λ h x _. x) s
 
-  constructor : (term function : Name) (at : Position) → SameExterns defs (read ++ extern_definition (extern_constructor term function at) ∷ rest) → ReadsExtern (extern_constructor term function at) old table es new table' es'
+  constructor : (term function : Name) (at : Position) → defs ≡ read ++ extern_definition (extern_constructor term function at) ∷ rest → ReadsIfExtern (extern_definition (extern_constructor term function at)) old table es new table' es'
       → ReadsTerms e defs (ExternsRead e defs read) old table es → ReadsTerms e defs (ExternsRead e defs (read ++ extern_definition (extern_constructor term function at) ∷ [])) new table' es'
   constructor term function at whole a s =
       let d : Definition = extern_definition (extern_constructor term function at) in
       let c : ConstructorTree = record { term = term; function = function } in
-      let trees : constructor_trees defs ≡ constructor_trees read ++ c ∷ constructor_trees rest = whole.constructors ∙ flat_map-append external_constructor_of read (d ∷ rest) in
+      let trees : constructor_trees defs ≡ constructor_trees read ++ c ∷ constructor_trees rest = ap constructor_trees whole ∙ flat_map-append external_constructor_of read (d ∷ rest) in
       let more : constructor_trees (read ++ d ∷ []) ≡ constructor_trees read ++ c ∷ [] = flat_map-append external_constructor_of read (d ∷ []) in
       let same : external_trees (read ++ d ∷ []) ≡ external_trees read = flat_map-append external_extractor_of read (d ∷ []) ∙ append-nil (external_trees read) in
       let met : List (List ℕ) = decl_names defs ++ flat_map function_of (read ++ d ∷ []) in
@@ -272,12 +239,12 @@ module _ (e : TypesRead) (readable : AreReadable e) (defs read rest : List Defin
       })
       (λ h x v. constructor_wrong e defs (constructor_trees read) (constructor_trees rest) c trees met taken new table a.0.inverse (stand h) h.constructors x v) s
 
-  extractor : (term function : Name) (at : Position) (infallible : Bool) → SameExterns defs (read ++ extern_definition (extern_extractor term function at infallible) ∷ rest) → ReadsExtern (extern_extractor term function at infallible) old table es new table' es'
+  extractor : (term function : Name) (at : Position) (infallible : Bool) → defs ≡ read ++ extern_definition (extern_extractor term function at infallible) ∷ rest → ReadsIfExtern (extern_definition (extern_extractor term function at infallible)) old table es new table' es'
       → ReadsTerms e defs (ExternsRead e defs read) old table es → ReadsTerms e defs (ExternsRead e defs (read ++ extern_definition (extern_extractor term function at infallible) ∷ [])) new table' es'
   extractor term function at infallible whole a s =
       let d : Definition = extern_definition (extern_extractor term function at infallible) in
       let t : ExternalTree = record { term = term; function = function; infallible = infallible; at = at } in
-      let trees : external_trees defs ≡ external_trees read ++ t ∷ external_trees rest = whole.externals ∙ flat_map-append external_extractor_of read (d ∷ rest) in
+      let trees : external_trees defs ≡ external_trees read ++ t ∷ external_trees rest = ap external_trees whole ∙ flat_map-append external_extractor_of read (d ∷ rest) in
       let more : external_trees (read ++ d ∷ []) ≡ external_trees read ++ t ∷ [] = flat_map-append external_extractor_of read (d ∷ []) in
       let same : constructor_trees (read ++ d ∷ []) ≡ constructor_trees read = flat_map-append external_constructor_of read (d ∷ []) ∙ append-nil (constructor_trees read) in
       let met : List (List ℕ) = decl_names defs ++ flat_map function_of (read ++ d ∷ []) in
@@ -298,29 +265,22 @@ module _ (e : TypesRead) (readable : AreReadable e) (defs read rest : List Defin
       })
       (λ h x v. external_wrong e defs (external_trees read) (external_trees rest) t trees met made new table a.0.inverse (stand h) h.externals x v) s
 
-  next : (x : ExternTree) → SameExterns defs (read ++ extern_definition x ∷ rest) → ReadsExtern x old table es new table' es' → ReadsTerms e defs (ExternsRead e defs read) old table es → ReadsTerms e defs (ExternsRead e defs (read ++ extern_definition x ∷ [])) new table' es'
-  next (extern_constructor term function at) whole a s = constructor term function at whole a s
-  next (extern_extractor term function at infallible) whole a s = extractor term function at infallible whole a s
-  next (extern_const name ty at) whole a s = other (extern_definition (extern_const name ty at)) refl refl refl a s
+  pub next : (d : Definition) → defs ≡ read ++ d ∷ rest → ReadsIfExtern d old table es new table' es' → ReadsTerms e defs (ExternsRead e defs read) old table es → ReadsTerms e defs (ExternsRead e defs (read ++ d ∷ [])) new table' es'
+  next (extern_definition (extern_constructor term function at)) whole a s = constructor term function at whole a s
+  next (extern_definition (extern_extractor term function at infallible)) whole a s = extractor term function at infallible whole a s
+  next (extern_definition (extern_const name ty at)) whole a s = other (extern_definition (extern_const name ty at)) refl refl refl a s
+  next (declaration d) whole a s = other (declaration d) refl refl refl a s
+  next (type_definition d) whole a s = other (type_definition d) refl refl refl a s
+  next (extractor_definition d) whole a s = other (extractor_definition d) refl refl refl a s
+  next (converter_definition d) whole a s = other (converter_definition d) refl refl refl a s
+  next (rule_definition d) whole a s = other (rule_definition d) refl refl refl a s
+  next other_definition whole a s = other other_definition refl refl refl a s
 
--- after the next external definition
-pub next_extern : (e : TypesRead) → AreReadable e → (defs : List Definition) (xs read read' rest : List ExternTree) (x : ExternTree) → xs ≡ flat_map extern_of defs → xs ≡ read ++ x ∷ rest → read' ≡ read ++ x ∷ []
-    → (old new : TypeEnv) (table table' : TermTable) (es es' : List Error) → MayIntern old new → IsWithin table' → ReadsExtern x old table es new table' es'
-    → ReadsTerms e defs (ExternsRead e defs (map extern_definition read)) old table es → ReadsTerms e defs (ExternsRead e defs (map extern_definition read')) new table' es'
-next_extern e r defs xs read read' rest x all whole more old new table table' es es' m w a s =
-    let same : SameExterns defs (map extern_definition read ++ extern_definition x ∷ map extern_definition rest) = subst (SameExterns defs) (ap (map extern_definition) whole ∙ map-append extern_definition read (x ∷ rest)) (same_externs defs xs all) in
-    subst (λ ds. ReadsTerms e defs (ExternsRead e defs ds) new table' es') (sym (ap (map extern_definition) more ∙ map-append extern_definition read (x ∷ [])))
-    (next e r defs (map extern_definition read) (map extern_definition rest) old new table table' es es' m w x same a s)
-
--- after all of them
-pub all_externs : (e : TypesRead) (defs : List Definition) (xs : List ExternTree) (env : TypeEnv) (table : TermTable) (es : List Error) → xs ≡ flat_map extern_of defs → ReadsTerms e defs (ExternsRead e defs (map extern_definition xs)) env table es → ReadsTerms e defs (ExternsRead e defs defs) env table es
-all_externs e defs xs env table es all s =
-    let same = same_externs defs xs all in
-    reads_as e defs (ExternsRead e defs (map extern_definition xs)) (ExternsRead e defs defs) env table es (λ h. record {
-      stand = subst (λ fs. Stand e defs (decl_names defs ++ fs) (function_after e defs (constructor_trees defs)) (external_after e defs (external_trees defs)) env table) (sym same.functions)
-          (subst (λ l. Stand e defs (decl_names defs ++ flat_map function_of (map extern_definition xs)) (function_after e defs l) (external_after e defs (external_trees defs)) env table) (sym same.constructors)
-          (subst (λ l. Stand e defs (decl_names defs ++ flat_map function_of (map extern_definition xs)) (function_after e defs (constructor_trees (map extern_definition xs))) (external_after e defs l) env table) (sym same.externals) h.stand));
-      constructors = subst (AreRightConstructors defs) (sym same.constructors) h.constructors;
-      externals = subst (AreRightExternals defs) (sym same.externals) h.externals;
-      conversions = h.conversions;
-    }) s
+-- after the definition at i
+pub next_extern : (e : TypesRead) → AreReadable e → (defs : List Def) (i : ℕ) (d : Def) → i < length defs → d ≡ get_or defs i d → (old new : TypeEnv) (table table' : TermTable) (es es' : List Error) → MayIntern old new → IsWithin table'
+    → ReadsIfExtern (definition_view d) old table es new table' es'
+    → ReadsTerms e (definition_views defs) (ExternsRead e (definition_views defs) (definition_views (take i defs))) old table es
+    → ReadsTerms e (definition_views defs) (ExternsRead e (definition_views defs) (definition_views (take (i + 1) defs))) new table' es'
+next_extern e r defs i d within here old new table table' es es' m w a s =
+    subst (λ ds. ReadsTerms e (definition_views defs) (ExternsRead e (definition_views defs) ds) new table' es') (sym (taken_next defs i d within here))
+    (next e r (definition_views defs) (definition_views (take i defs)) (definition_views (drop (i + 1) defs)) old new table table' es es' m w (definition_view d) (around defs i d within here) a s)

@@ -4,7 +4,6 @@ pub mod TermMaps
 pub mod Arguments
 pub mod TypesStaying
 pub mod Noting
-pub mod ByKind
 pub mod Declaring
 pub mod Making
 pub mod Changing

@@ -156,7 +156,7 @@ found_some es x h = of_found (found_in es h)
     of_found : (y : ExtractorTree) × (find (λ y. bytes_eq y.term.text x.term.text) es ≡ Some y) → is_template (template_after es x.term.text) ≡ true
     of_found p = ap (λ o. is_template (option_map (λ y. internal_extractor (extractor_template y)) o)) p.1
 
-have_templates : (e : TypesRead) → AreReadable e → (defs : List Definition) (cs : Callees) (env : TypeEnv) (table : TermTable) → IsLeftByRefusal e (environment_view env) → TemplatesRead e defs (extractor_trees defs) cs env table → HaveTemplates table cs
+have_templates : (e : TypesRead) → AreReadable e → (defs : List Definition) (cs : Callees) (env : TypeEnv) (table : TermTable) → IsLeftByRefusal e (environment_view env) → TemplatesRead e defs defs cs env table → HaveTemplates table cs
 have_templates e readable defs cs env table left s t u entry h at =
     let k = s.calls.said t u h in
     let interned : IsInterned env = left_interned e readable env left in
@@ -172,10 +172,10 @@ have_templates e readable defs cs env table left s t u entry h at =
 -- the search after all extractors
 pub searched : (e : TypesRead) → AreReadable e → (defs : List Definition) (cs : Callees) (env : TypeEnv) (table : TermTable) (es es' : List Error) (b : Bool)
     → Notes es es' (EndsBelow table cs (length cs)) (ComesBack cs)
-    → ReadsTerms e defs (λ env table. (b ≡ true) × TemplatesRead e defs (extractor_trees defs) cs env table) env table es
+    → ReadsTerms e defs (λ env table. (b ≡ true) × TemplatesRead e defs defs cs env table) env table es
     → ReadsTerms e defs (ExtractorsRead e defs) env table es'
 searched e readable defs cs env table es es' b a s =
-    step e defs (λ env table. (b ≡ true) × TemplatesRead e defs (extractor_trees defs) cs env table) (ExtractorsRead e defs) env env table table es es' (EndsBelow table cs (length cs)) (ComesBack cs) s.left s.within a
+    step e defs (λ env table. (b ≡ true) × TemplatesRead e defs defs cs env table) (ExtractorsRead e defs) env env table table es es' (EndsBelow table cs (length cs)) (ComesBack cs) s.left s.within a
     (λ h ends. record {
       stand = h.1.stand;
       roots = h.1.roots;

@@ -1,25 +1,28 @@
 -- Reading internal extractors by types that are handed in, one definition after another.
-use Rattle.std.proofs.Common.{◌≡◌, ◌≢◌, ◌&&◌, ◌==◌, ℕ, ◌+◌, not, Bool, true, false, cond, List, [], ◌∷◌, ◌++◌, ◌⊎◌, length, map, slice_get, Option, None, Some, is_some, unwrap_or, option_map, Contains, Vec, refl, sym, ap, subst, ◌∙◌, inl, inr, eqb-true, arith}
+use Rattle.std.proofs.Common.{◌≡◌, ◌≢◌, ◌&&◌, ◌==◌, ℕ, ◌+◌, ◌<◌, not, Bool, true, false, cond, List, [], ◌∷◌, ◌++◌, ◌⊎◌, length, take, drop, get_or, map, slice_get, Option, None, Some, is_some, unwrap_or, option_map, Contains, Vec, refl, sym, ap, subst, ◌∙◌, inl, inr, eqb-true, arith}
 use Rattle.std.specs.List.{find}
 use Rattle.std.specs.Str.{bytes_eq}
 use Rattle.std.specs.declared.alloc.Global.{Global}
 use Rattle.std.proofs.lemmas.Bool.{false≢true}
 use Rattle.std.proofs.lemmas.Bool.Decides.{Decides-eqb}
-use Rattle.std.proofs.lemmas.List.{length-map, map-append}
+use Rattle.std.proofs.lemmas.List.{append-nil, length-map, map-append}
+use Rattle.std.proofs.lemmas.List.Concat.{flat_map-append}
 use Rattle.std.proofs.lemmas.List.Elements.{All-push, All-weaker, Contains-append_left, Contains-push, Contains-push_cases}
 use Rattle.std.proofs.lemmas.List.Sorted.{Contains-permutation, IsPermutation-sym}
 use Rattle.std.proofs.lemmas.Option.{same_Some, slice_get_within}
-use Rattle.isle_model.specs.lists.Syntax.{Name, DeclTree, ExtractorTree, Definition}
+use Rattle.isle_model.specs.lists.Syntax.{Name, DeclTree, ExtractorTree, Definition, type_definition, declaration, extractor_definition, converter_definition, rule_definition, extern_definition, other_definition}
 use Rattle.isle_model.specs.lists.Names.{IsDistinct}
 use Rattle.isle_model.specs.lists.Tables.{ConstructorEntry, ExtractorEntry, internal_extractor, TermKindEntry, variant_term, struct_term, declared_term, TermEntry}
 use Rattle.isle_model.specs.lists.TypeTable.{place_from}
 use Rattle.isle_model.specs.lists.KnownTypes.{known_type}
-use Rattle.isle_model.specs.lists.TermTable.{decl_flags, decl_names, decl_named, decl_trees, rule_trees, extractor_trees, extractor_template, external_extractors, internal_extractors, terms_in, arguments_in, argument_count, term_names, term_names_met, term_named, is_declared_multi, IsDeclaredTerm, IsKnownTerm, IsOfPlainTerm, NamesKnownTerms, HoldsNoMacroArg, UsesDeclaredArguments, IsValidTerms}
+use Rattle.isle_model.specs.lists.TermTable.{decl_flags, decl_names, decl_named, decl_trees, rule_trees, extractor_of, extractor_trees, extractor_template, external_extractors, internal_extractors, terms_in, arguments_in, argument_count, term_names, term_names_met, term_named, is_declared_multi, IsDeclaredTerm, IsKnownTerm, IsOfPlainTerm, NamesKnownTerms, HoldsNoMacroArg, UsesDeclaredArguments, IsValidTerms}
 use Rattle.isle_model.specs.claims.Environments.{TypesRead, AreReadable, IsLeftByRefusal}
 use Rattle.isle_model.proofs.FirstPlaces.{place_next}
 use Rattle.isle_model.proofs.Members.{in_map, get_from_member}
 use Rattle.isle_model.proofs.Positions.{distinct_push, twice}
+use Rattle.isle_base.specs.declared.syntax.Def.{Def}
 use Rattle.isle_base.specs.declared.syntax.Error.{Error}
+use Rattle.isle_base.specs.SyntaxViews.{definition_view, definition_views}
 use Rattle.isle_types.specs.declared.ids.TermId.{TermId}
 use Rattle.isle_types.specs.declared.type_env.TypeEnv.{TypeEnv}
 use Rattle.isle_types.specs.Envs.{IsInterned}
@@ -28,12 +31,12 @@ use Rattle.isle_terms.specs.declared.term_table.TermTable.{TermTable}
 use Rattle.isle_terms.specs.Reading.{IsWithin, term_of_name}
 use Rattle.isle_terms.specs.Stages.{constructor_after, place_among}
 use Rattle.isle_terms.specs.Signing.{ReadsTerms, declared_so_far}
-use Rattle.isle_terms.specs.Standing.{is_declared_kind}
+use Rattle.isle_terms.specs.Standing.{Stand, is_declared_kind}
 use Rattle.isle_terms.specs.Converting.{template_after}
 use Rattle.isle_terms.specs.Externing.{taken_by_this, with_kind}
-use Rattle.isle_terms.specs.Templating.{callees_of, may_have_template, AreArguments, CallsAreOf, IsCall, IsExtractor, IsFoundTerm, IsWrongOfTerm, ReadsExtractor, TemplatesRead}
+use Rattle.isle_terms.specs.Templating.{callees_of, may_have_template, AreArguments, AreRightExtractors, CallsAreOf, IsCall, IsExtractor, IsFoundTerm, IsWrongOfTerm, ReadsIfTemplate, TemplatesRead}
 use Rattle.isle_terms.proofs.Changing.{place_at}
-use Rattle.isle_terms.proofs.Declaring.{at_middle}
+use Rattle.isle_terms.proofs.Declaring.{at_middle, taken_next, around}
 use Rattle.isle_terms.proofs.FirstOfTerm.{known_other, known_new, not_known, was_known, none_stands}
 use Rattle.isle_terms.proofs.Making.{distinct_left}
 use Rattle.isle_terms.proofs.Noting.{step}
@@ -88,7 +91,16 @@ one_name names x y t h g =
     let k : 0 + t ≡ t = omega arith in
     same_Some x y (sym (place_at 0 t x names t k h) ∙ place_at 0 t y names t k g)
 
-module _ (e : TypesRead) (readable : AreReadable e) (defs : List Definition) (seen rest : List ExtractorTree) (x : ExtractorTree) (trees : extractor_trees defs ≡ seen ++ x ∷ rest) (env : TypeEnv) (old : TermTable) (callees : List (Vec TermId Global)) (left : IsLeftByRefusal e (environment_view env)) (s : TemplatesRead e defs seen callees env old) where
+module _ (e : TypesRead) (readable : AreReadable e) (defs read rest : List Definition) (x : ExtractorTree) (whole : defs ≡ read ++ extractor_definition x ∷ rest) (env : TypeEnv) (old : TermTable) (callees : List (Vec TermId Global)) (left : IsLeftByRefusal e (environment_view env)) (s : TemplatesRead e defs read callees env old) where
+  abbrev seen : List ExtractorTree
+  seen = extractor_trees read
+
+  trees : extractor_trees defs ≡ seen ++ x ∷ extractor_trees rest
+  trees = ap extractor_trees whole ∙ flat_map-append extractor_of read (extractor_definition x ∷ rest)
+
+  more : extractor_trees (read ++ extractor_definition x ∷ []) ≡ seen ++ x ∷ []
+  more = flat_map-append extractor_of read (extractor_definition x ∷ [])
+
   abbrev made : List ℕ → Option ConstructorEntry
   made = constructor_after (rule_trees defs)
 
@@ -169,14 +181,14 @@ module _ (e : TypesRead) (readable : AreReadable e) (defs : List Definition) (se
               | false ↦ λ h. at_other t u (λ same. false≢true (sym h ∙ (Decides-eqb t a.id).1 same)) c
             ] refl
 
-    template_right : TemplatesRead e defs (seen ++ x ∷ []) callees' env new
+    template_right : TemplatesRead e defs (read ++ extractor_definition x ∷ []) callees' env new
     template_right =
         elim (entry_found e defs (decl_names defs) made taken env old interned s.stand x.term a.id a.is.takes.entry a.found a.is.takes.at) [
           | inr q ↦ absurd (template_lacks a.is.takes.entry.kind a.is.takes.passes q.1)
           | inl q ↦ of_declaration q.0 q.1 q.2 q.3 q.4
         ]
       where
-        of_declaration : (d : DeclTree) → slice_get (decl_trees defs) a.id ≡ Some d → d.term.text ≡ x.term.text → place_among (decl_names defs) x.term.text ≡ Some a.id → a.is.takes.entry ≡ entry_so_far d a.id → TemplatesRead e defs (seen ++ x ∷ []) callees' env new
+        of_declaration : (d : DeclTree) → slice_get (decl_trees defs) a.id ≡ Some d → d.term.text ≡ x.term.text → place_among (decl_names defs) x.term.text ≡ Some a.id → a.is.takes.entry ≡ entry_so_far d a.id → TemplatesRead e defs (read ++ extractor_definition x ∷ []) callees' env new
         of_declaration d at text place entry =
             let both : (not (is_some (taken d.term.text)) && not d.multi) ≡ true = ap (λ (t : TermEntry). may_have_template t.kind) (sym entry) ∙ a.is.takes.passes in
             let passes = and_both (not (is_some (taken d.term.text))) (not d.multi) both in
@@ -185,29 +197,30 @@ module _ (e : TypesRead) (readable : AreReadable e) (defs : List Definition) (se
             let plain : IsOfPlainTerm defs x = ap not (multi_is a.id d at place) ∙ passes.1 in
             let count : length a.is.takes.entry.arg_tys ≡ argument_count defs x.term.text = ap (λ (t : TermEntry). length t.arg_tys) entry ∙ sym (count_is a.id d at place) in
             record {
-              stand = stands_on e defs (decl_names defs) made taken env old interned s.stand x.term.text a.id (with_kind (taken_by_this (template_entry x))) made (template_after (seen ++ x ∷ [])) new place a.is.takes.changes
+              stand = subst (λ es. Stand e defs (decl_names defs) made (template_after es) env new) (sym more)
+                  (stands_on e defs (decl_names defs) made taken env old interned s.stand x.term.text a.id (with_kind (taken_by_this (template_entry x))) made (template_after (seen ++ x ∷ [])) new place a.is.takes.changes
                   (λ t j h. ap (λ m. record (declared_so_far e.known (term_names_met e.known defs) made taken t j) { kind = declared_term (decl_flags t) (made t.term.text) m }) (known_other extracted_by nowhere by_nothing template_entry seen x t.term.text h))
-                  (λ t j h. ap (λ m. record (declared_so_far e.known (term_names_met e.known defs) made taken t j) { kind = declared_term (decl_flags t) (made t.term.text) m }) (known_new extracted_by nowhere by_nothing template_entry seen x t.term.text refl free.1 h));
+                  (λ t j h. ap (λ m. record (declared_so_far e.known (term_names_met e.known defs) made taken t j) { kind = declared_term (decl_flags t) (made t.term.text) m }) (known_new extracted_by nowhere by_nothing template_entry seen x t.term.text refl free.1 h)));
               roots = s.roots;
-              right = record {
+              right = subst (AreRightExtractors e defs) (sym more) (record {
                 terms = All-push (λ y. IsDeclaredTerm defs y.term) seen x s.right.terms (ap is_some place);
                 plain = All-push (IsOfPlainTerm defs) seen x s.right.plain plain;
                 known = All-push (NamesKnownTerms e.known defs) seen x s.right.known (found_all (λ n. term_named e.known defs n.text) (terms_in x.template) a.is.named names);
                 no_macro_args = All-push HoldsNoMacroArg seen x s.right.no_macro_args a.is.no_macro_args;
                 arguments = All-push (UsesDeclaredArguments defs) seen x s.right.arguments (subst (λ n. AreArguments n (arguments_in (extractor_template x))) count a.is.takes.arguments);
                 distinct = subst IsDistinct (sym (map-append extracted_by seen (x ∷ []))) (distinct_push (map extracted_by seen) x.term.text s.right.distinct (none_stands extracted_by nowhere by_nothing template_entry seen x.term.text free.1));
-              };
-              calls = new_calls free.1;
+              });
+              calls = subst (λ es. CallsAreOf e defs es callees') (sym more) (new_calls free.1);
               converters = rw a.is.takes.changes.converters s.converters;
             }
 
   declared : IsValidTerms e.known defs → IsDeclaredTerm defs x.term
-  declared v = at_middle (λ y. IsDeclaredTerm defs y.term) seen x rest (extractor_trees defs) trees v.terms_of_extractors
+  declared v = at_middle (λ y. IsDeclaredTerm defs y.term) seen x (extractor_trees rest) (extractor_trees defs) trees v.terms_of_extractors
 
   twice_extracted : (j : ℕ) → slice_get (map extracted_by seen) j ≡ Some x.term.text → IsValidTerms e.known defs → ⊥
   twice_extracted j h v =
-      twice (map extracted_by seen) (map extracted_by rest) (internal_extractors defs) x.term.text j (distinct_left (internal_extractors defs) (external_extractors defs) v.one_extractor)
-      (sym (ap (map extracted_by) trees ∙ map-append extracted_by seen (x ∷ rest))) (slice_get_within (map extracted_by seen) j x.term.text h) h
+      twice (map extracted_by seen) (map extracted_by (extractor_trees rest)) (internal_extractors defs) x.term.text j (distinct_left (internal_extractors defs) (external_extractors defs) v.one_extractor)
+      (sym (ap (map extracted_by) trees ∙ map-append extracted_by seen (x ∷ extractor_trees rest))) (slice_get_within (map extracted_by seen) j x.term.text h) h
 
   cant_take : (id : ℕ) (entry : TermEntry) (d : DeclTree) → slice_get (decl_trees defs) id ≡ Some d → d.term.text ≡ x.term.text → place_among (decl_names defs) x.term.text ≡ Some id → entry ≡ entry_so_far d id
       → (may_have_template entry.kind ≡ false) ⊎ (AreArguments (length entry.arg_tys) (arguments_in (extractor_template x)) → ⊥) → IsValidTerms e.known defs → ⊥
@@ -220,21 +233,21 @@ module _ (e : TypesRead) (readable : AreReadable e) (defs : List Definition) (se
               | inl h ↦ false≢true h
               | inr h ↦ twice_extracted h.0 h.1 v
             ]
-        | inr multi ↦ false≢true (sym (ap not (multi_is id d at place) ∙ multi) ∙ at_middle (IsOfPlainTerm defs) seen x rest (extractor_trees defs) trees v.plain_terms)
+        | inr multi ↦ false≢true (sym (ap not (multi_is id d at place) ∙ multi) ∙ at_middle (IsOfPlainTerm defs) seen x (extractor_trees rest) (extractor_trees defs) trees v.plain_terms)
       ]
   cant_take id entry d at text place is (inr past) v =
       let count : argument_count defs x.term.text ≡ length entry.arg_tys = count_is id d at place ∙ ap (λ (t : TermEntry). length t.arg_tys) (sym is) in
-      past (subst (λ n. AreArguments n (arguments_in (extractor_template x))) count (at_middle (UsesDeclaredArguments defs) seen x rest (extractor_trees defs) trees v.declared_arguments))
+      past (subst (λ n. AreArguments n (arguments_in (extractor_template x))) count (at_middle (UsesDeclaredArguments defs) seen x (extractor_trees rest) (extractor_trees defs) trees v.declared_arguments))
 
   template_wrong : (term_of_name env old x.term ≡ None) ⊎ IsWrongOfTerm x env old → IsValidTerms e.known defs → ⊥
   template_wrong (inl none) v = false≢true (sym (ap is_some (nothing_found e defs (decl_names defs) made taken env old interned s.stand x.term none)) ∙ declared v)
   template_wrong (inr m) v =
       elim m.wrong [
-        | inl macro_arg ↦ macro_arg (at_middle HoldsNoMacroArg seen x rest (extractor_trees defs) trees v.no_macro_args)
+        | inl macro_arg ↦ macro_arg (at_middle HoldsNoMacroArg seen x (extractor_trees rest) (extractor_trees defs) trees v.no_macro_args)
         | inr w ↦ elim w [
           | inl unknown ↦
               unknown (All-weaker (IsKnownTerm e.known defs) (IsFoundTerm env old) (λ n h. ap is_some (term_of n) ∙ h) (terms_in x.template)
-              (at_middle (NamesKnownTerms e.known defs) seen x rest (extractor_trees defs) trees v.known_terms))
+              (at_middle (NamesKnownTerms e.known defs) seen x (extractor_trees rest) (extractor_trees defs) trees v.known_terms))
           | inr c ↦ elim (entry_found e defs (decl_names defs) made taken env old interned s.stand x.term m.id c.entry m.found c.at) [
             | inr q ↦ false≢true (sym (ap is_some q.0) ∙ declared v)
             | inl q ↦ cant_take m.id c.entry q.0 q.1 q.2 q.3 q.4 c.fails v
@@ -242,12 +255,41 @@ module _ (e : TypesRead) (readable : AreReadable e) (defs : List Definition) (se
         ]
       ]
 
--- after the next internal extractor
-pub next_template : (e : TypesRead) → AreReadable e → (defs : List Definition) (read read' rest : List ExtractorTree) (x : ExtractorTree) → extractor_trees defs ≡ read ++ x ∷ rest → read' ≡ read ++ x ∷ []
-    → (env : TypeEnv) (table table' : TermTable) (callees callees' : List (Vec TermId Global)) (es es' : List Error) (b : Bool) → IsWithin table' → ReadsExtractor x env table callees es table' callees' es' b
-    → ReadsTerms e defs (TemplatesRead e defs read callees) env table es → ReadsTerms e defs (λ env table. (b ≡ true) × TemplatesRead e defs read' callees' env table) env table' es'
-next_template e readable defs read read' rest x trees more env table table' callees callees' es es' b w a s =
-    subst (λ xs. ReadsTerms e defs (λ env table. (b ≡ true) × TemplatesRead e defs xs callees' env table) env table' es') (sym more)
-    (step e defs (TemplatesRead e defs read callees) (λ env table. (b ≡ true) × TemplatesRead e defs (read ++ x ∷ []) callees' env table) env env table table' es es' ((b ≡ true) × IsExtractor x env table table' callees callees') ((term_of_name env table x.term ≡ None) ⊎ IsWrongOfTerm x env table) s.left w a
-    (λ h r. (r.0, template_right e readable defs read rest x trees env table callees s.left h table' callees' r.1))
-    (λ h r v. template_wrong e readable defs read rest x trees env table callees s.left h r v) s)
+module _ (e : TypesRead) (readable : AreReadable e) (defs read rest : List Definition) (env : TypeEnv) (table table' : TermTable) (callees callees' : List (Vec TermId Global)) (es es' : List Error) (b : Bool) (w : IsWithin table') where
+  abbrev Goes : Definition → TypeEnv → TermTable → Type 0
+  Goes d env table = (b ≡ true) × TemplatesRead e defs (read ++ d ∷ []) callees' env table
+
+  other : (d : Definition) → extractor_of d ≡ [] → (es' ≡ es) × (table' ≡ table) × (callees' ≡ callees) × (b ≡ true) → ReadsTerms e defs (TemplatesRead e defs read callees) env table es → ReadsTerms e defs (Goes d) env table' es'
+  other d none same s =
+      let trees : extractor_trees (read ++ d ∷ []) ≡ extractor_trees read = flat_map-append extractor_of read (d ∷ []) ∙ ap (λ l. extractor_trees read ++ (l ++ [])) none ∙ append-nil (extractor_trees read) in
+      let go : TemplatesRead e defs read callees env table → TemplatesRead e defs (read ++ d ∷ []) callees env table = λ h. record {
+        stand = subst (λ es. Stand e defs (decl_names defs) (constructor_after (rule_trees defs)) (template_after es) env table) (sym trees) h.stand;
+        roots = h.roots;
+        right = subst (AreRightExtractors e defs) (sym trees) h.right;
+        calls = subst (λ es. CallsAreOf e defs es callees) (sym trees) h.calls;
+        converters = h.converters;
+      } in
+      step e defs (TemplatesRead e defs read callees) (Goes d) env env table table' es es' (Unit {0}) ⊥ s.left w (inl (same.0, tt))
+      (λ h _. (same.3, subst (λ cs. TemplatesRead e defs (read ++ d ∷ []) cs env table') (sym same.2) (subst (TemplatesRead e defs (read ++ d ∷ []) callees env) (sym same.1) (go h))))
+      (λ h x _. x) s
+
+  next : (d : Definition) → defs ≡ read ++ d ∷ rest → ReadsIfTemplate d env table callees es table' callees' es' b → ReadsTerms e defs (TemplatesRead e defs read callees) env table es → ReadsTerms e defs (Goes d) env table' es'
+  next (extractor_definition x) whole a s =
+      step e defs (TemplatesRead e defs read callees) (Goes (extractor_definition x)) env env table table' es es' ((b ≡ true) × IsExtractor x env table table' callees callees') ((term_of_name env table x.term ≡ None) ⊎ IsWrongOfTerm x env table) s.left w a
+      (λ h r. (r.0, template_right e readable defs read rest x whole env table callees s.left h table' callees' r.1))
+      (λ h r v. template_wrong e readable defs read rest x whole env table callees s.left h r v) s
+  next (declaration d) whole a s = other (declaration d) refl a s
+  next (type_definition d) whole a s = other (type_definition d) refl a s
+  next (converter_definition d) whole a s = other (converter_definition d) refl a s
+  next (rule_definition d) whole a s = other (rule_definition d) refl a s
+  next (extern_definition d) whole a s = other (extern_definition d) refl a s
+  next other_definition whole a s = other other_definition refl a s
+
+-- after the definition at i
+pub next_template : (e : TypesRead) → AreReadable e → (defs : List Def) (i : ℕ) (d : Def) → i < length defs → d ≡ get_or defs i d → (env : TypeEnv) (table table' : TermTable) (callees callees' : List (Vec TermId Global)) (es es' : List Error) (b : Bool) → IsWithin table'
+    → ReadsIfTemplate (definition_view d) env table callees es table' callees' es' b
+    → ReadsTerms e (definition_views defs) (TemplatesRead e (definition_views defs) (definition_views (take i defs)) callees) env table es
+    → ReadsTerms e (definition_views defs) (λ env table. (b ≡ true) × TemplatesRead e (definition_views defs) (definition_views (take (i + 1) defs)) callees' env table) env table' es'
+next_template e r defs i d within here env table table' callees callees' es es' b w a s =
+    subst (λ ds. ReadsTerms e (definition_views defs) (λ env table. (b ≡ true) × TemplatesRead e (definition_views defs) ds callees' env table) env table' es') (sym (taken_next defs i d within here))
+    (next e r (definition_views defs) (definition_views (take i defs)) (definition_views (drop (i + 1) defs)) env table table' callees callees' es es' b w (definition_view d) (around defs i d within here) a s)

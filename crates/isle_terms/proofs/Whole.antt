@@ -1,5 +1,5 @@
 -- From one group of the reading of terms to the next one, and what stands at the end.
-use Rattle.std.proofs.Common.{◌≡◌, ◌==◌, ◌||◌, ℕ, suc, ◌+◌, ◌<◌, true, false, cond, List, [], ◌∷◌, ◌++◌, length, map, slice_get, Option, None, Some, option_map, Contains, OnOk, Result, Ok, Err, refl, sym, ap, subst, ◌∙◌, arith, inl, inr, ⊎_elim}
+use Rattle.std.proofs.Common.{◌≡◌, ◌==◌, ◌||◌, ℕ, suc, ◌+◌, ◌<◌, true, false, cond, List, [], ◌∷◌, ◌++◌, length, map, slice_get, Option, None, Some, option_map, Contains, OnOk, Result, Ok, Err, refl, sym, ap, subst, ◌∙◌, arith, inl, ⊎_elim}
 use Rattle.std.specs.List.{cons_option, enumerate_from, filter_map, find, flat_map}
 use Rattle.std.specs.Str.{bytes_eq}
 use Rattle.std.proofs.lemmas.Bool.{false≢true}
@@ -11,7 +11,7 @@ use Rattle.isle_model.specs.rules.Meaning.{look}
 use Rattle.isle_model.specs.rules.Outcome.{then_option}
 use Rattle.isle_model.specs.lists.Tables.{TypeEntry, TermEntry, declared_term, internal_extractor}
 use Rattle.isle_model.specs.lists.KnownTypes.{entry_numbers, IsWellFormed}
-use Rattle.isle_model.specs.lists.TermTable.{decl_flags, decl_trees, decl_names, rule_trees, extractor_trees, extractor_template, converter_trees, internal_extractors, function_of, made_by, term_names, term_names_met, terms_made, term_table, converters, IsValidTerms}
+use Rattle.isle_model.specs.lists.TermTable.{decl_flags, decl_trees, decl_names, rule_trees, extractor_trees, extractor_template, internal_extractors, function_of, made_by, term_names, term_names_met, terms_made, term_table, converters, IsValidTerms}
 use Rattle.isle_model.specs.claims.Environments.{TypesRead, AreReadable, AreTermsOf, IsLeftByRefusal, IsReadAs, terms_by_name, with_read_names}
 use Rattle.isle_model.specs.claims.Refusals.{RefusesTerms}
 use Rattle.isle_model.proofs.Members.{in_cases, nothing_in, get_from_member}
@@ -72,12 +72,12 @@ made_met e w = all_made_only (λ n. n < length e.known.names) e.known.types (rec
 -- after the terms that types make
 pub made_after : (e : TypesRead) → AreReadable e → (defs : List Definition) (env : TypeEnv) (table table' : TermTable) (es es' : List Error) → IsWithin table'
     → AddsMade (flat_map made_by (type_views env.types.items)) (flat_map terms_made (type_views env.types.items)) table es table' es'
-    → ReadsTerms e defs (Declaring e defs (decl_trees defs)) env table es → ReadsTerms e defs (RootsRead e defs []) env table' es'
+    → ReadsTerms e defs (Declaring e defs defs) env table es → ReadsTerms e defs (RootsRead e defs []) env table' es'
 made_after e readable defs env table table' es es' w a s =
     let ts : List TypeEntry = e.known.types in
     let b : AddsMade (flat_map made_by ts) (flat_map terms_made ts) table es table' es' = subst (λ l. AddsMade (flat_map made_by l) (flat_map terms_made l) table es table' es') s.left.types.types a in
     let met : NumbersAreMet e (flat_map made_by ts) = made_met e readable.well_formed in
-    step e defs (Declaring e defs (decl_trees defs)) (RootsRead e defs []) env env table table' es es' (GrowsBy (flat_map made_by ts) (flat_map terms_made ts) table table') (AreTaken (flat_map made_by ts) table) s.left w b
+    step e defs (Declaring e defs defs) (RootsRead e defs []) env env table table' es es' (GrowsBy (flat_map made_by ts) (flat_map terms_made ts) table table') (AreTaken (flat_map made_by ts) table) s.left w b
     (λ h g.
     let grown = g e (decl_names defs) (decl_names defs) (map (declared_alone e defs) (decl_trees defs)) env (left_interned e readable env s.left) met h.has in
     record {
@@ -121,9 +121,9 @@ first_converter e defs env table es s =
     }) s
 
 -- before the external functions
-pub first_extern : (e : TypesRead) (defs : List Definition) (env : TypeEnv) (table : TermTable) (es : List Error) → IsDistinct (internal_extractors defs) → ReadsTerms e defs (ConvertersRead e defs (converter_trees defs)) env table es → ReadsTerms e defs (ExternsRead e defs []) env table es
+pub first_extern : (e : TypesRead) (defs : List Definition) (env : TypeEnv) (table : TermTable) (es : List Error) → IsDistinct (internal_extractors defs) → ReadsTerms e defs (ConvertersRead e defs defs) env table es → ReadsTerms e defs (ExternsRead e defs []) env table es
 first_extern e defs env table es once s =
-    reads_as e defs (ConvertersRead e defs (converter_trees defs)) (ExternsRead e defs []) env table es (λ h. record {
+    reads_as e defs (ConvertersRead e defs defs) (ExternsRead e defs []) env table es (λ h. record {
       stand = record {
         names = h.stand.names ∙ ap (with_names e.known.names) (sym (append-nil (decl_names defs)));
         finds = h.stand.finds;
@@ -162,7 +162,7 @@ made_names_met ns [] x c = absurd (nothing_in x c)
 made_names_met ns (m ∷ ms) x c = one_name_met ns (filter_map (slice_get ns) ms) m x (slice_get ns m) refl (made_names_met ns ms x) c
 
 -- nothing is wrong: these are the terms of the list
-pub all_read : (e : TypesRead) → AreReadable e → (defs : List Definition) (env old : TypeEnv) (table before : TermTable) → IsLeftByRefusal e (environment_view env) → ExtractorsRead e defs old before → (cr : (mid : TermTable) × ConvertersRead e defs (converter_trees defs) old mid) → ExternsRead e defs defs env table
+pub all_read : (e : TypesRead) → AreReadable e → (defs : List Definition) (env old : TypeEnv) (table before : TermTable) → IsLeftByRefusal e (environment_view env) → ExtractorsRead e defs old before → (cr : (mid : TermTable) × ConvertersRead e defs defs old mid) → ExternsRead e defs defs env table
     → IsValidTerms e.known defs × AreTermsOf e defs (shown_by table) (environment_view env)
 all_read e readable defs env old table before left x cr s = (valid, record { valid = valid; rows = record { table = s.stand.terms; look_ups = look_ups; conversions = s.conversions }; types = types })
   where
@@ -205,10 +205,6 @@ all_read e readable defs env old table before left x cr s = (valid, record { val
 
     types : IsReadAs (environment_view env) (with_read_names e (term_names_met e.known defs))
     types = subst (λ ns. IsReadAs (environment_view env) (with_read_names e ns)) (sym left.types.names ∙ s.stand.names) left.types
-
--- errors after one of the groups: no more is read
-pub reads_no_more : (e : TypesRead) (defs : List Definition) (A B : TypeEnv → TermTable → Type 0) (env : TypeEnv) (table : TermTable) (es : List Error) → ReadsTerms e defs A env table es → (length es ≡ 0 → ⊥) → ReadsTerms e defs B env table es
-reads_no_more e defs A B env table es s some = record { left = s.left; within = s.within; ill_typed = s.ill_typed; so_far = ⊎_elim (λ r. absurd (some (ap length r.0))) (λ w. inr w) s.so_far }
 
 -- errors after one of the groups: why the definitions are refused
 pub why_refused : (e : TypesRead) (defs : List Definition) (A : TypeEnv → TermTable → Type 0) (env : TypeEnv) (table : TermTable) (es : List Error) → ReadsTerms e defs A env table es → (length es ≡ 0 → ⊥) → RefusesTerms e defs (error_views es)

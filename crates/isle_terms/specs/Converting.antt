@@ -3,12 +3,12 @@ use Rattle.std.specs.Prelude.{◌≡◌, ℕ, ◌&&◌, List, ◌⊎◌, map, Op
 use Rattle.std.specs.List.{find}
 use Rattle.std.specs.Str.{bytes_eq}
 use Rattle.std.specs.Bool.{◌==◌}
-use Rattle.isle_model.specs.lists.Syntax.{ConverterTree, ExtractorTree, Definition}
+use Rattle.isle_model.specs.lists.Syntax.{ConverterTree, ExtractorTree, Definition, converter_definition}
 use Rattle.isle_model.specs.lists.Names.{IsDistinct}
 use Rattle.isle_model.specs.rules.Meaning.{look}
 use Rattle.isle_model.specs.lists.Tables.{ExtractorEntry, internal_extractor}
 use Rattle.isle_model.specs.lists.KnownTypes.{KnownTypes, known_type}
-use Rattle.isle_model.specs.lists.TermTable.{decl_names, rule_trees, extractor_trees, extractor_template, known_term, IsKnownConverter}
+use Rattle.isle_model.specs.lists.TermTable.{decl_names, rule_trees, extractor_trees, extractor_template, converter_trees, converted_pairs, known_term, IsKnownConverter}
 use Rattle.isle_model.specs.claims.Environments.{TypesRead}
 use Rattle.isle_base.specs.declared.syntax.Error.{Error}
 use Rattle.isle_base.specs.Stable.{look_up}
@@ -42,12 +42,12 @@ converter_entry k defs c = ((known_type k c.inner_ty, known_type k c.outer_ty), 
 abbrev pub template_after : List ExtractorTree → List ℕ → Option ExtractorEntry
 template_after es x = option_map (λ e. internal_extractor (extractor_template e)) (find (λ e. bytes_eq e.term.text x) es)
 
--- these converters are read
-pub record ConvertersRead (e : TypesRead) (defs : List Definition) (read : List ConverterTree) (env : TypeEnv) (table : TermTable) : Type 0 where
+-- the converters among the first definitions are read
+pub record ConvertersRead (e : TypesRead) (defs read : List Definition) (env : TypeEnv) (table : TermTable) : Type 0 where
   pub stand : Stand e defs (decl_names defs) (constructor_after (rule_trees defs)) (template_after (extractor_trees defs)) env table
-  pub known : All (IsKnownConverter e.known defs) read
-  pub distinct : IsDistinct (map pair_of read)
-  pub conversions : (i o : ℕ) → converter_at table i o ≡ look (λ k. (k.0 == i) && (k.1 == o)) (map (converter_entry e.known defs) read)
+  pub known : All (IsKnownConverter e.known defs) (converter_trees read)
+  pub distinct : IsDistinct (converted_pairs read)
+  pub conversions : (i o : ℕ) → converter_at table i o ≡ look (λ k. (k.0 == i) && (k.1 == o)) (map (converter_entry e.known defs) (converter_trees read))
 
 -- a converter of known types and of a known term becomes that of a pair that has none
 pub record Converts (c : ConverterTree) (env : TypeEnv) (old new : TermTable) : Type 0 where
@@ -78,3 +78,8 @@ IsWrongConverter c env old =
 
 abbrev pub ReadsConverter : ConverterTree → TypeEnv → TermTable → List Error → TermTable → List Error → Type 0
 ReadsConverter c env old es new es' = Notes es es' (Converts c env old new) (IsWrongConverter c env old)
+
+-- a definition is read, if it is a converter
+abbrev pub ReadsIfConverter : Definition → TypeEnv → TermTable → List Error → TermTable → List Error → Type 0
+ReadsIfConverter (converter_definition c) env old es new es' = ReadsConverter c env old es new es'
+ReadsIfConverter d env old es new es' = (es' ≡ es) × (new ≡ old)

@@ -3,7 +3,7 @@ use Rattle.std.specs.Prelude.{◌≡◌, ℕ, ◌&&◌, List, ◌++◌, map, Opt
 use Rattle.std.specs.Bool.{◌==◌}
 use Rattle.std.specs.List.{find, flat_map}
 use Rattle.std.specs.Str.{bytes_eq}
-use Rattle.isle_model.specs.lists.Syntax.{ExternTree, extern_constructor, extern_extractor, extern_const, Definition}
+use Rattle.isle_model.specs.lists.Syntax.{ExternTree, extern_constructor, extern_extractor, extern_const, Definition, extern_definition}
 use Rattle.isle_model.specs.lists.Names.{number, has_name, IsDistinct}
 use Rattle.isle_model.specs.rules.Meaning.{look}
 use Rattle.isle_model.specs.lists.Tables.{ConstructorEntry, internal_constructor, external_constructor, ExtractorEntry, internal_extractor, external_extractor}
@@ -41,7 +41,7 @@ pub record AreRightExternals (defs : List Definition) (es : List ExternalTree) :
   pub terms : All (λ t. IsDeclaredTerm defs t.term) es
   pub distinct : IsDistinct (internal_extractors defs ++ map (λ t. t.term.text) es)
 
--- the external functions of these definitions are read
+-- the external functions among the first definitions are read
 pub record ExternsRead (e : TypesRead) (defs read : List Definition) (env : TypeEnv) (table : TermTable) : Type 0 where
   pub stand : Stand e defs (decl_names defs ++ flat_map function_of read) (function_after e defs (constructor_trees read)) (external_after e defs (external_trees read)) env table
   pub constructors : AreRightConstructors defs (constructor_trees read)
@@ -56,3 +56,8 @@ ReadsExtern (extern_constructor term function at) old table es new table' es' =
 ReadsExtern (extern_extractor term function at infallible) old table es new table' es' =
     Interns function.text old new × ReadsKind lacks_extractor (taken_by_this (external_extractor (number (names_of old) function.text) infallible at)) term new table es table' es'
 ReadsExtern (extern_const name ty at) old table es new table' es' = (es' ≡ es) × (new ≡ old) × (table' ≡ table)
+
+-- a definition is read, if it is external
+abbrev pub ReadsIfExtern : Definition → TypeEnv → TermTable → List Error → TypeEnv → TermTable → List Error → Type 0
+ReadsIfExtern (extern_definition x) old table es new table' es' = ReadsExtern x old table es new table' es'
+ReadsIfExtern d old table es new table' es' = (es' ≡ es) × (new ≡ old) × (table' ≡ table)

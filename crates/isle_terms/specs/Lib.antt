@@ -12,4 +12,3 @@ pub mod ExternStages
 pub mod Templating
 pub mod Recursion
 pub mod Whole
-pub mod ByKind

@@ -2,12 +2,12 @@
 -- and those that types make.
 use Rattle.std.specs.Prelude.{◌≡◌, ◌≢◌, ℕ, ◌<◌, ◌&&◌, true, nat_eq, if◌then◌else◌, List, [], ◌∷◌, ◌++◌, ◌⊎◌, length, map, Option, None, Some, All, slice_get}
 use Rattle.std.specs.List.{enumerate_from, filter_map, AllByRecursion}
-use Rattle.isle_model.specs.lists.Syntax.{Position, DeclTree, Definition}
+use Rattle.isle_model.specs.lists.Syntax.{Position, DeclTree, Definition, declaration}
 use Rattle.isle_model.specs.lists.Names.{number, with_names, IsDistinct}
 use Rattle.isle_model.specs.lists.Tables.{FieldEntries, ConstructorEntry, ExtractorEntry, TermKindEntry, declared_term, TermEntry}
 use Rattle.isle_model.specs.rules.Values.{field_types}
 use Rattle.isle_model.specs.lists.KnownTypes.{KnownTypes, known_type}
-use Rattle.isle_model.specs.lists.TermTable.{decl_flags, term_names_met, HasKnownArguments, HasKnownResult, IsNotBothMultiAndPartial, IsValidTerms}
+use Rattle.isle_model.specs.lists.TermTable.{decl_trees, decl_names, decl_flags, term_names_met, HasKnownArguments, HasKnownResult, IsNotBothMultiAndPartial, IsValidTerms}
 use Rattle.isle_model.specs.claims.Environments.{TypesRead, IsLeftByRefusal}
 use Rattle.isle_base.specs.declared.syntax.Error.{Error}
 use Rattle.isle_types.specs.declared.type_env.TypeEnv.{TypeEnv}
@@ -70,10 +70,10 @@ pub record AreRightDeclarations (k : KnownTypes) (ds : List DeclTree) : Type 0 w
   pub results : All (HasKnownResult k) ds
   pub marks : All IsNotBothMultiAndPartial ds
 
--- these declarations are read
-pub record Declaring (e : TypesRead) (defs : List Definition) (read : List DeclTree) (env : TypeEnv) (table : TermTable) : Type 0 where
-  pub has : HoldsTerms e (map (λ d. d.term.text) read) (map (λ d. d.term.text) read) (map (declared_alone e defs) read) env table
-  pub right : AreRightDeclarations e.known read
+-- the declarations among the first definitions are read
+pub record Declaring (e : TypesRead) (defs read : List Definition) (env : TypeEnv) (table : TermTable) : Type 0 where
+  pub has : HoldsTerms e (decl_names read) (decl_names read) (map (declared_alone e defs) (decl_trees read)) env table
+  pub right : AreRightDeclarations e.known (decl_trees read)
 
 -- the names of the terms that types make, by the numbers of these names
 abbrev pub texts_at : TypesRead → List ℕ → List (List ℕ)
@@ -95,6 +95,11 @@ IsWrongDeclaration d old new table =
 pub record ReadsDeclaration (d : DeclTree) (old : TypeEnv) (table : TermTable) (es : List Error) (new : TypeEnv) (table' : TermTable) (es' : List Error) : Type 0 where
   pub interns : Interns d.term.text old new
   pub reads : Notes es es' (Declares d old new table table') (IsWrongDeclaration d old new table)
+
+-- a definition is read, if it is a declaration
+abbrev pub ReadsIfDeclared : Definition → TypeEnv → TermTable → List Error → TypeEnv → TermTable → List Error → Type 0
+ReadsIfDeclared (declaration d) old table es new table' es' = ReadsDeclaration d old table es new table' es'
+ReadsIfDeclared d old table es new table' es' = (es' ≡ es) × (new ≡ old) × (table' ≡ table)
 
 -- a term that a type makes, by the number of its name
 abbrev pub made_entry : ℕ → ℕ → FieldEntries → Position → TermKindEntry → ℕ → TermEntry

@@ -2,10 +2,10 @@
 -- is read then.
 use Rattle.std.specs.Prelude.{◌≡◌, ℕ, zero, suc, Bool, true, false, List, [], ◌∷◌, ◌++◌, ◌⊎◌, map, Option, None, Some, All, slice_get}
 use Rattle.std.specs.List.{flat_map}
-use Rattle.isle_model.specs.lists.Syntax.{RuleTree, Definition}
+use Rattle.isle_model.specs.lists.Syntax.{RuleTree, Definition, rule_definition}
 use Rattle.isle_model.specs.lists.Names.{with_names, IsDistinct}
 use Rattle.isle_model.specs.lists.Tables.{ConstructorEntry, ExtractorEntry, TermKindEntry, variant_term, struct_term, declared_term, TermEntry}
-use Rattle.isle_model.specs.lists.TermTable.{decl_trees, decl_names, term_names, term_names_met, terms_made, HasDeclaredRoot}
+use Rattle.isle_model.specs.lists.TermTable.{decl_trees, decl_names, rule_trees, term_names, term_names_met, terms_made, HasDeclaredRoot}
 use Rattle.isle_model.specs.claims.Environments.{TypesRead}
 use Rattle.isle_base.specs.declared.syntax.Error.{Error}
 use Rattle.isle_types.specs.declared.type_env.TypeEnv.{TypeEnv}
@@ -44,10 +44,10 @@ pub record Changes (g : TermEntry → TermEntry) (id : ℕ) (old new : TermTable
   pub term_map : new.term_map ≡ old.term_map
   pub converters : new.converters ≡ old.converters
 
--- the terms of these rules are read
-pub record RootsRead (e : TypesRead) (defs : List Definition) (read : List RuleTree) (env : TypeEnv) (table : TermTable) : Type 0 where
-  pub stand : Stand e defs (decl_names defs) (constructor_after read) (λ x. None) env table
-  pub roots : All (HasDeclaredRoot defs) read
+-- the terms of the rules among the first definitions are read
+pub record RootsRead (e : TypesRead) (defs read : List Definition) (env : TypeEnv) (table : TermTable) : Type 0 where
+  pub stand : Stand e defs (decl_names defs) (constructor_after (rule_trees read)) (λ x. None) env table
+  pub roots : All (HasDeclaredRoot defs) (rule_trees read)
   pub converters : HasNoConverter table
 
 -- a rule is of a declared term, which is made by rules now
@@ -70,3 +70,8 @@ pub record IsOfMade (r : RuleTree) (env : TypeEnv) (old : TermTable) : Type 0 wh
 -- a rule is of a declared term, or of no term or of one that a type makes
 abbrev pub ReadsRuleRoot : RuleTree → TypeEnv → TermTable → List Error → TermTable → List Error → Type 0
 ReadsRuleRoot r env old es new es' = Notes es es' (IsOfDeclared r env old new) ((root_term_id env old r ≡ None) ⊎ IsOfMade r env old)
+
+-- a definition is read, if it is a rule
+abbrev pub ReadsIfRule : Definition → TypeEnv → TermTable → List Error → TermTable → List Error → Type 0
+ReadsIfRule (rule_definition r) env old es new es' = ReadsRuleRoot r env old es new es'
+ReadsIfRule d env old es new es' = (es' ≡ es) × (new ≡ old)

@@ -2,10 +2,10 @@
 use Rattle.std.specs.Prelude.{◌≡◌, ◌≢◌, ℕ, ◌<◌, ◌&&◌, not, Bool, true, false, List, [], ◌∷◌, ◌++◌, ◌⊎◌, length, map, Option, None, Some, is_some, unwrap_or, option_map, All, Contains, IsTrue, slice_get, Vec}
 use Rattle.std.specs.List.Sorted.{IsPermutation}
 use Rattle.std.specs.declared.alloc.Global.{Global}
-use Rattle.isle_model.specs.lists.Syntax.{Name, ExtractorTree, Definition}
+use Rattle.isle_model.specs.lists.Syntax.{Name, ExtractorTree, Definition, extractor_definition}
 use Rattle.isle_model.specs.lists.Names.{IsDistinct}
 use Rattle.isle_model.specs.lists.Tables.{internal_extractor, TermKindEntry, variant_term, struct_term, declared_term, TermEntry}
-use Rattle.isle_model.specs.lists.TermTable.{decl_names, rule_trees, extractor_template, terms_in, arguments_in, term_named, HasDeclaredRoot, IsDeclaredTerm, IsOfPlainTerm, NamesKnownTerms, HoldsNoMacroArg, UsesDeclaredArguments}
+use Rattle.isle_model.specs.lists.TermTable.{decl_names, rule_trees, extractor_trees, extractor_template, terms_in, arguments_in, term_named, HasDeclaredRoot, IsDeclaredTerm, IsOfPlainTerm, NamesKnownTerms, HoldsNoMacroArg, UsesDeclaredArguments}
 use Rattle.isle_model.specs.claims.Environments.{TypesRead}
 use Rattle.isle_base.specs.declared.syntax.Error.{Error}
 use Rattle.isle_types.specs.declared.ids.TermId.{TermId}
@@ -62,12 +62,12 @@ pub record AreRightExtractors (e : TypesRead) (defs : List Definition) (es : Lis
   pub arguments : All (UsesDeclaredArguments defs) es
   pub distinct : IsDistinct (map (λ x. x.term.text) es)
 
--- these internal extractors are read, and name these terms
-pub record TemplatesRead (e : TypesRead) (defs : List Definition) (read : List ExtractorTree) (callees : List (Vec TermId Global)) (env : TypeEnv) (table : TermTable) : Type 0 where
-  pub stand : Stand e defs (decl_names defs) (constructor_after (rule_trees defs)) (template_after read) env table
+-- the internal extractors among the first definitions are read, and name these terms
+pub record TemplatesRead (e : TypesRead) (defs read : List Definition) (callees : List (Vec TermId Global)) (env : TypeEnv) (table : TermTable) : Type 0 where
+  pub stand : Stand e defs (decl_names defs) (constructor_after (rule_trees defs)) (template_after (extractor_trees read)) env table
   pub roots : All (HasDeclaredRoot defs) (rule_trees defs)
-  pub right : AreRightExtractors e defs read
-  pub calls : CallsAreOf e defs read callees
+  pub right : AreRightExtractors e defs (extractor_trees read)
+  pub calls : CallsAreOf e defs (extractor_trees read) callees
   pub converters : HasNoConverter table
 
 -- whether a term can have an internal extractor: a declared one that nothing takes apart yet, and that isn't multi
@@ -141,3 +141,8 @@ pub record IsWrongOfTerm (x : ExtractorTree) (env : TypeEnv) (old : TermTable) :
 abbrev pub ReadsExtractor : ExtractorTree → TypeEnv → TermTable → List (Vec TermId Global) → List Error → TermTable → List (Vec TermId Global) → List Error → Bool → Type 0
 ReadsExtractor x env old callees es new callees' es' goes_on =
     Notes es es' ((goes_on ≡ true) × IsExtractor x env old new callees callees') ((term_of_name env old x.term ≡ None) ⊎ IsWrongOfTerm x env old)
+
+-- a definition is read, if it is an internal extractor
+abbrev pub ReadsIfTemplate : Definition → TypeEnv → TermTable → List (Vec TermId Global) → List Error → TermTable → List (Vec TermId Global) → List Error → Bool → Type 0
+ReadsIfTemplate (extractor_definition x) env old callees es new callees' es' goes_on = ReadsExtractor x env old callees es new callees' es' goes_on
+ReadsIfTemplate d env old callees es new callees' es' goes_on = (es' ≡ es) × (new ≡ old) × (callees' ≡ callees) × (goes_on ≡ true)

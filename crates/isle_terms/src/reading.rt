@@ -10,7 +10,6 @@ ghost use Rattle.isle_terms.specs.TermTables.{term_at};
 ghost use Rattle.isle_terms.specs.TermViews.{term_view, term_views};
 ghost use Rattle.isle_terms.specs.Reading.{IsWithin, Interns, MayIntern, IsKnownInEnv, HaveTypes, IsFreeOrReported, AddsOrReports, internal_entry, signature_entry, term_of_name};
 
-mod by_kind;
 mod converters;
 mod declarations;
 mod externs;

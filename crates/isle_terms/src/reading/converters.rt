@@ -1,20 +1,16 @@
 //! How converters are read: each is the term that a conversion from one type to another calls.
 
-ghost use Rattle.std.specs.Prelude.{List, [], OnOk};
-ghost use Rattle.isle_model.specs.lists.Syntax.{Definition};
-ghost use Rattle.isle_model.specs.lists.TermTable.{converter_trees};
+ghost use Rattle.std.specs.Prelude.{[], OnOk};
 ghost use Rattle.isle_model.specs.claims.Environments.{TypesRead, AreReadable};
-ghost use Rattle.isle_base.specs.SyntaxViews.{converter_view};
-ghost use Rattle.isle_terms.specs.ByKind.{AreByKind};
+ghost use Rattle.isle_base.specs.SyntaxViews.{converter_view, definition_view, definition_views};
 ghost use Rattle.isle_base.specs.Noting.{NotesMore};
 ghost use Rattle.isle_terms.specs.Reading.{IsWithin};
 ghost use Rattle.isle_terms.specs.Signing.{ReadsTerms};
-ghost use Rattle.isle_terms.specs.Converting.{ConvertersRead, ReadsConverter};
+ghost use Rattle.isle_terms.specs.Converting.{ConvertersRead, ReadsConverter, ReadsIfConverter};
 
-use crate::reading::by_kind::DefsByKind;
 use crate::reading::report_name;
 use crate::term_table::TermTable;
-use isle_base::syntax::{Converter, Error};
+use isle_base::syntax::{Converter, Def, Error};
 use isle_types::{TypeEnv, report};
 use std::alloc::AllocError;
 
@@ -24,18 +20,34 @@ impl TermTable {
         &mut self,
         tyenv: &TypeEnv,
         errors: &mut Vec<Error>,
-        defs: &DefsByKind<'_>,
+        defs: &[Def],
     ) -> Result<(), AllocError>
-        ghost of: { TypesRead × List Definition }
-        requires readable { AreReadable of.0 }
-        requires all { AreByKind of.1 defs.now }
-        requires start { ReadsTerms of.0 of.1 (ConvertersRead of.0 of.1 []) tyenv.now self.old errors.old.items }
-        ensures { OnOk result (ReadsTerms of.0 of.1 (ConvertersRead of.0 of.1 (converter_trees of.1)) tyenv.now self.new errors.new.items) }
+        ghost read: { TypesRead }
+        requires readable { AreReadable read }
+        requires start { ReadsTerms read (definition_views defs.now) (ConvertersRead read (definition_views defs.now) []) tyenv.now self.old errors.old.items }
+        ensures { OnOk result (ReadsTerms read (definition_views defs.now) (ConvertersRead read (definition_views defs.now) (definition_views defs.now)) tyenv.now self.new errors.new.items) }
     {
-        for converter in &defs.converters {
-            self.read_converter(tyenv, errors, converter)?;
+        for def in defs {
+            self.read_if_converter(tyenv, errors, def)?;
         }
         Ok(())
+    }
+
+    // Reads a definition, if it is a converter.
+    fn read_if_converter(
+        &mut self,
+        tyenv: &TypeEnv,
+        errors: &mut Vec<Error>,
+        def: &Def,
+    ) -> Result<(), AllocError>
+        requires { IsWithin self.old }
+        ensures within { OnOk result (IsWithin self.new) }
+        ensures reads { OnOk result (ReadsIfConverter (definition_view def.now) tyenv.now self.old errors.old.items self.new errors.new.items) }
+    {
+        let Def::Converter(converter) = def else {
+            return Ok(());
+        };
+        self.read_converter(tyenv, errors, converter)
     }
 
     // Reads a converter: the first one of a pair of types.

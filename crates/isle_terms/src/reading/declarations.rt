@@ -1,22 +1,18 @@
 //! How declared terms are read: each declaration becomes the next term.
 
-ghost use Rattle.std.specs.Prelude.{◌&&◌, List, [], OnOk};
-ghost use Rattle.isle_model.specs.lists.Syntax.{Definition};
-ghost use Rattle.isle_model.specs.lists.TermTable.{decl_trees};
+ghost use Rattle.std.specs.Prelude.{◌≡◌, ◌&&◌, [], OnOk};
 ghost use Rattle.isle_model.specs.claims.Environments.{TypesRead, AreReadable, IsLeftByRefusal};
-ghost use Rattle.isle_base.specs.SyntaxViews.{decl_view};
-ghost use Rattle.isle_terms.specs.ByKind.{AreByKind};
+ghost use Rattle.isle_base.specs.SyntaxViews.{decl_view, definition_view, definition_views};
 ghost use Rattle.isle_types.specs.EnvViews.{environment_view};
 ghost use Rattle.isle_types.specs.Envs.{IsInterned};
 ghost use Rattle.isle_terms.specs.Reading.{MayIntern};
 ghost use Rattle.isle_types.specs.VariantReading.{ReportsIf};
 ghost use Rattle.isle_terms.specs.Reading.{IsWithin};
-ghost use Rattle.isle_terms.specs.Signing.{ReadsTerms, Declaring, ReadsDeclaration};
+ghost use Rattle.isle_terms.specs.Signing.{ReadsTerms, Declaring, ReadsDeclaration, ReadsIfDeclared};
 
-use crate::reading::by_kind::DefsByKind;
 use crate::reading::meet_name;
 use crate::term_table::TermTable;
-use isle_base::syntax::{Decl, Error};
+use isle_base::syntax::{Decl, Def, Error};
 use isle_types::{TypeEnv, report};
 use std::alloc::AllocError;
 
@@ -26,19 +22,37 @@ impl TermTable {
         &mut self,
         tyenv: &mut TypeEnv,
         errors: &mut Vec<Error>,
-        defs: &DefsByKind<'_>,
+        defs: &[Def],
     ) -> Result<(), AllocError>
-        ghost of: { TypesRead × List Definition }
-        requires readable { AreReadable of.0 }
-        requires all { AreByKind of.1 defs.now }
-        requires start { ReadsTerms of.0 of.1 (Declaring of.0 of.1 []) tyenv.old self.old errors.old.items }
-        ensures left { IsLeftByRefusal of.0 (environment_view tyenv.new) }
-        ensures reads { OnOk result (ReadsTerms of.0 of.1 (Declaring of.0 of.1 (decl_trees of.1)) tyenv.new self.new errors.new.items) }
+        ghost read: { TypesRead }
+        requires readable { AreReadable read }
+        requires start { ReadsTerms read (definition_views defs.now) (Declaring read (definition_views defs.now) []) tyenv.old self.old errors.old.items }
+        ensures left { IsLeftByRefusal read (environment_view tyenv.new) }
+        ensures reads { OnOk result (ReadsTerms read (definition_views defs.now) (Declaring read (definition_views defs.now) (definition_views defs.now)) tyenv.new self.new errors.new.items) }
     {
-        for decl in &defs.declarations {
-            self.read_declaration(tyenv, errors, decl)?;
+        for def in defs {
+            self.read_if_declared(tyenv, errors, def)?;
         }
         Ok(())
+    }
+
+    // Reads a definition, if it is a declaration.
+    fn read_if_declared(
+        &mut self,
+        tyenv: &mut TypeEnv,
+        errors: &mut Vec<Error>,
+        def: &Def,
+    ) -> Result<(), AllocError>
+        requires inverse { IsInterned tyenv.old }
+        requires within { IsWithin self.old }
+        ensures interns { MayIntern tyenv.old tyenv.new }
+        ensures within { OnOk result (IsWithin self.new) }
+        ensures reads { OnOk result (ReadsIfDeclared (definition_view def.now) tyenv.old self.old errors.old.items tyenv.new self.new errors.new.items) }
+    {
+        let Def::Decl(decl) = def else {
+            return Ok(());
+        };
+        self.read_declaration(tyenv, errors, decl)
     }
 
     // Reads a declaration. A later one of the same name takes the name, so that a third one is told the

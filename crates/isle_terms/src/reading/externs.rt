@@ -1,27 +1,24 @@
 //! How external constructors and extractors are read: functions from outside that make values of declared
 //! terms or take them apart.
 
-ghost use Rattle.std.specs.Prelude.{◌≡◌, List, [], not, IfOk, OnOk};
-ghost use Rattle.isle_model.specs.lists.Syntax.{Definition};
+ghost use Rattle.std.specs.Prelude.{◌≡◌, [], not, IfOk, OnOk};
 ghost use Rattle.isle_model.specs.claims.Environments.{TypesRead, AreReadable, IsLeftByRefusal};
 ghost use Rattle.isle_model.specs.lists.Tables.{external_constructor, external_extractor};
-ghost use Rattle.isle_base.specs.SyntaxViews.{extern_view, name_view, position};
-ghost use Rattle.isle_terms.specs.ByKind.{AreByKind};
+ghost use Rattle.isle_base.specs.SyntaxViews.{definition_view, definition_views, extern_view, name_view, position};
 ghost use Rattle.isle_types.specs.Envs.{IsInterned};
 ghost use Rattle.isle_types.specs.EnvViews.{environment_view};
 ghost use Rattle.isle_base.specs.Noting.{NotesMore};
 ghost use Rattle.isle_types.specs.VariantReading.{ReportsIf};
 ghost use Rattle.isle_terms.specs.Externing.{lacks_constructor, lacks_extractor, made_by_this, taken_by_this, ReadsKind};
-ghost use Rattle.isle_terms.specs.ExternStages.{ExternsRead, ReadsExtern};
+ghost use Rattle.isle_terms.specs.ExternStages.{ExternsRead, ReadsExtern, ReadsIfExtern};
 ghost use Rattle.isle_terms.specs.Reading.{IsWithin, MayIntern};
 ghost use Rattle.isle_terms.specs.Signing.{ReadsTerms};
 ghost use Rattle.isle_terms.specs.TermViews.{term_view};
 
-use crate::reading::by_kind::DefsByKind;
 use crate::reading::{meet_name, report_name};
 use crate::term::{ConstructorKind, ExtractorKind, Term, TermKind};
 use crate::term_table::TermTable;
-use isle_base::syntax::{Error, Extern, Ident, Pos};
+use isle_base::syntax::{Def, Error, Extern, Ident, Pos};
 use isle_types::{Sym, TypeEnv, report};
 use std::alloc::AllocError;
 
@@ -31,19 +28,37 @@ impl TermTable {
         &mut self,
         tyenv: &mut TypeEnv,
         errors: &mut Vec<Error>,
-        defs: &DefsByKind<'_>,
+        defs: &[Def],
     ) -> Result<(), AllocError>
-        ghost of: { TypesRead × List Definition }
-        requires readable { AreReadable of.0 }
-        requires all { AreByKind of.1 defs.now }
-        requires start { ReadsTerms of.0 of.1 (ExternsRead of.0 of.1 []) tyenv.old self.old errors.old.items }
-        ensures left { IsLeftByRefusal of.0 (environment_view tyenv.new) }
-        ensures reads { OnOk result (ReadsTerms of.0 of.1 (ExternsRead of.0 of.1 of.1) tyenv.new self.new errors.new.items) }
+        ghost read: { TypesRead }
+        requires readable { AreReadable read }
+        requires start { ReadsTerms read (definition_views defs.now) (ExternsRead read (definition_views defs.now) []) tyenv.old self.old errors.old.items }
+        ensures left { IsLeftByRefusal read (environment_view tyenv.new) }
+        ensures reads { OnOk result (ReadsTerms read (definition_views defs.now) (ExternsRead read (definition_views defs.now) (definition_views defs.now)) tyenv.new self.new errors.new.items) }
     {
-        for extern_def in &defs.externs {
-            self.read_extern(tyenv, errors, extern_def)?;
+        for def in defs {
+            self.read_if_extern(tyenv, errors, def)?;
         }
         Ok(())
+    }
+
+    // Reads a definition, if it is an external constructor or extractor.
+    fn read_if_extern(
+        &mut self,
+        tyenv: &mut TypeEnv,
+        errors: &mut Vec<Error>,
+        def: &Def,
+    ) -> Result<(), AllocError>
+        requires inverse { IsInterned tyenv.old }
+        requires within { IsWithin self.old }
+        ensures interns { MayIntern tyenv.old tyenv.new }
+        ensures within { OnOk result (IsWithin self.new) }
+        ensures reads { OnOk result (ReadsIfExtern (definition_view def.now) tyenv.old self.old errors.old.items tyenv.new self.new errors.new.items) }
+    {
+        let Def::Extern(extern_def) = def else {
+            return Ok(());
+        };
+        self.read_extern(tyenv, errors, extern_def)
     }
 
     // Reads an external constructor or extractor. Constants are read with the types.

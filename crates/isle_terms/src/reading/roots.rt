@@ -1,21 +1,17 @@
 //! How the terms that rules are of are read: such a term is made by its rules.
 
-ghost use Rattle.std.specs.Prelude.{◌≡◌, List, [], OnOk, is_none, true, false};
-ghost use Rattle.isle_model.specs.lists.Syntax.{Definition};
-ghost use Rattle.isle_model.specs.lists.TermTable.{rule_trees};
+ghost use Rattle.std.specs.Prelude.{◌≡◌, [], OnOk, is_none, true, false};
 ghost use Rattle.isle_model.specs.claims.Environments.{TypesRead, AreReadable};
-ghost use Rattle.isle_base.specs.SyntaxViews.{rule_view};
-ghost use Rattle.isle_terms.specs.ByKind.{AreByKind};
+ghost use Rattle.isle_base.specs.SyntaxViews.{definition_view, definition_views, rule_view};
 ghost use Rattle.isle_terms.specs.Reading.{IsWithin};
 ghost use Rattle.isle_terms.specs.Signing.{ReadsTerms};
-ghost use Rattle.isle_terms.specs.Standing.{is_declared_kind, RootsRead, ReadsRuleRoot};
+ghost use Rattle.isle_terms.specs.Standing.{is_declared_kind, RootsRead, ReadsRuleRoot, ReadsIfRule};
 ghost use Rattle.isle_terms.specs.TermViews.{term_view};
 
-use crate::reading::by_kind::DefsByKind;
 use crate::reading::set_internal;
 use crate::term::{Term, TermKind};
 use crate::term_table::TermTable;
-use isle_base::syntax::{Error, Rule};
+use isle_base::syntax::{Def, Error, Rule};
 use isle_types::{TypeEnv, report};
 use std::alloc::AllocError;
 
@@ -25,18 +21,34 @@ impl TermTable {
         &mut self,
         tyenv: &TypeEnv,
         errors: &mut Vec<Error>,
-        defs: &DefsByKind<'_>,
+        defs: &[Def],
     ) -> Result<(), AllocError>
-        ghost of: { TypesRead × List Definition }
-        requires readable { AreReadable of.0 }
-        requires all { AreByKind of.1 defs.now }
-        requires start { ReadsTerms of.0 of.1 (RootsRead of.0 of.1 []) tyenv.now self.old errors.old.items }
-        ensures { OnOk result (ReadsTerms of.0 of.1 (RootsRead of.0 of.1 (rule_trees of.1)) tyenv.now self.new errors.new.items) }
+        ghost read: { TypesRead }
+        requires readable { AreReadable read }
+        requires start { ReadsTerms read (definition_views defs.now) (RootsRead read (definition_views defs.now) []) tyenv.now self.old errors.old.items }
+        ensures { OnOk result (ReadsTerms read (definition_views defs.now) (RootsRead read (definition_views defs.now) (definition_views defs.now)) tyenv.now self.new errors.new.items) }
     {
-        for rule in &defs.rules {
-            self.read_root(tyenv, errors, rule)?;
+        for def in defs {
+            self.read_if_rule(tyenv, errors, def)?;
         }
         Ok(())
+    }
+
+    // Reads which term a definition is a rule of, if it is one.
+    fn read_if_rule(
+        &mut self,
+        tyenv: &TypeEnv,
+        errors: &mut Vec<Error>,
+        def: &Def,
+    ) -> Result<(), AllocError>
+        requires { IsWithin self.old }
+        ensures within { OnOk result (IsWithin self.new) }
+        ensures reads { OnOk result (ReadsIfRule (definition_view def.now) tyenv.now self.old errors.old.items self.new errors.new.items) }
+    {
+        let Def::Rule(rule) = def else {
+            return Ok(());
+        };
+        self.read_root(tyenv, errors, rule)
     }
 
     // Reads which term a rule is of: a declared one.

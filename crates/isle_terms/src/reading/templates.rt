@@ -1,11 +1,9 @@
 //! How internal extractors are read: the pattern of each becomes the template of its term.
 
-ghost use Rattle.std.specs.Prelude.{◌≡◌, ◌++◌, ◌<◌, ◌≤◌, List, [], None, true, not, All, Contains, IfOk, OnOk, MatchOption, length, map};
+ghost use Rattle.std.specs.Prelude.{◌≡◌, ◌++◌, ◌<◌, ◌≤◌, [], None, true, not, All, Contains, IfOk, OnOk, MatchOption, length, map};
 ghost use Rattle.isle_model.specs.claims.Environments.{TypesRead, AreReadable};
-ghost use Rattle.isle_model.specs.lists.Syntax.{Definition};
-ghost use Rattle.isle_model.specs.lists.TermTable.{arguments_in, extractor_template, extractor_trees, rule_trees, terms_in};
-ghost use Rattle.isle_base.specs.SyntaxViews.{extractor_view, name_view, pattern_view};
-ghost use Rattle.isle_terms.specs.ByKind.{AreByKind};
+ghost use Rattle.isle_model.specs.lists.TermTable.{arguments_in, extractor_template, terms_in};
+ghost use Rattle.isle_base.specs.SyntaxViews.{definition_view, definition_views, extractor_view, name_view, pattern_view};
 ghost use Rattle.isle_base.specs.Noting.{NotesMore};
 ghost use Rattle.isle_types.specs.VariantReading.{ReportsIf};
 ghost use Rattle.isle_terms.specs.Reading.{IsWithin, term_of_name};
@@ -13,13 +11,12 @@ ghost use Rattle.isle_terms.specs.Signing.{Notes, ReadsTerms};
 ghost use Rattle.isle_terms.specs.Recursion.{ExtractorsRead};
 ghost use Rattle.isle_terms.specs.Standing.{RootsRead};
 ghost use Rattle.isle_terms.specs.TermViews.{term_view};
-ghost use Rattle.isle_terms.specs.Templating.{AddsFound, AreArguments, AreCallees, AreFound, CantTakeTemplate, HaveUnknown, IsTemplate, IsWrongTemplate, NameNothing, ReadsExtractor, SetsCallees, TakesTemplate, TemplatesRead, may_have_template};
+ghost use Rattle.isle_terms.specs.Templating.{AddsFound, AreArguments, AreCallees, AreFound, CantTakeTemplate, HaveUnknown, IsTemplate, IsWrongTemplate, NameNothing, ReadsIfTemplate, ReadsExtractor, SetsCallees, TakesTemplate, TemplatesRead, may_have_template};
 
-use crate::reading::by_kind::DefsByKind;
 use crate::reading::externs::place_of;
 use crate::term::{ExtractorKind, Term, TermFlags, TermKind};
 use crate::term_table::TermTable;
-use isle_base::syntax::{Error, Extractor, Ident, Pattern, Pos};
+use isle_base::syntax::{Def, Error, Extractor, Ident, Pattern, Pos};
 use isle_types::{TermId, TypeEnv, report};
 use std::alloc::{AllocError, Global};
 
@@ -30,13 +27,12 @@ impl TermTable {
         &mut self,
         tyenv: &TypeEnv,
         errors: &mut Vec<Error>,
-        defs: &DefsByKind<'_>,
+        defs: &[Def],
     ) -> Result<(), AllocError>
-        ghost of: { TypesRead × List Definition }
-        requires readable { AreReadable of.0 }
-        requires all { AreByKind of.1 defs.now }
-        requires start { ReadsTerms of.0 of.1 (RootsRead of.0 of.1 (rule_trees of.1)) tyenv.now self.old errors.old.items }
-        ensures { OnOk result (ReadsTerms of.0 of.1 (ExtractorsRead of.0 of.1) tyenv.now self.new errors.new.items) }
+        ghost read: { TypesRead }
+        requires readable { AreReadable read }
+        requires start { ReadsTerms read (definition_views defs.now) (RootsRead read (definition_views defs.now) (definition_views defs.now)) tyenv.now self.old errors.old.items }
+        ensures { OnOk result (ReadsTerms read (definition_views defs.now) (ExtractorsRead read (definition_views defs.now)) tyenv.now self.new errors.new.items) }
     {
         let mut callees = no_callees(*errors.allocator(), self.terms.len())?;
         if !self.read_templates(tyenv, errors, &mut callees, defs)? {
@@ -52,23 +48,42 @@ impl TermTable {
         tyenv: &TypeEnv,
         errors: &mut Vec<Error>,
         callees: &mut Vec<Vec<TermId>>,
-        defs: &DefsByKind<'_>,
+        defs: &[Def],
     ) -> Result<bool, AllocError>
-        ghost of: { TypesRead × List Definition }
-        requires readable { AreReadable of.0 }
-        requires all { AreByKind of.1 defs.now }
+        ghost read: { TypesRead }
+        requires readable { AreReadable read }
         requires callees { AreCallees self.old callees.old.items }
-        requires start { ReadsTerms of.0 of.1 (TemplatesRead of.0 of.1 [] callees.old.items) tyenv.now self.old errors.old.items }
+        requires start { ReadsTerms read (definition_views defs.now) (TemplatesRead read (definition_views defs.now) [] callees.old.items) tyenv.now self.old errors.old.items }
         ensures callees { OnOk result (AreCallees self.new callees.new.items) }
-        ensures reads { IfOk result (λ b. ReadsTerms of.0 of.1
-            (λ env table. (b ≡ true) × TemplatesRead of.0 of.1 (extractor_trees of.1) callees.new.items env table) tyenv.now self.new errors.new.items) }
+        ensures reads { IfOk result (λ b. ReadsTerms read (definition_views defs.now)
+            (λ env table. (b ≡ true) × TemplatesRead read (definition_views defs.now) (definition_views defs.now) callees.new.items env table) tyenv.now self.new errors.new.items) }
     {
-        for extractor in &defs.extractors {
-            if !self.read_template(tyenv, errors, callees, extractor)? {
+        for def in defs {
+            if !self.read_if_template(tyenv, errors, callees, def)? {
                 return Ok(false);
             }
         }
         Ok(true)
+    }
+
+    // Reads a definition, if it is an internal extractor.
+    fn read_if_template(
+        &mut self,
+        tyenv: &TypeEnv,
+        errors: &mut Vec<Error>,
+        callees: &mut Vec<Vec<TermId>>,
+        def: &Def,
+    ) -> Result<bool, AllocError>
+        requires within { IsWithin self.old }
+        requires callees { AreCallees self.old callees.old.items }
+        ensures within { OnOk result (IsWithin self.new) }
+        ensures callees { OnOk result (AreCallees self.new callees.new.items) }
+        ensures reads { IfOk result (λ b. ReadsIfTemplate (definition_view def.now) tyenv.now self.old callees.old.items errors.old.items self.new callees.new.items errors.new.items b) }
+    {
+        let Def::Extractor(extractor) = def else {
+            return Ok(true);
+        };
+        self.read_template(tyenv, errors, callees, extractor)
     }
 
     // Reads an internal extractor.

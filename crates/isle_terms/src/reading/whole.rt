@@ -1,23 +1,20 @@
 //! How the whole term table is read, group by group. Each group is read only where nothing is wrong so far.
 
-ghost use Rattle.std.specs.Prelude.{◌≡◌, ℕ, None, List, [], IfOk, OnErr, OnOk};
+ghost use Rattle.std.specs.Prelude.{◌≡◌, ℕ, None, [], IfOk, OnErr, OnOk};
 ghost use Rattle.isle_model.specs.claims.Environments.{TypesRead, AreReadable, AreTermsOf, IsLeftByRefusal, IsReadAs};
-ghost use Rattle.isle_model.specs.lists.Syntax.{Definition};
 ghost use Rattle.isle_model.specs.lists.TermTable.{IsValidTerms};
 ghost use Rattle.isle_model.specs.claims.Refusals.{RefusesTerms};
 ghost use Rattle.isle_base.specs.Answers.{Answers, NoLimit, OnErrors};
 ghost use Rattle.isle_base.specs.ErrorViews.{error_views};
 ghost use Rattle.isle_base.specs.SyntaxViews.{definition_views};
 ghost use Rattle.isle_types.specs.EnvViews.{environment_view};
-ghost use Rattle.isle_terms.specs.ByKind.{AreByKind};
 ghost use Rattle.isle_terms.specs.Recursion.{ExtractorsRead};
 ghost use Rattle.isle_terms.specs.Signing.{Declaring, ReadsTerms};
 ghost use Rattle.isle_terms.specs.Stages.{HasNoConverter};
 ghost use Rattle.isle_terms.specs.Standing.{RootsRead};
 ghost use Rattle.isle_terms.specs.TermTables.{term_at};
-ghost use Rattle.isle_terms.specs.Whole.{shown_by, AllRead};
+ghost use Rattle.isle_terms.specs.Whole.{shown_by};
 
-use crate::reading::by_kind::DefsByKind;
 use crate::term_table::TermTable;
 use isle_base::stablemapset::StableMap;
 use isle_base::syntax::{Def, Error, Fault};
@@ -46,7 +43,19 @@ impl TermTable {
     {
         let mut table = TermTable::with_room(alloc, defs.len())?;
         let mut errors = Vec::new(alloc);
-        table.read_groups(tyenv, &mut errors, defs)?;
+        table.read_signatures(tyenv, &mut errors, defs)?;
+        if !errors.is_empty() {
+            return Err(Fault::Errors(errors));
+        }
+        table.read_definitions(tyenv, &mut errors, defs)?;
+        if !errors.is_empty() {
+            return Err(Fault::Errors(errors));
+        }
+        table.read_converters(tyenv, &mut errors, defs)?;
+        if !errors.is_empty() {
+            return Err(Fault::Errors(errors));
+        }
+        table.read_externs(tyenv, &mut errors, defs)?;
         if !errors.is_empty() {
             return Err(Fault::Errors(errors));
         }
@@ -67,49 +76,18 @@ impl TermTable {
         })
     }
 
-    // Reads one group after another, up to the first in which something is wrong.
-    fn read_groups(
-        &mut self,
-        tyenv: &mut TypeEnv,
-        errors: &mut Vec<Error>,
-        defs: &[Def],
-    ) -> Result<(), AllocError>
-        ghost of: { TypesRead × List Definition }
-        requires readable { AreReadable of.0 }
-        requires list { definition_views defs.now ≡ of.1 }
-        requires start { ReadsTerms of.0 of.1 (Declaring of.0 of.1 []) tyenv.old self.old errors.old.items }
-        ensures left { IsLeftByRefusal of.0 (environment_view tyenv.new) }
-        ensures reads { OnOk result (ReadsTerms of.0 of.1 (AllRead of.0 of.1) tyenv.new self.new errors.new.items) }
-    {
-        let defs = DefsByKind::new(*errors.allocator(), defs)?;
-        self.read_signatures(tyenv, errors, &defs)?;
-        if !errors.is_empty() {
-            return Ok(());
-        }
-        self.read_definitions(tyenv, errors, &defs)?;
-        if !errors.is_empty() {
-            return Ok(());
-        }
-        self.read_converters(tyenv, errors, &defs)?;
-        if !errors.is_empty() {
-            return Ok(());
-        }
-        self.read_externs(tyenv, errors, &defs)
-    }
-
     // Reads all declarations, and adds the terms that types make.
     fn read_signatures(
         &mut self,
         tyenv: &mut TypeEnv,
         errors: &mut Vec<Error>,
-        defs: &DefsByKind<'_>,
+        defs: &[Def],
     ) -> Result<(), AllocError>
-        ghost of: { TypesRead × List Definition }
-        requires readable { AreReadable of.0 }
-        requires all { AreByKind of.1 defs.now }
-        requires start { ReadsTerms of.0 of.1 (Declaring of.0 of.1 []) tyenv.old self.old errors.old.items }
-        ensures left { IsLeftByRefusal of.0 (environment_view tyenv.new) }
-        ensures reads { OnOk result (ReadsTerms of.0 of.1 (RootsRead of.0 of.1 []) tyenv.new self.new errors.new.items) }
+        ghost read: { TypesRead }
+        requires readable { AreReadable read }
+        requires start { ReadsTerms read (definition_views defs.now) (Declaring read (definition_views defs.now) []) tyenv.old self.old errors.old.items }
+        ensures left { IsLeftByRefusal read (environment_view tyenv.new) }
+        ensures reads { OnOk result (ReadsTerms read (definition_views defs.now) (RootsRead read (definition_views defs.now) []) tyenv.new self.new errors.new.items) }
     {
         self.read_declarations(tyenv, errors, defs)?;
         self.add_made_terms(tyenv, errors)
@@ -120,13 +98,12 @@ impl TermTable {
         &mut self,
         tyenv: &TypeEnv,
         errors: &mut Vec<Error>,
-        defs: &DefsByKind<'_>,
+        defs: &[Def],
     ) -> Result<(), AllocError>
-        ghost of: { TypesRead × List Definition }
-        requires readable { AreReadable of.0 }
-        requires all { AreByKind of.1 defs.now }
-        requires start { ReadsTerms of.0 of.1 (RootsRead of.0 of.1 []) tyenv.now self.old errors.old.items }
-        ensures { OnOk result (ReadsTerms of.0 of.1 (ExtractorsRead of.0 of.1) tyenv.now self.new errors.new.items) }
+        ghost read: { TypesRead }
+        requires readable { AreReadable read }
+        requires start { ReadsTerms read (definition_views defs.now) (RootsRead read (definition_views defs.now) []) tyenv.now self.old errors.old.items }
+        ensures { OnOk result (ReadsTerms read (definition_views defs.now) (ExtractorsRead read (definition_views defs.now)) tyenv.now self.new errors.new.items) }
     {
         self.read_roots(tyenv, errors, defs)?;
         self.collect_extractor_templates(tyenv, errors, defs)

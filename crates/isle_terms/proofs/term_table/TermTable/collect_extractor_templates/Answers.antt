@@ -1,5 +1,6 @@
 use Rattle.std.proofs.Common.{length, subst}
 use Rattle.std.proofs.lemmas.Result.{on_ok_weaker}
+use Rattle.isle_base.specs.SyntaxViews.{definition_views}
 use Rattle.isle_terms.specs.Signing.{Notes}
 use Rattle.isle_terms.specs.Recursion.{ComesBack, EndsBelow}
 use Rattle.isle_terms.proofs.Recursion.{searched}
@@ -11,5 +12,5 @@ returns g c =
     let es = c.read_templates.new.errors.items in
     let es' = c.check_recursion.new.errors.items in
     on_ok_weaker c.check_recursion.result (λ n.
-    searched g.of.0 c.requires.0 g.of.1 c.read_templates.new.callees.items c.args.tyenv.now table es es' c.in_ok-read_templates.field-0
+    searched g.read c.requires.0 (definition_views c.args.defs.now) c.read_templates.new.callees.items c.args.tyenv.now table es es' c.in_ok-read_templates.field-0
     (subst (λ l. Notes es es' (EndsBelow table l (length l)) (ComesBack l)) c.deref.ensures.value n) c.in_ok-read_templates.ensures.reads) c.check_recursion.ensures

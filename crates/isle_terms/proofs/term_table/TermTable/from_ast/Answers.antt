@@ -1,25 +1,61 @@
-use Rattle.std.proofs.Common.{◌≡◌, length, refl, rules}
+use Rattle.std.proofs.Common.{◌≡◌, length, rules}
 use Rattle.isle_base.specs.SyntaxViews.{definition_views}
 use Rattle.isle_base.proofs.Noted.{name_no_limit}
-use Rattle.isle_terms.specs.Whole.{AllRead}
+use Rattle.isle_terms.specs.Converting.{ConvertersRead}
+use Rattle.isle_terms.specs.ExternStages.{ExternsRead}
+use Rattle.isle_terms.specs.Recursion.{ExtractorsRead}
 use Rattle.isle_terms.proofs.Rooting.{nothing}
-use Rattle.isle_terms.proofs.Whole.{first_declared, right_now, why_refused}
+use Rattle.isle_terms.proofs.Whole.{first_converter, first_declared, first_extern, right_now, all_read, why_refused}
 use Rattle.isle_terms.proofs.term_table.TermTable.from_ast.Goals as goal
 
-pub read_groups-requires : goal.read_groups-requires
-read_groups-requires g c = (
+pub read_signatures-requires : goal.read_signatures-requires
+read_signatures-requires g c = (
   c.requires.0,
-  (refl, first_declared g.read (definition_views c.args.defs.now) c.args.tyenv.now _ c.new-errors.result.items c.requires.1 c.in_ok-table.ensures.terms c.in_ok-table.ensures.ids c.in_ok-table.ensures.converters c.new-errors.ensures.items),
+  first_declared g.read (definition_views c.args.defs.now) c.args.tyenv.now _ c.new-errors.result.items c.requires.1 c.in_ok-table.ensures.terms c.in_ok-table.ensures.ids c.in_ok-table.ensures.converters c.new-errors.ensures.items,
 )
+
+pub read_converters-requires : goal.read_converters-requires
+read_converters-requires g c = (c.requires.0, first_converter _ _ _ _ _ c.in_ok-read_definitions.ensures)
+
+pub read_externs-requires : goal.read_externs-requires
+read_externs-requires g c =
+    let defs = definition_views c.args.defs.now in
+    let env = c.read_signatures.new.tyenv in
+    let none : length c.read_definitions.new.errors.items ≡ 0 = search rules in
+    let extractors = right_now g.read defs (ExtractorsRead g.read defs) env c.read_definitions.new.self c.read_definitions.new.errors.items c.in_ok-read_definitions.ensures (nothing _ none) in (
+      c.requires.0,
+      first_extern g.read defs env c.read_converters.new.self c.read_converters.new.errors.items extractors.right.distinct c.in_ok-read_converters.ensures,
+    )
 
 pub returns-clause-answers : goal.returns-clause-answers
 returns-clause-answers g c =
     let defs = definition_views c.args.defs.now in
-    let none : length c.read_groups.new.errors.items ≡ 0 = search rules in
-    right_now g.read defs (AllRead g.read defs) c.read_groups.new.tyenv c.read_groups.new.self c.read_groups.new.errors.items c.in_ok-read_groups.ensures.reads (nothing _ none)
+    let env = c.read_signatures.new.tyenv in
+    let none : length c.read_definitions.new.errors.items ≡ 0 = search rules in
+    let none_then : length c.read_converters.new.errors.items ≡ 0 = search rules in
+    let none_left : length c.read_externs.new.errors.items ≡ 0 = search rules in
+    let extractors = right_now g.read defs (ExtractorsRead g.read defs) env c.read_definitions.new.self c.read_definitions.new.errors.items c.in_ok-read_definitions.ensures (nothing _ none) in
+    let converters = right_now g.read defs (ConvertersRead g.read defs defs) env c.read_converters.new.self c.read_converters.new.errors.items c.in_ok-read_converters.ensures (nothing _ none_then) in
+    let externs = right_now g.read defs (ExternsRead g.read defs defs) c.read_externs.new.tyenv c.read_externs.new.self c.read_externs.new.errors.items c.in_ok-read_externs.ensures.reads (nothing _ none_left) in
+    all_read g.read c.requires.0 defs c.read_externs.new.tyenv env c.read_externs.new.self c.read_definitions.new.self c.in_ok-read_externs.ensures.left extractors (c.read_converters.new.self, converters) externs
 
 pub returns-then-not-is_empty-clause-refused : goal.returns-then-not-is_empty-clause-refused
-returns-then-not-is_empty-clause-refused g c = why_refused g.read _ _ _ _ _ c.in_ok-read_groups.ensures.reads (search rules)
+returns-then-not-is_empty-clause-refused g c = why_refused g.read _ _ _ _ _ c.in_ok-read_signatures.ensures.reads (search rules)
 
-pub returns-then-not-is_empty-clause-no_limit : goal.returns-then-not-is_empty-clause-no_limit
-returns-then-not-is_empty-clause-no_limit g c = name_no_limit _ c.in_ok-read_groups.ensures.reads.ill_typed
+pub returns-then-not-is_empty-2-clause-refused : goal.returns-then-not-is_empty-2-clause-refused
+returns-then-not-is_empty-2-clause-refused g c = why_refused g.read _ _ _ _ _ c.in_ok-read_definitions.ensures (search rules)
+
+pub returns-then-not-is_empty-3-clause-refused : goal.returns-then-not-is_empty-3-clause-refused
+returns-then-not-is_empty-3-clause-refused g c = why_refused g.read _ _ _ _ _ c.in_ok-read_converters.ensures (search rules)
+
+pub returns-then-not-is_empty-4-clause-refused : goal.returns-then-not-is_empty-4-clause-refused
+returns-then-not-is_empty-4-clause-refused g c = why_refused g.read _ _ _ _ _ c.in_ok-read_externs.ensures.reads (search rules)
+
+pub returns-then-not-is_empty-2-clause-no_limit : goal.returns-then-not-is_empty-2-clause-no_limit
+returns-then-not-is_empty-2-clause-no_limit g c = name_no_limit _ c.in_ok-read_definitions.ensures.ill_typed
+
+pub returns-then-not-is_empty-3-clause-no_limit : goal.returns-then-not-is_empty-3-clause-no_limit
+returns-then-not-is_empty-3-clause-no_limit g c = name_no_limit _ c.in_ok-read_converters.ensures.ill_typed
+
+pub returns-then-not-is_empty-4-clause-no_limit : goal.returns-then-not-is_empty-4-clause-no_limit
+returns-then-not-is_empty-4-clause-no_limit g c = name_no_limit _ c.in_ok-read_externs.ensures.reads.ill_typed

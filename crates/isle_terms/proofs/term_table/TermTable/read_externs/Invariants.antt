@@ -1,9 +1,8 @@
-use Rattle.std.proofs.Common.{map, take}
-use Rattle.isle_base.specs.SyntaxViews.{extern_view}
-use Rattle.isle_model.specs.lists.Syntax.{extern_definition}
+use Rattle.std.proofs.Common.{take}
+use Rattle.isle_base.specs.SyntaxViews.{definition_views}
 use Rattle.isle_terms.specs.Signing.{ReadsTerms}
 use Rattle.isle_terms.specs.ExternStages.{ExternsRead}
 use Rattle.isle_terms.proofs.term_table.TermTable.read_externs.Given as goal
 
-abbrev pub invariant-loop-extern_def : goal.invariant-loop-extern_def
-invariant-loop-extern_def g l = ReadsTerms g.of.0 g.of.1 (ExternsRead g.of.0 g.of.1 (map extern_definition (map (λ x. extern_view x.now) (take l.extern_def-index l.defs.externs.items)))) l.tyenv l.self l.errors.items
+abbrev pub invariant-loop-def : goal.invariant-loop-def
+invariant-loop-def g l = ReadsTerms g.read (definition_views l.defs) (ExternsRead g.read (definition_views l.defs) (definition_views (take l.def-index l.defs))) l.tyenv l.self l.errors.items

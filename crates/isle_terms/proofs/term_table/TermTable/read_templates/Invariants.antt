@@ -1,10 +1,10 @@
-use Rattle.std.proofs.Common.{map, take}
-use Rattle.isle_base.specs.SyntaxViews.{extractor_view}
+use Rattle.std.proofs.Common.{take}
+use Rattle.isle_base.specs.SyntaxViews.{definition_views}
 use Rattle.isle_terms.specs.Signing.{ReadsTerms}
 use Rattle.isle_terms.specs.Templating.{AreCallees, TemplatesRead}
 use Rattle.isle_terms.proofs.term_table.TermTable.read_templates.Given as goal
 
-abbrev pub invariant-loop-extractor : goal.invariant-loop-extractor
-invariant-loop-extractor g l =
+abbrev pub invariant-loop-def : goal.invariant-loop-def
+invariant-loop-def g l =
     AreCallees l.self l.callees.items
-    × ReadsTerms g.of.0 g.of.1 (TemplatesRead g.of.0 g.of.1 (map (λ x. extractor_view x.now) (take l.extractor-index l.defs.extractors.items)) l.callees.items) l.tyenv l.self l.errors.items
+    × ReadsTerms g.read (definition_views l.defs) (TemplatesRead g.read (definition_views l.defs) (definition_views (take l.def-index l.defs)) l.callees.items) l.tyenv l.self l.errors.items
