@@ -117,13 +117,7 @@ fn timed<
     U: Drop,
     F: FnMut(T) -> Result<U, Fault> + Drop,
     C: FnOnce(&U) -> Result<String, AllocError> + Drop,
->(
-    rt: &impl Clock,
-    alloc: Global,
-    items: Vec<T>,
-    step: F,
-    counts: C,
-) -> Result<Reading, Stop>
+>(rt: &impl Clock, alloc: Global, items: Vec<T>, step: F, counts: C) -> Result<Reading, Stop>
     requires step { F.IsAlwaysCallable step }
     requires counts { C.IsAlwaysCallable counts }
 {
@@ -223,7 +217,13 @@ fn set_counts(alloc: Global, sets: &[(TermId, RuleSet)]) -> Result<String, Alloc
 
 fn trees(rt: &impl Clock, alloc: Global, lists: Vec<Vec<Def>>) -> Result<Reading, Stop> {
     let step = |defs| ListWithTrees::new(alloc, defs);
-    timed(rt, alloc, lists, step, |list| tree_counts(alloc, &list.lowered))
+    timed(
+        rt,
+        alloc,
+        lists,
+        step,
+        |list| tree_counts(alloc, &list.lowered),
+    )
 }
 
 fn tree_counts(alloc: Global, lowered: &Lowered) -> Result<String, AllocError> {
