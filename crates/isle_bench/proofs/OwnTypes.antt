@@ -1,11 +1,11 @@
--- The types of valid definitions, as terms and rules of the same definitions are read with them.
+-- The types of a list that is kept beside its table, as its terms and rules are read with them.
 use Rattle.std.proofs.Common.{◌≡◌, List}
-use Rattle.isle_laws_lists.proofs.OwnTypes.{own_types_are_readable_lem}
+use Rattle.isle_laws_lists.proofs.OwnTypes.{own_types_read}
 use Rattle.isle_model.specs.claims.Environments.{AreReadable, AreTypesOf, IsReadAs, types_read}
 use Rattle.isle_base.specs.declared.syntax.Def.{Def}
 use Rattle.isle_base.specs.SyntaxViews.{definition_views}
 use Rattle.isle_types.specs.declared.type_env.TypeEnv.{TypeEnv}
 use Rattle.isle_types.specs.EnvViews.{environment_view}
 
-pub own_types_read : (read defs : List Def) (env : TypeEnv) → read ≡ defs → AreTypesOf (definition_views defs) (environment_view env) → AreReadable (types_read (definition_views read)) × IsReadAs (environment_view env) (types_read (definition_views read))
-own_types_read read defs env same shown = rw same (own_types_are_readable_lem _ shown.valid, shown.shown)
+pub kept_types_read : (read defs : List Def) (env : TypeEnv) → read ≡ defs → AreTypesOf (definition_views defs) (environment_view env) → AreReadable (types_read (definition_views read)) × IsReadAs (environment_view env) (types_read (definition_views read))
+kept_types_read read defs env same own = rw same (own_types_read (definition_views defs) (environment_view env) own)

@@ -17,7 +17,7 @@ use Rattle.isle_laws_demands.specs.RuleByRule.{AreLookedUp}
 use Rattle.isle_laws_demands.specs.ReportLaws.{RulesHaveTerms}
 use Rattle.isle_builder.specs.AddedRules.{set_at, set_so_far}
 use Rattle.isle_builder.specs.declared.term_sets.TermSet.{TermSet}
-use Rattle.isle_builder.proofs.VisitedPatterns.{tied}
+use Rattle.isle_sets.proofs.ListedConstraints.{tied}
 
 -- 1. ascending numbers of a range
 after_first : (k : ℕ) (ks : List ℕ) → IsStrictlySortedBy nat_cmp (k ∷ ks) → (m : ℕ) → In ks m → k < m

@@ -1,12 +1,13 @@
 -- The calls that a site unwraps are found by taking sites apart, the greatest first.
-use Rattle.std.proofs.Common.{cond, Bool, true, false, eqb-true, if◌then◌else◌, nat_eq, nat_lt, ltb-true, get_or, drop, ◌≡◌, ◌⊎◌, ℕ, suc, ◌+◌, ◌<◌, ◌≤◌, List, [], ◌∷◌, ◌++◌, length, map, Option, Some, None, slice_get, All, refl, sym, ap, ◌∙◌, subst, inl, inr, arith}
+use Rattle.std.proofs.Common.{Bool, true, false, eqb-true, if◌then◌else◌, get_or, drop, ◌≡◌, ◌⊎◌, ℕ, suc, ◌+◌, ◌<◌, ◌≤◌, List, [], ◌∷◌, ◌++◌, length, map, Option, Some, None, slice_get, All, refl, sym, ap, ◌∙◌, subst, inl, inr, arith}
 use Rattle.std.proofs.lemmas.List.{map-append}
-use Rattle.std.proofs.lemmas.Bool.{cases_Bool, cond-true, cond-false, false≢true}
-use Rattle.std.specs.Ordering.{is_lt, nat_cmp, match_ordering}
+use Rattle.std.proofs.lemmas.Bool.{cases_Bool, cond-false}
+use Rattle.std.specs.Ordering.{nat_cmp, match_ordering}
 use Rattle.std.specs.declared.cmp.Ordering.TheVariants.{Less, Equal, Greater}
 use Rattle.std.specs.BTreeSet.{insert_key}
 use Rattle.std.specs.Bool.{◌==◌}
 use Rattle.std.specs.Prelude.{IsTrue}
+use Rattle.std.proofs.lemmas.Cmp.{ranked}
 use Rattle.std.proofs.lemmas.Map.Lookups.{exact_unsigned}
 use Rattle.isle_model.specs.sites.Sites.{Site, bool_site, int_site, prim_site, argument_site, extractor_site, constructor_site, iterator_site, make_variant_site, match_variant_site, make_struct_site, extract_struct_site, make_some_site, match_some_site, match_tuple_site, sources_of, sources_at, SiteTerm, each_term, layer, layer_at, unfold_site}
 use Rattle.isle_model.specs.sites.Demands.{unwraps, unwraps_all}
@@ -355,18 +356,8 @@ module _ (sites : List Site) (first : SourcesFirst sites) (s : ℕ) (there : s <
           ]
 
 -- 4. the greatest is taken first
-less : (a b : ℕ) → nat_cmp a b ≡ Less → a < b
-less a b e =
-    elim (cases_Bool (nat_lt a b)) [
-      | inl t ↦ ltb-true a b t
-      | inr f ↦
-          let other : is_lt (cond (nat_eq a b) Equal Greater) ≡ false =
-          elim (cases_Bool (nat_eq a b)) [ inl u ↦ ap is_lt (cond-true (nat_eq a b) Equal Greater u) | inr g ↦ ap is_lt (cond-false (nat_eq a b) Equal Greater g) ] in
-          absurd (false≢true (sym other ∙ ap is_lt (sym (cond-false (nat_lt a b) Less (cond (nat_eq a b) Equal Greater) f) ∙ e)))
-    ]
-
 pub all_less : (rest : List ℕ) (k : ℕ) → All (λ t. nat_cmp t k ≡ Less) rest → (t : ℕ) → In rest t → t < k
-all_less rest k h t i = let c = contains_from_in rest t i in less t k (subst (λ x. nat_cmp x k ≡ Less) c.2 (h c.0 t c.1))
+all_less rest k h t i = let c = contains_from_in rest t i in ranked t k Less (sym (subst (λ x. nat_cmp x k ≡ Less) c.2 (h c.0 t c.1)))
 
 pub none_left : (keys : List ℕ) → (0 < length keys → ⊥) → (t : ℕ) → In keys t → ⊥
 none_left [] h t i = i

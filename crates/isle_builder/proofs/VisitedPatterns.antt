@@ -1,9 +1,8 @@
 -- The visit of a pattern by a builder goes to where the definition's visit stands.
-use Rattle.std.proofs.Common.{◌≡◌, true≢false, ℕ, suc, ◌<◌, ◌≤◌, ◌==◌, Bool, true, false, List, [], ◌∷◌, ◌++◌, length, map, Option, Some, None, if◌then◌else◌, slice_get, Result, Ok, is_ok, refl, sym, ap, ◌∙◌, subst, inl, inr, ⊎_elim, arith, eqb-true, eq-eqb}
+use Rattle.std.proofs.Common.{◌≡◌, true≢false, ℕ, suc, ◌<◌, ◌≤◌, ◌==◌, Bool, true, false, List, [], ◌∷◌, ◌++◌, length, map, Option, Some, None, if◌then◌else◌, slice_get, Result, Ok, is_ok, refl, sym, ap, ◌∙◌, subst, inl, inr, ⊎_elim, arith, eqb-true}
 use Rattle.std.proofs.lemmas.Bool.{cases_Bool, cond-true, cond-false}
 use Rattle.std.specs.Ordering.{nat_cmp, is_eq, match_ordering}
 use Rattle.std.specs.declared.cmp.Ordering.TheVariants.{Less, Equal, Greater}
-use Rattle.std.specs.Cmp.{unsigned_tied}
 use Rattle.std.proofs.lemmas.Map.Lookups.{exact_unsigned}
 use Rattle.isle_model.specs.lists.Tables.{TermKindEntry, variant_term, struct_term, declared_term, TermEntry}
 use Rattle.isle_model.specs.rules.Meaning.{look}
@@ -19,6 +18,7 @@ use Rattle.isle_rules.specs.VisitRuns.{BoundIds, bound_at, with_bound, variable}
 use Rattle.isle_builder.specs.contracts.builder_patterns.RuleSetBuilderPatternVisitor.TheImpl.{ghosts}
 use Rattle.isle_builder.specs.declared.ruleset_builder.RuleSetBuilder.{RuleSetBuilder}
 use Rattle.isle_builder.specs.VisitedSites.{built_sites, IsSiteOf, AreSitesOf, StandsAt, GoesTo, OpensTo, AsksEqual, fields_opened}
+use Rattle.isle_sets.proofs.ListedConstraints.{tied}
 use Rattle.isle_builder.proofs.BuilderFields.{goes_nowhere, goes_further, sites_stay, places_same}
 use Rattle.isle_builder.proofs.WalkedVisits.{PassNone, pass_both, few_fields, few_outputs}
 
@@ -26,14 +26,6 @@ use Rattle.isle_builder.proofs.WalkedVisits.{PassNone, pass_both, few_fields, fe
 -- each variable is bound to the number of its site
 abbrev pub KnowsVars : RuleSetBuilder → BoundIds ℕ → Visit → Type 0
 KnowsVars b vs v = (x n : ℕ) → bound_at vs x ≡ Some n → IsSiteOf b (var_site v x) n
-
-pub tied : (a b : ℕ) → is_eq (nat_cmp a b) ≡ (b == a)
-tied a b =
-    unsigned_tied a b
-    ∙ elim (cases_Bool (a == b)) [
-      | inl t ↦ t ∙ sym (eq-eqb b a (sym (eqb-true a b t)))
-      | inr m ↦ elim (cases_Bool (b == a)) [ inl t ↦ eq-eqb a b (sym (eqb-true b a t)) ∙ sym t | inr k ↦ m ∙ sym k ]
-    ]
 
 same_twice : (c : Bool) (a b r : Option ℕ) → (if c then a else r) ≡ (if c then a else (if c then b else r))
 same_twice true a b r = refl

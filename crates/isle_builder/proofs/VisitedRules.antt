@@ -35,7 +35,8 @@ use Rattle.isle_builder.proofs.BuilderFields.{goes_nowhere, goes_further}
 use Rattle.isle_builder.proofs.FittingPatterns.{formed_fits, first_there, passed}
 use Rattle.isle_builder.proofs.RunsOfRules.{pattern_called, value_visited}
 use Rattle.isle_builder.proofs.VisitedExprs.{InScope, expr_visited, knows_on}
-use Rattle.isle_builder.proofs.VisitedPatterns.{KnowsVars, one_answer, knows_stay, pattern_visited, site_stays, tied}
+use Rattle.isle_builder.proofs.VisitedPatterns.{KnowsVars, one_answer, knows_stay, pattern_visited, site_stays}
+use Rattle.isle_sets.proofs.ListedConstraints.{tied}
 use Rattle.isle_builder.proofs.WalkedVisits.{both_empty}
 
 -- 1. what patterns bind can be used after them

@@ -12,7 +12,7 @@ use Rattle.isle_model.proofs.Names.{number_below, has_at, has_met, has_right}
 use Rattle.isle_laws_lists.proofs.TypeLaws.{names_later}
 use Rattle.isle_laws_lists.proofs.WellFormed.{place_below, as_many, own_types_are_well_formed_lem}
 use Rattle.isle_model.proofs.Members.{in_head, in_tail, in_cases, get_from_member, in_map, from_map, all_members}
-use Rattle.isle_model.specs.claims.Environments.{HasVariantsAtIds}
+use Rattle.isle_model.specs.claims.Environments.{TypeEnvironment, AreReadable, AreTypesOf, HasVariantsAtIds, IsReadAs, types_read}
 use Rattle.isle_laws_lists.specs.OwnTypes.{OwnTypesAreReadable}
 
 -- variants whose ids count up from a number
@@ -91,3 +91,7 @@ own_types_are_readable_lem defs v = record {
   names_of_constants = each_constant defs (λ c. c.0 < length (type_names_met defs)) (λ c i. number_below (type_names_met defs) c.name.text (constant_met defs c i));
   types_of_constants = each_constant defs (λ c. c.1 < length (type_table defs)) (λ c i. type_below defs c.ty);
 }
+
+-- so they can be, where an environment is read of them, and it is read as they are
+pub own_types_read : (defs : List Definition) (env : TypeEnvironment) → AreTypesOf defs env → AreReadable (types_read defs) × IsReadAs env (types_read defs)
+own_types_read defs env own = (own_types_are_readable_lem defs own.valid, own.shown)

@@ -12,7 +12,7 @@ use Rattle.isle_rules.specs.Noting.{NotesMore}
 use Rattle.isle_rules.proofs.Noted.{both}
 use Rattle.isle_rules.specs.Constructors.{uses_of_rule, uses_of_definition}
 use Rattle.isle_rules.specs.Elaborating.{Checks}
-use Rattle.isle_rules.proofs.ConstructorLaws.{all_left, all_right}
+use Rattle.isle_types.proofs.RightTypes.{all_left, all_right}
 use Rattle.isle_rules.proofs.PatternUsing.{checks_both}
 
 pub on_then : {A B : Type 0} (r : Result A B) (P Q : Type 0) → (P → Q) → OnOk r P → OnOk r Q

@@ -25,6 +25,7 @@ use Rattle.isle_laws_lists.proofs.Typings.{then_gives, followed_gives, if_gives}
 use Rattle.isle_laws_lists.proofs.TypedRules.{rules_agree, typed_within_limits}
 use Rattle.isle_laws_lists.proofs.TypedPatterns as patterns
 use Rattle.isle_laws_lists.proofs.TypedExprs as exprs
+use Rattle.isle_types.proofs.RightTypes.{all_left, all_right}
 use Rattle.isle_rules.specs.Constructors.{is_made, AreMadeUses, uses_of_rule, AreTermsNamed}
 use Rattle.isle_rules.specs.ExprReadings.{made_kind, made_entry, all_made}
 use Rattle.isle_rules.specs.RuleLists.{rules_within}
@@ -33,15 +34,6 @@ use Rattle.isle_rules.proofs.MadeSettings.{term_made, converter_made}
 use Rattle.isle_rules.proofs.NamesKept.{Kept, kept_here, kept_on, kept_with, pattern_keeps, parts_keep, expr_keeps, lets_keep}
 
 -- 1. lists and options
-module _ {X : Type 0} (P : X → Type 0) where
-  pub all_left : (xs ys : List X) → All P (xs ++ ys) → All P xs
-  all_left [] ys h = All-nil P
-  all_left (x ∷ xs) ys h = All-cons P x xs (All-head P x (xs ++ ys) h) (all_left xs ys (All-tail P x (xs ++ ys) h))
-
-  pub all_right : (xs ys : List X) → All P (xs ++ ys) → All P ys
-  all_right [] ys h = h
-  all_right (x ∷ xs) ys h = all_right xs ys (All-tail P x (xs ++ ys) h)
-
 same_options : {X : Type 0} (o p : Option X) → ((a : X) → o ≡ Some a → p ≡ Some a) → ((a : X) → p ≡ Some a → o ≡ Some a) → o ≡ p
 same_options None None f g = refl
 same_options None (Some b) f g = g b refl

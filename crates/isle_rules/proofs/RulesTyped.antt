@@ -19,7 +19,8 @@ use Rattle.isle_rules.specs.Elaborating.{Checks}
 use Rattle.isle_rules.specs.PatternUses.{found_term}
 use Rattle.isle_rules.specs.RuleLists.{rules_within, CollectsRules}
 use Rattle.isle_rules.specs.Translating.{Keeps, IsSettingOf}
-use Rattle.isle_rules.proofs.ConstructorLaws.{all_left, all_right, same_entry, rules_same, rules_uses}
+use Rattle.isle_types.proofs.RightTypes.{all_left, all_right}
+use Rattle.isle_rules.proofs.ConstructorLaws.{same_entry, rules_same, rules_uses}
 use Rattle.isle_rules.proofs.NamesKept.{Kept, kept_here}
 use Rattle.isle_rules.proofs.Readings.{keep_setting}
 use Rattle.isle_rules.proofs.TermsFound.{found_named}

@@ -18,7 +18,7 @@ use Rattle.isle_model.proofs.Mapped.{get_map}
 use Rattle.isle_model.proofs.Members.{all_members, from_map, get_from_member}
 use Rattle.isle_model.proofs.Positions.{get_front}
 use Rattle.isle_rules.specs.Translating.{IsWholeTemplate}
-use Rattle.isle_rules.proofs.ConstructorLaws.{all_left, all_right}
+use Rattle.isle_types.proofs.RightTypes.{all_left, all_right}
 
 some_mapped : {X Y : Type 0} (f : X → Y) (o : Option X) → is_some o ≡ true → is_some (option_map f o) ≡ true
 some_mapped f None h = h

@@ -1,9 +1,10 @@
 -- Tests and constraints over numbers of sites, beside those over what the numbers stand for.
-use Rattle.std.proofs.Common.{◌≡◌, ℕ, zero, suc, ◌+◌, ◌<◌, ◌≤◌, Bool, true, false, ◌&&◌, ◌||◌, if◌then◌else◌, List, [], ◌∷◌, ◌++◌, length, map, filter, drop, get_or, All, Option, Some, None, is_some, slice_get, refl, sym, ap, ap₂, ◌∙◌, subst, inl, inr, arith, eqb-true, eq-eqb, ltb-true}
-use Rattle.std.specs.Prelude.{nat_eq, nat_lt, cond}
+use Rattle.std.proofs.Common.{◌≡◌, ℕ, zero, suc, ◌+◌, ◌<◌, ◌≤◌, Bool, true, false, ◌&&◌, ◌||◌, if◌then◌else◌, List, [], ◌∷◌, ◌++◌, length, map, filter, drop, get_or, All, Option, Some, None, is_some, slice_get, refl, sym, ap, ap₂, ◌∙◌, subst, inl, inr, arith, eqb-true, eq-eqb}
+use Rattle.std.specs.Prelude.{nat_eq}
 use Rattle.std.specs.List.{zip, AllByRecursion}
-use Rattle.std.specs.Ordering.{nat_cmp, is_lt}
-use Rattle.std.specs.declared.cmp.Ordering.TheVariants.{Less, Equal, Greater}
+use Rattle.std.specs.Ordering.{nat_cmp}
+use Rattle.std.specs.declared.cmp.Ordering.TheVariants.{Less}
+use Rattle.std.proofs.lemmas.Cmp.{ranked}
 use Rattle.std.proofs.lemmas.Map.Keys.{sorted_head, sorted_tail}
 use Rattle.std.specs.List.Sorted.{IsStrictlySortedBy}
 use Rattle.std.proofs.lemmas.Bool.{cases_Bool, cond-true, cond-false, false≢true, and_parts, and_from}
@@ -177,16 +178,6 @@ asked_within n (x ∷ xs) k c h w s e = asked_within n xs (λ z i. k z (inr i)) 
         ]
 
 -- 4. the members of a class, ascending
-less : (a b : ℕ) → nat_cmp a b ≡ Less → a < b
-less a b e =
-    elim (cases_Bool (nat_lt a b)) [
-      | inl t ↦ ltb-true a b t
-      | inr f ↦
-          let other : is_lt (cond (nat_eq a b) Equal Greater) ≡ false =
-          elim (cases_Bool (nat_eq a b)) [ inl u ↦ ap is_lt (cond-true (nat_eq a b) Equal Greater u) | inr g ↦ ap is_lt (cond-false (nat_eq a b) Equal Greater g) ] in
-          absurd (false≢true (sym other ∙ ap is_lt (sym (cond-false (nat_lt a b) Less (cond (nat_eq a b) Equal Greater) f) ∙ e)))
-    ]
-
 -- each number is below those after it
 abbrev pub Rises : List ℕ → Type 0
 Rises [] = Unit {0}
@@ -194,7 +185,7 @@ Rises (x ∷ xs) = ((y : ℕ) → In xs y → x < y) × Rises xs
 
 all_above : (x : ℕ) (xs : List ℕ) → AllByRecursion (λ y. nat_cmp x y ≡ Less) xs → (y : ℕ) → In xs y → x < y
 all_above x [] a y i = absurd i
-all_above x (z ∷ xs) a y (inl e) = subst (λ k. x < k) e (less x z a.0)
+all_above x (z ∷ xs) a y (inl e) = subst (λ k. x < k) e (ranked x z Less (sym a.0))
 all_above x (z ∷ xs) a y (inr i) = all_above x xs a.1 y i
 
 pub rises : (xs : List ℕ) → IsStrictlySortedBy nat_cmp xs → Rises xs

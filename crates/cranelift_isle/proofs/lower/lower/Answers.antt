@@ -1,7 +1,7 @@
 use Rattle.std.proofs.Common.{◌≡◌, Err, None, All, sym, subst, rules}
 use Rattle.isle_base.specs.Answers.{OnErrors, limit_of}
 use Rattle.isle_base.specs.SyntaxViews.{definition_views}
-use Rattle.isle_laws_lists.proofs.OwnTypes.{own_types_are_readable_lem}
+use Rattle.isle_laws_lists.proofs.OwnTypes.{own_types_read}
 use Rattle.isle_model.specs.claims.Environments.{types_read}
 use Rattle.isle_model.specs.claims.Layers.{RefusedBy, by_types, by_rules}
 use Rattle.isle_model.specs.claims.Refusals.{NamesOnlyPassed, PassedInReading, RefusesTypes, RefusesRules}
@@ -16,7 +16,7 @@ use Rattle.cranelift_isle.proofs.lower.lower.Goals as goal
 
 -- valid types can be read, and the type table is read as them
 pub from_ast-requires-2 : goal.from_ast-requires-2
-from_ast-requires-2 c = let shown = c.in_ok-tyenv.ensures.shown in (own_types_are_readable_lem _ shown.valid, shown.shown)
+from_ast-requires-2 c = own_types_read _ _ c.in_ok-tyenv.ensures.shown
 
 -- the environment is that of the definitions
 pub check-requires : goal.check-requires
