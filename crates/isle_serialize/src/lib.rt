@@ -8,7 +8,6 @@ pub mod binds;
 pub mod ends;
 pub mod fields;
 pub mod inside;
-pub mod marks;
 pub mod serialize;
 pub mod steps;
 pub mod tests;
