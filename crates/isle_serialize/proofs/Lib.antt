@@ -2,6 +2,8 @@ pub mod TreeLaws
 pub mod Tables
 pub mod AroundSteps
 pub mod TestSteps
+pub mod BarSteps
+pub mod MarkSteps
 pub mod Alike
 pub mod Growth
 pub mod Listed

@@ -1,5 +1,5 @@
 -- The open tests of a place by tables of its sites, and the greatest of them.
-use Rattle.std.proofs.Common.{◌≡◌, ℕ, zero, suc, ◌+◌, ◌<◌, ◌≤◌, ◌==◌, nat_lt, Bool, true, false, not, ◌&&◌, ◌||◌, cond, List, [], ◌∷◌, ◌++◌, map, length, take, get_or, Option, Some, None, slice_get, slice_index_or, Contains, refl, sym, ap, ◌∙◌, subst, inl, inr, ◌⊎◌, arith, ltb-false, lt-ltb, length-append}
+use Rattle.std.proofs.Common.{◌≡◌, ℕ, zero, suc, ◌+◌, ◌<◌, ◌≤◌, ◌==◌, nat_lt, Bool, true, false, not, ◌&&◌, ◌||◌, cond, List, [], ◌∷◌, ◌++◌, map, length, take, get_or, Option, Some, None, MatchOption, option_map, slice_get, slice_index_or, Contains, refl, sym, ap, ◌∙◌, subst, inl, inr, ◌⊎◌, arith, ltb-false, lt-ltb, length-append}
 use Rattle.std.specs.List.{filter, flat_map, list_all, list_any}
 use Rattle.std.proofs.lemmas.Bool.{cases_Bool, cond-true, cond-false, false≢true, cases_lt, or_left, or_right, or_cases, and_parts, and_from}
 use Rattle.std.proofs.lemmas.List.{append-nil, map-append, take_all, take_more}
@@ -15,8 +15,10 @@ use Rattle.isle_laws_trees.proofs.OpenTests.{open_listed, listed_open}
 use Rattle.isle_laws_trees.proofs.Scores.{scores_are_ordered_lem}
 use Rattle.isle_serialize.specs.declared.tests.Test.{Test}
 use Rattle.isle_serialize.specs.declared.tests.Test.TheVariants.{Match, Equal, Loop}
+use Rattle.isle_serialize.specs.declared.tests.Score.{Score}
+use Rattle.isle_serialize.specs.declared.tests.Scored.{Scored}
 use Rattle.isle_serialize.specs.AroundViews.{availability, class_names}
-use Rattle.isle_serialize.specs.TestViews.{test_view, test_views, is_free, is_pair, pairs_at, greater_test, IsGreatestOf, IsChosen, AreUseful}
+use Rattle.isle_serialize.specs.TestViews.{test_view, test_views, is_free, is_pair, pairs_at, score_view, greater_test, IsGreatestOf, IsChosen, AreLooped, AreUseful, IsGreatestScored, IsScored}
 use Rattle.isle_serialize.proofs.Tables.{table_entry, marked_site, names_start}
 
 -- 1. numbers below n
@@ -62,6 +64,19 @@ pairs_step available names sites i b tests next part e l g p f h =
     ∙ ap (λ t. flat_map (pairs_at available names) (take i sites) ++ t) (sym (append-nil (pairs_at available names b)))
     ∙ sym (flat_map-append (pairs_at available names) (take i sites) (b ∷ []))
     ∙ ap (flat_map (pairs_at available names)) (ap (λ x. take i sites ++ x ∷ []) g ∙ sym (take_more sites i b l))
+
+-- a site that isn't marked is in no pair
+unmarked : (a c : Bool) → ((a && false) && c) ≡ false
+unmarked true c = refl
+unmarked false c = refl
+
+pub no_pairs : (available : List Bool) (names : List ℕ) (b : ℕ) (xs : List ℕ) → slice_index_or available b false ≡ false → map (λ a. Equal a b) (filter (is_pair available names b) xs) ≡ []
+no_pairs available names b [] e = refl
+no_pairs available names b (x ∷ xs) e =
+    ap (map (λ a. Equal a b))
+    (cond-false (is_pair available names b x) (x ∷ filter (is_pair available names b) xs) (filter (is_pair available names b) xs)
+    (ap (λ k. (slice_index_or available x false && k) && not (slice_index_or names x x == slice_index_or names b b)) e ∙ unmarked (slice_index_or available x false) (not (slice_index_or names x x == slice_index_or names b b))))
+    ∙ no_pairs available names b xs e
 
 -- 3. the tables give the open tests
 module _ {X : Type 0} where
@@ -166,6 +181,25 @@ module _ (set : SiteSet) (ar : Around) (here : List ℕ) where
             | inr z ↦ z
           ]
 
+  -- with their scores
+  pub scores_known : (xs : List Test) (best : Option Scored) → IsGreatestScored set ar here xs best → MatchOption best (Unit {0}) (IsScored set ar here)
+  scores_known xs None e = tt
+  scores_known xs (Some b) g = g.1
+
+  pub scored_more : (xs : List Test) (best : Option Scored) (t : Test) (next : Scored) → IsGreatestScored set ar here xs best
+      → next.test ≡ greater_test set ar here (option_map (λ s. s.test) best) t → IsScored set ar here next → IsGreatestScored set ar here (xs ++ t ∷ []) (Some next)
+  scored_more xs None t next e same s = (subst (λ v. IsGreatestOf set ar here (xs ++ t ∷ []) (Some v)) (sym same) (greatest_more xs None t e), s)
+  scored_more xs (Some b) t next g same s = (subst (λ v. IsGreatestOf set ar here (xs ++ t ∷ []) (Some v)) (sym same) (greatest_more xs (Some b.test) t g.0), s)
+
+  compared : (b : Scored) (t : Test) (s : Score) → score_view s ≡ of t → IsScored set ar here b → is_greater (score_view s) (score_view b.score) ≡ is_greater (of t) (of b.test)
+  compared b t s e f = λ i. is_greater (e i) (f i)
+
+  pub greater_taken : (b : Scored) (t : Test) (s : Score) → score_view s ≡ of t → IsScored set ar here b → is_greater (score_view s) (score_view b.score) ≡ true → t ≡ greater_test set ar here (Some b.test) t
+  greater_taken b t s e f y = sym (cond-true (is_greater (of t) (of b.test)) t b.test (sym (compared b t s e f) ∙ y))
+
+  pub best_kept : (b : Scored) (t : Test) (s : Score) → score_view s ≡ of t → IsScored set ar here b → is_greater (score_view s) (score_view b.score) ≡ false → b.test ≡ greater_test set ar here (Some b.test) t
+  best_kept b t s e f n = sym (cond-false (is_greater (of t) (of b.test)) t b.test (sym (compared b t s e f) ∙ n))
+
 -- 5. pairs that no rule of the place joins are left out
 module _ (rules : List SetRule) (here : List ℕ) where
   abbrev IsEquated : ℕ → Bool
@@ -208,6 +242,10 @@ module _ (rules : List SetRule) (here : List ℕ) where
       none_kept : (p : ℕ → Bool) (xs : List ℕ) → ((x : ℕ) → Contains xs x → p x ≡ false) → filter p xs ≡ []
       none_kept p [] h = refl
       none_kept p (x ∷ xs) h = cond-false (p x) (x ∷ filter p xs) (filter p xs) (h x (in_head x xs)) ∙ none_kept p xs (λ y c. h y (in_tail x y xs c))
+
+  -- what no rule here needs covers none
+  pub unneeded : (t : Tests.Test) → list_any (needs_at rules t) here ≡ false → cover rules here t ≡ []
+  unneeded t f = covers_none t (λ i c n. false≢true (sym f ∙ passes_any (needs_at rules t) here i c n))
 
   pub first_apart : (a b : ℕ) → IsEquated a ≡ false → cover rules here (equal_test a b) ≡ []
   first_apart a b f = covers_none (equal_test a b) (λ i c n. false≢true (sym f ∙ passes_any (needs_at rules (equal_test a a)) here i c (first_needs (slice_get rules i) a b n)))
@@ -322,7 +360,79 @@ module _ (set : SiteSet) (ar : Around) (here : List ℕ) where
             ];
       }
 
--- 6. the test that is made
+-- 6. tests that cover no rule are left out
+module _ (set : SiteSet) (ar : Around) (here : List ℕ) where
+  fewer_useful : (all some : List Test) → AreUseful set ar here all → ((t : Test) → Contains some t → Contains all t)
+      → ((t : Test) → Contains all t → Contains some t ⊎ (cover set.rules here (test_view t) ≡ [])) → AreUseful set ar here some
+  fewer_useful all some h sub rest = record {
+    open_here = λ t c. h.open_here t (sub t c);
+    others = λ u o. elim (h.others u o) [
+      | inl r ↦ elim (rest r.0 r.1) [ inl d ↦ inl (r.0, d, r.2) | inr n ↦ inr (subst (λ v. cover set.rules here v ≡ []) r.2 n) ]
+      | inr n ↦ inr n
+    ];
+  }
+
+  -- matches of these sites, these equalities, and loops of those
+  abbrev Made : List ℕ → List Test → List ℕ → List Test
+  Made matched pairs looped = (map Match matched ++ pairs) ++ map Loop looped
+
+  abbrev IsAsked : ℕ → Bool
+  IsAsked s = list_any (needs_at set.rules (match_test s)) here
+
+  module _ (free : List ℕ) (pairs : List Test) (looped : List ℕ) (loops : AreLooped set.rules here free looped) where
+    first : (a b : List ℕ) (t : Test) → Contains (map Match a) t → Contains (Made a pairs b) t
+    first a b t c = Contains-append_left (map Match a ++ pairs) (map Loop b) t (Contains-append_left (map Match a) pairs t c)
+
+    second : (a b : List ℕ) (t : Test) → Contains pairs t → Contains (Made a pairs b) t
+    second a b t c = Contains-append_left (map Match a ++ pairs) (map Loop b) t (Contains-append_right (map Match a) pairs t c)
+
+    third : (a b : List ℕ) (t : Test) → Contains (map Loop b) t → Contains (Made a pairs b) t
+    third a b t c = Contains-append_right (map Match a ++ pairs) (map Loop b) t c
+
+    still : (t : Test) → Contains (Made (filter IsAsked free) pairs looped) t → Contains (Made free pairs free) t
+    still t c =
+        elim (Contains-append_cases (map Match (filter IsAsked free) ++ pairs) (map Loop looped) t c) [
+          | inl d ↦
+              elim (Contains-append_cases (map Match (filter IsAsked free)) pairs t d) [
+                | inl e ↦
+                    let m = from_map Match (filter IsAsked free) t e in
+                    first free free t (subst (Contains (map Match free)) m.2 (in_map Match free m.0 (from_filter IsAsked free m.0 m.1).0))
+                | inr e ↦ second free free t e
+              ]
+          | inr d ↦
+              elim loops [
+                | inl e ↦ third free free t (subst (λ l. Contains (map Loop l) t) e d)
+                | inr n ↦ absurd (nothing_in t (subst (λ l. Contains (map Loop l) t) n.0 d))
+              ]
+        ]
+
+    kept_or_none : (t : Test) → Contains (Made free pairs free) t → Contains (Made (filter IsAsked free) pairs looped) t ⊎ (cover set.rules here (test_view t) ≡ [])
+    kept_or_none t c =
+        elim (Contains-append_cases (map Match free ++ pairs) (map Loop free) t c) [
+          | inl d ↦
+              elim (Contains-append_cases (map Match free) pairs t d) [
+                | inl e ↦
+                    let m = from_map Match free t e in
+                    elim (cases_Bool (IsAsked m.0)) [
+                      | inl y ↦
+                          inl (first (filter IsAsked free) looped t (subst (Contains (map Match (filter IsAsked free))) m.2 (in_map Match (filter IsAsked free) m.0 (in_filter IsAsked free m.0 m.1 y))))
+                      | inr f ↦ inr (subst (λ u. cover set.rules here (test_view u) ≡ []) m.2 (unneeded set.rules here (match_test m.0) f))
+                    ]
+                | inr e ↦ inl (second (filter IsAsked free) looped t e)
+              ]
+          | inr d ↦
+              elim loops [
+                | inl e ↦ inl (third (filter IsAsked free) looped t (subst (λ l. Contains (map Loop l) t) (sym e) d))
+                | inr n ↦
+                    let m = from_map Loop free t d in
+                    inr (subst (λ u. cover set.rules here (test_view u) ≡ []) m.2 (unneeded set.rules here (loop_test m.0) (n.1 m.0)))
+              ]
+        ]
+
+    pub kept_useful : AreUseful set ar here (Made free pairs free) → AreUseful set ar here (Made (filter IsAsked free) pairs looped)
+    kept_useful h = fewer_useful (Made free pairs free) (Made (filter IsAsked free) pairs looped) h still kept_or_none
+
+-- 7. the test that is made
 pub own_length : (xs : List ℕ) (n : ℕ) → xs ≡ up_to n → xs ≡ up_to (length xs)
 own_length xs n e = e ∙ ap up_to (sym (ap length e ∙ length_up_to n))
 
@@ -370,6 +480,9 @@ module _ (set : SiteSet) (ar : Around) (here : List ℕ) (tests : List Test) (us
       | inr n ↦ not_greater (test_view t) u l n
     ];
   }
+
+  pub count_of : (b : Scored) → IsScored set ar here b → b.score.count ≡ length (cover set.rules here (test_view b.test))
+  count_of b s = ap (λ z. z.count) s ∙ count_is set ar here (test_view b.test)
 
   pub chosen_one : (t : Test) (count : ℕ) → IsGreatestOf set ar here tests (Some t) → count ≡ length (cover set.rules here (test_view t)) → 0 < count → IsChosen set ar here (Some (test_view t))
   chosen_one t count g e l = (greatest_open t (omega (arith, e, l)) g, λ n. let z : length (cover set.rules here (test_view t)) ≡ 0 = ap length n in omega (arith, e, l, z))

@@ -1,15 +1,16 @@
 -- Tests and scores, sites by their numbers.
 use Rattle.std.specs.Prelude.{◌≡◌, ◌≢◌, ◌⊎◌, ℕ, Bool, false, not, ◌&&◌, ◌==◌, List, [], map, Option, Some, None, Contains, slice_index_or, if◌then◌else◌}
-use Rattle.std.specs.List.{filter}
-use Rattle.isle_model.specs.sites.Sites.{SiteSet}
+use Rattle.std.specs.List.{filter, list_any}
+use Rattle.isle_model.specs.sites.Sites.{SetRule, SiteSet}
 use Rattle.isle_model.specs.trees.Places.{Around, is_in}
 use Rattle.isle_model.specs.trees.Sound.{as_number}
 use Rattle.isle_model.specs.trees.Tests as Tests
-use Rattle.isle_model.specs.trees.Tests.{match_test, equal_test, loop_test, cover, IsOpen, up_to, score, is_greater}
+use Rattle.isle_model.specs.trees.Tests.{match_test, equal_test, loop_test, needs_at, cover, IsOpen, up_to, score, is_greater}
 use Rattle.isle_model.specs.trees.Best.{IsGreatest}
 use Rattle.isle_serialize.specs.declared.tests.Test.{Test}
 use Rattle.isle_serialize.specs.declared.tests.Test.TheVariants.{Match, Equal, Loop}
 use Rattle.isle_serialize.specs.declared.tests.Score.{Score}
+use Rattle.isle_serialize.specs.declared.tests.Scored.{Scored}
 
 abbrev pub test_view : Test → Tests.Test
 test_view (Match source) = match_test source
@@ -48,6 +49,19 @@ greater_test set ar here (Some best) test = if is_greater (score set ar here (te
 abbrev pub IsGreatestOf : SiteSet → Around → List ℕ → List Test → Option Test → Type 0
 IsGreatestOf set ar here tests None = tests ≡ []
 IsGreatestOf set ar here tests (Some t) = Contains tests t × ((u : Test) → Contains tests u → is_greater (score set ar here (test_view u)) (score set ar here (test_view t)) ≡ false)
+
+-- the score is the test's
+abbrev pub IsScored : SiteSet → Around → List ℕ → Scored → Type 0
+IsScored set ar here s = score_view s.score ≡ score set ar here (test_view s.test)
+
+-- the same of a test with its score
+abbrev pub IsGreatestScored : SiteSet → Around → List ℕ → List Test → Option Scored → Type 0
+IsGreatestScored set ar here tests None = tests ≡ []
+IsGreatestScored set ar here tests (Some s) = IsGreatestOf set ar here tests (Some s.test) × IsScored set ar here s
+
+-- these sites, or none where no rule here needs a loop
+abbrev pub AreLooped : List SetRule → List ℕ → List ℕ → List ℕ → Type 0
+AreLooped rules here sites looped = (looped ≡ sites) ⊎ ((looped ≡ []) × ((s : ℕ) → list_any (needs_at rules (loop_test s)) here ≡ false))
 
 -- tests of a place that are open, where each other open test covers no rule
 pub record AreUseful (set : SiteSet) (ar : Around) (here : List ℕ) (tests : List Test) : Type 0 where

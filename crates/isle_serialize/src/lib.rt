@@ -8,6 +8,7 @@ pub mod binds;
 pub mod ends;
 pub mod fields;
 pub mod inside;
+pub mod marks;
 pub mod serialize;
 pub mod steps;
 pub mod tests;

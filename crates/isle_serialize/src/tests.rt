@@ -1,18 +1,21 @@
 //! What can be tested at a place of a tree, and which test is the greatest.
 
-ghost use Rattle.std.specs.Prelude.{◌≡◌, ◌<◌, ◌≤◌, ◌++◌, ◌&&◌, ◌||◌, not, false, ℕ, Some, option_map, Contains, IfOk, length, map, slice_get, slice_index_or};
+ghost use Rattle.std.specs.Prelude.{◌≡◌, ◌<◌, ◌≤◌, ◌++◌, ◌&&◌, ◌||◌, not, false, ℕ, Some, option_map, Contains, IfOk, MatchOption, length, map, slice_get, slice_index_or};
 ghost use Rattle.std.specs.List.{list_all, list_any, filter, flat_map};
 ghost use Rattle.isle_model.specs.sites.Sites.{sources_at};
 ghost use Rattle.isle_model.specs.trees.Places.{is_in, joins_in};
 ghost use Rattle.isle_model.specs.trees.Tests as Tests;
 ghost use Rattle.isle_sets.specs.SiteViews.{set_rule_view, set_view};
+ghost use Rattle.isle_serialize.specs.Bars as Bars;
+ghost use Rattle.isle_serialize.specs.Bars.{is_at_bar, IsBar};
 ghost use Rattle.isle_serialize.specs.AroundViews.{around_view, ArePairsWithin};
 ghost use Rattle.isle_serialize.specs.declared.tests.Test.TheVariants as Test;
-ghost use Rattle.isle_serialize.specs.TestViews.{test_view, score_view, is_free, is_pair, pairs_at, greater_test, IsGreatestOf, IsChosen, AreUseful};
+ghost use Rattle.isle_serialize.specs.TestViews.{test_view, score_view, is_free, is_pair, pairs_at, greater_test, IsChosen, AreUseful, AreLooped, IsGreatestScored, IsScored};
 
 use crate::around::{
     Around, all_sites, available_sites, class_of, is_among, is_marked, joined_sites,
 };
+use crate::marks::{asked_table, equated_table};
 use isle_sets::trie_again::{BindingId, Rule, RuleSet};
 use std::alloc::{AllocError, Global};
 
@@ -51,6 +54,15 @@ pub struct Score {
     pub site: BindingId,
     /// The greater one of its two sites, or 0.
     pub other: BindingId,
+}
+
+/// A test and its score at a place.
+#[derive(Clone, Copy, Debug)]
+pub struct Scored {
+    /// The test.
+    pub test: Test,
+    /// Its score.
+    pub score: Score,
 }
 
 // Whether a rule demands that two sites are equal.
@@ -105,29 +117,61 @@ pub fn is_lower(set: &RuleSet, number: usize, other: usize) -> bool
     priority(set, number) < priority(set, other)
 }
 
-// Whether a rule may wait for a test that another one needs: it needs it too, or isn't above that one.
-fn can_follow(set: &RuleSet, test: &Test, number: usize, other: usize) -> bool
-    ensures { result ≡ (Tests.needs_at (set_view set.now).rules (test_view test.now) other || not (Tests.is_lower (set_view set.now).rules number other)) }
+// The bar of a test where one more rule stands at a place: of the rules that don't need it, one of the greatest priority.
+fn bar_with(set: &RuleSet, test: &Test, bar: Option<usize>, number: usize) -> Option<usize>
+    ensures { result ≡ Bars.bar_with (set_view set.now).rules (test_view test.now) bar number }
 {
-    needs_at(set, test, other) || !is_lower(set, number, other)
+    if needs_at(set, test, number) {
+        return bar;
+    }
+    match bar {
+        Some(other) if !is_lower(set, other, number) => Some(other),
+        _ => Some(number),
+    }
 }
 
-// Whether all rules of a place may.
-fn can_all_follow(set: &RuleSet, here: &[usize], test: &Test, number: usize) -> bool
-    ensures { result ≡ list_all (λ j. Tests.needs_at (set_view set.now).rules (test_view test.now) j || not (Tests.is_lower (set_view set.now).rules number j)) here.now }
+// The bar of a test at a place.
+fn bar_of(set: &RuleSet, here: &[usize], test: &Test) -> Option<usize>
+    ensures { IsBar (set_view set.now).rules here.now (test_view test.now) result }
+{
+    let mut bar = None;
+    for number in here {
+        bar = bar_with(set, test, bar, *number);
+    }
+    bar
+}
+
+// Whether a rule needs a test and isn't below its bar.
+fn reaches(set: &RuleSet, test: &Test, bar: Option<usize>, number: usize) -> bool
+    ensures { result ≡ is_at_bar (set_view set.now).rules (test_view test.now) bar number }
+{
+    if !needs_at(set, test, number) {
+        return false;
+    }
+    match bar {
+        Some(other) => !is_lower(set, number, other),
+        None => true,
+    }
+}
+
+// The rules of a place that need a test and aren't below a bar, and the others.
+fn parted_at(
+    alloc: Global,
+    set: &RuleSet,
+    here: &[usize],
+    test: &Test,
+    bar: Option<usize>,
+) -> Result<(Vec<usize>, Vec<usize>), AllocError>
+    ensures reaching { IfOk result (λ p. p.0.items ≡ filter (is_at_bar (set_view set.now).rules (test_view test.now) bar) here.now) }
+    ensures others { IfOk result (λ p. p.1.items ≡ filter (λ i. not (is_at_bar (set_view set.now).rules (test_view test.now) bar i)) here.now) }
 {
     here.iter()
-        .all(|other| can_follow(set, test, number, *other))
+        .copied()
+        .partition(alloc, |number| reaches(set, test, bar, *number))
 }
 
-/// Whether a test covers a rule: the rule needs it, and each rule of the place needs it too or isn't above that one.
-pub fn is_covered(set: &RuleSet, here: &[usize], test: &Test, number: usize) -> bool
-    ensures { result ≡ Tests.is_covered (set_view set.now).rules here.now (test_view test.now) number }
-{
-    needs_at(set, test, number) && can_all_follow(set, here, test, number)
-}
-
-/// The rules of a place that a test covers, and those that it doesn't.
+/// The rules of a place that a test covers, and those that it doesn't: it covers a rule that needs it, where each rule of
+/// the place needs it too or isn't above that one.
 pub fn parted(
     alloc: Global,
     set: &RuleSet,
@@ -137,17 +181,18 @@ pub fn parted(
     ensures covered { IfOk result (λ p. p.0.items ≡ Tests.cover (set_view set.now).rules here.now (test_view test.now)) }
     ensures others { IfOk result (λ p. p.1.items ≡ filter (λ i. not (Tests.is_covered (set_view set.now).rules here.now (test_view test.now) i)) here.now) }
 {
-    here.iter()
-        .copied()
-        .partition(alloc, |number| is_covered(set, here, test, *number))
+    let bar = bar_of(set, here, test);
+    parted_at(alloc, set, here, test, bar)
 }
 
 // How many rules of a place a test covers.
+#[tactic(auto, using(crate::proofs::BarSteps::cover_at_bar))]
 fn cover_count(set: &RuleSet, here: &[usize], test: &Test) -> usize
     ensures { result ≡ length (Tests.cover (set_view set.now).rules here.now (test_view test.now)) }
 {
+    let bar = bar_of(set, here, test);
     here.iter()
-        .filter(|number| is_covered(set, here, test, **number))
+        .filter(|number| reaches(set, test, bar, **number))
         .count()
 }
 
@@ -222,19 +267,20 @@ fn open_sites(
         .collect(alloc)
 }
 
-// A match and a loop of each of these sites, and these equalities between them.
+// A match of each of these sites, these equalities, and a loop of each of those sites.
 fn tests_of(
     alloc: Global,
-    sites: &[BindingId],
+    matched: &[BindingId],
     equalities: &[Test],
+    looped: &[BindingId],
 ) -> Result<Vec<Test>, AllocError>
-    ensures { IfOk result (λ v. v.items ≡ (map Test.Match sites.now ++ equalities.now) ++ map Test.Loop sites.now) }
+    ensures { IfOk result (λ v. v.items ≡ (map Test.Match matched.now ++ equalities.now) ++ map Test.Loop looped.now) }
 {
-    sites
+    matched
         .iter()
         .map(|site| Test::Match { source: *site })
         .chain(equalities.iter().copied())
-        .chain(sites.iter().map(|site| Test::Loop { source: *site }))
+        .chain(looped.iter().map(|site| Test::Loop { source: *site }))
         .collect(alloc)
 }
 
@@ -255,20 +301,15 @@ fn equalities_of(
 ) -> Result<Vec<Test>, AllocError>
     ensures { IfOk result (λ v. v.items ≡ map (λ a. Test.Equal a b) (filter (is_pair available.now names.now b) sites.now)) }
 {
+    if !is_marked(b, available) {
+        return Ok(Vec::new(alloc));
+    }
     sites
         .iter()
         .copied()
         .filter(|a| is_open_pair(available, names, *a, b))
         .map(|a| Test::Equal { a, b })
         .collect(alloc)
-}
-
-// Whether a rule of a place demands that a site is equal to another one.
-fn is_equated_here(set: &RuleSet, here: &[usize], site: BindingId) -> bool
-    ensures { result ≡ list_any (Tests.needs_at (set_view set.now).rules (Tests.equal_test site site)) here.now }
-{
-    let test = Test::Equal { a: site, b: site };
-    here.iter().any(|number| needs_at(set, &test, *number))
 }
 
 // Which sites are available and stand in an equality of some rule of a place: all other pairs cover no rule.
@@ -279,15 +320,86 @@ fn equated_sites(
     available: &[bool],
     sites: &[BindingId],
 ) -> Result<Vec<bool>, AllocError>
+    requires { sites.now ≡ Tests.up_to (length (set_view set.now).sites) }
     ensures { IfOk result (λ v. v.items ≡ map (λ s. slice_index_or available.now s false && list_any (Tests.needs_at (set_view set.now).rules (Tests.equal_test s s)) here.now) sites.now) }
+{
+    let equated = equated_table(alloc, set, here)?;
+    both_marked(alloc, available, &equated, sites)
+}
+
+// Of each of these sites, whether it is marked in both tables.
+fn both_marked(
+    alloc: Global,
+    one: &[bool],
+    other: &[bool],
+    sites: &[BindingId],
+) -> Result<Vec<bool>, AllocError>
+    ensures { IfOk result (λ v. v.items ≡ map (λ s. slice_index_or one.now s false && slice_index_or other.now s false) sites.now) }
 {
     sites
         .iter()
-        .map(|site| is_marked(*site, available) && is_equated_here(set, here, *site))
+        .map(|site| is_marked(*site, one) && is_marked(*site, other))
         .collect(alloc)
 }
 
-/// Tests that are open at a place: all but pairs that cover no rule, since no rule of the place joins their sites.
+// Those of these sites of which some rule of a place asks something: a match of any other one covers no rule.
+fn matched_sites(
+    alloc: Global,
+    set: &RuleSet,
+    here: &[usize],
+    sites: &[BindingId],
+) -> Result<Vec<BindingId>, AllocError>
+    requires { (s : ℕ) → Contains sites.now s → s < length (set_view set.now).sites }
+    ensures { IfOk result (λ v. v.items ≡ filter (λ s. list_any (Tests.needs_at (set_view set.now).rules (Tests.match_test s)) here.now) sites.now) }
+{
+    let asked = asked_table(alloc, set, here)?;
+    marked_of(alloc, &asked, sites)
+}
+
+// Those of these sites that are marked.
+fn marked_of(
+    alloc: Global,
+    table: &[bool],
+    sites: &[BindingId],
+) -> Result<Vec<BindingId>, AllocError>
+    ensures { IfOk result (λ v. v.items ≡ filter (λ s. slice_index_or table.now s false) sites.now) }
+{
+    sites
+        .iter()
+        .copied()
+        .filter(|site| is_marked(*site, table))
+        .collect(alloc)
+}
+
+// Whether a rule goes over the answers of some call: else it needs no loop.
+fn goes_over_some(set: &RuleSet, number: usize) -> bool
+    ensures { result ≡ false → (s : ℕ) → Tests.needs_at (set_view set.now).rules (Tests.loop_test s) number ≡ false }
+{
+    match set.rules.get(number) {
+        Some(rule) => rule.iterators.len() > 0,
+        None => false,
+    }
+}
+
+// These sites, where some rule of a place goes over the answers of some call; else none, since no rule needs a loop.
+fn looped_sites(
+    alloc: Global,
+    set: &RuleSet,
+    here: &[usize],
+    sites: &[BindingId],
+) -> Result<Vec<BindingId>, AllocError>
+    ensures { IfOk result (λ v. AreLooped (set_view set.now).rules here.now sites.now v.items) }
+{
+    for number in here {
+        if goes_over_some(set, *number) {
+            return Vec::from_slice(alloc, sites);
+        }
+    }
+    Ok(Vec::new(alloc))
+}
+
+/// Tests that are open at a place: all but those that cover no rule, since no rule of the place asks something of their
+/// site, joins their sites, or goes over the answers of any call.
 pub fn useful_tests(
     alloc: Global,
     set: &RuleSet,
@@ -305,7 +417,9 @@ pub fn useful_tests(
     let free = open_sites(alloc, around, &available, &sites)?;
     let equated = equated_sites(alloc, set, here, &available, &sites)?;
     let equalities = all_equalities(alloc, &equated, &names, &sites)?;
-    tests_of(alloc, &free, &equalities)
+    let matched = matched_sites(alloc, set, here, &free)?;
+    let looped = looped_sites(alloc, set, here, &free)?;
+    tests_of(alloc, &matched, &equalities, &looped)
 }
 
 // The open pairs of these sites, by the greater one.
@@ -326,39 +440,48 @@ fn all_equalities(
     Ok(tests)
 }
 
-/// The greatest of some tests at a place.
-pub fn greatest_of(set: &RuleSet, around: &Around, here: &[usize], tests: &[Test]) -> Option<Test>
-    ensures { IsGreatestOf (set_view set.now) (around_view around.now) here.now tests.now result }
+/// The greatest of some tests at a place, with its score.
+pub fn greatest_of(set: &RuleSet, around: &Around, here: &[usize], tests: &[Test]) -> Option<Scored>
+    ensures { IsGreatestScored (set_view set.now) (around_view around.now) here.now tests.now result }
 {
     let mut best = None;
     for test in tests {
-        best = Some(greater_of(set, around, here, best, *test));
+        best = Some(greater_of(set, around, here, best, test));
     }
     best
 }
 
-// The greater one of two tests at a place.
+// A test with its score.
+fn with_score(set: &RuleSet, around: &Around, here: &[usize], test: &Test) -> Scored
+    ensures test { result.test ≡ test.now }
+    ensures score { IsScored (set_view set.now) (around_view around.now) here.now result }
+{
+    Scored {
+        test: *test,
+        score: score_of(set, around, here, test),
+    }
+}
+
+// The greater one of a test whose score is known and of another one.
 fn greater_of(
     set: &RuleSet,
     around: &Around,
     here: &[usize],
-    best: Option<Test>,
-    test: Test,
-) -> Test
-    ensures { result ≡ greater_test (set_view set.now) (around_view around.now) here.now best test }
+    best: Option<Scored>,
+    test: &Test,
+) -> Scored
+    requires { MatchOption best (Unit {0}) (IsScored (set_view set.now) (around_view around.now) here.now) }
+    ensures test { result.test ≡ greater_test (set_view set.now) (around_view around.now) here.now (option_map (λ s. s.test) best) test.now }
+    ensures score { IsScored (set_view set.now) (around_view around.now) here.now result }
 {
+    let next = with_score(set, around, here, test);
     match best {
-        Some(other) => {
-            if is_greater(
-                score_of(set, around, here, &test),
-                score_of(set, around, here, &other),
-            ) {
-                test
-            } else {
-                other
-            }
-        }
-        None => test,
+        Some(other) => if is_greater(next.score, other.score) {
+            next
+        } else {
+            other
+        },
+        None => next,
     }
 }
 
@@ -376,13 +499,7 @@ pub fn chosen_test(
 {
     let tests = useful_tests(alloc, set, around, here)?;
     match greatest_of(set, around, here, &tests) {
-        Some(test) => {
-            if cover_count(set, here, &test) > 0 {
-                Ok(Some(test))
-            } else {
-                Ok(None)
-            }
-        }
-        None => Ok(None),
+        Some(best) if best.score.count > 0 => Ok(Some(best.test)),
+        _ => Ok(None),
     }
 }
