@@ -6,6 +6,7 @@ use Rattle.std.proofs.lemmas.List.Filters.{length-filter_both}
 use Rattle.std.proofs.lemmas.Option.{none-some, same_Some}
 use Rattle.isle_model.specs.sites.Sites.{Constraint, SetRule, SiteSet}
 use Rattle.isle_model.specs.trees.Trees.{Tree, Arms, no_arm, arm}
+use Rattle.isle_model.specs.trees.Best.{descend}
 use Rattle.isle_model.specs.trees.Places as Places
 use Rattle.isle_model.specs.trees.Places.{constraint_at, in_arm}
 use Rattle.isle_model.specs.trees.Sound.{comes_before, IsAfter}
@@ -14,15 +15,14 @@ use Rattle.isle_model.proofs.Members.{in_head, in_alone, nothing_in, in_filter, 
 use Rattle.isle_laws_runs.proofs.runs.Order.{before_chain, before_itself}
 use Rattle.isle_laws_trees.proofs.Constraints.{that_exact}
 use Rattle.isle_laws_trees.proofs.ConstraintsTotal.{before_total}
-use Rattle.isle_sets.specs.Listings.{ascends}
 use Rattle.isle_sets.specs.SiteViews.{constraint_view}
 use Rattle.isle_serialize.specs.declared.around.Around.{Around}
 use Rattle.isle_serialize.specs.declared.arms.NextArm.{NextArm}
 use Rattle.isle_serialize.specs.declared.serialize.MatchArm.{MatchArm}
 use Rattle.isle_serialize.specs.AroundViews.{around_view}
-use Rattle.isle_serialize.specs.Growing.{IsBestFrom, AreBestArms, IsPlace, IsStepOf, lesser, asked, asked_at, asks, IsLeastAsked, IsNextArm}
+use Rattle.isle_serialize.specs.Growing.{IsBestFrom, AreBestArms, IsStepOf, lesser, asked, asked_at, asks, IsLeastAsked, IsNextArm}
 use Rattle.isle_serialize.specs.TreeViews.{arm_view, arms_view}
-use Rattle.isle_serialize.proofs.Ascents.{ascends_kept}
+use Rattle.isle_serialize.proofs.Descents.{descend_kept}
 use Rattle.isle_serialize.proofs.Growth as Growth
 use Rattle.isle_serialize.proofs.Growth.{no_arms, from_alike}
 use Rattle.isle_serialize.proofs.InsideSteps.{arm_inside}
@@ -100,7 +100,7 @@ module _ (rules : List SetRule) (s : ℕ) where
 -- of the rules that are left each is one of the place's, and asks a constraint behind that of the last arm; and with what
 -- may follow, the arms so far are best
 pub record ArmsGrow (set : SiteSet) (ar : Places.Around) (s : ℕ) (here left : List ℕ) (arms : List MatchArm) : Type 0 where
-  pub place : IsPlace set ar left
+  pub ordered : descend set.rules left ≡ true
   pub among : (i : ℕ) → Contains left i → Contains here i
   pub last : Option Constraint
   pub later : (i : ℕ) (c : Constraint) → Contains left i → asked_at set.rules s i ≡ Some c → IsAfter last c
@@ -110,8 +110,8 @@ module _ (set : SiteSet) (around : Around) (s : ℕ) (here : List ℕ) where
   abbrev ar : Places.Around
   ar = around_view around
 
-  pub arms_start : IsPlace set ar here → ArmsGrow set ar s here here []
-  arms_start p = record { place = p; among = λ i c. c; last = None; later = λ i c k e. tt; far = λ t a. a }
+  pub arms_start : descend set.rules here ≡ true → ArmsGrow set ar s here here []
+  arms_start o = record { ordered = o; among = λ i c. c; last = None; later = λ i c k e. tt; far = λ t a. a }
 
   module _ (left : List ℕ) (next : NextArm) (h : IsNextArm set ar s left next) where
     abbrev c : Constraint
@@ -136,13 +136,13 @@ module _ (set : SiteSet) (around : Around) (s : ℕ) (here : List ℕ) where
         some_length [] g = absurd (g refl)
         some_length (x ∷ xs) g = omega arith
 
-    pub asking_place : IsPlace set ar left → IsPlace set ar next.asking.items
-    asking_place p = record { pairs = p.pairs; ascending = subst (λ l. ascends l ≡ true) (sym h.asking) (ascends_kept mine left p.ascending) }
+    pub asking_ordered : descend set.rules left ≡ true → descend set.rules next.asking.items ≡ true
+    asking_ordered o = ap (descend set.rules) h.asking ∙ descend_kept set.rules mine left o
 
     pub arms_more : (arms more : List MatchArm) (a : MatchArm) (body : Tree) → more ≡ arms ++ a ∷ [] → ((rest : Arms) → arm_view a rest ≡ arm c next.fields.items body rest)
         → IsBestFrom set (around_view next.inside) next.asking.items body → ArmsGrow set ar s here left arms → ArmsGrow set ar s here next.others.items more
     arms_more arms more a body e seen best g = record {
-      place = record { pairs = g.place.pairs; ascending = subst (λ l. ascends l ≡ true) (sym h.others) (ascends_kept (λ i. not (mine i)) left g.place.ascending) };
+      ordered = ap (descend set.rules) h.others ∙ descend_kept set.rules (λ i. not (mine i)) left g.ordered;
       among = λ i k. g.among i (other i k).0;
       last = Some c;
       later = λ i d k q. elim (before_total c d (h.least.1 i d (other i k).0 q)) [

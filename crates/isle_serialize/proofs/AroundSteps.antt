@@ -1,43 +1,125 @@
--- One more entry of a table of available sites, and one more pair that is joined.
-use Rattle.std.proofs.Common.{◌≡◌, ℕ, zero, suc, ◌<◌, ◌≤◌, ◌==◌, Bool, false, not, ◌&&◌, ◌||◌, if◌then◌else◌, List, [], ◌∷◌, map, length, get_or, drop, Some, None, Option, slice_get, slice_index_or, Contains, refl, sym, ap, ◌∙◌, arith, drop-cons, drop_of_length-le}
-use Rattle.std.specs.List.{list_all}
-use Rattle.isle_model.specs.sites.Sites.{Site, sources_of, sources_at}
-use Rattle.isle_model.specs.trees.Places.{Around, is_in, class, waits, available}
-use Rattle.isle_model.specs.trees.Tests.{up_to}
-use Rattle.isle_sets.specs.declared.trie_again.Binding.{Binding}
-use Rattle.isle_sets.specs.SiteViews.{site_view, site_views}
-use Rattle.isle_serialize.specs.AroundViews.{ArePairsWithin}
-use Rattle.isle_serialize.proofs.Tables.{available_by, names_start, names_more}
+-- The names of classes: one more pair that is joined.
+use Rattle.std.proofs.Common.{◌≡◌, ℕ, suc, ◌<◌, ◌≤◌, ◌==◌, Bool, true, false, if◌then◌else◌, List, [], ◌∷◌, ◌++◌, map, length, get_or, take, ◌+◌, ◌||◌, ◌⊎◌, drop, Contains, refl, sym, ap, ◌∙◌, inl, inr, arith, drop-cons, drop_of_length-le, eqb-true, eq-eqb}
+use Rattle.std.proofs.lemmas.Grind.{flat_map-append}
+use Rattle.std.proofs.lemmas.List.{append_assoc, map-append, take_more}
+use Rattle.std.proofs.lemmas.Bool.{cases_Bool, cond-true, cond-false, or_left, or_right, false≢true}
+use Rattle.isle_model.specs.trees.Places.{class, is_in}
+use Rattle.isle_model.proofs.Members.{in_head, in_tail, in_flat_map, member_is_in}
+use Rattle.isle_serialize.specs.AroundViews.{sites_of_pairs, name_in, IsNaming}
 
-pub site_there : (bs : List Binding) (s : ℕ) (b : Binding) → s < length bs → b ≡ get_or bs s b → slice_get (site_views bs) s ≡ Some (site_view b)
-site_there [] s b l e = absurd (omega arith)
-site_there (x ∷ bs) zero b l e = ap (λ y. Some (site_view y)) (sym e)
-site_there (x ∷ bs) (suc s) b l e = site_there bs s b (omega arith) e
+-- 1. look-ups
+abbrev named : (ℕ → ℕ) → List ℕ → List (ℕ × ℕ)
+named f sites = map (λ s. (s, f s)) sites
 
--- what is at hand of a site is whether it is available
-pub available_step : (bs : List Binding) → ((s a : ℕ) → Contains (sources_at (site_views bs) s) a → a < s) → (ar : Around) (s site : ℕ) (b : Binding) (brought : List ℕ) (table : List Bool) (r : Bool)
-    → s < length bs → b ≡ get_or bs s b → site ≡ s → brought ≡ ar.brought → table ≡ map (available (site_views bs) ar) (up_to s)
-    → r ≡ (is_in site brought || (not (waits (Some (site_view b))) && list_all (λ u. slice_index_or table u false) (sources_of (site_view b))))
-    → r ≡ available (site_views bs) ar s
-available_step bs sources ar s site b brought table r l e f g h k =
-    k
-    ∙ ap (λ x. is_in x brought || (not (waits (Some (site_view b))) && list_all (λ u. slice_index_or table u false) (sources_of (site_view b)))) f
-    ∙ ap (λ x. is_in s x || (not (waits (Some (site_view b))) && list_all (λ u. slice_index_or table u false) (sources_of (site_view b)))) g
-    ∙ ap (λ x. is_in s ar.brought || (not (waits (Some (site_view b))) && list_all (λ u. slice_index_or x u false) (sources_of (site_view b)))) h
-    ∙ ap (λ o. is_in s ar.brought || (not (waits o) && list_all (λ u. slice_index_or (map (available (site_views bs) ar) (up_to s)) u false) (of o))) (sym (site_there bs s b l e))
-    ∙ available_by (site_views bs) sources ar.brought ar refl s
+name_there : (f : ℕ → ℕ) (sites : List ℕ) (s : ℕ) → is_in s sites ≡ true → name_in (named f sites) s ≡ f s
+name_there f [] s h = absurd (false≢true h)
+name_there f (x ∷ xs) s h =
+    elim (cases_Bool (x == s)) [
+      | inl t ↦ cond-true (x == s) (f x) (name_in (named f xs) s) t ∙ ap f (eqb-true x s t)
+      | inr n ↦ cond-false (x == s) (f x) (name_in (named f xs) s) n ∙ name_there f xs s (sym (ap (λ b. b || is_in s xs) n) ∙ h)
+    ]
+
+own_name : (f : ℕ → ℕ) (sites : List ℕ) (s : ℕ) → is_in s sites ≡ false → name_in (named f sites) s ≡ s
+own_name f [] s h = refl
+own_name f (x ∷ xs) s h =
+    elim (cases_Bool (x == s)) [
+      | inl t ↦ absurd (false≢true (sym h ∙ or_left (x == s) (is_in s xs) t))
+      | inr n ↦ cond-false (x == s) (f x) (name_in (named f xs) s) n ∙ own_name f xs s (sym (ap (λ b. b || is_in s xs) n) ∙ h)
+    ]
+
+-- a class goes by its only site, or by one of the pairs'
+class_in : (ps : List (ℕ × ℕ)) (x : ℕ) → (class ps x ≡ x) ⊎ (is_in (class ps x) (sites_of_pairs ps) ≡ true)
+class_in [] x = inl refl
+class_in (p ∷ ps) x =
+    elim (cases_Bool (class ps x == class ps p.0)) [
+      | inl t ↦ inr (ap (λ y. is_in y (sites_of_pairs (p ∷ ps))) (cond-true (class ps x == class ps p.0) (class ps p.1) (class ps x) t) ∙ second (class_in ps p.1))
+      | inr f ↦
+          let e = cond-false (class ps x == class ps p.0) (class ps p.1) (class ps x) f in
+          elim (class_in ps x) [
+            | inl q ↦ inl (e ∙ q)
+            | inr q ↦ inr (ap (λ y. is_in y (sites_of_pairs (p ∷ ps))) e ∙ behind (class ps x) q)
+          ]
+    ]
   where
-    of : Option Site → List ℕ
-    of o = elim o [ None ↦ [] | Some x ↦ sources_of x ]
+    behind : (y : ℕ) → is_in y (sites_of_pairs ps) ≡ true → is_in y (sites_of_pairs (p ∷ ps)) ≡ true
+    behind y q = or_right (p.0 == y) ((p.1 == y) || is_in y (sites_of_pairs ps)) (or_right (p.1 == y) (is_in y (sites_of_pairs ps)) q)
 
-pub joined_start : (n : ℕ) (pairs : List (ℕ × ℕ)) (left : ℕ) (names : List ℕ) → length pairs ≤ left → names ≡ up_to n → names ≡ map (class (drop left pairs)) (up_to n)
-joined_start n pairs left names l e = e ∙ names_start n ∙ ap (λ ps. map (class ps) (up_to n)) (sym (drop_of_length-le pairs l))
+    second : (class ps p.1 ≡ p.1) ⊎ (is_in (class ps p.1) (sites_of_pairs ps) ≡ true) → is_in (class ps p.1) (sites_of_pairs (p ∷ ps)) ≡ true
+    second (inl q) =
+        or_right (p.0 == class ps p.1) ((p.1 == class ps p.1) || is_in (class ps p.1) (sites_of_pairs ps))
+        (or_left (p.1 == class ps p.1) (is_in (class ps p.1) (sites_of_pairs ps)) (eq-eqb p.1 (class ps p.1) (sym q)))
+    second (inr q) = behind (class ps p.1) q
 
-pub joined_step : (n : ℕ) (pairs : List (ℕ × ℕ)) (left k : ℕ) (p : ℕ × ℕ) (names seen next : List ℕ) → ArePairsWithin n pairs → left ≡ suc k → left ≤ length pairs → p ≡ get_or pairs k p
-    → names ≡ map (class (drop left pairs)) (up_to n) → seen ≡ names
-    → next ≡ map (λ x. if x == slice_index_or seen p.0 p.0 then slice_index_or seen p.1 p.1 else x) seen
-    → next ≡ map (class (drop k pairs)) (up_to n)
-joined_step n pairs left k p names seen next within z l e f g h =
-    let there = within p (k, omega arith, sym e) in
-    h ∙ names_more n p (drop (suc k) pairs) seen (g ∙ f ∙ ap (λ j. map (class (drop j pairs)) (up_to n)) z) there.0 there.1
-    ∙ ap (λ ps. map (class ps) (up_to n)) (sym (drop-cons pairs k p (omega arith) ∙ ap (λ q. q ∷ drop (suc k) pairs) (sym e)))
+neither : (a b : Bool) → (a || b) ≡ false → (a ≡ false) × (b ≡ false)
+neither true b h = absurd (false≢true (sym h))
+neither false b h = (refl, h)
+
+-- a site of no pair is its own class
+apart : (ps : List (ℕ × ℕ)) (x s : ℕ) → class ps s ≡ s → (x == s) ≡ false → is_in s (sites_of_pairs ps) ≡ false → (class ps s == class ps x) ≡ false
+apart ps x s same other rest =
+    elim (cases_Bool (class ps s == class ps x)) [
+      | inl t ↦
+          let e : class ps x ≡ s = sym (eqb-true (class ps s) (class ps x) t) ∙ same in
+          elim (class_in ps x) [
+            | inl q ↦ absurd (false≢true (sym other ∙ eq-eqb x s (sym q ∙ e)))
+            | inr q ↦ absurd (false≢true (sym rest ∙ ap (λ y. is_in y (sites_of_pairs ps)) (sym e) ∙ q))
+          ]
+      | inr f ↦ f
+    ]
+
+own_class : (ps : List (ℕ × ℕ)) (s : ℕ) → is_in s (sites_of_pairs ps) ≡ false → class ps s ≡ s
+own_class [] s h = refl
+own_class (p ∷ ps) s h =
+    let first = neither (p.0 == s) ((p.1 == s) || is_in s (sites_of_pairs ps)) h in
+    let rest = (neither (p.1 == s) (is_in s (sites_of_pairs ps)) first.1).1 in
+    let same = own_class ps s rest in
+    cond-false (class ps s == class ps p.0) (class ps p.1) (class ps s) (apart ps p.0 s same first.0 rest) ∙ same
+
+-- 2. pair by pair
+pub named_all : (pairs names : List (ℕ × ℕ)) → names ≡ map (λ s. (s, class pairs s)) (sites_of_pairs pairs) → IsNaming pairs names
+named_all pairs names e s =
+    ap (λ l. name_in l s) e
+    ∙ elim (cases_Bool (is_in s (sites_of_pairs pairs))) [
+      | inl t ↦ name_there (class pairs) (sites_of_pairs pairs) s t
+      | inr f ↦ own_name (class pairs) (sites_of_pairs pairs) s f ∙ sym (own_class pairs s f)
+    ]
+
+abbrev own : ℕ → ℕ × ℕ
+own s = (s, s)
+
+abbrev both : ℕ × ℕ → List ℕ
+both q = q.0 ∷ (q.1 ∷ [])
+
+pub own_more : (pairs : List (ℕ × ℕ)) (i : ℕ) (p d : ℕ × ℕ) (names one next : List (ℕ × ℕ)) → i < length pairs → p ≡ get_or pairs i d → names ≡ map (λ s. (s, s)) (sites_of_pairs (take i pairs))
+    → one ≡ names ++ (p.0, p.0) ∷ [] → next ≡ one ++ (p.1, p.1) ∷ [] → next ≡ map (λ s. (s, s)) (sites_of_pairs (take (i + 1) pairs))
+own_more pairs i p d names one next l e f g h =
+    h ∙ ap (λ n. n ++ (p.1, p.1) ∷ []) (g ∙ ap (λ n. n ++ (p.0, p.0) ∷ []) f)
+    ∙ append_assoc (map own (sites_of_pairs (take i pairs))) ((p.0, p.0) ∷ []) ((p.1, p.1) ∷ [])
+    ∙ sym (map-append own (sites_of_pairs (take i pairs)) (p.0 ∷ (p.1 ∷ [])))
+    ∙ ap (map own) (sym (flat_map-append both (take i pairs) (p ∷ [])) ∙ ap sites_of_pairs (ap (λ q. take i pairs ++ q ∷ []) e ∙ sym (take_more pairs i d l)))
+
+named_more : (sites : List ℕ) (p : ℕ × ℕ) (ps names : List (ℕ × ℕ)) → names ≡ named (class ps) sites → is_in p.0 sites ≡ true → is_in p.1 sites ≡ true
+    → map (λ e. (e.0, if e.1 == name_in names p.0 then name_in names p.1 else e.1)) names ≡ named (class (p ∷ ps)) sites
+named_more sites p ps names e k l =
+    ap (λ t. map (λ q. (q.0, if q.1 == name_in t p.0 then name_in t p.1 else q.1)) t) e
+    ∙ ap (λ y. map (λ q. (q.0, if q.1 == y then name_in (named (class ps) sites) p.1 else q.1)) (named (class ps) sites)) (name_there (class ps) sites p.0 k)
+    ∙ ap (λ y. map (λ q. (q.0, if q.1 == class ps p.0 then y else q.1)) (named (class ps) sites)) (name_there (class ps) sites p.1 l)
+    ∙ twice sites
+  where
+    twice : (xs : List ℕ) → map (λ q. (q.0, if q.1 == class ps p.0 then class ps p.1 else q.1)) (named (class ps) xs) ≡ named (class (p ∷ ps)) xs
+    twice [] = refl
+    twice (x ∷ xs) = ap (λ l. (x, class (p ∷ ps) x) ∷ l) (twice xs)
+
+pub joined_start : (pairs : List (ℕ × ℕ)) (left : ℕ) (names : List (ℕ × ℕ)) → length pairs ≤ left → names ≡ map (λ s. (s, s)) (sites_of_pairs pairs) → names ≡ map (λ s. (s, class (drop left pairs) s)) (sites_of_pairs pairs)
+joined_start pairs left names l e = e ∙ ap (λ ps. map (λ s. (s, class ps s)) (sites_of_pairs pairs)) (sym (drop_of_length-le pairs l))
+
+pub joined_step : (pairs : List (ℕ × ℕ)) (left k : ℕ) (p : ℕ × ℕ) (names seen next : List (ℕ × ℕ)) → left ≡ suc k → left ≤ length pairs → p ≡ get_or pairs k p
+    → names ≡ map (λ s. (s, class (drop left pairs) s)) (sites_of_pairs pairs) → seen ≡ names
+    → next ≡ map (λ e. (e.0, if e.1 == name_in seen p.0 then name_in seen p.1 else e.1)) seen
+    → next ≡ map (λ s. (s, class (drop k pairs) s)) (sites_of_pairs pairs)
+joined_step pairs left k p names seen next z l e f g h =
+    let there : Contains pairs p = (k, omega arith, sym e) in
+    let one = member_is_in p.0 (sites_of_pairs pairs) (in_flat_map (λ q. q.0 ∷ (q.1 ∷ [])) pairs p p.0 there (in_head p.0 (p.1 ∷ []))) in
+    let other = member_is_in p.1 (sites_of_pairs pairs) (in_flat_map (λ q. q.0 ∷ (q.1 ∷ [])) pairs p p.1 there (in_tail p.0 p.1 (p.1 ∷ []) (in_head p.1 []))) in
+    h ∙ named_more (sites_of_pairs pairs) p (drop (suc k) pairs) seen (g ∙ f ∙ ap (λ j. map (λ s. (s, class (drop j pairs) s)) (sites_of_pairs pairs)) z) one other
+    ∙ ap (λ ps. map (λ s. (s, class ps s)) (sites_of_pairs pairs)) (sym (drop-cons pairs k p (omega arith) ∙ ap (λ q. q ∷ drop (suc k) pairs) (sym e)))

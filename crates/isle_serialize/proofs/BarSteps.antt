@@ -1,67 +1,45 @@
--- The bar of a test, rule by rule, and what it says of the test's cover.
-use Rattle.std.proofs.Common.{◌≡◌, ℕ, ℤ, Bool, true, false, not, ◌&&◌, ◌||◌, List, [], ◌∷◌, ◌++◌, Option, Some, None, refl, sym, ap, ◌∙◌, inl, inr, arith, ◌≤ℤ◌}
-use Rattle.std.specs.List.{filter, list_all}
-use Rattle.std.proofs.lemmas.Bool.{cases_Bool, cond-true, cond-false, and_parts, and_from}
-use Rattle.std.proofs.lemmas.Int.{ints}
-use Rattle.std.proofs.lemmas.List.Folds.{list_all-append}
+-- The bar of a test, and what it says of the test's cover.
+use Rattle.std.proofs.Common.{◌≡◌, ℕ, Bool, true, false, not, ◌&&◌, ◌||◌, cond, List, [], ◌∷◌, Option, Some, Contains, refl, sym, ap, ◌∙◌, subst, inl, inr, slice_get, length, take}
+use Rattle.std.specs.List.{filter, find, list_all, list_any, prefix_len}
+use Rattle.std.proofs.lemmas.Bool.{cases_Bool, cond-true, cond-false, and_parts, and_from, false≢true, or_cases, or_right}
 use Rattle.isle_model.specs.sites.Sites.{SetRule}
+use Rattle.isle_model.specs.trees.Best.{descend}
 use Rattle.isle_model.specs.trees.Tests.{Test, needs_at, is_lower, is_covered, cover}
-use Rattle.isle_laws_trees.proofs.Covers.{prio_at, lower_at_most, not_lower_at_least, at_least_not_lower}
+use Rattle.isle_model.proofs.Members.{in_head, in_tail, in_filter, each_passes, all_pass, passes_any}
+use Rattle.isle_laws_trees.proofs.Covers.{prio_at, not_lower_at_least, at_least_not_lower, first_is_top, descend_rest}
 use Rattle.isle_laws_trees.proofs.Exact.{not_exact}
-use Rattle.isle_serialize.specs.Bars.{reaches, is_at_bar, higher, bar_with, IsBar}
+use Rattle.isle_serialize.specs.Bars.{reaches, is_at_bar, IsBar}
+use Rattle.isle_serialize.proofs.Descents.{none_kept, itself, through, reaching_first}
 use Rattle.isle_serialize.proofs.Tables.{same_tests}
 use Rattle.isle_serialize.proofs.TestSteps.{kept_alike}
 
 module _ (rules : List SetRule) where
-  through : (x y z : ℤ) → x ≤ℤ y → y ≤ℤ z → x ≤ℤ z
-  through x y z a b = omega (arith, ints)
+  abbrev waits : Test → ℕ → ℕ → Bool
+  waits t i j = needs_at rules t j || not (is_lower rules i j)
 
-  -- a rule is below neither of two exactly where it isn't below the higher one
-  below_neither : (bar : Option ℕ) (x i : ℕ) → (reaches rules bar i && not (is_lower rules i x)) ≡ reaches rules (Some (higher rules bar x)) i
-  below_neither None x i = refl
-  below_neither (Some b) x i =
-      elim (cases_Bool (is_lower rules b x)) [
+  -- 1. of rules in order the first that doesn't need a test is its bar
+  pub first_is_bar : (t : Test) (here : List ℕ) → descend rules here ≡ true → IsBar rules here t (find (λ i. not (needs_at rules t i)) here)
+  first_is_bar t [] h i = refl
+  first_is_bar t (x ∷ xs) h i =
+      elim (cases_Bool (needs_at rules t x)) [
         | inl y ↦
-            same_tests (not (is_lower rules i b) && not (is_lower rules i x)) (not (is_lower rules i x))
-            (λ h. (and_parts (not (is_lower rules i b)) (not (is_lower rules i x)) h).1)
-            (λ h.
-            let top = not_lower_at_least rules i x ((not_exact (is_lower rules i x)).0 h) in
-            and_from (not (is_lower rules i b)) (not (is_lower rules i x))
-            ((not_exact (is_lower rules i b)).1 (at_least_not_lower rules i b (through (prio_at rules b) (prio_at rules x) (prio_at rules i) (lower_at_most rules b x y) top))) h)
-            ∙ ap (λ k. not (is_lower rules i k)) (sym (cond-true (is_lower rules b x) x b y))
+            ap (λ b. (b || not (is_lower rules i x)) && list_all (waits t i) xs) y ∙ first_is_bar t xs (descend_rest rules x xs h) i
+            ∙ ap (λ b. reaches rules b i) (sym (cond-false (not (needs_at rules t x)) (Some x) (find (λ j. not (needs_at rules t j)) xs) (ap not y)))
         | inr f ↦
-            same_tests (not (is_lower rules i b) && not (is_lower rules i x)) (not (is_lower rules i b))
-            (λ h. (and_parts (not (is_lower rules i b)) (not (is_lower rules i x)) h).0)
-            (λ h.
-            let top = not_lower_at_least rules i b ((not_exact (is_lower rules i b)).0 h) in
-            and_from (not (is_lower rules i b)) (not (is_lower rules i x)) h
-            ((not_exact (is_lower rules i x)).1 (at_least_not_lower rules i x (through (prio_at rules x) (prio_at rules b) (prio_at rules i) (not_lower_at_least rules b x f) top))))
-            ∙ ap (λ k. not (is_lower rules i k)) (sym (cond-false (is_lower rules b x) x b f))
+            ap (λ b. (b || not (is_lower rules i x)) && list_all (waits t i) xs) f
+            ∙ same_tests (not (is_lower rules i x) && list_all (waits t i) xs) (not (is_lower rules i x)) (λ k. (and_parts (not (is_lower rules i x)) (list_all (waits t i) xs) k).0)
+            (λ k. and_from (not (is_lower rules i x)) (list_all (waits t i) xs) k (all_pass (waits t i) xs (behind k)))
+            ∙ ap (λ b. reaches rules b i) (sym (cond-true (not (needs_at rules t x)) (Some x) (find (λ j. not (needs_at rules t j)) xs) (ap not f)))
       ]
+    where
+      behind : not (is_lower rules i x) ≡ true → (j : ℕ) → Contains xs j → waits t i j ≡ true
+      behind k j c =
+          or_right (needs_at rules t j) (not (is_lower rules i j))
+          ((not_exact (is_lower rules i j)).1
+          (at_least_not_lower rules i j
+          (through rules (prio_at rules j) (prio_at rules x) (prio_at rules i) (first_is_top rules x xs h j (in_tail x j xs c)) (not_lower_at_least rules i x ((not_exact (is_lower rules i x)).0 k)))))
 
-  and_true : (b : Bool) → (b && true) ≡ b
-  and_true true = refl
-  and_true false = refl
-
-  module _ (t : Test) (xs : List ℕ) (bar : Option ℕ) (x : ℕ) (so_far : IsBar rules xs t bar) where
-    abbrev waits : ℕ → ℕ → Bool
-    waits i j = needs_at rules t j || not (is_lower rules i j)
-
-    parts : (i : ℕ) → list_all (waits i) (xs ++ x ∷ []) ≡ (reaches rules bar i && waits i x)
-    parts i = list_all-append (waits i) xs (x ∷ []) ∙ (let a = so_far i in let b = and_true (waits i x) in λ k. a k && b k)
-
-    pub bar_next : IsBar rules (xs ++ x ∷ []) t (bar_with rules t bar x)
-    bar_next i =
-        elim (cases_Bool (needs_at rules t x)) [
-          | inl y ↦
-              parts i ∙ ap (λ b. reaches rules bar i && (b || not (is_lower rules i x))) y ∙ and_true (reaches rules bar i)
-              ∙ ap (λ b. reaches rules b i) (sym (cond-true (needs_at rules t x) bar (Some (higher rules bar x)) y))
-          | inr f ↦
-              parts i ∙ ap (λ b. reaches rules bar i && (b || not (is_lower rules i x))) f ∙ below_neither bar x i
-              ∙ ap (λ b. reaches rules b i) (sym (cond-false (needs_at rules t x) bar (Some (higher rules bar x)) f))
-        ]
-
-  -- a test covers what needs it and isn't below its bar
+  -- 2. a test covers what needs it and isn't below its bar
   covered_at_bar : (here : List ℕ) (t : Test) (bar : Option ℕ) → IsBar rules here t bar → (i : ℕ) → is_at_bar rules t bar i ≡ is_covered rules here t i
   covered_at_bar here t bar h i = ap (λ b. needs_at rules t i && b) (sym (h i))
 
@@ -70,3 +48,61 @@ module _ (rules : List SetRule) where
 
   pub others_at_bar : (here : List ℕ) (t : Test) (bar : Option ℕ) → IsBar rules here t bar → filter (λ i. not (is_at_bar rules t bar i)) here ≡ filter (λ i. not (is_covered rules here t i)) here
   others_at_bar here t bar h = kept_alike (λ i. not (is_at_bar rules t bar i)) (λ i. not (is_covered rules here t i)) here (λ i c. ap not (covered_at_bar here t bar h i))
+
+  -- counted among those that reach the bar
+  pub needing_reach : (here : List ℕ) (t : Test) (bar : Option ℕ) → IsBar rules here t bar → filter (needs_at rules t) (filter (reaches rules bar) here) ≡ cover rules here t
+  needing_reach here t bar h = twice here ∙ cover_at_bar here t bar h
+    where
+      twice : (xs : List ℕ) → filter (needs_at rules t) (filter (reaches rules bar) xs) ≡ filter (is_at_bar rules t bar) xs
+      twice [] = refl
+      twice (x ∷ xs) =
+          elim (cases_Bool (reaches rules bar x)) [
+            | inl y ↦
+                ap (filter (needs_at rules t)) (cond-true (reaches rules bar x) (x ∷ filter (reaches rules bar) xs) (filter (reaches rules bar) xs) y)
+                ∙ (let r = twice xs in let e = sym (ap (λ b. needs_at rules t x && b) y ∙ whole (needs_at rules t x)) in λ i. cond (e i) (x ∷ r i) (r i))
+            | inr f ↦
+                ap (filter (needs_at rules t)) (cond-false (reaches rules bar x) (x ∷ filter (reaches rules bar) xs) (filter (reaches rules bar) xs) f) ∙ twice xs
+                ∙ sym (cond-false (is_at_bar rules t bar x) (x ∷ filter (is_at_bar rules t bar) xs) (filter (is_at_bar rules t bar) xs) (ap (λ b. needs_at rules t x && b) f ∙ none (needs_at rules t x)))
+          ]
+        where
+          whole : (b : Bool) → (b && true) ≡ b
+          whole true = refl
+          whole false = refl
+
+          none : (b : Bool) → (b && false) ≡ false
+          none true = refl
+          none false = refl
+
+  pub covered_count : (here : List ℕ) (t : Test) (bar : Option ℕ) (n count : ℕ) → descend rules here ≡ true → bar ≡ find (λ i. not (needs_at rules t i)) here → n ≡ prefix_len (reaches rules bar) here
+      → count ≡ length (filter (needs_at rules t) (take n here)) → count ≡ length (cover rules here t)
+  covered_count here t bar n count o e f g =
+      g ∙ ap length (ap (λ k. filter (needs_at rules t) (take k here)) f ∙ ap (filter (needs_at rules t)) (reaching_first rules bar here o)
+      ∙ needing_reach here t bar (subst (IsBar rules here t) (sym e) (first_is_bar t here o)))
+
+  -- 3. what none of the highest rules needs covers no rule
+  abbrev highest_of : ℕ → List ℕ → List ℕ
+  highest_of x xs = filter (reaches rules (Some x)) (x ∷ xs)
+
+  pub highest_need : (here : List ℕ) (t : Test) → list_any (needs_at rules t) (filter (reaches rules (slice_get here 0)) here) ≡ false → cover rules here t ≡ []
+  highest_need [] t f = refl
+  highest_need (x ∷ xs) t f = none_kept (is_covered rules (x ∷ xs) t) (x ∷ xs) (λ i c. elim (cases_Bool (is_covered rules (x ∷ xs) t i)) [
+    | inl y ↦ absurd (covers i c (and_parts (needs_at rules t i) (list_all (waits t i) (x ∷ xs)) y))
+    | inr n ↦ n
+  ])
+    where
+      needless : (i : ℕ) → Contains (highest_of x xs) i → needs_at rules t i ≡ true → ⊥
+      needless i c n = false≢true (sym f ∙ passes_any (needs_at rules t) (highest_of x xs) i c n)
+
+      first_in : Contains (highest_of x xs) x
+      first_in = in_filter (reaches rules (Some x)) (x ∷ xs) x (in_head x xs) (ap not (at_least_not_lower rules x x (itself rules (prio_at rules x))))
+
+      covers : (i : ℕ) → Contains (x ∷ xs) i → (needs_at rules t i ≡ true) × (list_all (waits t i) (x ∷ xs) ≡ true) → ⊥
+      covers i c h =
+          elim (cases_Bool (is_lower rules i x)) [
+            | inl y ↦
+                elim (or_cases (needs_at rules t x) (not (is_lower rules i x)) (each_passes (waits t i) (x ∷ xs) h.1 x (in_head x xs))) [
+                  | inl n ↦ needless x first_in n
+                  | inr n ↦ false≢true (ap not (sym y) ∙ n)
+                ]
+            | inr n ↦ needless i (in_filter (reaches rules (Some x)) (x ∷ xs) i c (ap not n)) h.0
+          ]

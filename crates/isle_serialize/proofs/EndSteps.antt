@@ -1,13 +1,12 @@
 -- The end of a block: rules in order, and their returns, one after another.
 use Rattle.std.proofs.Common.{◌≡◌, ℕ, ℤ, zero, suc, ◌+◌, ◌<◌, ◌≤◌, Bool, true, false, not, ◌&&◌, nat_lt, cond, List, [], ◌∷◌, ◌++◌, length, get_or, drop, slice_get, Contains, filter, refl, sym, ap, ◌∙◌, subst, inl, inr, arith, lt-ltb, int_cmp, int_eq, is_lt, ◌≤ℤ◌, add-one, drop-cons, drop_of_length-le}
-use Rattle.std.specs.Prelude.{IsPermutation}
 use Rattle.std.specs.Cmp.{IsStrictWeakOrder, int_cmp_total}
 use Rattle.std.specs.List.{list_all}
 use Rattle.std.specs.List.Sorted.{ties, IsSortedBy, IsStableBy}
 use Rattle.std.proofs.lemmas.Bool.{cases_Bool, cond-true, and_parts, and_from, or_left, or_right}
 use Rattle.std.proofs.lemmas.Bool.Decides.{Decides-int_eq}
 use Rattle.std.proofs.lemmas.Int.{ints}
-use Rattle.std.proofs.lemmas.List.Sorted.{ranks_by, IsStrictWeakOrder-flip, sorted_far, IsPermutation-refl, IsPermutation-trans}
+use Rattle.std.proofs.lemmas.List.Sorted.{ranks_by, IsStrictWeakOrder-flip, sorted_far, IsPermutation-refl}
 use Rattle.isle_model.specs.sites.Sites.{SetRule, SiteSet}
 use Rattle.isle_model.specs.trees.Trees.{Tree, no_step, step, join, return_of, m_return}
 use Rattle.isle_model.specs.trees.Places as Places
@@ -112,8 +111,7 @@ module _ (set : SiteSet) (start : Places.Around) (order : List ℕ) where
       let whole = far (step s.bind_order.items (return_of (slice_get set.rules n)) t) (subst (λ h. AreEnds set ar h (step s.bind_order.items (return_of (slice_get set.rules n)) t)) (sym cons) more) in
       subst (AreEnds set start order) (sym (ap (λ xs. join (steps_view xs) t) e ∙ step_joined steps s t ∙ ap (λ c. join (steps_view steps) (step s.bind_order.items c t)) check)) whole
 
-  pub returns_whole : (ar : Places.Around) (here : List ℕ) (k : ℕ) (steps : List EvalStep) → length order ≤ k → IsPermutation here order → EndsSoFar ar k steps → AreEnds set start here (steps_view steps)
-  returns_whole ar here k steps l moved far =
+  pub returns_whole : (ar : Places.Around) (k : ℕ) (steps : List EvalStep) → length order ≤ k → EndsSoFar ar k steps → AreEnds set start order (steps_view steps)
+  returns_whole ar k steps l far =
       let a = far no_step (subst (λ h. AreEnds set ar h no_step) (sym (drop_of_length-le order l)) (no_ends set ar)) in
-      let b = subst (AreEnds set start order) (join_end (steps_view steps)) a in
-      record { marked = b.marked; same = b.same; rules = IsPermutation-trans here order _ moved b.rules; ordered = b.ordered; steps = b.steps }
+      subst (AreEnds set start order) (join_end (steps_view steps)) a

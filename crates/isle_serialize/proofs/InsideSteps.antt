@@ -1,5 +1,6 @@
 -- What is kept of a place says the same as what is around it, inside tests too.
-use Rattle.std.proofs.Common.{◌≡◌, ℕ, List, [], ◌∷◌, ◌++◌, Option, Some, slice_get, flat_map, refl, sym, ap, ◌∙◌}
+use Rattle.std.proofs.Common.{◌≡◌, ◌==◌, ◌||◌, ℕ, not, List, [], ◌∷◌, ◌++◌, Option, Some, slice_get, flat_map, filter, refl, sym, ap, ◌∙◌, inl, inr, eqb-true}
+use Rattle.std.proofs.lemmas.Bool.{cases_Bool, cond-true, cond-false, or_cases, or_right}
 use Rattle.std.proofs.lemmas.List.{append_assoc}
 use Rattle.isle_model.specs.sites.Sites.{iterator_site, Constraint, SiteSet, sources_at}
 use Rattle.isle_model.specs.trees.Trees.{m_loop, m_no_step}
@@ -9,6 +10,7 @@ use Rattle.isle_laws_trees.proofs.Passing.{sources_there}
 use Rattle.isle_serialize.specs.declared.around.Around.{Around}
 use Rattle.isle_serialize.specs.AroundViews.{around_view, IsInside, after_uses, arm_around, loop_around}
 use Rattle.isle_serialize.proofs.Alike.{Alike}
+use Rattle.isle_serialize.proofs.Tables.{is_in_append, same_tests}
 
 pub inside_alike : (a : Around) (ar : Places.Around) → IsInside (around_view a) ar → Alike (around_view a) ar
 inside_alike a ar h = record { sources = λ s. ap (is_in s) h.sources; joined = h.joined; brought = h.brought; emitted = h.emitted }
@@ -53,3 +55,20 @@ module _ (set : SiteSet) (around : Around) where
     loop_after a h =
         inside_alike a (after_step set ar (m_loop result m_no_step))
         (record { sources = h.sources; joined = h.joined; brought = h.brought; emitted = λ s. h.emitted s ∙ ap (λ l. is_in s (l ++ ar.emitted)) (sym below) })
+
+-- sites that are listed already needn't be listed again
+pub listed_once : (old new : List ℕ) (s : ℕ) → is_in s (filter (λ t. not (is_in t old)) new ++ old) ≡ is_in s (new ++ old)
+listed_once old [] s = refl
+listed_once old (x ∷ new) s =
+    elim (cases_Bool (is_in x old)) [
+      | inl y ↦
+          ap (λ l. is_in s (l ++ old)) (cond-false (not (is_in x old)) (x ∷ filter (λ t. not (is_in t old)) new) (filter (λ t. not (is_in t old)) new) (ap not y)) ∙ listed_once old new s
+          ∙ same_tests (is_in s (new ++ old)) ((x == s) || is_in s (new ++ old)) (or_right (x == s) (is_in s (new ++ old)))
+          (λ h. elim (or_cases (x == s) (is_in s (new ++ old)) h) [
+            | inl e ↦ is_in_append s new old ∙ or_right (is_in s new) (is_in s old) (ap (λ k. is_in k old) (sym (eqb-true x s e)) ∙ y)
+            | inr r ↦ r
+          ])
+      | inr f ↦
+          ap (λ l. is_in s (l ++ old)) (cond-true (not (is_in x old)) (x ∷ filter (λ t. not (is_in t old)) new) (filter (λ t. not (is_in t old)) new) (ap not f))
+          ∙ ap (λ b. (x == s) || b) (listed_once old new s)
+    ]

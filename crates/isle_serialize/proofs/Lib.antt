@@ -3,12 +3,14 @@ pub mod Tables
 pub mod AroundSteps
 pub mod TestSteps
 pub mod BarSteps
-pub mod MarkSteps
+pub mod Opening
+pub mod Available
 pub mod Alike
 pub mod Growth
 pub mod Listed
 pub mod FieldSteps
 pub mod Ascents
+pub mod Descents
 pub mod StepsJoined
 pub mod InsideSteps
 pub mod EndSteps

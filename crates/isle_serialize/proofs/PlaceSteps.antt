@@ -1,25 +1,25 @@
 -- A place and its next test: the places inside it and behind it, and the tree that grows by it.
-use Rattle.std.proofs.Common.{◌≡◌, ◌≢◌, ℕ, ◌<◌, Bool, true, false, not, ◌&&◌, nat_lt, List, [], ◌∷◌, ◌++◌, length, Option, Some, None, slice_get, Contains, filter, refl, sym, ap, ◌∙◌, subst, inl, inr, arith, ltb-true}
+use Rattle.std.proofs.Common.{◌≡◌, ◌≢◌, ℕ, ◌<◌, Bool, true, false, not, ◌&&◌, nat_lt, List, [], ◌∷◌, ◌++◌, length, Option, Some, None, slice_get, Contains, filter, refl, sym, ap, ◌∙◌, subst, arith, ltb-true}
 use Rattle.std.proofs.lemmas.Bool.{and_parts, false≢true}
 use Rattle.std.proofs.lemmas.List.Filters.{length-filter_both}
 use Rattle.isle_model.specs.sites.Sites.{iterator_site, SetRule, SiteSet}
 use Rattle.isle_model.specs.trees.Trees.{Tree, step, join, Check, m_match, m_equal, m_loop, m_no_step, m_no_arm}
+use Rattle.isle_model.specs.trees.Best.{descend}
 use Rattle.isle_model.specs.trees.Places as Places
 use Rattle.isle_model.specs.trees.Places.{is_in, joins, available, bind_order, in_equal, in_loop, after_step}
 use Rattle.isle_model.specs.trees.Tests.{Test, match_test, equal_test, loop_test, is_needed, needs_at, is_covered, cover, sources_around, is_at_hand, is_open_site, IsOpen}
-use Rattle.isle_model.proofs.Members.{in_cases, from_filter, some_member, member_found, member_from_get}
+use Rattle.isle_model.proofs.Members.{from_filter, some_member, member_found, member_from_get}
 use Rattle.isle_laws_trees.proofs.Passing.{sources_there}
-use Rattle.isle_sets.specs.Listings.{ascends}
 use Rattle.isle_serialize.specs.declared.around.Around.{Around}
 use Rattle.isle_serialize.specs.declared.steps.NextTest.{NextTest}
 use Rattle.isle_serialize.specs.declared.serialize.Block.{Block}
 use Rattle.isle_serialize.specs.declared.serialize.ControlFlow.{Equal, Loop}
 use Rattle.isle_serialize.specs.declared.serialize.EvalStep.{EvalStep}
-use Rattle.isle_serialize.specs.AroundViews.{around_view, IsInside, ArePairsWithin, after_uses, arm_around, loop_around}
-use Rattle.isle_serialize.specs.Growing.{IsBestFrom, AreEnds, IsBestBody, CanGrow, IsPlace, IsStepOf, test_sites, test_emits, IsNextTest}
+use Rattle.isle_serialize.specs.AroundViews.{around_view, IsInside, after_uses, arm_around, loop_around}
+use Rattle.isle_serialize.specs.Growing.{IsBestFrom, AreEnds, IsBestBody, CanGrow, IsStepOf, test_sites, test_emits, IsNextTest}
 use Rattle.isle_serialize.specs.TestViews.{test_view, IsChosen}
 use Rattle.isle_serialize.specs.TreeViews.{tree_view, check_view, steps_view}
-use Rattle.isle_serialize.proofs.Ascents.{ascends_kept}
+use Rattle.isle_serialize.proofs.Descents.{descend_kept}
 use Rattle.isle_serialize.proofs.Growth.{match_more, equal_more, loop_more, ends_close, from_alike}
 use Rattle.isle_serialize.proofs.InsideSteps.{inside_alike, loop_inside, loop_after}
 use Rattle.isle_serialize.proofs.StepsJoined.{step_joined, steps_joined}
@@ -33,7 +33,7 @@ not_true false e = refl
 -- the steps of a block so far, and what is left: with what may follow, they are best; and no test that stands around the
 -- steps to come is one more
 pub record BlockGrows (set : SiteSet) (start : Places.Around) (here : List ℕ) (ar : Places.Around) (left : List ℕ) (steps : List EvalStep) : Type 0 where
-  pub place : IsPlace set ar left
+  pub ordered : descend set.rules left ≡ true
   pub as_many : untried (length set.sites) ar ≡ untried (length set.sites) start
   pub far : (t : Tree) → IsBestFrom set ar left t → IsBestFrom set start here (join (steps_view steps) t)
 
@@ -46,14 +46,11 @@ module _ (set : SiteSet) where
     abbrev test : Test
     test = test_view next.test
 
-    pub covered_place : IsPlace set ar here → IsPlace set ar next.covered.items
-    covered_place p = record { pairs = p.pairs; ascending = subst (λ l. ascends l ≡ true) (sym h.covered) (ascends_kept (is_covered set.rules here test) here p.ascending) }
+    pub covered_ordered : descend set.rules here ≡ true → descend set.rules next.covered.items ≡ true
+    covered_ordered o = ap (descend set.rules) h.covered ∙ descend_kept set.rules (is_covered set.rules here test) here o
 
-    pub others_place : IsPlace set ar here → IsPlace set (around_view next.after) next.others.items
-    others_place p = record {
-      pairs = subst (ArePairsWithin n) (sym h.after.joined) p.pairs;
-      ascending = subst (λ l. ascends l ≡ true) (sym h.others) (ascends_kept (λ i. not (is_covered set.rules here test i)) here p.ascending);
-    }
+    pub others_ordered : descend set.rules here ≡ true → descend set.rules next.others.items ≡ true
+    others_ordered o = ap (descend set.rules) h.others ∙ descend_kept set.rules (λ i. not (is_covered set.rules here test i)) here o
 
     pub covered_step : IsStepOf set ar test next.covered.items
     covered_step = record {
@@ -130,14 +127,14 @@ module _ (set : SiteSet) where
 
   -- 3. the steps of a block
   module _ (start : Places.Around) (here : List ℕ) where
-    pub block_start : IsPlace set start here → BlockGrows set start here start here []
-    block_start p = record { place = p; as_many = refl; far = λ t b. b }
+    pub block_start : descend set.rules here ≡ true → BlockGrows set start here start here []
+    block_start o = record { ordered = o; as_many = refl; far = λ t b. b }
 
     pub block_more : (around : Around) (left : List ℕ) (next : NextTest) (steps more : List EvalStep) (s : EvalStep) → IsNextTest set (around_view around) left next
         → s.bind_order.items ≡ next.binds.items → IsBestBody set (around_view around) (test_view next.test) next.covered.items (check_view s.check) → more ≡ steps ++ s ∷ []
         → BlockGrows set start here (around_view around) left steps → BlockGrows set start here (around_view next.after) next.others.items more
     block_more around left next steps more s h binds body e g = record {
-      place = others_place (around_view around) left next h g.place;
+      ordered = others_ordered (around_view around) left next h g.ordered;
       as_many = untried_after around left next h ∙ g.as_many;
       far = λ t b. subst (IsBestFrom set start here) (sym (ap (λ xs. join (steps_view xs) t) e ∙ step_joined steps s t ∙ ap (λ bs. join (steps_view steps) (step bs (check_view s.check) t)) binds))
           (g.far (step next.binds.items (check_view s.check) t) (test_more around left next (check_view s.check) t h body b));
@@ -166,20 +163,6 @@ module _ (set : SiteSet) where
     abbrev out : Places.Around
     out = around_view around
 
-    pub equal_place : (a b : ℕ) → IsPlace set out here → IsOpen set out (equal_test a b) → IsInside (around_view inside) (in_equal set out a b) → IsPlace set (around_view inside) here
-    equal_place a b p o i = record { pairs = subst (ArePairsWithin n) (sym i.joined) within; ascending = p.ascending }
-      where
-        within : ArePairsWithin n ((a, b) ∷ out.joined)
-        within q c =
-            elim (in_cases (a, b) q out.joined c) [
-              | inl e ↦
-                  let k = open_pair out a b o in
-                  let l = k.0 in
-                  let m = k.1 in
-                  subst (λ (x : ℕ × ℕ). (x.0 < n) × (x.1 < n)) e (omega (arith, l, m), m)
-              | inr d ↦ p.pairs q d
-            ]
-
     pub equal_fewer : (a b : ℕ) → IsOpen set out (equal_test a b) → IsInside (around_view inside) (in_equal set out a b) → untried n (around_view inside) < untried n out
     equal_fewer a b o i =
         let k = open_pair out a b o in
@@ -187,9 +170,6 @@ module _ (set : SiteSet) where
 
     pub equal_body : (a b : ℕ) (body : Block) → IsInside (around_view inside) (in_equal set out a b) → IsBestFrom set (around_view inside) here (tree_view body) → IsBestBody set out (equal_test a b) here (check_view (Equal a b body))
     equal_body a b body i best = (tree_view body, equal_seen a b body, from_alike set (around_view inside) (in_equal set out a b) here (tree_view body) (inside_alike inside (in_equal set out a b) i) best)
-
-    pub loop_place : (call result : ℕ) → IsPlace set out here → IsInside (around_view inside) (loop_around set out call result) → IsPlace set (around_view inside) here
-    loop_place call result p i = record { pairs = subst (ArePairsWithin n) (sym i.joined) p.pairs; ascending = p.ascending }
 
     pub loop_fewer : (call result : ℕ) → IsOpen set out (loop_test call) → IsInside (around_view inside) (loop_around set out call result) → untried n (around_view inside) < untried n out
     loop_fewer call result o i =
@@ -199,9 +179,6 @@ module _ (set : SiteSet) where
     pub loop_body : (call result : ℕ) (body : Block) → slice_get set.sites result ≡ Some (iterator_site call) → IsInside (around_view inside) (loop_around set out call result)
         → IsBestFrom set (around_view inside) here (tree_view body) → IsBestBody set out (loop_test call) here (check_view (Loop result body))
     loop_body call result body at i best = (result, tree_view body, loop_seen result body, at, from_alike set (around_view inside) (in_loop set out result) here (tree_view body) (loop_inside set around call result at inside i) best)
-
-    pub arm_place : (s : ℕ) (fields : List (Option ℕ)) → IsPlace set out here → IsInside (around_view inside) (arm_around set out s fields) → IsPlace set (around_view inside) here
-    arm_place s fields p i = record { pairs = subst (ArePairsWithin n) (sym i.joined) p.pairs; ascending = p.ascending }
 
     pub arm_fewer : (s : ℕ) (fields : List (Option ℕ)) → IsOpen set out (match_test s) → IsInside (around_view inside) (arm_around set out s fields) → untried n (around_view inside) < untried n out
     arm_fewer s fields o i =

@@ -1,15 +1,16 @@
--- Tables of a set's sites, and what a rule needs by the look-ups of its parts.
-use Rattle.std.proofs.Common.{◌≡◌, ℕ, zero, suc, ◌+◌, ◌<◌, ◌≤◌, ◌==◌, nat_lt, Bool, true, false, not, ◌&&◌, ◌||◌, cond, List, [], ◌∷◌, ◌++◌, map, length, Option, Some, None, is_some, option_map, slice_get, slice_index_or, Contains, refl, sym, ap, ◌∙◌, subst, inl, inr, arith, eqb-true, eq-eqb, ltb-true, ltb-false, if◌then◌else◌, length-append}
-use Rattle.std.specs.List.{list_all}
+-- What a rule needs, by the look-ups of its parts.
+use Rattle.std.proofs.Common.{◌≡◌, ℕ, zero, suc, ◌<◌, ◌==◌, Bool, true, false, ◌&&◌, ◌||◌, cond, List, [], ◌∷◌, ◌++◌, map, length, Option, Some, None, is_some, option_map, slice_get, slice_index_or, refl, sym, ap, ◌∙◌, subst, inl, inr, arith, eqb-true, eq-eqb}
 use Rattle.std.proofs.lemmas.Bool.{cases_Bool, cond-true, cond-false, and_parts, and_from, or_cases, or_left, or_right, false≢true, cases_lt}
-use Rattle.std.proofs.lemmas.List.{get_or_append_left, get_or_push, get_or_past}
 use Rattle.isle_base.specs.Stable.{Members, contains}
 use Rattle.isle_disjointsets.specs.Partition.{in_set, set_of, together, IsPartition}
-use Rattle.isle_model.specs.sites.Sites.{Site, sources_at}
-use Rattle.isle_model.specs.trees.Places.{Around, is_in, class, joins_in, waits, is_available, available}
+use Rattle.isle_model.specs.trees.Places.{is_in, joins_in}
 use Rattle.isle_model.specs.trees.Tests.{up_to}
-use Rattle.isle_model.proofs.Members.{in_head, in_tail}
-use Rattle.isle_sets.specs.SiteViews.{passing_below, member_sites}
+use Rattle.std.specs.Set.{is_member}
+use Rattle.std.proofs.lemmas.Option.{slice_get-map}
+use Rattle.isle_model.specs.trees.Tests.{Test, is_needed, needs_at}
+use Rattle.isle_sets.proofs.SitesIn.{none_passing}
+use Rattle.isle_sets.specs.SiteViews.{passing_below, member_sites, set_rule_view, set_rule_views}
+use Rattle.isle_sets.specs.declared.trie_again.Rule.{Rule}
 
 -- 1. tests that agree both ways
 pub same_tests : (a b : Bool) → (a ≡ true → b ≡ true) → (b ≡ true → a ≡ true) → a ≡ b
@@ -118,7 +119,7 @@ pub member_of : (m : Members ℕ) (s : ℕ) → s < 65536 → contains ◌==◌ 
 member_of m s l =
     same_tests (contains ◌==◌ m s) (is_in s (member_sites m)) (λ h. passing_in 65536 (contains ◌==◌ m) s h l) (from_passing 65536 (contains ◌==◌ m) s)
 
--- 4. tables of the sites below n
+-- 4. lists of what is at each number
 module _ {X : Type 0} (f : ℕ → X) where
   mapped_more : (xs : List ℕ) (n : ℕ) → map f (xs ++ n ∷ []) ≡ map f xs ++ f n ∷ []
   mapped_more [] n = refl
@@ -128,81 +129,11 @@ module _ {X : Type 0} (f : ℕ → X) where
   pub table_more : (n : ℕ) (x : X) → x ≡ f n → map f (up_to n) ++ x ∷ [] ≡ map f (up_to (suc n))
   table_more n x e = ap (λ y. map f (up_to n) ++ y ∷ []) e ∙ sym (mapped_more (up_to n) n)
 
-  table_length : (n : ℕ) → length (map f (up_to n)) ≡ n
-  table_length zero = refl
-  table_length (suc n) = ap length (mapped_more (up_to n) n) ∙ length-append (map f (up_to n)) (f n ∷ []) ∙ ap (λ k. k + 1) (table_length n) ∙ (omega arith)
+-- 5. rules by their numbers, and sets without members
+pub needed_at : (rules : List Rule) (t : Test) (i : ℕ) (o : Option Rule) → slice_get rules i ≡ o → needs_at (set_rule_views rules) t i ≡ is_needed t (option_map set_rule_view o)
+needed_at rules t i o e = ap (is_needed t) (slice_get-map set_rule_view rules i ∙ ap (option_map set_rule_view) e)
 
-  -- an entry by its number
-  pub table_entry : (n s : ℕ) (d : X) → s < n → slice_index_or (map f (up_to n)) s d ≡ f s
-  table_entry zero s d l = absurd (omega arith)
-  table_entry (suc n) s d l =
-      ap (λ t. slice_index_or t s d) (mapped_more (up_to n) n)
-      ∙ elim (cases_lt s n) [
-        | inl m ↦ let k = table_length n in let w : s < length (map f (up_to n)) = omega (arith, k) in get_or_append_left (map f (up_to n)) (f n ∷ []) d s w ∙ table_entry n s d m
-        | inr m ↦ let e : s ≡ n = omega arith in get_or_push (map f (up_to n)) (f n) d s (table_length n ∙ sym e) ∙ ap f (sym e)
-      ]
-
-  pub no_entry : (n s : ℕ) (d : X) → n ≤ s → slice_index_or (map f (up_to n)) s d ≡ d
-  no_entry n s d l = let k = table_length n in let w : length (map f (up_to n)) ≤ s = omega (arith, k) in get_or_past (map f (up_to n)) s d w
-
-pub marked_site : (f : ℕ → Bool) (n s : ℕ) → slice_index_or (map f (up_to n)) s false ≡ (nat_lt s n && f s)
-marked_site f n s =
-    elim (cases_Bool (nat_lt s n)) [
-      | inl t ↦ table_entry f n s false (ltb-true s n t) ∙ sym (ap (λ b. b && f s) t)
-      | inr m ↦ no_entry f n s false (ltb-false s n m) ∙ sym (ap (λ b. b && f s) m)
-    ]
-
--- 5. whether a site is available, by the table of those before it
-module _ (sites : List Site) (sources : (s a : ℕ) → Contains (sources_at sites s) a → a < s) (brought : List ℕ) where
-  -- more layers than a number has change nothing
-  layers : (n s : ℕ) → s < n → is_available n sites brought s ≡ is_available (suc s) sites brought s
-  layers n s l = levels n (suc s) s l (omega arith)
-    where
-      each : (n m : ℕ) (xs : List ℕ) → ((x : ℕ) → Contains xs x → is_available n sites brought x ≡ is_available m sites brought x) → list_all (is_available n sites brought) xs ≡ list_all (is_available m sites brought) xs
-      each n m [] h = refl
-      each n m (x ∷ xs) h =
-          let e = h x (in_head x xs) in
-          let r = each n m xs (λ y c. h y (in_tail x y xs c)) in
-          λ i. e i && r i
-
-      levels : (n m s : ℕ) → s < n → s < m → is_available n sites brought s ≡ is_available m sites brought s
-      levels zero m s l k = absurd (omega arith)
-      levels (suc n) zero s l k = absurd (omega arith)
-      levels (suc n) (suc m) s l k =
-          ap (λ b. is_in s brought || (not (waits (slice_get sites s)) && b))
-          (each n m (sources_at sites s) (λ u c. let b = sources s u c in levels n m u (omega arith) (omega arith)))
-
-  pub available_by : (ar : Around) → ar.brought ≡ brought → (s : ℕ) → (is_in s brought || (not (waits (slice_get sites s)) && list_all (λ u. slice_index_or (map (available sites ar) (up_to s)) u false) (sources_at sites s))) ≡ available sites ar s
-  available_by ar e s =
-      ap (λ b. is_in s brought || (not (waits (slice_get sites s)) && b)) (each (sources_at sites s) (λ u c. table_entry (available sites ar) s u false (sources s u c) ∙ same u ∙ sym (layers s u (sources s u c))))
-      ∙ sym (same s)
-    where
-      same : (u : ℕ) → available sites ar u ≡ is_available (suc u) sites brought u
-      same u = ap (λ b. is_available (suc u) sites b u) e
-
-      each : (xs : List ℕ) → ((x : ℕ) → Contains xs x → slice_index_or (map (available sites ar) (up_to s)) x false ≡ is_available s sites brought x) → list_all (λ u. slice_index_or (map (available sites ar) (up_to s)) u false) xs ≡ list_all (is_available s sites brought) xs
-      each [] h = refl
-      each (x ∷ xs) h =
-          let f = h x (in_head x xs) in
-          let r = each xs (λ y c. h y (in_tail x y xs c)) in
-          λ i. f i && r i
-
--- 6. names of classes
-pub names_start : (n : ℕ) → up_to n ≡ map (class []) (up_to n)
-names_start n = same (up_to n)
-  where
-    same : (xs : List ℕ) → xs ≡ map (class []) xs
-    same [] = refl
-    same (x ∷ xs) = ap (λ l. x ∷ l) (same xs)
-
-pub names_more : (n : ℕ) (p : ℕ × ℕ) (ps : List (ℕ × ℕ)) (names : List ℕ) → names ≡ map (class ps) (up_to n) → p.0 < n → p.1 < n
-    → map (λ x. if x == slice_index_or names p.0 p.0 then slice_index_or names p.1 p.1 else x) names ≡ map (class (p ∷ ps)) (up_to n)
-names_more n p ps names e k l =
-    ap (λ t. map (λ x. if x == slice_index_or t p.0 p.0 then slice_index_or t p.1 p.1 else x) t) e
-    ∙ ap (λ y. map (λ x. if x == y then slice_index_or (map (class ps) (up_to n)) p.1 p.1 else x) (map (class ps) (up_to n))) (table_entry (class ps) n p.0 p.0 k)
-    ∙ ap (λ y. map (λ x. if x == class ps p.0 then y else x) (map (class ps) (up_to n))) (table_entry (class ps) n p.1 p.1 l)
-    ∙ twice (up_to n)
-  where
-    twice : (xs : List ℕ) → map (λ x. if x == class ps p.0 then class ps p.1 else x) (map (class ps) xs) ≡ map (class (p ∷ ps)) xs
-    twice [] = refl
-    twice (x ∷ xs) = ap (λ l. class (p ∷ ps) x ∷ l) (twice xs)
+-- a set without members has no sites
+pub no_members : (m : Members ℕ) (values : List ℕ) → ((y : ℕ) → is_member ◌==◌ values y ≡ contains ◌==◌ m y) → length values ≡ 0 → (s : ℕ) → is_in s (member_sites m) ≡ false
+no_members m [] same e s = ap (is_in s) (none_passing 65536 (contains ◌==◌ m) (λ i. sym (same i)))
+no_members m (x ∷ xs) same e s = absurd (omega arith)

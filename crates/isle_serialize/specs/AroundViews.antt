@@ -1,26 +1,28 @@
 -- What stands around a place, as it is kept: the sources of arms and loops in one list.
-use Rattle.std.specs.Prelude.{◌≡◌, ℕ, ◌<◌, Bool, List, [], ◌∷◌, ◌++◌, length, map, Option, Contains}
+use Rattle.std.specs.Prelude.{◌≡◌, ℕ, ◌==◌, if◌then◌else◌, List, [], ◌∷◌, ◌++◌, Option}
+use Rattle.std.specs.List.{flat_map}
 use Rattle.isle_model.specs.sites.Sites.{SiteSet, sources_at}
 use Rattle.isle_model.specs.trees.Places as Places
-use Rattle.isle_model.specs.trees.Places.{is_in, class, available, all_below, field_sites}
-use Rattle.isle_model.specs.trees.Tests.{up_to, sources_around}
+use Rattle.isle_model.specs.trees.Places.{is_in, class, all_below, field_sites}
+use Rattle.isle_model.specs.trees.Tests.{sources_around}
 use Rattle.isle_serialize.specs.declared.around.Around.{Around}
 
 -- of the arms around only the sources are kept, and they stand with those of the loops: no more is asked of them
 abbrev pub around_view : Around → Places.Around
 around_view a = record { tested = []; joined = a.joined.items; looped = a.sources.items; brought = a.brought.items; emitted = a.emitted.items }
 
--- of each site of a set, whether it is available
-abbrev pub availability : SiteSet → Places.Around → List Bool
-availability set ar = map (available set.sites ar) (up_to (length set.sites))
+-- the sites of pairs
+abbrev pub sites_of_pairs : List (ℕ × ℕ) → List ℕ
+sites_of_pairs pairs = flat_map (λ p. p.0 ∷ (p.1 ∷ [])) pairs
 
--- of each site of a set, its class under the pairs that are joined
-abbrev pub class_names : SiteSet → Places.Around → List ℕ
-class_names set ar = map (class ar.joined) (up_to (length set.sites))
+-- the name of a site by a table of names: a site that isn't in it is its own
+abbrev pub name_in : List (ℕ × ℕ) → ℕ → ℕ
+name_in [] s = s
+name_in (e ∷ es) s = if e.0 == s then e.1 else name_in es s
 
--- pairs of sites below n
-abbrev pub ArePairsWithin : ℕ → List (ℕ × ℕ) → Type 0
-ArePairsWithin n pairs = (p : ℕ × ℕ) → Contains pairs p → (p.0 < n) × (p.1 < n)
+-- a table of the classes of sites under pairs that are joined
+abbrev pub IsNaming : List (ℕ × ℕ) → List (ℕ × ℕ) → Type 0
+IsNaming pairs names = (s : ℕ) → name_in names s ≡ class pairs s
 
 -- what is kept of a place says the same as what is around it: only whether a site is emitted is asked, not how often
 pub record IsInside (kept ar : Places.Around) : Type 0 where

@@ -1,5 +1,5 @@
 -- A bar: of the rules of a place that don't need a test, one of the greatest priority. What is below it can't wait for the test.
-use Rattle.std.specs.Prelude.{◌≡◌, ℕ, Bool, true, not, ◌&&◌, ◌||◌, List, Option, Some, None, if◌then◌else◌}
+use Rattle.std.specs.Prelude.{◌≡◌, ℕ, Bool, true, not, ◌&&◌, ◌||◌, List, Option, Some, None}
 use Rattle.std.specs.List.{list_all}
 use Rattle.isle_model.specs.sites.Sites.{SetRule}
 use Rattle.isle_model.specs.trees.Tests.{Test, needs_at, is_lower}
@@ -12,15 +12,6 @@ reaches rules (Some b) i = not (is_lower rules i b)
 -- whether a rule needs a test and isn't below a bar
 abbrev pub is_at_bar : List SetRule → Test → Option ℕ → ℕ → Bool
 is_at_bar rules t bar i = needs_at rules t i && reaches rules bar i
-
--- the one of the higher priority
-abbrev pub higher : List SetRule → Option ℕ → ℕ → ℕ
-higher rules None i = i
-higher rules (Some b) i = if is_lower rules b i then i else b
-
--- the bar where one more rule stands here
-abbrev pub bar_with : List SetRule → Test → Option ℕ → ℕ → Option ℕ
-bar_with rules t bar i = if needs_at rules t i then bar else Some (higher rules bar i)
 
 -- a rule reaches the bar exactly where each rule here needs the test or isn't above that one
 abbrev pub IsBar : List SetRule → List ℕ → Test → Option ℕ → Type 0

@@ -8,9 +8,8 @@ use Rattle.isle_model.specs.trees.Sound.{comes_before}
 use Rattle.isle_model.specs.trees.Tests.{Test, match_test, equal_test, loop_test, needs_at, is_covered, cover, IsOpen}
 use Rattle.isle_model.specs.trees.Judge.{is_that}
 use Rattle.isle_model.specs.trees.Best.{descend, BestSteps, BestArms}
-use Rattle.isle_sets.specs.Listings.{ascends}
 use Rattle.isle_sets.specs.SiteViews.{constraint_view}
-use Rattle.isle_serialize.specs.AroundViews.{around_view, IsInside, ArePairsWithin, after_uses, arm_around}
+use Rattle.isle_serialize.specs.AroundViews.{around_view, IsInside, after_uses, arm_around}
 use Rattle.isle_serialize.specs.TestViews.{test_view, IsChosen}
 use Rattle.isle_serialize.specs.declared.steps.NextTest.{NextTest}
 use Rattle.isle_serialize.specs.declared.arms.NextArm.{NextArm}
@@ -50,11 +49,6 @@ pub record CanGrow (set : SiteSet) : Type 0 where
   pub few : length set.sites ≤ 65536
   pub sources : (s a : ℕ) → Contains (sources_at set.sites s) a → a < s
   pub picks : (r : SetRule) (s : ℕ) → Contains set.rules r → Contains r.iterators s → (k : ℕ) × (slice_get set.sites k ≡ Some (iterator_site s))
-
--- pairs of the set's sites are joined around a place, and its rules stand in rule order
-pub record IsPlace (set : SiteSet) (ar : Around) (here : List ℕ) : Type 0 where
-  pub pairs : ArePairsWithin (length set.sites) ar.joined
-  pub ascending : IsTrue (ascends here)
 
 -- the test is open, and these are some rules, which all need it
 pub record IsStepOf (set : SiteSet) (ar : Around) (t : Test) (here : List ℕ) : Type 0 where

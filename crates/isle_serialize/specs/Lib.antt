@@ -2,6 +2,6 @@ pub mod TreeViews
 pub mod AroundViews
 pub mod TestViews
 pub mod Bars
-pub mod Marks
+pub mod Opened
 pub mod Growing
 pub mod FieldTests

@@ -1,11 +1,10 @@
 -- Tests and scores, sites by their numbers.
-use Rattle.std.specs.Prelude.{◌≡◌, ◌≢◌, ◌⊎◌, ℕ, Bool, false, not, ◌&&◌, ◌==◌, List, [], map, Option, Some, None, Contains, slice_index_or, if◌then◌else◌}
-use Rattle.std.specs.List.{filter, list_any}
-use Rattle.isle_model.specs.sites.Sites.{SetRule, SiteSet}
-use Rattle.isle_model.specs.trees.Places.{Around, is_in}
+use Rattle.std.specs.Prelude.{◌≡◌, ◌≢◌, ◌⊎◌, ℕ, false, List, [], map, Option, Some, None, Contains, if◌then◌else◌}
+use Rattle.isle_model.specs.sites.Sites.{SiteSet}
+use Rattle.isle_model.specs.trees.Places.{Around}
 use Rattle.isle_model.specs.trees.Sound.{as_number}
 use Rattle.isle_model.specs.trees.Tests as Tests
-use Rattle.isle_model.specs.trees.Tests.{match_test, equal_test, loop_test, needs_at, cover, IsOpen, up_to, score, is_greater}
+use Rattle.isle_model.specs.trees.Tests.{match_test, equal_test, loop_test, cover, IsOpen, score, is_greater}
 use Rattle.isle_model.specs.trees.Best.{IsGreatest}
 use Rattle.isle_serialize.specs.declared.tests.Test.{Test}
 use Rattle.isle_serialize.specs.declared.tests.Test.TheVariants.{Match, Equal, Loop}
@@ -28,18 +27,6 @@ abbrev pub IsChosen : SiteSet → Around → List ℕ → Option Tests.Test → 
 IsChosen set ar here None = (u : Tests.Test) → IsOpen set ar u → cover set.rules here u ≡ []
 IsChosen set ar here (Some t) = IsGreatest set ar here t × (cover set.rules here t ≢ [])
 
--- whether a site is marked in a table of all sites, and not one of these
-abbrev pub is_free : List Bool → List ℕ → ℕ → Bool
-is_free available sources s = slice_index_or available s false && not (is_in s sources)
-
--- whether b and a are both marked and not of one class, by tables of the available sites and of the names of classes
-abbrev pub is_pair : List Bool → List ℕ → ℕ → ℕ → Bool
-is_pair available names b a = slice_index_or available a false && slice_index_or available b false && not (slice_index_or names a a == slice_index_or names b b)
-
--- the open pairs of which b is the greater
-abbrev pub pairs_at : List Bool → List ℕ → ℕ → List Test
-pairs_at available names b = map (λ a. Equal a b) (filter (is_pair available names b) (up_to b))
-
 -- the one of the greater score, the first where there is no other
 abbrev pub greater_test : SiteSet → Around → List ℕ → Option Test → Test → Test
 greater_test set ar here None test = test
@@ -58,10 +45,6 @@ IsScored set ar here s = score_view s.score ≡ score set ar here (test_view s.t
 abbrev pub IsGreatestScored : SiteSet → Around → List ℕ → List Test → Option Scored → Type 0
 IsGreatestScored set ar here tests None = tests ≡ []
 IsGreatestScored set ar here tests (Some s) = IsGreatestOf set ar here tests (Some s.test) × IsScored set ar here s
-
--- these sites, or none where no rule here needs a loop
-abbrev pub AreLooped : List SetRule → List ℕ → List ℕ → List ℕ → Type 0
-AreLooped rules here sites looped = (looped ≡ sites) ⊎ ((looped ≡ []) × ((s : ℕ) → list_any (needs_at rules (loop_test s)) here ≡ false))
 
 -- tests of a place that are open, where each other open test covers no rule
 pub record AreUseful (set : SiteSet) (ar : Around) (here : List ℕ) (tests : List Test) : Type 0 where

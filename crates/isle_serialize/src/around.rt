@@ -1,14 +1,11 @@
-//! What stands around a place of a tree, and which sites are available there.
+//! What stands around a place of a tree.
 
-ghost use Rattle.std.specs.Prelude.{◌≡◌, ◌<◌, ◌≤◌, ◌&&◌, ◌||◌, ◌==◌, if◌then◌else◌, not, false, ℕ, Some, Contains, IfOk, OnOk, length, map, slice_index_or};
-ghost use Rattle.std.specs.List.{list_all};
-ghost use Rattle.isle_model.specs.sites.Sites.{sources_at, sources_of};
-ghost use Rattle.isle_model.specs.trees.Places.{nothing_around, is_in, waits};
-ghost use Rattle.isle_model.specs.trees.Tests.{up_to};
-ghost use Rattle.isle_sets.specs.SiteViews.{site_view, site_views, set_view};
-ghost use Rattle.isle_serialize.specs.AroundViews.{around_view, availability, class_names, ArePairsWithin};
+ghost use Rattle.std.specs.Prelude.{◌≡◌, ◌<◌, ◌==◌, if◌then◌else◌, Some, IfOk, map};
+ghost use Rattle.isle_model.specs.trees.Places.{nothing_around, class, is_in, waits};
+ghost use Rattle.isle_sets.specs.SiteViews.{site_view};
+ghost use Rattle.isle_serialize.specs.AroundViews.{around_view, sites_of_pairs, name_in, IsNaming};
 
-use isle_sets::trie_again::{Binding, BindingId, RuleSet};
+use isle_sets::trie_again::{Binding, BindingId};
 use std::alloc::{AllocError, Global};
 
 /// What the steps around a place of a tree have tested, joined, brought and used.
@@ -75,62 +72,31 @@ pub fn must_wait(binding: &Binding) -> bool
     }
 }
 
-/// All sites of a set, ascending.
-pub fn all_sites(alloc: Global, set: &RuleSet) -> Result<Vec<BindingId>, AllocError>
-    requires { length (set_view set.now).sites ≤ 65536 }
-    ensures { IfOk result (λ v. v.items ≡ up_to (length (set_view set.now).sites)) }
+/// The name of a site's class, by the names of all sites that are joined: any other site is its own class.
+pub fn name_of(site: BindingId, names: &[(BindingId, BindingId)]) -> BindingId
+    ensures { result ≡ name_in names.now site }
 {
-    let mut sites = Vec::new(alloc);
-    for s in 0..set.bindings.len() {
-        sites.push(site_at(s))?;
+    for (named, name) in names {
+        if *named == site {
+            return *name;
+        }
     }
-    Ok(sites)
+    site
 }
 
-/// Whether a site is marked in a table of all sites.
-pub fn is_marked(site: BindingId, table: &[bool]) -> bool
-    ensures { result ≡ slice_index_or table.now site false }
-{
-    table.get(site.index()).copied().unwrap_or(false)
-}
-
-// Whether all these sites are marked.
-fn are_marked(sites: &[BindingId], table: &[bool]) -> bool
-    ensures { result ≡ list_all (λ s. slice_index_or table.now s false) sites.now }
-{
-    sites.iter().all(|s| is_marked(*s, table))
-}
-
-// Whether a site is available, by a table of those before it.
-fn is_available(site: BindingId, binding: &Binding, brought: &[BindingId], table: &[bool]) -> bool
-    ensures { result ≡ (is_in site brought.now || (not (waits (Some (site_view binding.now))) && list_all (λ s. slice_index_or table.now s false) (sources_of (site_view binding.now)))) }
-{
-    is_among(site, brought) || !must_wait(binding) && are_marked(binding.sources(), table)
-}
-
-/// Of each site, whether it is available.
-pub fn available_sites(
+// Each site of these pairs by itself.
+fn own_names(
     alloc: Global,
-    set: &RuleSet,
-    around: &Around,
-) -> Result<Vec<bool>, AllocError>
-    requires few { length (set_view set.now).sites ≤ 65536 }
-    requires sources { (s a : ℕ) → Contains (sources_at (set_view set.now).sites s) a → a < s }
-    ensures { IfOk result (λ v. v.items ≡ availability (set_view set.now) (around_view around.now)) }
+    pairs: &[(BindingId, BindingId)],
+) -> Result<Vec<(BindingId, BindingId)>, AllocError>
+    ensures { IfOk result (λ v. v.items ≡ map (λ s. (s, s)) (sites_of_pairs pairs.now)) }
 {
-    let mut table = Vec::new(alloc);
-    for s in 0..set.bindings.len() {
-        let is_here = is_available(site_at(s), &set.bindings[s], &around.brought, &table);
-        table.push(is_here)?;
+    let mut names = Vec::new(alloc);
+    for (a, b) in pairs {
+        names.push((*a, *a))?;
+        names.push((*b, *b))?;
     }
-    Ok(table)
-}
-
-/// The name of a site's class in a table of all sites.
-pub fn class_of(site: BindingId, names: &[BindingId]) -> BindingId
-    ensures { result ≡ slice_index_or names.now site site }
-{
-    names.get(site.index()).copied().unwrap_or(site)
+    Ok(names)
 }
 
 // The name of a class after the classes of these two names were joined.
@@ -143,31 +109,28 @@ fn renamed(name: BindingId, from: BindingId, to: BindingId) -> BindingId
 // The names of classes after those of two sites were joined.
 fn joining(
     alloc: Global,
-    names: &[BindingId],
+    names: &[(BindingId, BindingId)],
     a: BindingId,
     b: BindingId,
-) -> Result<Vec<BindingId>, AllocError>
-    ensures { IfOk result (λ v. v.items ≡ map (λ x. if x == slice_index_or names.now a a then slice_index_or names.now b b else x) names.now) }
+) -> Result<Vec<(BindingId, BindingId)>, AllocError>
+    ensures { IfOk result (λ v. v.items ≡ map (λ e. (e.0, if e.1 == name_in names.now a then name_in names.now b else e.1)) names.now) }
 {
-    let from = class_of(a, names);
-    let to = class_of(b, names);
+    let from = name_of(a, names);
+    let to = name_of(b, names);
     names
         .iter()
-        .map(|name| renamed(*name, from, to))
+        .map(|entry| (entry.0, renamed(entry.1, from, to)))
         .collect(alloc)
 }
 
-/// Of each site, the name of its class under the pairs that equalities around joined.
-pub fn joined_sites(
+/// The names of the classes of all sites that equalities around joined.
+pub fn class_names(
     alloc: Global,
-    set: &RuleSet,
     around: &Around,
-) -> Result<Vec<BindingId>, AllocError>
-    requires few { length (set_view set.now).sites ≤ 65536 }
-    requires pairs { ArePairsWithin (length (set_view set.now).sites) around.now.joined.items }
-    ensures { IfOk result (λ v. v.items ≡ class_names (set_view set.now) (around_view around.now)) }
+) -> Result<Vec<(BindingId, BindingId)>, AllocError>
+    ensures { IfOk result (λ v. IsNaming around.now.joined.items v.items) }
 {
-    let mut names = all_sites(alloc, set)?;
+    let mut names = own_names(alloc, &around.joined)?;
     let mut left = around.joined.len();
     while left > 0 {
         left -= 1;

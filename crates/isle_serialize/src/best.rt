@@ -1,10 +1,11 @@
 //! The best tree of a set: at each place the greatest test is made, for exactly the rules that it covers.
 
-ghost use Rattle.std.specs.Prelude.{◌≡◌, ◌≤◌, None, IfOk, length};
+ghost use Rattle.std.specs.Prelude.{◌≡◌, ◌≤◌, None, IfOk, IsTrue, length};
+ghost use Rattle.isle_model.specs.trees.Best.{descend};
 ghost use Rattle.isle_model.specs.trees.Tests as Tests;
 ghost use Rattle.isle_sets.specs.SiteViews.{set_view};
 ghost use Rattle.isle_serialize.specs.AroundViews.{around_view};
-ghost use Rattle.isle_serialize.specs.Growing.{AreBestArms, CanGrow, IsBestBody, IsBestFrom, IsPlace, IsStepOf};
+ghost use Rattle.isle_serialize.specs.Growing.{AreBestArms, CanGrow, IsBestBody, IsBestFrom, IsStepOf};
 ghost use Rattle.isle_serialize.specs.TestViews.{test_view};
 ghost use Rattle.isle_serialize.specs.TreeViews.{arms_view, check_view, tree_view};
 
@@ -18,7 +19,7 @@ use crate::tests::Test;
 use isle_sets::trie_again::{BindingId, RuleSet};
 use std::alloc::{AllocError, Global};
 
-/// The best steps from a place on: tests while some open test covers a rule, then the returns of the rules that are
+/// The best steps from a place on, whose rules stand in order: tests while some open test covers a rule, then the returns of the rules that are
 /// left.
 #[cycle(grow)]
 pub fn block_of(
@@ -28,7 +29,7 @@ pub fn block_of(
     around: Around,
 ) -> Result<Block, AllocError>
     requires set { CanGrow (set_view set.now) }
-    requires place { IsPlace (set_view set.now) (around_view around) here.items }
+    requires order { IsTrue (descend (set_view set.now).rules here.items) }
     ensures { IfOk result (λ b. IsBestFrom (set_view set.now) (around_view around) here.items (tree_view b)) }
 {
     let mut steps = Vec::new(alloc);
@@ -58,7 +59,7 @@ fn check_of(
     here: Vec<usize>,
 ) -> Result<ControlFlow, AllocError>
     requires set { CanGrow (set_view set.now) }
-    requires place { IsPlace (set_view set.now) (around_view around.now) here.items }
+    requires order { IsTrue (descend (set_view set.now).rules here.items) }
     requires step { IsStepOf (set_view set.now) (around_view around.now) (test_view test) here.items }
     ensures { IfOk result (λ check. IsBestBody (set_view set.now) (around_view around.now) (test_view test) here.items (check_view check)) }
 {
@@ -96,7 +97,7 @@ fn arms_of(
     here: Vec<usize>,
 ) -> Result<Vec<MatchArm>, AllocError>
     requires set { CanGrow (set_view set.now) }
-    requires place { IsPlace (set_view set.now) (around_view around.now) here.items }
+    requires order { IsTrue (descend (set_view set.now).rules here.items) }
     requires step { IsStepOf (set_view set.now) (around_view around.now) (Tests.match_test source) here.items }
     ensures { IfOk result (λ v. AreBestArms (set_view set.now) (around_view around.now) source None here.items (arms_view v.items)) }
 {

@@ -50,8 +50,8 @@ fn list_below(
     Ok(())
 }
 
-// The sites below these that aren't emitted, in the order in which they are made of one another.
-fn all_listed(
+/// The sites below these, down to some that are emitted, in the order in which they are made of one another.
+pub fn all_listed(
     alloc: Global,
     set: &RuleSet,
     emitted: &[BindingId],

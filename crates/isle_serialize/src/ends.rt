@@ -1,11 +1,10 @@
 //! The end of a block: the rules that no open test covers return one after another.
 
-ghost use Rattle.std.specs.Prelude.{◌≡◌, ◌<◌, ℕ, IsTrue, None, Some, Contains, IfOk, IsPermutation, slice_get};
+ghost use Rattle.std.specs.Prelude.{◌≡◌, ◌<◌, ℕ, IsTrue, None, Some, Contains, IfOk, slice_get};
 ghost use Rattle.isle_model.specs.sites.Sites.{sources_at};
 ghost use Rattle.isle_model.specs.trees.Best.{descend};
 ghost use Rattle.isle_model.specs.trees.Places.{return_uses};
 ghost use Rattle.isle_model.specs.trees.Trees as Trees;
-ghost use Rattle.isle_sets.specs.Listings.{ascends};
 ghost use Rattle.isle_sets.specs.SiteViews.{set_rule_view, set_view};
 ghost use Rattle.isle_serialize.specs.AroundViews.{around_view};
 ghost use Rattle.isle_serialize.specs.Growing.{AreEnds};
@@ -15,22 +14,9 @@ use crate::around::Around;
 use crate::binds::bind_order;
 use crate::inside::after_step;
 use crate::serialize::{ControlFlow, EvalStep};
-use crate::tests::priority;
 use isle_base::syntax::Pos;
 use isle_sets::trie_again::{BindingId, Rule, RuleSet};
 use std::alloc::{AllocError, Global};
-use std::cmp::Reverse;
-
-// These rules by descending priority, those of one priority in rule order.
-fn in_order(set: &RuleSet, here: Vec<usize>) -> Result<Vec<usize>, AllocError>
-    requires { IsTrue (ascends here.items) }
-    ensures permutation { IfOk result (λ v. IsPermutation here.items v.items) }
-    ensures order { IfOk result (λ v. IsTrue (descend (set_view set.now).rules v.items)) }
-{
-    let mut order = here;
-    order.sort_by_key(|number| Reverse(priority(set, *number)))?;
-    Ok(order)
-}
 
 // What the rule of a number uses: its impure calls in order, then its result.
 fn used_by(alloc: Global, set: &RuleSet, number: usize) -> Result<Vec<BindingId>, AllocError>
@@ -77,7 +63,7 @@ fn return_of(set: &RuleSet, number: usize) -> ControlFlow
     }
 }
 
-/// The returns of these rules, by descending priority, then rule order, each with its impure calls and its result bound.
+/// The returns of these rules, which stand in order, each with its impure calls and its result bound.
 pub fn returns_of(
     alloc: Global,
     set: &RuleSet,
@@ -85,13 +71,12 @@ pub fn returns_of(
     around: Around,
 ) -> Result<Vec<EvalStep>, AllocError>
     requires sources { (s a : ℕ) → Contains (sources_at (set_view set.now).sites s) a → a < s }
-    requires ascending { IsTrue (ascends here.items) }
+    requires order { IsTrue (descend (set_view set.now).rules here.items) }
     ensures { IfOk result (λ v. AreEnds (set_view set.now) (around_view around) here.items (steps_view v.items)) }
 {
     let mut steps = Vec::new(alloc);
     let mut around = around;
-    let order = in_order(set, here)?;
-    for number in &order {
+    for number in &here {
         let used = used_by(alloc, set, *number)?;
         steps.push(EvalStep {
             bind_order: bind_order(alloc, set, &around, &used)?,

@@ -1,12 +1,13 @@
 //! What stands around the body of a test, and around the steps after one.
 
-ghost use Rattle.std.specs.Prelude.{◌≡◌, ◌<◌, ◌++◌, ℕ, Contains, IfOk};
+ghost use Rattle.std.specs.Prelude.{◌≡◌, ◌<◌, ◌++◌, ℕ, not, Contains, IfOk};
+ghost use Rattle.std.specs.List.{filter};
 ghost use Rattle.isle_model.specs.sites.Sites.{sources_at};
 ghost use Rattle.isle_model.specs.trees.Places as Places;
 ghost use Rattle.isle_sets.specs.SiteViews.{set_view};
 ghost use Rattle.isle_serialize.specs.AroundViews.{around_view, IsInside, after_uses, brings, arm_around, loop_around};
 
-use crate::around::Around;
+use crate::around::{Around, is_among};
 use crate::binds::{all_below, sources_of};
 use isle_sets::trie_again::{BindingId, RuleSet};
 use std::alloc::{AllocError, Global};
@@ -24,6 +25,21 @@ fn chained(
     Ok(sites)
 }
 
+// Those of these sites that aren't among others.
+fn not_among(
+    alloc: Global,
+    sites: &[BindingId],
+    others: &[BindingId],
+) -> Result<Vec<BindingId>, AllocError>
+    ensures { IfOk result (λ v. v.items ≡ filter (λ s. not (Places.is_in s others.now)) sites.now) }
+{
+    sites
+        .iter()
+        .copied()
+        .filter(|site| !is_among(*site, others))
+        .collect(alloc)
+}
+
 // The sites of some fields.
 fn field_sites(alloc: Global, fields: &[Option<BindingId>]) -> Result<Vec<BindingId>, AllocError>
     ensures { IfOk result (λ v. v.items ≡ Places.field_sites fields.now) }
@@ -37,6 +53,21 @@ fn field_sites(alloc: Global, fields: &[Option<BindingId>]) -> Result<Vec<Bindin
     Ok(sites)
 }
 
+// The sites that are emitted once these are used too, each once.
+fn emitted_after(
+    alloc: Global,
+    set: &RuleSet,
+    emitted: &[BindingId],
+    used: &[BindingId],
+) -> Result<Vec<BindingId>, AllocError>
+    requires { (s a : ℕ) → Contains (sources_at (set_view set.now).sites s) a → a < s }
+    ensures { IfOk result (λ v. (s : ℕ) → Places.is_in s v.items ≡ Places.is_in s (Places.all_below (set_view set.now).sites used.now ++ emitted.now)) }
+{
+    let below = all_below(alloc, set, used)?;
+    let new = not_among(alloc, &below, emitted)?;
+    chained(alloc, &new, emitted)
+}
+
 /// Around the steps after one that used these sites.
 pub fn after_step(
     alloc: Global,
@@ -47,12 +78,11 @@ pub fn after_step(
     requires { (s a : ℕ) → Contains (sources_at (set_view set.now).sites s) a → a < s }
     ensures { IfOk result (λ r. IsInside (around_view r) (after_uses (set_view set.now) (around_view around.now) used.now)) }
 {
-    let below = all_below(alloc, set, used)?;
     Ok(Around {
         sources: Vec::from_slice(alloc, &around.sources)?,
         joined: Vec::from_slice(alloc, &around.joined)?,
         brought: Vec::from_slice(alloc, &around.brought)?,
-        emitted: chained(alloc, &below, &around.emitted)?,
+        emitted: emitted_after(alloc, set, &around.emitted, used)?,
     })
 }
 

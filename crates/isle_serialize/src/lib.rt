@@ -8,7 +8,7 @@ pub mod binds;
 pub mod ends;
 pub mod fields;
 pub mod inside;
-pub mod marks;
+pub mod open;
 pub mod serialize;
 pub mod steps;
 pub mod tests;

@@ -1,19 +1,23 @@
 //! The tree of tests that says which of a term's rules is taken: the one that trying them all by descending priority
 //! would take. A tree may make a test once for several rules.
 
-ghost use Rattle.std.specs.Prelude.{◌≡◌, IfOk, length};
+ghost use Rattle.std.specs.Prelude.{◌≡◌, IfOk, IsPermutation, IsTrue, length};
 ghost use Rattle.isle_model.specs.claims.Layers.{IsBuiltForSome, IsSerialized};
+ghost use Rattle.isle_model.specs.trees.Best.{descend};
 ghost use Rattle.isle_model.specs.trees.Tests.{up_to};
 ghost use Rattle.isle_model.specs.trees.Trees.{no_step};
+ghost use Rattle.isle_sets.specs.Listings.{ascends};
 ghost use Rattle.isle_sets.specs.SiteViews.{set_view};
 ghost use Rattle.isle_serialize.specs.TreeViews.{tree_view};
 
 use crate::around::Around;
 use crate::best::block_of;
+use crate::tests::priority;
 use isle_base::syntax::Pos;
 use isle_laws_trees::best_trees_mean_their_sets;
 use isle_sets::trie_again::{BindingId, Constraint, RuleSet};
 use std::alloc::{AllocError, Global};
+use std::cmp::Reverse;
 
 /// Steps, tried in order. Where one's test fails or its body runs through, the next one follows, and may rest on no
 /// earlier one having ended the run.
@@ -147,7 +151,8 @@ pub fn serialize(alloc: Global, set: &RuleSet) -> Result<Block, AllocError>
 {
     // a law, without code: best trees of built sets mean what the sets do
     best_trees_mean_their_sets();
-    let here = all_rules(alloc, set)?;
+    let numbers = all_rules(alloc, set)?;
+    let here = in_order(set, numbers)?;
     block_of(alloc, set, here, Around::new(alloc))
 }
 
@@ -160,4 +165,15 @@ fn all_rules(alloc: Global, set: &RuleSet) -> Result<Vec<usize>, AllocError>
         rules.push(number)?;
     }
     Ok(rules)
+}
+
+// These rules by descending priority, those of one priority in rule order.
+fn in_order(set: &RuleSet, here: Vec<usize>) -> Result<Vec<usize>, AllocError>
+    requires { IsTrue (ascends here.items) }
+    ensures permutation { IfOk result (λ v. IsPermutation here.items v.items) }
+    ensures order { IfOk result (λ v. IsTrue (descend (set_view set.now).rules v.items)) }
+{
+    let mut order = here;
+    order.sort_by_key(|number| Reverse(priority(set, *number)))?;
+    Ok(order)
 }

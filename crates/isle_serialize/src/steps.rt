@@ -1,17 +1,19 @@
 //! The test steps of a place: which test comes next, and what its step binds, covers and leaves.
 
-ghost use Rattle.std.specs.Prelude.{◌≡◌, ◌<◌, ◌≤◌, ℕ, Some, Contains, IfOk, length, slice_get};
+ghost use Rattle.std.specs.Prelude.{◌≡◌, ◌<◌, ◌≤◌, ℕ, Some, Contains, IfOk, IsTrue, length, option_map, slice_get};
 ghost use Rattle.isle_model.specs.sites.Sites.{iterator_site, sources_at};
+ghost use Rattle.isle_model.specs.trees.Best.{descend};
 ghost use Rattle.isle_sets.specs.SiteViews.{set_view};
-ghost use Rattle.isle_serialize.specs.AroundViews.{around_view, after_uses, ArePairsWithin, IsInside};
+ghost use Rattle.isle_serialize.specs.AroundViews.{around_view, after_uses, IsInside};
 ghost use Rattle.isle_serialize.specs.Growing.{test_sites, test_emits, CanGrow, IsNext};
-ghost use Rattle.isle_serialize.specs.TestViews.{test_view};
+ghost use Rattle.isle_serialize.specs.TestViews.{test_view, IsChosen};
 
 use crate::around::Around;
 use crate::binds::{bind_order, sources_of};
 use crate::fields::iterator_of;
 use crate::inside::after_step;
-use crate::tests::{Test, chosen_test, parted};
+use crate::open::useful_tests;
+use crate::tests::{Test, greatest_of, parted};
 use isle_sets::trie_again::{BindingId, RuleSet};
 use std::alloc::{AllocError, Global};
 
@@ -63,6 +65,24 @@ fn after_test(
     }
 }
 
+// The test that is made at a place: the greatest one, where it covers some rule.
+fn chosen_test(
+    alloc: Global,
+    set: &RuleSet,
+    around: &Around,
+    here: &[usize],
+) -> Result<Option<Test>, AllocError>
+    requires set { CanGrow (set_view set.now) }
+    requires order { IsTrue (descend (set_view set.now).rules here.now) }
+    ensures { IfOk result (λ o. IsChosen (set_view set.now) (around_view around.now) here.now (option_map test_view o)) }
+{
+    let tests = useful_tests(alloc, set, around, here)?;
+    match greatest_of(set, around, here, &tests) {
+        Some(best) if best.score.count > 0 => Ok(Some(best.test)),
+        _ => Ok(None),
+    }
+}
+
 /// The test that is made next at a place with these rules, and none where the place is an end.
 pub fn next_test(
     alloc: Global,
@@ -71,7 +91,7 @@ pub fn next_test(
     here: &[usize],
 ) -> Result<Option<NextTest>, AllocError>
     requires set { CanGrow (set_view set.now) }
-    requires pairs { ArePairsWithin (length (set_view set.now).sites) around.now.joined.items }
+    requires order { IsTrue (descend (set_view set.now).rules here.now) }
     ensures { IfOk result (λ o. IsNext (set_view set.now) (around_view around.now) here.now o) }
 {
     let Some(test) = chosen_test(alloc, set, around, here)? else {

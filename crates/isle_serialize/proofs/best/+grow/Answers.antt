@@ -6,8 +6,8 @@ use Rattle.isle_serialize.specs.AroundViews.{around_view}
 use Rattle.isle_serialize.specs.Growing.{IsBestFrom, IsBestBody, IsStepOf, IsLeastAsked, IsNextTest, IsNext, IsNextArm, IsNextArmOf}
 use Rattle.isle_serialize.specs.TestViews.{test_view, IsChosen}
 use Rattle.isle_serialize.specs.TreeViews.{tree_view, arms_view, check_view}
-use Rattle.isle_serialize.proofs.ArmSteps.{ArmsGrow, arms_start, fewer_left, asking_place, arms_more, arms_whole}
-use Rattle.isle_serialize.proofs.PlaceSteps.{covered_place, covered_step, fewer_others, block_more, block_whole, equal_place, equal_fewer, equal_body, loop_place, loop_fewer, loop_body, arm_place, arm_fewer, pick_made}
+use Rattle.isle_serialize.proofs.ArmSteps.{ArmsGrow, arms_start, fewer_left, asking_ordered, arms_more, arms_whole}
+use Rattle.isle_serialize.proofs.PlaceSteps.{covered_ordered, covered_step, fewer_others, block_more, block_whole, equal_fewer, equal_body, loop_fewer, loop_body, arm_fewer, pick_made}
 use Rattle.isle_serialize.proofs.TreeLaws.{block_seen, match_seen, arm_seen}
 use Rattle.isle_serialize.proofs.Untried.{untried}
 use Rattle.isle_serialize.proofs.best.+grow.Goals as goal
@@ -21,7 +21,7 @@ block_of-check_of-requires t c =
     let next = c.in-Some.next in
     let h = subst (λ l. IsNextTest set ar l next) c.deref.ensures.value (subst (IsNext set ar c.deref.result.now) c.in-Some.is c.in_ok-next.ensures) in
     let same : untried (length set.sites) ar ≡ untried (length set.sites) (around_view c.args.around) = c.loop-around.invariant.as_many in
-    (search (rules, arith, same), (c.requires.set, (covered_place set ar left next h c.loop-around.invariant.place, covered_step set ar left next h)))
+    (search (rules, arith, same), (c.requires.set, (covered_ordered set ar left next h c.loop-around.invariant.ordered, covered_step set ar left next h)))
 
 pub block_of-loop-around-smaller : goal.block_of-loop-around-smaller
 block_of-loop-around-smaller t c =
@@ -58,7 +58,7 @@ check_of-block_of-requires t c =
     let here = c.args.here.items in
     let h = subst (λ u. IsStepOf set (around_view around) (test_view u) here) c.in-Equal.is c.requires.step in
     let smaller : untried (length set.sites) (around_view inside) < untried (length set.sites) (around_view around) = equal_fewer set around inside here c.in-Equal.a c.in-Equal.b h.open_here c.in_ok-inside-in-Equal.ensures in
-    (search (rules, arith, smaller), (c.requires.set, equal_place set around inside here c.in-Equal.a c.in-Equal.b c.requires.place h.open_here c.in_ok-inside-in-Equal.ensures))
+    (search (rules, arith, smaller), (c.requires.set, c.requires.order))
 
 pub check_of-pick_of-result-requires-clause-made : goal.check_of-pick_of-result-requires-clause-made
 check_of-pick_of-result-requires-clause-made t c =
@@ -75,7 +75,7 @@ check_of-block_of-requires-in-Loop t c =
     let result = c.pick_of-result.result in
     let h = subst (λ u. IsStepOf set (around_view around) (test_view u) here) c.in-Loop.is c.requires.step in
     let smaller : untried (length set.sites) (around_view inside) < untried (length set.sites) (around_view around) = loop_fewer set around inside here c.in-Loop.source result h.open_here c.in_ok-inside-in-Loop.ensures in
-    (search (rules, arith, smaller), (c.requires.set, loop_place set around inside here c.in-Loop.source result c.requires.place c.in_ok-inside-in-Loop.ensures))
+    (search (rules, arith, smaller), (c.requires.set, c.requires.order))
 
 pub check_of-returns-in_ok-arms_of-in-Match : goal.check_of-returns-in_ok-arms_of-in-Match
 check_of-returns-in_ok-arms_of-in-Match t c =
@@ -106,7 +106,7 @@ pub arms_of-loop-left-init : goal.arms_of-loop-left-init
 arms_of-loop-left-init t c =
     let here = c.args.here.items in
     subst (ArmsGrow (set_view c.args.set.now) (around_view c.args.around.now) c.args.source here here) (sym c.new-arms.ensures.items)
-    (arms_start (set_view c.args.set.now) c.args.around.now c.args.source here c.requires.place)
+    (arms_start (set_view c.args.set.now) c.args.around.now c.args.source here c.requires.order)
 
 pub arms_of-block_of-requires : goal.arms_of-block_of-requires
 arms_of-block_of-requires t c =
@@ -119,7 +119,7 @@ arms_of-block_of-requires t c =
       search (rules, arith, smaller),
       (
         c.requires.set,
-        arm_place set around next.inside next.asking.items c.args.source next.fields.items (asking_place set around c.args.source c.args.here.items left next h c.loop-left.invariant.place) h.inside,
+        asking_ordered set around c.args.source c.args.here.items left next h c.loop-left.invariant.ordered,
       ),
     )
 

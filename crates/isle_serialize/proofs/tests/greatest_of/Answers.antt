@@ -7,8 +7,10 @@ use Rattle.isle_serialize.proofs.TestSteps.{scores_known, scored_more}
 use Rattle.isle_serialize.proofs.tests.greatest_of.Goals as goal
 
 pub greater_of-requires : goal.greater_of-requires
-greater_of-requires c =
-    scores_known (set_view c.args.set.now) (around_view c.args.around.now) c.args.here.now (take c.loop-test.test-index c.args.tests.now) c.loop-test.best c.loop-test.invariant
+greater_of-requires c = record {
+  order = c.requires;
+  best = scores_known (set_view c.args.set.now) (around_view c.args.around.now) c.args.here.now (take c.loop-test.test-index c.args.tests.now) c.loop-test.best c.loop-test.invariant;
+}
 
 pub loop-test-preserved : goal.loop-test-preserved
 loop-test-preserved c =

@@ -1,0 +1,71 @@
+-- Tests that are listed where they are open, and which tests a rule needs, form by form.
+use Rattle.std.specs.Prelude.{◌≡◌, ◌⊎◌, ℕ, true, List, Contains}
+use Rattle.std.specs.List.{list_any}
+use Rattle.isle_model.specs.sites.Sites.{iterator_site, SetRule, Site, SiteSet}
+use Rattle.isle_model.specs.trees.Places.{Around}
+use Rattle.isle_model.specs.trees.Tests as Tests
+use Rattle.isle_model.specs.trees.Tests.{match_test, equal_test, loop_test, needs, needs_at, IsOpen}
+use Rattle.isle_serialize.specs.declared.tests.Test.{Test}
+use Rattle.isle_serialize.specs.TestViews.{test_view}
+
+-- the test is among these
+abbrev pub Lists : List Test → Tests.Test → Type 0
+Lists tests u = (t : Test) × Contains tests t × (test_view t ≡ u)
+
+-- beside the tests that were listed, the open ones of a kind are, and no other ones that aren't open
+pub record AddsOpen (set : SiteSet) (ar : Around) (Kind : Tests.Test → Type 0) (old new : List Test) : Type 0 where
+  pub open_here : (t : Test) → Contains new t → Contains old t ⊎ IsOpen set ar (test_view t)
+  pub kept : (u : Tests.Test) → Lists old u → Lists new u
+  pub added : (u : Tests.Test) → IsOpen set ar u → Kind u → Lists new u
+
+-- of the kind that one of these is of
+abbrev pub OfSome : {X : Type 0} → (X → Tests.Test → Type 0) → List X → Tests.Test → Type 0
+OfSome Kind xs u = (x : _) × Contains xs x × Kind x u
+
+-- this test
+abbrev pub IsTest : Test → Tests.Test → Type 0
+IsTest t u = test_view t ≡ u
+
+-- the match of a site
+abbrev pub IsMatch : ℕ → Tests.Test → Type 0
+IsMatch s u = match_test s ≡ u
+
+-- a match that a rule needs
+abbrev pub IsMatchOf : SetRule → Tests.Test → Type 0
+IsMatchOf r (match_test s) = needs (match_test s) r ≡ true
+IsMatchOf r (equal_test a b) = ⊥
+IsMatchOf r (loop_test s) = ⊥
+
+-- an equality that a rule needs
+abbrev pub IsEqualOf : SetRule → Tests.Test → Type 0
+IsEqualOf r (match_test s) = ⊥
+IsEqualOf r (equal_test a b) = needs (equal_test a b) r ≡ true
+IsEqualOf r (loop_test s) = ⊥
+
+-- the equality of two sites
+abbrev pub IsPair : ℕ → ℕ → Tests.Test → Type 0
+IsPair a b u = equal_test a b ≡ u
+
+-- the equality of a site and one of these
+abbrev pub IsPairWith : List ℕ → ℕ → Tests.Test → Type 0
+IsPairWith others a u = OfSome (IsPair a) others u
+
+-- the equality of two of these
+abbrev pub IsPairOf : List ℕ → Tests.Test → Type 0
+IsPairOf class u = OfSome (IsPairWith class) class u
+
+-- a match or an equality that the rule at a place of the set needs
+abbrev pub IsWanted : List SetRule → ℕ → Tests.Test → Type 0
+IsWanted rules i (match_test s) = needs_at rules (match_test s) i ≡ true
+IsWanted rules i (equal_test a b) = needs_at rules (equal_test a b) i ≡ true
+IsWanted rules i (loop_test s) = ⊥
+
+-- a loop that one of some rules needs, over the call whose answers a site stands for
+abbrev pub IsLoopBy : List SetRule → List ℕ → Site → Tests.Test → Type 0
+IsLoopBy rules numbers site u = (call : ℕ) × (site ≡ iterator_site call) × (loop_test call ≡ u) × (list_any (needs_at rules (loop_test call)) numbers ≡ true)
+
+-- a loop that one of some rules needs
+abbrev pub IsLoopOf : List SetRule → List ℕ → Tests.Test → Type 0
+IsLoopOf rules numbers (match_test s) = ⊥
+IsLoopOf rules numbers (equal_test a b) = ⊥
+IsLoopOf rules numbers (loop_test s) = list_any (needs_at rules (loop_test s)) numbers ≡ true

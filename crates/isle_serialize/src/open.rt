@@ -1,0 +1,343 @@
+//! The open tests of a place that its highest rules need: all other open tests cover no rule.
+
+ghost use Rattle.std.specs.Prelude.{◌≡◌, ◌<◌, not, false, ℕ, IsTrue, Contains, IfOk, OnOk, slice_get};
+ghost use Rattle.std.specs.List.{list_all, list_any};
+ghost use Rattle.isle_model.specs.sites.Sites.{sources_at};
+ghost use Rattle.isle_model.specs.trees.Best.{descend};
+ghost use Rattle.isle_model.specs.trees.Places.{waits};
+ghost use Rattle.isle_model.specs.trees.Tests as Tests;
+ghost use Rattle.isle_sets.specs.SiteViews.{set_rule_view, set_view, site_view};
+ghost use Rattle.isle_serialize.specs.AroundViews.{around_view, IsNaming};
+ghost use Rattle.isle_serialize.specs.Growing.{CanGrow};
+ghost use Rattle.isle_serialize.specs.Opened.{AddsOpen, IsEqualOf, IsLoopBy, IsLoopOf, IsMatchOf, IsPairOf, IsPairWith, IsTest, IsWanted, OfSome};
+ghost use Rattle.isle_serialize.specs.TestViews.{test_view, AreUseful};
+
+use crate::around::{Around, class_names, is_among, must_wait, name_of};
+use crate::binds::all_listed;
+use crate::tests::{Test, needs_at, reach_count};
+use isle_sets::trie_again::{Binding, BindingId, Rule, RuleSet};
+use std::alloc::{AllocError, Global};
+
+// Whether only an arm or a loop brings the site of a number, or there is none.
+fn waits_at(set: &RuleSet, site: BindingId) -> bool
+    ensures { result ≡ waits (slice_get (set_view set.now).sites site) }
+{
+    match set.bindings.get(site.index()) {
+        Some(binding) => must_wait(binding),
+        None => true,
+    }
+}
+
+// Whether none of these sites has to be brought.
+fn none_waits(set: &RuleSet, sites: &[BindingId]) -> bool
+    ensures { result ≡ list_all (λ s. not (waits (slice_get (set_view set.now).sites s))) sites.now }
+{
+    sites.iter().all(|site| !waits_at(set, *site))
+}
+
+// Whether a site of the set is available: of those below it, down to what was brought, none has to be.
+fn is_at_hand(
+    alloc: Global,
+    set: &RuleSet,
+    around: &Around,
+    site: BindingId,
+) -> Result<bool, AllocError>
+    requires { (s a : ℕ) → Contains (sources_at (set_view set.now).sites s) a → a < s }
+    ensures { IfOk result (λ b. b ≡ Tests.is_at_hand (set_view set.now) (around_view around.now) site) }
+{
+    if site.index() >= set.bindings.len() {
+        return Ok(false);
+    }
+    let below = all_listed(alloc, set, &around.brought, &[site])?;
+    Ok(none_waits(set, &below))
+}
+
+// Whether a site is available, and no arm or loop around has it as its source.
+fn is_open_site(
+    alloc: Global,
+    set: &RuleSet,
+    around: &Around,
+    site: BindingId,
+) -> Result<bool, AllocError>
+    requires { (s a : ℕ) → Contains (sources_at (set_view set.now).sites s) a → a < s }
+    ensures { IfOk result (λ b. b ≡ Tests.is_open_site (set_view set.now) (around_view around.now) site) }
+{
+    if is_among(site, &around.sources) {
+        return Ok(false);
+    }
+    is_at_hand(alloc, set, around, site)
+}
+
+// Whether two sites, the lesser first, are available, and the equalities around don't join them.
+fn is_open_pair(
+    alloc: Global,
+    set: &RuleSet,
+    around: &Around,
+    names: &[(BindingId, BindingId)],
+    a: BindingId,
+    b: BindingId,
+) -> Result<bool, AllocError>
+    requires sources { (s a : ℕ) → Contains (sources_at (set_view set.now).sites s) a → a < s }
+    requires names { IsNaming around.now.joined.items names.now }
+    ensures { IfOk result (λ x. x ≡ Tests.is_open_pair (set_view set.now) (around_view around.now) a b) }
+{
+    if b.index() <= a.index() || name_of(a, names) == name_of(b, names) {
+        return Ok(false);
+    }
+    if !is_at_hand(alloc, set, around, a)? {
+        return Ok(false);
+    }
+    is_at_hand(alloc, set, around, b)
+}
+
+// Whether a test is open.
+fn is_open(
+    alloc: Global,
+    set: &RuleSet,
+    around: &Around,
+    names: &[(BindingId, BindingId)],
+    test: &Test,
+) -> Result<bool, AllocError>
+    requires sources { (s a : ℕ) → Contains (sources_at (set_view set.now).sites s) a → a < s }
+    requires names { IsNaming around.now.joined.items names.now }
+    ensures { IfOk result (λ x. x ≡ Tests.is_open (set_view set.now) (around_view around.now) (test_view test.now)) }
+{
+    match test {
+        Test::Match { source } | Test::Loop { source } => is_open_site(alloc, set, around, *source),
+        Test::Equal { a, b } => is_open_pair(alloc, set, around, names, *a, *b),
+    }
+}
+
+// Adds a test, where it is open and isn't among these.
+fn add_open(
+    alloc: Global,
+    set: &RuleSet,
+    around: &Around,
+    names: &[(BindingId, BindingId)],
+    test: Test,
+    tests: &mut Vec<Test>,
+) -> Result<(), AllocError>
+    requires sources { (s a : ℕ) → Contains (sources_at (set_view set.now).sites s) a → a < s }
+    requires names { IsNaming around.now.joined.items names.now }
+    ensures { OnOk result (AddsOpen (set_view set.now) (around_view around.now) (IsTest test) tests.old.items tests.new.items) }
+{
+    if tests.contains(&test) {
+        return Ok(());
+    }
+    if is_open(alloc, set, around, names, &test)? {
+        tests.push(test)?;
+    }
+    Ok(())
+}
+
+// Adds the matches of the sites of which a rule asks something.
+fn add_matches(
+    alloc: Global,
+    set: &RuleSet,
+    around: &Around,
+    names: &[(BindingId, BindingId)],
+    rule: &Rule,
+    tests: &mut Vec<Test>,
+) -> Result<(), AllocError>
+    requires sources { (s a : ℕ) → Contains (sources_at (set_view set.now).sites s) a → a < s }
+    requires names { IsNaming around.now.joined.items names.now }
+    ensures { OnOk result (AddsOpen (set_view set.now) (around_view around.now) (IsMatchOf (set_rule_view rule.now)) tests.old.items tests.new.items) }
+{
+    for asked in rule.constraints() {
+        let test = Test::Match { source: asked.0 };
+        add_open(alloc, set, around, names, test, tests)?;
+    }
+    Ok(())
+}
+
+// Adds the equalities of a site and others.
+fn add_pairs_with(
+    alloc: Global,
+    set: &RuleSet,
+    around: &Around,
+    names: &[(BindingId, BindingId)],
+    a: BindingId,
+    others: &[BindingId],
+    tests: &mut Vec<Test>,
+) -> Result<(), AllocError>
+    requires sources { (s a : ℕ) → Contains (sources_at (set_view set.now).sites s) a → a < s }
+    requires names { IsNaming around.now.joined.items names.now }
+    ensures { OnOk result (AddsOpen (set_view set.now) (around_view around.now) (IsPairWith others.now a) tests.old.items tests.new.items) }
+{
+    for b in others {
+        add_open(alloc, set, around, names, Test::Equal { a, b: *b }, tests)?;
+    }
+    Ok(())
+}
+
+// Adds the equalities of two sites of a class.
+fn add_pairs(
+    alloc: Global,
+    set: &RuleSet,
+    around: &Around,
+    names: &[(BindingId, BindingId)],
+    class: &[BindingId],
+    tests: &mut Vec<Test>,
+) -> Result<(), AllocError>
+    requires sources { (s a : ℕ) → Contains (sources_at (set_view set.now).sites s) a → a < s }
+    requires names { IsNaming around.now.joined.items names.now }
+    ensures { OnOk result (AddsOpen (set_view set.now) (around_view around.now) (IsPairOf class.now) tests.old.items tests.new.items) }
+{
+    for a in class {
+        add_pairs_with(alloc, set, around, names, *a, class, tests)?;
+    }
+    Ok(())
+}
+
+// Adds the equalities that a rule demands.
+fn add_equalities(
+    alloc: Global,
+    set: &RuleSet,
+    around: &Around,
+    names: &[(BindingId, BindingId)],
+    rule: &Rule,
+    tests: &mut Vec<Test>,
+) -> Result<(), AllocError>
+    requires sources { (s a : ℕ) → Contains (sources_at (set_view set.now).sites s) a → a < s }
+    requires names { IsNaming around.now.joined.items names.now }
+    ensures { OnOk result (AddsOpen (set_view set.now) (around_view around.now) (IsEqualOf (set_rule_view rule.now)) tests.old.items tests.new.items) }
+{
+    for class in rule.classes() {
+        add_pairs(alloc, set, around, names, class, tests)?;
+    }
+    Ok(())
+}
+
+// Adds the matches and equalities that the rule of a number needs.
+fn add_wanted(
+    alloc: Global,
+    set: &RuleSet,
+    around: &Around,
+    names: &[(BindingId, BindingId)],
+    number: usize,
+    tests: &mut Vec<Test>,
+) -> Result<(), AllocError>
+    requires sources { (s a : ℕ) → Contains (sources_at (set_view set.now).sites s) a → a < s }
+    requires names { IsNaming around.now.joined.items names.now }
+    ensures { OnOk result (AddsOpen (set_view set.now) (around_view around.now) (IsWanted (set_view set.now).rules number) tests.old.items tests.new.items) }
+{
+    let Some(rule) = set.rules.get(number) else {
+        return Ok(());
+    };
+    add_matches(alloc, set, around, names, rule, tests)?;
+    add_equalities(alloc, set, around, names, rule, tests)?;
+    Ok(())
+}
+
+// Whether a rule goes over the answers of some call: else it needs no loop.
+fn goes_over_some(set: &RuleSet, number: usize) -> bool
+    ensures { result ≡ false → (s : ℕ) → Tests.needs_at (set_view set.now).rules (Tests.loop_test s) number ≡ false }
+{
+    match set.rules.get(number) {
+        Some(rule) => rule.iterators.len() > 0,
+        None => false,
+    }
+}
+
+// Whether one of these rules goes over the answers of some call: else none of them needs a loop.
+fn some_goes_over(set: &RuleSet, numbers: &[usize]) -> bool
+    ensures { result ≡ false → (s : ℕ) → list_any (Tests.needs_at (set_view set.now).rules (Tests.loop_test s)) numbers.now ≡ false }
+{
+    for number in numbers {
+        if goes_over_some(set, *number) {
+            return true;
+        }
+    }
+    false
+}
+
+// Whether one of these rules needs a test.
+fn some_needs(set: &RuleSet, numbers: &[usize], test: &Test) -> bool
+    ensures { result ≡ list_any (Tests.needs_at (set_view set.now).rules (test_view test.now)) numbers.now }
+{
+    numbers.iter().any(|number| needs_at(set, test, *number))
+}
+
+// Adds the loop over a call's answers, where a site stands for these and one of some rules needs it.
+fn add_loop(
+    alloc: Global,
+    set: &RuleSet,
+    around: &Around,
+    names: &[(BindingId, BindingId)],
+    highest: &[usize],
+    binding: &Binding,
+    tests: &mut Vec<Test>,
+) -> Result<(), AllocError>
+    requires sources { (s a : ℕ) → Contains (sources_at (set_view set.now).sites s) a → a < s }
+    requires names { IsNaming around.now.joined.items names.now }
+    ensures { OnOk result (AddsOpen (set_view set.now) (around_view around.now) (IsLoopBy (set_view set.now).rules highest.now (site_view binding.now)) tests.old.items tests.new.items) }
+{
+    let Binding::Iterator { source } = binding else {
+        return Ok(());
+    };
+    let test = Test::Loop { source: *source };
+    if some_needs(set, highest, &test) {
+        add_open(alloc, set, around, names, test, tests)?;
+    }
+    Ok(())
+}
+
+// Adds the loops that some rules need.
+fn add_loops(
+    alloc: Global,
+    set: &RuleSet,
+    around: &Around,
+    names: &[(BindingId, BindingId)],
+    highest: &[usize],
+    tests: &mut Vec<Test>,
+) -> Result<(), AllocError>
+    requires set { CanGrow (set_view set.now) }
+    requires names { IsNaming around.now.joined.items names.now }
+    ensures { OnOk result (AddsOpen (set_view set.now) (around_view around.now) (IsLoopOf (set_view set.now).rules highest.now) tests.old.items tests.new.items) }
+{
+    if !some_goes_over(set, highest) {
+        return Ok(());
+    }
+    for binding in &set.bindings {
+        add_loop(alloc, set, around, names, highest, binding, tests)?;
+    }
+    Ok(())
+}
+
+// Adds the matches and equalities that some rules need.
+fn add_all_wanted(
+    alloc: Global,
+    set: &RuleSet,
+    around: &Around,
+    names: &[(BindingId, BindingId)],
+    highest: &[usize],
+    tests: &mut Vec<Test>,
+) -> Result<(), AllocError>
+    requires sources { (s a : ℕ) → Contains (sources_at (set_view set.now).sites s) a → a < s }
+    requires names { IsNaming around.now.joined.items names.now }
+    ensures { OnOk result (AddsOpen (set_view set.now) (around_view around.now) (OfSome (IsWanted (set_view set.now).rules) highest.now) tests.old.items tests.new.items) }
+{
+    for number in highest {
+        add_wanted(alloc, set, around, names, *number, tests)?;
+    }
+    Ok(())
+}
+
+/// The open tests of a place that some of its highest rules needs: an open test that none of these needs covers no rule.
+pub fn useful_tests(
+    alloc: Global,
+    set: &RuleSet,
+    around: &Around,
+    here: &[usize],
+) -> Result<Vec<Test>, AllocError>
+    requires set { CanGrow (set_view set.now) }
+    requires order { IsTrue (descend (set_view set.now).rules here.now) }
+    ensures { IfOk result (λ v. AreUseful (set_view set.now) (around_view around.now) here.now v.items) }
+{
+    let names = class_names(alloc, around)?;
+    let highest = &here[..reach_count(set, here, here.first().copied())];
+    let mut tests = Vec::new(alloc);
+    add_all_wanted(alloc, set, around, &names, highest, &mut tests)?;
+    add_loops(alloc, set, around, &names, highest, &mut tests)?;
+    Ok(tests)
+}
