@@ -34,8 +34,8 @@ const READINGS: [(Table, Kind, [usize; 3]); 15] = [
     (Table::Sets, Kind::JoinedFields, [300, 1000, 3000]),
     (Table::Sets, Kind::Calls, [300, 3000, 30_000]),
     (Table::Checked, Kind::FormsOfOneTerm, [200, 1000, 3000]),
-    (Table::Trees, Kind::RulesOfOneTerm, [30, 100, 300]),
-    (Table::Trees, Kind::FormsOfOneTerm, [30, 100, 300]),
+    (Table::Trees, Kind::RulesOfOneTerm, [200, 1000, 3000]),
+    (Table::Trees, Kind::FormsOfOneTerm, [200, 1000, 3000]),
 ];
 
 fn main(rt: HostRuntime) -> io::Result<()> {

@@ -19,8 +19,8 @@ use crate::tests::Test;
 use isle_sets::trie_again::{BindingId, RuleSet};
 use std::alloc::{AllocError, Global};
 
-/// The best steps from a place on, whose rules stand in order: tests while some open test covers a rule, then the returns of the rules that are
-/// left.
+/// The best steps from a place on, whose rules stand in order: tests while some open test covers a rule, then the
+/// returns of the rules that are left.
 #[cycle(grow)]
 pub fn block_of(
     alloc: Global,
