@@ -6,4 +6,5 @@ pub mod overlaps
 pub mod results
 pub mod served
 pub mod taken
+pub mod total
 pub mod visits

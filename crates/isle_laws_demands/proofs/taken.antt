@@ -2,6 +2,7 @@
 pub mod BuiltSites
 pub mod Fits
 pub mod Forms
+pub mod NumbersInRange
 pub mod ServesRuns
 pub mod SitesKnown
 pub mod Walked

@@ -1,10 +1,10 @@
 -- What theory proves of matching by demands: of one rule, of its closed demands, of what can't be met, and of built sets.
-use Rattle.std.specs.Prelude.{[], ◌≡◌, ◌↔◌, ℕ, Bool, List, Some, is_some, IsTrue, Contains}
+use Rattle.std.specs.Prelude.{[], ◌≡◌, ◌↔◌, ℕ, Bool, false, List, Some, is_some, IsTrue, Contains}
 use Rattle.isle_model.specs.lists.Syntax.{Definition}
 use Rattle.isle_model.specs.lists.Elaborated.{TypedRules}
 use Rattle.isle_model.specs.rules.Values.{Value, args_well_typed}
 use Rattle.isle_model.specs.rules.Meaning.{many, Contents, Meaning}
-use Rattle.isle_model.specs.rules.Program.{Program, arg_types, rules_of}
+use Rattle.isle_model.specs.rules.Program.{Program, is_multi, arg_types, rules_of}
 use Rattle.isle_model.specs.rules.Typed.{TypedRule}
 use Rattle.isle_model.specs.rules.Picks.{Pick, site_content, picks, matches_under}
 use Rattle.isle_model.specs.sites.Sites.{SiteTerm}
@@ -13,7 +13,6 @@ use Rattle.isle_model.specs.sites.Closure.{ClosedIsWhole, IsUnreachable, Demands
 use Rattle.isle_model.specs.sites.Overlap.{BuiltRule, built_rules}
 use Rattle.isle_model.specs.sites.Serves.{Serves, TellsConstantsApart}
 use Rattle.isle_model.specs.claims.Environments.{TypesRead, IsElaborated, program_of}
-use Rattle.isle_model.specs.claims.Headline.{IsWithoutMulti}
 use Rattle.isle_model.specs.claims.SetMeanings.{OfBuiltSets, MatchesByDemands, ResultsAreHeld, TellsRulesApart}
 
 -- a rule on arguments of its term's types, a meaning that serves the rules of the term, and one of the rule's picks
@@ -37,7 +36,7 @@ pub record MatchesByVisit (p : Program) (m : Meaning) (args : List Value) (r : T
 abbrev pub VisitsMatch : Type 0
 VisitsMatch = WhereTried (λ p t m args r k. MatchesByVisit p m args r k)
 
--- where different constants have different values, a rule whose demands no values can meet doesn't match
+-- where constants are told apart, a rule whose demands no values can meet doesn't match
 abbrev pub UnreachableRulesNeverMatch : Type 0
 UnreachableRulesNeverMatch =
     WhereTried (λ p t m args r k. TellsConstantsApart p m (rules_of p t) → IsUnreachable (demands_of p r) → IsTrue (is_some (matches_under p m k r args)) → ⊥)
@@ -59,17 +58,17 @@ BuiltDemandsHoldAlike =
 abbrev pub BuiltSetsMatchByDemands : Type 0
 BuiltSetsMatchByDemands = OfBuiltSets MatchesByDemands
 
--- the closed demands of rules that are built of elaborated rules tell those apart that go over no calls
+-- the closed demands of rules that are built of elaborated rules tell those of a term apart that isn't multi
 abbrev pub BuiltRulesAreToldApart : Type 0
 BuiltRulesAreToldApart =
     (e : TypesRead) (defs : List Definition) (expand : Bool) (rules : TypedRules) (t : ℕ)
     → IsElaborated e defs expand rules → TellsRulesApart (program_of e defs rules.rules) t
 
--- the rules of a term that isn't multi and uses no multi extractor go over no calls
+-- the rules of a term that isn't multi go over no calls
 abbrev pub RulesWithoutMultiGoOverNoCalls : Type 0
 RulesWithoutMultiGoOverNoCalls =
     (e : TypesRead) (defs : List Definition) (expand : Bool) (rules : TypedRules) (t : ℕ)
-    → IsElaborated e defs expand rules → IsWithoutMulti (program_of e defs rules.rules) t
+    → IsElaborated e defs expand rules → is_multi (program_of e defs rules.rules) t ≡ false
     → (r : TypedRule) → Contains (rules_of (program_of e defs rules.rules) t) r → (demands_of (program_of e defs rules.rules) r).iterators ≡ []
 
 -- under each of its picks the result's site of a rule that makes no impure call, of a set that is built of elaborated rules,

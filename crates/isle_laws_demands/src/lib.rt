@@ -6,13 +6,18 @@
 
 ghost use Rattle.isle_laws_demands.specs.ClosureLaws.{JoinedIsEquivalence, ClassesBoundJoined, VerdictIsExact, NamesAreExact, ClosingAddsNothing, ConstraintsAreKept, ClosingIsSound, OverlapIsSymmetric, OverlapIsExact, ClashIsExact, FirstLimitIsPassed, PassedLimitIsMet, ClosingIsWhole, ReportsAreExact, ShadowsAreExact, VisitsMakeEqualSites, PlainClosingEnds, ClosingEnds};
 ghost use Rattle.isle_laws_demands.specs.AcceptLaws.{ElaboratedRulesHaveTerms, RulesAreJudged, ListsAreAccepted, ListsAreNotAccepted};
+ghost use Rattle.isle_laws_demands.specs.PairLaws.{WrongPairsStandOnce, OnlyWrongPairsStand};
+ghost use Rattle.isle_laws_demands.specs.ShadowLaws.{MasksAreNamedOnce, OnlyMasksAreNamed, CheckErrorsAreAnswered, ShadowedRulesAreNeverChosen, ShadowedRulesCanBeTakenAway};
+ghost use Rattle.isle_laws_demands.specs.ErrorLaws.{CheckErrorsNameLeftOut, CheckErrorsNamePairs, CheckErrorsNameMasks};
+ghost use Rattle.isle_laws_demands.specs.LeftOutLaws.{LeftOutRulesAreReported};
 ghost use Rattle.isle_laws_demands.specs.FieldLaws.{ConflictFreeConstraintsAgree, FieldsAreGiven};
 ghost use Rattle.isle_laws_demands.specs.ReportLaws.{CheckIsExact, OverlapsAreListedOnce, ListedRulesOverlap, MasksAreReportedOnce, ReportedMasksShadow};
 ghost use Rattle.isle_laws_demands.specs.RuleByRule.{BuildingEnds, BuildingGoesOn, BuildingStarts, BuiltSetsAreAnswered, FullSitesStay, LimitsAreMet, ListedDemandsStand, OrderAsksTheSame, SetsEndBuilt, SetsGoPastRules, SetsStartEmpty, WalksEndAtLimits};
 ghost use Rattle.isle_laws_demands.specs.SetOverlapLaws.{SetRulesOverlapAsTheirDemands, OverlapOfSetRulesIsSymmetric, SetRulesConstrainAsTheirDemands};
+ghost use Rattle.isle_laws_demands.specs.TotalLaws.{TotalMeaningsServe, AgreeingMapsTellApart, ChoiceIsOfFunctions, TotalMeaningsHaveOneOutcome};
 ghost use Rattle.isle_laws_demands.specs.SetReportLaws.{BuiltSetsAreChecked, BuiltSetsAreReported};
 ghost use Rattle.isle_laws_demands.specs.VisitLaws.{SitesStandOnce, FormedRulesDemandGates, ClosingKeepsGates, ElaboratedRulesDemandGates, BuiltRulesDemandGates, BuiltSetsAreWellBuilt, NoneAskedAndGoneOver, MultiCallsAreGoneOver, NoRuleAsksAndGoesOver, MultiTermsHaveOnePriority};
-ghost use Rattle.isle_model.specs.claims.SetMeanings.{BuiltSetsAreTested, BuiltSetsCanBeServed, BuiltSetsAreCollected};
+ghost use Rattle.isle_model.specs.claims.SetMeanings.{BuiltSetsAreTested, BuiltSetsCanBeServed, BuiltSetsHaveNumbersInRange, BuiltSetsAreCollected};
 ghost use Rattle.isle_laws_demands.specs.BuiltLaws.{ClosingsOfBuiltRulesAreWhole, ConstrainedSitesStandInNoClass, BuiltRulesConstrainOrEquate, FormedRulesMakeEqualSites, BuiltDemandsAreWhole};
 ghost use Rattle.isle_laws_demands.specs.MatchLaws.{VisitsMatch, UnreachableRulesNeverMatch, ClosedDemandsHoldAlike, BuiltDemandsHoldAlike, BuiltSetsMatchByDemands, BuiltRulesAreToldApart, RulesWithoutMultiGoOverNoCalls, BuiltSetsHoldResults};
 ghost use Rattle.isle_laws_demands.specs.OutcomeLaws.{TakenRulesGiveTheirOutcome, TakenRulesGiveTheirOutcomeUnderPicks, BuiltSetsMeanTheirRules};
@@ -294,6 +299,11 @@ pub fn built_sets_can_be_served()
     elaborated_rules_demand_gates();
 }
 
+/// Its integer literals lie in the ranges of their types, as sites and as constraints.
+pub fn built_sets_have_numbers_in_range()
+    ensures { BuiltSetsHaveNumbersInRange }
+{}
+
 /// And in a multi term whose rules make no impure call and leave no multi call unused it meets what collecting asks.
 pub fn built_sets_are_collected()
     ensures { BuiltSetsAreCollected }
@@ -345,15 +355,15 @@ pub fn built_sets_match_by_demands()
     built_demands_are_whole();
 }
 
-/// Of two rules that are built of elaborated rules and go over no calls, those that don't overlap never match together, and
-/// a shadowed one matches only where its mask does.
+/// Of two rules of a term that isn't multi, built of elaborated rules, those that don't overlap never match together, and a
+/// shadowed one matches only where its mask does.
 pub fn built_rules_are_told_apart()
     ensures { BuiltRulesAreToldApart }
 {
     built_demands_are_whole();
 }
 
-/// The rules of a term that isn't multi and uses no multi extractor go over no calls.
+/// The rules of a term that isn't multi go over no calls.
 pub fn rules_without_multi_go_over_no_calls()
     ensures { RulesWithoutMultiGoOverNoCalls }
 {}
@@ -455,6 +465,7 @@ pub fn built_sets_are_answered()
 {
     built_demands_are_whole();
     built_sets_can_be_served();
+    built_sets_have_numbers_in_range();
     built_sets_mean_their_rules();
     built_rules_are_told_apart();
 }
@@ -485,4 +496,91 @@ pub fn listed_demands_stand()
 #[tactic(auto, using(crate::proofs::building::Walks::walks_end_at_limits_lem))]
 pub fn walks_end_at_limits()
     ensures { WalksEndAtLimits }
+{}
+
+/// Each rule that building leaves out is reported at its position, and each report of building is of such a rule.
+#[tactic(auto, using(crate::proofs::overlaps::LeftOut::left_out_rules_are_reported_lem))]
+pub fn left_out_rules_are_reported()
+    ensures { LeftOutRulesAreReported }
+{}
+
+/// Each two rules that overlap wrongly stand in exactly one report of checking that lists one of them first.
+pub fn wrong_pairs_stand_once()
+    ensures { WrongPairsStandOnce }
+{}
+
+/// And each further rule of a report of checking overlaps wrongly with its first.
+pub fn only_wrong_pairs_stand()
+    ensures { OnlyWrongPairsStand }
+{}
+
+/// Where rules stand at distinct positions, each built rule that shadows others is the mask of exactly one error of checking,
+/// which lists exactly these, in rule order.
+#[tactic(auto, using(crate::proofs::overlaps::Shadowed::masks_are_named_once_lem))]
+pub fn masks_are_named_once()
+    ensures { MasksAreNamedOnce }
+{}
+
+/// And each error that names a mask is of such a rule, and lists some.
+#[tactic(auto, using(crate::proofs::overlaps::Shadowed::only_masks_are_named_lem))]
+pub fn only_masks_are_named()
+    ensures { OnlyMasksAreNamed }
+{}
+
+/// These are the errors that checking answers where rules stand at distinct positions.
+#[tactic(auto, using(crate::proofs::overlaps::Shadowed::check_errors_are_answered_lem))]
+pub fn check_errors_are_answered()
+    ensures { CheckErrorsAreAnswered }
+{}
+
+/// Of the errors that checking an elaborated list answers: each rule that is left out has one at its position, and each that
+/// says so is of a rule that is left out.
+pub fn check_errors_name_left_out()
+    ensures { CheckErrorsNameLeftOut }
+{}
+
+/// If no two rules stand at one position, each two rules that overlap wrongly stand in exactly one overlap error that lists one
+/// of them first, and each further rule of such an error overlaps wrongly with its first.
+pub fn check_errors_name_pairs()
+    ensures { CheckErrorsNamePairs }
+{}
+
+/// And each mask is named by exactly one shadow error, which lists exactly the rules that it shadows.
+pub fn check_errors_name_masks()
+    ensures { CheckErrorsNameMasks }
+{}
+
+/// In a term that isn't multi a rule that is shadowed is never chosen.
+pub fn shadowed_rules_are_never_chosen()
+    ensures { ShadowedRulesAreNeverChosen }
+{
+    built_rules_are_told_apart();
+}
+
+/// So it can be taken away from the program, and the term chooses the same.
+pub fn shadowed_rules_can_be_taken_away()
+    ensures { ShadowedRulesCanBeTakenAway }
+{
+    shadowed_rules_are_never_chosen();
+}
+
+/// Every well-typed total meaning of what is called restricts to finite maps that serve the rules of a term.
+pub fn total_meanings_serve()
+    ensures { TotalMeaningsServe }
+{}
+
+/// Maps that agree with total functions tell constants apart where the functions do.
+#[tactic(auto, using(crate::proofs::total::Total::agreeing_maps_tell_apart_lem))]
+pub fn agreeing_maps_tell_apart()
+    ensures { AgreeingMapsTellApart }
+{}
+
+/// What is chosen, and comes of it, is of the functions alone, whatever maps agree with them and serve.
+pub fn choice_is_of_functions()
+    ensures { ChoiceIsOfFunctions }
+{}
+
+/// By total functions a tree that chooses has one outcome, whatever finite maps restrict them.
+pub fn total_meanings_have_one_outcome()
+    ensures { TotalMeaningsHaveOneOutcome }
 {}

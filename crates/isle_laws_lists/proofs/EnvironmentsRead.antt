@@ -2,7 +2,7 @@
 -- constants are those that its look-up answers.
 use Rattle.std.proofs.Common.{◌≡◌, ◌==◌, ℕ, zero, suc, ◌+◌, ◌<◌, true, false, if◌then◌else◌, List, [], ◌∷◌, length, Option, Some, None, unwrap_or, slice_get, IsTrue, All, refl, sym, ap, ◌∙◌, subst, inl, inr, arith, eq-eqb, eqb-true}
 use Rattle.std.proofs.lemmas.Bool.{cases_Bool, cond-true, cond-false, false≢true}
-use Rattle.std.proofs.lemmas.Option.{same_Some, none-some}
+use Rattle.std.proofs.lemmas.Option.{same_Some, none-some, slice_get_within}
 use Rattle.std.specs.List.{enumerate_from}
 use Rattle.isle_model.specs.lists.Names.{number, has_name, IsDistinct}
 use Rattle.isle_model.specs.lists.Tables.{TypeEntry}
@@ -146,14 +146,9 @@ module _ (env : TypeEnvironment) (h : IsWellFormedEnvironment env) where
   listed_named : (ty : ℕ) (x : List ℕ) → slice_get (names_by 0 env.types) ty ≡ Some x → IsNamed ty x
   listed_named ty x e =
       let n = as_many 0 env.types in
-      let within = get_inside (names_by 0 env.types) ty x e in
+      let within = slice_get_within (names_by 0 env.types) ty x e in
       let r = type_named ty (omega (arith, n, within)) in
       subst (IsNamed ty) (same_Some r.0 x (sym r.1.listed ∙ e)) r.1
-    where
-      get_inside : {X : Type 0} (xs : List X) (k : ℕ) (y : X) → slice_get xs k ≡ Some y → k < length xs
-      get_inside [] k y q = absurd (cc)
-      get_inside (z ∷ xs) zero y q = omega arith
-      get_inside (z ∷ xs) (suc k) y q = let l = get_inside xs k y q in omega (arith, l)
 
   shown : TypesRead
   shown = record {

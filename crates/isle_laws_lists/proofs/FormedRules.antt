@@ -13,6 +13,7 @@ use Rattle.isle_model.specs.lists.Names.{number, with_name}
 use Rattle.isle_model.specs.lists.Elaborated.{typed_list}
 use Rattle.isle_model.specs.lists.Elaborates.{ElaboratesPattern, ElaboratesParts, ElaboratesEach, new_name, bound_name, binding, a_truth, an_integer, a_constant, a_term, a_template, a_conversion, anything, all_of, no_part, part, no_more, one_more, ElaboratesExpr, ElaboratesArgs, ElaboratesLets, a_call, converted_call, a_variable, converted_variable, truth_expr, integer_expr, constant_expr, let_in, no_arg, an_arg, no_def, a_def, ElaboratesIfLets, no_iflet, an_iflet, a_rule}
 use Rattle.isle_model.specs.lists.Formed.{pattern_type, var_type, formed_pattern, formed_parts, formed_each, is_formed_expr, are_formed_args, formed_lets, formed_list, formed_iflets, program_in, RulesAreFormed}
+use Rattle.isle_laws_lists.proofs.Ranges.{reduced_is_literal}
 use Rattle.isle_laws_lists.proofs.Typings.{ne-eqb}
 use Rattle.isle_laws_lists.proofs.TypedResults.{pattern_at_type, expr_at_type}
 
@@ -58,12 +59,12 @@ has_its_type n name (w ∷ ws) v d h =
           rw (ne-eqb w.id v.id (λ same. absurd (omega (arith, l, same)))) (has_its_type w.id name ws v d.1 i)
     ] h
 
-extracts : (e : Setting) (multi : Bool) (k : TermKindEntry) → is_matchable e multi k ≡ true → has_extractor k ≡ true
-extracts e multi (variant_term i) h = refl
-extracts e multi struct_term h = refl
-extracts e multi (declared_term own c x) h = (and_parts _ _ h).0
+extracts : (multi : Bool) (k : TermKindEntry) → is_matchable multi k ≡ true → has_extractor k ≡ true
+extracts multi (variant_term i) h = refl
+extracts multi struct_term h = refl
+extracts multi (declared_term own c x) h = (and_parts _ _ h).0
 
-constructs : (flags : Flags) (k : TermKindEntry) → is_callable flags k ≡ true → has_constructor k ≡ true
+pub constructs : (flags : Flags) (k : TermKindEntry) → is_callable flags k ≡ true → has_constructor k ≡ true
 constructs flags (variant_term i) h = refl
 constructs flags struct_term h = refl
 constructs flags (declared_term own c x) h = (and_parts _ _ h).0
@@ -98,10 +99,10 @@ module _ (e : Setting) (rules : List TypedRule) (at_ids : (k : ℕ) (t : TermEnt
           let r = pattern_formed g o in
           (rw (eq-eqb (pattern_type q) ty (pattern_at_type e multi g), r.0, is_new (length t.vars) (length t.vars) t.visible (omega arith) r.1) refl, pushed t name.text ty r.1)
       pattern_formed (a_truth {ty = ty} h) o = (rw (eq-eqb ty bool_type h) refl, o)
-      pattern_formed (an_integer h) o = (rw h refl, o)
+      pattern_formed (an_integer {ty = ty} {z = z} h) o = (rw (reduced_is_literal (slice_get e.types ty) z h) refl, o)
       pattern_formed (a_constant {ty = ty} h) o = (rw (h, eq-eqb ty ty refl) refl, o)
       pattern_formed (a_term {ty = ty} {entry = entry} h i j k g) o =
-          let r = parts_formed g o in (rw (at_id _ entry h, eq-eqb entry.ret_ty ty i, extracts e multi entry.kind k, r.0) refl, r.1)
+          let r = parts_formed g o in (rw (at_id _ entry h, eq-eqb entry.ret_ty ty i, extracts multi entry.kind k, r.0) refl, r.1)
       pattern_formed (a_template h i j k g) o = pattern_formed g o
       pattern_formed (a_conversion h i j g) o = pattern_formed g o
       pattern_formed anything o = (refl, o)
@@ -128,7 +129,7 @@ module _ (e : Setting) (rules : List TypedRule) (at_ids : (k : ℕ) (t : TermEnt
       expr_formed (a_variable {s = s} {v = v} h i) o = (rw (has_its_type (length s.vars) _ s.visible v o h, eq-eqb v.ty v.ty refl) refl, refl, omega arith)
       expr_formed (converted_variable h i j g) o = expr_formed g o
       expr_formed (truth_expr h) o = (refl, refl, omega arith)
-      expr_formed (integer_expr h) o = (h, refl, omega arith)
+      expr_formed (integer_expr {ty = ty} {z = z} h) o = (reduced_is_literal (slice_get e.types ty) z h, refl, omega arith)
       expr_formed (constant_expr {own = own} h i) o = (rw (h, eq-eqb own own refl) refl, refl, omega arith)
       expr_formed (let_in {s = s} {t = t} {u = u} {q = q} g h) o =
           let l = lets_formed g o in

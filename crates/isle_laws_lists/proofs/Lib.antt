@@ -11,6 +11,7 @@ pub mod JudgedTypes
 pub mod LooksByNumber
 pub mod NamesOfTables
 pub mod OwnTypes
+pub mod Ranges
 pub mod RefusedTerms
 pub mod TermLaws
 pub mod TermTypes

@@ -25,14 +25,14 @@ number_looked_up ns x id before once met k =
           ap (λ b. cond b (Some id) (before y)) (ap (nat_eq (number ns x)) (sym same) ∙ same_test ns x y met)
     ] refl
 
-nothing_then : (o : Option (List ℕ)) → None ≡ then_option {Y = ℕ} o (λ x. None)
+pub nothing_then : (o : Option (List ℕ)) → None ≡ then_option {Y = ℕ} o (λ x. None)
 nothing_then None = refl
 nothing_then (Some x) = refl
 
 after : (i : ℕ) → i + 1 ≡ suc i
 after i = omega arith
 
-numbered_from : (ns : List (List ℕ)) (i : ℕ) (ts : List (List ℕ)) → IsDistinct ns → ((x : List ℕ) → Contains ts x → has_name ns x ≡ true) → (k : ℕ)
+pub numbered_from : (ns : List (List ℕ)) (i : ℕ) (ts : List (List ℕ)) → IsDistinct ns → ((x : List ℕ) → Contains ts x → has_name ns x ≡ true) → (k : ℕ)
     → look (λ n. n == k) (map (λ p. (number ns p.1, p.0)) (enumerate_from i ts)) ≡ then_option (slice_get ns k) (λ x. place_from i x ts)
 numbered_from ns i [] once met k = nothing_then (slice_get ns k)
 numbered_from ns i (t ∷ ts) once met k =

@@ -4,7 +4,7 @@ use Rattle.isle_model.proofs.Members.{all_members}
 use Rattle.isle_model.specs.claims.Refusals.{Refusal, ill_typed, unreachable, overlapping, shadowing, past_limit, IsIllTyped, IsOfReading}
 use Rattle.isle_laws_lists.specs.RefusedTerms.{RefusedTermsRefuseRules}
 
-of_reading : (r : Refusal) → IsIllTyped r → IsOfReading r
+pub of_reading : (r : Refusal) → IsIllTyped r → IsOfReading r
 of_reading (ill_typed at) h = h
 of_reading (unreachable at) h = h
 of_reading (overlapping rules) h = h

@@ -72,7 +72,7 @@ module _ (e : Setting) (multi : Bool) where
           ⊎_elim
           (λ c. ⊎_elim
           (λ k.
-          let u = if_gives (is_matchable e multi m.0.kind) _ k.1 in
+          let u = if_gives (is_matchable multi m.0.kind) _ k.1 in
           let v = made_gives _ (elaborated_parts e multi d args m.0.arg_tys s) u.1 in
           subst (λ (v : Typing TypedPattern). ElaboratesPattern e multi d (term_pattern name args at) ty s v.made v.scope v.expansions) v.2
           (a_term m.1 ((Decides-eqb m.0.ret_ty ty).0 c.0) k.0 u.0 (sound_parts args m.0.arg_tys s v.0 v.1)))

@@ -15,7 +15,7 @@ pub types_are_shown_lem : TypesAreShown
 types_are_shown_lem e r = environments_are_read e r.well_formed.names_distinct
 
 -- a name that is there keeps its number
-number_front : (ns more : List (List ℕ)) (x : List ℕ) → has_name ns x ≡ true → number (ns ++ more) x ≡ number ns x
+pub number_front : (ns more : List (List ℕ)) (x : List ℕ) → has_name ns x ≡ true → number (ns ++ more) x ≡ number ns x
 number_front [] more x h = absurd (false≢true h)
 number_front (z ∷ zs) more x h =
     elim (bytes_eq z x) as (λ b. b || has_name zs x ≡ true → cond b 0 (suc (number (zs ++ more) x)) ≡ cond b 0 (suc (number zs x))) [

@@ -4,7 +4,7 @@ use Rattle.std.proofs.lemmas.Bool.{and_parts, and_from, cases_Bool, false≢true
 use Rattle.std.proofs.lemmas.Option.{cond_some, none-some, same_Some}
 use Rattle.isle_model.specs.rules.Outcome.{then_option}
 use Rattle.isle_model.specs.lists.Tables.{TermEntry}
-use Rattle.isle_model.specs.rules.Values.{is_atom_type}
+use Rattle.isle_model.specs.lists.Ranges.{is_literal_of}
 use Rattle.isle_model.specs.rules.Program.{Program}
 use Rattle.isle_model.specs.sites.Demands.{pattern_count}
 use Rattle.isle_model.specs.sites.Serves.{constant_type}
@@ -143,7 +143,7 @@ module _ (p : Program) where
     pattern_visits (match_var ty x) vars more f =
         let a = from_if (is_type (var_type vars x) ty) (Some vars) more f in unbound vars more (is_in x) a.1 (λ ks h. h x (has_type (var_type vars x) ty a.0))
     pattern_visits (match_bool ty b) vars more f = unbound vars more (λ ks. true) (from_if (ty == bool_type) (Some vars) more f).1 (λ ks h. refl)
-    pattern_visits (match_int ty z) vars more f = unbound vars more (λ ks. true) (from_if (is_atom_type (slice_get p.types ty)) (Some vars) more f).1 (λ ks h. refl)
+    pattern_visits (match_int ty z) vars more f = unbound vars more (λ ks. true) (from_if (is_literal_of (slice_get p.types ty) z) (Some vars) more f).1 (λ ks h. refl)
     pattern_visits (match_prim ty name) vars more f = unbound vars more (λ ks. true) (from_if (is_type (constant_type p name) ty) (Some vars) more f).1 (λ ks h. refl)
     pattern_visits (match_term ty term args) vars more f =
         let a = then_some (slice_get p.terms term) (λ (t : TermEntry). if (t.ret_ty == ty) && has_extractor t.kind then formed_parts p args t.arg_tys vars else None) more f in

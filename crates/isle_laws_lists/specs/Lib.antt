@@ -2,6 +2,7 @@ pub mod FurtherNames
 pub mod JudgeLaws
 pub mod OwnTypes
 pub mod QuestionLaws
+pub mod RangeLaws
 pub mod ReadEnvironments
 pub mod RefusedTerms
 pub mod TableLaws

@@ -11,6 +11,7 @@ ghost use Rattle.isle_laws_lists.specs.JudgeLaws.{TypesAreJudged, CyclesAreFound
 ghost use Rattle.isle_laws_lists.specs.TableLaws.{OwnTypesAreWellFormed, NamesStandOnce, NumbersStay, TypesStandAtIds, TypesAreFound, LastDefinitionCounts, TermsStandAtIds, TermsAreOfTypes, TermsHaveNames, TermsAreFound, TypesMakeTerms, ConvertersStandOnce};
 ghost use Rattle.isle_laws_lists.specs.FurtherNames.{FurtherNamesDontMatter, NamesOfRulesDontMatter};
 ghost use Rattle.isle_laws_lists.specs.QuestionLaws.{VariantsHaveTerms, WellFormedEnvironmentsAreRead};
+ghost use Rattle.isle_laws_lists.specs.RangeLaws.{ReducedNumbersAreInRange, NumbersInRangeStay, ReducingTwiceIsReducing, ReducedAlikeByMultiples, ReducedNumbersDifferByMultiples, OneOfTheRangeDiffersByAMultiple};
 ghost use Rattle.isle_laws_lists.specs.ReadEnvironments.{TypesAreShown, TypesStay};
 ghost use Rattle.isle_laws_lists.specs.RefusedTerms.{RefusedTermsRefuseRules};
 
@@ -254,4 +255,40 @@ pub fn well_formed_environments_are_read()
 /// What refuses the terms of a list refuses its rules, with the same errors.
 pub fn refused_terms_refuse_rules()
     ensures { RefusedTermsRefuseRules }
+{}
+
+/// Reducing a number to a range gives a number of the range.
+#[tactic(auto, using(crate::proofs::Ranges::reduced_numbers_are_in_range_lem))]
+pub fn reduced_numbers_are_in_range()
+    ensures { ReducedNumbersAreInRange }
+{}
+
+/// It gives a number of the range itself.
+#[tactic(auto, using(crate::proofs::Ranges::numbers_in_range_stay_lem))]
+pub fn numbers_in_range_stay()
+    ensures { NumbersInRangeStay }
+{}
+
+/// It gives one that differs by a multiple of the range's size.
+#[tactic(auto, using(crate::proofs::Ranges::reduced_numbers_differ_by_multiples_lem))]
+pub fn reduced_numbers_differ_by_multiples()
+    ensures { ReducedNumbersDifferByMultiples }
+{}
+
+/// No other number of the range does.
+#[tactic(auto, using(crate::proofs::Ranges::one_of_the_range_differs_by_a_multiple_lem))]
+pub fn one_of_the_range_differs_by_a_multiple()
+    ensures { OneOfTheRangeDiffersByAMultiple }
+{}
+
+/// So reducing twice gives no more than reducing once.
+#[tactic(auto, using(crate::proofs::Ranges::reducing_twice_is_reducing_lem))]
+pub fn reducing_twice_is_reducing()
+    ensures { ReducingTwiceIsReducing }
+{}
+
+/// Two numbers are reduced to one exactly where they differ by a multiple of the range's size.
+#[tactic(auto, using(crate::proofs::Ranges::reduced_alike_by_multiples_lem))]
+pub fn reduced_alike_by_multiples()
+    ensures { ReducedAlikeByMultiples }
 {}

@@ -1,3 +1,4 @@
+pub mod choosing
 pub mod picks
 pub mod runs
 pub mod taking

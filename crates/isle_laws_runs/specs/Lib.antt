@@ -1,3 +1,4 @@
+pub mod ChoiceLaws
 pub mod Exact
 pub mod Orders
 pub mod WithoutMulti

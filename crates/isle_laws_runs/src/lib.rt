@@ -7,6 +7,7 @@ ghost use Rattle.isle_model.specs.trees.Collects.{SoundTreesCollect};
 ghost use Rattle.isle_laws_runs.specs.WithoutMulti.{NoMultiIsNoIterators, MatchesAsPlain, EndsAsPlain, BagAsPlain};
 ghost use Rattle.isle_model.specs.rules.Meaning.{one};
 ghost use Rattle.isle_laws_runs.specs.Exact.{PicksAreExact, OnlyPlacesMatter, ContentsAreHeld, HeldAreContents};
+ghost use Rattle.isle_laws_runs.specs.ChoiceLaws.{ChoiceAsksTerms, OrderDoesntMatter, OthersCanBeTakenAway, OrderInProgramsDoesntMatter, OthersInProgramsCanBeTakenAway};
 ghost use Rattle.isle_laws_runs.specs.Orders.{CallsCanComeFirst, ResultsAreOfPlaces};
 ghost use Rattle.isle_model.specs.rules.Values.{Value, value_eq};
 ghost use Rattle.std.specs.Prelude.{◌≡◌, Decides};
@@ -98,4 +99,29 @@ pub fn rules_hold_once()
 /// Taking a rule comes to one outcome, whatever the place that it is taken from.
 pub fn taken_once()
     ensures { TakenOnce }
+{}
+
+/// Of a program, the choice by priority asks the terms alone.
+pub fn choice_asks_terms()
+    ensures { ChoiceAsksTerms }
+{}
+
+/// Where of two rules of one priority at most one matches, rules in another order choose the same.
+pub fn order_doesnt_matter()
+    ensures { OrderDoesntMatter }
+{}
+
+/// A rule that isn't chosen can be taken away.
+pub fn others_can_be_taken_away()
+    ensures { OthersCanBeTakenAway }
+{}
+
+/// So the terms of a program choose the same where its rules stand in another order.
+pub fn order_in_programs_doesnt_matter()
+    ensures { OrderInProgramsDoesntMatter }
+{}
+
+/// And where a rule is taken away that isn't chosen.
+pub fn others_in_programs_can_be_taken_away()
+    ensures { OthersInProgramsCanBeTakenAway }
 {}

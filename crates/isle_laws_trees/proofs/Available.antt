@@ -3,6 +3,7 @@ use Rattle.std.proofs.Common.{◌≡◌, ℕ, zero, suc, ◌+◌, ◌<◌, ◌==
 use Rattle.std.specs.List.{list_all}
 use Rattle.std.proofs.lemmas.Bool.{and_parts, and_from, or_cases, or_left, or_right, false≢true, cases_lt}
 use Rattle.std.proofs.lemmas.Option.{slice_get_within}
+use Rattle.std.proofs.Math.Nat.{zero-add}
 use Rattle.isle_model.specs.sites.Sites.{Site, iterator_site, match_variant_site, extract_struct_site, match_some_site, Constraint, is_variant, is_struct, is_present, SetRule, SiteSet, sources_of, sources_at}
 use Rattle.isle_model.specs.trees.Places.{Around, is_in, waits, is_available, available, below, is_variant_field, is_struct_field, is_part_of, site_from, fields_of, field_sites}
 use Rattle.isle_model.specs.trees.WellBuilt.{IsWellBuilt}
@@ -94,10 +95,7 @@ module _ (set : SiteSet) (built : IsWellBuilt set) (ar : Around) (r : SetRule) (
 
   -- the one site that is this one
   only_site : (s : ℕ) (b : Site) → slice_get sites s ≡ Some b → (p : Site → Bool) → p b ≡ true → ((x : Site) → p x ≡ true → x ≡ b) → site_from 0 p sites ≡ Some s
-  only_site s b e p h only = site_found p sites 0 s b e h (λ j x at t. built.sites_once j s b (at ∙ ap Some (only x t)) e) ∙ ap Some (zero-plus s)
-    where
-      zero-plus : (s : ℕ) → 0 + s ≡ s
-      zero-plus s = omega arith
+  only_site s b e p h only = site_found p sites 0 s b e h (λ j x at t. built.sites_once j s b (at ∙ ap Some (only x t)) e) ∙ ap Some (zero-add s)
 
   abbrev AllSources : ℕ → Type 0
   AllSources s = (u : ℕ) → Contains (sources_at sites s) u → (available sites ar u ≡ true) × (u < length sites)

@@ -1,6 +1,6 @@
 -- Of two different constraints one comes before the other.
 use Rattle.std.proofs.Common.{◌≡◌, ◌⊎◌, ℕ, ℤ, ◌==◌, Bool, true, false, ◌&&◌, ◌||◌, nat_lt, refl, sym, ap, ◌∙◌, inl, inr, arith, eq-eqb, ltb-false, int_cmp, int_eq, is_lt, Ordering, Less, Equal, Greater, ◌<ℤ◌}
-use Rattle.std.proofs.lemmas.Bool.{cases_Bool, and_from, or_left, or_right, false≢true}
+use Rattle.std.proofs.lemmas.Bool.{cases_Bool, and_from, or_left, or_right, false≢true, false_from_ne_true}
 use Rattle.std.proofs.lemmas.Bool.Decides.{Decides-int_eq}
 use Rattle.std.proofs.lemmas.Int.{ints}
 use Rattle.std.specs.Cmp.{int_ranks}
@@ -20,14 +20,10 @@ by_first : {X : Type 0} {E : Type 0} (below same above same_back rest back : Boo
 by_first below same above same_back rest back x y (inl b) eq eq_back h later = inr (or_left below (same && rest) b)
 by_first below same above same_back rest back x y (inr (inr a)) eq eq_back h later = absurd (false≢true (sym h ∙ or_left above (same_back && back) a))
 by_first below same above same_back rest back x y (inr (inl e)) eq eq_back h later =
-    elim (later (none back (λ t. false≢true (sym h ∙ or_right above (same_back && back) (and_from same_back back (eq_back e) t))))) [
+    elim (later (false_from_ne_true back (λ t. false≢true (sym h ∙ or_right above (same_back && back) (and_from same_back back (eq_back e) t))))) [
       | inl d ↦ inl (e, d)
       | inr t ↦ inr (or_right below (same && rest) (and_from same rest (eq e) t))
     ]
-  where
-    none : (b : Bool) → (b ≡ true → ⊥) → b ≡ false
-    none true f = absurd (f refl)
-    none false f = refl
 
 numbers : (a b : ℕ) → (nat_lt a b ≡ true) ⊎ ((a ≡ b) ⊎ (nat_lt b a ≡ true))
 numbers a b =

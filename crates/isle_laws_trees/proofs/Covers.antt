@@ -7,6 +7,7 @@ use Rattle.std.proofs.lemmas.Int.{ints}
 use Rattle.std.proofs.lemmas.List.Elements.{Contains-append_right}
 use Rattle.std.specs.Cmp.{int_ranks}
 use Rattle.std.specs.Ordering.{MatchOrdering}
+use Rattle.isle_laws_runs.proofs.runs.ChosenRules.{through}
 use Rattle.isle_model.specs.sites.Sites.{SetRule}
 use Rattle.isle_model.specs.trees.Sound.{NoneHigher}
 use Rattle.isle_model.specs.trees.Tests.{Test, priority, needs_at, is_lower, is_covered, cover, needs, is_needed}
@@ -37,10 +38,7 @@ module _ (rules : List SetRule) where
   itself : (x : ℤ) → x ≤ℤ x
   itself x = omega (arith, ints)
 
-  through : (x y z : ℤ) → x ≤ℤ y → y ≤ℤ z → x ≤ℤ z
-  through x y z a b = omega (arith, ints)
-
-  first_at_least : (i j : ℕ) → comes_first rules i j ≡ true → prio_at j ≤ℤ prio_at i
+  pub first_at_least : (i j : ℕ) → comes_first rules i j ≡ true → prio_at j ≤ℤ prio_at i
   first_at_least i j h =
       elim (or_cases (is_lower rules j i) (int_eq (prio_at j) (prio_at i) && nat_lt i j) h) [
         | inl a ↦ lower_at_most j i a
@@ -113,7 +111,7 @@ module _ (rules : List SetRule) (t : Test) where
         | inl y ↦
             let q = some_fails (λ k. needs_at rules t k || not (is_lower rules j k)) here (unmet y) in
             let o = or_parts (needs_at rules t q.0) (not (is_lower rules j q.0)) q.2 in
-            through rules (prio_at rules j) (prio_at rules q.0) (prio_at rules i) (lower_at_most rules j q.0 (lower_is j q.0 o.1)) (covered_over here i q.0 h q.1 o.0)
+            through (prio_at rules j) (prio_at rules q.0) (prio_at rules i) (lower_at_most rules j q.0 (lower_is j q.0 o.1)) (covered_over here i q.0 h q.1 o.0)
       ]
     where
       unmet : needs_at rules t j ≡ true → list_all (λ k. needs_at rules t k || not (is_lower rules j k)) here ≡ false

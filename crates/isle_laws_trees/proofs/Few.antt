@@ -225,7 +225,7 @@ counted x (y ∷ ys) h =
       | inr t ↦ let c = counted x ys t in omega arith
     ]
 
-once_distinct : (xs : List ℕ) → ((i : ℕ) → Contains xs i → count_by (λ j. j == i) xs ≤ 1) → are_distinct xs ≡ true
+pub once_distinct : (xs : List ℕ) → ((i : ℕ) → Contains xs i → count_by (λ j. j == i) xs ≤ 1) → are_distinct xs ≡ true
 once_distinct [] h = refl
 once_distinct (x ∷ xs) h =
     and_from (not (is_in x xs)) (are_distinct xs) ((not_exact (is_in x xs)).1 alone)

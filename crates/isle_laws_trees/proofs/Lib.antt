@@ -13,6 +13,13 @@ pub mod JudgedSets
 pub mod Marking
 pub mod Meant
 pub mod Once
+pub mod NoLimits
+pub mod NoLimitsLowered
+pub mod NoLoops
+pub mod NoReadLimits
+pub mod OneAnswer
+pub mod OneTree
+pub mod OnlyTrees
 pub mod OpenTests
 pub mod Pairs
 pub mod Passing
@@ -20,6 +27,9 @@ pub mod PicksMade
 pub mod Scores
 pub mod Serialized
 pub mod Shares
+pub mod SameSets
+pub mod SameTrees
 pub mod Soundness
 pub mod Straight
 pub mod WellBuilt
+pub mod WholeDemandsLowered

@@ -23,10 +23,11 @@ use Rattle.isle_laws_demands.proofs.visits.Declared.{no_rule_asks_and_goes_over_
 use Rattle.isle_laws_trees.specs.BuiltLaws.{BestTreesOfBuiltSetsAreSound}
 use Rattle.isle_laws_trees.specs.Meant.{BestTreesMeanTheirSets}
 use Rattle.isle_laws_trees.proofs.Few.{joined_member}
+use Rattle.isle_laws_trees.proofs.NoLoops.{trees_without_calls_have_no_loop_lem}
 use Rattle.isle_laws_trees.proofs.Soundness.{best_trees_are_sound_lem}
 
 -- 1. a site that is constrained once has that constraint
-asked_once : (ds : List (ℕ × Constraint)) → IsDistinct (map (λ d. d.0) ds) → (s : ℕ) (c : Constraint) → Contains ds (s, c) → constraint_at ds s ≡ Some c
+pub asked_once : (ds : List (ℕ × Constraint)) → IsDistinct (map (λ d. d.0) ds) → (s : ℕ) (c : Constraint) → Contains ds (s, c) → constraint_at ds s ≡ Some c
 asked_once [] h s c k = absurd (nothing_in (s, c) k)
 asked_once (d ∷ ds) h s c k =
     elim (in_cases d (s, c) ds k) [
@@ -89,4 +90,5 @@ best_trees_mean_their_sets_lem sound set tree built best = record {
   once = λ apart w serves m. rules_hold_once_lem set w serves apart;
   collects = λ one collected w serves m.
       sound_trees_collect_lem set tree w collected serves m (best_trees_are_sound_lem set true tree (well_built set built collected) (λ z. one) best);
+  straight = λ none. trees_without_calls_have_no_loop_lem set tree none best;
 }

@@ -2,4 +2,5 @@
 pub mod Choosing
 pub mod Collecting
 pub mod Kept
+pub mod NoCalls
 pub mod Places

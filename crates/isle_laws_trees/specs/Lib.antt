@@ -2,3 +2,8 @@ pub mod BestLaws
 pub mod BuiltLaws
 pub mod Scores
 pub mod Meant
+pub mod NoLoops
+pub mod OneTree
+pub mod OneAnswer
+pub mod NoLimits
+pub mod WholeDemands

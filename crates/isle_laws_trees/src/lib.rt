@@ -10,12 +10,18 @@ ghost use Rattle.isle_model.specs.trees.WellBuilt.{BestTreesAreSound};
 ghost use Rattle.isle_laws_trees.specs.BuiltLaws.{BestTreesOfBuiltSetsAreSound, BestTreesBindBeforeUse, BestTreesCollectTheBag};
 ghost use Rattle.isle_model.specs.claims.Layers.{BestTreesKeepTheHeadline};
 ghost use Rattle.isle_laws_trees.specs.Meant.{BestTreesMeanTheirSets};
+ghost use Rattle.isle_laws_trees.specs.OneTree.{BestTreesAreOne, BuiltSetsHaveOneBestTree, LoweredTreesAreOnlyBest};
+ghost use Rattle.isle_laws_trees.specs.OneAnswer.{BestTreesAreOfWhatIsShown, BuiltSetsShowSame, ReadingGivesOne, SerializingGivesOne, BuildingGivesOne, LoweringGivesOne, NoneIsAcceptedAndRefused, RefusingGivesOne};
+ghost use Rattle.isle_laws_trees.specs.NoLimits.{CheckableProgramsPassNoLimit, ElaboratedListsPassNoLimit, AcceptedPassNoLimit};
+ghost use Rattle.isle_laws_trees.specs.WholeDemands.{AcceptedDemandsAreWhole};
+ghost use Rattle.isle_laws_trees.specs.NoLoops.{TreesWithoutCallsHaveNoLoop};
 
 use isle_laws_demands::{
-    built_rules_are_told_apart, built_sets_are_collected, built_sets_are_tested,
-    built_sets_are_well_built, built_sets_match_by_demands, multi_terms_have_one_priority,
-    no_rule_asks_and_goes_over, results_are_held, rules_without_multi_go_over_no_calls,
-    served_multi_sets_serve, served_sets_serve_tests, taken_rules_give_their_outcome,
+    built_demands_are_whole, built_rules_are_told_apart, built_sets_are_collected,
+    built_sets_are_tested, built_sets_are_well_built, built_sets_match_by_demands,
+    multi_terms_have_one_priority, no_rule_asks_and_goes_over, results_are_held,
+    rules_without_multi_go_over_no_calls, served_multi_sets_serve, served_sets_serve_tests,
+    taken_rules_give_their_outcome,
 };
 
 /// The list of a place's open tests holds exactly the tests that are open there.
@@ -131,3 +137,88 @@ pub fn best_trees_mean_their_sets()
 {
     best_trees_of_built_sets_are_sound();
 }
+
+/// A best tree of a set whose rules go over no calls has no loop.
+
+pub fn trees_without_calls_have_no_loop()
+    ensures { TreesWithoutCallsHaveNoLoop }
+{}
+
+/// Where each site stands once, a set has one best tree.
+pub fn best_trees_are_one()
+    ensures { BestTreesAreOne }
+{}
+
+/// So the best tree of a built set is the only one.
+pub fn built_sets_have_one_best_tree()
+    ensures { BuiltSetsHaveOneBestTree }
+{}
+
+/// And the tree that a term is lowered to is the only best tree of its set.
+pub fn lowered_trees_are_only_best()
+    ensures { LoweredTreesAreOnlyBest }
+{}
+
+/// No rule of a program whose rules can be told apart passes a limit on what rules make.
+pub fn checkable_programs_pass_no_limit()
+    ensures { CheckableProgramsPassNoLimit }
+{}
+
+/// No rule of a list that elaborates passes a limit on expansions.
+pub fn elaborated_lists_pass_no_limit()
+    ensures { ElaboratedListsPassNoLimit }
+{}
+
+/// Accepted definitions pass none of the six limits, while they are read and while they are built.
+pub fn accepted_pass_no_limit()
+    ensures { AcceptedPassNoLimit }
+{}
+
+/// The closed demands of each rule of accepted definitions are all that follows from what it demands.
+pub fn accepted_demands_are_whole()
+    ensures { AcceptedDemandsAreWhole }
+{
+    built_demands_are_whole();
+}
+
+/// A best tree of a set is one of each set that shows the same: it looks at a rule's constraints, classes and iterators only
+/// through what they ask of sites.
+pub fn best_trees_are_of_what_is_shown()
+    ensures { BestTreesAreOfWhatIsShown }
+{}
+
+/// Two sets that are built of the rules of one term have the same sites, and rules that show the same.
+pub fn built_sets_show_same()
+    ensures { BuiltSetsShowSame }
+{}
+
+/// Reading types, terms and rules gives one answer.
+pub fn reading_gives_one()
+    ensures { ReadingGivesOne }
+{}
+
+/// Building gives one list of sets, as far as they show.
+pub fn building_gives_one()
+    ensures { BuildingGivesOne }
+{}
+
+/// Sets that show the same are serialized to one tree.
+pub fn serializing_gives_one()
+    ensures { SerializingGivesOne }
+{}
+
+/// And lowering gives one answer: of the same definitions and the same choice to expand, all that satisfies what it
+/// promises has the same environments, typed rules and terms, sets that show the same, and the same trees.
+pub fn lowering_gives_one()
+    ensures { LoweringGivesOne }
+{}
+
+/// No definitions are both accepted and refused.
+pub fn none_is_accepted_and_refused()
+    ensures { NoneIsAcceptedAndRefused }
+{}
+
+/// Definitions that are read, and whose rules stand at distinct positions, are refused with one list of errors.
+pub fn refusing_gives_one()
+    ensures { RefusingGivesOne }
+{}

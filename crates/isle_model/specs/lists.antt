@@ -7,6 +7,7 @@ pub mod KnownJudge
 pub mod KnownTypes
 pub mod ListJudge
 pub mod Names
+pub mod Ranges
 pub mod Setting
 pub mod Signatures
 pub mod Syntax

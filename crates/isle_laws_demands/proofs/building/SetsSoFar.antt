@@ -5,6 +5,7 @@ use Rattle.std.proofs.lemmas.Bool.{cases_Bool, cond-true, cond-false, false≢tr
 use Rattle.std.proofs.lemmas.List.{append-nil, append_assoc}
 use Rattle.std.proofs.lemmas.List.Elements.{filter-append, All-contains}
 use Rattle.std.proofs.lemmas.Option.{none-some, same_Some}
+use Rattle.std.proofs.Math.Bool.{or-false, or-true}
 use Rattle.isle_model.proofs.Members.{all_members}
 use Rattle.isle_model.specs.rules.Typed.{TypedRule}
 use Rattle.isle_model.specs.rules.Program.{Program}
@@ -16,9 +17,6 @@ use Rattle.isle_laws_demands.specs.RuleByRule.{AreBuiltSoFar, BuildingEnds, Buil
 use Rattle.isle_laws_demands.proofs.building.RulesPassed.{sets_end_built_lem, sets_go_past_rules_lem, sets_start_empty_lem}
 
 -- 1. reports of one more rule
-assoc : (xs : List TypedRule) (y : TypedRule) (zs : List TypedRule) → (xs ++ y ∷ []) ++ zs ≡ xs ++ y ∷ zs
-assoc xs y zs = append_assoc xs (y ∷ []) zs
-
 reports_more : (p : Program) (done rs : List TypedRule) (r : TypedRule)
     → build_reports_after p done (rs ++ r ∷ []) ≡ build_reports_after p done rs ++ build_reports_of p (sites_after_rules p [] (of_one_term r.root_term (done ++ rs))) r
 reports_more p done [] r =
@@ -26,7 +24,7 @@ reports_more p done [] r =
     ∙ ap (λ l. build_reports_of p (sites_after_rules p [] (of_one_term r.root_term l)) r) (sym (append-nil done))
 reports_more p done (q ∷ rs) r =
     let here = build_reports_of p (sites_after_rules p [] (of_one_term q.root_term done)) q in
-    ap (λ l. here ++ l) (reports_more p (done ++ q ∷ []) rs r ∙ ap (λ l. build_reports_after p (done ++ q ∷ []) rs ++ build_reports_of p (sites_after_rules p [] (of_one_term r.root_term l)) r) (assoc done q rs))
+    ap (λ l. here ++ l) (reports_more p (done ++ q ∷ []) rs r ∙ ap (λ l. build_reports_after p (done ++ q ∷ []) rs ++ build_reports_of p (sites_after_rules p [] (of_one_term r.root_term l)) r) (append_assoc done (q ∷ []) rs))
     ∙ sym (append_assoc here (build_reports_after p (done ++ q ∷ []) rs) (build_reports_of p (sites_after_rules p [] (of_one_term r.root_term (done ++ q ∷ rs))) r))
 
 -- 2. rules of one term
@@ -47,14 +45,6 @@ any_more t (q ∷ done) r b e = of (any_more t done r b e) (q.root_term == t)
         → (x : Bool) → (x || list_any (λ q. q.root_term == t) (done ++ r ∷ [])) ≡ (x || list_any (λ q. q.root_term == t) done) || b
     of rest true = refl
     of rest false = rest
-
-or_true : (x : Bool) → (x || true) ≡ true
-or_true true = refl
-or_true false = refl
-
-or_false : (x : Bool) → (x || false) ≡ x
-or_false true = refl
-or_false false = refl
 
 -- a term without rules has none among them
 none_of_term : (t : ℕ) (done : List TypedRule) → list_any (λ q. q.root_term == t) done ≡ false → of_one_term t done ≡ []
@@ -82,10 +72,10 @@ building_goes_on_lem p done r old new reports said h b = record {
   terms = λ t. elim (cases_Bool (r.root_term == t)) [
     | inl y ↦
         ap is_some (subst (λ u. new u ≡ Some b.set) (eqb-true r.root_term t y) b.here)
-        ∙ sym (any_more t done r true y ∙ or_true (list_any (λ q. q.root_term == t) done))
+        ∙ sym (any_more t done r true y ∙ or-true (list_any (λ q. q.root_term == t) done))
     | inr n ↦
         ap is_some (b.others t (apart t n)) ∙ h.terms t
-        ∙ sym (any_more t done r false n ∙ or_false (list_any (λ q. q.root_term == t) done))
+        ∙ sym (any_more t done r false n ∙ or-false (list_any (λ q. q.root_term == t) done))
   ];
   each = λ t set e. elim (cases_Bool (r.root_term == t)) [
     | inl y ↦

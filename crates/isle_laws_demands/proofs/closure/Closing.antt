@@ -21,7 +21,7 @@ nothing_next : (cs : List (SiteTerm × Constraint)) (order : List SiteTerm) → 
 nothing_next cs [] = refl
 nothing_next cs (s ∷ ss) = nothing_at cs s ss (constraint_of cs s) (nothing_next cs ss)
 
-closing_ends : (n : ℕ) (k : Closed) → next_constrained k.classes k.constraints k.made ≡ None → closing n k ≡ k
+pub closing_ends : (n : ℕ) (k : Closed) → next_constrained k.classes k.constraints k.made ≡ None → closing n k ≡ k
 closing_ends zero k e = refl
 closing_ends (suc n) k e =
     ap (λ o. elim o as (λ _. Closed) [ None ↦ k | Some c ↦ closing n (taken k c (ascending k.made (class_at k.classes c.0))) ]) e

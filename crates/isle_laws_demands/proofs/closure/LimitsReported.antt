@@ -3,6 +3,7 @@ use Rattle.std.proofs.Common.{◌≡◌, ◌==◌, Bool, true, false, List, [], 
 use Rattle.std.proofs.Math.Seq.{take-append_seam}
 use Rattle.std.proofs.lemmas.Bool.{false≢true}
 use Rattle.std.proofs.lemmas.List.Elements.{All-contains}
+use Rattle.std.proofs.lemmas.List.{append_assoc}
 use Rattle.isle_model.specs.lists.Syntax.{Position}
 use Rattle.isle_model.specs.rules.Typed.{TypedRule}
 use Rattle.isle_model.specs.rules.Program.{Program}
@@ -48,10 +49,6 @@ module _ (p : Program) (l : NamedLimit) (at : Position) where
       let w = in_map (λ why. not_reached why r.at) (reported (sites_wanted p before r) (demands_of p r)) x i in
       absurd (false≢true (ap names_limit (ap refusal_of w.2 ∙ e)))
 
-  assoc : (xs : List TypedRule) (y : TypedRule) (zs : List TypedRule) → (xs ++ y ∷ []) ++ zs ≡ xs ++ y ∷ zs
-  assoc [] y zs = refl
-  assoc (x ∷ xs) y zs = ap (λ t. x ∷ t) (assoc xs y zs)
-
   reported_after : (done rs : List TypedRule) → done ++ rs ≡ p.rules → (x : RuleReport) → In (build_reports_after p done rs) x → refusal_of x ≡ past_limit l at → Passed
   reported_after done [] h x i e = absurd i
   reported_after done (r ∷ rs) h x i e =
@@ -64,7 +61,7 @@ module _ (p : Program) (l : NamedLimit) (at : Position) where
             let passes : PassesLimit p (sites_before p (length done) r) r m.0 =
             subst (λ t. PassesLimit p (sites_after_rules p [] (filter (λ q. q.root_term == r.root_term) t)) r m.0) (sym same) (first_limit_is_passed_lem p before r m.0 m.1) in
             subst (λ k. PassedInBuilding p k at) m.2 (subst (PassedInBuilding p (of_rule m.0)) m.3 (rule_passes (length done) r m.0 here passes))
-        | inr b ↦ reported_after (done ++ r ∷ []) rs (assoc done r rs ∙ h) x b e
+        | inr b ↦ reported_after (done ++ r ∷ []) rs (append_assoc done (r ∷ []) rs ∙ h) x b e
       ]
 
   later_names_none : (r : RuleReport) → is_left_out r ≡ false → refusal_of r ≡ past_limit l at → ⊥

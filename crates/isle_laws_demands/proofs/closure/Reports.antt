@@ -2,6 +2,7 @@
 use Rattle.std.proofs.Common.{◌≡◌, ◌⊎◌, ◌↔◌, false, not, if◌then◌else◌, List, [], ◌∷◌, ◌++◌, map, Option, Some, None, refl, sym, ap, ◌∙◌, subst, inl, inr}
 use Rattle.std.proofs.lemmas.Bool.{cases_Bool, cond-true, cond-false, and_parts, false≢true}
 use Rattle.std.specs.List.{list_any}
+use Rattle.std.proofs.lemmas.List.{append_assoc}
 use Rattle.isle_model.specs.sites.Sites.{Constraint, SiteTerm}
 use Rattle.isle_model.specs.sites.Demands.{Demands, site_term_eq, constraint_eq}
 use Rattle.isle_model.specs.sites.Closure.{IsUnreachable, same_class, class_names, differs_in_class, has_conflict, has_cycle, Unreachability, conflict, cycle, constraint_of, conflict_with, conflicts_met, constraint_at_site, in_site_order, first_differing, first_conflict, first_filled, with_constrained, reported}
@@ -52,7 +53,7 @@ none_met all once had (c ∷ cs) f g =
     added : (x : SiteTerm × Constraint) → In (had ++ c ∷ []) x → In all x
     added x i = elim (either had x i) [ inl j ↦ f x j | inr e ↦ subst (In all) e (g c (inl refl)) ]
 
-joined_empty : (us vs : List Unreachability) → (us ++ vs) ≡ [] → (us ≡ []) × (vs ≡ [])
+pub joined_empty : (us vs : List Unreachability) → (us ++ vs) ≡ [] → (us ≡ []) × (vs ≡ [])
 joined_empty [] vs e = (refl, e)
 joined_empty (u ∷ us) vs e = absurd (not_empty u (us ++ vs) e)
 
@@ -83,10 +84,6 @@ first_is : (had cs : List (SiteTerm × Constraint)) (c : SiteTerm × Constraint)
 first_is had cs c None e f = constraint_of_right had (c ∷ cs) c.0 e ∙ here c cs
 first_is had cs c (Some b) e f = constraint_of_left had (c ∷ cs) c.0 b e ∙ ap Some (clash_none (Some b) c.1 f b refl)
 
-joined_assoc : (xs ys : List (SiteTerm × Constraint)) (c : SiteTerm × Constraint) → ((xs ++ c ∷ []) ++ ys) ≡ (xs ++ c ∷ ys)
-joined_assoc [] ys c = refl
-joined_assoc (x ∷ xs) ys c = ap (λ l. x ∷ l) (joined_assoc xs ys c)
-
 -- where no conflict is met, each site's constraint is the first one
 each_first : (had cs : List (SiteTerm × Constraint)) → conflicts_met had cs ≡ [] → (x : SiteTerm × Constraint) → In cs x → constraint_of (had ++ cs) x.0 ≡ Some x.1
 each_first had [] e x i = absurd i
@@ -95,7 +92,7 @@ each_first had (c ∷ cs) e x (inl p) =
     subst (λ (y : SiteTerm × Constraint). constraint_of (had ++ c ∷ cs) y.0 ≡ Some y.1) p (first_is had cs c (constraint_of had c.0) refl q.0)
 each_first had (c ∷ cs) e x (inr i) =
     let q = joined_empty (conflict_with (constraint_of had c.0) c.1) (conflicts_met (had ++ c ∷ []) cs) e in
-    subst (λ l. constraint_of l x.0 ≡ Some x.1) (joined_assoc had cs c) (each_first (had ++ c ∷ []) cs q.1 x i)
+    subst (λ l. constraint_of l x.0 ≡ Some x.1) (append_assoc had (c ∷ []) cs) (each_first (had ++ c ∷ []) cs q.1 x i)
 
 -- and so there is one, as where each site has one none is met
 pub conflict_free_constraints_agree_lem : ConflictFreeConstraintsAgree

@@ -51,16 +51,16 @@ equal_kept p = record {
   tuple = λ d s i n m. inl n;
   field = λ d c s x n a i m. inl n;
   extracted = λ d t s flags e f n m. inl n;
-  answer = λ d t i ss flags b e f n m. inl n;
-  pick = λ d t i ss n m. inl n;
+  answer = λ d t i ss flags b e f c n m. inl n;
+  pick = λ d t i ss c n m. inl n;
   call = λ d t i ss flags b e f g n m. inl n;
   makes = making_on;
-  calls = λ s v h. record { holds = h; stays = λ u m. m };
+  calls = λ s v h m. record { holds = h; stays = λ u m. m };
   equates = λ a b v h m n. by_equating (λ w. OnwardMade v.demands w.demands) a b v (no_step MakesEqual IsMade v.demands h) (equated_on a b v h m n);
   asks = λ s c v f h m. record { holds = h; stays = λ u n. n };
   asks_all = λ s v h m. asking_all_on (unwraps s) v h;
-  asks_call = λ t s v flags e f n h m. record { onward = record { holds = h; stays = λ u q. q }; site = inl n };
-  iterates_extractor = λ t s v flags b e f n h m. record { onward = record { holds = h; stays = λ u q. q }; site = inl n };
+  asks_call = λ t s v flags e f c n h m. record { onward = record { holds = h; stays = λ u q. q }; site = inl n };
+  iterates_extractor = λ t s v flags b e f c n h m. record { onward = record { holds = h; stays = λ u q. q }; site = inl n };
   iterates_constructor = λ t i ss v flags b e f h. record { holds = h; stays = λ u m. m };
 }
 

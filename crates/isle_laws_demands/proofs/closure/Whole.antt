@@ -301,7 +301,7 @@ equality_members c (least ∷ rest) e i =
     let z = in_zip (field_terms c least) (field_terms c m.0) e m.2 in
     (least, m.0, inl refl, inr m.1, in_slice (field_terms c least) z.0 e.0 z.1, in_slice (field_terms c m.0) z.0 e.1 z.2)
 
-constraint_there : (cs : List (SiteTerm × Constraint)) (s : SiteTerm) (c : Constraint) → In cs (s, c) → (b : Constraint) × (constraint_of cs s ≡ Some b)
+pub constraint_there : (cs : List (SiteTerm × Constraint)) (s : SiteTerm) (c : Constraint) → In cs (s, c) → (b : Constraint) × (constraint_of cs s ≡ Some b)
 constraint_there [] s c i = absurd i
 constraint_there (d ∷ ds) s c i =
     elim (cases_Bool (site_term_eq d.0 s)) [

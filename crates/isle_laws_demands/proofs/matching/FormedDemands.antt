@@ -2,7 +2,8 @@
 -- types.
 use Rattle.std.proofs.Common.{◌≡◌, ℕ, suc, ◌==◌, ◌&&◌, Bool, true, false, List, [], ◌∷◌, length, Some, None, slice_get, sym, ap, subst, inl, inr, eqb-true}
 use Rattle.isle_model.specs.lists.Tables.{TermEntry}
-use Rattle.isle_model.specs.rules.Values.{variant_types, struct_types, is_atom_type}
+use Rattle.isle_model.specs.lists.Ranges.{is_literal_of}
+use Rattle.isle_model.specs.rules.Values.{variant_types, struct_types}
 use Rattle.isle_model.specs.rules.Outcome.{then_option}
 use Rattle.isle_model.specs.rules.Program.{Program, Kind, a_variant, a_struct, a_call, unknown, kind, kind_of}
 use Rattle.isle_model.specs.rules.Typed.{TypedPattern, match_bind, match_var, match_bool, match_int, match_prim, match_term, match_any, match_and, TypedPatterns, no_typed_pattern, typed_pattern_and, TypedIfLet, TypedRule}
@@ -26,7 +27,7 @@ abbrev pub IsFormed : Program → Constraint → Type 0
 IsFormed p (is_variant ty i n) = (tys : List ℕ) × (variant_types (slice_get p.types ty) i ≡ Some tys) × (length tys ≡ n)
 IsFormed p (is_struct ty n) = (tys : List ℕ) × (struct_types (slice_get p.types ty) ≡ Some tys) × (length tys ≡ n)
 IsFormed p (is_bool b ty) = ty ≡ bool_type
-IsFormed p (is_int z ty) = is_atom_type (slice_get p.types ty) ≡ true
+IsFormed p (is_int z ty) = is_literal_of (slice_get p.types ty) z ≡ true
 IsFormed p (is_prim name) = (ty : ℕ) × (constant_type p name ≡ Some ty)
 IsFormed p is_present = Unit {0}
 
@@ -69,7 +70,7 @@ module _ (p : Program) (fields : HasTypedParts p) where
     pattern_formed (match_bind ty x sub) s v vars more f h = let a = from_bind p ty x sub vars more f in pattern_formed sub s (binding x s v) vars a.0 a.2 h
     pattern_formed (match_var ty x) s v vars more f h = equated_formed p s (var_site v x) v h
     pattern_formed (match_bool ty b) s v vars more f h = asked_formed p s (is_bool b ty) v (eqb-true ty bool_type (from_if (ty == bool_type) (Some vars) more f).0) h
-    pattern_formed (match_int ty z) s v vars more f h = asked_formed p s (is_int z ty) v (from_if (is_atom_type (slice_get p.types ty)) (Some vars) more f).0 h
+    pattern_formed (match_int ty z) s v vars more f h = asked_formed p s (is_int z ty) v (from_if (is_literal_of (slice_get p.types ty) z) (Some vars) more f).0 h
     pattern_formed (match_prim ty name) s v vars more f h = asked_formed p s (is_prim name) v (ty, type_is (constant_type p name) ty (from_if (is_type (constant_type p name) ty) (Some vars) more f).0) h
     pattern_formed (match_term ty t args) s v vars more f h =
         let a = from_term p ty t args vars more f in

@@ -2,7 +2,8 @@
 use Rattle.std.proofs.Common.{if◌then◌else◌, ◌≡◌, ℕ, ◌+◌, ◌==◌, Bool, true, false, ◌&&◌, cond, List, [], ◌∷◌, Option, Some, None, is_some, slice_get, refl, sym, ap, subst, ◌∙◌, inl, inr, eq-eqb, eqb-true, arith}
 use Rattle.std.proofs.lemmas.Bool.{and_parts, cases_Bool, cond-true, cond-false, false≢true}
 use Rattle.isle_model.specs.lists.Tables.{Flags, TermEntry}
-use Rattle.isle_model.specs.rules.Values.{is_atom_type, Value, truth, atom, of_variant, of_struct, Values, no_value, value_and, listed, all_well_typed, variant_types, struct_types}
+use Rattle.isle_model.specs.lists.Ranges.{is_literal_of}
+use Rattle.isle_model.specs.rules.Values.{Value, truth, atom, of_variant, of_struct, Values, no_value, value_and, listed, all_well_typed, variant_types, struct_types}
 use Rattle.isle_model.specs.rules.Meaning.{Content, one, just, bool_literal, int_literal, literal_value, constant_value, extractor_answer, answered_outputs, look}
 use Rattle.isle_model.specs.rules.Outcome.{then_option}
 use Rattle.isle_model.specs.rules.Matching.{parts_seen}
@@ -68,7 +69,7 @@ mutual
       subst (λ vs. var_type vs y ≡ Some t) a.4 (within_new x ty a.0 a.3 y t (pattern_within p sub vars a.0 a.2 y t h))
   pattern_within p (match_var ty x) vars more f y t h = within_same vars more (some_is vars more (from_if (is_type (var_type vars x) ty) (Some vars) more f).1) y t h
   pattern_within p (match_bool ty b) vars more f y t h = within_same vars more (some_is vars more (from_if (ty == bool_type) (Some vars) more f).1) y t h
-  pattern_within p (match_int ty z) vars more f y t h = within_same vars more (some_is vars more (from_if (is_atom_type (slice_get p.types ty)) (Some vars) more f).1) y t h
+  pattern_within p (match_int ty z) vars more f y t h = within_same vars more (some_is vars more (from_if (is_literal_of (slice_get p.types ty) z) (Some vars) more f).1) y t h
   pattern_within p (match_prim ty name) vars more f y t h = within_same vars more (some_is vars more (from_if (is_type (constant_type p name) ty) (Some vars) more f).1) y t h
   pattern_within p (match_term ty n args) vars more f y t h = let a = from_term p ty n args vars more f in parts_within p args a.entry.arg_tys vars more a.formed y t h
   pattern_within p (match_any ty) vars more f y t h = within_same vars more (some_is vars more f) y t h
@@ -365,7 +366,7 @@ module _ (g : Given) (z : Visit) (h : IsAnswered g z.demands) (parts : HasTypedP
         subst (λ vs. After g vs e v (visit_pattern p (match_bool ty c) s v) (holds_under p g.meaning g.pick (match_bool ty c) s x e)) (some_is vars more (from_if (ty == bool_type) (Some vars) more f).1)
         (constant_after g vars e v s (is_bool c ty) ty x (literal_value g.meaning (bool_literal c ty)) refl here b)
     pattern_after (match_int ty i) s v vars more e x f here b l =
-        subst (λ vs. After g vs e v (visit_pattern p (match_int ty i) s v) (holds_under p g.meaning g.pick (match_int ty i) s x e)) (some_is vars more (from_if (is_atom_type (slice_get p.types ty)) (Some vars) more f).1)
+        subst (λ vs. After g vs e v (visit_pattern p (match_int ty i) s v) (holds_under p g.meaning g.pick (match_int ty i) s x e)) (some_is vars more (from_if (is_literal_of (slice_get p.types ty) i) (Some vars) more f).1)
         (constant_after g vars e v s (is_int i ty) ty x (literal_value g.meaning (int_literal i ty)) refl here b)
     pattern_after (match_prim ty name) s v vars more e x f here b l =
         subst (λ vs. After g vs e v (visit_pattern p (match_prim ty name) s v) (holds_under p g.meaning g.pick (match_prim ty name) s x e)) (some_is vars more (from_if (is_type (constant_type p name) ty) (Some vars) more f).1)

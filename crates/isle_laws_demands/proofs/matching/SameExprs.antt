@@ -1,13 +1,13 @@
 -- Two visits that name the sites of variables alike name an expression's site alike, where it calls pure terms alone.
-use Rattle.std.proofs.Common.{eqb-true, ◌≡◌, ℕ, suc, ◌==◌, Bool, true, false, ◌&&◌, List, [], ◌∷◌, Option, Some, None, is_some, slice_get, refl, sym, ap, ap₂, subst, ◌∙◌, inl, inr}
+use Rattle.std.proofs.Common.{eqb-true, ◌≡◌, ℕ, ◌==◌, Bool, true, false, ◌&&◌, List, [], ◌∷◌, Option, Some, None, is_some, slice_get, refl, sym, ap, ap₂, subst, ◌∙◌, inl, inr}
 use Rattle.std.proofs.lemmas.Bool.{and_parts, cases_Bool, cond-true, cond-false, false≢true}
 use Rattle.isle_model.specs.rules.Meaning.{look}
 use Rattle.isle_model.specs.rules.Outcome.{then_option}
-use Rattle.isle_model.specs.lists.Tables.{Flags, TermEntry}
+use Rattle.isle_model.specs.lists.Tables.{TermEntry}
 use Rattle.isle_model.specs.rules.Program.{Program, Kind, a_variant, a_struct, a_call, unknown, kind, flags_of}
 use Rattle.isle_model.specs.sites.Sites.{SiteTerm, constructor_call, variant_made, struct_made, no_site, SiteTerms, site_term_and}
 use Rattle.isle_model.specs.rules.Typed.{TypedExpr, make_term, make_var, make_bool, make_int, make_prim, make_let, TypedExprs, no_typed_expr, typed_expr_and, TypedLets, no_typed_let, typed_let_and}
-use Rattle.isle_model.specs.sites.Demands.{Visit, making, iterating, binding, or_no_site, ValuedAll, call_result, call_sites, where_multi, visit_call, visit_term, visit_expr, visit_exprs, visit_lets}
+use Rattle.isle_model.specs.sites.Demands.{Visit, binding, or_no_site, ValuedAll, call_result, visit_call, visit_term, visit_expr, visit_exprs, visit_lets}
 use Rattle.isle_model.specs.lists.Setting.{expr_type, has_constructor}
 use Rattle.isle_model.specs.lists.Formed.{var_type, with_new, of_entry, is_formed_expr, are_formed_args, formed_lets}
 use Rattle.isle_model.specs.sites.DemandedGates.{IsPureExpr, ArePureExprs, ArePureLets}
@@ -15,22 +15,8 @@ use Rattle.isle_model.proofs.Elements.{some_is}
 use Rattle.isle_model.proofs.Options.{is_there}
 use Rattle.isle_laws_demands.proofs.visits.Visited.{Same, then_same, same_binding}
 use Rattle.isle_laws_demands.proofs.visits.Patterns.{from_then, from_new}
-use Rattle.isle_model.proofs.Either.{either}
+use Rattle.isle_laws_demands.proofs.visits.WithSites.{term_binds}
 use Rattle.isle_laws_lists.proofs.FormedParts.{from_if, has_type, from_vars}
-
--- 1. an expression's visit names variables as before
-term_binds : (k : Kind) (t : ℕ) (a : ValuedAll) → (visit_term k t a).visit.vars ≡ a.visit.vars
-term_binds (a_variant ty variant) t a = refl
-term_binds (a_struct ty) t a = refl
-term_binds (a_call flags infallible) t a = call flags.pure flags.multi flags.partial flags.rec a.sites a.visit
-  where
-    over : (flags : Flags) (c : SiteTerm) (v : Visit) → (where_multi flags c (making (call_sites flags c) v)).vars ≡ v.vars
-    over flags c v = either (λ w. w.vars ≡ v.vars) flags.multi (iterating c (making (call_sites flags c) v)) (making (call_sites flags c) v) refl refl
-
-    call : (pure multi partial rec : Bool) (ss : SiteTerms) (v : Visit) → (visit_call (record { pure = pure; multi = multi; partial = partial; rec = rec }) t ss v).visit.vars ≡ v.vars
-    call true multi partial rec ss v = over (record { pure = true; multi = multi; partial = partial; rec = rec }) (constructor_call t ss 0) v
-    call false multi partial rec ss v = over (record { pure = false; multi = multi; partial = partial; rec = rec }) (constructor_call t ss (suc v.impure_calls)) v
-term_binds unknown t a = refl
 
 -- more variables can be used
 abbrev pub AreWithin : List (ℕ × ℕ) → List (ℕ × ℕ) → Type 0

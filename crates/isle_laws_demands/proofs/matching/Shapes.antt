@@ -1,8 +1,9 @@
 -- What a content is that meets a constraint of a rule that matches, and that one content meets one constraint.
-use Rattle.std.proofs.Common.{◌≡◌, ◌==◌, ℕ, zero, suc, Bool, true, false, ◌&&◌, cond, List, [], ◌∷◌, length, Option, Some, None, is_some, slice_get, refl, sym, ap, ◌∙◌, eqb-true, subst, IsTrue, IsSomeAnd}
+use Rattle.std.proofs.Common.{◌≡◌, ◌==◌, ℕ, ℤ, zero, suc, Bool, true, false, ◌&&◌, cond, List, [], ◌∷◌, length, Option, Some, None, is_some, slice_get, refl, sym, ap, ◌∙◌, eqb-true, subst, IsTrue, IsSomeAnd}
 use Rattle.std.proofs.lemmas.Bool.{and_parts, false≢true}
 use Rattle.isle_model.specs.lists.Tables.{TypeEntry, builtin_type, primitive_type, enum_type, struct_type}
 use Rattle.isle_model.specs.lists.KnownTypes.{StandAtIds}
+use Rattle.isle_model.specs.lists.Ranges.{is_literal_of}
 use Rattle.isle_model.specs.rules.Values.{Value, truth, atom, of_variant, of_struct, Values, no_value, value_and, listed, is_truth_type, is_atom_type, variant_types, struct_types, well_typed, all_well_typed}
 use Rattle.isle_model.specs.rules.Meaning.{Content, one, parts, nothing, just, many, Meaning, bool_literal, int_literal, literal_value, constant_value}
 use Rattle.isle_model.specs.trees.Run.{content_fields, all_one}
@@ -58,12 +59,15 @@ no_struct types (Some (primitive_type id name at)) vs h t = false≢true (sym (n
 no_struct types (Some (enum_type name id a b ws at)) vs h t = false≢true (sym h)
 no_struct types (Some (struct_type name id a b fs at)) vs h t = false≢true (sym h)
 
-pub atom_without_parts : (o : Option TypeEntry) → is_atom_type o ≡ true → is_type_with_parts o ≡ false
+atom_without_parts : (o : Option TypeEntry) → is_atom_type o ≡ true → is_type_with_parts o ≡ false
 atom_without_parts None h = absurd (false≢true h)
 atom_without_parts (Some (builtin_type n)) h = refl
 atom_without_parts (Some (primitive_type id name at)) h = refl
 atom_without_parts (Some (enum_type name id a b vs at)) h = absurd (false≢true h)
 atom_without_parts (Some (struct_type name id a b fs at)) h = absurd (false≢true h)
+
+pub literal_without_parts : (o : Option TypeEntry) (z : ℤ) → is_literal_of o z ≡ true → is_type_with_parts o ≡ false
+literal_without_parts o z h = atom_without_parts o (and_parts (is_atom_type o) _ h).0
 
 -- what holds of a value that is there
 pub holds_there : {X : Type 0} (o : Option X) (f : X → Bool) (x : X) → o ≡ Some x → IsSomeAnd o (λ y. IsTrue (f y)) → f x ≡ true

@@ -1,4 +1,4 @@
--- Built rules that go over no calls are told apart by their closed demands: they never match together where they don't
+-- Built rules of a term that isn't multi are told apart by their closed demands: they never match together where they don't
 -- overlap, and where one is shadowed it matches only where its mask does.
 use Rattle.std.proofs.Common.{◌≡◌, ◌+◌, ◌≤◌, ℕ, List, [], ◌∷◌, length, sum_by, Option, Some, None, is_some, Contains, sym, ap, subst, ◌∙◌, inl, inr, refl, arith}
 use Rattle.isle_model.specs.rules.Values.{Value}
@@ -25,12 +25,13 @@ use Rattle.isle_laws_demands.proofs.matching.ConstrainedOnce.{StandOnce, closed_
 use Rattle.isle_laws_demands.proofs.matching.Contents.{content_of}
 use Rattle.isle_laws_demands.proofs.matching.FormedDemands.{rule_formed}
 use Rattle.isle_laws_demands.proofs.matching.NeverMatches.{program_has_types}
+use Rattle.isle_laws_demands.proofs.matching.NoMulti.{rules_without_multi_go_over_no_calls_lem}
 use Rattle.isle_laws_demands.proofs.matching.TypedParts.{program_has_typed_parts}
 use Rattle.isle_laws_demands.proofs.matching.Unreachable.{shape_there, same_shape}
 use Rattle.isle_laws_demands.proofs.matching.Visits.{given, tried, visits_match_lem}
 
 -- 1. without calls, under the empty pick
-still_there : (o : Option SitedVars) → is_some (without_sites o) ≡ is_some o
+pub still_there : (o : Option SitedVars) → is_some (without_sites o) ≡ is_some o
 still_there None = refl
 still_there (Some e) = refl
 
@@ -42,7 +43,7 @@ pub same_match : (p : Program) (m : Meaning) (args : List Value) (r : TypedRule)
 same_match p m args r h = sym (still_there (matches_under p m [] r args)) ∙ ap is_some (matches_as_plain_lem p m [] r args (calls_no_multi p r h))
 
 -- 2. the closed demands of built rules
-built_follows : (p : Program) (t : ℕ) (b : BuiltRule) → Contains (built_rules p t) b → FollowsSoFar (demands_of p b.rule) b.demands
+pub built_follows : (p : Program) (t : ℕ) (b : BuiltRule) → Contains (built_rules p t) b → FollowsSoFar (demands_of p b.rule) b.demands
 built_follows p t b i =
     let w = was_built p [] (rules_of p t) b (in_from_contains (built_rules p t) b i) in
     subst (λ (x : BuiltRule). FollowsSoFar (demands_of p x.rule) x.demands) w.same (closed_follows (demands_of p w.rule) w.before)
@@ -74,8 +75,8 @@ built_rules_are_told_apart_lem whole e defs expand rules t h = record {
   overlap = λ m args typed served apart a b without no ma mb.
       (let i = without.one_of in
       let j = without.other_of in
-      let na = without.one_goes_over_none in
-      let nb = without.other_goes_over_none in
+      let na = rules_without_multi_go_over_no_calls_lem e defs expand rules t h without.one_result a.rule (built_listed (program_of e defs rules.rules) t a i) in
+      let nb = rules_without_multi_go_over_no_calls_lem e defs expand rules t h without.one_result b.rule (built_listed (program_of e defs rules.rules) t b j) in
       let g = given (program_of e defs rules.rules) m args [] in
       let types = program_has_types e defs expand rules h in
       let fields = program_has_typed_parts e defs expand rules h in
@@ -92,8 +93,8 @@ built_rules_are_told_apart_lem whole e defs expand rules t h = record {
   shadow = λ m args typed served apart mask b without x mb.
       (let i = without.one_of in
       let j = without.other_of in
-      let na = without.one_goes_over_none in
-      let nb = without.other_goes_over_none in
+      let na = rules_without_multi_go_over_no_calls_lem e defs expand rules t h without.one_result mask.rule (built_listed (program_of e defs rules.rules) t mask i) in
+      let nb = rules_without_multi_go_over_no_calls_lem e defs expand rules t h without.one_result b.rule (built_listed (program_of e defs rules.rules) t b j) in
       let ta : IsTried (program_of e defs rules.rules) t m args mask.rule [] = record { typed = typed; served = served; rule = built_listed (program_of e defs rules.rules) t mask i; pick = empty_pick (program_of e defs rules.rules) m args mask.rule na } in
       let tb : IsTried (program_of e defs rules.rules) t m args b.rule [] = record { typed = typed; served = served; rule = built_listed (program_of e defs rules.rules) t b j; pick = empty_pick (program_of e defs rules.rules) m args b.rule nb } in
       let va = visits_match_lem e defs expand rules t m args mask.rule [] h ta in

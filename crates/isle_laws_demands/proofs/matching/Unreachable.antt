@@ -1,6 +1,6 @@
 -- Where a rule matches, its demands can be met: an unreachable rule never matches.
-use Rattle.std.proofs.Common.{◌≡◌, ◌==◌, ℕ, zero, suc, ◌+◌, ◌<◌, ◌≤◌, true, false, List, length, Option, Some, None, slice_get, Contains, flat_map, refl, sym, ap, subst, ◌∙◌, inl, arith, eq-eqb, eqb-true}
-use Rattle.std.proofs.lemmas.Bool.{and_parts, cond-true}
+use Rattle.std.proofs.Common.{◌≡◌, ◌==◌, ℕ, zero, suc, ◌+◌, ◌<◌, ◌≤◌, ℤ, Bool, true, false, not, ◌||◌, List, length, Option, Some, None, slice_get, Contains, flat_map, refl, sym, ap, subst, ◌∙◌, inl, inr, arith, eq-eqb, eqb-true}
+use Rattle.std.proofs.lemmas.Bool.{cases_Bool, and_parts, cond-true, or_left, or_right}
 use Rattle.isle_model.specs.rules.Values.{Value, truth, atom, of_variant, of_struct, Values, no_value, value_and, listed, variant_types, struct_types, well_typed, all_well_typed}
 use Rattle.isle_model.specs.rules.Meaning.{Content, one, just, Meaning, bool_literal, int_literal, literal_value, constant_value}
 use Rattle.isle_model.specs.rules.Outcome.{then_option}
@@ -11,13 +11,13 @@ use Rattle.isle_model.specs.trees.Run.{as_value, from_value}
 use Rattle.isle_model.specs.sites.Sites.{Constraint, is_variant, is_struct, is_bool, is_int, is_prim, is_present, SiteTerm, bool_term, int_term, prim_term, variant_field, struct_field}
 use Rattle.isle_model.specs.sites.Demands.{Demands, demands_of}
 use Rattle.isle_model.specs.sites.Closure.{fields_from, field_terms, Joined, given, itself, turned, chained, at_field, HasConstraint, IsPartOf, IsProperPart, directly, deeper, IsUnreachable, two_at_a_site, two_in_a_class, part_of_itself}
-use Rattle.isle_model.specs.sites.Serves.{asked_by, asked, constant_site, constant_type, typed_as, written_type, written_value, is_type_with_parts, tested_constants, Serves, TellsConstantsApart}
+use Rattle.isle_model.specs.sites.Serves.{asked_by, asked, constant_site, constant_type, typed_as, written_type, written_value, is_type_with_parts, tested_constants, is_own_type, is_open_constant, Serves, TellsConstantsApart}
 use Rattle.isle_model.proofs.Elements.{In, in_from_contains, contains_from_in, in_right, in_flat_map, slice_in, some_is, none_some}
 use Rattle.isle_model.proofs.Members.{get_within}
 use Rattle.isle_laws_demands.proofs.matching.Contents.{Given, content_of}
 use Rattle.isle_laws_demands.proofs.matching.Demanded.{one_not_just, Equal, AreMet, one_is}
 use Rattle.isle_laws_demands.proofs.matching.FormedDemands.{AreFormed}
-use Rattle.isle_laws_demands.proofs.matching.Shapes.{HasTypes, one_type, no_variant, no_struct, atom_without_parts, as_many_values, has_form, holds_there}
+use Rattle.isle_laws_demands.proofs.matching.Shapes.{HasTypes, one_type, no_variant, no_struct, literal_without_parts, as_many_values, has_form, holds_there}
 
 -- 1. fields
 pub field_is : (f : ℕ → SiteTerm) (j n i : ℕ) (x : SiteTerm) → slice_get (fields_from f j n) i ≡ Some x → (f (j + i) ≡ x) × (i < n)
@@ -88,6 +88,12 @@ module _ (g : Given) (rs : List TypedRule) (types : HasTypes g.program.types) (a
   abbrev q : Program
   q = g.program
 
+  -- a literal of a built-in type has the value that it writes
+  abbrev pub MustBe : SiteTerm → Value → Type 0
+  MustBe (bool_term b ty) w = w ≡ truth b
+  MustBe (int_term z ty) w = is_own_type (slice_get q.types ty) ≡ true → w ≡ atom ty z
+  MustBe _ w = Unit {0}
+
   -- a constant of a pattern, and its value
   pub record IsConstant (o : Option Content) (u : SiteTerm) : Type 0 where
     pub value : Value
@@ -98,6 +104,7 @@ module _ (g : Given) (rs : List TypedRule) (types : HasTypes g.program.types) (a
     pub typed : well_typed q.types ty value ≡ true
     pub atomic : is_type_with_parts (slice_get q.types ty) ≡ false
     pub tested : Contains (tested_constants q rs) u
+    pub exact : MustBe u value
 
   abbrev pub Shape : Option Content → Constraint → Type 0
   Shape o (is_variant ty i n) = HasParts o (is_variant ty i n)
@@ -107,12 +114,49 @@ module _ (g : Given) (rs : List TypedRule) (types : HasTypes g.program.types) (a
   Shape o (is_prim name) = IsConstant o (prim_term name)
   Shape o is_present = (c : Content) × (o ≡ Some (just c))
 
-  -- two constants with one value are one
-  constants_same : (o : Option Content) (a b : SiteTerm) → IsConstant o a → IsConstant o b → a ≡ b
-  constants_same o a b x y =
-      let same : x.value ≡ y.value = one_is x.value y.value (some_is (one x.value) (one y.value) (sym x.there ∙ y.there)) in
-      let t : y.ty ≡ x.ty = one_type q.types types y.value y.ty x.ty y.typed (subst (λ v. well_typed q.types x.ty v ≡ true) same x.typed) in
-      apart.different a b x.ty x.value x.tested y.tested x.written (y.written ∙ ap Some t) x.worth (y.worth ∙ ap Some (sym same))
+  -- two constants with one value, and one type, are one
+  module _ (o : Option Content) (a b : SiteTerm) (x : IsConstant o a) (y : IsConstant o b) where
+    same_value : x.value ≡ y.value
+    same_value = one_is x.value y.value (some_is (one x.value) (one y.value) (sym x.there ∙ y.there))
+
+    same_type : y.ty ≡ x.ty
+    same_type = one_type q.types types y.value y.ty x.ty y.typed (subst (λ v. well_typed q.types x.ty v ≡ true) same_value x.typed)
+
+    open_same : (is_open_constant q a || is_open_constant q b) ≡ true → a ≡ b
+    open_same h = apart.different a b x.ty x.value x.tested y.tested h x.written (y.written ∙ ap Some same_type) x.worth (y.worth ∙ ap Some (sym same_value))
+
+    same_written : written_type q a ≡ written_type q b
+    same_written = x.written ∙ ap Some (sym same_type) ∙ sym y.written
+
+  bools_same : (o : Option Content) (b c : Bool) (s t : ℕ) → IsConstant o (bool_term b s) → IsConstant o (bool_term c t) → bool_term b s ≡ bool_term c t
+  bools_same o b c s t x y =
+      let e : truth b ≡ truth c = sym x.exact ∙ same_value o (bool_term b s) (bool_term c t) x y ∙ y.exact in
+      let f : Some s ≡ Some t = same_written o (bool_term b s) (bool_term c t) x y in
+      let g : b ≡ c = cc in
+      let h : s ≡ t = cc in
+      λ k. bool_term (g k) (h k)
+
+  atom_not_truth : (b : Bool) (t : ℕ) (z : ℤ) → truth b ≡ atom t z → ⊥
+  atom_not_truth b t z e = cc
+
+  bool_int_same : (o : Option Content) (b : Bool) (s t : ℕ) (z : ℤ) → IsConstant o (bool_term b s) → IsConstant o (int_term z t) → bool_term b s ≡ int_term z t
+  bool_int_same o b s t z x y =
+      elim (cases_Bool (is_own_type (slice_get q.types t))) [
+        | inl own ↦ absurd (atom_not_truth b t z (sym x.exact ∙ same_value o (bool_term b s) (int_term z t) x y ∙ y.exact own))
+        | inr other ↦ open_same o (bool_term b s) (int_term z t) x y (ap not other)
+      ]
+
+  ints_same : (o : Option Content) (z w : ℤ) (s t : ℕ) → IsConstant o (int_term z s) → IsConstant o (int_term w t) → int_term z s ≡ int_term w t
+  ints_same o z w s t x y =
+      let f : Some s ≡ Some t = same_written o (int_term z s) (int_term w t) x y in
+      let h : s ≡ t = some_is s t f in
+      elim (cases_Bool (is_own_type (slice_get q.types s))) [
+        | inl own ↦
+            let e : atom s z ≡ atom t w = sym (x.exact own) ∙ same_value o (int_term z s) (int_term w t) x y ∙ y.exact (subst (λ n. is_own_type (slice_get q.types n) ≡ true) h own) in
+            let g : z ≡ w = cc in
+            λ k. int_term (g k) (h k)
+        | inr other ↦ open_same o (int_term z s) (int_term w t) x y (or_left (not (is_own_type (slice_get q.types s))) (not (is_own_type (slice_get q.types t))) (ap not other))
+      ]
 
   constant_variant : (o : Option Content) (u : SiteTerm) (ty i : ℕ) (fs : Values) → IsConstant o u → o ≡ Some (one (of_variant ty i fs)) → ⊥
   constant_variant o u ty i fs x e =
@@ -171,15 +215,15 @@ module _ (g : Given) (rs : List TypedRule) (types : HasTypes g.program.types) (a
   same_shape o (is_bool b ty) (is_struct s n) x y = absurd (constant_struct o (bool_term b ty) s y.0 x y.1)
   same_shape o (is_int z ty) (is_struct s n) x y = absurd (constant_struct o (int_term z ty) s y.0 x y.1)
   same_shape o (is_prim name) (is_struct s n) x y = absurd (constant_struct o (prim_term name) s y.0 x y.1)
-  same_shape o (is_bool b ty) (is_bool c u) x y = ap back (constants_same o (bool_term b ty) (bool_term c u) x y)
-  same_shape o (is_bool b ty) (is_int z u) x y = ap back (constants_same o (bool_term b ty) (int_term z u) x y)
-  same_shape o (is_bool b ty) (is_prim n) x y = ap back (constants_same o (bool_term b ty) (prim_term n) x y)
-  same_shape o (is_int z ty) (is_bool c u) x y = ap back (constants_same o (int_term z ty) (bool_term c u) x y)
-  same_shape o (is_int z ty) (is_int w u) x y = ap back (constants_same o (int_term z ty) (int_term w u) x y)
-  same_shape o (is_int z ty) (is_prim n) x y = ap back (constants_same o (int_term z ty) (prim_term n) x y)
-  same_shape o (is_prim n) (is_bool c u) x y = ap back (constants_same o (prim_term n) (bool_term c u) x y)
-  same_shape o (is_prim n) (is_int w u) x y = ap back (constants_same o (prim_term n) (int_term w u) x y)
-  same_shape o (is_prim n) (is_prim k) x y = ap back (constants_same o (prim_term n) (prim_term k) x y)
+  same_shape o (is_bool b ty) (is_bool c u) x y = ap back (bools_same o b c ty u x y)
+  same_shape o (is_bool b ty) (is_int z u) x y = ap back (bool_int_same o b ty u z x y)
+  same_shape o (is_bool b ty) (is_prim n) x y = ap back (open_same o (bool_term b ty) (prim_term n) x y refl)
+  same_shape o (is_int z ty) (is_bool c u) x y = ap back (sym (bool_int_same o c u ty z y x))
+  same_shape o (is_int z ty) (is_int w u) x y = ap back (ints_same o z w ty u x y)
+  same_shape o (is_int z ty) (is_prim n) x y = ap back (open_same o (int_term z ty) (prim_term n) x y (or_right (not (is_own_type (slice_get q.types ty))) true refl))
+  same_shape o (is_prim n) (is_bool c u) x y = ap back (open_same o (prim_term n) (bool_term c u) x y refl)
+  same_shape o (is_prim n) (is_int w u) x y = ap back (open_same o (prim_term n) (int_term w u) x y refl)
+  same_shape o (is_prim n) (is_prim k) x y = ap back (open_same o (prim_term n) (prim_term k) x y refl)
   same_shape o is_present is_present x y = refl
   same_shape o is_present (is_variant s i n) x y = absurd (not_just o (of_variant s i y.0) x.0 y.1 x.1)
   same_shape o is_present (is_struct s n) x y = absurd (not_just o (of_struct s y.0) x.0 y.1 x.1)
@@ -334,8 +378,8 @@ module _ (g : Given) (r : TypedRule) (rs : List TypedRule) (here : Contains rs r
 
     -- the content of a site that is asked to be a constant
     constant_at : (s : SiteTerm) (c : Constraint) (u : SiteTerm) (k : In d.constraints (s, c)) → In (constant_site c) u → (ty : ℕ) (v : Value) → (met.asked (s, c) k).0.content ≡ one v
-        → written_value m u ≡ Some v → written_type p u ≡ Some ty → well_typed p.types ty v ≡ true → is_type_with_parts (slice_get p.types ty) ≡ false → IsConstant g rs types apart (content_of g s) u
-    constant_at s c u k i ty v same worth written typed atomic = record {
+        → written_value m u ≡ Some v → written_type p u ≡ Some ty → well_typed p.types ty v ≡ true → is_type_with_parts (slice_get p.types ty) ≡ false → MustBe g rs types apart u v → IsConstant g rs types apart (content_of g s) u
+    constant_at s c u k i ty v same worth written typed atomic exact = record {
       value = v;
       there = (met.asked (s, c) k).0.held ∙ ap Some same;
       ty = ty;
@@ -344,6 +388,7 @@ module _ (g : Given) (r : TypedRule) (rs : List TypedRule) (here : Contains rs r
       typed = typed;
       atomic = atomic;
       tested = is_tested s c u k i;
+      exact = exact;
     }
 
     asked_shape : (s : SiteTerm) (c : Constraint) → In d.constraints (s, c) → IsOfShape (content_of g s) c
@@ -355,12 +400,14 @@ module _ (g : Given) (r : TypedRule) (rs : List TypedRule) (here : Contains rs r
         constant_at s (is_bool b ty) (bool_term b ty) k (inl refl) ty f.0 f.1 f.2 refl
         (holds_there (literal_value m (bool_literal b ty)) (well_typed p.types ty) f.0 f.2 (served.bools b ty (is_asked s (is_bool b ty) (bool_term b ty) k (inl refl))))
         (ap (λ n. is_type_with_parts (slice_get p.types n)) (formed (s, is_bool b ty) k) ∙ ap is_type_with_parts types.first)
+        (some_is f.0 (truth b) (sym f.2 ∙ served.written_bools b ty (is_asked s (is_bool b ty) (bool_term b ty) k (inl refl))))
     asked_shape s (is_int z ty) k =
         let a = (met.asked (s, is_int z ty) k).0 in
         let f = has_form m (is_int z ty) a.content a.meets in
         constant_at s (is_int z ty) (int_term z ty) k (inl refl) ty f.0 f.1 f.2 refl
         (holds_there (literal_value m (int_literal z ty)) (well_typed p.types ty) f.0 f.2 (served.ints z ty (is_asked s (is_int z ty) (int_term z ty) k (inl refl))))
-        (atom_without_parts (slice_get p.types ty) (formed (s, is_int z ty) k))
+        (literal_without_parts (slice_get p.types ty) z (formed (s, is_int z ty) k))
+        (λ own. some_is f.0 (atom ty z) (sym f.2 ∙ served.written_ints z ty (is_asked s (is_int z ty) (int_term z ty) k (inl refl)) own))
     asked_shape s (is_prim name) k =
         let a = (met.asked (s, is_prim name) k).0 in
         let f = has_form m (is_prim name) a.content a.meets in
@@ -369,6 +416,7 @@ module _ (g : Given) (r : TypedRule) (rs : List TypedRule) (here : Contains rs r
         (subst (λ o. typed_as p o f.0 ≡ true) t.1
         (holds_there (constant_value m name) (typed_as p (constant_type p name)) f.0 f.2 (served.prims name (is_asked s (is_prim name) (prim_term name) k (inl refl)))))
         (apart.without_parts r s name t.0 here (contains_from_in d.constraints (s, is_prim name) k) t.1)
+        tt
     asked_shape s is_present k =
         let a = met.asked (s, is_present) k in
         let f = has_form m is_present a.0.content a.0.meets in

@@ -58,9 +58,6 @@ module _ (p : Program) (z : Visit) where
     orderly : IsOrderly a.visit
     sites : AllKnownTo a.visit a.sites
 
-  orderly_as : (v w : Visit) → w.impure_calls ≡ v.impure_calls → w.demands.impure ≡ v.demands.impure → IsOrderly v → IsOrderly w
-  orderly_as v w c i h = record { count = ap length i ∙ h.count ∙ sym c; order = subst (InOrder z.demands.made []) (sym i) h.order }
-
   pure_ordered : (multi partial rec : Bool) (t : ℕ) (a : ValuedAll) → AreOrdered a → IsOrdered (visit_call (record { pure = true; multi = multi; partial = partial; rec = rec }) t a.sites a.visit)
   pure_ordered true true rec t a h = record { orderly = record { count = h.orderly.count; order = h.orderly.order }; site = (tt, h.sites) }
   pure_ordered true false rec t a h = record { orderly = record { count = h.orderly.count; order = h.orderly.order }; site = (tt, h.sites) }

@@ -179,7 +179,7 @@ empty_list : {X : Type 0} (xs : List X) → ((x : X) → Contains xs x → ⊥) 
 empty_list [] h = refl
 empty_list (x ∷ xs) h = absurd (h x (in_head x xs))
 
-with_its_sites : (o : Option SitedVars) (v : Vars) → without_sites o ≡ Some v → (ev : SitedVars) × (o ≡ Some ev) × (values_in ev ≡ v)
+pub with_its_sites : (o : Option SitedVars) (v : Vars) → without_sites o ≡ Some v → (ev : SitedVars) × (o ≡ Some ev) × (values_in ev ≡ v)
 with_its_sites None v h = absurd (none_some v h)
 with_its_sites (Some ev) v h = (ev, refl, some_is (values_in ev) v h)
 

@@ -32,7 +32,7 @@ pure_where (suc n) P h = absurd h
 
 module _ (P : SiteTerm → Type 0) (cs : List (SiteTerm × Constraint)) (calls : List SiteTerm) where
   mutual
-    tested_calls : (s : SiteTerm) → GatesDemanded true true cs calls s → CallsOnly P s
+    pub tested_calls : (s : SiteTerm) → GatesDemanded true true cs calls s → CallsOnly P s
     tested_calls (bool_term b ty) h = tt
     tested_calls (int_term z ty) h = tt
     tested_calls (prim_term name) h = tt

@@ -313,7 +313,7 @@ module _ (p : Program) (n : ℕ) (rs : List TypedRule) (w : World) (k : Pick) (h
   site_fits (bool_site x ty) pure ask fit q f c e =
       subst (λ y. FitsForm p.types y c) (sym f) (value_fits p.types (literal_value w.meaning (bool_literal x ty)) (well_typed p.types ty) (typed_whole p.types ty) (h.serves.bools x ty (only_asked ask)) c e)
   site_fits (int_site z ty) pure ask fit q f c e =
-      subst (λ y. FitsForm p.types y c) (sym f) (value_fits p.types (literal_value w.meaning (int_literal z ty)) (well_typed p.types ty) (typed_whole p.types ty) (h.serves.ints z ty (only_asked ask)) c e)
+      subst (λ y. FitsForm p.types y c) (sym f.1) (value_fits p.types (literal_value w.meaning (int_literal z ty)) (well_typed p.types ty) (typed_whole p.types ty) (h.serves.ints z ty (only_asked ask)) c e)
   site_fits (prim_site name) pure ask fit q f c e =
       subst (λ y. FitsForm p.types y c) (sym f) (value_fits p.types (constant_value w.meaning name) (typed_as p (constant_type p name)) (constant_whole p (constant_type p name)) (h.serves.prims name (only_asked ask)) c e)
   site_fits (argument_site i) pure ask fit q f c e =

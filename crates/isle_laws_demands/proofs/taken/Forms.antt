@@ -3,7 +3,8 @@
 use Rattle.std.proofs.Common.{◌≡◌, ℕ, suc, ◌+◌, ◌==◌, ◌<◌, Bool, true, false, not, ◌&&◌, List, [], ◌∷◌, length, Some, None, is_some, slice_get, refl, sym, ap, subst, ◌∙◌, inl, inr, eqb-true, eq-eqb, arith}
 use Rattle.std.proofs.lemmas.Bool.{and_parts, cases_Bool, cond-true, cond-false, false≢true}
 use Rattle.isle_model.specs.lists.Tables.{Flags, TermEntry}
-use Rattle.isle_model.specs.rules.Values.{variant_types, struct_types, is_atom_type}
+use Rattle.isle_model.specs.lists.Ranges.{is_literal_of}
+use Rattle.isle_model.specs.rules.Values.{variant_types, struct_types}
 use Rattle.isle_model.specs.rules.Meaning.{look}
 use Rattle.isle_model.specs.rules.Outcome.{then_option}
 use Rattle.isle_model.specs.rules.Program.{Program, Kind, a_variant, a_struct, a_call, unknown, kind, kind_of, flags_of, is_partial, arg_types}
@@ -51,11 +52,11 @@ abbrev pub term_count : SiteTerms → ℕ
 term_count no_site_term = 0
 term_count (site_term_and s ss) = suc (term_count ss)
 
--- a site of a term with n arguments has a form
+-- a site of a term with n arguments has a form, and a literal is one of its type
 abbrev mutual
   pub IsOfForm : Program → ℕ → SiteTerm → Form → Type 0
   IsOfForm p n (bool_term b ty) q = q ≡ a_value
-  IsOfForm p n (int_term z ty) q = q ≡ a_value
+  IsOfForm p n (int_term z ty) q = (is_literal_of (slice_get p.types ty) z ≡ true) × (q ≡ a_value)
   IsOfForm p n (prim_term name) q = q ≡ a_value
   IsOfForm p n (argument i) q = (i < n) × (q ≡ a_value)
   IsOfForm p n (extractor_call t s) q = (c : IsCall p t) × IsOfForm p n s a_value × (q ≡ form c.flags.multi (not c.infallible) (length c.entry.arg_tys))
@@ -275,7 +276,7 @@ module _ (p : Program) (n : ℕ) where
       pattern_after (match_bool ty b) s v vars more f m g =
           unbound v (asking s (is_bool b ty) v) vars more (onto_asking s (is_bool b ty) v) g (some_is vars more (from_if (ty == bool_type) (Some vars) more f).1)
       pattern_after (match_int ty z) s v vars more f m g =
-          unbound v (asking s (is_int z ty) v) vars more (onto_asking s (is_int z ty) v) g (some_is vars more (from_if (is_atom_type (slice_get p.types ty)) (Some vars) more f).1)
+          unbound v (asking s (is_int z ty) v) vars more (onto_asking s (is_int z ty) v) g (some_is vars more (from_if (is_literal_of (slice_get p.types ty) z) (Some vars) more f).1)
       pattern_after (match_prim ty name) s v vars more f m g =
           unbound v (asking s (is_prim name) v) vars more (onto_asking s (is_prim name) v) g (some_is vars more (from_if (is_type (constant_type p name) ty) (Some vars) more f).1)
       pattern_after (match_term ty t args) s v vars more f m g =
@@ -373,7 +374,7 @@ module _ (p : Program) (n : ℕ) where
           term_gives t a.entry a.there (kind p t) refl (sym (ap (λ o. elim o as (λ _. Kind) [ None ↦ unknown | Some e ↦ kind_of e ]) a.there)) v (visit_exprs p args v) (exprs_give args v a.entry.arg_tys vars a.formed g)
       expr_gives (make_var ty x) v vars f g = record { onto = onto_now v; site = g x (type_given vars x ty f) }
       expr_gives (make_bool ty b) v vars f g = record { onto = made_one (bool_term b ty) v refl; site = refl }
-      expr_gives (make_int ty z) v vars f g = record { onto = made_one (int_term z ty) v refl; site = refl }
+      expr_gives (make_int ty z) v vars f g = record { onto = made_one (int_term z ty) v (f, refl); site = (f, refl) }
       expr_gives (make_prim ty name) v vars f g = record { onto = made_one (prim_term name) v refl; site = refl }
       expr_gives (make_let ty ds body) v vars f g =
           let a = from_body p ty ds body vars f in

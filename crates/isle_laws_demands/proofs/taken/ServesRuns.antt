@@ -5,7 +5,7 @@ use Rattle.std.proofs.lemmas.List.Elements.{All-contains}
 use Rattle.isle_model.specs.lists.Syntax.{Definition}
 use Rattle.isle_model.specs.lists.Tables.{TypeEntry}
 use Rattle.isle_model.specs.lists.Elaborated.{TypedRules}
-use Rattle.isle_model.specs.rules.Values.{Value, value_eq, of_variant, of_struct, Values, listed, of_list, well_typed, all_well_typed, args_well_typed, variant_types, struct_types}
+use Rattle.isle_model.specs.rules.Values.{Value, truth, atom, value_eq, of_variant, of_struct, Values, listed, of_list, well_typed, all_well_typed, args_well_typed, variant_types, struct_types}
 use Rattle.isle_model.specs.rules.Meaning.{Content, one, Meaning, bool_literal, int_literal, literal_value, constant_value}
 use Rattle.isle_model.specs.rules.Program.{Program, rules_of, arg_types}
 use Rattle.isle_model.specs.rules.Picks.{Pick}
@@ -33,9 +33,9 @@ use Rattle.isle_laws_demands.proofs.visits.Elaborated.{elaborated_rules_hang, el
 use Rattle.isle_laws_demands.proofs.visits.Sets.{IsTested, constrained_tested, joined_tested, tested_good}
 use Rattle.isle_laws_demands.proofs.matching.FormedDemands.{IsFormed, rule_formed}
 use Rattle.isle_laws_demands.proofs.matching.NeverMatches.{program_has_types}
-use Rattle.isle_laws_demands.proofs.matching.Shapes.{HasTypes, has_form, atom_without_parts, holds_there}
+use Rattle.isle_laws_demands.proofs.matching.Shapes.{HasTypes, has_form, literal_without_parts, holds_there}
 use Rattle.isle_laws_demands.proofs.matching.TypedParts.{program_has_typed_parts}
-use Rattle.isle_laws_demands.proofs.matching.Unreachable.{IsConstant, Shape, same_shape}
+use Rattle.isle_laws_demands.proofs.matching.Unreachable.{IsConstant, MustBe, Shape, same_shape}
 use Rattle.isle_laws_demands.proofs.matching.Visits.{given, of_term}
 use Rattle.isle_laws_demands.proofs.taken.BuiltSites.{rules_known, sites_stand}
 use Rattle.isle_laws_demands.proofs.taken.Fits.{IsWhole, AsManyFields, typed_whole, FitsAs, FitsForm, the_value, IsServed, fits, found}
@@ -214,8 +214,9 @@ module _ (e : TypesRead) (defs : List Definition) (expand : Bool) (rules : Typed
   constant_shape : (s ty : ℕ) (d : Constraint) (a : IsAsked s d) (u : SiteTerm) → In (constant_site d) u → (c : Content) → content_at w k s ≡ Some c
       → (v : Value) × (c ≡ one v) × (written_value m u ≡ Some v) → written_type p u ≡ Some ty
       → (Contains (asked p rs) u → IsSomeAnd (written_value m u) (λ v. IsTrue (well_typed p.types ty v))) → is_type_with_parts (slice_get p.types ty) ≡ false
+      → ((v : Value) → written_value m u ≡ Some v → MustBe (given p m args k) rs types apart u v)
       → IsConstant (given p m args k) rs types apart (content_at w k s) u
-  constant_shape s ty d a u i c x g written has atomic = record {
+  constant_shape s ty d a u i c x g written has atomic exact = record {
     value = g.0;
     there = x ∙ ap Some g.1;
     ty = ty;
@@ -224,6 +225,7 @@ module _ (e : TypesRead) (defs : List Definition) (expand : Bool) (rules : Typed
     typed = holds_there (written_value m u) (well_typed p.types ty) g.0 g.2 (has (constant_asked s d a u i));
     atomic = atomic;
     tested = constant_tested s d a u i;
+    exact = exact g.0 g.2;
   }
 
   shape_at : (s : ℕ) (d : Constraint) → IsAsked s d → (c : Content) → content_at w k s ≡ Some c → is_some (content_fields m d c) ≡ true → ShapeAt s d
@@ -238,14 +240,17 @@ module _ (e : TypesRead) (defs : List Definition) (expand : Bool) (rules : Typed
   shape_at s (is_bool v ty) a c x y =
       constant_shape s ty (is_bool v ty) a (bool_term v ty) (inl refl) c x (has_form m (is_bool v ty) c y) refl (served.bools v ty)
       (ap (λ i. is_type_with_parts (slice_get p.types i)) (asked_formed s (is_bool v ty) a) ∙ ap is_type_with_parts types.first)
+      (λ w f. some_is w (truth v) (sym f ∙ served.written_bools v ty (constant_asked s (is_bool v ty) a (bool_term v ty) (inl refl))))
   shape_at s (is_int z ty) a c x y =
       constant_shape s ty (is_int z ty) a (int_term z ty) (inl refl) c x (has_form m (is_int z ty) c y) refl (served.ints z ty)
-      (atom_without_parts (slice_get p.types ty) (asked_formed s (is_int z ty) a))
+      (literal_without_parts (slice_get p.types ty) z (asked_formed s (is_int z ty) a))
+      (λ w f own. some_is w (atom ty z) (sym f ∙ served.written_ints z ty (constant_asked s (is_int z ty) a (int_term z ty) (inl refl)) own))
   shape_at s (is_prim name) a c x y =
       let f = asked_formed s (is_prim name) a in
       constant_shape s f.0 (is_prim name) a (prim_term name) (inl refl) c x (has_form m (is_prim name) c y) f.1
       (λ i. subst (λ o. IsSomeAnd (constant_value m name) (λ v. IsTrue (typed_as p o v))) f.1 (served.prims name i))
       (apart.without_parts a.rule a.constrained.source name f.0 (contains_from_in rs a.rule a.listed) a.constrained.asked f.1)
+      (λ w h. tt)
   shape_at s is_present a c x y = (let g = has_form m is_present c y in (g.0, x ∙ ap Some g.1))
 
   pub one_constraint : (s : ℕ) (d f : Constraint) → IsAsked s d → IsAsked s f → IsTrue (meets m d (content_at w k s)) → IsTrue (meets m f (content_at w k s)) → d ≡ f

@@ -50,7 +50,7 @@ call_alike pure false partial rec false c as' bs v e =
     let q = parts_alike (some_part c) as' bs e in
     λ i. opened (o i) (making (q i) (asking c is_present (making (c ∷ (some_part c ∷ [])) v)))
 
-term_alike : (k : Kind) (t : ℕ) (s : SiteTerm) (as' bs : TypedPatterns) (v : Visit) → pattern_count as' ≡ pattern_count bs → open_term k t s as' v ≡ open_term k t s bs v
+pub term_alike : (k : Kind) (t : ℕ) (s : SiteTerm) (as' bs : TypedPatterns) (v : Visit) → pattern_count as' ≡ pattern_count bs → open_term k t s as' v ≡ open_term k t s bs v
 term_alike (a_variant ty variant) t s as' bs v e =
     let f = from_to_alike (variant_field s variant) 0 as' bs e in
     λ i. opened (f i) (asking s (is_variant ty variant (e i)) (making (f i) v))
@@ -118,7 +118,7 @@ module _ (p : Program) where
   unwalked_count no_typed_pattern = refl
   unwalked_count (typed_pattern_and q qs) = ap suc (unwalked_count qs)
 
-  walked_count : (qs : TypedPatterns) → pattern_count (walked_all p qs).patterns ≡ pattern_count qs
+  pub walked_count : (qs : TypedPatterns) → pattern_count (walked_all p qs).patterns ≡ pattern_count qs
   walked_count no_typed_pattern = refl
   walked_count (typed_pattern_and q qs) =
       elim (cases_Bool (walked p q).ended) [

@@ -97,20 +97,20 @@ module _ (p : Program) (neither : HasNoPartialMulti p) where
     tuple = λ d s i n m. (λ k. k, m.1);
     field = λ d c s x n a i m. by_field IsPlain s (λ variant j. (λ k. k, m.1)) (λ j. (λ k. k, m.1)) c x i;
     extracted = λ d t s flags e f n m. (not_multi t flags true e f, m.1);
-    answer = λ d t i us flags b e f n m.
+    answer = λ d t i us flags b e f c n m.
         part_plain (constructor_call t us i) (λ k. neither t k (ap (λ x. (flags_of x).partial) e ∙ f)) (all_unwrapped d us m);
-    pick = λ d t i us n m. (λ k. k, all_unwrapped d us m);
+    pick = λ d t i us c n m. (λ k. k, all_unwrapped d us m);
     call = λ d t i us flags b e f g n m. (not_multi t flags b e g, all_unwrapped d us m);
     makes = λ ts v h. onward v.demands (making ts v).demands (record { asked = h.asked; equal = h.equal; calls = h.calls });
-    calls = λ s v h. onward v.demands (calling s v).demands (record { asked = h.asked; equal = h.equal; calls = h.calls });
+    calls = λ s v h m. onward v.demands (calling s v).demands (record { asked = h.asked; equal = h.equal; calls = h.calls });
     equates = λ a b v h m n. onward v.demands (equating a b v).demands (by_equating (λ w. IsApart w.demands) a b v h (after_equated a b v h m.0 n.0));
     asks = λ s c v f h m. onward v.demands (asking s c v).demands (after_asking s c v h m.0);
     asks_all = λ s v h m. onward v.demands (asking_all (unwraps s) v).demands (after_asking_all (unwraps s) v h m.1);
-    asks_call = λ t s v flags e f n h m.
+    asks_call = λ t s v flags e f c n h m.
         let call = extractor_call t s in
         let o : IsOther call = not_multi t flags false e f in
         record { onward = onward v.demands (asking call is_present v).demands (after_asking call is_present v h o); site = part_plain call o m.1 };
-    iterates_extractor = λ t s v flags b e f n h m.
+    iterates_extractor = λ t s v flags b e f c n h m.
         let call = extractor_call t s in
         record { onward = onward v.demands (iterating call v).demands (after_iterating call v h (its_multi t flags b e ∙ f)); site = (λ k. k, m.1) };
     iterates_constructor = λ t i us v flags b e f h.

@@ -6,7 +6,7 @@ use Rattle.isle_model.specs.rules.Meaning.{look}
 use Rattle.isle_model.specs.rules.Outcome.{then_option}
 use Rattle.isle_model.specs.rules.Program.{Program, Kind, a_variant, a_struct, a_call, unknown, kind, is_partial}
 use Rattle.isle_model.specs.lists.Tables.{Flags, TermEntry}
-use Rattle.isle_model.specs.rules.Values.{is_atom_type}
+use Rattle.isle_model.specs.lists.Ranges.{is_literal_of}
 use Rattle.isle_model.specs.sites.Serves.{constant_type}
 use Rattle.isle_model.specs.lists.Setting.{bool_type, expr_type, has_constructor, has_extractor}
 use Rattle.isle_model.specs.lists.Formed.{pattern_type, var_type, is_type, with_new, formed_pattern, formed_parts, formed_each, is_formed_expr, are_formed_args, formed_lets, formed_list, formed_iflets, is_formed_rule}
@@ -170,7 +170,7 @@ module _ (p : Program) where
         let n = var_is_site x v.vars h.vars (g x (has_type (var_type vars x) ty a.0)) in
         same_vars v (equating s (var_site v x) v) vars more (on_equating s (var_site v x) v m n h) g a.1
     pattern_binds (match_bool ty b) s v vars more f m h g = same_vars v (visit_pattern p (match_bool ty b) s v) vars more (like v (visit_pattern p (match_bool ty b) s v) refl refl h) g (from_if (ty == bool_type) (Some vars) more f).1
-    pattern_binds (match_int ty z) s v vars more f m h g = same_vars v (visit_pattern p (match_int ty z) s v) vars more (like v (visit_pattern p (match_int ty z) s v) refl refl h) g (from_if (is_atom_type (slice_get p.types ty)) (Some vars) more f).1
+    pattern_binds (match_int ty z) s v vars more f m h g = same_vars v (visit_pattern p (match_int ty z) s v) vars more (like v (visit_pattern p (match_int ty z) s v) refl refl h) g (from_if (is_literal_of (slice_get p.types ty) z) (Some vars) more f).1
     pattern_binds (match_prim ty name) s v vars more f m h g = same_vars v (visit_pattern p (match_prim ty name) s v) vars more (like v (visit_pattern p (match_prim ty name) s v) refl refl h) g (from_if (is_type (constant_type p name) ty) (Some vars) more f).1
     pattern_binds (match_term ty t args) s v vars more f m h g =
         let a = from_then (slice_get p.terms t) (λ (e : TermEntry). if (e.ret_ty == ty) && has_extractor e.kind then formed_parts p args e.arg_tys vars else None) more f in

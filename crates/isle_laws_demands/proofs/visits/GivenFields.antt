@@ -132,18 +132,18 @@ fields_kept p = record {
   tuple = λ d s i n m. (no_field_given d.constraints (tuple_part s i) refl, m.1);
   field = λ d c s x n a i m. (field_given d.constraints c s x a i m.0, by_field (λ y. (u : SiteTerm) → In (unwraps y) u → owner_of u ≡ None) s (λ variant j. m.1) (λ j. m.1) c x i);
   extracted = λ d t s flags e f n m. (no_field_given d.constraints (extractor_call t s) refl, m.1);
-  answer = λ d t i ss flags b e f n m. part_given d (constructor_call t ss i) refl (all_unwrapped d ss m);
-  pick = λ d t i ss n m. (no_field_given d.constraints (pick_of (constructor_call t ss i)) refl, all_unwrapped d ss m);
+  answer = λ d t i ss flags b e f c n m. part_given d (constructor_call t ss i) refl (all_unwrapped d ss m);
+  pick = λ d t i ss c n m. (no_field_given d.constraints (pick_of (constructor_call t ss i)) refl, all_unwrapped d ss m);
   call = λ d t i ss flags b e f g n m. (no_field_given d.constraints (constructor_call t ss i) refl, all_unwrapped d ss m);
   makes = making_on;
-  calls = calling_on;
+  calls = λ s v h m. calling_on s v h;
   equates = equating_on;
   asks = λ s c v f h m. asking_on s c v m.0 f h;
   asks_all = λ s v h m. asking_all_on (unwraps s) v m.1 h;
-  asks_call = λ t s v flags e f n h m.
+  asks_call = λ t s v flags e f c n h m.
       let call = extractor_call t s in
       record { onward = asking_on call is_present v (no_field_given v.demands.constraints call refl) (λ x i. absurd i) h; site = part_given (asking call is_present v).demands call refl m.1 };
-  iterates_extractor = λ t s v flags b e f n h m.
+  iterates_extractor = λ t s v flags b e f c n h m.
       let call = extractor_call t s in
       record { onward = iterating_on call v h; site = (no_field_given v.demands.constraints (pick_of call) refl, m.1) };
   iterates_constructor = λ t i ss v flags b e f h. iterating_on (constructor_call t ss i) v h;

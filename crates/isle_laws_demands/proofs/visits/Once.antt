@@ -55,7 +55,7 @@ pub once_after : (p : Program) (before : List SiteTerm) (rs : List TypedRule) �
 once_after p before [] h = h
 once_after p before (r ∷ rs) h = once_after p (sites_after_rule p before r) rs (once_after_rule p before r h)
 
-once_of_term : (p : Program) (t : ℕ) → IsDistinct (sites_after_rules p [] (rules_of p t))
+pub once_of_term : (p : Program) (t : ℕ) → IsDistinct (sites_after_rules p [] (rules_of p t))
 once_of_term p t = once_after p [] (rules_of p t) (λ j k x e f. absurd (none_some x e))
 
 -- 3. numbers of sites

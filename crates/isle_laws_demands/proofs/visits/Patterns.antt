@@ -1,7 +1,7 @@
 -- What patterns constrain and equate may be tested, and so may what their variables stand for.
 use Rattle.std.proofs.Common.{◌≡◌, ℕ, suc, ◌+◌, ◌==◌, ◌<◌, Bool, true, false, ◌&&◌, if◌then◌else◌, List, [], ◌∷◌, Some, None, is_some, is_none, slice_get, Contains, refl, sym, ap, subst, inl, inr, ◌∙◌, arith}
 use Rattle.isle_model.specs.rules.Outcome.{then_option}
-use Rattle.isle_model.specs.rules.Values.{is_atom_type}
+use Rattle.isle_model.specs.lists.Ranges.{is_literal_of}
 use Rattle.isle_model.specs.lists.Tables.{TermEntry, TermKindEntry, variant_term, struct_term, declared_term}
 use Rattle.isle_model.specs.rules.Program.{Program, Kind, a_variant, a_struct, a_call, unknown, kind_of, kind, always_answers}
 use Rattle.isle_model.specs.sites.Serves.{constant_type}
@@ -158,7 +158,7 @@ mutual
   pattern_after p (match_bool ty b) s v vars more f m g =
       unbound v (asking s (is_bool b ty) v) vars more (later_asking s (is_bool b ty) v m) refl g (some_is vars more (from_if (ty == bool_type) (Some vars) more f).1)
   pattern_after p (match_int ty z) s v vars more f m g =
-      unbound v (asking s (is_int z ty) v) vars more (later_asking s (is_int z ty) v m) refl g (some_is vars more (from_if (is_atom_type (slice_get p.types ty)) (Some vars) more f).1)
+      unbound v (asking s (is_int z ty) v) vars more (later_asking s (is_int z ty) v m) refl g (some_is vars more (from_if (is_literal_of (slice_get p.types ty) z) (Some vars) more f).1)
   pattern_after p (match_prim ty name) s v vars more f m g =
       unbound v (asking s (is_prim name) v) vars more (later_asking s (is_prim name) v m) refl g (some_is vars more (from_if (is_type (constant_type p name) ty) (Some vars) more f).1)
   pattern_after p (match_term ty t args) s v vars more f m g =

@@ -2,6 +2,7 @@
 use Rattle.std.proofs.Common.{◌≡◌, ◌⊎◌, ℕ, suc, ◌==◌, ◌<◌, Bool, true, false, ◌&&◌, ◌||◌, List, [], ◌∷◌, ◌++◌, length, map, get_or, Some, slice_get, IsTrue, All, flat_map, refl, sym, ap, ◌∙◌, subst, inl, inr, arith, eq-eqb, eqb-true}
 use Rattle.std.proofs.lemmas.Bool.{cases_Bool, cond-true, cond-false, and_from}
 use Rattle.std.proofs.lemmas.Option.{slice_get-get_or}
+use Rattle.isle_model.proofs.Members.{constraint_in}
 use Rattle.isle_model.specs.lists.Syntax.{Definition}
 use Rattle.isle_model.specs.lists.Names.{IsDistinct}
 use Rattle.isle_model.specs.rules.Program.{Program}
@@ -18,7 +19,7 @@ use Rattle.isle_model.specs.lists.Elaborated.{TypedRules}
 use Rattle.isle_model.specs.claims.Environments.{TypesRead, IsElaborated, program_of}
 use Rattle.isle_model.specs.sites.RuleSets.{IsRuleOf, IsBuilt}
 use Rattle.isle_model.specs.claims.SetMeanings.{DemandsItsGates, BuiltSetsAreTested}
-use Rattle.isle_model.proofs.Elements.{In, in_from_contains, contains_from_in, none_some, some_is, in_either, in_slice, slice_in, any_in, in_any, in_map, map_in, from_flat_map, or_split}
+use Rattle.isle_model.proofs.Elements.{In, in_from_contains, contains_from_in, in_either, in_slice, slice_in, any_in, in_any, in_map, map_in, from_flat_map, or_split}
 use Rattle.isle_model.specs.sites.DemandedGates.{GatesDemanded}
 use Rattle.isle_laws_demands.specs.VisitLaws.{ElaboratedRulesDemandGates, BuiltRulesDemandGates, BuiltSetsAreWellBuilt}
 use Rattle.isle_laws_demands.proofs.visits.Once.{sites_stand_once_lem}
@@ -52,17 +53,6 @@ first_constraint (d ∷ ds) h s c (inr i) =
           ∙ first_constraint ds (later_distinct d.0 (map (λ (x : ℕ × Constraint). x.0) ds) h) s c i
     ]
 
-constraint_found : (ds : List (ℕ × Constraint)) (s : ℕ) (c : Constraint) → constraint_at ds s ≡ Some c → In ds (s, c)
-constraint_found [] s c e = absurd (none_some c e)
-constraint_found (d ∷ ds) s c e =
-    elim (cases_Bool (d.0 == s)) [
-      | inl t ↦
-          let a = eqb-true d.0 s t in
-          let b = some_is d.1 c (sym (cond-true (d.0 == s) (Some d.1) (constraint_at ds s) t) ∙ e) in
-          inl (λ k. (a k, b k))
-      | inr f ↦ inr (constraint_found ds s c (sym (cond-false (d.0 == s) (Some d.1) (constraint_at ds s) f) ∙ e))
-    ]
-
 -- 2. rules
 module _ (p : Program) (t : ℕ) (set : SiteSet) (h : IsBuilt p t set) (b : BuiltRule) (r : SetRule) (q : IsRuleOf p set.sites b r) (g : BuiltGates p b) where
   -- a site that may be tested
@@ -89,7 +79,7 @@ module _ (p : Program) (t : ℕ) (set : SiteSet) (h : IsBuilt p t set) (b : Buil
       elim (or_split (needs (match_test s) r || needs (equal_test s s) r) (needs (loop_test s) r) k) [
         | inl a ↦
             elim (or_split (needs (match_test s) r) (needs (equal_test s s) r) a) [
-              | inl x ↦ let c = is_there (constraint_at r.constraints s) x in constrained_tested s c.0 (constraint_found r.constraints s c.0 c.1)
+              | inl x ↦ let c = is_there (constraint_at r.constraints s) x in constrained_tested s c.0 (in_from_contains r.constraints (s, c.0) (constraint_in r.constraints s c.0 c.1))
               | inr x ↦ joined_tested s x
             ]
         | inr a ↦ let x = in_any (λ y. y == s) r.iterators a in absurd (none_in r.iterators none x.0 x.1)

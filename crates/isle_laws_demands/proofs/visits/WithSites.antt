@@ -83,20 +83,20 @@ module _ (R : Demands → Type 0) (Q : Demands → SiteTerm → Type 0) where
     pub extracted : (d : Demands) (t : ℕ) (s : SiteTerm) (flags : Flags) → kind p t ≡ a_call flags true → flags.multi ≡ false → In d.made (extractor_call t s) → Q d s → Q d (extractor_call t s)
     -- what a constructor's call gives: a partial one its answer, a multi one each answer, another one itself
     pub answer : (d : Demands) (t i : ℕ) (ss : SiteTerms) (flags : Flags) (infallible : Bool) → kind p t ≡ a_call flags infallible → flags.partial ≡ true
-        → In d.made (some_part (constructor_call t ss i)) → AtEach d ss → Q d (some_part (constructor_call t ss i))
-    pub pick : (d : Demands) (t i : ℕ) (ss : SiteTerms) → In d.made (pick_of (constructor_call t ss i)) → AtEach d ss → Q d (pick_of (constructor_call t ss i))
+        → In d.made (constructor_call t ss i) → In d.made (some_part (constructor_call t ss i)) → AtEach d ss → Q d (some_part (constructor_call t ss i))
+    pub pick : (d : Demands) (t i : ℕ) (ss : SiteTerms) → In d.made (constructor_call t ss i) → In d.made (pick_of (constructor_call t ss i)) → AtEach d ss → Q d (pick_of (constructor_call t ss i))
     pub call : (d : Demands) (t i : ℕ) (ss : SiteTerms) (flags : Flags) (infallible : Bool) → kind p t ≡ a_call flags infallible → flags.partial ≡ false → flags.multi ≡ false
         → In d.made (constructor_call t ss i) → AtEach d ss → Q d (constructor_call t ss i)
     pub makes : (ts : List SiteTerm) (v : Visit) → R v.demands → Onward v.demands (making ts v).demands
-    pub calls : (s : SiteTerm) (v : Visit) → R v.demands → Onward v.demands (calling s v).demands
+    pub calls : (s : SiteTerm) (v : Visit) → R v.demands → Q v.demands s → Onward v.demands (calling s v).demands
     pub equates : (a b : SiteTerm) (v : Visit) → R v.demands → Q v.demands a → Q v.demands b → Onward v.demands (equating a b v).demands
     -- fields are made before a site is asked to have them
     pub asks : (s : SiteTerm) (c : Constraint) (v : Visit) → ((x : SiteTerm) → In (field_terms c s) x → In v.demands.made x) → R v.demands → Q v.demands s → Onward v.demands (asking s c v).demands
     pub asks_all : (s : SiteTerm) (v : Visit) → R v.demands → Q v.demands s → Onward v.demands (asking_all (unwraps s) v).demands
     -- an extractor's call that may answer nothing, and one that is gone over
-    pub asks_call : (t : ℕ) (s : SiteTerm) (v : Visit) (flags : Flags) → kind p t ≡ a_call flags false → flags.multi ≡ false → In v.demands.made (some_part (extractor_call t s)) → R v.demands → Q v.demands s
+    pub asks_call : (t : ℕ) (s : SiteTerm) (v : Visit) (flags : Flags) → kind p t ≡ a_call flags false → flags.multi ≡ false → In v.demands.made (extractor_call t s) → In v.demands.made (some_part (extractor_call t s)) → R v.demands → Q v.demands s
         → IsValued v.demands (valued (some_part (extractor_call t s)) (asking (extractor_call t s) is_present v))
-    pub iterates_extractor : (t : ℕ) (s : SiteTerm) (v : Visit) (flags : Flags) (infallible : Bool) → kind p t ≡ a_call flags infallible → flags.multi ≡ true → In v.demands.made (pick_of (extractor_call t s)) → R v.demands → Q v.demands s
+    pub iterates_extractor : (t : ℕ) (s : SiteTerm) (v : Visit) (flags : Flags) (infallible : Bool) → kind p t ≡ a_call flags infallible → flags.multi ≡ true → In v.demands.made (extractor_call t s) → In v.demands.made (pick_of (extractor_call t s)) → R v.demands → Q v.demands s
         → IsValued v.demands (valued (pick_of (extractor_call t s)) (iterating (extractor_call t s) v))
     pub iterates_constructor : (t i : ℕ) (ss : SiteTerms) (v : Visit) (flags : Flags) (infallible : Bool) → kind p t ≡ a_call flags infallible → flags.multi ≡ true → R v.demands
         → Onward v.demands (iterating (constructor_call t ss i) v).demands
@@ -154,7 +154,7 @@ call_binds pure true partial rec infallible call args v = refl
 call_binds pure false partial rec true call args v = refl
 call_binds pure false partial rec false call args v = refl
 
-open_binds : (k : Kind) (t : ℕ) (s : SiteTerm) (args : TypedPatterns) (v : Visit) → (open_term k t s args v).visit.vars ≡ v.vars
+pub open_binds : (k : Kind) (t : ℕ) (s : SiteTerm) (args : TypedPatterns) (v : Visit) → (open_term k t s args v).visit.vars ≡ v.vars
 open_binds (a_variant ty variant) t s args v = refl
 open_binds (a_struct ty) t s args v = refl
 open_binds (a_call flags infallible) t s args v = call_binds flags.pure flags.multi flags.partial flags.rec infallible _ args v
@@ -166,14 +166,14 @@ value_binds true false partial rec t args v = refl
 value_binds false true partial rec t args v = refl
 value_binds false false partial rec t args v = refl
 
-term_binds : (k : Kind) (t : ℕ) (a : ValuedAll) → (visit_term k t a).visit.vars ≡ a.visit.vars
+pub term_binds : (k : Kind) (t : ℕ) (a : ValuedAll) → (visit_term k t a).visit.vars ≡ a.visit.vars
 term_binds (a_variant ty variant) t a = refl
 term_binds (a_struct ty) t a = refl
 term_binds (a_call flags infallible) t a = value_binds flags.pure flags.multi flags.partial flags.rec t a.sites a.visit
 term_binds unknown t a = refl
 
 -- 3. terms
-same_fields : (f : ℕ → SiteTerm) (i : ℕ) (args : TypedPatterns) → from_to f i args ≡ fields_from f i (pattern_count args)
+pub same_fields : (f : ℕ → SiteTerm) (i : ℕ) (args : TypedPatterns) → from_to f i args ≡ fields_from f i (pattern_count args)
 same_fields f i no_typed_pattern = refl
 same_fields f i (typed_pattern_and q qs) = ap (λ l. f i ∷ l) (same_fields f (suc i) qs)
 
@@ -199,7 +199,7 @@ module _ (p : Program) (R : Demands → Type 0) (Q : Demands → SiteTerm → Ty
       let sites = call ∷ (pick_of call ∷ []) in
       let w = making sites v in
       let a = k.makes sites v h in
-      let b = k.iterates_extractor t s w (record { pure = pure; multi = true; partial = partial; rec = rec }) infallible e refl (in_right v.demands.made sites (pick_of call) (inr (inl refl))) a.holds (a.stays s m) in
+      let b = k.iterates_extractor t s w (record { pure = pure; multi = true; partial = partial; rec = rec }) infallible e refl (in_right v.demands.made sites call (inl refl)) (in_right v.demands.made sites (pick_of call) (inr (inl refl))) a.holds (a.stays s m) in
       with_parts v.demands (iterating call w) (pick_of call) args (then_onward R Q v.demands w.demands (iterating call w).demands a b.onward) b.site
   call_opened pure false partial rec true t s args v e h m =
       let call = extractor_call t s in
@@ -211,7 +211,7 @@ module _ (p : Program) (R : Demands → Type 0) (Q : Demands → SiteTerm → Ty
       let sites = call ∷ (some_part call ∷ []) in
       let w = making sites v in
       let a = k.makes sites v h in
-      let b = k.asks_call t s w (record { pure = pure; multi = false; partial = partial; rec = rec }) e refl (in_right v.demands.made sites (some_part call) (inr (inl refl))) a.holds (a.stays s m) in
+      let b = k.asks_call t s w (record { pure = pure; multi = false; partial = partial; rec = rec }) e refl (in_right v.demands.made sites call (inl refl)) (in_right v.demands.made sites (some_part call) (inr (inl refl))) a.holds (a.stays s m) in
       with_parts v.demands (asking call is_present w) (some_part call) args (then_onward R Q v.demands w.demands (asking call is_present w).demands a b.onward) b.site
 
   -- a site that is asked for fields, which are made first
@@ -257,14 +257,14 @@ module _ (p : Program) (R : Demands → Type 0) (Q : Demands → SiteTerm → Ty
           let b = k.iterates_constructor t i ss w (flags true true) infallible f refl a.holds in
           record {
             onward = then_onward R Q v.demands w.demands (iterating c w).demands a b;
-            site = b.stays (some_part c) (k.answer w.demands t i ss (flags true true) infallible f refl (in_right v.demands.made part (some_part c) (inr (inl refl))) (each_stays R Q v.demands w.demands a.stays ss m));
+            site = b.stays (some_part c) (k.answer w.demands t i ss (flags true true) infallible f refl (in_right v.demands.made part c (inl refl)) (in_right v.demands.made part (some_part c) (inr (inl refl))) (each_stays R Q v.demands w.demands a.stays ss m));
           }
       by false true f =
           let w = making part v in
           let a = k.makes part v h in
           record {
             onward = a;
-            site = k.answer w.demands t i ss (flags false true) infallible f refl (in_right v.demands.made part (some_part c) (inr (inl refl))) (each_stays R Q v.demands w.demands a.stays ss m);
+            site = k.answer w.demands t i ss (flags false true) infallible f refl (in_right v.demands.made part c (inl refl)) (in_right v.demands.made part (some_part c) (inr (inl refl))) (each_stays R Q v.demands w.demands a.stays ss m);
           }
       by true false f =
           let w = making picks v in
@@ -272,7 +272,7 @@ module _ (p : Program) (R : Demands → Type 0) (Q : Demands → SiteTerm → Ty
           let b = k.iterates_constructor t i ss w (flags true false) infallible f refl a.holds in
           record {
             onward = then_onward R Q v.demands w.demands (iterating c w).demands a b;
-            site = b.stays (pick_of c) (k.pick w.demands t i ss (in_right v.demands.made picks (pick_of c) (inr (inl refl))) (each_stays R Q v.demands w.demands a.stays ss m));
+            site = b.stays (pick_of c) (k.pick w.demands t i ss (in_right v.demands.made picks c (inl refl)) (in_right v.demands.made picks (pick_of c) (inr (inl refl))) (each_stays R Q v.demands w.demands a.stays ss m));
           }
       by false false f =
           let w = making (c ∷ []) v in
@@ -290,7 +290,7 @@ module _ (p : Program) (R : Demands → Type 0) (Q : Demands → SiteTerm → Ty
       let c = constructor_call t ss (suc v.impure_calls) in
       let a = call_given false multi partial rec infallible t (suc v.impure_calls) ss v e h m in
       let w = where_multi flags c (making (call_sites flags c) v) in
-      let b = k.calls (call_result flags c) w a.onward.holds in
+      let b = k.calls (call_result flags c) w a.onward.holds a.site in
       record { onward = then_onward R Q v.demands w.demands (calling (call_result flags c) w).demands a.onward b; site = b.stays (call_result flags c) a.site }
 
   term_valued : (n : Kind) (t : ℕ) (a : ValuedAll) → kind p t ≡ n → R a.visit.demands → AtEach R Q a.visit.demands a.sites → IsValued R Q a.visit.demands (visit_term n t a)

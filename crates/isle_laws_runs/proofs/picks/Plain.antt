@@ -1,5 +1,6 @@
 -- Without multi calls the two families of matching agree, whatever the pick.
 use Rattle.std.proofs.Common.{◌≡◌, ◌==◌, arith, ℕ, suc, Bool, true, false, cond, List, [], ◌∷◌, ◌++◌, length, Option, Some, None, refl, ap, ap₂, ◌∙◌}
+use Rattle.std.proofs.lemmas.Bool.{true≢false}
 use Rattle.isle_model.specs.rules.Values.{Value, Values, no_value, value_and, value_eq}
 use Rattle.isle_model.specs.rules.Meaning.{Content, Meaning, look, literal_value, bool_literal, int_literal, constant_value, extractor_answer, pure_answer, impure_answer, answered_outputs}
 use Rattle.isle_model.specs.rules.Outcome.{Call, then_option}
@@ -78,10 +79,7 @@ where_seen unknown P t v m vs c h = absurd (none_some h)
 
 -- 4. calls that are not multi
 answer_same : {Y : Type 0} (b : Bool) (k : Pick) (call : SiteTerm) (o : Option Content) (f : Content → Option Y) → b ≡ false → then_option (then_option o (taken_answer b k call)) f ≡ then_option o f
-answer_same true k call o f e = absurd (true_false e)
-  where
-    true_false : true ≡ false → ⊥
-    true_false g = cc
+answer_same true k call o f e = absurd (true≢false e)
 answer_same false k call None f e = refl
 answer_same false k call (Some c) f e = refl
 

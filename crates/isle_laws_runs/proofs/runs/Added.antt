@@ -3,6 +3,7 @@ use Rattle.std.proofs.Common.{◌≡◌, ℕ, suc, ◌+◌, List, [], ◌∷◌,
 use Rattle.std.specs.Prelude.{IsPermutation}
 use Rattle.std.proofs.lemmas.List.{append_assoc, append-nil}
 use Rattle.std.proofs.lemmas.List.Sorted.{IsPermutation-refl, IsPermutation-trans, IsPermutation-append}
+use Rattle.std.proofs.Math.Nat.{add-zero}
 use Rattle.isle_model.specs.rules.Meaning.{Content}
 use Rattle.isle_model.specs.rules.Outcome.{Outcome, ran_through}
 use Rattle.isle_model.specs.rules.Program.{numbers_from}
@@ -27,9 +28,6 @@ adds_then o go done here later (rs, e, p) next =
 pub adds_as : (o : Outcome) (done a b : List Content) → IsPermutation a b → Adds o done b → Adds o done a
 adds_as o done a b p (rs, e, q) = (rs, e, IsPermutation-trans a b rs p q)
 
-plus_zero : (n : ℕ) → n + 0 ≡ n
-plus_zero n = omega arith
-
 plus_suc : (n k : ℕ) → n + suc k ≡ suc n + k
 plus_suc n k = omega arith
 
@@ -39,5 +37,5 @@ pub each_adds : (go : Content → Trace → Outcome) (made : ℕ → List Conten
 each_adds go made i [] h done = adds_none done
 each_adds go made i (c ∷ cs) h done =
     adds_then (go c (trace done)) (for_each cs go) done (made i) (flat_map made (numbers_from (suc i) cs))
-    (subst (λ n. Adds (go c (trace done)) done (made n)) (plus_zero i) (h 0 c refl done))
+    (subst (λ n. Adds (go c (trace done)) done (made n)) (add-zero i) (h 0 c refl done))
     (λ now. each_adds go made (suc i) cs (λ j d e now'. subst (λ n. Adds (go d (trace now')) now' (made n)) (plus_suc i j) (h (suc j) d e now')) now)

@@ -1,5 +1,5 @@
 -- Binding a bind order of available sites keeps them and all below them.
-use Rattle.std.proofs.Common.{◌≡◌, ◌⊎◌, ℕ, zero, suc, Bool, true, false, not, ◌&&◌, ◌||◌, cond, List, [], ◌∷◌, ◌++◌, is_some, slice_get, Contains, All, IsTrue, filter, flat_map, refl, sym, ap, ◌∙◌, subst, inl, inr}
+use Rattle.std.proofs.Common.{◌≡◌, ◌⊎◌, ℕ, zero, suc, true, false, not, ◌&&◌, ◌||◌, cond, List, [], ◌∷◌, ◌++◌, is_some, slice_get, Contains, All, IsTrue, filter, flat_map, refl, sym, ap, ◌∙◌, subst, inl, inr}
 use Rattle.std.specs.List.{list_all}
 use Rattle.std.proofs.lemmas.Bool.{cases_Bool, cond-true, cond-false, and_parts, or_cases, or_left, false≢true, not-true}
 use Rattle.std.proofs.lemmas.List.Elements.{filter-append}
@@ -177,11 +177,7 @@ available_found w pick before finds ar there (suc n) s a pure =
       | inl i ↦ there s i
       | inr r ↦
           let q = and_parts (not (waits (slice_get w.sites s))) (list_all (is_available n w.sites ar.brought) (sources_at w.sites s)) r in
-          finds s pure (now (waits (slice_get w.sites s)) q.0)
+          finds s pure (not-true (waits (slice_get w.sites s)) q.0)
           (all_members (λ x. IsTrue (is_some (content_at w pick x))) (sources_at w.sites s)
           (λ x c. available_found w pick before finds ar there n x (each_passes (is_available n w.sites ar.brought) (sources_at w.sites s) q.1 x c) (pure_sources w.sites before s x c pure)))
     ]
-  where
-    now : (b : Bool) → not b ≡ true → b ≡ false
-    now true h = absurd (false≢true h)
-    now false h = refl

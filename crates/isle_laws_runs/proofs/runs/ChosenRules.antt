@@ -21,6 +21,9 @@ one_number x y a b = by (int_cmp x y) (int_ranks x y)
     by Equal h = h
     by Greater h = absurd (omega (arith, ints))
 
+pub through : (x y z : ℤ) → x ≤ℤ y → y ≤ℤ z → x ≤ℤ z
+through x y z a b = omega (arith, ints)
+
 abbrev pub MatchesWith : Program → Meaning → List Value → TypedRule → Type 0
 MatchesWith p m args r = IsTrue (is_some (matches p m r args))
 
@@ -33,13 +36,10 @@ module _ (p : Program) (m : Meaning) (args : List Value) where
   itself : (z : ℤ) → z ≤ℤ z
   itself z = omega (arith, ints)
 
-  through : (x y z : ℤ) → x ≤ℤ y → y ≤ℤ z → x ≤ℤ z
-  through x y z a b = omega (arith, ints)
-
-  passes : (r : TypedRule) (rs : List TypedRule) → is_some (matches p m r args) ≡ true → chosen p m (r ∷ rs) args ≡ higher r (chosen p m rs args)
+  pub passes : (r : TypedRule) (rs : List TypedRule) → is_some (matches p m r args) ≡ true → chosen p m (r ∷ rs) args ≡ higher r (chosen p m rs args)
   passes r rs t = cond-true (is_some (matches p m r args)) (higher r (chosen p m rs args)) (chosen p m rs args) t
 
-  fails : (r : TypedRule) (rs : List TypedRule) → is_some (matches p m r args) ≡ false → chosen p m (r ∷ rs) args ≡ chosen p m rs args
+  pub fails : (r : TypedRule) (rs : List TypedRule) → is_some (matches p m r args) ≡ false → chosen p m (r ∷ rs) args ≡ chosen p m rs args
   fails r rs f = cond-false (is_some (matches p m r args)) (higher r (chosen p m rs args)) (chosen p m rs args) f
 
   after_fail : (r : TypedRule) (rs : List TypedRule) → is_some (matches p m r args) ≡ false → Chosen p m rs args → Chosen p m (r ∷ rs) args

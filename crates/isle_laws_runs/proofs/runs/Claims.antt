@@ -1,8 +1,9 @@
 -- Claims on runs that hold of the run of every sound tree, since they are kept from step to step.
-use Rattle.std.proofs.Common.{◌≡◌, ◌≢◌, ℕ, ◌<◌, ◌||◌, Bool, true, false, List, [], ◌∷◌, ◌++◌, length, Option, Some, None, is_some, slice_get, Contains, IsTrue, refl, sym, ap, ◌∙◌, subst, inl, inr}
+use Rattle.std.proofs.Common.{◌≡◌, ◌≢◌, ℕ, ◌<◌, ◌||◌, true, false, List, [], ◌∷◌, ◌++◌, length, Option, Some, None, is_some, slice_get, Contains, IsTrue, refl, sym, ap, ◌∙◌, subst, inl, inr}
 use Rattle.std.proofs.lemmas.Bool.{both_ways, false≢true}
 use Rattle.std.proofs.lemmas.Option.{none-some, same_Some}
 use Rattle.std.proofs.lemmas.List.Elements.{Contains-append_left, Contains-append_right, All-contains}
+use Rattle.std.proofs.Math.Bool.{or-true}
 use Rattle.isle_model.specs.rules.Values.{Value}
 use Rattle.isle_model.specs.rules.Meaning.{Content, one, many, Contents, contents}
 use Rattle.isle_model.specs.rules.Outcome.{Outcome, ran_through, then_option}
@@ -69,10 +70,6 @@ pub record IsKept (w : World) (rules : List SetRule) (Says : List ℕ → Pick �
       → (w.multi ≡ true → (env' : Env) → At w rules (wider w.sites ar (return_uses (Some r))) pick env' → Says ar.looped pick later (run_tree rest w env'))
       → Says ar.looped pick (i ∷ later) (run_tree (step (bind_order w.sites ar (return_uses (Some r))) (return_at r.at r.result) rest) w env)
 
-goes_on : (multi : Bool) → (multi || true) ≡ true
-goes_on true = refl
-goes_on false = refl
-
 module _ (w : World) (rules : List SetRule) (clear : IsClearSet w rules) where
   asked_pure : (arms : MarkedArms) (ar : Around) (s : ℕ) (before : Option Constraint) → marks_arms arms ≢ [] → Known rules (marks_arms arms) → SoundArms (set_of w rules) w.multi ar true s before arms → IsPureBelow w.sites s
   asked_pure m_no_arm ar s before some known sound = absurd (some refl)
@@ -81,7 +78,7 @@ module _ (w : World) (rules : List SetRule) (clear : IsClearSet w rules) where
       (clear.tested a.0 a.1 s (constraint_tested a.0 s c a.2)).pure
 
   further : (ar : Around) (rest : Marked) → SoundSteps (set_of w rules) w.multi ar (w.multi || true) rest → SoundSteps (set_of w rules) w.multi ar true rest
-  further ar rest sound = subst (λ b. SoundSteps (set_of w rules) w.multi ar b rest) (goes_on w.multi) sound
+  further ar rest sound = subst (λ b. SoundSteps (set_of w rules) w.multi ar b rest) (or-true w.multi) sound
 
   -- 3. where an arm is met, no rule of a later arm holds; where it isn't, none of its own
   none_after : (arms : MarkedArms) (ar : Around) (pick : Pick) (s : ℕ) (c : Constraint) (r : SetRule) → Contains rules r → Contains r.constraints (s, c)

@@ -1,11 +1,13 @@
 -- The run of a sound tree of a multi term collects the bag of its rules' results.
-use Rattle.std.proofs.Common.{◌≡◌, ℕ, suc, ◌+◌, ◌<◌, Bool, true, false, ◌&&◌, List, [], ◌∷◌, ◌++◌, map, flat_map, length, Some, slice_get, Contains, IsTrue, refl, sym, ap, ◌∙◌, subst, arith}
+use Rattle.std.proofs.Common.{◌≡◌, ℕ, suc, ◌+◌, ◌<◌, true, List, [], ◌∷◌, ◌++◌, map, flat_map, length, Some, slice_get, Contains, IsTrue, refl, sym, ap, ◌∙◌, subst, arith}
 use Rattle.std.specs.Prelude.{IsPermutation}
 use Rattle.std.proofs.lemmas.Bool.{cond-true}
 use Rattle.std.proofs.lemmas.List.{append-nil}
 use Rattle.std.proofs.lemmas.List.Elements.{Contains-append_left, Contains-append_right, All-contains}
 use Rattle.std.proofs.lemmas.List.Sorted.{IsPermutation-refl, IsPermutation-trans}
 use Rattle.std.proofs.lemmas.Grind.{flat_map-append}
+use Rattle.std.proofs.Math.Bool.{and-true}
+use Rattle.std.proofs.Math.Nat.{zero-add}
 use Rattle.isle_model.specs.rules.Meaning.{Content, contents}
 use Rattle.isle_model.specs.rules.Outcome.{Outcome, ran_through}
 use Rattle.isle_model.specs.rules.Picks.{Pick, picks_over}
@@ -27,13 +29,6 @@ use Rattle.isle_laws_runs.proofs.runs.Steps.{trace, step_runs}
 use Rattle.isle_laws_runs.proofs.runs.Claims.{IsKept, says_of_run}
 use Rattle.isle_laws_runs.proofs.runs.Added.{Adds, adds_none, adds_then, adds_as, each_adds}
 use Rattle.isle_laws_runs.proofs.runs.Left.{is_left, left_of, left, left_nothing, none_left, longer, loop_first}
-
-and_yes : (b : Bool) → (b && true) ≡ b
-and_yes true = refl
-and_yes false = refl
-
-zero_plus : (n : ℕ) → 0 + n ≡ n
-zero_plus n = omega arith
 
 module _ (w : World) (rules : List SetRule) (built : IsCollectedSet (set_of w rules)) (served : ServesSet (set_of w rules) w) (multi : w.multi ≡ true) where
   -- 1. what is asked of the set, and of the world under every pick
@@ -120,7 +115,7 @@ module _ (w : World) (rules : List SetRule) (built : IsCollectedSet (set_of w ru
         let pick_of : ℕ → Pick = longer w rules clear ar pick env at source cs list gone out in
         adds_as (for_each (contents cs) go (trace done)) done (left w rules ar.looped pick ids) _ (loop_first w rules clear ar pick env at source cs list gone out ids known over)
         (each_adds go (λ n. left w rules (source ∷ ar.looped) (pick_of n) ids) 0 (contents cs)
-        (λ j c e now. subst (λ n. Adds (go c (trace now)) now (left w rules (source ∷ ar.looped) (pick_of n) ids)) (sym (zero_plus j)) (says j c e now))
+        (λ j c e now. subst (λ n. Adds (go c (trace now)) now (left w rules (source ∷ ar.looped) (pick_of n) ids)) (sym (zero-add j)) (says j c e now))
         done);
     returns = λ ar pick env at i r get all rest later higher go. return_adds ar pick env at i r get all rest later go;
   }
@@ -131,9 +126,9 @@ module _ (w : World) (rules : List SetRule) (built : IsCollectedSet (set_of w ru
       subst (λ l. IsPermutation l (left w rules [] [] (marks m)))
       (of_numbers (λ i. left_of w rules [] [] (slice_get rules i)) (λ r. flat_map (result_in w r) (picks_over w.meaning w.args [] (calls_gone_over (set_of w rules) r))) 0 rules
       (λ j r e.
-      ap (λ n. left_of w rules [] [] (slice_get rules n)) (zero_plus j)
+      ap (λ n. left_of w rules [] [] (slice_get rules n)) (zero-add j)
       ∙ ap (left_of w rules [] []) e
-      ∙ ap (λ l. flat_map (result_in w r) (picks_over w.meaning w.args [] (map (unfold_site w.sites) l))) (filters_same (λ s. is_in s r.iterators) (is_left w rules [] r) 0 w.sites (λ t l. and_yes (is_in t r.iterators)))))
+      ∙ ap (λ l. flat_map (result_in w r) (picks_over w.meaning w.args [] (map (unfold_site w.sites) l))) (filters_same (λ s. is_in s r.iterators) (is_left w rules [] r) 0 w.sites (λ t l. and-true (is_in t r.iterators)))))
       (as_numbers (λ i. left_of w rules [] [] (slice_get rules i)) 0 rules (marks m) (λ j l u. returns.once j (omega (arith, u)))
       (λ j c. let k = All-contains (λ i. i < length rules) (marks m) j returns.known c in (omega arith, omega (arith, k))))
 

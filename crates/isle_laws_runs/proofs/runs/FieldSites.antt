@@ -2,6 +2,7 @@
 use Rattle.std.proofs.Common.{◌≡◌, ◌⊎◌, ℕ, zero, suc, ◌+◌, ◌<◌, ◌≤◌, ◌==◌, Bool, true, ◌&&◌, List, [], ◌∷◌, Option, Some, None, slice_get, Contains, IsTrue, nat_lt, ltb-true, refl, sym, ap, ◌∙◌, subst, inl, inr, arith, eqb-true, eq-eqb}
 use Rattle.std.proofs.lemmas.Bool.{cases_Bool, cond-true, cond-false, and_parts, and_from, false≢true, cases_lt}
 use Rattle.std.proofs.lemmas.Option.{none-some, same_Some}
+use Rattle.std.proofs.Math.Nat.{zero-add}
 use Rattle.isle_model.specs.lists.Names.{IsDistinct}
 use Rattle.isle_model.specs.sites.Sites.{Site, iterator_site, match_variant_site, extract_struct_site, match_some_site, Constraint, is_variant, is_struct, is_present, SetRule}
 use Rattle.isle_model.specs.trees.Places.{waits, is_variant_field, is_struct_field, is_part_of, site_from, each_field, fields_of, field_sites}
@@ -91,10 +92,7 @@ field_listed p sites i (suc n) f s l m e =
 
 -- the one site that is this one
 only_site : (sites : List Site) → IsDistinct sites → (s : ℕ) (b : Site) → slice_get sites s ≡ Some b → (p : Site → Bool) → p b ≡ true → ((x : Site) → p x ≡ true → x ≡ b) → site_from 0 p sites ≡ Some s
-only_site sites once s b e p h only = site_found p sites 0 s b e h (λ j x at t. once j s b (at ∙ ap Some (only x t)) e) ∙ ap Some (zero_plus s)
-  where
-    zero_plus : (s : ℕ) → 0 + s ≡ s
-    zero_plus s = omega arith
+only_site sites once s b e p h only = site_found p sites 0 s b e h (λ j x at t. once j s b (at ∙ ap Some (only x t)) e) ∙ ap Some (zero-add s)
 
 -- 3. a gate that a rule demands is a field of what it asks
 variant_asked : (s v i : ℕ) (d : ℕ × Constraint) → asks_variant s v i d ≡ true → (ty n : ℕ) × (d ≡ (s, is_variant ty v n)) × (i < n)

@@ -17,7 +17,7 @@ use Rattle.isle_laws_trees.proofs.binding.BindOnce.{PlacesApart}
 
 -- what is written in place is one value
 placed_value : (p : Program) (n : ℕ) (f : ℕ → SiteTerm) (b : Site) (q : Form) → is_in_place (Some b) ≡ true → IsOfForm p n (layer f b) q → q ≡ a_value
-placed_value p n f (int_site z ty) q h g = g
+placed_value p n f (int_site z ty) q h g = g.1
 placed_value p n f (prim_site name) q h g = g
 placed_value p n f (argument_site i) q h g = g.1
 placed_value p n f (match_tuple_site source field) q h g = g.3

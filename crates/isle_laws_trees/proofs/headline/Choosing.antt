@@ -1,17 +1,16 @@
--- In a term that isn't multi and uses no multi extractor, the run of a best tree is the choice by priority.
-use Rattle.std.proofs.Common.{◌≡◌, ◌<◌, ℕ, Bool, false, List, [], ◌∷◌, map, Some, is_some, slice_get, Contains, All, IsTrue, ◌≤ℤ◌, refl, sym, ap, subst, ◌∙◌, inl, inr, arith}
+-- In a term that isn't multi, the run of a best tree is the choice by priority.
+use Rattle.std.proofs.Common.{◌≡◌, ◌<◌, ℕ, Bool, false, List, [], map, Some, is_some, slice_get, Contains, All, IsTrue, ◌≤ℤ◌, sym, ap, subst, ◌∙◌, inl, inr, arith}
 use Rattle.std.proofs.lemmas.Bool.{both_ways, false≢true, cases_lt}
 use Rattle.isle_model.specs.lists.Syntax.{Definition}
 use Rattle.isle_model.specs.lists.Elaborated.{TypedRules}
 use Rattle.isle_model.specs.rules.Values.{Value, args_well_typed}
 use Rattle.isle_model.specs.rules.Meaning.{Meaning}
 use Rattle.isle_model.specs.rules.Outcome.{Outcome, no_rule}
-use Rattle.isle_model.specs.rules.Program.{Program, arg_types, rules_of}
+use Rattle.isle_model.specs.rules.Program.{Program, is_multi, arg_types, rules_of}
 use Rattle.isle_model.specs.rules.Matching.{matches}
 use Rattle.isle_model.specs.rules.Choice.{with_vars, outcome_of_rule, choice, MatchesOnce}
 use Rattle.isle_model.specs.rules.Typed.{TypedRule}
-use Rattle.isle_model.specs.sites.Sites.{SetRule, SiteSet, unfold_site}
-use Rattle.isle_model.specs.sites.Demands.{demands_of}
+use Rattle.isle_model.specs.sites.Sites.{SetRule, SiteSet}
 use Rattle.isle_model.specs.sites.Overlap.{BuiltRule, built_rules}
 use Rattle.isle_model.specs.sites.RuleSets.{IsBuilt}
 use Rattle.isle_model.specs.sites.Serves.{Serves, TellsConstantsApart}
@@ -21,24 +20,21 @@ use Rattle.isle_model.specs.trees.Collects.{demands_hold}
 use Rattle.isle_model.specs.trees.SetRuns.{IsTaken, ChoosesFrom}
 use Rattle.isle_model.specs.trees.Best.{IsBestTree}
 use Rattle.isle_model.specs.claims.Environments.{TypesRead, IsElaborated, program_of}
-use Rattle.isle_model.specs.claims.Headline.{IsWithoutMulti, RunsAsChosen}
+use Rattle.isle_model.specs.claims.Headline.{RunsAsChosen}
 use Rattle.isle_model.specs.claims.Layers.{IsCheckable}
 use Rattle.isle_model.specs.claims.SetMeanings.{BuiltSetsAreTested, OfBuiltSets, TakenGivesOutcome, returning_once}
 use Rattle.isle_model.proofs.Elements.{In, contains_from_in, in_slice, some_is}
-use Rattle.isle_model.proofs.Members.{nothing_in, all_members, member_from_get, get_from_member}
+use Rattle.isle_model.proofs.Members.{member_from_get, get_from_member}
 use Rattle.isle_model.proofs.Options.{is_there}
 use Rattle.isle_laws_runs.proofs.runs.Choice.{sound_trees_choose_lem}
 use Rattle.isle_laws_runs.proofs.runs.ChosenRules.{Chosen, no_match, matching, chosen_is, one_number}
 use Rattle.isle_laws_demands.specs.MatchLaws.{BuiltSetsMatchByDemands, BuiltRulesAreToldApart, RulesWithoutMultiGoOverNoCalls}
 use Rattle.isle_laws_demands.specs.ServeLaws.{ServedSetsServeTests}
-use Rattle.isle_laws_demands.proofs.matching.BuiltMatches.{one_rule, built_listed}
+use Rattle.isle_laws_demands.proofs.matching.BuiltMatches.{one_rule}
 use Rattle.isle_laws_demands.proofs.matching.ToldApart.{empty_pick, same_match}
 use Rattle.isle_laws_trees.specs.BuiltLaws.{BestTreesOfBuiltSetsAreSound}
+use Rattle.isle_laws_trees.proofs.headline.NoCalls.{rule_goes_over_none, pair_goes_over_none, set_goes_over_none}
 use Rattle.isle_laws_trees.proofs.headline.Places.{Pair, of_set_rule, of_typed_rule, typed_here}
-
-none_listed : (xs : List ℕ) → ((s : ℕ) → Contains xs s → ⊥) → xs ≡ []
-none_listed [] h = refl
-none_listed (x ∷ xs) h = absurd (h x (member_from_get (x ∷ xs) 0 x refl))
 
 -- a world in which a return ends the run
 once_world : (w : World) → w.multi ≡ false → w ≡ returning_once w
@@ -55,7 +51,7 @@ pub record ChoosingLaws : Type 0 where
   pub taken : OfBuiltSets TakenGivesOutcome
 
 module _ (laws : ChoosingLaws) (e : TypesRead) (defs : List Definition) (expand : Bool) (rules : TypedRules) (t : ℕ) (set : SiteSet) (h : IsElaborated e defs expand rules) (b : IsBuilt (program_of e defs rules.rules) t set)
-    (check : IsCheckable (program_of e defs rules.rules)) (without : IsWithoutMulti (program_of e defs rules.rules) t)
+    (check : IsCheckable (program_of e defs rules.rules)) (without : is_multi (program_of e defs rules.rules) t ≡ false)
     (m : Meaning) (args : List Value) (typed : IsTrue (args_well_typed (program_of e defs rules.rules).types (arg_types (program_of e defs rules.rules) t) args))
     (served : Serves (program_of e defs rules.rules) m args (rules_of (program_of e defs rules.rules) t)) (apart : TellsConstantsApart (program_of e defs rules.rules) m (rules_of (program_of e defs rules.rules) t)) where
   abbrev p : Program
@@ -68,24 +64,11 @@ module _ (laws : ChoosingLaws) (e : TypesRead) (defs : List Definition) (expand 
   w = world_of p t set.sites m args
 
   -- 1. no rule goes over calls
-  typed_none : (k : BuiltRule) → Contains (built_rules p t) k → (demands_of p k.rule).iterators ≡ []
-  typed_none k c = laws.no_calls e defs expand rules t h without k.rule (built_listed p t k c)
-
   listed : (i : ℕ) (x : Pair p t set i) → Contains (built_rules p t) x.typed
   listed i x = member_from_get (built_rules p t) i x.typed x.here
 
-  pair_none : (i : ℕ) (x : Pair p t set i) → x.built.iterators ≡ []
-  pair_none i x =
-      let q = one_rule p t set x.typed x.built b x.one in
-      none_listed x.built.iterators (λ s c. nothing_in (unfold_site set.sites s) (subst (λ l. Contains l (unfold_site set.sites s)) (typed_none x.typed (listed i x)) (q.iterators.gone_over s c).1))
-
   none : All (λ r. r.iterators ≡ []) set.rules
-  none =
-      all_members (λ r. r.iterators ≡ []) set.rules
-      (λ r c.
-      let g = get_from_member set.rules r c in
-      let x = of_set_rule p t set b g.0 r g.1 in
-      subst (λ (q : SetRule). q.iterators ≡ []) x.1 (pair_none g.0 x.0))
+  none = set_goes_over_none laws.no_calls e defs expand rules t set h b without
 
   -- 2. a rule matches exactly where its demands hold
   abbrev Matches : TypedRule → Type 0
@@ -93,7 +76,7 @@ module _ (laws : ChoosingLaws) (e : TypesRead) (defs : List Definition) (expand 
 
   alike : (i : ℕ) (x : Pair p t set i) → is_some (matches p m x.typed.rule args) ≡ demands_hold w [] x.built
   alike i x =
-      let n = typed_none x.typed (listed i x) in
+      let n = rule_goes_over_none laws.no_calls e defs expand rules t set h b without x.typed (listed i x) in
       sym (same_match p m args x.typed.rule n) ∙ laws.match e defs expand rules t set h b m args typed served apart x.typed x.built [] x.one (empty_pick p m args x.typed.rule n)
 
   prio_same : (i : ℕ) (x : Pair p t set i) → x.built.prio ≡ x.typed.rule.prio
@@ -106,8 +89,8 @@ module _ (laws : ChoosingLaws) (e : TypesRead) (defs : List Definition) (expand 
   never_both : (i j : ℕ) (x : Pair p t set i) (y : Pair p t set j) → i < j → x.typed.rule.prio ≡ y.typed.rule.prio → Matches x.typed.rule → Matches y.typed.rule → ⊥
   never_both i j x y l same mx my =
       (laws.apart e defs expand rules t h).overlap m args typed served apart x.typed y.typed
-      (record { one_of = listed i x; other_of = listed j y; one_goes_over_none = typed_none x.typed (listed i x); other_goes_over_none = typed_none y.typed (listed j y) })
-      (λ o. check.overlaps t i j (record { first = x.typed; second = y.typed; one_result = without.term; here = x.here; there = y.here; before = l; one_priority = same; overlap = o })) mx my
+      (record { one_of = listed i x; other_of = listed j y; one_result = without })
+      (λ o. check.overlaps t i j (record { first = x.typed; second = y.typed; one_result = without; here = x.here; there = y.here; before = l; one_priority = same; overlap = o })) mx my
 
   pub once : MatchesOnce p m rs args
   once i j r q ri qj same mr mq =
@@ -129,7 +112,7 @@ module _ (laws : ChoosingLaws) (e : TypesRead) (defs : List Definition) (expand 
   taken_gives : (i : ℕ) (x : Pair p t set i) (o : Outcome) → Matches x.typed.rule → IsTaken w x.built o → o ≡ with_vars p m x.typed.rule (matches p m x.typed.rule args)
   taken_gives i x o mx taken =
       let v = is_there (matches p m x.typed.rule args) mx in
-      laws.taken e defs expand rules t set h b m args typed served apart x.typed x.built v.0 o x.one (pair_none i x) v.1 (subst (λ u. IsTaken u x.built o) (once_world w without.term) taken)
+      laws.taken e defs expand rules t set h b m args typed served apart x.typed x.built v.0 o x.one (pair_goes_over_none laws.no_calls e defs expand rules t set h b without i x) v.1 (subst (λ u. IsTaken u x.built o) (once_world w without) taken)
       ∙ sym (ap (with_vars p m x.typed.rule) v.1)
 
   chosen_here : (i : ℕ) (x : Pair p t set i) → Matches x.typed.rule → ((q : TypedRule) → In rs q → Matches q → q.prio ≤ℤ x.typed.rule.prio) → choice p m rs args ≡ with_vars p m x.typed.rule (matches p m x.typed.rule args)
@@ -175,7 +158,7 @@ module _ (laws : ChoosingLaws) (e : TypesRead) (defs : List Definition) (expand 
   pub runs_as_chosen : (tree : Tree) → IsBestTree set tree → run tree w ≡ choice p m rs args
   runs_as_chosen tree best =
       chosen_from (run tree w)
-      (sound_trees_choose_lem set tree w (laws.tested e defs expand rules t set h b without.term none) (laws.serve e defs expand rules t set h b m args typed served apart) without.term
+      (sound_trees_choose_lem set tree w (laws.tested e defs expand rules t set h b without none) (laws.serve e defs expand rules t set h b m args typed served apart) without
       (laws.sound e defs expand rules t set false tree h b none (λ q. absurd (false≢true q)) best))
 
 pub best_trees_run_as_chosen_lem : ChoosingLaws → OfBuiltSets (λ p t set. IsCheckable p → (tree : Tree) → IsBestTree set tree → RunsAsChosen p t set.sites tree)

@@ -4,7 +4,9 @@ use Rattle.isle_model.specs.claims.Environments.{types_read}
 use Rattle.isle_model.specs.claims.Layers.{own_program, BestTreesKeepTheHeadline}
 use Rattle.isle_laws_trees.specs.BuiltLaws.{BestTreesBindBeforeUse, BestTreesCollectTheBag}
 use Rattle.isle_laws_trees.proofs.Shares.{best_trees_share_most_lem}
+use Rattle.isle_laws_trees.proofs.NoLoops.{trees_without_calls_have_no_loop_lem}
 use Rattle.isle_laws_trees.proofs.headline.Choosing.{ChoosingLaws, best_trees_run_as_chosen_lem}
+use Rattle.isle_laws_trees.proofs.headline.NoCalls.{set_goes_over_none}
 
 pub best_trees_keep_the_headline_lem : ChoosingLaws → BestTreesCollectTheBag → BestTreesBindBeforeUse → BestTreesKeepTheHeadline
 best_trees_keep_the_headline_lem choosing collect bind defs expand rules l accepted built best =
@@ -19,4 +21,5 @@ best_trees_keep_the_headline_lem choosing collect bind defs expand rules l accep
       };
       collects = collect e defs expand rules l.term l.set h built accepted.checkable l.tree best;
       binds = bind e defs expand rules l.term l.set h built (is_multi (own_program defs rules) l.term) l.tree best;
+      straight = λ without. trees_without_calls_have_no_loop_lem l.set l.tree (set_goes_over_none choosing.no_calls e defs expand rules l.term l.set h built without) best;
     }

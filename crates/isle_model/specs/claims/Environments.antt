@@ -1,6 +1,6 @@
 -- What a list of definitions becomes before its rules are compared: the tables and the typed rules, and which lists
 -- have them.
-use Rattle.std.specs.Prelude.{◌≡◌, ℕ, ◌<◌, Bool, true, ◌&&◌, List, [], ◌++◌, length, Option, Some, None, option_map, All, map, slice_get}
+use Rattle.std.specs.Prelude.{◌≡◌, ℕ, ◌<◌, Bool, ◌&&◌, List, [], ◌++◌, length, Option, Some, None, option_map, All, map, slice_get}
 use Rattle.std.specs.Bool.{◌==◌}
 use Rattle.std.specs.List.{enumerate_from, filter_map}
 use Rattle.isle_model.specs.lists.Syntax.{Definition, RuleTree}
@@ -52,7 +52,6 @@ setting_of e defs expand = record {
   terms = term_table e.known defs;
   converters = converters e.known defs;
   expand = expand;
-  multi_anywhere = true;
 }
 
 -- by types that are handed in and can be read, the terms of a list are valid, each declared term is defined, each rule has

@@ -1,24 +1,19 @@
 -- The headline: a tree chooses as a test of every rule by priority would.
-use Rattle.std.specs.Prelude.{◌≡◌, ℕ, false, List, Contains, IsTrue}
+use Rattle.std.specs.Prelude.{◌≡◌, ℕ, false, List, IsTrue}
 use Rattle.isle_model.specs.rules.Values.{Value, args_well_typed}
 use Rattle.isle_model.specs.rules.Meaning.{Meaning}
 use Rattle.isle_model.specs.rules.Program.{Program, is_multi, arg_types, rules_of}
 use Rattle.isle_model.specs.rules.Choice.{choice, MatchesOnce}
-use Rattle.isle_model.specs.sites.Sites.{Site, SiteTerm, extractor_call}
-use Rattle.isle_model.specs.sites.Serves.{asked, Serves, TellsConstantsApart}
+use Rattle.isle_model.specs.sites.Sites.{Site}
+use Rattle.isle_model.specs.sites.Serves.{Serves, TellsConstantsApart}
 use Rattle.isle_model.specs.trees.Run.{run, world_of}
 use Rattle.isle_model.specs.trees.Trees.{Tree}
 
--- the term isn't multi, and no pattern of its rules calls an extractor of a term that is
-pub record IsWithoutMulti (p : Program) (t : ℕ) : Type 0 where
-  pub term : is_multi p t ≡ false
-  pub extractors : (u : ℕ) (s : SiteTerm) → Contains (asked p (rules_of p t)) (extractor_call u s) → is_multi p u ≡ false
-
--- on all well-typed arguments, and under every meaning that serves the term's rules and tells constants apart, the
--- tree's run has the outcome of the matching source rule of greatest priority, or no rule and no impure calls; and no
--- second rule of that priority matches
+-- in a term that isn't multi, on all well-typed arguments, and under every meaning that serves the term's rules and tells
+-- constants apart, the tree's run has the outcome of the matching source rule of greatest priority, or no rule and no
+-- impure calls; and no second rule of that priority matches
 abbrev pub RunsAsChosen : Program → ℕ → List Site → Tree → Type 0
 RunsAsChosen p t sites tree =
-    IsWithoutMulti p t → (m : Meaning) (args : List Value)
+    is_multi p t ≡ false → (m : Meaning) (args : List Value)
     → IsTrue (args_well_typed p.types (arg_types p t) args) → Serves p m args (rules_of p t) → TellsConstantsApart p m (rules_of p t)
     → (run tree (world_of p t sites m args) ≡ choice p m (rules_of p t) args) × MatchesOnce p m (rules_of p t) args

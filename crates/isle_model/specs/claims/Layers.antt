@@ -8,7 +8,7 @@ use Rattle.isle_model.specs.trees.Trees.{Tree, Marked, m_no_step, m_step, Marked
 use Rattle.isle_model.specs.trees.Run.{World, run}
 use Rattle.isle_model.specs.trees.Places.{nothing_around, is_in, is_in_place, uses, field_sites}
 use Rattle.isle_model.specs.trees.Sound.{is_return, ReturnsEach}
-use Rattle.isle_model.specs.trees.Best.{are_distinct, IsBestTree, SharesMost}
+use Rattle.isle_model.specs.trees.Best.{are_distinct, HasNoLoop, IsBestTree, SharesMost}
 use Rattle.isle_model.specs.trees.WellBuilt.{HasOnePriority}
 use Rattle.isle_model.specs.claims.Headline.{RunsAsChosen}
 use Rattle.isle_model.specs.trees.Collects.{Collects, CollectsTheBag, IsCollectedSet, ServesSet, set_bag}
@@ -19,16 +19,17 @@ use Rattle.isle_model.specs.lists.Elaborated.{TypedRules}
 use Rattle.isle_model.specs.claims.Environments.{types_read, TypesRead, IsElaborated, IsRead, program_of, TypeEnvironment, TermEnvironment, AreRulesOf}
 use Rattle.isle_model.specs.claims.Refusals.{Refusal, refusal_of, NamesOnlyPassed, PassedInBuilding, RefusesTypes, RefusesRules}
 use Rattle.isle_model.specs.sites.RuleSets.{IsBuilt}
-use Rattle.isle_model.specs.claims.SetMeanings.{CanBeServed, DemandsAreWhole, MeansItsRules, TellsRulesApart}
+use Rattle.isle_model.specs.claims.SetMeanings.{CanBeServed, DemandsAreWhole, HasNumbersInRange, MeansItsRules, TellsRulesApart}
 
 -- each term with rules, ascending, also where every rule is left out, with its built set: its rules ask for all that
--- follows from what theirs demand, and for nothing else; what those who use it rest on holds of it, it means what its typed
--- rules do, and overlaps and shadows tell its rules apart
+-- follows from what theirs demand, and for nothing else; what those who use it rest on holds of it, its integer literals lie
+-- in the ranges of their types, it means what its typed rules do, and overlaps and shadows tell its rules apart
 pub record AreBuiltSets (p : Program) (sets : List (ℕ × SiteSet)) : Type 0 where
   pub terms : map (λ s. s.0) sets ≡ terms_with_rules p
   pub built : All (λ s. IsBuilt p s.0 s.1) sets
   pub whole : All (λ s. DemandsAreWhole p s.0) sets
   pub served : All (λ s. CanBeServed p s.0 s.1) sets
+  pub numbers : All (λ s. HasNumbersInRange p s.1) sets
   pub meaning : All (λ s. MeansItsRules p s.0 s.1) sets
   pub apart : All (λ s. TellsRulesApart p s.0) sets
 
@@ -70,12 +71,13 @@ pub record CheckReports (p : Program) (reports : List RuleReport) : Type 0 where
 
 -- the run of a tree means what its set does. In a term that isn't multi, where the rules go over no calls, it takes a rule
 -- of greatest priority among those whose demands hold, the only one of that priority where no two rules of the set overlap
--- wrongly; in a multi term whose rules have one priority, make no impure
--- call and demand the gates below their sites, it collects the bag of their results
+-- wrongly; in a multi term whose rules have one priority, make no impure call and demand the gates below their sites, it
+-- collects the bag of their results. Where the rules go over no calls, the tree has no loop
 pub record MeansItsSet (set : SiteSet) (tree : Tree) : Type 0 where
   pub chooses : IsTestedSet set → (w : World) → ServesTests set w → w.multi ≡ false → ChoosesFrom set w (run tree w)
   pub once : HasNoWrongOverlap set.rules → (w : World) → ServesTests set w → w.multi ≡ false → HoldsOnce set.rules w
   pub collects : HasOnePriority set.rules → IsCollectedSet set → (w : World) → ServesSet set w → w.multi ≡ true → Collects (run tree w) (set_bag set w)
+  pub straight : All (λ r. r.iterators ≡ []) set.rules → HasNoLoop tree
 
 -- a set is built for some list of definitions that is read with some types: what serializing asks of it. It needn't be free
 -- of wrong overlaps, and a set without rules is one too
@@ -165,22 +167,23 @@ pub record TestsAreShared (set : SiteSet) (tree : Tree) : Type 0 where
   pub returns : ReturnsEach set tree marked
   pub most : SharesMost set nothing_around false marked
 
--- the headline. In a term that isn't multi and uses no multi extractor, on all well-typed arguments and under every
--- meaning of the called terms that tells constants apart, the tree's run gives the result or failure and the impure calls
--- of the one matching source rule of highest priority, or neither where none matches; and nowhere would an open test
--- cover more rules than the test made
+-- the headline. In a term that isn't multi, on all well-typed arguments and under every meaning of the called terms that
+-- tells constants apart, the tree's run gives the result or failure and the impure calls of the one matching source rule
+-- of highest priority, or neither where none matches; and nowhere would an open test cover more rules than the test made
 pub record ChoosesAndShares (p : Program) (l : LoweredTerm) : Type 0 where
   pub runs : RunsAsChosen p l.term l.set.sites l.tree
   pub shares : TestsAreShared l.set l.tree
 
 -- the tree of a term: of its built set, a best tree, with the headline; sites are bound before they are used; in a multi
--- term whose rules make no impure call and need each multi call of an if-let, the run collects the bag of their results
+-- term whose rules make no impure call and need each multi call of an if-let, the run collects the bag of their results; in
+-- a term that isn't multi the tree has no loop
 pub record IsLoweredTerm (p : Program) (l : LoweredTerm) : Type 0 where
   pub built : IsBuilt p l.term l.set
   pub best : IsBestTree l.set l.tree
   pub headline : ChoosesAndShares p l
   pub collects : CollectsTheBag p l.term l.set.sites l.tree
   pub binds : BindsBeforeUse l.set (is_multi p l.term) l.tree
+  pub straight : is_multi p l.term ≡ false → HasNoLoop l.tree
 
 -- the trees of a program: each term with rules once, ascending
 pub record AreLowered (p : Program) (terms : List LoweredTerm) : Type 0 where

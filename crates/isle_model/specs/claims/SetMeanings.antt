@@ -1,8 +1,9 @@
 -- What built sets give to those who use them: the facts that trees rest on, and that a set means what its typed rules do.
-use Rattle.std.specs.Prelude.{◌≡◌, ℕ, ◌<◌, Bool, true, false, not, List, [], ◌∷◌, ◌++◌, Some, slice_get, is_some, All, Contains, IsTrue, ◌⊎◌}
+use Rattle.std.specs.Prelude.{◌≡◌, ℕ, ℤ, ◌<◌, Bool, true, false, not, List, [], ◌∷◌, ◌++◌, Some, slice_get, is_some, All, Contains, IsTrue, ◌⊎◌}
 use Rattle.std.specs.List.{filter}
 use Rattle.isle_model.specs.lists.Syntax.{Definition}
 use Rattle.isle_model.specs.lists.Names.{IsDistinct}
+use Rattle.isle_model.specs.lists.Ranges.{Range, IsInRange, range_of}
 use Rattle.isle_model.specs.rules.Values.{Value, args_well_typed}
 use Rattle.isle_model.specs.rules.Meaning.{Meaning}
 use Rattle.isle_model.specs.rules.Outcome.{Outcome}
@@ -10,7 +11,7 @@ use Rattle.isle_model.specs.rules.Matching.{Vars, matches}
 use Rattle.isle_model.specs.rules.RightSide.{right_side}
 use Rattle.isle_model.specs.rules.Typed.{TypedIfLet, TypedRule}
 use Rattle.isle_model.specs.rules.Program.{Program, is_multi, arg_types, rules_of}
-use Rattle.isle_model.specs.sites.Sites.{Site, Constraint, SetRule, SiteSet, sources_at, SiteTerm, unfold_site}
+use Rattle.isle_model.specs.sites.Sites.{Site, int_site, Constraint, is_int, SetRule, SiteSet, sources_at, SiteTerm, unfold_site}
 use Rattle.isle_model.specs.sites.Demands.{demands_of, Visit, visit_start, visit_args, visit_pattern, visit_expr, has_site}
 use Rattle.isle_model.specs.sites.Closure.{ClosedIsWhole}
 use Rattle.isle_model.specs.trees.Places.{joins_in, all_below}
@@ -79,6 +80,18 @@ OfBuiltSets P =
 abbrev pub BuiltSetsCanBeServed : Type 0
 BuiltSetsCanBeServed = OfBuiltSets CanBeServed
 
+-- an integer literal of a built-in type lies in the type's range
+abbrev pub LiesInRange : Program → ℕ → ℤ → Type 0
+LiesInRange p ty z = (range : Range) → range_of (slice_get p.types ty) ≡ Some range → IsInRange range z
+
+-- those of a set do, as sites and as constraints
+pub record HasNumbersInRange (p : Program) (set : SiteSet) : Type 0 where
+  pub sites : (s ty : ℕ) (z : ℤ) → slice_get set.sites s ≡ Some (int_site z ty) → LiesInRange p ty z
+  pub constraints : All (λ r. (s ty : ℕ) (z : ℤ) → Contains r.constraints (s, is_int z ty) → LiesInRange p ty z) set.rules
+
+abbrev pub BuiltSetsHaveNumbersInRange : Type 0
+BuiltSetsHaveNumbersInRange = OfBuiltSets (λ p t set. HasNumbersInRange p set)
+
 -- and they meet what choosing from them, and collecting of them, asks
 abbrev pub BuiltSetsAreTested : Type 0
 BuiltSetsAreTested = OfBuiltSets (λ p t set. is_multi p t ≡ false → All (λ r. r.iterators ≡ []) set.rules → IsTestedSet set)
@@ -127,17 +140,16 @@ pub record MeansItsRules (p : Program) (t : ℕ) (set : SiteSet) : Type 0 where
   pub outcome_under_picks : TakenUnderPickGivesOutcome p t set
   pub results : ResultsAreHeld p t set
 
--- two built rules of a term, which go over no calls. A third rule of the term may use a multi extractor
-pub record AreRulesWithoutCalls (p : Program) (t : ℕ) (a b : BuiltRule) : Type 0 where
+-- two built rules of a term that isn't multi
+pub record AreRulesOfOneResult (p : Program) (t : ℕ) (a b : BuiltRule) : Type 0 where
   pub one_of : Contains (built_rules p t) a
   pub other_of : Contains (built_rules p t) b
-  pub one_goes_over_none : (demands_of p a.rule).iterators ≡ []
-  pub other_goes_over_none : (demands_of p b.rule).iterators ≡ []
+  pub one_result : is_multi p t ≡ false
 
--- of two rules that go over no calls, whatever the term's other rules do: those that don't overlap never match together,
--- and a shadowed rule matches only where its mask does
+-- of two rules of a term that isn't multi: those that don't overlap never match together, and a shadowed rule matches only
+-- where its mask does
 pub record TellsRulesApart (p : Program) (t : ℕ) : Type 0 where
-  pub overlap : WhereServed p t (λ m args. (a b : BuiltRule) → AreRulesWithoutCalls p t a b
+  pub overlap : WhereServed p t (λ m args. (a b : BuiltRule) → AreRulesOfOneResult p t a b
       → (Overlaps a.demands b.demands → ⊥) → IsTrue (is_some (matches p m a.rule args)) → IsTrue (is_some (matches p m b.rule args)) → ⊥)
-  pub shadow : WhereServed p t (λ m args. (mask b : BuiltRule) → AreRulesWithoutCalls p t mask b
+  pub shadow : WhereServed p t (λ m args. (mask b : BuiltRule) → AreRulesOfOneResult p t mask b
       → Shadows mask b → IsTrue (is_some (matches p m b.rule args)) → IsTrue (is_some (matches p m mask.rule args)))

@@ -1,9 +1,10 @@
 -- What a rule's tree becomes: typed patterns, expressions and rules, by recursion on the tree, and on how deep
 -- expansions may still nest.
-use Rattle.std.specs.Prelude.{◌≡◌, ℕ, zero, suc, pos, Bool, not, ◌&&◌, List, [], ◌∷◌, length, Option, Some, None, option_map, is_some, unwrap_or, slice_get, nat_le, drop, if◌then◌else◌, false, map, count_by}
+use Rattle.std.specs.Prelude.{◌≡◌, ℕ, zero, suc, pos, Bool, not, ◌&&◌, List, [], ◌∷◌, length, Option, Some, None, option_map, is_some, unwrap_or, slice_get, nat_le, if◌then◌else◌, false, map, count_by}
 use Rattle.std.specs.Bool.{◌==◌}
 use Rattle.isle_model.specs.lists.Syntax.{Name, PatternTree, var_pattern, bind_pattern, bool_pattern, int_pattern, prim_pattern, term_pattern, wildcard_pattern, and_pattern, macro_arg, PatternTrees, no_pattern, pattern_and, ExprTree, term_expr, var_expr, bool_expr, int_expr, prim_expr, let_expr, ExprTrees, no_expr, expr_and, LetTrees, no_let, let_and, IfLetTree, RuleTree}
 use Rattle.isle_model.specs.lists.Names.{number, IsDistinct}
+use Rattle.isle_model.specs.lists.Ranges.{reduced}
 use Rattle.isle_model.specs.rules.Outcome.{then_option}
 use Rattle.isle_model.specs.lists.Tables.{Flags, TermEntry}
 use Rattle.isle_model.specs.rules.Values.{is_atom_type}
@@ -70,14 +71,14 @@ abbrev mutual
   pattern_with e multi deeper (var_pattern name at) ty s = var_pattern_at ty name.text s (var_of s name.text)
   pattern_with e multi deeper (bind_pattern name of at) ty s = bound_after ty name.text (pattern_with e multi deeper of ty s)
   pattern_with e multi deeper (bool_pattern b at) ty s = if ty == bool_type then Some (plain (match_bool ty b) s) else None
-  pattern_with e multi deeper (int_pattern z at) ty s = if is_atom_type (slice_get e.types ty) then Some (plain (match_int ty z) s) else None
+  pattern_with e multi deeper (int_pattern z at) ty s = if is_atom_type (slice_get e.types ty) then Some (plain (match_int ty (reduced (slice_get e.types ty) z)) s) else None
   pattern_with e multi deeper (prim_pattern name at) ty s =
       then_option (type_of_constant e s name.text) (λ own. if own == ty then Some (plain (match_prim ty (number s.names name.text)) s) else None)
   pattern_with e multi deeper (term_pattern name args at) ty s =
       then_option (term_of e s name.text) (λ t.
       if t.ret_ty == ty
       then or_expanded (template_in e t.kind) (by_template deeper t args ty s)
-      (if is_matchable e multi t.kind then made_into (match_term ty t.id) (parts_with e multi deeper args t.arg_tys s) else None)
+      (if is_matchable multi t.kind then made_into (match_term ty t.id) (parts_with e multi deeper args t.arg_tys s) else None)
       else then_option (pattern_converter e t.ret_ty ty) (λ c. counted (deeper (wrapped_pattern s c at (term_pattern name args at)) ty s)))
   pattern_with e multi deeper (wildcard_pattern at) ty s = Some (plain (match_any ty) s)
   pattern_with e multi deeper (and_pattern parts at) ty s = made_into (match_and ty) (each_with e multi deeper parts ty s)
@@ -132,7 +133,7 @@ abbrev mutual
       then_option (var_of s name.text) (λ v. as_expected e v.ty ty (Some (plain (make_var v.ty v.id) s))
       (λ c. counted (deeper (wrapped_expr s c at (var_expr name at)) ty s)))
   expr_with e flags deeper (bool_expr b at) ty s = if is_expected ty bool_type then Some (plain (make_bool bool_type b) s) else None
-  expr_with e flags deeper (int_expr z at) ty s = then_option ty (λ own. if is_atom_type (slice_get e.types own) then Some (plain (make_int own z) s) else None)
+  expr_with e flags deeper (int_expr z at) ty s = then_option ty (λ own. if is_atom_type (slice_get e.types own) then Some (plain (make_int own (reduced (slice_get e.types own) z)) s) else None)
   expr_with e flags deeper (prim_expr name at) ty s =
       then_option (type_of_constant e s name.text) (λ own. if is_expected ty own then Some (plain (make_prim own (number s.names name.text)) s) else None)
   expr_with e flags deeper (let_expr defs body at) ty s =
@@ -262,11 +263,6 @@ few_enough (Some a) = if nat_le a.expansions most_expansions then Some a else No
 -- a rule within the limits on expansions
 abbrev pub typed_rule : Setting → ℕ → RuleTree → List (List ℕ) → Option (Typing TypedRule)
 typed_rule e id r names = few_enough (elaborated_rule e most_nested id r names)
-
--- the names that a rule is the first to meet, in the order translated: variables of the templates that it uses among
--- them, the name of an `@` after its pattern, that of a let before its value, its own name last
-abbrev pub names_of_rule : Setting → RuleTree → List (List ℕ) → Option (List (List ℕ))
-names_of_rule e r names = option_map (λ a. drop (length names) a.scope.names) (typed_rule e 0 r names)
 
 -- the typed rules of a list, each from the names met before it, and the names met after all
 pub record TypedRules : Type 0 where

@@ -3,6 +3,7 @@
 use Rattle.std.specs.Prelude.{◌≡◌, ℕ, suc, ◌+◌, ◌≤◌, ℤ, Bool, true, List, [], ◌∷◌, length, Option, Some, None, slice_get}
 use Rattle.isle_model.specs.lists.Syntax.{Position, Name, PatternTree, var_pattern, bind_pattern, bool_pattern, int_pattern, prim_pattern, term_pattern, wildcard_pattern, and_pattern, PatternTrees, no_pattern, pattern_and, ExprTree, term_expr, var_expr, bool_expr, int_expr, prim_expr, let_expr, ExprTrees, no_expr, expr_and, LetTrees, no_let, let_and, IfLetTree, RuleTree}
 use Rattle.isle_model.specs.lists.Names.{number}
+use Rattle.isle_model.specs.lists.Ranges.{reduced}
 use Rattle.isle_model.specs.lists.Tables.{Flags, TermEntry}
 use Rattle.isle_model.specs.rules.Values.{is_atom_type}
 use Rattle.isle_model.specs.rules.Typed.{TypedPattern, match_bind, match_var, match_bool, match_int, match_prim, match_term, match_any, match_and, TypedPatterns, no_typed_pattern, typed_pattern_and, TypedExpr, make_term, make_var, make_bool, make_int, make_prim, TypedExprs, no_typed_expr, typed_expr_and, TypedLets, no_typed_let, typed_let_and, TypedVar, TypedIfLet, TypedRule}
@@ -30,16 +31,16 @@ mutual
     a_truth : {d ty : ℕ} {b : Bool} {at : Position} {s : Scope}
         → ty ≡ bool_type
         → ElaboratesPattern e multi d (bool_pattern b at) ty s (match_bool ty b) s 0
-    -- an integer literal has any built-in integer type, and any primitive one
+    -- an integer literal has any built-in integer type, in whose range it then lies, and any primitive one
     an_integer : {d ty : ℕ} {z : ℤ} {at : Position} {s : Scope}
         → is_atom_type (slice_get e.types ty) ≡ true
-        → ElaboratesPattern e multi d (int_pattern z at) ty s (match_int ty z) s 0
+        → ElaboratesPattern e multi d (int_pattern z at) ty s (match_int ty (reduced (slice_get e.types ty) z)) s 0
     a_constant : {d ty : ℕ} {name : Name} {at : Position} {s : Scope}
         → type_of_constant e s name.text ≡ Some ty
         → ElaboratesPattern e multi d (prim_pattern name at) ty s (match_prim ty (number s.names name.text)) s 0
     -- a term that isn't expanded: a variant, a struct, or a call of an extractor
     a_term : {d ty n : ℕ} {name : Name} {args : PatternTrees} {at : Position} {s t : Scope} {entry : TermEntry} {qs : TypedPatterns}
-        → term_of e s name.text ≡ Some entry → entry.ret_ty ≡ ty → template_in e entry.kind ≡ None → is_matchable e multi entry.kind ≡ true
+        → term_of e s name.text ≡ Some entry → entry.ret_ty ≡ ty → template_in e entry.kind ≡ None → is_matchable multi entry.kind ≡ true
         → ElaboratesParts e multi d args entry.arg_tys s qs t n
         → ElaboratesPattern e multi d (term_pattern name args at) ty s (match_term ty entry.id qs) t n
     -- a template's use becomes what the template with its arguments becomes
@@ -98,7 +99,7 @@ mutual
     -- an integer literal needs a type that is expected
     integer_expr : {d ty : ℕ} {z : ℤ} {at : Position} {s : Scope}
         → is_atom_type (slice_get e.types ty) ≡ true
-        → ElaboratesExpr e flags d (int_expr z at) (Some ty) s (make_int ty z) s 0
+        → ElaboratesExpr e flags d (int_expr z at) (Some ty) s (make_int ty (reduced (slice_get e.types ty) z)) s 0
     constant_expr : {d own : ℕ} {ty : Option ℕ} {name : Name} {at : Position} {s : Scope}
         → type_of_constant e s name.text ≡ Some own → is_expected ty own ≡ true
         → ElaboratesExpr e flags d (prim_expr name at) ty s (make_prim own (number s.names name.text)) s 0

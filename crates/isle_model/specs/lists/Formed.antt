@@ -1,11 +1,11 @@
 -- Typed rules that hang together: terms have the extractor or constructor that is used and as many parts as arguments,
--- all at their types, and each variable is bound once, before it is used.
+-- all at their types, each integer literal lies in the range of its type, and each variable is bound once, before it is used.
 use Rattle.std.specs.Prelude.{[], ◌≡◌, ℕ, Bool, true, false, ◌&&◌, List, ◌∷◌, Option, Some, None, is_none, slice_get, if◌then◌else◌}
 use Rattle.std.specs.Bool.{◌==◌}
 use Rattle.isle_model.specs.lists.Syntax.{RuleTree}
+use Rattle.isle_model.specs.lists.Ranges.{is_literal_of}
 use Rattle.isle_model.specs.rules.Outcome.{then_option}
 use Rattle.isle_model.specs.lists.Tables.{TermEntry}
-use Rattle.isle_model.specs.rules.Values.{is_atom_type}
 use Rattle.isle_model.specs.rules.Meaning.{look}
 use Rattle.isle_model.specs.rules.Program.{Program}
 use Rattle.isle_model.specs.sites.Serves.{constant_type}
@@ -53,7 +53,7 @@ abbrev mutual
   formed_pattern p (match_bind ty x of) vars = if pattern_type of == ty then then_option (formed_pattern p of vars) (with_new x ty) else None
   formed_pattern p (match_var ty x) vars = if is_type (var_type vars x) ty then Some vars else None
   formed_pattern p (match_bool ty b) vars = if ty == bool_type then Some vars else None
-  formed_pattern p (match_int ty z) vars = if is_atom_type (slice_get p.types ty) then Some vars else None
+  formed_pattern p (match_int ty z) vars = if is_literal_of (slice_get p.types ty) z then Some vars else None
   formed_pattern p (match_prim ty name) vars = if is_type (constant_type p name) ty then Some vars else None
   formed_pattern p (match_term ty term args) vars =
       then_option (slice_get p.terms term) (λ t. if (t.ret_ty == ty) && has_extractor t.kind then formed_parts p args t.arg_tys vars else None)
@@ -78,7 +78,7 @@ abbrev mutual
   is_formed_expr p (make_term ty term args) vars = of_entry (slice_get p.terms term) (λ t. (t.ret_ty == ty) && (has_constructor t.kind && are_formed_args p args t.arg_tys vars))
   is_formed_expr p (make_var ty x) vars = is_type (var_type vars x) ty
   is_formed_expr p (make_bool ty b) vars = ty == bool_type
-  is_formed_expr p (make_int ty z) vars = is_atom_type (slice_get p.types ty)
+  is_formed_expr p (make_int ty z) vars = is_literal_of (slice_get p.types ty) z
   is_formed_expr p (make_prim ty name) vars = is_type (constant_type p name) ty
   is_formed_expr p (make_let ty defs body) vars = where_bound (formed_lets p defs vars) (λ more. (expr_type body == ty) && is_formed_expr p body more)
 

@@ -18,8 +18,7 @@ var_named name [] = None
 var_named name (v ∷ vs) = if v.name == name then Some v else var_named name vs
 
 -- types by id, and the numbers of the names that their definitions give them; the types of named constants by the number
--- of the name; terms by id; converters by inner and outer type; whether internal extractors are expanded; whether the
--- rules of a term without multi may use multi extractors
+-- of the name; terms by id; converters by inner and outer type; whether internal extractors are expanded
 pub record Setting : Type 0 where
   pub types : List TypeEntry
   pub type_names : List ℕ
@@ -27,7 +26,6 @@ pub record Setting : Type 0 where
   pub terms : List TermEntry
   pub converters : List ((ℕ × ℕ) × ℕ)
   pub expand : Bool
-  pub multi_anywhere : Bool
 
 -- the names met so far, each at its number; the variables that can be used, the newest first; all variables, in the
 -- order bound
@@ -124,10 +122,10 @@ abbrev pub is_callable : Flags → TermKindEntry → Bool
 is_callable flags (declared_term own constructor_kind extractor_kind) = is_some constructor_kind && allow flags own
 is_callable flags _ = true
 
--- whether a pattern may use a term: it has an extractor, and a multi extractor stands where it may
-abbrev pub is_matchable : Setting → Bool → TermKindEntry → Bool
-is_matchable e multi (declared_term own constructor_kind extractor_kind) = is_some extractor_kind && (e.multi_anywhere || (multi || not own.multi))
-is_matchable e multi _ = true
+-- whether a pattern of a rule may use a term: it has an extractor, and only the rules of a multi term use multi ones
+abbrev pub is_matchable : Bool → TermKindEntry → Bool
+is_matchable multi (declared_term own constructor_kind extractor_kind) = is_some extractor_kind && (multi || not own.multi)
+is_matchable multi _ = true
 
 -- the template of an internal extractor
 abbrev pub entry_template : Option ExtractorEntry → Option PatternTree

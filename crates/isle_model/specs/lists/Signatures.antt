@@ -1,6 +1,6 @@
 -- The signatures of the functions that stand for a term outside: names, types, and how many values they give.
-use Rattle.std.specs.Prelude.{ℕ, ◌<◌, Bool, false, List, [], ◌∷◌, ◌++◌, length, Option, Some, None, unwrap_or, slice_get, if◌then◌else◌, All, codes}
-use Rattle.isle_model.specs.lists.Tables.{Flags, ConstructorEntry, internal_constructor, external_constructor, ExtractorEntry, internal_extractor, external_extractor, TermKindEntry, variant_term, struct_term, declared_term, TermEntry}
+use Rattle.std.specs.Prelude.{ℕ, Bool, false, List, [], ◌∷◌, ◌++◌, Option, Some, None, unwrap_or, slice_get, if◌then◌else◌, codes}
+use Rattle.isle_model.specs.lists.Tables.{Flags, ConstructorEntry, internal_constructor, external_constructor, ExtractorEntry, internal_extractor, external_extractor, variant_term, struct_term, declared_term, TermEntry}
 
 -- how many values a function gives: one, one or none, or any number
 pub data Giving : Type 0 where
@@ -63,20 +63,3 @@ constructor_signature names t = elim t.kind [
   | struct_term ↦ None
   | declared_term flags constructor_kind extractor_kind ↦ constructor_of names t flags constructor_kind
 ]
-
--- the numbers of the names that signatures of a term are made of
-abbrev pub constructor_number : Option ConstructorEntry → List ℕ
-constructor_number (Some (external_constructor name)) = name ∷ []
-constructor_number _ = []
-
-abbrev pub extractor_number : Option ExtractorEntry → List ℕ
-extractor_number (Some (external_extractor name infallible at)) = name ∷ []
-extractor_number _ = []
-
-abbrev pub kind_numbers : TermKindEntry → List ℕ
-kind_numbers (declared_term flags constructor_kind extractor_kind) = constructor_number constructor_kind ++ extractor_number extractor_kind
-kind_numbers _ = []
-
--- the names of the term and of its functions are names of the environment; in a signature one that isn't is the empty text
-abbrev pub HasNamesFor : List (List ℕ) → TermEntry → Type 0
-HasNamesFor names t = All (λ n. n < length names) (t.name ∷ kind_numbers t.kind)

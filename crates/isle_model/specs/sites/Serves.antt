@@ -1,9 +1,9 @@
 -- What a meaning must have for the rules of a term, and that it tells constants apart.
-use Rattle.std.specs.Prelude.{◌≡◌, ℕ, ℤ, suc, Bool, true, false, List, [], ◌∷◌, ◌++◌, Option, Some, None, slice_get, is_some, take, All, Contains, IsTrue, IsSomeAnd}
+use Rattle.std.specs.Prelude.{◌≡◌, ℕ, ℤ, suc, Bool, true, false, not, ◌||◌, List, [], ◌∷◌, ◌++◌, Option, Some, None, slice_get, is_some, take, All, Contains, IsTrue, IsSomeAnd}
 use Rattle.std.specs.Bool.{◌==◌}
 use Rattle.std.specs.List.{flat_map, list_all}
-use Rattle.isle_model.specs.lists.Tables.{TypeEntry, enum_type, struct_type, TermEntry}
-use Rattle.isle_model.specs.rules.Values.{Value, Values, no_value, value_and, of_variant, of_struct, well_typed, all_well_typed, listed}
+use Rattle.isle_model.specs.lists.Tables.{TypeEntry, builtin_type, enum_type, struct_type, TermEntry}
+use Rattle.isle_model.specs.rules.Values.{Value, truth, atom, Values, no_value, value_and, of_variant, of_struct, well_typed, all_well_typed, listed}
 use Rattle.isle_model.specs.rules.Meaning.{Content, one, parts, nothing, just, many, contents, Meaning, look, bool_literal, int_literal, literal_value, constant_value, extractor_answer, pure_answer, impure_answer}
 use Rattle.isle_model.specs.rules.Matching.{matches}
 use Rattle.isle_model.specs.rules.Picks.{Pick, site_content, site_values, HasContent}
@@ -89,6 +89,11 @@ abbrev pub typed_as : Program → Option ℕ → Value → Bool
 typed_as p None v = false
 typed_as p (Some ty) v = well_typed p.types ty v
 
+-- a built-in type
+abbrev pub is_own_type : Option TypeEntry → Bool
+is_own_type (Some (builtin_type place)) = true
+is_own_type _ = false
+
 -- the meaning has a well-typed entry for each literal and constant of the rules, for each call that a site of
 -- them asks on these arguments under some pick, and for each impure call that a matching rule reaches, by the number of
 -- impure calls made before it: those before it in its rule gave values, and its own arguments have values. A rule is said to
@@ -96,6 +101,8 @@ typed_as p (Some ty) v = well_typed p.types ty v
 pub record Serves (p : Program) (m : Meaning) (args : List Value) (rs : List TypedRule) : Type 0 where
   pub bools : (b : Bool) (ty : ℕ) → Contains (asked p rs) (bool_term b ty) → IsSomeAnd (literal_value m (bool_literal b ty)) (λ v. IsTrue (well_typed p.types ty v))
   pub ints : (z : ℤ) (ty : ℕ) → Contains (asked p rs) (int_term z ty) → IsSomeAnd (literal_value m (int_literal z ty)) (λ v. IsTrue (well_typed p.types ty v))
+  pub written_bools : (b : Bool) (ty : ℕ) → Contains (asked p rs) (bool_term b ty) → literal_value m (bool_literal b ty) ≡ Some (truth b)
+  pub written_ints : (z : ℤ) (ty : ℕ) → Contains (asked p rs) (int_term z ty) → is_own_type (slice_get p.types ty) ≡ true → literal_value m (int_literal z ty) ≡ Some (atom ty z)
   pub prims : (name : ℕ) → Contains (asked p rs) (prim_term name) → IsSomeAnd (constant_value m name) (λ v. IsTrue (typed_as p (constant_type p name) v))
   pub extractors : (k : Pick) (t : ℕ) (s : SiteTerm) (v : Value) → Contains (asked p rs) (extractor_call t s) → site_content m args k s ≡ Some (one v)
       → IsSomeAnd (extractor_answer m t v) (λ c. IsTrue (fits_extractor p t (kind p t) c))
@@ -128,10 +135,16 @@ is_type_with_parts _ = false
 abbrev pub tested_constants : Program → List TypedRule → List SiteTerm
 tested_constants p rs = flat_map (λ r. flat_map (λ c. constant_site c.1) (demands_of p r).constraints) rs
 
--- different constants that patterns name at one type have different values, and no pattern names a constant whose
--- value a variant's or a struct's pattern could match too
+-- whether a constant's value isn't the one that is written: a literal of a primitive type, or a named constant
+abbrev pub is_open_constant : Program → SiteTerm → Bool
+is_open_constant p (int_term z ty) = not (is_own_type (slice_get p.types ty))
+is_open_constant p (prim_term name) = true
+is_open_constant p _ = false
+
+-- different constants that patterns name at one type, unless both are literals of a built-in type, have different
+-- values, and no pattern names a constant whose value a variant's or a struct's pattern could match too
 pub record TellsConstantsApart (p : Program) (m : Meaning) (rs : List TypedRule) : Type 0 where
   pub different : (a b : SiteTerm) (ty : ℕ) (v : Value) → Contains (tested_constants p rs) a → Contains (tested_constants p rs) b
-      → written_type p a ≡ Some ty → written_type p b ≡ Some ty → written_value m a ≡ Some v → written_value m b ≡ Some v → a ≡ b
+      → (is_open_constant p a || is_open_constant p b) ≡ true → written_type p a ≡ Some ty → written_type p b ≡ Some ty → written_value m a ≡ Some v → written_value m b ≡ Some v → a ≡ b
   pub without_parts : (r : TypedRule) (s : SiteTerm) (name ty : ℕ) → Contains rs r → Contains (demands_of p r).constraints (s, is_prim name)
       → constant_type p name ≡ Some ty → is_type_with_parts (slice_get p.types ty) ≡ false

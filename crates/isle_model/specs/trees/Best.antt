@@ -124,6 +124,26 @@ most_steps r = suc (total_constraints r + length r.iterators)
 abbrev pub HasFewSteps : SiteSet → Tree → Type 0
 HasFewSteps set tree = steps_of tree ≤ sum_by most_steps set.rules
 
+-- no step of a tree goes over calls
+abbrev mutual
+  pub goes_over_none : Tree → Bool
+  goes_over_none no_step = true
+  goes_over_none (step binds check rest) = goes_over_none_in check && goes_over_none rest
+
+  pub goes_over_none_in : Check → Bool
+  goes_over_none_in (match_at source arms) = goes_over_none_among arms
+  goes_over_none_in (equal_at a b body) = goes_over_none body
+  goes_over_none_in (loop_at result body) = false
+  goes_over_none_in (return_at at result) = true
+
+  pub goes_over_none_among : Arms → Bool
+  goes_over_none_among no_arm = true
+  goes_over_none_among (arm constraint fields body rest) = goes_over_none body && goes_over_none_among rest
+
+-- a tree has no loop
+abbrev pub HasNoLoop : Tree → Type 0
+HasNoLoop tree = IsTrue (goes_over_none tree)
+
 -- a best tree of a set: its returns are the set's rules, each once; each test is the greatest of its place, for exactly
 -- the rules that it covers; and what follows from that
 pub record IsBestTree (set : SiteSet) (tree : Tree) : Type 0 where

@@ -1,0 +1,282 @@
+-- The finite maps of total functions: the contents that a site can hold are listed, and each call that a site asks has an
+-- entry for each of its arguments that are listed.
+use Rattle.std.proofs.Common.{◌≡◌, ◌==◌, ℕ, zero, suc, Bool, true, ◌&&◌, List, [], ◌∷◌, map, Option, Some, None, is_some, slice_get, flat_map, refl, sym, ap, ap₂, ◌∙◌, subst, inl, inr, eqb-true, eq-eqb}
+use Rattle.std.proofs.lemmas.Bool.{cases_Bool, cond-true, cond-false, and_parts, and_from, false≢true}
+use Rattle.std.proofs.lemmas.Bool.Decides.{Decides-int_eq}
+use Rattle.std.specs.Ordering.{int_eq}
+use Rattle.std.proofs.Math.Bool.{beq}
+use Rattle.isle_model.specs.rules.Values.{Value, of_variant, of_struct, Values, no_value, value_and, value_eq, values_eq, listed}
+use Rattle.isle_model.specs.rules.Meaning.{Content, one, parts, just, many, contents, Literal, bool_literal, int_literal, literal_eq, look, Meaning, literal_value, constant_value, extractor_answer, pure_answer, impure_answer}
+use Rattle.isle_model.specs.sites.Sites.{SiteTerm, bool_term, int_term, prim_term, argument, extractor_call, constructor_call, pick_of, variant_made, variant_field, struct_made, struct_field, some_made, some_part, tuple_part, no_site, SiteTerms, no_site_term, site_term_and}
+use Rattle.isle_model.specs.sites.Serves.{Holds, holds_bool, holds_int, holds_prim, holds_argument, holds_extractor, holds_pure, holds_impure, holds_pick, holds_variant, holds_variant_field, holds_struct, holds_struct_field, holds_some, holds_part, holds_tuple_part, HoldsAll, holds_none, holds_and}
+use Rattle.isle_model.proofs.Elements.{In, in_from_contains, in_slice, some_is, none_some, in_map, map_in, in_flat_map, from_flat_map}
+use Rattle.isle_model.proofs.Options.{is_there}
+use Rattle.isle_model.proofs.SameSites.{beq_means, beq_same}
+use Rattle.isle_model.proofs.ValuesEqual.{eq_means, eq_all_means, eq_same, eq_all_same}
+use Rattle.isle_laws_demands.specs.TotalLaws.{TotalMeaning, Agrees}
+
+-- 1. what a site can hold
+-- the parts of a content: fields, outputs, what is just there, or answers
+abbrev parts_in : Content → List Content
+parts_in (one (of_variant ty i vs)) = map one (listed vs)
+parts_in (one (of_struct ty vs)) = map one (listed vs)
+parts_in (parts vs) = map one (listed vs)
+parts_in (just c) = c ∷ []
+parts_in (many cs) = contents cs
+parts_in _ = []
+
+abbrev value_in : Content → List Value
+value_in (one v) = v ∷ []
+value_in _ = []
+
+abbrev pub values_in : List Content → List Value
+values_in cs = flat_map value_in cs
+
+abbrev in_place : Option Value → List Content
+in_place None = []
+in_place (Some v) = one v ∷ []
+
+abbrev mutual
+  pub contents_listed : TotalMeaning → List Value → SiteTerm → List Content
+  contents_listed f args (bool_term b ty) = one (f.literals (bool_literal b ty)) ∷ []
+  contents_listed f args (int_term z ty) = one (f.literals (int_literal z ty)) ∷ []
+  contents_listed f args (prim_term name) = one (f.constants name) ∷ []
+  contents_listed f args (argument i) = in_place (slice_get args i)
+  contents_listed f args (extractor_call t s) = map (f.extractors t) (values_in (contents_listed f args s))
+  contents_listed f args (constructor_call t ss zero) = map (f.pures t) (values_listed f args ss)
+  contents_listed f args (constructor_call t ss (suc before)) = f.impures t before ∷ []
+  contents_listed f args (pick_of s) = flat_map parts_in (contents_listed f args s)
+  contents_listed f args (variant_made ty variant ss) = map (λ vs. one (of_variant ty variant vs)) (values_listed f args ss)
+  contents_listed f args (variant_field s variant i) = flat_map parts_in (contents_listed f args s)
+  contents_listed f args (struct_made ty ss) = map (λ vs. one (of_struct ty vs)) (values_listed f args ss)
+  contents_listed f args (struct_field s i) = flat_map parts_in (contents_listed f args s)
+  contents_listed f args (some_made s) = map just (contents_listed f args s)
+  contents_listed f args (some_part s) = flat_map parts_in (contents_listed f args s)
+  contents_listed f args (tuple_part s i) = flat_map parts_in (contents_listed f args s)
+  contents_listed f args no_site = []
+
+  pub values_listed : TotalMeaning → List Value → SiteTerms → List Values
+  values_listed f args no_site_term = no_value ∷ []
+  values_listed f args (site_term_and s ss) = flat_map (λ v. map (value_and v) (values_listed f args ss)) (values_in (contents_listed f args s))
+
+pub value_listed : (cs : List Content) (v : Value) → In cs (one v) → In (values_in cs) v
+value_listed cs v i = in_flat_map value_in cs (one v) v i (inl refl)
+
+module _ (f : TotalMeaning) (m : Meaning) (agrees : Agrees m f) (args : List Value) where
+  mutual
+    pub held_listed : (s : SiteTerm) (c : Content) → Holds m args s c → In (contents_listed f args s) c
+    held_listed (bool_term b ty) _ (holds_bool {v = v} e) = inl (ap one (sym (agrees.literals (bool_literal b ty) v e)))
+    held_listed (int_term z ty) _ (holds_int {v = v} e) = inl (ap one (sym (agrees.literals (int_literal z ty) v e)))
+    held_listed (prim_term name) _ (holds_prim {v = v} e) = inl (ap one (sym (agrees.constants name v e)))
+    held_listed (argument i) _ (holds_argument {v = v} e) = subst (λ o. In (in_place o) (one v)) (sym e) (inl refl)
+    held_listed (extractor_call t s) c (holds_extractor {v = v} h e) =
+        subst (In (map (f.extractors t) (values_in (contents_listed f args s)))) (sym (agrees.extractors t v c e))
+        (map_in (f.extractors t) (values_in (contents_listed f args s)) v (value_listed (contents_listed f args s) v (held_listed s (one v) h)))
+    held_listed (constructor_call t ss zero) c (holds_pure {vs = vs} h e) =
+        subst (In (map (f.pures t) (values_listed f args ss))) (sym (agrees.pures t vs c e)) (map_in (f.pures t) (values_listed f args ss) vs (all_listed ss vs h))
+    held_listed (constructor_call t ss (suc before)) c (holds_impure h e) = inl (sym (agrees.impures t before c e))
+    held_listed (pick_of s) c (holds_pick {cs = cs} h i) = in_flat_map parts_in (contents_listed f args s) (many cs) c (held_listed s (many cs) h) (in_from_contains (contents cs) c i)
+    held_listed (variant_made ty variant ss) _ (holds_variant {vs = vs} h) = map_in (λ ws. one (of_variant ty variant ws)) (values_listed f args ss) vs (all_listed ss vs h)
+    held_listed (variant_field s variant i) _ (holds_variant_field {ty = ty} {vs = vs} {v = v} h e) =
+        in_flat_map parts_in (contents_listed f args s) (one (of_variant ty variant vs)) (one v) (held_listed s (one (of_variant ty variant vs)) h) (map_in one (listed vs) v (in_slice (listed vs) i v e))
+    held_listed (struct_made ty ss) _ (holds_struct {vs = vs} h) = map_in (λ ws. one (of_struct ty ws)) (values_listed f args ss) vs (all_listed ss vs h)
+    held_listed (struct_field s i) _ (holds_struct_field {ty = ty} {vs = vs} {v = v} h e) =
+        in_flat_map parts_in (contents_listed f args s) (one (of_struct ty vs)) (one v) (held_listed s (one (of_struct ty vs)) h) (map_in one (listed vs) v (in_slice (listed vs) i v e))
+    held_listed (some_made s) _ (holds_some {c = d} h) = map_in just (contents_listed f args s) d (held_listed s d h)
+    held_listed (some_part s) c (holds_part h) = in_flat_map parts_in (contents_listed f args s) (just c) c (held_listed s (just c) h) (inl refl)
+    held_listed (tuple_part s i) _ (holds_tuple_part {vs = vs} {v = v} h e) =
+        in_flat_map parts_in (contents_listed f args s) (parts vs) (one v) (held_listed s (parts vs) h) (map_in one (listed vs) v (in_slice (listed vs) i v e))
+    held_listed no_site c h = elim h [ ]
+
+    pub all_listed : (ss : SiteTerms) (vs : Values) → HoldsAll m args ss vs → In (values_listed f args ss) vs
+    all_listed no_site_term _ holds_none = inl refl
+    all_listed (site_term_and s ss) _ (holds_and {v = v} {vs = vs} h g) =
+        in_flat_map (λ w. map (value_and w) (values_listed f args ss)) (values_in (contents_listed f args s)) v (value_and v vs)
+        (value_listed (contents_listed f args s) v (held_listed s (one v) h)) (map_in (value_and v) (values_listed f args ss) vs (all_listed ss vs g))
+
+-- 2. lists of entries that a function gives
+module _ {K V : Type 0} (test : K → Bool) (key : K) (means : (k : K) → test k ≡ true → k ≡ key) (given : K → V) where
+  pub look_gives : (es : List (K × V)) → ((e : K × V) → In es e → e.1 ≡ given e.0) → (v : V) → look test es ≡ Some v → v ≡ given key
+  look_gives [] all v h = absurd (none_some v h)
+  look_gives (e ∷ es) all v h =
+      elim (cases_Bool (test e.0)) [
+        | inl t ↦ sym (some_is e.1 v (sym (cond-true (test e.0) (Some e.1) (look test es) t) ∙ h)) ∙ all e (inl refl) ∙ ap given (means e.0 t)
+        | inr n ↦ look_gives es (λ x i. all x (inr i)) v (sym (cond-false (test e.0) (Some e.1) (look test es) n) ∙ h)
+      ]
+
+  is_found : (es : List (K × V)) → test key ≡ true → (v : V) → In es (key, v) → is_some (look test es) ≡ true
+  is_found [] t v i = absurd i
+  is_found (e ∷ es) t v (inl q) = ap is_some (cond-true (test e.0) (Some e.1) (look test es) (ap (λ (x : K × V). test x.0) q ∙ t))
+  is_found (e ∷ es) t v (inr i) =
+      elim (cases_Bool (test e.0)) [
+        | inl y ↦ ap is_some (cond-true (test e.0) (Some e.1) (look test es) y)
+        | inr n ↦ ap is_some (cond-false (test e.0) (Some e.1) (look test es) n) ∙ is_found es t v i
+      ]
+
+  pub look_finds : (es : List (K × V)) → ((e : K × V) → In es e → e.1 ≡ given e.0) → test key ≡ true → (v : V) → In es (key, v) → look test es ≡ Some (given key)
+  look_finds es all t v i = let a = is_there (look test es) (is_found es t v i) in a.1 ∙ ap Some (look_gives es all a.0 a.1)
+
+-- keys
+literal_means : (a b : Literal) → literal_eq a b ≡ true → a ≡ b
+literal_means (bool_literal a s) (bool_literal b t) h = let q = and_parts (beq a b) (s == t) h in ap₂ bool_literal (beq_means a b q.0) (eqb-true s t q.1)
+literal_means (int_literal a s) (int_literal b t) h = let q = and_parts (int_eq a b) (s == t) h in ap₂ int_literal ((Decides-int_eq a b).0 q.0) (eqb-true s t q.1)
+literal_means (bool_literal a s) (int_literal b t) h = absurd (false≢true h)
+literal_means (int_literal a s) (bool_literal b t) h = absurd (false≢true h)
+
+literal_same : (a : Literal) → literal_eq a a ≡ true
+literal_same (bool_literal b ty) = and_from (beq b b) (ty == ty) (beq_same b) (eq-eqb ty ty refl)
+literal_same (int_literal z ty) = and_from (int_eq z z) (ty == ty) ((Decides-int_eq z z).1 refl) (eq-eqb ty ty refl)
+
+value_means : (t : ℕ) (v : Value) (k : ℕ × Value) → ((k.0 == t) && value_eq k.1 v) ≡ true → k ≡ (t, v)
+value_means t v k h = let q = and_parts (k.0 == t) (value_eq k.1 v) h in λ j. (eqb-true k.0 t q.0 j, eq_means k.1 v q.1 j)
+
+value_same : (t : ℕ) (v : Value) → ((t == t) && value_eq v v) ≡ true
+value_same t v = and_from (t == t) (value_eq v v) (eq-eqb t t refl) (eq_same v)
+
+values_mean : (t : ℕ) (vs : Values) (k : ℕ × Values) → ((k.0 == t) && values_eq k.1 vs) ≡ true → k ≡ (t, vs)
+values_mean t vs k h = let q = and_parts (k.0 == t) (values_eq k.1 vs) h in λ j. (eqb-true k.0 t q.0 j, eq_all_means k.1 vs q.1 j)
+
+values_same : (t : ℕ) (vs : Values) → ((t == t) && values_eq vs vs) ≡ true
+values_same t vs = and_from (t == t) (values_eq vs vs) (eq-eqb t t refl) (eq_all_same vs)
+
+place_means : (t n : ℕ) (k : ℕ × ℕ) → ((k.0 == t) && (k.1 == n)) ≡ true → k ≡ (t, n)
+place_means t n k h = let q = and_parts (k.0 == t) (k.1 == n) h in λ j. (eqb-true k.0 t q.0 j, eqb-true k.1 n q.1 j)
+
+place_same : (t n : ℕ) → ((t == t) && (n == n)) ≡ true
+place_same t n = and_from (t == t) (n == n) (eq-eqb t t refl) (eq-eqb n n refl)
+
+-- 3. the entries of a site
+abbrev literal_entries : TotalMeaning → SiteTerm → List (Literal × Value)
+literal_entries f (bool_term b ty) = (bool_literal b ty, f.literals (bool_literal b ty)) ∷ []
+literal_entries f (int_term z ty) = (int_literal z ty, f.literals (int_literal z ty)) ∷ []
+literal_entries f _ = []
+
+abbrev constant_entries : TotalMeaning → SiteTerm → List (ℕ × Value)
+constant_entries f (prim_term name) = (name, f.constants name) ∷ []
+constant_entries f _ = []
+
+abbrev extractor_entry : TotalMeaning → ℕ → Value → (ℕ × Value) × Content
+extractor_entry f t v = ((t, v), f.extractors t v)
+
+abbrev extractor_entries : TotalMeaning → List Value → SiteTerm → List ((ℕ × Value) × Content)
+extractor_entries f args (extractor_call t s) = map (extractor_entry f t) (values_in (contents_listed f args s))
+extractor_entries f args _ = []
+
+abbrev pure_entry : TotalMeaning → ℕ → Values → (ℕ × Values) × Content
+pure_entry f t vs = ((t, vs), f.pures t vs)
+
+abbrev pure_entries : TotalMeaning → List Value → SiteTerm → List ((ℕ × Values) × Content)
+pure_entries f args (constructor_call t ss zero) = map (pure_entry f t) (values_listed f args ss)
+pure_entries f args _ = []
+
+abbrev impure_entries : TotalMeaning → SiteTerm → List ((ℕ × ℕ) × Content)
+impure_entries f (constructor_call t ss (suc before)) = ((t, before), f.impures t before) ∷ []
+impure_entries f _ = []
+
+-- the finite maps that have all that sites ask on these arguments
+abbrev pub restricted : TotalMeaning → List Value → List SiteTerm → Meaning
+restricted f args sites = record {
+  literals = flat_map (literal_entries f) sites;
+  constants = flat_map (constant_entries f) sites;
+  extractor_calls = flat_map (extractor_entries f args) sites;
+  pure_calls = flat_map (pure_entries f args) sites;
+  impure_calls = flat_map (impure_entries f) sites;
+}
+
+-- each entry is what a function gives
+abbrev AreGiven : {K V : Type 0} → (K → V) → List (K × V) → Type 0
+AreGiven g es = (e : _) → In es e → e.1 ≡ g e.0
+
+one_given : {K V : Type 0} (g : K → V) (k : K) → AreGiven g ((k, g k) ∷ [])
+one_given g k e (inl q) = subst (λ (x : _ × _). x.1 ≡ g x.0) q refl
+one_given g k e (inr n) = absurd n
+
+all_given : {X K V : Type 0} (g : K → V) (entries : X → List (K × V)) → ((x : X) → AreGiven g (entries x)) → (xs : List X) → AreGiven g (flat_map entries xs)
+all_given g entries h xs e i = let a = from_flat_map entries xs e i in h a.0 e a.2
+
+mapped_given : {X K V : Type 0} (g : K → V) (key : X → K) (xs : List X) → AreGiven g (map (λ x. (key x, g (key x))) xs)
+mapped_given g key xs e i = let a = in_map (λ x. (key x, g (key x))) xs e i in subst (λ (x : _ × _). x.1 ≡ g x.0) a.2 refl
+
+abbrev of_value : TotalMeaning → ℕ × Value → Content
+of_value f k = f.extractors k.0 k.1
+
+abbrev of_values : TotalMeaning → ℕ × Values → Content
+of_values f k = f.pures k.0 k.1
+
+abbrev of_place : TotalMeaning → ℕ × ℕ → Content
+of_place f k = f.impures k.0 k.1
+
+literals_given : (f : TotalMeaning) (s : SiteTerm) → AreGiven f.literals (literal_entries f s)
+literals_given f (bool_term b ty) = one_given f.literals (bool_literal b ty)
+literals_given f (int_term z ty) = one_given f.literals (int_literal z ty)
+literals_given f _ = λ e i. absurd i
+
+constants_given : (f : TotalMeaning) (s : SiteTerm) → AreGiven f.constants (constant_entries f s)
+constants_given f (prim_term name) = one_given f.constants name
+constants_given f _ = λ e i. absurd i
+
+extractors_given : (f : TotalMeaning) (args : List Value) (s : SiteTerm) → AreGiven (of_value f) (extractor_entries f args s)
+extractors_given f args (extractor_call t s) = mapped_given (of_value f) (λ v. (t, v)) (values_in (contents_listed f args s))
+extractors_given f args _ = λ e i. absurd i
+
+pures_given : (f : TotalMeaning) (args : List Value) (s : SiteTerm) → AreGiven (of_values f) (pure_entries f args s)
+pures_given f args (constructor_call t ss zero) = mapped_given (of_values f) (λ vs. (t, vs)) (values_listed f args ss)
+pures_given f args _ = λ e i. absurd i
+
+impures_given : (f : TotalMeaning) (s : SiteTerm) → AreGiven (of_place f) (impure_entries f s)
+impures_given f (constructor_call t ss (suc before)) = one_given (of_place f) (t, before)
+impures_given f _ = λ e i. absurd i
+
+module _ (f : TotalMeaning) (args : List Value) (sites : List SiteTerm) where
+  abbrev m : Meaning
+  m = restricted f args sites
+
+  -- the maps agree with the functions
+  pub restricted_agrees : Agrees m f
+  restricted_agrees = record {
+    literals = λ l v h. look_gives (λ k. literal_eq k l) l (λ k q. literal_means k l q) f.literals m.literals (all_given f.literals (literal_entries f) (literals_given f) sites) v h;
+    constants = λ name v h. look_gives (λ k. k == name) name (λ k q. eqb-true k name q) f.constants m.constants (all_given f.constants (constant_entries f) (constants_given f) sites) v h;
+    extractors = λ t v c h.
+        look_gives (λ (k : ℕ × Value). (k.0 == t) && value_eq k.1 v) (t, v) (value_means t v) (of_value f) m.extractor_calls (all_given (of_value f) (extractor_entries f args) (extractors_given f args) sites) c h;
+    pures = λ t vs c h.
+        look_gives (λ (k : ℕ × Values). (k.0 == t) && values_eq k.1 vs) (t, vs) (values_mean t vs) (of_values f) m.pure_calls (all_given (of_values f) (pure_entries f args) (pures_given f args) sites) c h;
+    impures = λ t n c h.
+        look_gives (λ (k : ℕ × ℕ). (k.0 == t) && (k.1 == n)) (t, n) (place_means t n) (of_place f) m.impure_calls (all_given (of_place f) (impure_entries f) (impures_given f) sites) c h;
+  }
+
+  -- and have what is asked
+  literal_there : (s : SiteTerm) (l : Literal) → In sites s → In (literal_entries f s) (l, f.literals l) → literal_value m l ≡ Some (f.literals l)
+  literal_there s l i j =
+      look_finds (λ k. literal_eq k l) l (λ k q. literal_means k l q) f.literals m.literals (all_given f.literals (literal_entries f) (literals_given f) sites) (literal_same l) (f.literals l)
+      (in_flat_map (literal_entries f) sites s (l, f.literals l) i j)
+
+  pub bool_there : (b : Bool) (ty : ℕ) → In sites (bool_term b ty) → literal_value m (bool_literal b ty) ≡ Some (f.literals (bool_literal b ty))
+  bool_there b ty i = literal_there (bool_term b ty) (bool_literal b ty) i (inl refl)
+
+  pub int_there : (z : _) (ty : ℕ) → In sites (int_term z ty) → literal_value m (int_literal z ty) ≡ Some (f.literals (int_literal z ty))
+  int_there z ty i = literal_there (int_term z ty) (int_literal z ty) i (inl refl)
+
+  pub constant_there : (name : ℕ) → In sites (prim_term name) → constant_value m name ≡ Some (f.constants name)
+  constant_there name i =
+      look_finds (λ k. k == name) name (λ k q. eqb-true k name q) f.constants m.constants (all_given f.constants (constant_entries f) (constants_given f) sites) (eq-eqb name name refl) (f.constants name)
+      (in_flat_map (constant_entries f) sites (prim_term name) (name, f.constants name) i (inl refl))
+
+  pub extractor_there : (t : ℕ) (s : SiteTerm) (v : Value) → In sites (extractor_call t s) → Holds m args s (one v) → extractor_answer m t v ≡ Some (f.extractors t v)
+  extractor_there t s v i h =
+      look_finds (λ (k : ℕ × Value). (k.0 == t) && value_eq k.1 v) (t, v) (value_means t v) (of_value f) m.extractor_calls (all_given (of_value f) (extractor_entries f args) (extractors_given f args) sites)
+      (value_same t v) (f.extractors t v)
+      (in_flat_map (extractor_entries f args) sites (extractor_call t s) (extractor_entry f t v) i
+      (map_in (extractor_entry f t) (values_in (contents_listed f args s)) v (value_listed (contents_listed f args s) v (held_listed f m restricted_agrees args s (one v) h))))
+
+  pub pure_there : (t : ℕ) (ss : SiteTerms) (vs : Values) → In sites (constructor_call t ss 0) → HoldsAll m args ss vs → pure_answer m t vs ≡ Some (f.pures t vs)
+  pure_there t ss vs i h =
+      look_finds (λ (k : ℕ × Values). (k.0 == t) && values_eq k.1 vs) (t, vs) (values_mean t vs) (of_values f) m.pure_calls (all_given (of_values f) (pure_entries f args) (pures_given f args) sites)
+      (values_same t vs) (f.pures t vs)
+      (in_flat_map (pure_entries f args) sites (constructor_call t ss 0) (pure_entry f t vs) i
+      (map_in (pure_entry f t) (values_listed f args ss) vs (all_listed f m restricted_agrees args ss vs h)))
+
+  pub impure_there : (t before : ℕ) (ss : SiteTerms) → In sites (constructor_call t ss (suc before)) → impure_answer m t before ≡ Some (f.impures t before)
+  impure_there t before ss i =
+      look_finds (λ (k : ℕ × ℕ). (k.0 == t) && (k.1 == before)) (t, before) (place_means t before) (of_place f) m.impure_calls (all_given (of_place f) (impure_entries f) (impures_given f) sites)
+      (place_same t before) (f.impures t before)
+      (in_flat_map (impure_entries f) sites (constructor_call t ss (suc before)) ((t, before), f.impures t before) i (inl refl))

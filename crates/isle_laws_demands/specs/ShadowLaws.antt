@@ -1,0 +1,88 @@
+-- Shadows in what checking answers.
+use Rattle.std.specs.Prelude.{◌≡◌, ◌≢◌, ℕ, Bool, false, List, [], ◌∷◌, ◌++◌, map, Some, Contains}
+use Rattle.std.specs.List.{filter}
+use Rattle.isle_model.specs.lists.Syntax.{Position, Definition}
+use Rattle.isle_model.specs.lists.Elaborated.{TypedRules}
+use Rattle.isle_model.specs.rules.Program.{Program, is_multi, rules_of}
+use Rattle.isle_model.specs.rules.Typed.{TypedRule}
+use Rattle.isle_model.specs.rules.Choice.{chosen, choice}
+use Rattle.isle_model.specs.sites.Overlap.{HasDistinctPositions, BuiltRule, built_rules, Shadows, shadows, RuleReport, position_eq, check_reports}
+use Rattle.isle_model.specs.claims.Refusals.{Refusal, shadowing, refusal_of}
+use Rattle.isle_model.specs.claims.Environments.{TypesRead, IsElaborated, program_of}
+use Rattle.isle_model.specs.claims.Layers.{CheckReports}
+use Rattle.isle_model.specs.claims.SetMeanings.{WhereServed}
+use Rattle.isle_laws_demands.specs.ReportLaws.{RulesHaveTerms}
+use Rattle.isle_laws_demands.specs.PairLaws.{times}
+
+-- the errors that checking answers where positions differ
+abbrev pub check_errors : Program → List Refusal
+check_errors p = map refusal_of (check_reports p)
+
+-- an error names this mask
+abbrev pub names_mask : Position → Refusal → Bool
+names_mask at (shadowing shadowed mask) = position_eq mask at
+names_mask at _ = false
+
+-- the positions of the rules of a term that a rule shadows, in rule order
+abbrev pub shadowed_by : Program → ℕ → BuiltRule → List Position
+shadowed_by p t m = map (λ s. s.rule.at) (filter (shadows m) (built_rules p t))
+
+-- a list holds the position of each rule of a term that a rule shadows, and nothing else
+pub record ListsItsShadowed (p : Program) (t : ℕ) (m : BuiltRule) (listed : List Position) : Type 0 where
+  pub in_order : listed ≡ shadowed_by p t m
+  pub each_rule : (r : BuiltRule) → Contains (built_rules p t) r → Shadows m r → Contains listed r.rule.at
+  pub no_other : (at : Position) → Contains listed at → (r : BuiltRule) × Contains (built_rules p t) r × Shadows m r × (r.rule.at ≡ at)
+
+-- a mask: a built rule of a term that isn't multi, which shadows some
+pub record IsMask (p : Program) (t : ℕ) (m : BuiltRule) : Type 0 where
+  pub one_result : is_multi p t ≡ false
+  pub built : Contains (built_rules p t) m
+  pub shadowed : BuiltRule
+  pub other : Contains (built_rules p t) shadowed
+  pub hides : Shadows m shadowed
+
+-- where rules stand at distinct positions, each mask is named by exactly one error, which lists exactly the rules that it
+-- shadows, in rule order
+pub record IsNamedOnce (p : Program) (t : ℕ) (m : BuiltRule) : Type 0 where
+  pub listed : List Position
+  pub answered : Contains (check_errors p) (shadowing listed m.rule.at)
+  pub lists : ListsItsShadowed p t m listed
+  pub once : times (names_mask m.rule.at) (check_errors p) ≡ 1
+
+abbrev pub MasksAreNamedOnce : Type 0
+MasksAreNamedOnce = (p : Program) → RulesHaveTerms p → HasDistinctPositions p → (t : ℕ) (m : BuiltRule) → IsMask p t m → IsNamedOnce p t m
+
+-- an error that names a mask is of one, and lists some rules, those that it shadows
+pub record IsOfMask (p : Program) (listed : List Position) (at : Position) : Type 0 where
+  pub term : ℕ
+  pub mask : BuiltRule
+  pub is_mask : IsMask p term mask
+  pub here : mask.rule.at ≡ at
+  pub lists : ListsItsShadowed p term mask listed
+  pub some_rule : listed ≢ []
+
+abbrev pub OnlyMasksAreNamed : Type 0
+OnlyMasksAreNamed = (p : Program) (listed : List Position) (at : Position) → Contains (check_errors p) (shadowing listed at) → IsOfMask p listed at
+
+-- what checking gives where rules can't be told apart is answered as these errors
+abbrev pub CheckErrorsAreAnswered : Type 0
+CheckErrorsAreAnswered =
+    (p : Program) (reports : List RuleReport) → CheckReports p reports → HasDistinctPositions p → map refusal_of reports ≡ check_errors p
+
+-- what holds of two rules of a term that isn't multi, the first of which shadows the second
+abbrev pub OfShadowed : (Program → ℕ → BuiltRule → BuiltRule → Type 0) → Type 0
+OfShadowed P =
+    (e : TypesRead) (defs : List Definition) (expand : Bool) (rules : TypedRules) (t : ℕ) (mask r : BuiltRule)
+    → IsElaborated e defs expand rules → is_multi (program_of e defs rules.rules) t ≡ false
+    → Contains (built_rules (program_of e defs rules.rules) t) mask → Contains (built_rules (program_of e defs rules.rules) t) r → Shadows mask r
+    → P (program_of e defs rules.rules) t mask r
+
+-- a rule that is shadowed is never chosen
+abbrev pub ShadowedRulesAreNeverChosen : Type 0
+ShadowedRulesAreNeverChosen = OfShadowed (λ p t mask r. WhereServed p t (λ m args. chosen p m (rules_of p t) args ≡ Some r.rule → ⊥))
+
+-- so without it the term's rules choose the same
+abbrev pub ShadowedRulesCanBeTakenAway : Type 0
+ShadowedRulesCanBeTakenAway =
+    OfShadowed (λ p t mask r. (q : Program) (before after : List TypedRule) → p.terms ≡ q.terms → p.rules ≡ before ++ r.rule ∷ after → q.rules ≡ before ++ after
+    → WhereServed p t (λ m args. choice q m (rules_of q t) args ≡ choice p m (rules_of p t) args))
