@@ -17,10 +17,11 @@ use Rattle.isle_laws_demands.proofs.matching.BuiltMatches.{built_sets_match_by_d
 use Rattle.isle_laws_demands.proofs.matching.ToldApart.{built_rules_are_told_apart_lem}
 use Rattle.isle_laws_demands.proofs.outcomes.Outcomes.{taken_lem, taken_under_picks_lem}
 use Rattle.isle_laws_demands.proofs.results.Held.{results_are_held_lem}
+use Rattle.isle_laws_demands.proofs.taken.NumbersInRange.{built_sets_have_numbers_in_range_lem}
 use Rattle.isle_laws_demands.proofs.visits.Elaborated.{elaborated_rules_demand_gates_lem}
 use Rattle.isle_laws_demands.proofs.visits.Served.{can_be_served_lem}
 use Rattle.isle_laws_demands.proofs.visits.WholeDemands.{built_demands_are_whole_lem}
-use Rattle.isle_examples.proofs.AcceptedLists.{left_over_not_accepted}
+use Rattle.isle_examples.proofs.ReadLists.{left_over_read}
 use Rattle.isle_examples.proofs.LeftOver.{left_over_built}
 use Rattle.isle_examples.proofs.SampleStages.{extract_stages}
 use Rattle.isle_examples.specs.Answered.{ExtractIsAnswered, LeftOverIsAnswered}
@@ -34,7 +35,7 @@ whole = built_demands_are_whole_lem rules_are_formed lists_agree
 answered : (defs : List Definition) (rules : TypedRules) (t : ℕ) (set : SiteSet) → IsElaborated (types_read defs) defs true rules → t ∷ [] ≡ terms_with_rules (own_program defs rules)
     → IsBuilt (own_program defs rules) t set → BuildAnswers (own_program defs rules) ((t, set) ∷ []) (build_reports (own_program defs rules))
 answered defs rules t set h terms built =
-    built_sets_are_answered_lem whole (can_be_served_lem rules_are_formed lists_agree (elaborated_rules_demand_gates_lem rules_are_formed lists_agree))
+    built_sets_are_answered_lem whole (can_be_served_lem rules_are_formed lists_agree (elaborated_rules_demand_gates_lem rules_are_formed lists_agree)) built_sets_have_numbers_in_range_lem
     (λ e ds expand rs u s a b. record {
       match = built_sets_match_by_demands_lem whole e ds expand rs u s a b;
       outcome = taken_lem e ds expand rs u s a b;
@@ -56,7 +57,7 @@ other_one e = cc
 
 pub left_over_is_answered : LeftOverIsAnswered
 left_over_is_answered = record {
-  answered = answered left_over_defs left_over_rules 2 left_over_set left_over_not_accepted.0.0.elaborated refl left_over_built.0;
+  answered = answered left_over_defs left_over_rules 2 left_over_set left_over_read.0.elaborated refl left_over_built.0;
   without_set = λ h. no_one 2 h.given.terms;
   other_term = λ h. other_one h.given.terms;
   without_report = λ h. let e = ap length h.reported in let n : 0 ≡ 1 = e in omega (arith, n);

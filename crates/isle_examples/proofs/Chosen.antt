@@ -1,12 +1,7 @@
--- The sample with an extractor is without multi terms, so the laws of choice apply.
-use Rattle.std.proofs.Common.{◌≡◌, pos, Bool, true, false, refl, not}
-use Rattle.std.specs.List.{list_all}
-use Rattle.isle_model.proofs.Members.{each_passes}
+-- The term of the sample with an extractor isn't multi, so the laws of choice apply.
+use Rattle.std.proofs.Common.{pos, true, refl}
 use Rattle.isle_model.specs.claims.Environments.{types_read}
-use Rattle.isle_model.specs.claims.Headline.{IsWithoutMulti, RunsAsChosen}
-use Rattle.isle_model.specs.rules.Program.{Program, is_multi, rules_of}
-use Rattle.isle_model.specs.sites.Serves.{asked}
-use Rattle.isle_model.specs.sites.Sites.{SiteTerm, extractor_call}
+use Rattle.isle_model.specs.claims.Headline.{RunsAsChosen}
 use Rattle.isle_laws_lists.proofs.FormedRules.{rules_are_formed}
 use Rattle.isle_laws_lists.proofs.TypedRules.{lists_agree}
 use Rattle.isle_laws_demands.proofs.matching.BuiltMatches.{built_sets_match_by_demands_lem}
@@ -17,7 +12,6 @@ use Rattle.isle_laws_demands.proofs.taken.ServesRuns.{served_sets_serve_tests_le
 use Rattle.isle_laws_demands.proofs.visits.Elaborated.{elaborated_rules_demand_gates_lem}
 use Rattle.isle_laws_demands.proofs.visits.Sets.{built_sets_are_tested_lem, built_sets_are_well_built_lem}
 use Rattle.isle_laws_demands.proofs.visits.WholeDemands.{built_demands_are_whole_lem}
-use Rattle.isle_laws_trees.proofs.Exact.{not_exact}
 use Rattle.isle_laws_trees.proofs.Soundness.{best_trees_are_sound_lem}
 use Rattle.isle_laws_trees.proofs.headline.Choosing.{ChoosingLaws, best_trees_run_as_chosen_lem}
 use Rattle.isle_examples.proofs.SampleStages.{extract_stages}
@@ -26,19 +20,8 @@ use Rattle.isle_examples.specs.Chosen.{ExtractIsChosen, ExtractIsWithoutMulti}
 use Rattle.isle_examples.specs.Extract.{extract_defs, extract_meaning, extract_program, extract_rules, extract_set, extract_tree}
 use Rattle.isle_examples.specs.MeaningForms.{given, just_number}
 
--- no extractor that is called is of a multi term
-abbrev calls_no_multi : Program → SiteTerm → Bool
-calls_no_multi p (extractor_call u s) = not (is_multi p u)
-calls_no_multi p _ = true
-
-pub without_multi : (p : Program) (t : _) → is_multi p t ≡ false → list_all (calls_no_multi p) (asked p (rules_of p t)) ≡ true → IsWithoutMulti p t
-without_multi p t h g = record {
-  term = h;
-  extractors = λ u s c. (not_exact (is_multi p u)).0 (each_passes (calls_no_multi p) (asked p (rules_of p t)) g (extractor_call u s) c);
-}
-
 pub extract_is_without_multi : ExtractIsWithoutMulti
-extract_is_without_multi = (without_multi extract_program 1 refl refl, refl)
+extract_is_without_multi = (refl, refl)
 
 laws : ChoosingLaws
 laws =

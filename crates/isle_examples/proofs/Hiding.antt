@@ -7,7 +7,7 @@ use Rattle.isle_model.specs.trees.Tests.{match_test}
 use Rattle.isle_model.specs.claims.Layers.{TestsAreShared}
 use Rattle.isle_laws_trees.proofs.Marking.{marks_found}
 use Rattle.isle_laws_trees.proofs.Shares.{best_trees_share_most_lem}
-use Rattle.isle_examples.proofs.SampleStages.{hidden_stages}
+use Rattle.isle_examples.proofs.NearTrees.{hidden_is_best}
 use Rattle.isle_examples.specs.Hiding.{BetterTestsAreNotHidden, hidden_set, hidden_tree, hiding_tree}
 
 best_is_shared : IsBestTree hidden_set hidden_tree → TestsAreShared hidden_set hidden_tree
@@ -21,4 +21,4 @@ hidden t =
     omega (arith, two)
 
 pub better_tests_are_not_hidden : BetterTestsAreNotHidden
-better_tests_are_not_hidden = (refl, refl, best_is_shared hidden_stages.judged.best, hidden)
+better_tests_are_not_hidden = (refl, refl, best_is_shared hidden_is_best.0.best, hidden)

@@ -1,7 +1,6 @@
 -- The sample with an impure call is served on 1, and taking its rule gives its right side's outcome.
 use Rattle.std.proofs.Common.{◌≡◌, [], ℕ, pos, zero, suc, true, IsTrue, IsSomeAnd, refl}
 use Rattle.std.proofs.lemmas.Bool.{false≢true}
-use Rattle.std.proofs.lemmas.List.Elements.{All-nil}
 use Rattle.isle_model.specs.claims.Environments.{types_read}
 use Rattle.isle_model.specs.rules.Meaning.{impure_answer}
 use Rattle.isle_model.specs.rules.Program.{kind, rules_of}
@@ -12,7 +11,7 @@ use Rattle.isle_laws_demands.proofs.outcomes.Outcomes.{taken_lem}
 use Rattle.isle_laws_demands.proofs.taken.ServesRuns.{served_sets_serve_tests_lem}
 use Rattle.isle_examples.proofs.Impure.{impure_is_called}
 use Rattle.isle_examples.proofs.SampleStages.{impure_stages}
-use Rattle.isle_examples.proofs.Served.{IsOwnNumber, call_of_g, numbers_apart, pure_none, serves_from}
+use Rattle.isle_examples.proofs.Served.{call_of_g, literals_apart, pure_none, serves_from}
 use Rattle.isle_examples.proofs.SetStages.{tested}
 use Rattle.isle_examples.specs.Impure.{call_on_argument, impure_defs, impure_rule, impure_rules, impure_set}
 use Rattle.isle_examples.specs.ImpureTaken.{ImpureIsServed, ImpureIsTaken, five_at_first, five_called, impure_program}
@@ -29,7 +28,7 @@ serves =
     (λ k t s w h holds. absurd (false≢true h)) (λ k t ss vs h holds. absurd (pure_none t ss h)) (λ k r t before ss i matched made h gave. five_answered t before ss h)
 
 apart : TellsConstantsApart impure_program five_at_first (rules_of impure_program 1)
-apart = numbers_apart impure_program five_at_first (rules_of impure_program 1) (All-nil (IsOwnNumber five_at_first)) refl
+apart = literals_apart impure_program five_at_first (rules_of impure_program 1) refl refl
 
 pub impure_is_served : ImpureIsServed
 impure_is_served = (

@@ -1,10 +1,10 @@
 -- The set with left-over sites: a meaning whose call answers what is no number serves its rules, so its world serves the set,
 -- and the run of its tree collects the bag.
-use Rattle.std.proofs.Common.{◌≡◌, ◌⊎◌, ◌∷◌, [], ◌∙◌, ℕ, pos, zero, suc, Bool, true, false, Option, Some, None, Contains, IsSomeAnd, IsTrue, is_some, refl, sym, ap, subst, inl, inr}
+use Rattle.std.proofs.Common.{◌≡◌, ◌∷◌, [], ◌∙◌, ℕ, pos, zero, suc, Bool, true, false, Option, Some, None, Contains, IsSomeAnd, IsTrue, is_some, refl, sym, ap, subst, inl, inr}
 use Rattle.std.proofs.lemmas.Bool.{false≢true}
 use Rattle.std.proofs.lemmas.List.Elements.{All-cons, All-nil}
 use Rattle.std.proofs.lemmas.List.Sorted.{IsPermutation-refl}
-use Rattle.std.proofs.lemmas.Option.{none-some, same_Some}
+use Rattle.std.proofs.lemmas.Option.{none-some}
 use Rattle.isle_model.proofs.Members.{in_alone, in_cases}
 use Rattle.isle_model.specs.claims.Environments.{types_read}
 use Rattle.isle_model.specs.rules.Matching.{matches}
@@ -13,19 +13,19 @@ use Rattle.isle_model.specs.rules.Outcome.{then_option}
 use Rattle.isle_model.specs.rules.Picks.{Pick, call_answer, site_values}
 use Rattle.isle_model.specs.rules.Program.{kind}
 use Rattle.isle_model.specs.rules.Typed.{TypedRule}
-use Rattle.isle_model.specs.rules.Values.{Value, Values, no_value, value_and}
+use Rattle.isle_model.specs.rules.Values.{Values, no_value, value_and}
 use Rattle.isle_model.specs.sites.Demands.{demands_of}
-use Rattle.isle_model.specs.sites.Serves.{Serves, TellsConstantsApart, fits_constructor, written_value}
-use Rattle.isle_model.specs.sites.Sites.{SetRule, SiteTerm, SiteTerms, constructor_call, constructor_site, extractor_call, int_term, no_site_term, site_term_and}
+use Rattle.isle_model.specs.sites.Serves.{Serves, TellsConstantsApart, fits_constructor}
+use Rattle.isle_model.specs.sites.Sites.{SetRule, SiteTerm, SiteTerms, constructor_call, constructor_site, extractor_call, no_site_term, site_term_and}
 use Rattle.isle_model.specs.trees.Collects.{content_at}
 use Rattle.isle_model.specs.trees.Run.{as_value}
 use Rattle.isle_laws_demands.proofs.served.ServesSets.{served_multi_sets_serve_lem}
-use Rattle.isle_examples.proofs.AcceptedLists.{left_over_not_accepted}
-use Rattle.isle_examples.proofs.Served.{serves_from}
+use Rattle.isle_examples.proofs.ReadLists.{left_over_read}
+use Rattle.isle_examples.proofs.Served.{literals_apart, serves_from}
 use Rattle.isle_examples.proofs.SetStages.{built_multi, collected}
 use Rattle.isle_examples.proofs.TreeStages.{judged_multi}
 use Rattle.isle_examples.specs.LeftOver.{LeftOverCollects, LeftOverIsCollected, LeftOverIsServed, LeftOverLacksACall, any_rule, kept_rule, left_over_defs, left_over_meaning, left_over_program, left_over_rules, left_over_set, left_over_tree, left_over_world, never_rule}
-use Rattle.isle_examples.specs.MeaningForms.{each, given, v}
+use Rattle.isle_examples.specs.MeaningForms.{each, given}
 use Rattle.isle_examples.specs.SetForms.{a0}
 use Rattle.isle_examples.specs.Stages.{IsBuiltOf, IsJudged}
 
@@ -72,30 +72,8 @@ serves =
     serves_from left_over_program left_over_meaning (given (pos 7)) left_over_rules.rules left_over_call refl refl
     (λ k t s w h holds. absurd (false≢true h)) pures (λ k r t before ss i matched made h gave. absurd (none_called r t before ss i matched made))
 
--- the two literals have different values
-one_two : v (pos 1) ≡ v (pos 2) → ⊥
-one_two e = cc
-
 tells_apart : TellsConstantsApart left_over_program left_over_meaning left_over_rules.rules
-tells_apart = record {
-  different = λ a b ty w c d s t u x. same a b w (in_cases one_term a (two_term ∷ []) c) (in_cases one_term b (two_term ∷ []) d) u x;
-  without_parts = λ r s name ty c d e. absurd (none-some ty e);
-}
-  where
-    one_term : SiteTerm
-    one_term = int_term (pos 1) 1
-
-    two_term : SiteTerm
-    two_term = int_term (pos 2) 1
-
-    worth : SiteTerm → Value → Type 0
-    worth s w = written_value left_over_meaning s ≡ Some w
-
-    same : (a b : SiteTerm) (w : Value) → (one_term ≡ a) ⊎ Contains (two_term ∷ []) a → (one_term ≡ b) ⊎ Contains (two_term ∷ []) b → worth a w → worth b w → a ≡ b
-    same a b w (inl e) (inl f) x y = sym e ∙ f
-    same a b w (inr i) (inr j) x y = sym (in_alone two_term a i) ∙ in_alone two_term b j
-    same a b w (inl e) (inr j) x y = absurd (one_two (same_Some (v (pos 1)) (v (pos 2)) (subst (λ s. worth s w) (sym e) x ∙ sym (subst (λ s. worth s w) (sym (in_alone two_term b j)) y))))
-    same a b w (inr i) (inl f) x y = absurd (one_two (same_Some (v (pos 1)) (v (pos 2)) (subst (λ s. worth s w) (sym f) y ∙ sym (subst (λ s. worth s w) (sym (in_alone two_term a i)) x))))
+tells_apart = literals_apart left_over_program left_over_meaning left_over_rules.rules refl refl
 
 pub left_over_is_served : LeftOverIsServed
 left_over_is_served = (serves, tells_apart)
@@ -104,7 +82,7 @@ left_over_is_served = (serves, tells_apart)
 pub left_over_is_collected : LeftOverIsCollected
 left_over_is_collected = (
   collected left_over_set refl refl,
-  served_multi_sets_serve_lem (types_read left_over_defs) left_over_defs true left_over_rules 2 left_over_set left_over_not_accepted.0.0.elaborated left_over_built.0
+  served_multi_sets_serve_lem (types_read left_over_defs) left_over_defs true left_over_rules 2 left_over_set left_over_read.0.elaborated left_over_built.0
       (All-cons (λ (r : SetRule). r.impure ≡ []) kept_rule [] refl (All-nil (λ (r : SetRule). r.impure ≡ [])))
       left_over_meaning (given (pos 7)) refl serves tells_apart,
 )

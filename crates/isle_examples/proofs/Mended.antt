@@ -4,7 +4,7 @@ use Rattle.std.proofs.lemmas.Bool.{false≢true}
 use Rattle.std.proofs.lemmas.Option.{none-some, same_Some}
 use Rattle.std.proofs.lemmas.List.Elements.{All-nil, All-cons, All-contains}
 use Rattle.isle_model.specs.rules.Meaning.{one}
-use Rattle.isle_model.specs.sites.Sites.{Constraint, SetRule, constructor_site, make_variant_site, argument}
+use Rattle.isle_model.specs.sites.Sites.{Constraint, SetRule, constructor_site, make_variant_site}
 use Rattle.isle_model.specs.trees.Collects.{IsPureSite, IsPureAt, content_at}
 use Rattle.isle_model.specs.trees.Places.{all_below, joins_in, waits}
 use Rattle.isle_model.specs.trees.Run.{content_fields}
@@ -27,7 +27,7 @@ use Rattle.isle_laws_lists.proofs.JudgedTerms.{terms_are_judged_lem}
 use Rattle.isle_examples.specs.MeaningForms.{v}
 use Rattle.isle_examples.specs.SetForms.{is_byte}
 use Rattle.isle_examples.specs.TypedForms.{own}
-use Rattle.isle_examples.specs.Mended.{wrapped_call, wrapped_two, wrapped_sites, wrapped_set, wrapped_meaning, wrapped_world, AboveCallsNothingIsAsked, ThirdRulesDontCount, at_one, at_any, at_two, OverlapsMayHoldTwice, NamelessIsNotAnswered, LookUpsHaveNoList, LimitsAreNamedWherePassed, two_unbound, SecondIsReadAlone, EmptySetsAreBuilt, EnvironmentsOfLists, VariantHasItsTerm}
+use Rattle.isle_examples.specs.Mended.{wrapped_call, wrapped_two, wrapped_sites, wrapped_set, wrapped_meaning, wrapped_world, AboveCallsNothingIsAsked, at_one, at_any, at_two, OverlapsMayHoldTwice, NamelessIsNotAnswered, LookUpsHaveNoList, LimitsAreNamedWherePassed, two_unbound, SecondIsReadAlone, EmptySetsAreBuilt, EnvironmentsOfLists, VariantHasItsTerm}
 use Rattle.isle_examples.specs.Written.{at}
 use Rattle.isle_examples.specs.Fall.{fall_defs, fall_rules}
 use Rattle.isle_examples.specs.Refused.{two_of_one_name}
@@ -86,17 +86,6 @@ above_calls_nothing_is_asked_lem = (
   refl,
   wrapped_served,
 )
-
--- 2. a third rule
-pub third_rules_dont_count_lem : ThirdRulesDontCount
-third_rules_dont_count_lem = (
-  (λ w. absurd (false≢true (sym (w.extractors 0 (argument 0) (1, omega arith, refl))))),
-  record { one_of = (1, omega arith, refl); other_of = (2, omega arith, refl); one_goes_over_none = refl; other_goes_over_none = refl },
-  (λ o. one_two (o (argument 0) (is_byte 1) (is_byte 2) (0, omega arith, refl) (0, omega arith, refl))),
-)
-  where
-    one_two : is_byte 1 ≡ is_byte 2 → ⊥
-    one_two e = false≢true (ap (constraint_eq (is_byte 2)) e)
 
 -- 7. wrong overlaps
 zero_one : ◌≡◌ {A = ℕ} 0 1 → ⊥

@@ -42,7 +42,7 @@ constants_are_served = (
   refl,
   serves_without_calls constants_program constants_meaning (v (pos 5) ∷ truth true ∷ []) (rules_of constants_program 0) refl refl,
   record {
-    different = λ a b ty w c d s t u x. one_of_each a b ty (is_named a c) (is_named b d) s t;
+    different = λ a b ty w c d o s t u x. one_of_each a b ty (is_named a c) (is_named b d) s t;
     without_parts = λ r s name ty c d e. no_parts (13 == name) ty e;
   },
   refl,

@@ -17,8 +17,8 @@ use Rattle.isle_examples.proofs.ListStages.{accepted_both, not_read}
 use Rattle.isle_examples.proofs.Refused.{by_one_rule, some_error}
 use Rattle.isle_examples.specs.Fall.{fall_defs}
 use Rattle.isle_examples.specs.NearRefusals.{NoOverlapOfAcceptedRules, OnlyPassedLimitsAreNamed, TermsAreRefused, one_place_defs, one_place_rules, one_unbound}
+use Rattle.isle_examples.specs.Refused.{term_twice}
 use Rattle.isle_examples.specs.Stages.{IsAcceptedBoth, IsNotRead}
-use Rattle.isle_examples.specs.TermLists.{term_twice}
 use Rattle.isle_examples.specs.Written.{at}
 
 -- 1. rules at one position

@@ -1,15 +1,13 @@
 -- Two rules for different numbers: their set is served, and the demands of one alone hold.
-use Rattle.std.proofs.Common.{◌∷◌, [], pos, true, refl}
-use Rattle.std.proofs.lemmas.List.Elements.{All-cons, All-nil}
+use Rattle.std.proofs.Common.{pos, true, refl}
 use Rattle.isle_model.specs.claims.Environments.{types_read}
 use Rattle.isle_model.specs.rules.Program.{rules_of}
-use Rattle.isle_model.specs.sites.Sites.{int_term}
 use Rattle.isle_model.specs.trees.SetRuns.{ServesTests}
 use Rattle.isle_laws_demands.proofs.taken.ServesRuns.{served_sets_serve_tests_lem}
 use Rattle.isle_laws_runs.proofs.runs.HoldsOnce.{rules_hold_once_lem}
 use Rattle.isle_examples.proofs.Mended.{overlaps_may_hold_twice_lem}
 use Rattle.isle_examples.proofs.SampleStages.{stages}
-use Rattle.isle_examples.proofs.Served.{IsOwnNumber, numbers_apart, serves_without_calls}
+use Rattle.isle_examples.proofs.Served.{literals_apart, serves_without_calls}
 use Rattle.isle_examples.specs.MeaningForms.{given}
 use Rattle.isle_examples.specs.Mended.{one_or_two_world}
 use Rattle.isle_examples.specs.OneOrTwo.{OneOrTwoHoldsOnce, OneOrTwoIsServed, one_or_two_defs, one_or_two_program, one_or_two_rules, one_or_two_sample, one_or_two_set}
@@ -22,8 +20,7 @@ pub one_or_two_is_served : OneOrTwoIsServed
 one_or_two_is_served =
     let m = one_or_two_world.meaning in (
       serves_without_calls one_or_two_program m (given (pos 1)) (rules_of one_or_two_program 0) refl refl,
-      numbers_apart one_or_two_program m (rules_of one_or_two_program 0)
-          (All-cons (IsOwnNumber m) (int_term (pos 1) 1) (int_term (pos 2) 1 ∷ []) (1, refl, refl) (All-cons (IsOwnNumber m) (int_term (pos 2) 1) [] (2, refl, refl) (All-nil (IsOwnNumber m)))) refl,
+      literals_apart one_or_two_program m (rules_of one_or_two_program 0) refl refl,
     )
 
 tests : ServesTests one_or_two_set one_or_two_world

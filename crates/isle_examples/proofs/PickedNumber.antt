@@ -16,7 +16,7 @@ use Rattle.isle_laws_demands.proofs.visits.WholeDemands.{built_demands_are_whole
 use Rattle.isle_laws_trees.proofs.headline.Collecting.{best_trees_collect_the_bag_lem}
 use Rattle.isle_examples.proofs.Multi.{laws}
 use Rattle.isle_examples.proofs.SampleStages.{stages}
-use Rattle.isle_examples.proofs.Served.{answers_argument, one_constant, serves_from}
+use Rattle.isle_examples.proofs.Served.{answers_argument, literals_apart, serves_from}
 use Rattle.isle_examples.specs.MeaningForms.{given}
 use Rattle.isle_examples.specs.PickedNumber.{FivesAreNotMatched, PickedNumberGives, PickedNumberIsServed, one_and_five, picked_number_defs, picked_number_program, picked_number_rule, picked_number_rules, picked_number_sample, picked_number_set, picked_number_tree, seven_for_one, the_answer}
 use Rattle.isle_examples.specs.Stages.{HasStages}
@@ -39,7 +39,7 @@ pub picked_number_is_served : PickedNumberIsServed
 picked_number_is_served = (
   serves_from picked_number_program one_and_five (given (pos 1)) (rules_of picked_number_program 1) call_of_me refl refl
       answered (λ k t ss vs h holds. absurd (false≢true h)) (λ k r t before ss i matched made h gave. absurd (false≢true h)),
-  one_constant picked_number_program one_and_five (rules_of picked_number_program 1) refl refl,
+  literals_apart picked_number_program one_and_five (rules_of picked_number_program 1) refl refl,
   record { no_calls = refl; no_call_unused = refl },
 )
 

@@ -12,7 +12,7 @@ use Rattle.isle_laws_demands.proofs.overlaps.Listed.{overlaps_are_listed_once_le
 use Rattle.isle_laws_demands.proofs.overlaps.Masks.{masks_are_reported_once_lem}
 use Rattle.isle_laws_demands.proofs.overlaps.Overlaps.{overlaps_decides}
 use Rattle.isle_laws_demands.proofs.visits.Apart.{multi_calls_are_gone_over_lem}
-use Rattle.isle_examples.proofs.AcceptedLists.{overlap_not_accepted, shadow_not_accepted}
+use Rattle.isle_examples.proofs.ReadLists.{overlap_read, shadow_read}
 use Rattle.isle_examples.proofs.ToldApart.{shadow_is_told}
 use Rattle.isle_examples.specs.Fall.{fall_any}
 use Rattle.isle_examples.specs.Multi.{each_m, multi_program}
@@ -40,7 +40,7 @@ positions_apart (suc zero) (suc (suc j)) x e f = absurd (none-some x f)
 pub shadow_is_reported_once : ShadowIsReportedOnce
 shadow_is_reported_once = (
   positions_apart,
-  masks_are_reported_once_lem shadow_program (elaborated_rules_have_terms_lem (types_read shadow_defs) shadow_defs true shadow_rules shadow_not_accepted.0.0.elaborated) positions_apart 0 mask shadowed refl (0, omega arith, refl)
+  masks_are_reported_once_lem shadow_program (elaborated_rules_have_terms_lem (types_read shadow_defs) shadow_defs true shadow_rules shadow_read.0.elaborated) positions_apart 0 mask shadowed refl (0, omega arith, refl)
       (1, omega arith, refl) shadow_is_told.2,
 )
 
@@ -63,7 +63,7 @@ wrong = record {
 pub overlap_is_listed_once : OverlapIsListedOnce
 overlap_is_listed_once = (
   wrong,
-  overlaps_are_listed_once_lem overlap_program (elaborated_rules_have_terms_lem (types_read overlap_defs) overlap_defs true overlap_rules overlap_not_accepted.0.0.elaborated) 0 0 1 wrong,
+  overlaps_are_listed_once_lem overlap_program (elaborated_rules_have_terms_lem (types_read overlap_defs) overlap_defs true overlap_rules overlap_read.0.elaborated) 0 0 1 wrong,
 )
 
 -- 3. multi calls

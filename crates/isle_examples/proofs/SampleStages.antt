@@ -15,30 +15,15 @@ use Rattle.isle_laws_trees.specs.BestLaws.{binds_as_marked}
 use Rattle.isle_examples.proofs.ListStages.{accepted_both}
 use Rattle.isle_examples.proofs.SetStages.{built_row, is_built, row_in, stands_once}
 use Rattle.isle_examples.proofs.TreeStages.{has_no_priorities, judged_with, no_priorities, refused}
-use Rattle.isle_examples.specs.Below.{below_sample}
-use Rattle.isle_examples.specs.Between.{between_sample}
-use Rattle.isle_examples.specs.ConstEq.{const_eq_sample}
-use Rattle.isle_examples.specs.Dropped.{dropped_sample}
 use Rattle.isle_examples.specs.Effects.{effects_sample}
-use Rattle.isle_examples.specs.EmittedFirst.{emitted_first_sample}
-use Rattle.isle_examples.specs.Equal.{equal_sample}
 use Rattle.isle_examples.specs.Extract.{extract_sample}
 use Rattle.isle_examples.specs.Fall.{fall_sample}
-use Rattle.isle_examples.specs.Hiding.{hidden_sample}
 use Rattle.isle_examples.specs.Impure.{impure_sample}
 use Rattle.isle_examples.specs.Multi.{multi_sample}
-use Rattle.isle_examples.specs.MultiExt.{multi_ext_sample}
-use Rattle.isle_examples.specs.Partial.{partial_sample}
-use Rattle.isle_examples.specs.Prio.{prio_sample}
-use Rattle.isle_examples.specs.Shared.{shared_sample}
 use Rattle.isle_examples.specs.Stages.{HasStages, Sample}
-use Rattle.isle_examples.specs.Surplus.{surplus_sample}
-use Rattle.isle_examples.specs.Ties.{ties_sample}
 use Rattle.isle_examples.specs.Unreached.{unreached_sample}
 use Rattle.isle_examples.specs.Unused.{unused_sample}
-use Rattle.isle_examples.specs.Used.{used_sample}
 use Rattle.isle_examples.specs.VariantEq.{variant_eq_sample}
-use Rattle.isle_examples.specs.Wrap.{wrap_sample}
 
 module _ (s : Sample) where
   abbrev p : Program
@@ -85,29 +70,14 @@ module _ (s : Sample) where
         refused = refused s.set s.near_trees f.0 near;
       }
 
-pub const_eq_stages : HasStages const_eq_sample
-const_eq_stages = stages const_eq_sample refl refl refl refl refl refl refl refl refl refl
-
 pub fall_stages : HasStages fall_sample
 fall_stages = stages fall_sample refl refl refl refl refl refl refl refl refl refl
-
-pub prio_stages : HasStages prio_sample
-prio_stages = stages prio_sample refl refl refl refl refl refl refl refl refl refl
-
-pub equal_stages : HasStages equal_sample
-equal_stages = stages equal_sample refl refl refl refl refl refl refl refl refl refl
-
-pub below_stages : HasStages below_sample
-below_stages = stages below_sample refl refl refl refl refl refl refl refl refl refl
 
 pub variant_eq_stages : HasStages variant_eq_sample
 variant_eq_stages = stages variant_eq_sample refl refl refl refl refl refl refl refl refl refl
 
 pub extract_stages : HasStages extract_sample
 extract_stages = stages extract_sample refl refl refl refl refl refl refl refl refl refl
-
-pub partial_stages : HasStages partial_sample
-partial_stages = stages partial_sample refl refl refl refl refl refl refl refl refl refl
 
 pub effects_stages : HasStages effects_sample
 effects_stages = stages effects_sample refl refl refl refl refl refl refl refl refl refl
@@ -118,38 +88,8 @@ unreached_stages = stages unreached_sample refl refl refl refl refl refl refl re
 pub multi_stages : HasStages multi_sample
 multi_stages = stages multi_sample refl refl refl refl refl refl refl refl refl refl
 
-pub surplus_stages : HasStages surplus_sample
-surplus_stages = stages surplus_sample refl refl refl refl refl refl refl refl refl refl
-
-pub ties_stages : HasStages ties_sample
-ties_stages = stages ties_sample refl refl refl refl refl refl refl refl refl refl
-
-pub wrap_stages : HasStages wrap_sample
-wrap_stages = stages wrap_sample refl refl refl refl refl refl refl refl refl refl
-
-pub used_stages : HasStages used_sample
-used_stages = stages used_sample refl refl refl refl refl refl refl refl refl refl
-
 pub unused_stages : HasStages unused_sample
 unused_stages = stages unused_sample refl refl refl refl refl refl refl refl refl refl
 
-pub multi_ext_stages : HasStages multi_ext_sample
-multi_ext_stages = stages multi_ext_sample refl refl refl refl refl refl refl refl refl refl
-
-pub shared_stages : HasStages shared_sample
-shared_stages = stages shared_sample refl refl refl refl refl refl refl refl refl refl
-
-pub emitted_first_stages : HasStages emitted_first_sample
-emitted_first_stages = stages emitted_first_sample refl refl refl refl refl refl refl refl refl refl
-
-pub between_stages : HasStages between_sample
-between_stages = stages between_sample refl refl refl refl refl refl refl refl refl refl
-
 pub impure_stages : HasStages impure_sample
 impure_stages = stages impure_sample refl refl refl refl refl refl refl refl refl refl
-
-pub dropped_stages : HasStages dropped_sample
-dropped_stages = stages dropped_sample refl refl refl refl refl refl refl refl refl refl
-
-pub hidden_stages : HasStages hidden_sample
-hidden_stages = stages hidden_sample refl refl refl refl refl refl refl refl refl refl

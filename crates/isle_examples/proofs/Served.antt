@@ -1,24 +1,24 @@
 -- The samples' meanings serve their rules and tell their constants apart; meanings without literals or calls don't serve.
-use Rattle.std.proofs.Common.{◌≡◌, ◌∷◌, [], ◌∙◌, ◌==◌, ℕ, ℤ, pos, zero, suc, Bool, true, false, List, take, Option, Some, None, All, Contains, IsTrue, is_some, refl, sym, ap, subst, arith, ◌⊎◌, inl, inr, IsSomeAnd}
+use Rattle.std.proofs.Common.{◌≡◌, [], ◌∙◌, ◌==◌, ℕ, ℤ, pos, zero, suc, Bool, true, false, not, ◌&&◌, if◌then◌else◌, slice_get, List, take, Option, Some, None, All, Contains, IsTrue, is_some, refl, sym, ap, subst, arith, IsSomeAnd, inl, inr}
 use Rattle.std.specs.List.{list_all}
-use Rattle.std.proofs.lemmas.Bool.{false≢true}
-use Rattle.std.proofs.lemmas.List.Elements.{All-contains, All-nil}
+use Rattle.std.proofs.lemmas.Bool.{and_parts, false≢true, or_cases}
+use Rattle.std.proofs.lemmas.List.Elements.{All-nil}
 use Rattle.std.proofs.lemmas.Option.{none-some, same_Some}
-use Rattle.isle_model.proofs.Members.{each_passes, in_alone, in_cases}
+use Rattle.isle_model.proofs.ValuesEqual.{eq_means}
+use Rattle.isle_model.proofs.Members.{each_passes}
 use Rattle.isle_model.specs.rules.Matching.{matches}
 use Rattle.isle_model.specs.rules.Meaning.{Content, Meaning, bool_literal, constant_value, extractor_answer, impure_answer, int_literal, literal_value, look, nothing, one, pure_answer}
 use Rattle.isle_model.specs.rules.Outcome.{then_option}
 use Rattle.isle_model.specs.rules.Picks.{HasContent, Pick, site_content, site_values}
-use Rattle.isle_model.specs.rules.Program.{Program, kind, rules_of}
+use Rattle.isle_model.specs.rules.Program.{Program, kind}
 use Rattle.isle_model.specs.rules.Typed.{TypedRule}
-use Rattle.isle_model.specs.rules.Values.{Value, Values, atom, well_typed}
+use Rattle.isle_model.specs.rules.Values.{Value, Values, atom, truth, value_eq, well_typed}
 use Rattle.isle_model.specs.sites.Demands.{demands_of}
-use Rattle.isle_model.specs.sites.Serves.{Serves, TellsConstantsApart, asked, constant_type, fits_constructor, fits_extractor, tested_constants, typed_as, written_value}
+use Rattle.isle_model.specs.sites.Serves.{Serves, TellsConstantsApart, asked, constant_type, fits_constructor, fits_extractor, is_open_constant, is_own_type, tested_constants, typed_as}
 use Rattle.isle_model.specs.sites.Sites.{SiteTerm, SiteTerms, argument, bool_term, constructor_call, extractor_call, int_term, no_site_term, prim_term, site_term_and}
 use Rattle.isle_model.specs.trees.Run.{as_value}
 use Rattle.isle_examples.specs.Extract.{ExtractMeaningServes, extract_meaning, extract_mute, extract_program, extract_rules}
 use Rattle.isle_examples.specs.MeaningForms.{DoesNotServe, alone, blank, given, just_number, v}
-use Rattle.isle_examples.specs.Mended.{ThirdIsServed, third_meaning, third_program}
 use Rattle.isle_examples.specs.Multi.{MultiIsServed, multi_meaning, multi_mute, multi_program, multi_rules}
 use Rattle.isle_examples.specs.Partial.{PartialIsServed, partial_call, partial_meaning, partial_mute, partial_program, partial_rules}
 
@@ -27,14 +27,26 @@ abbrev pub some_and : Option Value → (Value → Bool) → Bool
 some_and None f = false
 some_and (Some w) f = f w
 
+pub some_and_is : (o : Option Value) (f : Value → Bool) (w : Value) → some_and o (λ u. f u && value_eq u w) ≡ true → o ≡ Some w
+some_and_is None f w h = absurd (false≢true h)
+some_and_is (Some u) f w h = ap Some (eq_means u w (and_parts (f u) (value_eq u w) h).1)
+
+pub some_and_first : (o : Option Value) (f g : Value → Bool) → some_and o (λ u. f u && g u) ≡ true → some_and o f ≡ true
+some_and_first None f g h = absurd (false≢true h)
+some_and_first (Some u) f g h = (and_parts (f u) (g u) h).0
+
 pub some_and_means : (o : Option Value) (f : Value → Bool) → some_and o f ≡ true → IsSomeAnd o (λ w. IsTrue (f w))
 some_and_means None f h = absurd (false≢true h)
 some_and_means (Some w) f h = h
 
 module _ (p : Program) (m : Meaning) (args : List Value) (rs : List TypedRule) (call : SiteTerm → Bool) where
+  -- a literal of a built-in type has the value that is written
+  abbrev written : ℤ → ℕ → Bool
+  written z ty = if is_own_type (slice_get p.types ty) then some_and (literal_value m (int_literal z ty)) (λ w. well_typed p.types ty w && value_eq w (atom ty z)) else true
+
   abbrev passes : SiteTerm → Bool
-  passes (bool_term b ty) = some_and (literal_value m (bool_literal b ty)) (λ w. well_typed p.types ty w)
-  passes (int_term z ty) = some_and (literal_value m (int_literal z ty)) (λ w. well_typed p.types ty w)
+  passes (bool_term b ty) = some_and (literal_value m (bool_literal b ty)) (λ w. well_typed p.types ty w && value_eq w (truth b))
+  passes (int_term z ty) = some_and (literal_value m (int_literal z ty)) (λ w. well_typed p.types ty w) && written z ty
   passes (prim_term name) = some_and (constant_value m name) (λ w. typed_as p (constant_type p name) w)
   passes u = call u
 
@@ -46,8 +58,17 @@ module _ (p : Program) (m : Meaning) (args : List Value) (rs : List TypedRule) (
       → IsSomeAnd (impure_answer m t before) (λ c. IsTrue (fits_constructor p t (kind p t) c)))
       → Serves p m args rs
   serves_from h g extractors pures impures = record {
-    bools = λ b ty c. some_and_means (literal_value m (bool_literal b ty)) (λ w. well_typed p.types ty w) (each_passes passes (asked p rs) h (bool_term b ty) c);
-    ints = λ z ty c. some_and_means (literal_value m (int_literal z ty)) (λ w. well_typed p.types ty w) (each_passes passes (asked p rs) h (int_term z ty) c);
+    bools = λ b ty c.
+        some_and_means (literal_value m (bool_literal b ty)) (λ w. well_typed p.types ty w)
+        (some_and_first (literal_value m (bool_literal b ty)) (λ w. well_typed p.types ty w) (λ w. value_eq w (truth b)) (each_passes passes (asked p rs) h (bool_term b ty) c));
+    ints = λ z ty c.
+        some_and_means (literal_value m (int_literal z ty)) (λ w. well_typed p.types ty w)
+        (and_parts (some_and (literal_value m (int_literal z ty)) (λ w. well_typed p.types ty w)) (written z ty) (each_passes passes (asked p rs) h (int_term z ty) c)).0;
+    written_bools = λ b ty c. some_and_is (literal_value m (bool_literal b ty)) (λ w. well_typed p.types ty w) (truth b) (each_passes passes (asked p rs) h (bool_term b ty) c);
+    written_ints = λ z ty c own.
+        some_and_is (literal_value m (int_literal z ty)) (λ w. well_typed p.types ty w) (atom ty z)
+        (sym (ap (λ q. if q then some_and (literal_value m (int_literal z ty)) (λ w. well_typed p.types ty w && value_eq w (atom ty z)) else true) own)
+        ∙ (and_parts (some_and (literal_value m (int_literal z ty)) (λ w. well_typed p.types ty w)) (written z ty) (each_passes passes (asked p rs) h (int_term z ty) c)).1);
     prims = λ name c. some_and_means (constant_value m name) (λ w. typed_as p (constant_type p name) w) (each_passes passes (asked p rs) h (prim_term name) c);
     extractors = λ k t s w c holds. extractors k t s w (each_passes passes (asked p rs) h (extractor_call t s) c) holds;
     pures = λ k t ss vs c holds. pures k t ss vs (each_passes passes (asked p rs) h (constructor_call t ss 0) c) holds;
@@ -55,16 +76,21 @@ module _ (p : Program) (m : Meaning) (args : List Value) (rs : List TypedRule) (
         impures k r t before ss i matched made (each_passes passes (demands_of p r).made (each_passes (λ q. list_all passes (demands_of p q).made) rs g r i) (constructor_call t ss (suc before)) made) gave;
   }
 
--- 2. rules whose patterns name the literal 1 of type 1 alone
+-- 2. rules whose patterns name no constants but literals of built-in types
 no_constants : (p : Program) (name : ℕ) → p.constants ≡ [] → constant_type p name ≡ None
 no_constants p name g = ap (λ l. look (λ k. k == name) l) g
 
-pub one_constant : (p : Program) (m : Meaning) (rs : List TypedRule) → tested_constants p rs ≡ int_term (pos 1) 1 ∷ [] → p.constants ≡ [] → TellsConstantsApart p m rs
-one_constant p m rs h g = record {
-  different = λ a b ty w c d s t u x.
-      sym (in_alone (int_term (pos 1) 1) a (subst (λ l. Contains l a) h c)) ∙ in_alone (int_term (pos 1) 1) b (subst (λ l. Contains l b) h d);
+abbrev pub are_written : Program → List TypedRule → Bool
+are_written p rs = list_all (λ a. not (is_open_constant p a)) (tested_constants p rs)
+
+pub literals_apart : (p : Program) (m : Meaning) (rs : List TypedRule) → are_written p rs ≡ true → p.constants ≡ [] → TellsConstantsApart p m rs
+literals_apart p m rs h g = record {
+  different = λ a b ty w c d o s t u x. elim (or_cases (is_open_constant p a) (is_open_constant p b) o) [ inl k ↦ absurd (never a c k) | inr k ↦ absurd (never b d k) ];
   without_parts = λ r s name ty c d e. absurd (none-some ty (sym (no_constants p name g) ∙ e));
 }
+  where
+    never : (a : SiteTerm) → Contains (tested_constants p rs) a → is_open_constant p a ≡ true → ⊥
+    never a c k = false≢true (sym (ap not k) ∙ each_passes (λ u. not (is_open_constant p u)) (tested_constants p rs) h a c)
 
 -- 3. a call of an extractor, whatever fitting answer it gives
 -- what it answers on the argument, it answers on the value that stands there
@@ -95,7 +121,7 @@ extract_served = (
   extract_serves (just_number (pos 1)) refl,
   extract_serves (just_number (pos 5)) refl,
   extract_serves nothing refl,
-  λ answer. one_constant extract_program (extract_meaning answer) extract_rules.rules refl refl,
+  λ answer. literals_apart extract_program (extract_meaning answer) extract_rules.rules refl refl,
 )
 
 pub blank_extract : DoesNotServe extract_program blank (pos 7)
@@ -124,7 +150,7 @@ pub partial_served : PartialIsServed
 partial_served = (
   serves_from partial_program (partial_meaning nothing) (given (pos 1)) partial_rules.rules call_of_g refl refl
       (λ k t s w h holds. absurd (false≢true h)) (λ k t ss vs h holds. absurd (pure_none t ss h)) (λ k r t before ss i matched made h gave. partial_answers t before ss h),
-  one_constant partial_program (partial_meaning nothing) partial_rules.rules refl refl,
+  literals_apart partial_program (partial_meaning nothing) partial_rules.rules refl refl,
 )
 
 pub blank_partial : DoesNotServe partial_program blank (pos 1)
@@ -155,7 +181,7 @@ pub multi_served : MultiIsServed
 multi_served = (
   serves_from multi_program multi_meaning (given (pos 1)) multi_rules.rules multi_call refl refl
       (λ k t s w h holds. absurd (false≢true h)) multi_answers (λ k r t before ss i matched made h gave. absurd (impure_none t before ss h)),
-  one_constant multi_program multi_meaning multi_rules.rules refl refl,
+  literals_apart multi_program multi_meaning multi_rules.rules refl refl,
 )
 
 pub blank_multi : DoesNotServe multi_program blank (pos 1)
@@ -164,52 +190,7 @@ blank_multi s = s.ints (pos 9) 1 (4, omega arith, refl)
 pub mute_multi : DoesNotServe multi_program multi_mute (pos 1)
 mute_multi s = s.pures [] 0 (site_term_and (argument 0) no_site_term) (alone (pos 1)) (1, omega arith, refl) refl
 
--- 6. a multi extractor, beside two rules for different numbers
-abbrev number_in : Value → ℕ
-number_in (atom ty (pos n)) = n
-number_in _ = 0
-
-abbrev one_of_two : SiteTerm → Type 0
-one_of_two a = (a ≡ int_term (pos 1) 1) ⊎ (a ≡ int_term (pos 2) 1)
-
-is_one_of_two : (a : SiteTerm) → Contains (tested_constants third_program (rules_of third_program 1)) a → one_of_two a
-is_one_of_two a c =
-    elim (in_cases (int_term (pos 1) 1) a (int_term (pos 2) 1 ∷ []) c) [
-      | inl e ↦ inl (sym e)
-      | inr b ↦ inr (sym (in_alone (int_term (pos 2) 1) a b))
-    ]
-
--- each number is written by one literal
-written_number : (a : SiteTerm) (w : Value) → one_of_two a → written_value third_meaning a ≡ Some w → a ≡ int_term (pos (number_in w)) 1
-written_number a w (inl e) h =
-    let held : Some (v (pos 1)) ≡ Some w = sym (ap (written_value third_meaning) e) ∙ h in
-    e ∙ ap (λ n. int_term (pos n) 1) (ap number_in (same_Some (v (pos 1)) w held))
-written_number a w (inr e) h =
-    let held : Some (v (pos 2)) ≡ Some w = sym (ap (written_value third_meaning) e) ∙ h in
-    e ∙ ap (λ n. int_term (pos n) 1) (ap number_in (same_Some (v (pos 2)) w held))
-
-abbrev third_call : SiteTerm → Bool
-third_call (extractor_call zero (argument zero)) = true
-third_call (extractor_call t s) = false
-third_call (constructor_call t ss i) = false
-third_call u = true
-
-third_answers : (k : Pick) (t : ℕ) (s : SiteTerm) (w : Value) → third_call (extractor_call t s) ≡ true → site_content third_meaning (given (pos 1)) k s ≡ Some (one w)
-    → IsSomeAnd (extractor_answer third_meaning t w) (λ c. IsTrue (fits_extractor third_program t (kind third_program t) c))
-third_answers k zero (argument zero) w h e = answers_argument third_program third_meaning (pos 1) k w refl e
-third_answers k _ _ w h holds = absurd (false≢true h)
-
-pub third_served : ThirdIsServed
-third_served = (
-  serves_from third_program third_meaning (given (pos 1)) (rules_of third_program 1) third_call refl refl
-      third_answers (λ k t ss vs h holds. absurd (false≢true h)) (λ k r t before ss i matched made h gave. absurd (false≢true h)),
-  record {
-    different = λ a b ty w c d s t u x. written_number a w (is_one_of_two a c) u ∙ sym (written_number b w (is_one_of_two b d) x);
-    without_parts = λ r s name ty c d e. absurd (none-some ty (sym (no_constants third_program name refl) ∙ e));
-  },
-)
-
--- 7. rules without calls, and rules whose patterns name numbers alone, each of which is its own value
+-- 6. rules without calls
 abbrev no_call : SiteTerm → Bool
 no_call (extractor_call t s) = false
 no_call (constructor_call t ss i) = false
@@ -219,19 +200,3 @@ pub serves_without_calls : (p : Program) (m : Meaning) (args : List Value) (rs :
     → list_all (λ r. list_all (passes p m args rs no_call) (demands_of p r).made) rs ≡ true → Serves p m args rs
 serves_without_calls p m args rs h g =
     serves_from p m args rs no_call h g (λ k t s w c e. absurd (false≢true c)) (λ k t ss vs c e. absurd (false≢true c)) (λ k r t before ss i matched made c gave. absurd (false≢true c))
-
-abbrev pub IsOwnNumber : Meaning → SiteTerm → Type 0
-IsOwnNumber m a = (n : ℕ) × (a ≡ int_term (pos n) 1) × (literal_value m (int_literal (pos n) 1) ≡ Some (v (pos n)))
-
-own_number : (m : Meaning) (a : SiteTerm) (w : Value) (o : IsOwnNumber m a) → written_value m a ≡ Some w → a ≡ int_term (pos (number_in w)) 1
-own_number m a w o u =
-    let held : Some (v (pos o.0)) ≡ Some w = sym o.2 ∙ sym (ap (written_value m) o.1) ∙ u in
-    o.1 ∙ ap (λ n. int_term (pos n) 1) (ap number_in (same_Some (v (pos o.0)) w held))
-
-pub numbers_apart : (p : Program) (m : Meaning) (rs : List TypedRule) → All (IsOwnNumber m) (tested_constants p rs) → p.constants ≡ [] → TellsConstantsApart p m rs
-numbers_apart p m rs own g = record {
-  different = λ a b ty w c d s t u x.
-      own_number m a w (All-contains (IsOwnNumber m) (tested_constants p rs) a own c) u
-      ∙ sym (own_number m b w (All-contains (IsOwnNumber m) (tested_constants p rs) b own d) x);
-  without_parts = λ r s name ty c d e. absurd (none-some ty (sym (no_constants p name g) ∙ e));
-}

@@ -1,23 +1,23 @@
 -- The laws on demands that hold alike, and on rules that never match, on samples.
 use Rattle.std.proofs.Common.{[], ℤ, pos, true, refl, arith}
 use Rattle.std.proofs.lemmas.Bool.{false≢true}
-use Rattle.std.proofs.lemmas.List.Elements.{All-nil}
 use Rattle.isle_model.specs.claims.Environments.{types_read}
 use Rattle.isle_model.specs.rules.Program.{rules_of}
 use Rattle.isle_model.specs.sites.Overlap.{built_rule}
 use Rattle.isle_laws_lists.proofs.FormedRules.{rules_are_formed}
 use Rattle.isle_laws_lists.proofs.TypedRules.{lists_agree}
+use Rattle.isle_model.specs.sites.Demands.{demands_of}
+use Rattle.isle_laws_demands.proofs.closure.Settled.{verdict_is_exact_lem}
 use Rattle.isle_laws_demands.proofs.matching.BuiltMatches.{built_demands_hold_alike_lem}
 use Rattle.isle_laws_demands.proofs.matching.NeverMatches.{unreachable_rules_never_match_lem}
 use Rattle.isle_laws_demands.proofs.matching.Visits.{visits_match_lem}
 use Rattle.isle_laws_demands.proofs.visits.WholeDemands.{built_demands_are_whole_lem}
 use Rattle.isle_laws_demands.specs.BuiltLaws.{BuiltDemandsAreWhole}
-use Rattle.isle_examples.proofs.AcceptedLists.{one_step_not_accepted}
-use Rattle.isle_examples.proofs.Matchable.{one_step_cant_match}
-use Rattle.isle_examples.proofs.SampleStages.{const_eq_stages, variant_eq_stages}
-use Rattle.isle_examples.proofs.Served.{IsOwnNumber, numbers_apart, serves_without_calls}
+use Rattle.isle_examples.proofs.ReadLists.{const_eq_read, one_step_read}
+use Rattle.isle_examples.proofs.SampleStages.{variant_eq_stages}
+use Rattle.isle_examples.proofs.Served.{literals_apart, serves_without_calls}
 use Rattle.isle_examples.specs.ConstEq.{const_eq_defs, const_eq_program, const_eq_rule, const_eq_rules}
-use Rattle.isle_examples.specs.Cycle.{cycle_rules, one_step_defs, one_step_program, one_step_rule}
+use Rattle.isle_examples.specs.Cycle.{one_step_defs, one_step_program, one_step_rule, one_step_rules}
 use Rattle.isle_examples.specs.MeaningForms.{blank}
 use Rattle.isle_examples.specs.Tried.{ConstEqHolds, ConstEqHoldsAlike, ConstEqIsTried, OneStepDoesNotMatch, OneStepIsTried, VariantEqHolds, VariantEqHoldsAlike, VariantEqIsTried, five_twice, just_this, plain_variant, two_and}
 use Rattle.isle_examples.specs.VariantEq.{variant_eq_defs, variant_eq_program, variant_eq_rule, variant_eq_rules}
@@ -33,16 +33,16 @@ pub three_is_tried : ConstEqIsTried (pos 3)
 three_is_tried = record { typed = refl; served = serves_without_calls const_eq_program (just_this (pos 2)) (two_and (pos 3)) (rules_of const_eq_program 0) refl refl; rule = (0, omega arith, refl); pick = (0, omega arith, refl) }
 
 pub two_holds : ConstEqHolds (pos 2)
-two_holds = (visits_match_lem (types_read const_eq_defs) const_eq_defs true const_eq_rules 0 (just_this (pos 2)) (two_and (pos 2)) const_eq_rule [] const_eq_stages.accepted.0.read.elaborated two_is_tried).matching.0 refl
+two_holds = (visits_match_lem (types_read const_eq_defs) const_eq_defs true const_eq_rules 0 (just_this (pos 2)) (two_and (pos 2)) const_eq_rule [] const_eq_read.0.elaborated two_is_tried).matching.0 refl
 
 pub three_does_not : ConstEqHolds (pos 3) → ⊥
 three_does_not d =
-    false≢true ((visits_match_lem (types_read const_eq_defs) const_eq_defs true const_eq_rules 0 (just_this (pos 2)) (two_and (pos 3)) const_eq_rule [] const_eq_stages.accepted.0.read.elaborated three_is_tried).matching.1 d)
+    false≢true ((visits_match_lem (types_read const_eq_defs) const_eq_defs true const_eq_rules 0 (just_this (pos 2)) (two_and (pos 3)) const_eq_rule [] const_eq_read.0.elaborated three_is_tried).matching.1 d)
 
 const_eq_alike : (z : ℤ) → ConstEqIsTried z → ConstEqHoldsAlike z
 const_eq_alike z tried =
     let b = built_rule const_eq_program [] const_eq_rule in
-    let h = const_eq_stages.accepted.0.read.elaborated in (
+    let h = const_eq_read.0.elaborated in (
       whole (types_read const_eq_defs) const_eq_defs true const_eq_rules 0 h b (0, omega arith, refl),
       built_demands_hold_alike_lem whole (types_read const_eq_defs) const_eq_defs true const_eq_rules 0 (just_this (pos 2)) (two_and z) b [] h (0, omega arith, refl) tried,
     )
@@ -72,10 +72,10 @@ variant_holds_alike =
 pub one_step_is_tried : OneStepIsTried
 one_step_is_tried = (
   record { typed = refl; served = serves_without_calls one_step_program (just_this (pos 1)) plain_variant (rules_of one_step_program 0) refl refl; rule = (0, omega arith, refl); pick = (0, omega arith, refl) },
-  numbers_apart one_step_program (just_this (pos 1)) (rules_of one_step_program 0) (All-nil (IsOwnNumber (just_this (pos 1)))) refl,
+  literals_apart one_step_program (just_this (pos 1)) (rules_of one_step_program 0) refl refl,
 )
 
 pub one_step_does_not_match : OneStepDoesNotMatch
 one_step_does_not_match =
-    unreachable_rules_never_match_lem (types_read one_step_defs) one_step_defs true (cycle_rules one_step_rule) 0 (just_this (pos 1)) plain_variant one_step_rule [] one_step_not_accepted.0.0.elaborated one_step_is_tried.0
-    one_step_is_tried.1 one_step_cant_match.unreachable
+    unreachable_rules_never_match_lem (types_read one_step_defs) one_step_defs true one_step_rules 0 (just_this (pos 1)) plain_variant one_step_rule [] one_step_read.0.elaborated one_step_is_tried.0
+    one_step_is_tried.1 ((verdict_is_exact_lem (demands_of one_step_program one_step_rule)).0 refl)

@@ -2,15 +2,15 @@
 use Rattle.std.proofs.Common.{◌≡◌, ◌∷◌, [], ℕ, pos, zero, suc, Bool, true, false, take, All, Contains, IsSomeAnd, IsTrue, refl, sym, subst, arith}
 use Rattle.std.proofs.lemmas.Bool.{false≢true}
 use Rattle.std.proofs.lemmas.List.Elements.{All-cons, All-contains, All-nil}
-use Rattle.isle_model.proofs.Members.{in_alone, in_head, nothing_in}
-use Rattle.isle_model.specs.rules.Meaning.{Meaning, impure_answer, nothing}
+use Rattle.isle_model.proofs.Members.{in_alone, in_head}
+use Rattle.isle_model.specs.rules.Meaning.{impure_answer, nothing}
 use Rattle.isle_model.specs.rules.Picks.{HasContent, Pick}
 use Rattle.isle_model.specs.rules.Program.{kind}
 use Rattle.isle_model.specs.rules.Typed.{TypedRule}
 use Rattle.isle_model.specs.sites.Demands.{demands_of}
-use Rattle.isle_model.specs.sites.Serves.{TellsConstantsApart, fits_constructor}
-use Rattle.isle_model.specs.sites.Sites.{SiteTerm, SiteTerms, is_prim, constructor_call, extractor_call, some_part}
-use Rattle.isle_examples.proofs.Served.{serves_from}
+use Rattle.isle_model.specs.sites.Serves.{fits_constructor}
+use Rattle.isle_model.specs.sites.Sites.{SiteTerm, SiteTerms, constructor_call, extractor_call, some_part}
+use Rattle.isle_examples.proofs.Served.{literals_apart, serves_from}
 use Rattle.isle_examples.specs.MeaningForms.{DoesNotServe, alone, given, just_number}
 use Rattle.isle_examples.specs.SetForms.{a0, one_source}
 use Rattle.isle_examples.specs.Unreached.{UnreachedCallsAreNotAsked, first_answers, first_im, unreached_program, unreached_rule, unreached_rules}
@@ -37,19 +37,13 @@ answers k r zero (suc zero) ss i h gave =
     absurd (false≢true (All-contains (HasContent (first_answers nothing) (given (pos 1)) k) (some_part first_im ∷ []) (some_part first_im) of_rule (in_head (some_part first_im) [])))
 answers k r _ _ ss i h gave = absurd (false≢true h)
 
-tells_apart : (m : Meaning) → TellsConstantsApart unreached_program m unreached_rules.rules
-tells_apart m = record {
-  different = λ a b ty w c d s t u x. absurd (nothing_in a c);
-  without_parts = λ r s name ty c d e. absurd (nothing_in (s, is_prim name) (subst (λ q. Contains (demands_of unreached_program q).constraints (s, is_prim name)) (sym (in_alone unreached_rule r c)) d));
-}
-
 pub unreached_calls_are_not_asked : UnreachedCallsAreNotAsked
 unreached_calls_are_not_asked = (
   refl,
   refl,
   serves_from unreached_program (first_answers nothing) (given (pos 1)) unreached_rules.rules call_of_im refl refl
       (λ k t s w h holds. absurd (false≢true h)) (λ k t ss vs h holds. absurd (pure_none t ss h)) (λ k r t before ss i matched made h gave. answers k r t before ss i h gave),
-  tells_apart (first_answers nothing),
+  literals_apart unreached_program (first_answers nothing) unreached_rules.rules refl refl,
 )
 
 -- where the first call answers, the second one is reached, and its entry is asked

@@ -1,33 +1,28 @@
 -- What the meaning of the sample has on 2: two literals, and no call that is made.
-use Rattle.std.proofs.Common.{◌≡◌, ◌∷◌, [], zero, suc, pos, Bool, true, false, Contains, IsTrue, is_some, refl, sym, subst, inl, inr}
+use Rattle.std.proofs.Common.{◌≡◌, ◌∷◌, [], zero, suc, pos, Bool, true, false, ◌&&◌, Contains, IsTrue, is_some, refl, sym, subst, inl, inr}
 use Rattle.std.proofs.lemmas.Bool.{false≢true}
 use Rattle.isle_model.proofs.Members.{each_passes, in_alone, in_cases}
 use Rattle.isle_model.specs.rules.Matching.{matches}
 use Rattle.isle_model.specs.rules.Meaning.{int_literal, literal_value}
 use Rattle.isle_model.specs.rules.Typed.{TypedRule}
-use Rattle.isle_model.specs.rules.Values.{well_typed}
+use Rattle.isle_model.specs.rules.Values.{atom, value_eq, well_typed}
 use Rattle.isle_model.specs.sites.Demands.{demands_of}
 use Rattle.isle_model.specs.sites.Serves.{Serves, asked}
 use Rattle.isle_model.specs.sites.Sites.{SiteTerm, bool_term, constructor_call, extractor_call, int_term, prim_term}
-use Rattle.isle_examples.proofs.ListStages.{accepted_both}
-use Rattle.isle_examples.proofs.Mended.{above_calls_nothing_is_asked_lem}
-use Rattle.isle_examples.proofs.Served.{one_constant, some_and, some_and_means}
+use Rattle.isle_examples.proofs.Served.{literals_apart, some_and, some_and_first, some_and_is, some_and_means}
 use Rattle.isle_examples.proofs.SetStages.{built}
 use Rattle.isle_examples.specs.MeaningForms.{given}
 use Rattle.isle_examples.specs.Mended.{wrapped_meaning, wrapped_set}
-use Rattle.isle_examples.specs.Stages.{IsAcceptedBoth, IsBuiltOf}
+use Rattle.isle_examples.specs.Stages.{IsBuiltOf}
 use Rattle.isle_examples.specs.Wrapped.{NothingIsAskedAboveCalls, first_wrapped, second_wrapped, wrapped_defs, wrapped_program, wrapped_rules}
-
-pub wrapped_accepted : IsAcceptedBoth wrapped_defs wrapped_rules
-wrapped_accepted = accepted_both wrapped_defs wrapped_rules refl refl refl
 
 pub wrapped_built : IsBuiltOf wrapped_defs wrapped_rules 1 wrapped_set
 wrapped_built = built wrapped_defs wrapped_rules 1 wrapped_set refl refl refl refl refl refl refl refl
 
--- a literal with a well-typed value, and what is no call but an impure one
+-- a literal with the value that is written, well-typed, and what is no call but an impure one
 abbrev passes : SiteTerm → Bool
 passes (bool_term b ty) = false
-passes (int_term z ty) = some_and (literal_value wrapped_meaning (int_literal z ty)) (λ w. well_typed wrapped_program.types ty w)
+passes (int_term z ty) = some_and (literal_value wrapped_meaning (int_literal z ty)) (λ w. well_typed wrapped_program.types ty w && value_eq w (atom ty z))
 passes (prim_term name) = false
 passes (extractor_call t s) = false
 passes (constructor_call t ss zero) = false
@@ -43,7 +38,11 @@ makes_no_call u = true
 wrapped_serves : Serves wrapped_program wrapped_meaning (given (pos 2)) wrapped_rules.rules
 wrapped_serves = record {
   bools = λ b ty c. absurd (false≢true (all_pass (bool_term b ty) c));
-  ints = λ z ty c. some_and_means (literal_value wrapped_meaning (int_literal z ty)) (λ w. well_typed wrapped_program.types ty w) (all_pass (int_term z ty) c);
+  ints = λ z ty c.
+      some_and_means (literal_value wrapped_meaning (int_literal z ty)) (λ w. well_typed wrapped_program.types ty w)
+      (some_and_first (literal_value wrapped_meaning (int_literal z ty)) (λ w. well_typed wrapped_program.types ty w) (λ w. value_eq w (atom ty z)) (all_pass (int_term z ty) c));
+  written_bools = λ b ty c. absurd (false≢true (all_pass (bool_term b ty) c));
+  written_ints = λ z ty c own. some_and_is (literal_value wrapped_meaning (int_literal z ty)) (λ w. well_typed wrapped_program.types ty w) (atom ty z) (all_pass (int_term z ty) c);
   prims = λ name c. absurd (false≢true (all_pass (prim_term name) c));
   extractors = λ k t s w c holds. absurd (false≢true (all_pass (extractor_call t s) c));
   pures = λ k t ss vs c holds. absurd (false≢true (all_pass (constructor_call t ss 0) c));
@@ -58,7 +57,5 @@ wrapped_serves = record {
 pub nothing_is_asked_above_calls : NothingIsAskedAboveCalls
 nothing_is_asked_above_calls = (
   wrapped_serves,
-  one_constant wrapped_program wrapped_meaning wrapped_rules.rules refl refl,
-  refl,
-  above_calls_nothing_is_asked_lem.4,
+  literals_apart wrapped_program wrapped_meaning wrapped_rules.rules refl refl,
 )

@@ -1,17 +1,17 @@
 -- The laws of choice on the sample with an extractor: their premises hold together, where the call answers 1 on 7.
-use Rattle.std.specs.Prelude.{◌≡◌, [], pos, Contains, IsTrue}
-use Rattle.isle_model.specs.claims.Headline.{IsWithoutMulti, RunsAsChosen}
+use Rattle.std.specs.Prelude.{◌≡◌, [], false, pos, Contains, IsTrue}
+use Rattle.isle_model.specs.claims.Headline.{RunsAsChosen}
 use Rattle.isle_model.specs.rules.Choice.{MatchesOnce}
-use Rattle.isle_model.specs.rules.Program.{arg_types, rules_of}
+use Rattle.isle_model.specs.rules.Program.{arg_types, is_multi, rules_of}
 use Rattle.isle_model.specs.rules.Typed.{TypedRule}
 use Rattle.isle_model.specs.rules.Values.{args_well_typed}
 use Rattle.isle_model.specs.sites.Demands.{demands_of}
 use Rattle.isle_examples.specs.Extract.{extract_meaning, extract_program, extract_set, extract_tree}
 use Rattle.isle_examples.specs.MeaningForms.{given, just_number}
 
--- neither the term nor an extractor that its rules call is multi, and 7 is of its argument's type
+-- the term isn't multi, and 7 is of its argument's type
 abbrev pub ExtractIsWithoutMulti : Type 0
-ExtractIsWithoutMulti = IsWithoutMulti extract_program 1 × IsTrue (args_well_typed extract_program.types (arg_types extract_program 1) (given (pos 7)))
+ExtractIsWithoutMulti = (is_multi extract_program 1 ≡ false) × IsTrue (args_well_typed extract_program.types (arg_types extract_program 1) (given (pos 7)))
 
 -- so no rule goes over calls, the tree runs as the choice, and no two rules of one priority match 7
 abbrev pub ExtractIsChosen : Type 0

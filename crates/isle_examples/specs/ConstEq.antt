@@ -1,7 +1,7 @@
 -- A sample: a literal under a name that stands again in another argument.
 --   (decl f (u8 u8) u8)
 --   (rule (f x @ 2 x) x)
-use Rattle.std.specs.Prelude.{◌≡◌, ◌∷◌, [], ℕ, zero, suc, pos, false, List, Some, codes}
+use Rattle.std.specs.Prelude.{◌∷◌, [], ℕ, zero, suc, pos, false, List, Some, codes}
 use Rattle.isle_model.specs.claims.Layers.{own_program}
 use Rattle.isle_model.specs.lists.Elaborated.{TypedRules}
 use Rattle.isle_model.specs.lists.Syntax.{Definition}
@@ -12,8 +12,8 @@ use Rattle.isle_model.specs.sites.Sites.{SiteSet, SiteTerm, argument, argument_s
 use Rattle.isle_model.specs.sites.Closure.{Joined}
 use Rattle.isle_model.specs.trees.Trees.{Tree, match_at, no_step, step}
 use Rattle.isle_laws_demands.specs.ClosureLaws.{RespectsDemands}
-use Rattle.isle_examples.specs.SetForms.{a0, a1, a2, a_rule, asking, is_byte, one_arm, returning}
-use Rattle.isle_examples.specs.Stages.{Sample, closed_demands}
+use Rattle.isle_examples.specs.SetForms.{a0, a2, a_rule, is_byte, one_arm, returning}
+use Rattle.isle_examples.specs.Stages.{Sample}
 use Rattle.isle_examples.specs.TypedForms.{rules_and_names, typed, typed_var, u8}
 use Rattle.isle_examples.specs.Written.{bind, f_of_bytes, int, of_f, rule_to, var, variable}
 
@@ -29,14 +29,6 @@ const_eq_rules = rules_and_names (const_eq_rule ∷ []) (codes "f" ∷ codes "x"
 
 abbrev pub const_eq_program : Program
 const_eq_program = own_program const_eq_defs const_eq_rules
-
--- one constraint, and one equality
-abbrev pub ConstEqDemands : Type 0
-ConstEqDemands = demands_of const_eq_program const_eq_rule ≡ asking ((a0, is_byte 2) ∷ []) ((a1, a0) ∷ []) (a0 ∷ a1 ∷ [])
-
--- the literal stands at both arguments, and no equality is left
-abbrev pub ConstEqClosed : Type 0
-ConstEqClosed = closed_demands const_eq_program const_eq_rule ≡ record { constraints = (a0, is_byte 2) ∷ (a1, is_byte 2) ∷ []; classes = []; made = a0 ∷ a1 ∷ [] }
 
 -- one class of both arguments, and one of all else, and of each argument alone
 abbrev pub of_both : SiteTerm → ℕ

@@ -6,26 +6,19 @@
 --   (extern constructor im im_fn)
 --   (decl partial f (u8) T)
 --   (rule (f x) (T.P (pp x) (im x)))
-use Rattle.std.specs.Prelude.{◌≡◌, ◌∷◌, [], ◌++◌, ℕ, ℤ, pos, true, false, List, Some, codes}
-use Rattle.isle_model.specs.claims.Layers.{own_program}
+use Rattle.std.specs.Prelude.{◌∷◌, [], ◌++◌, ℕ, ℤ, pos, true, false, List, Some, codes}
 use Rattle.isle_model.specs.lists.Elaborated.{TypedRules}
-use Rattle.isle_model.specs.lists.KnownTypes.{types_of}
 use Rattle.isle_model.specs.lists.Syntax.{Definition, declaration}
-use Rattle.isle_model.specs.lists.Tables.{TermEntry, TypeEntry, struct_entries, variant_term}
-use Rattle.isle_model.specs.lists.TermTable.{term_names_met}
-use Rattle.isle_model.specs.lists.TypeTable.{type_table}
 use Rattle.isle_model.specs.rules.Meaning.{Content, Meaning, just, one}
 use Rattle.isle_model.specs.rules.Outcome.{Call, Outcome}
-use Rattle.isle_model.specs.rules.Program.{Program}
 use Rattle.isle_model.specs.rules.Typed.{TypedRule, make_term, make_var}
 use Rattle.isle_model.specs.rules.Values.{of_variant, value_and}
-use Rattle.isle_model.specs.sites.Demands.{demands_of}
-use Rattle.isle_model.specs.sites.Sites.{SiteSet, SiteTerm, argument_site, constructor_call, constructor_site, make_some_site, make_variant_site, match_some_site, site_term_and, some_made, some_part, variant_made}
+use Rattle.isle_model.specs.sites.Sites.{SiteSet, argument_site, constructor_site, make_some_site, make_variant_site, match_some_site}
 use Rattle.isle_model.specs.trees.Trees.{Tree, no_step}
 use Rattle.isle_examples.specs.MeaningForms.{alone, blank, given, v}
-use Rattle.isle_examples.specs.SetForms.{a0, a_rule, asking, one_source, returning}
-use Rattle.isle_examples.specs.Stages.{HasTermTable, Sample, Ends}
-use Rattle.isle_examples.specs.TypedForms.{bind_any, builtins, by_constructor, by_rules, e_list, entry, enum_entry, field_entry, flags, names_with, no_flags, number_term, own, rules_and_names, typed, typed_var, u8, variant_entry}
+use Rattle.isle_examples.specs.SetForms.{a_rule, returning}
+use Rattle.isle_examples.specs.Stages.{Sample, Ends}
+use Rattle.isle_examples.specs.TypedForms.{bind_any, e_list, own, rules_and_names, typed, typed_var, u8}
 use Rattle.isle_examples.specs.Written.{call, constructor_by, decl, enum_of_one, field, numbers, of_f, rule_to, var, variable}
 
 abbrev pub effects_defs : List Definition
@@ -40,21 +33,6 @@ effects_defs =
 abbrev pub effects_names : List (List ℕ)
 effects_names = codes "T" ∷ codes "T.P" ∷ codes "P" ∷ codes "a" ∷ codes "b" ∷ codes "pp" ∷ codes "im" ∷ codes "f" ∷ codes "pp_fn" ∷ codes "im_fn" ∷ []
 
-abbrev pub effects_types : List TypeEntry
-effects_types = enum_entry 13 own (variant_entry 15 14 0 (struct_entries (field_entry 16 0 u8 ∷ field_entry 17 1 u8 ∷ [])) 0 ∷ []) 0 ∷ []
-
--- the external constructors, and after the declared terms the variant
-abbrev pub effects_terms : List TermEntry
-effects_terms =
-    number_term 0 1 18 (by_constructor (flags true false true) 21) ∷ number_term 1 3 19 (by_constructor no_flags 22)
-    ∷ entry 2 5 20 (u8 ∷ []) own (by_rules (flags false false true)) ∷ entry 3 0 14 (u8 ∷ u8 ∷ []) own (variant_term 0) ∷ []
-
-abbrev pub EffectsTables : Type 0
-EffectsTables =
-    (type_table effects_defs ≡ builtins ++ effects_types)
-    × (term_names_met (types_of effects_defs) effects_defs ≡ names_with effects_names)
-    × HasTermTable effects_defs effects_terms
-
 abbrev pub effects_rule : TypedRule
 effects_rule =
     typed 0 6 2 (pos 0) (Some 20) (typed_var 0 23 u8 ∷ []) (bind_any u8 0 ∷ [])
@@ -62,23 +40,6 @@ effects_rule =
 
 abbrev pub effects_rules : TypedRules
 effects_rules = rules_and_names (effects_rule ∷ []) (effects_names ++ codes "x" ∷ [])
-
-abbrev pub effects_program : Program
-effects_program = own_program effects_defs effects_rules
-
-abbrev pub call_pp : SiteTerm
-call_pp = constructor_call 0 (one_source a0) 0
-
-abbrev pub call_im : SiteTerm
-call_im = constructor_call 1 (one_source a0) 1
-
-abbrev pub made_p : SiteTerm
-made_p = variant_made own 0 (site_term_and (some_part call_pp) (one_source call_im))
-
-abbrev pub EffectsDemands : Type 0
-EffectsDemands =
-    demands_of effects_program effects_rule
-    ≡ record (asking [] [] (a0 ∷ call_pp ∷ some_part call_pp ∷ call_im ∷ made_p ∷ some_made made_p ∷ [])) { impure = call_im ∷ [] }
 
 abbrev pub effects_set : SiteSet
 effects_set = record {

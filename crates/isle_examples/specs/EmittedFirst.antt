@@ -3,31 +3,11 @@
 --   (rule 2 (f _ x x _) 1)
 --   (rule 1 (f _ _ _ 5) 2)
 --   (rule (f x x x _) 3)
-use Rattle.std.specs.Prelude.{◌∷◌, [], pos, false, List, None, codes}
-use Rattle.isle_model.specs.lists.Elaborated.{TypedRules}
-use Rattle.isle_model.specs.lists.Syntax.{Definition}
-use Rattle.isle_model.specs.rules.Typed.{make_int, match_any, match_int, match_var}
+use Rattle.std.specs.Prelude.{◌∷◌, [], pos, false, List}
 use Rattle.isle_model.specs.sites.Sites.{SiteSet, argument_site}
 use Rattle.isle_model.specs.trees.Trees.{Tree, equal_at, match_at, no_step, step}
 use Rattle.isle_examples.specs.SetForms.{a_rule, byte, is_byte, one_arm, returning}
-use Rattle.isle_examples.specs.Stages.{Sample}
-use Rattle.isle_examples.specs.TypedForms.{bind_any, rules_and_names, typed, typed_var, u8}
-use Rattle.isle_examples.specs.Written.{any, f_of_bytes, int, number, of_f, rule_first, rule_to, var}
-
-abbrev pub emitted_first_defs : List Definition
-emitted_first_defs =
-    f_of_bytes 0 4
-    ∷ rule_first 1 (pos 2) (of_f 1 (any 1 ∷ var 1 (codes "x") ∷ var 1 (codes "x") ∷ any 1 ∷ [])) (number 1 (pos 1))
-    ∷ rule_first 2 (pos 1) (of_f 2 (any 2 ∷ any 2 ∷ any 2 ∷ int 2 (pos 5) ∷ [])) (number 2 (pos 2))
-    ∷ rule_to 3 (of_f 3 (var 3 (codes "x") ∷ var 3 (codes "x") ∷ var 3 (codes "x") ∷ any 3 ∷ [])) (number 3 (pos 3)) ∷ []
-
-abbrev pub emitted_first_rules : TypedRules
-emitted_first_rules =
-    rules_and_names
-    (typed 0 1 0 (pos 2) None (typed_var 0 14 u8 ∷ []) (match_any u8 ∷ bind_any u8 0 ∷ match_var u8 0 ∷ match_any u8 ∷ []) (make_int u8 (pos 1))
-    ∷ typed 1 2 0 (pos 1) None [] (match_any u8 ∷ match_any u8 ∷ match_any u8 ∷ match_int u8 (pos 5) ∷ []) (make_int u8 (pos 2))
-    ∷ typed 2 3 0 (pos 0) None (typed_var 0 14 u8 ∷ []) (bind_any u8 0 ∷ match_var u8 0 ∷ match_var u8 0 ∷ match_any u8 ∷ []) (make_int u8 (pos 3)) ∷ [])
-    (codes "f" ∷ codes "x" ∷ [])
+use Rattle.isle_examples.specs.Stages.{TreeSample}
 
 abbrev pub emitted_first_set : SiteSet
 emitted_first_set = record {
@@ -46,5 +26,5 @@ emitted_first_tree = two_before (step [] (equal_at 1 2 (step [] (equal_at 0 1 (r
 abbrev pub emitted_first_near_trees : List Tree
 emitted_first_near_trees = two_before (step [] (equal_at 0 1 (step [] (equal_at 0 2 (returning [] 3 6 no_step)) no_step)) no_step) ∷ []
 
-abbrev pub emitted_first_sample : Sample
-emitted_first_sample = record { defs = emitted_first_defs; rules = emitted_first_rules; term = 0; multi = false; set = emitted_first_set; tree = emitted_first_tree; near_trees = emitted_first_near_trees }
+abbrev pub emitted_first_sample : TreeSample
+emitted_first_sample = record { multi = false; set = emitted_first_set; tree = emitted_first_tree; near_trees = emitted_first_near_trees }

@@ -4,28 +4,24 @@
 --   (decl f (u8) u8)
 --   (rule 1 (f (e 1)) 10)
 --   (rule (f (e x)) x)
-use Rattle.std.specs.Prelude.{◌≡◌, ◌∷◌, [], ◌++◌, pos, false, List, Some, None, codes}
+use Rattle.std.specs.Prelude.{◌∷◌, [], ◌++◌, pos, false, List, Some, None, codes}
 use Rattle.isle_model.specs.claims.Layers.{own_program}
 use Rattle.isle_model.specs.lists.Elaborated.{TypedRules}
-use Rattle.isle_model.specs.lists.KnownTypes.{types_of}
 use Rattle.isle_model.specs.lists.Syntax.{Definition, declaration}
-use Rattle.isle_model.specs.lists.Tables.{TermEntry}
-use Rattle.isle_model.specs.lists.TermTable.{converters, term_names_met}
 use Rattle.isle_model.specs.rules.Meaning.{Content, Meaning, nothing}
 use Rattle.isle_model.specs.rules.Outcome.{Outcome}
 use Rattle.isle_model.specs.rules.Program.{Program}
 use Rattle.isle_model.specs.rules.Typed.{TypedRule, make_int, make_var, match_int, match_term}
-use Rattle.isle_model.specs.sites.Demands.{demands_of}
 use Rattle.isle_model.specs.sites.RuleSets.{IsBuilt}
 use Rattle.isle_model.specs.sites.Serves.{Serves, TellsConstantsApart}
-use Rattle.isle_model.specs.sites.Sites.{SetRule, SiteSet, SiteTerm, argument_site, extractor_call, extractor_site, is_present, match_some_site, some_part}
+use Rattle.isle_model.specs.sites.Sites.{SetRule, SiteSet, argument_site, extractor_site, is_present, match_some_site}
 use Rattle.isle_model.specs.trees.Run.{World, world_of}
 use Rattle.isle_model.specs.trees.SetRuns.{IsTestedSet, ServesTests}
 use Rattle.isle_model.specs.trees.Trees.{Check, Tree, arm, match_at, no_step, step}
 use Rattle.isle_examples.specs.MeaningForms.{given, just_number, literal, mute, v}
-use Rattle.isle_examples.specs.SetForms.{a0, a_rule, asking, byte, byte_term, is_byte, one_arm, returning}
-use Rattle.isle_examples.specs.Stages.{HasTermTable, Sample, Ends}
-use Rattle.isle_examples.specs.TypedForms.{bind_any, by_extractor, by_rules, names_with, no_flags, number_term, q_list, rules_and_names, typed, typed_var, u8}
+use Rattle.isle_examples.specs.SetForms.{a_rule, byte, is_byte, one_arm, returning}
+use Rattle.isle_examples.specs.Stages.{Sample, Ends}
+use Rattle.isle_examples.specs.TypedForms.{bind_any, q_list, rules_and_names, typed, typed_var, u8}
 use Rattle.isle_examples.specs.Written.{extractor_by, f_of_bytes, int, number, numbers, of_f, rule_first, rule_to, term, var, variable}
 
 abbrev pub extract_defs : List Definition
@@ -33,15 +29,6 @@ extract_defs =
     declaration (numbers 0 (codes "e")) ∷ extractor_by 1 (codes "e") (codes "e_fn") ∷ f_of_bytes 2 1
     ∷ rule_first 3 (pos 1) (of_f 3 (term 3 (codes "e") (int 3 (pos 1) ∷ []) ∷ [])) (number 3 (pos 10))
     ∷ rule_to 4 (of_f 4 (term 4 (codes "e") (var 4 (codes "x") ∷ []) ∷ [])) (variable 4 (codes "x")) ∷ []
-
-abbrev pub extract_terms : List TermEntry
-extract_terms = number_term 0 0 13 (by_extractor no_flags 15 1) ∷ number_term 1 2 14 (by_rules no_flags) ∷ []
-
-abbrev pub ExtractTables : Type 0
-ExtractTables =
-    (term_names_met (types_of extract_defs) extract_defs ≡ names_with (codes "e" ∷ codes "f" ∷ codes "e_fn" ∷ []))
-    × HasTermTable extract_defs extract_terms
-    × (converters (types_of extract_defs) extract_defs ≡ [])
 
 abbrev pub extract_one : TypedRule
 extract_one = typed 0 3 1 (pos 1) None [] (match_term u8 0 (q_list (match_int u8 (pos 1) ∷ [])) ∷ []) (make_int u8 (pos 10))
@@ -54,16 +41,6 @@ extract_rules = rules_and_names (extract_one ∷ extract_any ∷ []) (codes "e" 
 
 abbrev pub extract_program : Program
 extract_program = own_program extract_defs extract_rules
-
-abbrev pub call_e : SiteTerm
-call_e = extractor_call 0 a0
-
--- the call is asked to answer, and its answer to be the literal
-abbrev pub ExtractDemands : Type 0
-ExtractDemands =
-    (demands_of extract_program extract_one
-    ≡ asking ((call_e, is_present) ∷ (some_part call_e, is_byte 1) ∷ []) [] (a0 ∷ call_e ∷ some_part call_e ∷ byte_term 10 ∷ []))
-    × (demands_of extract_program extract_any ≡ asking ((call_e, is_present) ∷ []) [] (a0 ∷ call_e ∷ some_part call_e ∷ []))
 
 abbrev pub ten_for_answer_one : SetRule
 ten_for_answer_one = a_rule 0 3 (pos 1) ((1, is_present) ∷ (2, is_byte 1) ∷ []) [] 3

@@ -9,13 +9,12 @@ use Rattle.isle_model.specs.lists.Syntax.{Definition}
 use Rattle.isle_model.specs.rules.Meaning.{Meaning}
 use Rattle.isle_model.specs.rules.Program.{Program}
 use Rattle.isle_model.specs.rules.Typed.{TypedRule, make_int, make_var, match_int}
-use Rattle.isle_model.specs.sites.Demands.{demands_of}
 use Rattle.isle_model.specs.sites.Overlap.{BuiltRule, IsSubsetPair, built_rules}
 use Rattle.isle_model.specs.sites.Sites.{SetRule, SiteSet, argument_site}
 use Rattle.isle_model.specs.trees.Run.{World, run}
 use Rattle.isle_model.specs.trees.Trees.{Tree, arm, match_at, no_step, step}
 use Rattle.isle_examples.specs.MeaningForms.{answers, given, literal, mute}
-use Rattle.isle_examples.specs.SetForms.{a0, a_rule, asking, byte, byte_term, is_byte, one_arm, returning}
+use Rattle.isle_examples.specs.SetForms.{a_rule, byte, is_byte, one_arm, returning}
 use Rattle.isle_examples.specs.Stages.{Sample}
 use Rattle.isle_examples.specs.TypedForms.{bind_any, rules_and_names, typed, typed_var, u8}
 use Rattle.isle_examples.specs.Written.{f_of_bytes, int, number, of_f, rule_first, rule_to, var, variable}
@@ -38,12 +37,6 @@ fall_rules = rules_and_names (fall_one ∷ fall_any ∷ []) (codes "f" ∷ codes
 
 abbrev pub fall_program : Program
 fall_program = own_program fall_defs fall_rules
-
--- what the rules demand
-abbrev pub FallDemands : Type 0
-FallDemands =
-    (demands_of fall_program fall_one ≡ asking ((a0, is_byte 1) ∷ []) [] (a0 ∷ byte_term 10 ∷ []))
-    × (demands_of fall_program fall_any ≡ asking [] [] (a0 ∷ []))
 
 -- the set of the rules
 abbrev pub ten_for_one : SetRule

@@ -3,41 +3,14 @@
 --   (rule 2 (f 1 5 _) 1)
 --   (rule 1 (f _ 2 7) 2)
 --   (rule 0 (f 1 _ 8) 3)
-use Rattle.std.specs.Prelude.{◌≡◌, ◌∷◌, [], ℕ, ℤ, pos, false, List, None, codes, map}
-use Rattle.isle_model.specs.claims.Layers.{TestsAreShared, own_program}
-use Rattle.isle_model.specs.lists.Elaborated.{TypedRules}
-use Rattle.isle_model.specs.lists.Syntax.{Definition}
-use Rattle.isle_model.specs.rules.Typed.{TypedPattern, TypedRule, make_int, match_any, match_int}
+use Rattle.std.specs.Prelude.{◌≡◌, ◌∷◌, [], ℕ, ℤ, pos, false, List, map}
+use Rattle.isle_model.specs.claims.Layers.{TestsAreShared}
 use Rattle.isle_model.specs.sites.Sites.{SiteSet, argument_site}
-use Rattle.isle_model.specs.trees.Run.{World, run, world_of}
+use Rattle.isle_model.specs.trees.Run.{World, run}
 use Rattle.isle_model.specs.trees.Trees.{Tree, arm, match_at, no_step, step}
 use Rattle.isle_examples.specs.MeaningForms.{answers, literal, mute, v}
 use Rattle.isle_examples.specs.SetForms.{a_rule, byte, is_byte, one_arm, returning}
-use Rattle.isle_examples.specs.Stages.{Sample}
-use Rattle.isle_examples.specs.TypedForms.{rules_and_names, typed, u8}
-use Rattle.isle_examples.specs.Written.{any, f_of_bytes, int, number, of_f, rule_first}
-
-abbrev pub hidden_defs : List Definition
-hidden_defs =
-    f_of_bytes 0 3
-    ∷ rule_first 1 (pos 2) (of_f 1 (int 1 (pos 1) ∷ int 1 (pos 5) ∷ any 1 ∷ [])) (number 1 (pos 1))
-    ∷ rule_first 2 (pos 1) (of_f 2 (any 2 ∷ int 2 (pos 2) ∷ int 2 (pos 7) ∷ [])) (number 2 (pos 2))
-    ∷ rule_first 3 (pos 0) (of_f 3 (int 3 (pos 1) ∷ any 3 ∷ int 3 (pos 8) ∷ [])) (number 3 (pos 3)) ∷ []
-
-abbrev pub asked_byte : ℤ → TypedPattern
-asked_byte z = match_int u8 z
-
--- the rule of this number, which answers the next one
-abbrev pub hidden_rule : ℕ → ℕ → ℤ → List TypedPattern → TypedRule
-hidden_rule id answer prio args = typed id answer 0 prio None [] args (make_int u8 (pos answer))
-
-abbrev pub hidden_rules : TypedRules
-hidden_rules =
-    rules_and_names
-    (hidden_rule 0 1 (pos 2) (asked_byte (pos 1) ∷ asked_byte (pos 5) ∷ match_any u8 ∷ [])
-    ∷ hidden_rule 1 2 (pos 1) (match_any u8 ∷ asked_byte (pos 2) ∷ asked_byte (pos 7) ∷ [])
-    ∷ hidden_rule 2 3 (pos 0) (asked_byte (pos 1) ∷ match_any u8 ∷ asked_byte (pos 8) ∷ []) ∷ [])
-    (codes "f" ∷ [])
+use Rattle.isle_examples.specs.Stages.{TreeSample}
 
 abbrev pub hidden_set : SiteSet
 hidden_set = record {
@@ -72,14 +45,17 @@ hidden_tree =
 abbrev pub hiding_tree : Tree
 hiding_tree = where_byte 0 1 (where_byte 1 5 first_returns (where_byte 2 8 third_returns no_step)) (where_byte 1 2 (where_byte 2 7 second_returns no_step) no_step)
 
-abbrev pub hidden_sample : Sample
-hidden_sample = record { defs = hidden_defs; rules = hidden_rules; term = 0; multi = false; set = hidden_set; tree = hidden_tree; near_trees = hiding_tree ∷ [] }
+abbrev pub hidden_sample : TreeSample
+hidden_sample = record { multi = false; set = hidden_set; tree = hidden_tree; near_trees = hiding_tree ∷ [] }
 
 -- a call of f
 abbrev pub hidden_world : ℤ → ℤ → ℤ → World
-hidden_world x y z =
-    world_of (own_program hidden_defs hidden_rules) 0 hidden_set.sites (mute (literal (pos 1) ∷ literal (pos 2) ∷ literal (pos 3) ∷ literal (pos 5) ∷ literal (pos 7) ∷ literal (pos 8) ∷ []))
-    (v x ∷ v y ∷ v z ∷ [])
+hidden_world x y z = record {
+  sites = hidden_set.sites;
+  args = v x ∷ v y ∷ v z ∷ [];
+  meaning = mute (literal (pos 1) ∷ literal (pos 2) ∷ literal (pos 3) ∷ literal (pos 5) ∷ literal (pos 7) ∷ literal (pos 8) ∷ []);
+  multi = false;
+}
 
 -- one that each rule matches
 abbrev pub hidden_worlds : List World

@@ -1,23 +1,27 @@
 -- Look-ups by the numbers of names and by pairs of types: what answers by a list, and environments that aren't read as its
 -- types and rules.
-use Rattle.std.specs.Prelude.{◌≡◌, ◌∷◌, [], ◌++◌, ℕ, true, false, List, Option, Some, None}
+use Rattle.std.specs.Prelude.{◌≡◌, ◌∷◌, [], ◌++◌, ℕ, true, false, List, Option, Some, None, codes}
 use Rattle.isle_model.specs.claims.Environments.{AreRulesOf, ConvertsBy, IsReadAs, TypeEnvironment, TypesRead, environment_of, shown_terms, term_environment_of, types_read}
 use Rattle.isle_model.specs.lists.KnownTypes.{types_of}
-use Rattle.isle_model.specs.lists.Syntax.{Definition}
+use Rattle.isle_model.specs.lists.Syntax.{Definition, type_definition}
 use Rattle.isle_model.specs.lists.Tables.{primitive_type}
 use Rattle.isle_model.specs.lists.TermTable.{converters}
 use Rattle.isle_model.specs.lists.TypeTable.{builtin_from, builtin_names}
 use Rattle.isle_laws_lists.specs.FurtherNames.{SpeaksOfNames}
-use Rattle.isle_examples.specs.Expansions.{conversions_defs, x_itself}
 use Rattle.isle_examples.specs.Fall.{fall_defs, fall_rules}
 use Rattle.isle_examples.specs.HandedIn.{one_type}
 use Rattle.isle_examples.specs.Stages.{own_setting}
 use Rattle.isle_examples.specs.TypedForms.{own, u8}
-use Rattle.isle_examples.specs.Written.{at}
+use Rattle.isle_examples.specs.Written.{at, constructor_by, conversion, declared, primitive}
 
--- (convert u8 V w) and (convert u8 u16 wide)
+-- (type V (primitive V)), (decl w (u16) V) and (decl wide (u8) u16), each with an external constructor, (convert u8 V w),
+-- (convert u8 u16 wide)
 abbrev pub two_conversions : List Definition
-two_conversions = conversions_defs x_itself
+two_conversions =
+    type_definition (primitive 0 (codes "V") (codes "V"))
+    ∷ declared 1 (codes "w") (codes "u16" ∷ []) (codes "V") ∷ constructor_by 2 (codes "w") (codes "w_fn")
+    ∷ declared 3 (codes "wide") (codes "u8" ∷ []) (codes "u16") ∷ constructor_by 4 (codes "wide") (codes "wide_fn")
+    ∷ conversion 5 (codes "u8") (codes "V") (codes "w") ∷ conversion 6 (codes "u8") (codes "u16") (codes "wide") ∷ []
 
 -- the look-up of their terms
 abbrev pub converter_looked_up : ℕ → ℕ → Option ℕ

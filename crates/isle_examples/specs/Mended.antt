@@ -1,25 +1,20 @@
 -- Samples that tell apart what a statement asks from what it might ask: the smallest inputs behind choices of statements.
-use Rattle.std.specs.Prelude.{◌≡◌, ◌∷◌, [], pos, false, List, None, All, IsTrue, is_some, slice_get, ℕ, true, codes, Some, option_map, Bool, map}
-use Rattle.isle_model.specs.rules.Meaning.{Meaning, nothing, many, look}
-use Rattle.isle_model.specs.sites.Sites.{SetRule, Site, SiteSet, argument_site, constructor_site, make_variant_site, sources_at, extractor_site, iterator_site, make_some_site, match_some_site, extractor_call, is_present, is_variant, match_variant_site}
+use Rattle.std.specs.Prelude.{◌≡◌, ◌∷◌, [], pos, false, List, None, All, IsTrue, is_some, slice_get, ℕ, true, codes, Some, Bool, map}
+use Rattle.isle_model.specs.rules.Meaning.{Meaning, nothing, look}
+use Rattle.isle_model.specs.sites.Sites.{SetRule, Site, SiteSet, argument_site, constructor_site, make_variant_site, sources_at, match_some_site, is_present, is_variant, match_variant_site}
 use Rattle.isle_model.specs.trees.Collects.{content_at, IsPureAt}
 use Rattle.isle_model.specs.trees.Places.{waits}
 use Rattle.isle_model.specs.trees.Run.{World, run, world_of}
 use Rattle.isle_model.specs.trees.SetRuns.{ServesTests, HasNoWrongOverlap, HoldsOnce}
-use Rattle.isle_model.specs.claims.Headline.{IsWithoutMulti}
 use Rattle.isle_model.specs.claims.Layers.{own_program, CheckReports, IsBuiltForSome, LoweredTerm, LoweringAnswers, RefusedBy}
-use Rattle.isle_model.specs.claims.SetMeanings.{AreRulesWithoutCalls, returning_once}
-use Rattle.isle_model.specs.lists.Elaborated.{TypedRules}
+use Rattle.isle_model.specs.claims.SetMeanings.{returning_once}
 use Rattle.isle_model.specs.lists.Syntax.{Definition, declaration}
-use Rattle.isle_model.specs.rules.Program.{Program, rules_of}
-use Rattle.isle_model.specs.sites.Serves.{Serves, TellsConstantsApart}
-use Rattle.isle_model.specs.rules.Typed.{TypedRule, make_int, make_var, match_int, match_term, make_term, match_any}
-use Rattle.isle_model.specs.sites.Limits.{sites_after_rules}
-use Rattle.isle_model.specs.sites.Overlap.{BuiltRule, Overlaps, built_rule, RuleReport}
-use Rattle.isle_model.specs.rules.Outcome.{Outcome, failed, ran_through}
-use Rattle.isle_model.specs.rules.Picks.{Pick, matches_under, right_side_under}
+use Rattle.isle_model.specs.rules.Program.{Program}
+use Rattle.isle_model.specs.rules.Typed.{TypedRule, make_int, match_any}
+use Rattle.isle_model.specs.sites.Overlap.{RuleReport}
+use Rattle.isle_model.specs.rules.Outcome.{ran_through}
 use Rattle.isle_model.specs.rules.RightSide.{right_side}
-use Rattle.isle_model.specs.trees.Trees.{Tree, loop_at, no_step, step}
+use Rattle.isle_model.specs.trees.Trees.{Tree, no_step}
 use Rattle.std.specs.Bool.{◌==◌}
 use Rattle.isle_model.specs.claims.Environments.{AnswersBy, PassesNesting, TermEnvironment, TypeEnvironment, types_read, shown_terms, environment_of}
 use Rattle.isle_model.specs.claims.Refusals.{of_nesting, past_limit}
@@ -31,10 +26,10 @@ use Rattle.isle_model.specs.lists.TypeTable.{type_table}
 use Rattle.isle_laws_lists.specs.QuestionLaws.{IsVariantsTerm}
 use Rattle.isle_model.specs.trees.Best.{total_constraints}
 use Rattle.isle_examples.specs.Effects.{effects_defs, effects_rule, effects_rules, effects_set}
-use Rattle.isle_examples.specs.MeaningForms.{given, literal, mute, all_of, alone, answers, v}
-use Rattle.isle_examples.specs.SetForms.{a_rule, byte, is_byte, a0, returning}
-use Rattle.isle_examples.specs.TypedForms.{own, bind_any, q_list, rules_and_names, typed, typed_var, u8, e_list, by_constructor, by_extractor, entry, no_flags}
-use Rattle.isle_examples.specs.Written.{extractor_by, f_of_bytes, int, number, numbers, of_f, rule_first, rule_to, term, var, variable, any, call, constructor_by, at}
+use Rattle.isle_examples.specs.MeaningForms.{given, literal, mute, answers}
+use Rattle.isle_examples.specs.SetForms.{a_rule, byte, is_byte, returning}
+use Rattle.isle_examples.specs.TypedForms.{own, rules_and_names, typed, u8, by_constructor, by_extractor, entry, no_flags}
+use Rattle.isle_examples.specs.Written.{f_of_bytes, number, numbers, of_f, rule_to, variable, any, at}
 use Rattle.isle_examples.specs.Fall.{fall_defs, fall_rules}
 use Rattle.isle_examples.specs.Refused.{two_of_one_name}
 
@@ -74,52 +69,6 @@ AboveCallsNothingIsAsked =
     × (content_at wrapped_world [] 3 ≡ None)
     × ServesTests wrapped_set wrapped_world
 
--- 2. Of two rules that use no multi extractor, a third one may use one.
---   (decl multi me (u8) u8)
---   (extern extractor me me_fn)
---   (decl f (u8) u8)
---   (rule 1 (f (me x)) x)
---   (rule (f 1) 1)
---   (rule (f 2) 2)
-abbrev pub third_defs : List Definition
-third_defs =
-    declaration (record (numbers 0 (codes "me")) { multi = true }) ∷ extractor_by 1 (codes "me") (codes "me_fn") ∷ f_of_bytes 2 1
-    ∷ rule_first 3 (pos 1) (of_f 3 (term 3 (codes "me") (var 3 (codes "x") ∷ []) ∷ [])) (variable 3 (codes "x"))
-    ∷ rule_to 4 (of_f 4 (int 4 (pos 1) ∷ [])) (number 4 (pos 1)) ∷ rule_to 5 (of_f 5 (int 5 (pos 2) ∷ [])) (number 5 (pos 2)) ∷ []
-
-abbrev pub third_rule : TypedRule
-third_rule = typed 0 3 1 (pos 1) None (typed_var 0 16 u8 ∷ []) (match_term u8 0 (q_list (bind_any u8 0 ∷ [])) ∷ []) (make_var u8 0)
-
-abbrev pub one_to_one : TypedRule
-one_to_one = typed 1 4 1 (pos 0) None [] (match_int u8 (pos 1) ∷ []) (make_int u8 (pos 1))
-
-abbrev pub two_to_two : TypedRule
-two_to_two = typed 2 5 1 (pos 0) None [] (match_int u8 (pos 2) ∷ []) (make_int u8 (pos 2))
-
-abbrev pub third_rules : TypedRules
-third_rules = rules_and_names (third_rule ∷ one_to_one ∷ two_to_two ∷ []) (codes "me" ∷ codes "f" ∷ codes "me_fn" ∷ codes "x" ∷ [])
-
-abbrev pub third_program : Program
-third_program = own_program third_defs third_rules
-
-abbrev pub built_one : BuiltRule
-built_one = built_rule third_program (sites_after_rules third_program [] (third_rule ∷ [])) one_to_one
-
-abbrev pub built_two : BuiltRule
-built_two = built_rule third_program (sites_after_rules third_program [] (third_rule ∷ one_to_one ∷ [])) two_to_two
-
--- the term uses a multi extractor; the two rules go over no calls, and don't overlap
-abbrev pub ThirdRulesDontCount : Type 0
-ThirdRulesDontCount = (IsWithoutMulti third_program 1 → ⊥) × AreRulesWithoutCalls third_program 1 built_one built_two × (Overlaps built_one.demands built_two.demands → ⊥)
-
--- me answers 1 alone at 1
-abbrev pub third_meaning : Meaning
-third_meaning = record (mute (literal (pos 1) ∷ literal (pos 2) ∷ [])) { extractor_calls = ((0, v (pos 1)), many (all_of (pos 1 ∷ []))) ∷ [] }
-
--- on 1 this meaning has what all three rules ask, and tells 1 and 2 apart; so of these two only the one for 1 matches
-abbrev pub ThirdIsServed : Type 0
-ThirdIsServed = Serves third_program third_meaning (given (pos 1)) (rules_of third_program 1) × TellsConstantsApart third_program third_meaning (rules_of third_program 1)
-
 -- 3. Binding one rule's sites doesn't depend on whether the term is multi.
 --   (decl multi f (u8) u8)
 --   (rule (f _) 7)
@@ -148,52 +97,6 @@ ReturnsOfMultiTermsGoOn =
     (right_side seven_program seven_meaning seven_rule [] ≡ answers (pos 7))
     × (run seven_tree (returning_once seven_world) ≡ answers (pos 7))
     × ((run seven_tree seven_world).ending ≡ ran_through)
-
--- And under a pick, a right side may fail.
---   (decl multi me (u8) u8)
---   (extern extractor me me_fn)
---   (decl pure partial pp (u8) u8)
---   (extern constructor pp pp_fn)
---   (decl partial f (u8) u8)
---   (rule (f (me x)) (pp x))
-abbrev pub picked_defs : List Definition
-picked_defs =
-    declaration (record (numbers 0 (codes "me")) { multi = true }) ∷ extractor_by 1 (codes "me") (codes "me_fn")
-    ∷ declaration (record (numbers 2 (codes "pp")) { pure = true; partial = true }) ∷ constructor_by 3 (codes "pp") (codes "pp_fn")
-    ∷ declaration (record (numbers 4 (codes "f")) { partial = true })
-    ∷ rule_to 5 (of_f 5 (term 5 (codes "me") (var 5 (codes "x") ∷ []) ∷ [])) (call 5 (codes "pp") (variable 5 (codes "x") ∷ [])) ∷ []
-
-abbrev pub picked_rule : TypedRule
-picked_rule = typed 0 5 2 (pos 0) (Some 15) (typed_var 0 18 u8 ∷ []) (match_term u8 0 (q_list (bind_any u8 0 ∷ [])) ∷ []) (make_term u8 1 (e_list (make_var u8 0 ∷ [])))
-
-abbrev pub picked_program : Program
-picked_program = own_program picked_defs (rules_and_names (picked_rule ∷ []) (codes "me" ∷ codes "pp" ∷ codes "f" ∷ codes "me_fn" ∷ codes "pp_fn" ∷ codes "x" ∷ []))
-
-abbrev pub picked_sites : List Site
-picked_sites = argument_site 0 ∷ extractor_site 0 0 ∷ iterator_site 1 ∷ constructor_site 1 (2 ∷ []) 0 ∷ match_some_site 3 ∷ make_some_site 4 ∷ []
-
--- the extractor answers 5 on 1, and on 5 the constructor answers nothing
-abbrev pub picked_meaning : Meaning
-picked_meaning = record (mute []) { extractor_calls = ((0, v (pos 1)), many (all_of (pos 5 ∷ []))) ∷ []; pure_calls = ((1, alone (pos 5)), nothing) ∷ [] }
-
-abbrev pub picked_world : World
-picked_world = world_of picked_program 2 picked_sites picked_meaning (given (pos 1))
-
-abbrev pub picked_first : Pick
-picked_first = (extractor_call 0 a0, 0) ∷ []
-
--- the call is gone over, and the rule returns
-abbrev pub picked_tree : Tree
-picked_tree = step (1 ∷ []) (loop_at 2 (returning (3 ∷ 4 ∷ 5 ∷ []) 5 5 no_step)) no_step
-
-abbrev pub ends_in_failure : Outcome
-ends_in_failure = record { calls = []; results = []; ending = failed }
-
--- under the pick the right side fails, and so does binding the result after the call is gone over: it isn't stuck
-abbrev pub RightSidesFailUnderPicks : Type 0
-RightSidesFailUnderPicks =
-    (option_map (right_side_under picked_program picked_meaning picked_first picked_rule) (matches_under picked_program picked_meaning picked_first picked_rule (given (pos 1))) ≡ Some ends_in_failure)
-    × (run picked_tree (returning_once picked_world) ≡ ends_in_failure)
 
 -- 7. In a set with a wrong overlap two rules of one priority may be taken; else at most one.
 --   (decl f (u8) u8)

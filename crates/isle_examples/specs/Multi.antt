@@ -4,28 +4,26 @@
 --   (decl multi f (u8) u8)
 --   (rule (f x) (m x))
 --   (rule (f 1) 9)
-use Rattle.std.specs.Prelude.{◌≡◌, ◌∷◌, [], ℕ, ℤ, pos, true, false, List, None, Some, codes, is_some, All, Contains, IsTrue}
+use Rattle.std.specs.Prelude.{◌≡◌, ◌∷◌, [], ℕ, ℤ, pos, true, List, None, Some, codes, is_some, All, Contains, IsTrue}
 use Rattle.isle_model.specs.claims.SetMeanings.{returning_once}
 use Rattle.isle_model.specs.claims.Layers.{BindsBeforeUse, own_program}
 use Rattle.isle_model.specs.lists.Elaborated.{TypedRules}
 use Rattle.isle_model.specs.lists.Syntax.{Definition, declaration}
-use Rattle.isle_model.specs.lists.Tables.{TermEntry}
 use Rattle.isle_model.specs.rules.Meaning.{Meaning, many}
 use Rattle.isle_model.specs.rules.Outcome.{ran_through}
 use Rattle.isle_model.specs.rules.Picks.{Pick, SitedVars, bag, matches_under, picks, right_side_under}
 use Rattle.isle_model.specs.rules.Program.{Program}
 use Rattle.isle_model.specs.rules.Typed.{TypedRule, make_int, make_term, make_var, match_int}
-use Rattle.isle_model.specs.sites.Demands.{demands_of}
 use Rattle.isle_model.specs.sites.Serves.{Serves, TellsConstantsApart}
-use Rattle.isle_model.specs.sites.Sites.{SetRule, SiteSet, SiteTerm, argument_site, constructor_call, constructor_site, iterator_site, pick_of}
+use Rattle.isle_model.specs.sites.Sites.{SetRule, SiteSet, SiteTerm, argument_site, constructor_call, constructor_site, iterator_site}
 use Rattle.isle_model.specs.trees.Collects.{Collects, CollectsTheBag, HasCollectedResults, IsCollectedSet, ServesSet, as_list, content_at, set_bag}
 use Rattle.isle_model.specs.trees.Run.{World, run, world_of}
 use Rattle.isle_model.specs.trees.SetRuns.{IsTakenUnder}
 use Rattle.isle_model.specs.trees.Trees.{Tree, loop_at, match_at, no_step, step}
 use Rattle.isle_examples.specs.MeaningForms.{all_of, alone, answers, each, given, literal, mute}
-use Rattle.isle_examples.specs.SetForms.{a0, a_rule, asking, byte, byte_term, is_byte, one_arm, one_source, returning}
+use Rattle.isle_examples.specs.SetForms.{a0, a_rule, byte, is_byte, one_arm, one_source, returning}
 use Rattle.isle_examples.specs.Stages.{Sample}
-use Rattle.isle_examples.specs.TypedForms.{bind_any, by_constructor, by_rules, e_list, flags, number_term, rules_and_names, typed, typed_var, u8}
+use Rattle.isle_examples.specs.TypedForms.{bind_any, e_list, rules_and_names, typed, typed_var, u8}
 use Rattle.isle_examples.specs.Written.{call, constructor_by, int, number, numbers, of_f, rule_to, var, variable}
 
 abbrev pub multi_defs : List Definition
@@ -34,9 +32,6 @@ multi_defs =
     ∷ declaration (record (numbers 2 (codes "f")) { multi = true })
     ∷ rule_to 3 (of_f 3 (var 3 (codes "x") ∷ [])) (call 3 (codes "m") (variable 3 (codes "x") ∷ []))
     ∷ rule_to 4 (of_f 4 (int 4 (pos 1) ∷ [])) (number 4 (pos 9)) ∷ []
-
-abbrev pub multi_terms : List TermEntry
-multi_terms = number_term 0 0 13 (by_constructor (flags true true false) 15) ∷ number_term 1 2 14 (by_rules (flags false true false)) ∷ []
 
 abbrev pub each_m : TypedRule
 each_m = typed 0 3 1 (pos 0) None (typed_var 0 16 u8 ∷ []) (bind_any u8 0 ∷ []) (make_term u8 0 (e_list (make_var u8 0 ∷ [])))
@@ -52,12 +47,6 @@ multi_program = own_program multi_defs multi_rules
 
 abbrev pub call_m : SiteTerm
 call_m = constructor_call 0 (one_source a0) 0
-
--- the call is gone over
-abbrev pub MultiDemands : Type 0
-MultiDemands =
-    (demands_of multi_program each_m ≡ record (asking [] [] (a0 ∷ call_m ∷ pick_of call_m ∷ [])) { iterators = call_m ∷ [] })
-    × (demands_of multi_program nine ≡ asking ((a0, is_byte 1) ∷ []) [] (a0 ∷ byte_term 9 ∷ []))
 
 abbrev pub each_of_m : SetRule
 each_of_m = record (a_rule 0 3 (pos 0) [] [] 2) { iterators = 1 ∷ [] }

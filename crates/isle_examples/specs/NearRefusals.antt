@@ -8,9 +8,8 @@ use Rattle.isle_model.specs.lists.Syntax.{Definition}
 use Rattle.isle_model.specs.rules.Program.{Program}
 use Rattle.isle_model.specs.sites.Overlap.{HasDistinctPositions, RuleReport, rules_overlap}
 use Rattle.isle_examples.specs.Fall.{fall_any, fall_defs, fall_one}
-use Rattle.isle_examples.specs.Refused.{unbound}
+use Rattle.isle_examples.specs.Refused.{unbound, term_twice}
 use Rattle.isle_examples.specs.Stages.{IsAcceptedBoth}
-use Rattle.isle_examples.specs.TermLists.{term_twice}
 use Rattle.isle_examples.specs.TypedForms.{rules_and_names}
 use Rattle.isle_examples.specs.Written.{any, at, f_of_bytes, int, number, of_f, rule_first, rule_to, rule_to_one, var, variable}
 

@@ -4,23 +4,21 @@
 --   (decl partial f (u8) u8)
 --   (rule 1 (f 1) (g 1))
 --   (rule (f _) 7)
-use Rattle.std.specs.Prelude.{◌≡◌, ◌∷◌, [], ℤ, pos, true, false, List, None, codes}
+use Rattle.std.specs.Prelude.{◌∷◌, [], ℤ, pos, true, false, List, None, codes}
 use Rattle.isle_model.specs.claims.Layers.{own_program}
 use Rattle.isle_model.specs.lists.Elaborated.{TypedRules}
 use Rattle.isle_model.specs.lists.Syntax.{Definition, declaration}
-use Rattle.isle_model.specs.lists.Tables.{TermEntry}
 use Rattle.isle_model.specs.rules.Meaning.{Content, Meaning, nothing}
 use Rattle.isle_model.specs.rules.Outcome.{Call, Outcome}
 use Rattle.isle_model.specs.rules.Program.{Program}
 use Rattle.isle_model.specs.rules.Typed.{TypedRule, make_int, make_term, match_any, match_int}
-use Rattle.isle_model.specs.sites.Demands.{demands_of}
 use Rattle.isle_model.specs.sites.Serves.{Serves, TellsConstantsApart}
-use Rattle.isle_model.specs.sites.Sites.{SiteSet, SiteTerm, argument_site, constructor_call, constructor_site, make_some_site, match_some_site, some_made, some_part}
+use Rattle.isle_model.specs.sites.Sites.{SiteSet, argument_site, constructor_site, make_some_site, match_some_site}
 use Rattle.isle_model.specs.trees.Trees.{Tree, match_at, no_step, step}
 use Rattle.isle_examples.specs.MeaningForms.{alone, given, literal, mute}
-use Rattle.isle_examples.specs.SetForms.{a0, a_rule, asking, byte, byte_term, is_byte, one_arm, one_source, returning}
+use Rattle.isle_examples.specs.SetForms.{a_rule, byte, is_byte, one_arm, returning}
 use Rattle.isle_examples.specs.Stages.{Sample, Ends}
-use Rattle.isle_examples.specs.TypedForms.{by_constructor, by_rules, e_list, flags, number_term, rules_and_names, typed, u8}
+use Rattle.isle_examples.specs.TypedForms.{e_list, rules_and_names, typed, u8}
 use Rattle.isle_examples.specs.Written.{any, call, constructor_by, int, number, numbers, of_f, rule_first, rule_to}
 
 abbrev pub partial_defs : List Definition
@@ -29,9 +27,6 @@ partial_defs =
     ∷ declaration (record (numbers 2 (codes "f")) { partial = true })
     ∷ rule_first 3 (pos 1) (of_f 3 (int 3 (pos 1) ∷ [])) (call 3 (codes "g") (number 3 (pos 1) ∷ []))
     ∷ rule_to 4 (of_f 4 (any 4 ∷ [])) (number 4 (pos 7)) ∷ []
-
-abbrev pub partial_terms : List TermEntry
-partial_terms = number_term 0 0 13 (by_constructor (flags false false true) 15) ∷ number_term 1 2 14 (by_rules (flags false false true)) ∷ []
 
 abbrev pub partial_call : TypedRule
 partial_call = typed 0 3 1 (pos 1) None [] (match_int u8 (pos 1) ∷ []) (make_term u8 0 (e_list (make_int u8 (pos 1) ∷ [])))
@@ -44,16 +39,6 @@ partial_rules = rules_and_names (partial_call ∷ partial_any ∷ []) (codes "g"
 
 abbrev pub partial_program : Program
 partial_program = own_program partial_defs partial_rules
-
-abbrev pub call_g : SiteTerm
-call_g = constructor_call 0 (one_source (byte_term 1)) 1
-
--- the call is made and unwrapped, and nothing is asked of it
-abbrev pub PartialDemands : Type 0
-PartialDemands =
-    (demands_of partial_program partial_call
-    ≡ record (asking ((a0, is_byte 1) ∷ []) [] (a0 ∷ byte_term 1 ∷ call_g ∷ some_part call_g ∷ some_made (some_part call_g) ∷ [])) { impure = some_part call_g ∷ [] })
-    × (demands_of partial_program partial_any ≡ asking [] [] (a0 ∷ byte_term 7 ∷ some_made (byte_term 7) ∷ []))
 
 abbrev pub partial_set : SiteSet
 partial_set = record {

@@ -12,15 +12,14 @@ use Rattle.isle_model.specs.rules.Outcome.{ran_through}
 use Rattle.isle_model.specs.rules.Picks.{Pick, bag, matches_under, picks}
 use Rattle.isle_model.specs.rules.Program.{Program, rules_of}
 use Rattle.isle_model.specs.rules.Typed.{TypedRule, make_int, match_int, match_term}
-use Rattle.isle_model.specs.sites.Demands.{demands_of}
 use Rattle.isle_model.specs.sites.Serves.{Serves, TellsConstantsApart}
-use Rattle.isle_model.specs.sites.Sites.{SetRule, SiteSet, argument_site, extractor_site, iterator_site, pick_of}
+use Rattle.isle_model.specs.sites.Sites.{SetRule, SiteSet, argument_site, extractor_site, iterator_site}
 use Rattle.isle_model.specs.trees.Collects.{CollectsTheBag, HasCollectedResults, demands_hold, set_bag}
 use Rattle.isle_model.specs.trees.Run.{World, run, world_of}
 use Rattle.isle_model.specs.trees.Trees.{Tree, loop_at, match_at, no_step, step}
 use Rattle.isle_examples.specs.MeaningForms.{all_of, each, given, literal, mute, v}
 use Rattle.isle_examples.specs.PickedAnswers.{call_me}
-use Rattle.isle_examples.specs.SetForms.{a0, a_rule, asking, byte, byte_term, is_byte, one_arm, returning}
+use Rattle.isle_examples.specs.SetForms.{a_rule, byte, is_byte, one_arm, returning}
 use Rattle.isle_examples.specs.Stages.{Sample}
 use Rattle.isle_examples.specs.TypedForms.{q_list, rules_and_names, typed, u8}
 use Rattle.isle_examples.specs.Written.{extractor_by, int, number, numbers, of_f, rule_to, term}
@@ -39,12 +38,6 @@ picked_number_rules = rules_and_names (picked_number_rule ∷ []) (codes "me" �
 
 abbrev pub picked_number_program : Program
 picked_number_program = own_program picked_number_defs picked_number_rules
-
--- the call is gone over, and the answer that is picked must be 1
-abbrev pub PickedNumberDemands : Type 0
-PickedNumberDemands =
-    demands_of picked_number_program picked_number_rule
-    ≡ record (asking ((pick_of call_me, is_byte 1) ∷ []) [] (a0 ∷ call_me ∷ pick_of call_me ∷ byte_term 7 ∷ [])) { iterators = call_me ∷ [] }
 
 abbrev pub seven_for_one : SetRule
 seven_for_one = record (a_rule 0 3 (pos 0) ((2, is_byte 1) ∷ []) [] 3) { name = Some 14; iterators = 1 ∷ [] }

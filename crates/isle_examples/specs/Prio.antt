@@ -3,40 +3,11 @@
 --   (rule 2 (f 1 5) 12)
 --   (rule 1 (f _ 2) 11)
 --   (rule (f 1 _) 10)
-use Rattle.std.specs.Prelude.{◌∷◌, [], pos, false, List, None, codes}
-use Rattle.isle_model.specs.claims.Layers.{own_program}
-use Rattle.isle_model.specs.lists.Elaborated.{TypedRules}
-use Rattle.isle_model.specs.lists.Syntax.{Definition}
-use Rattle.isle_model.specs.rules.Program.{Program}
-use Rattle.isle_model.specs.rules.Typed.{TypedRule, make_int, match_any, match_int}
+use Rattle.std.specs.Prelude.{◌∷◌, [], pos, false, List}
 use Rattle.isle_model.specs.sites.Sites.{Constraint, SiteSet, argument_site}
 use Rattle.isle_model.specs.trees.Trees.{Tree, arm, match_at, no_step, step}
 use Rattle.isle_examples.specs.SetForms.{a_rule, byte, is_byte, one_arm, returning}
-use Rattle.isle_examples.specs.Stages.{Sample}
-use Rattle.isle_examples.specs.TypedForms.{rules_and_names, typed, u8}
-use Rattle.isle_examples.specs.Written.{any, f_of_bytes, int, number, of_f, rule_first, rule_to}
-
-abbrev pub prio_defs : List Definition
-prio_defs =
-    f_of_bytes 0 2
-    ∷ rule_first 1 (pos 2) (of_f 1 (int 1 (pos 1) ∷ int 1 (pos 5) ∷ [])) (number 1 (pos 12))
-    ∷ rule_first 2 (pos 1) (of_f 2 (any 2 ∷ int 2 (pos 2) ∷ [])) (number 2 (pos 11))
-    ∷ rule_to 3 (of_f 3 (int 3 (pos 1) ∷ any 3 ∷ [])) (number 3 (pos 10)) ∷ []
-
-abbrev pub one_and_five : TypedRule
-one_and_five = typed 0 1 0 (pos 2) None [] (match_int u8 (pos 1) ∷ match_int u8 (pos 5) ∷ []) (make_int u8 (pos 12))
-
-abbrev pub any_and_two : TypedRule
-any_and_two = typed 1 2 0 (pos 1) None [] (match_any u8 ∷ match_int u8 (pos 2) ∷ []) (make_int u8 (pos 11))
-
-abbrev pub one_and_any : TypedRule
-one_and_any = typed 2 3 0 (pos 0) None [] (match_int u8 (pos 1) ∷ match_any u8 ∷ []) (make_int u8 (pos 10))
-
-abbrev pub prio_rules : TypedRules
-prio_rules = rules_and_names (one_and_five ∷ any_and_two ∷ one_and_any ∷ []) (codes "f" ∷ [])
-
-abbrev pub prio_program : Program
-prio_program = own_program prio_defs prio_rules
+use Rattle.isle_examples.specs.Stages.{TreeSample}
 
 abbrev pub prio_set : SiteSet
 prio_set = record {
@@ -103,5 +74,5 @@ prio_alone =
 abbrev pub prio_near_trees : List Tree
 prio_near_trees = prio_exchanged ∷ prio_leaves_out ∷ prio_takes_in ∷ prio_arms_exchanged ∷ prio_other_arm ∷ prio_alone ∷ []
 
-abbrev pub prio_sample : Sample
-prio_sample = record { defs = prio_defs; rules = prio_rules; term = 0; multi = false; set = prio_set; tree = prio_tree; near_trees = prio_near_trees }
+abbrev pub prio_sample : TreeSample
+prio_sample = record { multi = false; set = prio_set; tree = prio_tree; near_trees = prio_near_trees }

@@ -1,4 +1,4 @@
--- Reports of samples: a mask and a wrong overlap are each reported once; multi calls are gone over; a rule can't match.
+-- Reports of samples: a mask and a wrong overlap are each reported once; multi calls are gone over.
 use Rattle.std.specs.Prelude.{◌∷◌, []}
 use Rattle.isle_model.specs.sites.DemandedGates.{GoesOverMultiCalls, HasNoPartialMulti}
 use Rattle.isle_model.specs.sites.Demands.{demands_of}

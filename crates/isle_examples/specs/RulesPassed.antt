@@ -2,15 +2,16 @@
 -- the second one is added; a rule of 257 arguments meets a limit, and 256 arguments stay.
 use Rattle.std.specs.Prelude.{◌∷◌, [], ℕ, Option, Some, None, if◌then◌else◌, map}
 use Rattle.std.specs.Bool.{◌==◌}
+use Rattle.isle_model.specs.rules.Program.{Program}
 use Rattle.isle_model.specs.sites.Limits.{arguments_limit}
 use Rattle.isle_model.specs.sites.Overlap.{limit_passed}
 use Rattle.isle_model.specs.sites.Sites.{SiteSet, argument_site}
 use Rattle.isle_model.specs.trees.Tests.{up_to}
 use Rattle.isle_laws_demands.specs.RuleByRule.{AreBuiltSoFar, BuildsRule, GoesPast, nothing_built}
 use Rattle.isle_examples.specs.Answered.{one_or_two_asked}
-use Rattle.isle_examples.specs.FormedRules.{wide_rule}
+use Rattle.isle_examples.specs.FormedRules.{f_alone, wide_rule}
 use Rattle.isle_examples.specs.LeftOver.{any_rule, left_over_program, left_over_rules, left_over_set, never_rule}
-use Rattle.isle_examples.specs.WideRule.{wide_program}
+use Rattle.isle_examples.specs.TypedForms.{no_flags}
 use Rattle.isle_examples.specs.Written.{at}
 
 -- the set after the first rule
@@ -30,6 +31,10 @@ pub record LeftOverGoesOn : Type 0 where
 -- without the report the first step is none
 abbrev pub ReportsAreNotDropped : Type 0
 ReportsAreNotDropped = BuildsRule left_over_program [] never_rule (λ t. None) (set_of_f after_never) [] → ⊥
+
+-- (rule (f _ .. _) 1) of 257 arguments
+abbrev pub wide_program : Program
+wide_program = record (f_alone no_flags []) { rules = wide_rule 257 ∷ [] }
 
 -- the sites of 256 arguments
 abbrev pub arguments_made : SiteSet

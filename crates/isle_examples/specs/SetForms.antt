@@ -1,6 +1,6 @@
 -- Short forms of sites, of sets of rules, and of trees.
 use Rattle.std.specs.Prelude.{ℕ, ℤ, pos, List, [], Option, None}
-use Rattle.isle_model.specs.sites.Sites.{Site, int_site, Constraint, is_int, SetRule, SiteTerm, int_term, argument, variant_field, no_site_term, site_term_and, SiteTerms}
+use Rattle.isle_model.specs.sites.Sites.{Site, int_site, Constraint, is_int, SetRule, SiteTerm, argument, no_site_term, site_term_and, SiteTerms}
 use Rattle.isle_model.specs.sites.Demands.{Demands}
 use Rattle.isle_model.specs.trees.Trees.{Tree, step, return_at, Arms, no_arm, arm}
 use Rattle.isle_examples.specs.Written.{at}
@@ -12,9 +12,6 @@ is_byte n = is_int (pos n) 1
 abbrev pub byte : ℕ → Site
 byte n = int_site (pos n) 1
 
-abbrev pub byte_term : ℕ → SiteTerm
-byte_term n = int_term (pos n) 1
-
 -- the first three arguments
 abbrev pub a0 : SiteTerm
 a0 = argument 0
@@ -24,10 +21,6 @@ a1 = argument 1
 
 abbrev pub a2 : SiteTerm
 a2 = argument 2
-
--- the one field of the one variant of a type
-abbrev pub field_of : SiteTerm → SiteTerm
-field_of s = variant_field s 0 0
 
 -- one source of a call
 abbrev pub one_source : SiteTerm → SiteTerms

@@ -4,7 +4,7 @@
 --   (decl multi f (u8) u8)
 --   (rule (f x) (p x))
 --   (rule (f x) (p (p x)))
-use Rattle.std.specs.Prelude.{◌≡◌, ◌∷◌, [], ℕ, ℤ, pos, true, List, None, map, codes}
+use Rattle.std.specs.Prelude.{◌≡◌, ◌∷◌, [], ℕ, ℤ, pos, true, List, None, codes}
 use Rattle.isle_model.specs.claims.Layers.{own_program}
 use Rattle.isle_model.specs.lists.Elaborated.{TypedRules}
 use Rattle.isle_model.specs.lists.Syntax.{Definition, ExprTree, declaration}
@@ -14,14 +14,12 @@ use Rattle.isle_model.specs.rules.Picks.{bag}
 use Rattle.isle_model.specs.rules.Program.{Program}
 use Rattle.isle_model.specs.rules.Typed.{TypedExpr, make_term, make_var}
 use Rattle.isle_model.specs.rules.Values.{Values}
-use Rattle.isle_model.specs.sites.Demands.{demands_of}
-use Rattle.isle_model.specs.sites.Sites.{SiteSet, SiteTerm, argument_site, constructor_call, constructor_site}
+use Rattle.isle_model.specs.sites.Sites.{SiteSet, argument_site, constructor_site}
 use Rattle.isle_model.specs.trees.Collects.{set_bag}
 use Rattle.isle_model.specs.trees.Run.{World, run, world_of}
 use Rattle.isle_model.specs.trees.Trees.{Tree, no_step}
 use Rattle.isle_examples.specs.MeaningForms.{alone, each, given, mute, v}
-use Rattle.isle_examples.specs.SetForms.{a0, a_rule, asking, one_source, returning}
-use Rattle.isle_examples.specs.Stages.{Sample}
+use Rattle.isle_examples.specs.SetForms.{a_rule, returning}
 use Rattle.isle_examples.specs.TypedForms.{bind_any, e_list, rules_and_names, typed, typed_var, u8}
 use Rattle.isle_examples.specs.Written.{call, constructor_by, numbers, of_f, rule_to, var, variable}
 
@@ -55,20 +53,8 @@ shared_set = record {
 abbrev pub shared_tree : Tree
 shared_tree = returning (1 ∷ []) 3 1 (returning (2 ∷ []) 4 2 no_step)
 
-abbrev pub shared_sample : Sample
-shared_sample = record { defs = shared_defs; rules = shared_rules; term = 1; multi = true; set = shared_set; tree = shared_tree; near_trees = [] }
-
 abbrev pub shared_program : Program
 shared_program = own_program shared_defs shared_rules
-
-abbrev pub call_of_p : SiteTerm → SiteTerm
-call_of_p s = constructor_call 0 (one_source s) 0
-
--- nothing is asked of the calls, which always answer
-abbrev pub SharedDemands : Type 0
-SharedDemands =
-    map (demands_of shared_program) shared_rules.rules
-    ≡ asking [] [] (a0 ∷ call_of_p a0 ∷ []) ∷ asking [] [] (a0 ∷ call_of_p a0 ∷ call_of_p (call_of_p a0) ∷ []) ∷ []
 
 -- p answers 2 at 1, and this at 2
 abbrev pub shared_meaning : List ((ℕ × Values) × Content) → Meaning

@@ -1,29 +1,25 @@
 -- The claims on the stages of a sample: what its list of definitions becomes, what its set is built of, and what its tree is.
-use Rattle.std.specs.Prelude.{◌≡◌, ℕ, Bool, true, false, List, [], ◌∷◌, Option, None}
+use Rattle.std.specs.Prelude.{◌≡◌, ℕ, Bool, true, false, List, [], ◌∷◌}
 use Rattle.isle_model.specs.lists.Syntax.{Definition}
 use Rattle.isle_model.specs.lists.Setting.{Setting}
-use Rattle.isle_model.specs.lists.TypeTable.{IsValidTypes}
-use Rattle.isle_model.specs.lists.TermTable.{rule_trees, term_names_met, term_table, IsValidTerms}
+use Rattle.isle_model.specs.lists.TermTable.{IsValidTerms}
 use Rattle.isle_model.specs.lists.KnownTypes.{types_of}
-use Rattle.isle_model.specs.lists.Tables.{TermEntry}
-use Rattle.isle_model.specs.lists.Elaborated.{TypedRules, elaborated_rules}
+use Rattle.isle_model.specs.lists.Elaborated.{TypedRules}
 use Rattle.isle_model.specs.rules.Program.{Program}
 use Rattle.isle_model.specs.rules.Typed.{TypedRule}
 use Rattle.isle_model.specs.sites.Sites.{SiteSet}
 use Rattle.isle_model.specs.sites.Demands.{demands_of}
-use Rattle.isle_model.specs.sites.Closure.{IsUnreachable, is_unreachable, Unreachability, reported, Closed, closed, closing, before_closing, most_closing_steps}
+use Rattle.isle_model.specs.sites.Closure.{Closed, closed}
 use Rattle.isle_model.specs.sites.RuleSets.{IsBuilt}
-use Rattle.isle_model.specs.sites.Limits.{first_limit}
 use Rattle.isle_model.specs.sites.Overlap.{check_reports}
 use Rattle.isle_model.specs.trees.Trees.{Tree}
 use Rattle.isle_model.specs.trees.Best.{IsBestTree}
 use Rattle.isle_model.specs.trees.Judge.{is_best_tree}
 use Rattle.isle_model.specs.trees.Sound.{IsSound}
 use Rattle.isle_model.specs.trees.WellBuilt.{IsWellBuilt}
-use Rattle.isle_model.specs.claims.Environments.{types_read, setting_of, IsRead, environment_of, term_environment_of, with_read_names}
-use Rattle.isle_model.specs.claims.Layers.{own_program, IsCheckable, IsAccepted, BindsBeforeUse, LoweredTerm, LoweringAnswers}
+use Rattle.isle_model.specs.claims.Environments.{types_read, setting_of, IsRead}
+use Rattle.isle_model.specs.claims.Layers.{own_program, IsAccepted, BindsBeforeUse}
 use Rattle.isle_model.specs.claims.SetMeanings.{CanBeServed}
-use Rattle.isle_laws_demands.specs.ClosureLaws.{HasEnded}
 use Rattle.isle_model.specs.rules.Values.{Value}
 use Rattle.isle_model.specs.rules.Meaning.{Meaning}
 use Rattle.isle_model.specs.rules.Outcome.{Outcome}
@@ -46,30 +42,9 @@ IsAcceptedBoth defs rules = IsAccepted defs true rules × IsAccepted defs false 
 abbrev pub IsNotRead : List Definition → Type 0
 IsNotRead defs = (expand : Bool) (rules : TypedRules) → IsRead defs expand rules → ⊥
 
-abbrev pub IsNotAccepted : List Definition → TypedRules → Type 0
-IsNotAccepted defs rules =
-    IsReadBoth defs rules × (IsCheckable (own_program defs rules) → ⊥) × ((expand : Bool) (rules : TypedRules) → IsAccepted defs expand rules → ⊥)
-
--- what the rules of a list become
-abbrev pub Becomes : List Definition → Bool → Option TypedRules → Type 0
-Becomes defs expand rules = elaborated_rules (own_setting defs expand) (rule_trees defs) (term_names_met (types_of defs) defs) ≡ rules
-
 -- a list has a term table, read with its own types
 abbrev pub HasTerms : List Definition → Type 0
 HasTerms defs = IsValidTerms (types_of defs) defs
-
--- none of these lists is such
-abbrev pub NoneOf : (List Definition → Type 0) → List (List Definition) → Type 0
-NoneOf P [] = Unit {0}
-NoneOf P (defs ∷ rest) = (P defs → ⊥) × NoneOf P rest
-
--- the tables of a list are valid, and yet its rules become nothing
-abbrev pub HasNoTypedRules : List Definition → Type 0
-HasNoTypedRules defs = IsValidTypes defs × HasTerms defs × Becomes defs true None × Becomes defs false None
-
--- the term table of a list
-abbrev pub HasTermTable : List Definition → List TermEntry → Type 0
-HasTermTable defs terms = term_table (types_of defs) defs ≡ terms
 
 -- a set is built of the rules of a term, and can be served
 abbrev pub IsBuiltOf : List Definition → TypedRules → ℕ → SiteSet → Type 0
@@ -89,31 +64,20 @@ abbrev pub AreRefused : SiteSet → List Tree → Type 0
 AreRefused set [] = Unit {0}
 AreRefused set (tree ∷ trees) = ((is_best_tree set tree ≡ false) × (IsBestTree set tree → ⊥)) × AreRefused set trees
 
--- what is found wrong with a rule's demands
-abbrev pub verdicts : Program → TypedRule → List Unreachability
-verdicts p r = reported (demands_of p r).made (demands_of p r)
-
--- values can meet the demands of a rule, and the test finds nothing wrong with them
-pub record CanMatch (p : Program) (r : TypedRule) : Type 0 where
-  pub tested : is_unreachable (demands_of p r) ≡ false
-  pub reachable : IsUnreachable (demands_of p r) → ⊥
-
--- none can, and the test finds it
-pub record CantMatch (p : Program) (r : TypedRule) : Type 0 where
-  pub tested : is_unreachable (demands_of p r) ≡ true
-  pub unreachable : IsUnreachable (demands_of p r)
-
--- the closing of a rule's demands ends: nothing is left to be taken
-abbrev pub ClosingEndsOf : Program → TypedRule → Type 0
-ClosingEndsOf p r = HasEnded (closing most_closing_steps (before_closing [] (demands_of p r)))
-
 -- a rule's closed demands, before which no sites were made
 abbrev pub closed_demands : Program → TypedRule → Closed
 closed_demands p r = closed [] (demands_of p r)
 
--- a rule passes no limit
-abbrev pub PassesNoLimit : Program → TypedRule → Type 0
-PassesNoLimit p r = first_limit p [] r ≡ None
+-- a sample of trees: the set of a term that is multi or isn't, its tree, and trees near that one
+pub record TreeSample : Type 0 where
+  pub set : SiteSet
+  pub multi : Bool
+  pub tree : Tree
+  pub near_trees : List Tree
+
+-- the tree is the set's, and those near it are refused
+abbrev pub OneIsBest : TreeSample → Type 0
+OneIsBest s = IsJudged s.set s.multi s.tree × AreRefused s.set s.near_trees
 
 -- a sample whose rules are accepted: its list, what that becomes, and the set and the tree of one of its terms, which is
 -- multi or isn't; and trees near that one
@@ -138,13 +102,3 @@ pub record HasStages (s : Sample) : Type 0 where
   pub built : IsBuiltOf s.defs s.rules s.term s.set
   pub judged : IsJudged s.set s.multi s.tree
   pub refused : AreRefused s.set s.near_trees
-
--- the term of a sample with its set and its tree
-abbrev pub lowered_term : Sample → LoweredTerm
-lowered_term s = record { term = s.term; set = s.set; tree = s.tree }
-
--- lowering the list of a sample, internal extractors expanded, gives that term alone, and what was read
-abbrev pub IsLoweredTo : Sample → Type 0
-IsLoweredTo s =
-    LoweringAnswers s.defs true (environment_of (with_read_names (types_read s.defs) s.rules.names)) (term_environment_of (types_read s.defs) s.defs true s.rules.rules) s.rules
-    (lowered_term s ∷ [])

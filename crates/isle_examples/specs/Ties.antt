@@ -3,35 +3,11 @@
 --   (rule (f _ _ x x _) 1)
 --   (rule (f _ _ x _ x) 2)
 --   (rule (f x x _ _ _) 3)
-use Rattle.std.specs.Prelude.{◌∷◌, [], ℕ, pos, true, List, None, codes}
-use Rattle.isle_model.specs.lists.Elaborated.{TypedRules}
-use Rattle.isle_model.specs.lists.Syntax.{Definition, declaration}
-use Rattle.isle_model.specs.rules.Typed.{TypedPattern, TypedRule, make_int, match_any, match_var}
+use Rattle.std.specs.Prelude.{◌∷◌, [], ℕ, pos, true, List}
 use Rattle.isle_model.specs.sites.Sites.{SiteSet, argument_site}
 use Rattle.isle_model.specs.trees.Trees.{Tree, equal_at, no_step, step}
 use Rattle.isle_examples.specs.SetForms.{a_rule, byte, returning}
-use Rattle.isle_examples.specs.Stages.{Sample}
-use Rattle.isle_examples.specs.TypedForms.{bind_any, rules_and_names, typed, typed_var, u8}
-use Rattle.isle_examples.specs.Written.{any, bytes, decl, number, of_f, rule_to, var}
-
-abbrev pub ties_defs : List Definition
-ties_defs =
-    declaration (record (decl 0 (codes "f") (bytes 5) (codes "u8")) { multi = true })
-    ∷ rule_to 1 (of_f 1 (any 1 ∷ any 1 ∷ var 1 (codes "x") ∷ var 1 (codes "x") ∷ any 1 ∷ [])) (number 1 (pos 1))
-    ∷ rule_to 2 (of_f 2 (any 2 ∷ any 2 ∷ var 2 (codes "x") ∷ any 2 ∷ var 2 (codes "x") ∷ [])) (number 2 (pos 2))
-    ∷ rule_to 3 (of_f 3 (var 3 (codes "x") ∷ var 3 (codes "x") ∷ any 3 ∷ any 3 ∷ any 3 ∷ [])) (number 3 (pos 3)) ∷ []
-
--- each rule binds one name
-abbrev pub ties_rule : ℕ → ℕ → List TypedPattern → ℕ → TypedRule
-ties_rule id d args n = typed id d 0 (pos 0) None (typed_var 0 14 u8 ∷ []) args (make_int u8 (pos n))
-
-abbrev pub ties_rules : TypedRules
-ties_rules =
-    rules_and_names
-    (ties_rule 0 1 (match_any u8 ∷ match_any u8 ∷ bind_any u8 0 ∷ match_var u8 0 ∷ match_any u8 ∷ []) 1
-    ∷ ties_rule 1 2 (match_any u8 ∷ match_any u8 ∷ bind_any u8 0 ∷ match_any u8 ∷ match_var u8 0 ∷ []) 2
-    ∷ ties_rule 2 3 (bind_any u8 0 ∷ match_var u8 0 ∷ match_any u8 ∷ match_any u8 ∷ match_any u8 ∷ []) 3 ∷ [])
-    (codes "f" ∷ codes "x" ∷ [])
+use Rattle.isle_examples.specs.Stages.{TreeSample}
 
 abbrev pub ties_set : SiteSet
 ties_set = record {
@@ -55,5 +31,5 @@ ties_exchanged =
 abbrev pub ties_near_trees : List Tree
 ties_near_trees = ties_exchanged ∷ []
 
-abbrev pub ties_sample : Sample
-ties_sample = record { defs = ties_defs; rules = ties_rules; term = 0; multi = true; set = ties_set; tree = ties_tree; near_trees = ties_near_trees }
+abbrev pub ties_sample : TreeSample
+ties_sample = record { multi = true; set = ties_set; tree = ties_tree; near_trees = ties_near_trees }

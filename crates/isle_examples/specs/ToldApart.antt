@@ -1,26 +1,16 @@
--- Rules that are told apart by their closed demands: they don't overlap, and one matches on 1; and a shadowed one.
+-- Rules that are told apart by their closed demands: one shadows the other.
 use Rattle.std.specs.Prelude.{◌∷◌, [], pos, is_some, IsTrue}
-use Rattle.isle_model.specs.claims.SetMeanings.{AreRulesWithoutCalls}
+use Rattle.isle_model.specs.claims.SetMeanings.{AreRulesOfOneResult}
 use Rattle.isle_model.specs.rules.Matching.{matches}
 use Rattle.isle_model.specs.rules.Meaning.{Meaning}
 use Rattle.isle_model.specs.rules.Program.{rules_of}
-use Rattle.isle_model.specs.rules.Typed.{TypedRule}
 use Rattle.isle_model.specs.sites.Limits.{sites_after_rules}
 use Rattle.isle_model.specs.sites.Overlap.{BuiltRule, Shadows, built_rule}
 use Rattle.isle_model.specs.sites.Serves.{Serves, TellsConstantsApart}
 use Rattle.isle_examples.specs.MeaningForms.{given, literal, mute}
-use Rattle.isle_examples.specs.Mended.{one_to_one, third_defs, third_meaning, third_program, third_rules, two_to_two}
 use Rattle.isle_examples.specs.Overlap.{built_alone}
 use Rattle.isle_examples.specs.Shadow.{shadow_any, shadow_defs, shadow_one, shadow_program, shadow_rules}
 use Rattle.isle_examples.specs.Stages.{IsReadBoth}
-
--- a rule of the third sample matches 1
-abbrev pub MatchesOne : TypedRule → Type 0
-MatchesOne r = IsTrue (is_some (matches third_program third_meaning r (given (pos 1))))
-
--- the list of the three rules is read, one of the two rules matches 1, and so the other doesn't
-abbrev pub ThirdRulesAreToldApart : Type 0
-ThirdRulesAreToldApart = IsReadBoth third_defs third_rules × MatchesOne one_to_one × (MatchesOne two_to_two → ⊥)
 
 -- literals have their own values
 abbrev pub one_and_ten : Meaning
@@ -32,9 +22,9 @@ mask = built_alone shadow_program (shadow_any (pos 1))
 abbrev pub shadowed : BuiltRule
 shadowed = built_rule shadow_program (sites_after_rules shadow_program [] (shadow_any (pos 1) ∷ [])) shadow_one
 
--- the list is read; the rules go over no calls, and one shadows the other
+-- the list is read; the rules' term isn't multi, and one shadows the other
 abbrev pub ShadowIsTold : Type 0
-ShadowIsTold = IsReadBoth shadow_defs shadow_rules × AreRulesWithoutCalls shadow_program 0 mask shadowed × Shadows mask shadowed
+ShadowIsTold = IsReadBoth shadow_defs shadow_rules × AreRulesOfOneResult shadow_program 0 mask shadowed × Shadows mask shadowed
 
 -- the meaning has what they ask on 1, and tells constants apart
 abbrev pub ShadowIsServed : Type 0

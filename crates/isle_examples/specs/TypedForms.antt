@@ -1,7 +1,6 @@
 -- Short forms of tables and of typed rules.
 use Rattle.std.specs.Prelude.{ℕ, suc, ℤ, Bool, false, List, [], ◌∷◌, ◌++◌, Option, Some, None}
-use Rattle.isle_model.specs.lists.Syntax.{PatternTree}
-use Rattle.isle_model.specs.lists.Tables.{FieldEntry, FieldEntries, VariantEntry, TypeEntry, enum_type, Flags, internal_constructor, external_constructor, internal_extractor, external_extractor, TermKindEntry, declared_term, TermEntry}
+use Rattle.isle_model.specs.lists.Tables.{FieldEntries, VariantEntry, TypeEntry, enum_type, Flags, internal_constructor, external_constructor, external_extractor, TermKindEntry, declared_term, TermEntry}
 use Rattle.isle_model.specs.lists.TypeTable.{builtin_names, builtin_from}
 use Rattle.isle_model.specs.lists.Elaborated.{TypedRules}
 use Rattle.isle_model.specs.rules.Typed.{TypedPattern, match_bind, match_any, TypedPatterns, no_typed_pattern, typed_pattern_and, TypedExpr, make_let, TypedExprs, no_typed_expr, typed_expr_and, no_typed_let, typed_let_and, TypedVar, TypedIfLet, TypedRule}
@@ -21,10 +20,6 @@ builtins = builtin_from 0 builtin_names
 -- the built-in names, then these
 abbrev pub names_with : List (List ℕ) → List (List ℕ)
 names_with more = builtin_names ++ more
-
--- a field by the number of its name, its place and its type
-abbrev pub field_entry : ℕ → ℕ → ℕ → FieldEntry
-field_entry number id ty = record { name = number; id = id; ty = ty }
 
 -- a variant by the numbers of its name and its full name, and its place, in definition d
 abbrev pub variant_entry : (number full id : ℕ) → FieldEntries → ℕ → VariantEntry
@@ -60,10 +55,6 @@ by_constructor marks function = declared_term marks (Some (external_constructor 
 -- taken apart by a function of this name, as definition d says
 abbrev pub by_extractor : Flags → ℕ → ℕ → TermKindEntry
 by_extractor marks function d = declared_term marks None (Some (external_extractor function false (at d)))
-
--- taken apart by a template
-abbrev pub by_pattern : PatternTree → TermKindEntry
-by_pattern template = declared_term no_flags None (Some (internal_extractor template))
 
 -- typed patterns and expressions as arguments
 abbrev pub q_list : List TypedPattern → TypedPatterns

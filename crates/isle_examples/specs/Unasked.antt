@@ -6,10 +6,8 @@
 --   (decl multi f (u8) u8)
 --   (rule (f x) (if-let _ (let ((y u8 (m (pp x)))) x)) 7)
 use Rattle.std.specs.Prelude.{◌≡◌, ◌∷◌, [], pos, true, false, List, Some, codes, slice_get}
-use Rattle.isle_model.specs.claims.Layers.{own_program}
 use Rattle.isle_model.specs.lists.Elaborated.{TypedRules}
 use Rattle.isle_model.specs.lists.Syntax.{Definition, declaration}
-use Rattle.isle_model.specs.rules.Program.{Program}
 use Rattle.isle_model.specs.rules.Typed.{TypedRule, make_int, make_term, make_var, match_any}
 use Rattle.isle_model.specs.sites.Gates.{gate_demanded}
 use Rattle.isle_model.specs.sites.Sites.{SetRule, SiteSet, argument_site, constructor_site, iterator_site, match_some_site}
@@ -34,9 +32,6 @@ unasked_rule = record (typed 0 5 2 (pos 0) (Some 15) (typed_var 0 18 u8 ∷ type
 
 abbrev pub unasked_rules : TypedRules
 unasked_rules = rules_and_names (unasked_rule ∷ []) (codes "pp" ∷ codes "m" ∷ codes "f" ∷ codes "pp_fn" ∷ codes "m_fn" ∷ codes "x" ∷ codes "y" ∷ [])
-
-abbrev pub unasked_program : Program
-unasked_program = own_program unasked_defs unasked_rules
 
 -- the rule goes over the call 3 and uses no answer of it: what stands in the call's argument isn't demanded
 abbrev pub unasked_call : SetRule

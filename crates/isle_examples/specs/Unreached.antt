@@ -12,12 +12,11 @@ use Rattle.isle_model.specs.rules.Outcome.{Call, Outcome}
 use Rattle.isle_model.specs.rules.Picks.{site_values}
 use Rattle.isle_model.specs.rules.Program.{Program}
 use Rattle.isle_model.specs.rules.Typed.{TypedExpr, TypedRule, make_term, make_var}
-use Rattle.isle_model.specs.sites.Demands.{demands_of}
 use Rattle.isle_model.specs.sites.Serves.{Serves, TellsConstantsApart}
-use Rattle.isle_model.specs.sites.Sites.{SiteSet, SiteTerm, argument_site, constructor_call, constructor_site, make_some_site, match_some_site, some_made, some_part}
+use Rattle.isle_model.specs.sites.Sites.{SiteSet, SiteTerm, argument_site, constructor_call, constructor_site, make_some_site, match_some_site}
 use Rattle.isle_model.specs.trees.Trees.{Tree, no_step}
 use Rattle.isle_examples.specs.MeaningForms.{alone, blank, given}
-use Rattle.isle_examples.specs.SetForms.{a0, a_rule, asking, one_source, returning}
+use Rattle.isle_examples.specs.SetForms.{a0, a_rule, one_source, returning}
 use Rattle.isle_examples.specs.Stages.{Sample, Ends}
 use Rattle.isle_examples.specs.TypedForms.{bind_any, e_list, make_let_one, rules_and_names, typed, u8, variables}
 use Rattle.isle_examples.specs.Written.{call, constructor_by, let_one, numbers, of_f, rule_to, var, variable}
@@ -46,15 +45,6 @@ unreached_program = own_program unreached_defs unreached_rules
 -- the two calls, on the same argument
 abbrev pub first_im : SiteTerm
 first_im = constructor_call 0 (one_source a0) 1
-
-abbrev pub second_im : SiteTerm
-second_im = constructor_call 0 (one_source a0) 2
-
--- both are made and unwrapped, in order
-abbrev pub UnreachedDemands : Type 0
-UnreachedDemands =
-    demands_of unreached_program unreached_rule
-    ≡ record (asking [] [] (a0 ∷ first_im ∷ some_part first_im ∷ second_im ∷ some_part second_im ∷ some_made (some_part second_im) ∷ [])) { impure = some_part first_im ∷ some_part second_im ∷ [] }
 
 abbrev pub unreached_set : SiteSet
 unreached_set = record {

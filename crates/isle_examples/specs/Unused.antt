@@ -4,22 +4,19 @@
 --   (extern constructor pp pp_fn)
 --   (decl f (u8) u8)
 --   (rule (f x) (if-let _ (let ((y u8 (pp x))) x)) 7)
-use Rattle.std.specs.Prelude.{◌≡◌, ◌∷◌, [], pos, false, List, Some, codes}
-use Rattle.isle_model.specs.claims.Layers.{own_program}
+use Rattle.std.specs.Prelude.{◌∷◌, [], pos, false, List, Some, codes}
 use Rattle.isle_model.specs.lists.Elaborated.{TypedRules}
 use Rattle.isle_model.specs.lists.Syntax.{Definition}
 use Rattle.isle_model.specs.rules.Meaning.{Content}
 use Rattle.isle_model.specs.rules.Outcome.{Outcome}
-use Rattle.isle_model.specs.rules.Program.{Program}
 use Rattle.isle_model.specs.rules.Typed.{TypedRule, make_term, make_var, match_any}
-use Rattle.isle_model.specs.sites.Demands.{demands_of}
-use Rattle.isle_model.specs.sites.Sites.{SiteSet, some_part}
+use Rattle.isle_model.specs.sites.Sites.{SiteSet}
 use Rattle.isle_model.specs.trees.Trees.{Tree, no_step}
 use Rattle.isle_examples.specs.MeaningForms.{given}
-use Rattle.isle_examples.specs.SetForms.{a0, a_rule, asking, byte_term, returning}
+use Rattle.isle_examples.specs.SetForms.{a_rule, returning}
 use Rattle.isle_examples.specs.Stages.{Sample, Ends}
 use Rattle.isle_examples.specs.TypedForms.{e_list, make_let_one, typed_iflet, u8}
-use Rattle.isle_examples.specs.Used.{call_of_pp, ending_with, pp_answers, used_rule, used_rules, used_set, used_tree}
+use Rattle.isle_examples.specs.Used.{ending_with, pp_answers, used_rule, used_rules, used_set, used_tree}
 
 abbrev pub unused_defs : List Definition
 unused_defs = ending_with (codes "x")
@@ -29,13 +26,6 @@ unused_rule = record used_rule { iflets = typed_iflet (match_any u8) (make_let_o
 
 abbrev pub unused_rules : TypedRules
 unused_rules = record used_rules { rules = unused_rule ∷ [] }
-
-abbrev pub unused_program : Program
-unused_program = own_program unused_defs unused_rules
-
--- nothing is asked of the call
-abbrev pub UnusedDemands : Type 0
-UnusedDemands = demands_of unused_program unused_rule ≡ asking [] [] (a0 ∷ call_of_pp ∷ some_part call_of_pp ∷ byte_term 7 ∷ [])
 
 -- the sites are those of `Used`
 abbrev pub unused_set : SiteSet

@@ -3,19 +3,17 @@
 --   (extern constructor pp pp_fn)
 --   (decl f (u8) u8)
 --   (rule (f x) (if-let _ (let ((y u8 (pp x))) y)) 7)
-use Rattle.std.specs.Prelude.{◌≡◌, ℕ, ◌∷◌, [], pos, true, false, List, Some, codes}
-use Rattle.isle_model.specs.claims.Layers.{BindsBeforeUse, own_program}
+use Rattle.std.specs.Prelude.{ℕ, ◌∷◌, [], pos, true, false, List, Some, codes}
+use Rattle.isle_model.specs.claims.Layers.{BindsBeforeUse}
 use Rattle.isle_model.specs.lists.Elaborated.{TypedRules}
 use Rattle.isle_model.specs.lists.Syntax.{Definition, declaration}
 use Rattle.isle_model.specs.rules.Meaning.{Content, Meaning}
 use Rattle.isle_model.specs.rules.Outcome.{Outcome}
-use Rattle.isle_model.specs.rules.Program.{Program}
 use Rattle.isle_model.specs.rules.Typed.{TypedRule, make_int, make_term, make_var, match_any}
-use Rattle.isle_model.specs.sites.Demands.{demands_of}
-use Rattle.isle_model.specs.sites.Sites.{SiteSet, SiteTerm, argument_site, constructor_call, constructor_site, is_present, match_some_site, some_part}
+use Rattle.isle_model.specs.sites.Sites.{SiteSet, argument_site, constructor_site, is_present, match_some_site}
 use Rattle.isle_model.specs.trees.Trees.{Tree, match_at, no_step, step}
 use Rattle.isle_examples.specs.MeaningForms.{alone, given, literal, mute}
-use Rattle.isle_examples.specs.SetForms.{a0, a_rule, asking, byte, byte_term, one_arm, one_source, returning}
+use Rattle.isle_examples.specs.SetForms.{a_rule, byte, one_arm, returning}
 use Rattle.isle_examples.specs.Stages.{Sample, Ends}
 use Rattle.isle_examples.specs.TypedForms.{bind_any, e_list, make_let_one, rules_and_names, typed, typed_iflet, typed_var, u8}
 use Rattle.isle_examples.specs.Written.{any, call, constructor_by, f_of_bytes, let_one, number, numbers, of_f, rule_if, var, variable}
@@ -50,16 +48,6 @@ used_with first then_bound = step first (match_at 1 (one_arm is_present (Some 2 
 
 abbrev pub used_tree : Tree
 used_tree = used_with (1 ∷ []) []
-
-abbrev pub used_program : Program
-used_program = own_program used_defs used_rules
-
-abbrev pub call_of_pp : SiteTerm
-call_of_pp = constructor_call 0 (one_source a0) 0
-
--- the call is asked to answer
-abbrev pub UsedDemands : Type 0
-UsedDemands = demands_of used_program used_rule ≡ asking ((call_of_pp, is_present) ∷ []) [] (a0 ∷ call_of_pp ∷ some_part call_of_pp ∷ byte_term 7 ∷ [])
 
 -- pp answers this at 1
 abbrev pub pp_answers : Content → Meaning

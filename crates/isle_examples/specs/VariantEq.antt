@@ -2,20 +2,17 @@
 --   (type T (enum (A (v u8))))
 --   (decl g (T T) T)
 --   (rule (g x @ (T.A _) x) x)
-use Rattle.std.specs.Prelude.{◌≡◌, ◌∷◌, [], ◌++◌, ℕ, pos, false, List, Option, Some, None, codes}
+use Rattle.std.specs.Prelude.{◌∷◌, [], ℕ, pos, false, List, Option, Some, None, codes}
 use Rattle.isle_model.specs.claims.Layers.{own_program}
 use Rattle.isle_model.specs.lists.Elaborated.{TypedRules}
 use Rattle.isle_model.specs.lists.Syntax.{Definition}
-use Rattle.isle_model.specs.lists.Tables.{TermEntry, TypeEntry, struct_entries, variant_term}
-use Rattle.isle_model.specs.lists.TypeTable.{type_table}
 use Rattle.isle_model.specs.rules.Program.{Program}
 use Rattle.isle_model.specs.rules.Typed.{TypedRule, make_var, match_any, match_bind, match_term, match_var}
-use Rattle.isle_model.specs.sites.Demands.{demands_of}
 use Rattle.isle_model.specs.sites.Sites.{Constraint, SiteSet, argument_site, is_variant, match_variant_site}
 use Rattle.isle_model.specs.trees.Trees.{Tree, equal_at, match_at, no_step, step}
-use Rattle.isle_examples.specs.SetForms.{a0, a1, a_rule, asking, field_of, one_arm, returning}
-use Rattle.isle_examples.specs.Stages.{HasTermTable, Sample, closed_demands}
-use Rattle.isle_examples.specs.TypedForms.{builtins, by_rules, entry, enum_entry, field_entry, no_flags, own, q_list, rules_and_names, typed, typed_var, u8, variant_entry}
+use Rattle.isle_examples.specs.SetForms.{a_rule, one_arm, returning}
+use Rattle.isle_examples.specs.Stages.{Sample}
+use Rattle.isle_examples.specs.TypedForms.{own, q_list, rules_and_names, typed, typed_var, u8}
 use Rattle.isle_examples.specs.Written.{any, bind, declared, enum_of_one, field, rule_to, term, var, variable}
 
 abbrev pub variant_eq_defs : List Definition
@@ -23,16 +20,6 @@ variant_eq_defs =
     enum_of_one 0 (codes "T") (codes "A") (field 0 (codes "v") (codes "u8") ∷ [])
     ∷ declared 1 (codes "g") (codes "T" ∷ codes "T" ∷ []) (codes "T")
     ∷ rule_to 2 (term 2 (codes "g") (bind 2 (codes "x") (term 2 (codes "T.A") (any 2 ∷ [])) ∷ var 2 (codes "x") ∷ [])) (variable 2 (codes "x")) ∷ []
-
-abbrev pub variant_eq_types : List TypeEntry
-variant_eq_types = enum_entry 13 own (variant_entry 15 14 0 (struct_entries (field_entry 16 0 u8 ∷ [])) 0 ∷ []) 0 ∷ []
-
--- the variant's term stands after the declared ones
-abbrev pub variant_eq_terms : List TermEntry
-variant_eq_terms = entry 0 1 17 (own ∷ own ∷ []) own (by_rules no_flags) ∷ entry 1 0 14 (u8 ∷ []) own (variant_term 0) ∷ []
-
-abbrev pub VariantEqTables : Type 0
-VariantEqTables = (type_table variant_eq_defs ≡ builtins ++ variant_eq_types) × HasTermTable variant_eq_defs variant_eq_terms
 
 -- the name over the variant is the variable of both arguments
 abbrev pub variant_eq_rule : TypedRule
@@ -48,18 +35,6 @@ variant_eq_program = own_program variant_eq_defs variant_eq_rules
 -- that a value is the variant T.A, which has one field
 abbrev pub is_a : Constraint
 is_a = is_variant own 0 1
-
-abbrev pub VariantEqDemands : Type 0
-VariantEqDemands = demands_of variant_eq_program variant_eq_rule ≡ asking ((a0, is_a) ∷ []) ((a1, a0) ∷ []) (a0 ∷ field_of a0 ∷ a1 ∷ [])
-
--- the variant stands at both arguments; the closure makes the field of the second, and the fields are equal
-abbrev pub VariantEqClosed : Type 0
-VariantEqClosed =
-    closed_demands variant_eq_program variant_eq_rule ≡ record {
-      constraints = (a0, is_a) ∷ (a1, is_a) ∷ [];
-      classes = (field_of a0 ∷ field_of a1 ∷ []) ∷ [];
-      made = a0 ∷ field_of a0 ∷ a1 ∷ field_of a1 ∷ [];
-    }
 
 abbrev pub variant_eq_set : SiteSet
 variant_eq_set = record {

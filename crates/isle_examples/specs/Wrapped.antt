@@ -5,16 +5,14 @@
 --   (decl f (u8) T)
 --   (rule 1 (f 1) (T.P (im 1)))
 --   (rule (f _) (T.P 2))
-use Rattle.std.specs.Prelude.{◌≡◌, ◌∷◌, [], ℕ, pos, List, None, codes}
+use Rattle.std.specs.Prelude.{◌∷◌, [], ℕ, pos, List, None, codes}
 use Rattle.isle_model.specs.claims.Layers.{own_program}
 use Rattle.isle_model.specs.lists.Elaborated.{TypedRules}
 use Rattle.isle_model.specs.lists.Syntax.{Definition, ExprTree, declaration}
 use Rattle.isle_model.specs.rules.Program.{Program}
 use Rattle.isle_model.specs.rules.Typed.{TypedExpr, TypedRule, make_int, make_term, match_any, match_int}
 use Rattle.isle_model.specs.sites.Serves.{Serves, TellsConstantsApart}
-use Rattle.isle_model.specs.trees.Collects.{content_at}
-use Rattle.isle_model.specs.trees.SetRuns.{ServesTests}
-use Rattle.isle_examples.specs.Mended.{wrapped_meaning, wrapped_set, wrapped_world}
+use Rattle.isle_examples.specs.Mended.{wrapped_meaning}
 use Rattle.isle_examples.specs.MeaningForms.{given}
 use Rattle.isle_examples.specs.TypedForms.{e_list, own, rules_and_names, typed, u8}
 use Rattle.isle_examples.specs.Written.{any, call, constructor_by, declared, enum_of_one, field, int, number, numbers, of_f, rule_first, rule_to}
@@ -45,11 +43,9 @@ wrapped_rules =
 abbrev pub wrapped_program : Program
 wrapped_program = own_program wrapped_defs wrapped_rules
 
--- on 2 the first rule doesn't match: the meaning serves the rules, though it has no number for the first impure call, nor the
--- world a content for what stands above it; and so the world has what tests ask
+-- on 2 the first rule doesn't match: the meaning serves the rules, though it has no number for the first impure call, and
+-- tells constants apart. That its world lacks what stands above that call says `AboveCallsNothingIsAsked`
 abbrev pub NothingIsAskedAboveCalls : Type 0
 NothingIsAskedAboveCalls =
     Serves wrapped_program wrapped_meaning (given (pos 2)) wrapped_rules.rules
     × TellsConstantsApart wrapped_program wrapped_meaning wrapped_rules.rules
-    × (content_at wrapped_world [] 3 ≡ None)
-    × ServesTests wrapped_set wrapped_world

@@ -1,6 +1,6 @@
 -- Forms of definitions, written short: every place inside a definition is the same offset of the first file.
-use Rattle.std.specs.Prelude.{ℕ, zero, suc, ℤ, pos, true, false, List, [], ◌∷◌, Some, None, map, codes}
-use Rattle.isle_model.specs.lists.Syntax.{Position, Name, PatternTree, var_pattern, bind_pattern, int_pattern, term_pattern, wildcard_pattern, and_pattern, PatternTrees, no_pattern, pattern_and, ExprTree, term_expr, var_expr, int_expr, let_expr, ExprTrees, no_expr, expr_and, no_let, let_and, RuleTree, FieldTree, TupleFieldTree, FieldTrees, struct_fields, VariantTree, TypeTree, primitive_value, enum_value, struct_value, DeclTree, ExtractorTree, Definition, type_definition, declaration, extractor_definition, converter_definition, rule_definition, extern_definition, extern_constructor, extern_extractor, extern_const}
+use Rattle.std.specs.Prelude.{ℕ, zero, suc, ℤ, pos, false, List, [], ◌∷◌, Some, None, map, codes}
+use Rattle.isle_model.specs.lists.Syntax.{Position, Name, PatternTree, var_pattern, bind_pattern, int_pattern, term_pattern, wildcard_pattern, and_pattern, PatternTrees, no_pattern, pattern_and, ExprTree, term_expr, var_expr, int_expr, let_expr, ExprTrees, no_expr, expr_and, no_let, let_and, RuleTree, FieldTree, struct_fields, VariantTree, TypeTree, primitive_value, enum_value, DeclTree, ExtractorTree, Definition, type_definition, declaration, extractor_definition, converter_definition, rule_definition, extern_definition, extern_constructor, extern_extractor, extern_const}
 
 -- an offset in the first file
 abbrev pub at : ℕ → Position
@@ -14,10 +14,6 @@ name n text = record { text = text; at = at n }
 abbrev pub field : ℕ → List ℕ → List ℕ → FieldTree
 field n f ty = record { name = name n f; ty = name n ty; at = at n }
 
--- a part of a tuple and its type
-abbrev pub part : ℕ → ℕ → List ℕ → TupleFieldTree
-part n i ty = record { index = i; ty = name n ty; at = at n }
-
 -- a variant with fields
 abbrev pub variant : ℕ → List ℕ → List FieldTree → VariantTree
 variant n v fields = record { name = name n v; fields = struct_fields fields; at = at n }
@@ -29,10 +25,6 @@ primitive n t inner = record { name = name n t; is_extern = false; is_nodebug = 
 -- an enum
 abbrev pub enum : ℕ → List ℕ → List VariantTree → TypeTree
 enum n t variants = record { name = name n t; is_extern = false; is_nodebug = false; value = enum_value variants (at n); at = at n }
-
--- a struct
-abbrev pub struct : ℕ → List ℕ → FieldTrees → TypeTree
-struct n t fields = record { name = name n t; is_extern = false; is_nodebug = false; value = struct_value fields (at n); at = at n }
 
 -- a constant
 abbrev pub constant : ℕ → List ℕ → List ℕ → Definition
@@ -74,10 +66,6 @@ constructor_by n t function = extern_definition (extern_constructor (name n t) (
 -- an external extractor that may fail
 abbrev pub extractor_by : ℕ → List ℕ → List ℕ → Definition
 extractor_by n t function = extern_definition (extern_extractor (name n t) (name n function) (at n) false)
-
--- an external extractor that always answers
-abbrev pub infallible_extractor_by : ℕ → List ℕ → List ℕ → Definition
-infallible_extractor_by n t function = extern_definition (extern_extractor (name n t) (name n function) (at n) true)
 
 -- a variable in a pattern
 abbrev pub var : ℕ → List ℕ → PatternTree

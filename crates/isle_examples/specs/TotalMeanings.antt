@@ -1,0 +1,40 @@
+-- Total meanings of what the sample with an extractor calls: one whose extractor answers its argument, and one whose extractor
+-- answers a boolean, which isn't well typed.
+use Rattle.std.specs.Prelude.{◌≡◌, ℤ, pos, true}
+use Rattle.isle_model.specs.rules.Values.{Value, truth, atom}
+use Rattle.isle_model.specs.rules.Meaning.{Content, one, just, Literal, bool_literal, int_literal}
+use Rattle.isle_model.specs.rules.Choice.{choice}
+use Rattle.isle_model.specs.rules.Program.{rules_of}
+use Rattle.isle_laws_demands.specs.TotalLaws.{TotalMeaning, IsTotalFor, KeepsConstantsApart, Restricts}
+use Rattle.isle_examples.specs.Extract.{extract_program}
+use Rattle.isle_examples.specs.MeaningForms.{answers, given, v}
+
+-- the value that a literal writes
+abbrev pub written : Literal → Value
+written (bool_literal b ty) = truth b
+written (int_literal z ty) = atom ty z
+
+-- what the extractor answers to each value, and nothing else of note
+abbrev pub extracting : (Value → Content) → TotalMeaning
+extracting answer = record { literals = written; constants = λ name. v (pos 0); extractors = λ t x. answer x; pures = λ t xs. one (v (pos 0)); impures = λ t before. one (v (pos 0)) }
+
+abbrev pub echo : TotalMeaning
+echo = extracting (λ x. just (one x))
+
+abbrev pub misfit : TotalMeaning
+misfit = extracting (λ x. just (one (truth true)))
+
+-- the echo is well typed and tells the constants apart, and the misfit isn't well typed
+abbrev pub EchoIsTotal : Type 0
+EchoIsTotal = IsTotalFor extract_program 1 echo × KeepsConstantsApart extract_program echo (rules_of extract_program 1)
+
+abbrev pub MisfitIsNotTotal : Type 0
+MisfitIsNotTotal = IsTotalFor extract_program 1 misfit → ⊥
+
+-- so for each number there are finite maps that agree with the echo and serve
+abbrev pub EchoRestricts : Type 0
+EchoRestricts = (z : ℤ) → Restricts extract_program echo (given z) (rules_of extract_program 1)
+
+-- and on 1 all of them give 10, on 7 all give 7
+abbrev pub EchoGives : ℤ → ℤ → Type 0
+EchoGives z result = (r : Restricts extract_program echo (given z) (rules_of extract_program 1)) → choice extract_program r.meaning (rules_of extract_program 1) (given z) ≡ answers result
