@@ -4,3 +4,4 @@ mod Files
 mod Copies
 mod Pairs
 pub mod Noted
+pub mod Beginnings

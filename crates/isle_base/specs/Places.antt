@@ -1,5 +1,5 @@
 -- What places and names are as text, and how a term stands in a list of terms.
-use Rattle.std.specs.Prelude.{ℕ, ◌+◌, ◌-◌, ◌^◌, ◌==◌, if◌then◌else◌, List, [], ◌∷◌, ◌++◌, take, slice_index_or, codes}
+use Rattle.std.specs.Prelude.{◌≡◌, ℕ, ◌+◌, ◌-◌, ◌^◌, ◌==◌, if◌then◌else◌, List, [], ◌∷◌, ◌++◌, take, slice_index_or, codes}
 use Rattle.std.specs.Fmt.{decimal}
 use Rattle.std.specs.List.{count_by}
 use Rattle.isle_model.specs.lists.Syntax.{Position, Name}
@@ -26,3 +26,13 @@ single_end p = record { file = p.file; offset = if p.offset == 2 ^ 64 - 1 then p
 -- a variant's name after its type's, where the variant's stands
 abbrev pub full_name_of : Name → Name → Name
 full_name_of ty variant = record { text = ty.text ++ 46 ∷ variant.text; at = variant.at }
+
+-- a list holds what it held, and then all of some others but these last ones
+pub record HoldsAllBut {X : Type 0} (held others last now : List X) : Type 0 where
+  pub noted : List X
+  pub kept : now ≡ held ++ noted
+  pub begun : noted ++ last ≡ others
+
+-- a list holds what it held, and then a beginning of some others
+abbrev pub HoldsBeginning : {X : Type 0} → List X → List X → List X → Type 0
+HoldsBeginning {X} held others now = (last : List X) × HoldsAllBut held others last now

@@ -2,7 +2,7 @@
 //! wrong with them.
 #![tactic(auto, using(crate::proofs::PatternViews::pattern_steps, crate::proofs::ExprViews::expr_steps))]
 
-ghost use Rattle.std.specs.Prelude.{◌≡◌, ◌++◌, ◌<◌, alloc_error, map, length, IfOk, OnOk, option_map, string_bytes};
+ghost use Rattle.std.specs.Prelude.{◌≡◌, ◌++◌, ◌<◌, alloc_error, map, length, IfOk, OnErr, OnOk, option_map, string_bytes};
 ghost use Rattle.std.specs.List.{position_from};
 ghost use Rattle.std.specs.Str.{bytes_eq};
 ghost use Rattle.isle_base.specs.declared.syntax.Fault.TheVariants.{Memory};
@@ -11,7 +11,7 @@ ghost use Rattle.isle_model.specs.lists.TermTable.{terms_of, terms_of_all};
 ghost use Rattle.isle_base.specs.Patterns.{pattern_position};
 ghost use Rattle.isle_model.specs.lists.TermTable.{root_name, template, templates};
 ghost use Rattle.isle_model.specs.lists.Expansions.{substituted, all_substituted};
-ghost use Rattle.isle_base.specs.Places.{full_name_of, line_of, printed_line, single_end, term_view};
+ghost use Rattle.isle_base.specs.Places.{full_name_of, line_of, printed_line, single_end, term_view, HoldsBeginning};
 ghost use Rattle.isle_base.specs.SyntaxViews.{position, name_view, pattern_view, pattern_views, expr_view, expr_views, let_views};
 
 use std::alloc::{AllocError, AllocFailed, Global};
@@ -62,6 +62,20 @@ pub enum Limit {
     Nesting,
     /// The expansions in one rule.
     Expansions,
+}
+
+impl Limit {
+    /// What the definitions have that passes the limit, as the text of an error.
+    pub fn text(self) -> &'static str {
+        match self {
+            Limit::Fields => "more than 255 fields are matched",
+            Limit::Outputs => "more than 255 extractor outputs",
+            Limit::Arguments => "more than 256 arguments",
+            Limit::Sites => "more than 65536 binding sites",
+            Limit::Nesting => "expansions nest deeper than 256",
+            Limit::Expansions => "more than 65536 expansions in one rule",
+        }
+    }
 }
 
 /// What is wrong with the definitions.
@@ -403,7 +417,7 @@ pub struct LetDef {
 impl Pos {
     /// The place as text: the file's name, ` line `, and the line's number, which is 1 plus the number of line
     /// feeds before the offset. The file must be one of these.
-    pub fn pretty_print_line(&self, files: &Files, alloc: Global) -> Result<String, AllocError>
+    pub fn pretty_print_line(&self, alloc: Global, files: &Files) -> Result<String, AllocError>
         requires name { self.now.file < length files.now.names.items }
         requires text { self.now.file < length files.now.texts.items }
         ensures { IfOk result (λ s. string_bytes s
@@ -490,10 +504,12 @@ impl Pattern {
     }
 
     /// Adds the position and the symbol of each term to the list, an outer term before its parts, left to
-    /// right. A refusal leaves some of them there. Upstream calls a closure with each, in this order.
+    /// right. A refusal leaves a beginning of them there, after what the list held. Upstream calls a closure with each, in
+    /// this order.
     pub fn terms<'a>(&'a self, out: &mut Vec<(Pos, &'a Ident)>) -> Result<(), AllocError>
-        ensures { OnOk result (map (λ t. term_view t.0 t.1.now) out.new.items
+        ensures all { OnOk result (map (λ t. term_view t.0 t.1.now) out.new.items
             ≡ map (λ t. term_view t.0 t.1.now) out.old.items ++ terms_of (pattern_view self.now)) }
+        ensures beginning { OnErr result (HoldsBeginning (map (λ t. term_view t.0 t.1.now) out.old.items) (terms_of (pattern_view self.now)) (map (λ t. term_view t.0 t.1.now) out.new.items)) }
     {
         match self {
             Pattern::BindPattern { subpat, .. } => subpat.terms(out),
@@ -621,11 +637,12 @@ impl Expr {
     }
 
     /// Adds the position and the symbol of each term to the list, an outer term before its parts, left to
-    /// right, a let's definitions before its body. A refusal leaves some of them there. Upstream calls a
-    /// closure with each, in this order.
+    /// right, a let's definitions before its body. A refusal leaves a beginning of them there, after what the list
+    /// held. Upstream calls a closure with each, in this order.
     pub fn terms<'a>(&'a self, out: &mut Vec<(Pos, &'a Ident)>) -> Result<(), AllocError>
-        ensures { OnOk result (map (λ t. term_view t.0 t.1.now) out.new.items
+        ensures all { OnOk result (map (λ t. term_view t.0 t.1.now) out.new.items
             ≡ map (λ t. term_view t.0 t.1.now) out.old.items ++ terms_of_expr (expr_view self.now)) }
+        ensures beginning { OnErr result (HoldsBeginning (map (λ t. term_view t.0 t.1.now) out.old.items) (terms_of_expr (expr_view self.now)) (map (λ t. term_view t.0 t.1.now) out.new.items)) }
     {
         match self {
             Expr::Term { sym, args, pos } => {

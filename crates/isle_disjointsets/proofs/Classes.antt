@@ -8,6 +8,7 @@ use Rattle.std.proofs.lemmas.List.Folds.{list_any-append}
 use Rattle.std.proofs.lemmas.Map.Keys.{IsDistinct-push}
 use Rattle.std.proofs.lemmas.Map.Steps.{list_any_congr}
 use Rattle.std.proofs.lemmas.Bool.{cases_eq, false≢true, or_parts, or_left, or_right, or_from}
+use Rattle.std.proofs.Math.Bool.{or-false}
 use Rattle.isle_disjointsets.specs.Partition.{in_set}
 use Rattle.isle_disjointsets.specs.Numbers.{same_number, sets_of, IsNumbered, IsPut, Numbering, Vacant}
 use Rattle.isle_disjointsets.proofs.Puts.{put_here, put_other, vacant_kept, vacant_freed, vacancies_at}
@@ -45,12 +46,8 @@ into_first : (a b : ℕ) (o : Option ℕ) → (same_number o (Some a) || same_nu
 into_first a b None = refl
 into_first a b (Some j) = elim (cases_eq b j) [
   | inl e ↦ rw (eq-eqb b j e, eq-eqb j b (sym e), eq-eqb a a refl) (or_right (j == a) true refl)
-  | inr ne ↦ rw (ne_eqb b j ne, ne_eqb j b (λ e. ne (sym e))) (or_false (j == a))
+  | inr ne ↦ rw (ne_eqb b j ne, ne_eqb j b (λ e. ne (sym e))) (or-false (j == a))
 ]
-  where
-    or_false : (t : Bool) → (t || false) ≡ t
-    or_false true = refl
-    or_false false = refl
 
 out_of_second : (a b : ℕ) → a ≢ b → (o : Option ℕ) → false ≡ same_number (cond (same_number (Some b) o) (Some a) o) (Some b)
 out_of_second a b ne None = refl

@@ -1,15 +1,12 @@
 -- What is together once two sets are one, or one is gone.
 use Rattle.std.proofs.Common.{◌≡◌, ℕ, ◌==◌, Bool, true, false, cond, not, ◌||◌, ◌&&◌, Option, Some, None, refl, sym, ap, ◌∙◌, inl, inr, eq-eqb, ne_eqb}
 use Rattle.std.specs.Cmp.{IsEquivalence}
-use Rattle.std.proofs.lemmas.Bool.{false≢true, or_left, or_right, or_cases, and_right, cases_eq}
+use Rattle.std.proofs.lemmas.Bool.{false≢true, or_left, or_right, or_cases, and_right, cases_eq, false_from_ne_true}
+use Rattle.std.proofs.Math.Bool.{and-true}
 use Rattle.isle_disjointsets.specs.Partition.{together, together_after, filled}
 use Rattle.isle_disjointsets.specs.Numbers.{same_number, IsNumbered, IsMerge, Numbering, touches}
 use Rattle.isle_disjointsets.proofs.Classes.{same_is, same_at, same_symm, alike}
 use Rattle.isle_disjointsets.proofs.Togethers.{by_number}
-
-pub kept : (t : Bool) → t ≡ (t && true)
-kept true = refl
-kept false = refl
 
 module _ {T : Type 0} (eq : T → T → Bool) (number : T → Option ℕ) where
   -- ---- the new numbers as each case of `merge` makes them
@@ -103,22 +100,18 @@ module _ {T : Type 0} (eq : T → T → Bool) (number : T → Option ℕ) where
         | true ↦ λ s. elim (touches eq number x y b) as (λ t. touches eq number x y b ≡ t → same_number (Some m.class) (cond t (Some m.class) (number b)) ≡ (t || same_number (number a) (number b))) [
           | true ↦ λ t. eq-eqb m.class m.class refl
           | false ↦ λ t.
-              let left : same_number (Some m.class) (number b) ≡ false = never (same_number (Some m.class) (number b)) (λ e. false≢true (sym t ∙ m.own b (sym (same_is (Some m.class) (number b) e)))) in
-              let right : same_number (number a) (number b) ≡ false = never (same_number (number a) (number b)) (λ e. false≢true (sym t ∙ closed respects x y a b s e)) in
+              let left : same_number (Some m.class) (number b) ≡ false = false_from_ne_true (same_number (Some m.class) (number b)) (λ e. false≢true (sym t ∙ m.own b (sym (same_is (Some m.class) (number b) e)))) in
+              let right : same_number (number a) (number b) ≡ false = false_from_ne_true (same_number (number a) (number b)) (λ e. false≢true (sym t ∙ closed respects x y a b s e)) in
               left ∙ sym right
         ] refl
         | false ↦ λ s. elim (touches eq number x y b) as (λ t. touches eq number x y b ≡ t → same_number (number a) (cond t (Some m.class) (number b)) ≡ same_number (number a) (number b)) [
           | true ↦ λ t.
-              let left : same_number (number a) (Some m.class) ≡ false = never (same_number (number a) (Some m.class)) (λ e. false≢true (sym s ∙ m.own a (same_is (number a) (Some m.class) e))) in
-              let right : same_number (number a) (number b) ≡ false = never (same_number (number a) (number b)) (λ e. false≢true (sym s ∙ closed respects x y b a t (same_symm (number b) (number a) ∙ e))) in
+              let left : same_number (number a) (Some m.class) ≡ false = false_from_ne_true (same_number (number a) (Some m.class)) (λ e. false≢true (sym s ∙ m.own a (same_is (number a) (Some m.class) e))) in
+              let right : same_number (number a) (number b) ≡ false = false_from_ne_true (same_number (number a) (number b)) (λ e. false≢true (sym s ∙ closed respects x y b a t (same_symm (number b) (number a) ∙ e))) in
               left ∙ sym right
           | false ↦ λ t. refl
         ] refl
       ] refl)
-    where
-      never : (b : Bool) → (b ≡ true → ⊥) → b ≡ false
-      never true h = absurd (h refl)
-      never false h = refl
 
   pub removed_numbers : (changed : T → Option ℕ) (x : T) (c : ℕ) → number x ≡ Some c → ((q : T) → changed q ≡ cond (same_number (number q) (Some c)) None (number q))
       → (a b : T) → same_number (changed a) (changed b) ≡ (same_number (number a) (number b) && not (same_number (number x) (number a)))
@@ -132,7 +125,7 @@ module _ {T : Type 0} (eq : T → T → Bool) (number : T → Option ℕ) where
         | inl e ↦ rw (eq-eqb j c e, eq-eqb c j (sym e)) (sym (and_right (j == k) false refl))
         | inr ne ↦ elim (cases_eq k c) [
           | inl e ↦ rw (ne_eqb j c ne, eq-eqb k c e, ne_eqb j k (λ d. ne (d ∙ e))) refl
-          | inr far ↦ rw (ne_eqb j c ne, ne_eqb k c far, ne_eqb c j (λ e. ne (sym e))) (kept (j == k))
+          | inr far ↦ rw (ne_eqb j c ne, ne_eqb k c far, ne_eqb c j (λ e. ne (sym e))) (sym (and-true (j == k)))
         ]
       ]
 

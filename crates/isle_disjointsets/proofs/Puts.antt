@@ -61,9 +61,6 @@ module _ {T : Type 0} where
   pub vector_pushed : (vs : List (Vec T Global)) (v : Vec T Global) → IsPut (sets_of vs) (sets_of (vs ++ v ∷ [])) (length vs) v.items
   vector_pushed vs v = rw (map-append (λ w. w.items) vs (v ∷ []), ← length-map vs (λ w. w.items)) (push_put (sets_of vs) v.items)
 
-  pub past_vectors : (vs : List (Vec T Global)) → get_or (sets_of vs) (length vs) [] ≡ []
-  past_vectors vs = rw (← length-map vs (λ w. w.items)) (past (sets_of vs))
-
   -- a vector that holds the same set may take another's place
   pub same_sets : (vs : List (Vec T Global)) (i : ℕ) (v d : Vec T Global) → v.items ≡ (get_or vs i d).items → sets_of (slice_set vs i v) ≡ sets_of vs
   same_sets [] i v d e = refl

@@ -33,10 +33,6 @@ module _ {T : Type 0} where
   filled_some ((x ∷ s) ∷ ss) zero h = omega arith
   filled_some ((x ∷ s) ∷ ss) (suc k) h = filled_some ss k (omega (arith, h))
 
-none_same : (o p : Option ℕ) → same_number o o ≡ false → same_number o p ≡ false
-none_same None p e = refl
-none_same (Some k) p e = absurd (false≢true (sym e ∙ eq-eqb k k refl))
-
 module _ {T : Type 0} (eq : T → T → Bool) where
   pub set_of_filled : (sets : List (List T)) (x : T) → set_of eq (filled sets) x ≡ set_of eq sets x
   unfolding filled set_of

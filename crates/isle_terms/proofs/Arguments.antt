@@ -1,13 +1,13 @@
 -- Looking up the types of names, one after another.
 use Rattle.std.proofs.Common.{◌≡◌, ℕ, ◌+◌, ◌<◌, true, List, [], ◌∷◌, ◌++◌, length, drop, get_or, map, Option, Some, None, is_some, All, sym, ap, subst, ◌∙◌}
 use Rattle.std.proofs.lemmas.Bool.{false≢true}
-use Rattle.std.proofs.lemmas.List.{append_assoc, append-nil, at_drop_more, map-append}
+use Rattle.std.proofs.lemmas.List.{append_assoc, at_drop_more, map-append}
 use Rattle.std.proofs.lemmas.List.Elements.{All-head, All-tail}
 use Rattle.isle_base.specs.declared.syntax.Ident.{Ident}
 use Rattle.isle_base.specs.SyntaxViews.{name_view}
 use Rattle.isle_types.specs.declared.ids.TypeId.{TypeId}
 use Rattle.isle_types.specs.declared.type_env.TypeEnv.{TypeEnv}
-use Rattle.isle_terms.specs.Reading.{IsKnownInEnv, HaveTypes}
+use Rattle.isle_terms.specs.Reading.{IsKnownInEnv}
 use Rattle.isle_types.specs.Envs.{type_of_name}
 
 abbrev found_types : List TypeId → List (Option ℕ)
@@ -42,6 +42,3 @@ module _ (env : TypeEnv) (names : List Ident) (k : ℕ) (n : Ident) (within : k 
 
 pub first_type : (env : TypeEnv) (names : List Ident) (tys : List TypeId) → tys ≡ [] → IsLookedUp env names names tys
 first_type env names tys none = record { types = ap (λ ts. found_types ts ++ named_types env names) none; known = λ v. v }
-
-pub end_types : (env : TypeEnv) (names rest : List Ident) (tys : List TypeId) → rest ≡ [] → IsLookedUp env names rest tys → HaveTypes env (map name_view names) (map (λ t. t.0) tys)
-end_types env names rest tys none s = sym (append-nil (found_types tys)) ∙ sym (ap (λ l. found_types tys ++ named_types env l) none) ∙ s.types

@@ -1,5 +1,5 @@
 -- Reading converters by types that are handed in, one definition after another.
-use Rattle.std.proofs.Common.{◌≡◌, ◌==◌, ◌&&◌, ℕ, zero, suc, ◌+◌, ◌<◌, Bool, true, false, cond, List, [], ◌∷◌, ◌++◌, length, take, drop, get_or, map, slice_get, Option, None, Some, is_some, unwrap_or, option_map, All, refl, sym, ap, subst, ◌∙◌, inl, inr, eqb-true}
+use Rattle.std.proofs.Common.{◌≡◌, ◌==◌, ◌&&◌, ℕ, zero, suc, ◌+◌, ◌<◌, Bool, true, false, cond, List, [], ◌∷◌, ◌++◌, length, take, drop, get_or, map, slice_get, None, Some, is_some, unwrap_or, option_map, All, refl, sym, ap, subst, ◌∙◌, inl, inr, eqb-true}
 use Rattle.std.proofs.Math.Path.{ap₂}
 use Rattle.std.proofs.lemmas.Bool.{false≢true}
 use Rattle.std.proofs.lemmas.Bool.Decides.{Decides-eqb}
@@ -7,6 +7,7 @@ use Rattle.std.proofs.lemmas.List.{append-nil, map-append}
 use Rattle.std.proofs.lemmas.List.Concat.{flat_map-append}
 use Rattle.std.proofs.lemmas.List.Elements.{All-push}
 use Rattle.std.proofs.lemmas.Option.{same_Some, slice_get_within, slice_get-map}
+use Rattle.isle_model.proofs.Mapped.{mapped_some}
 use Rattle.isle_model.specs.lists.Syntax.{Name, ConverterTree, Definition, type_definition, declaration, extractor_definition, converter_definition, rule_definition, extern_definition, other_definition}
 use Rattle.isle_model.specs.lists.Names.{IsDistinct}
 use Rattle.isle_model.specs.rules.Meaning.{look}
@@ -88,10 +89,6 @@ pair_is k i o h =
 pair_same : (p q : ℕ × ℕ) → p.0 ≡ q.0 → p.1 ≡ q.1 → p ≡ q
 pair_same p q a b = ap (λ n. (n, p.1)) a ∙ ap (λ n. (q.0, n)) b
 
-option_map_some : {X Y : Type 0} (f : X → Y) (o : Option X) (y : Y) → option_map f o ≡ Some y → (x : X) × (o ≡ Some x) × (f x ≡ y)
-option_map_some f None y h = absurd (cc)
-option_map_some f (Some x) y h = (x, refl, same_Some (f x) y h)
-
 module _ (e : TypesRead) (readable : AreReadable e) (defs read rest : List Definition) (c : ConverterTree) (whole : defs ≡ read ++ converter_definition c ∷ rest) (env : TypeEnv) (old : TermTable) (left : IsLeftByRefusal e (environment_view env)) (s : ConvertersRead e defs read env old) where
   trees : converter_trees defs ≡ converter_trees read ++ c ∷ converter_trees rest
   trees = ap converter_trees whole ∙ flat_map-append converter_of read (converter_definition c ∷ rest)
@@ -129,7 +126,7 @@ module _ (e : TypesRead) (readable : AreReadable e) (defs read rest : List Defin
 
     fresh : (j : ℕ) → slice_get (converted_pairs read) j ≡ Some (pair_of c) → ⊥
     fresh j h =
-        let d = option_map_some pair_of (slice_get (converter_trees read) j) (pair_of c) (sym (slice_get-map pair_of (converter_trees read) j) ∙ h) in
+        let d = mapped_some pair_of (slice_get (converter_trees read) j) (pair_of c) (sym (slice_get-map pair_of (converter_trees read) j) ∙ h) in
         let first : known_type e.known d.0.inner_ty ≡ a.inner = ap (λ (p : List ℕ × List ℕ). unwrap_or (type_named e.known p.0) 0) d.2 ∙ (inner).0 in
         let second : known_type e.known d.0.outer_ty ≡ a.outer = ap (λ (p : List ℕ × List ℕ). unwrap_or (type_named e.known p.1) 0) d.2 ∙ (outer).0 in
         let pass : is_pair a.inner a.outer (entry d.0).0 ≡ true = ap (λ n. is_pair a.inner a.outer (n, known_type e.known d.0.outer_ty)) first ∙ ap (λ n. is_pair a.inner a.outer (a.inner, n)) second ∙ same_pair a.inner a.outer in

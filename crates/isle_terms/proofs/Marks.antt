@@ -10,6 +10,7 @@ use Rattle.std.proofs.lemmas.List.{length-set, length_push, take_all}
 use Rattle.std.proofs.lemmas.List.Elements.{All-cons, All-nil, All-push, All-contains, All-take, Contains-push_cases}
 use Rattle.std.proofs.lemmas.List.Sums.{sum_by-set}
 use Rattle.std.proofs.lemmas.Option.{same_Some, slice_get-map, slice_get-get_or, slice_get_within}
+use Rattle.isle_model.proofs.Mapped.{mapped_some}
 use Rattle.isle_model.proofs.Members.{in_alone, in_cases, in_head, in_tail, member_from_get}
 use Rattle.isle_types.specs.declared.ids.TermId.{TermId}
 use Rattle.isle_terms.specs.declared.reading.recursion.Mark.{Mark}
@@ -102,10 +103,6 @@ end_is : (m : Mark) → is_end m ≡ true → m ≡ Ends
 end_is Unmet h = absurd (false≢true h)
 end_is (Met by) h = absurd (false≢true h)
 end_is Ends h = refl
-
-mapped_some : {X Y : Type 0} (f : X → Y) (o : Option X) (y : Y) → option_map f o ≡ Some y → (x : X) × (o ≡ Some x) × (f x ≡ y)
-mapped_some f None y h = absurd (cc)
-mapped_some f (Some x) y h = (x, refl, same_Some (f x) y h)
 
 marked_on : (root : ℕ) (ms : List Mark) (t : ℕ) → slice_get (on_path root ms) t ≡ Some true → (m : Mark) × (slice_get ms t ≡ Some m) × (is_on root m ≡ true)
 marked_on root ms t h = mapped_some (is_on root) (slice_get ms t) true (sym (slice_get-map (is_on root) ms t) ∙ h)

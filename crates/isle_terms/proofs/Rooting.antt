@@ -9,7 +9,6 @@ use Rattle.isle_model.specs.lists.Syntax.{Name, RuleTree, Definition}
 use Rattle.isle_model.specs.lists.Names.{number, has_name, IsDistinct}
 use Rattle.isle_model.specs.lists.Tables.{internal_constructor}
 use Rattle.isle_model.specs.lists.TermTable.{root_name, has_root, is_rule_of}
-use Rattle.isle_base.specs.declared.syntax.Error.{Error}
 use Rattle.std.proofs.Math.Bool.{or-true, or-false}
 use Rattle.isle_model.proofs.Bytes.{same_bytes}
 use Rattle.isle_model.proofs.Names.{found}
@@ -17,10 +16,6 @@ use Rattle.isle_terms.specs.declared.term_table.TermTable.{TermTable}
 use Rattle.isle_terms.specs.TermTables.{term_at}
 use Rattle.isle_terms.specs.Reading.{IsWithin}
 use Rattle.isle_terms.specs.Stages.{constructor_after}
-
-pub nothing : (es : List Error) → length es ≡ 0 → es ≡ []
-nothing [] e = refl
-nothing (x ∷ xs) e = absurd (omega arith)
 
 -- what is looked up is one of the table
 pub is_within : (table : TermTable) → IsWithin table → (o : Option ℕ) (id : ℕ) → Some id ≡ option_and_then (term_at table) o → id < length table.terms.items

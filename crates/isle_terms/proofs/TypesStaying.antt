@@ -1,21 +1,17 @@
 -- Names that are met leave the types that are read with.
-use Rattle.std.proofs.Common.{◌≡◌, ◌==◌, Result, Ok, Err, OnOk, OnErr, ℕ, suc, ◌+◌, true, false, cond, List, [], ◌∷◌, ◌++◌, Option, Some, None, map, slice_get, option_map, Contains, IsTrue, length, refl, sym, ap, subst, ◌∙◌, eqb-true, rules, arith}
-use Rattle.std.specs.List.{enumerate_from}
-use Rattle.std.specs.Str.{bytes_eq}
+use Rattle.std.proofs.Common.{◌≡◌, ◌==◌, Result, Ok, Err, OnOk, OnErr, ℕ, ◌+◌, true, false, cond, List, [], ◌∷◌, ◌++◌, None, slice_get, option_map, Contains, IsTrue, length, refl, sym, ap, subst, ◌∙◌}
 use Rattle.std.proofs.lemmas.Bool.{false≢true}
 use Rattle.std.proofs.lemmas.List.{append_assoc, append-nil}
 use Rattle.std.proofs.lemmas.List.Elements.{All-contains}
-use Rattle.std.proofs.lemmas.Slice.Eq.{bytes_eq-Decides}
 use Rattle.isle_model.specs.lists.Names.{number, has_name, with_name, with_names, IsDistinct}
 use Rattle.isle_model.specs.rules.Meaning.{look}
 use Rattle.isle_model.specs.rules.Outcome.{then_option}
 use Rattle.isle_model.specs.lists.TypeTable.{place_from}
 use Rattle.isle_model.specs.lists.KnownTypes.{type_named}
 use Rattle.isle_model.specs.claims.Environments.{TypesRead, AreReadable, environment_of, with_read_names, numbered, IsLeftByRefusal}
-use Rattle.isle_model.proofs.Bytes.{same_bytes}
 use Rattle.isle_model.proofs.ByNumber.{by_text}
 use Rattle.isle_model.proofs.FirstPlaces.{place_absent}
-use Rattle.isle_model.proofs.Members.{in_head, in_tail, member_from_get}
+use Rattle.isle_model.proofs.Members.{member_from_get}
 use Rattle.isle_model.proofs.Names.{found, has_left}
 use Rattle.isle_model.proofs.NumbersOf.{environments_are_read}
 use Rattle.isle_laws_lists.proofs.TypesStay.{types_are_shown_lem, types_stay_lem}
@@ -25,6 +21,7 @@ use Rattle.isle_types.specs.EnvViews.{environment_view}
 use Rattle.isle_types.specs.TypeViews.{type_views}
 use Rattle.isle_types.proofs.Inverse.{inverse_distinct}
 use Rattle.isle_base.specs.Stable.{look_up}
+use Rattle.isle_laws_lists.proofs.LooksByNumber.{numbered_from}
 use Rattle.isle_terms.specs.Reading.{Interns, MayIntern}
 
 with_name_more : (ns : List (List ℕ)) (x : List ℕ) → (more : List (List ℕ)) × (with_name ns x ≡ ns ++ more)
@@ -41,40 +38,6 @@ with_names_more ns (x ∷ xs) =
     let f = with_name_more ns x in
     let r = with_names_more (with_name ns x) xs in
     (f.0 ++ r.0, r.1 ∙ ap (λ l. l ++ r.0) f.1 ∙ append_assoc ns f.0 r.0)
-
-nothing_then : (o : Option (List ℕ)) → None ≡ then_option {Y = ℕ} o (λ x. None)
-nothing_then None = refl
-nothing_then (Some x) = refl
-
-after : (i : ℕ) → i + 1 ≡ suc i
-after i = omega arith
-
--- what is looked up by the number of a name is the place of the name
-pub numbered_look : (ns : List (List ℕ)) (i : ℕ) (ts : List (List ℕ)) → IsDistinct ns → ((x : List ℕ) → Contains ts x → has_name ns x ≡ true) → (k : ℕ)
-    → look (λ n. n == k) (map (λ p. (number ns p.1, p.0)) (enumerate_from i ts)) ≡ then_option (slice_get ns k) (λ x. place_from i x ts)
-numbered_look ns i [] once met k = nothing_then (slice_get ns k)
-numbered_look ns i (t ∷ ts) once met k =
-    let there : slice_get ns (number ns t) ≡ Some t = found ns t (met t (in_head t ts)) in
-    let rest : look (λ n. n == k) (map (λ p. (number ns p.1, p.0)) (enumerate_from (i + 1) ts)) ≡ then_option (slice_get ns k) (λ x. place_from (suc i) x ts) =
-    subst (λ j. look (λ n. n == k) (map (λ p. (number ns p.1, p.0)) (enumerate_from (i + 1) ts)) ≡ then_option (slice_get ns k) (λ x. place_from j x ts)) (after i) (numbered_look ns (i + 1) ts once (λ x c. met x (in_tail t x ts c)) k) in
-    elim (number ns t == k) as (λ b. (number ns t == k) ≡ b → cond b (Some i) (look (λ n. n == k) (map (λ p. (number ns p.1, p.0)) (enumerate_from (i + 1) ts))) ≡ then_option (slice_get ns k) (λ x. cond (bytes_eq t x) (Some i) (place_from (suc i) x ts))) [
-      | true ↦ λ e.
-          let here : slice_get ns k ≡ Some t = subst (λ j. slice_get ns j ≡ Some t) (eqb-true (number ns t) k e) there in
-          let this : bytes_eq t t ≡ true = (bytes_eq-Decides t t).1 refl in
-          sym (ap (λ o. then_option o (λ x. cond (bytes_eq t x) (Some i) (place_from (suc i) x ts))) here ∙ ap (λ b. cond b (Some i) (place_from (suc i) t ts)) this)
-      | false ↦ λ e.
-          rest ∙ (elim (slice_get ns k) as (λ o. slice_get ns k ≡ o → then_option o (λ x. place_from (suc i) x ts) ≡ then_option o (λ x. cond (bytes_eq t x) (Some i) (place_from (suc i) x ts))) [
-            | None ↦ λ _. refl
-            | Some y ↦ λ h.
-                elim (bytes_eq t y) as (λ b. bytes_eq t y ≡ b → place_from (suc i) y ts ≡ cond b (Some i) (place_from (suc i) y ts)) [
-                  | true ↦ λ s.
-                      let same : t ≡ y = same_bytes t y s in
-                      let at : number ns t ≡ k = once (number ns t) k t there (h ∙ ap Some (sym same)) in
-                      absurd (false≢true (sym e ∙ ap (λ n. n == k) at ∙ search rules))
-                  | false ↦ λ _. refl
-                ] refl
-          ] refl)
-    ] refl
 
 place_unmet : (ts : List (List ℕ)) (x : List ℕ) → (Contains ts x → ⊥) → place_from 0 x ts ≡ None
 place_unmet ts x never =
@@ -99,7 +62,7 @@ module _ (e : TypesRead) (r : AreReadable e) (env : TypeEnv) (left : IsLeftByRef
       let met : (y : List ℕ) → Contains e.known.type_names y → has_name e.known.names y ≡ true = λ y c. All-contains (λ z. IsTrue (has_name e.known.names z)) e.known.type_names y r.well_formed.names_of_types_met c in
       let met_here : (y : List ℕ) → Contains e.known.type_names y → has_name (names_of env) y ≡ true = λ y c. subst (λ ns. has_name ns y ≡ true) (sym names_are) (has_left e.known.names left.more y (met y c)) in
       let ids : (k : ℕ) → type_at env k ≡ then_option (slice_get (names_of env) k) (λ y. place_from 0 y e.known.type_names) =
-      λ k. left.types.look_ups k ∙ ap (λ ns. look (λ n. n == k) (numbered ns e.known.type_names)) (sym names_are) ∙ numbered_look (names_of env) 0 e.known.type_names left_distinct met_here k in
+      λ k. left.types.look_ups k ∙ ap (λ ns. look (λ n. n == k) (numbered ns e.known.type_names)) (sym names_are) ∙ numbered_from (names_of env) 0 e.known.type_names left_distinct met_here k in
       by_text (names_of env) (symbol_of env) left.types.inverse.numbered left.types.inverse.named (type_at env) (λ y. place_from 0 y e.known.type_names) ids x
       (λ f. place_unmet e.known.type_names x (λ c. false≢true (sym f ∙ met_here x c)))
 

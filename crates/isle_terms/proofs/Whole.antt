@@ -5,6 +5,7 @@ use Rattle.std.specs.Str.{bytes_eq}
 use Rattle.std.proofs.lemmas.Bool.{false≢true}
 use Rattle.std.proofs.lemmas.List.{append-nil}
 use Rattle.std.proofs.lemmas.List.Elements.{All-nil, Contains-append_cases, recursion_from_All}
+use Rattle.isle_laws_lists.proofs.LooksByNumber.{nothing_then, numbered_from}
 use Rattle.isle_model.specs.lists.Syntax.{DeclTree, ExtractorTree, Definition}
 use Rattle.isle_model.specs.lists.Names.{number, has_name, with_names, IsDistinct}
 use Rattle.isle_model.specs.rules.Meaning.{look}
@@ -37,11 +38,7 @@ use Rattle.isle_terms.specs.ExternStages.{external_after, function_after, Extern
 use Rattle.isle_terms.specs.Recursion.{ExtractorsRead}
 use Rattle.isle_terms.specs.Whole.{shown_by}
 use Rattle.isle_terms.proofs.Noting.{reads_as, step}
-use Rattle.isle_terms.proofs.TypesStaying.{left_distinct, left_interned, numbered_look}
-
-nothing_there : (o : Option (List ℕ)) → None ≡ then_option {Y = ℕ} o (λ x. None)
-nothing_there None = refl
-nothing_there (Some x) = refl
+use Rattle.isle_terms.proofs.TypesStaying.{left_distinct, left_interned}
 
 -- before the first definition
 pub first_declared : (e : TypesRead) (defs : List Definition) (env : TypeEnv) (table : TermTable) (es : List Error) → IsReadAs (environment_view env) e → table.terms.items ≡ [] → ((k : ℕ) → term_at table k ≡ None) → HasNoConverter table → es ≡ [] → ReadsTerms e defs (Declaring e defs []) env table es
@@ -54,7 +51,7 @@ first_declared e defs env table es r terms ids converters none = record {
     record {
       has = record {
         names = r.names;
-        finds = record { ids = λ k. ids k ∙ nothing_there (slice_get (names_of env) k); known = λ x e. refl };
+        finds = record { ids = λ k. ids k ∙ nothing_then (slice_get (names_of env) k); known = λ x e. refl };
         distinct = λ j k x p q. absurd (cc);
         terms = ap (map term_view) terms;
         count = refl;
@@ -200,7 +197,7 @@ all_read e readable defs env old table before left x cr s = (valid, record { val
     look_ups : (k : ℕ) → term_at table k ≡ look (λ n. n == k) (terms_by_name (term_table e.known defs))
     look_ups k =
         s.stand.finds.ids k ∙ ap (λ ns. then_option (slice_get ns k) (place_among (term_names e.known defs))) s.stand.names
-        ∙ sym (numbered_look (term_names_met e.known defs) 0 (term_names e.known defs) (subst IsDistinct s.stand.names (left_distinct e readable env left)) met k)
+        ∙ sym (numbered_from (term_names_met e.known defs) 0 (term_names e.known defs) (subst IsDistinct s.stand.names (left_distinct e readable env left)) met k)
         ∙ ap (look (λ n. n == k)) (sym (by_name_from 0 (term_table e.known defs) (term_names e.known defs) (term_names_met e.known defs) (terms_have_names_lem.0 e.known defs readable.well_formed) (λ i t h. let z : i ≡ 0 + i = omega arith in terms_stand_at_ids_lem e.known defs i t h ∙ z)))
 
     types : IsReadAs (environment_view env) (with_read_names e (term_names_met e.known defs))

@@ -20,3 +20,4 @@ pub mod VariantSteps
 pub mod VariantRuns
 pub mod RightValues
 pub mod FillingTypes
+pub mod Reducing

@@ -93,7 +93,7 @@ module _ (old new : TypeEnvironment) (h : IsWellFormedEnvironment old) (inverse 
     no_errors = errors ∙ h.no_errors;
   }
 
-longer : (ns : List (List ℕ)) (x : List ℕ) → length ns ≤ length (with_name ns x)
+pub longer : (ns : List (List ℕ)) (x : List ℕ) → length ns ≤ length (with_name ns x)
 longer ns x =
     elim (has_name ns x) as (λ b. length ns ≤ length (cond b ns (ns ++ x ∷ []))) [
       | true ↦ omega arith

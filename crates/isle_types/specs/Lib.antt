@@ -10,3 +10,4 @@ pub mod Stages
 pub mod Promises
 pub mod ConstantReading
 pub mod EnvViews
+pub mod IntRanges

@@ -8,7 +8,6 @@ use Rattle.isle_model.specs.rules.Outcome.{then_option}
 use Rattle.isle_model.specs.lists.Tables.{TypeEntry, builtin_type}
 use Rattle.isle_model.specs.lists.TypeTable.{builtin_names, type_trees, type_names, all_type_names, names_inside, ConstantTree, constant_trees, type_names_met, type_id, type_or_first, type_of_number, place_from, IsOfKnownType, IsValidTypes, builtin_from, type_entry, type_table}
 use Rattle.isle_base.specs.declared.syntax.Error.{Error}
-use Rattle.isle_base.specs.Answers.{limit_of}
 use Rattle.isle_base.specs.Noting.{AreIllTyped}
 use Rattle.isle_base.specs.Stable.{entry_count}
 use Rattle.isle_types.specs.declared.builtin.BuiltinType.{BuiltinType}
@@ -25,10 +24,6 @@ pub record Sees (env : TypeEnv) (types : List (List ℕ)) : Type 0 where
   pub count : entry_count env.type_map ≡ length types
   pub constants : (k : ℕ) → constant_at env k ≡ None
   pub errors : env.errors.items ≡ []
-
--- no error says that a limit was passed
-abbrev pub ArePlain : List Error → Type 0
-ArePlain es = All (λ e. limit_of e ≡ None) es
 
 -- there is no error so far, or the definitions have no type table
 abbrev pub SoFarOfTypes : List Definition → List Error → Type 0 → Type 0

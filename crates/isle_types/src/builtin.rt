@@ -1,8 +1,10 @@
 //! The built-in types: `bool` and the integers of fixed width.
 
-ghost use Rattle.std.specs.Prelude.{◌≡◌, ◌∷◌, [], map};
+ghost use Rattle.std.specs.Prelude.{◌≡◌, ◌<◌, ◌≤◌, ◌^◌, ◌∷◌, [], Some, map, pos};
+ghost use Rattle.isle_model.specs.lists.Ranges.{unsigned, signed, reduce, reduced};
 ghost use Rattle.isle_model.specs.lists.TypeTable.{builtin_names};
 ghost use Rattle.isle_types.specs.Builtin.{int_name, int_signed, builtin_name, builtin_place, builtin_id};
+ghost use Rattle.isle_types.specs.IntRanges.{int_type, HasBits};
 
 use crate::ids::TypeId;
 use std::fmt;
@@ -85,6 +87,73 @@ impl IntType {
             | IntType::ISize => true,
         }
     }
+
+    /// How many bits the type has: 64 where it is as wide as a pointer.
+    pub fn bits(&self) -> u32
+        ensures { HasBits self.now result }
+    {
+        match self {
+            IntType::U8 | IntType::I8 => 8,
+            IntType::U16 | IntType::I16 => 16,
+            IntType::U32 | IntType::I32 => 32,
+            IntType::U64 | IntType::USize | IntType::I64 | IntType::ISize => 64,
+            IntType::U128 | IntType::I128 => 128,
+        }
+    }
+
+    /// The number of the type's range that an integer literal stands for: the one that differs from it by a
+    /// multiple of 2 to the number of bits.
+    ///
+    /// | Types | Range |
+    /// |---|---|
+    /// | `u8`, `u16`, `u32` | 0 to 255, to 65535, to 4294967295 |
+    /// | `u64`, `usize` | 0 to 18446744073709551615 |
+    /// | `i8`, `i16`, `i32` | -128 to 127, -32768 to 32767, -2147483648 to 2147483647 |
+    /// | `i64`, `isize` | -9223372036854775808 to 9223372036854775807 |
+    /// | `u128`, `i128` | every `i128`; for `u128` it stands for the number with the same 128 bits |
+    pub fn reduce(&self, val: i128) -> i128
+        ensures { result ≡ reduced (Some (int_type self.now)) val }
+    {
+        let bits = self.bits();
+        if bits == 128 {
+            return val;
+        }
+        if self.is_signed() {
+            reduce_signed(val, bits)
+        } else {
+            reduce_unsigned(val, bits)
+        }
+    }
+}
+
+// The number of so many bits, without a sign, that a number stands for.
+fn reduce_unsigned(val: i128, bits: u32) -> i128
+    requires { bits ≤ 64 }
+    ensures { result ≡ reduce (unsigned bits) val }
+{
+    val.rem_euclid(words_of(bits))
+}
+
+// The number of so many bits, one of them the sign, that a number stands for.
+fn reduce_signed(val: i128, bits: u32) -> i128
+    requires some { 0 < bits }
+    requires few { bits ≤ 64 }
+    ensures { result ≡ reduce (signed bits) val }
+{
+    let rest = reduce_unsigned(val, bits);
+    if rest < words_of(bits - 1) {
+        rest
+    } else {
+        rest - words_of(bits)
+    }
+}
+
+// How many words of so many bits there are.
+fn words_of(bits: u32) -> i128
+    requires { bits ≤ 64 }
+    ensures { result ≡ pos (2 ^ bits) }
+{
+    1 << bits
 }
 
 impl fmt::Display for IntType {

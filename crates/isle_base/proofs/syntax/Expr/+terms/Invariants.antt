@@ -1,15 +1,16 @@
-use Rattle.std.proofs.Common.{◌≡◌, ◌++◌, map, drop}
+use Rattle.std.proofs.Common.{◌++◌, map, drop}
 use Rattle.isle_base.specs.Expressions.{terms_of_expr, terms_of_exprs, terms_of_lets}
-use Rattle.isle_base.specs.Places.{term_view}
+use Rattle.isle_base.specs.Places.{term_view, HoldsAllBut}
 use Rattle.isle_base.specs.SyntaxViews.{expr_view, expr_views, let_views}
 use Rattle.isle_base.proofs.syntax.Expr.+terms.Given as goal
 
 abbrev pub invariant-loop-arg : goal.invariant-loop-arg
 invariant-loop-arg l =
-    map (λ t. term_view t.0 t.1.now) l.out.items ++ terms_of_exprs (expr_views (drop l.arg-index l.arg-items))
-    ≡ map (λ t. term_view t.0 t.1.now) l.fn.out.items ++ terms_of_expr (expr_view l.self)
+    HoldsAllBut (map (λ t. term_view t.0 t.1.now) l.fn.out.items) (terms_of_expr (expr_view l.self)) (terms_of_exprs (expr_views (drop l.arg-index l.arg-items)))
+    (map (λ t. term_view t.0 t.1.now) l.out.items)
 
 abbrev pub invariant-loop-def : goal.invariant-loop-def
 invariant-loop-def l =
-    map (λ t. term_view t.0 t.1.now) l.out.items ++ (terms_of_lets (let_views (drop l.def-index l.def-items)) ++ terms_of_expr (expr_view l.body.value))
-    ≡ map (λ t. term_view t.0 t.1.now) l.fn.out.items ++ terms_of_expr (expr_view l.self)
+    HoldsAllBut (map (λ t. term_view t.0 t.1.now) l.fn.out.items) (terms_of_expr (expr_view l.self))
+    (terms_of_lets (let_views (drop l.def-index l.def-items)) ++ terms_of_expr (expr_view l.body.value))
+    (map (λ t. term_view t.0 t.1.now) l.out.items)

@@ -2,13 +2,14 @@ use Rattle.std.proofs.Common.{◌≡◌, ap, sym, ◌∙◌, refl, arith, Some, 
 use Rattle.std.specs.HashMap.{get}
 use Rattle.std.specs.List.Sorted.{IsStrictlySortedBy}
 use Rattle.std.proofs.lemmas.Bool.{false≢true}
+use Rattle.std.proofs.Math.Bool.{and-true}
 use Rattle.std.proofs.lemmas.Result.{on_ok_weaker, IfOk-weaker}
 use Rattle.std.proofs.lemmas.List.Sorted.{IsPermutation-refl}
 use Rattle.isle_disjointsets.specs.Partition.{in_set, together, filled}
 use Rattle.isle_disjointsets.specs.Numbers.{sets_of, same_number}
 use Rattle.isle_disjointsets.proofs.Classes.{has_some, same_symm, same_at}
 use Rattle.isle_disjointsets.proofs.Togethers.{found, not_found, by_number, total, partition, partition_of}
-use Rattle.isle_disjointsets.proofs.Merges.{together_removed, kept}
+use Rattle.isle_disjointsets.proofs.Merges.{together_removed}
 use Rattle.isle_disjointsets.proofs.disjointsets.DisjointSets.remove_set_of.Goals as goal
 
 pub remove-requires-clause-some : goal.remove-requires-clause-some
@@ -32,7 +33,7 @@ returns-in-None-clause-rest g c a b =
     let n = sym c.get.ensures.value ∙ sym c.copied.ensures ∙ c.in-None.is in
     let off : together e (filled (sets_of s.members.items)) c.args.x a ≡ false = ap (λ t. in_set e t a) (not_found c.self.invariant c.args.x n) in
     let off' : together e c.args.self.now c.args.x a ≡ false = rw c.self.view_is at off in
-    rw off' (kept (together e c.args.self.now a b))
+    rw off' (sym (and-true (together e c.args.self.now a b)))
 
 pub returns-in-Some-clause-members : goal.returns-in-Some-clause-members
 returns-in-Some-clause-members g c =

@@ -1,10 +1,10 @@
 use Rattle.std.proofs.Common.{◌≡◌, length, rules}
+use Rattle.std.proofs.lemmas.List.{nil_from_length}
 use Rattle.isle_base.specs.SyntaxViews.{definition_views}
 use Rattle.isle_base.proofs.Noted.{name_no_limit}
 use Rattle.isle_terms.specs.Converting.{ConvertersRead}
 use Rattle.isle_terms.specs.ExternStages.{ExternsRead}
 use Rattle.isle_terms.specs.Recursion.{ExtractorsRead}
-use Rattle.isle_terms.proofs.Rooting.{nothing}
 use Rattle.isle_terms.proofs.Whole.{first_converter, first_declared, first_extern, right_now, all_read, why_refused}
 use Rattle.isle_terms.proofs.term_table.TermTable.from_ast.Goals as goal
 
@@ -22,7 +22,7 @@ read_externs-requires g c =
     let defs = definition_views c.args.defs.now in
     let env = c.read_signatures.new.tyenv in
     let none : length c.read_definitions.new.errors.items ≡ 0 = search rules in
-    let extractors = right_now g.read defs (ExtractorsRead g.read defs) env c.read_definitions.new.self c.read_definitions.new.errors.items c.in_ok-read_definitions.ensures (nothing _ none) in (
+    let extractors = right_now g.read defs (ExtractorsRead g.read defs) env c.read_definitions.new.self c.read_definitions.new.errors.items c.in_ok-read_definitions.ensures (nil_from_length _ none) in (
       c.requires.0,
       first_extern g.read defs env c.read_converters.new.self c.read_converters.new.errors.items extractors.right.distinct c.in_ok-read_converters.ensures,
     )
@@ -34,9 +34,9 @@ returns-clause-answers g c =
     let none : length c.read_definitions.new.errors.items ≡ 0 = search rules in
     let none_then : length c.read_converters.new.errors.items ≡ 0 = search rules in
     let none_left : length c.read_externs.new.errors.items ≡ 0 = search rules in
-    let extractors = right_now g.read defs (ExtractorsRead g.read defs) env c.read_definitions.new.self c.read_definitions.new.errors.items c.in_ok-read_definitions.ensures (nothing _ none) in
-    let converters = right_now g.read defs (ConvertersRead g.read defs defs) env c.read_converters.new.self c.read_converters.new.errors.items c.in_ok-read_converters.ensures (nothing _ none_then) in
-    let externs = right_now g.read defs (ExternsRead g.read defs defs) c.read_externs.new.tyenv c.read_externs.new.self c.read_externs.new.errors.items c.in_ok-read_externs.ensures.reads (nothing _ none_left) in
+    let extractors = right_now g.read defs (ExtractorsRead g.read defs) env c.read_definitions.new.self c.read_definitions.new.errors.items c.in_ok-read_definitions.ensures (nil_from_length _ none) in
+    let converters = right_now g.read defs (ConvertersRead g.read defs defs) env c.read_converters.new.self c.read_converters.new.errors.items c.in_ok-read_converters.ensures (nil_from_length _ none_then) in
+    let externs = right_now g.read defs (ExternsRead g.read defs defs) c.read_externs.new.tyenv c.read_externs.new.self c.read_externs.new.errors.items c.in_ok-read_externs.ensures.reads (nil_from_length _ none_left) in
     all_read g.read c.requires.0 defs c.read_externs.new.tyenv env c.read_externs.new.self c.read_definitions.new.self c.in_ok-read_externs.ensures.left extractors (c.read_converters.new.self, converters) externs
 
 pub returns-then-not-is_empty-clause-refused : goal.returns-then-not-is_empty-clause-refused

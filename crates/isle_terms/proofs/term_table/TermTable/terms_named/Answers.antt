@@ -8,6 +8,6 @@ use Rattle.isle_terms.proofs.term_table.TermTable.terms_named.Goals as goal
 
 pub returns-clause-notes : goal.returns-clause-notes
 returns-clause-notes c =
-    let names = ap (map (λ n. name_view n.1.now)) c.deref.ensures.value ∙ named_terms c.terms.new.out.items c.new-named.result.items (pattern_view c.args.extractor.now.template) c.in_ok-terms.ensures c.new-named.ensures.items in
+    let names = ap (map (λ n. name_view n.1.now)) c.deref.ensures.value ∙ named_terms c.terms.new.out.items c.new-named.result.items (pattern_view c.args.extractor.now.template) c.in_ok-terms.ensures.all c.new-named.ensures.items in
     IfOk-weaker c.find_terms.result _ _ (λ v n.
     subst (λ ns. Notes c.args.errors.now.items c.find_terms.new.errors.items (AreFound c.args.tyenv.now c.args.self.now ns (map (λ t. t.0) v.items)) (HaveUnknown c.args.tyenv.now c.args.self.now ns)) names n) c.find_terms.ensures.notes
