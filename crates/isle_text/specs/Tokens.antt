@@ -10,6 +10,7 @@ abbrev pub TokenIsWithin : (file size : ℕ) → Token → Type 0
 TokenIsWithin file size (T.Open p) = PosIsWithin file size p
 TokenIsWithin file size (T.Close p) = PosIsWithin file size p
 TokenIsWithin file size (T.Word i) = IdentIsWithin file size i
+TokenIsWithin file size (T.Dash i) = IdentIsWithin file size i
 TokenIsWithin file size (T.Binder i) = IdentIsWithin file size i
 TokenIsWithin file size (T.Number z p) = PosIsWithin file size p
 TokenIsWithin file size (T.Constant i p) = IdentIsWithin file size i × PosIsWithin file size p

@@ -1,24 +1,24 @@
 //! What can be wrong with a text.
 
 ghost use Rattle.std.specs.Prelude.{◌≡◌, alloc_error};
+ghost use Rattle.isle_text.specs.declared.errors.Problem.TheVariants.{Expected};
 ghost use Rattle.isle_text.specs.declared.errors.ReadFault.TheVariants.{Memory, Text};
 
+use crate::heads::{DEFINITIONS, nearest};
 use isle_base::syntax::Pos;
 use std::alloc::{AllocError, AllocFailed};
 use std::fmt;
 
-/// What is wrong with a text, by what was expected.
+/// What was expected, where something else stands or nothing.
 #[derive(Clone, Copy, Debug, PartialEq, Eq)]
 pub enum Mistake {
     /// A block comment isn't ended. At its beginning.
     CommentEnd,
-    /// A list isn't ended. At its parenthesis.
-    ListEnd,
     /// A parenthesis ends no list.
     ListBegin,
     /// More lists, bindings or comments in one another than `DEEPEST`.
     Depth,
-    /// Not a number, where a digit or `-` begins one.
+    /// Not a number, where a digit or `-` begins one. A word that begins with `-` and no digit is one in a list that is passed over.
     Digits,
     /// A number that has no 128 bits.
     NumberRange,
@@ -28,7 +28,7 @@ pub enum Mistake {
     BoundName,
     /// No pattern after `@`.
     BoundPattern,
-    /// Something other than a definition.
+    /// Something other than a list with a word at its head.
     Definition,
     /// Something other than a name.
     Name,
@@ -70,7 +70,6 @@ impl fmt::Display for Mistake {
     fn fmt<W: fmt::Write>(&self, f: &mut fmt::Formatter<W>) -> fmt::Result {
         let expected = match self {
             Mistake::CommentEnd => "`;)` after this comment",
-            Mistake::ListEnd => "`)` after this list",
             Mistake::ListBegin => "no `)`, since no list is open",
             Mistake::Depth => "at most 1000 forms in one another",
             Mistake::Digits => "an integer",
@@ -101,19 +100,56 @@ impl fmt::Display for Mistake {
     }
 }
 
+/// What is wrong with a text.
+#[derive(Debug, Drop)]
+pub enum Problem {
+    /// Something else was expected.
+    Expected(Mistake),
+    /// A list isn't ended. It begins here, and the error stands at the text's end.
+    Unclosed(Pos),
+    /// A list begins with this word, which no definition begins with. At the word.
+    UnknownDefinition(String),
+}
+
+impl fmt::Display for Problem {
+    fn fmt<W: fmt::Write>(&self, f: &mut fmt::Formatter<W>) -> fmt::Result {
+        match self {
+            Problem::Expected(mistake) => write!(f, "expected {mistake}"),
+            Problem::Unclosed(_) => f.write_str("expected `)`"),
+            Problem::UnknownDefinition(word) => {
+                write!(f, "unknown definition `{word}`")?;
+                if let Some(known) = nearest(word) {
+                    write!(f, ": did you mean `{known}`?")?;
+                }
+                write_definitions(f)
+            }
+        }
+    }
+}
+
+// Writes the words that a definition may begin with.
+fn write_definitions<W: fmt::Write>(f: &mut fmt::Formatter<W>) -> fmt::Result {
+    let mut before = " (one of: ";
+    for word in DEFINITIONS {
+        write!(f, "{before}{word}")?;
+        before = ", ";
+    }
+    f.write_str(")")
+}
+
 /// What is wrong with a text, and where.
-#[derive(Clone, Copy, Debug)]
+#[derive(Debug, Drop)]
 pub struct TextError {
-    /// What was expected.
-    pub mistake: Mistake,
+    /// What is wrong.
+    pub problem: Problem,
     /// Where: an offset of at most the text's length.
     pub pos: Pos,
 }
 
 impl fmt::Display for TextError {
     fn fmt<W: fmt::Write>(&self, f: &mut fmt::Formatter<W>) -> fmt::Result {
-        let mistake = self.mistake;
-        write!(f, "expected {mistake}")
+        let problem = &self.problem;
+        write!(f, "{problem}")
     }
 }
 
@@ -143,9 +179,12 @@ impl<T: Drop> From<AllocFailed<T>> for ReadFault {
     }
 }
 
-// What is wrong, at a position.
+// What was expected, at a position.
 pub fn fault(mistake: Mistake, pos: Pos) -> ReadFault
-    ensures { result ≡ Text (record { mistake = mistake; pos = pos }) }
+    ensures { result ≡ Text (record { problem = Expected mistake; pos = pos }) }
 {
-    ReadFault::Text(TextError { mistake, pos })
+    ReadFault::Text(TextError {
+        problem: Problem::Expected(mistake),
+        pos,
+    })
 }

@@ -3,10 +3,11 @@
 
 ghost use Rattle.std.specs.Prelude.{ℕ, MatchResult, OnOk, ⊤};
 ghost use Rattle.isle_text.specs.Faults.{FaultIsWithin};
-ghost use Rattle.isle_text.specs.Forms.{FormIsWithin, FormsAreWithin, OpensAreWithin, OpenIsWithin, PosIsWithin};
+ghost use Rattle.isle_text.specs.Forms.{FormIsWithin, FormsAreWithin, IdentIsWithin, OpensAreWithin, OpenIsWithin, PosIsWithin};
 ghost use Rattle.isle_text.specs.Tokens.{TokenIsWithin, TokensAreWithin};
 
-use crate::errors::{Mistake, ReadFault, fault};
+use crate::errors::{Mistake, Problem, ReadFault, TextError, fault};
+use crate::heads::is_passed_over;
 use crate::source::Source;
 use crate::tokens::{DEEPEST, Token};
 use isle_base::syntax::{Ident, Pos};
@@ -55,9 +56,24 @@ pub fn forms(at: Source, tokens: &[Token]) -> Result<Vec<Form>, ReadFault>
     }
     match stack.pop() {
         None => Ok(forms),
-        Some(Open::Group(_, pos)) => Err(fault(Mistake::ListEnd, pos)),
+        Some(Open::Group(_, pos)) => Err(unclosed(at, pos)),
         Some(Open::Binder(name)) => Err(fault(Mistake::BoundPattern, name.1)),
     }
+}
+
+// A list that isn't ended: told at the text's end.
+fn unclosed(at: Source, begin: Pos) -> ReadFault
+    requires { PosIsWithin at.file at.len begin }
+    ensures { FaultIsWithin at.file at.len result }
+{
+    let pos = Pos {
+        file: at.file,
+        offset: at.len,
+    };
+    ReadFault::Text(TextError {
+        problem: Problem::Unclosed(begin),
+        pos,
+    })
 }
 
 // Reads one more token.
@@ -79,8 +95,40 @@ fn add(
         Token::Binder(name) => start(at, Open::Binder(name.clone()?), name.1, stack),
         Token::Close(pos) => close(at, *pos, stack, forms),
         Token::Word(name) => put(at, Form::Word(name.clone()?), stack, forms),
+        Token::Dash(name) => dash(at, name, stack, forms),
         Token::Number(n, pos) => put(at, Form::Number(*n, *pos), stack, forms),
         Token::Constant(name, pos) => put(at, Form::Constant(name.clone()?, *pos), stack, forms),
+    }
+}
+
+// Reads a word that begins with `-` and isn't a number: a word where it is passed over, and nothing elsewhere.
+fn dash(
+    at: Source,
+    name: &Ident,
+    stack: &mut Vec<Open>,
+    forms: &mut Vec<Form>,
+) -> Result<(), ReadFault>
+    requires name { IdentIsWithin at.file at.len name.now }
+    requires stack { OpensAreWithin at.file at.len stack.old.items }
+    requires forms { FormsAreWithin at.file at.len forms.old.items }
+    ensures error { MatchResult result (λ _. ⊤) (FaultIsWithin at.file at.len) }
+    ensures stack { OnOk result (OpensAreWithin at.file at.len stack.new.items) }
+    ensures forms { OnOk result (FormsAreWithin at.file at.len forms.new.items) }
+{
+    if !passes_over(stack.first()) {
+        return Err(fault(Mistake::Digits, name.1));
+    }
+    put(at, Form::Word(name.clone()?), stack, forms)
+}
+
+// Whether the outermost form that is begun is a definition that is passed over.
+fn passes_over(outermost: Option<&Open>) -> bool {
+    let Some(Open::Group(parts, _)) = outermost else {
+        return false;
+    };
+    match parts.first() {
+        Some(Form::Word(head)) => is_passed_over(&head.0),
+        _ => false,
     }
 }
 

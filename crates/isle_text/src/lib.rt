@@ -8,6 +8,7 @@ mod definitions;
 pub mod errors;
 mod expressions;
 mod forms;
+pub mod heads;
 mod numbers;
 mod parts;
 mod patterns;
@@ -32,8 +33,12 @@ use std::alloc::Global;
 /// The file's number is any: it stands in each position, beside the offset of a byte of the text. A definition's position, a
 /// form's and a name's is that of its first byte; the `$` of a constant is part of the form, not of the name.
 ///
+/// Definitions that begin with a word of `heads::is_passed_over` are any lists, and become `Def::Other`. A byte order mark at the
+/// beginning is passed over; it counts among the bytes.
+///
 /// An error is what was expected, and where: at most the text's length. It is the first that is found, where a whole text's
-/// tokens are read before its lists, and its lists before its definitions. Want of memory is a fault of its own.
+/// tokens are read before its lists, and its lists before its definitions. A list that isn't ended is told at the text's end,
+/// with where it begins, which lies before. Want of memory is a fault of its own.
 pub fn read(alloc: Global, file: usize, text: &str) -> Result<Vec<Def>, ReadFault>
     ensures { MatchResult result
         (λ ds. AreWithin file (length text.now) (definition_views ds.items))

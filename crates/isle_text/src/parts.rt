@@ -135,20 +135,34 @@ pub fn headed<'a>(
     at: Source,
     form: &'a Form,
     mistake: Mistake,
-) -> Result<(&'a str, Parts<'a>), ReadFault>
+) -> Result<(&'a Ident, Parts<'a>), ReadFault>
     requires { FormIsWithin at.file at.len form.now }
-    ensures { MatchResult result (λ p. PartsAreWithin at.file at.len p.1) (FaultIsWithin at.file at.len) }
+    ensures { MatchResult result
+        (λ p. IdentIsWithin at.file at.len p.0.now × PartsAreWithin at.file at.len p.1)
+        (FaultIsWithin at.file at.len) }
 {
     let parts = list(at, form, mistake)?;
     match parts.forms {
-        [Form::Word(head), rest @ ..] => Ok((
-            head.0.as_str(),
+        [first, rest @ ..] => Ok((
+            word(at, first, mistake, parts.pos)?,
             Parts {
                 forms: rest,
                 ..parts
             },
         )),
-        _ => Err(fault(mistake, parts.pos)),
+        [] => Err(fault(mistake, parts.pos)),
+    }
+}
+
+// The word that a form is; else there is a mistake at this position.
+fn word<'a>(at: Source, form: &'a Form, mistake: Mistake, pos: Pos) -> Result<&'a Ident, ReadFault>
+    requires form { FormIsWithin at.file at.len form.now }
+    requires pos { PosIsWithin at.file at.len pos }
+    ensures { MatchResult result (λ w. IdentIsWithin at.file at.len w.now) (FaultIsWithin at.file at.len) }
+{
+    match form {
+        Form::Word(word) => Ok(word),
+        _ => Err(fault(mistake, pos)),
     }
 }
 

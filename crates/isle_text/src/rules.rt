@@ -94,7 +94,7 @@ fn statement(at: Source, form: &Form) -> Result<IfLet, ReadFault>
     ensures { MatchResult result (λ l. IfLetIsWithin at.file at.len (iflet_view l)) (FaultIsWithin at.file at.len) }
 {
     let (head, rest) = headed(at, form, Mistake::Statement)?;
-    match head {
+    match head.0.as_str() {
         "if-let" => if_let(at, rest),
         "if" => condition(at, rest, Pattern::Wildcard { pos: rest.pos }),
         _ => Err(fault(Mistake::Statement, rest.pos)),

@@ -19,6 +19,8 @@ pub enum Token {
     Open(Pos),
     Close(Pos),
     Word(Ident),
+    /// A word that begins with `-` and isn't a number.
+    Dash(Ident),
     /// A name with `@` after it.
     Binder(Ident),
     Number(i128, Pos),
@@ -128,7 +130,7 @@ fn next_in_comment(
     Ok(State::Block(start, depth, c))
 }
 
-// Reads a character that stands in no token.
+// Reads a character that stands in no token. A byte order mark is one at the beginning of the text alone.
 fn begin(at: Source, pos: Pos, c: char, tokens: &mut Vec<Token>) -> Result<State, ReadFault>
     requires tokens { TokensAreWithin at.file at.len tokens.old.items }
     requires pos { PosIsWithin at.file at.len pos }
@@ -147,6 +149,7 @@ fn begin(at: Source, pos: Pos, c: char, tokens: &mut Vec<Token>) -> Result<State
             bind(at, pos, tokens)?;
             Ok(State::Between)
         }
+        '\u{feff}' if pos.offset == 0 => Ok(State::Between),
         _ if c.is_whitespace() => Ok(State::Between),
         _ => Ok(State::Word(word_of(at, pos, c)?)),
     }
@@ -199,15 +202,18 @@ fn add(at: Source, token: Token, tokens: &mut Vec<Token>) -> Result<(), ReadFaul
     Ok(())
 }
 
-// A word that begins like a number must be one.
+// A word that begins with a digit, or with `-` and a digit, must be a number.
 fn word_or_number(at: Source, name: Ident) -> Result<Token, ReadFault>
     requires { IdentIsWithin at.file at.len name }
     ensures { MatchResult result (TokenIsWithin at.file at.len) (FaultIsWithin at.file at.len) }
 {
-    if !begins_number(&name.0) {
-        return Ok(Token::Word(name));
+    if begins_number(&name.0) {
+        return Ok(Token::Number(number(at, &name.0, name.1)?, name.1));
     }
-    Ok(Token::Number(number(at, &name.0, name.1)?, name.1))
+    if name.0.as_str().starts_with('-') {
+        return Ok(Token::Dash(name));
+    }
+    Ok(Token::Word(name))
 }
 
 // A word of one character.
@@ -222,8 +228,12 @@ fn word_of(at: Source, pos: Pos, c: char) -> Result<Ident, ReadFault>
 
 // Whether a word begins like a number.
 fn begins_number(word: &str) -> bool {
-    match word.chars().next() {
-        Some(c) => c == '-' || c.is_ascii_digit(),
+    let unsigned = match word.strip_prefix('-') {
+        Some(rest) => rest,
+        None => word,
+    };
+    match unsigned.chars().next() {
+        Some(c) => c.is_ascii_digit(),
         None => false,
     }
 }

@@ -42,7 +42,7 @@ fn type_value(at: Source, form: &Form) -> Result<TypeValue, ReadFault>
     ensures { MatchResult result (λ v. TypeValueIsWithin at.file at.len (type_value_view v)) (FaultIsWithin at.file at.len) }
 {
     let (head, rest) = headed(at, form, Mistake::TypeValue)?;
-    match head {
+    match head.0.as_str() {
         "primitive" => primitive(at, rest),
         "enum" => enumeration(at, rest),
         "struct" => Ok(TypeValue::Struct(fields(at, rest.forms)?, rest.pos)),
