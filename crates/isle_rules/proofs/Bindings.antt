@@ -4,9 +4,9 @@ use Rattle.std.proofs.lemmas.List.{map-append}
 use Rattle.isle_base.specs.Stable.{look_up}
 use Rattle.isle_types.specs.declared.ids.Sym.{Sym}
 use Rattle.isle_types.specs.Envs.{same_symbol, symbol}
-use Rattle.isle_rules.specs.declared.rules.BoundVar.{BoundVar}
+use Rattle.isle_typed.specs.declared.rules.BoundVar.{BoundVar}
 use Rattle.isle_rules.specs.declared.typing.progress.Progress.{Progress}
-use Rattle.isle_rules.specs.RuleViews.{var_view}
+use Rattle.isle_typed.specs.RuleViews.{var_view}
 use Rattle.isle_rules.specs.Progress.{newest, BindsNext, PutsBack, next_var}
 
 pub bound_next : (p q : Progress) (name : Sym) (ty : ℕ) (var : BoundVar) → var_view var ≡ next_var p name.0 ty

@@ -255,24 +255,24 @@ module _ (e : Setting) (names : List (List ℕ)) (k : AreTermsNamed e names) whe
         let f = followed_gives _ (elaborated_iflet e flags d i s) (λ b. elaborated_iflets e flags d is b.scope) h in
         kept_on (iflet_keeps i s f.0 f.2) (subst (λ (v : Typing (List TypedIfLet)). Kept f.0.scope.names v.scope.names) f.4 (iflets_keep is f.0.scope f.1 f.3))
 
-    iflets_same : (is : List IfLetTree) (s : Scope) → Kept names s.names → AreMadeUses e names (iflet_uses is) → iflets_reading is flags e flags.multi d s ≡ elaborated_iflets e flags d is s
+    iflets_same : (is : List IfLetTree) (s : Scope) → Kept names s.names → AreMadeUses e names (iflet_uses is) → iflets_reading is flags e d s ≡ elaborated_iflets e flags d is s
     iflets_same [] s w m = refl
     iflets_same (i ∷ is) s w m =
-        ap (λ o. followed ◌∷◌ (followed typed_iflet o (λ a. elaborated_pattern e flags.multi d i.pattern (expr_type a.made) a.scope)) (λ a. iflets_reading is flags e flags.multi d a.scope))
+        ap (λ o. followed ◌∷◌ (followed typed_iflet o (λ a. elaborated_pattern e flags.multi d i.pattern (expr_type a.made) a.scope)) (λ a. iflets_reading is flags e d a.scope))
         (expr_same (on_lhs flags) d i.expr None s w (all_left P (terms_of_expr i.expr) (iflet_uses is) m))
-        ∙ next_same ◌∷◌ (elaborated_iflet e flags d i s) (λ a. iflets_reading is flags e flags.multi d a.scope) (λ a. elaborated_iflets e flags d is a.scope)
+        ∙ next_same ◌∷◌ (elaborated_iflet e flags d i s) (λ a. iflets_reading is flags e d a.scope) (λ a. elaborated_iflets e flags d is a.scope)
         (λ a h. iflets_same is a.scope (kept_on w (iflet_keeps i s a h)) (all_right P (terms_of_expr i.expr) (iflet_uses is) m))
 
     module _ (r : RuleTree) (t : TermEntry) (m : AreMadeUses e names (uses_of_rule r)) where
-      ends_same : (s : Scope) → Kept names s.names → ends_reading r flags t e flags.multi d s ≡ followed last_sides (elaborated_iflets e flags d r.iflets s) (λ b. elaborated_expr e flags d r.expr (Some t.ret_ty) b.scope)
+      ends_same : (s : Scope) → Kept names s.names → ends_reading r flags t e d s ≡ followed last_sides (elaborated_iflets e flags d r.iflets s) (λ b. elaborated_expr e flags d r.expr (Some t.ret_ty) b.scope)
       ends_same s w =
           ap (λ o. followed last_sides o (λ b. elaborated_expr (all_made e) flags d r.expr (Some t.ret_ty) b.scope)) (iflets_same r.iflets s w (all_left P (iflet_uses r.iflets) (terms_of_expr r.expr) m))
           ∙ next_same last_sides (elaborated_iflets e flags d r.iflets s) (λ b. elaborated_expr (all_made e) flags d r.expr (Some t.ret_ty) b.scope) (λ b. elaborated_expr e flags d r.expr (Some t.ret_ty) b.scope)
           (λ b h. expr_same flags d r.expr (Some t.ret_ty) b.scope (kept_on w (iflets_keep r.iflets s b h)) (all_right P (iflet_uses r.iflets) (terms_of_expr r.expr) m))
 
-      sides_same : (s : Scope) → Kept names s.names → sides_reading r flags t e flags.multi d s ≡ elaborated_sides e flags d r t s
+      sides_same : (s : Scope) → Kept names s.names → sides_reading r flags t e d s ≡ elaborated_sides e flags d r t s
       sides_same s w =
-          next_same sides_of (elaborated_parts e flags.multi d (root_parts r.pattern) t.arg_tys s) (λ a. ends_reading r flags t e flags.multi d a.scope)
+          next_same sides_of (elaborated_parts e flags.multi d (root_parts r.pattern) t.arg_tys s) (λ a. ends_reading r flags t e d a.scope)
           (λ a. followed last_sides (elaborated_iflets e flags d r.iflets a.scope) (λ b. elaborated_expr e flags d r.expr (Some t.ret_ty) b.scope))
           (λ a h. ends_same a.scope (kept_on w (parts_keep e flags.multi (patterns.parts_sound e flags.multi d (root_parts r.pattern) t.arg_tys s a h))))
 
@@ -299,8 +299,8 @@ module _ (e : Setting) (names : List (List ℕ)) (k : AreTermsNamed e names) whe
       All-append P (flat_map (λ i. terms_of_expr i.expr) r.iflets) (terms_of_expr r.expr) (derived_uses flags g v) (expr_uses flags x (kept_on v (derived_keep flags g)))
 
   -- a rule whose terms have constructors is read as if each had one
-  pub rule_same : (id d : ℕ) (r : RuleTree) (multi : Bool) (ms : List (List ℕ)) → Kept names ms → AreMadeUses e names (uses_of_rule r) → rule_reading r id e multi d (new_scope ms) ≡ elaborated_rule e d id r ms
-  rule_same id d r multi ms w m =
+  pub rule_same : (id d : ℕ) (r : RuleTree) (ms : List (List ℕ)) → Kept names ms → AreMadeUses e names (uses_of_rule r) → rule_reading r id e d (new_scope ms) ≡ elaborated_rule e d id r ms
+  rule_same id d r ms w m =
       then_same (root_name r.pattern) _ _ (λ n _.
       then_same (term_of e (new_scope ms) n.text) _ _ (λ t _.
       then_same (declared_flags t.kind) _ _ (λ flags _.
@@ -320,7 +320,7 @@ module _ (e : Setting) (names : List (List ℕ)) (k : AreTermsNamed e names) whe
   pub rules_same : (id : ℕ) (rs : List RuleTree) (ms : List (List ℕ)) → Kept names ms → AreMadeRules rs → rules_within e id rs ms ≡ typed_rules e id rs ms
   rules_same id [] ms w m = refl
   rules_same id (r ∷ rs) ms w m =
-      ap (λ o. then_option (few_enough o) (λ a. with_typed a.made (rules_within e (suc id) rs a.scope.names))) (rule_same id most_nested r true ms w (All-head (λ r. AreMadeUses e names (uses_of_rule r)) r rs m))
+      ap (λ o. then_option (few_enough o) (λ a. with_typed a.made (rules_within e (suc id) rs a.scope.names))) (rule_same id most_nested r ms w (All-head (λ r. AreMadeUses e names (uses_of_rule r)) r rs m))
       ∙ then_same (typed_rule e id r ms) _ _ (λ a h.
       ap (with_typed a.made) (rules_same (suc id) rs a.scope.names (kept_on w (rule_keeps (rule_derived id r ms a h))) (All-tail (λ r. AreMadeUses e names (uses_of_rule r)) r rs m)))
 

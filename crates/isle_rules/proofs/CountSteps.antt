@@ -7,9 +7,9 @@ use Rattle.std.proofs.lemmas.List.{length-replicate, get_or-replicate, length-se
 use Rattle.std.proofs.lemmas.List.Sums.{count_by-le-length, count_by_more_yes, count_by_more_no}
 use Rattle.std.proofs.lemmas.Option.{none-some, same_Some, slice_get-get_or, get_or_from_slice_get, slice_get_within}
 use Rattle.isle_model.specs.rules.Typed.{TypedRule}
-use Rattle.isle_rules.specs.declared.rules.Rule.{Rule}
+use Rattle.isle_typed.specs.declared.rules.Rule.{Rule}
 use Rattle.isle_rules.specs.RuleNaming.{AreCounts}
-use Rattle.isle_rules.specs.RuleViews.{rule_view, rule_views}
+use Rattle.isle_typed.specs.RuleViews.{rule_view, rule_views}
 use Rattle.isle_rules.proofs.NameSteps.{view_at}
 
 -- before the first rule

@@ -23,7 +23,7 @@ use Rattle.isle_terms.specs.declared.term_table.TermTable.{TermTable}
 use Rattle.isle_terms.specs.Whole.{shown_by}
 use Rattle.isle_terms.proofs.TypesStaying.{with_names_more}
 use Rattle.isle_rules.specs.declared.term_env.TermEnv.{TermEnv}
-use Rattle.isle_rules.specs.RuleViews.{rule_views}
+use Rattle.isle_typed.specs.RuleViews.{rule_views}
 use Rattle.isle_rules.specs.RulesRead.{CanBeRead, AreReadRules, ReadsRules, rules_of}
 use Rattle.isle_rules.specs.ShownEnvs.{terms_shown_by, environment_shown_by}
 use Rattle.isle_rules.specs.Translating.{Keeps, IsSettingOf}

@@ -13,13 +13,13 @@ use Rattle.isle_model.specs.rules.Typed.{TypedExpr, make_term}
 use Rattle.isle_model.specs.lists.Typings.{Typing, made_into}
 use Rattle.isle_laws_lists.proofs.Typings.{made_gives}
 use Rattle.isle_rules.specs.Noting.{NotesMore, MayNoteMore}
-use Rattle.isle_rules.specs.declared.exprs.Expr.{Expr}
+use Rattle.isle_typed.specs.declared.exprs.Expr.{Expr}
 use Rattle.isle_rules.specs.declared.term_env.TermEnv.{TermEnv}
 use Rattle.isle_rules.specs.declared.typing.progress.Stop.{Stop}
 use Rattle.isle_rules.specs.declared.typing.progress.Stop.TheVariants.{Memory, Nesting, Expansions}
 use Rattle.isle_rules.specs.ExprReadings.{expr_reading, args_reading}
 use Rattle.isle_rules.specs.ExprUses.{TakesArgs}
-use Rattle.isle_rules.specs.ExprViews.{expr_views, expr_parts}
+use Rattle.isle_typed.specs.ExprViews.{expr_views, expr_parts}
 use Rattle.isle_rules.specs.Translating.{Standing, IsSettingOf, IsTranslated, IsReported, KeepsNoted, Stops}
 use Rattle.isle_rules.proofs.Noted.{may_both}
 use Rattle.isle_rules.proofs.Readings.{made_as, becomes_same, becomes_made, reported_then, reported_stops}
@@ -51,14 +51,14 @@ module _ (env : TermEnv) (old mid new : Standing) (same : mid.tyenv ≡ old.tyen
       (λ p. ⊎_elim
       (λ z. inl (record {
         errors = z.errors ∙ p.reads.errors;
-        made = λ e multi s is sh.
-            let a = z.made e multi s (subst (λ k. IsSettingOf k env e) (sym same) is) (p.reads.shows e multi s is sh) in
+        made = λ e s is sh.
+            let a = z.made e s (subst (λ k. IsSettingOf k env e) (sym same) is) (p.reads.shows e s is sh) in
             let m = p.reads.expansions in
             let n = a.expansions in
             record {
               typing = made_as (make_term t.ret_ty t.id) a.typing;
-              becomes = becomes_same _ (λ c. expr_reading whole flags ty e multi c s) d (made_as (make_term t.ret_ty t.id) a.typing) (p.reads.becomes e multi s is sh)
-                  (becomes_made (make_term t.ret_ty t.id) (λ c. args_reading (S.expr_views args) flags t.arg_tys e multi c s) d a.typing a.becomes);
+              becomes = becomes_same _ (λ c. expr_reading whole flags ty e c s) d (made_as (make_term t.ret_ty t.id) a.typing) (p.reads.becomes e s is sh)
+                  (becomes_made (make_term t.ret_ty t.id) (λ c. args_reading (S.expr_views args) flags t.arg_tys e c s) d a.typing a.becomes);
               made = ap (make_term t.ret_ty t.id) a.made;
               shows = a.shows;
               expansions = omega (arith, m, n);
@@ -66,36 +66,36 @@ module _ (env : TermEnv) (old mid new : Standing) (same : mid.tyenv ≡ old.tyen
       }))
       (λ z. inr (record {
         errors = subst (λ es. MayNoteMore es new.work.errors.items) p.reads.errors z.errors;
-        noted = λ e multi s is sh.
-            let n = z.noted e multi s (subst (λ k. IsSettingOf k env e) (sym same) is) (p.reads.shows e multi s is sh) in
+        noted = λ e s is sh.
+            let n = z.noted e s (subst (λ k. IsSettingOf k env e) (sym same) is) (p.reads.shows e s is sh) in
             record {
               reports = subst (λ es. NotesMore es new.work.errors.items) p.reads.errors n.reports;
-              none = λ c. p.reads.becomes e multi s is sh c ∙ ap (made_into (make_term t.ret_ty t.id)) (n.none c);
+              none = λ c. p.reads.becomes e s is sh c ∙ ap (made_into (make_term t.ret_ty t.id)) (n.none c);
             };
       }))
       (y (count p)))
-      (λ n. inr (reported_then env old mid new d (expr_reading whole flags ty) (expr_reading whole flags ty) n (λ e multi c s h. h) may))
+      (λ n. inr (reported_then env old mid new d (expr_reading whole flags ty) (expr_reading whole flags ty) n (λ e c s h. h) may))
       x
 
   pub args_stop : (stop : Stop) → KeepsNoted mid new stop → (length args ≡ length t.arg_tys → Stops env mid new d (args_reading (S.expr_views args) flags t.arg_tys) stop) → Stops env old new d (expr_reading whole flags ty) stop
   args_stop stop more y =
       ⊎_elim
       (λ p. at_args p stop (y (count p)))
-      (λ n. reported_stops env old mid new d (expr_reading whole flags ty) (expr_reading whole flags ty) n (λ e multi c s h. h) stop more)
+      (λ n. reported_stops env old mid new d (expr_reading whole flags ty) (expr_reading whole flags ty) n (λ e c s h. h) stop more)
       x
     where
       at_args : TakesArgs env old mid whole (S.expr_views args) flags ty t → (stop : Stop) → Stops env mid new d (args_reading (S.expr_views args) flags t.arg_tys) stop → Stops env old new d (expr_reading whole flags ty) stop
       at_args p (Memory a) y = tt
       at_args p Nesting y = (
         may_both old.work.errors.items mid.work.errors.items new.work.errors.items (inl p.reads.errors) y.0,
-        λ e multi s is sh.
-            p.reads.becomes e multi s is sh d ∙ ap (made_into (make_term t.ret_ty t.id)) (y.1 e multi s (subst (λ k. IsSettingOf k env e) (sym same) is) (p.reads.shows e multi s is sh)),
+        λ e s is sh.
+            p.reads.becomes e s is sh d ∙ ap (made_into (make_term t.ret_ty t.id)) (y.1 e s (subst (λ k. IsSettingOf k env e) (sym same) is) (p.reads.shows e s is sh)),
       )
       at_args p Expansions y = (
         may_both old.work.errors.items mid.work.errors.items new.work.errors.items (inl p.reads.errors) y.0,
-        λ e multi s is sh c a h.
-            let g = made_gives (make_term t.ret_ty t.id) (args_reading (S.expr_views args) flags t.arg_tys e multi c s) {r = a} (sym (p.reads.becomes e multi s is sh c) ∙ h) in
-            let long = y.1 e multi s (subst (λ k. IsSettingOf k env e) (sym same) is) (p.reads.shows e multi s is sh) c g.0 g.1 in
+        λ e s is sh c a h.
+            let g = made_gives (make_term t.ret_ty t.id) (args_reading (S.expr_views args) flags t.arg_tys e c s) {r = a} (sym (p.reads.becomes e s is sh c) ∙ h) in
+            let long = y.1 e s (subst (λ k. IsSettingOf k env e) (sym same) is) (p.reads.shows e s is sh) c g.0 g.1 in
             let m = p.reads.expansions in
             let n : g.0.expansions ≡ a.expansions = ap (λ (v : Typing TypedExpr). v.expansions) g.2 in
             omega (arith, long, m, n),

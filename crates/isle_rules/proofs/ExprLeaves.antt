@@ -4,6 +4,7 @@ use Rattle.std.proofs.lemmas.Bool.{eq-eqb, eqb-true, false≢true}
 use Rattle.isle_base.specs.declared.syntax.Error.{Error}
 use Rattle.isle_model.specs.lists.Syntax.{Position, Name, bool_expr, int_expr, prim_expr}
 use Rattle.isle_model.specs.lists.Names.{number, with_name}
+use Rattle.isle_model.specs.lists.Ranges.{reduced}
 use Rattle.isle_model.specs.lists.Tables.{Flags}
 use Rattle.isle_model.specs.rules.Values.{is_atom_type}
 use Rattle.isle_model.specs.rules.Outcome.{then_option}
@@ -41,15 +42,21 @@ module _ (env : TermEnv) (old new : Standing) (flags : Flags) (at : Position) (s
       → (d : ℕ) → IsTranslated env old new d (expr_reading (bool_expr b at) flags ty) (make_bool 0 b) ⊎ IsReported env old new (expr_reading (bool_expr b at) flags ty)
   truth_made ty b checks =
       tested env old new (expr_reading (bool_expr b at) flags ty) (make_bool 0 b) (is_expected ty 0 ≡ true) r checks
-      (λ e multi s is sh fits. (same, λ c. ap (λ v. cond v (Some (plain (make_bool 0 b) s)) None) fits))
-      (λ e multi s is sh other c. ap (λ v. cond v (Some (plain (make_bool 0 b) s)) None) (is_false (is_expected ty 0) other))
+      (λ e s is sh fits. (same, λ c. ap (λ v. cond v (Some (plain (make_bool 0 b) s)) None) fits))
+      (λ e s is sh other c. ap (λ v. cond v (Some (plain (make_bool 0 b) s)) None) (is_false (is_expected ty 0) other))
 
-  pub int_made : (ty : ℕ) (z : ℤ) → Checks old.work.errors.items new.work.errors.items (is_atom_type (slice_get (type_views old.tyenv.types.items) ty) ≡ true)
-      → (d : ℕ) → IsTranslated env old new d (expr_reading (int_expr z at) flags (Some ty)) (make_int ty z) ⊎ IsReported env old new (expr_reading (int_expr z at) flags (Some ty))
-  int_made ty z checks =
-      tested env old new (expr_reading (int_expr z at) flags (Some ty)) (make_int ty z) (is_atom_type (slice_get (type_views old.tyenv.types.items) ty) ≡ true) r checks
-      (λ e multi s is sh has. (same, λ c. ap (λ b. cond b (Some (plain (make_int ty z) s)) None) (ap (λ ts. is_atom_type (slice_get ts ty)) (sym is.types) ∙ has)))
-      (λ e multi s is sh hasnt c. ap (λ b. cond b (Some (plain (make_int ty z) s)) None) (ap (λ ts. is_atom_type (slice_get ts ty)) (sym is.types) ∙ is_false (is_atom_type (slice_get (type_views old.tyenv.types.items) ty)) hasnt))
+  pub int_made : (ty : ℕ) (z n : ℤ) → n ≡ reduced (slice_get (type_views old.tyenv.types.items) ty) z
+      → Checks old.work.errors.items new.work.errors.items (is_atom_type (slice_get (type_views old.tyenv.types.items) ty) ≡ true)
+      → (d : ℕ) → IsTranslated env old new d (expr_reading (int_expr z at) flags (Some ty)) (make_int ty n) ⊎ IsReported env old new (expr_reading (int_expr z at) flags (Some ty))
+  int_made ty z n stands checks =
+      tested env old new (expr_reading (int_expr z at) flags (Some ty)) (make_int ty n) (is_atom_type (slice_get (type_views old.tyenv.types.items) ty) ≡ true) r checks
+      (λ e s is sh has. (
+        same,
+        λ c.
+            ap (λ b. cond b (Some (plain (make_int ty (reduced (slice_get e.types ty) z)) s)) None) (ap (λ ts. is_atom_type (slice_get ts ty)) (sym is.types) ∙ has)
+            ∙ ap (λ m. Some (plain (make_int ty m) s)) (ap (λ ts. reduced (slice_get ts ty) z) (sym is.types) ∙ sym stands),
+      ))
+      (λ e s is sh hasnt c. ap (λ b. cond b (Some (plain (make_int ty (reduced (slice_get e.types ty) z)) s)) None) (ap (λ ts. is_atom_type (slice_get ts ty)) (sym is.types) ∙ is_false (is_atom_type (slice_get (type_views old.tyenv.types.items) ty)) hasnt))
 
 -- a named constant
 module _ (env : TermEnv) (old new : Standing) (flags : Flags) (x : Name) (at : Position) (ty : Option ℕ) (names : names_of new.tyenv ≡ with_name (names_of old.tyenv) x.text) where
@@ -62,26 +69,26 @@ module _ (env : TermEnv) (old new : Standing) (flags : Flags) (x : Name) (at : P
   pub constant_unknown : None ≡ constant_at old.tyenv (number (names_of old.tyenv) x.text) → NotesMore old.work.errors.items new.work.errors.items → IsReported env old new (expr_reading (prim_expr x at) flags ty)
   constant_unknown none more = record {
     errors = inr more;
-    noted = λ e multi s is sh. record { reports = more; none = λ c. ap (of_type s) (constant_is e s is sh None none) };
+    noted = λ e s is sh. record { reports = more; none = λ c. ap (of_type s) (constant_is e s is sh None none) };
   }
 
   module _ (own : ℕ) (there : Some own ≡ constant_at old.tyenv (number (names_of old.tyenv) x.text)) where
     pub constant_mistyped : is_expected ty own ≡ false → NotesMore old.work.errors.items new.work.errors.items → IsReported env old new (expr_reading (prim_expr x at) flags ty)
     constant_mistyped other more = record {
       errors = inr more;
-      noted = λ e multi s is sh. record { reports = more; none = λ c. ap (of_type s) (constant_is e s is sh (Some own) there) ∙ rw other refl };
+      noted = λ e s is sh. record { reports = more; none = λ c. ap (of_type s) (constant_is e s is sh (Some own) there) ∙ rw other refl };
     }
 
     pub constant_made : (name : ℕ) → name ≡ number (names_of old.tyenv) x.text → Remains old.work new.work → new.work.errors.items ≡ old.work.errors.items → is_expected ty own ≡ true
         → (d : ℕ) → IsTranslated env old new d (expr_reading (prim_expr x at) flags ty) (make_prim own name) ⊎ IsReported env old new (expr_reading (prim_expr x at) flags ty)
     constant_made name named r errors fits =
         tested env old new (expr_reading (prim_expr x at) flags ty) (make_prim own name) (is_expected ty own ≡ true) r (inl (errors, fits))
-        (λ e multi s is sh same.
+        (λ e s is sh same.
         let numbered : name ≡ number s.names x.text = named ∙ ap (λ ns. number ns x.text) sh.names in (
           names ∙ known_name (names_of old.tyenv) x.text (is_met (names_of old.tyenv) x.text (is.constants_met (number (names_of old.tyenv) x.text) own (sym there))),
           λ c. ap (of_type s) (constant_is e s is sh (Some own) there) ∙ rw same (ap (λ (n : ℕ). Some (plain (make_prim own n) s)) (sym numbered)),
         ))
-        (λ e multi s is sh other c. ap (of_type s) (constant_is e s is sh (Some own) there) ∙ rw (is_false (is_expected ty own) other) refl)
+        (λ e s is sh other c. ap (of_type s) (constant_is e s is sh (Some own) there) ∙ rw (is_false (is_expected ty own) other) refl)
 
 -- one test after another
 pub checks_and : (a b c : List Error) (p q : Bool) → Checks a b (p ≡ true) → Checks b c (q ≡ true) → Checks a c (p && q ≡ true)

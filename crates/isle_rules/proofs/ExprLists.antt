@@ -1,5 +1,5 @@
 -- Lists of expressions, read one after another.
-use Rattle.std.proofs.Common.{◌≡◌, ℕ, ◌+◌, ◌<◌, ◌≤◌, Bool, List, [], ◌∷◌, ◌++◌, length, map, take, drop, get_or, Option, Some, None, refl, sym, ap, subst, ◌∙◌, inl, inr, ◌⊎◌, Ok, arith}
+use Rattle.std.proofs.Common.{◌≡◌, ℕ, ◌+◌, ◌<◌, ◌≤◌, List, [], ◌∷◌, ◌++◌, length, map, take, drop, get_or, Option, Some, None, refl, sym, ap, subst, ◌∙◌, inl, inr, ◌⊎◌, Ok, arith}
 use Rattle.std.proofs.lemmas.List.{take_more, take_all, take-append-drop, length-take-le, length-map, map-append}
 use Rattle.isle_types.specs.declared.ids.TypeId.{TypeId}
 use Rattle.std.specs.Option.{option_to_list}
@@ -10,10 +10,10 @@ use Rattle.isle_model.specs.lists.Tables.{Flags}
 use Rattle.isle_model.specs.lists.Setting.{Setting, Scope}
 use Rattle.isle_model.specs.lists.Typings.{Typing, plain, made_into, joined_typing, followed}
 use Rattle.isle_model.specs.lists.Elaborated.{elaborated_expr, args_with, deeper_expr}
-use Rattle.isle_rules.specs.declared.exprs.Expr.{Expr}
+use Rattle.isle_typed.specs.declared.exprs.Expr.{Expr}
 use Rattle.isle_rules.specs.declared.term_env.TermEnv.{TermEnv}
 use Rattle.isle_rules.specs.declared.typing.progress.Stop.{Stop}
-use Rattle.isle_rules.specs.ExprViews.{expr_view, expr_views, expr_parts}
+use Rattle.isle_typed.specs.ExprViews.{expr_view, expr_views, expr_parts}
 use Rattle.isle_rules.specs.ExprReadings.{all_made, expr_reading, args_reading}
 use Rattle.isle_rules.specs.Translating.{Standing, Keeps, Reading, IsTranslated, IsReported, Stops, MayTranslate}
 use Rattle.isle_rules.proofs.PatternLists.{same_typing}
@@ -75,8 +75,8 @@ SoFar env old now d reading made = IsTranslated env old now d reading (expr_part
 
 -- one more expression
 module _ (env : TermEnv) (old mid new : Standing) (d : ℕ) (first : Reading TypedExprs) (one : Reading TypedExpr) (last whole : Reading TypedExprs)
-    (last_is : (e : Setting) (multi : Bool) (c : ℕ) (s : Scope) → last e multi c s ≡ made_into single (one e multi c s))
-    (law : (e : Setting) (multi : Bool) (c : ℕ) (s : Scope) → whole e multi c s ≡ followed appended (first e multi c s) (λ a. last e multi c a.scope))
+    (last_is : (e : Setting) (c : ℕ) (s : Scope) → last e c s ≡ made_into single (one e c s))
+    (law : (e : Setting) (c : ℕ) (s : Scope) → whole e c s ≡ followed appended (first e c s) (λ a. last e c a.scope))
     (made : List Expr) (keeps : Keeps old.tyenv mid.tyenv) (sofar : SoFar env old mid d first made) where
   pub one_done : (o : Option Expr) → MayTranslate env mid new d one expr_view (Ok o) → SoFar env old new d whole (made ++ option_to_list o)
   one_done None y = inr (then_reported env old mid new d first (λ q. last) whole appended law (expr_parts (expr_views made)) keeps sofar (made_reported env mid new d one last single last_is y))
@@ -88,14 +88,14 @@ module _ (env : TermEnv) (old mid new : Standing) (d : ℕ) (first : Reading Typ
   one_stops stop y = then_stops env old mid new d first (λ q. last) whole appended law (expr_parts (expr_views made)) keeps sofar stop (made_stops env mid new d one last single last_is stop y)
 
 -- the arguments of a term
-pub last_arg : (flags : Flags) (p : T.Expr) (t : ℕ) (e : Setting) (multi : Bool) (c : ℕ) (s : Scope) → args_reading (S.expr_views (p ∷ [])) flags (t ∷ []) e multi c s ≡ made_into single (expr_reading (S.expr_view p) flags (Some t) e multi c s)
-last_arg flags p t e multi c s = alone (elaborated_expr (all_made e) flags c (S.expr_view p) (Some t) s)
+pub last_arg : (flags : Flags) (p : T.Expr) (t : ℕ) (e : Setting) (c : ℕ) (s : Scope) → args_reading (S.expr_views (p ∷ [])) flags (t ∷ []) e c s ≡ made_into single (expr_reading (S.expr_view p) flags (Some t) e c s)
+last_arg flags p t e c s = alone (elaborated_expr (all_made e) flags c (S.expr_view p) (Some t) s)
 
 -- before the first expression
-pub none_yet : (env : TermEnv) (old : Standing) (d : ℕ) (reading : Reading TypedExprs) (made : List Expr) → made ≡ [] → ((e : Setting) (multi : Bool) (c : ℕ) (s : Scope) → reading e multi c s ≡ Some (plain no_typed_expr s)) → SoFar env old old d reading made
+pub none_yet : (env : TermEnv) (old : Standing) (d : ℕ) (reading : Reading TypedExprs) (made : List Expr) → made ≡ [] → ((e : Setting) (c : ℕ) (s : Scope) → reading e c s ≡ Some (plain no_typed_expr s)) → SoFar env old old d reading made
 none_yet env old d reading made none law = inl (record {
   errors = refl;
-  made = λ e multi s is sh. plain_made (λ c. reading e multi c s) d (expr_parts (expr_views made)) old old s (λ c. law e multi c s ∙ ap (λ ps. Some (plain (expr_parts (expr_views ps)) s)) (sym none)) sh refl;
+  made = λ e s is sh. plain_made (λ c. reading e c s) d (expr_parts (expr_views made)) old old s (λ c. law e c s ∙ ap (λ ps. Some (plain (expr_parts (expr_views ps)) s)) (sym none)) sh refl;
 })
 
 -- a loop over the arguments of a term
@@ -104,16 +104,16 @@ module _ (env : TermEnv) (old mid new : Standing) (d : ℕ) (flags : Flags) (arg
   abbrev tys_to : ℕ → List ℕ
   tys_to n = map (λ t. t.0) (take n tys)
 
-  one_further : (e : Setting) (multi : Bool) (c : ℕ) (s : Scope)
-      → args_reading (S.expr_views (take (i + 1) args)) flags (tys_to (i + 1)) e multi c s
-      ≡ followed appended (args_reading (S.expr_views (take i args)) flags (tys_to i) e multi c s) (λ a. args_reading (S.expr_views (p ∷ [])) flags (ty.0 ∷ []) e multi c a.scope)
-  one_further e multi c s =
+  one_further : (e : Setting) (c : ℕ) (s : Scope)
+      → args_reading (S.expr_views (take (i + 1) args)) flags (tys_to (i + 1)) e c s
+      ≡ followed appended (args_reading (S.expr_views (take i args)) flags (tys_to i) e c s) (λ a. args_reading (S.expr_views (p ∷ [])) flags (ty.0 ∷ []) e c a.scope)
+  one_further e c s =
       let a : take (i + 1) args ≡ take i args ++ p ∷ [] = take_more args i p w ∙ ap (λ q. take i args ++ q ∷ []) (sym arg_is) in
       let b : tys_to (i + 1) ≡ tys_to i ++ ty.0 ∷ [] = ap (map (λ t. t.0)) (take_more tys i ty v ∙ ap (λ t. take i tys ++ t ∷ []) (sym ty_is)) ∙ map-append (λ t. t.0) (take i tys) (ty ∷ []) in
       let n = length-take-le i args (omega arith) in
       let m = length-take-le i tys (omega arith) in
       let k = length-map (take i tys) (λ t. t.0) in
-      ap (λ ps. args_reading (S.expr_views ps) flags (tys_to (i + 1)) e multi c s) a ∙ ap (λ ts. args_reading (S.expr_views (take i args ++ p ∷ [])) flags ts e multi c s) b
+      ap (λ ps. args_reading (S.expr_views ps) flags (tys_to (i + 1)) e c s) a ∙ ap (λ ts. args_reading (S.expr_views (take i args ++ p ∷ [])) flags ts e c s) b
       ∙ args_after (all_made e) flags c (take i args) (p ∷ []) (tys_to i) (ty.0 ∷ []) s (n ∙ sym m ∙ sym k)
 
   pub next_arg : (made : List Expr) → SoFar env old mid d (args_reading (S.expr_views (take i args)) flags (tys_to i)) made
@@ -134,10 +134,10 @@ module _ (env : TermEnv) (old mid new : Standing) (d : ℕ) (flags : Flags) (arg
       let k = length-map (take (i + 1) tys) (λ t. t.0) in
       first_stops env old mid new d (args_reading (S.expr_views (take (i + 1) args)) flags (tys_to (i + 1))) (λ q. args_reading (S.expr_views (drop (i + 1) args)) flags (map (λ t. t.0) (drop (i + 1) tys)))
       (args_reading (S.expr_views args) flags (map (λ t. t.0) tys)) appended
-      (λ e multi c s.
-      ap (λ ps. args_reading (S.expr_views ps) flags (map (λ t. t.0) tys) e multi c s) (sym (take-append-drop (i + 1) args))
-      ∙ ap (λ ts. args_reading (S.expr_views (take (i + 1) args ++ drop (i + 1) args)) flags (map (λ t. t.0) ts) e multi c s) (sym (take-append-drop (i + 1) tys))
-      ∙ ap (λ ts. args_reading (S.expr_views (take (i + 1) args ++ drop (i + 1) args)) flags ts e multi c s) (map-append (λ t. t.0) (take (i + 1) tys) (drop (i + 1) tys))
+      (λ e c s.
+      ap (λ ps. args_reading (S.expr_views ps) flags (map (λ t. t.0) tys) e c s) (sym (take-append-drop (i + 1) args))
+      ∙ ap (λ ts. args_reading (S.expr_views (take (i + 1) args ++ drop (i + 1) args)) flags (map (λ t. t.0) ts) e c s) (sym (take-append-drop (i + 1) tys))
+      ∙ ap (λ ts. args_reading (S.expr_views (take (i + 1) args ++ drop (i + 1) args)) flags ts e c s) (map-append (λ t. t.0) (take (i + 1) tys) (drop (i + 1) tys))
       ∙ args_after (all_made e) flags c (take (i + 1) args) (drop (i + 1) args) (tys_to (i + 1)) (map (λ t. t.0) (drop (i + 1) tys)) s (n ∙ sym m ∙ sym k))
       stop here
 

@@ -1,5 +1,5 @@
 -- The use of a name in an expression, step by step as it is looked at.
-use Rattle.std.proofs.Common.{◌≡◌, ℕ, zero, suc, ◌<◌, Bool, true, false, cond, eqb, List, [], ◌∷◌, length, Option, Some, None, option_and_then, slice_get, unwrap_or, Err, refl, sym, ap, subst, ◌∙◌, inl, inr, ◌⊎◌, arith}
+use Rattle.std.proofs.Common.{◌≡◌, ℕ, zero, suc, ◌<◌, true, false, cond, eqb, List, [], ◌∷◌, length, Option, Some, None, option_and_then, slice_get, unwrap_or, Err, refl, sym, ap, subst, ◌∙◌, inl, inr, ◌⊎◌, arith}
 use Rattle.std.proofs.lemmas.Bool.{cases_Bool, false≢true}
 use Rattle.std.proofs.lemmas.Option.{none-some}
 use Rattle.isle_base.specs.declared.syntax.Expr.{Expr}
@@ -84,11 +84,11 @@ other_expected env own (Some want) by h = elim (cases_Bool (eqb own want)) [
 
 -- a use that a converter brings to the type that is expected
 module _ (env : TermEnv) (old : Standing) (whole : ExprTree) (at : Position) (flags : Flags) (ty : Option ℕ) (by : TermEntry)
-    (law : Wherever env old (λ e multi s. (c : ℕ) → expr_reading whole flags ty e multi c s ≡ counted (deeper_expr (all_made e) flags c (wrapped_expr s (made_entry by) at whole) ty s))) where
-  conversion : (e : Setting) (multi : Bool) (s : Scope) → IsSettingOf old.tyenv env e → Shows old s → (c : ℕ)
-      → expr_reading whole flags ty e multi c s ≡ expanding (λ d. expr_reading (inside_call old.tyenv by at whole) flags ty e multi d s) c
-  conversion e multi s is sh c =
-      law e multi s is sh c
+    (law : Wherever env old (λ e s. (c : ℕ) → expr_reading whole flags ty e c s ≡ counted (deeper_expr (all_made e) flags c (wrapped_expr s (made_entry by) at whole) ty s))) where
+  conversion : (e : Setting) (s : Scope) → IsSettingOf old.tyenv env e → Shows old s → (c : ℕ)
+      → expr_reading whole flags ty e c s ≡ expanding (λ d. expr_reading (inside_call old.tyenv by at whole) flags ty e d s) c
+  conversion e s is sh c =
+      law e s is sh c
       ∙ counted_deeper (all_made e) flags c (wrapped_expr s (made_entry by) at whole) ty s
       ∙ ap (λ ns. expanding (λ d. elaborated_expr (all_made e) flags d (term_expr (record { text = unwrap_or (slice_get ns by.name) []; at = at }) (expr_and whole no_expr) at) ty s) c) (sym sh.names)
 
@@ -99,7 +99,7 @@ module _ (env : TermEnv) (old : Standing) (whole : ExprTree) (at : Position) (fl
     expands = record {
       errors = one.errors;
       expansions = one.expansions;
-      shows = λ e multi s is sh. record {
+      shows = λ e s is sh. record {
         names = same ∙ sh.names;
         vars = one.vars ∙ sh.vars;
         visible = λ k. one.names k ∙ sh.visible k;
@@ -111,8 +111,8 @@ module _ (env : TermEnv) (old : Standing) (whole : ExprTree) (at : Position) (fl
 
   pub conversion_stops : (new : Standing) (d : ℕ) (stop : Stop) → Counts d old.work new.work (Err stop) → Stops env old new d (expr_reading whole flags ty) stop
   conversion_stops new d stop x =
-      expansion_stops env old old new d (expr_reading whole flags ty) (λ e multi s d. expr_reading (inside_call old.tyenv by at whole) flags ty e multi d s)
-      (λ e multi s is sh c. inr (conversion e multi s is sh c)) refl (inl refl) stop x
+      expansion_stops env old old new d (expr_reading whole flags ty) (λ e s d. expr_reading (inside_call old.tyenv by at whole) flags ty e d s)
+      (λ e s is sh c. inr (conversion e s is sh c)) refl (inl refl) stop x
 
 -- a variable is found by its number
 module _ (env : TermEnv) (old : Standing) (inv : IsInterned old.tyenv) (name : Name) (at : Position) (flags : Flags) (ty : Option ℕ) where
@@ -138,31 +138,31 @@ module _ (env : TermEnv) (old : Standing) (inv : IsInterned old.tyenv) (name : N
   pub var_unknown : (new : Standing) → None ≡ option_and_then (newest old.work) (symbol_of old.tyenv name.text) → NotesMore old.work.errors.items new.work.errors.items → IsReported env old new (expr_reading var flags ty)
   var_unknown new none more = record {
     errors = inr more;
-    noted = λ e multi s is sh. record { reports = more; none = λ c. let h = var_found None none s sh in rw h refl };
+    noted = λ e s is sh. record { reports = more; none = λ c. let h = var_found None none s sh in rw h refl };
   }
 
   module _ (v : TypedVar) (there : Some v ≡ option_and_then (newest old.work) (symbol_of old.tyenv name.text)) where
-    law_of : (e : Setting) (multi : Bool) (s : Scope) → Shows old s → (c : ℕ)
-        → expr_reading var flags ty e multi c s ≡ as_expected (all_made e) v.ty ty (Some (plain (make_var v.ty v.id) s)) (λ b. counted (deeper_expr (all_made e) flags c (wrapped_expr s b at var) ty s))
-    law_of e multi s sh c = let h = var_found (Some v) there s sh in rw h refl
+    law_of : (e : Setting) (s : Scope) → Shows old s → (c : ℕ)
+        → expr_reading var flags ty e c s ≡ as_expected (all_made e) v.ty ty (Some (plain (make_var v.ty v.id) s)) (λ b. counted (deeper_expr (all_made e) flags c (wrapped_expr s b at var) ty s))
+    law_of e s sh c = let h = var_found (Some v) there s sh in rw h refl
 
     pub var_converts : (by : TermEntry) → Some by ≡ found_expr_converter env v.ty ty
-        → Wherever env old (λ e multi s. (c : ℕ) → expr_reading var flags ty e multi c s ≡ counted (deeper_expr (all_made e) flags c (wrapped_expr s (made_entry by) at var) ty s))
-    var_converts by k e multi s is sh c =
-        law_of e multi s sh c ∙ converts env old e is v.ty ty by (Some (plain (make_var v.ty v.id) s)) (λ b. counted (deeper_expr (all_made e) flags c (wrapped_expr s b at var) ty s)) k
+        → Wherever env old (λ e s. (c : ℕ) → expr_reading var flags ty e c s ≡ counted (deeper_expr (all_made e) flags c (wrapped_expr s (made_entry by) at var) ty s))
+    var_converts by k e s is sh c =
+        law_of e s sh c ∙ converts env old e is v.ty ty by (Some (plain (make_var v.ty v.id) s)) (λ b. counted (deeper_expr (all_made e) flags c (wrapped_expr s b at var) ty s)) k
 
     pub var_unmade : (new : Standing) (by : TermEntry) → None ≡ found_expr_converter env v.ty ty → Some by ≡ declared_converter env v.ty ty → NotesMore old.work.errors.items new.work.errors.items → IsReported env old new (expr_reading var flags ty)
     var_unmade new by none k more = record {
       errors = inr more;
-      noted = λ e multi s is sh. record { reports = more; none = λ c. law_of e multi s sh c ∙ stays_other env old e is v.ty ty _ _ none (other_expected env v.ty ty by k) };
+      noted = λ e s is sh. record { reports = more; none = λ c. law_of e s sh c ∙ stays_other env old e is v.ty ty _ _ none (other_expected env v.ty ty by k) };
     }
 
     pub var_made : (new : Standing) → None ≡ found_expr_converter env v.ty ty → names_of new.tyenv ≡ names_of old.tyenv → Remains old.work new.work → Checks old.work.errors.items new.work.errors.items (is_expected ty v.ty ≡ true)
         → (d : ℕ) → IsTranslated env old new d (expr_reading var flags ty) (make_var v.ty v.id) ⊎ IsReported env old new (expr_reading var flags ty)
     var_made new none same r checks =
         tested env old new (expr_reading var flags ty) (make_var v.ty v.id) (is_expected ty v.ty ≡ true) r checks
-        (λ e multi s is sh fits. (same, λ c. law_of e multi s sh c ∙ expected_itself (all_made e) v.ty ty _ _ fits))
-        (λ e multi s is sh other c. law_of e multi s sh c ∙ stays_other env old e is v.ty ty _ _ none (is_false (is_expected ty v.ty) other))
+        (λ e s is sh fits. (same, λ c. law_of e s sh c ∙ expected_itself (all_made e) v.ty ty _ _ fits))
+        (λ e s is sh other c. law_of e s sh c ∙ stays_other env old e is v.ty ty _ _ none (is_false (is_expected ty v.ty) other))
 
 -- a term
 -- expressions for arguments are as many as these
@@ -180,45 +180,45 @@ module _ (env : TermEnv) (old : Standing) (inv : IsInterned old.tyenv) (name : N
   pub call_unknown : (new : Standing) → None ≡ found_term env old.tyenv name.text → NotesMore old.work.errors.items new.work.errors.items → IsReported env old new (expr_reading call flags ty)
   call_unknown new none more = record {
     errors = inr more;
-    noted = λ e multi s is sh. record { reports = more; none = λ c. let h = term_made e s name.text None (found_so env old inv name.text None none e s is sh) in rw h refl };
+    noted = λ e s is sh. record { reports = more; none = λ c. let h = term_made e s name.text None (found_so env old inv name.text None none e s is sh) in rw h refl };
   }
 
   module _ (t : TermEntry) (known : Some t ≡ found_term env old.tyenv name.text) where
     abbrev itself : Setting → ℕ → Scope → Option (Typing TypedExpr)
     itself e c s = cond (is_callable flags (made_entry t).kind) (made_into (make_term t.ret_ty t.id) (args_with (all_made e) flags (deeper_expr (all_made e) flags c) args t.arg_tys s)) None
 
-    law_of_call : (e : Setting) (multi : Bool) (s : Scope) → IsSettingOf old.tyenv env e → Shows old s → (c : ℕ)
-        → expr_reading call flags ty e multi c s ≡ as_expected (all_made e) t.ret_ty ty (itself e c s) (λ b. counted (deeper_expr (all_made e) flags c (wrapped_expr s b at call) ty s))
-    law_of_call e multi s is sh c = let h = term_made e s name.text (Some t) (found_so env old inv name.text (Some t) known e s is sh) in rw h refl
+    law_of_call : (e : Setting) (s : Scope) → IsSettingOf old.tyenv env e → Shows old s → (c : ℕ)
+        → expr_reading call flags ty e c s ≡ as_expected (all_made e) t.ret_ty ty (itself e c s) (λ b. counted (deeper_expr (all_made e) flags c (wrapped_expr s b at call) ty s))
+    law_of_call e s is sh c = let h = term_made e s name.text (Some t) (found_so env old inv name.text (Some t) known e s is sh) in rw h refl
 
     pub call_converts : (by : TermEntry) → Some by ≡ found_expr_converter env t.ret_ty ty
-        → Wherever env old (λ e multi s. (c : ℕ) → expr_reading call flags ty e multi c s ≡ counted (deeper_expr (all_made e) flags c (wrapped_expr s (made_entry by) at call) ty s))
-    call_converts by k e multi s is sh c =
-        law_of_call e multi s is sh c ∙ converts env old e is t.ret_ty ty by (itself e c s) (λ b. counted (deeper_expr (all_made e) flags c (wrapped_expr s b at call) ty s)) k
+        → Wherever env old (λ e s. (c : ℕ) → expr_reading call flags ty e c s ≡ counted (deeper_expr (all_made e) flags c (wrapped_expr s (made_entry by) at call) ty s))
+    call_converts by k e s is sh c =
+        law_of_call e s is sh c ∙ converts env old e is t.ret_ty ty by (itself e c s) (λ b. counted (deeper_expr (all_made e) flags c (wrapped_expr s b at call) ty s)) k
 
     pub call_unmade : (new : Standing) (by : TermEntry) → None ≡ found_expr_converter env t.ret_ty ty → Some by ≡ declared_converter env t.ret_ty ty → NotesMore old.work.errors.items new.work.errors.items → IsReported env old new (expr_reading call flags ty)
     call_unmade new by none k more = record {
       errors = inr more;
-      noted = λ e multi s is sh. record { reports = more; none = λ c. law_of_call e multi s is sh c ∙ stays_other env old e is t.ret_ty ty _ _ none (other_expected env t.ret_ty ty by k) };
+      noted = λ e s is sh. record { reports = more; none = λ c. law_of_call e s is sh c ∙ stays_other env old e is t.ret_ty ty _ _ none (other_expected env t.ret_ty ty by k) };
     }
 
     abbrev Fits : ℕ → Type 0
     Fits n = ((is_expected ty t.ret_ty ≡ true) × (allowed flags t.kind ≡ true)) × (n ≡ length t.arg_tys)
 
     module _ (none : None ≡ found_expr_converter env t.ret_ty ty) (n : ℕ) (count : n ≡ length (expr_list args)) where
-      fit : Fits n → (e : Setting) (multi : Bool) (s : Scope) → IsSettingOf old.tyenv env e → Shows old s → (c : ℕ)
-          → expr_reading call flags ty e multi c s ≡ made_into (make_term t.ret_ty t.id) (args_reading args flags t.arg_tys e multi c s)
-      fit fits e multi s is sh c =
-          law_of_call e multi s is sh c ∙ expected_itself (all_made e) t.ret_ty ty _ _ fits.0.0
-          ∙ ap (λ b. cond b (made_into (make_term t.ret_ty t.id) (args_reading args flags t.arg_tys e multi c s)) None) (callable_made flags t.kind ∙ fits.0.1)
+      fit : Fits n → (e : Setting) (s : Scope) → IsSettingOf old.tyenv env e → Shows old s → (c : ℕ)
+          → expr_reading call flags ty e c s ≡ made_into (make_term t.ret_ty t.id) (args_reading args flags t.arg_tys e c s)
+      fit fits e s is sh c =
+          law_of_call e s is sh c ∙ expected_itself (all_made e) t.ret_ty ty _ _ fits.0.0
+          ∙ ap (λ b. cond b (made_into (make_term t.ret_ty t.id) (args_reading args flags t.arg_tys e c s)) None) (callable_made flags t.kind ∙ fits.0.1)
 
-      unfit : (Fits n → ⊥) → (e : Setting) (multi : Bool) (s : Scope) → IsSettingOf old.tyenv env e → Shows old s → (c : ℕ) → expr_reading call flags ty e multi c s ≡ None
-      unfit wrong e multi s is sh c = law_of_call e multi s is sh c ∙ (elim (cases_Bool (is_expected ty t.ret_ty)) [
+      unfit : (Fits n → ⊥) → (e : Setting) (s : Scope) → IsSettingOf old.tyenv env e → Shows old s → (c : ℕ) → expr_reading call flags ty e c s ≡ None
+      unfit wrong e s is sh c = law_of_call e s is sh c ∙ (elim (cases_Bool (is_expected ty t.ret_ty)) [
         | inr other ↦ stays_other env old e is t.ret_ty ty _ _ none other
         | inl fits ↦ expected_itself (all_made e) t.ret_ty ty _ _ fits ∙ (elim (cases_Bool (allowed flags t.kind)) [
-          | inr forbidden ↦ ap (λ b. cond b (made_into (make_term t.ret_ty t.id) (args_reading args flags t.arg_tys e multi c s)) None) (callable_made flags t.kind ∙ forbidden)
+          | inr forbidden ↦ ap (λ b. cond b (made_into (make_term t.ret_ty t.id) (args_reading args flags t.arg_tys e c s)) None) (callable_made flags t.kind ∙ forbidden)
           | inl may ↦
-              ap (λ b. cond b (made_into (make_term t.ret_ty t.id) (args_reading args flags t.arg_tys e multi c s)) None) (callable_made flags t.kind ∙ may)
+              ap (λ b. cond b (made_into (make_term t.ret_ty t.id) (args_reading args flags t.arg_tys e c s)) None) (callable_made flags t.kind ∙ may)
               ∙ ap (made_into (make_term t.ret_ty t.id)) (args_count (all_made e) flags c args t.arg_tys s (λ k. wrong ((fits, may), count ∙ k)))
         ])
       ])
@@ -227,6 +227,6 @@ module _ (env : TermEnv) (old : Standing) (inv : IsInterned old.tyenv) (name : N
           → TakesArgs env old new call args flags ty t ⊎ IsReported env old new (expr_reading call flags ty)
       args_used new same r (inl ok) = inl (record {
         count = sym count ∙ ok.1.1;
-        reads = record { errors = ok.0; expansions = r.expansions; shows = λ e multi s is sh. still old new s same r sh; becomes = fit ok.1 };
+        reads = record { errors = ok.0; expansions = r.expansions; shows = λ e s is sh. still old new s same r sh; becomes = fit ok.1 };
       })
-      args_used new same r (inr wrong) = inr (record { errors = inr wrong.0; noted = λ e multi s is sh. record { reports = wrong.0; none = unfit wrong.1 e multi s is sh } })
+      args_used new same r (inr wrong) = inr (record { errors = inr wrong.0; noted = λ e s is sh. record { reports = wrong.0; none = unfit wrong.1 e s is sh } })

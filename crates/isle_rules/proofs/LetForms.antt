@@ -24,13 +24,13 @@ use Rattle.isle_types.specs.declared.ids.TypeId.{TypeId}
 use Rattle.isle_types.specs.declared.ids.VarId.{VarId}
 use Rattle.isle_types.specs.Envs.{names_of, symbol_of, type_at, type_of_name, IsInterned}
 use Rattle.isle_rules.specs.Noting.{NotesMore, MayNoteMore}
-use Rattle.isle_rules.specs.declared.exprs.Expr.{Expr}
-use Rattle.isle_rules.specs.declared.rules.BoundVar.{BoundVar}
+use Rattle.isle_typed.specs.declared.exprs.Expr.{Expr}
+use Rattle.isle_typed.specs.declared.rules.BoundVar.{BoundVar}
 use Rattle.isle_rules.specs.declared.term_env.TermEnv.{TermEnv}
 use Rattle.isle_rules.specs.declared.typing.progress.Stop.{Stop}
 use Rattle.isle_rules.specs.declared.typing.progress.Stop.TheVariants.{Memory, Nesting, Expansions}
 use Rattle.isle_rules.specs.ExprReadings.{all_made, expr_reading, lets_reading}
-use Rattle.isle_rules.specs.ExprViews.{expr_view, let_views, let_parts}
+use Rattle.isle_typed.specs.ExprViews.{expr_view, let_views, let_parts}
 use Rattle.isle_rules.specs.Lets.{with_let, before_all, HidesAs, Defines, BindsDef, Closes, DefinesOne}
 use Rattle.isle_rules.specs.Progress.{newest, BindsNext, Remains}
 use Rattle.isle_rules.specs.Translating.{Standing, Keeps, IsSettingOf, Shows, Reading, Wherever, IsOnlyTyping, IsTranslated, IsReported, Stops}
@@ -92,12 +92,12 @@ module _ (env : TermEnv) (old mid : Standing) (name ty : Name) (value : ExprTree
   pub def_unknown : None ≡ type_of_name old.tyenv ty.text → NotesMore old.work.errors.items mid.work.errors.items → IsReported env old mid one
   def_unknown none more = record {
     errors = inr more;
-    noted = λ e multi s is sh. record { reports = more; none = λ c. let h = type_found None none e s is sh in rw h refl };
+    noted = λ e s is sh. record { reports = more; none = λ c. let h = type_found None none e s is sh in rw h refl };
   }
 
   module _ (keeps : Keeps old.tyenv mid.tyenv) (names : names_of mid.tyenv ≡ with_name (names_of old.tyenv) name.text) (r : Remains old.work mid.work) (own : ℕ) (there : Some own ≡ type_of_name old.tyenv ty.text) (errors : mid.work.errors.items ≡ old.work.errors.items) where
-    unfolded : (e : Setting) (multi : Bool) (s : Scope) → IsSettingOf old.tyenv env e → Shows old s → (c : ℕ) → one e multi c s ≡ defined own name.text (expr_reading value flags (Some own) e multi c (met s name.text))
-    unfolded e multi s is sh c = let h = type_found (Some own) there e s is sh in rw h refl
+    unfolded : (e : Setting) (s : Scope) → IsSettingOf old.tyenv env e → Shows old s → (c : ℕ) → one e c s ≡ defined own name.text (expr_reading value flags (Some own) e c (met s name.text))
+    unfolded e s is sh c = let h = type_found (Some own) there e s is sh in rw h refl
 
     shown : (s : Scope) → Shows old s → Shows mid (met s name.text)
     shown s sh = met_shows old mid s name.text names r sh
@@ -108,22 +108,22 @@ module _ (env : TermEnv) (old mid : Standing) (name ty : Name) (value : ExprTree
     pub def_reported : (new : Standing) → IsReported env mid new (expr_reading value flags (Some own)) → IsReported env old new one
     def_reported new y = record {
       errors = subst (λ es. MayNoteMore es new.work.errors.items) errors y.errors;
-      noted = λ e multi s is sh.
-          let n = y.noted e multi (met s name.text) (setting e is) (shown s sh) in
-          record { reports = subst (λ es. NotesMore es new.work.errors.items) errors n.reports; none = λ c. unfolded e multi s is sh c ∙ ap (defined own name.text) (n.none c) };
+      noted = λ e s is sh.
+          let n = y.noted e (met s name.text) (setting e is) (shown s sh) in
+          record { reports = subst (λ es. NotesMore es new.work.errors.items) errors n.reports; none = λ c. unfolded e s is sh c ∙ ap (defined own name.text) (n.none c) };
     }
 
     pub def_stops : (new : Standing) (d : ℕ) (stop : Stop) → Stops env mid new d (expr_reading value flags (Some own)) stop → Stops env old new d one stop
     def_stops new d (Memory a) y = tt
     def_stops new d Nesting y = (
       may_both old.work.errors.items mid.work.errors.items new.work.errors.items (inl errors) y.0,
-      λ e multi s is sh. unfolded e multi s is sh d ∙ ap (defined own name.text) (y.1 e multi (met s name.text) (setting e is) (shown s sh)),
+      λ e s is sh. unfolded e s is sh d ∙ ap (defined own name.text) (y.1 e (met s name.text) (setting e is) (shown s sh)),
     )
     def_stops new d Expansions y = (
       may_both old.work.errors.items mid.work.errors.items new.work.errors.items (inl errors) y.0,
-      λ e multi s is sh c a h.
-          let g = defined_gives own name.text (expr_reading value flags (Some own) e multi c (met s name.text)) a (sym (unfolded e multi s is sh c) ∙ h) in
-          let long = y.1 e multi (met s name.text) (setting e is) (shown s sh) c g.0 g.1 in
+      λ e s is sh c a h.
+          let g = defined_gives own name.text (expr_reading value flags (Some own) e c (met s name.text)) a (sym (unfolded e s is sh c) ∙ h) in
+          let long = y.1 e (met s name.text) (setting e is) (shown s sh) c g.0 g.1 in
           let m = r.expansions in
           let n = g.2 in
           omega (arith, long, m, n),
@@ -149,15 +149,15 @@ module _ (env : TermEnv) (old mid : Standing) (name ty : Name) (value : ExprTree
       typed : IsTranslated env mid next d (expr_reading value flags (Some own)) q → IsTranslated env old new d one kept
       typed y = record {
         errors = b.binds.errors ∙ y.errors ∙ errors;
-        made = λ e multi s is sh.
-            let a = y.made e multi (met s name.text) (setting e is) (shown s sh) in
+        made = λ e s is sh.
+            let a = y.made e (met s name.text) (setting e is) (shown s sh) in
             let m = r.expansions in
             let n = a.expansions in
             let k = b.binds.expansions in
             record {
               typing = one_let own name.text a.typing;
-              becomes = becomes_same (λ c. defined own name.text (expr_reading value flags (Some own) e multi c (met s name.text))) (λ c. one e multi c s) d (one_let own name.text a.typing) (unfolded e multi s is sh)
-                  (becomes_defined own name.text (λ c. expr_reading value flags (Some own) e multi c (met s name.text)) d a.typing a.becomes);
+              becomes = becomes_same (λ c. defined own name.text (expr_reading value flags (Some own) e c (met s name.text))) (λ c. one e c s) d (one_let own name.text a.typing) (unfolded e s is sh)
+                  (becomes_defined own name.text (λ c. expr_reading value flags (Some own) e c (met s name.text)) d a.typing a.becomes);
               made =
                   ap (λ (i : ℕ). typed_let_and i own a.typing.made no_typed_let) (sym (b.id ∙ as_many next a.typing.scope a.shows))
                   ∙ ap (λ v. typed_let_and made.0.0 own v no_typed_let) a.made
@@ -167,17 +167,17 @@ module _ (env : TermEnv) (old mid : Standing) (name ty : Name) (value : ExprTree
             };
       }
 
-      hides : IsTranslated env mid next d (expr_reading value flags (Some own)) q → Wherever env old (λ e multi s. HidesAs hidden new earlier old)
-      hides y e multi s is sh k =
+      hides : IsTranslated env mid next d (expr_reading value flags (Some own)) q → Wherever env old (λ e s. HidesAs hidden new earlier old)
+      hides y e s is sh k =
           b.hides k (newest new.work k)
           ∙ hide_bound earlier k id _ (newest next.work id) (newest new.work k) (newest next.work) (b.binds.names k) refl
-          ∙ ap (before_all earlier k) (names_stay env mid next d value flags (Some own) q y e multi (met s name.text) (setting e is) (shown s sh) k ∙ r.names k)
+          ∙ ap (before_all earlier k) (names_stay env mid next d value flags (Some own) q y e (met s name.text) (setting e is) (shown s sh) k ∙ r.names k)
 
       pub def_done : IsTranslated env mid next d (expr_reading value flags (Some own)) q ⊎ IsReported env mid next (expr_reading value flags (Some own)) → Defines env old new d one kept earlier hidden
       def_done (inl y) = inl (typed y, hides y)
       def_done (inr y) =
           let here = def_reported next y in
-          inr (reported_then env old next new d one one here (λ e multi c s h. h) (inl b.binds.errors))
+          inr (reported_then env old next new d one one here (λ e c s h. h) (inl b.binds.errors))
 
 -- definitions after definitions
 abbrev pub lets_joined : TypedLets → TypedLets → TypedLets
@@ -230,10 +230,10 @@ pub no_def_yet : (env : TermEnv) (old : Standing) (d : ℕ) (flags : Flags) (hid
 no_def_yet env old d flags hidden made none = inl (
   record {
     errors = refl;
-    made = λ e multi s is sh.
-        plain_made (λ c. lets_reading no_let flags e multi c s) d (let_parts (let_views made)) old old s (λ c. ap (λ ms. Some (plain (let_parts (let_views ms)) s)) (sym none)) sh refl;
+    made = λ e s is sh.
+        plain_made (λ c. lets_reading no_let flags e c s) d (let_parts (let_views made)) old old s (λ c. ap (λ ms. Some (plain (let_parts (let_views ms)) s)) (sym none)) sh refl;
   },
-  λ e multi s is sh k. refl,
+  λ e s is sh k. refl,
 )
 
 -- one more definition
@@ -248,10 +248,10 @@ module _ (env : TermEnv) (old mid new : Standing) (d : ℕ) (flags : Flags) (def
   abbrev last_one : Reading TypedLets
   last_one = lets_reading (with_let def no_let) flags
 
-  further : (e : Setting) (multi : Bool) (c : ℕ) (s : Scope) → after e multi c s ≡ followed lets_joined (before e multi c s) (λ a. last_one e multi c a.scope)
-  further e multi c s =
+  further : (e : Setting) (c : ℕ) (s : Scope) → after e c s ≡ followed lets_joined (before e c s) (λ a. last_one e c a.scope)
+  further e c s =
       let a : take (i + 1) defs ≡ take i defs ++ def ∷ [] = take_more defs i def w ∙ ap (λ q. take i defs ++ q ∷ []) (sym def_is) in
-      ap (λ ds. lets_reading (S.let_views ds) flags e multi c s) a ∙ lets_after (all_made e) flags c (take i defs) (def ∷ []) s
+      ap (λ ds. lets_reading (S.let_views ds) flags e c s) a ∙ lets_after (all_made e) flags c (take i defs) (def ∷ []) s
 
   so_far : IsTranslated env old mid d before (let_parts (let_views made)) ⊎ IsReported env old mid before
   so_far = ⊎_elim (λ x. inl x.0) (λ x. inr x) sofar
@@ -267,18 +267,18 @@ module _ (env : TermEnv) (old mid new : Standing) (d : ℕ) (flags : Flags) (def
           ⊎_elim
           (λ z. inl (
             rw (parts_joined made b) z,
-            λ e multi s is sh k.
-                let a = x.0.made e multi s is sh in
-                y.1 e multi a.typing.scope (keep_setting env old.tyenv mid.tyenv e keeps is) a.shows k ∙ x.1 e multi s is sh k,
+            λ e s is sh k.
+                let a = x.0.made e s is sh in
+                y.1 e a.typing.scope (keep_setting env old.tyenv mid.tyenv e keeps is) a.shows k ∙ x.1 e s is sh k,
           ))
           (λ z. inr z)
           (then_done env old mid new d before (λ q. last_one) after lets_joined further (let_parts (let_views made)) (let_parts (let_views (b ∷ []))) keeps (inl x.0) (inl y.0))
-      at_both (inr x) = inr (reported_then env old mid new d before after x (λ e multi c s h. further e multi c s ∙ ap (λ o. followed lets_joined o (λ a. last_one e multi c a.scope)) h) (inl y.0.errors))
+      at_both (inr x) = inr (reported_then env old mid new d before after x (λ e c s h. further e c s ∙ ap (λ o. followed lets_joined o (λ a. last_one e c a.scope)) h) (inl y.0.errors))
 
   pub next_stops : (stop : Stop) → Stops env mid new d last_one stop → Stops env old new d (lets_reading (S.let_views defs) flags) stop
   next_stops stop y =
       first_stops env old mid new d after (λ q. lets_reading (S.let_views (drop (i + 1) defs)) flags) (lets_reading (S.let_views defs) flags) lets_joined
-      (λ e multi c s. ap (λ ds. lets_reading (S.let_views ds) flags e multi c s) (sym (take-append-drop (i + 1) defs)) ∙ lets_after (all_made e) flags c (take (i + 1) defs) (drop (i + 1) defs) s)
+      (λ e c s. ap (λ ds. lets_reading (S.let_views ds) flags e c s) (sym (take-append-drop (i + 1) defs)) ∙ lets_after (all_made e) flags c (take (i + 1) defs) (drop (i + 1) defs) s)
       stop (then_stops env old mid new d before (λ q. last_one) after lets_joined further (let_parts (let_views made)) keeps so_far stop y)
 
 pub all_defs : (env : TermEnv) (old new : Standing) (d : ℕ) (flags : Flags) (defs : List LetDef) (i : ℕ) (made : List (VarId × TypeId × Box Expr Global)) (first hidden : List (Sym × Option BoundVar)) → length defs ≤ i
@@ -300,55 +300,55 @@ module _ (env : TermEnv) (old mid new : Standing) (d : ℕ) (flags : Flags) (def
   bodies = expr_reading body flags ty
 
   abbrev inner : Reading TypedExpr
-  inner e multi c s = followed typed_let (lets_reading defs flags e multi c s) (λ a. expr_reading body flags ty e multi c a.scope)
+  inner e c s = followed typed_let (lets_reading defs flags e c s) (λ a. expr_reading body flags ty e c a.scope)
 
   inner_reported : (last : Standing) → IsReported env old last inner → IsReported env old last whole
   inner_reported last y = record {
     errors = y.errors;
-    noted = λ e multi s is sh. let n = y.noted e multi s is sh in record { reports = n.reports; none = λ c. ap (scoped (after_let s)) (n.none c) };
+    noted = λ e s is sh. let n = y.noted e s is sh in record { reports = n.reports; none = λ c. ap (scoped (after_let s)) (n.none c) };
   }
 
   inner_stops : (last : Standing) (stop : Stop) → Stops env old last d inner stop → Stops env old last d whole stop
   inner_stops last (Memory a) y = tt
-  inner_stops last Nesting y = (y.0, λ e multi s is sh. ap (scoped (after_let s)) (y.1 e multi s is sh))
+  inner_stops last Nesting y = (y.0, λ e s is sh. ap (scoped (after_let s)) (y.1 e s is sh))
   inner_stops last Expansions y = (
     y.0,
-    λ e multi s is sh c a h.
-        let g = scoped_gives (after_let s) (inner e multi c s) {r = a} h in
-        subst (λ (v : Typing TypedExpr). most_expansions < old.work.expansions + v.expansions) g.2 (y.1 e multi s is sh c g.0 g.1),
+    λ e s is sh c a h.
+        let g = scoped_gives (after_let s) (inner e c s) {r = a} h in
+        subst (λ (v : Typing TypedExpr). most_expansions < old.work.expansions + v.expansions) g.2 (y.1 e s is sh c g.0 g.1),
   )
 
   pub let_first_stops : (stop : Stop) → Stops env old mid d (lets_reading defs flags) stop → Stops env old mid d whole stop
-  let_first_stops stop y = inner_stops mid stop (first_stops env old mid mid d (lets_reading defs flags) (λ q. bodies) inner typed_let (λ e multi c s. refl) stop y)
+  let_first_stops stop y = inner_stops mid stop (first_stops env old mid mid d (lets_reading defs flags) (λ q. bodies) inner typed_let (λ e c s. refl) stop y)
 
   module _ (ds : TypedLets) (hidden : List (Sym × Option BoundVar)) (keeps : Keeps old.tyenv mid.tyenv) (done : Defines env old mid d (lets_reading defs flags) ds [] hidden) where
     so_far_defs : IsTranslated env old mid d (lets_reading defs flags) ds ⊎ IsReported env old mid (lets_reading defs flags)
     so_far_defs = ⊎_elim (λ x. inl x.0) (λ x. inr x) done
 
     pub let_reported : IsReported env mid new bodies → IsReported env old new whole
-    let_reported y = inner_reported new (then_reported env old mid new d (lets_reading defs flags) (λ q. bodies) inner typed_let (λ e multi c s. refl) ds keeps so_far_defs y)
+    let_reported y = inner_reported new (then_reported env old mid new d (lets_reading defs flags) (λ q. bodies) inner typed_let (λ e c s. refl) ds keeps so_far_defs y)
 
     pub let_stops : (stop : Stop) → Stops env mid new d bodies stop → Stops env old new d whole stop
-    let_stops stop y = inner_stops new stop (then_stops env old mid new d (lets_reading defs flags) (λ q. bodies) inner typed_let (λ e multi c s. refl) ds keeps so_far_defs stop y)
+    let_stops stop y = inner_stops new stop (then_stops env old mid new d (lets_reading defs flags) (λ q. bodies) inner typed_let (λ e c s. refl) ds keeps so_far_defs stop y)
 
     module _ (closed : Standing) (on : Keeps mid.tyenv new.tyenv) (same : closed.tyenv ≡ new.tyenv) (c : Closes hidden new.work closed.work) (q : TypedExpr) where
-      shut : IsTranslated env old new d inner (typed_let ds q) → Wherever env old (λ e multi s. (k : ℕ) → newest closed.work k ≡ newest old.work k) → IsTranslated env old closed d whole (typed_let ds q)
+      shut : IsTranslated env old new d inner (typed_let ds q) → Wherever env old (λ e s. (k : ℕ) → newest closed.work k ≡ newest old.work k) → IsTranslated env old closed d whole (typed_let ds q)
       shut y back = record {
         errors = c.errors ∙ y.errors;
-        made = λ e multi s is sh.
-            let a = y.made e multi s is sh in
+        made = λ e s is sh.
+            let a = y.made e s is sh in
             let m = a.expansions in
             let n = c.expansions in
             record {
               typing = in_scope s a.typing;
-              becomes = becomes_scoped s (λ k. inner e multi k s) d a.typing a.becomes;
+              becomes = becomes_scoped s (λ k. inner e k s) d a.typing a.becomes;
               made = a.made;
               shows = record {
                 names = ap names_of same ∙ a.shows.names;
                 vars = c.vars ∙ a.shows.vars;
-                visible = λ k. back e multi s is sh k ∙ sh.visible k;
+                visible = λ k. back e s is sh k ∙ sh.visible k;
                 met = λ k v h.
-                    let l = sh.met k v (sym (back e multi s is sh k) ∙ h) in
+                    let l = sh.met k v (sym (back e s is sh k) ∙ h) in
                     let x = ap length keeps.names.1 ∙ length-append (names_of old.tyenv) keeps.names.0 in
                     let z = ap length on.names.1 ∙ length-append (names_of mid.tyenv) on.names.0 in
                     let w = ap (λ t. length (names_of t)) same in
@@ -361,18 +361,18 @@ module _ (env : TermEnv) (old mid new : Standing) (d : ℕ) (flags : Flags) (def
       at_done : Defines env old mid d (lets_reading defs flags) ds [] hidden → IsTranslated env mid new d bodies q ⊎ IsReported env mid new bodies → IsTranslated env old closed d whole (typed_let ds q) ⊎ IsReported env old closed whole
       at_done (inl x) (inl y) =
           ⊎_elim
-          (λ z. inl (shut z (λ e multi s is sh k.
-          let a = x.0.made e multi s is sh in
+          (λ z. inl (shut z (λ e s is sh k.
+          let a = x.0.made e s is sh in
           c.names k
-          ∙ ap (before_all hidden k) (names_stay env mid new d body flags ty q y e multi a.typing.scope (keep_setting env old.tyenv mid.tyenv e keeps is) a.shows k)
-          ∙ x.1 e multi s is sh k)))
-          (λ z. inr (reported_then env old new closed d whole whole (inner_reported new z) (λ e multi k s h. h) (inl c.errors)))
-          (then_done env old mid new d (lets_reading defs flags) (λ q. bodies) inner typed_let (λ e multi c s. refl) ds q keeps (inl x.0) (inl y))
-      at_done (inl x) (inr y) = inr (reported_then env old new closed d whole whole (let_reported y) (λ e multi k s h. h) (inl c.errors))
+          ∙ ap (before_all hidden k) (names_stay env mid new d body flags ty q y e a.typing.scope (keep_setting env old.tyenv mid.tyenv e keeps is) a.shows k)
+          ∙ x.1 e s is sh k)))
+          (λ z. inr (reported_then env old new closed d whole whole (inner_reported new z) (λ e k s h. h) (inl c.errors)))
+          (then_done env old mid new d (lets_reading defs flags) (λ q. bodies) inner typed_let (λ e c s. refl) ds q keeps (inl x.0) (inl y))
+      at_done (inl x) (inr y) = inr (reported_then env old new closed d whole whole (let_reported y) (λ e k s h. h) (inl c.errors))
       at_done (inr x) y =
           inr (reported_then env old new closed d whole whole
-          (inner_reported new (reported_then env old mid new d (lets_reading defs flags) inner x (λ e multi k s h. ap (λ o. followed typed_let o (λ a. bodies e multi k a.scope)) h) (may_report env mid new d bodies q y)))
-          (λ e multi k s h. h) (inl c.errors))
+          (inner_reported new (reported_then env old mid new d (lets_reading defs flags) inner x (λ e k s h. ap (λ o. followed typed_let o (λ a. bodies e k a.scope)) h) (may_report env mid new d bodies q y)))
+          (λ e k s h. h) (inl c.errors))
 
       pub let_done : IsTranslated env mid new d bodies q ⊎ IsReported env mid new bodies → IsTranslated env old closed d whole (typed_let ds q) ⊎ IsReported env old closed whole
       let_done y = at_done done y

@@ -9,13 +9,13 @@ use Rattle.isle_model.specs.lists.Setting.{Setting, Scope, var_named}
 use Rattle.isle_model.specs.lists.Elaborates.{ElaboratesExpr, ElaboratesArgs, a_call, converted_call, a_variable, converted_variable, truth_expr, integer_expr, constant_expr, let_in, no_arg, an_arg}
 use Rattle.isle_laws_lists.proofs.TypedExprs as exprs
 use Rattle.isle_types.specs.declared.ids.Sym.{Sym}
-use Rattle.isle_rules.specs.declared.rules.BoundVar.{BoundVar}
+use Rattle.isle_typed.specs.declared.rules.BoundVar.{BoundVar}
 use Rattle.isle_rules.specs.declared.term_env.TermEnv.{TermEnv}
 use Rattle.isle_rules.specs.ExprReadings.{all_made, expr_reading}
 use Rattle.isle_rules.specs.Lets.{before_all, Closes}
 use Rattle.isle_rules.specs.declared.typing.progress.Progress.{Progress}
 use Rattle.isle_rules.specs.Progress.{newest, vars_of, PutsBack}
-use Rattle.isle_rules.specs.RuleViews.{var_view}
+use Rattle.isle_typed.specs.RuleViews.{var_view}
 use Rattle.isle_rules.specs.Translating.{Standing, Wherever, IsTranslated}
 
 -- after an expression what can be used is what could be used before it
@@ -37,9 +37,9 @@ module _ (e : Setting) (flags : Flags) where
 
 -- so names stand for what they stood for
 pub names_stay : (env : TermEnv) (old new : Standing) (d : ℕ) (x : ExprTree) (flags : Flags) (ty : Option ℕ) (q : TypedExpr) → IsTranslated env old new d (expr_reading x flags ty) q
-    → Wherever env old (λ e multi s. (k : ℕ) → newest new.work k ≡ newest old.work k)
-names_stay env old new d x flags ty q y e multi s is sh k =
-    let a = y.made e multi s is sh in
+    → Wherever env old (λ e s. (k : ℕ) → newest new.work k ≡ newest old.work k)
+names_stay env old new d x flags ty q y e s is sh k =
+    let a = y.made e s is sh in
     let same = stays_usable (all_made e) flags (exprs.sound (all_made e) flags d x ty s a.typing a.becomes.here) in
     a.shows.visible k ∙ ap (λ vs. var_named k vs) same ∙ sym (sh.visible k)
 

@@ -1,20 +1,9 @@
-pub mod PatternBridges
-pub mod ExprBridges
-mod Copies
 pub mod Defaults
 pub mod MapSteps
 pub mod NameSteps
 pub mod CountSteps
 pub mod DefinedSteps
 mod UsedTerms
-pub mod BoundVars
-pub mod PatternRunSteps
-pub mod VisitSizes
-pub mod PatternRunForms
-pub mod ExprRunSteps
-pub mod ExprRunForms
-pub mod OrderedVars
-pub mod RuleRunSteps
 pub mod Noted
 pub mod Readings
 pub mod Bindings

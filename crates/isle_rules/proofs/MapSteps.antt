@@ -14,8 +14,8 @@ use Rattle.isle_model.specs.lists.Elaborated.{rule_names, rule_named}
 use Rattle.isle_types.specs.declared.ids.Sym.{Sym}
 use Rattle.isle_types.specs.declared.ids.RuleId.{RuleId}
 use Rattle.isle_types.specs.Envs.{same_symbol, symbol}
-use Rattle.isle_rules.specs.declared.rules.Rule.{Rule}
-use Rattle.isle_rules.specs.RuleViews.{rule_view, rule_views}
+use Rattle.isle_typed.specs.declared.rules.Rule.{Rule}
+use Rattle.isle_typed.specs.RuleViews.{rule_view, rule_views}
 use Rattle.isle_rules.specs.Noting.{NotesMore}
 use Rattle.isle_rules.specs.RuleNaming.{rule_in, NamesAs, NamesRule, MapsNames}
 use Rattle.isle_rules.proofs.Noted.{both}

@@ -5,9 +5,9 @@ use Rattle.isle_model.specs.lists.Tables.{TermEntry}
 use Rattle.isle_model.specs.rules.Typed.{TypedRule}
 use Rattle.isle_model.specs.lists.Elaborated.{named_rule, named_rules}
 use Rattle.isle_types.specs.declared.ids.Sym.{Sym}
-use Rattle.isle_rules.specs.declared.rules.Rule.{Rule}
+use Rattle.isle_typed.specs.declared.rules.Rule.{Rule}
 use Rattle.isle_rules.proofs.Defaults.{same_default}
-use Rattle.isle_rules.specs.RuleViews.{rule_view, rule_views}
+use Rattle.isle_typed.specs.RuleViews.{rule_view, rule_views}
 
 take_set : {A : Type 0} (f : A → A) (xs : List A) (i : ℕ) (d : A) → i < length xs → take (suc i) (set xs i (f (get_or xs i d))) ++ map f (drop (suc i) (set xs i (f (get_or xs i d)))) ≡ take i xs ++ map f (drop i xs)
 take_set f [] i d h = absurd (omega (arith, h))

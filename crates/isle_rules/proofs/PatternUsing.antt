@@ -1,5 +1,5 @@
 -- The use of a term in a pattern, step by step as it is looked at.
-use Rattle.std.proofs.Common.{◌≡◌, ℕ, zero, suc, ◌+◌, ◌<◌, ◌≤◌, ◌&&◌, Bool, true, false, cond, eqb, List, [], ◌∷◌, length, map, Option, Some, None, is_some, option_and_then, slice_get, unwrap_or, IsTrue, Err, refl, sym, ap, subst, ◌∙◌, inl, inr, ◌⊎◌, ⊎_elim, arith}
+use Rattle.std.proofs.Common.{◌≡◌, ℕ, zero, suc, ◌+◌, ◌<◌, ◌≤◌, Bool, true, false, cond, eqb, List, [], ◌∷◌, length, map, Option, Some, None, is_some, option_and_then, slice_get, unwrap_or, Err, refl, sym, ap, subst, ◌∙◌, inl, inr, ◌⊎◌, ⊎_elim, arith}
 use Rattle.std.proofs.lemmas.Bool.{eq-eqb, eqb-true, cases_Bool, false≢true}
 use Rattle.std.proofs.lemmas.Option.{none-some}
 use Rattle.isle_base.specs.declared.syntax.Error.{Error}
@@ -18,7 +18,7 @@ use Rattle.isle_model.proofs.Options.{then_some}
 use Rattle.isle_laws_lists.proofs.Typings.{ne-eqb, counted_gives}
 use Rattle.isle_types.specs.Envs.{names_of, symbol_of, IsInterned}
 use Rattle.isle_rules.specs.Noting.{NotesMore, MayNoteMore}
-use Rattle.isle_terms.specs.Terms.{has_extractor_kind, has_extractor_term}
+use Rattle.isle_terms.specs.Terms.{has_extractor_kind}
 use Rattle.isle_terms.specs.TermViews.{term_views}
 use Rattle.isle_rules.specs.declared.term_env.TermEnv.{TermEnv}
 use Rattle.isle_rules.specs.declared.typing.progress.Stop.{Stop}
@@ -49,19 +49,19 @@ takes_one o zero a h = absurd (none-some a h)
 takes_one o (suc c) a h = let m = counted_gives (o c) h in let n : suc m.0.expansions ≡ a.expansions = ap (λ v. v.expansions) m.2 in omega (arith, n)
 
 -- where no expansion can be counted the work stops: the whole is nothing, or one expansion more
-module _ {Q : Type 0} (env : TermEnv) (old mid new : Standing) (d : ℕ) (whole : Reading Q) (made : Setting → Bool → Scope → ℕ → Option (Typing Q)) where
-  pub expansion_stops : Wherever env old (λ e multi s. (c : ℕ) → (whole e multi c s ≡ None) ⊎ (whole e multi c s ≡ expanding (made e multi s) c))
+module _ {Q : Type 0} (env : TermEnv) (old mid new : Standing) (d : ℕ) (whole : Reading Q) (made : Setting → Scope → ℕ → Option (Typing Q)) where
+  pub expansion_stops : Wherever env old (λ e s. (c : ℕ) → (whole e c s ≡ None) ⊎ (whole e c s ≡ expanding (made e s) c))
       → mid.work.expansions ≡ old.work.expansions → MayNoteMore old.work.errors.items mid.work.errors.items → (stop : Stop) → Counts d mid.work new.work (Err stop) → Stops env old new d whole stop
   expansion_stops law same may (Memory a) x = absurd x
   expansion_stops law same may Nesting x = (
     subst (λ w. MayNoteMore old.work.errors.items w.errors.items) (sym x.1) may,
-    λ e multi s is sh. subst (λ c. whole e multi c s ≡ None) (sym x.0) (⊎_elim (λ h. h) (λ h. h) (law e multi s is sh 0)),
+    λ e s is sh. subst (λ c. whole e c s ≡ None) (sym x.0) (⊎_elim (λ h. h) (λ h. h) (law e s is sh 0)),
   )
   expansion_stops law same may Expansions x = (
     subst (λ w. MayNoteMore old.work.errors.items w.errors.items) (sym x.1) may,
-    λ e multi s is sh c a h.
+    λ e s is sh c a h.
         let m = x.0 in
-        ⊎_elim (λ k. absurd (none-some a (sym k ∙ h))) (λ k. let l = takes_one (made e multi s) c a (sym k ∙ h) in omega (arith, l, m, same)) (law e multi s is sh c),
+        ⊎_elim (λ k. absurd (none-some a (sym k ∙ h))) (λ k. let l = takes_one (made e s) c a (sym k ∙ h) in omega (arith, l, m, same)) (law e s is sh c),
   )
 
 -- lists of patterns
@@ -95,15 +95,6 @@ pub that_same : (p q : TermEntry → Bool) → ((t : TermEntry) → p t ≡ q t)
 that_same p q h None = refl
 that_same p q h (Some t) = ap (λ b. cond b (Some t) None) (h t)
 
-and_true : (b : Bool) → b && true ≡ b
-and_true true = refl
-and_true false = refl
-
-matchable_is : (e : Setting) (multi : Bool) → e.multi_anywhere ≡ true → (k : TermKindEntry) → is_matchable e multi k ≡ has_extractor_kind k
-matchable_is e multi any (variant_term variant) = refl
-matchable_is e multi any struct_term = refl
-matchable_is e multi any (declared_term flags constructor_kind extractor_kind) = rw any (and_true (is_some extractor_kind))
-
 -- what may be expanded still
 counted_deeper : (e : Setting) (multi : Bool) (c : ℕ) (p : PatternTree) (ty : ℕ) (s : Scope) → counted (deeper_pattern e multi c p ty s) ≡ expanding (λ d. elaborated_pattern e multi d p ty s) c
 counted_deeper e multi zero p ty s = refl
@@ -114,15 +105,15 @@ module _ (env : TermEnv) (at : Standing) (inv : IsInterned at.tyenv) (x : List �
   pub found_so : (o : Option TermEntry) → o ≡ found_term env at.tyenv x → (e : Setting) (s : Scope) → IsSettingOf at.tyenv env e → Shows at s → term_of e s x ≡ o
   found_so o h e s is sh = ap (λ ns. entry_named (number ns x) e.terms) (sym sh.names) ∙ found_named env at.tyenv inv x e is ∙ sym h
 
-module _ (env : TermEnv) (old : Standing) (inv : IsInterned old.tyenv) (name : Name) (args : PatternTrees) (at : Position) (ty : ℕ) where
+module _ (multi : Bool) (env : TermEnv) (old : Standing) (inv : IsInterned old.tyenv) (name : Name) (args : PatternTrees) (at : Position) (ty : ℕ) where
   abbrev whole : PatternTree
   whole = term_pattern name args at
 
   -- no term has the name
-  pub unknown_use : (new : Standing) → None ≡ found_term env old.tyenv name.text → NotesMore old.work.errors.items new.work.errors.items → IsReported env old new (pattern_reading whole ty)
+  pub unknown_use : (new : Standing) → None ≡ found_term env old.tyenv name.text → NotesMore old.work.errors.items new.work.errors.items → IsReported env old new (pattern_reading multi whole ty)
   unknown_use new none more = record {
     errors = inr more;
-    noted = λ e multi s is sh. record { reports = more; none = λ c. let h = found_so env old inv name.text None none e s is sh in rw h refl };
+    noted = λ e s is sh. record { reports = more; none = λ c. let h = found_so env old inv name.text None none e s is sh in rw h refl };
   }
 
   module _ (t : TermEntry) (known : Some t ≡ found_term env old.tyenv name.text) where
@@ -144,20 +135,20 @@ module _ (env : TermEnv) (old : Standing) (inv : IsInterned old.tyenv) (name : N
       differs : eqb t.ret_ty ty ≡ false
       differs = elim (cases_Bool (eqb t.ret_ty ty)) [ inr f ↦ f | inl same ↦ absurd (none-some by (sym (rw same refl) ∙ sym converts)) ]
 
-      conversion : (e : Setting) (multi : Bool) (s : Scope) → IsSettingOf old.tyenv env e → Shows old s → (c : ℕ)
-          → pattern_reading whole ty e multi c s ≡ expanding (λ d. pattern_reading (inside_term old.tyenv by at whole) ty e multi d s) c
-      conversion e multi s is sh c =
+      conversion : (e : Setting) (s : Scope) → IsSettingOf old.tyenv env e → Shows old s → (c : ℕ)
+          → pattern_reading multi whole ty e c s ≡ expanding (λ d. pattern_reading multi (inside_term old.tyenv by at whole) ty e d s) c
+      conversion e s is sh c =
           let h = found e s is sh in
           let k : pattern_converter e t.ret_ty ty ≡ Some by = converter_is e is differs ∙ sym converts in
-          let law : pattern_reading whole ty e multi c s ≡ counted (deeper_pattern e multi c (wrapped_pattern s by at whole) ty s) = rw (h, differs, k) refl in
+          let law : pattern_reading multi whole ty e c s ≡ counted (deeper_pattern e multi c (wrapped_pattern s by at whole) ty s) = rw (h, differs, k) refl in
           law ∙ counted_deeper e multi c (wrapped_pattern s by at whole) ty s
           ∙ ap (λ ns. expanding (λ d. elaborated_pattern e multi d (term_pattern (record { text = unwrap_or (slice_get ns by.name) []; at = at }) (pattern_and whole no_pattern) at) ty s) c) (sym sh.names)
 
-      pub converted_use : (new : Standing) → names_of new.tyenv ≡ names_of old.tyenv → CountsOne old.work new.work → ExpandsTo env old new (pattern_reading whole ty) (pattern_reading (inside_term old.tyenv by at whole) ty)
+      pub converted_use : (new : Standing) → names_of new.tyenv ≡ names_of old.tyenv → CountsOne old.work new.work → ExpandsTo env old new (pattern_reading multi whole ty) (pattern_reading multi (inside_term old.tyenv by at whole) ty)
       converted_use new same one = record {
         errors = one.errors;
         expansions = one.expansions;
-        shows = λ e multi s is sh. record {
+        shows = λ e s is sh. record {
           names = same ∙ sh.names;
           vars = one.vars ∙ sh.vars;
           visible = λ k. one.names k ∙ sh.visible k;
@@ -166,15 +157,15 @@ module _ (env : TermEnv) (old : Standing) (inv : IsInterned old.tyenv) (name : N
         becomes = conversion;
       }
 
-      pub conversion_stops : (new : Standing) (d : ℕ) (stop : Stop) → Counts d old.work new.work (Err stop) → Stops env old new d (pattern_reading whole ty) stop
+      pub conversion_stops : (new : Standing) (d : ℕ) (stop : Stop) → Counts d old.work new.work (Err stop) → Stops env old new d (pattern_reading multi whole ty) stop
       conversion_stops new d stop x =
-          expansion_stops env old old new d (pattern_reading whole ty) (λ e multi s d. pattern_reading (inside_term old.tyenv by at whole) ty e multi d s)
-          (λ e multi s is sh c. inr (conversion e multi s is sh c)) refl (inl refl) stop x
+          expansion_stops env old old new d (pattern_reading multi whole ty) (λ e s d. pattern_reading multi (inside_term old.tyenv by at whole) ty e d s)
+          (λ e s is sh c. inr (conversion e s is sh c)) refl (inl refl) stop x
 
     -- a use without a conversion
     module _ (none : None ≡ found_converter env has_extractor_kind t.ret_ty ty) where
-      mismatched : (e : Setting) (multi : Bool) (s : Scope) → IsSettingOf old.tyenv env e → Shows old s → eqb t.ret_ty ty ≡ false → (c : ℕ) → pattern_reading whole ty e multi c s ≡ None
-      mismatched e multi s is sh ne c =
+      mismatched : (e : Setting) (s : Scope) → IsSettingOf old.tyenv env e → Shows old s → eqb t.ret_ty ty ≡ false → (c : ℕ) → pattern_reading multi whole ty e c s ≡ None
+      mismatched e s is sh ne c =
           let h = found e s is sh in
           let k : pattern_converter e t.ret_ty ty ≡ None = converter_is e is ne ∙ sym none in
           rw (h, ne, k) refl
@@ -185,43 +176,42 @@ module _ (env : TermEnv) (old : Standing) (inv : IsInterned old.tyenv) (name : N
         no_template_in e is = ap (λ b. cond b (kind_template t.kind) None) is.expand ∙ sym no_template
 
         abbrev Fits : ℕ → Type 0
-        Fits n = ((t.ret_ty ≡ ty) × (n ≡ length t.arg_tys)) × IsTrue (has_extractor_term t)
+        Fits n = ((t.ret_ty ≡ ty) × (n ≡ length t.arg_tys)) × (is_matchable multi t.kind ≡ true)
 
-        unfit : (n : ℕ) → n ≡ length (pattern_list args) → (Fits n → ⊥) → (e : Setting) (multi : Bool) (s : Scope) → IsSettingOf old.tyenv env e → Shows old s → (c : ℕ) → pattern_reading whole ty e multi c s ≡ None
-        unfit n count wrong e multi s is sh c =
+        unfit : (n : ℕ) → n ≡ length (pattern_list args) → (Fits n → ⊥) → (e : Setting) (s : Scope) → IsSettingOf old.tyenv env e → Shows old s → (c : ℕ) → pattern_reading multi whole ty e c s ≡ None
+        unfit n count wrong e s is sh c =
             let h = found e s is sh in
             let j = no_template_in e is in
             elim (cases_Bool (eqb t.ret_ty ty)) [
-              | inr ne ↦ mismatched e multi s is sh ne c
-              | inl same ↦ elim (cases_Bool (has_extractor_kind t.kind)) [
-                | inr hasnt ↦ let m = matchable_is e multi is.multi t.kind ∙ hasnt in rw (h, same, j, m) refl
-                | inl has ↦
-                    let m = matchable_is e multi is.multi t.kind ∙ has in
-                    let p = parts_count e multi c args t.arg_tys s (λ k. wrong ((eqb-true t.ret_ty ty same, count ∙ k), has)) in
-                    rw (h, same, j, m, p) refl
+              | inr ne ↦ mismatched e s is sh ne c
+              | inl same ↦ elim (cases_Bool (is_matchable multi t.kind)) [
+                | inr not_so ↦ rw (h, same, j, not_so) refl
+                | inl may ↦
+                    let p = parts_count e multi c args t.arg_tys s (λ k. wrong ((eqb-true t.ret_ty ty same, count ∙ k), may)) in
+                    rw (h, same, j, may, p) refl
               ]
             ]
 
-        fit : (n : ℕ) → Fits n → (e : Setting) (multi : Bool) (s : Scope) → IsSettingOf old.tyenv env e → Shows old s → (c : ℕ)
-            → pattern_reading whole ty e multi c s ≡ made_into (match_term t.ret_ty t.id) (parts_reading args t.arg_tys e multi c s)
-        fit n fits e multi s is sh c =
+        fit : (n : ℕ) → Fits n → (e : Setting) (s : Scope) → IsSettingOf old.tyenv env e → Shows old s → (c : ℕ)
+            → pattern_reading multi whole ty e c s ≡ made_into (match_term t.ret_ty t.id) (parts_reading multi args t.arg_tys e c s)
+        fit n fits e s is sh c =
             let h = found e s is sh in
             let j = no_template_in e is in
             let same = eq-eqb t.ret_ty ty fits.0.0 in
-            let m = matchable_is e multi is.multi t.kind ∙ fits.1 in
-            let law : pattern_reading whole ty e multi c s ≡ made_into (match_term ty t.id) (parts_reading args t.arg_tys e multi c s) = rw (h, same, j, m) refl in
-            law ∙ ap (λ (u : ℕ). made_into (match_term u t.id) (parts_reading args t.arg_tys e multi c s)) (sym fits.0.0)
+            let m = fits.1 in
+            let law : pattern_reading multi whole ty e c s ≡ made_into (match_term ty t.id) (parts_reading multi args t.arg_tys e c s) = rw (h, same, j, m) refl in
+            law ∙ ap (λ (u : ℕ). made_into (match_term u t.id) (parts_reading multi args t.arg_tys e c s)) (sym fits.0.0)
 
         pub parts_used : (new : Standing) (n : ℕ) → n ≡ length (pattern_list args) → names_of new.tyenv ≡ names_of old.tyenv → Remains old.work new.work → Checks old.work.errors.items new.work.errors.items (Fits n)
-            → TakesParts env old new whole args ty t ⊎ IsReported env old new (pattern_reading whole ty)
+            → TakesParts env old new multi whole args ty t ⊎ IsReported env old new (pattern_reading multi whole ty)
         parts_used new n count same r (inl ok) = inl (record {
           errors = ok.0;
           expansions = r.expansions;
           count = sym count ∙ ok.1.0.1;
-          shows = λ e multi s is sh. still old new s same r sh;
+          shows = λ e s is sh. still old new s same r sh;
           becomes = fit n ok.1;
         })
-        parts_used new n count same r (inr wrong) = inr (record { errors = inr wrong.0; noted = λ e multi s is sh. record { reports = wrong.0; none = unfit n count wrong.1 e multi s is sh } })
+        parts_used new n count same r (inr wrong) = inr (record { errors = inr wrong.0; noted = λ e s is sh. record { reports = wrong.0; none = unfit n count wrong.1 e s is sh } })
 
       -- of its template
       module _ (template : PatternTree) (there : Some template ≡ found_template env t) where
@@ -231,9 +221,9 @@ module _ (env : TermEnv) (old : Standing) (inv : IsInterned old.tyenv) (name : N
         kind_is : kind_template t.kind ≡ Some template
         kind_is = elim (env.expand_internal_extractors) as (λ b. Some template ≡ cond b (kind_template t.kind) None → kind_template t.kind ≡ Some template) [ true ↦ λ k. sym k | false ↦ λ k. absurd (none-some template (sym k)) ] there
 
-        unfolded : (e : Setting) (multi : Bool) (s : Scope) → IsSettingOf old.tyenv env e → Shows old s → eqb t.ret_ty ty ≡ true → (c : ℕ)
-            → pattern_reading whole ty e multi c s ≡ then_option (cond (eqb (length (pattern_list args)) (length t.arg_tys)) (substituted (pattern_list args) template) None) (λ p. counted (deeper_pattern e multi c p ty s))
-        unfolded e multi s is sh same c =
+        unfolded : (e : Setting) (s : Scope) → IsSettingOf old.tyenv env e → Shows old s → eqb t.ret_ty ty ≡ true → (c : ℕ)
+            → pattern_reading multi whole ty e c s ≡ then_option (cond (eqb (length (pattern_list args)) (length t.arg_tys)) (substituted (pattern_list args) template) None) (λ p. counted (deeper_pattern e multi c p ty s))
+        unfolded e s is sh same c =
             let h = found e s is sh in
             let j = template_is e is in
             rw (h, same, j) refl
@@ -242,34 +232,34 @@ module _ (env : TermEnv) (old : Standing) (inv : IsInterned old.tyenv) (name : N
           abbrev Matches : Type 0
           Matches = (t.ret_ty ≡ ty) × (n ≡ length t.arg_tys)
 
-          unmatched : (Matches → ⊥) → (e : Setting) (multi : Bool) (s : Scope) → IsSettingOf old.tyenv env e → Shows old s → (c : ℕ) → pattern_reading whole ty e multi c s ≡ None
-          unmatched wrong e multi s is sh c = elim (cases_Bool (eqb t.ret_ty ty)) [
-            | inr ne ↦ mismatched e multi s is sh ne c
+          unmatched : (Matches → ⊥) → (e : Setting) (s : Scope) → IsSettingOf old.tyenv env e → Shows old s → (c : ℕ) → pattern_reading multi whole ty e c s ≡ None
+          unmatched wrong e s is sh c = elim (cases_Bool (eqb t.ret_ty ty)) [
+            | inr ne ↦ mismatched e s is sh ne c
             | inl same ↦
-                unfolded e multi s is sh same c
+                unfolded e s is sh same c
                 ∙ ap (λ b. then_option (cond b (substituted (pattern_list args) template) None) (λ p. counted (deeper_pattern e multi c p ty s)))
                 (ne-eqb (length (pattern_list args)) (length t.arg_tys) (λ k. wrong (eqb-true t.ret_ty ty same, count ∙ k)))
           ]
 
           -- with an argument that isn't given
-          pub nothing_made : None ≡ substituted (pattern_list args) template → IsReported env old mid (pattern_reading whole ty)
+          pub nothing_made : None ≡ substituted (pattern_list args) template → IsReported env old mid (pattern_reading multi whole ty)
           nothing_made missing = record {
             errors = ⊎_elim (λ ok. inl ok.0) (λ wrong. inr wrong.0) checks;
-            noted = λ e multi s is sh.
+            noted = λ e s is sh.
                 ⊎_elim
                 (λ ok.
                 let p = at_place in
                 let given = is.templates p.0 t (subst (λ ts. slice_get ts p.0 ≡ Some t) is.terms p.1) template (pattern_list args) kind_is (sym count ∙ ok.1.1) in
                 absurd (false≢true (ap is_some missing ∙ given)))
-                (λ wrong. record { reports = wrong.0; none = unmatched wrong.1 e multi s is sh })
+                (λ wrong. record { reports = wrong.0; none = unmatched wrong.1 e s is sh })
                 checks;
           }
 
           -- as what it makes
           module _ (made : PatternTree) (is_made : Some made ≡ substituted (pattern_list args) template) where
-            matched : Matches → (e : Setting) (multi : Bool) (s : Scope) → IsSettingOf old.tyenv env e → Shows old s → (c : ℕ) → pattern_reading whole ty e multi c s ≡ expanding (λ d. pattern_reading made ty e multi d s) c
-            matched ok e multi s is sh c =
-                unfolded e multi s is sh (eq-eqb t.ret_ty ty ok.0) c
+            matched : Matches → (e : Setting) (s : Scope) → IsSettingOf old.tyenv env e → Shows old s → (c : ℕ) → pattern_reading multi whole ty e c s ≡ expanding (λ d. pattern_reading multi made ty e d s) c
+            matched ok e s is sh c =
+                unfolded e s is sh (eq-eqb t.ret_ty ty ok.0) c
                 ∙ ap (λ b. then_option (cond b (substituted (pattern_list args) template) None) (λ p. counted (deeper_pattern e multi c p ty s))) (eq-eqb (length (pattern_list args)) (length t.arg_tys) (sym count ∙ ok.1))
                 ∙ ap (λ o. then_option o (λ p. counted (deeper_pattern e multi c p ty s))) (sym is_made)
                 ∙ counted_deeper e multi c made ty s
@@ -278,13 +268,13 @@ module _ (env : TermEnv) (old : Standing) (inv : IsInterned old.tyenv) (name : N
             template_expands = let p = at_place in inr (p.0, t, template, p.1, kind_is, sym is_made)
 
             pub template_made : (new : Standing) → names_of mid.tyenv ≡ names_of old.tyenv → names_of new.tyenv ≡ names_of mid.tyenv → Remains old.work mid.work → CountsOne mid.work new.work
-                → ExpandsTo env old new (pattern_reading whole ty) (pattern_reading made ty) ⊎ IsReported env old new (pattern_reading whole ty)
+                → ExpandsTo env old new (pattern_reading multi whole ty) (pattern_reading multi made ty) ⊎ IsReported env old new (pattern_reading multi whole ty)
             template_made new same here r one =
                 ⊎_elim
                 (λ ok. inl (record {
                   errors = one.errors ∙ ok.0;
                   expansions = one.expansions ∙ ap (λ k. k + 1) r.expansions;
-                  shows = λ e multi s is sh. let m = still old mid s same r sh in record {
+                  shows = λ e s is sh. let m = still old mid s same r sh in record {
                     names = here ∙ m.names;
                     vars = one.vars ∙ m.vars;
                     visible = λ k. one.names k ∙ m.visible k;
@@ -294,16 +284,16 @@ module _ (env : TermEnv) (old : Standing) (inv : IsInterned old.tyenv) (name : N
                 }))
                 (λ wrong.
                 let more = subst (NotesMore old.work.errors.items) (sym one.errors) wrong.0 in
-                inr (record { errors = inr more; noted = λ e multi s is sh. record { reports = more; none = unmatched wrong.1 e multi s is sh } }))
+                inr (record { errors = inr more; noted = λ e s is sh. record { reports = more; none = unmatched wrong.1 e s is sh } }))
                 checks
 
-            pub template_stops : (new : Standing) (d : ℕ) → Remains old.work mid.work → (stop : Stop) → Counts d mid.work new.work (Err stop) → Stops env old new d (pattern_reading whole ty) stop
+            pub template_stops : (new : Standing) (d : ℕ) → Remains old.work mid.work → (stop : Stop) → Counts d mid.work new.work (Err stop) → Stops env old new d (pattern_reading multi whole ty) stop
             template_stops new d r stop x =
-                expansion_stops env old mid new d (pattern_reading whole ty) (λ e multi s d. pattern_reading made ty e multi d s)
-                (λ e multi s is sh c. elim (cases_Bool (eqb t.ret_ty ty)) [
-                  | inr ne ↦ inl (mismatched e multi s is sh ne c)
+                expansion_stops env old mid new d (pattern_reading multi whole ty) (λ e s d. pattern_reading multi made ty e d s)
+                (λ e s is sh c. elim (cases_Bool (eqb t.ret_ty ty)) [
+                  | inr ne ↦ inl (mismatched e s is sh ne c)
                   | inl same ↦ elim (cases_Bool (eqb (length (pattern_list args)) (length t.arg_tys))) [
-                    | inr other ↦ inl (unmatched (λ ok. false≢true (sym other ∙ eq-eqb (length (pattern_list args)) (length t.arg_tys) (sym count ∙ ok.1))) e multi s is sh c)
-                    | inl alike ↦ inr (matched (eqb-true t.ret_ty ty same, count ∙ eqb-true (length (pattern_list args)) (length t.arg_tys) alike) e multi s is sh c)
+                    | inr other ↦ inl (unmatched (λ ok. false≢true (sym other ∙ eq-eqb (length (pattern_list args)) (length t.arg_tys) (sym count ∙ ok.1))) e s is sh c)
+                    | inl alike ↦ inr (matched (eqb-true t.ret_ty ty same, count ∙ eqb-true (length (pattern_list args)) (length t.arg_tys) alike) e s is sh c)
                   ]
                 ]) r.expansions (may_check checks) stop x

@@ -1,5 +1,5 @@
 -- One reading after another: where both give something so does the whole, where one gives nothing the whole gives nothing.
-use Rattle.std.proofs.Common.{◌≡◌, ℕ, zero, suc, ◌+◌, ◌<◌, Bool, List, [], ◌++◌, length, Option, Some, None, option_map, Result, Ok, Err, true≢false, ◌⊎◌, inl, inr, ⊎_elim, refl, sym, ap, subst, ◌∙◌, arith, append_assoc}
+use Rattle.std.proofs.Common.{◌≡◌, ℕ, zero, suc, ◌+◌, ◌<◌, List, [], ◌++◌, length, Option, Some, None, option_map, Result, Ok, Err, true≢false, ◌⊎◌, inl, inr, ⊎_elim, refl, sym, ap, subst, ◌∙◌, arith, append_assoc}
 use Rattle.std.proofs.lemmas.Option.{same_Some, none-some}
 use Rattle.std.specs.Result.{IsErr, IsErrAnd}
 use Rattle.std.proofs.lemmas.List.{length-append, append-nil}
@@ -68,7 +68,6 @@ keep_setting env old new e k is =
       term_names = is.term_names;
       converters = is.converters;
       expand = is.expand;
-      multi = is.multi;
       types_met = λ n ty h. longer n (is.types_met n ty (ap (λ t. option_map (λ i. i.0) (look_up same_symbol t (symbol n))) (sym k.type_map) ∙ h));
       constants_met = λ n ty h. longer n (is.constants_met n ty (ap (λ t. option_map (λ i. i.0) (look_up same_symbol t (symbol n))) (sym k.const_types) ∙ h));
       terms_met = λ n id h. longer n (is.terms_met n id h);
@@ -93,24 +92,24 @@ reports_on a b c r (inr more) = both a b c r more
 
 -- what was reported first
 module _ {P Q : Type 0} (env : TermEnv) (old mid new : Standing) (d : ℕ) (first : Reading P) (whole : Reading Q) (x : IsReported env old mid first)
-    (nothing : (e : Setting) (multi : Bool) (c : ℕ) (s : Scope) → first e multi c s ≡ None → whole e multi c s ≡ None) where
-  reported_none : Wherever env old (λ e multi s. (c : ℕ) → whole e multi c s ≡ None)
-  reported_none = λ e multi s is sh c. nothing e multi c s ((x.noted e multi s is sh).none c)
+    (nothing : (e : Setting) (c : ℕ) (s : Scope) → first e c s ≡ None → whole e c s ≡ None) where
+  reported_none : Wherever env old (λ e s. (c : ℕ) → whole e c s ≡ None)
+  reported_none = λ e s is sh c. nothing e c s ((x.noted e s is sh).none c)
 
   pub reported_then : MayNoteMore mid.work.errors.items new.work.errors.items → IsReported env old new whole
   reported_then more = record {
     errors = may_both old.work.errors.items mid.work.errors.items new.work.errors.items x.errors more;
-    noted = λ e multi s is sh. record {
-      reports = reports_on old.work.errors.items mid.work.errors.items new.work.errors.items (x.noted e multi s is sh).reports more;
-      none = reported_none e multi s is sh;
+    noted = λ e s is sh. record {
+      reports = reports_on old.work.errors.items mid.work.errors.items new.work.errors.items (x.noted e s is sh).reports more;
+      none = reported_none e s is sh;
     };
   }
 
   pub reported_stops : (stop : Stop) → KeepsNoted mid new stop → Stops env old new d whole stop
   reported_stops (Memory e) more = tt
-  reported_stops Nesting more = (may_both old.work.errors.items mid.work.errors.items new.work.errors.items x.errors more, λ e multi s is sh. reported_none e multi s is sh d)
+  reported_stops Nesting more = (may_both old.work.errors.items mid.work.errors.items new.work.errors.items x.errors more, λ e s is sh. reported_none e s is sh d)
   reported_stops Expansions more =
-      (may_both old.work.errors.items mid.work.errors.items new.work.errors.items x.errors more, λ e multi s is sh c a h. absurd (let n = reported_none e multi s is sh c in cc))
+      (may_both old.work.errors.items mid.work.errors.items new.work.errors.items x.errors more, λ e s is sh c a h. absurd (let n = reported_none e s is sh c in cc))
 
 -- what stays noted where the work stops
 pub stays_on : (old mid new : Standing) (stop : Stop) → MayNoteMore old.work.errors.items mid.work.errors.items → KeepsNoted mid new stop → KeepsNoted old new stop
@@ -130,19 +129,19 @@ may_report env old new d reading q (inr x) = x.errors
 
 -- made of one reading
 module _ {P Q : Type 0} (env : TermEnv) (old new : Standing) (d : ℕ) (first : Reading P) (whole : Reading Q) (f : P → Q)
-    (law : (e : Setting) (multi : Bool) (c : ℕ) (s : Scope) → whole e multi c s ≡ made_into f (first e multi c s)) where
+    (law : (e : Setting) (c : ℕ) (s : Scope) → whole e c s ≡ made_into f (first e c s)) where
   pub made_reported : IsReported env old new first → IsReported env old new whole
   made_reported x = record {
     errors = x.errors;
-    noted = λ e multi s is sh. let n = x.noted e multi s is sh in record { reports = n.reports; none = λ c. law e multi c s ∙ ap (made_into f) (n.none c) };
+    noted = λ e s is sh. let n = x.noted e s is sh in record { reports = n.reports; none = λ c. law e c s ∙ ap (made_into f) (n.none c) };
   }
 
   pub made_done : (p : P) → IsTranslated env old new d first p ⊎ IsReported env old new first → IsTranslated env old new d whole (f p) ⊎ IsReported env old new whole
   made_done p (inl x) = inl (record {
     errors = x.errors;
-    made = λ e multi s is sh. let a = x.made e multi s is sh in record {
+    made = λ e s is sh. let a = x.made e s is sh in record {
       typing = made_as f a.typing;
-      becomes = becomes_same (λ c. made_into f (first e multi c s)) (λ c. whole e multi c s) d (made_as f a.typing) (λ c. law e multi c s) (becomes_made f (λ c. first e multi c s) d a.typing a.becomes);
+      becomes = becomes_same (λ c. made_into f (first e c s)) (λ c. whole e c s) d (made_as f a.typing) (λ c. law e c s) (becomes_made f (λ c. first e c s) d a.typing a.becomes);
       made = ap f a.made;
       shows = a.shows;
       expansions = a.expansions;
@@ -152,36 +151,36 @@ module _ {P Q : Type 0} (env : TermEnv) (old new : Standing) (d : ℕ) (first : 
 
   pub made_stops : (stop : Stop) → Stops env old new d first stop → Stops env old new d whole stop
   made_stops (Memory e) x = tt
-  made_stops Nesting x = (x.0, λ e multi s is sh. law e multi d s ∙ ap (made_into f) (x.1 e multi s is sh))
+  made_stops Nesting x = (x.0, λ e s is sh. law e d s ∙ ap (made_into f) (x.1 e s is sh))
   made_stops Expansions x = (
     x.0,
-    λ e multi s is sh c a h.
-        let m = made_gives f (first e multi c s) (sym (law e multi c s) ∙ h) in
-        subst (λ (v : Typing Q). most_expansions < old.work.expansions + v.expansions) m.2 (x.1 e multi s is sh c m.0 m.1),
+    λ e s is sh c a h.
+        let m = made_gives f (first e c s) (sym (law e c s) ∙ h) in
+        subst (λ (v : Typing Q). most_expansions < old.work.expansions + v.expansions) m.2 (x.1 e s is sh c m.0 m.1),
   )
 
 -- one reading after another, from what the first made
 module _ {P Q R : Type 0} (env : TermEnv) (old mid new : Standing) (d : ℕ) (first : Reading P) (second : P → Reading Q) (whole : Reading R) (f : P → Q → R)
-    (law : (e : Setting) (multi : Bool) (c : ℕ) (s : Scope) → whole e multi c s ≡ followed f (first e multi c s) (λ a. second a.made e multi c a.scope)) where
+    (law : (e : Setting) (c : ℕ) (s : Scope) → whole e c s ≡ followed f (first e c s) (λ a. second a.made e c a.scope)) where
   -- after what the first made
   module _ (p : P) (keeps : Keeps old.tyenv mid.tyenv) (x : IsTranslated env old mid d first p) where
     -- the second from there
-    from : (e : Setting) (multi : Bool) (s : Scope) (is : IsSettingOf old.tyenv env e) (sh : Shows old s) (c : ℕ) → second (x.made e multi s is sh).typing.made e multi c (x.made e multi s is sh).typing.scope ≡ second p e multi c (x.made e multi s is sh).typing.scope
-    from e multi s is sh c = ap (λ v. second v e multi c (x.made e multi s is sh).typing.scope) (x.made e multi s is sh).made
+    from : (e : Setting) (s : Scope) (is : IsSettingOf old.tyenv env e) (sh : Shows old s) (c : ℕ) → second (x.made e s is sh).typing.made e c (x.made e s is sh).typing.scope ≡ second p e c (x.made e s is sh).typing.scope
+    from e s is sh c = ap (λ v. second v e c (x.made e s is sh).typing.scope) (x.made e s is sh).made
 
     typed_typed : (q : Q) → IsTranslated env mid new d (second p) q → IsTranslated env old new d whole (f p q)
     typed_typed q y = record {
       errors = y.errors ∙ x.errors;
-      made = λ e multi s is sh.
-          let a = x.made e multi s is sh in
-          let b = y.made e multi a.typing.scope (keep_setting env old.tyenv mid.tyenv e keeps is) a.shows in
+      made = λ e s is sh.
+          let a = x.made e s is sh in
+          let b = y.made e a.typing.scope (keep_setting env old.tyenv mid.tyenv e keeps is) a.shows in
           let m = a.expansions in
           let n = b.expansions in
           record {
             typing = joined f a.typing b.typing;
-            becomes = becomes_same (λ c. followed f (first e multi c s) (λ v. second v.made e multi c v.scope)) (λ c. whole e multi c s) d (joined f a.typing b.typing) (λ c. law e multi c s)
-                (becomes_then f (λ c. first e multi c s) (λ c v. second v.made e multi c v.scope) d a.typing b.typing a.becomes
-                (becomes_same (λ c. second p e multi c a.typing.scope) (λ c. second a.typing.made e multi c a.typing.scope) d b.typing (from e multi s is sh) b.becomes));
+            becomes = becomes_same (λ c. followed f (first e c s) (λ v. second v.made e c v.scope)) (λ c. whole e c s) d (joined f a.typing b.typing) (λ c. law e c s)
+                (becomes_then f (λ c. first e c s) (λ c v. second v.made e c v.scope) d a.typing b.typing a.becomes
+                (becomes_same (λ c. second p e c a.typing.scope) (λ c. second a.typing.made e c a.typing.scope) d b.typing (from e s is sh) b.becomes));
             made = ap (λ v. f v b.typing.made) a.made ∙ ap (f p) b.made;
             shows = b.shows;
             expansions = omega (arith, m, n);
@@ -191,26 +190,26 @@ module _ {P Q R : Type 0} (env : TermEnv) (old mid new : Standing) (d : ℕ) (fi
     typed_reported : IsReported env mid new (second p) → IsReported env old new whole
     typed_reported y = record {
       errors = subst (λ es. MayNoteMore es new.work.errors.items) x.errors y.errors;
-      noted = λ e multi s is sh.
-          let a = x.made e multi s is sh in
-          let n = y.noted e multi a.typing.scope (keep_setting env old.tyenv mid.tyenv e keeps is) a.shows in
+      noted = λ e s is sh.
+          let a = x.made e s is sh in
+          let n = y.noted e a.typing.scope (keep_setting env old.tyenv mid.tyenv e keeps is) a.shows in
           record {
             reports = subst (λ es. NotesMore es new.work.errors.items) x.errors n.reports;
             none = λ c.
-                law e multi c s ∙ ⊎_elim
-                (λ h. ap (λ v. followed f v (λ w. second w.made e multi c w.scope)) h)
-                (λ h. ap (λ v. followed f v (λ w. second w.made e multi c w.scope)) h ∙ ap (joined_typing f a.typing) (from e multi s is sh c ∙ n.none c))
+                law e c s ∙ ⊎_elim
+                (λ h. ap (λ v. followed f v (λ w. second w.made e c w.scope)) h)
+                (λ h. ap (λ v. followed f v (λ w. second w.made e c w.scope)) h ∙ ap (joined_typing f a.typing) (from e s is sh c ∙ n.none c))
                 (a.becomes.elsewhere c);
           };
     }
 
     typed_too_long : IsTooLong env mid (second p) → IsTooLong env old whole
-    typed_too_long y = λ e multi s is sh c r h.
-        let a = x.made e multi s is sh in
-        let g = followed_gives f (first e multi c s) (λ w. second w.made e multi c w.scope) {r = r} (sym (law e multi c s) ∙ h) in
+    typed_too_long y = λ e s is sh c r h.
+        let a = x.made e s is sh in
+        let g = followed_gives f (first e c s) (λ w. second w.made e c w.scope) {r = r} (sym (law e c s) ∙ h) in
         let same : g.0 ≡ a.typing = ⊎_elim (λ k. absurd (let i = g.2 in cc)) (λ k. same_Some _ _ (sym g.2 ∙ k)) (a.becomes.elsewhere c) in
-        let there : second p e multi c a.typing.scope ≡ Some g.1 = sym (from e multi s is sh c) ∙ subst (λ (v : Typing P). second v.made e multi c v.scope ≡ Some g.1) same g.3 in
-        let long : most_expansions < mid.work.expansions + g.1.expansions = y e multi a.typing.scope (keep_setting env old.tyenv mid.tyenv e keeps is) a.shows c g.1 there in
+        let there : second p e c a.typing.scope ≡ Some g.1 = sym (from e s is sh c) ∙ subst (λ (v : Typing P). second v.made e c v.scope ≡ Some g.1) same g.3 in
+        let long : most_expansions < mid.work.expansions + g.1.expansions = y e a.typing.scope (keep_setting env old.tyenv mid.tyenv e keeps is) a.shows c g.1 there in
         let count : g.0.expansions + g.1.expansions ≡ r.expansions = ap (λ (v : Typing R). v.expansions) g.4 in
         let firsts : g.0.expansions ≡ a.typing.expansions = ap (λ (v : Typing P). v.expansions) same in
         let m = a.expansions in
@@ -220,15 +219,15 @@ module _ {P Q R : Type 0} (env : TermEnv) (old mid new : Standing) (d : ℕ) (fi
     typed_stops (Memory e) y = tt
     typed_stops Nesting y = (
       may_both old.work.errors.items mid.work.errors.items new.work.errors.items (inl x.errors) y.0,
-      λ e multi s is sh.
-          let a = x.made e multi s is sh in
-          law e multi d s ∙ ap (λ v. followed f v (λ w. second w.made e multi d w.scope)) a.becomes.here
-          ∙ ap (joined_typing f a.typing) (from e multi s is sh d ∙ y.1 e multi a.typing.scope (keep_setting env old.tyenv mid.tyenv e keeps is) a.shows),
+      λ e s is sh.
+          let a = x.made e s is sh in
+          law e d s ∙ ap (λ v. followed f v (λ w. second w.made e d w.scope)) a.becomes.here
+          ∙ ap (joined_typing f a.typing) (from e s is sh d ∙ y.1 e a.typing.scope (keep_setting env old.tyenv mid.tyenv e keeps is) a.shows),
     )
     typed_stops Expansions y = (may_both old.work.errors.items mid.work.errors.items new.work.errors.items (inl x.errors) y.0, typed_too_long y.1)
 
-  nothing : (e : Setting) (multi : Bool) (c : ℕ) (s : Scope) → first e multi c s ≡ None → whole e multi c s ≡ None
-  nothing e multi c s h = law e multi c s ∙ ap (λ v. followed f v (λ w. second w.made e multi c w.scope)) h
+  nothing : (e : Setting) (c : ℕ) (s : Scope) → first e c s ≡ None → whole e c s ≡ None
+  nothing e c s h = law e c s ∙ ap (λ v. followed f v (λ w. second w.made e c w.scope)) h
 
   pub then_done : (p : P) (q : Q) → Keeps old.tyenv mid.tyenv
       → IsTranslated env old mid d first p ⊎ IsReported env old mid first → IsTranslated env mid new d (second p) q ⊎ IsReported env mid new (second p)
@@ -251,12 +250,12 @@ module _ {P Q R : Type 0} (env : TermEnv) (old mid new : Standing) (d : ℕ) (fi
 
   pub first_stops : (stop : Stop) → Stops env old new d first stop → Stops env old new d whole stop
   first_stops (Memory e) x = tt
-  first_stops Nesting x = (x.0, λ e multi s is sh. nothing e multi d s (x.1 e multi s is sh))
+  first_stops Nesting x = (x.0, λ e s is sh. nothing e d s (x.1 e s is sh))
   first_stops Expansions x = (
     x.0,
-    λ e multi s is sh c r h.
-        let g = followed_gives f (first e multi c s) (λ w. second w.made e multi c w.scope) {r = r} (sym (law e multi c s) ∙ h) in
-        let long : most_expansions < old.work.expansions + g.0.expansions = x.1 e multi s is sh c g.0 g.2 in
+    λ e s is sh c r h.
+        let g = followed_gives f (first e c s) (λ w. second w.made e c w.scope) {r = r} (sym (law e c s) ∙ h) in
+        let long : most_expansions < old.work.expansions + g.0.expansions = x.1 e s is sh c g.0 g.2 in
         let count : g.0.expansions + g.1.expansions ≡ r.expansions = ap (λ (v : Typing R). v.expansions) g.4 in
         omega (arith, long, count),
   )
@@ -281,14 +280,14 @@ module _ {X Q : Type 0} (env : TermEnv) (old mid new : Standing) (same : mid.tye
       ⊎_elim
       (λ e. record {
         errors = subst (λ es. MayNoteMore es new.work.errors.items) e.errors y.errors;
-        noted = λ f multi s is sh.
-            let n = y.noted f multi s (subst (λ t. IsSettingOf t env f) (sym same) is) (e.shows f multi s is sh) in
+        noted = λ f s is sh.
+            let n = y.noted f s (subst (λ t. IsSettingOf t env f) (sym same) is) (e.shows f s is sh) in
             record {
               reports = subst (λ es. NotesMore es new.work.errors.items) e.errors n.reports;
-              none = λ c. e.becomes f multi s is sh c ∙ expanding_none (λ k. made f multi k s) n.none c;
+              none = λ c. e.becomes f s is sh c ∙ expanding_none (λ k. made f k s) n.none c;
             };
       })
-      (λ n. reported_then env old mid new d whole whole n (λ f multi c s h. h) y.errors)
+      (λ n. reported_then env old mid new d whole whole n (λ f c s h. h) y.errors)
       x
 
   expanded_typed : (q : Q) → IsTranslated env mid new left made q → IsTranslated env old new d whole q ⊎ IsReported env old new whole
@@ -296,42 +295,42 @@ module _ {X Q : Type 0} (env : TermEnv) (old mid new : Standing) (same : mid.tye
       ⊎_elim
       (λ e. inl (record {
         errors = y.errors ∙ e.errors;
-        made = λ f multi s is sh.
-            let a = y.made f multi s (subst (λ t. IsSettingOf t env f) (sym same) is) (e.shows f multi s is sh) in
+        made = λ f s is sh.
+            let a = y.made f s (subst (λ t. IsSettingOf t env f) (sym same) is) (e.shows f s is sh) in
             let m = e.expansions in
             let n = a.expansions in
             record {
               typing = one_more a.typing;
-              becomes = subst (λ k. IsOnlyTyping (λ c. whole f multi c s) k (one_more a.typing)) nests
-                  (becomes_same (expanding (λ c. made f multi c s)) (λ c. whole f multi c s) (suc left) (one_more a.typing) (λ c. e.becomes f multi s is sh c) (becomes_expanding (λ c. made f multi c s) left a.typing a.becomes));
+              becomes = subst (λ k. IsOnlyTyping (λ c. whole f c s) k (one_more a.typing)) nests
+                  (becomes_same (expanding (λ c. made f c s)) (λ c. whole f c s) (suc left) (one_more a.typing) (λ c. e.becomes f s is sh c) (becomes_expanding (λ c. made f c s) left a.typing a.becomes));
               made = a.made;
               shows = a.shows;
               expansions = omega (arith, m, n);
             };
       }))
-      (λ n. inr (reported_then env old mid new d whole whole n (λ f multi c s h. h) (inl y.errors)))
+      (λ n. inr (reported_then env old mid new d whole whole n (λ f c s h. h) (inl y.errors)))
       x
 
   pub expanded_stops : (stop : Stop) → Stops env mid new left made stop → Stops env old new d whole stop
   expanded_stops stop y =
       ⊎_elim
       (λ e. at_expansion e stop y)
-      (λ n. reported_stops env old mid new d whole whole n (λ f multi c s h. h) stop (stop_keeps env mid new left made stop y))
+      (λ n. reported_stops env old mid new d whole whole n (λ f c s h. h) stop (stop_keeps env mid new left made stop y))
       x
     where
       at_expansion : ExpandsTo env old mid whole made → (stop : Stop) → Stops env mid new left made stop → Stops env old new d whole stop
       at_expansion e (Memory a) y = tt
       at_expansion e Nesting y = (
         may_both old.work.errors.items mid.work.errors.items new.work.errors.items (inl e.errors) y.0,
-        λ f multi s is sh.
-            subst (λ k. whole f multi k s ≡ None) nests
-            (e.becomes f multi s is sh (suc left) ∙ ap counted (y.1 f multi s (subst (λ t. IsSettingOf t env f) (sym same) is) (e.shows f multi s is sh))),
+        λ f s is sh.
+            subst (λ k. whole f k s ≡ None) nests
+            (e.becomes f s is sh (suc left) ∙ ap counted (y.1 f s (subst (λ t. IsSettingOf t env f) (sym same) is) (e.shows f s is sh))),
       )
       at_expansion e Expansions y = (
         may_both old.work.errors.items mid.work.errors.items new.work.errors.items (inl e.errors) y.0,
-        λ f multi s is sh c a h.
-            let g = expanding_gives (λ k. made f multi k s) c a (sym (e.becomes f multi s is sh c) ∙ h) in
-            let long = y.1 f multi s (subst (λ t. IsSettingOf t env f) (sym same) is) (e.shows f multi s is sh) g.0 g.1 g.2 in
+        λ f s is sh c a h.
+            let g = expanding_gives (λ k. made f k s) c a (sym (e.becomes f s is sh c) ∙ h) in
+            let long = y.1 f s (subst (λ t. IsSettingOf t env f) (sym same) is) (e.shows f s is sh) g.0 g.1 g.2 in
             let m = e.expansions in
             let n = g.3 in
             omega (arith, long, m, n),

@@ -1,5 +1,5 @@
 -- How a rule ends within the limits on expansions, from what translating it gave, and what that makes of the rules before it.
-use Rattle.std.proofs.Common.{◌≡◌, ◌≢◌, ℕ, ◌<◌, ◌≤◌, nat_le, true, cond, List, [], ◌∷◌, ◌++◌, length, map, Option, Some, None, option_map, Ok, refl, sym, ap, subst, ◌∙◌, arith, inl, inr, ◌⊎◌}
+use Rattle.std.proofs.Common.{◌≡◌, ◌≢◌, ℕ, ◌<◌, ◌≤◌, nat_le, cond, List, [], ◌∷◌, ◌++◌, length, map, Option, Some, None, option_map, Ok, refl, sym, ap, subst, ◌∙◌, arith, inl, inr, ◌⊎◌}
 use Rattle.std.proofs.lemmas.Bool.{cases_Bool, le-leb, leb-true}
 use Rattle.std.proofs.lemmas.List.{length-append, map-append}
 use Rattle.std.proofs.lemmas.Option.{none-some, same_Some}
@@ -17,7 +17,7 @@ use Rattle.isle_model.specs.lists.Elaborated.{few_enough, most_nested, most_expa
 use Rattle.isle_types.specs.declared.type_env.TypeEnv.{TypeEnv}
 use Rattle.isle_types.specs.Envs.{names_of}
 use Rattle.isle_rules.specs.Noting.{NotesMore, MayNoteMore}
-use Rattle.isle_rules.specs.declared.rules.Rule.{Rule}
+use Rattle.isle_typed.specs.declared.rules.Rule.{Rule}
 use Rattle.isle_rules.specs.declared.term_env.TermEnv.{TermEnv}
 use Rattle.isle_rules.specs.declared.typing.progress.Progress.{Progress}
 use Rattle.isle_rules.specs.declared.typing.progress.Stop.{Stop}
@@ -25,7 +25,7 @@ use Rattle.isle_rules.specs.declared.typing.progress.Stop.TheVariants as V
 use Rattle.isle_rules.specs.Progress.{IsFresh}
 use Rattle.isle_rules.specs.RuleLists.{NotesLimit, NotesStop, EndsRule, is_typed, is_reported, is_too_deep, is_too_long, CollectsRule, AddsNext, CollectsNext}
 use Rattle.isle_rules.specs.RuleReadings.{rule_reading}
-use Rattle.isle_rules.specs.RuleViews.{var_view, rule_view, rule_views}
+use Rattle.isle_typed.specs.RuleViews.{var_view, rule_view, rule_views}
 use Rattle.isle_rules.specs.Translating.{Standing, standing, Reading, Shows, IsTranslated, IsReported, Stops, MayTranslate}
 use Rattle.isle_rules.proofs.Noted.{some_noted}
 
@@ -54,15 +54,15 @@ module _ (env : TermEnv) (tyenv : TypeEnv) (fresh : Progress) (found : List Erro
   starts = record { names = refl; vars = ap (map var_view) f.vars; visible = f.names; met = λ k v h. absurd (none-some v (sym (f.names k) ∙ h)) }
 
   at_report : (new : Standing) (made : Option TypedRule) → IsReported env old new whole → CollectsRule env tyenv new.tyenv found new.work.errors.items id r made
-  at_report new made y e is = let n = y.noted e true start is starts in is_reported (subst (λ es. NotesMore es new.work.errors.items) f.errors n.reports) n.none
+  at_report new made y e is = let n = y.noted e start is starts in is_reported (subst (λ es. NotesMore es new.work.errors.items) f.errors n.reports) n.none
 
   at_typing : (new : Standing) (q : TypedRule) → new.work.expansions ≤ most_expansions → IsTranslated env old new most_nested whole q ⊎ IsReported env old new whole → CollectsRule env tyenv new.tyenv found new.work.errors.items id r (Some q)
   at_typing new q few (inr y) e is = at_report new (Some q) y e is
   at_typing new q few (inl y) e is =
-      let a = y.made e true start is starts in
+      let a = y.made e start is starts in
       let m = a.expansions in
       let n = f.expansions in
-      is_typed a.typing (y.errors ∙ f.errors) (few_some (whole e true most_nested start) a.typing a.becomes.here (omega (arith, m, n, few))) (ap (λ (z : TypedRule). Some z) (sym a.made)) a.shows.names
+      is_typed a.typing (y.errors ∙ f.errors) (few_some (whole e most_nested start) a.typing a.becomes.here (omega (arith, m, n, few))) (ap (λ (z : TypedRule). Some z) (sym a.made)) a.shows.names
 
   pub at_end : (new : Standing) (o : Option Rule) → new.work.expansions ≤ most_expansions → MayTranslate env old new most_nested whole rule_view (Ok o) → CollectsRule env tyenv new.tyenv found new.work.errors.items id r (option_map rule_view o)
   at_end new (Some q) few y = at_typing new (rule_view q) few y
@@ -70,10 +70,10 @@ module _ (env : TermEnv) (tyenv : TypeEnv) (fresh : Progress) (found : List Erro
 
   pub at_stop : (new : Standing) (errors : List Error) (stop : Stop) → Stops env old new most_nested whole stop → NotesStop stop r.pos new.work.errors.items errors → CollectsRule env tyenv new.tyenv found errors id r None
   at_stop new errors (V.Memory refused) y last e is = absurd last
-  at_stop new errors V.Nesting y last e is = is_too_deep new.work.errors.items (subst (λ es. MayNoteMore es new.work.errors.items) f.errors y.0) last (y.1 e true start is starts)
+  at_stop new errors V.Nesting y last e is = is_too_deep new.work.errors.items (subst (λ es. MayNoteMore es new.work.errors.items) f.errors y.0) last (y.1 e start is starts)
   at_stop new errors V.Expansions y last e is =
       is_too_long new.work.errors.items (subst (λ es. MayNoteMore es new.work.errors.items) f.errors y.0) last
-      (λ d. few_none (whole e true d start) (λ a h. let l = y.1 e true start is starts d a h in let n = f.expansions in omega (arith, l, n)))
+      (λ d. few_none (whole e d start) (λ a h. let l = y.1 e start is starts d a h in let n = f.expansions in omega (arith, l, n)))
 
 some_last : (l : Limit) (at : Pos) (before es : List Error) → NotesLimit l at before es → es ≢ []
 some_last l at before es w none = let h = ap length (sym w.last ∙ none) in let m = length-append before (w.error ∷ []) in omega (arith, h, m)

@@ -194,10 +194,10 @@ module _ (r : RuleTree) (id other : ℕ) where
   if_counted true o p h = h
   if_counted false o p h = refl
 
-  id_counted : (e : Setting) (multi : Bool) (d : ℕ) (s : Scope) → count (rule_reading r id e multi d s) ≡ count (rule_reading r other e multi d s)
-  id_counted e multi d s =
+  id_counted : (e : Setting) (d : ℕ) (s : Scope) → count (rule_reading r id e d s) ≡ count (rule_reading r other e d s)
+  id_counted e d s =
       then_counted (root_name r.pattern) _ _ (λ n. then_counted (term_of e s n.text) _ _ (λ t. then_counted (declared_flags t.kind) _ _ (λ flags.
-      if_counted (may_have_priority flags r) _ _ (finished_counted t (sides_reading r flags t e flags.multi d s)))))
+      if_counted (may_have_priority flags r) _ _ (finished_counted t (sides_reading r flags t e d s)))))
 
 -- 5. a limit that is passed from further names is passed from those of the terms
 module _ (e : Setting) (names : List (List ℕ)) (k : AreTermsNamed e names) (r : RuleTree) (more : List (List ℕ)) (once : IsDistinct (names ++ more)) (id at : ℕ)
@@ -207,8 +207,8 @@ module _ (e : Setting) (names : List (List ℕ)) (k : AreTermsNamed e names) (r 
 
   read_alike : (d : ℕ) (a : Typing TypedRule) → elaborated_rule e d at r names ≡ Some a → count (rule_from e id r (names ++ more) d) ≡ count (elaborated_rule e d at r names)
   read_alike d a h =
-      id_counted r id at e true d (new_scope (names ++ more))
-      ∙ ap count (rule_same e names k at d r true (names ++ more) kept (rule_uses e names k at d r names a kept_here h))
+      id_counted r id at e d (new_scope (names ++ more))
+      ∙ ap count (rule_same e names k at d r (names ++ more) kept (rule_uses e names k at d r names a kept_here h))
       ∙ sym (alike_counted (elaborated_rule e d at r names) (elaborated_rule e d at r (names ++ more)) (alike d))
 
   pub nests_deeper : IsNestedDeeper (rule_from e id r (names ++ more)) → elaborated_rule e most_nested at r names ≡ None

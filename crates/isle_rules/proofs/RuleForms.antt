@@ -11,7 +11,7 @@ use Rattle.isle_model.specs.lists.Typings.{Typing}
 use Rattle.isle_model.specs.lists.Elaborated.{typed_list, Sides, with_own_name, own_number, rule_of_sides, finished_rule, may_have_priority}
 use Rattle.isle_types.specs.Envs.{names_of, IsInterned}
 use Rattle.isle_rules.specs.Noting.{NotesMore, MayNoteMore}
-use Rattle.isle_rules.specs.declared.rules.BoundVar.{BoundVar}
+use Rattle.isle_typed.specs.declared.rules.BoundVar.{BoundVar}
 use Rattle.isle_rules.specs.declared.term_env.TermEnv.{TermEnv}
 use Rattle.isle_rules.specs.declared.typing.progress.Stop.{Stop}
 use Rattle.isle_rules.specs.declared.typing.progress.Stop.TheVariants.{Memory, Nesting, Expansions}
@@ -19,7 +19,7 @@ use Rattle.isle_rules.specs.Elaborating.{Checks}
 use Rattle.isle_rules.specs.PatternUses.{found_term}
 use Rattle.isle_rules.specs.Progress.{newest, vars_of, Remains}
 use Rattle.isle_rules.specs.RuleReadings.{sides_reading, scope_of, rule_of_entry, rule_reading}
-use Rattle.isle_rules.specs.RuleViews.{var_view}
+use Rattle.isle_typed.specs.RuleViews.{var_view}
 use Rattle.isle_rules.specs.Translating.{Standing, Keeps, IsSettingOf, Shows, Reading, IsTranslated, IsReported, Stops}
 use Rattle.isle_rules.proofs.ExprLeaves.{is_false}
 use Rattle.isle_rules.proofs.PatternUsing.{found_so}
@@ -71,25 +71,25 @@ module _ (env : TermEnv) (old : Standing) (inv : IsInterned old.tyenv) (r : Rule
   whole = rule_reading r id
 
   pub no_root : (new : Standing) → None ≡ root_name r.pattern → NotesMore old.work.errors.items new.work.errors.items → IsReported env old new whole
-  no_root new none more = record { errors = inr more; noted = λ e multi s is sh. record { reports = more; none = λ c. rw (sym none) refl } }
+  no_root new none more = record { errors = inr more; noted = λ e s is sh. record { reports = more; none = λ c. rw (sym none) refl } }
 
   module _ (n : Name) (root : Some n ≡ root_name r.pattern) where
     pub no_term : (new : Standing) → None ≡ found_term env old.tyenv n.text → NotesMore old.work.errors.items new.work.errors.items → IsReported env old new whole
     no_term new none more = record {
       errors = inr more;
-      noted = λ e multi s is sh. record { reports = more; none = λ c. let h = found_so env old inv n.text None none e s is sh in rw (sym root, h) refl };
+      noted = λ e s is sh. record { reports = more; none = λ c. let h = found_so env old inv n.text None none e s is sh in rw (sym root, h) refl };
     }
 
     module _ (t : TermEntry) (known : Some t ≡ found_term env old.tyenv n.text) where
       pub not_declared : (new : Standing) → None ≡ declared_flags t.kind → NotesMore old.work.errors.items new.work.errors.items → IsReported env old new whole
       not_declared new none more = record {
         errors = inr more;
-        noted = λ e multi s is sh. record { reports = more; none = λ c. let h = found_so env old inv n.text (Some t) known e s is sh in rw (sym root, h, sym none) refl };
+        noted = λ e s is sh. record { reports = more; none = λ c. let h = found_so env old inv n.text (Some t) known e s is sh in rw (sym root, h, sym none) refl };
       }
 
       module _ (flags : Flags) (declared : Some flags ≡ declared_flags t.kind) where
-        law : (e : Setting) (multi : Bool) (s : Scope) → IsSettingOf old.tyenv env e → Shows old s → (c : ℕ) → whole e multi c s ≡ rule_of_entry r id t flags e c s
-        law e multi s is sh c = let h = found_so env old inv n.text (Some t) known e s is sh in rw (sym root, h, sym declared) refl
+        law : (e : Setting) (s : Scope) → IsSettingOf old.tyenv env e → Shows old s → (c : ℕ) → whole e c s ≡ rule_of_entry r id t flags e c s
+        law e s is sh c = let h = found_so env old inv n.text (Some t) known e s is sh in rw (sym root, h, sym declared) refl
 
         -- what the sides give
         abbrev sides : Reading Sides
@@ -104,7 +104,7 @@ module _ (env : TermEnv) (old : Standing) (inv : IsInterned old.tyenv) (r : Rule
         pub no_sides : (new : Standing) → IsReported env old new sides → IsReported env old new whole
         no_sides new y = record {
           errors = y.errors;
-          noted = λ e multi s is sh. let n = y.noted e flags.multi s is sh in record { reports = n.reports; none = λ c. law e multi s is sh c ∙ ap ruled (n.none c) ∙ ruled_none };
+          noted = λ e s is sh. let n = y.noted e s is sh in record { reports = n.reports; none = λ c. law e s is sh c ∙ ap ruled (n.none c) ∙ ruled_none };
         }
 
         expansions_of : (o : Option (Typing Sides)) (a : Typing TypedRule) → ruled o ≡ Some a → (b : Typing Sides) × (o ≡ Some b) × (b.expansions ≡ a.expansions)
@@ -121,12 +121,12 @@ module _ (env : TermEnv) (old : Standing) (inv : IsInterned old.tyenv) (r : Rule
 
         pub rule_stops : (new : Standing) (d : ℕ) (stop : Stop) → Stops env old new d sides stop → Stops env old new d whole stop
         rule_stops new d (Memory a) y = tt
-        rule_stops new d Nesting y = (y.0, λ e multi s is sh. law e multi s is sh d ∙ ap ruled (y.1 e flags.multi s is sh) ∙ ruled_none)
+        rule_stops new d Nesting y = (y.0, λ e s is sh. law e s is sh d ∙ ap ruled (y.1 e s is sh) ∙ ruled_none)
         rule_stops new d Expansions y = (
           y.0,
-          λ e multi s is sh c a h.
-              let g = expansions_of (sides e flags.multi c s) a (sym (law e multi s is sh c) ∙ h) in
-              let long = y.1 e flags.multi s is sh c g.0 g.1 in
+          λ e s is sh c a h.
+              let g = expansions_of (sides e c s) a (sym (law e s is sh c) ∙ h) in
+              let long = y.1 e s is sh c g.0 g.1 in
               let m = g.2 in
               omega (arith, long, m),
         )
@@ -145,15 +145,15 @@ module _ (env : TermEnv) (old : Standing) (inv : IsInterned old.tyenv) (r : Rule
           rule_done (inr y) same rem checks work keeps names vs is =
               let here = no_sides mid y in
               let may : MayNoteMore mid.work.errors.items new.work.errors.items = ⊎_elim (λ ok. inl (ap (λ w. w.errors.items) work ∙ ok.0)) (λ wrong. inr (subst (λ w. NotesMore mid.work.errors.items w.errors.items) (sym work) wrong.0)) checks in
-              inr (reported_then env old mid new d whole whole here (λ e multi c s h. h) may)
+              inr (reported_then env old mid new d whole whole here (λ e c s h. h) may)
           rule_done (inl y) same rem (inr wrong) work keeps names vs is =
               let more = subst (λ es. NotesMore es new.work.errors.items) y.errors (subst (λ w. NotesMore mid.work.errors.items w.errors.items) (sym work) wrong.0) in
               let no : may_have_priority flags r ≡ false = is_false (may_have_priority flags r) wrong.1 in
-              inr (record { errors = inr more; noted = λ e multi s is sh. record { reports = more; none = λ c. law e multi s is sh c ∙ ap (λ b. cond b (finished_rule id r t (sides e flags.multi c s)) None) no } })
+              inr (record { errors = inr more; noted = λ e s is sh. record { reports = more; none = λ c. law e s is sh c ∙ ap (λ b. cond b (finished_rule id r t (sides e c s)) None) no } })
           rule_done (inl y) same rem (inl ok) work keeps names vs is = inl (record {
             errors = ap (λ w. w.errors.items) work ∙ ok.0 ∙ y.errors;
-            made = λ e multi s set sh.
-                let a = y.made e flags.multi s set sh in
+            made = λ e s set sh.
+                let a = y.made e s set sh in
                 let m = a.expansions in
                 let n = rem.expansions in
                 let k = ap (λ w. w.expansions) work in
@@ -161,7 +161,7 @@ module _ (env : TermEnv) (old : Standing) (inv : IsInterned old.tyenv) (r : Rule
                 let scope_vars : (scope_of (names_of mid.tyenv) vars).vars ≡ a.typing.scope.vars = sym vs ∙ a.shows.vars in
                 record {
                   typing = record { made = rule_of_sides id r t a.typing.made a.typing.scope; scope = with_own_name r.name a.typing.scope; expansions = a.typing.expansions };
-                  becomes = becomes_same (λ c. ruled (sides e flags.multi c s)) (λ c. whole e multi c s) d _ (law e multi s set sh)
+                  becomes = becomes_same (λ c. ruled (sides e c s)) (λ c. whole e c s) d _ (law e s set sh)
                       (record {
                         here = ap ruled a.becomes.here ∙ finished a.typing ok.1;
                         elsewhere = λ c. ⊎_elim (λ h. inl (ap ruled h ∙ ruled_none)) (λ h. inr (ap ruled h ∙ finished a.typing ok.1)) (a.becomes.elsewhere c);

@@ -13,10 +13,10 @@ use Rattle.isle_model.specs.lists.Typings.{Typing}
 use Rattle.isle_model.specs.lists.Elaborated.{TypedRules, with_typed}
 use Rattle.isle_types.specs.declared.type_env.TypeEnv.{TypeEnv}
 use Rattle.isle_types.specs.Envs.{names_of}
-use Rattle.isle_rules.specs.declared.rules.Rule.{Rule}
+use Rattle.isle_typed.specs.declared.rules.Rule.{Rule}
 use Rattle.isle_rules.specs.declared.term_env.TermEnv.{TermEnv}
 use Rattle.isle_rules.specs.RuleLists.{rule_within, rules_within, AddsNext, CollectsNext, CollectsRules}
-use Rattle.isle_rules.specs.RuleViews.{rule_view, rule_views}
+use Rattle.isle_typed.specs.RuleViews.{rule_view, rule_views}
 use Rattle.isle_rules.specs.Translating.{Keeps, IsSettingOf}
 use Rattle.isle_rules.proofs.Readings.{keep_setting}
 

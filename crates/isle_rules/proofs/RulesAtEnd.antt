@@ -16,13 +16,13 @@ use Rattle.isle_rules.proofs.RulesRefused.{mapped_noted}
 use Rattle.isle_rules.proofs.Noted.{may_check, some_noted}
 use Rattle.isle_terms.specs.TermViews.{term_views}
 use Rattle.isle_rules.specs.declared.term_env.TermEnv.{TermEnv}
-use Rattle.isle_rules.specs.declared.rules.Rule.{Rule}
+use Rattle.isle_typed.specs.declared.rules.Rule.{Rule}
 use Rattle.isle_rules.specs.Constructors.{AreFoundMade, AreTermsNamed, uses_of_rule}
 use Rattle.isle_rules.specs.Elaborating.{Checks}
 use Rattle.isle_rules.specs.RuleLists.{CollectsRules}
 use Rattle.isle_rules.specs.RuleNaming.{MapsNames, AreDefined}
 use Rattle.isle_rules.specs.RulesRead.{CanBeRead, AreReadRules}
-use Rattle.isle_rules.specs.RuleViews.{rule_views}
+use Rattle.isle_typed.specs.RuleViews.{rule_views}
 use Rattle.isle_rules.specs.Translating.{Keeps, IsSettingOf}
 use Rattle.isle_rules.proofs.RulesTyped.{rules_typed}
 

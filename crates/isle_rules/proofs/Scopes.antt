@@ -8,7 +8,7 @@ use Rattle.isle_model.specs.lists.Setting.{Scope, new_var, var_named, met, bound
 use Rattle.isle_model.specs.lists.Typings.{Typing, plain}
 use Rattle.isle_model.proofs.Names.{last, known_name, number_new, has_new, number_below}
 use Rattle.isle_types.specs.Envs.{names_of}
-use Rattle.isle_rules.specs.RuleViews.{var_view}
+use Rattle.isle_typed.specs.RuleViews.{var_view}
 use Rattle.isle_rules.specs.Progress.{newest, vars_of, next_var, BindsNext, Remains}
 use Rattle.isle_rules.specs.Translating.{Standing, Shows, IsTranslatedAt}
 use Rattle.isle_rules.proofs.Readings.{becomes_plain, becomes_same}

@@ -133,7 +133,6 @@ module _ (e : TypesRead) (r : AreReadable e) (defs : List Definition) (env : Ter
     term_names = λ k. ap (λ o. then_option o (slice_get (term_table e.known defs))) (a.rows.look_ups k) ∙ look_entry (term_table e.known defs) (term_table e.known defs) k at_ids;
     converters = a.rows.conversions;
     expand = refl;
-    multi = refl;
     types_met = λ k ty h. below k (looked_key (λ n. n < length met) (numbered met e.known.type_names) k ty (numbered_below met 0 e.known.type_names types_met) (sym (a.types.look_ups k) ∙ h));
     constants_met = λ k ty h. below k (looked_key (λ n. n < length met) e.constants k ty (All-weaker (λ (c : ℕ × ℕ). c.0 < length e.known.names) (λ (c : ℕ × ℕ). c.0 < length met) (λ c l. still_below e.known defs c.0 l) e.constants r.names_of_constants) (sym (a.types.constants k) ∙ h));
     terms_met = λ k id h. below k (looked_key (λ n. n < length met) (terms_by_name (term_table e.known defs)) k id (named_below (length met) (term_table e.known defs) term_numbers) (sym (a.rows.look_ups k) ∙ h));

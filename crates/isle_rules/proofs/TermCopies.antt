@@ -14,7 +14,7 @@ use Rattle.isle_terms.specs.contracts.term.ExtractorKindClone.TheImpl as E
 use Rattle.isle_terms.specs.contracts.term.TermKindClone.TheImpl as K
 use Rattle.isle_terms.specs.contracts.term.TermClone.TheImpl as T
 use Rattle.isle_terms.specs.TermViews.{constructor_view, extractor_view, kind_view, term_view}
-use Rattle.isle_rules.proofs.Copies.{clone_says}
+use Rattle.isle_typed.proofs.Copies.{clone_says}
 
 constructor_copied : (k l : ConstructorKind) → C.is_clone-value.it k l → constructor_view l ≡ constructor_view k
 constructor_copied InternalConstructor InternalConstructor h = refl

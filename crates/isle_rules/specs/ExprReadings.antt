@@ -28,12 +28,12 @@ expected ty = option_map (λ t. t.0) ty
 
 -- an expression, under the flags in force, where a type, or any type, is expected
 abbrev pub expr_reading : ExprTree → Flags → Option ℕ → Reading TypedExpr
-expr_reading x flags ty e multi c s = elaborated_expr (all_made e) flags c x ty s
+expr_reading x flags ty e c s = elaborated_expr (all_made e) flags c x ty s
 
 -- expressions for arguments, each at its type
 abbrev pub args_reading : ExprTrees → Flags → List ℕ → Reading TypedExprs
-args_reading xs flags tys e multi c s = args_with (all_made e) flags (deeper_expr (all_made e) flags c) xs tys s
+args_reading xs flags tys e c s = args_with (all_made e) flags (deeper_expr (all_made e) flags c) xs tys s
 
 -- the definitions of a let
 abbrev pub lets_reading : LetTrees → Flags → Reading TypedLets
-lets_reading defs flags e multi c s = lets_with (all_made e) flags (deeper_expr (all_made e) flags c) defs s
+lets_reading defs flags e c s = lets_with (all_made e) flags (deeper_expr (all_made e) flags c) defs s

@@ -53,8 +53,8 @@ pub record ConvertsExpr (env : TermEnv) (old new : Standing) (d : ℕ) (whole : 
 pub record ReadsAs {P Q : Type 0} (env : TermEnv) (old new : Standing) (whole : Reading Q) (part : Reading P) (f : P → Q) : Type 0 where
   pub errors : new.work.errors.items ≡ old.work.errors.items
   pub expansions : new.work.expansions ≡ old.work.expansions
-  pub shows : Wherever env old (λ e multi s. Shows new s)
-  pub becomes : Wherever env old (λ e multi s. (c : ℕ) → whole e multi c s ≡ made_into f (part e multi c s))
+  pub shows : Wherever env old (λ e s. Shows new s)
+  pub becomes : Wherever env old (λ e s. (c : ℕ) → whole e c s ≡ made_into f (part e c s))
 
 -- what a use of a variable is found to be
 abbrev pub UsesVar : TermEnv → Standing → Standing → ℕ → ExprTree → Flags → Option ℕ → Result VarUse Stop → Type 0

@@ -13,13 +13,13 @@ use Rattle.isle_types.specs.declared.type_env.TypeEnv.{TypeEnv}
 use Rattle.isle_types.specs.Envs.{names_of, type_of_name}
 use Rattle.isle_rules.specs.Noting.{NotesMore}
 use Rattle.isle_base.specs.declared.syntax.Error.{Error}
-use Rattle.isle_rules.specs.declared.exprs.Expr.{Expr}
-use Rattle.isle_rules.specs.declared.rules.BoundVar.{BoundVar}
+use Rattle.isle_typed.specs.declared.exprs.Expr.{Expr}
+use Rattle.isle_typed.specs.declared.rules.BoundVar.{BoundVar}
 use Rattle.isle_rules.specs.declared.typing.progress.Progress.{Progress}
 use Rattle.isle_rules.specs.declared.typing.progress.Stop.{Stop}
-use Rattle.isle_rules.specs.ExprViews.{let_view, let_views, let_parts}
+use Rattle.isle_typed.specs.ExprViews.{let_view, let_views, let_parts}
 use Rattle.isle_rules.specs.declared.term_env.TermEnv.{TermEnv}
-use Rattle.isle_rules.specs.RuleViews.{var_view}
+use Rattle.isle_typed.specs.RuleViews.{var_view}
 use Rattle.isle_rules.specs.Progress.{newest, vars_of, BindsNext}
 use Rattle.isle_rules.specs.Translating.{Standing, Reading, Wherever, IsTranslated, IsReported, Stops}
 
@@ -39,7 +39,7 @@ HidesAs hidden at earlier old = (k : ℕ) → before_all hidden k (newest at.wor
 -- definitions were read, and it is known what their names stood for before; or it was noted that they can't be
 abbrev pub Defines : TermEnv → Standing → Standing → ℕ → Reading TypedLets → TypedLets → List (Sym × Option BoundVar) → List (Sym × Option BoundVar) → Type 0
 Defines env old new d reading made earlier hidden =
-    (IsTranslated env old new d reading made × Wherever env old (λ e multi s. HidesAs hidden new earlier old)) ⊎ IsReported env old new reading
+    (IsTranslated env old new d reading made × Wherever env old (λ e s. HidesAs hidden new earlier old)) ⊎ IsReported env old new reading
 
 -- the name and the type of a definition: the type is known, or it was noted that it isn't
 abbrev pub Begins : {E : Type 0} → TypeEnv → TypeEnv → List Error → List Error → Name → Name → Result (Option (Sym × TypeId)) E → Type 0

@@ -1,14 +1,6 @@
-pub mod PatternViews
-pub mod ExprViews
-pub mod RuleViews
 pub mod TermEnvs
 pub mod Elaborating
 pub mod RuleNaming
-pub mod VisitAnswers
-pub mod VisitRuns
-pub mod PatternRuns
-pub mod ExprRuns
-pub mod RuleRuns
 pub mod Progress
 pub mod ErrorViews
 pub mod Noting

@@ -1,32 +1,32 @@
 -- How patterns are read, as the function of typing says.
-use Rattle.std.specs.Prelude.{◌≡◌, ◌⊎◌, ℕ, List, length, Option, Some, None, is_some, Result, Ok, Err, if◌then◌else◌}
+use Rattle.std.specs.Prelude.{◌≡◌, ◌⊎◌, ℕ, Bool, List, length, Option, Some, None, is_some, Result, Ok, Err, if◌then◌else◌}
 use Rattle.isle_model.specs.lists.Syntax.{PatternTree, PatternTrees}
 use Rattle.isle_model.specs.rules.Typed.{TypedPattern, match_bind, TypedPatterns}
 use Rattle.isle_model.specs.lists.Setting.{bound, var_of}
 use Rattle.isle_model.specs.lists.Typings.{plain}
 use Rattle.isle_model.specs.lists.Elaborated.{elaborated_pattern, elaborated_parts, each_with, deeper_pattern}
 use Rattle.isle_model.specs.lists.Formed.{pattern_type}
-use Rattle.isle_rules.specs.declared.patterns.Pattern.{Pattern}
+use Rattle.isle_typed.specs.declared.patterns.Pattern.{Pattern}
 use Rattle.isle_rules.specs.declared.term_env.TermEnv.{TermEnv}
 use Rattle.isle_rules.specs.declared.typing.progress.Stop.{Stop}
-use Rattle.isle_rules.specs.PatternViews.{pattern_view}
+use Rattle.isle_typed.specs.PatternViews.{pattern_view}
 use Rattle.isle_rules.specs.Translating.{Standing, Reading, IsTranslated, IsReported, Stops}
 
--- a pattern at a type
-abbrev pub pattern_reading : PatternTree → ℕ → Reading TypedPattern
-pattern_reading p ty e multi c s = elaborated_pattern e multi c p ty s
+-- a pattern at a type, in a rule whose term is multi or not
+abbrev pub pattern_reading : Bool → PatternTree → ℕ → Reading TypedPattern
+pattern_reading multi p ty e c s = elaborated_pattern e multi c p ty s
 
--- patterns for arguments, each at its type
-abbrev pub parts_reading : PatternTrees → List ℕ → Reading TypedPatterns
-parts_reading ps tys e multi c s = elaborated_parts e multi c ps tys s
+-- patterns for arguments, each at its type, likewise
+abbrev pub parts_reading : Bool → PatternTrees → List ℕ → Reading TypedPatterns
+parts_reading multi ps tys e c s = elaborated_parts e multi c ps tys s
 
 -- patterns of one value
-abbrev pub each_reading : PatternTrees → ℕ → Reading TypedPatterns
-each_reading ps ty e multi c s = each_with e multi (deeper_pattern e multi c) ps ty s
+abbrev pub each_reading : Bool → PatternTrees → ℕ → Reading TypedPatterns
+each_reading multi ps ty e c s = each_with e multi (deeper_pattern e multi c) ps ty s
 
 -- a name that is not bound is bound: the variable
 abbrev pub binding_reading : List ℕ → ℕ → Reading ℕ
-binding_reading x ty e multi c s = if is_some (var_of s x) then None else Some (plain (length s.vars) (bound s x ty))
+binding_reading x ty e c s = if is_some (var_of s x) then None else Some (plain (length s.vars) (bound s x ty))
 
 -- a pattern under a name, which is bound after it
 abbrev pub BindsAround : TermEnv → Standing → Standing → ℕ → List ℕ → TypedPattern → Result (Option Pattern) Stop → Type 0

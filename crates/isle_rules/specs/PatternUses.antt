@@ -50,19 +50,19 @@ IsExpansionOf env whole args made =
     ⊎ ((k : ℕ) × (t : TermEntry) × (template : PatternTree) × (slice_get (term_views env.terms.items) k ≡ Some t) × (kind_template t.kind ≡ Some template)
     × (substituted (pattern_list args) template ≡ Some made))
 
--- the term itself is meant, with as many parts as it has arguments
-pub record TakesParts (env : TermEnv) (old new : Standing) (whole : PatternTree) (args : PatternTrees) (ty : ℕ) (t : TermEntry) : Type 0 where
+-- the term itself is meant, with as many parts as it has arguments, in a rule whose term is multi or not
+pub record TakesParts (env : TermEnv) (old new : Standing) (multi : Bool) (whole : PatternTree) (args : PatternTrees) (ty : ℕ) (t : TermEntry) : Type 0 where
   pub errors : new.work.errors.items ≡ old.work.errors.items
   pub expansions : new.work.expansions ≡ old.work.expansions
   pub count : length (pattern_list args) ≡ length t.arg_tys
-  pub shows : Wherever env old (λ e multi s. Shows new s)
-  pub becomes : Wherever env old (λ e multi s. (c : ℕ) → pattern_reading whole ty e multi c s ≡ made_into (match_term t.ret_ty t.id) (parts_reading args t.arg_tys e multi c s))
+  pub shows : Wherever env old (λ e s. Shows new s)
+  pub becomes : Wherever env old (λ e s. (c : ℕ) → pattern_reading multi whole ty e c s ≡ made_into (match_term t.ret_ty t.id) (parts_reading multi args t.arg_tys e c s))
 
--- what a use is found to be
-abbrev pub UsesTerm : TermEnv → Standing → Standing → ℕ → PatternTree → PatternTrees → ℕ → Result PatternUse Stop → Type 0
-UsesTerm env old new d whole args ty (Ok Wrong) = IsReported env old new (pattern_reading whole ty)
-UsesTerm env old new d whole args ty (Ok (Expansion made left)) =
+-- what a use is found to be, in a rule whose term is multi or not
+abbrev pub UsesTerm : TermEnv → Standing → Standing → ℕ → Bool → PatternTree → PatternTrees → ℕ → Result PatternUse Stop → Type 0
+UsesTerm env old new d multi whole args ty (Ok Wrong) = IsReported env old new (pattern_reading multi whole ty)
+UsesTerm env old new d multi whole args ty (Ok (Expansion made left)) =
     (suc left ≡ d) × IsExpansionOf env whole args (S.pattern_view made)
-    × (ExpandsTo env old new (pattern_reading whole ty) (pattern_reading (S.pattern_view made) ty) ⊎ IsReported env old new (pattern_reading whole ty))
-UsesTerm env old new d whole args ty (Ok (Parts t)) = TakesParts env old new whole args ty (term_view t.now) ⊎ IsReported env old new (pattern_reading whole ty)
-UsesTerm env old new d whole args ty (Err stop) = Stops env old new d (pattern_reading whole ty) stop
+    × (ExpandsTo env old new (pattern_reading multi whole ty) (pattern_reading multi (S.pattern_view made) ty) ⊎ IsReported env old new (pattern_reading multi whole ty))
+UsesTerm env old new d multi whole args ty (Ok (Parts t)) = TakesParts env old new multi whole args ty (term_view t.now) ⊎ IsReported env old new (pattern_reading multi whole ty)
+UsesTerm env old new d multi whole args ty (Err stop) = Stops env old new d (pattern_reading multi whole ty) stop

@@ -8,7 +8,7 @@ use Rattle.isle_types.specs.Envs.{same_symbol, symbol}
 use Rattle.isle_rules.specs.declared.typing.progress.Progress.{Progress}
 use Rattle.isle_rules.specs.declared.typing.progress.Stop.{Stop}
 use Rattle.isle_rules.specs.declared.typing.progress.Stop.TheVariants.{Memory, Nesting, Expansions}
-use Rattle.isle_rules.specs.RuleViews.{var_view}
+use Rattle.isle_typed.specs.RuleViews.{var_view}
 
 -- the newest variable of the name of a number that can be used
 abbrev pub newest : Progress → ℕ → Option TypedVar

@@ -1,6 +1,6 @@
 -- How a rule ends within the limits on expansions, and the rules of a list one after another, each from the names met before
 -- it: as if each term had a constructor.
-use Rattle.std.specs.Prelude.{◌≡◌, ◌≢◌, ◌⊎◌, ℕ, suc, true, List, [], ◌∷◌, ◌++◌, length, Option, Some, None}
+use Rattle.std.specs.Prelude.{◌≡◌, ◌≢◌, ◌⊎◌, ℕ, suc, List, [], ◌∷◌, ◌++◌, length, Option, Some, None}
 use Rattle.isle_base.specs.declared.syntax.Error.{Error}
 use Rattle.isle_base.specs.declared.syntax.Limit.{Limit}
 use Rattle.isle_base.specs.declared.syntax.Limit.TheVariants.{Nesting, Expansions}
@@ -19,16 +19,16 @@ use Rattle.isle_types.specs.Envs.{names_of}
 use Rattle.isle_rules.specs.Noting.{NotesMore, MayNoteMore}
 use Rattle.isle_rules.specs.ErrorViews.{limit_view, error_view}
 use Rattle.isle_rules.specs.declared.term_env.TermEnv.{TermEnv}
-use Rattle.isle_rules.specs.declared.rules.Rule.{Rule}
+use Rattle.isle_typed.specs.declared.rules.Rule.{Rule}
 use Rattle.isle_rules.specs.declared.typing.progress.Stop.{Stop}
 use Rattle.isle_rules.specs.declared.typing.progress.Stop.TheVariants as S
 use Rattle.isle_rules.specs.RuleReadings.{rule_reading}
-use Rattle.isle_rules.specs.RuleViews.{rule_views}
+use Rattle.isle_typed.specs.RuleViews.{rule_views}
 use Rattle.isle_rules.specs.Translating.{IsSettingOf}
 
 -- a rule from the names met before it, where so many expansions may nest
 abbrev pub rule_from : Setting → ℕ → RuleTree → List (List ℕ) → ℕ → Option (Typing TypedRule)
-rule_from e id r names d = rule_reading r id e true d (new_scope names)
+rule_from e id r names d = rule_reading r id e d (new_scope names)
 
 -- within the limits
 abbrev pub rule_within : Setting → ℕ → RuleTree → List (List ℕ) → Option (Typing TypedRule)

@@ -9,31 +9,31 @@ use Rattle.isle_model.specs.lists.Typings.{Typing, plain, followed}
 use Rattle.isle_model.specs.lists.Elaborated.{typed_iflet, root_parts, Sides, sides_of, last_sides, finished_rule, may_have_priority}
 use Rattle.isle_model.specs.lists.TermTable.{root_name}
 use Rattle.isle_model.specs.rules.Outcome.{then_option}
-use Rattle.isle_rules.specs.declared.rules.BoundVar.{BoundVar}
+use Rattle.isle_typed.specs.declared.rules.BoundVar.{BoundVar}
 use Rattle.isle_rules.specs.declared.typing.sides.RuleSides.{RuleSides}
 use Rattle.isle_rules.specs.ExprReadings.{expr_reading}
-use Rattle.isle_rules.specs.ExprViews.{expr_view}
+use Rattle.isle_typed.specs.ExprViews.{expr_view}
 use Rattle.isle_rules.specs.PatternReadings.{pattern_reading, parts_reading}
-use Rattle.isle_rules.specs.PatternViews.{pattern_views, pattern_parts}
-use Rattle.isle_rules.specs.RuleViews.{iflet_view, var_view}
+use Rattle.isle_typed.specs.PatternViews.{pattern_views, pattern_parts}
+use Rattle.isle_typed.specs.RuleViews.{iflet_view, var_view}
 use Rattle.isle_rules.specs.Translating.{Reading}
 
 -- the expression of an if-let, at any type, then its pattern at that type
 abbrev pub iflet_reading : IfLetTree → Flags → Reading TypedIfLet
-iflet_reading i flags e multi c s = followed typed_iflet (expr_reading i.expr (on_lhs flags) None e multi c s) (λ a. pattern_reading i.pattern (expr_type a.made) e multi c a.scope)
+iflet_reading i flags e c s = followed typed_iflet (expr_reading i.expr (on_lhs flags) None e c s) (λ a. pattern_reading flags.multi i.pattern (expr_type a.made) e c a.scope)
 
 -- if-lets in order
 abbrev pub iflets_reading : List IfLetTree → Flags → Reading (List TypedIfLet)
-iflets_reading [] flags e multi c s = Some (plain [] s)
-iflets_reading (i ∷ is) flags e multi c s = followed ◌∷◌ (iflet_reading i flags e multi c s) (λ a. iflets_reading is flags e multi c a.scope)
+iflets_reading [] flags e c s = Some (plain [] s)
+iflets_reading (i ∷ is) flags e c s = followed ◌∷◌ (iflet_reading i flags e c s) (λ a. iflets_reading is flags e c a.scope)
 
 -- if-lets in order, then the right side at the type of what the term makes
 abbrev pub ends_reading : RuleTree → Flags → TermEntry → Reading (List TypedIfLet × TypedExpr)
-ends_reading r flags t e multi c s = followed last_sides (iflets_reading r.iflets flags e multi c s) (λ b. expr_reading r.expr flags (Some t.ret_ty) e multi c b.scope)
+ends_reading r flags t e c s = followed last_sides (iflets_reading r.iflets flags e c s) (λ b. expr_reading r.expr flags (Some t.ret_ty) e c b.scope)
 
 -- arguments at the types of the rule's term, then the rest
 abbrev pub sides_reading : RuleTree → Flags → TermEntry → Reading Sides
-sides_reading r flags t e multi c s = followed sides_of (parts_reading (root_parts r.pattern) t.arg_tys e multi c s) (λ a. ends_reading r flags t e multi c a.scope)
+sides_reading r flags t e c s = followed sides_of (parts_reading flags.multi (root_parts r.pattern) t.arg_tys e c s) (λ a. ends_reading r flags t e c a.scope)
 
 -- what the sides of a rule say
 abbrev pub sides_view : RuleSides → Sides
@@ -45,9 +45,9 @@ scope_of names vars = record { names = names; visible = []; vars = map var_view 
 
 -- a rule of an entry of the term table, under that term's flags
 abbrev pub rule_of_entry : RuleTree → ℕ → TermEntry → Flags → Setting → ℕ → Scope → Option (Typing TypedRule)
-rule_of_entry r id t flags e c s = if may_have_priority flags r then finished_rule id r t (sides_reading r flags t e flags.multi c s) else None
+rule_of_entry r id t flags e c s = if may_have_priority flags r then finished_rule id r t (sides_reading r flags t e c s) else None
 
 -- a rule of a declared term
 abbrev pub rule_reading : RuleTree → ℕ → Reading TypedRule
-rule_reading r id e multi c s =
+rule_reading r id e c s =
     then_option (root_name r.pattern) (λ n. then_option (term_of e s n.text) (λ t. then_option (declared_flags t.kind) (λ flags. rule_of_entry r id t flags e c s)))

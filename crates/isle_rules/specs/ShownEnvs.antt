@@ -2,7 +2,7 @@
 use Rattle.isle_model.specs.claims.Environments.{TermsShown, TermEnvironment}
 use Rattle.isle_terms.specs.TermViews.{term_views}
 use Rattle.isle_rules.specs.declared.term_env.TermEnv.{TermEnv}
-use Rattle.isle_rules.specs.RuleViews.{rule_views}
+use Rattle.isle_typed.specs.RuleViews.{rule_views}
 use Rattle.isle_rules.specs.TermEnvs.{term_in_env, rule_in_env}
 use Rattle.isle_rules.specs.Translating.{converter_in}
 

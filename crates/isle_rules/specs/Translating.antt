@@ -1,6 +1,6 @@
 -- What translating a part of a rule gives: what the function of typing gives, or a report and that it gives nothing, or that
 -- a limit was passed. It is said of each setting and scope that the tables and the work show.
-use Rattle.std.specs.Prelude.{◌≡◌, ℕ, zero, suc, ◌+◌, ◌<◌, ◌⊎◌, Bool, true, ◌&&◌, List, ◌++◌, length, Option, Some, None, option_map, is_some, slice_get, Result, Ok, Err, ⊤}
+use Rattle.std.specs.Prelude.{◌≡◌, ℕ, zero, suc, ◌+◌, ◌<◌, ◌⊎◌, true, ◌&&◌, List, ◌++◌, length, Option, Some, None, option_map, is_some, slice_get, Result, Ok, Err, ⊤}
 use Rattle.std.specs.Bool.{◌==◌}
 use Rattle.std.specs.List.{position_from}
 use Rattle.isle_base.specs.Stable.{look_up}
@@ -61,7 +61,6 @@ pub record IsSettingOf (tyenv : TypeEnv) (env : TermEnv) (e : Setting) : Type 0 
   pub term_names : (k : ℕ) → then_option (term_in_env env k) (slice_get e.terms) ≡ entry_named k e.terms
   pub converters : (i o : ℕ) → converter_in env i o ≡ look (λ c. (c.0 == i) && (c.1 == o)) e.converters
   pub expand : e.expand ≡ env.expand_internal_extractors
-  pub multi : e.multi_anywhere ≡ true
   pub types_met : (k ty : ℕ) → type_at tyenv k ≡ Some ty → k < length (names_of tyenv)
   pub constants_met : (k ty : ℕ) → constant_at tyenv k ≡ Some ty → k < length (names_of tyenv)
   pub terms_met : (k id : ℕ) → term_in_env env k ≡ Some id → k < length (names_of tyenv)
@@ -74,13 +73,13 @@ pub record Shows (at : Standing) (s : Scope) : Type 0 where
   pub visible : (k : ℕ) → newest at.work k ≡ var_named k s.visible
   pub met : (k : ℕ) (v : TypedVar) → newest at.work k ≡ Some v → k < length (names_of at.tyenv)
 
--- how something is typed: in a setting, for a term that is multi or not, within so many nested expansions, from a scope
+-- how something is typed: in a setting, within so many nested expansions, from a scope
 abbrev pub Reading : Type 0 → Type 0
-Reading Q = Setting → Bool → ℕ → Scope → Option (Typing Q)
+Reading Q = Setting → ℕ → Scope → Option (Typing Q)
 
--- a fact of each setting, term and scope that are shown
-abbrev pub Wherever : TermEnv → Standing → (Setting → Bool → Scope → Type 0) → Type 0
-Wherever env at P = (e : Setting) (multi : Bool) (s : Scope) → IsSettingOf at.tyenv env e → Shows at s → P e multi s
+-- a fact of each setting and scope that are shown
+abbrev pub Wherever : TermEnv → Standing → (Setting → Scope → Type 0) → Type 0
+Wherever env at P = (e : Setting) (s : Scope) → IsSettingOf at.tyenv env e → Shows at s → P e s
 
 -- within so many nested expansions it is this typing, and within any other number nothing else
 pub record IsOnlyTyping {Q : Type 0} (o : ℕ → Option (Typing Q)) (d : ℕ) (a : Typing Q) : Type 0 where
@@ -97,7 +96,7 @@ pub record IsTranslatedAt {Q : Type 0} (o : ℕ → Option (Typing Q)) (d : ℕ)
 
 pub record IsTranslated {Q : Type 0} (env : TermEnv) (old new : Standing) (d : ℕ) (reading : Reading Q) (q : Q) : Type 0 where
   pub errors : new.work.errors.items ≡ old.work.errors.items
-  pub made : Wherever env old (λ e multi s. IsTranslatedAt (λ c. reading e multi c s) d q old new)
+  pub made : Wherever env old (λ e s. IsTranslatedAt (λ c. reading e c s) d q old new)
 
 -- there is nothing to be made, and this was noted
 pub record IsNoted {Q : Type 0} (o : ℕ → Option (Typing Q)) (old new : Standing) : Type 0 where
@@ -106,15 +105,15 @@ pub record IsNoted {Q : Type 0} (o : ℕ → Option (Typing Q)) (old new : Stand
 
 pub record IsReported {Q : Type 0} (env : TermEnv) (old new : Standing) (reading : Reading Q) : Type 0 where
   pub errors : MayNoteMore old.work.errors.items new.work.errors.items
-  pub noted : Wherever env old (λ e multi s. IsNoted (λ c. reading e multi c s) old new)
+  pub noted : Wherever env old (λ e s. IsNoted (λ c. reading e c s) old new)
 
 -- nothing can be made where so many expansions may nest
 abbrev pub IsTooDeep : {Q : Type 0} → TermEnv → Standing → ℕ → Reading Q → Type 0
-IsTooDeep env old d reading = Wherever env old (λ e multi s. reading e multi d s ≡ None)
+IsTooDeep env old d reading = Wherever env old (λ e s. reading e d s ≡ None)
 
 -- what can be made takes too many expansions, with those made before
 abbrev pub IsTooLong : {Q : Type 0} → TermEnv → Standing → Reading Q → Type 0
-IsTooLong {Q} env old reading = Wherever env old (λ e multi s. (c : ℕ) (a : Typing Q) → reading e multi c s ≡ Some a → most_expansions < old.work.expansions + a.expansions)
+IsTooLong {Q} env old reading = Wherever env old (λ e s. (c : ℕ) (a : Typing Q) → reading e c s ≡ Some a → most_expansions < old.work.expansions + a.expansions)
 
 -- what was noted stays, unless memory was refused
 abbrev pub KeepsNoted : Standing → Standing → Stop → Type 0
@@ -153,5 +152,5 @@ expanding o (suc d) = counted (o d)
 pub record ExpandsTo {Q : Type 0} (env : TermEnv) (old new : Standing) (whole made : Reading Q) : Type 0 where
   pub errors : new.work.errors.items ≡ old.work.errors.items
   pub expansions : new.work.expansions ≡ old.work.expansions + 1
-  pub shows : Wherever env old (λ e multi s. Shows new s)
-  pub becomes : Wherever env old (λ e multi s. (c : ℕ) → whole e multi c s ≡ expanding (λ d. made e multi d s) c)
+  pub shows : Wherever env old (λ e s. Shows new s)
+  pub becomes : Wherever env old (λ e s. (c : ℕ) → whole e c s ≡ expanding (λ d. made e d s) c)

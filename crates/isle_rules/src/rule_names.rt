@@ -6,13 +6,13 @@ ghost use Rattle.isle_model.specs.rules.Typed.{TypedRule};
 ghost use Rattle.isle_terms.specs.TermViews.{term_view, term_views};
 ghost use Rattle.isle_rules.specs.Elaborating.{Checks};
 ghost use Rattle.isle_rules.specs.RuleNaming.{AreCounts, MapsNames, NamesRule, is_defined_term, AreDefined};
-ghost use Rattle.isle_rules.specs.RuleViews.{rule_view, rule_views};
+ghost use Rattle.isle_typed.specs.RuleViews.{rule_view, rule_views};
 
 use crate::reports::report;
-use crate::rules::Rule;
 use isle_base::stablemapset::StableMap;
 use isle_base::syntax::Error;
 use isle_terms::Term;
+use isle_typed::Rule;
 use isle_types::{RuleId, Sym, TermId, TypeEnv};
 use std::alloc::{AllocError, Global};
 

@@ -15,10 +15,10 @@ ghost use Rattle.isle_rules.specs.ShownEnvs.{terms_shown_by, environment_shown_b
 ghost use Rattle.isle_rules.specs.TermEnvs.{term_in_env, rule_in_env, variant_term_in};
 ghost use Rattle.std.specs.Prelude.{◌≡◌, Some, IsSome, IfOk, OnErr, option_map, option_and_then, string_bytes};
 
-use crate::rules::Rule;
 use isle_base::stablemapset::StableMap;
 use isle_base::syntax::{Def, Fault, Ident};
 use isle_terms::{Term, TermTable};
+use isle_typed::{Rule, UsedTerms};
 use isle_types::{RuleId, Sym, TermId, TypeEnv, TypeId, VariantId, VariantTerms};
 use std::alloc::{AllocError, Global};
 
@@ -157,6 +157,20 @@ impl VariantTerms for TermEnv {
 
     fn get_variant_term(&self, tyenv: &TypeEnv, ty: TypeId, variant: VariantId) -> TermId {
         TermEnv::get_variant_term(self, tyenv, ty, variant)
+    }
+}
+
+impl UsedTerms for TermEnv {
+    ghost use Rattle.isle_terms.specs.TermViews.{term_views};
+
+    ghost term_entries = { λ env. term_views env.terms.items };
+
+    #[tactic(auto, using(crate::proofs::UsedTerms::entry_at))]
+    fn used_term(&self, term: TermId) -> &Term {
+        match self.terms.get(term.index()) {
+            Some(found) => found,
+            None => unreachable!(),
+        }
     }
 }
 

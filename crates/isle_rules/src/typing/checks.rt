@@ -1,16 +1,17 @@
 //! What is checked of literals and of counts, in patterns and in expressions alike. What is wrong is noted.
 
-ghost use Rattle.std.specs.Prelude.{◌≡◌, true, OnOk, option_map, slice_get};
+ghost use Rattle.std.specs.Prelude.{◌≡◌, true, OnOk, Some, option_map, slice_get};
+ghost use Rattle.isle_model.specs.lists.Ranges.{reduced};
 ghost use Rattle.isle_model.specs.lists.Setting.{is_expected};
 ghost use Rattle.isle_model.specs.rules.Values.{is_atom_type};
 ghost use Rattle.isle_types.specs.Envs.{constant_at};
-ghost use Rattle.isle_types.specs.TypeViews.{type_views};
+ghost use Rattle.isle_types.specs.TypeViews.{type_view, type_views};
 ghost use Rattle.isle_rules.specs.Elaborating.{Checks};
 ghost use Rattle.isle_rules.specs.ExprReadings.{expected};
 
 use crate::reports::{report, type_text};
 use isle_base::syntax::{Error, Ident, Pos};
-use isle_types::{Sym, TypeEnv, TypeId};
+use isle_types::{BuiltinType, Sym, Type, TypeEnv, TypeId};
 use std::alloc::AllocError;
 use std::fmt::Display;
 
@@ -39,6 +40,30 @@ fn has_integers(tyenv: &TypeEnv, ty: TypeId) -> bool
     match tyenv.types.get(ty.index()) {
         Some(known) => known.is_int() || known.is_prim(),
         None => false,
+    }
+}
+
+/// The number that an integer literal of a type stands for: at a built-in integer type the one of its range, else the
+/// one that is written.
+pub(crate) fn literal_number(tyenv: &TypeEnv, ty: TypeId, val: i128) -> i128
+    ensures { result ≡ reduced (slice_get (type_views tyenv.now.types.items) ty.0) val }
+{
+    match tyenv.types.get(ty.index()) {
+        Some(known) => number_at(known, val),
+        None => val,
+    }
+}
+
+// The number that an integer literal of a type that is known stands for.
+fn number_at(ty: &Type, val: i128) -> i128
+    ensures { result ≡ reduced (Some (type_view ty.now)) val }
+{
+    match ty {
+        Type::Builtin(BuiltinType::Int(int)) => int.reduce(val),
+        Type::Builtin(BuiltinType::Bool)
+        | Type::Primitive(..)
+        | Type::Enum { .. }
+        | Type::Struct { .. } => val,
     }
 }
 

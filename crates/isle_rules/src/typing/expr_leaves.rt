@@ -8,16 +8,18 @@ ghost use Rattle.isle_model.specs.lists.Setting.{is_expected};
 ghost use Rattle.isle_types.specs.Envs.{IsInterned};
 ghost use Rattle.isle_rules.specs.Noting.{NotesMore};
 ghost use Rattle.isle_rules.specs.Elaborating.{Checks};
-ghost use Rattle.isle_rules.specs.ExprViews.{expr_view};
+ghost use Rattle.isle_typed.specs.ExprViews.{expr_view};
 ghost use Rattle.isle_rules.specs.ExprReadings.{expected, expr_reading};
 ghost use Rattle.isle_rules.specs.Translating.{standing, Keeps, MayTranslate};
 
-use crate::exprs::Expr;
 use crate::reports::{expected_text, report, type_text};
 use crate::term_env::TermEnv;
-use crate::typing::checks::{check_bool, check_integer, constant_type, meets_expected};
+use crate::typing::checks::{
+    check_bool, check_integer, constant_type, literal_number, meets_expected,
+};
 use crate::typing::progress::{Progress, Stop};
 use isle_base::syntax::{Error, Ident, Pos};
+use isle_typed::Expr;
 use isle_types::{TypeEnv, TypeId};
 use std::alloc::AllocError;
 
@@ -38,7 +40,8 @@ impl TermEnv {
         Ok(Some(Expr::ConstBool(TypeId::BOOL, val)))
     }
 
-    // An integer, at a type that is expected and has integers.
+    // An integer, at a type that is expected and has integers: one of the type's range, where it has one. What is noted
+    // names the number as it is written.
     pub(crate) fn make_int(
         &self,
         tyenv: &TypeEnv,
@@ -59,7 +62,8 @@ impl TermEnv {
             return Ok(None);
         };
         check_integer(tyenv, &mut work.errors, pos, val, ty)?;
-        Ok(Some(Expr::ConstInt(ty, val)))
+        let number = literal_number(tyenv, ty, val);
+        Ok(Some(Expr::ConstInt(ty, number)))
     }
 
     // A named constant, at its own type. One of another type is noted, and nothing is made.

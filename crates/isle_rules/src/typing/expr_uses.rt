@@ -12,16 +12,16 @@ ghost use Rattle.isle_rules.specs.Elaborating.{Checks};
 ghost use Rattle.isle_rules.specs.ExprReadings.{expected};
 ghost use Rattle.isle_rules.specs.ExprUses.{found_expr_converter, declared_converter, inside_call, allowed, UsesVar, UsesCall};
 ghost use Rattle.isle_rules.specs.Progress.{newest, Remains};
-ghost use Rattle.isle_rules.specs.RuleViews.{var_view};
+ghost use Rattle.isle_typed.specs.RuleViews.{var_view};
 ghost use Rattle.isle_rules.specs.Translating.{standing};
 
 use crate::reports::{check, expected_text, report, report_unmade, type_text};
-use crate::rules::BoundVar;
 use crate::term_env::TermEnv;
 use crate::typing::checks::{check_count, meets_expected};
 use crate::typing::progress::{Progress, Stop};
 use isle_base::syntax::{Error, Expr, Ident, Pos};
 use isle_terms::{Term, TermFlags, TermKind};
+use isle_typed::BoundVar;
 use isle_types::{TypeEnv, TypeId};
 use std::alloc::AllocError;
 

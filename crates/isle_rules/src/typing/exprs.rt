@@ -7,12 +7,10 @@ ghost use Rattle.isle_model.specs.lists.Syntax.{no_let, let_expr};
 ghost use Rattle.isle_terms.specs.TermViews.{flags_view};
 ghost use Rattle.isle_types.specs.Envs.{IsInterned};
 ghost use Rattle.isle_rules.specs.ExprReadings.{expected, expr_reading, args_reading, lets_reading};
-ghost use Rattle.isle_rules.specs.ExprViews.{expr_view, expr_views, expr_parts};
+ghost use Rattle.isle_typed.specs.ExprViews.{expr_view, expr_views, expr_parts};
 ghost use Rattle.isle_rules.specs.Lets.{DefinesAll, DefinesOne, with_let};
 ghost use Rattle.isle_rules.specs.Translating.{standing, Keeps, StaysNoted, MayTranslate, Translates};
 
-use crate::exprs::Expr;
-use crate::rules::BoundVar;
 use crate::term_env::TermEnv;
 use crate::typing::expr_uses::{CallUse, VarUse};
 use crate::typing::lets::{begin_def, bind_def, end_let, push_def};
@@ -20,6 +18,7 @@ use crate::typing::progress::{Progress, Stop};
 use isle_base::syntax;
 use isle_base::syntax::{LetDef, Pos};
 use isle_terms::TermFlags;
+use isle_typed::{BoundVar, Expr};
 use isle_types::{Sym, TypeEnv, TypeId, VarId};
 use std::alloc::AllocError;
 

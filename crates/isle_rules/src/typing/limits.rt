@@ -18,28 +18,17 @@ impl Stop {
     {
         match &self {
             Stop::Memory(refused) => Err(*refused),
-            Stop::Nesting => {
-                let text = "expansions nest deeper than 256";
-                report_limit(errors, Limit::Nesting, text, pos)
-            }
-            Stop::Expansions => {
-                let text = "more than 65536 expansions in one rule";
-                report_limit(errors, Limit::Expansions, text, pos)
-            }
+            Stop::Nesting => report_limit(errors, Limit::Nesting, pos),
+            Stop::Expansions => report_limit(errors, Limit::Expansions, pos),
         }
     }
 }
 
 // Notes that the rule at a place passes a limit.
-fn report_limit(
-    errors: &mut Vec<Error>,
-    limit: Limit,
-    text: &str,
-    pos: Pos,
-) -> Result<(), AllocError>
+fn report_limit(errors: &mut Vec<Error>, limit: Limit, pos: Pos) -> Result<(), AllocError>
     ensures { OnOk result (NotesLimit limit pos errors.old.items errors.new.items) }
 {
-    let msg = String::from_str(*errors.allocator(), text)?;
+    let msg = String::from_str(*errors.allocator(), limit.text())?;
     let span = Span::new_single(pos);
     errors.push(Error::LimitError { limit, msg, span })?;
     Ok(())

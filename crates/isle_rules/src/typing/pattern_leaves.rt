@@ -1,21 +1,21 @@
 //! How patterns without parts are typed, and how a name is bound around a pattern.
 
-ghost use Rattle.std.specs.Prelude.{◌≡◌, ℕ, None, OnOk, string_bytes};
+ghost use Rattle.std.specs.Prelude.{◌≡◌, ℕ, Bool, None, OnOk, string_bytes};
 ghost use Rattle.isle_base.specs.SyntaxViews.{name_view, position};
 ghost use Rattle.isle_model.specs.lists.Syntax.{var_pattern, bool_pattern, int_pattern, prim_pattern, macro_arg};
 ghost use Rattle.isle_types.specs.Envs.{IsInterned};
 ghost use Rattle.isle_rules.specs.Elaborating.{Checks};
-ghost use Rattle.isle_rules.specs.PatternViews.{pattern_view};
+ghost use Rattle.isle_typed.specs.PatternViews.{pattern_view};
 ghost use Rattle.isle_rules.specs.PatternReadings.{pattern_reading, BindsAround};
 ghost use Rattle.isle_rules.specs.Progress.{newest, Remains};
 ghost use Rattle.isle_rules.specs.Translating.{standing, Keeps, MayTranslate};
 
-use crate::patterns::Pattern;
 use crate::reports::{report, type_text};
 use crate::term_env::TermEnv;
-use crate::typing::checks::{check_bool, check_integer, check_same, constant_type};
+use crate::typing::checks::{check_bool, check_integer, check_same, constant_type, literal_number};
 use crate::typing::progress::{Progress, Stop};
 use isle_base::syntax::{Error, Ident, Pos};
+use isle_typed::Pattern;
 use isle_types::{Sym, TypeEnv, TypeId};
 use std::alloc::AllocError;
 
@@ -31,8 +31,8 @@ impl TermEnv {
     ) -> Result<Option<Pattern>, Stop>
         requires { IsInterned tyenv.old }
         ensures keeps { Keeps tyenv.old tyenv.new }
-        ensures made { (d : ℕ) → MayTranslate self.now (standing tyenv.old work.old) (standing tyenv.new work.new) d
-            (pattern_reading (var_pattern (name_view var.now) (position pos)) expected_ty.0) pattern_view result }
+        ensures made { (multi : Bool) (d : ℕ) → MayTranslate self.now (standing tyenv.old work.old) (standing tyenv.new work.new) d
+            (pattern_reading multi (var_pattern (name_view var.now) (position pos)) expected_ty.0) pattern_view result }
     {
         let name = tyenv.intern_mut(var)?;
         let Some(bound) = work.lookup(name) else {
@@ -53,14 +53,15 @@ impl TermEnv {
         pos: Pos,
         expected_ty: TypeId,
     ) -> Result<Option<Pattern>, Stop>
-        ensures { (d : ℕ) → MayTranslate self.now (standing tyenv.now work.old) (standing tyenv.now work.new) d
-            (pattern_reading (bool_pattern val (position pos)) expected_ty.0) pattern_view result }
+        ensures { (multi : Bool) (d : ℕ) → MayTranslate self.now (standing tyenv.now work.old) (standing tyenv.now work.new) d
+            (pattern_reading multi (bool_pattern val (position pos)) expected_ty.0) pattern_view result }
     {
         check_bool(tyenv, &mut work.errors, pos, val, expected_ty)?;
         Ok(Some(Pattern::ConstBool(TypeId::BOOL, val)))
     }
 
-    // An integer, at a type that has integers.
+    // An integer, at a type that has integers: one of the type's range, where it has one. What is noted names the
+    // number as it is written.
     pub(crate) fn translate_int(
         &self,
         tyenv: &TypeEnv,
@@ -69,11 +70,12 @@ impl TermEnv {
         pos: Pos,
         expected_ty: TypeId,
     ) -> Result<Option<Pattern>, Stop>
-        ensures { (d : ℕ) → MayTranslate self.now (standing tyenv.now work.old) (standing tyenv.now work.new) d
-            (pattern_reading (int_pattern val (position pos)) expected_ty.0) pattern_view result }
+        ensures { (multi : Bool) (d : ℕ) → MayTranslate self.now (standing tyenv.now work.old) (standing tyenv.now work.new) d
+            (pattern_reading multi (int_pattern val (position pos)) expected_ty.0) pattern_view result }
     {
         check_integer(tyenv, &mut work.errors, pos, val, expected_ty)?;
-        Ok(Some(Pattern::ConstInt(expected_ty, val)))
+        let number = literal_number(tyenv, expected_ty, val);
+        Ok(Some(Pattern::ConstInt(expected_ty, number)))
     }
 
     // A named constant, at its own type.
@@ -87,8 +89,8 @@ impl TermEnv {
     ) -> Result<Option<Pattern>, Stop>
         requires { IsInterned tyenv.old }
         ensures keeps { Keeps tyenv.old tyenv.new }
-        ensures made { (d : ℕ) → MayTranslate self.now (standing tyenv.old work.old) (standing tyenv.new work.new) d
-            (pattern_reading (prim_pattern (name_view val.now) (position pos)) expected_ty.0) pattern_view result }
+        ensures made { (multi : Bool) (d : ℕ) → MayTranslate self.now (standing tyenv.old work.old) (standing tyenv.new work.new) d
+            (pattern_reading multi (prim_pattern (name_view val.now) (position pos)) expected_ty.0) pattern_view result }
     {
         let name = tyenv.intern_mut(val)?;
         let Some(ty) = constant_type(tyenv, name) else {
@@ -132,8 +134,8 @@ impl TermEnv {
         index: usize,
         expected_ty: TypeId,
     ) -> Result<Option<Pattern>, Stop>
-        ensures { (d : ℕ) → MayTranslate self.now (standing tyenv.now work.old) (standing tyenv.now work.new) d
-            (pattern_reading (macro_arg index (position pos)) expected_ty.0) pattern_view result }
+        ensures { (multi : Bool) (d : ℕ) → MayTranslate self.now (standing tyenv.now work.old) (standing tyenv.now work.new) d
+            (pattern_reading multi (macro_arg index (position pos)) expected_ty.0) pattern_view result }
     {
         report(
             &mut work.errors,

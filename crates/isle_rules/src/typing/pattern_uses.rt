@@ -1,7 +1,8 @@
 //! What the use of a term in a pattern stands for.
 
-ghost use Rattle.std.specs.Prelude.{◌≡◌, IfOk, OnOk, IsTrue, option_map, length, string_bytes};
+ghost use Rattle.std.specs.Prelude.{◌≡◌, true, IfOk, OnOk, IsTrue, option_map, length, string_bytes};
 ghost use Rattle.isle_base.specs.SyntaxViews.{name_view, position, pattern_view, pattern_views};
+ghost use Rattle.isle_model.specs.lists.Setting.{is_matchable};
 ghost use Rattle.isle_model.specs.lists.Syntax.{term_pattern};
 ghost use Rattle.isle_terms.specs.Terms.{has_extractor_kind, has_extractor_term};
 ghost use Rattle.isle_terms.specs.TermViews.{term_view};
@@ -28,7 +29,7 @@ pub(crate) enum PatternUse<'a> {
     Wrong,
     /// This pattern, by an expansion, in which so many may nest.
     Expansion(Pattern, usize),
-    /// The term itself, which has an extractor, with as many parts as it has arguments; or else this was noted.
+    /// The term itself, whose extractor may stand there, with as many parts as it has arguments; or else this was noted.
     Parts(&'a Term),
 }
 
@@ -71,8 +72,8 @@ impl TermEnv {
         }
     }
 
-    /// What a use of a term at a type stands for, where so many expansions may nest: upstream's steps before the parts of
-    /// a term pattern.
+    /// What a use of a term at a type stands for, in a rule whose term is multi or not, where so many expansions may nest:
+    /// upstream's steps before the parts of a term pattern.
     pub(crate) fn use_in_pattern(
         &self,
         tyenv: &TypeEnv,
@@ -82,11 +83,12 @@ impl TermEnv {
         args: &[Pattern],
         pos: Pos,
         expected_ty: TypeId,
+        multi: bool,
         nesting: usize,
     ) -> Result<PatternUse<'_>, Stop>
         requires inverse { IsInterned tyenv.now }
         requires whole { pattern_view whole.now ≡ term_pattern (name_view sym.now) (pattern_views args.now) (position pos) }
-        ensures { UsesTerm self.now (standing tyenv.now work.old) (standing tyenv.now work.new) nesting (pattern_view whole.now) (pattern_views args.now) expected_ty.0 result }
+        ensures { UsesTerm self.now (standing tyenv.now work.old) (standing tyenv.now work.new) nesting multi (pattern_view whole.now) (pattern_views args.now) expected_ty.0 result }
     {
         let Some(term) = self.find_term(tyenv, sym) else {
             report_unknown(&mut work.errors, pos, sym)?;
@@ -99,7 +101,7 @@ impl TermEnv {
         }
         check_use(tyenv, work, term, sym, args.len(), pos, expected_ty)?;
         let Some(template) = self.template_of(term) else {
-            check_extractor(&mut work.errors, pos, sym, term)?;
+            check_extractor(&mut work.errors, pos, sym, term, multi)?;
             return Ok(PatternUse::Parts(term));
         };
         let Some(made) = template.subst_macro_args(*self.terms.allocator(), args)? else {
@@ -165,23 +167,39 @@ fn check_type(
     report(errors, pos, msg)
 }
 
-// Whether a term has an extractor; else this is noted.
+// Whether a term has an extractor, and one that a rule may use whose term is multi or not; else this is noted.
 fn check_extractor(
     errors: &mut Vec<Error>,
     pos: Pos,
     sym: &Ident,
     term: &Term,
+    multi: bool,
 ) -> Result<(), AllocError>
-    ensures { OnOk result (Checks errors.old.items errors.new.items (IsTrue (has_extractor_term (term_view term.now)))) }
+    ensures { OnOk result (Checks errors.old.items errors.new.items (is_matchable multi (term_view term.now).kind ≡ true)) }
 {
-    if term.has_extractor() {
+    let name = sym.0.as_str();
+    if !term.has_extractor() {
+        let msg = format_args!(
+            "Cannot use term '{name}' that does not have a defined extractor in a left-hand side pattern"
+        );
+        return report(errors, pos, msg);
+    }
+    if is_usable(term, multi) {
         return Ok(());
     }
-    let msg = format_args!(
-        "Cannot use term '{}' that does not have a defined extractor in a left-hand side pattern",
-        sym.0
-    );
+    let msg = format_args!("Used multi-extractor '{name}' but this rule is not in a multi-term");
     report(errors, pos, msg)
+}
+
+// Whether a rule whose term is multi or not may use a term's extractor: those of multi terms give many answers.
+fn is_usable(term: &Term, multi: bool) -> bool
+    requires { IsTrue (has_extractor_term (term_view term.now)) }
+    ensures { result ≡ is_matchable multi (term_view term.now).kind }
+{
+    match &term.kind {
+        TermKind::Decl { flags: own, .. } => multi || !own.multi,
+        TermKind::EnumVariant { .. } | TermKind::Struct => true,
+    }
 }
 
 // Notes that no term has the name.

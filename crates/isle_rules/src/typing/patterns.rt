@@ -4,21 +4,21 @@ ghost use Rattle.std.specs.Prelude.{◌≡◌, ◌++◌, OnOk, length, map};
 ghost use Rattle.std.specs.Option.{option_to_list};
 ghost use Rattle.isle_base.specs.SyntaxViews as S;
 ghost use Rattle.isle_types.specs.Envs.{IsInterned};
-ghost use Rattle.isle_rules.specs.PatternViews.{pattern_view, pattern_views, pattern_parts};
+ghost use Rattle.isle_typed.specs.PatternViews.{pattern_view, pattern_views, pattern_parts};
 ghost use Rattle.isle_rules.specs.PatternReadings.{pattern_reading, parts_reading, each_reading};
 ghost use Rattle.isle_rules.specs.Translating.{standing, Keeps, StaysNoted, MayTranslate, Translates};
 
-use crate::patterns::Pattern;
 use crate::term_env::TermEnv;
 use crate::typing::pattern_uses::PatternUse;
 use crate::typing::progress::{Progress, Stop};
 use isle_base::syntax;
+use isle_typed::Pattern;
 use isle_types::{TypeEnv, TypeId};
 use std::alloc::AllocError;
 
 impl TermEnv {
-    /// A pattern at a type, where so many expansions may nest in one another. What is wrong is noted, and the work goes on
-    /// as upstream's does. Upstream's `TermEnv::translate_pattern`.
+    /// A pattern at a type, in a rule whose term is multi or not, where so many expansions may nest in one another. What is
+    /// wrong is noted, and the work goes on as upstream's does. Upstream's `TermEnv::translate_pattern`.
     ///
     /// # Errors
     ///
@@ -30,19 +30,27 @@ impl TermEnv {
         work: &mut Progress,
         pat: &syntax::Pattern,
         expected_ty: TypeId,
+        multi: bool,
         nesting: usize,
     ) -> Result<Option<Pattern>, Stop>
         requires { IsInterned tyenv.old }
         ensures keeps { Keeps tyenv.old tyenv.new }
         ensures made { MayTranslate self.now (standing tyenv.old work.old) (standing tyenv.new work.new) nesting
-            (pattern_reading (S.pattern_view pat.now) expected_ty.0) pattern_view result }
+            (pattern_reading multi (S.pattern_view pat.now) expected_ty.0) pattern_view result }
     {
         match pat {
             syntax::Pattern::Var { var, pos } => {
                 self.translate_var(tyenv, work, var, *pos, expected_ty)
             }
             syntax::Pattern::BindPattern { var, subpat, pos } => {
-                let made = self.translate_pattern(tyenv, work, subpat, expected_ty, nesting)?;
+                let made = self.translate_pattern(
+                    tyenv,
+                    work,
+                    subpat,
+                    expected_ty,
+                    multi,
+                    nesting,
+                )?;
                 let Some(of) = made else {
                     return Ok(None);
                 };
@@ -66,22 +74,23 @@ impl TermEnv {
                     args,
                     *pos,
                     expected_ty,
+                    multi,
                     nesting,
                 )? {
                     PatternUse::Wrong => Ok(None),
                     PatternUse::Expansion(made, left) => {
-                        self.translate_pattern(tyenv, work, &made, expected_ty, left)
+                        self.translate_pattern(tyenv, work, &made, expected_ty, multi, left)
                     }
                     PatternUse::Parts(term) => {
                         let tys = term.arg_tys.as_slice();
-                        let parts = self.translate_args(tyenv, work, args, tys, nesting)?;
+                        let parts = self.translate_args(tyenv, work, args, tys, multi, nesting)?;
                         Ok(Some(Pattern::Term(term.ret_ty, term.id, parts)))
                     }
                 }
             }
             syntax::Pattern::Wildcard { .. } => Ok(Some(Pattern::Wildcard(expected_ty))),
             syntax::Pattern::And { subpats, .. } => {
-                let parts = self.translate_each(tyenv, work, subpats, expected_ty, nesting)?;
+                let parts = self.translate_each(tyenv, work, subpats, expected_ty, multi, nesting)?;
                 Ok(Some(Pattern::And(expected_ty, parts)))
             }
             syntax::Pattern::MacroArg { index, pos } => {
@@ -103,19 +112,20 @@ impl TermEnv {
         work: &mut Progress,
         args: &[syntax::Pattern],
         tys: &[TypeId],
+        multi: bool,
         nesting: usize,
     ) -> Result<Vec<Pattern>, Stop>
         requires { IsInterned tyenv.old }
         ensures keeps { Keeps tyenv.old tyenv.new }
         ensures made { length args.now ≡ length tys.now
             → Translates self.now (standing tyenv.old work.old) (standing tyenv.new work.new) nesting
-            (parts_reading (S.pattern_views args.now) (map (λ t. t.0) tys.now)) (λ v. pattern_parts (pattern_views v.items)) result }
+            (parts_reading multi (S.pattern_views args.now) (map (λ t. t.0) tys.now)) (λ v. pattern_parts (pattern_views v.items)) result }
         ensures errors { StaysNoted (standing tyenv.old work.old) (standing tyenv.new work.new) result }
     {
         let count = args.len().min(tys.len());
         let mut parts = Vec::with_capacity(*self.terms.allocator(), count)?;
         for i in 0..count {
-            let part = self.translate_pattern(tyenv, work, &args[i], tys[i], nesting)?;
+            let part = self.translate_pattern(tyenv, work, &args[i], tys[i], multi, nesting)?;
             push_part(&mut parts, part)?;
         }
         Ok(parts)
@@ -129,16 +139,17 @@ impl TermEnv {
         work: &mut Progress,
         subpats: &[syntax::Pattern],
         expected_ty: TypeId,
+        multi: bool,
         nesting: usize,
     ) -> Result<Vec<Pattern>, Stop>
         requires { IsInterned tyenv.old }
         ensures keeps { Keeps tyenv.old tyenv.new }
         ensures made { Translates self.now (standing tyenv.old work.old) (standing tyenv.new work.new) nesting
-            (each_reading (S.pattern_views subpats.now) expected_ty.0) (λ v. pattern_parts (pattern_views v.items)) result }
+            (each_reading multi (S.pattern_views subpats.now) expected_ty.0) (λ v. pattern_parts (pattern_views v.items)) result }
     {
         let mut parts = Vec::with_capacity(*self.terms.allocator(), subpats.len())?;
         for subpat in subpats {
-            let part = self.translate_pattern(tyenv, work, subpat, expected_ty, nesting)?;
+            let part = self.translate_pattern(tyenv, work, subpat, expected_ty, multi, nesting)?;
             push_part(&mut parts, part)?;
         }
         Ok(parts)

@@ -2,12 +2,12 @@
 
 ghost use Rattle.std.specs.Prelude.{◌≡◌, ◌≤◌, IfOk, OnOk, option_map, length, alloc_error};
 ghost use Rattle.isle_model.specs.lists.Elaborated.{most_expansions};
-ghost use Rattle.isle_rules.specs.RuleViews.{var_view};
+ghost use Rattle.isle_typed.specs.RuleViews.{var_view};
 ghost use Rattle.isle_rules.specs.declared.typing.progress.Stop.TheVariants.{Memory};
 
-use crate::rules::BoundVar;
 use isle_base::stablemapset::StableMap;
 use isle_base::syntax::Error;
+use isle_typed::BoundVar;
 use isle_types::{Sym, TypeId, VarId};
 use std::alloc::{AllocError, AllocFailed, Global};
 

@@ -8,17 +8,17 @@ ghost use Rattle.isle_terms.specs.TermViews.{flags_view, term_view};
 ghost use Rattle.isle_types.specs.Envs.{names_of, IsInterned};
 ghost use Rattle.isle_rules.specs.Elaborating.{Checks};
 ghost use Rattle.isle_rules.specs.RuleReadings.{rule_reading, sides_view, scope_of};
-ghost use Rattle.isle_rules.specs.RuleViews.{rule_view};
+ghost use Rattle.isle_typed.specs.RuleViews.{rule_view};
 ghost use Rattle.isle_rules.specs.Translating.{standing, Keeps, MayTranslate};
 
 use crate::reports::report;
-use crate::rules::{BoundVar, Rule};
 use crate::term_env::TermEnv;
 use crate::typing::progress::{Progress, Stop};
 use crate::typing::sides::RuleSides;
 use isle_base::syntax;
 use isle_base::syntax::{Error, Pos};
 use isle_terms::{Term, TermFlags, TermKind};
+use isle_typed::{BoundVar, Rule};
 use isle_types::{RuleId, Sym, TypeEnv};
 use std::alloc::AllocError;
 

@@ -6,14 +6,14 @@ ghost use Rattle.isle_model.specs.lists.TermTable.{rule_trees};
 ghost use Rattle.isle_types.specs.Envs.{IsInterned};
 ghost use Rattle.isle_rules.specs.RuleErrors.{NotesOfRules, NotesOfDefinition};
 ghost use Rattle.isle_rules.specs.RuleLists.{CollectsRule, CollectsNext, CollectsRules};
-ghost use Rattle.isle_rules.specs.RuleViews.{rule_view, rule_views};
+ghost use Rattle.isle_typed.specs.RuleViews.{rule_view, rule_views};
 ghost use Rattle.isle_rules.specs.Translating.{Keeps};
 
-use crate::rules::Rule;
 use crate::term_env::TermEnv;
 use crate::typing::progress::Progress;
 use isle_base::syntax;
 use isle_base::syntax::Def;
+use isle_typed::Rule;
 use isle_types::{RuleId, TypeEnv};
 use std::alloc::AllocError;
 

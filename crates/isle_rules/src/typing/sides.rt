@@ -7,20 +7,18 @@ ghost use Rattle.isle_model.specs.lists.Elaborated.{root_parts};
 ghost use Rattle.isle_terms.specs.TermViews.{flags_view, term_view};
 ghost use Rattle.isle_types.specs.Envs.{IsInterned};
 ghost use Rattle.isle_rules.specs.PatternReadings.{parts_reading};
-ghost use Rattle.isle_rules.specs.PatternViews.{pattern_views, pattern_parts};
+ghost use Rattle.isle_typed.specs.PatternViews.{pattern_views, pattern_parts};
 ghost use Rattle.isle_rules.specs.RuleReadings.{iflet_reading, iflets_reading, sides_reading, sides_view};
-ghost use Rattle.isle_rules.specs.RuleViews.{iflet_view};
+ghost use Rattle.isle_typed.specs.RuleViews.{iflet_view};
 ghost use Rattle.isle_rules.specs.Translating.{standing, Keeps, MayTranslate, Translates};
 
-use crate::exprs::Expr;
-use crate::patterns::Pattern;
-use crate::rules::IfLet;
 use crate::term_env::TermEnv;
 use crate::typing::checks::check_count;
 use crate::typing::progress::{Progress, Stop};
 use isle_base::syntax;
 use isle_base::syntax::{Ident, Pos};
 use isle_terms::{Term, TermFlags};
+use isle_typed::{Expr, IfLet, Pattern};
 use isle_types::{TypeEnv, TypeId};
 use std::alloc::AllocError;
 
@@ -57,7 +55,7 @@ impl TermEnv {
             return Ok(None);
         };
         let ty = rhs.ty();
-        let taken = self.translate_pattern(tyenv, work, &iflet.pattern, ty, nesting)?;
+        let taken = self.translate_pattern(tyenv, work, &iflet.pattern, ty, flags.multi, nesting)?;
         let Some(lhs) = taken else {
             return Ok(None);
         };
@@ -90,7 +88,7 @@ impl TermEnv {
         Ok(made)
     }
 
-    // The arguments of a rule, which are to be as many as its term has; else this is noted first.
+    // The arguments of a rule whose term is multi or not, which are to be as many as its term has; else this is noted first.
     fn translate_root(
         &self,
         tyenv: &mut TypeEnv,
@@ -99,15 +97,16 @@ impl TermEnv {
         tys: &[TypeId],
         sym: &Ident,
         pos: Pos,
+        multi: bool,
         nesting: usize,
     ) -> Result<Vec<Pattern>, Stop>
         requires { IsInterned tyenv.old }
         ensures keeps { Keeps tyenv.old tyenv.new }
         ensures made { Translates self.now (standing tyenv.old work.old) (standing tyenv.new work.new) nesting
-            (parts_reading (S.pattern_views args.now) (map (λ t. t.0) tys.now)) (λ v. pattern_parts (pattern_views v.items)) result }
+            (parts_reading multi (S.pattern_views args.now) (map (λ t. t.0) tys.now)) (λ v. pattern_parts (pattern_views v.items)) result }
     {
         check_count(&mut work.errors, pos, sym, args.len(), tys.len())?;
-        self.translate_args(tyenv, work, args, tys, nesting)
+        self.translate_args(tyenv, work, args, tys, multi, nesting)
     }
 
     /// The sides of a rule of a term with these flags, whose root has this name and these arguments.
@@ -133,7 +132,16 @@ impl TermEnv {
             (sides_reading (S.rule_view rule.now) (flags_view flags) (term_view term.now)) sides_view result }
     {
         let tys = term.arg_tys.as_slice();
-        let parts = self.translate_root(tyenv, work, args, tys, sym, rule.pos, nesting)?;
+        let parts = self.translate_root(
+            tyenv,
+            work,
+            args,
+            tys,
+            sym,
+            rule.pos,
+            flags.multi,
+            nesting,
+        )?;
         let iflets = self.translate_iflets(tyenv, work, &rule.iflets, flags, nesting)?;
         let value = self.translate_expr(
             tyenv,

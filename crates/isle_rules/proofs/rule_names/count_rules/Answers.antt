@@ -2,7 +2,7 @@ use Rattle.std.proofs.Common.{◌≡◌, ◌<◌, ◌≤◌, ◌+◌, length, ge
 use Rattle.std.proofs.lemmas.Bool.{ltb-true, ltb-false}
 use Rattle.std.proofs.lemmas.Option.{slice_get_past}
 use Rattle.isle_rules.specs.RuleNaming.{AreCounts}
-use Rattle.isle_rules.specs.RuleViews.{rule_views}
+use Rattle.isle_typed.specs.RuleViews.{rule_views}
 use Rattle.isle_rules.proofs.CountSteps.{read_at, one_counted, none_more, few_counted}
 use Rattle.isle_rules.proofs.rule_names.count_rules.Goals as goal
 use Rattle.isle_rules.proofs.rule_names.count_rules.Goals.{in-Some, in_default}

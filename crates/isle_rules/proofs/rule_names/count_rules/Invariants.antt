@@ -1,6 +1,6 @@
 use Rattle.std.proofs.Common.{length, take}
 use Rattle.isle_rules.specs.RuleNaming.{AreCounts}
-use Rattle.isle_rules.specs.RuleViews.{rule_views}
+use Rattle.isle_typed.specs.RuleViews.{rule_views}
 use Rattle.isle_rules.proofs.rule_names.count_rules.Given as goal
 
 abbrev pub invariant-loop-rule : goal.invariant-loop-rule

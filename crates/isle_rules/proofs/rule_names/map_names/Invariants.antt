@@ -1,5 +1,5 @@
 use Rattle.std.proofs.Common.{drop}
-use Rattle.isle_rules.specs.RuleViews.{rule_views}
+use Rattle.isle_typed.specs.RuleViews.{rule_views}
 use Rattle.isle_rules.proofs.MapSteps.{MappingAt}
 use Rattle.isle_rules.proofs.rule_names.map_names.Given as goal
 

@@ -1,5 +1,5 @@
 use Rattle.isle_terms.specs.TermViews.{term_views}
-use Rattle.isle_rules.specs.RuleViews.{rule_views}
+use Rattle.isle_typed.specs.RuleViews.{rule_views}
 use Rattle.isle_rules.proofs.NameSteps.{NamedUpTo}
 use Rattle.isle_rules.proofs.rule_names.name_rules.Given as goal
 

@@ -8,10 +8,10 @@ use Rattle.isle_model.specs.lists.Syntax.{no_expr}
 use Rattle.isle_terms.specs.TermViews.{flags_view, term_view}
 use Rattle.isle_types.specs.declared.ids.TypeId.{TypeId}
 use Rattle.isle_rules.specs.ExprReadings.{expected, expr_reading, args_reading}
-use Rattle.isle_rules.specs.ExprViews.{expr_view, let_views, let_parts}
+use Rattle.isle_typed.specs.ExprViews.{expr_view, let_views, let_parts}
 use Rattle.isle_rules.specs.Translating.{standing}
 use Rattle.isle_rules.proofs.Defaults.{same_default}
-use Rattle.isle_rules.proofs.ExprBridges.{row_exprs-hidden}
+use Rattle.isle_typed.proofs.ExprBridges.{row_exprs-hidden}
 use Rattle.isle_rules.proofs.ExprLists.{none_yet, next_arg, arg_stops}
 use Rattle.isle_rules.proofs.ExprSizes.{expr_size, exprs_size, lets_size, less, inside_less, smaller_arg, smaller_def}
 use Rattle.isle_rules.proofs.ExprForms.{seen_call, seen_let, args_done, args_stop}
@@ -115,7 +115,7 @@ translate_exprs-translate_expr-requires t c =
 pub translate_exprs-loop-i-init : goal.translate_exprs-loop-i-init
 translate_exprs-loop-i-init t c = (
   keep_none c.args.tyenv.now c.requires,
-  none_yet c.args.self.now (standing c.args.tyenv.now c.args.work.now) c.args.nesting (args_reading no_expr (flags_view c.args.flags) []) c.in_ok-parts.parts.items c.in_ok-parts.ensures.items (λ e multi k s. refl),
+  none_yet c.args.self.now (standing c.args.tyenv.now c.args.work.now) c.args.nesting (args_reading no_expr (flags_view c.args.flags) []) c.in_ok-parts.parts.items c.in_ok-parts.ensures.items (λ e k s. refl),
 )
 
 pub translate_exprs-returns-in_err-part-clause-made : goal.translate_exprs-returns-in_err-part-clause-made

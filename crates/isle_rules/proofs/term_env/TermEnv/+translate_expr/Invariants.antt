@@ -2,7 +2,7 @@ use Rattle.std.proofs.Common.{suc, ◌+◌, map, take}
 use Rattle.isle_base.specs.SyntaxViews as S
 use Rattle.isle_terms.specs.TermViews.{flags_view}
 use Rattle.isle_rules.specs.ExprReadings.{args_reading, lets_reading}
-use Rattle.isle_rules.specs.ExprViews.{let_views, let_parts}
+use Rattle.isle_typed.specs.ExprViews.{let_views, let_parts}
 use Rattle.isle_rules.specs.Lets.{Defines}
 use Rattle.isle_rules.specs.Translating.{standing, Keeps}
 use Rattle.isle_rules.proofs.ExprLists.{SoFar}

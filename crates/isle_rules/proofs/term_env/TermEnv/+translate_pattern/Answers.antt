@@ -9,10 +9,10 @@ use Rattle.isle_types.specs.declared.ids.TypeId.{TypeId}
 use Rattle.isle_base.specs.SyntaxViews as S
 use Rattle.isle_terms.specs.TermViews.{term_view, term_views}
 use Rattle.isle_rules.specs.PatternReadings.{pattern_reading, parts_reading, each_reading}
-use Rattle.isle_rules.specs.PatternViews.{pattern_view, pattern_views, pattern_parts}
+use Rattle.isle_typed.specs.PatternViews.{pattern_view, pattern_views, pattern_parts}
 use Rattle.isle_rules.specs.Translating.{standing}
 use Rattle.isle_rules.proofs.Defaults.{same_default}
-use Rattle.isle_rules.proofs.PatternBridges.{row_patterns-hidden}
+use Rattle.isle_typed.proofs.PatternBridges.{row_patterns-hidden}
 use Rattle.isle_rules.proofs.PatternLists.{none_yet, next_part, part_stops, next_each, each_stops}
 use Rattle.isle_rules.proofs.PatternSizes.{tree_size, trees_size, growth, grown, smaller, deeper_smaller, expansion_smaller, smaller_part}
 use Rattle.isle_rules.proofs.PatternForms.{seen_bind, seen_term, seen_and, any_used, bind_done, bind_reported, bind_stops, parts_done, parts_stop}
@@ -25,21 +25,21 @@ translate_pattern-returns-in_err-made-in-BindPattern-clause-made t c =
       stop_is c.from_residual.result c.in_err-made-in-BindPattern.field-0.0 c.from_residual.ensures,
       seen_bind c.args.pat.now c.in-BindPattern.var c.in-BindPattern.subpat c.in-BindPattern.pos c.deref.result.now c.in-BindPattern.is c.deref.ensures,
     )
-    (bind_stops (S.name_view c.in-BindPattern.var) (S.pattern_view c.deref.result.now) (S.position c.in-BindPattern.pos) c.args.expected_ty.0
+    (bind_stops c.args.multi (S.name_view c.in-BindPattern.var) (S.pattern_view c.deref.result.now) (S.position c.in-BindPattern.pos) c.args.expected_ty.0
     c.args.self.now (standing c.args.tyenv.now c.args.work.now) (standing c.translate_pattern.new.tyenv c.translate_pattern.new.work) (standing c.translate_pattern.new.tyenv c.translate_pattern.new.work) c.args.nesting
     c.in_err-made-in-BindPattern.field-0.0 c.in_err-made-in-BindPattern.ensures.made)
 
 pub translate_pattern-returns-in_default-clause-made : goal.translate_pattern-returns-in_default-clause-made
 translate_pattern-returns-in_default-clause-made t c =
     rw (seen_bind c.args.pat.now c.in-BindPattern.var c.in-BindPattern.subpat c.in-BindPattern.pos c.deref.result.now c.in-BindPattern.is c.deref.ensures)
-    (bind_reported (S.name_view c.in-BindPattern.var) (S.pattern_view c.deref.result.now) (S.position c.in-BindPattern.pos) c.args.expected_ty.0
+    (bind_reported c.args.multi (S.name_view c.in-BindPattern.var) (S.pattern_view c.deref.result.now) (S.position c.in-BindPattern.pos) c.args.expected_ty.0
     c.args.self.now (standing c.args.tyenv.now c.args.work.now) (standing c.translate_pattern.new.tyenv c.translate_pattern.new.work) (standing c.translate_pattern.new.tyenv c.translate_pattern.new.work) c.args.nesting
     (rw c.in_default.is at c.in_ok-made-in-BindPattern.ensures.made))
 
 pub translate_pattern-returns-in-Some-clause-made : goal.translate_pattern-returns-in-Some-clause-made
 translate_pattern-returns-in-Some-clause-made t c =
     rw (seen_bind c.args.pat.now c.in-BindPattern.var c.in-BindPattern.subpat c.in-BindPattern.pos c.deref.result.now c.in-BindPattern.is c.deref.ensures)
-    (bind_done (S.name_view c.in-BindPattern.var) (S.pattern_view c.deref.result.now) (S.position c.in-BindPattern.pos) c.args.expected_ty.0
+    (bind_done c.args.multi (S.name_view c.in-BindPattern.var) (S.pattern_view c.deref.result.now) (S.position c.in-BindPattern.pos) c.args.expected_ty.0
     c.args.self.now (standing c.args.tyenv.now c.args.work.now) (standing c.translate_pattern.new.tyenv c.translate_pattern.new.work) _ c.args.nesting c.in-Some.of _
     c.translate_pattern.ensures.keeps (rw c.in-Some.is at c.in_ok-made-in-BindPattern.ensures.made) (c.bind_around.ensures.binds c.args.nesting))
 
@@ -50,7 +50,7 @@ pub translate_pattern-returns-in-Expansion-clause-made : goal.translate_pattern-
 translate_pattern-returns-in-Expansion-clause-made t c =
     let u = rw c.in-Expansion.is at c.in_ok-use_in_pattern-in-Term.ensures in
     expanded_done c.args.self.now (standing c.args.tyenv.now c.args.work.now) (standing c.args.tyenv.now c.use_in_pattern.new.work) _ refl c.args.nesting c.in-Expansion.left u.0
-    (pattern_reading (S.pattern_view c.args.pat.now) c.args.expected_ty.0) (pattern_reading (S.pattern_view c.in-Expansion.made) c.args.expected_ty.0) pattern_view u.2 _ c.translate_pattern-in-Expansion.ensures.made
+    (pattern_reading c.args.multi (S.pattern_view c.args.pat.now) c.args.expected_ty.0) (pattern_reading c.args.multi (S.pattern_view c.in-Expansion.made) c.args.expected_ty.0) pattern_view u.2 _ c.translate_pattern-in-Expansion.ensures.made
 
 pub translate_pattern-returns-in_err-parts-in-Parts-clause-made : goal.translate_pattern-returns-in_err-parts-in-Parts-clause-made
 translate_pattern-returns-in_err-parts-in-Parts-clause-made t c =
@@ -58,7 +58,7 @@ translate_pattern-returns-in_err-parts-in-Parts-clause-made t c =
     let args : c.deref-in-Parts.result.now ≡ c.deref-in-Term.result.now = c.deref-in-Parts.ensures.value ∙ sym c.deref-in-Term.ensures.value in
     let made = rw (args, c.as_slice-tys.ensures.value) at c.in_err-parts-in-Parts.ensures.made in
     rw (stop_is c.from_residual-in_err-parts-in-Parts.result c.in_err-parts-in-Parts.field-0.0 c.from_residual-in_err-parts-in-Parts.ensures)
-    (parts_stop c.args.self.now (standing c.args.tyenv.now c.args.work.now) (standing c.args.tyenv.now c.use_in_pattern.new.work) (standing c.translate_args.new.tyenv c.translate_args.new.work) refl c.args.nesting
+    (parts_stop c.args.multi c.args.self.now (standing c.args.tyenv.now c.args.work.now) (standing c.args.tyenv.now c.use_in_pattern.new.work) (standing c.translate_args.new.tyenv c.translate_args.new.work) refl c.args.nesting
     (S.pattern_view c.args.pat.now) c.deref-in-Term.result.now c.args.expected_ty.0 (term_view c.in-Parts.term.now) u c.in_err-parts-in-Parts.field-0.0
     c.in_err-parts-in-Parts.ensures.errors (λ same. made (same ∙ length-map c.in-Parts.term.now.arg_tys.items (λ ty. ty.0))))
 
@@ -68,7 +68,7 @@ translate_pattern-returns-in_ok-parts-in-Parts-clause-made t c =
     let args : c.deref-in-Parts.result.now ≡ c.deref-in-Term.result.now = c.deref-in-Parts.ensures.value ∙ sym c.deref-in-Term.ensures.value in
     let made = rw (args, c.as_slice-tys.ensures.value) at c.in_ok-parts-in-Parts.ensures.made in
     rw (row_patterns-hidden c.in_ok-parts-in-Parts.parts)
-    (parts_done c.args.self.now (standing c.args.tyenv.now c.args.work.now) (standing c.args.tyenv.now c.use_in_pattern.new.work) (standing c.translate_args.new.tyenv c.translate_args.new.work) refl c.args.nesting
+    (parts_done c.args.multi c.args.self.now (standing c.args.tyenv.now c.args.work.now) (standing c.args.tyenv.now c.use_in_pattern.new.work) (standing c.translate_args.new.tyenv c.translate_args.new.work) refl c.args.nesting
     (S.pattern_view c.args.pat.now) c.deref-in-Term.result.now c.args.expected_ty.0 (term_view c.in-Parts.term.now) u c.in_ok-parts-in-Parts.parts.items
     (λ same. made (same ∙ length-map c.in-Parts.term.now.arg_tys.items (λ ty. ty.0))) c.in_ok-parts-in-Parts.ensures.errors)
 
@@ -78,35 +78,35 @@ translate_pattern-returns-in_err-parts-in-And-clause-made t c =
       stop_is c.from_residual-in_err-parts-in-And.result c.in_err-parts-in-And.field-0.0 c.from_residual-in_err-parts-in-And.ensures,
       seen_and c.args.pat.now c.in-And.subpats c.in-And.pos c.deref-in-And.result.now c.in-And.is c.deref-in-And.ensures.value,
     )
-    (made_stops c.args.self.now (standing c.args.tyenv.now c.args.work.now) (standing c.translate_each.new.tyenv c.translate_each.new.work) c.args.nesting (each_reading (S.pattern_views c.deref-in-And.result.now) c.args.expected_ty.0)
-    (pattern_reading (and_pattern (S.pattern_views c.deref-in-And.result.now) (S.position c.in-And.pos)) c.args.expected_ty.0) (match_and c.args.expected_ty.0) (λ e multi k s. refl)
+    (made_stops c.args.self.now (standing c.args.tyenv.now c.args.work.now) (standing c.translate_each.new.tyenv c.translate_each.new.work) c.args.nesting (each_reading c.args.multi (S.pattern_views c.deref-in-And.result.now) c.args.expected_ty.0)
+    (pattern_reading c.args.multi (and_pattern (S.pattern_views c.deref-in-And.result.now) (S.position c.in-And.pos)) c.args.expected_ty.0) (match_and c.args.expected_ty.0) (λ e k s. refl)
     c.in_err-parts-in-And.field-0.0 c.in_err-parts-in-And.ensures.made)
 
 pub translate_pattern-returns-in_ok-parts-in-And-clause-made : goal.translate_pattern-returns-in_ok-parts-in-And-clause-made
 translate_pattern-returns-in_ok-parts-in-And-clause-made t c =
     rw (row_patterns-hidden c.in_ok-parts-in-And.parts, seen_and c.args.pat.now c.in-And.subpats c.in-And.pos c.deref-in-And.result.now c.in-And.is c.deref-in-And.ensures.value)
-    (made_done c.args.self.now (standing c.args.tyenv.now c.args.work.now) (standing c.translate_each.new.tyenv c.translate_each.new.work) c.args.nesting (each_reading (S.pattern_views c.deref-in-And.result.now) c.args.expected_ty.0)
-    (pattern_reading (and_pattern (S.pattern_views c.deref-in-And.result.now) (S.position c.in-And.pos)) c.args.expected_ty.0) (match_and c.args.expected_ty.0) (λ e multi k s. refl)
+    (made_done c.args.self.now (standing c.args.tyenv.now c.args.work.now) (standing c.translate_each.new.tyenv c.translate_each.new.work) c.args.nesting (each_reading c.args.multi (S.pattern_views c.deref-in-And.result.now) c.args.expected_ty.0)
+    (pattern_reading c.args.multi (and_pattern (S.pattern_views c.deref-in-And.result.now) (S.position c.in-And.pos)) c.args.expected_ty.0) (match_and c.args.expected_ty.0) (λ e k s. refl)
     (pattern_parts (pattern_views c.in_ok-parts-in-And.parts.items)) c.in_ok-parts-in-And.ensures.made)
 
 pub translate_pattern-returns-in-Wildcard-clause-made : goal.translate_pattern-returns-in-Wildcard-clause-made
 translate_pattern-returns-in-Wildcard-clause-made t c =
-    rw c.in-Wildcard.is (any_used c.args.self.now (standing c.args.tyenv.now c.args.work.now) c.args.nesting c.args.expected_ty.0 (S.position c.in-Wildcard.pos))
+    rw c.in-Wildcard.is (any_used c.args.multi c.args.self.now (standing c.args.tyenv.now c.args.work.now) c.args.nesting c.args.expected_ty.0 (S.position c.in-Wildcard.pos))
 
 pub translate_pattern-returns-in-Var-clause-made : goal.translate_pattern-returns-in-Var-clause-made
-translate_pattern-returns-in-Var-clause-made t c = rw c.in-Var.is (c.translate_var.ensures.made c.args.nesting)
+translate_pattern-returns-in-Var-clause-made t c = rw c.in-Var.is (c.translate_var.ensures.made c.args.multi c.args.nesting)
 
 pub translate_pattern-returns-in-ConstBool-clause-made : goal.translate_pattern-returns-in-ConstBool-clause-made
-translate_pattern-returns-in-ConstBool-clause-made t c = rw c.in-ConstBool.is (c.translate_bool.ensures c.args.nesting)
+translate_pattern-returns-in-ConstBool-clause-made t c = rw c.in-ConstBool.is (c.translate_bool.ensures c.args.multi c.args.nesting)
 
 pub translate_pattern-returns-in-ConstInt-clause-made : goal.translate_pattern-returns-in-ConstInt-clause-made
-translate_pattern-returns-in-ConstInt-clause-made t c = let fits : SFits w128 c.in-ConstInt.val = search rules in rw c.in-ConstInt.is (rw (to_z-of_z w128 c.in-ConstInt.val fits) at (c.translate_int.ensures c.args.nesting))
+translate_pattern-returns-in-ConstInt-clause-made t c = let fits : SFits w128 c.in-ConstInt.val = search rules in rw c.in-ConstInt.is (rw (to_z-of_z w128 c.in-ConstInt.val fits) at (c.translate_int.ensures c.args.multi c.args.nesting))
 
 pub translate_pattern-returns-in-ConstPrim-clause-made : goal.translate_pattern-returns-in-ConstPrim-clause-made
-translate_pattern-returns-in-ConstPrim-clause-made t c = rw c.in-ConstPrim.is (c.translate_prim.ensures.made c.args.nesting)
+translate_pattern-returns-in-ConstPrim-clause-made t c = rw c.in-ConstPrim.is (c.translate_prim.ensures.made c.args.multi c.args.nesting)
 
 pub translate_pattern-returns-in-MacroArg-clause-made : goal.translate_pattern-returns-in-MacroArg-clause-made
-translate_pattern-returns-in-MacroArg-clause-made t c = rw c.in-MacroArg.is (c.refuse_macro_arg.ensures c.args.nesting)
+translate_pattern-returns-in-MacroArg-clause-made t c = rw c.in-MacroArg.is (c.refuse_macro_arg.ensures c.args.multi c.args.nesting)
 
 pub translate_pattern-translate_pattern-requires : goal.translate_pattern-translate_pattern-requires
 translate_pattern-translate_pattern-requires t c =
@@ -153,7 +153,7 @@ translate_each-translate_pattern-requires t c =
 pub translate_args-loop-i-init : goal.translate_args-loop-i-init
 translate_args-loop-i-init t c = (
   keep_none c.args.tyenv.now c.requires,
-  none_yet c.args.self.now (standing c.args.tyenv.now c.args.work.now) c.args.nesting (parts_reading no_pattern []) c.in_ok-parts.parts.items c.in_ok-parts.ensures.items (λ e multi k s. refl),
+  none_yet c.args.self.now (standing c.args.tyenv.now c.args.work.now) c.args.nesting (parts_reading c.args.multi no_pattern []) c.in_ok-parts.parts.items c.in_ok-parts.ensures.items (λ e k s. refl),
 )
 
 pub translate_args-returns-in_err-part-clause-made : goal.translate_args-returns-in_err-part-clause-made
@@ -162,7 +162,7 @@ translate_args-returns-in_err-part-clause-made t c =
     let v : c.loop-i.i < length c.args.tys.now = search rules in
     let ty : TypeId = get_or c.args.tys.now c.loop-i.i (record { 0 = 0 }) in
     rw (stop_is c.from_residual-in_err-part.result c.in_err-part.field-0.0 c.from_residual-in_err-part.ensures)
-    (part_stops c.args.self.now (standing c.args.tyenv.now c.args.work.now) (standing c.loop-i.tyenv c.loop-i.work) (standing c.translate_pattern.new.tyenv c.translate_pattern.new.work) c.args.nesting
+    (part_stops c.args.multi c.args.self.now (standing c.args.tyenv.now c.args.work.now) (standing c.loop-i.tyenv c.loop-i.work) (standing c.translate_pattern.new.tyenv c.translate_pattern.new.work) c.args.nesting
     c.args.args.now c.args.tys.now c.loop-i.i c.index-args-i.result ty w v c.index-args-i.is (same_default c.args.tys.now c.loop-i.i (record { 0 = 0 }) ty v) c.loop-i.invariant.0
     c.loop-i.parts.items c.loop-i.invariant.1 c.in_err-part.field-0.0 c.in_err-part.ensures.made)
 
@@ -172,7 +172,7 @@ translate_args-returns-in_err-part-clause-errors t c =
     rw (stop_is c.from_residual-in_err-part.result c.in_err-part.field-0.0 c.from_residual-in_err-part.ensures)
     (stays_on (standing c.args.tyenv.now c.args.work.now) (standing c.loop-i.tyenv c.loop-i.work) (standing c.translate_pattern.new.tyenv c.translate_pattern.new.work) c.in_err-part.field-0.0
     (may_report c.args.self.now (standing c.args.tyenv.now c.args.work.now) (standing c.loop-i.tyenv c.loop-i.work) c.args.nesting _ _ c.loop-i.invariant.1) (stop_keeps c.args.self.now (standing c.loop-i.tyenv c.loop-i.work) (standing c.translate_pattern.new.tyenv c.translate_pattern.new.work) c.args.nesting
-    (pattern_reading (S.pattern_view c.index-args-i.result) ty.0) c.in_err-part.field-0.0 c.in_err-part.ensures.made))
+    (pattern_reading c.args.multi (S.pattern_view c.index-args-i.result) ty.0) c.in_err-part.field-0.0 c.in_err-part.ensures.made))
 
 pub translate_args-loop-i-preserved : goal.translate_args-loop-i-preserved
 translate_args-loop-i-preserved t c =
@@ -182,7 +182,7 @@ translate_args-loop-i-preserved t c =
     let pushed = c.in_ok-push_part.ensures in (
       keep_on c.args.tyenv.now c.loop-i.tyenv c.translate_pattern.new.tyenv c.loop-i.invariant.0 c.translate_pattern.ensures.keeps,
       rw pushed
-          (next_part c.args.self.now (standing c.args.tyenv.now c.args.work.now) (standing c.loop-i.tyenv c.loop-i.work) (standing c.translate_pattern.new.tyenv c.translate_pattern.new.work) c.args.nesting
+          (next_part c.args.multi c.args.self.now (standing c.args.tyenv.now c.args.work.now) (standing c.loop-i.tyenv c.loop-i.work) (standing c.translate_pattern.new.tyenv c.translate_pattern.new.work) c.args.nesting
           c.args.args.now c.args.tys.now c.loop-i.i c.index-args-i.result ty w v c.index-args-i.is (same_default c.args.tys.now c.loop-i.i (record { 0 = 0 }) ty v) c.loop-i.invariant.0
           c.loop-i.parts.items c.loop-i.invariant.1 c.in_ok-part.part c.in_ok-part.ensures.made),
     )
@@ -190,13 +190,13 @@ translate_args-loop-i-preserved t c =
 pub translate_each-loop-subpat-init : goal.translate_each-loop-subpat-init
 translate_each-loop-subpat-init t c = (
   keep_none c.args.tyenv.now c.requires,
-  none_yet c.args.self.now (standing c.args.tyenv.now c.args.work.now) c.args.nesting (each_reading no_pattern c.args.expected_ty.0) c.in_ok-parts.parts.items c.in_ok-parts.ensures.items (λ e multi k s. refl),
+  none_yet c.args.self.now (standing c.args.tyenv.now c.args.work.now) c.args.nesting (each_reading c.args.multi no_pattern c.args.expected_ty.0) c.in_ok-parts.parts.items c.in_ok-parts.ensures.items (λ e k s. refl),
 )
 
 pub translate_each-returns-in_err-part-clause-made : goal.translate_each-returns-in_err-part-clause-made
 translate_each-returns-in_err-part-clause-made t c =
     rw (stop_is c.from_residual-in_err-part.result c.in_err-part.field-0.0 c.from_residual-in_err-part.ensures)
-    (each_stops c.args.self.now (standing c.args.tyenv.now c.args.work.now) (standing c.loop-subpat.tyenv c.loop-subpat.work) (standing c.translate_pattern.new.tyenv c.translate_pattern.new.work) c.args.nesting
+    (each_stops c.args.multi c.args.self.now (standing c.args.tyenv.now c.args.work.now) (standing c.loop-subpat.tyenv c.loop-subpat.work) (standing c.translate_pattern.new.tyenv c.translate_pattern.new.work) c.args.nesting
     c.args.subpats.now c.args.expected_ty.0 c.loop-subpat.subpat-index c.subpat-item.result c.loop-subpat-test.true c.subpat-item.is c.loop-subpat.invariant.0
     c.loop-subpat.parts.items c.loop-subpat.invariant.1 c.in_err-part.field-0.0 c.in_err-part.ensures.made)
 
@@ -205,7 +205,7 @@ translate_each-loop-subpat-preserved t c =
     let pushed = c.in_ok-push_part.ensures in (
       keep_on c.args.tyenv.now c.loop-subpat.tyenv c.translate_pattern.new.tyenv c.loop-subpat.invariant.0 c.translate_pattern.ensures.keeps,
       rw pushed
-          (next_each c.args.self.now (standing c.args.tyenv.now c.args.work.now) (standing c.loop-subpat.tyenv c.loop-subpat.work) (standing c.translate_pattern.new.tyenv c.translate_pattern.new.work) c.args.nesting
+          (next_each c.args.multi c.args.self.now (standing c.args.tyenv.now c.args.work.now) (standing c.loop-subpat.tyenv c.loop-subpat.work) (standing c.translate_pattern.new.tyenv c.translate_pattern.new.work) c.args.nesting
           c.args.subpats.now c.args.expected_ty.0 c.loop-subpat.subpat-index c.subpat-item.result c.loop-subpat-test.true c.subpat-item.is c.loop-subpat.invariant.0
           c.loop-subpat.parts.items c.loop-subpat.invariant.1 c.in_ok-part.part c.in_ok-part.ensures.made),
     )

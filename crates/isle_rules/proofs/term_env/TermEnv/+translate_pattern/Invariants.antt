@@ -19,9 +19,9 @@ decreases-translate_each l = grown (growth (term_views l.self.now.terms.items)) 
 abbrev pub invariant-translate_args-loop-i : goal.invariant-translate_args-loop-i
 invariant-translate_args-loop-i l =
     Keeps l.fn.tyenv l.tyenv
-    × SoFar l.self (standing l.fn.tyenv l.fn.work) (standing l.tyenv l.work) l.nesting (parts_reading (S.pattern_views (take l.i l.args)) (map (λ t. t.0) (take l.i l.tys))) l.parts.items
+    × SoFar l.self (standing l.fn.tyenv l.fn.work) (standing l.tyenv l.work) l.nesting (parts_reading l.multi (S.pattern_views (take l.i l.args)) (map (λ t. t.0) (take l.i l.tys))) l.parts.items
 
 abbrev pub invariant-translate_each-loop-subpat : goal.invariant-translate_each-loop-subpat
 invariant-translate_each-loop-subpat l =
     Keeps l.fn.tyenv l.tyenv
-    × SoFar l.self (standing l.fn.tyenv l.fn.work) (standing l.tyenv l.work) l.nesting (each_reading (S.pattern_views (take l.subpat-index l.subpats)) l.expected_ty.0) l.parts.items
+    × SoFar l.self (standing l.fn.tyenv l.fn.work) (standing l.tyenv l.work) l.nesting (each_reading l.multi (S.pattern_views (take l.subpat-index l.subpats)) l.expected_ty.0) l.parts.items

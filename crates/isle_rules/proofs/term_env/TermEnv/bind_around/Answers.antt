@@ -5,7 +5,7 @@ use Rattle.isle_base.specs.SyntaxViews.{name_view, position}
 use Rattle.isle_model.specs.lists.Formed.{pattern_type}
 use Rattle.isle_model.specs.rules.Typed.{match_bind}
 use Rattle.isle_rules.specs.Elaborating.{Checks}
-use Rattle.isle_rules.specs.PatternViews.{pattern_view}
+use Rattle.isle_typed.specs.PatternViews.{pattern_view}
 use Rattle.isle_rules.specs.Progress.{newest, BindsNext}
 use Rattle.isle_rules.specs.Translating.{standing}
 use Rattle.isle_rules.proofs.PatternLeaves.{name_bound}

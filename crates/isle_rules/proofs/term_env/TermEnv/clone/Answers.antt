@@ -1,7 +1,7 @@
 use Rattle.std.proofs.Common.{◌≡◌, refl, map}
 use Rattle.isle_terms.specs.TermViews.{term_view}
-use Rattle.isle_rules.specs.RuleViews.{rule_view}
-use Rattle.isle_rules.proofs.Copies.{clone_says}
+use Rattle.isle_typed.specs.RuleViews.{rule_view}
+use Rattle.isle_typed.proofs.Copies.{clone_says}
 use Rattle.isle_rules.proofs.TermCopies.{term_copied}
 use Rattle.isle_rules.proofs.term_env.TermEnv.clone.Goals as goal
 

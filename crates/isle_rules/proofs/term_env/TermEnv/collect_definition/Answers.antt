@@ -1,5 +1,5 @@
 use Rattle.std.proofs.Common.{◌≡◌, length, option_map, rules}
-use Rattle.isle_rules.specs.RuleViews.{rule_view}
+use Rattle.isle_typed.specs.RuleViews.{rule_view}
 use Rattle.isle_rules.proofs.RuleErrorSteps.{rule_noted}
 use Rattle.isle_rules.proofs.RuleEnds.{rule_added, rule_left_out}
 use Rattle.isle_rules.proofs.term_env.TermEnv.collect_definition.Goals as goal

@@ -1,8 +1,11 @@
-use Rattle.std.proofs.Common.{refl, inr, ap}
+use Rattle.std.proofs.Common.{rules, ◌≡◌, slice_get, refl, inr, ap}
 use mir.Syntax.{w128}
+use mir.Val.{SFits}
 use Rattle.std.proofs.lemmas.Int.{to_z-of_z}
 use Rattle.isle_base.specs.SyntaxViews.{position}
+use Rattle.isle_model.specs.lists.Ranges.{reduced}
 use Rattle.isle_model.specs.lists.Syntax.{int_expr}
+use Rattle.isle_types.specs.TypeViews.{type_views}
 use Rattle.isle_rules.specs.ExprReadings.{expected, expr_reading}
 use Rattle.isle_rules.specs.Translating.{standing}
 use Rattle.isle_rules.proofs.ExprLeaves.{int_made}
@@ -11,11 +14,13 @@ use Rattle.isle_rules.proofs.term_env.TermEnv.make_int.Goals as goal
 pub returns-in_default : goal.returns-in_default
 returns-in_default c flags d = record {
   errors = inr c.in_ok-report.ensures;
-  noted = λ e multi s is sh. record { reports = c.in_ok-report.ensures; none = λ k. ap (λ ty. expr_reading (int_expr c.args.val (position c.args.pos)) flags (expected ty) e multi k s) c.in_default.is };
+  noted = λ e s is sh. record { reports = c.in_ok-report.ensures; none = λ k. ap (λ ty. expr_reading (int_expr c.args.val (position c.args.pos)) flags (expected ty) e k s) c.in_default.is };
 }
 
 pub returns : goal.returns
 returns c flags d =
-    rw (c.in-Some.is, to_z-of_z w128 c.args.val c.ranges.val)
+    let fits : SFits w128 c.literal_number-number.result = search rules in
+    let stands : c.literal_number-number.result ≡ reduced (slice_get (type_views c.args.tyenv.now.types.items) c.in-Some.ty.0) c.args.val = search rules in
+    rw (c.in-Some.is, to_z-of_z w128 c.literal_number-number.result fits)
     (int_made c.args.self.now (standing c.args.tyenv.now c.args.work.now) _ flags (position c.args.pos) refl (record { vars = refl; names = λ k. refl; expansions = refl })
-    c.in-Some.ty.0 c.args.val c.in_ok-check_integer.ensures d)
+    c.in-Some.ty.0 c.args.val c.literal_number-number.result stands c.in_ok-check_integer.ensures d)

@@ -6,7 +6,7 @@ use Rattle.isle_terms.specs.TermViews.{term_views}
 use Rattle.isle_rules.specs.Elaborating.{Checks}
 use Rattle.isle_rules.specs.RuleLists.{CollectsRules}
 use Rattle.isle_rules.specs.RuleNaming.{MapsNames, AreDefined}
-use Rattle.isle_rules.specs.RuleViews.{rule_views}
+use Rattle.isle_typed.specs.RuleViews.{rule_views}
 use Rattle.isle_rules.specs.RuleErrors.{NotesOfRules}
 use Rattle.isle_rules.proofs.RulesRefused.{mapped_noted, noted_to_the_end}
 use Rattle.isle_rules.proofs.Noted.{may_both, may_check}

@@ -2,4 +2,4 @@ use Rattle.std.proofs.Common.{refl, inr}
 use Rattle.isle_rules.proofs.term_env.TermEnv.refuse_macro_arg.Goals as goal
 
 pub returns : goal.returns
-returns c d = record { errors = inr c.in_ok-report.ensures; noted = λ e multi s is sh. record { reports = c.in_ok-report.ensures; none = λ k. refl } }
+returns c multi d = record { errors = inr c.in_ok-report.ensures; noted = λ e s is sh. record { reports = c.in_ok-report.ensures; none = λ k. refl } }

@@ -4,9 +4,9 @@ use Rattle.isle_model.specs.lists.Setting.{on_lhs, expr_type}
 use Rattle.isle_model.specs.lists.Elaborated.{typed_iflet}
 use Rattle.isle_terms.specs.TermViews.{flags_view}
 use Rattle.isle_rules.specs.ExprReadings.{expr_reading}
-use Rattle.isle_rules.specs.ExprViews.{expr_view}
+use Rattle.isle_typed.specs.ExprViews.{expr_view}
 use Rattle.isle_rules.specs.PatternReadings.{pattern_reading}
-use Rattle.isle_rules.specs.PatternViews.{pattern_view}
+use Rattle.isle_typed.specs.PatternViews.{pattern_view}
 use Rattle.isle_rules.specs.RuleReadings.{iflet_reading}
 use Rattle.isle_rules.specs.Translating.{standing}
 use Rattle.isle_rules.proofs.Readings.{stop_is, first_stops, first_reported, then_stops, then_reported, then_done}
@@ -17,14 +17,14 @@ returns-in_err-value-clause-made c =
     let flags : flags_view c.on_lhs.result ≡ on_lhs (flags_view c.args.flags) = ap flags_view c.on_lhs.ensures in
     rw (stop_is c.from_residual.result c.in_err-value.field-0.0 c.from_residual.ensures)
     (first_stops c.args.self.now (standing c.args.tyenv.now c.args.work.now) (standing c.translate_expr.new.tyenv c.translate_expr.new.work) (standing c.translate_expr.new.tyenv c.translate_expr.new.work) c.args.nesting
-    (expr_reading (S.expr_view c.args.iflet.now.expr) (on_lhs (flags_view c.args.flags)) _) (λ x. pattern_reading (S.pattern_view c.args.iflet.now.pattern) (expr_type x)) (iflet_reading (S.iflet_view c.args.iflet.now) (flags_view c.args.flags)) typed_iflet (λ e multi k s. refl)
+    (expr_reading (S.expr_view c.args.iflet.now.expr) (on_lhs (flags_view c.args.flags)) _) (λ x. pattern_reading c.args.flags.multi (S.pattern_view c.args.iflet.now.pattern) (expr_type x)) (iflet_reading (S.iflet_view c.args.iflet.now) (flags_view c.args.flags)) typed_iflet (λ e k s. refl)
     c.in_err-value.field-0.0 (rw flags at c.in_err-value.ensures.made))
 
 pub returns-in_default-clause-made : goal.returns-in_default-clause-made
 returns-in_default-clause-made c =
     let flags : flags_view c.on_lhs.result ≡ on_lhs (flags_view c.args.flags) = ap flags_view c.on_lhs.ensures in
     first_reported c.args.self.now (standing c.args.tyenv.now c.args.work.now) (standing c.translate_expr.new.tyenv c.translate_expr.new.work) (standing c.translate_expr.new.tyenv c.translate_expr.new.work) c.args.nesting
-    (expr_reading (S.expr_view c.args.iflet.now.expr) (on_lhs (flags_view c.args.flags)) _) (λ x. pattern_reading (S.pattern_view c.args.iflet.now.pattern) (expr_type x)) (iflet_reading (S.iflet_view c.args.iflet.now) (flags_view c.args.flags)) typed_iflet (λ e multi k s. refl)
+    (expr_reading (S.expr_view c.args.iflet.now.expr) (on_lhs (flags_view c.args.flags)) _) (λ x. pattern_reading c.args.flags.multi (S.pattern_view c.args.iflet.now.pattern) (expr_type x)) (iflet_reading (S.iflet_view c.args.iflet.now) (flags_view c.args.flags)) typed_iflet (λ e k s. refl)
     (rw (c.in_default.is, flags) at c.in_ok-value.ensures.made)
 
 pub returns-in_err-taken-clause-made : goal.returns-in_err-taken-clause-made
@@ -32,7 +32,7 @@ returns-in_err-taken-clause-made c =
     let flags : flags_view c.on_lhs.result ≡ on_lhs (flags_view c.args.flags) = ap flags_view c.on_lhs.ensures in
     rw (stop_is c.from_residual-in_err-taken.result c.in_err-taken.field-0.0 c.from_residual-in_err-taken.ensures)
     (then_stops c.args.self.now (standing c.args.tyenv.now c.args.work.now) (standing c.translate_expr.new.tyenv c.translate_expr.new.work) (standing c.translate_pattern.new.tyenv c.translate_pattern.new.work) c.args.nesting
-    (expr_reading (S.expr_view c.args.iflet.now.expr) (on_lhs (flags_view c.args.flags)) _) (λ x. pattern_reading (S.pattern_view c.args.iflet.now.pattern) (expr_type x)) (iflet_reading (S.iflet_view c.args.iflet.now) (flags_view c.args.flags)) typed_iflet (λ e multi k s. refl)
+    (expr_reading (S.expr_view c.args.iflet.now.expr) (on_lhs (flags_view c.args.flags)) _) (λ x. pattern_reading c.args.flags.multi (S.pattern_view c.args.iflet.now.pattern) (expr_type x)) (iflet_reading (S.iflet_view c.args.iflet.now) (flags_view c.args.flags)) typed_iflet (λ e k s. refl)
     (expr_view c.in-Some.rhs) c.translate_expr.ensures.keeps (rw (c.in-Some.is, flags) at c.in_ok-value.ensures.made)
     c.in_err-taken.field-0.0 (rw c.ty-ty.ensures at c.in_err-taken.ensures.made))
 
@@ -40,7 +40,7 @@ pub returns-in_default-taken-clause-made : goal.returns-in_default-taken-clause-
 returns-in_default-taken-clause-made c =
     let flags : flags_view c.on_lhs.result ≡ on_lhs (flags_view c.args.flags) = ap flags_view c.on_lhs.ensures in
     then_reported c.args.self.now (standing c.args.tyenv.now c.args.work.now) (standing c.translate_expr.new.tyenv c.translate_expr.new.work) (standing c.translate_pattern.new.tyenv c.translate_pattern.new.work) c.args.nesting
-    (expr_reading (S.expr_view c.args.iflet.now.expr) (on_lhs (flags_view c.args.flags)) _) (λ x. pattern_reading (S.pattern_view c.args.iflet.now.pattern) (expr_type x)) (iflet_reading (S.iflet_view c.args.iflet.now) (flags_view c.args.flags)) typed_iflet (λ e multi k s. refl)
+    (expr_reading (S.expr_view c.args.iflet.now.expr) (on_lhs (flags_view c.args.flags)) _) (λ x. pattern_reading c.args.flags.multi (S.pattern_view c.args.iflet.now.pattern) (expr_type x)) (iflet_reading (S.iflet_view c.args.iflet.now) (flags_view c.args.flags)) typed_iflet (λ e k s. refl)
     (expr_view c.in-Some.rhs) c.translate_expr.ensures.keeps (rw (c.in-Some.is, flags) at c.in_ok-value.ensures.made)
     (rw (c.in_default-taken.is, c.ty-ty.ensures) at c.in_ok-taken.ensures.made)
 
@@ -48,6 +48,6 @@ pub returns-clause-made : goal.returns-clause-made
 returns-clause-made c =
     let flags : flags_view c.on_lhs.result ≡ on_lhs (flags_view c.args.flags) = ap flags_view c.on_lhs.ensures in
     then_done c.args.self.now (standing c.args.tyenv.now c.args.work.now) (standing c.translate_expr.new.tyenv c.translate_expr.new.work) (standing c.translate_pattern.new.tyenv c.translate_pattern.new.work) c.args.nesting
-    (expr_reading (S.expr_view c.args.iflet.now.expr) (on_lhs (flags_view c.args.flags)) _) (λ x. pattern_reading (S.pattern_view c.args.iflet.now.pattern) (expr_type x)) (iflet_reading (S.iflet_view c.args.iflet.now) (flags_view c.args.flags)) typed_iflet (λ e multi k s. refl)
+    (expr_reading (S.expr_view c.args.iflet.now.expr) (on_lhs (flags_view c.args.flags)) _) (λ x. pattern_reading c.args.flags.multi (S.pattern_view c.args.iflet.now.pattern) (expr_type x)) (iflet_reading (S.iflet_view c.args.iflet.now) (flags_view c.args.flags)) typed_iflet (λ e k s. refl)
     (expr_view c.in-Some.rhs) (pattern_view c.in-Some-taken.lhs) c.translate_expr.ensures.keeps (rw (c.in-Some.is, flags) at c.in_ok-value.ensures.made)
     (rw (c.in-Some-taken.is, c.ty-ty.ensures) at c.in_ok-taken.ensures.made)

@@ -2,7 +2,7 @@ use Rattle.std.proofs.Common.{refl}
 use Rattle.isle_base.specs.SyntaxViews as S
 use Rattle.isle_terms.specs.TermViews.{flags_view, term_view}
 use Rattle.isle_rules.specs.RuleReadings.{sides_view}
-use Rattle.isle_rules.specs.RuleViews.{rule_view}
+use Rattle.isle_typed.specs.RuleViews.{rule_view}
 use Rattle.isle_rules.specs.Translating.{standing}
 use Rattle.isle_rules.proofs.Readings.{stop_is}
 use Rattle.isle_rules.proofs.RuleForms.{no_root, no_term, not_declared, no_sides, rule_stops, rule_done}

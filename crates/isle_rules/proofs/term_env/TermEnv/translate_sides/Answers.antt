@@ -1,9 +1,9 @@
 use Rattle.std.proofs.Common.{map}
 use Rattle.isle_base.specs.SyntaxViews as S
 use Rattle.isle_terms.specs.TermViews.{flags_view, term_view}
-use Rattle.isle_rules.specs.ExprViews.{expr_view}
-use Rattle.isle_rules.specs.PatternViews.{pattern_views, pattern_parts}
-use Rattle.isle_rules.specs.RuleViews.{iflet_view}
+use Rattle.isle_typed.specs.ExprViews.{expr_view}
+use Rattle.isle_typed.specs.PatternViews.{pattern_views, pattern_parts}
+use Rattle.isle_typed.specs.RuleViews.{iflet_view}
 use Rattle.isle_rules.specs.Translating.{standing}
 use Rattle.isle_rules.proofs.Readings.{stop_is}
 use Rattle.isle_rules.proofs.SidesForms.{sides_first_stops, sides_second_stops, sides_third_stops, sides_reported, sides_done}

@@ -12,13 +12,13 @@ use Rattle.isle_rules.proofs.term_env.TermEnv.use_in_pattern.Goals as goal
 pub returns-in_default : goal.returns-in_default
 returns-in_default c =
     rw c.requires.whole
-    (unknown_use c.args.self.now (standing c.args.tyenv.now c.args.work.now) c.requires.inverse (name_view c.args.sym.now) (pattern_views c.args.args.now) (position c.args.pos) c.args.expected_ty.0
+    (unknown_use c.args.multi c.args.self.now (standing c.args.tyenv.now c.args.work.now) c.requires.inverse (name_view c.args.sym.now) (pattern_views c.args.args.now) (position c.args.pos) c.args.expected_ty.0
     _ c.in_default.ensures c.in_ok-report_unknown.ensures)
 
 pub returns-in_err-left : goal.returns-in_err-left
 returns-in_err-left c =
     rw (stop_is c.from_residual-in_err-left.result c.in_err-left.field-0.0 c.from_residual-in_err-left.ensures, c.requires.whole)
-    (conversion_stops c.args.self.now (standing c.args.tyenv.now c.args.work.now) c.requires.inverse (name_view c.args.sym.now) (pattern_views c.args.args.now) (position c.args.pos) c.args.expected_ty.0
+    (conversion_stops c.args.multi c.args.self.now (standing c.args.tyenv.now c.args.work.now) c.requires.inverse (name_view c.args.sym.now) (pattern_views c.args.args.now) (position c.args.pos) c.args.expected_ty.0
     (term_view c.in-Some.term.now) c.in-Some.ensures (term_view c.in-Some-pattern_converter.by.now) c.in-Some-pattern_converter.ensures
     (standing c.args.tyenv.now c.expand.new.self) c.args.nesting c.in_err-left.field-0.0 c.in_err-left.ensures)
 
@@ -27,7 +27,7 @@ returns-in-Some-pattern_converter c =
     rw (c.in_ok-inside.ensures, c.requires.whole) (
       c.in_ok-left.ensures.0,
       inl (name_at c.args.tyenv.now (term_view c.in-Some-pattern_converter.by.now) (position c.args.pos), position c.args.pos, refl),
-      inl (converted_use c.args.self.now (standing c.args.tyenv.now c.args.work.now) c.requires.inverse (name_view c.args.sym.now) (pattern_views c.args.args.now) (position c.args.pos) c.args.expected_ty.0
+      inl (converted_use c.args.multi c.args.self.now (standing c.args.tyenv.now c.args.work.now) c.requires.inverse (name_view c.args.sym.now) (pattern_views c.args.args.now) (position c.args.pos) c.args.expected_ty.0
           (term_view c.in-Some.term.now) c.in-Some.ensures (term_view c.in-Some-pattern_converter.by.now) c.in-Some-pattern_converter.ensures
           (standing c.args.tyenv.now c.expand.new.self) refl c.in_ok-left.ensures.1),
     )
@@ -35,7 +35,7 @@ returns-in-Some-pattern_converter c =
 pub returns-in_default-template_of : goal.returns-in_default-template_of
 returns-in_default-template_of c =
     rw c.requires.whole
-    (parts_used c.args.self.now (standing c.args.tyenv.now c.args.work.now) c.requires.inverse (name_view c.args.sym.now) (pattern_views c.args.args.now) (position c.args.pos) c.args.expected_ty.0
+    (parts_used c.args.multi c.args.self.now (standing c.args.tyenv.now c.args.work.now) c.requires.inverse (name_view c.args.sym.now) (pattern_views c.args.args.now) (position c.args.pos) c.args.expected_ty.0
     (term_view c.in-Some.term.now) c.in-Some.ensures c.in_default-pattern_converter.ensures c.in_default-template_of.ensures
     _ _ (sym (list_length c.args.args.now)) refl (record { vars = c.check_use.ensures.remains.vars; names = c.check_use.ensures.remains.names; expansions = c.check_use.ensures.remains.expansions })
     (checks_both _ _ _ _ _ c.in_ok-check_use.ensures.checks c.in_ok-check_extractor.ensures))
@@ -44,7 +44,7 @@ pub returns-in_default-2 : goal.returns-in_default-2
 returns-in_default-2 c =
     let missing : ◌≡◌ {A = Option PatternTree} None (substituted (map pattern_view c.args.args.now) (pattern_view c.in-Some-template_of.template.now)) = sym (ap (option_map pattern_view) c.in_default-2.is) ∙ c.in_ok-made.ensures in
     rw c.requires.whole
-    (nothing_made c.args.self.now (standing c.args.tyenv.now c.args.work.now) c.requires.inverse (name_view c.args.sym.now) (pattern_views c.args.args.now) (position c.args.pos) c.args.expected_ty.0
+    (nothing_made c.args.multi c.args.self.now (standing c.args.tyenv.now c.args.work.now) c.requires.inverse (name_view c.args.sym.now) (pattern_views c.args.args.now) (position c.args.pos) c.args.expected_ty.0
     (term_view c.in-Some.term.now) c.in-Some.ensures c.in_default-pattern_converter.ensures (pattern_view c.in-Some-template_of.template.now) c.in-Some-template_of.ensures
     (standing c.args.tyenv.now c.check_use.new.work) _ (sym (list_length c.args.args.now)) c.in_ok-check_use.ensures.checks
     (missing ∙ ap (λ gs. substituted gs (pattern_view c.in-Some-template_of.template.now)) (sym (list_is c.args.args.now))))
@@ -53,7 +53,7 @@ pub returns-in_err-left-2 : goal.returns-in_err-left-2
 returns-in_err-left-2 c =
     let made : Some (pattern_view c.in-Some-2.made) ≡ substituted (map pattern_view c.args.args.now) (pattern_view c.in-Some-template_of.template.now) = sym (ap (option_map pattern_view) c.in-Some-2.is) ∙ c.in_ok-made.ensures in
     rw (stop_is c.from_residual-in_err-left-2.result c.in_err-left-2.field-0.0 c.from_residual-in_err-left-2.ensures, c.requires.whole)
-    (template_stops c.args.self.now (standing c.args.tyenv.now c.args.work.now) c.requires.inverse (name_view c.args.sym.now) (pattern_views c.args.args.now) (position c.args.pos) c.args.expected_ty.0
+    (template_stops c.args.multi c.args.self.now (standing c.args.tyenv.now c.args.work.now) c.requires.inverse (name_view c.args.sym.now) (pattern_views c.args.args.now) (position c.args.pos) c.args.expected_ty.0
     (term_view c.in-Some.term.now) c.in-Some.ensures c.in_default-pattern_converter.ensures (pattern_view c.in-Some-template_of.template.now) c.in-Some-template_of.ensures
     (standing c.args.tyenv.now c.check_use.new.work) _ (sym (list_length c.args.args.now)) c.in_ok-check_use.ensures.checks
     (pattern_view c.in-Some-2.made) (made ∙ ap (λ gs. substituted gs (pattern_view c.in-Some-template_of.template.now)) (sym (list_is c.args.args.now)))
@@ -65,10 +65,10 @@ returns c =
     let is_made = made ∙ ap (λ gs. substituted gs (pattern_view c.in-Some-template_of.template.now)) (sym (list_is c.args.args.now)) in
     rw c.requires.whole (
       c.in_ok-left-2.ensures.0,
-      template_expands c.args.self.now (standing c.args.tyenv.now c.args.work.now) c.requires.inverse (name_view c.args.sym.now) (pattern_views c.args.args.now) (position c.args.pos) c.args.expected_ty.0
+      template_expands c.args.multi c.args.self.now (standing c.args.tyenv.now c.args.work.now) c.requires.inverse (name_view c.args.sym.now) (pattern_views c.args.args.now) (position c.args.pos) c.args.expected_ty.0
           (term_view c.in-Some.term.now) c.in-Some.ensures c.in_default-pattern_converter.ensures (pattern_view c.in-Some-template_of.template.now) c.in-Some-template_of.ensures
           (standing c.args.tyenv.now c.check_use.new.work) _ (sym (list_length c.args.args.now)) c.in_ok-check_use.ensures.checks (pattern_view c.in-Some-2.made) is_made,
-      template_made c.args.self.now (standing c.args.tyenv.now c.args.work.now) c.requires.inverse (name_view c.args.sym.now) (pattern_views c.args.args.now) (position c.args.pos) c.args.expected_ty.0
+      template_made c.args.multi c.args.self.now (standing c.args.tyenv.now c.args.work.now) c.requires.inverse (name_view c.args.sym.now) (pattern_views c.args.args.now) (position c.args.pos) c.args.expected_ty.0
           (term_view c.in-Some.term.now) c.in-Some.ensures c.in_default-pattern_converter.ensures (pattern_view c.in-Some-template_of.template.now) c.in-Some-template_of.ensures
           (standing c.args.tyenv.now c.check_use.new.work) _ (sym (list_length c.args.args.now)) c.in_ok-check_use.ensures.checks (pattern_view c.in-Some-2.made) is_made
           (standing c.args.tyenv.now c.expand-2.new.self) refl refl c.check_use.ensures.remains c.in_ok-left-2.ensures.1,

@@ -3,7 +3,7 @@ use Rattle.isle_base.specs.SyntaxViews.{name_view, position}
 use Rattle.isle_model.specs.lists.Syntax.{var_expr}
 use Rattle.isle_terms.specs.TermViews.{term_view}
 use Rattle.isle_rules.specs.ExprReadings.{expected}
-use Rattle.isle_rules.specs.RuleViews.{var_view}
+use Rattle.isle_typed.specs.RuleViews.{var_view}
 use Rattle.isle_rules.specs.Translating.{standing}
 use Rattle.isle_rules.proofs.Readings.{stop_is}
 use Rattle.isle_rules.proofs.ExprUsing.{var_unknown, var_converts, converted, conversion_stops, var_made, var_unmade}

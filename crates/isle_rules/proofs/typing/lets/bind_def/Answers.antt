@@ -1,5 +1,5 @@
 use Rattle.std.proofs.Common.{cond, nat_eq, ap, ◌∙◌}
-use Rattle.isle_rules.specs.ExprViews.{expr_view}
+use Rattle.isle_typed.specs.ExprViews.{expr_view}
 use Rattle.isle_rules.specs.Lets.{before_all}
 use Rattle.isle_rules.proofs.LetScopes.{hide_last}
 use Rattle.isle_rules.proofs.typing.lets.bind_def.Goals as goal

@@ -5,10 +5,10 @@ use mir.Syntax.{w64}
 use Rattle.isle_base.specs.SyntaxViews as S
 use Rattle.isle_terms.specs.TermViews.{term_view}
 use Rattle.isle_types.specs.Envs.{names_of}
-use Rattle.isle_rules.specs.PatternViews.{pattern_views, pattern_parts}
+use Rattle.isle_typed.specs.PatternViews.{pattern_views, pattern_parts}
 use Rattle.isle_rules.specs.RuleReadings.{sides_view}
-use Rattle.isle_rules.specs.RuleViews.{var_view}
-use Rattle.isle_rules.proofs.Copies.{clone_says}
+use Rattle.isle_typed.specs.RuleViews.{var_view}
+use Rattle.isle_typed.proofs.Copies.{clone_says}
 use Rattle.isle_rules.proofs.RuleForms.{rule_is, listed}
 use Rattle.isle_rules.proofs.typing.rule.finish_rule.Goals as goal
 

@@ -1,0 +1,11 @@
+pub mod PatternBridges
+pub mod ExprBridges
+pub mod Copies
+pub mod BoundVars
+pub mod PatternRunSteps
+pub mod VisitSizes
+pub mod PatternRunForms
+pub mod ExprRunSteps
+pub mod ExprRunForms
+pub mod OrderedVars
+pub mod RuleRunSteps
