@@ -12,6 +12,7 @@ use Rattle.isle_model.specs.claims.Refusals.{refusal_of}
 use Rattle.isle_model.specs.lists.Elaborated.{TypedRules}
 use Rattle.isle_model.specs.lists.Formed.{RulesAreFormed}
 use Rattle.isle_model.specs.lists.Syntax.{Definition}
+use Rattle.isle_model.specs.lists.Tables.{TermEntry}
 use Rattle.isle_model.specs.rules.Program.{Program}
 use Rattle.isle_model.specs.rules.Typed.{TypedRule}
 use Rattle.isle_model.specs.sites.Limits.{sites_after_rules}
@@ -28,22 +29,23 @@ use Rattle.isle_laws_demands.proofs.visits.Once.{once_after}
 use Rattle.isle_laws_lists.specs.TypingLaws.{ListsAgree}
 use Rattle.isle_base.specs.declared.syntax.Error.{Error}
 use Rattle.isle_types.specs.declared.ids.TermId.{TermId}
-use Rattle.isle_rules.specs.ErrorViews.{error_views}
-use Rattle.isle_rules.specs.RuleViews.{rule_view, rule_views}
-use Rattle.isle_rules.specs.declared.rules.Rule.{Rule}
+use Rattle.isle_terms.specs.TermViews.{term_views}
+use Rattle.isle_base.specs.ErrorViews.{error_views}
+use Rattle.isle_typed.specs.RuleViews.{rule_view, rule_views}
+use Rattle.isle_typed.specs.declared.rules.Rule.{Rule}
 use Rattle.isle_rules.specs.declared.term_env.TermEnv.{TermEnv}
-use Rattle.isle_sets.specs.SiteTables.{IsTable}
 use Rattle.isle_sets.specs.declared.trie_again.RuleSet.{RuleSet}
-use Rattle.isle_builder.specs.AddedRules.{SetGoesOn, MayAddRule, MayGoOn, StandAfter, set_at, set_so_far, sets_so_far}
-use Rattle.isle_builder.specs.Built.{ShowsElaborated, WereBuilt, report_views, term_set_views}
-use Rattle.isle_builder.specs.declared.term_sets.TermSet.{TermSet}
+use Rattle.isle_term_sets.specs.AddedRules.{HasTable, MayAddRule, SetGoesOn, report_views, set_so_far}
+use Rattle.isle_builder.specs.SetsSoFar.{MayGoOn, StandAfter, set_at, sets_so_far}
+use Rattle.isle_builder.specs.Built.{ShowsElaborated, WereBuilt, term_set_views}
+use Rattle.isle_term_sets.specs.declared.term_sets.TermSet.{TermSet}
 use Rattle.isle_builder.proofs.TermsAscending.{looked_up, terms_listed}
 
 -- 1. one more rule
-module _ (env : TermEnv) (p : Program) (done : List TypedRule) (r : TypedRule) (sets : BTreeMap ℕ TermSet) (errors : List Error) (h : MayGoOn env r p done sets errors)
+module _ (known : List TermEntry) (p : Program) (done : List TypedRule) (r : TypedRule) (sets : BTreeMap ℕ TermSet) (errors : List Error) (h : MayGoOn known r p done sets errors)
     (taken : TermSet) (start : set_so_far taken ≡ or_nothing_built (set_at sets r.root_term)) where
   -- the set of its term may go past it
-  pub may_add : IsTable taken.builder.table → MayAddRule env r taken.builder p (sites_after_rules p [] (of_one_term r.root_term done))
+  pub may_add : HasTable taken → MayAddRule known r taken.builder p (sites_after_rules p [] (of_one_term r.root_term done))
   may_add table = record {
     terms = h.terms;
     formed = h.formed;
@@ -66,7 +68,7 @@ module _ (env : TermEnv) (p : Program) (done : List TypedRule) (r : TypedRule) (
     });
     tables = λ t s e.
         elim (cases_Bool (t == r.root_term)) [
-          | inl y ↦ subst (λ x. IsTable x.builder.table) (same_Some set s (sym at ∙ subst (λ u. get nat_cmp new u ≡ Some s) (eqb-true t r.root_term y) e)) g.table
+          | inl y ↦ subst (λ x. HasTable x) (same_Some set s (sym at ∙ subst (λ u. get nat_cmp new u ≡ Some s) (eqb-true t r.root_term y) e)) g.table
           | inr n ↦ let apart : t ≢ r.root_term = λ q. false≢true (sym n ∙ eq-eqb t r.root_term q) in h.stand.tables t s (sym (others t apart ∙ left t apart) ∙ e)
         ];
     reported = g.reports ∙ ap (λ l. l ++ report_views g.said) h.stand.reported ∙ sym (map-append refusal_of h.stand.reports g.said);
@@ -97,7 +99,7 @@ module _ (e : TypesRead) (defs : List Definition) (expand : Bool) (rules : Typed
 
   -- its next rule may be read
   pub may_go_on : RulesAreFormed → ListsAgree → (i : ℕ) (r : Rule) (sets : BTreeMap ℕ TermSet) (errors : List Error) → slice_get (rule_views env.rules.items) i ≡ Some (rule_view r)
-      → StandAfter whole (take i rules.rules) sets errors → MayGoOn env (rule_view r) whole (take i rules.rules) sets errors
+      → StandAfter whole (take i rules.rules) sets errors → MayGoOn (term_views env.terms.items) (rule_view r) whole (take i rules.rules) sets errors
   may_go_on formed agree i r sets errors at s = record {
     terms = sym shown.terms;
     formed = (elaborated_rules_hang formed agree e defs expand rules h (rule_view r) (in_slice rules.rules i (rule_view r) (ap (λ l. slice_get l i) (sym shown.rules) ∙ at))).0;

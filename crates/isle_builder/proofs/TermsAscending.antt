@@ -15,8 +15,9 @@ use Rattle.isle_model.proofs.Elements.{In, contains_from_in, in_any, in_map, in_
 use Rattle.isle_model.proofs.Members.{all_members, get_from_member}
 use Rattle.isle_laws_demands.specs.RuleByRule.{AreLookedUp}
 use Rattle.isle_laws_demands.specs.ReportLaws.{RulesHaveTerms}
-use Rattle.isle_builder.specs.AddedRules.{set_at, set_so_far}
-use Rattle.isle_builder.specs.declared.term_sets.TermSet.{TermSet}
+use Rattle.isle_term_sets.specs.AddedRules.{set_so_far}
+use Rattle.isle_builder.specs.SetsSoFar.{set_at}
+use Rattle.isle_term_sets.specs.declared.term_sets.TermSet.{TermSet}
 use Rattle.isle_sets.proofs.ListedConstraints.{tied}
 
 -- 1. ascending numbers of a range

@@ -8,15 +8,15 @@ use Rattle.isle_model.specs.sites.Overlap.{RuleReport}
 use Rattle.isle_model.specs.sites.Sites.{SiteSet}
 use Rattle.isle_model.specs.claims.Environments.{TypesRead, IsElaborated}
 use Rattle.isle_model.specs.claims.Layers.{BuildAnswers}
-use Rattle.isle_model.specs.claims.Refusals.{Refusal, refusal_of}
 use Rattle.isle_laws_demands.specs.ReportLaws.{RulesHaveTerms}
 use Rattle.isle_base.specs.declared.syntax.Error.{Error}
 use Rattle.isle_types.specs.declared.ids.TermId.{TermId}
 use Rattle.isle_terms.specs.TermViews.{term_views}
-use Rattle.isle_rules.specs.ErrorViews.{error_views}
-use Rattle.isle_rules.specs.RuleViews.{rule_views}
+use Rattle.isle_base.specs.ErrorViews.{error_views}
+use Rattle.isle_typed.specs.RuleViews.{rule_views}
 use Rattle.isle_rules.specs.declared.term_env.TermEnv.{TermEnv}
 use Rattle.isle_sets.specs.SiteViews.{set_view}
+use Rattle.isle_term_sets.specs.AddedRules.{report_views}
 use Rattle.isle_sets.specs.declared.trie_again.RuleSet.{RuleSet}
 
 -- sets of terms, without where they lie in memory
@@ -25,10 +25,6 @@ term_set_view s = (s.0.0, set_view s.1)
 
 abbrev pub term_set_views : List (TermId × RuleSet) → List (ℕ × SiteSet)
 term_set_views sets = map term_set_view sets
-
--- reports, as the errors that they are answered as
-abbrev pub report_views : List RuleReport → List Refusal
-report_views rs = map refusal_of rs
 
 -- sets and errors that building gave for a program, whose terms are those of an environment
 pub record WereBuilt (env : TermEnv) (p : Program) (sets : List (TermId × RuleSet)) (errors : List Error) (reports : List RuleReport) : Type 0 where

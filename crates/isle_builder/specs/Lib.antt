@@ -1,3 +1,2 @@
-pub mod VisitedSites
+pub mod SetsSoFar
 pub mod Built
-pub mod AddedRules

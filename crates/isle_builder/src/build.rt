@@ -9,17 +9,18 @@ ghost use Rattle.isle_model.specs.rules.Program.{Program};
 ghost use Rattle.isle_model.specs.rules.Typed.{TypedRule};
 ghost use Rattle.isle_model.specs.sites.Overlap.{build_reports};
 ghost use Rattle.isle_laws_demands.specs.RuleByRule.{or_nothing_built};
-ghost use Rattle.isle_rules.specs.RuleViews.{rule_view};
-ghost use Rattle.isle_sets.specs.SiteTables.{IsTable};
-ghost use Rattle.isle_builder.specs.AddedRules.{AreTables, MayGoOn, StandAfter, set_at, set_so_far, sets_so_far};
+ghost use Rattle.isle_typed.specs.RuleViews.{rule_view};
+ghost use Rattle.isle_term_sets.specs.AddedRules.{HasTable, set_so_far};
+ghost use Rattle.isle_builder.specs.SetsSoFar.{AreTables, MayGoOn, StandAfter, set_at, sets_so_far};
 ghost use Rattle.isle_builder.specs.Built.{IsOfElaborated, ShowsElaborated, WereBuilt, term_set_views};
 
-use crate::term_sets::TermSet;
 use isle_base::syntax::Error;
 use isle_laws_demands::built_sets_are_answered;
 use isle_laws_lists::{lists_agree, rules_are_formed};
-use isle_rules::{Rule, TermEnv};
+use isle_rules::TermEnv;
 use isle_sets::trie_again::RuleSet;
+use isle_term_sets::TermSet;
+use isle_typed::{Rule, UsedTerms};
 use isle_types::TermId;
 use std::alloc::{AllocError, Global};
 use std::collections::BTreeMap;
@@ -58,7 +59,7 @@ pub fn build(
 // The set so far of a term, which leaves the others.
 fn take_set(alloc: Global, sets: &mut BTreeMap<usize, TermSet>, term: usize) -> TermSet
     ensures set { set_so_far result ≡ or_nothing_built (set_at sets.old term) }
-    ensures table { AreTables sets.old → IsTable result.builder.table }
+    ensures table { AreTables sets.old → HasTable result }
     ensures others { (t : ℕ) → t ≢ term → get nat_cmp sets.new t ≡ get nat_cmp sets.old t }
 {
     match sets.remove(&term) {
@@ -68,15 +69,15 @@ fn take_set(alloc: Global, sets: &mut BTreeMap<usize, TermSet>, term: usize) -> 
 }
 
 // The next rule of all: the set of its term goes on.
-fn add_rule(
+fn add_rule<E: UsedTerms>(
     alloc: Global,
     sets: &mut BTreeMap<usize, TermSet>,
     rule: &Rule,
-    termenv: &TermEnv,
+    termenv: &E,
     errors: &mut Vec<Error>,
 ) -> Result<(), AllocError>
-    requires may { (p : Program) × (done : List TypedRule) × MayGoOn termenv.now (rule_view rule.now) p done sets.old errors.old.items }
-    ensures { (p : Program) (done : List TypedRule) → MayGoOn termenv.now (rule_view rule.now) p done sets.old errors.old.items
+    requires may { (p : Program) × (done : List TypedRule) × MayGoOn (E.term_entries termenv.now) (rule_view rule.now) p done sets.old errors.old.items }
+    ensures { (p : Program) (done : List TypedRule) → MayGoOn (E.term_entries termenv.now) (rule_view rule.now) p done sets.old errors.old.items
         → OnOk result (StandAfter p (done ++ rule_view rule.now ∷ []) sets.new errors.new.items) }
 {
     let term = rule.root_term.index();

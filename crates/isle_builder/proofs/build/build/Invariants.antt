@@ -2,7 +2,7 @@ use Rattle.std.proofs.Common.{Bool, List, take}
 use Rattle.isle_model.specs.claims.Environments.{IsElaborated, TypesRead, program_of}
 use Rattle.isle_model.specs.lists.Elaborated.{TypedRules}
 use Rattle.isle_model.specs.lists.Syntax.{Definition}
-use Rattle.isle_builder.specs.AddedRules.{StandAfter}
+use Rattle.isle_builder.specs.SetsSoFar.{StandAfter}
 use Rattle.isle_builder.specs.Built.{ShowsElaborated}
 use Rattle.isle_builder.proofs.build.build.Given as goal
 

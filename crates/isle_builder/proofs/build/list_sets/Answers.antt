@@ -1,5 +1,5 @@
 use Rattle.std.proofs.Common.{◌≡◌, ◌++◌, [], ap, ◌∙◌, sym, rules, append-nil}
-use Rattle.isle_builder.specs.AddedRules.{sets_so_far}
+use Rattle.isle_builder.specs.SetsSoFar.{sets_so_far}
 use Rattle.isle_builder.specs.Built.{term_set_views}
 use Rattle.isle_builder.proofs.build.list_sets.Goals as goal
 

@@ -1,5 +1,5 @@
 use Rattle.std.proofs.Common.{◌≡◌, ◌++◌}
-use Rattle.isle_builder.specs.AddedRules.{sets_so_far}
+use Rattle.isle_builder.specs.SetsSoFar.{sets_so_far}
 use Rattle.isle_builder.specs.Built.{term_set_views}
 use Rattle.isle_builder.proofs.build.list_sets.Given as goal
 

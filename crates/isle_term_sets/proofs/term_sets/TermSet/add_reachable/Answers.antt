@@ -1,0 +1,33 @@
+use Rattle.std.proofs.Common.{refl}
+use Rattle.isle_model.specs.sites.Closure.{before_closing, closing, most_closing_steps}
+use Rattle.isle_model.specs.sites.Demands.{demands_of, visit_rule, with_sites}
+use Rattle.isle_typed.specs.RuleViews.{rule_view}
+use Rattle.isle_sets.specs.SiteViews.{set_rule_views}
+use Rattle.isle_term_sets.specs.declared.term_sets.TermSet.{TermSet}
+use Rattle.isle_term_sets.proofs.PassedRules.{visited_stay}
+use Rattle.isle_term_sets.proofs.RulesReported.{closing_ends, goes_on_added, goes_on_limited, on_ok_then}
+use Rattle.isle_term_sets.proofs.term_sets.TermSet.add_reachable.Goals as goal
+
+pub returns-in-Ok : goal.returns-in-Ok
+returns-in-Ok c p before w reachable =
+    let r = rule_view c.args.rule.now in
+    let after = c.close.new.self in
+    let mid : TermSet = record { builder = after; rules = c.args.self.now.rules } in
+    let closed = c.in-Ok.ensures.closed before (visit_rule p r).visit w.stands in
+    on_ok_then _ _ c.push_rule.result
+    (goes_on_added p before r c.args.self.now w.stands w.few reachable after closed.0 closed.1 c.in-Ok.ensures.calls.0 c.in-Ok.ensures.calls.1 c.args.rule.now c.args.value mid c.push_rule.new.self c.args.errors.now.items refl w.site refl
+    c.push_rule.ensures.table)
+    (c.push_rule.ensures.added (closing most_closing_steps (before_closing before (demands_of p r))) closed.1.demands)
+
+pub returns-in-Err : goal.returns-in-Err
+returns-in-Err c p before w reachable =
+    let r = rule_view c.args.rule.now in
+    let b = c.args.self.now.builder in
+    let after = c.close.new.self in
+    let mid : TermSet = record { builder = after; rules = c.args.self.now.rules } in
+    let rules = set_rule_views c.args.self.now.rules.items in
+    let ends = closing_ends p before r rules b after w.stands w.few reachable c.in-Err.fault c.in-Err.ensures.kept (c.in-Err.ensures.full before (visit_rule p r).visit w.stands) in
+    on_ok_then _ _ c.report_fault.result
+    (goes_on_limited p before r after c.args.errors.now.items c.report_fault.new.errors.items c.args.rule.now.pos c.args.self.now mid c.in-Err.fault (with_sites before (demands_of p r).made) refl refl refl w.stands.demands.stand
+    (visited_stay p before r rules b w.stands w.few reachable) ends)
+    c.report_fault.ensures

@@ -1,0 +1,2 @@
+pub mod VisitedSites
+pub mod AddedRules
