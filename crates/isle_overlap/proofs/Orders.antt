@@ -1,6 +1,6 @@
 -- A stable sort gives one list: elements in order of a test, those that tie as they stood.
 use Rattle.std.proofs.Common.{◌≡◌, ℕ, suc, ◌+◌, ◌<◌, Bool, true, false, not, ◌&&◌, cond, List, [], ◌∷◌, length, map, get_or, refl, sym, ap, ◌∙◌, subst, inl, inr, arith, if◌then◌else◌}
-use Rattle.std.proofs.lemmas.Bool.{cases_Bool, both_ways, cond-true, cond-false, and_from, and_parts}
+use Rattle.std.proofs.lemmas.Bool.{cases_Bool, both_ways, cond-true, cond-false, and_from, and_parts, not-true}
 use Rattle.std.proofs.lemmas.List.Sorted.{sorted_far}
 use Rattle.std.specs.List.{filter}
 use Rattle.std.specs.List.Sorted.{ties, IsSortedBy}
@@ -147,13 +147,9 @@ module _ {X : Type 0} (lt : X → X → Bool) (o : IsStrictWeakOrder lt) where
         | inl u ↦
             let zy = and_parts (not (lt z y)) (not (lt y z)) u in
             let zx = and_parts (not (lt z x)) (not (lt x z)) t in
-            absurd (both_ways (lt y x) (o.chain y z x (plain (lt y z) zy.1) (plain (lt z x) zx.0)) h)
+            absurd (both_ways (lt y x) (o.chain y z x (not-true (lt y z) zy.1) (not-true (lt z x) zx.0)) h)
         | inr n ↦ n
       ]
-    where
-      plain : (b : Bool) → not b ≡ true → b ≡ false
-      plain true e = sym e
-      plain false e = refl
 
   placed_alike : (z x : X) (ys : List X) → filter (ties lt z) (placed lt x ys) ≡ filter (ties lt z) (x ∷ ys)
   placed_alike z x [] = refl

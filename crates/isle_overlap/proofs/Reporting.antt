@@ -3,6 +3,7 @@ use Rattle.std.proofs.Common.{◌≡◌, ◌==◌, ◌&&◌, ◌||◌, ℕ, zero
 use Rattle.std.proofs.lemmas.Bool.{cases_Bool, cond-true, cond-false, and_parts, and_from, false≢true, not-true}
 use Rattle.std.proofs.lemmas.Bool.Decides.{nat_tests}
 use Rattle.std.proofs.lemmas.List.Elements.{filter_agree}
+use Rattle.std.proofs.Math.Bool.{and-true, or-false}
 use Rattle.isle_model.specs.lists.Syntax.{Position}
 use Rattle.isle_model.specs.sites.Overlap.{position_eq, position_lt, has_end, other_end, degree, is_reported_before, foremost, overlap_report, overlap_reports_in}
 use Rattle.isle_model.proofs.Elements.{In, or_split, or_right, in_filter, filter_from, passed_filter, in_map, in_flat_map, from_flat_map}
@@ -22,14 +23,6 @@ abbrev pub stands : Position → List Position → ℕ
 stands q ns = length (filter (λ p. position_eq p q) ns)
 
 -- 1. tests
-and_true : (b : Bool) → (b && true) ≡ b
-and_true true = refl
-and_true false = refl
-
-or_false : (b : Bool) → (b || false) ≡ b
-or_false true = refl
-or_false false = refl
-
 four : (x y u v : Bool) → ((x && y) && not (u || v)) ≡ ((x && not u) && (y && not v))
 four true true true v = refl
 four true true false v = refl
@@ -98,7 +91,7 @@ both_kept kept a e ka h =
           ∙ ap kept (sym (cond-true (position_eq e.0 a) e.1 e.0 t))
       | inr f ↦
           (λ k. kept e.0 && (ap kept (position_means e.1 a (second_of a e h f)) ∙ ka) k)
-          ∙ and_true (kept e.0)
+          ∙ and-true (kept e.0)
           ∙ ap kept (sym (cond-false (position_eq e.0 a) e.1 e.0 f))
     ]
 
@@ -110,7 +103,7 @@ end_is_other a q e n h =
           ∙ ap (λ x. position_eq x q) (sym (cond-true (position_eq e.0 a) e.1 e.0 t))
       | inr f ↦
           (λ k. position_eq e.0 q || (ap (λ x. position_eq x q) (position_means e.1 a (second_of a e h f)) ∙ n) k)
-          ∙ or_false (position_eq e.0 q)
+          ∙ or-false (position_eq e.0 q)
           ∙ ap (λ x. position_eq x q) (sym (cond-false (position_eq e.0 a) e.1 e.0 f))
     ]
 

@@ -1,10 +1,11 @@
 -- What is found row by row is what the definitions say of all rules.
 use Rattle.std.proofs.Common.{◌≡◌, ◌==◌, ◌&&◌, nat_le, ℤ, ℕ, zero, suc, ◌+◌, ◌<◌, ◌≤◌, Bool, true, false, if◌then◌else◌, List, [], ◌∷◌, ◌++◌, length, map, get_or, Some, slice_get, filter, flat_map, int_lt, refl, sym, ap, ◌∙◌, subst, inl, inr, arith, eqb-true, eq-eqb, All, take, set}
 use Rattle.std.specs.Global.{Vec}
-use Rattle.std.proofs.lemmas.Bool.{cases_Bool, cond-true, cond-false, false≢true}
+use Rattle.std.proofs.lemmas.Bool.{cases_Bool, cond-true, cond-false, false≢true, ne_eqb}
 use Rattle.std.proofs.lemmas.Int.{ints}
 use Rattle.std.proofs.lemmas.List.{map-append, append-nil, length-map, map-set, length-set, get_or-map, get_or-set_same, get_or-set_other, take_more}
 use Rattle.std.proofs.lemmas.List.Elements.{filter-append, All-cons, All-nil, All-append}
+use Rattle.std.proofs.lemmas.Option.{slice_get_within}
 use Rattle.isle_model.specs.lists.Syntax.{Position}
 use Rattle.isle_model.specs.sites.Sites.{SetRule}
 use Rattle.isle_model.specs.sites.Overlap.{each_two, rule_shadows, ShadowReport}
@@ -43,9 +44,6 @@ wrong_rows_are (r ∷ rs) =
     ∙ ap (map ends) (sym (filter-append wrong firsts (each_two rs)))
 
 -- 2. masks
-eqb_no : (i m : ℕ) → (i ≡ m → ⊥) → (i == m) ≡ false
-eqb_no i m h = elim (cases_Bool (i == m)) [ inl t ↦ absurd (h (eqb-true i m t)) | inr f ↦ f ]
-
 of_append : (m : ℕ) (as' bs : List (ℕ × Position)) → of_mask m (as' ++ bs) ≡ of_mask m as' ++ of_mask m bs
 of_append m as' bs = ap (map (λ e. e.1)) (filter-append (λ e. e.0 == m) as' bs) ∙ map-append (λ e. e.1) (filter (λ e. e.0 == m) as') (filter (λ e. e.0 == m) bs)
 
@@ -54,7 +52,7 @@ one_yes i m p true e = ap (map (λ e. e.1)) (cond-true (i == m) ((i, p) ∷ []) 
 one_yes i m p false e = refl
 
 one_no : (i m : ℕ) (p : Position) (b : Bool) → (i ≡ m → ⊥) → of_mask m (if b then (i, p) ∷ [] else []) ≡ []
-one_no i m p true h = ap (map (λ e. e.1)) (cond-false (i == m) ((i, p) ∷ []) [] (eqb_no i m h))
+one_no i m p true h = ap (map (λ e. e.1)) (cond-false (i == m) ((i, p) ∷ []) [] (ne_eqb i m h))
 one_no i m p false h = refl
 
 two_are : (m i j : ℕ) (r s : SetRule) → of_mask m (masked_pair i r j s) ≡ of_mask m (if is_mask_of r s then (i, s.at) ∷ [] else []) ++ of_mask m (if is_mask_of s r then (j, r.at) ∷ [] else [])
@@ -163,17 +161,12 @@ rows_below n i (r ∷ rs) h =
     (behind_below n i r (i + 1) rs (omega (arith, h)) (omega (arith, h))) (rows_below n (i + 1) rs (omega (arith, h)))
 
 -- 5. with lists by number
-below_length : {X : Type 0} (xs : List X) (n : ℕ) (x : X) → slice_get xs n ≡ Some x → n < length xs
-below_length [] n x e = absurd cc
-below_length (y ∷ xs) zero x e = omega arith
-below_length (y ∷ xs) (suc n) x e = let l = below_length xs n x e in omega (arith, l)
-
 pub shadows_found : (all : List SetRule) (ls : List (Vec Pos)) (es : List (ℕ × Position)) → length ls ≡ length all → es ≡ masked_rows 0 all → AreGrouped ls es
     → shadows_of all (list_views ls) ≡ map refusal_of (map rule_shadows (shadows_among all))
 shadows_found all ls es n e g =
     let many = length-map ls (λ v. positions v.items) in
     shadows_are all all (list_views ls) (many ∙ n)
-    (λ m q h. let l = below_length all m q h in g m (omega (arith, l, n)) ∙ ap (of_mask m) e ∙ rows_are 0 all m m q h (omega arith))
+    (λ m q h. let l = slice_get_within all m q h in g m (omega (arith, l, n)) ∙ ap (of_mask m) e ∙ rows_are 0 all m m q h (omega arith))
 
 one_of : (m : ℕ) (e : ℕ × Position) → of_mask m (e ∷ []) ≡ (if e.0 == m then e.1 ∷ [] else [])
 one_of m e = of (e.0 == m)

@@ -1,6 +1,6 @@
 -- The arms of a match: which comes next, and how they grow by one.
 use Rattle.std.proofs.Common.{◌≡◌, ◌≢◌, ℕ, ◌<◌, Bool, true, false, not, List, [], ◌∷◌, ◌++◌, length, Option, Some, None, is_some, slice_get, Contains, filter, refl, sym, ap, ◌∙◌, subst, inl, inr, arith}
-use Rattle.std.proofs.lemmas.Bool.{cases_Bool, cond-true, cond-false, false≢true}
+use Rattle.std.proofs.lemmas.Bool.{cases_Bool, cond-true, cond-false, false≢true, false_from_ne_true}
 use Rattle.std.proofs.lemmas.List.Elements.{Contains-append_left, Contains-append_right, Contains-append_cases}
 use Rattle.std.proofs.lemmas.List.Filters.{length-filter_both}
 use Rattle.std.proofs.lemmas.Option.{none-some, same_Some}
@@ -28,12 +28,8 @@ use Rattle.isle_serialize.proofs.Growth.{no_arms, from_alike}
 use Rattle.isle_serialize.proofs.InsideSteps.{arm_inside}
 use Rattle.isle_serialize.proofs.StepsJoined.{arms_before, arms_end, arm_joined}
 
-not_true : (b : Bool) → (b ≡ true → ⊥) → b ≡ false
-not_true true f = absurd (f refl)
-not_true false f = refl
-
 not_itself : (c : Constraint) → comes_before c c ≡ false
-not_itself c = not_true (comes_before c c) (before_itself c)
+not_itself c = false_from_ne_true (comes_before c c) (before_itself c)
 
 module _ (rules : List SetRule) (s : ℕ) where
   -- 1. the least constraint
@@ -72,7 +68,7 @@ module _ (rules : List SetRule) (s : ℕ) where
                 subst (λ x. IsLeastAsked rules s (xs ++ j ∷ []) (Some x)) (sym (cond-true (comes_before d a) d a t)) (
                   (j, here, e),
                   λ i c k g. elim (Contains-append_cases xs (j ∷ []) i k) [
-                    | inl m ↦ not_true (comes_before c d) (λ b. false≢true (sym (h.1 i c m g) ∙ before_chain c d a b t))
+                    | inl m ↦ false_from_ne_true (comes_before c d) (λ b. false≢true (sym (h.1 i c m g) ∙ before_chain c d a b t))
                     | inr m ↦ subst (λ x. comes_before x d ≡ false) (one_constraint i j c d (in_alone j i m) e g) (not_itself d)
                   ],
                 )

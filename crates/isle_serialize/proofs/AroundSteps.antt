@@ -1,7 +1,5 @@
 -- The names of classes: one more pair that is joined.
-use Rattle.std.proofs.Common.{◌≡◌, ℕ, suc, ◌<◌, ◌≤◌, ◌==◌, Bool, true, false, if◌then◌else◌, List, [], ◌∷◌, ◌++◌, map, length, get_or, take, ◌+◌, ◌||◌, ◌⊎◌, drop, Contains, refl, sym, ap, ◌∙◌, inl, inr, arith, drop-cons, drop_of_length-le, eqb-true, eq-eqb}
-use Rattle.std.proofs.lemmas.Grind.{flat_map-append}
-use Rattle.std.proofs.lemmas.List.{append_assoc, map-append, take_more}
+use Rattle.std.proofs.Common.{◌≡◌, ℕ, suc, ◌≤◌, ◌==◌, Bool, true, false, if◌then◌else◌, List, [], ◌∷◌, map, length, get_or, ◌||◌, ◌⊎◌, drop, Contains, refl, sym, ap, ◌∙◌, inl, inr, arith, drop-cons, drop_of_length-le, eqb-true, eq-eqb}
 use Rattle.std.proofs.lemmas.Bool.{cases_Bool, cond-true, cond-false, or_left, or_right, false≢true}
 use Rattle.isle_model.specs.trees.Places.{class, is_in}
 use Rattle.isle_model.proofs.Members.{in_head, in_tail, in_flat_map, member_is_in}
@@ -89,14 +87,6 @@ own s = (s, s)
 
 abbrev both : ℕ × ℕ → List ℕ
 both q = q.0 ∷ (q.1 ∷ [])
-
-pub own_more : (pairs : List (ℕ × ℕ)) (i : ℕ) (p d : ℕ × ℕ) (names one next : List (ℕ × ℕ)) → i < length pairs → p ≡ get_or pairs i d → names ≡ map (λ s. (s, s)) (sites_of_pairs (take i pairs))
-    → one ≡ names ++ (p.0, p.0) ∷ [] → next ≡ one ++ (p.1, p.1) ∷ [] → next ≡ map (λ s. (s, s)) (sites_of_pairs (take (i + 1) pairs))
-own_more pairs i p d names one next l e f g h =
-    h ∙ ap (λ n. n ++ (p.1, p.1) ∷ []) (g ∙ ap (λ n. n ++ (p.0, p.0) ∷ []) f)
-    ∙ append_assoc (map own (sites_of_pairs (take i pairs))) ((p.0, p.0) ∷ []) ((p.1, p.1) ∷ [])
-    ∙ sym (map-append own (sites_of_pairs (take i pairs)) (p.0 ∷ (p.1 ∷ [])))
-    ∙ ap (map own) (sym (flat_map-append both (take i pairs) (p ∷ [])) ∙ ap sites_of_pairs (ap (λ q. take i pairs ++ q ∷ []) e ∙ sym (take_more pairs i d l)))
 
 named_more : (sites : List ℕ) (p : ℕ × ℕ) (ps names : List (ℕ × ℕ)) → names ≡ named (class ps) sites → is_in p.0 sites ≡ true → is_in p.1 sites ≡ true
     → map (λ e. (e.0, if e.1 == name_in names p.0 then name_in names p.1 else e.1)) names ≡ named (class (p ∷ ps)) sites

@@ -3,6 +3,7 @@ use Rattle.std.proofs.Common.{◌≡◌, ℕ, zero, suc, ◌<◌, Bool, true, fa
 use Rattle.std.specs.List.{list_all}
 use Rattle.std.proofs.lemmas.Bool.{cases_Bool, cond-true, cond-false, and_parts, or_cases, or_left, false≢true}
 use Rattle.std.proofs.lemmas.List.Folds.{list_all-append}
+use Rattle.std.proofs.Math.Bool.{and-true}
 use Rattle.isle_model.specs.sites.Sites.{Site, sources_at}
 use Rattle.isle_model.specs.trees.Places.{is_in, waits, is_available, each_after, listed_below}
 use Rattle.isle_model.proofs.Members.{in_head, in_tail}
@@ -54,10 +55,6 @@ module _ (sites : List Site) (sources : (s a : ℕ) → Contains (sources_at sit
   abbrev Says : List ℕ → List ℕ → Bool → Type 0
   Says done next b = AreListed next × (list_all comes next ≡ (list_all comes done && b))
 
-  whole : (b : Bool) → b ≡ (b && true)
-  whole true = refl
-  whole false = refl
-
   regroup : (p a w : Bool) → ((p && a) && (w && true)) ≡ (p && (w && a))
   regroup false a w = refl
   regroup true true w = refl
@@ -70,7 +67,7 @@ module _ (sites : List Site) (sources : (s a : ℕ) → Contains (sources_at sit
 
   each : (n : ℕ) → ((s : ℕ) (done : List ℕ) → s < n → AreListed done → Says done (listed n done s) (at_hand s))
       → (xs done : List ℕ) → ((x : ℕ) → Contains xs x → x < n) → AreListed done → Says done (each_after (listed n) done xs) (list_all at_hand xs)
-  each n h [] done l d = (d, whole (list_all comes done))
+  each n h [] done l d = (d, sym (and-true (list_all comes done)))
   each n h (x ∷ xs) done l d =
       let one = h x done (l x (in_head x xs)) d in
       let rest = each n h xs (listed n done x) (λ y c. l y (in_tail x y xs c)) one.0 in
@@ -108,7 +105,7 @@ module _ (sites : List Site) (sources : (s a : ℕ) → Contains (sources_at sit
     where
       settled : (list_all comes done ≡ true → at_hand s ≡ true) → list_all comes done ≡ (list_all comes done && at_hand s)
       settled h = elim (cases_Bool (list_all comes done)) [
-        | inl y ↦ whole (list_all comes done) ∙ ap (λ b. list_all comes done && b) (sym (h y))
+        | inl y ↦ sym (and-true (list_all comes done)) ∙ ap (λ b. list_all comes done && b) (sym (h y))
         | inr n ↦ n ∙ sym (ap (λ b. b && at_hand s) n)
       ]
 

@@ -2,15 +2,17 @@
 use Rattle.std.proofs.Common.{◌≡◌, ℕ, Bool, true, false, not, ◌&&◌, ◌||◌, cond, List, [], ◌∷◌, Option, Some, Contains, refl, sym, ap, ◌∙◌, subst, inl, inr, slice_get, length, take}
 use Rattle.std.specs.List.{filter, find, list_all, list_any, prefix_len}
 use Rattle.std.proofs.lemmas.Bool.{cases_Bool, cond-true, cond-false, and_parts, and_from, false≢true, or_cases, or_right}
+use Rattle.std.proofs.Math.Bool.{and-true, and-false}
 use Rattle.isle_model.specs.sites.Sites.{SetRule}
 use Rattle.isle_model.specs.trees.Best.{descend}
 use Rattle.isle_model.specs.trees.Tests.{Test, needs_at, is_lower, is_covered, cover}
 use Rattle.isle_model.proofs.Members.{in_head, in_tail, in_filter, each_passes, all_pass, passes_any}
 use Rattle.isle_laws_trees.proofs.Covers.{prio_at, not_lower_at_least, at_least_not_lower, first_is_top, descend_rest}
 use Rattle.isle_laws_trees.proofs.Exact.{not_exact}
+use Rattle.isle_laws_runs.proofs.runs.ChosenRules.{through}
+use Rattle.isle_laws_demands.proofs.overlaps.Overlaps.{bool_same}
 use Rattle.isle_serialize.specs.Bars.{reaches, is_at_bar, IsBar}
-use Rattle.isle_serialize.proofs.Descents.{none_kept, itself, through, reaching_first}
-use Rattle.isle_serialize.proofs.Tables.{same_tests}
+use Rattle.isle_serialize.proofs.Descents.{none_kept, itself, reaching_first}
 use Rattle.isle_serialize.proofs.TestSteps.{kept_alike}
 
 module _ (rules : List SetRule) where
@@ -27,7 +29,7 @@ module _ (rules : List SetRule) where
             ∙ ap (λ b. reaches rules b i) (sym (cond-false (not (needs_at rules t x)) (Some x) (find (λ j. not (needs_at rules t j)) xs) (ap not y)))
         | inr f ↦
             ap (λ b. (b || not (is_lower rules i x)) && list_all (waits t i) xs) f
-            ∙ same_tests (not (is_lower rules i x) && list_all (waits t i) xs) (not (is_lower rules i x)) (λ k. (and_parts (not (is_lower rules i x)) (list_all (waits t i) xs) k).0)
+            ∙ bool_same (not (is_lower rules i x) && list_all (waits t i) xs) (not (is_lower rules i x)) (λ k. (and_parts (not (is_lower rules i x)) (list_all (waits t i) xs) k).0)
             (λ k. and_from (not (is_lower rules i x)) (list_all (waits t i) xs) k (all_pass (waits t i) xs (behind k)))
             ∙ ap (λ b. reaches rules b i) (sym (cond-true (not (needs_at rules t x)) (Some x) (find (λ j. not (needs_at rules t j)) xs) (ap not f)))
       ]
@@ -37,7 +39,7 @@ module _ (rules : List SetRule) where
           or_right (needs_at rules t j) (not (is_lower rules i j))
           ((not_exact (is_lower rules i j)).1
           (at_least_not_lower rules i j
-          (through rules (prio_at rules j) (prio_at rules x) (prio_at rules i) (first_is_top rules x xs h j (in_tail x j xs c)) (not_lower_at_least rules i x ((not_exact (is_lower rules i x)).0 k)))))
+          (through (prio_at rules j) (prio_at rules x) (prio_at rules i) (first_is_top rules x xs h j (in_tail x j xs c)) (not_lower_at_least rules i x ((not_exact (is_lower rules i x)).0 k)))))
 
   -- 2. a test covers what needs it and isn't below its bar
   covered_at_bar : (here : List ℕ) (t : Test) (bar : Option ℕ) → IsBar rules here t bar → (i : ℕ) → is_at_bar rules t bar i ≡ is_covered rules here t i
@@ -59,19 +61,11 @@ module _ (rules : List SetRule) where
           elim (cases_Bool (reaches rules bar x)) [
             | inl y ↦
                 ap (filter (needs_at rules t)) (cond-true (reaches rules bar x) (x ∷ filter (reaches rules bar) xs) (filter (reaches rules bar) xs) y)
-                ∙ (let r = twice xs in let e = sym (ap (λ b. needs_at rules t x && b) y ∙ whole (needs_at rules t x)) in λ i. cond (e i) (x ∷ r i) (r i))
+                ∙ (let r = twice xs in let e = sym (ap (λ b. needs_at rules t x && b) y ∙ and-true (needs_at rules t x)) in λ i. cond (e i) (x ∷ r i) (r i))
             | inr f ↦
                 ap (filter (needs_at rules t)) (cond-false (reaches rules bar x) (x ∷ filter (reaches rules bar) xs) (filter (reaches rules bar) xs) f) ∙ twice xs
-                ∙ sym (cond-false (is_at_bar rules t bar x) (x ∷ filter (is_at_bar rules t bar) xs) (filter (is_at_bar rules t bar) xs) (ap (λ b. needs_at rules t x && b) f ∙ none (needs_at rules t x)))
+                ∙ sym (cond-false (is_at_bar rules t bar x) (x ∷ filter (is_at_bar rules t bar) xs) (filter (is_at_bar rules t bar) xs) (ap (λ b. needs_at rules t x && b) f ∙ and-false (needs_at rules t x)))
           ]
-        where
-          whole : (b : Bool) → (b && true) ≡ b
-          whole true = refl
-          whole false = refl
-
-          none : (b : Bool) → (b && false) ≡ false
-          none true = refl
-          none false = refl
 
   pub covered_count : (here : List ℕ) (t : Test) (bar : Option ℕ) (n count : ℕ) → descend rules here ≡ true → bar ≡ find (λ i. not (needs_at rules t i)) here → n ≡ prefix_len (reaches rules bar) here
       → count ≡ length (filter (needs_at rules t) (take n here)) → count ≡ length (cover rules here t)

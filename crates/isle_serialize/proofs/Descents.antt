@@ -8,6 +8,7 @@ use Rattle.isle_model.specs.sites.Sites.{SetRule}
 use Rattle.isle_model.specs.trees.Tests.{is_lower}
 use Rattle.isle_model.specs.trees.Best.{comes_first, descend}
 use Rattle.isle_model.proofs.Members.{in_head, in_tail, from_filter, each_passes, all_pass}
+use Rattle.isle_laws_runs.proofs.runs.ChosenRules.{through}
 use Rattle.isle_laws_trees.proofs.Covers.{prio_at, not_lower_at_least, at_least_not_lower, first_is_top, descend_rest}
 use Rattle.isle_serialize.specs.Bars.{reaches}
 
@@ -31,9 +32,6 @@ module _ (rules : List SetRule) where
 
   pub itself : (x : ℤ) → x ≤ℤ x
   itself x = omega (arith, ints)
-
-  pub through : (x y z : ℤ) → x ≤ℤ y → y ≤ℤ z → x ≤ℤ z
-  through x y z a b = omega (arith, ints)
 
   -- what is at most as high as a rule below a bar is below it
   lower_too : (x y b : ℕ) → prio_at rules y ≤ℤ prio_at rules x → is_lower rules x b ≡ true → is_lower rules y b ≡ true

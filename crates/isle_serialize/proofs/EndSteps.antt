@@ -1,5 +1,5 @@
 -- The end of a block: rules in order, and their returns, one after another.
-use Rattle.std.proofs.Common.{◌≡◌, ℕ, ℤ, zero, suc, ◌+◌, ◌<◌, ◌≤◌, Bool, true, false, not, ◌&&◌, nat_lt, cond, List, [], ◌∷◌, ◌++◌, length, get_or, drop, slice_get, Contains, filter, refl, sym, ap, ◌∙◌, subst, inl, inr, arith, lt-ltb, int_cmp, int_eq, is_lt, ◌≤ℤ◌, add-one, drop-cons, drop_of_length-le}
+use Rattle.std.proofs.Common.{◌≡◌, ℕ, zero, suc, ◌+◌, ◌<◌, ◌≤◌, Bool, true, false, not, ◌&&◌, nat_lt, cond, List, [], ◌∷◌, ◌++◌, length, get_or, drop, slice_get, Contains, filter, refl, sym, ap, ◌∙◌, subst, inl, inr, arith, lt-ltb, int_cmp, int_eq, is_lt, add-one, drop-cons, drop_of_length-le}
 use Rattle.std.specs.Cmp.{IsStrictWeakOrder, int_cmp_total}
 use Rattle.std.specs.List.{list_all}
 use Rattle.std.specs.List.Sorted.{ties, IsSortedBy, IsStableBy}
@@ -7,6 +7,7 @@ use Rattle.std.proofs.lemmas.Bool.{cases_Bool, cond-true, and_parts, and_from, o
 use Rattle.std.proofs.lemmas.Bool.Decides.{Decides-int_eq}
 use Rattle.std.proofs.lemmas.Int.{ints}
 use Rattle.std.proofs.lemmas.List.Sorted.{ranks_by, IsStrictWeakOrder-flip, sorted_far, IsPermutation-refl}
+use Rattle.isle_laws_runs.proofs.runs.ChosenRules.{one_number}
 use Rattle.isle_model.specs.sites.Sites.{SetRule, SiteSet}
 use Rattle.isle_model.specs.trees.Trees.{Tree, no_step, step, join, return_of, m_return}
 use Rattle.isle_model.specs.trees.Places as Places
@@ -42,9 +43,6 @@ module _ (rules : List SetRule) where
   abbrev EachAscends : List ℕ → Type 0
   EachAscends ys = (i : ℕ) → ascends (filter (ties is_behind i) ys) ≡ true
 
-  equal_prio : (x y : ℤ) → x ≤ℤ y → y ≤ℤ x → x ≡ y
-  equal_prio x y a b = omega (arith, ints)
-
   not_behind : (i : ℕ) → is_behind i i ≡ false
   not_behind i = at_least_not_lower rules i i (omega (arith, ints))
 
@@ -55,7 +53,7 @@ module _ (rules : List SetRule) where
         | inr n ↦
             or_right (is_lower rules j i) (int_eq (prio_at rules j) (prio_at rules i) && nat_lt i j)
             (and_from (int_eq (prio_at rules j) (prio_at rules i)) (nat_lt i j)
-            ((Decides-int_eq (prio_at rules j) (prio_at rules i)).1 (equal_prio (prio_at rules j) (prio_at rules i) (not_lower_at_least rules i j h) (not_lower_at_least rules j i n)))
+            ((Decides-int_eq (prio_at rules j) (prio_at rules i)).1 (one_number (prio_at rules j) (prio_at rules i) (not_lower_at_least rules i j h) (not_lower_at_least rules j i n)))
             (lt-ltb i j (f n)))
       ]
 

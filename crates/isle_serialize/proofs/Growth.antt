@@ -1,11 +1,12 @@
 -- How best trees grow: by a test that is the greatest of its place, by an arm, and by a return.
-use Rattle.std.proofs.Common.{◌≡◌, ◌≢◌, ℕ, Bool, true, false, not, ◌&&◌, ◌||◌, cond, List, [], ◌∷◌, ◌++◌, length, Option, Some, None, slice_get, Contains, IsTrue, refl, sym, ap, ◌∙◌, filter, arith}
+use Rattle.std.proofs.Common.{◌≡◌, ◌≢◌, ℕ, Bool, true, false, not, ◌&&◌, ◌||◌, cond, List, [], ◌∷◌, ◌++◌, length, Option, Some, None, slice_get, Contains, IsTrue, refl, sym, ap, ◌∙◌, filter}
 use Rattle.std.specs.Prelude.{IsPermutation}
 use Rattle.std.specs.List.{list_all}
-use Rattle.std.proofs.lemmas.Bool.{cond-true, cond-false, and_from, false≢true}
+use Rattle.std.proofs.lemmas.Bool.{cond-true, cond-false, and_from, false≢true, not-true}
 use Rattle.std.proofs.lemmas.List.Elements.{filter-append}
 use Rattle.std.proofs.lemmas.List.Sums.{length-filter}
 use Rattle.std.proofs.lemmas.List.Sorted.{IsPermutation-refl, IsPermutation-sym, IsPermutation-cons, IsPermutation-trans, IsPermutation-append, IsPermutation-filter_both, Contains-permutation, sum_by-IsPermutation, length_permutation}
+use Rattle.std.proofs.lemmas.List.{nil_from_length, append-nil}
 use Rattle.isle_model.specs.sites.Sites.{iterator_site, Constraint, SetRule, SiteSet, sources_at}
 use Rattle.isle_model.specs.trees.Trees.{Tree, no_step, step, match_at, equal_at, loop_at, return_of, Arms, no_arm, arm, Marked, m_no_step, m_step, m_match, m_equal, m_loop, m_return, m_no_arm, m_arm, marks, marks_arms}
 use Rattle.isle_model.specs.trees.Places.{Around, return_uses, bind_order, fields_of, constraint_at, in_arm, in_equal, in_loop, after_step}
@@ -13,15 +14,15 @@ use Rattle.isle_model.specs.trees.Sound.{IsAfter}
 use Rattle.isle_model.specs.trees.Tests.{Test, match_test, equal_test, loop_test, needs_at, is_lower, is_covered, cover, IsOpen, score, is_greater}
 use Rattle.isle_model.specs.trees.Best.{IsGreatest, IsMade, comes_first, descend, BestSteps}
 use Rattle.isle_model.proofs.Members.{in_head, in_tail, each_passes, all_pass, from_filter}
+use Rattle.isle_laws_demands.proofs.overlaps.Overlaps.{bool_same}
 use Rattle.isle_serialize.specs.Growing.{IsBestFrom, AreEnds, AreBestArms}
-use Rattle.isle_serialize.proofs.Tables.{same_tests}
 use Rattle.isle_serialize.proofs.Alike.{Alike, steps_alike}
 
 -- 1. whatever the order of a place's rules
 module _ (xs ys : List ℕ) (moved : IsPermutation xs ys) where
   all_moved : (p : ℕ → Bool) → list_all p xs ≡ list_all p ys
   all_moved p =
-      same_tests (list_all p xs) (list_all p ys)
+      bool_same (list_all p xs) (list_all p ys)
       (λ h. all_pass p ys (λ x c. each_passes p xs h x (Contains-permutation ys xs x (IsPermutation-sym xs ys moved) c)))
       (λ h. all_pass p xs (λ x c. each_passes p ys h x (Contains-permutation xs ys x moved c)))
 
@@ -46,12 +47,8 @@ module _ (xs ys : List ℕ) (moved : IsPermutation xs ys) where
     greatest = λ u o. (let a = score_moved set ar u in let b = score_moved set ar t in (λ i. is_greater (sym a i) (sym b i)) ∙ g.greatest u o);
   }
 
-nothing_of : (xs : List ℕ) → length xs ≡ 0 → xs ≡ []
-nothing_of [] e = refl
-nothing_of (x ∷ xs) e = absurd (omega arith)
-
 pub some_moved : (xs ys : List ℕ) → IsPermutation xs ys → xs ≢ [] → ys ≢ []
-some_moved xs ys m h e = h (nothing_of xs (sym (length_permutation xs ys m) ∙ ap length e))
+some_moved xs ys m h e = h (nil_from_length xs (sym (length_permutation xs ys m) ∙ ap length e))
 
 all_kept : (p : ℕ → Bool) (xs : List ℕ) → ((x : ℕ) → Contains xs x → p x ≡ true) → filter p xs ≡ xs
 all_kept p [] h = refl
@@ -60,10 +57,6 @@ all_kept p (x ∷ xs) h = cond-true (p x) (x ∷ filter p xs) (filter p xs) (h x
 none_kept : (p : ℕ → Bool) (xs : List ℕ) → ((x : ℕ) → Contains xs x → p x ≡ false) → filter p xs ≡ []
 none_kept p [] h = refl
 none_kept p (x ∷ xs) h = cond-false (p x) (x ∷ filter p xs) (filter p xs) (h x (in_head x xs)) ∙ none_kept p xs (λ y c. h y (in_tail x y xs c))
-
-not_true : (b : Bool) → not b ≡ true → b ≡ false
-not_true true e = absurd (false≢true e)
-not_true false e = refl
 
 -- 2. a test is made where it is the greatest and its step holds what it covers, the rest behind it
 module _ (set : SiteSet) (ar : Around) (here : List ℕ) (t : Test) where
@@ -95,15 +88,11 @@ module _ (set : SiteSet) (ar : Around) (here : List ℕ) (t : Test) where
           none_kept (is_covered set.rules (hs ++ ls) t) ls
           (λ i c.
           covered_is i
-          ∙ not_true (is_covered set.rules here t i) (from_filter (λ i. not (is_covered set.rules here t i)) here i (Contains-permutation ls rest i (IsPermutation-sym rest ls theirs) c)).1) in
+          ∙ not-true (is_covered set.rules here t i) (from_filter (λ i. not (is_covered set.rules here t i)) here i (Contains-permutation ls rest i (IsPermutation-sym rest ls theirs) c)).1) in
           λ k. a k ++ b k)
-          ∙ ends hs;
+          ∙ append-nil hs;
       some_rule = some_moved held hs mine some;
     }
-      where
-        ends : (xs : List ℕ) → xs ++ [] ≡ xs
-        ends [] = refl
-        ends (x ∷ xs) = ap (λ l. x ∷ l) (ends xs)
 
 -- 3. one step more
 module _ (set : SiteSet) (ar : Around) (here : List ℕ) where
@@ -196,7 +185,7 @@ module _ (set : SiteSet) where
     marked = a.marked;
     same = a.same;
     rules = a.rules;
-    steps = closed ar a.marked (λ u o. nothing_of (cover set.rules (marks a.marked) u) (sym (cover_moved here (marks a.marked) a.rules set.rules u) ∙ ap length (over u o))) a.ordered a.steps;
+    steps = closed ar a.marked (λ u o. nil_from_length (cover set.rules (marks a.marked) u) (sym (cover_moved here (marks a.marked) a.rules set.rules u) ∙ ap length (over u o))) a.ordered a.steps;
   }
 
   -- at places that agree

@@ -1,23 +1,20 @@
 -- What is kept of a place says the same as what is around it, inside tests too.
 use Rattle.std.proofs.Common.{◌≡◌, ◌==◌, ◌||◌, ℕ, not, List, [], ◌∷◌, ◌++◌, Option, Some, slice_get, flat_map, filter, refl, sym, ap, ◌∙◌, inl, inr, eqb-true}
 use Rattle.std.proofs.lemmas.Bool.{cases_Bool, cond-true, cond-false, or_cases, or_right}
-use Rattle.std.proofs.lemmas.List.{append_assoc}
+use Rattle.std.proofs.lemmas.List.{append_assoc, append-nil}
 use Rattle.isle_model.specs.sites.Sites.{iterator_site, Constraint, SiteSet, sources_at}
 use Rattle.isle_model.specs.trees.Trees.{m_loop, m_no_step}
 use Rattle.isle_model.specs.trees.Places as Places
 use Rattle.isle_model.specs.trees.Places.{is_in, all_below, field_sites, in_arm, in_equal, in_loop, after_step}
 use Rattle.isle_laws_trees.proofs.Passing.{sources_there}
+use Rattle.isle_laws_demands.proofs.overlaps.Overlaps.{bool_same}
 use Rattle.isle_serialize.specs.declared.around.Around.{Around}
 use Rattle.isle_serialize.specs.AroundViews.{around_view, IsInside, after_uses, arm_around, loop_around}
 use Rattle.isle_serialize.proofs.Alike.{Alike}
-use Rattle.isle_serialize.proofs.Tables.{is_in_append, same_tests}
+use Rattle.isle_serialize.proofs.Tables.{is_in_append}
 
 pub inside_alike : (a : Around) (ar : Places.Around) → IsInside (around_view a) ar → Alike (around_view a) ar
 inside_alike a ar h = record { sources = λ s. ap (is_in s) h.sources; joined = h.joined; brought = h.brought; emitted = h.emitted }
-
-nothing_behind : (xs : List ℕ) → xs ++ [] ≡ xs
-nothing_behind [] = refl
-nothing_behind (x ∷ xs) = ap (λ l. x ∷ l) (nothing_behind xs)
 
 module _ (set : SiteSet) (around : Around) where
   abbrev ar : Places.Around
@@ -39,7 +36,7 @@ module _ (set : SiteSet) (around : Around) where
     one_source = sources_there set result call at
 
     below : flat_map (λ s. all_below set.sites (sources_at set.sites s)) (sources_at set.sites result) ≡ all_below set.sites (sources_at set.sites call)
-    below = ap (flat_map (λ s. all_below set.sites (sources_at set.sites s))) one_source ∙ nothing_behind (all_below set.sites (sources_at set.sites call))
+    below = ap (flat_map (λ s. all_below set.sites (sources_at set.sites s))) one_source ∙ append-nil (all_below set.sites (sources_at set.sites call))
 
     pub loop_inside : (a : Around) → IsInside (around_view a) (loop_around set ar call result) → Alike (around_view a) (in_loop set ar result)
     loop_inside a h =
@@ -63,7 +60,7 @@ listed_once old (x ∷ new) s =
     elim (cases_Bool (is_in x old)) [
       | inl y ↦
           ap (λ l. is_in s (l ++ old)) (cond-false (not (is_in x old)) (x ∷ filter (λ t. not (is_in t old)) new) (filter (λ t. not (is_in t old)) new) (ap not y)) ∙ listed_once old new s
-          ∙ same_tests (is_in s (new ++ old)) ((x == s) || is_in s (new ++ old)) (or_right (x == s) (is_in s (new ++ old)))
+          ∙ bool_same (is_in s (new ++ old)) ((x == s) || is_in s (new ++ old)) (or_right (x == s) (is_in s (new ++ old)))
           (λ h. elim (or_cases (x == s) (is_in s (new ++ old)) h) [
             | inl e ↦ is_in_append s new old ∙ or_right (is_in s new) (is_in s old) (ap (λ k. is_in k old) (sym (eqb-true x s e)) ∙ y)
             | inr r ↦ r

@@ -1,12 +1,12 @@
 -- The sites below others, each once, in the order in which they are made.
-use Rattle.std.proofs.Common.{◌≡◌, ◌⊎◌, ℕ, zero, suc, ◌+◌, ◌<◌, ◌≤◌, true, false, ◌||◌, List, [], ◌∷◌, ◌++◌, length, take, get_or, Contains, flat_map, refl, sym, ap, ◌∙◌, subst, inl, inr, arith}
+use Rattle.std.proofs.Common.{◌≡◌, ◌⊎◌, ℕ, zero, suc, ◌+◌, ◌<◌, ◌≤◌, false, ◌||◌, List, [], ◌∷◌, ◌++◌, length, take, get_or, Contains, flat_map, refl, sym, ap, ◌∙◌, subst, inl, inr, arith}
 use Rattle.std.proofs.lemmas.Bool.{cases_Bool, cond-true, cond-false}
 use Rattle.std.proofs.lemmas.List.{take_more}
 use Rattle.std.proofs.lemmas.List.Elements.{Contains-append_left, Contains-append_right, Contains-append_cases}
+use Rattle.isle_laws_demands.proofs.overlaps.Overlaps.{bool_same}
 use Rattle.isle_model.specs.sites.Sites.{Site, sources_at}
 use Rattle.isle_model.specs.trees.Places.{is_in, each_after, listed_below, below, all_below}
 use Rattle.isle_model.proofs.Members.{nothing_in, in_head, in_tail, in_cases, in_alone, in_flat_map, from_flat_map, member_found, member_is_in}
-use Rattle.isle_serialize.proofs.Tables.{same_tests}
 
 each_append : (f : List ℕ → ℕ → List ℕ) (d xs : List ℕ) (x : ℕ) → each_after f d (xs ++ x ∷ []) ≡ f (each_after f d xs) x
 each_append f d [] x = refl
@@ -18,10 +18,6 @@ each_more f d xs i x now next l e h k =
     k ∙ ap (λ y. f y x) h ∙ sym (each_append f d (take i xs) x) ∙ ap (each_after f d) (ap (λ y. take i xs ++ y ∷ []) e ∙ sym (take_more xs i x l))
 
 module _ (sites : List Site) (emitted : List ℕ) where
-  pub listed_stays : (n s : ℕ) (done : List ℕ) → s < n → (is_in s emitted || is_in s done) ≡ true → done ≡ listed_below n sites emitted done s
-  listed_stays zero s done l h = absurd (omega arith)
-  listed_stays (suc n) s done l h = sym (cond-true (is_in s emitted || is_in s done) done (each_after (listed_below n sites emitted) done (sources_at sites s) ++ s ∷ []) h)
-
   pub listed_whole : (n s : ℕ) (done below next : List ℕ) → s < n → (is_in s emitted || is_in s done) ≡ false → ((m : ℕ) → s ≤ m → below ≡ each_after (listed_below m sites emitted) done (sources_at sites s))
       → next ≡ below ++ s ∷ [] → next ≡ listed_below n sites emitted done s
   listed_whole zero s done below next l h f e = absurd (omega arith)
@@ -134,7 +130,7 @@ listed_are_below sites sources ss listed e x =
     let a = all_adds sites sources ss in
     let whole = each_after (λ d s. listed_below (suc s) sites [] d s) [] ss in
     ap (is_in x) e
-    ∙ same_tests (is_in x whole) (is_in x (all_below sites ss))
+    ∙ bool_same (is_in x whole) (is_in x (all_below sites ss))
     (λ h. elim (a.from x (member_found x whole h)) [
       | inl k ↦ absurd (nothing_in x k)
       | inr u ↦ member_is_in x (all_below sites ss) (in_flat_map (λ s. below (suc s) sites s) ss u.0 x u.1 u.2)

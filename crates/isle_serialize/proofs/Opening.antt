@@ -1,10 +1,10 @@
 -- Lists of open tests: one more, those of one more thing, and when all that may cover a rule are listed.
-use Rattle.std.proofs.Common.{◌≡◌, ℕ, ◌+◌, ◌<◌, true, false, ◌&&◌, ◌==◌, List, [], ◌∷◌, ◌++◌, map, take, get_or, length, is_some, Option, Some, None, Contains, slice_get, refl, sym, ap, ◌∙◌, subst, inl, inr, ◌⊎◌, eqb-true}
+use Rattle.std.proofs.Common.{◌≡◌, ℕ, ◌+◌, ◌<◌, true, false, ◌&&◌, ◌==◌, List, [], ◌∷◌, map, take, get_or, length, is_some, Option, Some, None, Contains, slice_get, refl, sym, ap, ◌∙◌, subst, inl, inr, ◌⊎◌, eqb-true}
 use Rattle.std.specs.Global.{Vec}
 use Rattle.std.specs.List.{filter, list_any}
 use Rattle.std.proofs.lemmas.Bool.{cases_Bool, cond-false, and_parts, or_cases, false≢true}
 use Rattle.std.proofs.lemmas.List.{take_more}
-use Rattle.std.proofs.lemmas.List.Elements.{Contains-append_left, Contains-append_right, Contains-append_cases}
+use Rattle.std.proofs.lemmas.List.Elements.{Contains-append_cases}
 use Rattle.isle_model.specs.sites.Sites.{iterator_site, SetRule, Site, SiteSet}
 use Rattle.isle_model.specs.trees.Places.{Around, is_in, joins_in, constraint_at}
 use Rattle.isle_model.specs.trees.Tests as Tests
@@ -16,8 +16,8 @@ use Rattle.isle_sets.specs.declared.trie_again.Constraint.{Constraint as Written
 use Rattle.isle_serialize.specs.declared.tests.Test.{Test}
 use Rattle.isle_serialize.specs.Bars.{reaches}
 use Rattle.isle_serialize.specs.Growing.{CanGrow}
-use Rattle.isle_serialize.specs.Opened.{Lists, AddsOpen, OfSome, IsTest, IsMatch, IsMatchOf, IsEqualOf, IsPairOf, IsWanted, IsLoopBy, IsLoopOf}
-use Rattle.isle_serialize.specs.TestViews.{test_view, AreUseful}
+use Rattle.isle_serialize.specs.Opened.{Lists, AddsOpen, OfSome, IsMatch, IsMatchOf, IsEqualOf, IsPairOf, IsWanted, IsLoopBy, IsLoopOf}
+use Rattle.isle_serialize.specs.TestViews.{AreUseful}
 use Rattle.isle_serialize.proofs.BarSteps.{highest_need}
 
 module _ (set : SiteSet) (ar : Around) where
@@ -25,16 +25,6 @@ module _ (set : SiteSet) (ar : Around) where
   -- nothing is added where each open test of the kind is listed
   pub adds_none : (Kind : Tests.Test → Type 0) (xs : List Test) → ((u : Tests.Test) → IsOpen set ar u → Kind u → Lists xs u) → AddsOpen set ar Kind xs xs
   adds_none Kind xs h = record { open_here = λ t c. inl c; kept = λ u l. l; added = h }
-
-  pub adds_one : (t : Test) (xs : List Test) → IsOpen set ar (test_view t) → AddsOpen set ar (IsTest t) xs (xs ++ t ∷ [])
-  adds_one t xs o = record {
-    open_here = λ u c. elim (Contains-append_cases xs (t ∷ []) u c) [
-      | inl d ↦ inl d
-      | inr d ↦ inr (subst (λ v. IsOpen set ar (test_view v)) (in_alone t u d) o)
-    ];
-    kept = λ u l. (l.0, Contains-append_left xs (t ∷ []) l.0 l.1, l.2);
-    added = λ u p e. (t, Contains-append_right xs (t ∷ []) t (in_head t []), e);
-  }
 
   pub adds_as : (Kind Other : Tests.Test → Type 0) (old new : List Test) → ((u : Tests.Test) → Other u → Kind u) → AddsOpen set ar Kind old new → AddsOpen set ar Other old new
   adds_as Kind Other old new f h = record { open_here = h.open_here; kept = h.kept; added = λ u o k. h.added u o (f u k) }
@@ -56,10 +46,6 @@ module _ (set : SiteSet) (ar : Around) where
         | inr c ↦ inr (subst (λ y. Kind y u) (sym (e ∙ in_alone (get_or xs i d) k.0 c)) k.2)
       ])
       (adds_both (OfSome Kind (take i xs)) (Kind x) old mid new g h)
-
-  -- of no things
-  pub adds_start : {X : Type 0} (Kind : X → Tests.Test → Type 0) (xs : List Test) → AddsOpen set ar (OfSome Kind []) xs xs
-  adds_start Kind xs = adds_none (OfSome Kind []) xs (λ u o k. absurd (nothing_in k.0 k.1))
 
 -- 2. what a rule needs
 asked_one : (cs : List (ℕ × WrittenConstraint)) (s : ℕ) → is_some (constraint_at (constraint_views cs) s) ≡ true → (c : ℕ × WrittenConstraint) × Contains cs c × (c.0 ≡ s)
@@ -90,30 +76,15 @@ equalities_of cs r e (loop_test s) h = absurd h
 
 -- 3. what some rules need
 module _ (set : SiteSet) (ar : Around) where
-  pub wanted_none : (i : ℕ) → slice_get set.rules i ≡ None → (u : Tests.Test) → IsWanted set.rules i u → ⊥
-  wanted_none i e (match_test s) h = false≢true (sym (ap (is_needed (match_test s)) e) ∙ h)
-  wanted_none i e (equal_test a b) h = false≢true (sym (ap (is_needed (equal_test a b)) e) ∙ h)
-  wanted_none i e (loop_test s) h = h
-
   pub wanted_of : (i : ℕ) (r : SetRule) → slice_get set.rules i ≡ Some r → (u : Tests.Test) → IsWanted set.rules i u → IsMatchOf r u ⊎ IsEqualOf r u
   wanted_of i r e (match_test s) h = inl (sym (ap (is_needed (match_test s)) e) ∙ h)
   wanted_of i r e (equal_test a b) h = inr (sym (ap (is_needed (equal_test a b)) e) ∙ h)
   wanted_of i r e (loop_test s) h = absurd h
 
-  pub no_loops : (numbers : List ℕ) → ((s : ℕ) → list_any (needs_at set.rules (loop_test s)) numbers ≡ false) → (u : Tests.Test) → IsLoopOf set.rules numbers u → ⊥
-  no_loops numbers h (match_test s) k = k
-  no_loops numbers h (equal_test a b) k = k
-  no_loops numbers h (loop_test s) k = false≢true (sym (h s) ∙ k)
-
   -- the call of the site for its answers
   abbrev call_of : Site → ℕ
   call_of (iterator_site s) = s
   call_of _ = 0
-
-  pub by_call : (numbers : List ℕ) (call : ℕ) (u : Tests.Test) → IsLoopBy set.rules numbers (iterator_site call) u → (loop_test call ≡ u) × (list_any (needs_at set.rules (loop_test call)) numbers ≡ true)
-  by_call numbers call u k =
-      let e : call ≡ k.0 = ap call_of k.1 in
-      (ap loop_test e ∙ k.2, ap (λ s. list_any (needs_at set.rules (loop_test s)) numbers) e ∙ k.3)
 
   -- each call that a rule goes over has a site for its answers
   loop_at : CanGrow set → (numbers : List ℕ) (s i : ℕ) → list_any (needs_at set.rules (loop_test s)) numbers ≡ true → (o : Option SetRule) → slice_get set.rules i ≡ o → needs_at set.rules (loop_test s) i ≡ true

@@ -1,6 +1,6 @@
 -- A place and its next test: the places inside it and behind it, and the tree that grows by it.
-use Rattle.std.proofs.Common.{◌≡◌, ◌≢◌, ℕ, ◌<◌, Bool, true, false, not, ◌&&◌, nat_lt, List, [], ◌∷◌, ◌++◌, length, Option, Some, None, slice_get, Contains, filter, refl, sym, ap, ◌∙◌, subst, arith, ltb-true}
-use Rattle.std.proofs.lemmas.Bool.{and_parts, false≢true}
+use Rattle.std.proofs.Common.{◌≡◌, ◌≢◌, ℕ, ◌<◌, true, false, not, ◌&&◌, nat_lt, List, [], ◌∷◌, ◌++◌, length, Option, Some, None, slice_get, Contains, filter, refl, sym, ap, ◌∙◌, subst, arith, ltb-true}
+use Rattle.std.proofs.lemmas.Bool.{and_parts, false≢true, not-true}
 use Rattle.std.proofs.lemmas.List.Filters.{length-filter_both}
 use Rattle.isle_model.specs.sites.Sites.{iterator_site, SetRule, SiteSet}
 use Rattle.isle_model.specs.trees.Trees.{Tree, step, join, Check, m_match, m_equal, m_loop, m_no_step, m_no_arm}
@@ -25,10 +25,6 @@ use Rattle.isle_serialize.proofs.InsideSteps.{inside_alike, loop_inside, loop_af
 use Rattle.isle_serialize.proofs.StepsJoined.{step_joined, steps_joined}
 use Rattle.isle_serialize.proofs.TreeLaws.{equal_seen, loop_seen}
 use Rattle.isle_serialize.proofs.Untried.{untried, untried_same, untried_source, untried_pair}
-
-not_true : (b : Bool) → not b ≡ true → b ≡ false
-not_true true e = absurd (false≢true e)
-not_true false e = refl
 
 -- the steps of a block so far, and what is left: with what may follow, they are best; and no test that stands around the
 -- steps to come is one more
@@ -127,9 +123,6 @@ module _ (set : SiteSet) where
 
   -- 3. the steps of a block
   module _ (start : Places.Around) (here : List ℕ) where
-    pub block_start : descend set.rules here ≡ true → BlockGrows set start here start here []
-    block_start o = record { ordered = o; as_many = refl; far = λ t b. b }
-
     pub block_more : (around : Around) (left : List ℕ) (next : NextTest) (steps more : List EvalStep) (s : EvalStep) → IsNextTest set (around_view around) left next
         → s.bind_order.items ≡ next.binds.items → IsBestBody set (around_view around) (test_view next.test) next.covered.items (check_view s.check) → more ≡ steps ++ s ∷ []
         → BlockGrows set start here (around_view around) left steps → BlockGrows set start here (around_view next.after) next.others.items more
@@ -149,14 +142,14 @@ module _ (set : SiteSet) where
   open_site : (ar : Places.Around) (s : ℕ) → is_open_site set ar s ≡ true → (s < n) × (is_in s (sources_around ar) ≡ false)
   open_site ar s o =
       let p = and_parts (is_at_hand set ar s) (not (is_in s (sources_around ar))) o in
-      (ltb-true s n (and_parts (nat_lt s n) (available set.sites ar s) p.0).0, not_true (is_in s (sources_around ar)) p.1)
+      (ltb-true s n (and_parts (nat_lt s n) (available set.sites ar s) p.0).0, not-true (is_in s (sources_around ar)) p.1)
 
   open_pair : (ar : Places.Around) (a b : ℕ) → IsOpen set ar (equal_test a b) → (a < b) × (b < n) × (joins ar.joined a b ≡ false)
   open_pair ar a b o =
       let p = and_parts (nat_lt a b && is_at_hand set ar a && is_at_hand set ar b) (not (joins ar.joined a b)) o in
       let q = and_parts (nat_lt a b && is_at_hand set ar a) (is_at_hand set ar b) p.0 in
       let r = and_parts (nat_lt a b) (is_at_hand set ar a) q.0 in
-      (ltb-true a b r.0, ltb-true b n (and_parts (nat_lt b n) (available set.sites ar b) q.1).0, not_true (joins ar.joined a b) p.1)
+      (ltb-true a b r.0, ltb-true b n (and_parts (nat_lt b n) (available set.sites ar b) q.1).0, not-true (joins ar.joined a b) p.1)
 
   -- 5. inside a test
   module _ (around inside : Around) (here : List ℕ) where

@@ -1,19 +1,18 @@
 -- The greatest of some tests of a place, and the one that is made.
-use Rattle.std.proofs.Common.{◌≡◌, ℕ, ◌<◌, ◌≤◌, nat_lt, Bool, true, false, cond, List, [], ◌∷◌, ◌++◌, length, Option, Some, None, MatchOption, option_map, Contains, refl, sym, ap, ◌∙◌, subst, inl, inr, arith, ltb-false}
+use Rattle.std.proofs.Common.{◌≡◌, ℕ, Bool, true, false, cond, List, [], ◌∷◌, ◌++◌, length, Option, Some, None, MatchOption, option_map, Contains, refl, sym, ap, ◌∙◌, subst, inl, inr}
 use Rattle.std.specs.List.{filter}
-use Rattle.std.proofs.lemmas.Bool.{cases_Bool, cond-true, cond-false, false≢true, or_left}
+use Rattle.std.proofs.lemmas.Bool.{cases_Bool, cond-true, cond-false, false≢true}
 use Rattle.std.proofs.lemmas.List.Elements.{Contains-append_left, Contains-append_right, Contains-append_cases}
 use Rattle.isle_model.specs.sites.Sites.{SiteSet}
 use Rattle.isle_model.specs.trees.Places.{Around}
 use Rattle.isle_model.specs.trees.Tests as Tests
 use Rattle.isle_model.specs.trees.Tests.{match_test, equal_test, loop_test, cover, score, is_greater}
-use Rattle.isle_model.specs.trees.Best.{IsGreatest}
-use Rattle.isle_model.proofs.Members.{nothing_in, in_head, in_tail, in_alone}
+use Rattle.isle_model.proofs.Members.{in_head, in_tail, in_alone}
 use Rattle.isle_laws_trees.proofs.Scores.{scores_are_ordered_lem}
 use Rattle.isle_serialize.specs.declared.tests.Test.{Test}
 use Rattle.isle_serialize.specs.declared.tests.Score.{Score}
 use Rattle.isle_serialize.specs.declared.tests.Scored.{Scored}
-use Rattle.isle_serialize.specs.TestViews.{test_view, score_view, greater_test, IsGreatestOf, IsChosen, AreUseful, IsGreatestScored, IsScored}
+use Rattle.isle_serialize.specs.TestViews.{test_view, score_view, greater_test, IsGreatestOf, AreUseful, IsGreatestScored, IsScored}
 
 -- 1. filters
 module _ {X : Type 0} where
@@ -74,75 +73,12 @@ module _ (set : SiteSet) (ar : Around) (here : List ℕ) where
   compared : (b : Scored) (t : Test) (s : Score) → score_view s ≡ of t → IsScored set ar here b → is_greater (score_view s) (score_view b.score) ≡ is_greater (of t) (of b.test)
   compared b t s e f = λ i. is_greater (e i) (f i)
 
-  pub greater_taken : (b : Scored) (t : Test) (s : Score) → score_view s ≡ of t → IsScored set ar here b → is_greater (score_view s) (score_view b.score) ≡ true → t ≡ greater_test set ar here (Some b.test) t
-  greater_taken b t s e f y = sym (cond-true (is_greater (of t) (of b.test)) t b.test (sym (compared b t s e f) ∙ y))
-
-  pub best_kept : (b : Scored) (t : Test) (s : Score) → score_view s ≡ of t → IsScored set ar here b → is_greater (score_view s) (score_view b.score) ≡ false → b.test ≡ greater_test set ar here (Some b.test) t
-  best_kept b t s e f n = sym (cond-false (is_greater (of t) (of b.test)) t b.test (sym (compared b t s e f) ∙ n))
-
 -- 3. the test that is made
 count_is : (set : SiteSet) (ar : Around) (here : List ℕ) (u : Tests.Test) → (score set ar here u).count ≡ length (cover set.rules here u)
 count_is set ar here (match_test s) = refl
 count_is set ar here (equal_test a b) = refl
 count_is set ar here (loop_test s) = refl
 
-nothing_of : (xs : List ℕ) → length xs ≡ 0 → xs ≡ []
-nothing_of [] e = refl
-nothing_of (x ∷ xs) e = absurd (omega arith)
-
 module _ (set : SiteSet) (ar : Around) (here : List ℕ) (tests : List Test) (useful : AreUseful set ar here tests) where
-  abbrev rank : Tests.Test → Tests.Score
-  rank u = score set ar here u
-
-  -- a test that is not greater covers no more
-  counts_less : (t u : Tests.Test) → is_greater (rank u) (rank t) ≡ false → length (cover set.rules here u) ≤ length (cover set.rules here t)
-  counts_less t u f =
-      elim (cases_Bool (nat_lt (rank t).count (rank u).count)) [
-        | inl y ↦ absurd (false≢true (sym f ∙ or_left (nat_lt (rank t).count (rank u).count) _ y))
-        | inr n ↦ let k = ltb-false (rank t).count (rank u).count n in let a = count_is set ar here u in let b = count_is set ar here t in omega (arith, k, a, b)
-      ]
-
-  -- a test that covers a rule is greater than one that covers none
-  not_greater : (t u : Tests.Test) → 0 < length (cover set.rules here t) → cover set.rules here u ≡ [] → is_greater (rank u) (rank t) ≡ false
-  not_greater t u l n =
-      let z : length (cover set.rules here u) ≡ 0 = ap length n in
-      let a = count_is set ar here u in
-      let b = count_is set ar here t in
-      elim (cases_Bool (is_greater (rank u) (rank t))) [
-        | inl y ↦
-            elim (cases_Bool (is_greater (rank t) (rank u))) [
-              | inl x ↦ absurd (false≢true (sym (scores_are_ordered_lem.itself (rank u)) ∙ scores_are_ordered_lem.chain (rank u) (rank t) (rank u) y x))
-              | inr x ↦ let m = counts_less u t x in absurd (omega (arith, m, z, l))
-            ]
-        | inr f ↦ f
-      ]
-
-  greatest_open : (t : Test) → 0 < length (cover set.rules here (test_view t)) → IsGreatestOf set ar here tests (Some t) → IsGreatest set ar here (test_view t)
-  greatest_open t l g = record {
-    open_here = useful.open_here t g.0;
-    greatest = λ u o. elim (useful.others u o) [
-      | inl r ↦ subst (λ v. is_greater (rank v) (rank (test_view t)) ≡ false) r.2 (g.1 r.0 r.1)
-      | inr n ↦ not_greater (test_view t) u l n
-    ];
-  }
-
   pub count_of : (b : Scored) → IsScored set ar here b → b.score.count ≡ length (cover set.rules here (test_view b.test))
   count_of b s = ap (λ z. z.count) s ∙ count_is set ar here (test_view b.test)
-
-  pub chosen_one : (t : Test) (count : ℕ) → IsGreatestOf set ar here tests (Some t) → count ≡ length (cover set.rules here (test_view t)) → 0 < count → IsChosen set ar here (Some (test_view t))
-  chosen_one t count g e l = (greatest_open t (omega (arith, e, l)) g, λ n. let z : length (cover set.rules here (test_view t)) ≡ 0 = ap length n in omega (arith, e, l, z))
-
-  pub chosen_none : IsGreatestOf set ar here tests None → IsChosen set ar here None
-  chosen_none e u o = elim (useful.others u o) [
-    | inl r ↦ absurd (nothing_in r.0 (subst (λ l. Contains l r.0) e r.1))
-    | inr n ↦ n
-  ]
-
-  pub chosen_low : (t : Test) (count : ℕ) → IsGreatestOf set ar here tests (Some t) → count ≡ length (cover set.rules here (test_view t)) → count ≤ 0 → IsChosen set ar here None
-  chosen_low t count g e l u o = elim (useful.others u o) [
-    | inl r ↦
-        let f = subst (λ v. is_greater (rank v) (rank (test_view t)) ≡ false) r.2 (g.1 r.0 r.1) in
-        let k = counts_less (test_view t) u f in
-        nothing_of (cover set.rules here u) (omega (arith, k, e, l))
-    | inr n ↦ n
-  ]

@@ -77,10 +77,6 @@ pair_over n a b l m =
     Contains-append_right (map match_test (up_to n)) (flat_map (λ b. map (λ a. equal_test a b) (up_to b)) (up_to n)) (equal_test a b)
     (in_flat_map (λ b. map (λ a. equal_test a b) (up_to b)) (up_to n) b (equal_test a b) (in_up_to n b m) (in_map (λ a. equal_test a b) (up_to b) a (in_up_to b a l)))
 
-untold : (b : Bool) → not b ≡ true → b ≡ false
-untold true e = absurd (false≢true e)
-untold false e = refl
-
 less_untried : (x y : Bool) → not (x || y) ≡ true → not y ≡ true
 less_untried true y e = absurd (false≢true e)
 less_untried false y e = e

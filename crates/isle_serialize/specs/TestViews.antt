@@ -1,5 +1,5 @@
 -- Tests and scores, sites by their numbers.
-use Rattle.std.specs.Prelude.{◌≡◌, ◌≢◌, ◌⊎◌, ℕ, false, List, [], map, Option, Some, None, Contains, if◌then◌else◌}
+use Rattle.std.specs.Prelude.{◌≡◌, ◌≢◌, ◌⊎◌, ℕ, false, List, [], Option, Some, None, Contains, if◌then◌else◌}
 use Rattle.isle_model.specs.sites.Sites.{SiteSet}
 use Rattle.isle_model.specs.trees.Places.{Around}
 use Rattle.isle_model.specs.trees.Sound.{as_number}
@@ -15,9 +15,6 @@ abbrev pub test_view : Test → Tests.Test
 test_view (Match source) = match_test source
 test_view (Equal a b) = equal_test a b
 test_view (Loop source) = loop_test source
-
-abbrev pub test_views : List Test → List Tests.Test
-test_views ts = map test_view ts
 
 abbrev pub score_view : Score → Tests.Score
 score_view s = record { count = s.count; emitted = as_number s.is_emitted; form = s.form; site = s.site; other = s.other }

@@ -30,10 +30,6 @@ unfoldable mutual
   pub arm_view : MatchArm → Arms → Arms
   arm_view (MatchArm' constraint bindings body) = λ rest. arm (constraint_view constraint) bindings.items (tree_view body) rest
 
--- a step alone
-abbrev pub step_view : EvalStep → Tree
-step_view s = step s.bind_order.items (check_view s.check) no_step
-
 -- the same at lists of steps and of arms
 abbrev pub steps_view : List EvalStep → Tree
 steps_view [] = no_step

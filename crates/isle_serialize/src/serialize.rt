@@ -6,6 +6,7 @@ ghost use Rattle.isle_model.specs.claims.Layers.{IsBuiltForSome, IsSerialized};
 ghost use Rattle.isle_model.specs.trees.Best.{descend};
 ghost use Rattle.isle_model.specs.trees.Tests.{up_to};
 ghost use Rattle.isle_model.specs.trees.Trees.{no_step};
+ghost use Rattle.isle_laws_trees.specs.OneTree.{IsOnlyBest};
 ghost use Rattle.isle_sets.specs.Listings.{ascends};
 ghost use Rattle.isle_sets.specs.SiteViews.{set_view};
 ghost use Rattle.isle_serialize.specs.TreeViews.{tree_view};
@@ -14,7 +15,7 @@ use crate::around::Around;
 use crate::best::block_of;
 use crate::tests::priority;
 use isle_base::syntax::Pos;
-use isle_laws_trees::best_trees_mean_their_sets;
+use isle_laws_trees::{best_trees_mean_their_sets, built_sets_have_one_best_tree};
 use isle_sets::trie_again::{BindingId, Constraint, RuleSet};
 use std::alloc::{AllocError, Global};
 use std::cmp::Reverse;
@@ -140,17 +141,21 @@ impl Drop for MatchArm {
 }
 
 /// The best tree of a built set: at each place the test that covers most rules is made, for exactly the rules that it
-/// covers, and it means what the set does. A set without rules gives a block without steps.
+/// covers, and it means what the set does. A set has no other best tree. A set without rules gives a block without steps.
 ///
 /// # Errors
 ///
 /// Where memory is refused, and only there.
 pub fn serialize(alloc: Global, set: &RuleSet) -> Result<Block, AllocError>
     requires { IsBuiltForSome (set_view set.now) }
-    ensures { IfOk result (λ block. IsSerialized (set_view set.now) (tree_view block)) }
+    ensures serialized { IfOk result (λ block. IsSerialized (set_view set.now) (tree_view block)) }
+
+    // it is the only best tree of the set
+    ensures unique { IfOk result (λ block. IsOnlyBest (set_view set.now) (tree_view block)) }
 {
-    // a law, without code: best trees of built sets mean what the sets do
+    // laws, without code: best trees of built sets mean what the sets do, and no set has two
     best_trees_mean_their_sets();
+    built_sets_have_one_best_tree();
     let numbers = all_rules(alloc, set)?;
     let here = in_order(set, numbers)?;
     block_of(alloc, set, here, Around::new(alloc))

@@ -1,6 +1,6 @@
 -- Which sites are in one class, as a test: once a class is taken away, and once classes become one.
 use Rattle.std.proofs.Common.{◌≡◌, ◌⊎◌, Bool, true, false, not, ◌&&◌, ◌||◌, if◌then◌else◌, List, [], ◌∷◌, refl, sym, ap, ◌∙◌, subst, inl, inr}
-use Rattle.std.proofs.lemmas.Bool.{cases_Bool, cond-true, cond-false, and_parts, and_from, false_from_ne_true, not_from_false, both_ways, false≢true}
+use Rattle.std.proofs.lemmas.Bool.{cases_Bool, cond-true, cond-false, and_parts, and_from, false_from_ne_true, not_from_false, both_ways, not-true}
 use Rattle.isle_model.specs.sites.Sites.{SiteTerm}
 use Rattle.isle_model.specs.sites.Demands.{site_term_eq, has_site}
 use Rattle.isle_model.specs.sites.Closure.{class_at, without_class_of, merged_classes, merged_all}
@@ -34,10 +34,6 @@ pub class_has : (ks : List (List SiteTerm)) → IsApart ks → (s x : SiteTerm) 
 class_has ks apart s x (inl e) = subst (In (class_at ks s)) e (own_class ks s)
 class_has ks apart s x (inr o) = subst (λ l. In l x) (sym (class_is ks apart o.class s o.there o.first)) o.second
 
-not_means : (b : Bool) → not b ≡ true → b ≡ false
-not_means true h = absurd (false≢true h)
-not_means false h = refl
-
 -- 1. without the class of a site
 pub one_without : (ks : List (List SiteTerm)) → IsApart ks → (s a b : SiteTerm)
     → are_in_one_class (without_class_of ks s) a b ≡ (are_in_one_class ks a b && not (are_in_one_class ks s a))
@@ -54,7 +50,7 @@ one_without ks apart s a b =
     (λ h.
     let p = and_parts (are_in_one_class ks a b) (not (are_in_one_class ks s a)) h in
     let o = in_one ks a b p.0 in
-    let f = not_means (are_in_one_class ks s a) p.1 in
+    let f = not-true (are_in_one_class ks s a) p.1 in
     let lacks = false_from_ne_true (has_site o.class s) (λ t.
     both_ways (are_in_one_class ks s a) f (one_in ks s a (record { class = o.class; there = o.there; first = has_in o.class s t; second = o.first }))) in
     one_in (without_class_of ks s) a b (record { class = o.class; there = in_without ks s o.class o.there lacks; first = o.first; second = o.second }))

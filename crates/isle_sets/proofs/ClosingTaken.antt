@@ -11,9 +11,9 @@ use Rattle.isle_disjointsets.specs.Partition.{in_set}
 use Rattle.isle_model.specs.sites.Sites.{Site, Constraint, SiteTerm, unfold_site}
 use Rattle.isle_model.specs.sites.Demands.{has_site, with_sites}
 use Rattle.isle_model.specs.sites.Closure.{Closed, constraint_of, field_terms, class_at, merged_classes, merged_all, ascending, is_in_class, next_constrained, taken, closing}
-use Rattle.isle_model.proofs.Elements.{In, any_in, in_any, none_some}
+use Rattle.isle_model.proofs.Elements.{In, any_in, in_any}
 use Rattle.isle_model.proofs.SitesMade.{in_has, has_in}
-use Rattle.isle_laws_demands.proofs.closure.Closing.{closing_keeps}
+use Rattle.isle_laws_demands.proofs.closure.Closing.{closing_ends}
 use Rattle.isle_sets.specs.DemandsHeld.{constraint_held, are_equated}
 use Rattle.isle_sets.specs.SiteTables.{AddsFields}
 use Rattle.isle_sets.specs.SiteViews.{constraint_view}
@@ -190,11 +190,6 @@ one_step m n k c e next =
     ap (λ q. closing q k) e
     ∙ ap (λ o. elim o as (λ _. Closed) [ None ↦ k | Some c ↦ closing n (taken k c (ascending k.made (class_at k.classes c.0))) ]) next
 
-pub ended : (m : ℕ) (k : Closed) → next_constrained k.classes k.constraints k.made ≡ None → closing m k ≡ k
-ended m k none =
-    closing_keeps (λ j. j ≡ k)
-    (λ j e c next. absurd (none_some c (sym none ∙ (λ i. next_constrained (sym e i).classes (sym e i).constraints (sym e i).made) ∙ next))) m k refl
-
 -- 6. fields of members, as far as they are joined
 pub record JoinedSoFar (first now : List Site) (d : Demanded) (c : Constraint) (least : SiteTerm) (k : Closed) (fields : List ℕ) (all left : List SiteTerm) : Type 0 where
   pub so_far : Closed
@@ -243,9 +238,6 @@ pub record ClosedSoFar (first now : List Site) (d : Demanded) (k : Closed) (n m 
   pub goes : GoOn first now d so_far
   pub whole : closing m so_far ≡ closing n k
 
-pub nothing_closed : (first : List Site) (d : Demanded) (k : Closed) (n : ℕ) → AreDemandsOf first d k → ClosedSoFar first first d k n n
-nothing_closed first d k n h = record { so_far = k; goes = record { demands = h; kept = λ s l. refl; longer = omega arith }; whole = refl }
-
 pub one_closed : (first now after : List Site) (d e last : Demanded) (k : Closed) (n m : ℕ) (s : ℕ) (c : C.Constraint) → ClosedSoFar first now d k n (suc m) → IsNextDue d s c
     → e.constraints ≡ d.constraints → e.equals ≡ d.equals
     → ((j : Closed) → AreDemandsOf now e j → GoOn now after last (taken j (unfold_site now s, constraint_view c) (ascending j.made (class_at j.classes (unfold_site now s)))))
@@ -265,12 +257,9 @@ pub all_closed : (first now : List Site) (d e : Demanded) (k : Closed) (n m : �
     → e.constraints ≡ d.constraints → e.equals ≡ d.equals → GoOn first now e (closing n k)
 all_closed first now d e k n m j none asked equal =
     let h = j.goes.demands in
-    let is : j.so_far ≡ closing n k = sym (ended m j.so_far (none_next now d j.so_far h none)) ∙ j.whole in
+    let is : j.so_far ≡ closing n k = sym (closing_ends m j.so_far (none_next now d j.so_far h none)) ∙ j.whole in
     subst (GoOn first now e) is
     (record { demands = same_demands now d e j.so_far h asked equal; kept = j.goes.kept; longer = j.goes.longer })
-
-pub enough_closed : (first now : List Site) (d : Demanded) (k : Closed) (n m : ℕ) → m ≡ 0 → ClosedSoFar first now d k n m → GoOn first now d (closing n k)
-enough_closed first now d k n m z j = subst (GoOn first now d) (ap (λ i. closing i j.so_far) (sym z) ∙ j.whole) j.goes
 
 -- 8. the first of some members, and the rest
 pub same_first : (x y : ℕ) (xs ys : List ℕ) → x ∷ xs ≡ y ∷ ys → x ≡ y

@@ -1,11 +1,11 @@
 -- The sites that are due are kept as those to look at.
-use Rattle.std.proofs.Common.{◌≡◌, ℕ, ◌≤◌, true, false, cond, ◌&&◌, ◌||◌, if◌then◌else◌, List, [], Option, Some, None, is_some, sym, ap, ◌∙◌, subst, inl, inr, arith, Bor}
+use Rattle.std.proofs.Common.{◌≡◌, ℕ, ◌≤◌, true, false, cond, ◌&&◌, ◌||◌, if◌then◌else◌, List, Option, Some, None, is_some, sym, ap, ◌∙◌, subst, inl, inr, arith, Bor}
 use Rattle.std.specs.Prelude.{nat_eq, nat_lt, IfSome}
 use Rattle.std.specs.Option.{option_copied}
 use Rattle.std.specs.Ordering.{nat_cmp, is_gt, is_eq}
 use Rattle.std.specs.declared.cmp.Ordering.TheVariants.{Less, Equal, Greater}
 use Rattle.std.specs.BTreeSet.{BTreeSet, contains, Updates, IsLowerBound}
-use Rattle.std.proofs.lemmas.Bool.{cases_Bool, cond-true, cond-false, and_parts, and_from, both_ways, false_from_ne_true, false≢true, true≢false, ltb-true, eqb-true}
+use Rattle.std.proofs.lemmas.Bool.{cases_Bool, cond-true, cond-false, and_parts, and_from, both_ways, false_from_ne_true, true≢false, ltb-true, eqb-true}
 use Rattle.isle_disjointsets.specs.Partition.{together, IsPartition}
 use Rattle.isle_model.specs.sites.Sites.{Constraint}
 use Rattle.isle_model.proofs.Elements.{or_split, none_some, some_is}
@@ -88,28 +88,6 @@ pub not_in_class : (sets : List (List ℕ)) (r s : ℕ) → IsPartition nat_eq s
 not_in_class sets r s p none =
     false_from_ne_true (together nat_eq sets r s) (λ t. both_ways (together nat_eq sets s s) none (p.transitive s r s (p.symmetric s r ∙ t) t))
 
-pub due_passed : (d e : Demanded) (x : ℕ) → KeepsDue d → e.constraints ≡ d.constraints → e.equals ≡ d.equals
-    → ((r : ℕ) → is_due_with d r x ≡ false) → Updates nat_cmp d.open e.open x false → KeepsDue e
-due_passed d e x keeps asked equal none u r s h =
-    let due : is_due_with d r s ≡ true = (λ i. is_some (sym (held_same d e asked s) i) && sym (equated_same d e equal r s) i) ∙ h in
-    u.0 s
-    ∙ elim (cases_Bool (is_eq (nat_cmp x s))) [
-      | inl t ↦ absurd (false≢true (sym (none r) ∙ ap (is_due_with d r) (same x s t) ∙ due))
-      | inr f ↦ cond-false (is_eq (nat_cmp x s)) false (contains nat_cmp d.open s) f ∙ keeps r s due
-    ]
-  where
-    same : (a b : ℕ) → is_eq (nat_cmp a b) ≡ true → a ≡ b
-    same a b t =
-        elim (cases_Bool (nat_lt a b)) [
-          | inl l ↦ absurd (false≢true (sym (ap is_eq (cond-true (nat_lt a b) Less (cond (nat_eq a b) Equal Greater) l)) ∙ t))
-          | inr m ↦
-              let later : is_eq (cond (nat_eq a b) Equal Greater) ≡ true = sym (ap is_eq (cond-false (nat_lt a b) Less (cond (nat_eq a b) Equal Greater) m)) ∙ t in
-              elim (cases_Bool (nat_eq a b)) [
-                | inl q ↦ eqb-true a b q
-                | inr q ↦ absurd (false≢true (sym (ap is_eq (cond-false (nat_eq a b) Equal Greater q)) ∙ later))
-              ]
-        ]
-
 -- the least of what is open is no greater than any site that is due
 pub least_due : (d : Demanded) (s r : ℕ) → KeepsDue d → IsLowerBound nat_cmp d.open s → is_due_with d r r ≡ true → s ≤ r
 least_due d s r keeps least due = no_greater s r (least r (keeps r r due))
@@ -125,9 +103,6 @@ least_due d s r keeps least due = no_greater s r (least r (keeps r r due))
                     absurd (true≢false (sym (ap is_gt (cond-false (nat_lt a b) Less (cond (nat_eq a b) Equal Greater) m ∙ cond-false (nat_eq a b) Equal Greater q)) ∙ f))
               ]
         ]
-
-pub none_due : (d : Demanded) (s : ℕ) → KeepsDue d → d.open.keys ≡ [] → is_due_with d s s ≡ false
-none_due d s keeps empty = false_from_ne_true (is_due_with d s s) (λ t. false≢true (sym (ap (λ ks. contains nat_cmp (record { keys = ks }) s) empty) ∙ keeps s s t))
 
 -- 6. the same demands
 pub due_again : (d e : Demanded) → e.constraints ≡ d.constraints → e.equals ≡ d.equals → (r s : ℕ) → is_due_with e r s ≡ is_due_with d r s

@@ -76,15 +76,6 @@ pub record IsRound {S : Type 0} (parts done : List Part) (old ks : List (List �
   pub settled : changed ≡ false → (p : Part) → In done p → StandsFirst ks firsts p
   pub more : changed ≡ true → JoinsMore parts old ks
 
-pub round_begins : {S : Type 0} (parts : List Part) (ks : List (List ℕ)) (firsts : HashMap Binding ℕ S) → ((q : Binding) → get ghosts.eq firsts q ≡ None) → IsRound parts [] ks ks firsts false
-round_begins parts ks firsts none = record {
-  kept = λ a b e. e;
-  least = λ name c h. h;
-  known = λ q g e. absurd (none_some g (sym (none q) ∙ e));
-  settled = λ e p i. absurd i;
-  more = λ e. absurd (false≢true e);
-}
-
 -- one part more
 module _ {S : Type 0} (parts done : List Part) (old ks after : List (List ℕ)) (firsts next : HashMap Binding ℕ S) (changed : Bool) (p : Part) (there : In parts p)
     (so : IsRound parts done old ks firsts changed) (whole : IsPartition nat_eq ks)

@@ -2,6 +2,7 @@
 use Rattle.std.proofs.Common.{◌≡◌, ◌⊎◌, ℕ, Bool, true, false, not, ◌&&◌, List, [], ◌∷◌, ◌++◌, Option, Some, None, refl, sym, ap, ◌∙◌, subst, inl, inr, eqb-true, eq-eqb}
 use Rattle.std.specs.Prelude.{nat_eq}
 use Rattle.std.proofs.lemmas.Bool.{cases_Bool, cond-true, cond-false, and_from, false≢true}
+use Rattle.std.proofs.Math.Bool.{and-false}
 use Rattle.isle_model.specs.sites.Sites.{Constraint}
 use Rattle.isle_model.specs.sites.Demands.{constraint_eq}
 use Rattle.isle_model.specs.sites.Closure.{Unreachability, conflict, first_filled}
@@ -89,11 +90,7 @@ module _ (class : ℕ → ℕ) where
   not_itself : (a : ℕ × Constraint) (rest : List (ℕ × Constraint)) → first_other class a (a ∷ rest) ≡ first_other class a rest
   not_itself a rest =
       cond-false (differ_in class a a) (Some a.1) (first_other class a rest)
-      (ap (λ t. nat_eq (class a.0) (class a.0) && not t) (same_constraint a.1 a.1 refl) ∙ never (nat_eq (class a.0) (class a.0)))
-    where
-      never : (t : Bool) → (t && false) ≡ false
-      never true = refl
-      never false = refl
+      (ap (λ t. nat_eq (class a.0) (class a.0) && not t) (same_constraint a.1 a.1 refl) ∙ and-false (nat_eq (class a.0) (class a.0)))
 
   asked_here : (a : ℕ × Constraint) (rest : List (ℕ × Constraint)) → asked_in class (class a.0) (a ∷ rest) ≡ Some (a.1, first_other class a rest)
   asked_here a rest = cond-true (nat_eq (class a.0) (class a.0)) (Some (a.1, first_other class a rest)) (asked_in class (class a.0) rest) (eq-eqb (class a.0) (class a.0) refl)

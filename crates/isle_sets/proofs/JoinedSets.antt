@@ -1,7 +1,8 @@
 -- The sets of a partition as classes that join their members.
-use Rattle.std.proofs.Common.{◌≡◌, ℕ, zero, suc, ◌==◌, Bool, true, false, ◌&&◌, ◌||◌, List, [], ◌∷◌, slice_index_or, refl, sym, ap, ◌∙◌, subst, inl, inr, eqb-true, eq-eqb}
+use Rattle.std.proofs.Common.{◌≡◌, ℕ, zero, suc, ◌==◌, true, false, ◌&&◌, ◌||◌, List, [], ◌∷◌, slice_index_or, refl, sym, ap, ◌∙◌, subst, inl, inr, eqb-true, eq-eqb}
 use Rattle.std.specs.Prelude.{nat_eq}
 use Rattle.std.proofs.lemmas.Bool.{cases_Bool, cond-true, cond-false, and_parts, and_from, or_cases, or_left, or_right, false_from_ne_true, false≢true}
+use Rattle.isle_laws_demands.proofs.overlaps.Overlaps.{bool_same}
 use Rattle.isle_disjointsets.specs.Partition.{in_set, set_of, together, IsPartition}
 use Rattle.isle_model.specs.trees.Places.{is_in, joins_in}
 
@@ -48,16 +49,10 @@ joined_at (s ∷ cs) a b h =
       | inr r ↦ let q = joined_at cs a b r in (suc q.0, q.1, q.2)
     ]
 
-same_tests : (a b : Bool) → (a ≡ true → b ≡ true) → (b ≡ true → a ≡ true) → a ≡ b
-same_tests true true f g = refl
-same_tests false false f g = refl
-same_tests true false f g = sym (f refl)
-same_tests false true f g = g refl
-
 -- two items are in one set of a partition exactly where its classes join them
 pub together_joins : (cs : List (List ℕ)) → IsPartition nat_eq cs → (a b : ℕ) → together nat_eq cs a b ≡ joins_in cs a b
 together_joins cs p a b =
-    same_tests (together nat_eq cs a b) (joins_in cs a b) (first_set cs a b)
+    bool_same (together nat_eq cs a b) (joins_in cs a b) (first_set cs a b)
     (λ h.
     let k = joined_at cs a b h in
     let j = set_at cs a k.0 k.1 in

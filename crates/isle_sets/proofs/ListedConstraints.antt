@@ -59,9 +59,6 @@ listed_at (e ∷ es) s =
 whole : {X : Type 0} (xs rest es : List X) → xs ++ rest ≡ es → rest ≡ [] → xs ≡ es
 whole xs rest es e done = sym (append-nil xs) ∙ ap (λ r. xs ++ r) (sym done) ∙ e
 
-keys_sites : (es : List (ℕ × Constraint)) → keys_of es ≡ sites_of es
-keys_sites es = refl
-
 pub listed_ascend : (m : BTreeMap ℕ Constraint) (xs rest : List (ℕ × Constraint)) → xs ++ rest ≡ m.entries → rest ≡ [] → IsOrdered nat_cmp m → ascends (sites_of xs) ≡ true
 listed_ascend m xs rest e done s = ap (λ l. ascends (sites_of l)) (whole xs rest m.entries e done) ∙ sorted_ascend (keys_of m.entries) s
 

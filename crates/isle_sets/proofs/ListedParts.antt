@@ -1,13 +1,14 @@
 -- The fields that are listed of the constraints of sites are all that the demands ask for.
 use Rattle.std.proofs.Common.{◌≡◌, ◌↔◌, ◌==◌, ℕ, zero, suc, ◌+◌, ◌<◌, true, ◌&&◌, nat_lt, List, [], ◌∷◌, ◌++◌, length, Option, Some, None, is_some, slice_get, Contains, refl, sym, ap, ◌∙◌, subst, inl, inr, eqb-true, eq-eqb, ltb-true, arith}
 use Rattle.std.proofs.lemmas.Bool.{cases_Bool, cond-true, cond-false, and_parts, both_ways, false_from_ne_true}
-use Rattle.std.proofs.lemmas.List.{append-nil}
+use Rattle.std.proofs.lemmas.List.{append-nil, append_assoc}
 use Rattle.std.proofs.lemmas.Option.{slice_get_within}
+use Rattle.isle_laws_demands.proofs.closure.Reports.{joined_empty}
 use Rattle.isle_laws_demands.specs.FieldLaws.{GivesField}
 use Rattle.isle_model.specs.trees.Places.{constraint_at}
 use Rattle.isle_model.specs.sites.Sites.{Site, bool_site, int_site, prim_site, argument_site, extractor_site, constructor_site, iterator_site, make_variant_site, match_variant_site, make_struct_site, extract_struct_site, make_some_site, match_some_site, match_tuple_site, Constraint, is_variant, is_struct, is_bool, is_int, is_prim, is_present, sources_of, sources_at, SiteTerm, variant_field, struct_field, no_site, layer, layer_at, unfold_site}
 use Rattle.isle_model.specs.sites.Demands.{Demands, site_term_eq, constraint_eq}
-use Rattle.isle_model.specs.sites.Closure.{Unreachability, constraint_of, conflict, conflict_with, conflicts_met, fields_from, field_terms, before_closing, with_constraints}
+use Rattle.isle_model.specs.sites.Closure.{constraint_of, conflict, conflict_with, conflicts_met, fields_from, field_terms, before_closing, with_constraints}
 use Rattle.isle_model.proofs.Elements.{In, contains_from_in, in_from_contains, slice_in, some_is, none_some, in_either, map_in}
 use Rattle.isle_model.proofs.FewElements.{not_empty, in_one}
 use Rattle.isle_model.proofs.SameSites.{same_term, constraint_means}
@@ -44,10 +45,6 @@ no_clash_same b c e =
       | inr f ↦ absurd (not_empty (conflict b c) [] (sym (cond-false (constraint_eq b c) [] (conflict b c ∷ []) f) ∙ e))
     ]
 
-joined_nothing : (us vs : List Unreachability) → (us ++ vs) ≡ [] → (us ≡ []) × (vs ≡ [])
-joined_nothing [] vs e = (refl, e)
-joined_nothing (u ∷ us) vs e = absurd (not_empty u (us ++ vs) e)
-
 same_as_had : (had : List (SiteTerm × Constraint)) (c : SiteTerm × Constraint) → OneEach had → conflict_with (constraint_of had c.0) c.1 ≡ [] → (a : Constraint) → In had (c.0, a) → a ≡ c.1
 same_as_had had c once e a i = by (constraint_of had c.0) refl
   where
@@ -70,15 +67,11 @@ once_more had c once e s a b i j =
     against x y k p =
         same_as_had had c once e x (subst (λ t. In had (t, x)) (sym (ap (λ (z : SiteTerm × Constraint). z.0) p)) k) ∙ ap (λ (z : SiteTerm × Constraint). z.1) p
 
-joined_on : (xs ys : List (SiteTerm × Constraint)) (c : SiteTerm × Constraint) → ((xs ++ c ∷ []) ++ ys) ≡ (xs ++ c ∷ ys)
-joined_on [] ys c = refl
-joined_on (x ∷ xs) ys c = ap (λ l. x ∷ l) (joined_on xs ys c)
-
 pub each_once : (had cs : List (SiteTerm × Constraint)) → OneEach had → conflicts_met had cs ≡ [] → OneEach (had ++ cs)
 each_once had [] once e = subst OneEach (sym (append-nil had)) once
 each_once had (c ∷ cs) once e =
-    let p = joined_nothing (conflict_with (constraint_of had c.0) c.1) (conflicts_met (had ++ c ∷ []) cs) e in
-    subst OneEach (joined_on had cs c) (each_once (had ++ c ∷ []) cs (once_more had c once p.0) p.1)
+    let p = joined_empty (conflict_with (constraint_of had c.0) c.1) (conflicts_met (had ++ c ∷ []) cs) e in
+    subst OneEach (append_assoc had (c ∷ []) cs) (each_once (had ++ c ∷ []) cs (once_more had c once p.0) p.1)
 
 -- 2. lists that ascend
 pub above : (n : ℕ) (ns : List ℕ) → (is_below_first n ns && ascends ns) ≡ true → (m : ℕ) → In ns m → n < m

@@ -1,10 +1,9 @@
 -- Lists of fields, to which one after another is added.
-use Rattle.std.proofs.Common.{◌≡◌, ◌⊎◌, ◌↔◌, ◌==◌, ℕ, ◌+◌, ◌<◌, List, [], ◌∷◌, ◌++◌, Option, Some, None, slice_get, Contains, refl, sym, subst, inl, inr, eqb-true, eq-eqb, arith}
+use Rattle.std.proofs.Common.{◌≡◌, ◌⊎◌, ◌↔◌, ◌==◌, ℕ, ◌+◌, ◌<◌, List, [], ◌∷◌, ◌++◌, Option, Some, slice_get, Contains, refl, sym, subst, inl, inr, eqb-true, eq-eqb, arith}
 use Rattle.std.proofs.lemmas.Bool.{cases_Bool, both_ways}
 use Rattle.isle_model.specs.sites.Sites.{Site, Constraint}
-use Rattle.isle_model.proofs.Elements.{In, contains_from_in, in_from_contains, some_is, none_some, in_left, in_right, in_either}
+use Rattle.isle_model.proofs.Elements.{contains_from_in, in_from_contains, in_left, in_right, in_either}
 use Rattle.isle_types.specs.declared.ids.VariantId.{VariantId}
-use Rattle.isle_sets.specs.SiteTables.{IsSiteNumber}
 use Rattle.isle_sets.specs.SiteViews.{site_view}
 use Rattle.isle_sets.specs.FieldParts.{field_binding, IsPartAt, IsFieldPart, IsPartBy, IsPartOfAny}
 use Rattle.isle_sets.specs.declared.closure_classes.Part.{Part}
@@ -13,37 +12,6 @@ use Rattle.isle_sets.specs.declared.closure_classes.Part.{Part}
 module _ (sites : List Site) (s : ℕ) (form : Option VariantId) (i : ℕ) where
   abbrev pub Adds : List Part → List Part → Type 0
   Adds old new = (p : Part) → Contains new p ↔ (Contains old p ⊎ IsPartAt sites s form i p)
-
-  pub part_missing : IsSiteNumber sites (site_view (field_binding form s i)) None → (old : List Part) → Adds old old
-  part_missing none old p = (inl, λ h. elim h [ inl c ↦ c | inr a ↦ absurd (none_some p.field ((none p.field).1 a.field)) ])
-
-  pub part_added : (field : ℕ) → IsSiteNumber sites (site_view (field_binding form s i)) (Some field)
-      → (old new : List Part) → new ≡ old ++ record { source = s; variant = form; place = i; field = field } ∷ [] → Adds old new
-  part_added field found old new e p = (
-    λ c.
-        elim (in_either old (x ∷ []) p (subst (λ l. In l p) e (in_from_contains new p c))) [
-          | inl j ↦ inl (contains_from_in old p j)
-          | inr j ↦ elim j [ inl q ↦ inr (subst (IsPartAt sites s form i) q here) | inr n ↦ absurd n ]
-        ],
-    λ h.
-        contains_from_in new p
-        (subst (λ l. In l p) (sym e)
-        (elim h [
-          | inl c ↦ in_left old (x ∷ []) p (in_from_contains old p c)
-          | inr a ↦ in_right old (x ∷ []) p (inl (is_it a))
-        ])),
-  )
-    where
-      x : Part
-      x = record { source = s; variant = form; place = i; field = field }
-
-      here : IsPartAt sites s form i x
-      here = record { source = refl; variant = refl; place = refl; field = (found field).0 refl }
-
-      is_it : IsPartAt sites s form i p → x ≡ p
-      is_it a =
-          let same = some_is field p.field ((found p.field).1 a.field) in
-          λ k. record { source = sym a.source k; variant = sym a.variant k; place = sym a.place k; field = same k }
 
 -- the parts of a site so far
 module _ (sites : List Site) (s : ℕ) (form : Option VariantId) (old : List Part) where
@@ -93,17 +61,10 @@ module _ (sites : List Site) (s : ℕ) (form : Option VariantId) (old : List Par
         ]),
   )
 
--- nothing is given
-pub none_given : (old : List Part) (p : Part) → Contains old p ↔ (Contains old p ⊎ ⊥)
-none_given old p = (inl, λ h. elim h [ inl c ↦ c | inr n ↦ absurd n ])
-
 -- the parts of constraints so far
 module _ (sites : List Site) where
   abbrev pub HasAll : List (ℕ × Constraint) → List Part → Type 0
   HasAll cs now = (p : Part) → Contains now p ↔ IsPartOfAny sites cs p
-
-  pub none_at_all : HasAll [] []
-  none_at_all p = (λ c. absurd (in_from_contains [] p c), λ h. absurd (in_from_contains [] h.0 h.1))
 
   pub all_more : (cs : List (ℕ × Constraint)) (c : ℕ × Constraint) (now next : List Part) → HasAll cs now
       → ((p : Part) → Contains next p ↔ (Contains now p ⊎ IsPartBy sites c.0 c.1 p)) → HasAll (cs ++ c ∷ []) next

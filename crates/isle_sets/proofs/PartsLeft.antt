@@ -146,14 +146,6 @@ last_more ks parts p counts last next k is e had = record {
     of false f c other = absurd other
 
 -- 3. one part of each of some classes is left out
-pub taken_none : (before : ℕ → ℕ) (ended : List ℕ) → PartsAreTaken before before [] ended ended
-taken_none before ended = record {
-  counts = λ k. omega arith;
-  kept = λ k i. i;
-  met = λ k some none. absurd (omega (arith, some, none));
-  only = λ k i. inl i;
-  few = omega arith;
-}
 
 pub taken_more : (before after next : ℕ → ℕ) (wholes ended now then' : List ℕ) (whole : ℕ) → PartsAreTaken before after wholes ended now → ((k : ℕ) → next k ≡ after k - cond (nat_eq whole k) 1 0)
     → then' ≡ now ++ (if nat_eq (next whole) 0 then whole ∷ [] else []) → PartsAreTaken before next (wholes ++ whole ∷ []) ended then'

@@ -8,6 +8,7 @@ use Rattle.std.specs.BTreeSet.{BTreeSet, contains}
 use Rattle.std.proofs.lemmas.Bool.{cases_Bool, and_parts, and_from, or_left, or_cases, false_from_ne_true, false≢true, lt-ltb}
 use Rattle.std.proofs.lemmas.Grind.{flat_map-append}
 use Rattle.std.proofs.lemmas.List.Folds.{list_all-append, list_any-append}
+use Rattle.std.proofs.Math.Bool.{or-false, and-true, and-false, or_assoc}
 use Rattle.isle_disjointsets.specs.Partition.{in_set, together, IsPartition}
 use Rattle.isle_model.specs.trees.Places.{is_in, joins_in}
 use Rattle.isle_sets.specs.Listings.{are_listed, ascends, is_below_first, is_listed_class}
@@ -44,11 +45,7 @@ ascends_push (x ∷ y ∷ xs) n h l =
 
 -- 3. one more class
 joins_push : (cs : List (List ℕ)) (c : List ℕ) (a b : ℕ) → joins_in (cs ++ c ∷ []) a b ≡ (joins_in cs a b || (is_in a c && is_in b c))
-joins_push cs c a b = list_any-append (λ c. is_in a c && is_in b c) cs (c ∷ []) ∙ ap (λ t. joins_in cs a b || t) (last (is_in a c && is_in b c))
-  where
-    last : (t : Bool) → (t || false) ≡ t
-    last true = refl
-    last false = refl
+joins_push cs c a b = list_any-append (λ c. is_in a c && is_in b c) cs (c ∷ []) ∙ ap (λ t. joins_in cs a b || t) (or-false (is_in a c && is_in b c))
 
 abbrev firsts : List (List ℕ) → List ℕ
 firsts cs = flat_map (take 1) cs
@@ -100,17 +97,13 @@ module _ (whole rest after listed : List (List ℕ)) (s : ℕ) (later set : List
     partition = partition;
     parts = λ a b.
         let none : R s a ≡ false = sym (members a) ∙ ap (λ l. in_set nat_eq l a) e in
-        let same : together nat_eq after a b ≡ R a b = rests a b ∙ ap (λ t. R a b && not t) none ∙ kept (R a b) in
+        let same : together nat_eq after a b ≡ R a b = rests a b ∙ ap (λ t. R a b && not t) none ∙ and-true (R a b) in
         h.parts a b ∙ ap (λ t. joins_in listed a b || t) (sym same);
     in_order = h.in_order;
     ascending = later_ascend;
     left = still_left;
     above = λ a t. h.above a (stayed a t).0;
   }
-    where
-      kept : (t : Bool) → (t && true) ≡ t
-      kept true = refl
-      kept false = refl
 
   module _ (x : ℕ) (xs : List ℕ) (e : set ≡ x ∷ xs) (sorted : IsStrictlySortedBy nat_cmp set) where
     first_in : R s x ≡ true
@@ -145,28 +138,16 @@ module _ (whole rest after listed : List (List ℕ)) (s : ℕ) (later set : List
         elim (cases_Bool (R s a)) [
           | inl t ↦
               let same : R a b ≡ R s b = ap (λ l. in_set nat_eq l b) (h.partition.one_set s a t) in
-              same ∙ unsplit (R s b) ∙ sym (λ i. ((in_one a ∙ t) i && in_one b i) || (rests a b ∙ ap (λ g. R a b && not g) t ∙ never (R a b)) i)
-          | inr f ↦ sym (λ i. ((in_one a ∙ f) i && in_one b i) || (rests a b ∙ ap (λ g. R a b && not g) f ∙ kept (R a b)) i)
+              same ∙ sym (or-false (R s b)) ∙ sym (λ i. ((in_one a ∙ t) i && in_one b i) || (rests a b ∙ ap (λ g. R a b && not g) t ∙ and-false (R a b)) i)
+          | inr f ↦ sym (λ i. ((in_one a ∙ f) i && in_one b i) || (rests a b ∙ ap (λ g. R a b && not g) f ∙ and-true (R a b)) i)
         ]
-      where
-        never : (t : Bool) → (t && false) ≡ false
-        never true = refl
-        never false = refl
-
-        kept : (t : Bool) → (t && true) ≡ t
-        kept true = refl
-        kept false = refl
-
-        unsplit : (t : Bool) → t ≡ (t || false)
-        unsplit true = refl
-        unsplit false = refl
 
     pub one_listed : IsListedBefore whole after (listed ++ set ∷ []) later
     one_listed = record {
       partition = partition;
       parts = λ a b.
           h.parts a b ∙ ap (λ t. joins_in listed a b || t) (split a b)
-          ∙ regroup (joins_in listed a b) (is_in a (x ∷ xs) && is_in b (x ∷ xs)) (together nat_eq after a b)
+          ∙ sym (or_assoc (joins_in listed a b) (is_in a (x ∷ xs) && is_in b (x ∷ xs)) (together nat_eq after a b))
           ∙ ap (λ t. t || together nat_eq after a b) (sym (joins_push listed (x ∷ xs) a b))
           ∙ ap (λ c. joins_in (listed ++ c ∷ []) a b || together nat_eq after a b) (sym e);
       in_order = ap (λ c. are_listed (listed ++ c ∷ [])) e ∙ listed_push listed x xs h.in_order (and_from (ascends (x ∷ xs)) (nat_lt 1 (length (x ∷ xs))) set_ascends long) (h.above x first_own);
@@ -179,10 +160,6 @@ module _ (whole rest after listed : List (List ℕ)) (s : ℕ) (later set : List
           ∙ and_from (list_all (λ n. nat_lt n a) (firsts listed)) (nat_lt x a && true) (h.above a (stayed a t).0)
           (and_from (nat_lt x a) true (lt-ltb x a (not_above a (below_rest s later a h.ascending (still_left a t)))) refl);
     }
-      where
-        regroup : (p q r : Bool) → (p || (q || r)) ≡ ((p || q) || r)
-        regroup true q r = refl
-        regroup false q r = refl
 
   pub some_listed : (set ≡ [] → ⊥) → IsStrictlySortedBy nat_cmp set → IsListedBefore whole after (listed ++ set ∷ []) later
   some_listed filled sorted = of set refl
@@ -206,8 +183,4 @@ pub listing_ends : (whole rest listed : List (List ℕ)) → IsListedBefore whol
 listing_ends whole rest listed h a b =
     let none : together nat_eq rest a b ≡ false =
     false_from_ne_true (together nat_eq rest a b) (λ t. false≢true (h.left a (h.partition.transitive a b a t (h.partition.symmetric b a ∙ t)))) in
-    sym (h.parts a b ∙ ap (λ t. joins_in listed a b || t) none ∙ last (joins_in listed a b))
-  where
-    last : (t : Bool) → (t || false) ≡ t
-    last true = refl
-    last false = refl
+    sym (h.parts a b ∙ ap (λ t. joins_in listed a b || t) none ∙ or-false (joins_in listed a b))

@@ -1,8 +1,9 @@
 -- Two rules' constraints side by side: what is found by going on at the lesser site, where both ascend.
 use Rattle.std.proofs.Common.{◌≡◌, ◌==◌, ℕ, zero, suc, ◌+◌, ◌<◌, ◌≤◌, Bool, true, false, not, ◌&&◌, ◌||◌, List, [], ◌∷◌, length, drop, get_or, inl, inr, refl, sym, ap, ◌∙◌, subst, arith, nat_lt, eqb-true, ◌⊎◌}
 use Rattle.std.specs.List.{list_any}
-use Rattle.std.proofs.lemmas.Bool.{and_parts, cases_Bool, both_ways, eq-eqb}
+use Rattle.std.proofs.lemmas.Bool.{and_parts, cases_Bool, both_ways, eq-eqb, ne_eqb}
 use Rattle.std.proofs.lemmas.Bool.Decides.{Decides-ltb}
+use Rattle.std.proofs.Math.Bool.{and-false}
 use Rattle.isle_model.specs.sites.Sites as Sites
 use Rattle.isle_model.specs.sites.Demands.{constraint_eq}
 use Rattle.isle_model.specs.sites.SetRules.{differs_at, sites_differ, agrees_at, all_agree}
@@ -42,21 +43,18 @@ rest_above c cs a = let p = and_parts (is_below_first c.0 (sites_of cs)) (ascend
 rest_ascends : (c : Demand) (cs : List Demand) → ascends (sites_of (c ∷ cs)) ≡ true → ascends (sites_of cs) ≡ true
 rest_ascends c cs a = (and_parts (is_below_first c.0 (sites_of cs)) (ascends (sites_of cs)) a).1
 
-apart : (n m : ℕ) → (n ≡ m → ⊥) → (n == m) ≡ false
-apart n m h = elim (cases_Bool (n == m)) [ inl t ↦ absurd (h (eqb-true n m t)) | inr f ↦ f ]
-
 none_differs : (x : Demand) (ys : List Demand) → AllAbove x.0 ys → list_any (differs_at x) ys ≡ false
 none_differs x [] h = refl
 none_differs x (y ∷ ys) h =
     let l : x.0 < y.0 = h.0 in
-    let e = apart x.0 y.0 (λ s. omega arith) in
+    let e = ne_eqb x.0 y.0 (λ s. omega arith) in
     ap (λ b. (b && not (constraint_eq x.1 y.1)) || list_any (differs_at x) ys) e ∙ none_differs x ys h.1
 
 none_agrees : (x : Demand) (ys : List Demand) → AllAbove x.0 ys → list_any (agrees_at x) ys ≡ false
 none_agrees x [] h = refl
 none_agrees x (y ∷ ys) h =
     let l : x.0 < y.0 = h.0 in
-    let e = apart x.0 y.0 (λ s. omega arith) in
+    let e = ne_eqb x.0 y.0 (λ s. omega arith) in
     ap (λ b. (b && constraint_eq x.1 y.1) || list_any (agrees_at x) ys) e ∙ none_agrees x ys h.1
 
 -- a site below all of the others' tells nothing
@@ -64,7 +62,7 @@ difference_skipped : (y : Demand) (xs ys : List Demand) → AllAbove y.0 xs → 
 difference_skipped y [] ys h = refl
 difference_skipped y (x ∷ xs) ys h =
     let l : y.0 < x.0 = h.0 in
-    let e = apart x.0 y.0 (λ s. omega arith) in
+    let e = ne_eqb x.0 y.0 (λ s. omega arith) in
     ap (λ b. ((b && not (constraint_eq x.1 y.1)) || list_any (differs_at x) ys) || sites_differ xs (y ∷ ys)) e
     ∙ ap (λ b. list_any (differs_at x) ys || b) (difference_skipped y xs ys h.1)
 
@@ -72,7 +70,7 @@ agreement_skipped : (y : Demand) (xs ys : List Demand) → AllAbove y.0 xs → a
 agreement_skipped y [] ys h = refl
 agreement_skipped y (x ∷ xs) ys h =
     let l : y.0 < x.0 = h.0 in
-    let e = apart x.0 y.0 (λ s. omega arith) in
+    let e = ne_eqb x.0 y.0 (λ s. omega arith) in
     ap (λ b. ((b && constraint_eq x.1 y.1) || list_any (agrees_at x) ys) && all_agree xs (y ∷ ys)) e
     ∙ ap (λ b. list_any (agrees_at x) ys && b) (agreement_skipped y xs ys h.1)
 
@@ -87,10 +85,6 @@ pub record IsMetSoFar (as' bs xs ys : List Demand) (first second : Bool) : Type 
 pub nothing_met : (as' bs : List Demand) → ascends (sites_of as') ≡ true → ascends (sites_of bs) ≡ true → IsMetSoFar as' bs as' bs true true
 nothing_met as' bs a b = record { ascending = a; others_ascending = b; differ = refl; among = refl; others_among = refl }
 
-both_false : (b : Bool) → (b && false) ≡ false
-both_false true = refl
-both_false false = refl
-
 module _ (as' bs : List Demand) (x y : Demand) (xs ys : List Demand) (first second : Bool) (m : IsMetSoFar as' bs (x ∷ xs) (y ∷ ys) first second) where
   -- the first one's site is the lesser
   pub first_goes_on : x.0 < y.0 → IsMetSoFar as' bs xs (y ∷ ys) false second
@@ -100,7 +94,7 @@ module _ (as' bs : List Demand) (x y : Demand) (xs ys : List Demand) (first seco
         ascending = rest_ascends x xs m.ascending;
         others_ascending = m.others_ascending;
         differ = m.differ ∙ ap (λ b. b || sites_differ xs (y ∷ ys)) (none_differs x (y ∷ ys) up);
-        among = m.among ∙ ap (λ b. first && (b && all_agree xs (y ∷ ys))) (none_agrees x (y ∷ ys) up) ∙ both_false first;
+        among = m.among ∙ ap (λ b. first && (b && all_agree xs (y ∷ ys))) (none_agrees x (y ∷ ys) up) ∙ and-false first;
         others_among = m.others_among ∙ ap (λ b. second && b) (agreement_skipped x (y ∷ ys) xs up);
       }
 
@@ -113,7 +107,7 @@ module _ (as' bs : List Demand) (x y : Demand) (xs ys : List Demand) (first seco
         others_ascending = rest_ascends y ys m.others_ascending;
         differ = m.differ ∙ difference_skipped y (x ∷ xs) ys up;
         among = m.among ∙ ap (λ b. first && b) (agreement_skipped y (x ∷ xs) ys up);
-        others_among = m.others_among ∙ ap (λ b. second && (b && all_agree ys (x ∷ xs))) (none_agrees y (x ∷ xs) up) ∙ both_false second;
+        others_among = m.others_among ∙ ap (λ b. second && (b && all_agree ys (x ∷ xs))) (none_agrees y (x ∷ xs) up) ∙ and-false second;
       }
 
   module _ (s : x.0 ≡ y.0) where
@@ -147,18 +141,7 @@ module _ (as' bs : List Demand) (x y : Demand) (xs ys : List Demand) (first seco
               ∙ ap (λ b. second && b) (agreement_skipped x ys xs above_other);
         }
 
-    -- one site with two constraints
-    pub they_differ : constraint_eq x.1 y.1 ≡ false → sites_differ as' bs ≡ true
-    they_differ g =
-        let e : (x.0 == y.0) ≡ true = eq-eqb x.0 y.0 s in
-        m.differ ∙ (λ k. ((e k && not (g k)) || list_any (differs_at x) ys) || sites_differ xs (y ∷ ys))
-
--- 3. at an end
-both_true : (b : Bool) → (b && true) ≡ b
-both_true true = refl
-both_true false = refl
-
--- whether nothing is left
+-- 3. at an end: whether nothing is left
 abbrev pub is_at_end : List Demand → Bool
 is_at_end [] = true
 is_at_end (c ∷ cs) = false
@@ -225,22 +208,18 @@ module _ (as' bs : List (ℕ × Constraint)) (i j : ℕ) (x y : ℕ × Constrain
   walk_both h c m =
       both_go_on (constraint_views as') (constraint_views bs) this other (constraint_views (drop (i + 1) as')) (constraint_views (drop (j + 1) bs)) p q (here m) h c
 
-  pub found_to_differ : x.0 ≡ y.0 → constraint_eq (constraint_view x.1) (constraint_view y.1) ≡ false → MetAt i j p q → sites_differ (constraint_views as') (constraint_views bs) ≡ true
-  found_to_differ h c m =
-      they_differ (constraint_views as') (constraint_views bs) this other (constraint_views (drop (i + 1) as')) (constraint_views (drop (j + 1) bs)) p q (here m) h c
-
 suc_same : (i n : ℕ) → (suc i == suc n) ≡ (i == n)
 suc_same i n =
     elim (cases_Bool (i == n)) [
       | inl t ↦ eq-eqb (suc i) (suc n) (ap suc (eqb-true i n t)) ∙ sym t
-      | inr f ↦ apart (suc i) (suc n) (λ e. both_ways (i == n) f (eq-eqb i n (omega arith))) ∙ sym f
+      | inr f ↦ ne_eqb (suc i) (suc n) (λ e. both_ways (i == n) f (eq-eqb i n (omega arith))) ∙ sym f
     ]
 
 -- both walked as far as one of them goes
 at_end_by_place : (cs : List (ℕ × Constraint)) (i : ℕ) → i ≤ length cs → is_at_end (constraint_views (drop i cs)) ≡ (i == length cs)
 at_end_by_place [] zero l = refl
 at_end_by_place [] (suc i) l = absurd (omega arith)
-at_end_by_place (c ∷ cs) zero l = sym (apart 0 (length (c ∷ cs)) (λ e. omega arith))
+at_end_by_place (c ∷ cs) zero l = sym (ne_eqb 0 (length (c ∷ cs)) (λ e. omega arith))
 at_end_by_place (c ∷ cs) (suc i) l = at_end_by_place cs i (omega arith) ∙ sym (suc_same i (length cs))
 
 nothing_left : (cs : List (ℕ × Constraint)) (i : ℕ) → length cs ≤ i → constraint_views (drop i cs) ≡ []

@@ -2,7 +2,7 @@
 use Rattle.std.proofs.Common.{◌≡◌, ℕ, zero, suc, ◌+◌, ◌<◌, ◌≤◌, List, [], ◌∷◌, ◌++◌, length, map, All, Contains, inl, inr, refl, sym, ap, ap₂, ◌∙◌, subst, arith}
 use Rattle.std.specs.Prelude.{Result, IfOk, Ok, Err, if◌then◌else◌}
 use Rattle.std.proofs.lemmas.List.{length_push, map-append}
-use Rattle.std.proofs.lemmas.List.Elements.{All-push, All-weaker, All-nil}
+use Rattle.std.proofs.lemmas.List.Elements.{All-push, All-weaker}
 use Rattle.isle_model.specs.lists.Names.{IsDistinct}
 use Rattle.isle_model.specs.sites.Sites.{Site, match_variant_site, extract_struct_site, Constraint, is_variant, is_struct, sources_of, SiteTerm, variant_field, struct_field, layer, unfold_site}
 use Rattle.isle_model.specs.sites.Demands.{has_site, with_sites}
@@ -25,15 +25,6 @@ same_all f g n [] h w = refl
 same_all f g n (a ∷ ns) h w =
     let l : a < n = w 0 a (omega arith) in
     ap₂ ◌∷◌ (h a l) (same_all f g n ns h (λ k d l. w (suc k) d (omega arith)))
-
-pub none_added : (before : List Site) → AddsSites before before [] []
-none_added before terms once stand = record {
-  stand = stand;
-  numbers = refl;
-  within = All-nil (λ n. n < length before);
-  kept = λ s l. refl;
-  longer = omega arith;
-}
 
 -- one more
 pub one_added : (before mid after : List Site) (bs : List Site) (ns : List ℕ) (b : Site) (n : ℕ) → AddsSites before mid bs ns → SourcesFirst mid
@@ -88,9 +79,6 @@ pub struct_fields_added : (before after : List Site) (ty fields s : ℕ) (ns : L
 struct_fields_added before after ty fields s ns =
     fields_added before after (each_place (extract_struct_site s) 0 fields) (is_struct ty fields) s ns
     (struct_terms (unfold_site before) ty fields s)
-
-pub no_fields_added : (before : List Site) (c : Constraint) (s : ℕ) → field_terms c (unfold_site before s) ≡ [] → AddsFields before before c s []
-no_fields_added before c s e = fields_added before before [] c s [] (sym e) (none_added before)
 
 pub no_shorter_by : (mid after : List Site) (b : Site) (n : ℕ) → AddsSite mid after b n → length mid ≤ length after
 no_shorter_by mid after b n (inl x) = let e : length after ≡ length mid = ap length x.1 in omega arith

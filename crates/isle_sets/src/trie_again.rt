@@ -127,7 +127,7 @@ pub enum Binding {
     },
     /// An integer.
     ConstInt {
-        /// The value, as it was written.
+        /// The value: at a built-in type a number of the type's range, else as it was written.
         val: i128,
         /// Its type. The number alone doesn't say which constant it is: 1 is one of each integer type.
         ty: TypeId,
@@ -290,7 +290,7 @@ pub enum Constraint {
     },
     /// That it is this integer.
     ConstInt {
-        /// The value, as it was written.
+        /// The value: at a built-in type a number of the type's range, else as it was written.
         val: i128,
         /// Its type, without which the number doesn't say which constant is asked.
         ty: TypeId,

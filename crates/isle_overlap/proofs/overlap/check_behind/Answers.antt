@@ -1,12 +1,13 @@
 use Rattle.std.proofs.Common.{ap, refl}
 use Rattle.isle_sets.specs.SiteViews.{set_rule_view, set_rule_views}
 use Rattle.isle_overlap.specs.Comparisons.{masked_behind, wrong_behind}
-use Rattle.isle_overlap.proofs.Gone.{rest_at, more, no_more}
+use Rattle.isle_sets.proofs.Rests.{rest_is}
+use Rattle.isle_overlap.proofs.Gone.{more, no_more}
 use Rattle.isle_overlap.proofs.overlap.check_behind.Goals as goal
 
 pub loop-j-preserved : goal.loop-j-preserved
 loop-j-preserved c =
-    let rest = rest_at c.args.rules.now c.loop-j.j c.index-rules-j.result c.loop-j-test.true c.index-rules-j.is in
+    let rest = rest_is c.args.rules.now c.loop-j.j c.index-rules-j.result c.loop-j-test.true c.index-rules-j.is in
     record {
       wrong = more _ _ _ _ _ _ (c.in_ok-add_wrong.ensures) (ap (λ xs. wrong_behind (set_rule_view c.args.left.now) (set_rule_views xs)) rest) c.loop-j.invariant.wrong;
       masked = more _ _ _ _ _ _ (c.in_ok-add_masked.ensures) (ap (λ xs. masked_behind c.args.i (set_rule_view c.args.left.now) c.loop-j.j (set_rule_views xs)) rest) c.loop-j.invariant.masked;

@@ -2,6 +2,7 @@ use Rattle.std.proofs.Common.{◌∙◌, ap, length, subst}
 use Rattle.std.specs.Prelude.{IsPermutation}
 use Rattle.std.proofs.lemmas.Result.{IfOk-weaker}
 use Rattle.isle_model.specs.claims.Layers.{IsSerialized}
+use Rattle.isle_laws_trees.specs.OneTree.{IsOnlyBest}
 use Rattle.isle_sets.specs.Listings.{ascends}
 use Rattle.isle_sets.specs.SiteViews.{set_view}
 use Rattle.isle_serialize.specs.AroundViews.{around_view}
@@ -17,11 +18,21 @@ in_order-requires c = ap ascends c.in_ok-numbers.ensures ∙ ascends_up_to (leng
 pub block_of-requires : goal.block_of-requires
 block_of-requires c = record { set = can_grow (set_view c.args.set.now) c.requires; order = c.in_ok-here.ensures.order }
 
-pub returns : goal.returns
-returns c =
+pub returns-clause-serialized : goal.returns-clause-serialized
+returns-clause-serialized c =
     let set = set_view c.args.set.now in
     let here = c.in_ok-here.here.items in
     IfOk-weaker c.block_of.result (λ b. IsBestFrom set (around_view c.new.result) here (tree_view b)) (λ b. IsSerialized set (tree_view b))
     (λ b best.
     whole_tree c.best_trees_mean_their_sets.ensures set here (tree_view b) c.requires (subst (λ l. IsPermutation l here) c.in_ok-numbers.ensures c.in_ok-here.ensures.permutation)
     (subst (λ ar. IsBestFrom set ar here (tree_view b)) c.new.ensures best)) c.block_of.ensures
+
+pub returns-clause-unique : goal.returns-clause-unique
+returns-clause-unique c =
+    let set = set_view c.args.set.now in
+    let here = c.in_ok-here.here.items in
+    IfOk-weaker c.block_of.result (λ b. IsBestFrom set (around_view c.new.result) here (tree_view b)) (λ b. IsOnlyBest set (tree_view b))
+    (λ b best.
+    c.built_sets_have_one_best_tree.ensures set (tree_view b) c.requires
+    (whole_tree c.best_trees_mean_their_sets.ensures set here (tree_view b) c.requires (subst (λ l. IsPermutation l here) c.in_ok-numbers.ensures c.in_ok-here.ensures.permutation)
+    (subst (λ ar. IsBestFrom set ar here (tree_view b)) c.new.ensures best)).best) c.block_of.ensures
