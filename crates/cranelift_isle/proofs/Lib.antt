@@ -2,3 +2,5 @@ pub mod TreesSoFar
 pub mod SharedTrees
 pub mod Lowered
 pub mod Checked
+pub mod OneAnswer
+pub mod NamedErrors

@@ -16,6 +16,9 @@ use Rattle.isle_model.specs.claims.Environments.{TypesRead, types_read, IsElabor
 use Rattle.isle_model.specs.claims.Layers.{own_program, IsAccepted, IsBuiltForSome, CheckAnswers, LoweredTerm, AreLowered, LoweringAnswers, RefusedBy, by_check, BestTreesKeepTheHeadline}
 use Rattle.isle_model.specs.claims.Refusals.{refusal_of, NamesOnlyPassed, PassedInReading, PassedInBuilding}
 use Rattle.isle_model.proofs.Mapped.{nothing_mapped}
+use Rattle.isle_laws_trees.specs.NoLimits.{PassedInLowering, in_reading, in_building}
+use Rattle.isle_laws_trees.specs.OneTree.{IsOnlyBest, LoweredTreesAreOnlyBest}
+use Rattle.isle_laws_trees.specs.WholeDemands.{AcceptedDemandsAreWhole}
 use Rattle.isle_types.specs.declared.ids.TermId.{TermId}
 use Rattle.isle_rules.specs.ErrorViews.{error_views}
 use Rattle.isle_rules.specs.ShownEnvs.{environment_shown_by}
@@ -24,7 +27,7 @@ use Rattle.isle_sets.specs.declared.trie_again.RuleSet.{RuleSet}
 use Rattle.isle_builder.specs.Built.{IsOfElaborated, ShowsElaborated, term_set_views}
 use Rattle.cranelift_isle.specs.Checks.{IsChecked, ReportsAreErrors}
 use Rattle.cranelift_isle.specs.declared.lower.Lowered.{Lowered}
-use Rattle.cranelift_isle.specs.Lowerings.{set_of_term, AreAccepted, IsLowered, OfAccepted, ChooseAsSource, CollectBags, SharesTests, PassedInLowering, in_reading, in_building}
+use Rattle.cranelift_isle.specs.Lowerings.{set_of_term, AreAccepted, IsLowered, OfAccepted, ChooseAsSource, CollectBags, SharesTests, DemandWhole}
 
 same_rules : (a b : TypedRules) → Some a ≡ Some b → a ≡ b
 same_rules a b e = cc
@@ -126,6 +129,12 @@ module _ {defs : List Definition} {expand : Bool} {env : TermEnv} {types : TypeE
 
       pub chosen : OfAccepted defs expand (ChooseAsSource ts)
       chosen other is = subst (λ r. ChooseAsSource ts (own_program defs r)) (sym (same_typing other is)) (λ k d h. (lowered.lowered k d h).headline.runs)
+
+      pub unique : LoweredTreesAreOnlyBest → All (λ t. IsOnlyBest t.set t.tree) ts
+      unique one k d h = one p (slice_index_or ts k d) (lowered.lowered k d h)
+
+      pub whole : AcceptedDemandsAreWhole → OfAccepted defs expand (DemandWhole ts)
+      whole all other is k d h = all defs expand other is (slice_index_or ts k d).term
 
       pub collected : OfAccepted defs expand (CollectBags ts)
       collected other is = subst (λ r. CollectBags ts (own_program defs r)) (sym (same_typing other is)) (λ k d h. (lowered.lowered k d h).collects)

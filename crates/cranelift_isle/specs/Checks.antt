@@ -1,18 +1,24 @@
 -- What checking answers of a program, and of sets that were built.
-use Rattle.std.specs.Prelude.{◌≡◌, List, [], Result, Ok, Err, ⊤}
+use Rattle.std.specs.Prelude.{◌≡◌, Bool, List, [], Result, Ok, Err, ⊤}
 use Rattle.std.specs.Global.{Vec}
 use Rattle.isle_model.specs.rules.Program.{Program}
-use Rattle.isle_model.specs.sites.Overlap.{RuleReport}
+use Rattle.isle_model.specs.lists.Syntax.{Definition}
+use Rattle.isle_model.specs.lists.Elaborated.{TypedRules}
+use Rattle.isle_model.specs.claims.Environments.{TypesRead, IsElaborated, program_of}
+use Rattle.isle_model.specs.claims.Refusals.{Refusal}
+use Rattle.isle_base.specs.Answers.{OnErrors}
+use Rattle.isle_model.specs.sites.Overlap.{HasDistinctPositions, RuleReport}
 use Rattle.isle_model.specs.claims.Layers.{CheckAnswers, CheckReports}
 use Rattle.isle_base.specs.declared.syntax.Error.{Error}
 use Rattle.isle_base.specs.declared.syntax.Fault.{Fault}
 use Rattle.isle_base.specs.declared.syntax.Fault.TheVariants.{Memory, Errors}
 use Rattle.isle_types.specs.declared.ids.TermId.{TermId}
 use Rattle.isle_terms.specs.TermViews.{term_views}
-use Rattle.isle_rules.specs.RuleViews.{rule_views}
+use Rattle.isle_typed.specs.RuleViews.{rule_views}
 use Rattle.isle_rules.specs.declared.term_env.TermEnv.{TermEnv}
 use Rattle.isle_sets.specs.declared.trie_again.RuleSet.{RuleSet}
-use Rattle.isle_builder.specs.Built.{term_set_views, report_views}
+use Rattle.isle_term_sets.specs.AddedRules.{report_views}
+use Rattle.isle_builder.specs.Built.{ShowsElaborated, term_set_views}
 use Rattle.isle_rules.specs.ErrorViews.{error_views}
 
 -- the terms and rules of an environment, as a program; which terms are multi needs no more of it
@@ -30,3 +36,13 @@ abbrev pub IsChecked : Program → Result (Vec (TermId × RuleSet)) Fault → Ty
 IsChecked p (Ok sets) = CheckAnswers p (term_set_views sets.items)
 IsChecked p (Err (Errors es)) = ReportsAreErrors p es.items
 IsChecked p (Err (Memory e)) = ⊤
+
+-- what holds of the errors that checking an environment answers, for each list that the environment is of
+abbrev pub OfErrors : TermEnv → Result (Vec (TermId × RuleSet)) Fault → (Program → List Refusal → Type 0) → Type 0
+OfErrors env result P =
+    (e : TypesRead) (defs : List Definition) (expand : Bool) (rules : TypedRules) → IsElaborated e defs expand rules → ShowsElaborated e defs rules env
+    → OnErrors result (λ es. P (program_of e defs rules.rules) (error_views es))
+
+-- if no two rules stand at one position
+abbrev pub WhereApart : (Program → List Refusal → Type 0) → Program → List Refusal → Type 0
+WhereApart P p errors = HasDistinctPositions p → P p errors

@@ -1,17 +1,17 @@
 -- What lowering a list of definitions gives.
-use Rattle.std.specs.Prelude.{ℕ, Bool, List, map, All}
-use Rattle.isle_model.specs.lists.Syntax.{Position, Definition}
-use Rattle.isle_model.specs.lists.TypeTable.{IsValidTypes}
+use Rattle.std.specs.Prelude.{◌≡◌, ℕ, Bool, List, map, All}
+use Rattle.isle_model.specs.lists.Syntax.{Definition}
 use Rattle.isle_model.specs.lists.Elaborated.{TypedRules}
 use Rattle.isle_model.specs.rules.Program.{Program}
 use Rattle.isle_model.specs.sites.Sites.{SiteSet}
 use Rattle.isle_model.specs.trees.Trees.{Tree}
 use Rattle.isle_model.specs.trees.Best.{IsBestTree}
 use Rattle.isle_model.specs.trees.Collects.{CollectsTheBag}
-use Rattle.isle_model.specs.claims.Environments.{types_read, IsRead}
+use Rattle.isle_model.specs.claims.Environments.{types_read}
 use Rattle.isle_model.specs.claims.Headline.{RunsAsChosen}
 use Rattle.isle_model.specs.claims.Layers.{own_program, IsAccepted, LoweredTerm, LoweringAnswers, TestsAreShared, MeansItsSet, BindsBeforeUse}
-use Rattle.isle_model.specs.claims.Refusals.{NamedLimit, PassedInReading, PassedInBuilding}
+use Rattle.isle_model.specs.claims.SetMeanings.{DemandsAreWhole}
+use Rattle.isle_laws_trees.specs.OneAnswer.{EachTwo, BecameSame}
 use Rattle.isle_types.specs.EnvViews.{environment_view}
 use Rattle.isle_rules.specs.ShownEnvs.{environment_shown_by}
 use Rattle.isle_sets.specs.SiteViews.{set_view}
@@ -40,6 +40,17 @@ abbrev pub IsLowered : List Definition → Bool → Lowered → Type 0
 IsLowered defs expand l =
     (rules : TypedRules) × LoweringAnswers defs expand (environment_view l.tyenv) (environment_shown_by l.termenv) rules (lowered_views l.terms.items)
 
+-- two answers are one: they show equal environments, and each term has the same sites, rules that show the same and the
+-- same tree
+pub record AreOneAnswer (a b : Lowered) : Type 0 where
+  pub types : environment_view a.tyenv ≡ environment_view b.tyenv
+  pub terms : environment_shown_by a.termenv ≡ environment_shown_by b.termenv
+  pub became : EachTwo BecameSame (lowered_views a.terms.items) (lowered_views b.terms.items)
+
+-- all that definitions become is one answer
+abbrev pub LoweringIsAFunction : Type 0
+LoweringIsAFunction = (defs : List Definition) (expand : Bool) (a b : Lowered) → IsLowered defs expand a → IsLowered defs expand b → AreOneAnswer a b
+
 -- a fact of the program of accepted definitions
 abbrev pub OfAccepted : List Definition → Bool → (Program → Type 0) → Type 0
 OfAccepted defs expand P = (rules : TypedRules) → IsAccepted defs expand rules → P (own_program defs rules)
@@ -64,8 +75,6 @@ pub record SharesTests (set : SiteSet) (tree : Tree) : Type 0 where
 abbrev pub BindsBeforeAnyUse : SiteSet → Tree → Type 0
 BindsBeforeAnyUse set tree = (multi : Bool) → BindsBeforeUse set multi tree
 
--- a limit is passed while definitions are lowered: by a rule while the rules are read, or while those that were read are
--- built
-pub data PassedInLowering (defs : List Definition) (expand : Bool) : NamedLimit → Position → Type 0 where
-  in_reading : (l : NamedLimit) (at : Position) → IsValidTypes defs → PassedInReading (types_read defs) defs expand l at → PassedInLowering defs expand l at
-  in_building : (l : NamedLimit) (at : Position) (rules : TypedRules) → IsRead defs expand rules → PassedInBuilding (own_program defs rules) l at → PassedInLowering defs expand l at
+-- the closed demands of the rules of each term are all that follows from what the rules ask
+abbrev pub DemandWhole : List LoweredTerm → Program → Type 0
+DemandWhole ts p = All (λ t. DemandsAreWhole p t.term) ts

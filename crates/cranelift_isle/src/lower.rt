@@ -5,16 +5,19 @@ ghost use Rattle.isle_base.specs.Answers.{Answers, OnErrors};
 ghost use Rattle.isle_base.specs.SyntaxViews.{definition_views};
 ghost use Rattle.isle_model.specs.claims.Layers.{IsBuiltForSome, RefusedBy};
 ghost use Rattle.isle_model.specs.claims.Refusals.{NamesOnlyPassed};
+ghost use Rattle.isle_laws_trees.specs.NoLimits.{PassedInLowering, PassNoLimit};
+ghost use Rattle.isle_laws_trees.specs.OneTree.{IsOnlyBest};
 ghost use Rattle.isle_rules.specs.ErrorViews.{error_views};
 ghost use Rattle.isle_builder.specs.Built.{term_set_views};
 ghost use Rattle.isle_sets.specs.SiteViews.{set_view};
 ghost use Rattle.isle_serialize.specs.TreeViews.{tree_view};
-ghost use Rattle.cranelift_isle.specs.Lowerings.{lowered_views, set_of_term, AreAccepted, IsLowered, OfAccepted, ChooseAsSource, SharesTests, CollectBags, BindsBeforeAnyUse, PassedInLowering};
+ghost use Rattle.cranelift_isle.specs.Lowerings.{lowered_views, set_of_term, AreAccepted, IsLowered, OfAccepted, ChooseAsSource, SharesTests, CollectBags, BindsBeforeAnyUse, DemandWhole, LoweringIsAFunction};
 
 use crate::overlap::check;
 use isle_base::syntax::{Def, Fault};
 use isle_laws_trees::{
-    best_trees_bind_before_use, best_trees_keep_the_headline, best_trees_share_most,
+    accepted_demands_are_whole, accepted_pass_no_limit, best_trees_bind_before_use,
+    best_trees_keep_the_headline, best_trees_share_most, lowered_trees_are_only_best,
 };
 use isle_rules::TermEnv;
 use isle_serialize::serialize::{Block, serialize};
@@ -88,14 +91,27 @@ pub fn lower(alloc: Global, defs: &[Def], expand: bool) -> Result<Lowered, Fault
     // each tree binds sites before it uses them
     ensures bound { IfOk result (λ l. All (λ t. BindsBeforeAnyUse t.set t.tree) (lowered_views l.terms.items)) }
 
+    // each tree is the only best tree of its set
+    ensures unique { IfOk result (λ l. All (λ t. IsOnlyBest t.set t.tree) (lowered_views l.terms.items)) }
+
+    // what is accepted passes none of the six limits
+    ensures within_limits { IfOk result (λ l. PassNoLimit (definition_views defs.now) expand) }
+
+    // the demands of each term's rules are all that follows from what the rules ask
+    ensures whole { IfOk result (λ l. OfAccepted (definition_views defs.now) expand (DemandWhole (lowered_views l.terms.items))) }
+
     // errors say by which pass the definitions are refused, and why
     ensures refused { OnErrors result (λ es. RefusedBy (definition_views defs.now) expand (error_views es)) }
 
     // an error names a limit only where a rule passes it
     ensures limits { OnErrors result (λ es. NamesOnlyPassed (PassedInLowering (definition_views defs.now) expand) (error_views es)) }
 {
-    // a law, without code: the best trees of accepted definitions keep the headline
+    // laws, without code: the best trees of accepted definitions keep the headline, and no set has two; accepted definitions
+    // pass no limit, and the demands of their rules are whole
     best_trees_keep_the_headline();
+    lowered_trees_are_only_best();
+    accepted_pass_no_limit();
+    accepted_demands_are_whole();
     let mut tyenv = TypeEnv::from_ast(alloc, defs)?;
     let termenv = TermEnv::from_ast(alloc, &mut tyenv, defs, expand)?;
     let sets = check(alloc, &termenv)?;
@@ -133,3 +149,9 @@ fn tree_of(alloc: Global, set: &RuleSet) -> Result<Block, AllocError>
     best_trees_bind_before_use();
     serialize(alloc, set)
 }
+
+/// All that meets what `lower` promises of the same definitions and the same choice to expand is one answer: it shows
+/// equal environments, and each term has the same sites, rules that show the same and the same tree.
+fn lowering_is_a_function()
+    ensures { LoweringIsAFunction }
+{}

@@ -7,12 +7,17 @@ ghost use Rattle.isle_model.specs.rules.Program.{Program, is_multi};
 ghost use Rattle.isle_model.specs.claims.Environments.{IsElaborated, TypesRead, program_of};
 ghost use Rattle.isle_model.specs.sites.Overlap.{RuleReport};
 ghost use Rattle.isle_model.specs.sites.SetRules.{reports_of_sets};
+ghost use Rattle.isle_laws_demands.specs.ErrorLaws.{NamesLeftOut, NamesPairs, NamesMasks};
 ghost use Rattle.isle_rules.specs.ErrorViews.{error_views};
-ghost use Rattle.isle_builder.specs.Built.{IsOfElaborated, ShowsElaborated, WereBuilt, report_views, term_set_views};
-ghost use Rattle.cranelift_isle.specs.Checks.{IsChecked, env_program};
+ghost use Rattle.isle_term_sets.specs.AddedRules.{report_views};
+ghost use Rattle.isle_builder.specs.Built.{IsOfElaborated, ShowsElaborated, WereBuilt, term_set_views};
+ghost use Rattle.cranelift_isle.specs.Checks.{IsChecked, OfErrors, WhereApart, env_program};
 
 use isle_base::syntax::{Error, Fault};
 use isle_builder::build::build;
+use isle_laws_demands::{
+    check_errors_name_left_out, check_errors_name_masks, check_errors_name_pairs,
+};
 use isle_overlap::overlap::Errors;
 use isle_rules::TermEnv;
 use isle_sets::trie_again::RuleSet;
@@ -98,7 +103,21 @@ pub fn check(alloc: Global, termenv: &TermEnv) -> Result<Vec<(TermId, RuleSet)>,
     requires elaborated { IsOfElaborated termenv.now }
     ensures checked { (e : TypesRead) (defs : List Definition) (expand : Bool) (rules : TypedRules) → IsElaborated e defs expand rules → ShowsElaborated e defs rules termenv.now
         → IsChecked (program_of e defs rules.rules) result }
+
+    // each rule that is left out has an error at its position, and each error that says so is of a rule that is left out
+    ensures left_out { OfErrors termenv.now result NamesLeftOut }
+
+    // if no two rules stand at one position: each two rules that overlap wrongly stand in exactly one overlap error that lists
+    // one of them first, and its further rules overlap wrongly with its first
+    ensures pairs { OfErrors termenv.now result (WhereApart NamesPairs) }
+
+    // and each mask is named by exactly one shadow error, which lists exactly the rules that it shadows
+    ensures masks { OfErrors termenv.now result (WhereApart NamesMasks) }
 {
+    // laws, without code: what the errors name
+    check_errors_name_left_out();
+    check_errors_name_pairs();
+    check_errors_name_masks();
     let (sets, errors) = build(alloc, termenv)?;
     check_built(alloc, termenv, sets, errors)
 }

@@ -1,11 +1,12 @@
 //! Types, terms and typed rules: what definitions mean.
 
-pub use isle_rules::{
-    Body, BoundVar, Expr, ExprVisitor, IfLet, Pattern, PatternVisitor, Rule, RuleVisitor, TermEnv,
-    VisitFault, VisitedExpr,
-};
+pub use isle_rules::TermEnv;
 pub use isle_terms::{
     ConstructorKind, ExternalSig, ExtractorKind, ReturnKind, Term, TermFlags, TermKind, TermTable,
+};
+pub use isle_typed::{
+    Body, BoundVar, Expr, ExprVisitor, IfLet, Pattern, PatternVisitor, Rule, RuleVisitor,
+    VisitFault, VisitedExpr,
 };
 pub use isle_types::{
     BuiltinType, FieldId, Fields, IntType, RuleId, StructField, StructFields, Sym, TermId,

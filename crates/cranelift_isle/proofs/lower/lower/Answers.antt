@@ -5,13 +5,14 @@ use Rattle.isle_laws_lists.proofs.OwnTypes.{own_types_read}
 use Rattle.isle_model.specs.claims.Environments.{types_read}
 use Rattle.isle_model.specs.claims.Layers.{RefusedBy, by_types, by_rules}
 use Rattle.isle_model.specs.claims.Refusals.{NamesOnlyPassed, PassedInReading, RefusesTypes, RefusesRules}
+use Rattle.isle_laws_trees.specs.NoLimits.{PassedInLowering}
 use Rattle.isle_types.specs.declared.type_env.TypeEnv.{TypeEnv}
 use Rattle.isle_rules.specs.ErrorViews.{error_views}
 use Rattle.isle_rules.specs.declared.term_env.TermEnv.{TermEnv}
 use Rattle.isle_rules.proofs.RuleErrorSteps.{no_limit_named}
 use Rattle.cranelift_isle.specs.declared.lower.Lowered.{Lowered}
-use Rattle.cranelift_isle.specs.Lowerings.{lowered_views, PassedInLowering}
-use Rattle.cranelift_isle.proofs.Lowered.{were_read, of_elaborated, accepted, built_for_some, answers, chosen, collected, refused_by_check, why_refused, limits_of_check, errors_so, passed_in_reading}
+use Rattle.cranelift_isle.specs.Lowerings.{lowered_views}
+use Rattle.cranelift_isle.proofs.Lowered.{were_read, of_elaborated, accepted, built_for_some, answers, chosen, unique, whole, collected, refused_by_check, why_refused, limits_of_check, errors_so, passed_in_reading}
 use Rattle.cranelift_isle.proofs.lower.lower.Goals as goal
 
 -- valid types can be read, and the type table is read as them
@@ -48,6 +49,26 @@ returns-clause-collected c =
     let terms = c.in_ok-terms in
     collected read c.in_ok-sets.sets c.in_ok-sets.ensures.checked
     c.best_trees_keep_the_headline.ensures (lowered_views terms.terms.items) terms.ensures.same terms.ensures.shared
+
+pub returns-clause-unique : goal.returns-clause-unique
+returns-clause-unique c =
+    let read = were_read (definition_views c.args.defs.now) c.args.expand c.in_ok-termenv.termenv _ c.in_ok-tyenv.ensures.shown.valid c.in_ok-termenv.ensures.answers.1 in
+    let terms = c.in_ok-terms in
+    unique read c.in_ok-sets.sets c.in_ok-sets.ensures.checked
+    c.best_trees_keep_the_headline.ensures (lowered_views terms.terms.items) terms.ensures.same terms.ensures.shared c.lowered_trees_are_only_best.ensures
+
+pub returns-clause-whole : goal.returns-clause-whole
+returns-clause-whole c =
+    let read = were_read (definition_views c.args.defs.now) c.args.expand c.in_ok-termenv.termenv _ c.in_ok-tyenv.ensures.shown.valid c.in_ok-termenv.ensures.answers.1 in
+    let terms = c.in_ok-terms in
+    whole read c.in_ok-sets.sets c.in_ok-sets.ensures.checked
+    c.best_trees_keep_the_headline.ensures (lowered_views terms.terms.items) terms.ensures.same terms.ensures.shared c.accepted_demands_are_whole.ensures
+
+pub returns-clause-within_limits : goal.returns-clause-within_limits
+returns-clause-within_limits c =
+    let read = were_read (definition_views c.args.defs.now) c.args.expand c.in_ok-termenv.termenv _ c.in_ok-tyenv.ensures.shown.valid c.in_ok-termenv.ensures.answers.1 in
+    let is = accepted read c.in_ok-sets.sets c.in_ok-sets.ensures.checked in
+    c.accepted_pass_no_limit.ensures (definition_views c.args.defs.now) c.args.expand is.0 is.1
 
 -- errors of types name no limit
 pub returns-in_err-tyenv-clause-limits : goal.returns-in_err-tyenv-clause-limits

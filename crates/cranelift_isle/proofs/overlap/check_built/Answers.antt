@@ -3,7 +3,8 @@ use Rattle.std.proofs.lemmas.Bool.{false≢true}
 use Rattle.std.proofs.lemmas.List.{nil_from_length}
 use Rattle.isle_model.specs.rules.Program.{is_multi}
 use Rattle.isle_model.specs.sites.SetRules.{reports_of_sets}
-use Rattle.isle_builder.specs.Built.{term_set_views, report_views}
+use Rattle.isle_term_sets.specs.AddedRules.{report_views}
+use Rattle.isle_builder.specs.Built.{term_set_views}
 use Rattle.cranelift_isle.specs.Checks.{env_program}
 use Rattle.cranelift_isle.proofs.Checked.{nothing_found, something_found}
 use Rattle.cranelift_isle.proofs.overlap.check_built.Goals as goal

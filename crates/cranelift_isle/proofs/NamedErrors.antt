@@ -1,0 +1,21 @@
+-- What holds of the errors that a program is checked with holds of those that are answered.
+use Rattle.std.proofs.Common.{List, map, Ok, Err, sym, subst}
+use Rattle.std.specs.Prelude.{Result}
+use Rattle.std.specs.Global.{Vec}
+use Rattle.isle_base.specs.Answers.{OnErrors}
+use Rattle.isle_base.specs.declared.syntax.Fault.{Fault}
+use Rattle.isle_base.specs.declared.syntax.Fault.TheVariants.{Memory, Errors}
+use Rattle.isle_model.specs.rules.Program.{Program}
+use Rattle.isle_model.specs.sites.Overlap.{RuleReport}
+use Rattle.isle_model.specs.claims.Layers.{CheckReports}
+use Rattle.isle_model.specs.claims.Refusals.{Refusal, refusal_of}
+use Rattle.isle_types.specs.declared.ids.TermId.{TermId}
+use Rattle.isle_rules.specs.ErrorViews.{error_views}
+use Rattle.isle_sets.specs.declared.trie_again.RuleSet.{RuleSet}
+use Rattle.cranelift_isle.specs.Checks.{IsChecked}
+
+pub named : (P : Program → List Refusal → Type 0) (p : Program) (result : Result (Vec (TermId × RuleSet)) Fault)
+    → ((reports : List RuleReport) → CheckReports p reports → P p (map refusal_of reports)) → IsChecked p result → OnErrors result (λ es. P p (error_views es))
+named P p (Ok sets) law checked = tt
+named P p (Err (Memory e)) law checked = tt
+named P p (Err (Errors es)) law checked = subst (P p) (sym checked.are) (law checked.reports checked.reported)
