@@ -1,7 +1,12 @@
-//! What is answered to ISLE text: trees, or what is wrong, as text.
+//! What is answered to ISLE text: trees, or what is wrong, as text; and what programs do with their words.
 #![tactic(auto)]
 
+pub mod answers;
 pub mod rows;
 mod rules;
 pub mod run;
+pub mod sample_run;
+mod samples;
 pub mod texts;
+mod trees;
+pub mod words;

@@ -1,10 +1,11 @@
 //! What is answered to definitions where their rules are wanted as they are read, without trees.
 
+use crate::answers::Answer;
 use isle_base::syntax::{Def, Fault};
 use isle_printing::errors::error_lines;
 use isle_printing::places::Places;
-use isle_program::answers::Answer;
-use isle_rules::{Rule, TermEnv};
+use isle_rules::TermEnv;
+use isle_typed::Rule;
 use isle_types::TypeEnv;
 use std::alloc::{AllocError, Global};
 

@@ -3,8 +3,8 @@
 ghost use Rattle.std.specs.Prelude.{◌≡◌, ◌≢◌, ◌≤◌, is_none, is_some, map, string_bytes, true};
 ghost use Rattle.isle_answers.specs.Words.{expansion_of, expansion_of_word};
 
+use crate::answers::{end, no_memory, write_answer};
 use crate::texts::{Asked, Wanted, answer_to_text};
-use isle_program::answers::{end, no_memory, write_answer};
 use std::alloc::Global;
 use std::io;
 use std::io::{ErrorKind, Read, Write};

@@ -1,10 +1,15 @@
 //! Definitions as text, and what is answered to them.
 
+ghost use Rattle.std.specs.Prelude.{◌≡◌, IfOk};
+ghost use Rattle.isle_answers.specs.Statuses.{IsAnswerTo};
+ghost use Rattle.isle_answers.specs.declared.texts.Wanted.TheVariants.{Trees};
+ghost use Rattle.isle_base.specs.SyntaxViews.{definition_views};
+
+use crate::answers::{Answer, answer_to};
 use crate::rules::answer_to_rules;
 use isle_base::syntax::Def;
 use isle_printing::places::Places;
-use isle_program::answers::{Answer, answer_to};
-use isle_text::errors::{ReadFault, TextError};
+use isle_text::errors::{Problem, ReadFault, TextError};
 use isle_text::read;
 use std::alloc::{AllocError, Global};
 
@@ -46,7 +51,10 @@ fn answer_to_defs(
     text: &str,
     defs: &[Def],
     asked: Asked,
-) -> Result<Answer, AllocError> {
+) -> Result<Answer, AllocError>
+    // where trees are wanted, the answer is that of lowering these definitions
+    ensures { asked.wanted ≡ Trees → IfOk result (IsAnswerTo (definition_views defs.now) asked.expand) }
+{
     let places = places(text, defs, asked);
     match asked.wanted {
         Wanted::Trees => answer_to(alloc, defs, asked.expand, places),
@@ -68,6 +76,11 @@ fn places<'a>(text: &'a str, defs: &'a [Def], asked: Asked) -> Places<'a> {
 fn error_line(alloc: Global, text: &str, error: TextError) -> Result<String, AllocError> {
     let mut line = String::from_str(alloc, "syntax error at ")?;
     Places::Lines(text).push(&mut line, error.pos)?;
-    write!(line, ": {error}\n")?;
+    write!(line, ": {error}")?;
+    if let Problem::Unclosed(open) = &error.problem {
+        line.push_str(" for the `(` at ")?;
+        Places::Lines(text).push(&mut line, *open)?;
+    }
+    line.push('\n')?;
     Ok(line)
 }

@@ -3,10 +3,4 @@
 #![tactic(auto)]
 
 #[cfg(test)]
-mod generated;
-#[cfg(test)]
-mod judge;
-#[cfg(test)]
-mod places;
-#[cfg(test)]
 mod tests;

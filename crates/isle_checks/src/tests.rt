@@ -3,3 +3,5 @@ mod judged;
 // Programs whose output fails, and what is answered to each sample.
 mod program;
 mod samples;
+// The places that errors name.
+mod spans;

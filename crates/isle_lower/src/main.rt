@@ -1,9 +1,9 @@
 //! Prints the trees of definitions on standard input: `isle-lower [--no-expand]`.
 #![tactic(auto)]
 
+use isle_answers::answers::no_memory;
 use isle_answers::run::run;
-use isle_program::answers::no_memory;
-use isle_program::words::words;
+use isle_answers::words::words;
 use std::alloc::AllocError;
 use std::process::ExitCode;
 

@@ -1,3 +1,1 @@
-pub mod Records
-pub mod Counts
 pub mod AllForms

@@ -1,9 +1,9 @@
 //! Prints the trees of a built-in sample: `isle-tree SAMPLE`.
 #![tactic(auto)]
 
-use isle_program::answers::no_memory;
-use isle_program::run::run;
-use isle_program::words::words;
+use isle_answers::answers::no_memory;
+use isle_answers::sample_run::run_sample;
+use isle_answers::words::words;
 use std::alloc::AllocError;
 use std::process::ExitCode;
 
@@ -11,7 +11,7 @@ fn main(rt: HostRuntime) -> ExitCode {
     let mut out = rt.stdout();
     let mut err = rt.stderr();
     let status = match words(&rt, rt.alloc()) {
-        Ok(words) => run(rt.alloc(), &words, &mut out, &mut err),
+        Ok(words) => run_sample(rt.alloc(), &words, &mut out, &mut err),
         Err(AllocError) => no_memory(&mut err),
     };
     ExitCode::from(status)

@@ -1,9 +1,9 @@
 // Trees of generated definitions, judged; and trees that the judge refuses.
-use crate::generated::{FORMS, list};
-use crate::judge::{Fault, judge};
 use cranelift_isle::lower::{Lowered, LoweredTerm, lower};
 use isle_base::syntax;
 use isle_base::syntax::Pos;
+use isle_judge::generated::{FORMS, list};
+use isle_judge::judge::{Fault, judge};
 use isle_serialize::serialize::{Block, ControlFlow, EvalStep, MatchArm};
 use isle_sets::trie_again::{BindingId, Constraint};
 use isle_text::read;
@@ -22,6 +22,14 @@ fn lowered(alloc: Global, text: &str) -> Result<Option<Lowered>, Fail> {
         Ok(lowered) => Ok(Some(lowered)),
         Err(syntax::Fault::Errors(_)) => Ok(None),
         Err(syntax::Fault::Memory(e)) => Err(Fail::from(e)),
+    }
+}
+
+// What the definitions of a text become that is made to be accepted.
+fn accepted(rt: &impl Abort, alloc: Global, text: &str) -> Result<Lowered, Fail> {
+    match lowered(alloc, text)? {
+        Some(lowered) => Ok(lowered),
+        None => panic!(rt; "refused: {text}"),
     }
 }
 
@@ -93,6 +101,37 @@ fn lists_from_400_have_best_trees(rt: HostRuntime) -> Result<(), Fail> {
     judge_hundred(&rt, rt.alloc(), 400)
 }
 
+// A further term that uses the lists' multi extractor: in an argument, or in an if-let.
+const MULTI_TERM: &str = "(decl multi k (u8) u8) (rule (k (me x)) x)";
+
+const OTHER_TERM: &str = "(decl k (u8) u8) (rule (k (me x)) x)";
+
+const OTHER_IF_LET: &str = "(decl partial k (u8) u8) (rule (k x) (if-let (me y) x) y)";
+
+// Whether a list is accepted with more definitions behind it.
+fn accepts(alloc: Global, number: u64, more: &str) -> Result<bool, Fail> {
+    let mut text = list(alloc, number, FORMS)?;
+    text.push_str(more)?;
+    Ok(lowered(alloc, &text)?.is_some())
+}
+
+// Behind accepted lists, of which there are 20 or more.
+#[test]
+fn multi_extractors_stand_in_multi_terms_alone(rt: HostRuntime) -> Result<(), Fail> {
+    let alloc = rt.alloc();
+    let mut count = 0usize;
+    for number in 0..60 {
+        if accepts(alloc, number, "")? {
+            assert!(rt; accepts(alloc, number, MULTI_TERM)?, "list {number}");
+            assert!(rt; !accepts(alloc, number, OTHER_TERM)?, "list {number}");
+            assert!(rt; !accepts(alloc, number, OTHER_IF_LET)?, "list {number}");
+            count = count.saturating_add(1);
+        }
+    }
+    assert!(rt; count >= 20, "{count} lists");
+    Ok(())
+}
+
 // A list with a tree of two steps, the first of which has two arms:
 // match b1 { 2: return b3, 5: match b0 { 1: return b2 } }, match b0 { 1: return b4 }
 const TWO_STEPS: &str = "(decl f (u8 u8) u8)
@@ -152,9 +191,8 @@ fn apply_to_arms(change: Change, arms: &mut Vec<MatchArm>) {
 
 // The trees of a text's terms, each changed, are judged so.
 fn expect(rt: &impl Abort, alloc: Global, change: Change, want: Option<Fault>) -> Result<(), Fail> {
-    let Some(mut lowered) = lowered(alloc, TWO_STEPS)? else {
-        return Ok(());
-    };
+    let mut lowered = accepted(rt, alloc, TWO_STEPS)?;
+    assert_eq!(rt; lowered.terms.len(), 1);
     for term in &mut lowered.terms {
         apply(change, &mut term.block)?;
         assert_eq!(rt; judge(alloc, &term.rules, &term.block)?, want);
@@ -210,9 +248,8 @@ fn one_step(alloc: Global, check: ControlFlow) -> Result<Block, AllocError> {
 fn refuses_lesser_tests(rt: HostRuntime) -> Result<(), Fail> {
     let alloc = rt.alloc();
     let text = "(decl f (u8 u8) u8) (rule (f 1 2) 10)";
-    let Some(lowered) = lowered(alloc, text)? else {
-        return Ok(());
-    };
+    let lowered = accepted(&rt, alloc, text)?;
+    assert_eq!(rt; lowered.terms.len(), 1);
     for term in &lowered.terms {
         for (first, second, want) in [
             ((0, 1), (1, 2), None),
@@ -240,10 +277,9 @@ fn refuses_lesser_tests(rt: HostRuntime) -> Result<(), Fail> {
 #[test]
 fn refuses_trees_of_other_rules(rt: HostRuntime) -> Result<(), Fail> {
     let alloc = rt.alloc();
-    let (Some(one), Some(other)) = (lowered(alloc, TWO_STEPS)?, lowered(alloc, OTHERS_FIRST)?)
-    else {
-        return Ok(());
-    };
+    let one = accepted(&rt, alloc, TWO_STEPS)?;
+    let other = accepted(&rt, alloc, OTHERS_FIRST)?;
+    assert_eq!(rt; (one.terms.len(), other.terms.len()), (1, 1));
     for term in &one.terms {
         for tree in &other.terms {
             assert_eq!(rt;

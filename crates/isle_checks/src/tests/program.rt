@@ -1,5 +1,5 @@
 // What the program answers to a word, and what it does where its output fails.
-use isle_program::run::run;
+use isle_answers::sample_run::run_sample;
 use std::alloc::{AllocError, Global};
 use std::io;
 use std::io::{ErrorKind, Write};
@@ -42,11 +42,11 @@ fn expect(
     let words = vec![in alloc; String::from_str(alloc, word)?]?;
     let mut out = Failing { writes, flushes };
     let mut err: Vec<u8> = Vec::new(alloc);
-    assert_eq!(rt; run(alloc, &words, &mut out, &mut err), want.0);
+    assert_eq!(rt; run_sample(alloc, &words, &mut out, &mut err), want.0);
     assert!(rt; err.as_slice() == want.1.as_bytes());
     let (writes, flushes) = (0, false);
     let mut silent = Failing { writes, flushes };
-    assert_eq!(rt; run(alloc, &words, &mut out, &mut silent), want.0);
+    assert_eq!(rt; run_sample(alloc, &words, &mut out, &mut silent), want.0);
     Ok(())
 }
 
@@ -79,7 +79,7 @@ fn wants_one_word(rt: HostRuntime) -> Result<(), Fail> {
     for _ in 0..3 {
         let mut out: Vec<u8> = Vec::new(alloc);
         let mut err: Vec<u8> = Vec::new(alloc);
-        let status = run(alloc, &words, &mut out, &mut err);
+        let status = run_sample(alloc, &words, &mut out, &mut err);
         assert_eq!(rt; status, if words.len() == 1 { 0 } else { 2 });
         assert!(rt; out.is_empty() == (status == 2) && err.is_empty() == (status == 0));
         words.push(String::from_str(alloc, "fall")?)?;

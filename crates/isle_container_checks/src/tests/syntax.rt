@@ -117,7 +117,7 @@ fn expect_line(
     want: &str,
 ) -> Result<(), AllocError> {
     assert!(rt; pos.file < files.names.len() && pos.file < files.texts.len());
-    assert_eq!(rt; pos.pretty_print_line(files, alloc)?.as_str(), want);
+    assert_eq!(rt; pos.pretty_print_line(alloc, files)?.as_str(), want);
     Ok(())
 }
 

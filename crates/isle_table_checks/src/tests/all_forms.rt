@@ -3,15 +3,16 @@ ghost use Rattle.std.specs.Prelude.{◌≡◌, IfOk, IsTrue, map};
 ghost use Rattle.isle_table_checks.specs.AllForms.{two_exprs, two_patterns, binding, forms_args, forms_iflets, forms_value};
 ghost use Rattle.isle_model.specs.lists.Setting.{has_constructor, has_extractor};
 ghost use Rattle.isle_model.specs.rules.Typed.{match_and, match_prim, match_term, match_var, make_term};
-ghost use Rattle.isle_rules.specs.ExprViews.{expr_view};
-ghost use Rattle.isle_rules.specs.PatternViews.{pattern_view, pattern_views};
-ghost use Rattle.isle_rules.specs.RuleViews.{iflet_view, rule_view};
+ghost use Rattle.isle_typed.specs.ExprViews.{expr_view};
+ghost use Rattle.isle_typed.specs.PatternViews.{pattern_view, pattern_views};
+ghost use Rattle.isle_typed.specs.RuleViews.{iflet_view, rule_view};
 ghost use Rattle.isle_model.specs.lists.Visitable.{is_visitable_rule};
 ghost use Rattle.isle_terms.specs.TermViews.{kind_view, term_views};
 
 use crate::tests::visits::{NO_FLAGS, NOWHERE, RULED, env, expect_calls, rule, term};
-use isle_rules::{Expr, IfLet, Pattern, Rule, TermEnv};
+use isle_rules::TermEnv;
 use isle_terms::{ConstructorKind, ExtractorKind, TermFlags, TermKind};
+use isle_typed::{Expr, IfLet, Pattern, Rule};
 use isle_types::{Sym, TermId, TypeId, VarId, VariantId};
 use std::alloc::{AllocError, Global};
 use std::test::Fail;
@@ -39,7 +40,7 @@ const A: VarId = VarId(3);
 const B: VarId = VarId(4);
 
 // A term's pattern with two parts.
-#[tactic(auto, using(isle_rules::proofs::PatternBridges::pattern_steps))]
+#[tactic(auto, using(isle_typed::proofs::PatternBridges::pattern_steps))]
 fn opened(
     alloc: Global,
     ty: TypeId,
@@ -54,7 +55,7 @@ fn opened(
 }
 
 // A term with two arguments.
-#[tactic(auto, using(isle_rules::proofs::ExprBridges::expr_steps))]
+#[tactic(auto, using(isle_typed::proofs::ExprBridges::expr_steps))]
 fn made(
     alloc: Global,
     ty: TypeId,
@@ -76,7 +77,7 @@ fn bind(alloc: Global, var: VarId) -> Result<Pattern, AllocError>
 }
 
 // (and (e x $K) y)
-#[tactic(auto, using(isle_rules::proofs::PatternBridges::pattern_steps))]
+#[tactic(auto, using(isle_typed::proofs::PatternBridges::pattern_steps))]
 fn both(alloc: Global) -> Result<Pattern, AllocError>
     ensures { IfOk result (λ p. pattern_view p ≡ match_and 1 (two_patterns (match_term 1 3 (two_patterns (match_var 1 0) (match_prim 15 20))) (binding 1))) }
 {
@@ -109,7 +110,7 @@ fn iflets(alloc: Global) -> Result<Vec<IfLet>, AllocError>
     Ok(Vec::from_array(alloc, [IfLet { lhs, rhs }, second])?)
 }
 
-#[tactic(auto, using(isle_rules::proofs::ExprBridges::expr_steps))]
+#[tactic(auto, using(isle_typed::proofs::ExprBridges::expr_steps))]
 fn value(alloc: Global) -> Result<Expr, AllocError>
     ensures { IfOk result (λ e. expr_view e ≡ forms_value) }
 {

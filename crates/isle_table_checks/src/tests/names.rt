@@ -2,8 +2,8 @@
 use crate::readings::types_and_rules;
 use crate::tests::visits::rule;
 use isle_base::syntax::{Files, Ident, Pos};
-use isle_rules::Expr;
 use isle_text::read;
+use isle_typed::Expr;
 use isle_types::{RuleId, Sym, TypeEnv, TypeId, VarId};
 use std::test::Fail;
 

@@ -5,8 +5,9 @@ ghost use Rattle.isle_model.specs.claims.Questions.{variant_by_id};
 
 use crate::readings::{types_and_rules, types_and_terms};
 use isle_base::syntax::{Def, Error, Ident, Pos, TypeValue};
-use isle_rules::{Expr, Pattern, TermEnv};
+use isle_rules::TermEnv;
 use isle_text::read;
+use isle_typed::{Expr, Pattern};
 use isle_types::{
     BuiltinType, FieldId, Fields, RuleId, StructField, StructFields, Sym, TermId, Type, TypeEnv,
     TypeId, VarId, Variant, VariantId,

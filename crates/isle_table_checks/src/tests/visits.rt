@@ -1,15 +1,16 @@
 // What visitors are shown of typed rules. Types are named by their numbers, as u8 by 1.
 ghost use Rattle.std.specs.Prelude.{◌≡◌, IfOk, IsTrue, None};
-ghost use Rattle.isle_rules.specs.RuleViews.{rule_view};
+ghost use Rattle.isle_typed.specs.RuleViews.{rule_view};
 ghost use Rattle.isle_model.specs.lists.Visitable.{is_visitable_rule};
 ghost use Rattle.isle_terms.specs.TermViews.{term_views};
 
-use crate::counter::{Counter, ExprPlace};
-use crate::recorder::Recorder;
 use isle_base::stablemapset::StableMap;
 use isle_base::syntax::Pos;
-use isle_rules::{Expr, IfLet, Pattern, Rule, TermEnv, VisitFault};
+use isle_recorders::counter::{Counter, ExprPlace};
+use isle_recorders::recorder::Recorder;
+use isle_rules::TermEnv;
 use isle_terms::{ConstructorKind, Term, TermFlags, TermKind};
+use isle_typed::{Expr, IfLet, Pattern, Rule, VisitFault};
 use isle_types::{RuleId, Sym, TermId, TypeId, VarId};
 use std::alloc::{AllocError, Global};
 use std::process::Abort;
