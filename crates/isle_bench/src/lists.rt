@@ -1,14 +1,13 @@
-//! Long lists of definitions: some written as trees, some as text and read.
+//! Long lists of definitions, written as text and read.
 
-use crate::definitions::definitions;
 use crate::texts::{
     rule_of_calls, rule_of_deep_fields, rule_of_equal_sites, rule_of_joined_fields,
-    rule_of_literals, rule_of_variables, rules, rules_of_one_term, terms, terms_with_forms,
+    rule_of_literals, rule_of_variables, rules, rules_of_one_term, terms, terms_with_forms, types,
 };
 use isle_base::syntax::Def;
 use isle_text::errors::ReadFault;
 use isle_text::read;
-use std::alloc::{AllocError, Global};
+use std::alloc::Global;
 use std::io;
 use std::io::ErrorKind;
 
@@ -64,7 +63,7 @@ impl Kind {
 /// A list of so many definitions, or up to nine fewer, whole groups alone; or with so many rules, variables or sites.
 pub fn definitions_of(alloc: Global, kind: Kind, size: usize) -> io::Result<Vec<Def>> {
     match kind {
-        Kind::Types => Ok(definitions(alloc, size)?),
+        Kind::Types => read_text(alloc, types(alloc, size / 4)?.as_str()),
         Kind::Terms => read_text(alloc, terms(alloc, size / 10)?.as_str()),
         Kind::Rules => read_text(alloc, rules(alloc, size / 10)?.as_str()),
         Kind::RulesOfOneTerm => read_text(alloc, rules_of_one_term(alloc, size)?.as_str()),

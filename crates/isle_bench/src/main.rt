@@ -5,7 +5,6 @@
 //! former, and prints no times.
 #![tactic(auto)]
 
-mod definitions;
 mod lists;
 mod stages;
 mod tables;

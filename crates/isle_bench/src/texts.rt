@@ -24,6 +24,23 @@ const CHAIN: &str = "(type T (enum (A (next T)) B))
 // So many steps are nested in one pattern or expression, which may be nested 255 deep.
 const STEPS: usize = 100;
 
+/// So many groups of four definitions, each of which speaks of another group too: a primitive type, an enum and a struct
+/// whose fields are of types near and far, and a constant.
+pub fn types(alloc: Global, groups: usize) -> Result<String, AllocError> {
+    let mut out = String::new(alloc);
+    for k in 0..groups {
+        let far = groups - 1 - k;
+        write!(out, "(type P{k} (primitive I{k}))\n")?;
+        write!(
+            out,
+            "(type E{k} (enum (A (x u32) (y S{far})) (B (x E{far})) (C)))\n"
+        )?;
+        write!(out, "(type S{k} (struct (x P{far}) (next S{k})))\n")?;
+        write!(out, "(extern const $X{k} S{far})\n")?;
+    }
+    Ok(out)
+}
+
 /// So many groups of ten definitions, each of which speaks of another group too: an enum, an extractor from inside and one
 /// from outside, a converter, and a term with a rule.
 pub fn terms(alloc: Global, groups: usize) -> Result<String, AllocError> {
@@ -73,7 +90,7 @@ pub fn rules(alloc: Global, groups: usize) -> Result<String, AllocError> {
 
 /// A term with so many rules, and one more.
 pub fn rules_of_one_term(alloc: Global, rules: usize) -> Result<String, AllocError> {
-    let mut out = String::from_str(alloc, "(decl f (u8) u8)\n(rule -1 (f x) x)\n")?;
+    let mut out = String::from_str(alloc, "(decl f (u32) u32)\n(rule -1 (f x) x)\n")?;
     for k in 0..rules {
         write!(out, "(rule {k} (f {k}) {k})\n")?;
     }
