@@ -1,1 +1,5 @@
+pub mod CallsGoneOver
 pub mod PatternConstants
+pub mod ReadAgain
+pub mod SetsServed
+pub mod TotalBags

@@ -1,6 +1,7 @@
 -- The constants that demands ask of sites are those that patterns name.
-use Rattle.std.proofs.Common.{◌≡◌, ◌==◌, ◌&&◌, ◌||◌, not, ℕ, suc, Bool, true, false, if◌then◌else◌, List, [], ◌∷◌, ◌++◌, Option, Some, None, slice_get, Contains, flat_map, refl, sym, ap, ◌∙◌, subst, inl, inr}
-use Rattle.std.proofs.lemmas.Bool.{and_parts, false≢true}
+use Rattle.std.proofs.Common.{◌≡◌, ◌==◌, ◌&&◌, ◌||◌, not, ℕ, suc, Bool, true, false, if◌then◌else◌, List, [], ◌∷◌, ◌++◌, Option, Some, None, slice_get, Contains, IsTrue, flat_map, refl, sym, ap, ◌∙◌, subst, inl, inr}
+use Rattle.std.proofs.lemmas.Bool.{false≢true}
+use Rattle.std.proofs.lemmas.List.Elements.{All-contains}
 use Rattle.isle_model.specs.lists.Syntax.{Definition}
 use Rattle.isle_model.specs.lists.Elaborated.{TypedRules}
 use Rattle.isle_model.specs.lists.Ranges.{is_literal_of}
@@ -26,7 +27,7 @@ use Rattle.isle_laws_demands.proofs.visits.RuleParts.{iflet_parts, rule_parts}
 use Rattle.isle_laws_demands.proofs.matching.Grown.{equated, Grown, each_grown, all_grown, args_grown, iflets_grown, expr_adds, rule_adds}
 use Rattle.isle_laws_demands.proofs.matching.Patterns.{from_term, from_part, from_bind}
 use Rattle.isle_laws_demands.proofs.matching.Visits.{of_term}
-use Rattle.isle_laws_meaning.specs.PatternConstants.{PatternConstant, a_literal, a_name, pattern_constants, patterns_constants, rule_constants, rules_constants, type_of_constant, means_itself, AreToldApart, value_in, value_by, TellsPatternsApart, KeepsPatternsApart, ConstantsAreOfPatterns, FunctionsConstantsAreOfPatterns, HeadlineIsOfPatterns}
+use Rattle.isle_laws_meaning.specs.PatternConstants.{PatternConstant, a_literal, a_name, pattern_constants, patterns_constants, rule_constants, rules_constants, type_of_constant, means_itself, AreToldApart, value_in, value_by, TellsPatternsApart, KeepsPatternsApart, LiteralsAreToldApart, ConstantsAreOfPatterns, FunctionsConstantsAreOfPatterns, HeadlineIsOfPatterns}
 
 -- 1. each constant that demands ask for is named by a pattern
 -- the site of a constant
@@ -463,3 +464,16 @@ headline_is_of_patterns_lem e defs expand rules t sites tree h = record {
   chooses = λ runs without m args typed served apart. runs without m args typed served (tells_constants e defs expand rules t h m apart);
   collects = λ bags multi results m args typed served apart. bags multi results m args typed served (tells_constants e defs expand rules t h m apart);
 }
+
+-- 5. literals that mean what they write
+both : (a b : Bool) → a ≡ true → b ≡ true → (a && b) ≡ true
+both true b g h = h
+both false b g h = absurd (false≢true g)
+
+pub literals_are_told_apart_lem : LiteralsAreToldApart
+literals_are_told_apart_lem p value rs all =
+    let itself : (c : PatternConstant) → Contains (rules_constants rs) c → means_itself p c ≡ true = λ c i. All-contains (λ k. IsTrue (means_itself p k)) (rules_constants rs) c all i in
+    record {
+      different = λ a b v i j same o g k. absurd (false≢true (sym o ∙ both (means_itself p a) (means_itself p b) (itself a i) (itself b j)));
+      without_parts = λ name ty i. absurd (false≢true (itself (a_name name ty) i));
+    }

@@ -1,1 +1,4 @@
 pub mod PatternConstants
+pub mod ReadAgain
+pub mod SetsServed
+pub mod TotalBags

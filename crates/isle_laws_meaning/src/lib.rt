@@ -4,22 +4,66 @@
 //! `proofs/`.
 #![tactic(auto)]
 
-ghost use Rattle.isle_laws_meaning.specs.PatternConstants.{ConstantsAreOfPatterns, FunctionsConstantsAreOfPatterns, HeadlineIsOfPatterns};
+ghost use Rattle.isle_laws_meaning.specs.PatternConstants.{ConstantsAreOfPatterns, FunctionsConstantsAreOfPatterns, HeadlineIsOfPatterns, LiteralsAreToldApart};
+ghost use Rattle.isle_laws_meaning.specs.ReadAgain.{RefusedEnvironmentsCanBeReadAgain};
+ghost use Rattle.isle_laws_meaning.specs.SetsServed.{LoweredSetsMeanTheirRules};
+ghost use Rattle.isle_laws_meaning.specs.TotalBags.{BagIsOfFunctions, TotalMeaningsHaveOneBag};
+
+use isle_laws_demands::{
+    built_sets_are_collected, built_sets_are_tested, built_sets_mean_their_rules,
+    multi_terms_have_one_priority, rules_without_multi_go_over_no_calls, served_multi_sets_serve,
+    served_sets_serve_tests,
+};
+use isle_laws_trees::best_trees_mean_their_sets;
 
 /// The headline's premise on constants is one on the constants that a walk over typed patterns meets.
-#[tactic(auto, using(crate::proofs::PatternConstants::constants_are_of_patterns_lem))]
 pub fn constants_are_of_patterns()
     ensures { ConstantsAreOfPatterns }
 {}
 
 /// So is that on total functions.
-#[tactic(auto, using(crate::proofs::PatternConstants::functions_constants_are_of_patterns_lem))]
 pub fn functions_constants_are_of_patterns()
     ensures { FunctionsConstantsAreOfPatterns }
 {}
 
 /// So whatever tree has the headline, or collects the bag of a multi term, has it by this premise.
-#[tactic(auto, using(crate::proofs::PatternConstants::headline_is_of_patterns_lem))]
 pub fn headline_is_of_patterns()
     ensures { HeadlineIsOfPatterns }
+{}
+
+/// Where patterns name no constants but booleans and numbers of built-in types, every meaning tells them apart.
+pub fn literals_are_told_apart()
+    ensures { LiteralsAreToldApart }
+{}
+
+/// Of what accepted definitions are lowered to, each set means what its rules do wherever a meaning serves the term's rules and
+/// tells constants apart.
+pub fn lowered_sets_mean_their_rules()
+    ensures { LoweredSetsMeanTheirRules }
+{
+    best_trees_mean_their_sets();
+    built_sets_are_tested();
+    served_sets_serve_tests();
+    built_sets_are_collected();
+    served_multi_sets_serve();
+    multi_terms_have_one_priority();
+    rules_without_multi_go_over_no_calls();
+    built_sets_mean_their_rules();
+}
+
+/// The bag of rules that make no impure call is of total functions alone: whatever maps agree with them and serve, it is one list.
+pub fn bag_is_of_functions()
+    ensures { BagIsOfFunctions }
+{}
+
+/// So by total functions a multi term has one bag, and a tree that collects the bag collects this one, whatever finite maps
+/// restrict them.
+pub fn total_meanings_have_one_bag()
+    ensures { TotalMeaningsHaveOneBag }
+{}
+
+/// What a refusal to read terms or rules leaves of a type environment can be read again: terms are valid by it exactly where
+/// they were, and the same errors refuse them.
+pub fn refused_environments_can_be_read_again()
+    ensures { RefusedEnvironmentsCanBeReadAgain }
 {}

@@ -1,0 +1,22 @@
+-- What a refusal to read terms or rules leaves of a type environment can be read again.
+use Rattle.std.specs.Prelude.{◌≡◌, ◌↔◌, ℕ, List, ◌++◌}
+use Rattle.isle_model.specs.lists.Syntax.{Definition}
+use Rattle.isle_model.specs.lists.TermTable.{IsValidTerms}
+use Rattle.isle_model.specs.claims.Environments.{TypesRead, AreReadable, TypeEnvironment, IsReadAs, with_read_names, IsLeftByRefusal}
+use Rattle.isle_model.specs.claims.Refusals.{Refusal, RefusesTerms}
+
+-- the types after more names were met
+abbrev pub with_more : TypesRead → List (List ℕ) → TypesRead
+with_more e more = with_read_names e (e.known.names ++ more)
+
+-- an environment is one that terms and rules are read with, as these types with more names; the terms of a list are valid by
+-- them exactly where they were before, and the same errors refuse them
+pub record CanBeReadAgain (e : TypesRead) (env : TypeEnvironment) (more : List (List ℕ)) : Type 0 where
+  pub readable : AreReadable (with_more e more)
+  pub shown : IsReadAs env (with_more e more)
+  pub terms : (defs : List Definition) → IsValidTerms e.known defs ↔ IsValidTerms (with_more e more).known defs
+  pub refused : (defs : List Definition) (errors : List Refusal) → RefusesTerms e defs errors ↔ RefusesTerms (with_more e more) defs errors
+
+-- so is each that a refusal leaves of one
+abbrev pub RefusedEnvironmentsCanBeReadAgain : Type 0
+RefusedEnvironmentsCanBeReadAgain = (e : TypesRead) (env : TypeEnvironment) → AreReadable e → (left : IsLeftByRefusal e env) → CanBeReadAgain e env left.more
