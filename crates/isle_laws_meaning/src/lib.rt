@@ -4,10 +4,12 @@
 //! `proofs/`.
 #![tactic(auto)]
 
+ghost use Rattle.isle_laws_meaning.specs.OneMeaning.{LoweredTermsHaveOneMeaning};
 ghost use Rattle.isle_laws_meaning.specs.PatternConstants.{ConstantsAreOfPatterns, FunctionsConstantsAreOfPatterns, HeadlineIsOfPatterns, LiteralsAreToldApart};
 ghost use Rattle.isle_laws_meaning.specs.ReadAgain.{RefusedEnvironmentsCanBeReadAgain};
 ghost use Rattle.isle_laws_meaning.specs.SetsServed.{LoweredSetsMeanTheirRules};
 ghost use Rattle.isle_laws_meaning.specs.TotalBags.{BagIsOfFunctions, TotalMeaningsHaveOneBag};
+ghost use Rattle.isle_laws_meaning.specs.Uses.{BytesAreToldApart};
 
 use isle_laws_demands::{
     built_sets_are_collected, built_sets_are_tested, built_sets_mean_their_rules,
@@ -36,6 +38,11 @@ pub fn literals_are_told_apart()
     ensures { LiteralsAreToldApart }
 {}
 
+/// So it is for the two rules of a term that gives 10 for 1, and else its argument.
+pub fn bytes_are_told_apart()
+    ensures { BytesAreToldApart }
+{}
+
 /// Of what accepted definitions are lowered to, each set means what its rules do wherever a meaning serves the term's rules and
 /// tells constants apart.
 pub fn lowered_sets_mean_their_rules()
@@ -61,6 +68,15 @@ pub fn bag_is_of_functions()
 pub fn total_meanings_have_one_bag()
     ensures { TotalMeaningsHaveOneBag }
 {}
+
+/// Each term of accepted definitions has one meaning by total functions that are well typed and tell the constants of its
+/// patterns apart: whatever finite maps restrict them, its tree's run comes to one outcome, that of the choice by priority, or
+/// collects one bag, that of the rules.
+pub fn lowered_terms_have_one_meaning()
+    ensures { LoweredTermsHaveOneMeaning }
+{
+    rules_without_multi_go_over_no_calls();
+}
 
 /// What a refusal to read terms or rules leaves of a type environment can be read again: terms are valid by it exactly where
 /// they were, and the same errors refuse them.
