@@ -2,6 +2,8 @@ pub mod CallsGoneOver
 pub mod OneMeaning
 pub mod PatternConstants
 pub mod ReadAgain
+pub mod RulesAgain
 pub mod SetsServed
 pub mod TotalBags
+pub mod TwoTables
 pub mod Uses

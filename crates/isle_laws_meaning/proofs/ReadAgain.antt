@@ -31,7 +31,7 @@ made_inside (enum_type name id is_extern is_nodebug variants at) n i = inr (by v
     by (v ∷ vs) (inl e) = inl e
     by (v ∷ vs) (inr j) = inr (inr (in_right (field_numbers v.fields) (flat_map variant_numbers vs) n (by vs j)))
 
-all_made_inside : (ts : List TypeEntry) (n : ℕ) → In (flat_map made_by ts) n → In (flat_map entry_numbers ts) n
+pub all_made_inside : (ts : List TypeEntry) (n : ℕ) → In (flat_map made_by ts) n → In (flat_map entry_numbers ts) n
 all_made_inside [] n i = absurd i
 all_made_inside (t ∷ ts) n i =
     elim (in_either (made_by t) (flat_map made_by ts) n i) [
@@ -78,7 +78,7 @@ module _ (e : TypesRead) (more : List (List ℕ)) (r : AreReadable e) where
   longer : (n : ℕ) → n < length names → n < length (names ++ more)
   longer n l = let same = length-append names more in omega (arith, l, same)
 
-  readable : IsDistinct (names ++ more) → AreReadable (with_more e more)
+  pub readable : IsDistinct (names ++ more) → AreReadable (with_more e more)
   readable once = record {
     well_formed = record {
       names_distinct = once;
@@ -98,22 +98,25 @@ module _ (e : TypesRead) (more : List (List ℕ)) (r : AreReadable e) where
     types_of_constants = r.types_of_constants;
   }
 
-  names_alike : (defs : List Definition) → term_names e.known defs ≡ term_names (with_more e more).known defs
+  pub names_alike : (defs : List Definition) → term_names e.known defs ≡ term_names (with_more e more).known defs
   names_alike defs =
       ap (λ l. decl_names defs ++ l)
       (read_alike names more (flat_map made_by e.known.types)
       (λ n i. All-contains (λ m. m < length names) (flat_map entry_numbers e.known.types) n r.well_formed.numbers_in_range (contains_from_in (flat_map entry_numbers e.known.types) n (all_made_inside e.known.types n i))))
 
-  valid_alike : (defs : List Definition) → IsValidTerms e.known defs ↔ IsValidTerms (with_more e more).known defs
+  pub valid_alike : (defs : List Definition) → IsValidTerms e.known defs ↔ IsValidTerms (with_more e more).known defs
   valid_alike defs = (moved e.known (with_more e more).known defs refl (names_alike defs), moved (with_more e more).known e.known defs refl (sym (names_alike defs)))
+
+-- the names of an environment that is left stand once
+pub more_once : (e : TypesRead) (env : TypeEnvironment) (left : IsLeftByRefusal e env) → IsDistinct (e.known.names ++ left.more)
+more_once e env left =
+    let inverse = left.types.inverse in subst IsDistinct left.types.names (λ j k x a b. same_Some j k (sym (inverse.numbered x j a) ∙ inverse.numbered x k b))
 
 pub refused_environments_can_be_read_again_lem : RefusedEnvironmentsCanBeReadAgain
 refused_environments_can_be_read_again_lem e env r left =
-    let inverse = left.types.inverse in
     let valid = valid_alike e left.more r in
     record {
-      readable = readable e left.more r
-          (subst IsDistinct left.types.names (λ j k x a b. same_Some j k (sym (inverse.numbered x j a) ∙ inverse.numbered x k b)));
+      readable = readable e left.more r (more_once e env left);
       shown = left.types;
       terms = valid;
       refused = λ defs errors. (

@@ -1,8 +1,8 @@
 -- What a refusal to read terms or rules leaves of a type environment can be read again.
-use Rattle.std.specs.Prelude.{◌≡◌, ◌↔◌, ℕ, List, ◌++◌}
+use Rattle.std.specs.Prelude.{◌↔◌, ℕ, Bool, List, ◌++◌}
 use Rattle.isle_model.specs.lists.Syntax.{Definition}
 use Rattle.isle_model.specs.lists.TermTable.{IsValidTerms}
-use Rattle.isle_model.specs.claims.Environments.{TypesRead, AreReadable, TypeEnvironment, IsReadAs, with_read_names, IsLeftByRefusal}
+use Rattle.isle_model.specs.claims.Environments.{TypesRead, AreReadable, TypeEnvironment, IsReadAs, with_read_names, HasTypedRules, IsLeftByRefusal}
 use Rattle.isle_model.specs.claims.Refusals.{Refusal, RefusesTerms}
 
 -- the types after more names were met
@@ -20,3 +20,8 @@ pub record CanBeReadAgain (e : TypesRead) (env : TypeEnvironment) (more : List (
 -- so is each that a refusal leaves of one
 abbrev pub RefusedEnvironmentsCanBeReadAgain : Type 0
 RefusedEnvironmentsCanBeReadAgain = (e : TypesRead) (env : TypeEnvironment) → AreReadable e → (left : IsLeftByRefusal e env) → CanBeReadAgain e env left.more
+
+-- and a list has typed rules by its types exactly where it had some before
+abbrev pub RulesAreTypedAgain : Type 0
+RulesAreTypedAgain =
+    (e : TypesRead) (env : TypeEnvironment) → AreReadable e → (left : IsLeftByRefusal e env) → (defs : List Definition) (expand : Bool) → HasTypedRules e defs expand ↔ HasTypedRules (with_more e left.more) defs expand
