@@ -1,6 +1,6 @@
 -- The calls that a rule goes over: each call, literal and constant at or in one is a site that the rule makes. And a rule that
 -- makes no impure call has no site of one.
-use Rattle.std.proofs.Common.{◌≡◌, ◌==◌, ℕ, suc, Bool, true, false, if◌then◌else◌, List, [], ◌∷◌, ◌++◌, Option, Some, None, refl, sym, ap, ◌∙◌, subst, inl, inr}
+use Rattle.std.proofs.Common.{◌≡◌, ◌==◌, ℕ, suc, Bool, true, false, if◌then◌else◌, List, [], ◌∷◌, ◌++◌, Option, Some, refl, subst, inl, inr}
 use Rattle.isle_model.specs.lists.Tables.{Flags}
 use Rattle.isle_model.specs.rules.Meaning.{look}
 use Rattle.isle_model.specs.rules.Program.{Program, Kind, a_variant, a_struct, a_call, unknown, kind, is_partial}
@@ -10,7 +10,7 @@ use Rattle.isle_model.specs.sites.Demands.{site_term_eq, Visit, visit_start, mak
 use Rattle.isle_model.proofs.Either.{either}
 use Rattle.isle_model.proofs.Elements.{In, in_left, in_right, in_either}
 use Rattle.isle_model.proofs.FewElements.{not_nothing}
-use Rattle.isle_laws_demands.proofs.matching.Grown.{equated, each_grown, all_grown, pattern_grown, expr_adds, exprs_add, grown_all}
+use Rattle.isle_laws_demands.proofs.matching.Grown.{equated, pattern_grown, exprs_add, grown_all}
 use Rattle.isle_laws_demands.proofs.served.PureCalls.{IsNoImpureCall}
 use Rattle.isle_laws_demands.proofs.total.CallsMade.{AllMade, EachMade}
 use Rattle.isle_laws_demands.proofs.visits.Patterns.{in_numbers}

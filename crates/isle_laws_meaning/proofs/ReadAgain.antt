@@ -1,5 +1,5 @@
 -- More names leave types readable, and the terms of a list valid or not.
-use Rattle.std.proofs.Common.{◌≡◌, ◌↔◌, ℕ, ◌+◌, ◌<◌, true, List, [], ◌∷◌, ◌++◌, length, map, Some, slice_get, is_some, flat_map, All, IsTrue, refl, sym, ap, ◌∙◌, subst, inl, inr, arith}
+use Rattle.std.proofs.Common.{◌≡◌, ◌↔◌, ℕ, ◌+◌, ◌<◌, List, [], ◌∷◌, ◌++◌, length, map, slice_get, is_some, flat_map, All, IsTrue, refl, sym, ap, ◌∙◌, subst, inl, inr, arith}
 use Rattle.std.proofs.Math.Path.{ap₂}
 use Rattle.std.specs.List.{cons_option, filter_map}
 use Rattle.std.proofs.lemmas.List.{length-append}
@@ -9,14 +9,14 @@ use Rattle.isle_model.specs.lists.Syntax.{Definition, DeclTree, ExtractorTree, C
 use Rattle.isle_model.specs.lists.Names.{has_name, IsDistinct}
 use Rattle.isle_model.specs.lists.Tables.{VariantEntry, TypeEntry, builtin_type, primitive_type, enum_type, struct_type}
 use Rattle.isle_model.specs.lists.TypeTable.{place_from, IsKnownType}
-use Rattle.isle_model.specs.lists.KnownTypes.{KnownTypes, IsWellFormed, entry_numbers, variant_numbers, field_numbers}
+use Rattle.isle_model.specs.lists.KnownTypes.{KnownTypes, entry_numbers, variant_numbers, field_numbers}
 use Rattle.isle_model.specs.lists.TermTable.{decl_names, decl_trees, made_by, term_names, terms_in, extractor_trees, converter_trees, IsValidTerms}
 use Rattle.isle_model.specs.claims.Environments.{TypesRead, AreReadable, TypeEnvironment, IsLeftByRefusal}
-use Rattle.isle_model.proofs.Elements.{In, in_from_contains, contains_from_in, in_left, in_right, in_either}
+use Rattle.isle_model.proofs.Elements.{In, contains_from_in, in_left, in_right, in_either}
 use Rattle.isle_model.proofs.Members.{all_members, get_within}
 use Rattle.isle_model.proofs.Names.{has_left}
 use Rattle.isle_model.proofs.Positions.{get_front}
-use Rattle.isle_laws_meaning.specs.ReadAgain.{with_more, CanBeReadAgain, RefusedEnvironmentsCanBeReadAgain}
+use Rattle.isle_laws_meaning.specs.ReadAgain.{with_more, RefusedEnvironmentsCanBeReadAgain}
 
 -- 1. the names of the terms that types make are read alike
 made_inside : (t : TypeEntry) (n : ℕ) → In (made_by t) n → In (entry_numbers t) n

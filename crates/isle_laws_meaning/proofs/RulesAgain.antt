@@ -1,7 +1,7 @@
 -- More names leave a list its typed rules, or none.
-use Rattle.std.proofs.Common.{◌≡◌, ◌↔◌, ℕ, zero, suc, ◌+◌, ◌==◌, ◌<◌, not, ◌&&◌, ◌||◌, Bool, true, false, cond, if◌then◌else◌, List, [], ◌∷◌, ◌++◌, length, map, Option, Some, None, option_map, unwrap_or, slice_get, is_some, flat_map, IsTrue, refl, sym, ap, ◌∙◌, subst, inl, inr, arith}
+use Rattle.std.proofs.Common.{◌≡◌, ◌↔◌, ℕ, zero, suc, ◌+◌, ◌==◌, ◌<◌, not, ◌&&◌, Bool, true, false, cond, List, [], ◌∷◌, ◌++◌, length, map, Option, Some, None, option_map, unwrap_or, slice_get, is_some, flat_map, IsTrue, refl, sym, ap, ◌∙◌, subst, inl, inr}
 use Rattle.std.proofs.Math.Path.{ap₂}
-use Rattle.std.specs.List.{cons_option, filter_map, enumerate_from, count_by, fold, find}
+use Rattle.std.specs.List.{cons_option, enumerate_from, count_by, fold, find}
 use Rattle.std.specs.Str.{bytes_eq}
 use Rattle.std.proofs.lemmas.List.Elements.{All-contains}
 use Rattle.std.proofs.lemmas.Option.{none-some, same_Some}
@@ -10,11 +10,11 @@ use Rattle.isle_model.specs.lists.Names.{number, has_name, IsDistinct}
 use Rattle.isle_model.specs.lists.Tables.{VariantEntry, TypeEntry, builtin_type, primitive_type, enum_type, struct_type, TermEntry, ConstructorEntry, internal_constructor, external_constructor, ExtractorEntry, internal_extractor, external_extractor, declared_term}
 use Rattle.isle_model.specs.lists.TypeTable.{place_from}
 use Rattle.isle_model.specs.lists.KnownTypes.{KnownTypes, known_type, entry_numbers}
-use Rattle.isle_model.specs.lists.TermTable.{ConstructorTree, ExternalTree, decl_names, decl_trees, function_of, rule_trees, has_rules, constructor_trees, internal_extractors, extractor_trees, external_trees, extractor_template, decl_flags, constructor_kind, extractor_kind, decl_as_term, variant_as_term, made_by, terms_made, term_names, term_names_met, term_table, converter_trees, converters}
+use Rattle.isle_model.specs.lists.TermTable.{ConstructorTree, ExternalTree, decl_names, decl_trees, function_of, rule_trees, has_rules, constructor_trees, internal_extractors, extractor_trees, external_trees, extractor_template, decl_flags, constructor_kind, extractor_kind, decl_as_term, variant_as_term, made_by, terms_made, term_names_met, term_table, converter_trees, converters}
 use Rattle.isle_model.specs.lists.Setting.{Setting, new_scope, entry_template}
 use Rattle.isle_model.specs.lists.Elaborated.{TypedRules, term_name, named_rule, named_rules, rule_names, named, typed_rules, RulesElaborate}
 use Rattle.isle_model.specs.rules.Typed.{TypedRule}
-use Rattle.isle_model.specs.claims.Environments.{TypesRead, AreReadable, TypeEnvironment, IsLeftByRefusal, setting_of, IsElaborated, HasTypedRules}
+use Rattle.isle_model.specs.claims.Environments.{TypesRead, AreReadable, setting_of, HasTypedRules}
 use Rattle.isle_model.proofs.Bytes.{same_self}
 use Rattle.isle_model.proofs.Elements.{In, or_left, or_right, contains_from_in, in_flat_map, from_flat_map, in_map, map_in}
 use Rattle.isle_model.proofs.Mapped.{mapped_some, get_mapped}
@@ -25,7 +25,7 @@ use Rattle.isle_laws_lists.proofs.TypesStay.{number_front}
 use Rattle.isle_laws_lists.proofs.TypedRules.{lists_agree}
 use Rattle.isle_laws_meaning.specs.ReadAgain.{with_more, RulesAreTypedAgain}
 use Rattle.isle_laws_meaning.proofs.ReadAgain.{more_once, readable, names_alike, valid_alike, all_made_inside}
-use Rattle.isle_laws_meaning.proofs.TwoTables.{AreKept, OfOneText, KindAlike, same_kind, declared_alike, EntryAlike, EntriesAlike, NumbersAlike, RuleAlike, RulesAlike, numbers_kept, TwoTables, Alike, rules_found}
+use Rattle.isle_laws_meaning.proofs.TwoTables.{AreKept, OfOneText, same_kind, declared_alike, EntryAlike, EntriesAlike, NumbersAlike, RuleAlike, RulesAlike, numbers_kept, TwoTables, Alike, rules_found}
 
 -- 1. two choices, by one test
 either_two : {X : Type 0} (P : X → X → Type 0) (a b : Bool) (x y z w : X) → a ≡ b → P x z → P y w → P (cond a x y) (cond b z w)

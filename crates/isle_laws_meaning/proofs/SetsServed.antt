@@ -1,19 +1,18 @@
 -- Of accepted definitions, the sets mean what their rules do wherever a meaning serves these.
-use Rattle.std.proofs.Common.{◌≡◌, ◌<◌, ℕ, Bool, true, false, List, [], slice_get, Contains, All, Some, sym, ap, subst, ◌∙◌, inl, inr, arith}
+use Rattle.std.proofs.Common.{◌≡◌, ◌<◌, ℕ, Bool, true, false, List, [], Contains, All, sym, ap, subst, ◌∙◌, inl, inr, arith}
 use Rattle.std.proofs.lemmas.Bool.{cases_lt}
 use Rattle.std.proofs.lemmas.List.Elements.{All-contains}
-use Rattle.isle_model.specs.lists.Names.{IsDistinct}
 use Rattle.isle_model.specs.lists.Syntax.{Definition}
 use Rattle.isle_model.specs.lists.Elaborated.{TypedRules}
 use Rattle.isle_model.specs.rules.Program.{Program, is_multi, rules_of}
-use Rattle.isle_model.specs.sites.Sites.{Constraint, SetRule, SiteSet, SiteTerm}
+use Rattle.isle_model.specs.sites.Sites.{SetRule, SiteSet}
 use Rattle.isle_model.specs.sites.Overlap.{BuiltRule, built_rules, Overlaps}
 use Rattle.isle_model.specs.sites.RuleSets.{IsRuleOf, IsBuilt}
 use Rattle.isle_model.specs.trees.Collects.{HasCollectedResults, IsCollectedRule, IsCollectedSet}
 use Rattle.isle_model.specs.trees.SetRuns.{OverlapInSet, HasNoWrongOverlap}
 use Rattle.isle_model.specs.claims.Environments.{TypesRead, types_read, IsElaborated}
 use Rattle.isle_model.specs.claims.SetMeanings.{BuiltSetsAreTested, BuiltSetsAreCollected}
-use Rattle.isle_model.specs.claims.Layers.{own_program, IsAccepted, LoweredTerm, IsLoweredTerm, IsBuiltForSome, MeansItsSet, IsCheckable}
+use Rattle.isle_model.specs.claims.Layers.{own_program, IsAccepted, LoweredTerm, IsLoweredTerm, MeansItsSet, IsCheckable}
 use Rattle.isle_model.proofs.Members.{all_members}
 use Rattle.isle_laws_runs.proofs.picks.Calls.{unfold_once}
 use Rattle.isle_laws_demands.specs.MatchLaws.{RulesWithoutMultiGoOverNoCalls}

@@ -1,9 +1,8 @@
 -- The bag of a multi term is of total functions alone, whatever maps agree with them and serve.
-use Rattle.std.proofs.Common.{◌≡◌, ℕ, zero, suc, Bool, true, false, List, [], ◌∷◌, ◌++◌, Option, Some, None, is_some, All, IsSomeAnd, Contains, IsTrue, flat_map, refl, sym, ap, ◌∙◌, subst, inl, inr}
+use Rattle.std.proofs.Common.{◌≡◌, ℕ, zero, suc, Bool, true, false, List, [], ◌∷◌, ◌++◌, Option, Some, None, is_some, IsSomeAnd, Contains, flat_map, refl, sym, ap, ◌∙◌, subst, inl, inr}
 use Rattle.std.proofs.lemmas.List.Elements.{All-contains}
 use Rattle.isle_model.specs.lists.Syntax.{Definition}
 use Rattle.isle_model.specs.lists.Elaborated.{TypedRules}
-use Rattle.isle_model.specs.lists.Formed.{is_formed_rule}
 use Rattle.isle_model.specs.rules.Values.{Value, args_well_typed, of_variant, of_struct, Values, value_and}
 use Rattle.isle_model.specs.rules.Meaning.{Content, one, just, Meaning, bool_literal, int_literal, literal_value, constant_value, extractor_answer, pure_answer}
 use Rattle.isle_model.specs.rules.Outcome.{then_option}

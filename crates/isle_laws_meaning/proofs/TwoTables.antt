@@ -1,6 +1,6 @@
 -- Rules elaborate alike by two tables of terms that say the same of terms with the same texts for names, each from the names
 -- that its table speaks of.
-use Rattle.std.proofs.Common.{◌≡◌, ℕ, zero, suc, ◌+◌, ◌≤◌, Bool, true, false, not, cond, ◌&&◌, ◌||◌, if◌then◌else◌, List, [], ◌∷◌, ◌++◌, length, Option, Some, None, slice_get, is_some, refl, sym, ap, ◌∙◌, subst, eqb-true, inl, inr}
+use Rattle.std.proofs.Common.{◌≡◌, ℕ, zero, suc, ◌+◌, Bool, true, false, not, cond, ◌&&◌, ◌||◌, if◌then◌else◌, List, [], ◌∷◌, ◌++◌, length, Option, Some, None, slice_get, is_some, refl, sym, ap, ◌∙◌, subst, eqb-true, inl, inr}
 use Rattle.std.proofs.Math.Path.{ap₂}
 use Rattle.std.specs.List.{position_from}
 use Rattle.std.specs.Prelude.{unwrap_or, ◌==◌}
@@ -10,7 +10,7 @@ use Rattle.std.proofs.lemmas.List.{length-append}
 use Rattle.std.proofs.lemmas.Option.{none-some, same_Some}
 use Rattle.isle_model.specs.lists.Syntax.{Position, Name, PatternTree, PatternTrees, ExprTree, ExprTrees, LetTrees, IfLetTree, RuleTree, var_pattern, bind_pattern, prim_pattern, term_pattern, var_expr, prim_expr, term_expr, let_and, pattern_and, no_pattern, expr_and, no_expr}
 use Rattle.isle_model.specs.lists.Names.{number, with_name, IsDistinct}
-use Rattle.isle_model.specs.lists.Tables.{Flags, TermEntry, TermKindEntry, ConstructorEntry, ExtractorEntry, variant_term, struct_term, declared_term}
+use Rattle.isle_model.specs.lists.Tables.{Flags, TermEntry, TermKindEntry, ConstructorEntry, ExtractorEntry, declared_term}
 use Rattle.isle_model.specs.rules.Meaning.{look}
 use Rattle.isle_model.specs.rules.Outcome.{then_option}
 use Rattle.isle_model.specs.rules.Typed.{TypedPattern, match_bind, match_var, match_prim, match_any, TypedPatterns, TypedExpr, make_var, make_prim, TypedExprs, TypedLets, typed_let_and, TypedVar, TypedIfLet, TypedRule}

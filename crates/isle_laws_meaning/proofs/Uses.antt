@@ -1,5 +1,5 @@
 -- Uses of the laws.
-use Rattle.std.proofs.Common.{◌≡◌, ◌∷◌, [], true, pos, IsTrue, refl, sym, ap, subst, inl, inr}
+use Rattle.std.proofs.Common.{◌≡◌, true, pos, IsTrue, refl, subst}
 use Rattle.isle_model.specs.rules.Meaning.{int_literal}
 use Rattle.isle_model.proofs.Members.{all_members, in_alone}
 use Rattle.isle_laws_meaning.specs.PatternConstants.{a_literal, rules_constants, means_itself, value_in}

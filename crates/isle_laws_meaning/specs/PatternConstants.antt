@@ -89,16 +89,16 @@ ConstantsAreOfPatterns =
     → TellsPatternsApart (program_of e defs rules.rules) m (rules_of (program_of e defs rules.rules) t)
     ↔ TellsConstantsApart (program_of e defs rules.rules) m (rules_of (program_of e defs rules.rules) t)
 
--- where patterns name no constants but literals that mean what they write, every meaning tells them apart
-abbrev pub LiteralsAreToldApart : Type 0
-LiteralsAreToldApart = (p : Program) (value : PatternConstant → Option Value) (rs : List TypedRule) → All (λ c. IsTrue (means_itself p c)) (rules_constants rs) → AreToldApart p value rs
-
 -- and of total functions
 abbrev pub FunctionsConstantsAreOfPatterns : Type 0
 FunctionsConstantsAreOfPatterns =
     (e : TypesRead) (defs : List Definition) (expand : Bool) (rules : TypedRules) (t : ℕ) (f : TotalMeaning) → IsElaborated e defs expand rules
     → KeepsPatternsApart (program_of e defs rules.rules) f (rules_of (program_of e defs rules.rules) t)
     ↔ KeepsConstantsApart (program_of e defs rules.rules) f (rules_of (program_of e defs rules.rules) t)
+
+-- where patterns name no constants but literals that mean what they write, every meaning tells them apart
+abbrev pub LiteralsAreToldApart : Type 0
+LiteralsAreToldApart = (p : Program) (value : PatternConstant → Option Value) (rs : List TypedRule) → All (λ c. IsTrue (means_itself p c)) (rules_constants rs) → AreToldApart p value rs
 
 -- what holds on all well-typed arguments, under every meaning that serves a term's rules and tells the constants of their
 -- patterns apart

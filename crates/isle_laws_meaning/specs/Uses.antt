@@ -2,12 +2,12 @@
 --   (decl f (u8) u8)
 --   (rule 1 (f 1) 10)
 --   (rule (f x) x)
-use Rattle.std.specs.Prelude.{◌≡◌, ◌∷◌, [], ℕ, pos, List, None, Option, codes}
+use Rattle.std.specs.Prelude.{◌≡◌, ◌∷◌, [], ℕ, pos, List, None}
 use Rattle.isle_model.specs.lists.TypeTable.{builtin_names, builtin_from}
 use Rattle.isle_model.specs.rules.Meaning.{Meaning, int_literal}
 use Rattle.isle_model.specs.rules.Program.{Program}
 use Rattle.isle_model.specs.rules.Typed.{TypedRule, match_bind, match_any, match_int, make_int, make_var}
-use Rattle.isle_laws_meaning.specs.PatternConstants.{PatternConstant, a_literal, rules_constants, TellsPatternsApart}
+use Rattle.isle_laws_meaning.specs.PatternConstants.{a_literal, rules_constants, TellsPatternsApart}
 
 -- the id of the type u8
 abbrev pub byte : ℕ
