@@ -268,14 +268,14 @@ module _ (e : TypesRead) (more : List (List ℕ)) (r : AreReadable e) (once : Is
   constant_stays : (i : ℕ) (c : ℕ × ℕ) → slice_get b.constants i ≡ Some c → OfOneText ns ms c.0 c.0
   constant_stays i c h = stays c.0 (All-contains (λ (d : ℕ × ℕ). d.0 < length e.known.names) e.constants c r.names_of_constants (member_from_get e.constants i c h))
 
-  two : TwoTables b ts us ns ms
+  pub two : TwoTables b ts us ns ms
   two = record {
     terms = terms_alike e.known defs ns ms declared_there made_stay 0 (decl_trees defs) (λ d i. has_declared (decl_trees defs) d i);
     type_names = type_stays;
     constants = constant_stays;
   }
 
-  two_back : TwoTables b us ts ms ns
+  pub two_back : TwoTables b us ts ms ns
   two_back = record {
     terms = terms_alike e.known defs ms ns (λ x h. let g = declared_there x h in (g.1, g.0)) (λ n i. turned n n (made_stay n i)) 0 (decl_trees defs) (λ d i. has_declared (decl_trees defs) d i);
     type_names = λ i k h. turned k k (type_stays i k h);
@@ -288,10 +288,10 @@ module _ (e : TypesRead) (more : List (List ℕ)) (r : AreReadable e) (once : Is
   second_once : IsDistinct ms
   second_once = distinct_names (e.known.names ++ more) met_names once
 
-  start : Alike b ts us ns ms two (new_scope ns) (new_scope ms)
+  pub start : Alike b ts us ns ms two (new_scope ns) (new_scope ms)
   start = record { kept = λ k x h. h; kept' = λ k x h. h; once = first_once; once' = second_once; visible = tt; count = refl }
 
-  start_back : Alike b us ts ms ns two_back (new_scope ms) (new_scope ns)
+  pub start_back : Alike b us ts ms ns two_back (new_scope ms) (new_scope ns)
   start_back = record { kept = λ k x h. h; kept' = λ k x h. h; once = second_once; once' = first_once; visible = tt; count = refl }
 
   -- the setting with more names is this one with the other terms
@@ -304,10 +304,10 @@ module _ (e : TypesRead) (more : List (List ℕ)) (r : AreReadable e) (once : Is
   converters_stay =
       ap (λ (l : List (List ℕ)). map (λ c. ((known_type e.known c.inner_ty, known_type e.known c.outer_ty), unwrap_or (place_from 0 c.term.text l) 0)) (converter_trees defs)) (sym (names_alike e more r defs))
 
-  same_setting : setting_of later defs expand ≡ record b { terms = us }
+  pub same_setting : setting_of later defs expand ≡ record b { terms = us }
   same_setting = λ i. record { types = e.known.types; type_names = type_numbers i; constants = e.constants; terms = us; converters = converters_stay i; expand = expand }
 
-  rules_again : HasTypedRules e defs expand → HasTypedRules later defs expand
+  pub rules_again : HasTypedRules e defs expand → HasTypedRules later defs expand
   rules_again (l, h) =
       let m = elaborate_alike b ts us ns ms two start (rule_trees defs) l h.elaborate in (
         m.0,
@@ -319,7 +319,7 @@ module _ (e : TypesRead) (more : List (List ℕ)) (r : AreReadable e) (once : Is
         },
       )
 
-  rules_before : HasTypedRules later defs expand → HasTypedRules e defs expand
+  pub rules_before : HasTypedRules later defs expand → HasTypedRules e defs expand
   rules_before (l, h) =
       let m = elaborate_alike b us ts ms ns two_back start_back (rule_trees defs) l (subst (λ s. RulesElaborate s (rule_trees defs) ms l) same_setting h.elaborate) in (
         m.0,

@@ -175,7 +175,7 @@ module _ (b : Setting) (ts us : List TermEntry) (ns ms : List (List ℕ)) (two :
     pub count : length s'.vars ≡ length s.vars
 
   -- further scopes, in which the names of the first are kept
-  record After (s s' t t' : Scope) : Type 0 where
+  pub record After (s s' t t' : Scope) : Type 0 where
     pub alike : Alike t t'
     pub kept : AreKept s.names t.names
     pub kept' : AreKept s'.names t'.names
@@ -486,14 +486,14 @@ module _ (b : Setting) (ts us : List TermEntry) (ns ms : List (List ℕ)) (two :
   own_alike s s' (Some n) = (n.text, found (with_name s.names n.text) n.text (has_new s.names n.text), found (with_name s'.names n.text) n.text (has_new s'.names n.text))
 
   -- a rule, and the scope after it
-  record RuleFound (d id : ℕ) (r : RuleTree) (names names' : List (List ℕ)) (q : TypedRule) (t : Scope) (n : ℕ) : Type 0 where
-    rule : TypedRule
-    scope : Scope
-    made : ElaboratesRule f d id r names' rule scope n
-    after : After (new_scope names) (new_scope names') t scope
-    alike : RuleAlike t.names scope.names q rule
+  pub record RuleFound (d id : ℕ) (r : RuleTree) (names names' : List (List ℕ)) (q : TypedRule) (t : Scope) (n : ℕ) : Type 0 where
+    pub rule : TypedRule
+    pub scope : Scope
+    pub made : ElaboratesRule f d id r names' rule scope n
+    pub after : After (new_scope names) (new_scope names') t scope
+    pub alike : RuleAlike t.names scope.names q rule
 
-  rule_found : (d id : ℕ) (r : RuleTree) (names names' : List (List ℕ)) (q : TypedRule) (t : Scope) (n : ℕ) → Alike (new_scope names) (new_scope names') → ElaboratesRule e d id r names q t n
+  pub rule_found : (d id : ℕ) (r : RuleTree) (names names' : List (List ℕ)) (q : TypedRule) (t : Scope) (n : ℕ) → Alike (new_scope names) (new_scope names') → ElaboratesRule e d id r names q t n
       → RuleFound d id r names names' q t n
   rule_found d id r names names' q t n a (a_rule {name = name} {entry = entry} {flags = flags} {s = v} {t = w} {u = u} {args = args} {iflets = iflets} {rhs = rhs} h i j k x g y) =
       let s : Scope = new_scope names in

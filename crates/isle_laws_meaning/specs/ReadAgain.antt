@@ -3,7 +3,7 @@ use Rattle.std.specs.Prelude.{◌↔◌, ℕ, Bool, List, ◌++◌}
 use Rattle.isle_model.specs.lists.Syntax.{Definition}
 use Rattle.isle_model.specs.lists.TermTable.{IsValidTerms}
 use Rattle.isle_model.specs.claims.Environments.{TypesRead, AreReadable, TypeEnvironment, IsReadAs, with_read_names, HasTypedRules, IsLeftByRefusal}
-use Rattle.isle_model.specs.claims.Refusals.{Refusal, RefusesTerms}
+use Rattle.isle_model.specs.claims.Refusals.{Refusal, RefusesTerms, RefusesRules}
 
 -- the types after more names were met
 abbrev pub with_more : TypesRead → List (List ℕ) → TypesRead
@@ -25,3 +25,9 @@ RefusedEnvironmentsCanBeReadAgain = (e : TypesRead) (env : TypeEnvironment) → 
 abbrev pub RulesAreTypedAgain : Type 0
 RulesAreTypedAgain =
     (e : TypesRead) (env : TypeEnvironment) → AreReadable e → (left : IsLeftByRefusal e env) → (defs : List Definition) (expand : Bool) → HasTypedRules e defs expand ↔ HasTypedRules (with_more e left.more) defs expand
+
+-- and the same errors refuse its rules
+abbrev pub RulesAreRefusedAgain : Type 0
+RulesAreRefusedAgain =
+    (e : TypesRead) (env : TypeEnvironment) → AreReadable e → (left : IsLeftByRefusal e env) → (defs : List Definition) (expand : Bool) (errors : List Refusal)
+    → RefusesRules e defs expand errors ↔ RefusesRules (with_more e left.more) defs expand errors

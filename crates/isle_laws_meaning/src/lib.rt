@@ -6,7 +6,7 @@
 
 ghost use Rattle.isle_laws_meaning.specs.OneMeaning.{LoweredTermsHaveOneMeaning};
 ghost use Rattle.isle_laws_meaning.specs.PatternConstants.{ConstantsAreOfPatterns, FunctionsConstantsAreOfPatterns, HeadlineIsOfPatterns, LiteralsAreToldApart};
-ghost use Rattle.isle_laws_meaning.specs.ReadAgain.{RefusedEnvironmentsCanBeReadAgain, RulesAreTypedAgain};
+ghost use Rattle.isle_laws_meaning.specs.ReadAgain.{RefusedEnvironmentsCanBeReadAgain, RulesAreRefusedAgain, RulesAreTypedAgain};
 ghost use Rattle.isle_laws_meaning.specs.SetsServed.{LoweredSetsMeanTheirRules};
 ghost use Rattle.isle_laws_meaning.specs.TotalBags.{BagIsOfFunctions, TotalMeaningsHaveOneBag};
 ghost use Rattle.isle_laws_meaning.specs.Uses.{BytesAreToldApart};
@@ -87,4 +87,9 @@ pub fn refused_environments_can_be_read_again()
 /// And a list has typed rules by its types exactly where it had some before.
 pub fn rules_are_typed_again()
     ensures { RulesAreTypedAgain }
+{}
+
+/// And the same errors refuse its rules, limits that they name included.
+pub fn rules_are_refused_again()
+    ensures { RulesAreRefusedAgain }
 {}
