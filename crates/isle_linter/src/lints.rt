@@ -1,11 +1,10 @@
 //! What is wrong with rules, and which can never run.
 
-use cranelift_isle::lower::{Lowered, LoweredTerm, lower};
+use cranelift_isle::lower::{LoweredTerm, lower};
 use cranelift_isle::sema::{RuleId, TermEnv, TypeEnv};
 use cranelift_isle::serialize::ControlFlow;
 use cranelift_isle::syntax::{Def, Error, Fault, Pos};
 use isle_answers::answers::Answer;
-use isle_answers::texts::{Asked, Wanted, answer_to_text};
 use isle_reading::environments::environments_of;
 use isle_reading::names::rule_name;
 use isle_reading::positions::{rules_at, rules_named};
@@ -13,52 +12,62 @@ use isle_reading::premises::is_multi;
 use isle_reading::rules::typed_rule;
 use isle_reading::texts::{Places, error_lines};
 use isle_reading::walk::{Visit, steps};
+use isle_text::errors::ReadFault;
 use isle_text::read;
 use std::alloc::{AllocError, Global};
 use std::slice;
 
+// What the names and the places of rules are looked up in.
+struct Scene<'a> {
+    alloc: Global,
+    tyenv: &'a TypeEnv,
+    termenv: &'a TermEnv,
+    places: Places<'a>,
+}
+
 /// The lints of each text, after its line. What stands before the first line that begins with `# ` is a text too.
-pub fn answers(alloc: Global, texts: &str) -> Result<Answer, AllocError> {
+pub fn answer(alloc: Global, texts: &str) -> Result<Answer, AllocError> {
     let mut out = String::new(alloc);
     let mut text = String::new(alloc);
     for line in texts.lines() {
         if line.starts_with("# ") {
             push_lints(alloc, &mut out, &text)?;
             text = String::new(alloc);
-            push_line(&mut out, line)?;
+            write!(out, "{line}\n")?;
         } else {
-            push_line(&mut text, line)?;
+            write!(text, "{line}\n")?;
         }
     }
     push_lints(alloc, &mut out, &text)?;
     Ok(Answer::Trees(out))
 }
 
-// Adds the lints of a text.
+// Adds the lints of a text, or what keeps it from being read.
 fn push_lints(alloc: Global, out: &mut String, text: &str) -> Result<(), AllocError> {
     match read(alloc, 0, text) {
-        Ok(defs) => push_lints_of(alloc, out, &defs, Places::Lines(text)),
-        Err(_) => push_unread(alloc, out, text),
+        Ok(defs) => push_defs(alloc, out, &defs, text),
+        Err(ReadFault::Text(error)) => {
+            out.push_str("syntax error at ")?;
+            Places::Lines(text).push(out, error.pos)?;
+            write!(out, ": {error}\n")
+        }
+        Err(ReadFault::Memory(error)) => Err(error),
     }
 }
 
-// Adds the line for what keeps a text from being read.
-fn push_unread(alloc: Global, out: &mut String, text: &str) -> Result<(), AllocError> {
-    let asked = Asked {
-        expand: true,
-        lines: true,
-        wanted: Wanted::Trees,
-    };
-    match answer_to_text(alloc, text, asked)? {
-        Answer::Trees(lines) | Answer::Errors(lines) => out.push_str(&lines),
-    }
-}
-
-// Adds the errors of definitions, or the rules that can never run.
-fn push_lints_of(alloc: Global, out: &mut String, defs: &[Def], places: Places<'_>) -> Result<(), AllocError> {
+// Adds the rules that can never run, or the errors.
+fn push_defs(alloc: Global, out: &mut String, defs: &[Def], text: &str) -> Result<(), AllocError> {
     match lower(alloc, defs, true) {
-        Ok(lowered) => push_never_run(alloc, out, &lowered, places),
-        Err(Fault::Errors(errors)) => push_errors(alloc, out, defs, &errors, places),
+        Ok(lowered) => {
+            let scene = Scene {
+                alloc,
+                tyenv: &lowered.tyenv,
+                termenv: &lowered.termenv,
+                places: Places::Lines(text),
+            };
+            push_dead(out, &scene, &lowered.terms)
+        }
+        Err(Fault::Errors(errors)) => push_errors(alloc, out, defs, &errors, text),
         Err(Fault::Memory(error)) => Err(error),
     }
 }
@@ -69,12 +78,19 @@ fn push_errors(
     out: &mut String,
     defs: &[Def],
     errors: &[Error],
-    places: Places<'_>,
+    text: &str,
 ) -> Result<(), AllocError> {
+    let places = Places::Lines(text);
     match environments_of(alloc, defs, true) {
         Ok(found) => {
+            let scene = Scene {
+                alloc,
+                tyenv: &found.tyenv,
+                termenv: &found.termenv,
+                places,
+            };
             for error in errors {
-                push_error(alloc, out, &found.tyenv, &found.termenv, error, places)?;
+                push_error(out, &scene, error)?;
             }
             Ok(())
         }
@@ -84,75 +100,56 @@ fn push_errors(
 }
 
 // Adds an error with the rules that it names.
-fn push_error(
-    alloc: Global,
-    out: &mut String,
-    tyenv: &TypeEnv,
-    termenv: &TermEnv,
-    error: &Error,
-    places: Places<'_>,
-) -> Result<(), AllocError> {
-    out.push_str(&error_lines(alloc, slice::from_ref(error), places)?)?;
-    for id in &rules_named(alloc, termenv, error)? {
-        out.push_str("  ")?;
-        push_rule(out, tyenv, termenv, *id, places)?;
+fn push_error(out: &mut String, scene: &Scene<'_>, error: &Error) -> Result<(), AllocError> {
+    let lines = error_lines(scene.alloc, slice::from_ref(error), scene.places)?;
+    out.push_str(&lines)?;
+    for id in &rules_named(scene.alloc, scene.termenv, error)? {
+        push_rule(out, scene, "  rule ", *id)?;
         out.push('\n')?;
     }
     Ok(())
 }
 
-// Adds a rule: its name, or `_`, and its position.
+// Adds a word and a rule: its name, or `_`, and its place.
 fn push_rule(
     out: &mut String,
-    tyenv: &TypeEnv,
-    termenv: &TermEnv,
+    scene: &Scene<'_>,
+    word: &str,
     id: RuleId,
-    places: Places<'_>,
 ) -> Result<(), AllocError> {
-    out.push_str("rule ")?;
-    out.push_str(rule_name(tyenv, termenv, id).unwrap_or("_"))?;
-    match typed_rule(termenv, id) {
-        Some(rule) => {
-            out.push_str(" at ")?;
-            places.push(out, rule.pos)
-        }
+    out.push_str(word)?;
+    out.push_str(rule_name(scene.tyenv, scene.termenv, id).unwrap_or("_"))?;
+    out.push_str(" at ")?;
+    match typed_rule(scene.termenv, id) {
+        Some(rule) => scene.places.push(out, rule.pos),
         None => Ok(()),
     }
 }
 
-// Adds the rules of all terms that can never run.
-fn push_never_run(
-    alloc: Global,
-    out: &mut String,
-    lowered: &Lowered,
-    places: Places<'_>,
-) -> Result<(), AllocError> {
-    for term in &lowered.terms {
-        if !is_multi(&lowered.termenv, term.id) {
-            push_never_run_in(alloc, out, lowered, term, places)?;
+// Adds the rules of terms that can never run. In a multi term each return adds a result, and the run goes on.
+fn push_dead(out: &mut String, at: &Scene<'_>, terms: &[LoweredTerm]) -> Result<(), AllocError> {
+    for term in terms {
+        if !is_multi(at.termenv, term.id) {
+            push_dead_in(out, at, &steps(at.alloc, &term.block)?)?;
         }
     }
     Ok(())
 }
 
-// Adds the rules of a term that can never run: a return stands before theirs in its block, or before a step around it.
-fn push_never_run_in(
-    alloc: Global,
+// Adds the rules of steps after a return in its block, and inside these: arms differ, so tests around them tell such steps.
+fn push_dead_in(
     out: &mut String,
-    lowered: &Lowered,
-    term: &LoweredTerm,
-    places: Places<'_>,
+    scene: &Scene<'_>,
+    visits: &[Visit<'_>],
 ) -> Result<(), AllocError> {
-    let visits = steps(alloc, &term.block)?;
-    let mut ended: Option<&Visit<'_>> = None;
-    for visit in &visits {
-        match (ended, return_of(visit)) {
-            // arms of a match differ, so what follows a return is in its block, or inside a step of it, only then
-            (Some(before), pos) if visit.path.starts_with(&before.path) => {
-                push_after(alloc, out, lowered, pos, return_of(before), places)?;
+    let mut ended: Option<(&Visit<'_>, Pos)> = None;
+    for visit in visits {
+        let pos = return_of(visit);
+        match ended {
+            Some((before, first)) if visit.path.starts_with(&before.path) => {
+                push_dead_rule(out, scene, pos, first)?;
             }
-            (_, Some(_)) => ended = Some(visit),
-            (_, None) => ended = None,
+            _ => ended = pos.map(|pos| (visit, pos)),
         }
     }
     Ok(())
@@ -162,36 +159,23 @@ fn push_never_run_in(
 fn return_of(visit: &Visit<'_>) -> Option<Pos> {
     match &visit.step.check {
         ControlFlow::Return { pos, .. } => Some(*pos),
-        ControlFlow::Match { .. } | ControlFlow::Equal { .. } | ControlFlow::Loop { .. } => None,
+        _ => None,
     }
 }
 
-// Adds that the rules at a position stand after those at another one, where there are both.
-fn push_after(
-    alloc: Global,
+// Adds the rules at a position, where there is one, with those at another one that stand before them.
+fn push_dead_rule(
     out: &mut String,
-    lowered: &Lowered,
+    scene: &Scene<'_>,
     pos: Option<Pos>,
-    before: Option<Pos>,
-    places: Places<'_>,
+    first: Pos,
 ) -> Result<(), AllocError> {
-    let (Some(pos), Some(before)) = (pos, before) else {
-        return Ok(());
-    };
-    for id in &rules_at(alloc, &lowered.termenv, pos)? {
-        out.push_str("never run: ")?;
-        push_rule(out, &lowered.tyenv, &lowered.termenv, *id, places)?;
-        out.push_str(" stands after the return of ")?;
-        for first in &rules_at(alloc, &lowered.termenv, before)? {
-            push_rule(out, &lowered.tyenv, &lowered.termenv, *first, places)?;
-        }
-        out.push('\n')?;
+    let Some(pos) = pos else { return Ok(()) };
+    for id in &rules_at(scene.alloc, scene.termenv, pos)? {
+        push_rule(out, scene, "never run: rule ", *id)?;
     }
-    Ok(())
-}
-
-// Adds a line.
-fn push_line(out: &mut String, line: &str) -> Result<(), AllocError> {
-    out.push_str(line)?;
+    for id in &rules_at(scene.alloc, scene.termenv, first)? {
+        push_rule(out, scene, ", after the return of rule ", *id)?;
+    }
     out.push('\n')
 }

@@ -1,31 +1,19 @@
-//! Prints what is wrong with the rules on standard input, and which rules can never run, by name and position. A line that
-//! begins with `# ` begins a text of its own.
+//! Prints what is wrong with the rules on standard input, and which can never run. `# NAME` begins a text of its own.
 #![tactic(auto)]
 
 mod lints;
 
 use isle_answers::answers::write_answer;
 use isle_answers::run::cannot_read;
-use lints::answers;
-use std::alloc::Global;
+use lints::answer;
 use std::io;
-use std::io::{Read, Write};
 use std::process::ExitCode;
 
 fn main(rt: HostRuntime) -> ExitCode {
     let mut out = rt.stdout();
     let mut err = rt.stderr();
-    ExitCode::from(run(rt.alloc(), rt.stdin(), &mut out, &mut err))
-}
-
-fn run<R: Read + Drop, O: Write, E: Write>(
-    alloc: Global,
-    input: R,
-    out: &mut O,
-    err: &mut E,
-) -> u8 {
-    match io::read_to_string(alloc, input) {
-        Ok(text) => write_answer(answers(alloc, &text), out, err),
-        Err(error) => cannot_read(error.kind(), err),
-    }
+    ExitCode::from(match io::read_to_string(rt.alloc(), rt.stdin()) {
+        Ok(text) => write_answer(answer(rt.alloc(), &text), &mut out, &mut err),
+        Err(error) => cannot_read(error.kind(), &mut err),
+    })
 }
