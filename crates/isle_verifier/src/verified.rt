@@ -1,7 +1,7 @@
 //! What is known of the tree of one term, as contracts that rest on that of `lower`.
 
 ghost use Rattle.std.specs.Prelude.{◌≡◌, IfSome};
-ghost use Rattle.cranelift_isle.specs.Lowerings.{lowered_view, IsLowered};
+ghost use Rattle.cranelift_isle.specs.Lowerings.{lowered_view, lowered_views, DemandWhole, IsLowered, OfAccepted};
 ghost use Rattle.isle_base.specs.SyntaxViews.{definition_views};
 ghost use Rattle.isle_verifier.specs.Verified.{RunsAlways, RunsWhereApart};
 
@@ -30,18 +30,19 @@ pub fn runs_where_apart<'a>(
 
 /// The entry at a place of `lowered.terms`, where the term isn't `multi` and its rules ask no constant whose value a meaning
 /// may choose: its tree runs as the chosen rule, on well-typed arguments and under every meaning that serves the term's rules.
-/// None and the condition: as above.
+/// None as above. Conditions: two of the clauses of `lower`.
 pub fn runs_always<'a>(
     defs: &[Def],
     expand: bool,
     lowered: &'a Lowered,
     place: usize,
 ) -> Option<&'a LoweredTerm>
-    requires { IsLowered (definition_views defs.now) expand lowered.now }
+    requires lowered { IsLowered (definition_views defs.now) expand lowered.now }
+    requires whole { OfAccepted (definition_views defs.now) expand (DemandWhole (lowered_views lowered.now.terms.items)) }
     ensures { IfSome result (λ t. RunsAlways (definition_views defs.now) expand (lowered_view t.now)) }
 {
-    let term = runs_where_apart(defs, expand, lowered, place)?;
-    if !asks_own_constants(&lowered.tyenv, &term.rules) {
+    let term = lowered.terms.get(place)?;
+    if is_multi(&lowered.termenv, term.id) || !asks_own_constants(&lowered.tyenv, &term.rules) {
         return None;
     }
     Some(term)
