@@ -18,6 +18,7 @@ use std::alloc::{AllocError, Global};
 use std::slice;
 
 // What the names and the places of rules are looked up in.
+#[derive(Drop)]
 struct Scene<'a> {
     alloc: Global,
     tyenv: &'a TypeEnv,
@@ -80,21 +81,20 @@ fn push_errors(
     errors: &[Error],
     text: &str,
 ) -> Result<(), AllocError> {
-    let places = Places::Lines(text);
     match environments_of(alloc, defs, true) {
         Ok(found) => {
             let scene = Scene {
                 alloc,
                 tyenv: &found.tyenv,
                 termenv: &found.termenv,
-                places,
+                places: Places::Lines(text),
             };
             for error in errors {
                 push_error(out, &scene, error)?;
             }
             Ok(())
         }
-        Err(Fault::Errors(_)) => out.push_str(&error_lines(alloc, errors, places)?),
+        Err(Fault::Errors(_)) => out.push_str(&error_lines(alloc, errors, Places::Lines(text))?),
         Err(Fault::Memory(error)) => Err(error),
     }
 }
@@ -122,7 +122,7 @@ fn push_rule(
     out.push_str(" at ")?;
     match typed_rule(scene.termenv, id) {
         Some(rule) => scene.places.push(out, rule.pos),
-        None => Ok(()),
+        None => out.push('?'),
     }
 }
 
@@ -157,10 +157,10 @@ fn push_dead_in(
 
 // The position of the rule that a step returns for, where it is a return.
 fn return_of(visit: &Visit<'_>) -> Option<Pos> {
-    match &visit.step.check {
-        ControlFlow::Return { pos, .. } => Some(*pos),
-        _ => None,
+    if let ControlFlow::Return { pos, .. } = &visit.step.check {
+        return Some(*pos);
     }
+    None
 }
 
 // Adds the rules at a position, where there is one, with those at another one that stand before them.
