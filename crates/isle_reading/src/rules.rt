@@ -3,14 +3,13 @@
 ghost use Rattle.std.specs.Prelude.{◌≡◌, option_map, slice_get};
 ghost use Rattle.std.specs.List.{find};
 ghost use Rattle.cranelift_isle.specs.Lowerings.{lowered_view, lowered_views};
-ghost use Rattle.isle_base.specs.SyntaxViews.{definition_views, position, rule_view};
-ghost use Rattle.isle_model.specs.lists.TermTable.{rule_trees};
+ghost use Rattle.isle_base.specs.SyntaxViews.{position};
 ghost use Rattle.isle_sets.specs.SiteViews.{set_rule_view, set_view};
 ghost use Rattle.isle_reading.specs.Lookups.{entry_of, is_behind};
 
 use cranelift_isle::lower::{Lowered, LoweredTerm};
 use cranelift_isle::sema::{Rule, RuleId, TermEnv, TermId};
-use cranelift_isle::syntax::{self, Def, Pos};
+use cranelift_isle::syntax::Pos;
 use cranelift_isle::trie_again::{self, BindingId, RuleSet};
 
 /// The typed rule of an id, or None where the id is no rule's.
@@ -18,22 +17,6 @@ pub fn typed_rule(termenv: &TermEnv, id: RuleId) -> Option<&Rule>
     ensures { option_map (λ r. r.now) result ≡ slice_get termenv.now.rules.items id.0 }
 {
     termenv.rules.get(id.index())
-}
-
-/// The rule of an id as it is written in the definitions that the id is of, or None where these have no such rule.
-pub fn written_rule(defs: &[Def], id: RuleId) -> Option<&syntax::Rule>
-    ensures { option_map (λ r. rule_view r.now) result ≡ slice_get (rule_trees (definition_views defs.now)) id.0 }
-{
-    let mut left = id.index();
-    for def in defs {
-        if let Def::Rule(rule) = def {
-            if left == 0 {
-                return Some(rule);
-            }
-            left -= 1;
-        }
-    }
-    None
 }
 
 /// The entry of a term: its set and its tree. None where the term has no rules.
