@@ -155,7 +155,7 @@ pub fn sites_answer(asked: &Asked) -> bool {
     let rules = rule.may_overlap(&other) == Overlap::Yes { subset: true }
         && rule.total_constraints() == 0
         && rule.get_constraint(site).is_none();
-    numbers && found && rules && !Constraint::Some.compatible(&TRUE)
+    numbers && found && rules && Constraint::Some.compatible(&TRUE)
 }
 
 /// Syntax trees say where they stand, and typed ones their types.
