@@ -62,12 +62,17 @@ fn is_error(errors: &[Error], text: &str) -> bool {
 /// comes to what is wanted; or reading them came to that at once.
 pub fn rules_stay(alloc: Global, text: &str, wanted: Wanted) -> Result<bool, Fault> {
     let defs = defs_of(alloc, text)?;
-    let mut tyenv = TypeEnv::from_ast(alloc, &defs)?;
+    stays_at_rules(alloc, &defs, wanted)
+}
+
+// The same of definitions.
+fn stays_at_rules(alloc: Global, defs: &[Def], wanted: Wanted) -> Result<bool, Fault> {
+    let mut tyenv = TypeEnv::from_ast(alloc, defs)?;
     let copy = Copied::of(&tyenv)?;
-    match read_rules(alloc, &mut tyenv, &defs) {
+    match read_rules(alloc, &mut tyenv, defs) {
         Err(Fault::Memory(_)) => {
             let stays = copy.is(&tyenv);
-            let answer = read_again(alloc, &mut tyenv, &defs);
+            let answer = read_again(alloc, &mut tyenv, defs);
             Ok(stays && wanted.is(&answer))
         }
         answer => Ok(wanted.is(&answer)),
