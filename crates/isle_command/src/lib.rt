@@ -1,13 +1,7 @@
-// A library with one function.
+//! The command `isle`: what it is asked by its words, and what it answers to files of ISLE text.
 #![tactic(auto)]
 
-ghost use Rattle.std.specs.Prelude.{◌≡◌};
-ghost use Rattle.isle_command.specs.Echo.{echo_of};
-
-// The `ensures` clause is the contract: what `echo` returns is `echo_of` of its argument, a definition
-// in `specs/Echo.antt`, which a caller's clause can cite too.
-pub fn echo(x: usize) -> usize
-    ensures { result ≡ echo_of x }
-{
-    x
-}
+pub mod answers;
+mod inputs;
+pub mod run;
+pub mod words;

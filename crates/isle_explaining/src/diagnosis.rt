@@ -99,7 +99,11 @@ fn overlap(
     sets: &Option<Sets>,
     rules: &[Span],
 ) -> Result<Report, AllocError> {
-    let mut report = begun(alloc, "overlap", "rules of one priority match the same values")?;
+    let mut report = begun(
+        alloc,
+        "overlap",
+        "rules of one priority match the same values",
+    )?;
     for (i, span) in rules.iter().enumerate() {
         let before = if i == 0 { "" } else { "overlaps " };
         add_rule(alloc, &mut report, defs, span.from, before, "")?;
@@ -124,7 +128,14 @@ fn shadow(
     for span in shadowed {
         add_rule(alloc, &mut report, defs, span.from, "", " is never taken")?;
     }
-    add_rule(alloc, &mut report, defs, mask.from, "", " comes first wherever it matches")?;
+    add_rule(
+        alloc,
+        &mut report,
+        defs,
+        mask.from,
+        "",
+        " comes first wherever it matches",
+    )?;
     add_help(
         alloc,
         &mut report,

@@ -221,11 +221,13 @@ impl<'a> Both<'a> {
     fn value(&self, site: BindingId) -> Result<String, AllocError> {
         let mut out = String::new(self.alloc);
         match self.demanded_of(site) {
-            Some(Constraint::Variant {
-                variant,
-                fields,
-                ..
-            }) => self.push_fields(site, Some(variant), fields, &mut out)?,
+            Some(
+                Constraint::Variant {
+                    variant,
+                    fields,
+                    ..
+                },
+            ) => self.push_fields(site, Some(variant), fields, &mut out)?,
             Some(Constraint::Struct { fields, .. }) => {
                 self.push_fields(site, None, fields, &mut out)?
             }
@@ -286,7 +288,10 @@ impl<'a> Both<'a> {
         for class in rule.classes() {
             if let Some(first) = class.first() {
                 let value = text_at(&self.values, *first);
-                if class.iter().any(|site| text_at(&self.values, *site) != value) {
+                if class
+                    .iter()
+                    .any(|site| text_at(&self.values, *site) != value)
+                {
                     return false;
                 }
             }

@@ -3,7 +3,7 @@
 use crate::lines::{Line, file_name, file_text, line_at};
 use crate::report::{Label, Note, Report};
 use isle_base::syntax::{Files, Pos};
-use std::alloc::AllocError;
+use std::alloc::{AllocError, Global};
 
 /// How reports are laid out.
 #[derive(Clone, Copy, PartialEq, Eq)]
@@ -103,48 +103,59 @@ fn push_text(out: &mut String, files: &Files, report: &Report) -> Result<(), All
     out.push('\n')
 }
 
-// Adds the places of a report. Each file's first one has its place in words before it, and a line that has several is shown once.
+// Adds the places of a report: those in the file of the first one before others, in the order of the text. Each file has a
+// place in words before its lines, and a line that has several places is shown once.
 fn push_labels(
     out: &mut String,
     files: &Files,
     report: &Report,
     width: u64,
 ) -> Result<(), AllocError> {
-    let mut last: Option<(usize, u64)> = None;
-    let mut mark = '^';
-    for label in &report.labels {
+    let Some(first) = report.labels.first() else {
+        return Ok(());
+    };
+    push_arrow(out, files, first.pos, "-->", width)?;
+    let mut last = (first.pos.file, 0);
+    for label in &in_order(*out.allocator(), report, first.pos.file)? {
         let line = line_of(files, label.pos);
         push_source(out, files, label.pos, line, last, width)?;
+        let mark = if label.pos == first.pos { '^' } else { '-' };
         push_underline(out, line, &label.text, mark, width)?;
-        last = Some((label.pos.file, line.number));
-        mark = '-';
+        last = (label.pos.file, line.number);
     }
-    if last.is_some() && !report.notes.is_empty() {
+    if !report.notes.is_empty() {
         push_bar(out, width, "\n")?;
     }
     Ok(())
 }
 
-// Adds the line of a place, where the last place wasn't in it, and what leads from there to it.
+// The places of a report, those in this file first, in the order of the text.
+fn in_order(alloc: Global, report: &Report, file: usize) -> Result<Vec<&Label>, AllocError> {
+    let mut labels = Vec::new(alloc);
+    for label in &report.labels {
+        labels.push(label)?;
+    }
+    labels.sort_by_key(|label| (label.pos.file != file, label.pos))?;
+    Ok(labels)
+}
+
+// Adds the line of a place, where the last place wasn't in it, and what leads from there to it. No place was before where the
+// last line is 0.
 fn push_source(
     out: &mut String,
     files: &Files,
     pos: Pos,
     line: Line<'_>,
-    last: Option<(usize, u64)>,
+    last: (usize, u64),
     width: u64,
 ) -> Result<(), AllocError> {
-    match last {
-        Some((file, number)) if file == pos.file => {
-            if number == line.number {
-                return Ok(());
-            }
-            if number.saturating_add(1) != line.number {
-                out.push_str("...\n")?;
-            }
-        }
-        Some(_) => push_arrow(out, files, pos, ":::", width)?,
-        None => push_arrow(out, files, pos, "-->", width)?,
+    let (file, number) = last;
+    if file != pos.file {
+        push_arrow(out, files, pos, ":::", width)?;
+    } else if number == line.number {
+        return Ok(());
+    } else if number > 0 && number.saturating_add(1) != line.number {
+        out.push_str("...\n")?;
     }
     push_numbered(out, line, width)
 }
