@@ -83,7 +83,7 @@ fn syntax_report(alloc: Global, error: TextError) -> Result<Report, AllocError> 
     if let Problem::Unclosed(open) = &error.problem {
         report.labels.push(Label {
             pos: *open,
-            text: String::from_str(alloc, "of this list")?,
+            text: String::from_str(alloc, "begins here")?,
         })?;
     }
     Ok(report)

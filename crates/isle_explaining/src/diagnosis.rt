@@ -240,7 +240,7 @@ fn rule_in(set: &RuleSet, pos: Pos) -> Option<&Rule> {
 // What is said of a value that two rules match, or that none was found.
 fn value_text(alloc: Global, found: Option<String>) -> Result<String, AllocError> {
     match found {
-        Some(value) => format!(in alloc; "both match `{value}`"),
+        Some(value) => format!(in alloc; "both match {value}"),
         None => String::from_str(
             alloc,
             "no value that both match was found: what they demand to be equal isn't compared",

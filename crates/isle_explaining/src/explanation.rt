@@ -119,6 +119,9 @@ fn push_demands(
     out: &mut String,
 ) -> Result<(), AllocError> {
     out.push_str("  demands\n")?;
+    if rule.total_constraints() == 0 {
+        out.push_str("    nothing\n")?;
+    }
     for (site, constraint) in rule.constraints() {
         if !is_struct(*constraint) {
             out.push_str("    ")?;

@@ -301,14 +301,14 @@ impl<'a> Both<'a> {
 
     // Adds the term with its arguments' values.
     fn push_call(&self, term: TermId, out: &mut String) -> Result<(), AllocError> {
-        out.push('(')?;
+        out.push_str("`(")?;
         out.push_str(self.names.term(term))?;
         for number in 0..self.names.arity(term) {
             if let Ok(index) = TupleIndex::try_from(number) {
                 self.push_part(&Binding::Argument { index }, out)?;
             }
         }
-        out.push(')')
+        out.push_str(")`")
     }
 
     // Adds what is demanded of sites that are no parts of the arguments.

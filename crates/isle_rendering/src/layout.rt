@@ -181,7 +181,7 @@ fn push_numbered(out: &mut String, line: Line<'_>, width: u64) -> Result<(), All
     let number = line.number;
     write!(out, "{number}")?;
     push_spaces(out, width.saturating_sub(digits(number)))?;
-    out.push_str(" | ")?;
+    out.push_str(if line.text.is_empty() { " |" } else { " | " })?;
     line.push(out)?;
     out.push('\n')
 }
