@@ -160,17 +160,45 @@ fn push_firsts(
     rule: &Rule,
     out: &mut String,
 ) -> Result<(), AllocError> {
-    let mut before = "  where they match too, these come first\n";
+    if !has_first(term, rule) {
+        return Ok(());
+    }
+    out.push_str("  where they match too, these come first\n")?;
     for other in &term.rules.rules {
-        if other.prio > rule.prio && overlaps(rule, other) {
-            out.push_str(before)?;
-            out.push_str("    ")?;
-            push_title(files, lowered, other, out)?;
-            out.push('\n')?;
-            before = "";
-        }
+        push_first(files, lowered, rule, other, out)?;
     }
     Ok(())
+}
+
+// Adds a rule, if it comes first where both it and this rule match.
+fn push_first(
+    files: &Files,
+    lowered: &Lowered,
+    rule: &Rule,
+    other: &Rule,
+    out: &mut String,
+) -> Result<(), AllocError> {
+    if !comes_first(rule, other) {
+        return Ok(());
+    }
+    out.push_str("    ")?;
+    push_title(files, lowered, other, out)?;
+    out.push('\n')
+}
+
+// Whether some rule of a term comes first where both it and this rule match.
+fn has_first(term: &LoweredTerm, rule: &Rule) -> bool {
+    for other in &term.rules.rules {
+        if comes_first(rule, other) {
+            return true;
+        }
+    }
+    false
+}
+
+// Whether another rule may match together with this one, and comes first then.
+fn comes_first(rule: &Rule, other: &Rule) -> bool {
+    other.prio > rule.prio && overlaps(rule, other)
 }
 
 // Whether two rules may both match.
