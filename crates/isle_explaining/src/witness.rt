@@ -3,7 +3,7 @@
 use crate::demands::{push_demand, push_equals, push_head, site_texts, text_at};
 use crate::names::Names;
 use isle_sets::trie_again::{Binding, BindingId, Constraint, Rule, RuleSet, TupleIndex};
-use isle_types::{TermId, VariantId};
+use isle_types::TermId;
 use std::alloc::{AllocError, Global};
 
 // How many sites a set may have for a value to be looked for: each field is looked up among all of them.
@@ -221,20 +221,28 @@ impl<'a> Both<'a> {
     fn value(&self, site: BindingId) -> Result<String, AllocError> {
         let mut out = String::new(self.alloc);
         match self.demanded_of(site) {
-            Some(
-                Constraint::Variant {
-                    variant,
-                    fields,
-                    ..
-                },
-            ) => self.push_fields(site, Some(variant), fields, &mut out)?,
-            Some(Constraint::Struct { fields, .. }) => {
-                self.push_fields(site, None, fields, &mut out)?
-            }
-            Some(Constraint::Some) | None => self.push_name(site, &mut out)?,
-            Some(constraint) => push_head(&mut out, self.names, constraint)?,
+            Some(constraint) => self.push_value(site, constraint, &mut out)?,
+            None => self.push_name(site, &mut out)?,
         }
         Ok(out)
+    }
+
+    // Adds the value of a site of which this is demanded.
+    fn push_value(
+        &self,
+        site: BindingId,
+        constraint: Constraint,
+        out: &mut String,
+    ) -> Result<(), AllocError> {
+        match constraint {
+            Constraint::Variant { .. } | Constraint::Struct { .. } => {
+                self.push_fields(site, constraint, out)
+            }
+            Constraint::Some => self.push_name(site, out),
+            Constraint::ConstBool { .. }
+            | Constraint::ConstInt { .. }
+            | Constraint::ConstPrim { .. } => push_head(out, self.names, constraint),
+        }
     }
 
     // Adds `_` for any value, or a name where it must be equal to another one.
@@ -250,26 +258,14 @@ impl<'a> Both<'a> {
     // Adds a variant or a struct with its fields.
     fn push_fields(
         &self,
-        source: BindingId,
-        variant: Option<VariantId>,
-        fields: TupleIndex,
+        site: BindingId,
+        constraint: Constraint,
         out: &mut String,
     ) -> Result<(), AllocError> {
         out.push('(')?;
-        if let Some(constraint) = self.demanded_of(source) {
-            push_head(out, self.names, constraint)?;
-        }
-        for number in 0..fields.as_u8() {
-            let field = TupleIndex::from(number);
-            let binding = match variant {
-                Some(variant) => Binding::MatchVariant {
-                    source,
-                    variant,
-                    field,
-                },
-                None => Binding::ExtractStruct { source, field },
-            };
-            self.push_part(&binding, out)?;
+        push_head(out, self.names, constraint)?;
+        for binding in &constraint.bindings_for(self.alloc, site)? {
+            self.push_part(binding, out)?;
         }
         out.push(')')
     }
