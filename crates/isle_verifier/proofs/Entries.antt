@@ -1,5 +1,5 @@
 -- An entry of an answer of `lower` runs as the chosen rule.
-use Rattle.std.proofs.Common.{◌≡◌, ℕ, Bool, true, false, List, map, Some, slice_get, get_or, All, refl, sym, ap, ◌∙◌, subst}
+use Rattle.std.proofs.Common.{◌≡◌, ℕ, Bool, true, false, List, map, None, Some, slice_get, get_or, All, refl, sym, ap, ◌∙◌, subst}
 use Rattle.std.proofs.lemmas.List.Elements.{All-get_or}
 use Rattle.std.proofs.lemmas.Option.{slice_get_within, get_or_from_slice_get}
 use Rattle.isle_model.specs.lists.Elaborated.{TypedRules}
