@@ -1,39 +1,14 @@
--- Steps of a tree one by one, and arms one by one.
-use Rattle.std.proofs.Common.{◌≡◌, ℕ, ◌+◌, ◌<◌, ◌≤◌, List, [], ◌∷◌, ◌++◌, length, get_or, drop, refl, sym, ap, subst, ◌∙◌}
+-- The steps of a block in one list, and arms one by one.
+use Rattle.std.proofs.Common.{◌≡◌, ℕ, ◌+◌, ◌<◌, List, [], ◌∷◌, ◌++◌, length, get_or, drop, sym, ap, subst, ◌∙◌}
 use Rattle.std.specs.Prelude.{Result, OnOk}
-use Rattle.std.proofs.lemmas.List.{append-nil, append_assoc, at_drop_more, at_drop_all}
+use Rattle.std.proofs.lemmas.List.{append-nil, append_assoc, at_drop_more}
 use Rattle.isle_model.specs.trees.Trees.{Arms, no_arm, arm}
 use Rattle.isle_sets.specs.SiteViews.{constraint_view}
 use Rattle.isle_serialize.specs.declared.serialize.Block.{Block, out-Block, roll-out-Block}
-use Rattle.isle_serialize.specs.declared.serialize.EvalStep.{EvalStep}
 use Rattle.isle_serialize.proofs.TreeLaws.{block_seen, arm_seen}
 use Rattle.isle_serialize.specs.declared.serialize.MatchArm.{MatchArm, MatchArm', out-MatchArm, roll-out-MatchArm}
-use Rattle.isle_serialize.specs.TreeViews.{tree_view, check_view, arm_view, steps_view, arms_view}
-use Rattle.isle_reading.specs.Walks.{Passed, met, Place, steps_from, steps_inside, steps_of_arms}
-
-abbrev at_step : List Passed → EvalStep → Place
-at_step path x = record { path = path; binds = x.bind_order.items; check = check_view x.check }
-
-regrouped : (before inside rest : List Place) (p : Place) → ((before ++ p ∷ []) ++ inside) ++ rest ≡ before ++ (p ∷ (inside ++ rest))
-regrouped before inside rest p = append_assoc (before ++ p ∷ []) inside rest ∙ append_assoc before (p ∷ []) (inside ++ rest)
-
--- one more step of a block, with what is inside it
-pub step_more : (path : List Passed) (xs : List EvalStep) (i : ℕ) (x : EvalStep) (before mid after whole : List Place) → i < length xs → x ≡ get_or xs i x
-    → mid ≡ before ++ at_step path x ∷ [] → after ≡ mid ++ steps_inside path (check_view x.check)
-    → before ++ steps_from path (steps_view (drop i xs)) ≡ whole → after ++ steps_from path (steps_view (drop (i + 1) xs)) ≡ whole
-step_more path xs i x before mid after whole h at m a inv =
-    let rest = steps_from path (steps_view (drop (i + 1) xs)) in
-    let inside = steps_inside path (check_view x.check) in
-    ap (λ (l : List Place). l ++ rest) (a ∙ ap (λ (l : List Place). l ++ inside) m)
-    ∙ regrouped before inside rest (at_step path x)
-    ∙ ap (λ (l : List Place). before ++ l)
-    (ap (λ (y : EvalStep). at_step path y ∷ (steps_inside path (check_view y.check) ++ rest)) at ∙ sym (at_drop_more (λ (l : List EvalStep). steps_from path (steps_view l)) xs i x h))
-    ∙ inv
-
-pub steps_end : (path : List Passed) (xs : List EvalStep) (i : ℕ) (before whole : List Place) → length xs ≤ i
-    → before ++ steps_from path (steps_view (drop i xs)) ≡ whole → before ≡ whole
-steps_end path xs i before whole h inv =
-    sym (append-nil before) ∙ ap (λ (l : List Place). before ++ l) (sym (at_drop_all (λ (l : List EvalStep). steps_from path (steps_view l)) xs i h)) ∙ inv
+use Rattle.isle_serialize.specs.TreeViews.{tree_view, arm_view, steps_view, arms_view}
+use Rattle.isle_reading.specs.Walks.{Passed, met, Place, steps_from, steps_of_arms}
 
 -- an arm before others
 arm_before : (path : List Passed) (source : ℕ) (a : MatchArm) (rest : Arms)
@@ -52,11 +27,6 @@ arm_more path source xs i x before after whole h at a inv =
     ∙ ap (λ (l : List Place). before ++ l)
     (sym (arm_before path source x rest) ∙ ap (λ (y : MatchArm). steps_of_arms path source (arm_view y rest)) at ∙ sym (at_drop_more (λ (l : List MatchArm). steps_of_arms path source (arms_view l)) xs i x h))
     ∙ inv
-
-pub arms_end : (path : List Passed) (source : ℕ) (xs : List MatchArm) (i : ℕ) (before whole : List Place) → length xs ≤ i
-    → before ++ steps_of_arms path source (arms_view (drop i xs)) ≡ whole → before ≡ whole
-arms_end path source xs i before whole h inv =
-    sym (append-nil before) ∙ ap (λ (l : List Place). before ++ l) (sym (at_drop_all (λ (l : List MatchArm). steps_of_arms path source (arms_view l)) xs i h)) ∙ inv
 
 -- an arm alone
 pub arm_alone : (path : List Passed) (source : ℕ) (a : MatchArm)
