@@ -8,7 +8,7 @@ ghost use Rattle.isle_serialize.specs.AroundViews.{around_view, after_uses, IsIn
 ghost use Rattle.isle_serialize.specs.Growing.{test_sites, test_emits, CanGrow, IsNext};
 ghost use Rattle.isle_serialize.specs.TestViews.{test_view, IsChosen};
 
-use crate::around::Around;
+use crate::around::{Around, known_of};
 use crate::binds::{bind_order, sources_of};
 use crate::fields::iterator_of;
 use crate::inside::after_step;
@@ -76,8 +76,9 @@ fn chosen_test(
     requires order { IsTrue (descend (set_view set.now).rules here.now) }
     ensures { IfOk result (λ o. IsChosen (set_view set.now) (around_view around.now) here.now (option_map test_view o)) }
 {
-    let tests = useful_tests(alloc, set, around, here)?;
-    match greatest_of(set, around, here, &tests) {
+    let known = known_of(alloc, around)?;
+    let tests = useful_tests(alloc, set, around, &known, here)?;
+    match greatest_of(set, around, &known, here, &tests) {
         Some(best) if best.score.count > 0 => Ok(Some(best.test)),
         _ => Ok(None),
     }
