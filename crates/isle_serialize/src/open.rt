@@ -1,6 +1,6 @@
 //! The open tests of a place that its highest rules need: all other open tests cover no rule.
 
-ghost use Rattle.std.specs.Prelude.{◌≡◌, ◌<◌, ◌==◌, ◌||◌, false, ℕ, IsTrue, Contains, IfOk, OnOk, slice_get};
+ghost use Rattle.std.specs.Prelude.{◌≡◌, ◌<◌, ◌==◌, ◌||◌, false, true, ℕ, IsTrue, Contains, IfOk, OnOk, slice_get};
 ghost use Rattle.std.specs.List.{list_any};
 ghost use Rattle.isle_base.specs.Stable.{contains};
 ghost use Rattle.isle_model.specs.sites.Sites.{sources_at};
@@ -147,14 +147,22 @@ fn is_open(
     }
 }
 
+// Whether a test is one of these.
+fn is_one_of(tests: &[Test], test: &Test) -> bool
+    ensures { result ≡ true → Contains tests.now test.now }
+{
+    tests.contains(test)
+}
+
 // Whether a test is among the earlier ones of these.
+#[tactic(auto, using(crate::proofs::Opening::in_first))]
 fn is_listed(tests: &[Test], earlier: usize, test: &Test) -> bool
     ensures { result ≡ true → Contains tests.now test.now }
 {
     if earlier < tests.len() {
-        return tests[..earlier].contains(test);
+        return is_one_of(&tests[..earlier], test);
     }
-    tests.contains(test)
+    is_one_of(tests, test)
 }
 
 // Adds a test, where it is open and isn't among the earlier ones.

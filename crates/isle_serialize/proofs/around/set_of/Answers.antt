@@ -4,6 +4,9 @@ use Rattle.isle_serialize.specs.AroundViews.{IsSetOf}
 use Rattle.isle_serialize.proofs.SiteSets.{set_more}
 use Rattle.isle_serialize.proofs.around.set_of.Goals as goal
 
+pub loop-site-init : goal.loop-site-init
+loop-site-init c = c.new-set.ensures.none
+
 pub loop-site-preserved : goal.loop-site-preserved
 loop-site-preserved c = set_more c.args.sites.now c.loop-site.site-index c.site-item.result c.loop-site.set c.insert.new.self c.loop-site-test.true c.site-item.is c.in_ok-insert.ensures.has c.loop-site.invariant
 

@@ -1,4 +1,4 @@
-use Rattle.std.proofs.Common.{◌∙◌, suc, [], refl, ap, arith}
+use Rattle.std.proofs.Common.{◌∙◌, suc, [], ap, arith}
 use Rattle.std.proofs.lemmas.List.{take_all}
 use Rattle.isle_model.specs.trees.Places.{each_after, listed_below}
 use Rattle.isle_sets.specs.SiteViews.{set_view}
@@ -9,7 +9,7 @@ use Rattle.isle_serialize.proofs.binds.all_listed.Goals as goal
 pub loop-site-init : goal.loop-site-init
 loop-site-init c = record {
   settled = settled_first c.args.emitted.now c.in_ok-settled.settled c.in_ok-settled.ensures;
-  listed = refl;
+  listed = c.new-listed.ensures.items;
 }
 
 pub loop-site-preserved : goal.loop-site-preserved

@@ -1,4 +1,5 @@
 use Rattle.std.proofs.Common.{◌≡◌, ◌<◌, ◌&&◌, length, sym, ap, ◌∙◌, arith, lt-ltb}
+use Rattle.std.proofs.lemmas.Bool.{false≢true}
 use Rattle.std.proofs.lemmas.List.{length-map}
 use Rattle.std.proofs.lemmas.Result.{IfOk-weaker}
 use Rattle.isle_model.specs.trees.Places.{available}
@@ -6,6 +7,9 @@ use Rattle.isle_model.specs.trees.Tests as Tests
 use Rattle.isle_sets.specs.SiteViews.{set_view, site_view}
 use Rattle.isle_serialize.specs.AroundViews.{around_view}
 use Rattle.isle_serialize.proofs.open.is_at_hand.Goals as goal
+
+pub comes_to_hand-requires : goal.comes_to_hand-requires
+comes_to_hand-requires c = record { sources = c.requires.sources; known = c.requires.known; found = λ s e. absurd (false≢true (sym (c.new-found.ensures.none s) ∙ e)) }
 
 pub returns : goal.returns
 returns c =
