@@ -8,4 +8,5 @@ returns c =
     let pairs = c.args.around.now.joined.items in
     let first : c.name_of.result ≡ class pairs c.args.a = c.name_of.ensures ∙ ap (λ l. name_in l c.args.a) c.deref.ensures.value ∙ c.requires.names c.args.a in
     let second : c.name_of-2.result ≡ class pairs c.args.b = c.name_of-2.ensures ∙ ap (λ l. name_in l c.args.b) c.deref-2.ensures.value ∙ c.requires.names c.args.b in
-    λ i. first i == second i
+    let same : (c.name_of.result == c.name_of-2.result) ≡ (class pairs c.args.a == class pairs c.args.b) = λ i. first i == second i in
+    c.eq.ensures ∙ same

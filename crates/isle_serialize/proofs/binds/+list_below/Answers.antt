@@ -11,7 +11,7 @@ pub list_below-requires : goal.list_below-requires
 list_below-requires t c =
     let there = subst (λ l. Contains l c.source-item.result) c.sources_of-source-items.ensures (c.loop-source.source-index, c.loop-source-test.true, sym c.source-item.is) in
     let smaller : c.source-item.result < c.args.site = c.requires.sources c.args.site c.source-item.result there in
-    (search (rules, arith, smaller), record { sources = c.requires.sources; settled = c.loop-source.invariant.settled })
+    (search (rules, arith, smaller), (c.requires.sources, c.loop-source.invariant.settled))
 
 pub loop-source-preserved : goal.loop-source-preserved
 loop-source-preserved t c =

@@ -1,14 +1,15 @@
-use Rattle.std.proofs.Common.{◌∙◌, suc, [], ap, arith}
+use Rattle.std.proofs.Common.{◌∙◌, suc, [], sym, ap, subst, arith}
 use Rattle.std.proofs.lemmas.List.{take_all}
 use Rattle.isle_model.specs.trees.Places.{each_after, listed_below}
 use Rattle.isle_sets.specs.SiteViews.{set_view}
+use Rattle.isle_serialize.specs.AroundViews.{AreSettled}
 use Rattle.isle_serialize.proofs.Listed.{each_more}
 use Rattle.isle_serialize.proofs.SiteSets.{settled_first}
 use Rattle.isle_serialize.proofs.binds.all_listed.Goals as goal
 
 pub loop-site-init : goal.loop-site-init
 loop-site-init c = record {
-  settled = settled_first c.args.emitted.now c.in_ok-settled.settled c.in_ok-settled.ensures;
+  settled = subst (λ l. AreSettled c.args.emitted.now l c.in_ok-settled.settled) (sym c.new-listed.ensures.items) (settled_first c.args.emitted.now c.in_ok-settled.settled c.in_ok-settled.ensures);
   listed = c.new-listed.ensures.items;
 }
 

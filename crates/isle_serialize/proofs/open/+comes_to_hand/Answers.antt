@@ -13,7 +13,7 @@ pub comes_to_hand-requires : goal.comes_to_hand-requires
 comes_to_hand-requires t c =
     let there = subst (λ l. Contains l c.source-item.result) c.sources_of-source-items.ensures (c.loop-source.source-index, c.loop-source-test.true, sym c.source-item.is) in
     let smaller : c.source-item.result < c.args.site = c.requires.sources c.args.site c.source-item.result there in
-    (search (rules, arith, smaller), record { sources = c.requires.sources; known = c.requires.known; found = c.loop-source.invariant.found })
+    (search (rules, arith, smaller), (c.requires.sources, (c.requires.known, c.loop-source.invariant.found)))
 
 pub loop-source-preserved : goal.loop-source-preserved
 loop-source-preserved t c =
