@@ -1,5 +1,5 @@
 -- Lists of open tests: one more, those of one more thing, and when all that may cover a rule are listed.
-use Rattle.std.proofs.Common.{◌≡◌, ℕ, ◌+◌, ◌<◌, true, false, ◌&&◌, ◌==◌, List, [], ◌∷◌, map, take, drop, get_or, length, is_some, Option, Some, None, Contains, slice_get, refl, sym, ap, ◌∙◌, subst, inl, inr, ◌⊎◌, eqb-true}
+use Rattle.std.proofs.Common.{◌≡◌, ℕ, ◌+◌, ◌<◌, true, ◌&&◌, ◌==◌, List, [], ◌∷◌, map, take, drop, get_or, length, is_some, Option, Some, None, Contains, slice_get, refl, sym, ap, ◌∙◌, subst, inl, inr, ◌⊎◌, eqb-true}
 use Rattle.std.specs.Global.{Vec}
 use Rattle.std.specs.List.{filter, list_any}
 use Rattle.std.proofs.lemmas.Bool.{cases_Bool, cond-false, and_parts, or_cases, false≢true}
