@@ -1,0 +1,3 @@
+pub mod ValueSteps
+pub mod ContentSteps
+pub mod EnvSteps

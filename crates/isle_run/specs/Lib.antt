@@ -1,0 +1,3 @@
+pub mod ValueViews
+pub mod RunBy
+pub mod RunViews
