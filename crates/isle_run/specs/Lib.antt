@@ -1,3 +1,2 @@
 pub mod ValueViews
-pub mod RunBy
 pub mod RunViews

@@ -1,15 +1,19 @@
 //! What sites are bound to, and what a site that is used holds.
 
-ghost use Rattle.std.specs.Prelude.{◌≡◌, [], false, IfOk, option_map};
+ghost use Rattle.std.specs.Prelude.{◌≡◌, IfOk, option_map};
+ghost use Rattle.isle_model.specs.rules.Meaning.{one};
+ghost use Rattle.isle_model.specs.rules.Values.{no_value, of_struct, of_variant};
 ghost use Rattle.isle_model.specs.trees.Run.{bound_to, part_at};
-ghost use Rattle.isle_sets.specs.SiteViews.{site_views, site_view};
-ghost use Rattle.isle_run.specs.RunBy.{in_place_by, used_by, used_value_by, used_values_by};
-ghost use Rattle.isle_run.specs.RunViews.{env_view, arg_views, stage_of};
+ghost use Rattle.isle_laws_functions.specs.RunBy.{in_place_by, used_by, used_value_by, used_values_by};
+ghost use Rattle.isle_sets.specs.SiteViews.{site_view};
+ghost use Rattle.isle_run.specs.RunViews.{env_view, stage_of};
 ghost use Rattle.isle_run.specs.ValueViews.{value_view, value_views, content_view};
 
 use crate::externs::Externs;
+use crate::state::Stage;
 use crate::values::{Content, Value};
 use isle_sets::trie_again::{Binding, BindingId};
+use isle_types::{TypeId, VariantId};
 use std::alloc::{AllocError, Global};
 
 /// The content that a site was bound to last.
@@ -25,47 +29,6 @@ pub fn bound<'a>(env: &'a [(BindingId, Content)], site: BindingId) -> Option<&'a
     found
 }
 
-/// The content of a site that is written in place.
-fn in_place<E: Externs>(
-    alloc: Global,
-    externs: &E,
-    args: &[Value],
-    env: &[(BindingId, Content)],
-    binding: &Binding,
-) -> Result<Option<Content>, AllocError>
-    ensures { IfOk result (λ o. option_map content_view o ≡ in_place_by (stage_of [] (arg_views args.now) (E.answers externs.now) false) (env_view env.now) (site_view binding.now)) }
-{
-    match binding {
-        Binding::ConstInt { val, ty } => {
-            Ok(Some(Content::One(externs.int_literal(alloc, *val, *ty)?)))
-        }
-        Binding::ConstPrim { val } => Ok(Some(Content::One(externs.constant(alloc, *val)?))),
-        Binding::Argument { index } => match args.get(index.index()) {
-            Some(value) => Ok(Some(Content::One(value.clone()?))),
-            None => Ok(None),
-        },
-        Binding::MatchTuple { source, field } => match bound(env, *source) {
-            Some(content) => part(content, field.index()),
-            None => Ok(None),
-        },
-        Binding::MakeVariant {
-            ty,
-            variant,
-            fields,
-        } => Ok(if fields.is_empty() {
-            Some(Content::One(Value::Variant(*ty, *variant, Vec::new(alloc))))
-        } else {
-            None
-        }),
-        Binding::MakeStruct { ty, fields } => Ok(if fields.is_empty() {
-            Some(Content::One(Value::Struct(*ty, Vec::new(alloc))))
-        } else {
-            None
-        }),
-        _ => Ok(None),
-    }
-}
-
 /// A part of a content that has parts.
 pub fn part(content: &Content, place: usize) -> Result<Option<Content>, AllocError>
     ensures { IfOk result (λ o. option_map content_view o ≡ part_at (content_view content.now) place) }
@@ -79,21 +42,73 @@ pub fn part(content: &Content, place: usize) -> Result<Option<Content>, AllocErr
     }
 }
 
+// A variant without fields.
+fn lone_variant(alloc: Global, ty: TypeId, variant: VariantId) -> Content
+    ensures { content_view result ≡ one (of_variant ty.0 variant.0 no_value) }
+{
+    Content::One(Value::Variant(ty, variant, Vec::new(alloc)))
+}
+
+// A struct without fields.
+fn lone_struct(alloc: Global, ty: TypeId) -> Content
+    ensures { content_view result ≡ one (of_struct ty.0 no_value) }
+{
+    Content::One(Value::Struct(ty, Vec::new(alloc)))
+}
+
+/// The content of a site that is written in place.
+pub fn in_place<E: Externs>(
+    stage: &Stage<'_, E>,
+    env: &[(BindingId, Content)],
+    binding: &Binding,
+) -> Result<Option<Content>, AllocError>
+    ensures { IfOk result (λ o. option_map content_view o ≡ in_place_by (stage_of (E.functions stage.now.externs.now) stage.now.sites.now stage.now.multi stage.now.args.now) (env_view env.now) (site_view binding.now)) }
+{
+    match binding {
+        Binding::ConstInt { val, ty } => {
+            Ok(Some(Content::One(stage.externs.int_literal(stage.alloc, *val, *ty)?)))
+        }
+        Binding::ConstPrim { val } => {
+            Ok(Some(Content::One(stage.externs.constant(stage.alloc, *val)?)))
+        }
+        Binding::Argument { index } => match stage.args.get(index.index()) {
+            Some(value) => Ok(Some(Content::One(value.clone()?))),
+            None => Ok(None),
+        },
+        Binding::MatchTuple { source, field } => match bound(env, *source) {
+            Some(content) => part(content, field.index()),
+            None => Ok(None),
+        },
+        Binding::MakeVariant {
+            ty,
+            variant,
+            fields,
+        } => Ok(if fields.is_empty() {
+            Some(lone_variant(stage.alloc, *ty, *variant))
+        } else {
+            None
+        }),
+        Binding::MakeStruct { ty, fields } => Ok(if fields.is_empty() {
+            Some(lone_struct(stage.alloc, *ty))
+        } else {
+            None
+        }),
+        _ => Ok(None),
+    }
+}
+
 /// What a site holds that is used: what it is bound to, or what is written in place.
 pub fn used<E: Externs>(
-    alloc: Global,
-    externs: &E,
-    sites: &[Binding],
-    args: &[Value],
+    stage: &Stage<'_, E>,
     env: &[(BindingId, Content)],
     site: BindingId,
 ) -> Result<Option<Content>, AllocError>
-    ensures { IfOk result (λ o. option_map content_view o ≡ used_by (stage_of (site_views sites.now) (arg_views args.now) (E.answers externs.now) false) (env_view env.now) site) }
+    ensures { IfOk result (λ o. option_map content_view o ≡ used_by (stage_of (E.functions stage.now.externs.now) stage.now.sites.now stage.now.multi stage.now.args.now) (env_view env.now) site) }
 {
     match bound(env, site) {
         Some(content) => Ok(Some(content.clone()?)),
-        None => match sites.get(site.index()) {
-            Some(binding) => in_place(alloc, externs, args, env, binding),
+        None => match stage.sites.get(site.index()) {
+            Some(binding) => in_place(stage, env, binding),
             None => Ok(None),
         },
     }
@@ -101,16 +116,13 @@ pub fn used<E: Externs>(
 
 /// The value that a site holds, where it holds one.
 pub fn used_value<E: Externs>(
-    alloc: Global,
-    externs: &E,
-    sites: &[Binding],
-    args: &[Value],
+    stage: &Stage<'_, E>,
     env: &[(BindingId, Content)],
     site: BindingId,
 ) -> Result<Option<Value>, AllocError>
-    ensures { IfOk result (λ o. option_map value_view o ≡ used_value_by (stage_of (site_views sites.now) (arg_views args.now) (E.answers externs.now) false) (env_view env.now) site) }
+    ensures { IfOk result (λ o. option_map value_view o ≡ used_value_by (stage_of (E.functions stage.now.externs.now) stage.now.sites.now stage.now.multi stage.now.args.now) (env_view env.now) site) }
 {
-    match used(alloc, externs, sites, args, env, site)? {
+    match used(stage, env, site)? {
         Some(content) => Ok(content.into_value()),
         None => Ok(None),
     }
@@ -118,18 +130,15 @@ pub fn used_value<E: Externs>(
 
 /// The values that sites hold, where each of them holds one.
 pub fn used_values<E: Externs>(
-    alloc: Global,
-    externs: &E,
-    sites: &[Binding],
-    args: &[Value],
+    stage: &Stage<'_, E>,
     env: &[(BindingId, Content)],
     wanted: &[BindingId],
 ) -> Result<Option<Vec<Value>>, AllocError>
-    ensures { IfOk result (λ o. option_map (λ vs. value_views vs.items) o ≡ used_values_by (stage_of (site_views sites.now) (arg_views args.now) (E.answers externs.now) false) (env_view env.now) wanted.now) }
+    ensures { IfOk result (λ o. option_map (λ vs. value_views vs.items) o ≡ used_values_by (stage_of (E.functions stage.now.externs.now) stage.now.sites.now stage.now.multi stage.now.args.now) (env_view env.now) wanted.now) }
 {
-    let mut out = Vec::new(alloc);
+    let mut out = Vec::new(stage.alloc);
     for site in wanted {
-        match used_value(alloc, externs, sites, args, env, *site)? {
+        match used_value(stage, env, *site)? {
             Some(value) => out.push(value)?,
             None => return Ok(None),
         }

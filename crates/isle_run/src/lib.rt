@@ -2,6 +2,9 @@
 #![tactic(auto, using(crate::proofs::ValueSteps::value_steps, crate::proofs::ContentSteps::content_steps))]
 
 pub mod values;
-pub mod env;
 pub mod externs;
 pub mod state;
+pub mod env;
+pub mod binds;
+pub mod fields;
+pub mod run;

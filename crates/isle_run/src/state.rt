@@ -1,53 +1,16 @@
-//! Where a run stands, and how it ends.
+//! What a run works with, where it stands, and how it ends.
 
+ghost use Rattle.std.specs.Prelude.{◌≡◌};
 
 use crate::values::{Content, Value};
-use isle_sets::trie_again::{Binding, BindingId};
+use isle_sets::trie_again::Binding;
 use isle_types::TermId;
 use std::alloc::Global;
 
-/// An impure call that was made.
-#[derive(Drop)]
-pub struct Call {
-    /// The term.
-    pub term: TermId,
-    /// What was handed to it.
-    pub args: Vec<Value>,
-}
-
-/// How a run ends.
-#[derive(Clone, Copy, PartialEq, Eq, Debug)]
-pub enum Ending {
-    /// A result ended it.
-    Ended,
-    /// A call that must answer answered nothing.
-    Failed,
-    /// It ran through: no rule matches, or the term is multi.
-    RanThrough,
-    /// A site holds nothing of the form that is used.
-    Stuck,
-}
-
-/// The impure calls that were made, in order, and the results given, in order.
-#[derive(Drop)]
-pub struct Trace {
-    /// The calls.
-    pub calls: Vec<Call>,
-    /// The results.
-    pub results: Vec<Content>,
-}
-
-/// What a run comes to.
-#[derive(Drop)]
-pub struct Outcome {
-    /// The calls and results.
-    pub trace: Trace,
-    /// How it ends.
-    pub ending: Ending,
-}
-
 /// What a run works with.
 pub struct Stage<'a, E> {
+    /// Where memory is asked of.
+    pub alloc: Global,
     /// What is called.
     pub externs: &'a E,
     /// The sites of the tree's set.
@@ -58,5 +21,106 @@ pub struct Stage<'a, E> {
     pub multi: bool,
 }
 
-/// The sites that are bound, the last one last.
-pub type Bounds = Vec<(BindingId, Content)>;
+impl<E> Drop for Stage<'_, E> {
+    fn drop(self) {
+        let Self {
+            alloc: _,
+            externs: _,
+            sites: _,
+            args: _,
+            multi: _,
+        } = self;
+    }
+}
+
+/// An impure call that was made.
+pub struct Call {
+    /// The term.
+    pub term: TermId,
+    /// What was handed to it.
+    pub args: Vec<Value>,
+}
+
+impl Drop for Call {
+    fn drop(self) {
+        let Self { term: _, args: _ } = self;
+    }
+}
+
+/// How a run ends.
+#[derive(Clone, Copy, PartialEq, Eq, Debug)]
+pub enum Ending {
+    /// A result ended it.
+    Ended,
+    /// An unwrap found nothing: a call that must answer failed.
+    Failed,
+    /// It ran through: no rule matches, or the term is multi.
+    RanThrough,
+    /// A site holds nothing of the form that is used.
+    Stuck,
+}
+
+/// The impure calls that were made, in order, and the results given, in order.
+pub struct Trace {
+    /// The calls.
+    pub calls: Vec<Call>,
+    /// The results.
+    pub results: Vec<Content>,
+}
+
+impl Drop for Trace {
+    fn drop(self) {
+        let Self {
+            calls: _,
+            results: _,
+        } = self;
+    }
+}
+
+/// What a run comes to.
+pub struct Outcome {
+    /// The calls and results.
+    pub trace: Trace,
+    /// How it ends.
+    pub ending: Ending,
+}
+
+impl Drop for Outcome {
+    fn drop(self) {
+        let Self {
+            trace: _,
+            ending: _,
+        } = self;
+    }
+}
+
+/// What a site was found to hold.
+pub enum Found {
+    /// A content.
+    There(Content),
+    /// Nothing, since an unwrap found nothing.
+    Failed,
+    /// Nothing of the form that is used.
+    Missing,
+}
+
+impl Drop for Found {
+    fn drop(self) {
+        match self {
+            Found::There(_) => {}
+            Found::Failed => {}
+            Found::Missing => {}
+        }
+    }
+}
+
+/// How binding sites ends.
+#[derive(Clone, Copy, PartialEq, Eq, Debug)]
+pub enum Bound {
+    /// All are bound.
+    All,
+    /// An unwrap found nothing.
+    Failed,
+    /// A site holds nothing of the form that is used.
+    Missing,
+}

@@ -67,15 +67,15 @@ pub fn value_clones(alloc: Global, parts: &[Value]) -> Result<Vec<Value>, AllocE
     Ok(out)
 }
 
-// Whether two types are the same.
-fn same_type(s: TypeId, t: TypeId) -> bool
+/// Whether two types are the same.
+pub fn same_type(s: TypeId, t: TypeId) -> bool
     ensures { result ≡ (s.0 == t.0) }
 {
     s.index() == t.index()
 }
 
-// Whether two variants are the same.
-fn same_variant(s: TypeId, i: VariantId, t: TypeId, j: VariantId) -> bool
+/// Whether two variants are the same.
+pub fn same_variant(s: TypeId, i: VariantId, t: TypeId, j: VariantId) -> bool
     ensures { result ≡ ((s.0 == t.0) && (i.0 == j.0)) }
 {
     s.index() == t.index() && i.index() == j.index()
