@@ -30,7 +30,7 @@ abbrev mutual
 
   pub constants_in_arms : Arms → List SiteTerm
   constants_in_arms no_arm = []
-  constants_in_arms (arm constraint fields body rest) = constant_site constraint ++ constants_in body ++ constants_in_arms rest
+  constants_in_arms (arm constraint fields body rest) = constant_site constraint ++ (constants_in body ++ constants_in_arms rest)
 
 -- a meaning has a value for each of them
 abbrev pub HasConstants : Meaning → Tree → Type 0

@@ -7,7 +7,7 @@ use Rattle.isle_run.specs.declared.values.Content as C
 use Rattle.isle_run.specs.declared.values.Content.{Content}
 use Rattle.isle_model.specs.rules.Values.{listed, Values, no_value, value_and}
 use Rattle.isle_model.specs.rules.Outcome.{then_option}
-use Rattle.isle_run.specs.RunBy.{Stage, used_value_by, used_values_by}
+use Rattle.isle_laws_functions.specs.RunBy.{Stage, used_value_by, used_values_by}
 use Rattle.isle_run.proofs.ValueSteps.{before, before-push, before-none}
 use Rattle.isle_model.specs.rules.Meaning as M
 use Rattle.isle_model.specs.trees.Run.{Env, bound_to, part_at, from_value}
