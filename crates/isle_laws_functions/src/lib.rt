@@ -15,7 +15,6 @@ pub fn runs_as_under_meanings()
 
 /// In a term that isn't multi, by well-typed functions that tell constants apart, a tree that runs as chosen comes to the
 /// outcome of the matching source rule of greatest priority.
-#[tactic(auto, using(crate::proofs::Choosing::runs_by_functions_as_chosen_lem))]
 pub fn runs_by_functions_as_chosen()
     ensures { RunsByFunctionsAsChosen }
 {}
