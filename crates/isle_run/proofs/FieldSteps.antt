@@ -15,8 +15,8 @@ use Rattle.isle_run.specs.ValueViews.{value_view, value_views, content_view, con
 abbrev ones : List Value → List M.Content
 ones vs = all_one (listed (value_views vs))
 
-pub ones_start : (out values : List Value) (made : List Content) → made ≡ [] → content_list made ++ ones values ≡ ones values
-ones_start out values made is = ap (λ l. content_list l ++ ones values) is
+pub ones_start : (values : List Value) (made : List Content) → made ≡ [] → content_list made ++ ones values ≡ ones values
+ones_start values made is = ap (λ l. content_list l ++ ones values) is
 
 pub ones_more : (out new : List Content) (values : List Value) (v x : Value) (i : ℕ) (whole : List M.Content) → i < length values → x ≡ get_or values i x → value_view v ≡ value_view x → new ≡ out ++ C.One v ∷ []
     → content_list out ++ ones (drop i values) ≡ whole → content_list new ++ ones (drop (i + 1) values) ≡ whole

@@ -9,9 +9,9 @@ use Rattle.isle_model.specs.rules.Outcome.{Outcome, then_option}
 use Rattle.isle_model.specs.trees.Trees.{Tree, no_step, step, Check, match_at, equal_at, loop_at, return_at, Arms, arm}
 use Rattle.isle_model.specs.trees.Run.{Env, Trace, Bound, all_bound, unwrap_failed, no_content_there, ending_at, with_calls, on_bound, on_ending, or_next, with_env, with_content, on_met, on_equal, for_each, on_many, iterated, returned, bind_fields}
 use Rattle.isle_serialize.specs.declared.serialize.EvalStep.{EvalStep}
-use Rattle.isle_serialize.specs.declared.serialize.Block.{Block, Block', out-Block}
+use Rattle.isle_serialize.specs.declared.serialize.Block.{Block, Block', out-Block, Row_of-EvalStep, end_of-EvalStep, more_of-EvalStep, items-the_row-EvalStep}
 use Rattle.isle_serialize.specs.declared.serialize.MatchArm.{MatchArm, MatchArm', out-MatchArm}
-use Rattle.isle_serialize.specs.TreeViews.{tree_view, check_view, arm_view, steps_view, arms_view}
+use Rattle.isle_serialize.specs.TreeViews.{tree_view, row_steps, check_view, arm_view, steps_view, arms_view}
 use Rattle.isle_sets.specs.SiteViews.{constraint_view}
 use Rattle.isle_laws_functions.specs.RunBy.{Stage, used_by, used_value_by, bind_all_by, content_fields_by, run_tree_by, run_check_by, run_arms_by}
 use Rattle.isle_laws_functions.proofs.Equations.{no_step_by, step_by, match_by, equal_by, loop_by, return_by, no_arm_by, arm_by}
@@ -21,6 +21,16 @@ use Rattle.isle_run.specs.declared.state.Ending.TheVariants.{Ended, Failed, RanT
 use Rattle.isle_run.specs.declared.state.Trace as T
 use Rattle.isle_run.specs.RunViews.{content_list, ending_view, is_through, outcome_at, trace_view, equal_by, many_by}
 use Rattle.isle_run.specs.ValueViews.{content_view}
+
+-- 0. the steps of a block
+row_steps_items : {m : _} (r : Row_of-EvalStep m) → row_steps r ≡ steps_view (items-the_row-EvalStep m r)
+unfolding row_steps
+row_steps_items end_of-EvalStep = refl
+row_steps_items (more_of-EvalStep binds check rest) = ap (step binds.items (check_view check)) (row_steps_items rest)
+
+pub block_is : (b : Block) → tree_view b ≡ steps_view (out-Block b).steps.items
+unfolding tree_view out-Block
+block_is (Block' shape rows) = row_steps_items rows
 
 -- 1. how steps end
 pub through : (e : E.Ending) (t : Trace) (go : Trace → Outcome) → is_through e ≡ true → on_ending (ending_view e) t go ≡ go t

@@ -29,29 +29,16 @@ fn there(content: Option<Content>) -> Found
     }
 }
 
-// What is in a content that is there.
-fn unwrap(content: Content) -> Found
-    ensures { (env : Env) (calls : _) (s : ℕ) → found_view result env calls s ≡ unwrapped env calls s (Some (content_view content)) }
-{
-    match content {
-        Content::One(_) => Found::Missing,
-        Content::Parts(_) => Found::Missing,
-        Content::Nothing => Found::Failed,
-        Content::Just(inner) => Found::There(Box::into_inner(inner)),
-        Content::Many(_) => Found::Missing,
-    }
-}
-
 // What is in the content of a site that is used.
 fn unwrap_used<E: Externs>(
     stage: &Stage<'_, E>,
     env: &[(BindingId, Content)],
     source: BindingId,
 ) -> Result<Found, AllocError>
-    ensures { IfOk result (λ f. (env' : Env) (calls : _) (s : ℕ) → found_view f env' calls s ≡ unwrapped env' calls s (used_by (stage_of (E.functions stage.now.externs.now) stage.now.sites.now stage.now.multi stage.now.args.now) (env_view env.now) source)) }
+    ensures { IfOk result (λ f. (around : Env) (calls : _) (s : ℕ) → found_view f around calls s ≡ unwrapped around calls s (used_by (stage_of (E.functions stage.now.externs.now) stage.now.sites.now stage.now.multi stage.now.args.now) (env_view env.now) source)) }
 {
     match used(stage, env, source)? {
-        Some(content) => Ok(unwrap(content)),
+        Some(content) => Ok(content.unwrapped()),
         None => Ok(Found::Missing),
     }
 }
@@ -174,7 +161,7 @@ fn constructed<E: Externs>(
     parameters: &[BindingId],
     instance: u32,
 ) -> Result<Option<Content>, AllocError>
-    ensures { IfOk result (λ o. (env' : Env) (s : ℕ) → now_bound env' (call_views calls.new.items) s (option_map content_view o) ≡ constructed_by (stage_of (E.functions stage.now.externs.now) stage.now.sites.now stage.now.multi stage.now.args.now) env' (call_views calls.old.items) s term.0 instance (used_values_by (stage_of (E.functions stage.now.externs.now) stage.now.sites.now stage.now.multi stage.now.args.now) (env_view env.now) parameters.now)) }
+    ensures { IfOk result (λ o. (around : Env) (s : ℕ) → now_bound around (call_views calls.new.items) s (option_map content_view o) ≡ constructed_by (stage_of (E.functions stage.now.externs.now) stage.now.sites.now stage.now.multi stage.now.args.now) around (call_views calls.old.items) s term.0 instance (used_values_by (stage_of (E.functions stage.now.externs.now) stage.now.sites.now stage.now.multi stage.now.args.now) (env_view env.now) parameters.now)) }
 {
     match used_values(stage, env, parameters)? {
         Some(args) => Ok(Some(called(stage, calls, term, args, instance)?)),
@@ -229,12 +216,12 @@ fn found<E: Externs>(
 fn bind(
     env: &mut Vec<(BindingId, Content)>,
     site: BindingId,
-    found: Found,
+    held: Found,
 ) -> Result<Bound, AllocError>
-    ensures bound { IfOk result (λ b. (calls : _) → bound_view b (env_view env.new.items) calls ≡ found_view found (env_view env.old.items) calls site) }
+    ensures bound { IfOk result (λ b. (calls : _) → bound_view b (env_view env.new.items) calls ≡ found_view held (env_view env.old.items) calls site) }
     ensures kept { IfOk result (λ b. Begins env.old.items env.new.items) }
 {
-    match found {
+    match held {
         Found::There(content) => {
             env.push((site, content))?;
             Ok(Bound::All)
@@ -256,8 +243,8 @@ fn bind_site<E: Externs>(
 {
     match stage.sites.get(site.index()) {
         Some(binding) => {
-            let found = found(stage, env, calls, binding)?;
-            bind(env, site, found)
+            let held = found(stage, env, calls, binding)?;
+            bind(env, site, held)
         }
         None => Ok(Bound::Missing),
     }

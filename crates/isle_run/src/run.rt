@@ -51,19 +51,6 @@ fn call_of(binding: &Binding) -> Option<BindingId>
     }
 }
 
-// The answers of a content that has several.
-fn answers(content: Content) -> Option<Vec<Content>>
-    ensures { option_map (λ v. content_list v.items) result ≡ many_by (Some (content_view content)) }
-{
-    match content {
-        Content::One(_) => None,
-        Content::Parts(_) => None,
-        Content::Nothing => None,
-        Content::Just(_) => None,
-        Content::Many(answers) => Some(answers),
-    }
-}
-
 // The answers of the call that a loop of a site goes over.
 fn gone_over<E: Externs>(
     stage: &Stage<'_, E>,
@@ -79,7 +66,7 @@ fn gone_over<E: Externs>(
         return Ok(None);
     };
     match used(stage, env, call)? {
-        Some(content) => Ok(answers(content)),
+        Some(content) => Ok(content.into_answers()),
         None => Ok(None),
     }
 }
@@ -231,7 +218,7 @@ fn run_arm<E: Externs>(
     env: &mut Vec<(BindingId, Content)>,
     trace: &mut Trace,
 ) -> Result<Ending, AllocError>
-    ensures ran { IfOk result (λ e. outcome_at e trace.new ≡ with_env (Run.bind_fields (out-MatchArm arm.now).bindings.items (content_list fields.now) (env_view env.old.items)) (trace_view trace.old) (λ env'. run_tree_by (tree_view (out-MatchArm arm.now).body) (stage_of (E.functions stage.now.externs.now) stage.now.sites.now stage.now.multi stage.now.args.now) env' (trace_view trace.old))) }
+    ensures ran { IfOk result (λ e. outcome_at e trace.new ≡ with_env (Run.bind_fields (out-MatchArm arm.now).bindings.items (content_list fields.now) (env_view env.old.items)) (trace_view trace.old) (λ inside. run_tree_by (tree_view (out-MatchArm arm.now).body) (stage_of (E.functions stage.now.externs.now) stage.now.sites.now stage.now.multi stage.now.args.now) inside (trace_view trace.old))) }
     ensures kept { IfOk result (λ e. Begins env.old.items env.new.items) }
 {
     if bind_fields(env, &arm.bindings, fields)? {
@@ -271,7 +258,7 @@ fn run_each<E: Externs>(
     env: &mut Vec<(BindingId, Content)>,
     trace: &mut Trace,
 ) -> Result<Ending, AllocError>
-    ensures ran { IfOk result (λ e. outcome_at e trace.new ≡ for_each (content_list contents.now) (λ c t'. run_tree_by (tree_view body.now) (stage_of (E.functions stage.now.externs.now) stage.now.sites.now stage.now.multi stage.now.args.now) ((site, c) ∷ env_view env.old.items) t') (trace_view trace.old)) }
+    ensures ran { IfOk result (λ e. outcome_at e trace.new ≡ for_each (content_list contents.now) (λ c after. run_tree_by (tree_view body.now) (stage_of (E.functions stage.now.externs.now) stage.now.sites.now stage.now.multi stage.now.args.now) ((site, c) ∷ env_view env.old.items) after) (trace_view trace.old)) }
     ensures kept { IfOk result (λ e. env.new.items ≡ env.old.items) }
 {
     for content in contents {

@@ -95,6 +95,7 @@ impl Drop for Outcome {
 }
 
 /// What a site was found to hold.
+#[derive(Drop)]
 pub enum Found {
     /// A content.
     There(Content),
@@ -102,16 +103,6 @@ pub enum Found {
     Failed,
     /// Nothing of the form that is used.
     Missing,
-}
-
-impl Drop for Found {
-    fn drop(self) {
-        match self {
-            Found::There(_) => {}
-            Found::Failed => {}
-            Found::Missing => {}
-        }
-    }
 }
 
 /// How binding sites ends.

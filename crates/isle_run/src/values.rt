@@ -1,11 +1,13 @@
 //! Values, and what sites hold.
 
-ghost use Rattle.std.specs.Prelude.{◌≡◌, ◌&&◌, IfOk, option_map};
+ghost use Rattle.std.specs.Prelude.{◌≡◌, ◌&&◌, ℕ, IfOk, Some, option_map};
 ghost use Rattle.std.specs.Bool.{◌==◌};
 ghost use Rattle.isle_model.specs.rules.Values.{value_eq, values_eq};
 ghost use Rattle.isle_run.specs.ValueViews.{value_view, value_views, content_view, content_views};
-ghost use Rattle.isle_model.specs.trees.Run.{as_value};
+ghost use Rattle.isle_model.specs.trees.Run.{Env, as_value, unwrapped};
+ghost use Rattle.isle_run.specs.RunViews.{content_list, found_view, many_by};
 
+use crate::state::Found;
 use isle_types::{TypeId, VariantId};
 use std::alloc::{AllocError, Global};
 
@@ -164,6 +166,32 @@ impl Content {
             Content::Nothing => None,
             Content::Just(_) => None,
             Content::Many(_) => None,
+        }
+    }
+
+    /// The answers of a multi call, if it is such.
+    pub fn into_answers(self) -> Option<Vec<Content>>
+        ensures { option_map (λ v. content_list v.items) result ≡ many_by (Some (content_view self)) }
+    {
+        match self {
+            Content::One(_) => None,
+            Content::Parts(_) => None,
+            Content::Nothing => None,
+            Content::Just(_) => None,
+            Content::Many(answers) => Some(answers),
+        }
+    }
+
+    /// What is in a content that is there; an unwrap of nothing fails.
+    pub fn unwrapped(self) -> Found
+        ensures { (env : Env) (calls : _) (s : ℕ) → found_view result env calls s ≡ unwrapped env calls s (Some (content_view self)) }
+    {
+        match self {
+            Content::One(_) => Found::Missing,
+            Content::Parts(_) => Found::Missing,
+            Content::Nothing => Found::Failed,
+            Content::Just(inner) => Found::There(Box::into_inner(inner)),
+            Content::Many(_) => Found::Missing,
         }
     }
 }
