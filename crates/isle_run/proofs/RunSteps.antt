@@ -1,5 +1,5 @@
 -- A run's steps, by their views.
-use Rattle.std.proofs.Common.{◌≡◌, ℕ, zero, suc, Bool, true, false, ◌+◌, ◌<◌, ◌≤◌, List, [], ◌∷◌, ◌++◌, length, get_or, drop, map, Option, Some, None, option_map, slice_get, refl, sym, ap, ◌∙◌, subst}
+use Rattle.std.proofs.Common.{◌≡◌, ℕ, zero, suc, Bool, true, false, ◌+◌, ◌<◌, ◌≤◌, if◌then◌else◌, List, [], ◌∷◌, ◌++◌, length, get_or, drop, map, Option, Some, None, option_map, slice_get, refl, sym, ap, ◌∙◌, subst}
 use Rattle.std.proofs.lemmas.Bool.{false≢true}
 use Rattle.std.proofs.lemmas.List.{at_drop_more, at_drop_all, map-append}
 use Rattle.isle_model.specs.rules.Meaning as M
@@ -19,7 +19,7 @@ use Rattle.isle_run.specs.declared.values.Content.{Content}
 use Rattle.isle_run.specs.declared.state.Ending as E
 use Rattle.isle_run.specs.declared.state.Ending.TheVariants.{Ended, Failed, RanThrough, Stuck}
 use Rattle.isle_run.specs.declared.state.Trace as T
-use Rattle.isle_run.specs.RunViews.{content_list, ending_view, is_through, outcome_at, trace_view, equal_by, many_by}
+use Rattle.isle_run.specs.RunViews.{content_list, ending_view, is_through, outcome_at, trace_view, equality_by, many_by}
 use Rattle.isle_run.specs.ValueViews.{content_view}
 
 -- 0. the steps of a block
@@ -128,17 +128,18 @@ module _ (w : Stage) where
   on_test (Some true) t body = body
   on_test (Some false) t body = ending_at O.ran_through t
 
-  tested : (o q : Option Values.Value) (t : Trace) (body : Outcome) → on_test (equal_by o q) t body ≡ on_equal o q t body
+  test_is : (b : Bool) (t : Trace) (body : Outcome) → on_test (Some b) t body ≡ (if b then body else ending_at O.ran_through t)
+  test_is true t body = refl
+  test_is false t body = refl
+
+  tested : (o q : Option Values.Value) (t : Trace) (body : Outcome) → on_test (equality_by o q) t body ≡ on_equal o q t body
   tested None q t body = refl
   tested (Some v) None t body = refl
-  tested (Some v) (Some u) t body = elim (Values.value_eq v u) as (λ b. on_test (Some b) t body ≡ (elim b [ true ↦ body | false ↦ ending_at O.ran_through t ])) [ true ↦ refl | false ↦ refl ]
+  tested (Some v) (Some u) t body = test_is (Values.value_eq v u) t body
 
-  pub equal_ran : (a b : ℕ) (body : Tree) (env : Env) (t : Trace) (o : Outcome) (q : Option Bool) → q ≡ equal_by (used_value_by w env a) (used_value_by w env b) → o ≡ on_test q t (run_tree_by body w env t) → o ≡ run_check_by (equal_at a b body) w env t
+  pub equal_ran : (a b : ℕ) (body : Tree) (env : Env) (t : Trace) (o : Outcome) (q : Option Bool) → q ≡ equality_by (used_value_by w env a) (used_value_by w env b) → o ≡ on_test q t (run_tree_by body w env t) → o ≡ run_check_by (equal_at a b body) w env t
   equal_ran a b body env t o q e is =
-      is ∙ ap (λ z. on_test z t (run_tree_by body w env t)) e ∙ tested (used_value_by w env a) (used_value_by w env b) t (run_tree_by body w env t) ∙ sym (equal_by' a b body env t)
-    where
-      equal_by' : (a b : ℕ) (body : Tree) (env : Env) (t : Trace) → run_check_by (equal_at a b body) w env t ≡ on_equal (used_value_by w env a) (used_value_by w env b) t (run_tree_by body w env t)
-      equal_by' a b body env t = equal_by w env t a b body
+      is ∙ ap (λ z. on_test z t (run_tree_by body w env t)) e ∙ tested (used_value_by w env a) (used_value_by w env b) t (run_tree_by body w env t) ∙ sym (equal_by w env t a b body)
 
   pub return_ran : (at : _) (result : ℕ) (env : Env) (t : Trace) (o : Outcome) → o ≡ with_content (used_by w env result) t (returned w.multi t) → o ≡ run_check_by (return_at at result) w env t
   return_ran at result env t o is = is ∙ sym (return_by w env t at result)

@@ -90,10 +90,10 @@ abbrev pub outcome_view : Outcome → O.Outcome
 outcome_view o = outcome_at o.ending o.trace
 
 -- whether two values are equal, where both are there
-abbrev pub equal_by : Option Values.Value → Option Values.Value → Option Bool
-equal_by None b = None
-equal_by (Some v) None = None
-equal_by (Some v) (Some w) = Some (value_eq v w)
+abbrev pub equality_by : Option Values.Value → Option Values.Value → Option Bool
+equality_by None b = None
+equality_by (Some v) None = None
+equality_by (Some v) (Some w) = Some (value_eq v w)
 
 -- the sites of fields, where each has a content
 abbrev pub if_bound : Bool → Env → Option Env

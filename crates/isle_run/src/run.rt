@@ -10,7 +10,7 @@ ghost use Rattle.isle_laws_functions.specs.RunBy.{run_arms_by, run_by, run_check
 ghost use Rattle.isle_serialize.specs.TreeViews.{arms_view, check_view, tree_view};
 ghost use Rattle.isle_serialize.specs.declared.serialize.MatchArm.{out-MatchArm};
 ghost use Rattle.isle_sets.specs.SiteViews.{site_view, site_views};
-ghost use Rattle.isle_run.specs.RunViews.{Begins, arg_views, content_list, ending_view, env_view, equal_by, is_through, many_by, outcome_at, outcome_view, stage_of, trace_view};
+ghost use Rattle.isle_run.specs.RunViews.{Begins, arg_views, content_list, ending_view, env_view, equality_by, is_through, many_by, outcome_at, outcome_view, stage_of, trace_view};
 ghost use Rattle.isle_run.specs.ValueViews.{content_view};
 
 use crate::binds::bind_all;
@@ -30,7 +30,7 @@ fn are_equal<E: Externs>(
     a: BindingId,
     b: BindingId,
 ) -> Result<Option<bool>, AllocError>
-    ensures { IfOk result (λ o. o ≡ equal_by (used_value_by (stage_of (E.functions stage.now.externs.now) stage.now.sites.now stage.now.multi stage.now.args.now) (env_view env.now) a) (used_value_by (stage_of (E.functions stage.now.externs.now) stage.now.sites.now stage.now.multi stage.now.args.now) (env_view env.now) b)) }
+    ensures { IfOk result (λ o. o ≡ equality_by (used_value_by (stage_of (E.functions stage.now.externs.now) stage.now.sites.now stage.now.multi stage.now.args.now) (env_view env.now) a) (used_value_by (stage_of (E.functions stage.now.externs.now) stage.now.sites.now stage.now.multi stage.now.args.now) (env_view env.now) b)) }
 {
     let Some(one) = used_value(stage, env, a)? else {
         return Ok(None);
