@@ -1,16 +1,14 @@
 -- By well-typed functions a tree that runs as chosen comes to the choice of a source rule.
-use Rattle.std.proofs.Common.{◌≡◌, ◌⊎◌, ℕ, Bool, true, false, List, [], ◌∷◌, ◌++◌, Option, Some, None, is_some, Contains, IsTrue, refl, sym, ap, ◌∙◌, subst, inl, inr}
-use Rattle.isle_model.specs.lists.Syntax.{Definition}
-use Rattle.isle_model.specs.lists.Elaborated.{TypedRules}
+use Rattle.std.proofs.Common.{◌≡◌, Bool, true, List, [], ◌++◌, Option, Some, None, is_some, sym, ap, ◌∙◌, subst, inl, inr}
 use Rattle.isle_model.specs.rules.Values.{Value}
 use Rattle.isle_model.specs.rules.Meaning.{Meaning}
 use Rattle.isle_model.specs.rules.Outcome.{stuck, Outcome}
 use Rattle.isle_model.specs.rules.Program.{Program, is_multi, is_partial, rules_of}
 use Rattle.isle_model.specs.rules.Matching.{Vars, matches}
 use Rattle.isle_model.specs.rules.RightSide.{Eval, gives, ends, eval, outcome_of}
-use Rattle.isle_model.specs.rules.Choice.{chosen, with_vars, outcome_of_rule, choice}
+use Rattle.isle_model.specs.rules.Choice.{chosen, with_vars, outcome_of_rule}
 use Rattle.isle_model.specs.rules.Typed.{TypedRule}
-use Rattle.isle_model.specs.sites.Sites.{Site, SiteTerm, bool_term, int_term, prim_term, Constraint, is_variant, is_struct, is_bool, is_int, is_prim, is_present}
+use Rattle.isle_model.specs.sites.Sites.{SiteTerm, bool_term, int_term, prim_term, Constraint, is_variant, is_struct, is_bool, is_int, is_prim, is_present}
 use Rattle.isle_model.specs.sites.Serves.{asked, constant_site, written_value}
 use Rattle.isle_model.specs.trees.Trees.{Tree, no_step, step, Check, match_at, equal_at, loop_at, return_at, Arms, no_arm, arm}
 use Rattle.isle_model.specs.trees.Run.{run, world_of}

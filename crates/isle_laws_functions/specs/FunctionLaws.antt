@@ -4,7 +4,7 @@ use Rattle.isle_model.specs.lists.Syntax.{Definition}
 use Rattle.isle_model.specs.lists.Elaborated.{TypedRules}
 use Rattle.isle_model.specs.rules.Values.{Value, args_well_typed}
 use Rattle.isle_model.specs.rules.Meaning.{Meaning}
-use Rattle.isle_model.specs.rules.Outcome.{Ending, stuck, Outcome}
+use Rattle.isle_model.specs.rules.Outcome.{stuck}
 use Rattle.isle_model.specs.rules.Program.{Program, is_multi, arg_types, rules_of}
 use Rattle.isle_model.specs.rules.Choice.{choice, MatchesOnce}
 use Rattle.isle_model.specs.sites.Sites.{Site, SiteTerm}

@@ -1,7 +1,7 @@
 -- What a tree of tests does where what it calls means functions: its run on arguments, by them.
-use Rattle.std.specs.Prelude.{ℕ, zero, suc, Bool, true, false, List, [], ◌∷◌, ◌++◌, length, Option, Some, None, if◌then◌else◌, ◌&&◌, slice_get}
+use Rattle.std.specs.Prelude.{ℕ, zero, suc, Bool, List, [], ◌∷◌, ◌++◌, length, Option, Some, None, if◌then◌else◌, ◌&&◌, slice_get}
 use Rattle.std.specs.Bool.{◌==◌}
-use Rattle.isle_model.specs.rules.Values.{Value, of_variant, of_struct, Values, no_value, value_and, value_eq, listed}
+use Rattle.isle_model.specs.rules.Values.{Value, of_variant, of_struct, Values, no_value, value_and, listed}
 use Rattle.isle_model.specs.rules.Meaning.{Content, one, just, bool_literal, int_literal}
 use Rattle.isle_model.specs.rules.Outcome.{Call, Outcome, then_option, ran_through}
 use Rattle.isle_model.specs.sites.Sites.{Site, bool_site, int_site, prim_site, argument_site, extractor_site, constructor_site, iterator_site, make_variant_site, match_variant_site, make_struct_site, extract_struct_site, make_some_site, match_some_site, match_tuple_site, Constraint, is_variant, is_struct, is_bool, is_int, is_prim, is_present}
