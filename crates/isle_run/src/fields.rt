@@ -136,6 +136,7 @@ fn inner_field(
 }
 
 /// What a content brings that meets a constraint; none where it doesn't.
+#[tactic(auto, using(crate::proofs::ValueSteps::value_steps, crate::proofs::ContentSteps::content_steps, crate::proofs::FieldSteps::brought))]
 pub fn content_fields<E: Externs>(
     stage: &Stage<'_, E>,
     constraint: Constraint,

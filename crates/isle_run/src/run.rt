@@ -1,7 +1,7 @@
 //! The run of a tree of tests.
 
-ghost use Rattle.std.specs.Prelude.{◌≡◌, ◌∷◌, IfOk, map, option_map, slice_get};
-ghost use Rattle.isle_model.specs.rules.Outcome.{then_option};
+ghost use Rattle.std.specs.Prelude.{◌≡◌, ◌∷◌, IfOk, if◌then◌else◌, map, option_map, slice_get};
+ghost use Rattle.isle_model.specs.rules.Outcome.{ended, ran_through, then_option};
 ghost use Rattle.isle_model.specs.trees.Run.{for_each, iterated, on_ending, returned, with_content, with_env};
 ghost use Rattle.isle_model.specs.trees.Run as Run;
 ghost use Rattle.isle_model.specs.trees.Trees as Trees;
@@ -83,7 +83,18 @@ fn goes_on(ending: Ending) -> bool
     }
 }
 
-// A result is given: in a multi term the run goes on.
+// How a result ends: in a multi term the run goes on.
+fn after_result(multi: bool) -> Ending
+    ensures { ending_view result ≡ (if multi then ran_through else ended) }
+{
+    if multi {
+        Ending::RanThrough
+    } else {
+        Ending::Ended
+    }
+}
+
+// A result is given.
 fn give<E: Externs>(
     stage: &Stage<'_, E>,
     env: &[(BindingId, Content)],
@@ -95,11 +106,7 @@ fn give<E: Externs>(
     match used(stage, env, site)? {
         Some(content) => {
             trace.results.push(content)?;
-            Ok(if stage.multi {
-                Ending::RanThrough
-            } else {
-                Ending::Ended
-            })
+            Ok(after_result(stage.multi))
         }
         None => Ok(Ending::Stuck),
     }

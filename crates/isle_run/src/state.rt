@@ -1,7 +1,5 @@
 //! What a run works with, where it stands, and how it ends.
 
-ghost use Rattle.std.specs.Prelude.{◌≡◌};
-
 use crate::values::{Content, Value};
 use isle_sets::trie_again::Binding;
 use isle_types::TermId;
