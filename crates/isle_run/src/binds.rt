@@ -53,7 +53,7 @@ fn part_used<E: Externs>(
     ensures { IfOk result (λ o. option_map content_view o ≡ then_option (used_by (stage_of (E.functions stage.now.externs.now) stage.now.sites.now stage.now.multi stage.now.args.now) (env_view env.now) source) (λ c. part_at c place)) }
 {
     match used(stage, env, source)? {
-        Some(content) => part(&content, place),
+        Some(content) => Ok(part(&content, place)?),
         None => Ok(None),
     }
 }
@@ -146,9 +146,9 @@ fn called<E: Externs>(
     ensures { IfOk result (λ c. (env : Env) (s : ℕ) → now_bound env (call_views calls.new.items) s (Some (content_view c)) ≡ constructed_by (stage_of (E.functions stage.now.externs.now) stage.now.sites.now stage.now.multi stage.now.args.now) env (call_views calls.old.items) s term.0 instance (Some (value_views args.items))) }
 {
     if instance == 0 {
-        stage.externs.pure_call(stage.alloc, term, &args)
+        Ok(stage.externs.pure_call(stage.alloc, term, &args)?)
     } else {
-        impure_made(stage, calls, term, args)
+        Ok(impure_made(stage, calls, term, args)?)
     }
 }
 
@@ -202,7 +202,7 @@ fn found<E: Externs>(
         } => Ok(there(variant_made(stage, env, *ty, *variant, fields)?)),
         Binding::MakeStruct { ty, fields } => Ok(there(struct_made(stage, env, *ty, fields)?)),
         Binding::MakeSome { inner } => Ok(there(some_used(stage, env, *inner)?)),
-        Binding::MatchSome { source } => unwrap_used(stage, env, *source),
+        Binding::MatchSome { source } => Ok(unwrap_used(stage, env, *source)?),
         Binding::MatchTuple { source, field } => {
             Ok(there(part_used(stage, env, *source, field.index())?))
         }
@@ -244,7 +244,7 @@ fn bind_site<E: Externs>(
     match stage.sites.get(site.index()) {
         Some(binding) => {
             let held = found(stage, env, calls, binding)?;
-            bind(env, site, held)
+            Ok(bind(env, site, held)?)
         }
         None => Ok(Bound::Missing),
     }

@@ -90,8 +90,8 @@ fn value_fields<E: Externs>(
     ensures { IfOk result (λ o. option_map (λ v. content_list v.items) o ≡ value_fields_by (E.functions stage.now.externs.now) (constraint_view constraint) (value_view value.now)) }
 {
     match constraint {
-        Constraint::Variant { ty, variant, .. } => variant_fields(stage.alloc, ty, variant, value),
-        Constraint::Struct { ty, .. } => struct_fields(stage.alloc, ty, value),
+        Constraint::Variant { ty, variant, .. } => Ok(variant_fields(stage.alloc, ty, variant, value)?),
+        Constraint::Struct { ty, .. } => Ok(struct_fields(stage.alloc, ty, value)?),
         Constraint::ConstBool { val, ty } => {
             let constant = stage.externs.bool_literal(stage.alloc, val, ty)?;
             Ok(constant_fields(stage.alloc, &constant, value))
@@ -145,8 +145,8 @@ pub fn content_fields<E: Externs>(
     ensures { IfOk result (λ o. option_map (λ v. content_list v.items) o ≡ content_fields_by (E.functions stage.now.externs.now) (constraint_view constraint) (content_view content.now)) }
 {
     match content {
-        Content::One(value) => value_fields(stage, constraint, value),
-        Content::Just(inner) => inner_field(stage.alloc, constraint, inner),
+        Content::One(value) => Ok(value_fields(stage, constraint, value)?),
+        Content::Just(inner) => Ok(inner_field(stage.alloc, constraint, inner)?),
         Content::Parts(_) => Ok(None),
         Content::Nothing => Ok(None),
         Content::Many(_) => Ok(None),

@@ -144,7 +144,7 @@ fn run_step<E: Externs>(
     ensures kept { IfOk result (λ e. Begins env.old.items env.new.items) }
 {
     match bind_all(stage, env, &mut trace.calls, &step.bind_order)? {
-        Bound::All => run_within(&step.check, stage, env, trace),
+        Bound::All => Ok(run_within(&step.check, stage, env, trace)?),
         Bound::Failed => Ok(Ending::Failed),
         Bound::Missing => Ok(Ending::Stuck),
     }
@@ -180,19 +180,19 @@ fn run_check<E: Externs>(
 {
     match check {
         ControlFlow::Match { source, arms } => match used(stage, env, *source)? {
-            Some(content) => run_arms(arms, &content, stage, env, trace),
+            Some(content) => Ok(run_arms(arms, &content, stage, env, trace)?),
             None => Ok(Ending::Stuck),
         },
         ControlFlow::Equal { a, b, body } => match are_equal(stage, env, *a, *b)? {
-            Some(true) => run_block(body, stage, env, trace),
+            Some(true) => Ok(run_block(body, stage, env, trace)?),
             Some(false) => Ok(Ending::RanThrough),
             None => Ok(Ending::Stuck),
         },
         ControlFlow::Loop { result, body } => match gone_over(stage, env, *result)? {
-            Some(contents) => run_each(body, *result, &contents, stage, env, trace),
+            Some(contents) => Ok(run_each(body, *result, &contents, stage, env, trace)?),
             None => Ok(Ending::Stuck),
         },
-        ControlFlow::Return { result, .. } => give(stage, env, trace, *result),
+        ControlFlow::Return { result, .. } => Ok(give(stage, env, trace, *result)?),
     }
 }
 
@@ -210,7 +210,7 @@ fn run_arms<E: Externs>(
 {
     for arm in arms {
         if let Some(fields) = content_fields(stage, arm.constraint, content)? {
-            return run_arm(arm, &fields, stage, env, trace);
+            return Ok(run_arm(arm, &fields, stage, env, trace)?);
         }
     }
     Ok(Ending::RanThrough)
@@ -229,7 +229,7 @@ fn run_arm<E: Externs>(
     ensures kept { IfOk result (λ e. Begins env.old.items env.new.items) }
 {
     if bind_fields(env, &arm.bindings, fields)? {
-        run_block(&arm.body, stage, env, trace)
+        Ok(run_block(&arm.body, stage, env, trace)?)
     } else {
         Ok(Ending::Stuck)
     }
