@@ -1,5 +1,5 @@
 -- Look-ups in what is bound, and parts.
-use Rattle.std.proofs.Common.{◌≡◌, ◌==◌, ℕ, zero, suc, Bool, true, false, ◌+◌, ◌<◌, ◌≤◌, if◌then◌else◌, List, [], ◌∷◌, ◌++◌, length, get_or, take, drop, Option, Some, None, option_map, slice_get, refl, sym, ap, ◌∙◌, Vec}
+use Rattle.std.proofs.Common.{◌≡◌, ◌==◌, ℕ, zero, suc, ◌+◌, ◌<◌, ◌≤◌, if◌then◌else◌, List, [], ◌∷◌, ◌++◌, length, get_or, take, drop, Option, Some, None, option_map, slice_get, refl, sym, ap, ◌∙◌, Vec}
 use Rattle.std.proofs.lemmas.List.{take_more, at_drop_more, at_drop_all}
 use Rattle.std.specs.declared.alloc.Global.{Global}
 use Rattle.isle_run.specs.declared.values.Value.{Value}

@@ -1,13 +1,13 @@
 -- A run's steps, by their views.
-use Rattle.std.proofs.Common.{◌≡◌, ℕ, zero, suc, Bool, true, false, ◌+◌, ◌<◌, ◌≤◌, if◌then◌else◌, List, [], ◌∷◌, ◌++◌, length, get_or, drop, map, Option, Some, None, option_map, slice_get, refl, sym, ap, ◌∙◌, subst}
+use Rattle.std.proofs.Common.{◌≡◌, ℕ, Bool, true, false, ◌+◌, ◌<◌, ◌≤◌, if◌then◌else◌, List, [], ◌∷◌, ◌++◌, length, get_or, drop, Option, Some, None, slice_get, refl, sym, ap, ◌∙◌}
 use Rattle.std.proofs.lemmas.Bool.{false≢true}
 use Rattle.std.proofs.lemmas.List.{at_drop_more, at_drop_all, map-append}
 use Rattle.isle_model.specs.rules.Meaning as M
 use Rattle.isle_model.specs.rules.Values as Values
 use Rattle.isle_model.specs.rules.Outcome as O
 use Rattle.isle_model.specs.rules.Outcome.{Outcome, then_option}
-use Rattle.isle_model.specs.trees.Trees.{Tree, no_step, step, Check, match_at, equal_at, loop_at, return_at, Arms, arm}
-use Rattle.isle_model.specs.trees.Run.{Env, Trace, Bound, all_bound, unwrap_failed, no_content_there, ending_at, with_calls, on_bound, on_ending, or_next, with_env, with_content, on_met, on_equal, for_each, on_many, iterated, returned, bind_fields}
+use Rattle.isle_model.specs.trees.Trees.{Tree, step, Check, match_at, equal_at, loop_at, return_at, Arms, arm}
+use Rattle.isle_model.specs.trees.Run.{Env, Trace, all_bound, unwrap_failed, no_content_there, ending_at, with_calls, on_bound, on_ending, or_next, with_env, with_content, on_met, on_equal, for_each, on_many, iterated, returned, bind_fields}
 use Rattle.isle_serialize.specs.declared.serialize.EvalStep.{EvalStep}
 use Rattle.isle_serialize.specs.declared.serialize.Block.{Block, Block', out-Block, Row_of-EvalStep, end_of-EvalStep, more_of-EvalStep, items-the_row-EvalStep}
 use Rattle.isle_serialize.specs.declared.serialize.MatchArm.{MatchArm, MatchArm', out-MatchArm}

@@ -192,9 +192,7 @@ fn found<E: Externs>(
             term,
             parameters,
             instance,
-        } => Ok(there(constructed(
-            stage, env, calls, *term, parameters, *instance,
-        )?)),
+        } => Ok(there(constructed(stage, env, calls, *term, parameters, *instance)?)),
         Binding::MakeVariant {
             ty,
             variant,

@@ -28,11 +28,21 @@ pub trait Externs {
         ensures { IfOk result (λ v. value_view v ≡ (functions self.now).constants name.0) };
 
     /// What an extractor answers on a value.
-    fn extractor(&self, alloc: Global, term: TermId, argument: &Value) -> Result<Content, AllocError>
+    fn extractor(
+        &self,
+        alloc: Global,
+        term: TermId,
+        argument: &Value,
+    ) -> Result<Content, AllocError>
         ensures { IfOk result (λ c. content_view c ≡ (functions self.now).extractors term.0 (value_view argument.now)) };
 
     /// What a pure constructor answers on values.
-    fn pure_call(&self, alloc: Global, term: TermId, arguments: &[Value]) -> Result<Content, AllocError>
+    fn pure_call(
+        &self,
+        alloc: Global,
+        term: TermId,
+        arguments: &[Value],
+    ) -> Result<Content, AllocError>
         ensures { IfOk result (λ c. content_view c ≡ (functions self.now).pures term.0 (value_views arguments.now)) };
 
     /// What an impure constructor answers, after so many impure calls.

@@ -90,7 +90,12 @@ fn value_fields<E: Externs>(
     ensures { IfOk result (λ o. option_map (λ v. content_list v.items) o ≡ value_fields_by (E.functions stage.now.externs.now) (constraint_view constraint) (value_view value.now)) }
 {
     match constraint {
-        Constraint::Variant { ty, variant, .. } => Ok(variant_fields(stage.alloc, ty, variant, value)?),
+        Constraint::Variant { ty, variant, .. } => Ok(variant_fields(
+            stage.alloc,
+            ty,
+            variant,
+            value,
+        )?),
         Constraint::Struct { ty, .. } => Ok(struct_fields(stage.alloc, ty, value)?),
         Constraint::ConstBool { val, ty } => {
             let constant = stage.externs.bool_literal(stage.alloc, val, ty)?;

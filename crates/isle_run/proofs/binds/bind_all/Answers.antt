@@ -11,7 +11,7 @@ loop-site-preserved g c =
     let w = stage_of (g.E.Externs.functions c.args.stage.now.externs.now) c.args.stage.now.sites.now c.args.stage.now.multi c.args.stage.now.args.now in
     record {
       bound = all_more w (env_view c.loop-site.env.items) (env_view c.bind_site-bound.new.env.items) (call_views c.loop-site.calls.items) (call_views c.bind_site-bound.new.calls.items) c.args.sites.now c.loop-site.site-index
-        c.site-item.result c.in_ok-bound.bound _ (search rules) c.site-item.is c.in_ok-bound.ensures.bound (sym c.is_all.ensures ∙ c.if-not-is_all.false) c.loop-site.invariant.bound;
+          c.site-item.result c.in_ok-bound.bound _ (search rules) c.site-item.is c.in_ok-bound.ensures.bound (sym c.is_all.ensures ∙ c.if-not-is_all.false) c.loop-site.invariant.bound;
       kept = begins_then c.args.env.now.items c.loop-site.env.items c.bind_site-bound.new.env.items c.loop-site.invariant.kept c.in_ok-bound.ensures.kept;
     }
 
@@ -20,7 +20,7 @@ returns-then-not-is_all g c =
     let w = stage_of (g.E.Externs.functions c.args.stage.now.externs.now) c.args.stage.now.sites.now c.args.stage.now.multi c.args.stage.now.args.now in
     record {
       bound = all_stopped w (env_view c.loop-site.env.items) (env_view c.bind_site-bound.new.env.items) (call_views c.loop-site.calls.items) (call_views c.bind_site-bound.new.calls.items) c.args.sites.now c.loop-site.site-index
-        c.site-item.result c.in_ok-bound.bound _ (search rules) c.site-item.is c.in_ok-bound.ensures.bound (sym c.is_all.ensures ∙ c.if-not-is_all.true) c.loop-site.invariant.bound;
+          c.site-item.result c.in_ok-bound.bound _ (search rules) c.site-item.is c.in_ok-bound.ensures.bound (sym c.is_all.ensures ∙ c.if-not-is_all.true) c.loop-site.invariant.bound;
       kept = begins_then c.args.env.now.items c.loop-site.env.items c.bind_site-bound.new.env.items c.loop-site.invariant.kept c.in_ok-bound.ensures.kept;
     }
 

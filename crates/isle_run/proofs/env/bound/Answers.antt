@@ -1,4 +1,4 @@
-use Rattle.std.proofs.Common.{◌≡◌, ◌==◌, ◌∙◌, Some, option_map, take, if◌then◌else◌, refl, rules, sym, ap}
+use Rattle.std.proofs.Common.{◌∙◌, Some, option_map, take, if◌then◌else◌, rules, sym, ap}
 use Rattle.isle_model.specs.trees.Run.{bound_to}
 use Rattle.isle_run.specs.RunViews.{env_view}
 use Rattle.isle_run.specs.ValueViews.{content_view}

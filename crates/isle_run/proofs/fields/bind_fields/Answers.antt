@@ -2,7 +2,7 @@ use Rattle.std.proofs.Common.{◌≡◌, ◌≤◌, ◌∙◌, Some, length, ref
 use Rattle.std.proofs.lemmas.Option.{slice_get-get_or}
 use Rattle.isle_run.specs.RunViews.{env_view}
 use Rattle.isle_run.proofs.BindSteps.{begins_here, begins_then}
-use Rattle.isle_run.proofs.FieldSteps.{field_more, field_missing, fields_done}
+use Rattle.isle_run.proofs.FieldSteps.{field_more, field_missing}
 use Rattle.isle_run.proofs.fields.bind_fields.Goals as goal
 
 pub loop-field-init : goal.loop-field-init

@@ -28,6 +28,6 @@ invariant-run_each-loop-content g l =
     let w = stage_of (g.E.Externs.functions l.stage.externs.now) l.stage.sites.now l.stage.multi l.stage.args.now in
     record {
       ran : for_each (content_list (drop l.content-index l.contents)) (λ c t. run_tree_by (tree_view l.body) w ((l.site, c) ∷ env_view l.fn.env.items) t) (trace_view l.trace)
-      ≡ for_each (content_list l.contents) (λ c t. run_tree_by (tree_view l.body) w ((l.site, c) ∷ env_view l.fn.env.items) t) (trace_view l.fn.trace);
+          ≡ for_each (content_list l.contents) (λ c t. run_tree_by (tree_view l.body) w ((l.site, c) ∷ env_view l.fn.env.items) t) (trace_view l.fn.trace);
       kept : l.env.items ≡ l.fn.env.items;
     }

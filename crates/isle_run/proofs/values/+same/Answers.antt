@@ -1,4 +1,4 @@
-use Rattle.std.proofs.Common.{◌≡◌, ◌∙◌, refl, rules, sym}
+use Rattle.std.proofs.Common.{refl, sym}
 use Rattle.isle_run.proofs.ValueSteps.{same_of_variants, same_of_structs}
 use Rattle.isle_run.proofs.values.+same.Goals as goal
 
