@@ -1,1 +1,2 @@
 mod OwnTypes
+mod BuiltSets

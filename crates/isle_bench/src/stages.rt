@@ -1,7 +1,10 @@
 //! Lists at the stages from definitions to trees. What a stage was made of is kept beside it.
 ghost use Rattle.isle_base.specs.SyntaxViews.{definition_views};
+ghost use Rattle.std.specs.Prelude.{All};
 ghost use Rattle.isle_builder.specs.Built.{IsOfElaborated};
 ghost use Rattle.isle_model.specs.claims.Environments.{AreTypesOf};
+ghost use Rattle.isle_model.specs.claims.Layers.{IsBuiltForSome};
+ghost use Rattle.isle_sets.specs.SiteViews.{set_view};
 ghost use Rattle.isle_types.specs.EnvViews.{environment_view};
 
 use cranelift_isle::lower::{Lowered, lower};
@@ -9,6 +12,7 @@ use cranelift_isle::overlap::check;
 use isle_base::syntax::{Def, Error, Fault};
 use isle_builder::build::build;
 use isle_rules::TermEnv;
+use isle_serialize::serialize::{Block, serialize};
 use isle_sets::trie_again::RuleSet;
 use isle_terms::TermTable;
 use isle_types::{TermId, TypeEnv};
@@ -44,6 +48,14 @@ pub struct ListWithSets {
     pub list: ListWithRules,
     pub sets: Vec<(TermId, RuleSet)>,
     pub errors: Vec<Error>,
+    ghost built: { All (λ s. IsBuiltForSome (set_view s.1)) sets.items },
+}
+
+/// A list with the trees of its rule sets.
+#[derive(Drop)]
+pub struct ListWithBlocks {
+    pub list: ListWithSets,
+    pub blocks: Vec<Block>,
 }
 
 /// A list with its trees.
@@ -131,6 +143,17 @@ impl ListWithRules {
             sets,
             errors: Vec::new(alloc),
         })
+    }
+}
+
+impl ListWithSets {
+    /// Makes the tree of each set.
+    pub fn with_blocks(self, alloc: Global) -> Result<ListWithBlocks, Fault> {
+        let mut blocks = Vec::new(alloc);
+        for (_, set) in &self.sets {
+            blocks.push(serialize(alloc, set)?)?;
+        }
+        Ok(ListWithBlocks { list: self, blocks })
     }
 }
 

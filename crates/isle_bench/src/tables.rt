@@ -2,7 +2,9 @@
 //! next one, and all that it makes is kept to the end: so the step before leaves nothing of a list in the processor's
 //! caches, and a list gets no memory that an earlier one gave back.
 
-use crate::stages::{ListWithRules, ListWithSets, ListWithTerms, ListWithTrees, ListWithTypes};
+use crate::stages::{
+    ListWithBlocks, ListWithRules, ListWithSets, ListWithTerms, ListWithTrees, ListWithTypes,
+};
 use cranelift_isle::lower::Lowered;
 use isle_base::syntax::{Def, Fault};
 use isle_sets::trie_again::RuleSet;
@@ -26,6 +28,8 @@ pub enum Table {
     Sets,
     /// Rule sets in which rules can be told apart.
     Checked,
+    /// The trees of such sets, which stand on them.
+    Serialized,
     /// The trees of its terms, from its types on.
     Trees,
 }
@@ -73,6 +77,7 @@ impl Table {
             Table::Rules => "TermEnv::from_ast",
             Table::Sets => "build",
             Table::Checked => "check",
+            Table::Serialized => "serialize",
             Table::Trees => "lower",
         }
     }
@@ -85,6 +90,7 @@ impl Table {
             Table::Rules => rules(rt, alloc, lists),
             Table::Sets => sets(rt, alloc, lists),
             Table::Checked => checked(rt, alloc, lists),
+            Table::Serialized => serialized(rt, alloc, lists),
             Table::Trees => trees(rt, alloc, lists),
         };
         match reading {
@@ -203,6 +209,18 @@ fn checked(rt: &impl Clock, alloc: Global, lists: Vec<Vec<Def>>) -> Result<Readi
     let ruled = with_rules(alloc, lists)?;
     let step = |list: ListWithRules| list.checked(alloc);
     timed(rt, alloc, ruled, step, |list| set_counts(alloc, &list.sets))
+}
+
+fn serialized(rt: &impl Clock, alloc: Global, lists: Vec<Vec<Def>>) -> Result<Reading, Stop> {
+    let ruled = with_rules(alloc, lists)?;
+    let checked = all(alloc, ruled, |list: ListWithRules| list.checked(alloc))?;
+    let step = |list: ListWithSets| list.with_blocks(alloc);
+    timed(rt, alloc, checked, step, |list| block_counts(alloc, list))
+}
+
+fn block_counts(alloc: Global, list: &ListWithBlocks) -> Result<String, AllocError> {
+    let sizes = set_counts(alloc, &list.list.sets)?;
+    format!(in alloc; "{} trees of {sizes}", list.blocks.len())
 }
 
 fn set_counts(alloc: Global, sets: &[(TermId, RuleSet)]) -> Result<String, AllocError> {
