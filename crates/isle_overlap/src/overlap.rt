@@ -11,6 +11,7 @@ ghost use Rattle.isle_overlap.specs.ErrorViews.{error_pos};
 ghost use Rattle.isle_overlap.specs.Found.{found_shadows, found_wrong};
 ghost use Rattle.isle_overlap.specs.Graphs.{count_at, count_left, counts_before, ends_of, listed_at, neighbours, same_pos, times, unreported};
 
+use crate::partners::partners_of;
 use isle_base::syntax::{Error, Pos, Span};
 use isle_sets::trie_again::{Overlap, Rule};
 use std::alloc::{AllocError, Global};
@@ -57,8 +58,9 @@ impl Errors {
         ensures shadows { OnOk result (found_shadows self.new
             ≡ found_shadows self.old ++ map refusal_of (map rule_shadows (shadows_among (set_rule_views rules.now)))) }
     {
+        let partners = partners_of(alloc, rules)?;
         let mut masked = Vec::new(alloc);
-        check_pairs(rules, &mut self.wrong, &mut masked)?;
+        check_pairs(rules, &partners, &mut self.wrong, &mut masked)?;
         let lists = masked_by_each(alloc, rules.len(), &masked)?;
         add_shadows(alloc, rules, &lists, &mut self.shadows)?;
         Ok(())
@@ -84,7 +86,7 @@ impl Errors {
 }
 
 // Whether two rules have one priority and may both match.
-fn overlap_wrongly(left: &Rule, right: &Rule) -> bool
+pub(crate) fn overlap_wrongly(left: &Rule, right: &Rule) -> bool
     ensures { result ≡ overlap_wrongly (set_rule_view left.now) (set_rule_view right.now) }
 {
     left.prio == right.prio
@@ -96,7 +98,7 @@ fn overlap_wrongly(left: &Rule, right: &Rule) -> bool
 
 // Whether a rule of greater priority matches wherever another one does: all that it asks is asked there too. The
 // priorities come first, so of two rules only one is compared with the other.
-fn masks(mask: &Rule, rule: &Rule) -> bool
+pub(crate) fn masks(mask: &Rule, rule: &Rule) -> bool
     ensures { result ≡ is_mask_of (set_rule_view mask.now) (set_rule_view rule.now) }
 {
     rule.prio < mask.prio
@@ -137,24 +139,26 @@ fn add_masked(
     Ok(())
 }
 
-// Adds what is found of a rule, the one of this number, and those behind it.
+// Adds what is found of a rule, the one of this number, and those behind it. These are its partners: nothing is found of
+// it and another one behind it.
 fn check_behind(
     i: usize,
     left: &Rule,
     rules: &[Rule],
+    partners: &[usize],
     wrong: &mut Vec<(Pos, Pos)>,
     masked: &mut Vec<(usize, Pos)>,
 ) -> Result<(), AllocError>
-    requires { i < length rules.now }
+    requires partners { ArePartners i left.now rules.now partners.now }
     ensures wrong { OnOk result (pair_views wrong.new.items
         ≡ pair_views wrong.old.items ++ wrong_behind (set_rule_view left.now) (set_rule_views (drop (i + 1) rules.now))) }
     ensures masked { OnOk result (masked_views masked.new.items
         ≡ masked_views masked.old.items ++ masked_behind i (set_rule_view left.now) (i + 1) (set_rule_views (drop (i + 1) rules.now))) }
 {
-    for j in i + 1..rules.len() {
-        let right = &rules[j];
+    for partner in partners {
+        let right = &rules[*partner];
         add_wrong(left, right, wrong)?;
-        add_masked(i, left, j, right, masked)?;
+        add_masked(i, left, *partner, right, masked)?;
     }
     Ok(())
 }
@@ -162,14 +166,16 @@ fn check_behind(
 // Adds what is found of each two rules.
 fn check_pairs(
     rules: &[Rule],
+    partners: &[Vec<usize>],
     wrong: &mut Vec<(Pos, Pos)>,
     masked: &mut Vec<(usize, Pos)>,
 ) -> Result<(), AllocError>
+    requires partners { AllHavePartners rules.now partners.now }
     ensures wrong { OnOk result (pair_views wrong.new.items ≡ pair_views wrong.old.items ++ wrong_rows (set_rule_views rules.now)) }
     ensures masked { OnOk result (masked_views masked.new.items ≡ masked_views masked.old.items ++ masked_rows 0 (set_rule_views rules.now)) }
 {
     for i in 0..rules.len() {
-        check_behind(i, &rules[i], rules, wrong, masked)?;
+        check_behind(i, &rules[i], rules, &partners[i], wrong, masked)?;
     }
     Ok(())
 }
