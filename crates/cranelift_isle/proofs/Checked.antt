@@ -17,7 +17,7 @@ use Rattle.isle_sets.specs.declared.trie_again.RuleSet.{RuleSet}
 use Rattle.isle_term_sets.specs.AddedRules.{report_views}
 use Rattle.isle_builder.specs.Built.{term_set_views, WereBuilt}
 use Rattle.cranelift_isle.specs.Checks.{env_program, ReportsAreErrors}
-use Rattle.isle_rules.specs.ErrorViews.{error_view, error_views}
+use Rattle.isle_base.specs.ErrorViews.{error_view, error_views}
 
 abbrev multi_among : List TermEntry → ℕ → Bool
 multi_among terms t = (flags_of (elim (slice_get terms t) [ None ↦ unknown | Some e ↦ kind_of e ])).multi

@@ -20,7 +20,7 @@ use Rattle.isle_laws_trees.specs.NoLimits.{PassedInLowering, in_reading, in_buil
 use Rattle.isle_laws_trees.specs.OneTree.{IsOnlyBest, LoweredTreesAreOnlyBest}
 use Rattle.isle_laws_trees.specs.WholeDemands.{AcceptedDemandsAreWhole}
 use Rattle.isle_types.specs.declared.ids.TermId.{TermId}
-use Rattle.isle_rules.specs.ErrorViews.{error_views}
+use Rattle.isle_base.specs.ErrorViews.{error_views}
 use Rattle.isle_rules.specs.ShownEnvs.{environment_shown_by}
 use Rattle.isle_rules.specs.declared.term_env.TermEnv.{TermEnv}
 use Rattle.isle_sets.specs.declared.trie_again.RuleSet.{RuleSet}

@@ -10,7 +10,7 @@ use Rattle.isle_model.specs.sites.Overlap.{RuleReport}
 use Rattle.isle_model.specs.claims.Layers.{CheckReports}
 use Rattle.isle_model.specs.claims.Refusals.{Refusal, refusal_of}
 use Rattle.isle_types.specs.declared.ids.TermId.{TermId}
-use Rattle.isle_rules.specs.ErrorViews.{error_views}
+use Rattle.isle_base.specs.ErrorViews.{error_views}
 use Rattle.isle_sets.specs.declared.trie_again.RuleSet.{RuleSet}
 use Rattle.cranelift_isle.specs.Checks.{IsChecked}
 

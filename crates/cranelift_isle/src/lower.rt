@@ -7,7 +7,7 @@ ghost use Rattle.isle_model.specs.claims.Layers.{IsBuiltForSome, RefusedBy};
 ghost use Rattle.isle_model.specs.claims.Refusals.{NamesOnlyPassed};
 ghost use Rattle.isle_laws_trees.specs.NoLimits.{PassedInLowering, PassNoLimit};
 ghost use Rattle.isle_laws_trees.specs.OneTree.{IsOnlyBest};
-ghost use Rattle.isle_rules.specs.ErrorViews.{error_views};
+ghost use Rattle.isle_base.specs.ErrorViews.{error_views};
 ghost use Rattle.isle_builder.specs.Built.{term_set_views};
 ghost use Rattle.isle_sets.specs.SiteViews.{set_view};
 ghost use Rattle.isle_serialize.specs.TreeViews.{tree_view};

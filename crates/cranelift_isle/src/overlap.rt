@@ -8,7 +8,7 @@ ghost use Rattle.isle_model.specs.claims.Environments.{IsElaborated, TypesRead, 
 ghost use Rattle.isle_model.specs.sites.Overlap.{RuleReport};
 ghost use Rattle.isle_model.specs.sites.SetRules.{reports_of_sets};
 ghost use Rattle.isle_laws_demands.specs.ErrorLaws.{NamesLeftOut, NamesPairs, NamesMasks};
-ghost use Rattle.isle_rules.specs.ErrorViews.{error_views};
+ghost use Rattle.isle_base.specs.ErrorViews.{error_views};
 ghost use Rattle.isle_term_sets.specs.AddedRules.{report_views};
 ghost use Rattle.isle_builder.specs.Built.{IsOfElaborated, ShowsElaborated, WereBuilt, term_set_views};
 ghost use Rattle.cranelift_isle.specs.Checks.{IsChecked, OfErrors, WhereApart, env_program};

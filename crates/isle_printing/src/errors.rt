@@ -1,6 +1,6 @@
 //! Errors as lines of text.
 
-use crate::places::Places;
+use crate::places::{Marked, Places};
 use isle_base::syntax::{Error, Limit, Span};
 use std::alloc::{AllocError, Global};
 use std::slice;
@@ -12,6 +12,15 @@ pub fn error_lines(
     errors: &[Error],
     places: Places<'_>,
 ) -> Result<String, AllocError> {
+    let Places::Lines(text) = places else {
+        return lines_at(alloc, errors, places);
+    };
+    let marked = Marked::new(alloc, text)?;
+    lines_at(alloc, errors, Places::Marked(&marked))
+}
+
+// The lines of errors whose places are shown so.
+fn lines_at(alloc: Global, errors: &[Error], places: Places<'_>) -> Result<String, AllocError> {
     let mut out = String::new(alloc);
     for error in errors {
         push_error(&mut out, error, places)?;

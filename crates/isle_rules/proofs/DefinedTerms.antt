@@ -10,7 +10,7 @@ use Rattle.isle_model.specs.lists.Names.{number, has_name}
 use Rattle.isle_model.specs.lists.Tables.{internal_constructor, external_constructor, internal_extractor, external_extractor, TermEntry}
 use Rattle.isle_model.specs.lists.KnownTypes.{KnownTypes}
 use Rattle.isle_model.specs.lists.TermTable.{ConstructorTree, ExternalTree, decl_trees, constructor_trees, extractor_trees, external_trees, extractor_template, internal_extractors, external_extractors, external_constructors, has_rules, constructor_kind, extractor_kind, decl_as_term, terms_made, terms_in_order, term_names_met, term_table, is_defined, IsDefined, AllDefined}
-use Rattle.isle_rules.specs.RuleNaming.{is_defined_term, AreDefined}
+use Rattle.isle_reports.specs.RuleNaming.{is_defined_term, AreDefined}
 use Rattle.isle_rules.proofs.TemplateUses.{each_made, of_types}
 
 abbrev IsDefinedTerm : TermEntry → Type 0

@@ -14,9 +14,9 @@ use Rattle.isle_model.specs.lists.Typings.{Typing, plain}
 use Rattle.isle_model.proofs.Names.{known_name}
 use Rattle.isle_types.specs.Envs.{names_of, constant_at}
 use Rattle.isle_types.specs.TypeViews.{type_views}
-use Rattle.isle_rules.specs.Noting.{NotesMore}
+use Rattle.isle_base.specs.Noting.{NotesMore}
 use Rattle.isle_rules.specs.declared.term_env.TermEnv.{TermEnv}
-use Rattle.isle_rules.specs.Elaborating.{Checks}
+use Rattle.isle_reports.specs.Elaborating.{Checks}
 use Rattle.isle_rules.specs.Progress.{Remains}
 use Rattle.isle_rules.specs.ExprReadings.{expr_reading}
 use Rattle.isle_rules.specs.Translating.{Standing, IsSettingOf, Shows, IsTranslated, IsReported}
@@ -73,12 +73,6 @@ module _ (env : TermEnv) (old new : Standing) (flags : Flags) (x : Name) (at : P
   }
 
   module _ (own : ℕ) (there : Some own ≡ constant_at old.tyenv (number (names_of old.tyenv) x.text)) where
-    pub constant_mistyped : is_expected ty own ≡ false → NotesMore old.work.errors.items new.work.errors.items → IsReported env old new (expr_reading (prim_expr x at) flags ty)
-    constant_mistyped other more = record {
-      errors = inr more;
-      noted = λ e s is sh. record { reports = more; none = λ c. ap (of_type s) (constant_is e s is sh (Some own) there) ∙ rw other refl };
-    }
-
     pub constant_made : (name : ℕ) → name ≡ number (names_of old.tyenv) x.text → Remains old.work new.work → new.work.errors.items ≡ old.work.errors.items → is_expected ty own ≡ true
         → (d : ℕ) → IsTranslated env old new d (expr_reading (prim_expr x at) flags ty) (make_prim own name) ⊎ IsReported env old new (expr_reading (prim_expr x at) flags ty)
     constant_made name named r errors fits =

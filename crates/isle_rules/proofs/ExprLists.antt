@@ -1,6 +1,6 @@
 -- Lists of expressions, read one after another.
-use Rattle.std.proofs.Common.{◌≡◌, ℕ, ◌+◌, ◌<◌, ◌≤◌, List, [], ◌∷◌, ◌++◌, length, map, take, drop, get_or, Option, Some, None, refl, sym, ap, subst, ◌∙◌, inl, inr, ◌⊎◌, Ok, arith}
-use Rattle.std.proofs.lemmas.List.{take_more, take_all, take-append-drop, length-take-le, length-map, map-append}
+use Rattle.std.proofs.Common.{◌≡◌, ℕ, ◌+◌, ◌<◌, List, [], ◌∷◌, ◌++◌, length, map, take, drop, get_or, Option, Some, None, refl, sym, ap, ◌∙◌, inl, inr, ◌⊎◌, Ok, arith}
+use Rattle.std.proofs.lemmas.List.{take_more, take-append-drop, length-take-le, length-map, map-append}
 use Rattle.isle_types.specs.declared.ids.TypeId.{TypeId}
 use Rattle.std.specs.Option.{option_to_list}
 use Rattle.isle_base.specs.declared.syntax.Expr as T
@@ -140,9 +140,3 @@ module _ (env : TermEnv) (old mid new : Standing) (d : ℕ) (flags : Flags) (arg
       ∙ ap (λ ts. args_reading (S.expr_views (take (i + 1) args ++ drop (i + 1) args)) flags ts e c s) (map-append (λ t. t.0) (take (i + 1) tys) (drop (i + 1) tys))
       ∙ args_after (all_made e) flags c (take (i + 1) args) (drop (i + 1) args) (tys_to (i + 1)) (map (λ t. t.0) (drop (i + 1) tys)) s (n ∙ sym m ∙ sym k))
       stop here
-
-pub all_args : (env : TermEnv) (old new : Standing) (d : ℕ) (flags : Flags) (args : List T.Expr) (tys : List TypeId) (i : ℕ) (made : List Expr) → length args ≤ i → length tys ≤ i
-    → SoFar env old new d (args_reading (S.expr_views (take i args)) flags (map (λ t. t.0) (take i tys))) made → SoFar env old new d (args_reading (S.expr_views args) flags (map (λ t. t.0) tys)) made
-all_args env old new d flags args tys i made w v sofar =
-    subst (λ ts. SoFar env old new d (args_reading (S.expr_views args) flags (map (λ t. t.0) ts)) made) (take_all i tys v)
-    (subst (λ ps. SoFar env old new d (args_reading (S.expr_views ps) flags (map (λ t. t.0) (take i tys))) made) (take_all i args w) sofar)

@@ -1,8 +1,8 @@
 -- Lists of if-lets, and arguments that are counted, read one after another.
-use Rattle.std.proofs.Common.{◌≡◌, ℕ, ◌+◌, ◌<◌, ◌≤◌, Bool, List, [], ◌∷◌, ◌++◌, length, map, take, drop, get_or, Option, Some, None, Result, Ok, Err, Vec, refl, sym, ap, subst, ◌∙◌, inl, inr, ◌⊎◌, ⊎_elim, arith}
+use Rattle.std.proofs.Common.{◌≡◌, ℕ, ◌+◌, ◌<◌, Bool, List, [], ◌∷◌, ◌++◌, length, map, take, drop, get_or, Option, Some, None, Result, Ok, Err, Vec, refl, sym, ap, subst, ◌∙◌, inl, inr, ◌⊎◌, ⊎_elim, arith}
 use Rattle.std.specs.Option.{option_to_list}
 use Rattle.std.specs.declared.alloc.Global.{Global}
-use Rattle.std.proofs.lemmas.List.{take_more, take_all, take-append-drop, map-append, length-map}
+use Rattle.std.proofs.lemmas.List.{take_more, take-append-drop, map-append, length-map}
 use Rattle.isle_base.specs.declared.syntax.Pattern as T
 use Rattle.isle_types.specs.declared.ids.TypeId.{TypeId}
 use Rattle.isle_typed.specs.declared.patterns.Pattern.{Pattern}
@@ -17,12 +17,12 @@ use Rattle.isle_model.specs.rules.Typed.{TypedIfLet}
 use Rattle.isle_model.specs.lists.Setting.{Setting, Scope}
 use Rattle.isle_model.specs.lists.Typings.{Typing, plain, made_into, joined_typing, followed}
 use Rattle.isle_types.specs.Envs.{names_of}
-use Rattle.isle_rules.specs.Noting.{NotesMore, MayNoteMore}
+use Rattle.isle_base.specs.Noting.{NotesMore, MayNoteMore}
 use Rattle.isle_typed.specs.declared.rules.IfLet as R
 use Rattle.isle_rules.specs.declared.term_env.TermEnv.{TermEnv}
 use Rattle.isle_rules.specs.declared.typing.progress.Stop.{Stop}
 use Rattle.isle_rules.specs.declared.typing.progress.Stop.TheVariants.{Memory, Nesting, Expansions}
-use Rattle.isle_rules.specs.Elaborating.{Checks}
+use Rattle.isle_reports.specs.Elaborating.{Checks}
 use Rattle.isle_rules.specs.Progress.{Remains}
 use Rattle.isle_rules.specs.RuleReadings.{iflet_reading, iflets_reading}
 use Rattle.isle_typed.specs.RuleViews.{iflet_view}
@@ -116,10 +116,6 @@ module _ (env : TermEnv) (old mid new : Standing) (d : ℕ) (flags : Flags) (all
       ∙ iflets_after e c flags (map S.iflet_view (take (i + 1) all)) (map S.iflet_view (drop (i + 1) all)) s)
       stop
       (then_stops env old mid new d before (λ q. last_one) after ◌++◌ further (map iflet_view made) keeps sofar stop (made_stops env mid new d alone_one last_one (λ x. x ∷ []) last_is stop y))
-
-pub all_iflets : (env : TermEnv) (old new : Standing) (d : ℕ) (flags : Flags) (all : List IfLet) (i : ℕ) (made : List R.IfLet) → length all ≤ i → IfLetsSoFar env old new d (iflets_reading (map S.iflet_view (take i all)) flags) made
-    → IfLetsSoFar env old new d (iflets_reading (map S.iflet_view all) flags) made
-all_iflets env old new d flags all i made w sofar = subst (λ ds. IfLetsSoFar env old new d (iflets_reading (map S.iflet_view ds) flags) made) (take_all i all w) sofar
 
 -- after a check of a fact without which nothing can be made
 module _ {Q : Type 0} (env : TermEnv) (old mid new : Standing) (d : ℕ) (reading : Reading Q) (P : Type 0) (same : mid.tyenv ≡ old.tyenv) (r : Remains old.work mid.work)

@@ -1,9 +1,9 @@
 -- Lets, from what their definitions and their body became.
-use Rattle.std.proofs.Common.{◌≡◌, ℕ, suc, ◌+◌, ◌<◌, ◌≤◌, ◌||◌, Bool, true, false, cond, nat_eq, List, [], ◌∷◌, ◌++◌, length, take, drop, get_or, Option, Some, None, option_and_then, Ok, Box, refl, sym, ap, subst, ◌∙◌, inl, inr, ◌⊎◌, ⊎_elim, arith}
+use Rattle.std.proofs.Common.{◌≡◌, ℕ, suc, ◌+◌, ◌<◌, ◌||◌, Bool, true, false, cond, nat_eq, List, [], ◌∷◌, ◌++◌, length, take, drop, get_or, Option, Some, None, option_and_then, Ok, Box, refl, sym, ap, subst, ◌∙◌, inl, inr, ◌⊎◌, ⊎_elim, arith}
 use Rattle.std.specs.Option.{option_to_list}
 use Rattle.std.specs.Str.{bytes_eq}
 use Rattle.std.specs.declared.alloc.Global.{Global}
-use Rattle.std.proofs.lemmas.List.{take_more, take_all, take-append-drop, length-append}
+use Rattle.std.proofs.lemmas.List.{take_more, take-append-drop, length-append}
 use Rattle.std.specs.List.{position_from}
 use Rattle.isle_base.specs.declared.syntax.LetDef.{LetDef}
 use Rattle.isle_base.specs.SyntaxViews as S
@@ -23,7 +23,7 @@ use Rattle.isle_types.specs.declared.ids.Sym.{Sym}
 use Rattle.isle_types.specs.declared.ids.TypeId.{TypeId}
 use Rattle.isle_types.specs.declared.ids.VarId.{VarId}
 use Rattle.isle_types.specs.Envs.{names_of, symbol_of, type_at, type_of_name, IsInterned}
-use Rattle.isle_rules.specs.Noting.{NotesMore, MayNoteMore}
+use Rattle.isle_base.specs.Noting.{NotesMore, MayNoteMore}
 use Rattle.isle_typed.specs.declared.exprs.Expr.{Expr}
 use Rattle.isle_typed.specs.declared.rules.BoundVar.{BoundVar}
 use Rattle.isle_rules.specs.declared.term_env.TermEnv.{TermEnv}
@@ -280,10 +280,6 @@ module _ (env : TermEnv) (old mid new : Standing) (d : ℕ) (flags : Flags) (def
       first_stops env old mid new d after (λ q. lets_reading (S.let_views (drop (i + 1) defs)) flags) (lets_reading (S.let_views defs) flags) lets_joined
       (λ e c s. ap (λ ds. lets_reading (S.let_views ds) flags e c s) (sym (take-append-drop (i + 1) defs)) ∙ lets_after (all_made e) flags c (take (i + 1) defs) (drop (i + 1) defs) s)
       stop (then_stops env old mid new d before (λ q. last_one) after lets_joined further (let_parts (let_views made)) keeps so_far stop y)
-
-pub all_defs : (env : TermEnv) (old new : Standing) (d : ℕ) (flags : Flags) (defs : List LetDef) (i : ℕ) (made : List (VarId × TypeId × Box Expr Global)) (first hidden : List (Sym × Option BoundVar)) → length defs ≤ i
-    → Defines env old new d (lets_reading (S.let_views (take i defs)) flags) (let_parts (let_views made)) first hidden → Defines env old new d (lets_reading (S.let_views defs) flags) (let_parts (let_views made)) first hidden
-all_defs env old new d flags defs i made first hidden w sofar = subst (λ ds. Defines env old new d (lets_reading (S.let_views ds) flags) (let_parts (let_views made)) first hidden) (take_all i defs w) sofar
 
 -- a whole let
 abbrev in_scope : Scope → Typing TypedExpr → Typing TypedExpr

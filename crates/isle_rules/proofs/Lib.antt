@@ -1,8 +1,3 @@
-pub mod Defaults
-pub mod MapSteps
-pub mod NameSteps
-pub mod CountSteps
-pub mod DefinedSteps
 mod UsedTerms
 pub mod Noted
 pub mod Readings

@@ -8,9 +8,9 @@ use Rattle.isle_base.specs.declared.syntax.Error.TheVariants.{LimitError}
 use Rattle.isle_base.specs.declared.syntax.Limit.{Limit}
 use Rattle.isle_base.specs.declared.syntax.Pos.{Pos}
 use Rattle.isle_base.specs.declared.syntax.Span.{Span}
-use Rattle.isle_rules.specs.ErrorViews.{limit_view}
-use Rattle.isle_rules.specs.Elaborating.{Checks}
-use Rattle.isle_rules.specs.Noting.{MayNoteMore}
+use Rattle.isle_base.specs.ErrorViews.{limit_view}
+use Rattle.isle_reports.specs.Elaborating.{Checks}
+use Rattle.isle_base.specs.Noting.{MayNoteMore}
 use Rattle.isle_rules.specs.RuleLists.{NotesLimit}
 pub use Rattle.isle_base.proofs.Noted.{some_noted, both, may_both, still_plain}
 

@@ -16,7 +16,7 @@ use Rattle.isle_model.specs.lists.Elaborated.{elaborated_pattern, bound_after}
 use Rattle.isle_laws_lists.proofs.TypedPatterns as patterns
 use Rattle.isle_laws_lists.proofs.TypedResults.{types_are_expected}
 use Rattle.isle_laws_lists.proofs.Typings.{made_gives}
-use Rattle.isle_rules.specs.Noting.{NotesMore, MayNoteMore}
+use Rattle.isle_base.specs.Noting.{NotesMore, MayNoteMore}
 use Rattle.isle_typed.specs.declared.patterns.Pattern.{Pattern}
 use Rattle.isle_rules.specs.declared.term_env.TermEnv.{TermEnv}
 use Rattle.isle_rules.specs.declared.typing.progress.Stop.{Stop}

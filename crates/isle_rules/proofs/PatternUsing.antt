@@ -17,13 +17,13 @@ use Rattle.isle_model.specs.rules.Typed.{match_term, typed_pattern_and}
 use Rattle.isle_model.proofs.Options.{then_some}
 use Rattle.isle_laws_lists.proofs.Typings.{ne-eqb, counted_gives}
 use Rattle.isle_types.specs.Envs.{names_of, symbol_of, IsInterned}
-use Rattle.isle_rules.specs.Noting.{NotesMore, MayNoteMore}
+use Rattle.isle_base.specs.Noting.{NotesMore, MayNoteMore}
 use Rattle.isle_terms.specs.Terms.{has_extractor_kind}
 use Rattle.isle_terms.specs.TermViews.{term_views}
 use Rattle.isle_rules.specs.declared.term_env.TermEnv.{TermEnv}
 use Rattle.isle_rules.specs.declared.typing.progress.Stop.{Stop}
 use Rattle.isle_rules.specs.declared.typing.progress.Stop.TheVariants.{Memory, Nesting, Expansions}
-use Rattle.isle_rules.specs.Elaborating.{Checks}
+use Rattle.isle_reports.specs.Elaborating.{Checks}
 use Rattle.isle_rules.specs.Progress.{Remains, CountsOne, Counts}
 use Rattle.isle_rules.specs.TermEnvs.{term_in_env}
 use Rattle.isle_rules.specs.PatternReadings.{pattern_reading, parts_reading}
@@ -39,9 +39,6 @@ checks_both a b c P Q (inl x) (inl y) = inl (y.0 ∙ x.0, (x.1, y.1))
 checks_both a b c P Q (inl x) (inr y) = inr (subst (λ es. NotesMore es c) x.0 y.0, λ h. y.1 h.1)
 checks_both a b c P Q (inr x) (inl y) = inr (subst (NotesMore a) (sym y.0) x.0, λ h. x.1 h.0)
 checks_both a b c P Q (inr x) (inr y) = inr (both a b c x.0 y.0, λ h. x.1 h.0)
-
-pub remains_both : {p q r : _} → Remains p q → Remains q r → Remains p r
-remains_both x y = record { vars = y.vars ∙ x.vars; names = λ k. y.names k ∙ x.names k; expansions = y.expansions ∙ x.expansions }
 
 -- what an expansion makes takes one at least
 pub takes_one : {Q : Type 0} (o : ℕ → Option (Typing Q)) (c : ℕ) (a : Typing Q) → expanding o c ≡ Some a → 1 ≤ a.expansions

@@ -30,8 +30,8 @@ use Rattle.isle_types.specs.declared.type_env.TypeEnv.{TypeEnv}
 use Rattle.isle_types.specs.Envs.{names_of, IsInterned}
 use Rattle.isle_rules.specs.Constructors.{AreTermsNamed}
 use Rattle.isle_rules.specs.declared.term_env.TermEnv.{TermEnv}
-use Rattle.isle_rules.specs.ErrorViews.{error_view, error_views}
-use Rattle.isle_rules.specs.Noting.{NotesMore, MayNoteMore}
+use Rattle.isle_base.specs.ErrorViews.{error_view, error_views}
+use Rattle.isle_base.specs.Noting.{NotesMore, MayNoteMore}
 use Rattle.isle_rules.specs.RuleErrors.{NotesEach, IsNestedDeeper, IsExpandedMore, PassesFrom, IsOfRules, NotesOfRules, NotesOfDefinition}
 use Rattle.isle_rules.specs.RuleLists.{rule_from, EndsRule, is_typed, is_reported, is_too_deep, is_too_long, CollectsRule}
 use Rattle.isle_rules.specs.RuleReadings.{rule_reading, sides_reading}

@@ -10,12 +10,12 @@ use Rattle.isle_model.specs.lists.Setting.{Setting, Scope, var_named, declared_f
 use Rattle.isle_model.specs.lists.Typings.{Typing}
 use Rattle.isle_model.specs.lists.Elaborated.{typed_list, Sides, with_own_name, own_number, rule_of_sides, finished_rule, may_have_priority}
 use Rattle.isle_types.specs.Envs.{names_of, IsInterned}
-use Rattle.isle_rules.specs.Noting.{NotesMore, MayNoteMore}
+use Rattle.isle_base.specs.Noting.{NotesMore, MayNoteMore}
 use Rattle.isle_typed.specs.declared.rules.BoundVar.{BoundVar}
 use Rattle.isle_rules.specs.declared.term_env.TermEnv.{TermEnv}
 use Rattle.isle_rules.specs.declared.typing.progress.Stop.{Stop}
 use Rattle.isle_rules.specs.declared.typing.progress.Stop.TheVariants.{Memory, Nesting, Expansions}
-use Rattle.isle_rules.specs.Elaborating.{Checks}
+use Rattle.isle_reports.specs.Elaborating.{Checks}
 use Rattle.isle_rules.specs.PatternUses.{found_term}
 use Rattle.isle_rules.specs.Progress.{newest, vars_of, Remains}
 use Rattle.isle_rules.specs.RuleReadings.{sides_reading, scope_of, rule_of_entry, rule_reading}

@@ -21,10 +21,10 @@ use Rattle.isle_terms.specs.declared.term_table.TermTable.{TermTable}
 use Rattle.isle_terms.specs.Whole.{shown_by}
 use Rattle.isle_rules.specs.declared.term_env.TermEnv.{TermEnv}
 use Rattle.isle_rules.specs.Constructors.{AreTermsNamed}
-use Rattle.isle_rules.specs.ErrorViews.{error_views}
-use Rattle.isle_rules.specs.Noting.{MayNoteMore}
+use Rattle.isle_base.specs.ErrorViews.{error_views}
+use Rattle.isle_base.specs.Noting.{MayNoteMore}
 use Rattle.isle_rules.specs.RuleErrors.{NotesOfRules, IsOfRules}
-use Rattle.isle_rules.specs.RuleNaming.{MapsNames}
+use Rattle.isle_reports.specs.RuleNaming.{MapsNames}
 use Rattle.isle_rules.specs.ShownEnvs.{terms_shown_by}
 use Rattle.isle_rules.specs.Translating.{IsSettingOf}
 use Rattle.isle_rules.proofs.NamedTerms.{terms_named}

@@ -1,9 +1,5 @@
 pub mod TermEnvs
-pub mod Elaborating
-pub mod RuleNaming
 pub mod Progress
-pub mod ErrorViews
-pub mod Noting
 pub mod Translating
 pub mod PatternReadings
 pub mod PatternUses

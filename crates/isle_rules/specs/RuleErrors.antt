@@ -11,7 +11,7 @@ use Rattle.isle_model.specs.lists.Elaborated.{few_enough, most_nested}
 use Rattle.isle_model.specs.claims.Refusals.{of_rule, of_nesting, of_expansions, Refusal, ill_typed, past_limit}
 use Rattle.isle_types.specs.declared.type_env.TypeEnv.{TypeEnv}
 use Rattle.isle_types.specs.Envs.{names_of}
-use Rattle.isle_rules.specs.ErrorViews.{error_view}
+use Rattle.isle_base.specs.ErrorViews.{error_view}
 use Rattle.isle_rules.specs.declared.term_env.TermEnv.{TermEnv}
 use Rattle.isle_rules.specs.RuleLists.{rule_from}
 use Rattle.isle_rules.specs.Translating.{IsSettingOf}

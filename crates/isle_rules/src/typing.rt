@@ -1,7 +1,6 @@
 //! How the trees of rules become typed patterns, expressions and rules, in all forms: what is wrong is noted, and the
 //! work goes on where it can; only a limit ends the work on a rule.
 
-mod checks;
 mod constructors;
 mod expr_leaves;
 mod expr_uses;

@@ -142,6 +142,7 @@ module _ (before : List SiteTerm) (b : RuleSetBuilder) (v : Visit) (us ws : List
     all_gone_over = h.all_gone_over;
     impure = record { within = h.impure.within; numbers = h.impure.numbers };
     calls = h.calls;
+    numbered = h.numbered;
     answered = λ s t. let g = h.answered s t in (g.0, λ u i. asked_too v.demands.constraints us ws o u (g.1 u i));
   }
 
@@ -162,6 +163,7 @@ stands_with before b v walked h a = record {
   all_gone_over = h.all_gone_over;
   impure = record { within = h.impure.within; numbers = h.impure.numbers };
   calls = h.calls;
+  numbered = h.numbered;
   answered = a;
 }
 

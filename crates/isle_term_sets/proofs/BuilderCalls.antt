@@ -11,8 +11,9 @@ use Rattle.isle_model.specs.lists.Tables.{Flags}
 use Rattle.isle_model.specs.sites.Sites.{SiteTerm, SiteTerms, constructor_call, each_term, pick_of, some_part, unfold_site}
 use Rattle.isle_model.specs.sites.Demands.{Visit, Valued, valued, call_result, call_sites, calling, iterating, making, visit_call, where_multi}
 use Rattle.isle_base.specs.declared.visit_fault.VisitFault.{VisitFault}
-use Rattle.isle_term_sets.specs.VisitedSites.{EndsBefore, GoesTo, HaveSites, StandsAt, Makes, MakesValue, ValuesTo, GivesValue, built_sites, input_ids, input_terms, value_made as value_made_of, value_sites}
+use Rattle.isle_term_sets.specs.VisitedSites.{EndsBefore, GoesTo, HaveSites, IsNextCall, IsSiteOf, StandsAt, Makes, MakesValue, ValuesTo, GivesValue, built_sites, call_number, input_ids, input_terms, value_made as value_made_of, value_sites}
 use Rattle.isle_term_sets.specs.declared.ruleset_builder.RuleSetBuilder.{RuleSetBuilder}
+use Rattle.isle_term_sets.proofs.CallNumbers.{result_number}
 use Rattle.isle_term_sets.proofs.BuilderFields.{making_twice, goes_further, ends_later}
 use Rattle.isle_term_sets.proofs.VisitedPatterns.{site_stays}
 
@@ -56,6 +57,10 @@ over_makes : (m : Bool) (call : SiteTerm) (w : Visit) → (if m then iterating c
 over_makes true call w = refl
 over_makes false call w = refl
 
+over_calls : (m : Bool) (call : SiteTerm) (w : Visit) → (if m then iterating call w else w).impure_calls ≡ w.impure_calls
+over_calls true call w = refl
+over_calls false call w = refl
+
 called_makes : (pure : Bool) (u : SiteTerm) (w : Visit) → (if pure then w else calling u w).demands.made ≡ w.demands.made
 called_makes true u w = refl
 called_makes false u w = refl
@@ -70,6 +75,12 @@ module _ (before : List SiteTerm) (old : RuleSetBuilder) (v : Visit) (flags : Fl
 
   call_same : valued (call_result flags Call) (Called flags Call v pure) ≡ visit_call flags t args v
   call_same = called_same flags t args v pure i is (own ∙ ap (λ n. if pure then 0 else suc n) h.calls)
+
+  -- an impure call is the next one
+  next_call : (b : RuleSetBuilder) (n : ℕ) → IsSiteOf b (call_result flags Call) n → pure ≡ false → IsNextCall b (Over flags Call v) n
+  next_call b n site f =
+      ap call_number site.number ∙ result_number flags Call ∙ own ∙ cond-false pure 0 (suc (length old.impure.items)) f ∙ ap suc h.calls
+      ∙ ap suc (sym (over_calls flags.multi Call (WithValue flags Call v)))
 
   made_by : (Called flags Call v pure).demands.made ≡ (WithValue flags Call v).demands.made
   made_by = called_makes pure (call_result flags Call) (Over flags Call v) ∙ over_makes flags.multi Call (WithValue flags Call v)
@@ -92,7 +103,7 @@ module _ (before : List SiteTerm) (old : RuleSetBuilder) (v : Visit) (flags : Fl
     -- the whole call
     pub call_valued : (b c d : RuleSetBuilder) (n : ℕ) → ((w : Visit) → StandsAt before a w → s < length (built_sites a) → MakesValue before a b flags (unfold_site (built_sites a) s) w n)
         → ((w : Visit) → StandsAt before b w → s < length (built_sites b) → GoesTo before b c (where_multi flags (unfold_site (built_sites b) s) w))
-        → ((w : Visit) → StandsAt before c w → n < length (built_sites c) → GoesTo before c d (if pure then w else calling (unfold_site (built_sites c) n) w))
+        → ((w : Visit) → StandsAt before c w → n < length (built_sites c) → (pure ≡ false → IsNextCall c w n) → GoesTo before c d (if pure then w else calling (unfold_site (built_sites c) n) w))
         → ValuesTo before old d (visit_call flags t args v) n
     call_valued b c d n make over call =
         let w : MakesValue before a b flags Call Begun n = subst (λ u. MakesValue before a b flags u Begun n) m.site.number (make Begun m.goes.stands m.site.within) in
@@ -100,7 +111,7 @@ module _ (before : List SiteTerm) (old : RuleSetBuilder) (v : Visit) (flags : Fl
         let gone : GoesTo before b c (Over flags Call v) = subst (λ u. GoesTo before b c (where_multi flags u (WithValue flags Call v))) at.number (over (WithValue flags Call v) w.goes.stands at.within) in
         let value = site_stays before b c (Over flags Call v) (call_result flags Call) n gone w.site in
         let called : GoesTo before c d (Called flags Call v pure) =
-        subst (λ u. GoesTo before c d (if pure then Over flags Call v else calling u (Over flags Call v))) value.number (call (Over flags Call v) gone.stands value.within) in
+        subst (λ u. GoesTo before c d (if pure then Over flags Call v else calling u (Over flags Call v))) value.number (call (Over flags Call v) gone.stands value.within (next_call c n value)) in
         let first = goes_further before old a b Begun (WithValue flags Call v) m.goes w.goes in
         let second = goes_further before old b c (WithValue flags Call v) (Over flags Call v) first gone in
         subst (λ q. ValuesTo before old d q n) call_same

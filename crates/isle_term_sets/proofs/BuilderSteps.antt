@@ -21,7 +21,7 @@ use Rattle.isle_sets.specs.DemandsHeld.{constraint_held, are_equated, first_kept
 use Rattle.isle_sets.specs.SiteTables.{AreFirst, ForWantOfRoom, HasNoRoom, HasSources, IsTable, StandsFor, table_sites}
 use Rattle.isle_sets.specs.SiteViews.{constraint_view}
 use Rattle.isle_sets.specs.Closings.{AreDemandsOf, KeepsDue}
-use Rattle.isle_term_sets.specs.VisitedSites.{AreAnswered, AsksUnwrapped, built_sites, conflict_beside, conflict_view, StandsAt, GoesTo, Makes, EndsBefore}
+use Rattle.isle_term_sets.specs.VisitedSites.{AreAnswered, AreNumbered, AsksUnwrapped, IsNextCall, built_sites, conflict_beside, conflict_view, StandsAt, GoesTo, Makes, EndsBefore}
 use Rattle.isle_base.specs.declared.visit_fault.VisitFault.{VisitFault}
 use Rattle.isle_sets.specs.declared.trie_again.Constraint as C
 use Rattle.isle_sets.specs.declared.demanded.Demanded.{Demanded}
@@ -32,6 +32,7 @@ use Rattle.isle_sets.proofs.ClosingSteps.{with_made, with_asked, with_equal, gro
 use Rattle.isle_sets.proofs.ClosingTaken.{merged_append, sites_append}
 use Rattle.isle_sets.proofs.FullTables.{both_want, want_weaker, site_lacks}
 use Rattle.isle_sets.proofs.SitesAdded.{same_all}
+use Rattle.isle_term_sets.proofs.CallNumbers.{calls_met, next_numbered, none_numbered}
 
 -- 1. demands with one more
 pub constraints_append : (as' bs cs : List (SiteTerm × Constraint)) → with_constraints (with_constraints cs as') bs ≡ with_constraints cs (as' ++ bs)
@@ -147,6 +148,7 @@ module _ (before : List SiteTerm) (b : RuleSetBuilder) (t : SiteTable) (v : Visi
           numbers = same_all (unfold_site (table_sites t)) (unfold_site (built_sites b)) (length (built_sites b)) b.impure.items st.kept h.impure.within ∙ h.impure.numbers;
         };
         calls = h.calls;
+        numbered = h.numbered;
         answered = λ r c. let g = h.answered r c in let l = g.0 in (omega (arith, l, longer), subst (AsksUnwrapped v) (sym (st.kept r l)) g.1);
       };
       kept = st.kept;
@@ -199,6 +201,7 @@ module _ (before : List SiteTerm) (b : RuleSetBuilder) (v : Visit) (h : StandsAt
           all_gone_over = h.all_gone_over;
           impure = record { within = h.impure.within; numbers = h.impure.numbers };
           calls = h.calls;
+          numbered = h.numbered;
           answered = λ r t. let g = h.answered r t in (g.0, λ u i. Contains-append_left v.demands.constraints ((f s, k) ∷ []) (u, is_present) (g.1 u i));
         };
         kept = λ r m. refl;
@@ -229,6 +232,7 @@ module _ (before : List SiteTerm) (b : RuleSetBuilder) (v : Visit) (h : StandsAt
           all_gone_over = λ u c. h.all_gone_over u (subst (λ l. Contains l u) its c);
           impure = record { within = h.impure.within; numbers = h.impure.numbers ∙ sym im };
           calls = h.calls ∙ sym calls;
+          numbered = subst AreNumbered (sym im) h.numbered;
           answered = λ r c. let g = h.answered r c in (g.0, λ u i. subst (λ l. Contains l (u, is_present)) (sym cs) (g.1 u i));
         };
         kept = λ r m. refl;
@@ -258,6 +262,7 @@ module _ (before : List SiteTerm) (b : RuleSetBuilder) (v : Visit) (h : StandsAt
           ];
       impure = record { within = h.impure.within; numbers = h.impure.numbers };
       calls = h.calls;
+      numbered = h.numbered;
       answered = h.answered;
     };
     kept = λ r m. refl;
@@ -268,9 +273,9 @@ module _ (before : List SiteTerm) (b : RuleSetBuilder) (v : Visit) (h : StandsAt
       either_way true c e = refl
       either_way false c e = e
 
-  pub call_made : (im : Vec ℕ) (s : ℕ) → s < length sites → im.items ≡ b.impure.items ++ s ∷ []
+  pub call_made : (im : Vec ℕ) (s : ℕ) → s < length sites → IsNextCall b v s → im.items ≡ b.impure.items ++ s ∷ []
       → GoesTo before b (record b { impure = im }) (calling (f s) v)
-  call_made im s l pushed = record {
+  call_made im s l next pushed = record {
     stands = record {
       table = h.table;
       due = h.due;
@@ -283,6 +288,7 @@ module _ (before : List SiteTerm) (b : RuleSetBuilder) (v : Visit) (h : StandsAt
         numbers = ap (map f) pushed ∙ map-append f b.impure.items (s ∷ []) ∙ ap (λ us. us ++ f s ∷ []) h.impure.numbers;
       };
       calls = ap length pushed ∙ length_push b.impure.items s ∙ add-one (length b.impure.items) ∙ ap suc h.calls;
+      numbered = next_numbered v.demands.impure (f s) h.numbered (next ∙ ap suc (sym (calls_met before b v h)));
       answered = h.answered;
     };
     kept = λ r m. refl;
@@ -318,6 +324,7 @@ nothing_visited before b table due once stand asked equal no_conflict no_iterato
   all_gone_over = λ u i. absurd (nothing_in u i);
   impure = record { within = subst (All (λ r. r < length (built_sites b))) (sym no_call) (All-nil (λ r. r < length (built_sites b))); numbers = ap (map (unfold_site (built_sites b))) no_call };
   calls = ap length no_call;
+  numbered = none_numbered;
   answered = nothing_answered (built_sites b) visit_start b.answered no_answer;
 }
 

@@ -1,6 +1,7 @@
 pub mod FittingPatterns
 pub mod VisitedPatterns
 pub mod WalkedVisits
+pub mod CallNumbers
 pub mod BuilderCalls
 pub mod BuilderFields
 pub mod BuilderSteps

@@ -157,6 +157,7 @@ bound_stands before b v x u h = record {
   all_gone_over = h.all_gone_over;
   impure = record { within = h.impure.within; numbers = h.impure.numbers };
   calls = h.calls;
+  numbered = h.numbered;
   answered = h.answered;
 }
 

@@ -6,7 +6,7 @@ use Rattle.std.specs.Ordering.{nat_cmp}
 use Rattle.std.specs.BTreeSet.{insert_key}
 use Rattle.isle_base.specs.Stable.{Members, contains}
 use Rattle.isle_model.specs.sites.Sites as Sites
-use Rattle.isle_model.specs.sites.Sites.{Site, SiteTerm, SiteTerms, argument, each_term, extract_struct_site, extractor_call, is_present, match_some_site, match_tuple_site, match_variant_site, pick_of, some_part, struct_field, tuple_part, unfold_site, variant_field}
+use Rattle.isle_model.specs.sites.Sites.{Site, SiteTerm, SiteTerms, argument, constructor_call, each_term, extract_struct_site, extractor_call, is_present, match_some_site, match_tuple_site, match_variant_site, pick_of, some_part, struct_field, tuple_part, unfold_site, variant_field}
 use Rattle.isle_model.specs.rules.Program.{Program}
 use Rattle.isle_model.specs.rules.Typed.{TypedPatterns, no_typed_pattern, TypedRule}
 use Rattle.isle_model.specs.lists.Tables.{Flags}
@@ -57,9 +57,25 @@ AsksUnwrapped v u = (call : SiteTerm) → Contains (unwraps u) call → Contains
 abbrev pub AreAnswered : List Site → Visit → Members ℕ → Type 0
 AreAnswered sites v walked = (s : ℕ) → IsTrue (contains ◌==◌ walked s) → (s < length sites) × AsksUnwrapped v (unfold_site sites s)
 
+-- the number of a constructor's call among the impure ones of its rule, at the call and at what it gives
+abbrev pub call_number : SiteTerm → ℕ
+call_number (constructor_call t args i) = i
+call_number (some_part call) = call_number call
+call_number (pick_of call) = call_number call
+call_number _ = 0
+
+-- the impure calls that a visit has met have the numbers from 1 on, in order
+abbrev pub AreNumbered : List SiteTerm → Type 0
+AreNumbered calls = (i : ℕ) (u : SiteTerm) → slice_get calls i ≡ Some u → call_number u ≡ suc i
+
+-- a site of a builder is the next impure call of a visit, or what that gives
+abbrev pub IsNextCall : RuleSetBuilder → Visit → ℕ → Type 0
+IsNextCall b v s = call_number (unfold_site (built_sites b) s) ≡ suc v.impure_calls
+
 -- a builder stands where a visit does, after these sites of the term's rules before: it has the sites that were made
 -- before or in the visit, the demands that the visit has met, the conflicts among them in their order, the calls that the
--- rule goes over, its impure calls in order, as many as were met, and sites whose unwrapped calls are asked to answer
+-- rule goes over, its impure calls in order, as many as were met, each with its own number, and sites whose unwrapped
+-- calls are asked to answer
 pub record StandsAt (before : List SiteTerm) (b : RuleSetBuilder) (v : Visit) : Type 0 where
   pub table : IsTable b.table
   pub due : KeepsDue b.demanded
@@ -69,6 +85,7 @@ pub record StandsAt (before : List SiteTerm) (b : RuleSetBuilder) (v : Visit) : 
   pub all_gone_over : (u : SiteTerm) → Contains v.demands.iterators u → (s : ℕ) × IsTrue (contains ◌==◌ b.iterators s) × (unfold_site (built_sites b) s ≡ u)
   pub impure : AreSitesOf b v.demands.impure b.impure.items
   pub calls : length b.impure.items ≡ v.impure_calls
+  pub numbered : AreNumbered v.demands.impure
   pub answered : AreAnswered (built_sites b) v b.answered
 
 -- a builder has gone on to stand where a visit does, and the sites that it had stand for what they did

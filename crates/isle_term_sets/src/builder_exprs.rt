@@ -1,11 +1,10 @@
 //! What the calls of an expression's visit make of sites.
-ghost use Rattle.std.specs.Prelude.{◌≡◌, ◌<◌, List, not, suc, length, map, All, IfErr, IfOk, OnOk, if◌then◌else◌};
+ghost use Rattle.std.specs.Prelude.{◌≡◌, ◌<◌, List, false, not, suc, length, map, All, IfErr, IfOk, OnOk, if◌then◌else◌};
 ghost use Rattle.isle_model.specs.lists.Tables.{Flags};
 ghost use Rattle.isle_model.specs.sites.Sites.{SiteTerm, bool_term, each_term, int_term, prim_term, struct_made, unfold_site, variant_made};
 ghost use Rattle.isle_model.specs.sites.Demands.{Visit, calling, finished, making, valued, visit_call, where_multi};
 ghost use Rattle.isle_typed.specs.VisitAnswers.{typed_inputs};
-ghost use Rattle.isle_sets.specs.SiteTables.{ForWantOfRoom};
-ghost use Rattle.isle_term_sets.specs.VisitedSites.{HaveSites, Constructs, EndsBefore, GivesValue, GoesTo, MakesValue, StandsAt, ValuesTo, built_sites, input_terms, value_made, value_sites};
+ghost use Rattle.isle_term_sets.specs.VisitedSites.{HaveSites, Constructs, EndsBefore, GivesValue, GoesTo, IsNextCall, MakesValue, StandsAt, ValuesTo, built_sites, input_terms, value_made, value_sites};
 
 use crate::ruleset_builder::RuleSetBuilder;
 use isle_base::visit_fault::VisitFault;
@@ -15,19 +14,16 @@ use isle_types::{Sym, TermId, TypeId, VariantId};
 use std::alloc::{AllocError, Global};
 
 impl RuleSetBuilder {
-    // The number of a call among the impure calls of its rule, from 1, and 0 for a pure one. Numbers run out as memory
-    // does.
-    pub(crate) fn instance(&self, pure: bool) -> Result<u32, VisitFault>
-        ensures number { IfOk result (λ n. n ≡ (if pure then 0 else suc (length self.now.impure.items))) }
-        ensures refused { IfErr result (ForWantOfRoom ⊥) }
+    // The number of a call among the impure calls of its rule, from 1, and 0 for a pure one. It fits: each impure call has
+    // sites of its own, and there are 65,536 sites at most.
+    #[tactic(auto, using(crate::proofs::CallNumbers::calls_fit))]
+    pub(crate) fn instance(&self, pure: bool) -> u32
+        ensures number { (before : List SiteTerm) (v : Visit) → StandsAt before self.now v → result ≡ (if pure then 0 else suc (length self.now.impure.items)) }
     {
         if pure {
-            return Ok(0);
+            return 0;
         }
-        match u32::try_from(self.impure.len() + 1) {
-            Ok(number) => Ok(number),
-            Err(_) => Err(VisitFault::Memory(AllocError)),
-        }
+        u32::try_from(self.impure.len() + 1).unwrap_or(u32::MAX)
     }
 
     // What a constructor's call gives: what is in its answer where there may be none, or one of its answers where there
@@ -65,7 +61,7 @@ impl RuleSetBuilder {
 
     // The rule makes an impure call, whose last site this is.
     pub(crate) fn note_call(&mut self, site: BindingId, pure: bool) -> Result<(), AllocError>
-        ensures called { (before : List SiteTerm) (v : Visit) → StandsAt before self.old v → site < length (built_sites self.old)
+        ensures called { (before : List SiteTerm) (v : Visit) → StandsAt before self.old v → site < length (built_sites self.old) → (pure ≡ false → IsNextCall self.old v site)
             → OnOk result (GoesTo before self.old self.new (if pure then v else calling (unfold_site (built_sites self.old) site) v)) }
     {
         if !pure {
@@ -108,7 +104,7 @@ impl RuleSetBuilder {
             → flags.pure ≡ pure → flags.partial ≡ not infallible → flags.multi ≡ multi
             → IfErr result (EndsBefore before self.new (visit_call flags term.0 (each_term (unfold_site (built_sites self.old)) parameters.items) v).visit) }
     {
-        let instance = self.instance(pure)?;
+        let instance = self.instance(pure);
         let call = self.make(Binding::Constructor {
             term,
             parameters,

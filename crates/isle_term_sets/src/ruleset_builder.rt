@@ -8,7 +8,7 @@ ghost use Rattle.isle_sets.specs.SiteTables.{ForWantOfRoom, HasSources, IsTable}
 ghost use Rattle.isle_model.specs.sites.Closure.{before_closing, closing, most_closing_steps};
 ghost use Rattle.isle_sets.specs.Closings.{EndsFull, GoOn};
 ghost use Rattle.isle_sets.specs.SiteViews.{constraint_view, site_view, site_views};
-ghost use Rattle.isle_term_sets.specs.VisitedSites.{EndsBefore, GoesTo, Makes, StandsAt, built_sites, conflict_beside, conflict_view};
+ghost use Rattle.isle_term_sets.specs.VisitedSites.{EndsBefore, GoesTo, IsNextCall, Makes, StandsAt, built_sites, conflict_beside, conflict_view};
 
 use isle_base::stablemapset::StableSet;
 use isle_base::visit_fault::VisitFault;
@@ -143,7 +143,7 @@ impl RuleSetBuilder {
 
     // The rule makes an impure call, whose last site this is.
     pub(crate) fn call(&mut self, site: BindingId) -> Result<(), AllocError>
-        ensures called { (before : List SiteTerm) (v : Visit) → StandsAt before self.old v → site < length (built_sites self.old)
+        ensures called { (before : List SiteTerm) (v : Visit) → StandsAt before self.old v → site < length (built_sites self.old) → IsNextCall self.old v site
             → OnOk result (GoesTo before self.old self.new (calling (unfold_site (built_sites self.old) site) v)) }
     {
         self.impure.push(site)?;

@@ -1,5 +1,6 @@
 //! The rule set of a term, as its rules are read one after another.
-ghost use Rattle.std.specs.Prelude.{◌≡◌, List, false, IfOk, OnOk};
+ghost use Rattle.std.specs.Prelude.{◌≡◌, ◌≢◌, List, false, IfOk, OnOk};
+ghost use Rattle.isle_base.specs.declared.visit_fault.VisitFault.TheVariants as Faults;
 ghost use Rattle.isle_model.specs.rules.Program.{Program};
 ghost use Rattle.isle_model.specs.sites.Closure.{Closed, is_unreachable};
 ghost use Rattle.isle_model.specs.sites.Demands.{Visit, demands_of};
@@ -155,10 +156,12 @@ impl RuleSetBuilder {
 
 // A rule is left out for the limit that it passes; or memory was refused. A builder never stops a visit itself.
 fn report_fault(errors: &mut Vec<Error>, fault: VisitFault, pos: Pos) -> Result<(), AllocError>
+    requires goes_on { fault ≢ Faults.Stopped }
     ensures { OnOk result (ReportsLimit errors.old.items errors.new.items fault pos) }
 {
     match &fault {
         VisitFault::Limit(limit) => report_limit(errors, *limit, pos),
-        VisitFault::Memory(_) | VisitFault::Stopped => Err(AllocError),
+        VisitFault::Memory(refused) => Err(*refused),
+        VisitFault::Stopped => unreachable!(),
     }
 }

@@ -1,6 +1,6 @@
 -- What lies within a text, where its parts lie in a `Vec`.
-use Rattle.std.proofs.Common.{◌≡◌, ℕ, List, [], ◌∷◌, ◌++◌, All, subst, sym, Vec, map, take, drop}
-use Rattle.std.proofs.lemmas.List.Elements.{All-nil, All-cons, All-head, All-tail, All-map, All-push, All-take, All-drop}
+use Rattle.std.proofs.Common.{◌≡◌, ℕ, List, [], ◌∷◌, ◌++◌, All, subst, sym, Vec, map}
+use Rattle.std.proofs.lemmas.List.Elements.{All-nil, All-cons, All-head, All-tail, All-map, All-push}
 use Rattle.std.specs.declared.alloc.Global.{Global}
 use Rattle.isle_base.specs.declared.syntax.Pattern.{Pattern}
 use Rattle.isle_base.specs.declared.syntax.Pattern.TheBlock.{hidden-the_row-Pattern-0}
@@ -43,10 +43,6 @@ pub group-parts : (file size : ℕ) (form : Form) (v : Vec Form Global) (p e : P
 group-parts file size form v p e fs is at h =
     let k = subst (FormIsWithin file size) is h in
     (subst (FormsAreWithin file size) (sym at) (forms-from_row file size v k.0), k.1, k.2)
-
--- the forms after the first
-pub rest-within : (file size : ℕ) (fs : List Form) (n : ℕ) → FormsAreWithin file size fs → FormsAreWithin file size (take n (drop 1 fs))
-rest-within file size fs n h = All-take (FormIsWithin file size) n (drop 1 fs) (All-drop (FormIsWithin file size) 1 fs h)
 
 -- the patterns of a term
 patterns-from_all : (file size : ℕ) (qs : List Pattern) → All (λ q. PatternIsWithin file size (pattern_view q)) qs → PatternsAreWithin file size (pattern_views qs)

@@ -7,12 +7,12 @@ ghost use Rattle.isle_base.specs.Places.{term_view};
 ghost use Rattle.isle_base.specs.SyntaxViews.{definition_view, definition_views, expr_view, iflet_view, rule_view};
 ghost use Rattle.isle_model.specs.lists.TermTable.{rule_trees};
 ghost use Rattle.isle_rules.specs.Constructors.{is_made, uses_of_rule, uses_of_definition, AreFoundMade};
-ghost use Rattle.isle_rules.specs.Elaborating.{Checks};
+ghost use Rattle.isle_reports.specs.Elaborating.{Checks};
 ghost use Rattle.isle_rules.specs.PatternUses.{found_term};
 
-use crate::reports::report_unmade;
 use crate::term_env::TermEnv;
 use isle_base::syntax::{Def, Error, Expr, Ident, IfLet, Pos, Rule};
+use isle_reports::reports::report_unmade;
 use isle_types::TypeEnv;
 use std::alloc::AllocError;
 

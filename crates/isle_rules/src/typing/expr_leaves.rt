@@ -6,19 +6,18 @@ ghost use Rattle.isle_model.specs.lists.Syntax.{bool_expr, int_expr, prim_expr};
 ghost use Rattle.isle_model.specs.lists.Tables.{Flags};
 ghost use Rattle.isle_model.specs.lists.Setting.{is_expected};
 ghost use Rattle.isle_types.specs.Envs.{IsInterned};
-ghost use Rattle.isle_rules.specs.Noting.{NotesMore};
-ghost use Rattle.isle_rules.specs.Elaborating.{Checks};
+ghost use Rattle.isle_base.specs.Noting.{NotesMore};
+ghost use Rattle.isle_reports.specs.Elaborating.{Checks};
 ghost use Rattle.isle_typed.specs.ExprViews.{expr_view};
 ghost use Rattle.isle_rules.specs.ExprReadings.{expected, expr_reading};
 ghost use Rattle.isle_rules.specs.Translating.{standing, Keeps, MayTranslate};
 
-use crate::reports::{expected_text, report, type_text};
 use crate::term_env::TermEnv;
-use crate::typing::checks::{
-    check_bool, check_integer, constant_type, literal_number, meets_expected,
-};
+use crate::typing::expr_uses::meets_expected;
 use crate::typing::progress::{Progress, Stop};
 use isle_base::syntax::{Error, Ident, Pos};
+use isle_reports::checks::{check_bool, check_integer, constant_type, literal_number};
+use isle_reports::reports::{expected_text, report, type_text};
 use isle_typed::Expr;
 use isle_types::{TypeEnv, TypeId};
 use std::alloc::AllocError;

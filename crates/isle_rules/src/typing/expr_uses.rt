@@ -1,25 +1,25 @@
 //! What names in expressions stand for: variables and terms.
 
-ghost use Rattle.std.specs.Prelude.{◌≡◌, true, not, ◌||◌, ℕ, IfOk, OnOk, option_map, option_and_then, length, string_bytes};
+ghost use Rattle.std.specs.Prelude.{◌≡◌, true, not, ◌||◌, IfOk, OnOk, option_map, option_and_then, length, string_bytes};
 ghost use Rattle.isle_base.specs.SyntaxViews.{name_view, position, expr_view, expr_views};
 ghost use Rattle.isle_model.specs.lists.Syntax.{term_expr, var_expr};
 ghost use Rattle.isle_model.specs.lists.Setting.{is_expected};
 ghost use Rattle.isle_model.specs.lists.Tables.{Flags};
 ghost use Rattle.isle_terms.specs.TermViews.{flags_view, term_view};
 ghost use Rattle.isle_types.specs.Envs.{symbol_of, IsInterned};
-ghost use Rattle.isle_rules.specs.Noting.{NotesMore};
-ghost use Rattle.isle_rules.specs.Elaborating.{Checks};
+ghost use Rattle.isle_base.specs.Noting.{NotesMore};
+ghost use Rattle.isle_reports.specs.Elaborating.{Checks};
 ghost use Rattle.isle_rules.specs.ExprReadings.{expected};
 ghost use Rattle.isle_rules.specs.ExprUses.{found_expr_converter, declared_converter, inside_call, allowed, UsesVar, UsesCall};
 ghost use Rattle.isle_rules.specs.Progress.{newest, Remains};
 ghost use Rattle.isle_typed.specs.RuleViews.{var_view};
 ghost use Rattle.isle_rules.specs.Translating.{standing};
 
-use crate::reports::{check, expected_text, report, report_unmade, type_text};
 use crate::term_env::TermEnv;
-use crate::typing::checks::{check_count, meets_expected};
 use crate::typing::progress::{Progress, Stop};
 use isle_base::syntax::{Error, Expr, Ident, Pos};
+use isle_reports::checks::check_count;
+use isle_reports::reports::{check, expected_text, report, report_unmade, type_text};
 use isle_terms::{Term, TermFlags, TermKind};
 use isle_typed::BoundVar;
 use isle_types::{TypeEnv, TypeId};
@@ -310,4 +310,14 @@ fn report_unknown(
     };
     let msg = format_args!("Unknown term in expression: '{}'{hint}", sym.0);
     report(&mut work.errors, pos, msg)
+}
+
+// Whether an expression of a type may stand where a type, or any type, is expected.
+pub(crate) fn meets_expected(has: TypeId, want: Option<TypeId>) -> bool
+    ensures { result ≡ is_expected (expected want) has.0 }
+{
+    match want {
+        Some(ty) => has == ty,
+        None => true,
+    }
 }

@@ -5,14 +5,14 @@ ghost use Rattle.std.specs.Option.{option_to_list};
 ghost use Rattle.isle_base.specs.SyntaxViews.{name_view};
 ghost use Rattle.isle_model.specs.lists.Elaborated.{typed_let};
 ghost use Rattle.isle_types.specs.Envs.{IsInterned};
-ghost use Rattle.isle_rules.specs.Noting.{NotesMore};
+ghost use Rattle.isle_base.specs.Noting.{NotesMore};
 ghost use Rattle.isle_typed.specs.ExprViews.{expr_view, let_views, let_parts};
 ghost use Rattle.isle_rules.specs.Lets.{Begins, Binds, Closes};
 ghost use Rattle.isle_rules.specs.Translating.{Keeps};
 
-use crate::reports::report;
 use crate::typing::progress::Progress;
 use isle_base::syntax::{Error, LetDef, Pos};
+use isle_reports::reports::report;
 use isle_typed::{BoundVar, Expr};
 use isle_types::{Sym, TypeEnv, TypeId, VarId};
 use std::alloc::AllocError;

@@ -4,17 +4,17 @@ ghost use Rattle.std.specs.Prelude.{◌≡◌, ℕ, Bool, None, OnOk, string_byt
 ghost use Rattle.isle_base.specs.SyntaxViews.{name_view, position};
 ghost use Rattle.isle_model.specs.lists.Syntax.{var_pattern, bool_pattern, int_pattern, prim_pattern, macro_arg};
 ghost use Rattle.isle_types.specs.Envs.{IsInterned};
-ghost use Rattle.isle_rules.specs.Elaborating.{Checks};
+ghost use Rattle.isle_reports.specs.Elaborating.{Checks};
 ghost use Rattle.isle_typed.specs.PatternViews.{pattern_view};
 ghost use Rattle.isle_rules.specs.PatternReadings.{pattern_reading, BindsAround};
 ghost use Rattle.isle_rules.specs.Progress.{newest, Remains};
 ghost use Rattle.isle_rules.specs.Translating.{standing, Keeps, MayTranslate};
 
-use crate::reports::{report, type_text};
 use crate::term_env::TermEnv;
-use crate::typing::checks::{check_bool, check_integer, check_same, constant_type, literal_number};
 use crate::typing::progress::{Progress, Stop};
 use isle_base::syntax::{Error, Ident, Pos};
+use isle_reports::checks::{check_bool, check_integer, check_same, constant_type, literal_number};
+use isle_reports::reports::{report, type_text};
 use isle_typed::Pattern;
 use isle_types::{Sym, TypeEnv, TypeId};
 use std::alloc::AllocError;

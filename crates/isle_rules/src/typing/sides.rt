@@ -13,10 +13,10 @@ ghost use Rattle.isle_typed.specs.RuleViews.{iflet_view};
 ghost use Rattle.isle_rules.specs.Translating.{standing, Keeps, MayTranslate, Translates};
 
 use crate::term_env::TermEnv;
-use crate::typing::checks::check_count;
 use crate::typing::progress::{Progress, Stop};
 use isle_base::syntax;
 use isle_base::syntax::{Ident, Pos};
+use isle_reports::checks::check_count;
 use isle_terms::{Term, TermFlags};
 use isle_typed::{Expr, IfLet, Pattern};
 use isle_types::{TypeEnv, TypeId};

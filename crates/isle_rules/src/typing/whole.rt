@@ -9,10 +9,10 @@ ghost use Rattle.isle_rules.specs.RulesRead.{ReadsRules};
 ghost use Rattle.isle_rules.specs.ShownEnvs.{terms_shown_by};
 ghost use Rattle.isle_rules.specs.Translating.{Keeps};
 
-use crate::rule_names::{check_defined, map_names, name_rules};
 use crate::term_env::TermEnv;
 use crate::typing::progress::Progress;
 use isle_base::syntax::{Def, Error};
+use isle_reports::rule_names::{check_defined, map_names, name_rules};
 use isle_types::TypeEnv;
 use std::alloc::AllocError;
 

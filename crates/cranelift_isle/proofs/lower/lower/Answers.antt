@@ -7,7 +7,7 @@ use Rattle.isle_model.specs.claims.Layers.{RefusedBy, by_types, by_rules}
 use Rattle.isle_model.specs.claims.Refusals.{NamesOnlyPassed, PassedInReading, RefusesTypes, RefusesRules}
 use Rattle.isle_laws_trees.specs.NoLimits.{PassedInLowering}
 use Rattle.isle_types.specs.declared.type_env.TypeEnv.{TypeEnv}
-use Rattle.isle_rules.specs.ErrorViews.{error_views}
+use Rattle.isle_base.specs.ErrorViews.{error_views}
 use Rattle.isle_rules.specs.declared.term_env.TermEnv.{TermEnv}
 use Rattle.isle_rules.proofs.RuleErrorSteps.{no_limit_named}
 use Rattle.cranelift_isle.specs.declared.lower.Lowered.{Lowered}

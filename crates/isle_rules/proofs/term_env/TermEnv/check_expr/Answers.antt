@@ -3,7 +3,7 @@ use Rattle.isle_base.specs.Expressions.{terms_of_expr}
 use Rattle.isle_base.specs.Places.{term_view}
 use Rattle.isle_base.specs.SyntaxViews.{expr_view}
 use Rattle.isle_rules.specs.Constructors.{AreFoundMade}
-use Rattle.isle_rules.specs.Elaborating.{Checks}
+use Rattle.isle_reports.specs.Elaborating.{Checks}
 use Rattle.isle_rules.proofs.term_env.TermEnv.check_expr.Goals as goal
 
 pub returns : goal.returns

@@ -3,9 +3,9 @@ use Rattle.isle_base.specs.SyntaxViews.{definition_views}
 use Rattle.isle_model.specs.lists.Elaborated.{named_rules}
 use Rattle.isle_model.specs.lists.TermTable.{rule_trees}
 use Rattle.isle_terms.specs.TermViews.{term_views}
-use Rattle.isle_rules.specs.Elaborating.{Checks}
+use Rattle.isle_reports.specs.Elaborating.{Checks}
 use Rattle.isle_rules.specs.RuleLists.{CollectsRules}
-use Rattle.isle_rules.specs.RuleNaming.{MapsNames, AreDefined}
+use Rattle.isle_reports.specs.RuleNaming.{MapsNames, AreDefined}
 use Rattle.isle_typed.specs.RuleViews.{rule_views}
 use Rattle.isle_rules.specs.RuleErrors.{NotesOfRules}
 use Rattle.isle_rules.proofs.RulesRefused.{mapped_noted, noted_to_the_end}

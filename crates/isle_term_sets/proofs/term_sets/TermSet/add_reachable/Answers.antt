@@ -1,12 +1,16 @@
-use Rattle.std.proofs.Common.{refl}
+use Rattle.std.proofs.Common.{refl, subst}
 use Rattle.isle_model.specs.sites.Closure.{before_closing, closing, most_closing_steps}
 use Rattle.isle_model.specs.sites.Demands.{demands_of, visit_rule, with_sites}
 use Rattle.isle_typed.specs.RuleViews.{rule_view}
+use Rattle.isle_sets.specs.SiteTables.{ForWantOfRoom, IsTable}
 use Rattle.isle_sets.specs.SiteViews.{set_rule_views}
 use Rattle.isle_term_sets.specs.declared.term_sets.TermSet.{TermSet}
 use Rattle.isle_term_sets.proofs.PassedRules.{visited_stay}
 use Rattle.isle_term_sets.proofs.RulesReported.{closing_ends, goes_on_added, goes_on_limited, on_ok_then}
 use Rattle.isle_term_sets.proofs.term_sets.TermSet.add_reachable.Goals as goal
+
+pub report_fault-requires : goal.report_fault-requires
+report_fault-requires c = record { goes_on = λ e. subst (ForWantOfRoom (IsTable c.close.new.self.table)) e c.in-Err.ensures.kept }
 
 pub returns-in-Ok : goal.returns-in-Ok
 returns-in-Ok c p before w reachable =

@@ -5,7 +5,7 @@ use Rattle.isle_model.specs.sites.Demands.{visit_rule}
 use Rattle.isle_model.specs.sites.Limits.{most_sites}
 use Rattle.isle_model.specs.sites.Sites.{unfold_site}
 use Rattle.isle_typed.specs.RuleViews.{rule_view}
-use Rattle.isle_term_sets.specs.VisitedSites.{built_sites}
+use Rattle.isle_term_sets.specs.VisitedSites.{EndsAtLimit, built_sites}
 use Rattle.isle_term_sets.specs.declared.term_sets.TermSet.{TermSet}
 use Rattle.isle_term_sets.proofs.GrownSites.{stays_after}
 use Rattle.isle_term_sets.proofs.RulesReported.{goes_on_from, goes_on_limited, on_ok_then}
@@ -24,6 +24,14 @@ add_visited-requires g c =
     let m = c.requires.may.2 in
     let v = c.in-Ok.ensures.visited p before m.terms m.formed (c.start_rule.ensures.started before m.table m.once m.stand) in
     record { visited = (before, (visit_rule p (rule_view c.args.rule.now)).visit, v.0.goes.stands) }
+
+pub report_fault-requires : goal.report_fault-requires
+report_fault-requires g c =
+    let p = c.requires.may.0 in
+    let before = c.requires.may.1 in
+    let m = c.requires.may.2 in
+    let ends = c.in-Err.ensures.limit p before m.terms m.formed (c.start_rule.ensures.started before m.table m.once m.stand) in
+    record { goes_on = λ e. subst (EndsAtLimit p before (rule_view c.args.rule.now) c.visit_rule.new.self) e ends }
 
 pub returns-in-Ok : goal.returns-in-Ok
 returns-in-Ok g c p before m =

@@ -1,0 +1,234 @@
+//! What the command answers to texts.
+
+use crate::words::{Request, Task};
+use cranelift_isle::lower::{Lowered, LoweredTerm, lower};
+use isle_base::syntax::{Def, Fault, Files};
+use isle_explaining::diagnosis::reports_of;
+use isle_explaining::explanation::{explanation, with_rules};
+use isle_explaining::stats::stats;
+use isle_printing::print::{Names, print_term};
+use isle_rendering::layout::push_reports;
+use isle_rendering::report::{Label, Level, Report};
+use isle_text::errors::{Problem, ReadFault, TextError};
+use isle_text::read;
+use std::alloc::{AllocError, Global};
+
+/// What the command answers.
+pub struct Answer {
+    /// Its status: 0, or 1 where something is wrong with the files or there is nothing of a name that is asked for.
+    pub status: u8,
+    /// What goes to standard output.
+    pub out: String,
+    /// What goes to standard error.
+    pub err: String,
+}
+
+impl Drop for Answer {
+    fn drop(self) {
+        let Self {
+            status: _,
+            out: _,
+            err: _,
+        } = self;
+    }
+}
+
+/// What is answered to files. All errors of the first pass that finds some are told: of reading, one for each file.
+pub fn answer_to(alloc: Global, asked: &Request<'_>, files: &Files) -> Result<Answer, AllocError> {
+    let mut defs = Vec::new(alloc);
+    let mut reports = Vec::new(alloc);
+    for (number, text) in files.texts.iter().enumerate() {
+        read_text(alloc, number, text, &mut defs, &mut reports)?;
+    }
+    if !reports.is_empty() {
+        return refusal(alloc, asked, files, &reports);
+    }
+    answer_to_defs(alloc, asked, files, &defs)
+}
+
+// Reads a text: its definitions are added, or what is wrong with it.
+fn read_text(
+    alloc: Global,
+    number: usize,
+    text: &str,
+    defs: &mut Vec<Def>,
+    reports: &mut Vec<Report>,
+) -> Result<(), AllocError> {
+    match read(alloc, number, text) {
+        Ok(mut read) => {
+            defs.append(&mut read)?;
+            Ok(())
+        }
+        Err(ReadFault::Text(error)) => {
+            reports.push(syntax_report(alloc, error)?)?;
+            Ok(())
+        }
+        Err(ReadFault::Memory(error)) => Err(error),
+    }
+}
+
+// The report of what is wrong with a text.
+fn syntax_report(alloc: Global, error: TextError) -> Result<Report, AllocError> {
+    let mut report = Report {
+        level: Level::Error,
+        kind: "syntax",
+        message: format!(in alloc; "{error}")?,
+        labels: Vec::new(alloc),
+        notes: Vec::new(alloc),
+    };
+    report.labels.push(Label {
+        pos: error.pos,
+        text: String::new(alloc),
+    })?;
+    if let Problem::Unclosed(open) = &error.problem {
+        report.labels.push(Label {
+            pos: *open,
+            text: String::from_str(alloc, "begins here")?,
+        })?;
+    }
+    Ok(report)
+}
+
+// The answer where something is wrong.
+fn refusal(
+    alloc: Global,
+    asked: &Request<'_>,
+    files: &Files,
+    reports: &[Report],
+) -> Result<Answer, AllocError> {
+    let mut err = String::new(alloc);
+    push_reports(&mut err, files, reports, asked.layout)?;
+    Ok(Answer {
+        status: 1,
+        out: String::new(alloc),
+        err,
+    })
+}
+
+// What is answered to definitions.
+fn answer_to_defs(
+    alloc: Global,
+    asked: &Request<'_>,
+    files: &Files,
+    defs: &[Def],
+) -> Result<Answer, AllocError> {
+    match lower(alloc, defs, asked.expand) {
+        Ok(lowered) => answer_to_lowered(alloc, asked, files, &lowered),
+        Err(Fault::Errors(errors)) => {
+            let reports = reports_of(alloc, defs, asked.expand, &errors)?;
+            refusal(alloc, asked, files, &reports)
+        }
+        Err(Fault::Memory(error)) => Err(error),
+    }
+}
+
+// What is answered to definitions with trees.
+fn answer_to_lowered(
+    alloc: Global,
+    asked: &Request<'_>,
+    files: &Files,
+    lowered: &Lowered,
+) -> Result<Answer, AllocError> {
+    match asked.task {
+        Task::Lower => trees(alloc, asked, files, lowered),
+        Task::Check | Task::Samples => Ok(accepted(alloc, String::new(alloc))),
+        Task::Stats => Ok(accepted(alloc, stats(alloc, lowered)?)),
+        Task::Explain => {
+            let text = explanation(alloc, files, lowered, asked.rule)?;
+            if text.is_empty() {
+                return missing(alloc, "rule", asked.rule);
+            }
+            Ok(accepted(alloc, text))
+        }
+    }
+}
+
+// The answer where nothing is wrong.
+fn accepted(alloc: Global, out: String) -> Answer {
+    Answer {
+        status: 0,
+        out,
+        err: String::new(alloc),
+    }
+}
+
+// The answer where there is nothing of a name.
+fn missing(alloc: Global, what: &str, name: &str) -> Result<Answer, AllocError> {
+    Ok(Answer {
+        status: 1,
+        out: String::new(alloc),
+        err: format!(in alloc; "error: there is no {what} `{name}`\n")?,
+    })
+}
+
+// The trees of the terms that are asked for.
+fn trees(
+    alloc: Global,
+    asked: &Request<'_>,
+    files: &Files,
+    lowered: &Lowered,
+) -> Result<Answer, AllocError> {
+    if let Some(name) = missing_term(asked.terms, lowered) {
+        return missing(alloc, "term with rules", name);
+    }
+    let mut out = String::new(alloc);
+    for term in &lowered.terms {
+        if is_wanted(asked.terms, term_name(lowered, term)) {
+            out.push_str(&tree(alloc, files, lowered, term)?)?;
+        }
+    }
+    Ok(accepted(alloc, out))
+}
+
+// The tree of a term, with the rules that its returns take.
+fn tree(
+    alloc: Global,
+    files: &Files,
+    lowered: &Lowered,
+    term: &LoweredTerm,
+) -> Result<String, AllocError> {
+    let names = Names {
+        syms: &lowered.tyenv.syms,
+        types: &lowered.tyenv.types,
+        terms: &lowered.termenv.terms,
+    };
+    let mut printed = String::new(alloc);
+    print_term(
+        &mut printed,
+        names,
+        term.id,
+        &term.rules.bindings,
+        &term.block,
+    )?;
+    with_rules(alloc, files, lowered, term, &printed)
+}
+
+// The name of a term.
+fn term_name<'a>(lowered: &'a Lowered, term: &LoweredTerm) -> &'a str {
+    match lowered.termenv.terms.get(term.id.index()) {
+        Some(term) => lowered.tyenv.text_of(term.name),
+        None => "",
+    }
+}
+
+// Whether a term is among those that are wanted, which are all where none are named.
+fn is_wanted(wanted: Option<&str>, name: &str) -> bool {
+    match wanted {
+        Some(names) => names.split(',').any(|other| other == name),
+        None => true,
+    }
+}
+
+// The first name of a term that is wanted and has no rules.
+fn missing_term<'a>(wanted: Option<&'a str>, lowered: &Lowered) -> Option<&'a str> {
+    for name in wanted?.split(',') {
+        if !lowered
+            .terms
+            .iter()
+            .any(|term| term_name(lowered, term) == name)
+        {
+            return Some(name);
+        }
+    }
+    None
+}

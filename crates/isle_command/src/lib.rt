@@ -1,0 +1,7 @@
+//! The command `isle`: what it is asked by its words, and what it answers to files of ISLE text.
+#![tactic(auto)]
+
+pub mod answers;
+mod inputs;
+pub mod run;
+pub mod words;

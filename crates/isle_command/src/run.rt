@@ -1,0 +1,113 @@
+//! What the command does.
+
+use crate::answers::{Answer, answer_to};
+use crate::inputs::{Unread, read_files};
+use crate::words::{Request, Task, asked_by};
+use isle_answers::answers::{end, no_memory, write_text};
+use isle_answers::sample_run::run_sample;
+use std::alloc::{AllocError, Global};
+use std::io::{Read, Write};
+
+// What the program says of words that ask for nothing.
+const USAGE: &str =
+    "usage: isle lower|check|explain RULE|stats|samples [OPTIONS] FILE.. (isle --help says more)\n";
+
+// The names of the samples.
+const SAMPLES: &str =
+    "empty fall types builtin const-eq variant-eq cycle cycle2 cycle3 conflict overlap shadow prio equal below wrap extract surplus endless iflet partial effects unused used multi multi-ext shared ties\n";
+
+/// Runs the command: `words` are its arguments without its own name, `input` is standard input, and the answer is its
+/// status.
+///
+/// 0: what is asked is on `out`. 1: what is wrong with the files is on `err`, or what there isn't. 2: the words ask for
+/// nothing, and `err` says how the command is used. 3: memory was refused. 4: a file can't be read, or `out` can't be
+/// written. A failure of `err` changes no status.
+pub fn run<R: std::rt::Files + AllocGlobal, I: Read + Drop, O: Write, E: Write>(
+    rt: &R,
+    words: &[String],
+    input: I,
+    out: &mut O,
+    err: &mut E,
+) -> u8 {
+    match asked_by(rt.alloc(), words) {
+        Ok(Some(asked)) => run_request(rt, &asked, input, out, err),
+        Ok(None) => end(err, USAGE, 2),
+        Err(AllocError) => no_memory(err),
+    }
+}
+
+// Does what is asked.
+fn run_request<R: std::rt::Files + AllocGlobal, I: Read + Drop, O: Write, E: Write>(
+    rt: &R,
+    asked: &Request<'_>,
+    input: I,
+    out: &mut O,
+    err: &mut E,
+) -> u8 {
+    if asked.task == Task::Samples {
+        return run_samples(rt.alloc(), asked, out, err);
+    }
+    match read_files(rt, asked, input) {
+        Ok(files) => write_answer(answer_to(rt.alloc(), asked, &files), out, err),
+        Err(why) => cannot_read(rt.alloc(), why, err),
+    }
+}
+
+// Writes what is answered, and answers its status.
+fn write_answer<O: Write, E: Write>(
+    answer: Result<Answer, AllocError>,
+    out: &mut O,
+    err: &mut E,
+) -> u8 {
+    match answer {
+        Ok(answer) if answer.status == 0 => write_text(&answer.out, out, err),
+        Ok(answer) => end(err, &answer.err, answer.status),
+        Err(AllocError) => no_memory(err),
+    }
+}
+
+// Says why files can't be read, and answers the status for it.
+fn cannot_read<E: Write>(alloc: Global, why: Unread, err: &mut E) -> u8 {
+    match why {
+        Unread::Memory => no_memory(err),
+        Unread::Text(name) => say(
+            alloc,
+            "error[syntax]: this text isn't UTF-8: ",
+            &name,
+            1,
+            err,
+        ),
+        Unread::File(name) => say(alloc, "isle: cannot read ", &name, 4, err),
+    }
+}
+
+// Says something of a file, and answers this status.
+fn say<E: Write>(alloc: Global, text: &str, name: &str, status: u8, err: &mut E) -> u8 {
+    match format!(in alloc; "{text}{name}\n") {
+        Ok(line) => end(err, &line, status),
+        Err(AllocError) => no_memory(err),
+    }
+}
+
+// Writes the names of the samples, or what comes of one.
+fn run_samples<O: Write, E: Write>(
+    alloc: Global,
+    asked: &Request<'_>,
+    out: &mut O,
+    err: &mut E,
+) -> u8 {
+    let Some(name) = asked.files.first() else {
+        return write_text(SAMPLES, out, err);
+    };
+    match words_of(alloc, name) {
+        Ok(words) => run_sample(alloc, &words, out, err),
+        Err(AllocError) => no_memory(err),
+    }
+}
+
+// A word as the words of a program.
+fn words_of(alloc: Global, name: &str) -> Result<Vec<String>, AllocError> {
+    let mut words = Vec::new(alloc);
+    words.push(String::from_str(alloc, name)?)?;
+    Ok(words)
+}

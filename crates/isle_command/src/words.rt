@@ -1,0 +1,168 @@
+//! What the command is asked by its words.
+
+use isle_rendering::layout::Layout;
+use std::alloc::{AllocError, Global};
+
+/// What is to be done.
+#[derive(Clone, Copy, PartialEq, Eq)]
+pub enum Task {
+    /// The trees of the files' terms.
+    Lower,
+    /// Nothing but what is wrong.
+    Check,
+    /// What a rule demands and when it is taken.
+    Explain,
+    /// How large terms are.
+    Stats,
+    /// The names of the samples, or the trees of one.
+    Samples,
+}
+
+/// What the command is asked.
+pub struct Request<'a> {
+    /// What is to be done.
+    pub task: Task,
+    /// Whether uses of internal extractors are replaced by their templates.
+    pub expand: bool,
+    /// How reports are laid out.
+    pub layout: Layout,
+    /// The names of the terms whose trees are wanted, with commas between them; all where there are none.
+    pub terms: Option<&'a str>,
+    /// Where files are looked for whose names don't begin with `/`; the empty text for where the command runs.
+    pub folder: &'a str,
+    /// The rule that is to be explained, by its name, its line, or its file, a colon and its line.
+    pub rule: &'a str,
+    /// The files, where `-` is standard input, or the sample.
+    pub files: Vec<&'a str>,
+}
+
+impl<'a> Drop for Request<'a> {
+    fn drop(self) {
+        let Request {
+            task: _,
+            expand: _,
+            layout: _,
+            terms: _,
+            folder: _,
+            rule: _,
+            files: _,
+        } = self;
+    }
+}
+
+// What the next word is.
+#[derive(Clone, Copy, PartialEq, Eq)]
+enum Awaited {
+    Task,
+    Rule,
+    Terms,
+    Folder,
+    Format,
+    // An option or a file.
+    Any,
+}
+
+/// What these words ask, or None where they ask for nothing. They are the name of a task; for `explain` the rule; then
+/// files, or for `samples` at most one sample. Everywhere behind the task there may be `--no-expand`, `--terms NAMES`,
+/// `--format text`, `--format line` and `-C FOLDER`.
+pub fn asked_by<'a>(alloc: Global, words: &'a [String]) -> Result<Option<Request<'a>>, AllocError> {
+    let mut asked = Request {
+        task: Task::Lower,
+        expand: true,
+        layout: Layout::Text,
+        terms: None,
+        folder: "",
+        rule: "",
+        files: Vec::new(alloc),
+    };
+    let mut awaited = Awaited::Task;
+    for word in words {
+        match asked.read(awaited, word.as_str())? {
+            Some(next) => awaited = next,
+            None => return Ok(None),
+        }
+    }
+    if awaited == Awaited::Any && asked.has_files() {
+        Ok(Some(asked))
+    } else {
+        Ok(None)
+    }
+}
+
+impl<'a> Request<'a> {
+    // Whether there are as many files as the task wants.
+    fn has_files(&self) -> bool {
+        match self.task {
+            Task::Samples => self.files.len() <= 1,
+            Task::Lower | Task::Check | Task::Explain | Task::Stats => !self.files.is_empty(),
+        }
+    }
+
+    // Reads a word. What is awaited then, or None where the word says nothing.
+    fn read(&mut self, awaited: Awaited, word: &'a str) -> Result<Option<Awaited>, AllocError> {
+        match awaited {
+            Awaited::Task => Ok(self.read_task(word)),
+            Awaited::Format => Ok(self.read_format(word)),
+            Awaited::Any => self.read_any(word),
+            Awaited::Rule => {
+                self.rule = word;
+                Ok(Some(Awaited::Any))
+            }
+            Awaited::Terms => {
+                self.terms = Some(word);
+                Ok(Some(Awaited::Any))
+            }
+            Awaited::Folder => {
+                self.folder = word;
+                Ok(Some(Awaited::Any))
+            }
+        }
+    }
+
+    // Reads the name of a task.
+    fn read_task(&mut self, word: &str) -> Option<Awaited> {
+        let (task, next) = match word {
+            "lower" => (Task::Lower, Awaited::Any),
+            "check" => (Task::Check, Awaited::Any),
+            "explain" => (Task::Explain, Awaited::Rule),
+            "stats" => (Task::Stats, Awaited::Any),
+            "samples" => (Task::Samples, Awaited::Any),
+            _ => return None,
+        };
+        self.task = task;
+        Some(next)
+    }
+
+    // Reads the name of a layout.
+    fn read_format(&mut self, word: &str) -> Option<Awaited> {
+        self.layout = match word {
+            "text" => Layout::Text,
+            "line" => Layout::Line,
+            _ => return None,
+        };
+        Some(Awaited::Any)
+    }
+
+    // Reads an option or a file.
+    fn read_any(&mut self, word: &'a str) -> Result<Option<Awaited>, AllocError> {
+        match word {
+            "--no-expand" => {
+                self.expand = false;
+                Ok(Some(Awaited::Any))
+            }
+            "--terms" => Ok(Some(Awaited::Terms)),
+            "--format" => Ok(Some(Awaited::Format)),
+            "-C" => Ok(Some(Awaited::Folder)),
+            _ => self.read_file(word),
+        }
+    }
+
+    // Reads the name of a file.
+    fn read_file(&mut self, word: &'a str) -> Result<Option<Awaited>, AllocError> {
+        if word.is_empty() || word != "-" && word.starts_with('-') {
+            return Ok(None);
+        }
+        self.files.push(word)?;
+        Ok(Some(Awaited::Any))
+    }
+}

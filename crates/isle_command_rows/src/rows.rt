@@ -1,0 +1,100 @@
+//! Rows: the words of a command and texts of files.
+
+use isle_base::syntax::Files;
+use isle_command::answers::answer_to;
+use isle_command::words::asked_by;
+use std::alloc::{AllocError, Global};
+
+// A row: its line, which is empty before the first row, and the files below it.
+struct Row<'a> {
+    line: &'a str,
+    files: Files,
+}
+
+impl<'a> Drop for Row<'a> {
+    fn drop(self) {
+        let Row { line: _, files: _ } = self;
+    }
+}
+
+/// What is answered to the rows of a text, each after the row's line.
+///
+/// A row is a line that begins with `# `, behind it the row's name and the command's words, and the text of the file `a.isle`
+/// below it. A line that begins with `## ` and a name begins another file. The answer is a line with the status, then what goes
+/// to standard output and standard error.
+pub fn answers(alloc: Global, text: &str) -> Result<String, AllocError> {
+    let mut out = String::new(alloc);
+    let mut row = begun(alloc, "")?;
+    for line in text.split('\n') {
+        if line.starts_with("# ") {
+            push_row(alloc, &row, &mut out)?;
+            row = begun(alloc, line)?;
+        } else {
+            add_line(alloc, &mut row.files, line)?;
+        }
+    }
+    push_row(alloc, &row, &mut out)?;
+    Ok(out)
+}
+
+// A row without text.
+fn begun(alloc: Global, line: &str) -> Result<Row<'_>, AllocError> {
+    let mut files = Files {
+        names: Vec::new(alloc),
+        texts: Vec::new(alloc),
+    };
+    add_file(alloc, &mut files, "a.isle")?;
+    Ok(Row { line, files })
+}
+
+// Adds a file without text.
+fn add_file(alloc: Global, files: &mut Files, name: &str) -> Result<(), AllocError> {
+    files.names.push(String::from_str(alloc, name)?)?;
+    files.texts.push(String::new(alloc))?;
+    Ok(())
+}
+
+// Adds a line of a row.
+fn add_line(alloc: Global, files: &mut Files, line: &str) -> Result<(), AllocError> {
+    if let Some(name) = line.strip_prefix("## ") {
+        return add_file(alloc, files, name);
+    }
+    match files.texts.last_mut() {
+        Some(text) => push_line(text, line),
+        None => Ok(()),
+    }
+}
+
+// Adds a line.
+fn push_line(out: &mut String, line: &str) -> Result<(), AllocError> {
+    out.push_str(line)?;
+    out.push('\n')
+}
+
+// Adds a row's line and what is answered to it.
+fn push_row(alloc: Global, row: &Row<'_>, out: &mut String) -> Result<(), AllocError> {
+    if row.line.is_empty() {
+        return Ok(());
+    }
+    push_line(out, row.line)?;
+    let words = words_of(alloc, row.line)?;
+    match asked_by(alloc, &words)? {
+        None => out.push_str("status 2\n"),
+        Some(asked) => {
+            let answer = answer_to(alloc, &asked, &row.files)?;
+            let status = answer.status;
+            write!(out, "status {status}\n")?;
+            out.push_str(&answer.out)?;
+            out.push_str(&answer.err)
+        }
+    }
+}
+
+// The command's words on a row's line, behind its name.
+fn words_of(alloc: Global, line: &str) -> Result<Vec<String>, AllocError> {
+    let mut words = Vec::new(alloc);
+    for word in line.split(' ').skip(2) {
+        words.push(String::from_str(alloc, word)?)?;
+    }
+    Ok(words)
+}

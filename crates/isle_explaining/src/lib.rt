@@ -1,0 +1,11 @@
+//! What a person asks about rules: why they are refused, what a rule demands and when it is taken, and how large trees are.
+#![tactic(auto)]
+
+pub mod demands;
+pub mod diagnosis;
+pub mod explanation;
+pub mod names;
+pub mod sets;
+pub mod stats;
+mod trees;
+mod witness;

@@ -1,0 +1,10 @@
+pub mod CallsGoneOver
+pub mod OneMeaning
+pub mod PatternConstants
+pub mod ReadAgain
+pub mod RefusedAgain
+pub mod RulesAgain
+pub mod SetsServed
+pub mod TotalBags
+pub mod TwoTables
+pub mod Uses

@@ -1,0 +1,95 @@
+//! Laws for those who use what lowering promises: their premises in plain words, and what they come to.
+//!
+//! A function here has no code, or calls the laws that its proof rests on: its clause is a law, and its proof stands in
+//! `proofs/`.
+#![tactic(auto)]
+
+ghost use Rattle.isle_laws_meaning.specs.OneMeaning.{LoweredTermsHaveOneMeaning};
+ghost use Rattle.isle_laws_meaning.specs.PatternConstants.{ConstantsAreOfPatterns, FunctionsConstantsAreOfPatterns, HeadlineIsOfPatterns, LiteralsAreToldApart};
+ghost use Rattle.isle_laws_meaning.specs.ReadAgain.{RefusedEnvironmentsCanBeReadAgain, RulesAreRefusedAgain, RulesAreTypedAgain};
+ghost use Rattle.isle_laws_meaning.specs.SetsServed.{LoweredSetsMeanTheirRules};
+ghost use Rattle.isle_laws_meaning.specs.TotalBags.{BagIsOfFunctions, TotalMeaningsHaveOneBag};
+ghost use Rattle.isle_laws_meaning.specs.Uses.{BytesAreToldApart};
+
+use isle_laws_demands::{
+    built_sets_are_collected, built_sets_are_tested, built_sets_mean_their_rules,
+    multi_terms_have_one_priority, rules_without_multi_go_over_no_calls, served_multi_sets_serve,
+    served_sets_serve_tests,
+};
+use isle_laws_trees::best_trees_mean_their_sets;
+
+/// The headline's premise on constants is one on the constants that a walk over typed patterns meets.
+pub fn constants_are_of_patterns()
+    ensures { ConstantsAreOfPatterns }
+{}
+
+/// So is that on total functions.
+pub fn functions_constants_are_of_patterns()
+    ensures { FunctionsConstantsAreOfPatterns }
+{}
+
+/// So whatever tree has the headline, or collects the bag of a multi term, has it by this premise.
+pub fn headline_is_of_patterns()
+    ensures { HeadlineIsOfPatterns }
+{}
+
+/// Where patterns name no constants but booleans and numbers of built-in types, every meaning tells them apart.
+pub fn literals_are_told_apart()
+    ensures { LiteralsAreToldApart }
+{}
+
+/// So it is for the two rules of a term that gives 10 for 1, and else its argument.
+pub fn bytes_are_told_apart()
+    ensures { BytesAreToldApart }
+{}
+
+/// Of what accepted definitions are lowered to, each set means what its rules do wherever a meaning serves the term's rules and
+/// tells constants apart.
+pub fn lowered_sets_mean_their_rules()
+    ensures { LoweredSetsMeanTheirRules }
+{
+    best_trees_mean_their_sets();
+    built_sets_are_tested();
+    served_sets_serve_tests();
+    built_sets_are_collected();
+    served_multi_sets_serve();
+    multi_terms_have_one_priority();
+    rules_without_multi_go_over_no_calls();
+    built_sets_mean_their_rules();
+}
+
+/// The bag of rules that make no impure call is of total functions alone: whatever maps agree with them and serve, it is one list.
+pub fn bag_is_of_functions()
+    ensures { BagIsOfFunctions }
+{}
+
+/// So by total functions a multi term has one bag, and a tree that collects the bag collects this one, whatever finite maps
+/// restrict them.
+pub fn total_meanings_have_one_bag()
+    ensures { TotalMeaningsHaveOneBag }
+{}
+
+/// Each term of accepted definitions has one meaning by total functions that are well typed and tell the constants of its
+/// patterns apart: whatever finite maps restrict them, its tree's run comes to one outcome, that of the choice by priority, or
+/// collects one bag, that of the rules.
+pub fn lowered_terms_have_one_meaning()
+    ensures { LoweredTermsHaveOneMeaning }
+{
+    rules_without_multi_go_over_no_calls();
+}
+
+/// What a refusal to read terms or rules leaves of a type environment can be read again: terms are valid by it exactly where
+/// they were, and the same errors refuse them.
+pub fn refused_environments_can_be_read_again()
+    ensures { RefusedEnvironmentsCanBeReadAgain }
+{}
+
+/// And a list has typed rules by its types exactly where it had some before.
+pub fn rules_are_typed_again()
+    ensures { RulesAreTypedAgain }
+{}
+
+/// And the same errors refuse its rules, limits that they name included.
+pub fn rules_are_refused_again()
+    ensures { RulesAreRefusedAgain }
+{}

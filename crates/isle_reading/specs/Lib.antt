@@ -1,0 +1,5 @@
+pub mod Environments
+pub mod Lookups
+pub mod Named
+pub mod Premises
+pub mod Walks

@@ -1,0 +1,36 @@
+-- The entry of a term, the rules at a position, and the rule behind a return.
+use Rattle.std.specs.Prelude.{ℕ, Bool, ◌==◌, ◌&&◌, List, [], ◌∷◌, ◌++◌, map, Option}
+use Rattle.std.specs.List.{filter, find, flat_map}
+use Rattle.isle_model.specs.claims.Layers.{LoweredTerm}
+use Rattle.isle_model.specs.claims.Refusals.{Refusal, ill_typed, unreachable, overlapping, shadowing, past_limit}
+use Rattle.isle_model.specs.lists.Syntax.{Position}
+use Rattle.isle_model.specs.rules.Typed.{TypedRule}
+use Rattle.isle_model.specs.sites.Sites.{SetRule}
+
+-- whether two positions are one
+abbrev pub is_at : Position → Position → Bool
+is_at at other = (other.file == at.file) && (other.offset == at.offset)
+
+-- the first entry of a term
+abbrev pub entry_of : ℕ → List LoweredTerm → Option LoweredTerm
+entry_of term terms = find (λ t. t.term == term) terms
+
+-- whether a return of this position and result may be this rule's
+abbrev pub is_behind : Position → ℕ → SetRule → Bool
+is_behind at result rule = is_at at rule.at && (rule.result == result)
+
+-- the positions that an error names, in the order of its text; a mask comes last
+abbrev pub positions_of : Refusal → List Position
+positions_of (ill_typed at) = at ∷ []
+positions_of (unreachable at) = at ∷ []
+positions_of (overlapping rules) = rules
+positions_of (shadowing shadowed mask) = shadowed ++ mask ∷ []
+positions_of (past_limit limit at) = at ∷ []
+
+-- the ids of the rules at a position, in rule order
+abbrev pub rules_at : List TypedRule → Position → List ℕ
+rules_at rules at = map (λ r. r.id) (filter (λ r. is_at at r.at) rules)
+
+-- the rules at each of these positions
+abbrev pub rules_at_each : List TypedRule → List Position → List ℕ
+rules_at_each rules places = flat_map (rules_at rules) places

@@ -1,0 +1,254 @@
+//! How reports are laid out: as rustc's, or each in one line.
+
+use crate::lines::{Line, file_name, file_text, line_at};
+use crate::report::{Label, Note, Report};
+use isle_base::syntax::{Files, Pos};
+use std::alloc::{AllocError, Global};
+
+/// How reports are laid out.
+#[derive(Clone, Copy, PartialEq, Eq)]
+pub enum Layout {
+    /// With the lines that they speak of, and what is meant underlined; an empty line after each.
+    Text,
+    /// Each in one line: the first place, what it says, the further places, and the notes.
+    Line,
+}
+
+/// Adds reports, in order.
+pub fn push_reports(
+    out: &mut String,
+    files: &Files,
+    reports: &[Report],
+    layout: Layout,
+) -> Result<(), AllocError> {
+    for report in reports {
+        match layout {
+            Layout::Text => push_text(out, files, report)?,
+            Layout::Line => push_line(out, files, report)?,
+        }
+    }
+    Ok(())
+}
+
+/// Adds a place: the file's name, the line and the column.
+pub fn push_place(out: &mut String, files: &Files, pos: Pos) -> Result<(), AllocError> {
+    let line = line_of(files, pos);
+    let name = file_name(files, pos.file);
+    let number = line.number;
+    let column = line.column();
+    write!(out, "{name}:{number}:{column}")
+}
+
+// The line that a place lies in.
+fn line_of(files: &Files, pos: Pos) -> Line<'_> {
+    line_at(file_text(files, pos.file), pos.offset)
+}
+
+// Adds a report in one line.
+fn push_line(out: &mut String, files: &Files, report: &Report) -> Result<(), AllocError> {
+    for (i, label) in report.labels.iter().enumerate() {
+        if i == 0 {
+            push_place(out, files, label.pos)?;
+            out.push_str(": ")?;
+        }
+    }
+    push_head(out, report)?;
+    for (i, label) in report.labels.iter().enumerate() {
+        if i > 0 {
+            push_further(out, files, label)?;
+        }
+    }
+    for note in &report.notes {
+        out.push_str("; ")?;
+        push_note(out, note)?;
+    }
+    out.push('\n')
+}
+
+// Adds a further place to a line.
+fn push_further(out: &mut String, files: &Files, label: &Label) -> Result<(), AllocError> {
+    out.push_str("; ")?;
+    out.push_str(&label.text)?;
+    out.push_str(" at ")?;
+    push_place(out, files, label.pos)
+}
+
+// Adds what a report says.
+fn push_head(out: &mut String, report: &Report) -> Result<(), AllocError> {
+    let word = report.level.word();
+    let kind = report.kind;
+    write!(out, "{word}[{kind}]: ")?;
+    out.push_str(&report.message)
+}
+
+// Adds a note, without the end of its line.
+fn push_note(out: &mut String, note: &Note) -> Result<(), AllocError> {
+    out.push_str(note.word)?;
+    out.push_str(": ")?;
+    out.push_str(&note.text)
+}
+
+// Adds a report with the lines that it speaks of, and an empty line.
+fn push_text(out: &mut String, files: &Files, report: &Report) -> Result<(), AllocError> {
+    push_head(out, report)?;
+    out.push('\n')?;
+    let width = number_width(files, report);
+    push_labels(out, files, report, width)?;
+    for note in &report.notes {
+        push_spaces(out, width)?;
+        out.push_str(" = ")?;
+        push_note(out, note)?;
+        out.push('\n')?;
+    }
+    out.push('\n')
+}
+
+// Adds the places of a report: those in the file of the first one before others, in the order of the text. Each file has a
+// place in words before its lines, and a line that has several places is shown once.
+fn push_labels(
+    out: &mut String,
+    files: &Files,
+    report: &Report,
+    width: u64,
+) -> Result<(), AllocError> {
+    let Some(first) = report.labels.first() else {
+        return Ok(());
+    };
+    push_arrow(out, files, first.pos, "-->", width)?;
+    let mut last = (first.pos.file, 0);
+    for label in &in_order(*out.allocator(), report, first.pos.file)? {
+        let line = line_of(files, label.pos);
+        push_source(out, files, label.pos, line, last, width)?;
+        let mark = if label.pos == first.pos { '^' } else { '-' };
+        push_underline(out, line, &label.text, mark, width)?;
+        last = (label.pos.file, line.number);
+    }
+    if !report.notes.is_empty() {
+        push_bar(out, width, "\n")?;
+    }
+    Ok(())
+}
+
+// The places of a report, those in this file first, in the order of the text.
+fn in_order(alloc: Global, report: &Report, file: usize) -> Result<Vec<&Label>, AllocError> {
+    let mut labels = Vec::new(alloc);
+    for label in &report.labels {
+        labels.push(label)?;
+    }
+    labels.sort_by_key(|label| (label.pos.file != file, label.pos))?;
+    Ok(labels)
+}
+
+// Adds the line of a place, where the last place wasn't in it, and what leads from there to it. No place was before where the
+// last line is 0.
+fn push_source(
+    out: &mut String,
+    files: &Files,
+    pos: Pos,
+    line: Line<'_>,
+    last: (usize, u64),
+    width: u64,
+) -> Result<(), AllocError> {
+    let (file, number) = last;
+    if file != pos.file {
+        push_arrow(out, files, pos, ":::", width)?;
+    } else if number == line.number {
+        return Ok(());
+    } else if number > 0 && number.saturating_add(1) != line.number {
+        out.push_str("...\n")?;
+    }
+    push_numbered(out, line, width)
+}
+
+// Adds the line that names a place, and an empty one.
+fn push_arrow(
+    out: &mut String,
+    files: &Files,
+    pos: Pos,
+    arrow: &str,
+    width: u64,
+) -> Result<(), AllocError> {
+    push_spaces(out, width)?;
+    out.push_str(arrow)?;
+    out.push(' ')?;
+    push_place(out, files, pos)?;
+    out.push('\n')?;
+    push_bar(out, width, "\n")
+}
+
+// Adds a line of text behind its number.
+fn push_numbered(out: &mut String, line: Line<'_>, width: u64) -> Result<(), AllocError> {
+    let number = line.number;
+    write!(out, "{number}")?;
+    push_spaces(out, width.saturating_sub(digits(number)))?;
+    out.push_str(if line.text.is_empty() { " |" } else { " | " })?;
+    line.push(out)?;
+    out.push('\n')
+}
+
+// Adds the line below a line of text: marks under what is meant, and what it has to do with the report.
+fn push_underline(
+    out: &mut String,
+    line: Line<'_>,
+    text: &str,
+    mark: char,
+    width: u64,
+) -> Result<(), AllocError> {
+    push_bar(out, width, " ")?;
+    push_spaces(out, line.indent())?;
+    push_times(out, mark, line.extent())?;
+    if !text.is_empty() {
+        out.push(' ')?;
+        out.push_str(text)?;
+    }
+    out.push('\n')
+}
+
+// Adds the bar beside lines of text, where no number stands.
+fn push_bar(out: &mut String, width: u64, end: &str) -> Result<(), AllocError> {
+    push_spaces(out, width)?;
+    out.push_str(" |")?;
+    out.push_str(end)
+}
+
+// Adds as many spaces.
+fn push_spaces(out: &mut String, count: u64) -> Result<(), AllocError> {
+    push_times(out, ' ', count)
+}
+
+// Adds a character as many times.
+fn push_times(out: &mut String, c: char, count: u64) -> Result<(), AllocError> {
+    for _ in 0..count {
+        out.push(c)?;
+    }
+    Ok(())
+}
+
+// How many digits the greatest line number of a report's places has.
+fn number_width(files: &Files, report: &Report) -> u64 {
+    let mut width = 1u64;
+    for label in &report.labels {
+        width = width.max(digits(line_of(files, label.pos).number));
+    }
+    width
+}
+
+// How many digits a number has, of those that texts have lines for.
+fn digits(number: u64) -> u64 {
+    let mut count = 1u64;
+    for power in [
+        10u64,
+        100,
+        1000,
+        10_000,
+        100_000,
+        1_000_000,
+        10_000_000,
+        100_000_000,
+    ] {
+        if number >= power {
+            count = count.saturating_add(1);
+        }
+    }
+    count
+}

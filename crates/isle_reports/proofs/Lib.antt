@@ -1,0 +1,5 @@
+pub mod Defaults
+mod MapSteps
+mod NameSteps
+mod CountSteps
+mod DefinedSteps

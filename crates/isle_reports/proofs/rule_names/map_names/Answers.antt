@@ -1,0 +1,14 @@
+use Rattle.std.proofs.Common.{option_map, ap, rules}
+use Rattle.std.proofs.lemmas.List.{drop_all}
+use Rattle.isle_reports.proofs.MapSteps.{first_named, next_named, last_named}
+use Rattle.isle_reports.proofs.rule_names.map_names.Goals as goal
+
+pub loop-rule-init : goal.loop-rule-init
+loop-rule-init c = first_named _ _ _ (λ k. ap (option_map (λ r. r.0)) (c.new-rule_map.ensures.none _))
+
+pub loop-rule-preserved : goal.loop-rule-preserved
+loop-rule-preserved c =
+    next_named c.args.rules.now c.loop-rule.rule-index c.rule-item.result (search rules) c.rule-item.is _ _ _ _ _ c.loop-rule.invariant c.in_ok-map_name.ensures
+
+pub returns : goal.returns
+returns c = last_named _ _ _ _ (rw (drop_all c.loop-rule.rule-index c.args.rules.now c.loop-rule-test.false) at c.loop-rule.invariant)

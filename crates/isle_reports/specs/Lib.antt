@@ -1,0 +1,2 @@
+pub mod Elaborating
+pub mod RuleNaming
