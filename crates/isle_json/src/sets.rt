@@ -48,8 +48,11 @@ fn bound_where(binding: &Binding, is_marked: bool) -> &'static str {
     }
     match binding {
         Binding::Iterator { .. } => "by a loop",
-        Binding::MatchVariant { .. } | Binding::ExtractStruct { .. } => "by an arm",
-        Binding::MatchSome { .. } if !is_marked => "by an arm",
+        Binding::MatchVariant { .. } | Binding::ExtractStruct { .. } | Binding::MatchSome { .. }
+            if !is_marked =>
+        {
+            "by an arm"
+        }
         _ => "by a step",
     }
 }
