@@ -1,6 +1,6 @@
 //! What the command answers to texts.
 
-use crate::graph::graph;
+use crate::graphs::graph_of;
 use crate::words::{Format, Request, Task};
 use cranelift_isle::lower::{Lowered, LoweredTerm, lower};
 use isle_base::syntax::{Def, Fault, Files};
@@ -164,16 +164,9 @@ fn accepted(alloc: Global, out: String) -> Answer {
 }
 
 // The answer to `check` where nothing is wrong.
-fn nothing_wrong(
-    alloc: Global,
-    asked: &Request<'_>,
-    files: &Files,
-) -> Result<Answer, AllocError> {
+fn nothing_wrong(alloc: Global, asked: &Request<'_>, files: &Files) -> Result<Answer, AllocError> {
     if asked.format == Format::Json {
-        return Ok(accepted(
-            alloc,
-            document_of_reports(alloc, files, &[], false)?,
-        ));
+        return Ok(accepted(alloc, document_of_reports(alloc, files, &[], false)?));
     }
     Ok(accepted(alloc, String::new(alloc)))
 }
@@ -220,7 +213,7 @@ fn graphs(
 ) -> Result<String, AllocError> {
     let mut out = String::new(alloc);
     for term in terms {
-        out.push_str(&graph(alloc, files, lowered, term)?)?;
+        out.push_str(&graph_of(alloc, files, lowered, term)?)?;
     }
     Ok(out)
 }

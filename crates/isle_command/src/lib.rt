@@ -2,7 +2,7 @@
 #![tactic(auto)]
 
 pub mod answers;
-mod graph;
+mod graphs;
 mod inputs;
 pub mod run;
 pub mod words;

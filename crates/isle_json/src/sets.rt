@@ -19,8 +19,7 @@ pub(crate) fn push_sites(
     json.begin_at("sites", '[')?;
     for (id, binding) in bindings.iter().enumerate() {
         push_site(json, names, id, binding)?;
-        let is_marked = marked.get(id) == Some(&true);
-        json.key_string("bound", bound_where(binding, is_marked))?;
+        json.key_string("bound", bound_where(binding, is_marked(marked, id)))?;
         json.end('}')?;
     }
     json.end(']')
@@ -41,17 +40,29 @@ fn push_site(
     json.end('}')
 }
 
-// Where a site is bound.
-fn bound_where(binding: &Binding, is_marked: bool) -> &'static str {
+// Whether the site of this number is marked.
+fn is_marked(marked: &[bool], id: usize) -> bool {
+    match marked.get(id) {
+        Some(entry) => *entry,
+        None => false,
+    }
+}
+
+// Where a site is bound. `in_step`: some step of the tree binds it.
+fn bound_where(binding: &Binding, in_step: bool) -> &'static str {
     if is_in_place(binding) {
         return "in place";
     }
     match binding {
         Binding::Iterator { .. } => "by a loop",
-        Binding::MatchVariant { .. } | Binding::ExtractStruct { .. } | Binding::MatchSome { .. }
-            if !is_marked =>
-        {
-            "by an arm"
+        Binding::MatchVariant { .. }
+        | Binding::ExtractStruct { .. }
+        | Binding::MatchSome { .. } => {
+            if in_step {
+                "by a step"
+            } else {
+                "by an arm"
+            }
         }
         _ => "by a step",
     }

@@ -31,16 +31,16 @@ impl Json {
     }
 
     /// Begins an object or a list, by its parenthesis.
-    pub(crate) fn begin(&mut self, open: char) -> Result<(), AllocError> {
+    pub(crate) fn begin(&mut self, left: char) -> Result<(), AllocError> {
         self.separate()?;
         self.comma = false;
-        self.out.push(open)
+        self.out.push(left)
     }
 
     /// Ends an object or a list, by its parenthesis.
-    pub(crate) fn end(&mut self, close: char) -> Result<(), AllocError> {
+    pub(crate) fn end(&mut self, right: char) -> Result<(), AllocError> {
         self.comma = true;
-        self.out.push(close)
+        self.out.push(right)
     }
 
     /// A key of an object, whose value comes next.
@@ -51,9 +51,9 @@ impl Json {
     }
 
     /// A key of an object with a list or an object that begins, by its parenthesis.
-    pub(crate) fn begin_at(&mut self, name: &str, open: char) -> Result<(), AllocError> {
+    pub(crate) fn begin_at(&mut self, name: &str, left: char) -> Result<(), AllocError> {
         self.key(name)?;
-        self.begin(open)
+        self.begin(left)
     }
 
     /// A string.

@@ -13,7 +13,7 @@ use std::alloc::{AllocError, Global};
 /// words. A full edge leads from a test to the first step of what follows where it is met, from a match with what the value
 /// then is. A dashed one leads to the next step of the block, which follows where the test fails or what follows it has run
 /// through. A return is a box with the name of its rule, where it has one, and its file and line.
-pub(crate) fn graph(
+pub(crate) fn graph_of(
     alloc: Global,
     files: &Files,
     lowered: &Lowered,
@@ -31,7 +31,7 @@ pub(crate) fn graph(
         rules: &term.rules.rules,
         texts: &texts,
     };
-    drawing.graph(names.term(term.id), &term.block)
+    drawing.draw(names.term(term.id), &term.block)
 }
 
 // What the drawing of a tree asks.
@@ -87,7 +87,7 @@ impl Graph {
 
 impl<'a> Drawing<'a> {
     // The graph of the tree of a term of this name.
-    fn graph(&self, name: &str, block: &Block) -> Result<String, AllocError> {
+    fn draw(&self, name: &str, block: &Block) -> Result<String, AllocError> {
         let mut graph = Graph {
             out: String::from_str(self.alloc, "digraph ")?,
             next: 0,
@@ -138,12 +138,7 @@ impl<'a> Drawing<'a> {
 
     // Adds the arms of a match.
     #[cycle(draw)]
-    fn push_arms(
-        &self,
-        graph: &mut Graph,
-        node: u64,
-        arms: &[MatchArm],
-    ) -> Result<(), AllocError> {
+    fn push_arms(&self, graph: &mut Graph, node: u64, arms: &[MatchArm]) -> Result<(), AllocError> {
         for arm in arms {
             let label = self.arm_label(arm)?;
             self.push_block(graph, node, &label, &arm.body)?;
@@ -235,7 +230,8 @@ fn push_edge(
 fn shape_of(check: &ControlFlow) -> &'static str {
     match check {
         ControlFlow::Return { .. } => "box",
-        ControlFlow::Match { .. } | ControlFlow::Equal { .. } | ControlFlow::Loop { .. } => "ellipse",
+        ControlFlow::Match { .. } | ControlFlow::Equal { .. } | ControlFlow::Loop { .. } =>
+            "ellipse",
     }
 }
 
