@@ -55,15 +55,8 @@ fn bound_where(binding: &Binding, in_step: bool) -> &'static str {
     }
     match binding {
         Binding::Iterator { .. } => "by a loop",
-        Binding::MatchVariant { .. }
-        | Binding::ExtractStruct { .. }
-        | Binding::MatchSome { .. } => {
-            if in_step {
-                "by a step"
-            } else {
-                "by an arm"
-            }
-        }
+        Binding::MatchVariant { .. } | Binding::ExtractStruct { .. } | Binding::MatchSome { .. } =>
+            { if in_step { "by a step" } else { "by an arm" } }
         _ => "by a step",
     }
 }
