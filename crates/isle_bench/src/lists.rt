@@ -80,8 +80,8 @@ pub fn definitions_of(alloc: Global, kind: Kind, size: usize) -> io::Result<Vec<
     }
 }
 
-// The definitions of a text.
-fn read_text(alloc: Global, text: &str) -> io::Result<Vec<Def>> {
+/// The definitions of a text.
+pub fn read_text(alloc: Global, text: &str) -> io::Result<Vec<Def>> {
     match read(alloc, 0, text) {
         Ok(defs) => Ok(defs),
         Err(ReadFault::Memory(error)) => Err(io::Error::from(error)),

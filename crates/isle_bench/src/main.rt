@@ -2,12 +2,14 @@
 //! the time of that step alone, of `lower` that of all steps. Each time is the mean over as many lists of one size as
 //! have the greatest size together, each step taken for all of them before the next: so a short list finds no more in
 //! the processor's caches than a long one. `rt run -- SIZE ..` makes lists of these sizes, but no longer ones than the
-//! former, and prints no times.
+//! former, and prints no times. `rt run -- text` reads definitions from standard input, in which nothing is wrong, and
+//! prints the time of each step for them, the least of three runs.
 #![tactic(auto)]
 
 mod lists;
 mod stages;
 mod tables;
+mod text;
 mod texts;
 
 use isle_base::syntax::Def;
@@ -17,6 +19,7 @@ use std::io::ErrorKind;
 use std::rt::{Clock, Env};
 use std::{env, io};
 use tables::Table;
+use text::print_steps;
 
 // What is read: into what, a list of what, and the sizes of which times are printed. A term has at most 65,536 sites.
 const READINGS: [(Table, Kind, [usize; 3]); 15] = [
@@ -38,6 +41,10 @@ const READINGS: [(Table, Kind, [usize; 3]); 15] = [
 ];
 
 fn main(rt: HostRuntime) -> io::Result<()> {
+    if wants_text(&rt)? {
+        let text = io::read_to_string(rt.alloc(), rt.stdin())?;
+        return print_steps(&rt, rt.alloc(), text.as_str());
+    }
     let sizes = sizes(&rt, rt.alloc())?;
     for (table, kind, timed) in READINGS {
         if sizes.is_empty() {
@@ -47,6 +54,14 @@ fn main(rt: HostRuntime) -> io::Result<()> {
         }
     }
     Ok(())
+}
+
+// Whether the first word is `text`.
+fn wants_text(rt: &(impl Env + Alloc)) -> io::Result<bool> {
+    match env::args(rt)?.nth(1) {
+        Some(word) => Ok(word.as_str() == "text"),
+        None => Ok(false),
+    }
 }
 
 // The sizes that the words name, none where there is one word, `times`. Other words are an error, and so

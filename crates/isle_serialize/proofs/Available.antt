@@ -1,13 +1,14 @@
--- A site is available exactly where of those below it, down to what was brought, none has to be brought.
-use Rattle.std.proofs.Common.{◌≡◌, ℕ, zero, suc, ◌<◌, Bool, true, false, not, ◌&&◌, ◌||◌, List, [], ◌∷◌, ◌++◌, Contains, slice_get, refl, sym, ap, ◌∙◌, subst, inl, inr, arith, eqb-true, ◌==◌}
+-- A site is available exactly where it was brought, or needs not be and all its sources are available.
+use Rattle.std.proofs.Common.{◌≡◌, ℕ, zero, suc, ◌+◌, ◌<◌, Bool, true, false, not, ◌&&◌, ◌||◌, List, [], ◌∷◌, ◌++◌, length, take, get_or, Contains, slice_get, refl, sym, ap, ◌∙◌, subst, inl, inr, arith, eqb-true, ◌==◌, if◌then◌else◌}
 use Rattle.std.specs.List.{list_all}
-use Rattle.std.proofs.lemmas.Bool.{cases_Bool, cond-true, cond-false, and_parts, or_cases, or_left, false≢true}
+use Rattle.std.proofs.lemmas.Bool.{cases_Bool, cond-false, or_left, or_right}
+use Rattle.std.proofs.lemmas.List.{take_more}
 use Rattle.std.proofs.lemmas.List.Folds.{list_all-append}
-use Rattle.std.proofs.Math.Bool.{and-true}
+use Rattle.isle_base.specs.Stable.{Members, contains}
 use Rattle.isle_model.specs.sites.Sites.{Site, sources_at}
-use Rattle.isle_model.specs.trees.Places.{is_in, waits, is_available, each_after, listed_below}
-use Rattle.isle_model.proofs.Members.{in_head, in_tail}
-use Rattle.isle_serialize.proofs.Tables.{is_in_append}
+use Rattle.isle_model.specs.trees.Places.{Around, available, is_in, waits, is_available}
+use Rattle.isle_model.proofs.Members.{nothing_in, in_head, in_tail, in_cases}
+use Rattle.isle_serialize.specs.AroundViews.{AreAtHand}
 
 module _ (sites : List Site) (sources : (s a : ℕ) → Contains (sources_at sites s) a → a < s) (brought : List ℕ) where
   -- more layers than a number has change nothing
@@ -34,9 +35,6 @@ module _ (sites : List Site) (sources : (s a : ℕ) → Contains (sources_at sit
   abbrev comes : ℕ → Bool
   comes s = not (waits (slice_get sites s))
 
-  abbrev listed : ℕ → List ℕ → ℕ → List ℕ
-  listed n done s = listed_below n sites brought done s
-
   alike : (f g : ℕ → Bool) (xs : List ℕ) → ((x : ℕ) → Contains xs x → f x ≡ g x) → list_all f xs ≡ list_all g xs
   alike f g [] h = refl
   alike f g (x ∷ xs) h =
@@ -47,82 +45,50 @@ module _ (sites : List Site) (sources : (s a : ℕ) → Contains (sources_at sit
   by_sources : (s : ℕ) → at_hand s ≡ (is_in s brought || (comes s && list_all at_hand (sources_at sites s)))
   by_sources s = ap (λ b. is_in s brought || (comes s && b)) (alike (is_available s sites brought) at_hand (sources_at sites s) (λ a c. layers s a (sources s a c)))
 
-  -- where none of these has to be brought, they are at hand
-  abbrev AreListed : List ℕ → Type 0
-  AreListed done = (x : ℕ) → is_in x done ≡ true → list_all comes done ≡ true → at_hand x ≡ true
+  both_false : (b : Bool) → (b && false) ≡ false
+  both_false true = refl
+  both_false false = refl
 
-  -- none of those listed has to be brought exactly where this holds of what was listed and the site is at hand
-  abbrev Says : List ℕ → List ℕ → Bool → Type 0
-  Says done next b = AreListed next × (list_all comes next ≡ (list_all comes done && b))
+  each_member : (f : ℕ → Bool) (xs : List ℕ) (x : ℕ) → Contains xs x → f x ≡ false → list_all f xs ≡ false
+  each_member f [] x c h = absurd (nothing_in x c)
+  each_member f (y ∷ xs) x c h = elim (in_cases y x xs c) [
+    | inl e ↦ ap (λ b. b && list_all f xs) (ap f e ∙ h)
+    | inr d ↦ ap (λ b. f y && b) (each_member f xs x d h) ∙ both_false (f y)
+  ]
 
-  regroup : (p a w : Bool) → ((p && a) && (w && true)) ≡ (p && (w && a))
-  regroup false a w = refl
-  regroup true true w = refl
-  regroup true false true = refl
-  regroup true false false = refl
+  -- what was brought is at hand
+  pub brought_at_hand : (s : ℕ) → is_in s brought ≡ true → at_hand s ≡ true
+  brought_at_hand s b = by_sources s ∙ or_left (is_in s brought) (comes s && list_all at_hand (sources_at sites s)) b
 
-  chained : (p a b : Bool) → ((p && a) && b) ≡ (p && (a && b))
-  chained true a b = refl
-  chained false a b = refl
+  -- what has to be brought and wasn't is not
+  pub missed : (s : ℕ) → is_in s brought ≡ false → waits (slice_get sites s) ≡ true → at_hand s ≡ false
+  missed s b w = by_sources s ∙ ap (λ x. x || (comes s && list_all at_hand (sources_at sites s))) b ∙ ap (λ x. not x && list_all at_hand (sources_at sites s)) w
 
-  each : (n : ℕ) → ((s : ℕ) (done : List ℕ) → s < n → AreListed done → Says done (listed n done s) (at_hand s))
-      → (xs done : List ℕ) → ((x : ℕ) → Contains xs x → x < n) → AreListed done → Says done (each_after (listed n) done xs) (list_all at_hand xs)
-  each n h [] done l d = (d, sym (and-true (list_all comes done)))
-  each n h (x ∷ xs) done l d =
-      let one = h x done (l x (in_head x xs)) d in
-      let rest = each n h xs (listed n done x) (λ y c. l y (in_tail x y xs c)) one.0 in
-      (rest.0, rest.1 ∙ ap (λ b. b && list_all at_hand xs) one.1 ∙ chained (list_all comes done) (at_hand x) (list_all at_hand xs))
+  -- nor is what wasn't brought and has a source that isn't at hand
+  pub lacking : (s a : ℕ) → is_in s brought ≡ false → Contains (sources_at sites s) a → at_hand a ≡ false → at_hand s ≡ false
+  lacking s a b c h =
+      by_sources s ∙ ap (λ x. x || (comes s && list_all at_hand (sources_at sites s))) b ∙ ap (λ x. comes s && x) (each_member at_hand (sources_at sites s) a c h) ∙ both_false (comes s)
 
-  -- the sources of a site, and the site behind them
-  abbrev before : ℕ → List ℕ → ℕ → List ℕ
-  before n done s = each_after (listed n) done (sources_at sites s)
+  -- what needs not be brought is at hand where all its sources are
+  pub made_at_hand : (s : ℕ) → waits (slice_get sites s) ≡ false → list_all at_hand (sources_at sites s) ≡ true → at_hand s ≡ true
+  made_at_hand s w h = by_sources s ∙ or_right (is_in s brought) (comes s && list_all at_hand (sources_at sites s)) (ap (λ x. not x && list_all at_hand (sources_at sites s)) w ∙ h)
 
-  abbrev grown : ℕ → List ℕ → ℕ → List ℕ
-  grown n done s = before n done s ++ s ∷ []
+  -- one source more
+  pub source_more : (xs : List ℕ) (i x : ℕ) → i < length xs → x ≡ get_or xs i x → at_hand x ≡ true → list_all at_hand (take i xs) ≡ true → list_all at_hand (take (i + 1) xs) ≡ true
+  source_more xs i x l e h k =
+      ap (list_all at_hand) (take_more xs i x l ∙ ap (λ y. take i xs ++ y ∷ []) (sym e))
+      ∙ list_all-append at_hand (take i xs) (x ∷ [])
+      ∙ ap (λ b. b && (at_hand x && true)) k
+      ∙ ap (λ b. b && true) h
 
-  listing : (n s : ℕ) (done : List ℕ) → s < n → AreListed done → Says done (listed n done s) (at_hand s)
-  listing zero s done l d = absurd (omega arith)
-  listing (suc n) s done l d =
-      let inner = each n (listing n) (sources_at sites s) done (λ a c. let k = sources s a c in omega (arith, k, l)) d in
-      elim (cases_Bool (is_in s brought || is_in s done)) [
-        | inl t ↦
-            let e = cond-true (is_in s brought || is_in s done) done (grown n done s) t in (
-              subst AreListed (sym e) d,
-              ap (list_all comes) e
-                  ∙ (elim (or_cases (is_in s brought) (is_in s done) t) [
-                    | inl b ↦ settled (λ k. by_sources s ∙ or_left (is_in s brought) (comes s && list_all at_hand (sources_at sites s)) b)
-                    | inr b ↦ settled (d s b)
-                  ]),
-            )
-        | inr f ↦
-            let e = cond-false (is_in s brought || is_in s done) done (grown n done s) f in
-            let says = list_all-append comes (before n done s) (s ∷ []) ∙ ap (λ b. b && (comes s && true)) inner.1 ∙ regroup (list_all comes done) (list_all at_hand (sources_at sites s)) (comes s)
-            ∙ ap (λ b. list_all comes done && b) (sym (by_sources s ∙ ap (λ b. b || (comes s && list_all at_hand (sources_at sites s))) (first (is_in s brought) (is_in s done) f))) in (
-              subst AreListed (sym e) (added inner.0 says),
-              ap (list_all comes) e ∙ says,
-            )
-      ]
-    where
-      settled : (list_all comes done ≡ true → at_hand s ≡ true) → list_all comes done ≡ (list_all comes done && at_hand s)
-      settled h = elim (cases_Bool (list_all comes done)) [
-        | inl y ↦ sym (and-true (list_all comes done)) ∙ ap (λ b. list_all comes done && b) (sym (h y))
-        | inr n ↦ n ∙ sym (ap (λ b. b && at_hand s) n)
-      ]
+pub neither : (a b : Bool) → (a || b) ≡ false → a ≡ false
+neither true b h = h
+neither false b h = refl
 
-      first : (a b : Bool) → (a || b) ≡ false → a ≡ false
-      first true b h = h
-      first false b h = refl
-
-      added : AreListed (before n done s) → list_all comes (grown n done s) ≡ (list_all comes done && at_hand s) → AreListed (grown n done s)
-      added far says x i h =
-          elim (or_cases (is_in x (before n done s)) (is_in x (s ∷ [])) (sym (is_in_append x (before n done s) (s ∷ [])) ∙ i)) [
-            | inl b ↦ far x b (and_parts (list_all comes (before n done s)) (list_all comes (s ∷ [])) (sym (list_all-append comes (before n done s) (s ∷ [])) ∙ h)).0
-            | inr b ↦ subst (λ y. at_hand y ≡ true) (eqb-true s x (alone (s == x) b)) (and_parts (list_all comes done) (at_hand s) (sym says ∙ h)).1
-          ]
-        where
-          alone : (b : Bool) → (b || false) ≡ true → b ≡ true
-          alone true h = refl
-          alone false h = h
-
-  pub listed_at_hand : (s : ℕ) → list_all comes (listed_below (suc s) sites brought [] s) ≡ at_hand s
-  listed_at_hand s = (listing (suc s) s [] (omega arith) (λ x i h. absurd (false≢true i))).1
+-- a site that is found is noted
+pub found_more : (sites : List Site) (ar : Around) (x : ℕ) (old new : Members ℕ) → ((s : ℕ) → contains ◌==◌ new s ≡ (if x == s then true else contains ◌==◌ old s)) → available sites ar x ≡ true → AreAtHand sites ar old → AreAtHand sites ar new
+found_more sites ar x old new h k a s e =
+    elim (cases_Bool (x == s)) [
+      | inl t ↦ subst (λ y. available sites ar y ≡ true) (eqb-true x s t) k
+      | inr f ↦ a s (sym (h s ∙ cond-false (x == s) true (contains ◌==◌ old s) f) ∙ e)
+    ]

@@ -1,5 +1,6 @@
 pub mod TreeLaws
 pub mod Tables
+pub mod SiteSets
 pub mod AroundSteps
 pub mod TestSteps
 pub mod BarSteps

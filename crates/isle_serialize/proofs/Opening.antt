@@ -1,10 +1,10 @@
 -- Lists of open tests: one more, those of one more thing, and when all that may cover a rule are listed.
-use Rattle.std.proofs.Common.{◌≡◌, ℕ, ◌+◌, ◌<◌, true, false, ◌&&◌, ◌==◌, List, [], ◌∷◌, map, take, get_or, length, is_some, Option, Some, None, Contains, slice_get, refl, sym, ap, ◌∙◌, subst, inl, inr, ◌⊎◌, eqb-true}
+use Rattle.std.proofs.Common.{◌≡◌, ℕ, ◌+◌, ◌<◌, true, ◌&&◌, ◌==◌, List, [], ◌∷◌, map, take, drop, get_or, length, is_some, Option, Some, None, Contains, slice_get, refl, sym, ap, ◌∙◌, subst, inl, inr, ◌⊎◌, eqb-true}
 use Rattle.std.specs.Global.{Vec}
 use Rattle.std.specs.List.{filter, list_any}
 use Rattle.std.proofs.lemmas.Bool.{cases_Bool, cond-false, and_parts, or_cases, false≢true}
-use Rattle.std.proofs.lemmas.List.{take_more}
-use Rattle.std.proofs.lemmas.List.Elements.{Contains-append_cases}
+use Rattle.std.proofs.lemmas.List.{take_more, take-append-drop}
+use Rattle.std.proofs.lemmas.List.Elements.{Contains-append_left, Contains-append_cases}
 use Rattle.isle_model.specs.sites.Sites.{iterator_site, SetRule, Site, SiteSet}
 use Rattle.isle_model.specs.trees.Places.{Around, is_in, joins_in, constraint_at}
 use Rattle.isle_model.specs.trees.Tests as Tests
@@ -19,6 +19,10 @@ use Rattle.isle_serialize.specs.Growing.{CanGrow}
 use Rattle.isle_serialize.specs.Opened.{Lists, AddsOpen, OfSome, IsMatch, IsMatchOf, IsEqualOf, IsPairOf, IsWanted, IsLoopBy, IsLoopOf}
 use Rattle.isle_serialize.specs.TestViews.{AreUseful}
 use Rattle.isle_serialize.proofs.BarSteps.{highest_need}
+
+-- one of the first of a list is one of it
+pub in_first : {X : Type 0} (i : ℕ) (xs : List X) (x : X) → Contains (take i xs) x → Contains xs x
+in_first i xs x c = subst (λ l. Contains l x) (take-append-drop i xs) (Contains-append_left (take i xs) (drop i xs) x c)
 
 module _ (set : SiteSet) (ar : Around) where
   -- 1. lists that grow

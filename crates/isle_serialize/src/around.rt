@@ -1,10 +1,11 @@
 //! What stands around a place of a tree.
 
 ghost use Rattle.std.specs.Prelude.{◌≡◌, ◌<◌, ◌==◌, if◌then◌else◌, Some, IfOk, map};
-ghost use Rattle.isle_model.specs.trees.Places.{nothing_around, class, is_in, waits};
+ghost use Rattle.isle_model.specs.trees.Places.{nothing_around, class, is_in, joins, waits};
 ghost use Rattle.isle_sets.specs.SiteViews.{site_view};
-ghost use Rattle.isle_serialize.specs.AroundViews.{around_view, sites_of_pairs, name_in, IsNaming};
+ghost use Rattle.isle_serialize.specs.AroundViews.{around_view, sites_of_pairs, name_in, IsKnown, IsNaming, IsSetOf};
 
+use isle_base::stablemapset::StableSet;
 use isle_sets::trie_again::{Binding, BindingId};
 use std::alloc::{AllocError, Global};
 
@@ -35,11 +36,76 @@ impl Around {
     }
 }
 
-/// Whether a site is one of these.
-pub fn is_among(site: BindingId, sites: &[BindingId]) -> bool
-    ensures { result ≡ is_in site sites.now }
+/// What is looked up of a place, for the time in which its next test is searched.
+#[derive(Drop)]
+pub struct Known {
+    /// The names of the classes of all sites that equalities around joined.
+    pub names: Vec<(BindingId, BindingId)>,
+    /// The sources of the arms and loops around.
+    pub sources: StableSet<BindingId>,
+    /// The sites that arms and loops around brought.
+    pub brought: StableSet<BindingId>,
+    /// The sites that are emitted.
+    pub emitted: StableSet<BindingId>,
+}
+
+/// What is looked up of a place.
+pub fn known_of(alloc: Global, around: &Around) -> Result<Known, AllocError>
+    ensures { IfOk result (IsKnown (around_view around.now)) }
 {
-    sites.iter().any(|s| *s == site)
+    let names = class_names(alloc, around)?;
+    let sources = set_of(alloc, &around.sources)?;
+    let brought = set_of(alloc, &around.brought)?;
+    let emitted = set_of(alloc, &around.emitted)?;
+    Ok(Known {
+        names,
+        sources,
+        brought,
+        emitted,
+    })
+}
+
+/// The set of these sites.
+pub fn set_of(alloc: Global, sites: &[BindingId]) -> Result<StableSet<BindingId>, AllocError>
+    ensures { IfOk result (IsSetOf sites.now) }
+{
+    let mut set = StableSet::new(alloc);
+    for site in sites {
+        set.insert(*site)?;
+    }
+    Ok(set)
+}
+
+/// Whether equalities around join two sites.
+pub fn are_joined(around: &Around, known: &Known, a: BindingId, b: BindingId) -> bool
+    requires { IsKnown (around_view around.now) known.now }
+    ensures { result ≡ joins around.now.joined.items a b }
+{
+    name_of(a, &known.names) == name_of(b, &known.names)
+}
+
+/// Whether an arm or a loop around has the site as its source.
+pub fn is_source(around: &Around, known: &Known, site: BindingId) -> bool
+    requires { IsKnown (around_view around.now) known.now }
+    ensures { result ≡ is_in site around.now.sources.items }
+{
+    known.sources.contains(&site)
+}
+
+/// Whether an arm or a loop around brought the site.
+pub fn is_brought(around: &Around, known: &Known, site: BindingId) -> bool
+    requires { IsKnown (around_view around.now) known.now }
+    ensures { result ≡ is_in site around.now.brought.items }
+{
+    known.brought.contains(&site)
+}
+
+/// Whether the site is emitted.
+pub fn is_emitted(around: &Around, known: &Known, site: BindingId) -> bool
+    requires { IsKnown (around_view around.now) known.now }
+    ensures { result ≡ is_in site around.now.emitted.items }
+{
+    known.emitted.contains(&site)
 }
 
 /// The site of this number.
@@ -72,8 +138,8 @@ pub fn must_wait(binding: &Binding) -> bool
     }
 }
 
-/// The name of a site's class, by the names of all sites that are joined: any other site is its own class.
-pub fn name_of(site: BindingId, names: &[(BindingId, BindingId)]) -> BindingId
+// The name of a site's class, by the names of all sites that are joined: any other site is its own class.
+fn name_of(site: BindingId, names: &[(BindingId, BindingId)]) -> BindingId
     ensures { result ≡ name_in names.now site }
 {
     for (named, name) in names {
@@ -123,11 +189,8 @@ fn joining(
         .collect(alloc)
 }
 
-/// The names of the classes of all sites that equalities around joined.
-pub fn class_names(
-    alloc: Global,
-    around: &Around,
-) -> Result<Vec<(BindingId, BindingId)>, AllocError>
+// The names of the classes of all sites that equalities around joined.
+fn class_names(alloc: Global, around: &Around) -> Result<Vec<(BindingId, BindingId)>, AllocError>
     ensures { IfOk result (λ v. IsNaming around.now.joined.items v.items) }
 {
     let mut names = own_names(alloc, &around.joined)?;

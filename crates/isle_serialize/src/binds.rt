@@ -6,9 +6,10 @@ ghost use Rattle.isle_model.specs.sites.Sites.{sources_at};
 ghost use Rattle.isle_model.specs.trees.Places as Places;
 ghost use Rattle.isle_model.specs.trees.Places.{each_after, is_in, is_in_place, listed_below};
 ghost use Rattle.isle_sets.specs.SiteViews.{site_view, set_view};
-ghost use Rattle.isle_serialize.specs.AroundViews.{around_view};
+ghost use Rattle.isle_serialize.specs.AroundViews.{around_view, AreSettled};
 
-use crate::around::{Around, is_among};
+use crate::around::{Around, set_of};
+use isle_base::stablemapset::StableSet;
 use isle_sets::trie_again::{Binding, BindingId, RuleSet};
 use std::alloc::{AllocError, Global};
 
@@ -22,11 +23,17 @@ pub fn sources_of(set: &RuleSet, site: BindingId) -> &[BindingId]
     }
 }
 
-// Whether a site needs no listing: it is emitted, or listed already.
-fn is_settled(site: BindingId, emitted: &[BindingId], listed: &[BindingId]) -> bool
+// Whether a site needs no listing: it is emitted, or listed already. Both are in one set.
+fn is_settled(
+    site: BindingId,
+    emitted: &[BindingId],
+    listed: &[BindingId],
+    settled: &StableSet<BindingId>,
+) -> bool
+    requires { AreSettled emitted.now listed.now settled.now }
     ensures { result ≡ (is_in site emitted.now || is_in site listed.now) }
 {
-    is_among(site, emitted) || is_among(site, listed)
+    settled.contains(&site)
 }
 
 // Lists the sites below a site that aren't emitted, after those already listed: sources first, left to right, each once.
@@ -35,17 +42,21 @@ fn list_below(
     set: &RuleSet,
     emitted: &[BindingId],
     site: BindingId,
+    settled: &mut StableSet<BindingId>,
     listed: &mut Vec<BindingId>,
 ) -> Result<(), AllocError>
-    requires { (s a : ℕ) → Contains (sources_at (set_view set.now).sites s) a → a < s }
-    ensures { OnOk result ((n : ℕ) → site < n → listed.new.items ≡ listed_below n (set_view set.now).sites emitted.now listed.old.items site) }
+    requires sources { (s a : ℕ) → Contains (sources_at (set_view set.now).sites s) a → a < s }
+    requires settled { AreSettled emitted.now listed.old.items settled.old }
+    ensures settled { OnOk result (AreSettled emitted.now listed.new.items settled.new) }
+    ensures listed { OnOk result ((n : ℕ) → site < n → listed.new.items ≡ listed_below n (set_view set.now).sites emitted.now listed.old.items site) }
 {
-    if is_settled(site, emitted, listed) {
+    if is_settled(site, emitted, listed, settled) {
         return Ok(());
     }
     for source in sources_of(set, site) {
-        list_below(alloc, set, emitted, *source, listed)?;
+        list_below(alloc, set, emitted, *source, settled, listed)?;
     }
+    settled.insert(site)?;
     listed.push(site)?;
     Ok(())
 }
@@ -60,9 +71,10 @@ pub fn all_listed(
     requires { (s a : ℕ) → Contains (sources_at (set_view set.now).sites s) a → a < s }
     ensures { IfOk result (λ v. v.items ≡ each_after (λ done s. listed_below (suc s) (set_view set.now).sites emitted.now done s) [] sites.now) }
 {
+    let mut settled = set_of(alloc, emitted)?;
     let mut listed = Vec::new(alloc);
     for site in sites {
-        list_below(alloc, set, emitted, *site, &mut listed)?;
+        list_below(alloc, set, emitted, *site, &mut settled, &mut listed)?;
     }
     Ok(listed)
 }

@@ -1,14 +1,16 @@
 //! What stands around the body of a test, and around the steps after one.
 
-ghost use Rattle.std.specs.Prelude.{◌≡◌, ◌<◌, ◌++◌, ℕ, not, Contains, IfOk};
+ghost use Rattle.std.specs.Prelude.{◌≡◌, ◌<◌, ◌==◌, ◌++◌, ℕ, not, Contains, IfOk};
 ghost use Rattle.std.specs.List.{filter};
+ghost use Rattle.isle_base.specs.Stable.{contains};
 ghost use Rattle.isle_model.specs.sites.Sites.{sources_at};
 ghost use Rattle.isle_model.specs.trees.Places as Places;
 ghost use Rattle.isle_sets.specs.SiteViews.{set_view};
 ghost use Rattle.isle_serialize.specs.AroundViews.{around_view, IsInside, after_uses, brings, arm_around, loop_around};
 
-use crate::around::{Around, is_among};
+use crate::around::{Around, set_of};
 use crate::binds::{all_below, sources_of};
+use isle_base::stablemapset::StableSet;
 use isle_sets::trie_again::{BindingId, RuleSet};
 use std::alloc::{AllocError, Global};
 
@@ -25,6 +27,21 @@ fn chained(
     Ok(sites)
 }
 
+// Those of these sites that aren't in a set.
+fn not_in(
+    alloc: Global,
+    sites: &[BindingId],
+    others: &StableSet<BindingId>,
+) -> Result<Vec<BindingId>, AllocError>
+    ensures { IfOk result (λ v. v.items ≡ filter (λ s. not (contains ◌==◌ others.now s)) sites.now) }
+{
+    sites
+        .iter()
+        .copied()
+        .filter(|site| !others.contains(site))
+        .collect(alloc)
+}
+
 // Those of these sites that aren't among others.
 fn not_among(
     alloc: Global,
@@ -33,11 +50,8 @@ fn not_among(
 ) -> Result<Vec<BindingId>, AllocError>
     ensures { IfOk result (λ v. v.items ≡ filter (λ s. not (Places.is_in s others.now)) sites.now) }
 {
-    sites
-        .iter()
-        .copied()
-        .filter(|site| !is_among(*site, others))
-        .collect(alloc)
+    let set = set_of(alloc, others)?;
+    not_in(alloc, sites, &set)
 }
 
 // The sites of some fields.

@@ -1,20 +1,22 @@
 //! The open tests of a place that its highest rules need: all other open tests cover no rule.
 
-ghost use Rattle.std.specs.Prelude.{◌≡◌, ◌<◌, not, false, ℕ, IsTrue, Contains, IfOk, OnOk, slice_get};
-ghost use Rattle.std.specs.List.{list_all, list_any};
+ghost use Rattle.std.specs.Prelude.{◌≡◌, ◌<◌, ◌==◌, ◌||◌, false, true, ℕ, IsTrue, Contains, IfOk, OnOk, slice_get};
+ghost use Rattle.std.specs.List.{list_any};
+ghost use Rattle.isle_base.specs.Stable.{contains};
 ghost use Rattle.isle_model.specs.sites.Sites.{sources_at};
 ghost use Rattle.isle_model.specs.trees.Best.{descend};
-ghost use Rattle.isle_model.specs.trees.Places.{waits};
+ghost use Rattle.isle_model.specs.trees.Places.{available, is_in, waits};
 ghost use Rattle.isle_model.specs.trees.Tests as Tests;
 ghost use Rattle.isle_sets.specs.SiteViews.{set_rule_view, set_view, site_view};
-ghost use Rattle.isle_serialize.specs.AroundViews.{around_view, IsNaming};
+ghost use Rattle.isle_serialize.specs.AroundViews.{around_view, AreAtHand, IsKnown};
 ghost use Rattle.isle_serialize.specs.Growing.{CanGrow};
 ghost use Rattle.isle_serialize.specs.Opened.{AddsOpen, IsEqualOf, IsLoopBy, IsLoopOf, IsMatchOf, IsPairOf, IsPairWith, IsTest, IsWanted, OfSome};
 ghost use Rattle.isle_serialize.specs.TestViews.{test_view, AreUseful};
 
-use crate::around::{Around, class_names, is_among, must_wait, name_of};
-use crate::binds::all_listed;
+use crate::around::{Around, Known, are_joined, is_brought, is_source, must_wait};
+use crate::binds::sources_of;
 use crate::tests::{Test, needs_at, reach_count};
+use isle_base::stablemapset::StableSet;
 use isle_sets::trie_again::{Binding, BindingId, Rule, RuleSet};
 use std::alloc::{AllocError, Global};
 
@@ -28,28 +30,61 @@ fn waits_at(set: &RuleSet, site: BindingId) -> bool
     }
 }
 
-// Whether none of these sites has to be brought.
-fn none_waits(set: &RuleSet, sites: &[BindingId]) -> bool
-    ensures { result ≡ list_all (λ s. not (waits (slice_get (set_view set.now).sites s))) sites.now }
+// Whether a site is known to be available: it was brought, or was found to be.
+fn is_found(around: &Around, known: &Known, site: BindingId, found: &StableSet<BindingId>) -> bool
+    requires { IsKnown (around_view around.now) known.now }
+    ensures { result ≡ (is_in site around.now.brought.items || contains ◌==◌ found.now site) }
 {
-    sites.iter().all(|site| !waits_at(set, *site))
+    is_brought(around, known, site) || found.contains(&site)
 }
 
-// Whether a site of the set is available: of those below it, down to what was brought, none has to be.
+// Whether a site is available: it was brought, or none has to bring it, and its sources are available. What is found to
+// be is noted, so that no site is asked twice.
+fn comes_to_hand(
+    set: &RuleSet,
+    around: &Around,
+    known: &Known,
+    site: BindingId,
+    found: &mut StableSet<BindingId>,
+) -> Result<bool, AllocError>
+    requires sources { (s a : ℕ) → Contains (sources_at (set_view set.now).sites s) a → a < s }
+    requires known { IsKnown (around_view around.now) known.now }
+    requires found { AreAtHand (set_view set.now).sites (around_view around.now) found.old }
+    ensures at_hand { IfOk result (λ b. b ≡ available (set_view set.now).sites (around_view around.now) site) }
+    ensures found { OnOk result (AreAtHand (set_view set.now).sites (around_view around.now) found.new) }
+{
+    if is_found(around, known, site, found) {
+        return Ok(true);
+    }
+    if waits_at(set, site) {
+        return Ok(false);
+    }
+    for source in sources_of(set, site) {
+        if !comes_to_hand(set, around, known, *source, found)? {
+            return Ok(false);
+        }
+    }
+    found.insert(site)?;
+    Ok(true)
+}
+
+// Whether a site of the set is available.
 fn is_at_hand(
     alloc: Global,
     set: &RuleSet,
     around: &Around,
+    known: &Known,
     site: BindingId,
 ) -> Result<bool, AllocError>
-    requires { (s a : ℕ) → Contains (sources_at (set_view set.now).sites s) a → a < s }
+    requires sources { (s a : ℕ) → Contains (sources_at (set_view set.now).sites s) a → a < s }
+    requires known { IsKnown (around_view around.now) known.now }
     ensures { IfOk result (λ b. b ≡ Tests.is_at_hand (set_view set.now) (around_view around.now) site) }
 {
     if site.index() >= set.bindings.len() {
         return Ok(false);
     }
-    let below = all_listed(alloc, set, &around.brought, &[site])?;
-    Ok(none_waits(set, &below))
+    let mut found = StableSet::new(alloc);
+    comes_to_hand(set, around, known, site, &mut found)
 }
 
 // Whether a site is available, and no arm or loop around has it as its source.
@@ -57,15 +92,17 @@ fn is_open_site(
     alloc: Global,
     set: &RuleSet,
     around: &Around,
+    known: &Known,
     site: BindingId,
 ) -> Result<bool, AllocError>
-    requires { (s a : ℕ) → Contains (sources_at (set_view set.now).sites s) a → a < s }
+    requires sources { (s a : ℕ) → Contains (sources_at (set_view set.now).sites s) a → a < s }
+    requires known { IsKnown (around_view around.now) known.now }
     ensures { IfOk result (λ b. b ≡ Tests.is_open_site (set_view set.now) (around_view around.now) site) }
 {
-    if is_among(site, &around.sources) {
+    if is_source(around, known, site) {
         return Ok(false);
     }
-    is_at_hand(alloc, set, around, site)
+    is_at_hand(alloc, set, around, known, site)
 }
 
 // Whether two sites, the lesser first, are available, and the equalities around don't join them.
@@ -73,21 +110,21 @@ fn is_open_pair(
     alloc: Global,
     set: &RuleSet,
     around: &Around,
-    names: &[(BindingId, BindingId)],
+    known: &Known,
     a: BindingId,
     b: BindingId,
 ) -> Result<bool, AllocError>
     requires sources { (s a : ℕ) → Contains (sources_at (set_view set.now).sites s) a → a < s }
-    requires names { IsNaming around.now.joined.items names.now }
+    requires known { IsKnown (around_view around.now) known.now }
     ensures { IfOk result (λ x. x ≡ Tests.is_open_pair (set_view set.now) (around_view around.now) a b) }
 {
-    if b.index() <= a.index() || name_of(a, names) == name_of(b, names) {
+    if b.index() <= a.index() || are_joined(around, known, a, b) {
         return Ok(false);
     }
-    if !is_at_hand(alloc, set, around, a)? {
+    if !is_at_hand(alloc, set, around, known, a)? {
         return Ok(false);
     }
-    is_at_hand(alloc, set, around, b)
+    is_at_hand(alloc, set, around, known, b)
 }
 
 // Whether a test is open.
@@ -95,36 +132,57 @@ fn is_open(
     alloc: Global,
     set: &RuleSet,
     around: &Around,
-    names: &[(BindingId, BindingId)],
+    known: &Known,
     test: &Test,
 ) -> Result<bool, AllocError>
     requires sources { (s a : ℕ) → Contains (sources_at (set_view set.now).sites s) a → a < s }
-    requires names { IsNaming around.now.joined.items names.now }
+    requires known { IsKnown (around_view around.now) known.now }
     ensures { IfOk result (λ x. x ≡ Tests.is_open (set_view set.now) (around_view around.now) (test_view test.now)) }
 {
     match test {
-        Test::Match { source } | Test::Loop { source } => is_open_site(alloc, set, around, *source),
-        Test::Equal { a, b } => is_open_pair(alloc, set, around, names, *a, *b),
+        Test::Match { source } | Test::Loop { source } => is_open_site(
+            alloc, set, around, known, *source,
+        ),
+        Test::Equal { a, b } => is_open_pair(alloc, set, around, known, *a, *b),
     }
 }
 
-// Adds a test, where it is open and isn't among these.
+// Whether a test is one of these.
+fn is_one_of(tests: &[Test], test: &Test) -> bool
+    ensures { result ≡ true → Contains tests.now test.now }
+{
+    tests.contains(test)
+}
+
+// Whether a test is among the earlier ones of these.
+#[tactic(auto, using(crate::proofs::Opening::in_first))]
+fn is_listed(tests: &[Test], earlier: usize, test: &Test) -> bool
+    ensures { result ≡ true → Contains tests.now test.now }
+{
+    if earlier < tests.len() {
+        return is_one_of(&tests[..earlier], test);
+    }
+    is_one_of(tests, test)
+}
+
+// Adds a test, where it is open and isn't among the earlier ones.
 fn add_open(
     alloc: Global,
     set: &RuleSet,
     around: &Around,
-    names: &[(BindingId, BindingId)],
+    known: &Known,
+    earlier: usize,
     test: Test,
     tests: &mut Vec<Test>,
 ) -> Result<(), AllocError>
     requires sources { (s a : ℕ) → Contains (sources_at (set_view set.now).sites s) a → a < s }
-    requires names { IsNaming around.now.joined.items names.now }
+    requires known { IsKnown (around_view around.now) known.now }
     ensures { OnOk result (AddsOpen (set_view set.now) (around_view around.now) (IsTest test) tests.old.items tests.new.items) }
 {
-    if tests.contains(&test) {
+    if is_listed(tests, earlier, &test) {
         return Ok(());
     }
-    if is_open(alloc, set, around, names, &test)? {
+    if is_open(alloc, set, around, known, &test)? {
         tests.push(test)?;
     }
     Ok(())
@@ -135,17 +193,18 @@ fn add_matches(
     alloc: Global,
     set: &RuleSet,
     around: &Around,
-    names: &[(BindingId, BindingId)],
+    known: &Known,
     rule: &Rule,
+    earlier: usize,
     tests: &mut Vec<Test>,
 ) -> Result<(), AllocError>
     requires sources { (s a : ℕ) → Contains (sources_at (set_view set.now).sites s) a → a < s }
-    requires names { IsNaming around.now.joined.items names.now }
+    requires known { IsKnown (around_view around.now) known.now }
     ensures { OnOk result (AddsOpen (set_view set.now) (around_view around.now) (IsMatchOf (set_rule_view rule.now)) tests.old.items tests.new.items) }
 {
     for asked in rule.constraints() {
         let test = Test::Match { source: asked.0 };
-        add_open(alloc, set, around, names, test, tests)?;
+        add_open(alloc, set, around, known, earlier, test, tests)?;
     }
     Ok(())
 }
@@ -155,17 +214,19 @@ fn add_pairs_with(
     alloc: Global,
     set: &RuleSet,
     around: &Around,
-    names: &[(BindingId, BindingId)],
+    known: &Known,
     a: BindingId,
     others: &[BindingId],
+    earlier: usize,
     tests: &mut Vec<Test>,
 ) -> Result<(), AllocError>
     requires sources { (s a : ℕ) → Contains (sources_at (set_view set.now).sites s) a → a < s }
-    requires names { IsNaming around.now.joined.items names.now }
+    requires known { IsKnown (around_view around.now) known.now }
     ensures { OnOk result (AddsOpen (set_view set.now) (around_view around.now) (IsPairWith others.now a) tests.old.items tests.new.items) }
 {
     for b in others {
-        add_open(alloc, set, around, names, Test::Equal { a, b: *b }, tests)?;
+        let test = Test::Equal { a, b: *b };
+        add_open(alloc, set, around, known, earlier, test, tests)?;
     }
     Ok(())
 }
@@ -175,16 +236,17 @@ fn add_pairs(
     alloc: Global,
     set: &RuleSet,
     around: &Around,
-    names: &[(BindingId, BindingId)],
+    known: &Known,
     class: &[BindingId],
+    earlier: usize,
     tests: &mut Vec<Test>,
 ) -> Result<(), AllocError>
     requires sources { (s a : ℕ) → Contains (sources_at (set_view set.now).sites s) a → a < s }
-    requires names { IsNaming around.now.joined.items names.now }
+    requires known { IsKnown (around_view around.now) known.now }
     ensures { OnOk result (AddsOpen (set_view set.now) (around_view around.now) (IsPairOf class.now) tests.old.items tests.new.items) }
 {
     for a in class {
-        add_pairs_with(alloc, set, around, names, *a, class, tests)?;
+        add_pairs_with(alloc, set, around, known, *a, class, earlier, tests)?;
     }
     Ok(())
 }
@@ -194,38 +256,41 @@ fn add_equalities(
     alloc: Global,
     set: &RuleSet,
     around: &Around,
-    names: &[(BindingId, BindingId)],
+    known: &Known,
     rule: &Rule,
+    earlier: usize,
     tests: &mut Vec<Test>,
 ) -> Result<(), AllocError>
     requires sources { (s a : ℕ) → Contains (sources_at (set_view set.now).sites s) a → a < s }
-    requires names { IsNaming around.now.joined.items names.now }
+    requires known { IsKnown (around_view around.now) known.now }
     ensures { OnOk result (AddsOpen (set_view set.now) (around_view around.now) (IsEqualOf (set_rule_view rule.now)) tests.old.items tests.new.items) }
 {
     for class in rule.classes() {
-        add_pairs(alloc, set, around, names, class, tests)?;
+        add_pairs(alloc, set, around, known, class, earlier, tests)?;
     }
     Ok(())
 }
 
-// Adds the matches and equalities that the rule of a number needs.
+// Adds the matches and equalities that the rule of a number needs. No test is one rule's twice, so each is looked for among
+// those of earlier rules alone.
 fn add_wanted(
     alloc: Global,
     set: &RuleSet,
     around: &Around,
-    names: &[(BindingId, BindingId)],
+    known: &Known,
     number: usize,
     tests: &mut Vec<Test>,
 ) -> Result<(), AllocError>
     requires sources { (s a : ℕ) → Contains (sources_at (set_view set.now).sites s) a → a < s }
-    requires names { IsNaming around.now.joined.items names.now }
+    requires known { IsKnown (around_view around.now) known.now }
     ensures { OnOk result (AddsOpen (set_view set.now) (around_view around.now) (IsWanted (set_view set.now).rules number) tests.old.items tests.new.items) }
 {
     let Some(rule) = set.rules.get(number) else {
         return Ok(());
     };
-    add_matches(alloc, set, around, names, rule, tests)?;
-    add_equalities(alloc, set, around, names, rule, tests)?;
+    let earlier = tests.len();
+    add_matches(alloc, set, around, known, rule, earlier, tests)?;
+    add_equalities(alloc, set, around, known, rule, earlier, tests)?;
     Ok(())
 }
 
@@ -263,13 +328,13 @@ fn add_loop(
     alloc: Global,
     set: &RuleSet,
     around: &Around,
-    names: &[(BindingId, BindingId)],
+    known: &Known,
     highest: &[usize],
     binding: &Binding,
     tests: &mut Vec<Test>,
 ) -> Result<(), AllocError>
     requires sources { (s a : ℕ) → Contains (sources_at (set_view set.now).sites s) a → a < s }
-    requires names { IsNaming around.now.joined.items names.now }
+    requires known { IsKnown (around_view around.now) known.now }
     ensures { OnOk result (AddsOpen (set_view set.now) (around_view around.now) (IsLoopBy (set_view set.now).rules highest.now (site_view binding.now)) tests.old.items tests.new.items) }
 {
     let Binding::Iterator { source } = binding else {
@@ -277,7 +342,8 @@ fn add_loop(
     };
     let test = Test::Loop { source: *source };
     if some_needs(set, highest, &test) {
-        add_open(alloc, set, around, names, test, tests)?;
+        let earlier = tests.len();
+        add_open(alloc, set, around, known, earlier, test, tests)?;
     }
     Ok(())
 }
@@ -287,19 +353,19 @@ fn add_loops(
     alloc: Global,
     set: &RuleSet,
     around: &Around,
-    names: &[(BindingId, BindingId)],
+    known: &Known,
     highest: &[usize],
     tests: &mut Vec<Test>,
 ) -> Result<(), AllocError>
     requires set { CanGrow (set_view set.now) }
-    requires names { IsNaming around.now.joined.items names.now }
+    requires known { IsKnown (around_view around.now) known.now }
     ensures { OnOk result (AddsOpen (set_view set.now) (around_view around.now) (IsLoopOf (set_view set.now).rules highest.now) tests.old.items tests.new.items) }
 {
     if !some_goes_over(set, highest) {
         return Ok(());
     }
     for binding in &set.bindings {
-        add_loop(alloc, set, around, names, highest, binding, tests)?;
+        add_loop(alloc, set, around, known, highest, binding, tests)?;
     }
     Ok(())
 }
@@ -309,16 +375,16 @@ fn add_all_wanted(
     alloc: Global,
     set: &RuleSet,
     around: &Around,
-    names: &[(BindingId, BindingId)],
+    known: &Known,
     highest: &[usize],
     tests: &mut Vec<Test>,
 ) -> Result<(), AllocError>
     requires sources { (s a : ℕ) → Contains (sources_at (set_view set.now).sites s) a → a < s }
-    requires names { IsNaming around.now.joined.items names.now }
+    requires known { IsKnown (around_view around.now) known.now }
     ensures { OnOk result (AddsOpen (set_view set.now) (around_view around.now) (OfSome (IsWanted (set_view set.now).rules) highest.now) tests.old.items tests.new.items) }
 {
     for number in highest {
-        add_wanted(alloc, set, around, names, *number, tests)?;
+        add_wanted(alloc, set, around, known, *number, tests)?;
     }
     Ok(())
 }
@@ -328,16 +394,17 @@ pub fn useful_tests(
     alloc: Global,
     set: &RuleSet,
     around: &Around,
+    known: &Known,
     here: &[usize],
 ) -> Result<Vec<Test>, AllocError>
+    requires known { IsKnown (around_view around.now) known.now }
     requires set { CanGrow (set_view set.now) }
     requires order { IsTrue (descend (set_view set.now).rules here.now) }
     ensures { IfOk result (λ v. AreUseful (set_view set.now) (around_view around.now) here.now v.items) }
 {
-    let names = class_names(alloc, around)?;
     let highest = &here[..reach_count(set, here, here.first().copied())];
     let mut tests = Vec::new(alloc);
-    add_all_wanted(alloc, set, around, &names, highest, &mut tests)?;
-    add_loops(alloc, set, around, &names, highest, &mut tests)?;
+    add_all_wanted(alloc, set, around, known, highest, &mut tests)?;
+    add_loops(alloc, set, around, known, highest, &mut tests)?;
     Ok(tests)
 }

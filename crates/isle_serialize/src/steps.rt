@@ -4,11 +4,11 @@ ghost use Rattle.std.specs.Prelude.{◌≡◌, ◌<◌, ◌≤◌, ℕ, Some, Co
 ghost use Rattle.isle_model.specs.sites.Sites.{iterator_site, sources_at};
 ghost use Rattle.isle_model.specs.trees.Best.{descend};
 ghost use Rattle.isle_sets.specs.SiteViews.{set_view};
-ghost use Rattle.isle_serialize.specs.AroundViews.{around_view, after_uses, IsInside};
+ghost use Rattle.isle_serialize.specs.AroundViews.{around_view, after_uses, IsInside, IsKnown};
 ghost use Rattle.isle_serialize.specs.Growing.{test_sites, test_emits, CanGrow, IsNext};
-ghost use Rattle.isle_serialize.specs.TestViews.{test_view, IsChosen};
+ghost use Rattle.isle_serialize.specs.TestViews.{test_view, AreUseful, IsChosen};
 
-use crate::around::Around;
+use crate::around::{Around, Known, known_of};
 use crate::binds::{bind_order, sources_of};
 use crate::fields::iterator_of;
 use crate::inside::after_step;
@@ -65,6 +65,25 @@ fn after_test(
     }
 }
 
+// The greatest of a place's useful tests, where it covers some rule.
+fn chosen_of(
+    set: &RuleSet,
+    around: &Around,
+    known: &Known,
+    here: &[usize],
+    tests: &[Test],
+) -> Option<Test>
+    requires known { IsKnown (around_view around.now) known.now }
+    requires order { IsTrue (descend (set_view set.now).rules here.now) }
+    requires tests { AreUseful (set_view set.now) (around_view around.now) here.now tests.now }
+    ensures { IsChosen (set_view set.now) (around_view around.now) here.now (option_map test_view result) }
+{
+    match greatest_of(set, around, known, here, tests) {
+        Some(best) if best.score.count > 0 => Some(best.test),
+        _ => None,
+    }
+}
+
 // The test that is made at a place: the greatest one, where it covers some rule.
 fn chosen_test(
     alloc: Global,
@@ -76,11 +95,9 @@ fn chosen_test(
     requires order { IsTrue (descend (set_view set.now).rules here.now) }
     ensures { IfOk result (λ o. IsChosen (set_view set.now) (around_view around.now) here.now (option_map test_view o)) }
 {
-    let tests = useful_tests(alloc, set, around, here)?;
-    match greatest_of(set, around, here, &tests) {
-        Some(best) if best.score.count > 0 => Ok(Some(best.test)),
-        _ => Ok(None),
-    }
+    let known = known_of(alloc, around)?;
+    let tests = useful_tests(alloc, set, around, &known, here)?;
+    Ok(chosen_of(set, around, &known, here, &tests))
 }
 
 /// The test that is made next at a place with these rules, and none where the place is an end.

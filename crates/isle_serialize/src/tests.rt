@@ -9,10 +9,10 @@ ghost use Rattle.isle_model.specs.trees.Tests as Tests;
 ghost use Rattle.isle_sets.specs.SiteViews.{set_rule_view, set_view};
 ghost use Rattle.isle_serialize.specs.Bars as Bars;
 ghost use Rattle.isle_serialize.specs.Bars.{reaches};
-ghost use Rattle.isle_serialize.specs.AroundViews.{around_view};
+ghost use Rattle.isle_serialize.specs.AroundViews.{around_view, IsKnown};
 ghost use Rattle.isle_serialize.specs.TestViews.{test_view, score_view, greater_test, IsGreatestScored, IsScored};
 
-use crate::around::{Around, is_among};
+use crate::around::{Around, Known, is_emitted};
 use isle_sets::trie_again::{BindingId, Rule, RuleSet};
 use std::alloc::{AllocError, Global};
 
@@ -203,29 +203,30 @@ fn cover_count(set: &RuleSet, here: &[usize], test: &Test) -> usize
 }
 
 /// The score of a test at a place.
-pub fn score_of(set: &RuleSet, around: &Around, here: &[usize], test: &Test) -> Score
-    requires { IsTrue (descend (set_view set.now).rules here.now) }
+pub fn score_of(set: &RuleSet, around: &Around, known: &Known, here: &[usize], test: &Test) -> Score
+    requires known { IsKnown (around_view around.now) known.now }
+    requires order { IsTrue (descend (set_view set.now).rules here.now) }
     ensures { score_view result ≡ Tests.score (set_view set.now) (around_view around.now) here.now (test_view test.now) }
 {
     let count = cover_count(set, here, test);
     match test {
         Test::Match { source } => Score {
             count,
-            is_emitted: is_among(*source, &around.emitted),
+            is_emitted: is_emitted(around, known, *source),
             form: 0,
             site: *source,
             other: BindingId::from(0),
         },
         Test::Equal { a, b } => Score {
             count,
-            is_emitted: is_among(*a, &around.emitted) && is_among(*b, &around.emitted),
+            is_emitted: is_emitted(around, known, *a) && is_emitted(around, known, *b),
             form: 1,
             site: *a,
             other: *b,
         },
         Test::Loop { source } => Score {
             count,
-            is_emitted: is_among(*source, &around.emitted),
+            is_emitted: is_emitted(around, known, *source),
             form: 2,
             site: *source,
             other: BindingId::from(0),
@@ -252,26 +253,34 @@ pub fn is_greater(x: Score, y: Score) -> bool
 }
 
 /// The greatest of some tests at a place, with its score.
-pub fn greatest_of(set: &RuleSet, around: &Around, here: &[usize], tests: &[Test]) -> Option<Scored>
-    requires { IsTrue (descend (set_view set.now).rules here.now) }
+pub fn greatest_of(
+    set: &RuleSet,
+    around: &Around,
+    known: &Known,
+    here: &[usize],
+    tests: &[Test],
+) -> Option<Scored>
+    requires known { IsKnown (around_view around.now) known.now }
+    requires order { IsTrue (descend (set_view set.now).rules here.now) }
     ensures { IsGreatestScored (set_view set.now) (around_view around.now) here.now tests.now result }
 {
     let mut best = None;
     for test in tests {
-        best = Some(greater_of(set, around, here, best, test));
+        best = Some(greater_of(set, around, known, here, best, test));
     }
     best
 }
 
 // A test with its score.
-fn with_score(set: &RuleSet, around: &Around, here: &[usize], test: &Test) -> Scored
-    requires { IsTrue (descend (set_view set.now).rules here.now) }
+fn with_score(set: &RuleSet, around: &Around, known: &Known, here: &[usize], test: &Test) -> Scored
+    requires known { IsKnown (around_view around.now) known.now }
+    requires order { IsTrue (descend (set_view set.now).rules here.now) }
     ensures test { result.test ≡ test.now }
     ensures score { IsScored (set_view set.now) (around_view around.now) here.now result }
 {
     Scored {
         test: *test,
-        score: score_of(set, around, here, test),
+        score: score_of(set, around, known, here, test),
     }
 }
 
@@ -279,16 +288,18 @@ fn with_score(set: &RuleSet, around: &Around, here: &[usize], test: &Test) -> Sc
 fn greater_of(
     set: &RuleSet,
     around: &Around,
+    known: &Known,
     here: &[usize],
     best: Option<Scored>,
     test: &Test,
 ) -> Scored
+    requires known { IsKnown (around_view around.now) known.now }
     requires order { IsTrue (descend (set_view set.now).rules here.now) }
     requires best { MatchOption best (Unit {0}) (IsScored (set_view set.now) (around_view around.now) here.now) }
     ensures test { result.test ≡ greater_test (set_view set.now) (around_view around.now) here.now (option_map (λ s. s.test) best) test.now }
     ensures score { IsScored (set_view set.now) (around_view around.now) here.now result }
 {
-    let next = with_score(set, around, here, test);
+    let next = with_score(set, around, known, here, test);
     match best {
         Some(other) => if is_greater(next.score, other.score) {
             next

@@ -8,7 +8,8 @@ use Rattle.isle_serialize.proofs.tests.greatest_of.Goals as goal
 
 pub greater_of-requires : goal.greater_of-requires
 greater_of-requires c = record {
-  order = c.requires;
+  known = c.requires.known;
+  order = c.requires.order;
   best = scores_known (set_view c.args.set.now) (around_view c.args.around.now) c.args.here.now (take c.loop-test.test-index c.args.tests.now) c.loop-test.best c.loop-test.invariant;
 }
 
