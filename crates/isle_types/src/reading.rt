@@ -1,19 +1,20 @@
 //! How the type table is read off a list of definitions: the names of the types first, then what the
 //! types are, then constants. What is wrong with a definition is noted, and the reading goes on.
 
-ghost use Rattle.std.specs.Prelude.{◌≡◌, ◌⊎◌, [], IfOk, OnOk, MatchOption, Some};
+ghost use Rattle.std.specs.Prelude.{◌≡◌, ◌⊎◌, [], ◌∷◌, ◌++◌, IfOk, OnOk, MatchOption, Some};
 ghost use Rattle.isle_model.specs.lists.Names.{number};
 ghost use Rattle.isle_model.specs.lists.TypeTable.{IsValidTypes, builtin_names, type_names_met};
 ghost use Rattle.isle_model.specs.claims.Environments.{AreTypesOf};
 ghost use Rattle.isle_model.specs.claims.Questions.{IsWellFormedEnvironment};
-ghost use Rattle.isle_model.specs.claims.Refusals.{RefusesTypes};
+ghost use Rattle.isle_model.specs.claims.Refusals.{RefusesTypes, ill_typed};
 ghost use Rattle.isle_base.specs.Answers.{Answers, NoLimit, OnErrors};
 ghost use Rattle.isle_base.specs.ErrorViews.{error_views};
 ghost use Rattle.isle_base.specs.Stable.{entry_count};
-ghost use Rattle.isle_base.specs.SyntaxViews.{definition_view, definition_views, type_view};
+ghost use Rattle.isle_base.specs.SyntaxViews.{position, definition_view, definition_views, type_view};
 ghost use Rattle.isle_types.specs.EnvViews.{environment_view};
 ghost use Rattle.isle_types.specs.Envs.{names_of, type_at, IsInterned};
 ghost use Rattle.isle_base.specs.Noting.{NotesMore};
+ghost use Rattle.isle_base.specs.Positions.{NotesAt};
 ghost use Rattle.isle_types.specs.Reading.{AddsBuiltin, NamesType, NamesDefinition};
 ghost use Rattle.isle_types.specs.Stages.{Booting, NamesTypes};
 ghost use Rattle.isle_types.specs.TypeTables.{SeesTypes};
@@ -166,8 +167,11 @@ impl TypeEnv {
 /// # Errors
 ///
 /// Where memory is refused.
+#[tactic(auto, using(isle_base::proofs::Positioned::notes_one, isle_base::proofs::Positioned::stands_there))]
 pub fn report(errors: &mut Vec<Error>, pos: Pos, msg: &str) -> Result<(), AllocError>
-    ensures { OnOk result (NotesMore errors.old.items errors.new.items) }
+    ensures noted { OnOk result (NotesMore errors.old.items errors.new.items) }
+    ensures places { OnOk result (NotesAt (position pos ∷ []) errors.old.items errors.new.items) }
+    ensures one { OnOk result (error_views errors.new.items ≡ error_views errors.old.items ++ ill_typed (position pos) ∷ []) }
 {
     let msg = String::from_str(*errors.allocator(), msg)?;
     let span = Span::new_single(pos);
