@@ -397,11 +397,13 @@ fn unreported(
 ) -> Result<Vec<Pos>, AllocError>
     ensures { IfOk result (λ v. v.items ≡ unreported others.now counts.now place) }
 {
-    listed(others, place)
-        .iter()
-        .copied()
-        .filter(|other| count(counts, *other) > 0)
-        .collect(alloc)
+    let mut found = Vec::new(alloc);
+    for other in listed(others, place) {
+        if count(counts, *other) > 0 {
+            found.push(*other)?;
+        }
+    }
+    Ok(found)
 }
 
 // Takes an overlap from those of a rule.

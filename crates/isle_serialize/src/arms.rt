@@ -89,9 +89,16 @@ fn parted(
     ensures asking { IfOk result (λ p. p.0.items ≡ filter (Growing.asks (set_view set.now).rules source (constraint_view constraint)) here.now) }
     ensures others { IfOk result (λ p. p.1.items ≡ filter (λ i. not (Growing.asks (set_view set.now).rules source (constraint_view constraint) i)) here.now) }
 {
-    here.iter()
-        .copied()
-        .partition(alloc, |number| asks(set, source, constraint, *number))
+    let mut asking = Vec::new(alloc);
+    let mut others = Vec::new(alloc);
+    for number in here {
+        if asks(set, source, constraint, *number) {
+            asking.push(*number)?;
+        } else {
+            others.push(*number)?;
+        }
+    }
+    Ok((asking, others))
 }
 
 /// The next arm of a match, of the least constraint that some of these rules ask of its source, and none where none of

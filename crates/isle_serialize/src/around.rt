@@ -183,10 +183,11 @@ fn joining(
 {
     let from = name_of(a, names);
     let to = name_of(b, names);
-    names
-        .iter()
-        .map(|entry| (entry.0, renamed(entry.1, from, to)))
-        .collect(alloc)
+    let mut joined = Vec::with_capacity(alloc, names.len())?;
+    for entry in names {
+        joined.push((entry.0, renamed(entry.1, from, to)))?;
+    }
+    Ok(joined)
 }
 
 // The names of the classes of all sites that equalities around joined.

@@ -122,11 +122,13 @@ pub fn bind_order(
     ensures { IfOk result (λ v. v.items ≡ Places.bind_order (set_view set.now).sites (around_view around.now) sites.now) }
 {
     let listed = all_listed(alloc, set, &around.emitted, sites)?;
-    listed
-        .iter()
-        .copied()
-        .filter(|site| is_bound(set, *site))
-        .collect(alloc)
+    let mut bound = Vec::new(alloc);
+    for site in &listed {
+        if is_bound(set, *site) {
+            bound.push(*site)?;
+        }
+    }
+    Ok(bound)
 }
 
 /// The sites that are emitted once these are used: these, and all that they are made of, each once.

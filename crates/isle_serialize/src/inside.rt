@@ -35,11 +35,13 @@ fn not_in(
 ) -> Result<Vec<BindingId>, AllocError>
     ensures { IfOk result (λ v. v.items ≡ filter (λ s. not (contains ◌==◌ others.now s)) sites.now) }
 {
-    sites
-        .iter()
-        .copied()
-        .filter(|site| !others.contains(site))
-        .collect(alloc)
+    let mut left = Vec::new(alloc);
+    for site in sites {
+        if !others.contains(site) {
+            left.push(*site)?;
+        }
+    }
+    Ok(left)
 }
 
 // Those of these sites that aren't among others.

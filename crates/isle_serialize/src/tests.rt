@@ -161,9 +161,16 @@ fn parted_at(
     ensures reaching { IfOk result (λ p. p.0.items ≡ filter (Bars.is_at_bar (set_view set.now).rules (test_view test.now) bar) here.now) }
     ensures others { IfOk result (λ p. p.1.items ≡ filter (λ i. not (Bars.is_at_bar (set_view set.now).rules (test_view test.now) bar i)) here.now) }
 {
-    here.iter()
-        .copied()
-        .partition(alloc, |number| is_at_bar(set, test, bar, *number))
+    let mut reaching = Vec::new(alloc);
+    let mut others = Vec::new(alloc);
+    for number in here {
+        if is_at_bar(set, test, bar, *number) {
+            reaching.push(*number)?;
+        } else {
+            others.push(*number)?;
+        }
+    }
+    Ok((reaching, others))
 }
 
 /// The rules of a place that a test covers, and those that it doesn't: it covers a rule that needs it, where each rule of
