@@ -9,7 +9,7 @@ ghost use Rattle.isle_sets.specs.SiteViews.{site_view, set_view};
 ghost use Rattle.isle_serialize.specs.AroundViews.{around_view, AreSettled};
 
 use crate::around::{Around, set_of};
-use isle_base::stablemapset::StableSet;
+use crate::site_set::SiteSet;
 use isle_sets::trie_again::{Binding, BindingId, RuleSet};
 use std::alloc::{AllocError, Global};
 
@@ -28,12 +28,12 @@ fn is_settled(
     site: BindingId,
     emitted: &[BindingId],
     listed: &[BindingId],
-    settled: &StableSet<BindingId>,
+    settled: &SiteSet,
 ) -> bool
     requires { AreSettled emitted.now listed.now settled.now }
     ensures { result ≡ (is_in site emitted.now || is_in site listed.now) }
 {
-    settled.contains(&site)
+    settled.contains(site)
 }
 
 // Lists the sites below a site that aren't emitted, after those already listed: sources first, left to right, each once.
@@ -42,7 +42,7 @@ fn list_below(
     set: &RuleSet,
     emitted: &[BindingId],
     site: BindingId,
-    settled: &mut StableSet<BindingId>,
+    settled: &mut SiteSet,
     listed: &mut Vec<BindingId>,
 ) -> Result<(), AllocError>
     requires sources { (s a : ℕ) → Contains (sources_at (set_view set.now).sites s) a → a < s }

@@ -10,5 +10,6 @@ pub mod fields;
 pub mod inside;
 pub mod open;
 pub mod serialize;
+pub mod site_set;
 pub mod steps;
 pub mod tests;

@@ -1,8 +1,7 @@
 use Rattle.std.proofs.Common.{◌≡◌, ◌++◌, drop, not}
-use Rattle.std.specs.Bool.{◌==◌}
 use Rattle.std.specs.List.{filter}
-use Rattle.isle_base.specs.Stable.{contains}
+use Rattle.isle_serialize.specs.AroundViews.{has}
 use Rattle.isle_serialize.proofs.inside.not_in.Given as goal
 
 abbrev pub invariant-loop-site : goal.invariant-loop-site
-invariant-loop-site l = filter (λ s. not (contains ◌==◌ l.others s)) l.sites ≡ l.left.items ++ filter (λ s. not (contains ◌==◌ l.others s)) (drop l.site-index l.sites)
+invariant-loop-site l = filter (λ s. not (has l.others s)) l.sites ≡ l.left.items ++ filter (λ s. not (has l.others s)) (drop l.site-index l.sites)
