@@ -1,11 +1,13 @@
 //! What the command answers to texts.
 
-use crate::words::{Request, Task};
+use crate::graphs::graph_of;
+use crate::words::{Format, Request, Task};
 use cranelift_isle::lower::{Lowered, LoweredTerm, lower};
 use isle_base::syntax::{Def, Fault, Files};
 use isle_explaining::diagnosis::reports_of;
 use isle_explaining::explanation::{explanation, with_rules};
 use isle_explaining::stats::stats;
+use isle_json::documents::{document_of_reports, document_of_terms};
 use isle_printing::print::{Names, print_term};
 use isle_rendering::layout::push_reports;
 use isle_rendering::report::{Label, Level, Report};
@@ -96,8 +98,16 @@ fn refusal(
     files: &Files,
     reports: &[Report],
 ) -> Result<Answer, AllocError> {
+    if asked.format == Format::Json {
+        let parts = asked.task == Task::Lower;
+        return Ok(Answer {
+            status: 1,
+            out: document_of_reports(alloc, files, reports, parts)?,
+            err: String::new(alloc),
+        });
+    }
     let mut err = String::new(alloc);
-    push_reports(&mut err, files, reports, asked.layout)?;
+    push_reports(&mut err, files, reports, asked.format.layout())?;
     Ok(Answer {
         status: 1,
         out: String::new(alloc),
@@ -131,7 +141,8 @@ fn answer_to_lowered(
 ) -> Result<Answer, AllocError> {
     match asked.task {
         Task::Lower => trees(alloc, asked, files, lowered),
-        Task::Check | Task::Samples => Ok(accepted(alloc, String::new(alloc))),
+        Task::Check => nothing_wrong(alloc, asked, files),
+        Task::Samples => Ok(accepted(alloc, String::new(alloc))),
         Task::Stats => Ok(accepted(alloc, stats(alloc, lowered)?)),
         Task::Explain => {
             let text = explanation(alloc, files, lowered, asked.rule)?;
@@ -150,6 +161,14 @@ fn accepted(alloc: Global, out: String) -> Answer {
         out,
         err: String::new(alloc),
     }
+}
+
+// The answer to `check` where nothing is wrong.
+fn nothing_wrong(alloc: Global, asked: &Request<'_>, files: &Files) -> Result<Answer, AllocError> {
+    if asked.format == Format::Json {
+        return Ok(accepted(alloc, document_of_reports(alloc, files, &[], false)?));
+    }
+    Ok(accepted(alloc, String::new(alloc)))
 }
 
 // The answer where there is nothing of a name.
@@ -171,13 +190,46 @@ fn trees(
     if let Some(name) = missing_term(asked.terms, lowered) {
         return missing(alloc, "term with rules", name);
     }
-    let mut out = String::new(alloc);
+    let mut wanted = Vec::new(alloc);
     for term in &lowered.terms {
         if is_wanted(asked.terms, term_name(lowered, term)) {
-            out.push_str(&tree(alloc, files, lowered, term)?)?;
+            wanted.push(term)?;
         }
     }
+    let out = match asked.format {
+        Format::Json => document_of_terms(alloc, files, lowered, &wanted)?,
+        Format::Dot => graphs(alloc, files, lowered, &wanted)?,
+        Format::Text | Format::Line => printed(alloc, files, lowered, &wanted)?,
+    };
     Ok(accepted(alloc, out))
+}
+
+// The trees of terms as graphs, one after another.
+fn graphs(
+    alloc: Global,
+    files: &Files,
+    lowered: &Lowered,
+    terms: &[&LoweredTerm],
+) -> Result<String, AllocError> {
+    let mut out = String::new(alloc);
+    for term in terms {
+        out.push_str(&graph_of(alloc, files, lowered, term)?)?;
+    }
+    Ok(out)
+}
+
+// The trees of terms in words, one after another.
+fn printed(
+    alloc: Global,
+    files: &Files,
+    lowered: &Lowered,
+    terms: &[&LoweredTerm],
+) -> Result<String, AllocError> {
+    let mut out = String::new(alloc);
+    for term in terms {
+        out.push_str(&tree(alloc, files, lowered, term)?)?;
+    }
+    Ok(out)
 }
 
 // The tree of a term, with the rules that its returns take.

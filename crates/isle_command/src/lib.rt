@@ -2,6 +2,7 @@
 #![tactic(auto)]
 
 pub mod answers;
+mod graphs;
 mod inputs;
 pub mod run;
 pub mod words;

@@ -18,14 +18,46 @@ pub enum Task {
     Samples,
 }
 
+/// The form of an answer.
+#[derive(Clone, Copy, PartialEq, Eq)]
+pub enum Format {
+    /// For a person: of an error the lines that it speaks of.
+    Text,
+    /// The same, but each error in one line.
+    Line,
+    /// One JSON object, errors too: docs/JSON.md.
+    Json,
+    /// Trees as graphs in Graphviz's notation.
+    Dot,
+}
+
+impl Format {
+    /// How reports are laid out where they are told to a person.
+    pub fn layout(self) -> Layout {
+        match self {
+            Format::Line => Layout::Line,
+            Format::Text | Format::Json | Format::Dot => Layout::Text,
+        }
+    }
+
+    // Whether a task has answers of this form.
+    fn is_of(self, task: Task) -> bool {
+        match self {
+            Format::Text | Format::Line => true,
+            Format::Json => task == Task::Lower || task == Task::Check,
+            Format::Dot => task == Task::Lower,
+        }
+    }
+}
+
 /// What the command is asked.
 pub struct Request<'a> {
     /// What is to be done.
     pub task: Task,
     /// Whether uses of internal extractors are replaced by their templates.
     pub expand: bool,
-    /// How reports are laid out.
-    pub layout: Layout,
+    /// The form of the answer.
+    pub format: Format,
     /// The names of the terms whose trees are wanted, with commas between them; all where there are none.
     pub terms: Option<&'a str>,
     /// Where files are looked for whose names don't begin with `/`; the empty text for where the command runs.
@@ -41,7 +73,7 @@ impl<'a> Drop for Request<'a> {
         let Request {
             task: _,
             expand: _,
-            layout: _,
+            format: _,
             terms: _,
             folder: _,
             rule: _,
@@ -64,12 +96,12 @@ enum Awaited {
 
 /// What these words ask, or None where they ask for nothing. They are the name of a task; for `explain` the rule; then
 /// files, or for `samples` at most one sample. Everywhere behind the task there may be `--no-expand`, `--terms NAMES`,
-/// `--format text`, `--format line` and `-C FOLDER`.
+/// `--format text`, `--format line` and `-C FOLDER`; `--format json` for `lower` and `check`, `--format dot` for `lower`.
 pub fn asked_by<'a>(alloc: Global, words: &'a [String]) -> Result<Option<Request<'a>>, AllocError> {
     let mut asked = Request {
         task: Task::Lower,
         expand: true,
-        layout: Layout::Text,
+        format: Format::Text,
         terms: None,
         folder: "",
         rule: "",
@@ -82,7 +114,7 @@ pub fn asked_by<'a>(alloc: Global, words: &'a [String]) -> Result<Option<Request
             None => return Ok(None),
         }
     }
-    if awaited == Awaited::Any && asked.has_files() {
+    if awaited == Awaited::Any && asked.has_files() && asked.format.is_of(asked.task) {
         Ok(Some(asked))
     } else {
         Ok(None)
@@ -133,11 +165,13 @@ impl<'a> Request<'a> {
         Some(next)
     }
 
-    // Reads the name of a layout.
+    // Reads the name of a form.
     fn read_format(&mut self, word: &str) -> Option<Awaited> {
-        self.layout = match word {
-            "text" => Layout::Text,
-            "line" => Layout::Line,
+        self.format = match word {
+            "text" => Format::Text,
+            "line" => Format::Line,
+            "json" => Format::Json,
+            "dot" => Format::Dot,
             _ => return None,
         };
         Some(Awaited::Any)
