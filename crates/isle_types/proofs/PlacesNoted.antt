@@ -1,5 +1,5 @@
 -- What stands at the positions of a part of a definition stands at those of the whole.
-use Rattle.std.proofs.Common.{◌≡◌, ℕ, ◌<◌, List, [], ◌∷◌, length, get_or, map, Contains, inl, inr, sym, ap, subst}
+use Rattle.std.proofs.Common.{◌≡◌, ℕ, ◌<◌, List, [], ◌∷◌, length, get_or, map, Contains, inl, inr, sym, subst}
 use Rattle.std.specs.List.{flat_map}
 use Rattle.isle_model.specs.lists.Syntax.{Position, FieldTree, TupleFieldTree, FieldTrees, VariantTree, TypeTree, enum_value, struct_value}
 use Rattle.isle_model.proofs.Members.{in_head, in_tail, in_cases, in_map}

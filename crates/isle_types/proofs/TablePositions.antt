@@ -8,7 +8,7 @@ use Rattle.isle_model.specs.lists.TypeTable.{builtin_names, type_trees, type_nam
 use Rattle.isle_model.specs.claims.Environments.{TypeEnvironment, AreTypesOf}
 use Rattle.isle_model.proofs.Members.{in_head, in_tail}
 use Rattle.isle_base.specs.Positions.{AreAmong, fields_positions, variant_positions, value_positions, type_positions, definition_positions, positions_of}
-use Rattle.isle_base.proofs.Positioned.{among_first, among_both, among_right}
+use Rattle.isle_base.proofs.Positioned.{among_same, among_first, among_both, among_right}
 use Rattle.isle_types.specs.declared.type_env.TypeEnv.{TypeEnv}
 use Rattle.isle_types.specs.TypePositions.{entry_positions, types_positions}
 use Rattle.isle_types.specs.TypeTables.{SeesTypes}
@@ -29,7 +29,7 @@ none_stands n (x ∷ xs) = none_stands (suc n) xs
 
 module _ (defs : List Definition) (names : List (List ℕ)) where
   variants_among : (ty : List ℕ) (id : ℕ) (vs : List VariantTree) → AreAmong (map (λ v. v.at) (map (λ p. variant_entry defs names ty p.0 p.1) (enumerate_from id vs))) (flat_map variant_positions vs)
-  variants_among ty id [] p c = c
+  variants_among ty id [] = among_same []
   variants_among ty id (v ∷ vs) = among_append (v.at ∷ []) (map (λ v. v.at) (map (λ p. variant_entry defs names ty p.0 p.1) (enumerate_from (id + 1) vs))) (variant_positions v) (flat_map variant_positions vs) (among_first v.at (v.name.at ∷ fields_positions v.fields)) (variants_among ty (id + 1) vs)
 
   value_among : (id : ℕ) (t : TypeTree) (value : TypeValueTree) → AreAmong (entry_positions (entry_at defs names id t value)) (t.at ∷ t.name.at ∷ value_positions value)
@@ -41,18 +41,22 @@ module _ (defs : List Definition) (names : List (List ℕ)) where
       (λ p c. in_tail t.at p (t.name.at ∷ value_positions (enum_value vs at)) (in_tail t.name.at p (value_positions (enum_value vs at)) (in_tail at p (flat_map variant_positions vs) (variants_among t.name.text 0 vs p c))))
 
   entries_among : (id : ℕ) (ts : List TypeTree) → AreAmong (types_positions (map (λ p. type_entry defs names p.0 p.1) (enumerate_from id ts))) (flat_map type_positions ts)
-  entries_among id [] p c = c
+  entries_among id [] = among_same []
   entries_among id (t ∷ ts) = among_append (entry_positions (type_entry defs names id t)) (types_positions (map (λ p. type_entry defs names p.0 p.1) (enumerate_from (id + 1) ts))) (type_positions t) (flat_map type_positions ts) (value_among id t t.value) (entries_among (id + 1) ts)
 
+-- behind others
+among_behind : (ps qs rs : List Position) → AreAmong qs rs → AreAmong qs (ps ++ rs)
+among_behind ps qs rs a = among_both qs rs (ps ++ rs) a (among_right ps rs)
+
 trees_among : (defs : List Definition) → AreAmong (flat_map type_positions (type_trees defs)) (positions_of defs)
-trees_among [] p c = c
-trees_among (type_definition t ∷ defs) = among_append (type_positions t) (flat_map type_positions (type_trees defs)) (type_positions t) (positions_of defs) (λ p c. c) (trees_among defs)
-trees_among (declaration d ∷ defs) p c = among_right (definition_positions (declaration d)) (positions_of defs) p (trees_among defs p c)
-trees_among (extractor_definition d ∷ defs) p c = among_right (definition_positions (extractor_definition d)) (positions_of defs) p (trees_among defs p c)
-trees_among (converter_definition d ∷ defs) p c = among_right (definition_positions (converter_definition d)) (positions_of defs) p (trees_among defs p c)
-trees_among (rule_definition d ∷ defs) p c = among_right (definition_positions (rule_definition d)) (positions_of defs) p (trees_among defs p c)
-trees_among (extern_definition d ∷ defs) p c = among_right (definition_positions (extern_definition d)) (positions_of defs) p (trees_among defs p c)
-trees_among (other_definition ∷ defs) p c = trees_among defs p c
+trees_among [] = among_same []
+trees_among (type_definition t ∷ defs) = among_append (type_positions t) (flat_map type_positions (type_trees defs)) (type_positions t) (positions_of defs) (among_same (type_positions t)) (trees_among defs)
+trees_among (declaration d ∷ defs) = among_behind (definition_positions (declaration d)) (flat_map type_positions (type_trees defs)) (positions_of defs) (trees_among defs)
+trees_among (extractor_definition d ∷ defs) = among_behind (definition_positions (extractor_definition d)) (flat_map type_positions (type_trees defs)) (positions_of defs) (trees_among defs)
+trees_among (converter_definition d ∷ defs) = among_behind (definition_positions (converter_definition d)) (flat_map type_positions (type_trees defs)) (positions_of defs) (trees_among defs)
+trees_among (rule_definition d ∷ defs) = among_behind (definition_positions (rule_definition d)) (flat_map type_positions (type_trees defs)) (positions_of defs) (trees_among defs)
+trees_among (extern_definition d ∷ defs) = among_behind (definition_positions (extern_definition d)) (flat_map type_positions (type_trees defs)) (positions_of defs) (trees_among defs)
+trees_among (other_definition ∷ defs) = trees_among defs
 
 -- those of the table that definitions make
 pub table_among : (defs : List Definition) → AreAmong (types_positions (type_table defs)) (positions_of defs)

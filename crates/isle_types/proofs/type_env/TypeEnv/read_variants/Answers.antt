@@ -5,7 +5,6 @@ use Rattle.isle_types.specs.VariantReading.{VariantsRead}
 use Rattle.isle_base.proofs.Noted.{may_both}
 use Rattle.isle_types.proofs.VariantRuns.{run_more, run_wrong, one_more, all_there}
 use Rattle.isle_types.proofs.PlacesNoted.{notes_part}
-use Rattle.isle_base.proofs.Positioned.{notes_nothing}
 use Rattle.isle_base.specs.Positions.{variant_positions}
 use Rattle.isle_types.proofs.type_env.TypeEnv.read_variants.Goals as goal
 
