@@ -53,10 +53,11 @@ impl TypeEnv {
     /// primitive one, or each variant's full name, name and fields, or the struct's fields, and last those
     /// of constants. A constant has the type of its last definition.
     ///
-    /// `Errors` has what is wrong, each with its place: all types are looked at, and the first error ends
-    /// the work on one type. A type whose name is another type's, a primitive type that is marked `extern`
-    /// or `nodebug`, another type that is marked both, two variants of an enum or two fields of a list with
-    /// one name, a field or a constant of an unknown type. `Memory` where memory is refused.
+    /// `Errors` has what is wrong, each with its place, which is one in the definitions: all types are looked
+    /// at, and the first error ends the work on one type. A type whose name is another type's, a primitive
+    /// type that is marked `extern` or `nodebug`, another type that is marked both, two variants of an enum or
+    /// two fields of a list with one name, a field or a constant of an unknown type. `Memory` where memory is
+    /// refused.
     ///
     /// The table that is answered is well formed: terms and rules can be read with it.
     pub fn from_ast(alloc: Global, defs: &[Def]) -> Result<TypeEnv, Fault>

@@ -83,7 +83,8 @@ impl TypeEnv {
         requires name { IsNumberOf name.0 (string_bytes ty.now.name.0) (names_of self.old) }
         ensures inverse { IsInterned self.new }
         ensures noted { OnOk result (MayNoteMore errors.old.items errors.new.items) }
-        ensures places { OnOk result (NotesAt (position ty.now.pos ∷ flat_map variant_positions (map variant_view variants.now)) errors.old.items errors.new.items) }
+        ensures places { OnOk result (NotesAt (position ty.now.pos ∷ flat_map variant_positions (map variant_view variants.now))
+            errors.old.items errors.new.items) }
         ensures reads { IfOk result (λ o. ValueIsRead id.0 (type_view ty.now) (enum_value (map variant_view variants.now)) o
             self.old errors.old.items self.new errors.new.items) }
     {
@@ -116,7 +117,8 @@ impl TypeEnv {
         requires name { IsNumberOf name.0 (string_bytes ty.now.name.0) (names_of self.old) }
         ensures inverse { IsInterned self.new }
         ensures noted { OnOk result (MayNoteMore errors.old.items errors.new.items) }
-        ensures places { OnOk result (NotesAt (position ty.now.pos ∷ fields_positions (fields_view fields.now)) errors.old.items errors.new.items) }
+        ensures places { OnOk result (NotesAt (position ty.now.pos ∷ fields_positions (fields_view fields.now))
+            errors.old.items errors.new.items) }
         ensures reads { IfOk result (λ o. ValueIsRead id.0 (type_view ty.now) (struct_value (fields_view fields.now)) o
             self.old errors.old.items self.new errors.new.items) }
     {
@@ -146,7 +148,8 @@ impl TypeEnv {
         requires { IsInterned self.old }
         ensures inverse { IsInterned self.new }
         ensures noted { OnOk result (MayNoteMore errors.old.items errors.new.items) }
-        ensures places { OnOk result (NotesAt (flat_map variant_positions (map variant_view variants.now)) errors.old.items errors.new.items) }
+        ensures places { OnOk result (NotesAt (flat_map variant_positions (map variant_view variants.now))
+            errors.old.items errors.new.items) }
         ensures reads { IfOk result (λ o. VariantsAreRead (string_bytes ty.now.0) (map variant_view variants.now) (option_map (λ v. v.items) o)
             self.old errors.old.items self.new errors.new.items) }
     {

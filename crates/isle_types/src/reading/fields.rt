@@ -59,7 +59,8 @@ impl TypeEnv {
         requires { IsInterned self.old }
         ensures inverse { IsInterned self.new }
         ensures noted { OnOk result (MayNoteMore errors.old.items errors.new.items) }
-        ensures places { OnOk result (NotesAt (flat_map field_positions (map field_view fields.now)) errors.old.items errors.new.items) }
+        ensures places { OnOk result (NotesAt (flat_map field_positions (map field_view fields.now))
+            errors.old.items errors.new.items) }
         ensures reads { IfOk result (λ o. FieldsAreRead (struct_fields (map field_view fields.now)) (option_map Fields.Struct o)
             self.old errors.old.items self.new errors.new.items) }
     {
@@ -114,7 +115,8 @@ impl TypeEnv {
     ) -> Result<Option<TupleFields>, AllocError>
         requires { IsInterned self.now }
         ensures noted { OnOk result (MayNoteMore errors.old.items errors.new.items) }
-        ensures places { OnOk result (NotesAt (flat_map tuple_field_positions (map tuple_field_view fields.now)) errors.old.items errors.new.items) }
+        ensures places { OnOk result (NotesAt (flat_map tuple_field_positions (map tuple_field_view fields.now))
+            errors.old.items errors.new.items) }
         ensures reads { IfOk result (λ o. FieldsAreRead (tuple_fields (map tuple_field_view fields.now)) (option_map Fields.Tuple o)
             self.now errors.old.items self.now errors.new.items) }
     {
