@@ -1,5 +1,6 @@
 //! What the command answers to texts.
 
+use crate::comparison::difference;
 use crate::graphs::graph_of;
 use crate::words::{Format, Request, Task};
 use cranelift_isle::lower::{Lowered, LoweredTerm, lower};
@@ -40,7 +41,9 @@ pub fn answer_to(alloc: Global, asked: &Request<'_>, files: &Files) -> Result<An
     let mut defs = Vec::new(alloc);
     let mut reports = Vec::new(alloc);
     for (number, text) in files.texts.iter().enumerate() {
-        read_text(alloc, number, text, &mut defs, &mut reports)?;
+        if !asked.has_trees(number) {
+            read_text(alloc, number, text, &mut defs, &mut reports)?;
+        }
     }
     if !reports.is_empty() {
         return refusal(alloc, asked, files, &reports);
@@ -144,6 +147,7 @@ fn answer_to_lowered(
         Task::Check => nothing_wrong(alloc, asked, files),
         Task::Samples => Ok(accepted(alloc, String::new(alloc))),
         Task::Stats => Ok(accepted(alloc, stats(alloc, lowered)?)),
+        Task::Compare => compared(alloc, asked, files, lowered),
         Task::Explain => {
             let text = explanation(alloc, files, lowered, asked.rule)?;
             if text.is_empty() {
@@ -180,6 +184,44 @@ fn missing(alloc: Global, what: &str, name: &str) -> Result<Answer, AllocError> 
     })
 }
 
+// The terms that are asked for.
+fn wanted<'a>(
+    alloc: Global,
+    asked: &Request<'_>,
+    lowered: &'a Lowered,
+) -> Result<Vec<&'a LoweredTerm>, AllocError> {
+    let mut wanted = Vec::new(alloc);
+    for term in &lowered.terms {
+        if is_wanted(asked.terms, term_name(lowered, term)) {
+            wanted.push(term)?;
+        }
+    }
+    Ok(wanted)
+}
+
+// Where the trees of the last file depart from those of the terms that are asked for.
+fn compared(
+    alloc: Global,
+    asked: &Request<'_>,
+    files: &Files,
+    lowered: &Lowered,
+) -> Result<Answer, AllocError> {
+    if let Some(name) = missing_term(asked.terms, lowered) {
+        return missing(alloc, "term with rules", name);
+    }
+    let trees = printed(alloc, files, lowered, &wanted(alloc, asked, lowered)?)?;
+    let (Some(name), Some(text)) = (files.names.last(), files.texts.last()) else {
+        return Ok(accepted(alloc, String::new(alloc)));
+    };
+    let err = difference(alloc, name, text, &trees)?;
+    let status = if err.is_empty() { 0 } else { 1 };
+    Ok(Answer {
+        status,
+        out: String::new(alloc),
+        err,
+    })
+}
+
 // The trees of the terms that are asked for.
 fn trees(
     alloc: Global,
@@ -190,12 +232,7 @@ fn trees(
     if let Some(name) = missing_term(asked.terms, lowered) {
         return missing(alloc, "term with rules", name);
     }
-    let mut wanted = Vec::new(alloc);
-    for term in &lowered.terms {
-        if is_wanted(asked.terms, term_name(lowered, term)) {
-            wanted.push(term)?;
-        }
-    }
+    let wanted = wanted(alloc, asked, lowered)?;
     let out = match asked.format {
         Format::Json => document_of_terms(alloc, files, lowered, &wanted)?,
         Format::Dot => graphs(alloc, files, lowered, &wanted)?,

@@ -2,6 +2,7 @@
 #![tactic(auto)]
 
 pub mod answers;
+mod comparison;
 mod graphs;
 mod inputs;
 pub mod run;

@@ -10,7 +10,7 @@ use std::io::{Read, Write};
 
 // What the program says of words that ask for nothing.
 const USAGE: &str =
-    "usage: isle lower|check|explain RULE|stats|samples [OPTIONS] FILE.. (isle --help says more)\n";
+    "usage: isle lower|check|explain RULE|stats|compare|samples [OPTIONS] FILE.. (isle --help says more)\n";
 
 // The names of the samples.
 const SAMPLES: &str =

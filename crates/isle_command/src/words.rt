@@ -14,6 +14,8 @@ pub enum Task {
     Explain,
     /// How large terms are.
     Stats,
+    /// Where the printed trees of the last file depart from those of the others.
+    Compare,
     /// The names of the samples, or the trees of one.
     Samples,
 }
@@ -64,7 +66,7 @@ pub struct Request<'a> {
     pub folder: &'a str,
     /// The rule that is to be explained, by its name, its line, or its file, a colon and its line.
     pub rule: &'a str,
-    /// The files, where `-` is standard input, or the sample.
+    /// The files, where `-` is standard input, or the sample. The last one has printed trees where they are compared.
     pub files: Vec<&'a str>,
 }
 
@@ -95,7 +97,7 @@ enum Awaited {
 }
 
 /// What these words ask, or None where they ask for nothing. They are the name of a task; for `explain` the rule; then
-/// files, or for `samples` at most one sample. Everywhere behind the task there may be `--no-expand`, `--terms NAMES`,
+/// files, the last of `compare` with trees, or for `samples` at most one sample. Everywhere behind the task there may be `--no-expand`, `--terms NAMES`,
 /// `--format text`, `--format line` and `-C FOLDER`; `--format json` for `lower` and `check`, `--format dot` for `lower`.
 pub fn asked_by<'a>(alloc: Global, words: &'a [String]) -> Result<Option<Request<'a>>, AllocError> {
     let mut asked = Request {
@@ -126,8 +128,14 @@ impl<'a> Request<'a> {
     fn has_files(&self) -> bool {
         match self.task {
             Task::Samples => self.files.len() <= 1,
+            Task::Compare => self.files.len() >= 2,
             Task::Lower | Task::Check | Task::Explain | Task::Stats => !self.files.is_empty(),
         }
+    }
+
+    /// Whether the file of a number has printed trees, and no definitions.
+    pub fn has_trees(&self, number: usize) -> bool {
+        self.task == Task::Compare && number.saturating_add(1) == self.files.len()
     }
 
     // Reads a word. What is awaited then, or None where the word says nothing.
@@ -158,6 +166,7 @@ impl<'a> Request<'a> {
             "check" => (Task::Check, Awaited::Any),
             "explain" => (Task::Explain, Awaited::Rule),
             "stats" => (Task::Stats, Awaited::Any),
+            "compare" => (Task::Compare, Awaited::Any),
             "samples" => (Task::Samples, Awaited::Any),
             _ => return None,
         };

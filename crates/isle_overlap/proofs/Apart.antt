@@ -1,18 +1,24 @@
 -- Rules that ask different things of one site overlap nowhere.
-use Rattle.std.proofs.Common.{◌≡◌, ◌≢◌, ℕ, ◌==◌, Bool, true, false, not, ◌&&◌, List, [], ◌∷◌, ◌++◌, map, length, Option, Some, None, slice_get, if◌then◌else◌, refl, sym, ap, ◌∙◌, subst, eq-eqb}
+use Rattle.std.proofs.Common.{◌≡◌, ◌≢◌, ℕ, zero, suc, ◌+◌, ◌<◌, option_map, ◌==◌, get_or, inl, inr, replicate, Bool, true, false, not, ◌&&◌, List, [], ◌∷◌, ◌++◌, map, length, Option, Some, None, slice_get, int_lt, nat_le, if◌then◌else◌, refl, sym, ap, ◌∙◌, subst, eq-eqb, arith}
 use Rattle.std.specs.List.{list_any}
 use Rattle.std.specs.Ordering.{int_eq}
-use Rattle.std.proofs.lemmas.Bool.{cases_Bool, and_from, and_false}
-use Rattle.std.proofs.lemmas.List.{length-map}
-use Rattle.std.proofs.lemmas.Option.{same_Some}
+use Rattle.std.proofs.lemmas.Bool.{cases_Bool, and_from}
+use Rattle.std.proofs.Math.Bool.{and-false}
+use Rattle.std.proofs.lemmas.List.{length-map, length-replicate, map-append}
+use Rattle.std.proofs.lemmas.Option.{same_Some, slice_get-get_or}
 use Rattle.isle_model.specs.sites.Sites as Sites
 use Rattle.isle_model.specs.sites.Sites.{Constraint, SetRule}
 use Rattle.isle_model.specs.sites.Demands.{constraint_eq}
 use Rattle.isle_model.specs.sites.SetRules.{sites_differ, differs_at, overlap_between, overlap_wrongly, is_mask_of, may_both_match, is_subset, no_overlap, some_overlap, is_subset_of_sites}
 use Rattle.isle_model.specs.trees.Places.{constraint_at}
+use Rattle.isle_model.specs.trees.Best.{total_constraints}
+use Rattle.isle_model.proofs.Mapped.{get_map}
 use Rattle.isle_model.proofs.Members.{constraint_in, passes_any}
 use Rattle.isle_model.proofs.SameSites.{constraint_means, same_constraint}
 use Rattle.isle_overlap.specs.Comparisons.{wrong_pair, masked_pair}
+use Rattle.isle_sets.specs.SiteViews.{constraint_view, set_rule_view, set_rule_views}
+use Rattle.isle_sets.specs.declared.trie_again.Constraint as C
+use Rattle.isle_sets.specs.declared.trie_again.Rule.{Rule}
 use Rattle.isle_overlap.specs.Keys.{AreApart, AreKeys, differ, key_views}
 
 -- two constraints of one site
@@ -34,6 +40,10 @@ not_false : (b : Bool) → not b ≡ true → b ≡ false
 not_false true h = absurd (cc)
 not_false false h = refl
 
+-- the view of the element at a place
+pub seen_at : {X Y : Type 0} (f : X → Y) (xs : List X) (i : ℕ) (x : X) → i < length xs → x ≡ get_or xs i x → slice_get (map f xs) i ≡ Some (f x)
+seen_at f xs i x l e = get_map f xs i x (slice_get-get_or xs i x l ∙ ap Some (sym e))
+
 -- rules whose keys differ
 pub keys_apart : (rules : List SetRule) (keys : List (Option Constraint)) (i j : ℕ) (a b : SetRule) (k l : Option Constraint)
     → AreKeys rules keys → slice_get rules i ≡ Some a → slice_get rules j ≡ Some b → slice_get keys i ≡ Some k → slice_get keys j ≡ Some l → differ k l ≡ true → AreApart a b
@@ -52,10 +62,10 @@ no_match : (a b : SetRule) → sites_differ a.constraints b.constraints ≡ true
 no_match a b h = ap (λ t. if t then no_overlap else some_overlap (is_subset_of_sites a b)) h
 
 not_wrong : (a b : SetRule) → AreApart a b → overlap_wrongly a b ≡ false
-not_wrong a b h = ap (λ o. int_eq a.prio b.prio && may_both_match o) (no_match a b h.first) ∙ and_false (int_eq a.prio b.prio)
+not_wrong a b h = ap (λ o. int_eq a.prio b.prio && may_both_match o) (no_match a b h.first) ∙ and-false (int_eq a.prio b.prio)
 
 no_mask : (a b : SetRule) → sites_differ a.constraints b.constraints ≡ true → is_mask_of a b ≡ false
-no_mask a b h = search (no_match a b h)
+no_mask a b h = ap (λ o. (int_lt b.prio a.prio && is_subset o) && nat_le (total_constraints a) (total_constraints b)) (no_match a b h) ∙ ap (λ t. t && nat_le (total_constraints a) (total_constraints b)) (and-false (int_lt b.prio a.prio))
 
 pub apart_wrong : (a b : SetRule) → AreApart a b → wrong_pair a b ≡ []
 apart_wrong a b h = ap (λ t. if t then (a.at, b.at) ∷ [] else []) (not_wrong a b h)
@@ -77,3 +87,35 @@ asked_are_keys rules keys site same = record {
     at_place i [] r c e k = absurd (cc)
     at_place zero (x ∷ rs) r c e k = ap (λ y. constraint_at y.constraints site) (sym (same_Some x r e)) ∙ same_Some (constraint_at x.constraints site) (Some c) k
     at_place (suc i) (x ∷ rs) r c e k = at_place i rs r c e k
+
+abbrev nothing : Option Constraint
+nothing = None
+
+says_nothing : (n i : ℕ) (c : Constraint) → slice_get (replicate n nothing) i ≡ Some (Some c) → ⊥
+says_nothing zero i c e = absurd (cc)
+says_nothing (suc n) zero c e = absurd (cc)
+says_nothing (suc n) (suc i) c e = says_nothing n i c e
+
+-- no key says anything
+pub none_are_keys : (rules : List SetRule) (keys : List (Option Constraint)) → keys ≡ replicate (length rules) nothing → AreKeys rules keys
+none_are_keys rules keys same = record {
+  site = 0;
+  each = ap length same ∙ length-replicate (length rules) None;
+  asked = λ i r c e k. absurd (says_nothing (length rules) i c (sym (ap (λ l. slice_get l i) same) ∙ k));
+}
+
+-- one more key that says nothing
+pub none_more : (n : ℕ) (old new : List (Option C.Constraint)) → key_views old ≡ replicate n nothing → new ≡ old ++ None ∷ [] → key_views new ≡ replicate (n + 1) nothing
+none_more n old new h e =
+    ap key_views e
+    ∙ map-append (option_map constraint_view) old (None ∷ [])
+    ∙ ap (λ ks. ks ++ nothing ∷ []) h
+    ∙ replicate_more n
+  where
+    replicate_more : (n : ℕ) → replicate n nothing ++ nothing ∷ [] ≡ replicate (n + 1) nothing
+    replicate_more zero = refl
+    replicate_more (suc n) = let e : suc (n + 1) ≡ suc n + 1 = omega arith in ap (λ ks. nothing ∷ ks) (replicate_more n) ∙ ap (λ k. replicate k nothing) e
+
+pub asked_each : (rules : List Rule) (site : ℕ) → map (λ r. constraint_at (set_rule_view r).constraints site) rules ≡ map (λ r. constraint_at r.constraints site) (set_rule_views rules)
+asked_each [] site = refl
+asked_each (r ∷ rules) site = ap (λ ks. constraint_at (set_rule_view r).constraints site ∷ ks) (asked_each rules site)

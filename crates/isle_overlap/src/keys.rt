@@ -1,6 +1,6 @@
 //! Keys that tell most rules of a set apart: what each rule asks of one site.
 
-ghost use Rattle.std.specs.Prelude.{◌≡◌, IfOk, map, option_map};
+ghost use Rattle.std.specs.Prelude.{◌≡◌, IfOk, None, map, option_map, replicate};
 ghost use Rattle.isle_model.specs.trees.Places.{constraint_at};
 ghost use Rattle.isle_sets.specs.SiteViews.{constraint_view, set_rule_views};
 ghost use Rattle.isle_overlap.specs.Keys.{AreKeys, differ, key_views};
@@ -74,12 +74,13 @@ fn asked_of(
     Ok(keys)
 }
 
-// No key for any rule.
-fn no_keys(alloc: Global, rules: &[Rule]) -> Result<Vec<Option<Constraint>>, AllocError>
-    ensures { IfOk result (λ v. AreKeys (set_rule_views rules.now) (key_views v.items)) }
+// As many keys that say nothing.
+#[tactic(auto, using(crate::proofs::Apart::none_more))]
+fn no_keys(alloc: Global, count: usize) -> Result<Vec<Option<Constraint>>, AllocError>
+    ensures { IfOk result (λ v. key_views v.items ≡ replicate count None) }
 {
-    let mut keys = Vec::with_capacity(alloc, rules.len())?;
-    for _ in rules {
+    let mut keys = Vec::new(alloc);
+    for _ in 0..count {
         keys.push(None)?;
     }
     Ok(keys)
@@ -87,12 +88,11 @@ fn no_keys(alloc: Global, rules: &[Rule]) -> Result<Vec<Option<Constraint>>, All
 
 /// A key for each rule: what it asks of one site, which tells it from rules that ask something else there. Of a few rules
 /// none has one: comparing them is faster than finding keys.
-#[tactic(auto, using(crate::proofs::Apart::asked_are_keys))]
 pub fn keys_of(alloc: Global, rules: &[Rule]) -> Result<Vec<Option<Constraint>>, AllocError>
     ensures { IfOk result (λ v. AreKeys (set_rule_views rules.now) (key_views v.items)) }
 {
     if rules.len() < FEW {
-        return no_keys(alloc, rules);
+        return no_keys(alloc, rules.len());
     }
     let site = telling_site(alloc, rules)?;
     asked_of(alloc, rules, site)

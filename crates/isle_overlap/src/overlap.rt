@@ -1,5 +1,5 @@
 //! The check of overlaps: rules of one priority that may both match, and rules that others mask.
-ghost use Rattle.std.specs.Prelude.{◌^◌, List, true, false, Some, slice_get, if◌then◌else◌, slice_index_or, ◌≡◌, ◌++◌, ◌∷◌, [], ◌+◌, ◌-◌, ◌<◌, ℕ, All, IfOk, OnOk, drop, length, map, vec_len};
+ghost use Rattle.std.specs.Prelude.{◌^◌, List, true, false, Some, slice_get, if◌then◌else◌, slice_index_or, ◌≡◌, ◌++◌, ◌∷◌, [], ◌+◌, ◌-◌, ◌<◌, ℕ, All, IfOk, OnOk, drop, length, map, nat_lt, cond, vec_len};
 ghost use Rattle.isle_model.specs.claims.Refusals.{overlapping, refusal_of};
 ghost use Rattle.isle_model.specs.sites.Overlap.{RuleReport, ShadowReport, ascending_positions, by_position, degree, has_end, other_end, overlap_reports, rule_shadows, rules_overlap};
 ghost use Rattle.isle_model.specs.sites.SetRules.{is_mask_of, overlap_wrongly, shadows_among, wrong_among};
@@ -420,6 +420,20 @@ fn listed(others: &BTreeMap<Pos, Vec<Pos>>, place: Pos) -> &[Pos]
     }
 }
 
+// Adds a rule where it has overlaps that aren't reported.
+fn add_left(
+    counts: &BTreeMap<Pos, usize>,
+    place: Pos,
+    left: &mut Vec<Pos>,
+) -> Result<(), AllocError>
+    ensures { OnOk result (left.new.items ≡ left.old.items ++ cond (nat_lt 0 (count_at counts.now place)) (place ∷ []) []) }
+{
+    if count(counts, place) > 0 {
+        left.push(place)?;
+    }
+    Ok(())
+}
+
 // The rules that a rule overlaps and that aren't reported, once for each overlap.
 fn unreported(
     alloc: Global,
@@ -431,9 +445,7 @@ fn unreported(
 {
     let mut found = Vec::new(alloc);
     for other in listed(others, place) {
-        if count(counts, *other) > 0 {
-            found.push(*other)?;
-        }
+        add_left(counts, *other, &mut found)?;
     }
     Ok(found)
 }

@@ -11,6 +11,7 @@ ghost use Rattle.isle_serialize.specs.Growing.{CanGrow, IsLeastAsked, IsNextArmO
 use crate::around::Around;
 use crate::fields::fields_of;
 use crate::inside::in_arm;
+use crate::parts::part;
 use isle_sets::trie_again::{BindingId, Constraint, RuleSet};
 use std::alloc::{AllocError, Global};
 
@@ -92,11 +93,8 @@ fn parted(
     let mut asking = Vec::new(alloc);
     let mut others = Vec::new(alloc);
     for number in here {
-        if asks(set, source, constraint, *number) {
-            asking.push(*number)?;
-        } else {
-            others.push(*number)?;
-        }
+        let asks = asks(set, source, constraint, *number);
+        part(&mut asking, &mut others, *number, asks)?;
     }
     Ok((asking, others))
 }

@@ -9,6 +9,7 @@ ghost use Rattle.isle_sets.specs.SiteViews.{site_view, set_view};
 ghost use Rattle.isle_serialize.specs.AroundViews.{around_view, AreSettled};
 
 use crate::around::{Around, set_of};
+use crate::parts::keep;
 use crate::site_set::SiteSet;
 use isle_sets::trie_again::{Binding, BindingId, RuleSet};
 use std::alloc::{AllocError, Global};
@@ -124,9 +125,7 @@ pub fn bind_order(
     let listed = all_listed(alloc, set, &around.emitted, sites)?;
     let mut bound = Vec::new(alloc);
     for site in &listed {
-        if is_bound(set, *site) {
-            bound.push(*site)?;
-        }
+        keep(&mut bound, *site, is_bound(set, *site))?;
     }
     Ok(bound)
 }

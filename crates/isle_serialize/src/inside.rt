@@ -9,6 +9,7 @@ ghost use Rattle.isle_serialize.specs.AroundViews.{around_view, has, IsInside, a
 
 use crate::around::{Around, set_of};
 use crate::binds::{all_below, sources_of};
+use crate::parts::keep;
 use crate::site_set::SiteSet;
 use isle_sets::trie_again::{BindingId, RuleSet};
 use std::alloc::{AllocError, Global};
@@ -36,9 +37,7 @@ fn not_in(
 {
     let mut left = Vec::new(alloc);
     for site in sites {
-        if !others.contains(*site) {
-            left.push(*site)?;
-        }
+        keep(&mut left, *site, !others.contains(*site))?;
     }
     Ok(left)
 }

@@ -9,6 +9,7 @@ pub mod ends;
 pub mod fields;
 pub mod inside;
 pub mod open;
+mod parts;
 pub mod serialize;
 pub mod site_set;
 pub mod steps;

@@ -13,6 +13,7 @@ ghost use Rattle.isle_serialize.specs.AroundViews.{around_view, IsKnown};
 ghost use Rattle.isle_serialize.specs.TestViews.{test_view, score_view, greater_test, IsGreatestScored, IsScored};
 
 use crate::around::{Around, Known, is_emitted};
+use crate::parts::part;
 use isle_sets::trie_again::{BindingId, Rule, RuleSet};
 use std::alloc::{AllocError, Global};
 
@@ -164,11 +165,8 @@ fn parted_at(
     let mut reaching = Vec::new(alloc);
     let mut others = Vec::new(alloc);
     for number in here {
-        if is_at_bar(set, test, bar, *number) {
-            reaching.push(*number)?;
-        } else {
-            others.push(*number)?;
-        }
+        let reaches = is_at_bar(set, test, bar, *number);
+        part(&mut reaching, &mut others, *number, reaches)?;
     }
     Ok((reaching, others))
 }

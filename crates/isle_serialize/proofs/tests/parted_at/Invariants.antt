@@ -1,4 +1,4 @@
-use Rattle.std.proofs.Common.{◌≡◌, ◌++◌, drop, not}
+use Rattle.std.proofs.Common.{◌≡◌, not, take}
 use Rattle.std.specs.List.{filter}
 use Rattle.isle_sets.specs.SiteViews.{set_view}
 use Rattle.isle_serialize.specs.TestViews.{test_view}
@@ -6,6 +6,7 @@ use Rattle.isle_serialize.specs.Bars.{is_at_bar}
 use Rattle.isle_serialize.proofs.tests.parted_at.Given as goal
 
 abbrev pub invariant-loop-number : goal.invariant-loop-number
-invariant-loop-number l =
-    (filter (is_at_bar (set_view l.set).rules (test_view l.test) l.bar) l.here ≡ l.reaching.items ++ filter (is_at_bar (set_view l.set).rules (test_view l.test) l.bar) (drop l.number-index l.here))
-    × (filter (λ i. not (is_at_bar (set_view l.set).rules (test_view l.test) l.bar i)) l.here ≡ l.others.items ++ filter (λ i. not (is_at_bar (set_view l.set).rules (test_view l.test) l.bar i)) (drop l.number-index l.here))
+invariant-loop-number l = record {
+  reaching : l.reaching.items ≡ filter (is_at_bar (set_view l.set).rules (test_view l.test) l.bar) (take l.number-index l.here);
+  others : l.others.items ≡ filter (λ i. not (is_at_bar (set_view l.set).rules (test_view l.test) l.bar i)) (take l.number-index l.here);
+}
