@@ -8,7 +8,7 @@ use Rattle.isle_model.specs.trees.Tests.{sources_around}
 use Rattle.isle_base.specs.Stable.{contains}
 use Rattle.isle_serialize.specs.declared.around.Around.{Around}
 use Rattle.isle_serialize.specs.declared.around.Known.{Known}
-use Rattle.isle_serialize.specs.declared.site_set.SiteSet.{SiteSet}
+use Rattle.isle_serialize.specs.declared.small_set.SmallSet.{SmallSet}
 
 -- of the arms around only the sources are kept, and they stand with those of the loops: no more is asked of them
 abbrev pub around_view : Around → Places.Around
@@ -28,19 +28,19 @@ abbrev pub IsNaming : List (ℕ × ℕ) → List (ℕ × ℕ) → Type 0
 IsNaming pairs names = (s : ℕ) → name_in names s ≡ class pairs s
 
 -- whether a set has a site
-abbrev pub has : SiteSet → ℕ → Bool
+abbrev pub has : SmallSet → ℕ → Bool
 has set s = is_in s set.few.items || contains ◌==◌ set.others s
 
 -- a set of exactly these sites
-abbrev pub IsSetOf : List ℕ → SiteSet → Type 0
+abbrev pub IsSetOf : List ℕ → SmallSet → Type 0
 IsSetOf sites set = (s : ℕ) → has set s ≡ is_in s sites
 
 -- a set of exactly the sites of two lists
-abbrev pub AreSettled : List ℕ → List ℕ → SiteSet → Type 0
+abbrev pub AreSettled : List ℕ → List ℕ → SmallSet → Type 0
 AreSettled emitted listed set = (s : ℕ) → has set s ≡ (is_in s emitted || is_in s listed)
 
 -- each site of the set is available
-abbrev pub AreAtHand : List Site → Places.Around → SiteSet → Type 0
+abbrev pub AreAtHand : List Site → Places.Around → SmallSet → Type 0
 AreAtHand sites ar found = (s : ℕ) → has found s ≡ true → available sites ar s ≡ true
 
 -- look-ups of what is around a place

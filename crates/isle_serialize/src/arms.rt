@@ -70,11 +70,11 @@ fn least_asked(set: &RuleSet, source: BindingId, here: &[usize]) -> Option<Const
 }
 
 // Whether the rule of a number asks this of a site.
-fn asks(set: &RuleSet, source: BindingId, constraint: Constraint, number: usize) -> bool
-    ensures { result ≡ Growing.asks (set_view set.now).rules source (constraint_view constraint) number }
+fn asks(set: &RuleSet, source: BindingId, constraint: &Constraint, number: usize) -> bool
+    ensures { result ≡ Growing.asks (set_view set.now).rules source (constraint_view constraint.now) number }
 {
     match asked_at(set, source, number) {
-        Some(asked) => asked == constraint,
+        Some(asked) => asked == *constraint,
         None => false,
     }
 }
@@ -93,7 +93,7 @@ fn parted(
     let mut asking = Vec::new(alloc);
     let mut others = Vec::new(alloc);
     for number in here {
-        let asks = asks(set, source, constraint, *number);
+        let asks = asks(set, source, &constraint, *number);
         part(&mut asking, &mut others, *number, asks)?;
     }
     Ok((asking, others))

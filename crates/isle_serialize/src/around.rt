@@ -5,7 +5,7 @@ ghost use Rattle.isle_model.specs.trees.Places.{nothing_around, class, is_in, jo
 ghost use Rattle.isle_sets.specs.SiteViews.{site_view};
 ghost use Rattle.isle_serialize.specs.AroundViews.{around_view, sites_of_pairs, name_in, IsKnown, IsNaming, IsSetOf};
 
-use crate::site_set::SiteSet;
+use crate::small_set::SmallSet;
 use isle_sets::trie_again::{Binding, BindingId};
 use std::alloc::{AllocError, Global};
 
@@ -42,11 +42,11 @@ pub struct Known {
     /// The names of the classes of all sites that equalities around joined.
     pub names: Vec<(BindingId, BindingId)>,
     /// The sources of the arms and loops around.
-    pub sources: SiteSet,
+    pub sources: SmallSet,
     /// The sites that arms and loops around brought.
-    pub brought: SiteSet,
+    pub brought: SmallSet,
     /// The sites that are emitted.
-    pub emitted: SiteSet,
+    pub emitted: SmallSet,
 }
 
 /// What is looked up of a place.
@@ -66,10 +66,10 @@ pub fn known_of(alloc: Global, around: &Around) -> Result<Known, AllocError>
 }
 
 /// The set of these sites.
-pub fn set_of(alloc: Global, sites: &[BindingId]) -> Result<SiteSet, AllocError>
+pub fn set_of(alloc: Global, sites: &[BindingId]) -> Result<SmallSet, AllocError>
     ensures { IfOk result (IsSetOf sites.now) }
 {
-    let mut set = SiteSet::new(alloc);
+    let mut set = SmallSet::new(alloc);
     for site in sites {
         set.insert(*site)?;
     }

@@ -10,7 +10,7 @@ ghost use Rattle.isle_serialize.specs.AroundViews.{around_view, AreSettled};
 
 use crate::around::{Around, set_of};
 use crate::parts::keep;
-use crate::site_set::SiteSet;
+use crate::small_set::SmallSet;
 use isle_sets::trie_again::{Binding, BindingId, RuleSet};
 use std::alloc::{AllocError, Global};
 
@@ -29,7 +29,7 @@ fn is_settled(
     site: BindingId,
     emitted: &[BindingId],
     listed: &[BindingId],
-    settled: &SiteSet,
+    settled: &SmallSet,
 ) -> bool
     requires { AreSettled emitted.now listed.now settled.now }
     ensures { result ≡ (is_in site emitted.now || is_in site listed.now) }
@@ -43,7 +43,7 @@ fn list_below(
     set: &RuleSet,
     emitted: &[BindingId],
     site: BindingId,
-    settled: &mut SiteSet,
+    settled: &mut SmallSet,
     listed: &mut Vec<BindingId>,
 ) -> Result<(), AllocError>
     requires sources { (s a : ℕ) → Contains (sources_at (set_view set.now).sites s) a → a < s }

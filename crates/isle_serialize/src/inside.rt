@@ -10,7 +10,7 @@ ghost use Rattle.isle_serialize.specs.AroundViews.{around_view, has, IsInside, a
 use crate::around::{Around, set_of};
 use crate::binds::{all_below, sources_of};
 use crate::parts::keep;
-use crate::site_set::SiteSet;
+use crate::small_set::SmallSet;
 use isle_sets::trie_again::{BindingId, RuleSet};
 use std::alloc::{AllocError, Global};
 
@@ -31,7 +31,7 @@ fn chained(
 fn not_in(
     alloc: Global,
     sites: &[BindingId],
-    others: &SiteSet,
+    others: &SmallSet,
 ) -> Result<Vec<BindingId>, AllocError>
     ensures { IfOk result (λ v. v.items ≡ filter (λ s. not (has others.now s)) sites.now) }
 {

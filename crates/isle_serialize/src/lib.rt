@@ -11,6 +11,6 @@ pub mod inside;
 pub mod open;
 mod parts;
 pub mod serialize;
-pub mod site_set;
+pub mod small_set;
 pub mod steps;
 pub mod tests;

@@ -14,7 +14,7 @@ ghost use Rattle.isle_serialize.specs.TestViews.{test_view, AreUseful};
 
 use crate::around::{Around, Known, are_joined, is_brought, is_source, must_wait};
 use crate::binds::sources_of;
-use crate::site_set::SiteSet;
+use crate::small_set::SmallSet;
 use crate::tests::{Test, needs_at, reach_count};
 use isle_sets::trie_again::{Binding, BindingId, Rule, RuleSet};
 use std::alloc::{AllocError, Global};
@@ -30,7 +30,7 @@ fn waits_at(set: &RuleSet, site: BindingId) -> bool
 }
 
 // Whether a site is known to be available: it was brought, or was found to be.
-fn is_found(around: &Around, known: &Known, site: BindingId, found: &SiteSet) -> bool
+fn is_found(around: &Around, known: &Known, site: BindingId, found: &SmallSet) -> bool
     requires { IsKnown (around_view around.now) known.now }
     ensures { result ≡ (is_in site around.now.brought.items || has found.now site) }
 {
@@ -42,7 +42,7 @@ fn note(
     set: &RuleSet,
     around: &Around,
     site: BindingId,
-    found: &mut SiteSet,
+    found: &mut SmallSet,
 ) -> Result<(), AllocError>
     requires at_hand { available (set_view set.now).sites (around_view around.now) site ≡ true }
     requires found { AreAtHand (set_view set.now).sites (around_view around.now) found.old }
@@ -62,7 +62,7 @@ fn comes_to_hand(
     around: &Around,
     known: &Known,
     site: BindingId,
-    found: &mut SiteSet,
+    found: &mut SmallSet,
 ) -> Result<bool, AllocError>
     requires sources { (s a : ℕ) → Contains (sources_at (set_view set.now).sites s) a → a < s }
     requires known { IsKnown (around_view around.now) known.now }
@@ -100,7 +100,7 @@ fn is_at_hand(
     if site.index() >= set.bindings.len() {
         return Ok(false);
     }
-    let mut found = SiteSet::new(alloc);
+    let mut found = SmallSet::new(alloc);
     comes_to_hand(set, around, known, site, &mut found)
 }
 

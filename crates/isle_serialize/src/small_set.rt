@@ -14,19 +14,19 @@ const FEW: usize = 8;
 
 /// A set of sites: the first few are walked, all others looked up.
 #[derive(Drop)]
-pub struct SiteSet {
+pub struct SmallSet {
     /// The first few, in the order in which they came.
     pub few: Vec<BindingId>,
     /// The others.
     pub others: StableSet<BindingId>,
 }
 
-impl SiteSet {
+impl SmallSet {
     /// The empty set. Takes no memory.
-    pub fn new(alloc: Global) -> SiteSet
+    pub fn new(alloc: Global) -> SmallSet
         ensures { (s : ℕ) → has result s ≡ false }
     {
-        SiteSet {
+        SmallSet {
             few: Vec::new(alloc),
             others: StableSet::new(alloc),
         }
