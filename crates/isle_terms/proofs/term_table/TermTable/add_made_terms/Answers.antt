@@ -1,6 +1,7 @@
 use Rattle.std.proofs.Common.{◌≡◌, ◌≤◌, get_or, length, subst, rules}
 use Rattle.std.proofs.lemmas.List.{take_all}
 use Rattle.isle_terms.specs.Signing.{AddsMade}
+use Rattle.isle_terms.proofs.PlacesNoted.{type_noted, type_placed}
 use Rattle.isle_terms.proofs.Making.{next_made, numbers_of, entries_of}
 use Rattle.isle_terms.proofs.term_table.TermTable.add_made_terms.Goals as goal
 
@@ -9,6 +10,8 @@ loop-ty-preserved c =
     let at = subst (λ ts. c.ty-item.result ≡ get_or ts c.loop-ty.ty-index c.ty-item.result) c.deref-ty-items.ensures.value c.ty-item.is in (
       c.in_ok-add_terms_of.ensures.within,
       next_made c.args.tyenv.now.types.items c.loop-ty.ty-index c.ty-item.result (search rules) at _ _ _ _ _ _ c.in_ok-add_terms_of.ensures.adds c.loop-ty.invariant.1,
+      type_noted c.args.tyenv.now.types.items c.loop-ty.ty-index c.ty-item.result (search rules) at _ _ _ c.in_ok-add_terms_of.ensures.places c.loop-ty.invariant.2,
+      type_placed c.args.tyenv.now.types.items c.loop-ty.ty-index c.ty-item.result (search rules) at _ _ _ c.in_ok-add_terms_of.ensures.placed c.loop-ty.invariant.3,
     )
 
 pub returns-clause-adds : goal.returns-clause-adds

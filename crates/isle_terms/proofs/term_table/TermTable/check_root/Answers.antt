@@ -21,5 +21,5 @@ returns-in_default-template_pos-clause-notes c =
     inl (
       refl,
       λ have. absurd (no_some c.template_pos.result c.in_default-template_pos.not-Some
-          (c.template_pos.ensures ∙ have r.0 calls.0 (term_view c.index-2.result.now) calls.1 (view_at items r.0 c.index-2.result.now c.index-2.result.now within value))),
+          (c.template_pos.ensures.has ∙ have r.0 calls.0 (term_view c.index-2.result.now) calls.1 (view_at items r.0 c.index-2.result.now c.index-2.result.now within value))),
     )

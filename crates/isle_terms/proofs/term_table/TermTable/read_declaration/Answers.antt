@@ -9,6 +9,6 @@ pub returns-clause-reads : goal.returns-clause-reads
 returns-clause-reads c =
     let d = decl_view c.args.decl.now in
     let number = c.in_ok-name.ensures.number in
-    let free = subst (λ n. IsFreeOrReported n c.args.self.now c.args.errors.now.items c.check_free.new.errors.items) number c.in_ok-check_free.ensures in
-    on_ok_weaker c.add_decl.result (λ a. declaration_read d _ _ _ _ _ _ _ _ c.in_ok-name.ensures.met free c.in_ok-check_marks.ensures
+    let free = subst (λ n. IsFreeOrReported n c.args.self.now c.args.errors.now.items c.check_free.new.errors.items) number c.in_ok-check_free.ensures.noted in
+    on_ok_weaker c.add_decl.result (λ a. declaration_read d _ _ _ _ _ _ _ _ c.in_ok-name.ensures.met free c.in_ok-check_marks.ensures.noted
     (subst (λ n. AddsOrReports d c.meet_name.new.tyenv n c.args.self.now c.add_decl.new.self c.check_marks.new.errors.items c.add_decl.new.errors.items) number a)) c.add_decl.ensures.adds

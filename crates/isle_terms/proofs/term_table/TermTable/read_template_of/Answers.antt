@@ -15,4 +15,4 @@ returns-clause-notes c =
     let none = no_first c.deref.result.now (sym c.in_default.ensures.value) in
     let x = extractor_view c.args.extractor.now in
     on_ok_weaker c.take_template.result (λ r.
-    parts_noted x c.args.id.0 c.args.tyenv.now c.args.self.now c.take_template.new.self c.args.callees.now.items c.set_callees.new.callees.items (map (λ t. t.0) c.in_ok-named.named.items) c.args.errors.now.items c.terms_named.new.errors.items c.take_template.new.errors.items (sym c.in_ok-arguments.ensures ∙ ap (map (λ a. a.1)) (sym c.deref.ensures.value ∙ none)) c.set_callees.ensures c.in_ok-named.ensures.notes r) c.take_template.ensures.notes
+    parts_noted x c.args.id.0 c.args.tyenv.now c.args.self.now c.take_template.new.self c.args.callees.now.items c.set_callees.new.callees.items (map (λ t. t.0) c.in_ok-named.named.items) c.args.errors.now.items c.terms_named.new.errors.items c.take_template.new.errors.items (sym c.in_ok-arguments.ensures.numbers ∙ ap (map (λ a. a.1)) (sym c.deref.ensures.value ∙ none)) c.set_callees.ensures c.in_ok-named.ensures.notes r) c.take_template.ensures.notes

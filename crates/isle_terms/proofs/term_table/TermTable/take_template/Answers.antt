@@ -70,4 +70,4 @@ returns-clause-notes c =
         fails = inr (λ all. r.1 (subst (λ q. AreArguments c.len-count.result (arguments_in q)) (sym c.in_ok-template.ensures) (subst (λ n. AreArguments n (arguments_in (extractor_template x))) (sym count) all)));
       },
     ))
-    c.in_ok-check_arguments.ensures
+    c.in_ok-check_arguments.ensures.notes
