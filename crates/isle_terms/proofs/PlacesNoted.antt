@@ -1,42 +1,38 @@
 -- Errors that stand at the positions of a definition or at those that a table keeps, and the positions that a table keeps
 -- after a step.
-use Rattle.std.proofs.Common.{◌≡◌, ◌⊎◌, ℕ, zero, suc, ◌+◌, ◌<◌, Option, Some, None, Bor, OnOk, Result, List, [], ◌∷◌, ◌++◌, Contains, length, get_or, map, slice_get, refl, sym, ap, subst, ◌∙◌, inl, inr, arith}
+use Rattle.std.proofs.Common.{◌≡◌, ◌⊎◌, ℕ, zero, suc, ◌+◌, ◌<◌, Option, Some, None, Bor, OnOk, Result, Ok, Err, List, [], ◌∷◌, ◌++◌, Contains, length, get_or, map, slice_get, refl, sym, ap, subst, ◌∙◌, inl, inr, arith}
 use Rattle.std.specs.List.{flat_map}
 use Rattle.std.proofs.Math.ListN.{set}
 use Rattle.std.proofs.lemmas.List.{map-append}
+use Rattle.std.proofs.lemmas.Option.{same_Some}
 use Rattle.std.proofs.lemmas.Result.{on_ok_weaker}
 use Rattle.std.proofs.lemmas.Simd.{map-map}
 use Rattle.std.proofs.lemmas.List.Concat.{flat_map-append}
 use Rattle.std.proofs.lemmas.List.Elements.{Contains-append_left, Contains-append_right, Contains-append_cases, Contains-get_or}
 use Rattle.isle_model.specs.lists.Syntax.{Position, Name, PatternTree, PatternTrees, var_pattern, bind_pattern, bool_pattern, int_pattern, prim_pattern, term_pattern, wildcard_pattern, and_pattern, macro_arg, no_pattern, pattern_and, ConverterTree, DeclTree, ExtractorTree}
-use Rattle.isle_model.specs.lists.Tables.{VariantEntry, ConstructorEntry, ExtractorEntry, TermKindEntry, variant_term, struct_term, declared_term, TermEntry}
+use Rattle.isle_model.specs.lists.Tables.{VariantEntry, ConstructorEntry, ExtractorEntry, internal_extractor, external_extractor, TermKindEntry, variant_term, struct_term, declared_term, TermEntry}
 use Rattle.isle_model.specs.lists.TermTable.{variant_as_term, argument_or, binding_or, template, templates, extractor_template, terms_of, terms_of_all}
 use Rattle.isle_model.proofs.Members.{nothing_in, in_head, in_tail, in_cases, in_map, in_flat_map, from_map, from_flat_map, member_from_get}
 use Rattle.isle_base.specs.declared.syntax.Def.{Def}
 use Rattle.isle_base.specs.declared.syntax.Error.{Error}
 use Rattle.isle_base.specs.declared.syntax.Ident.{Ident}
-use Rattle.isle_base.specs.declared.syntax.Pattern.{Pattern}
 use Rattle.isle_base.specs.declared.syntax.Pos.{Pos}
 use Rattle.isle_base.specs.Patterns.{pattern_position}
 use Rattle.isle_base.specs.Places.{term_view as place_view}
 use Rattle.isle_base.specs.Positions.{NotesAt, AreAmong, converter_positions, declaration_positions, name_positions, definition_positions, extractor_positions, pattern_positions, patterns_positions, positions_of}
-use Rattle.isle_base.specs.SyntaxViews.{definition_view, definition_views, name_view, pattern_view, position}
+use Rattle.isle_base.specs.SyntaxViews.{definition_view, definition_views, name_view, position}
 use Rattle.isle_base.proofs.Positioned.{among_same, among_both, among_left, among_right, among_rest, among_one, among_first, among_each, notes_nothing, notes_both, notes_among}
 use Rattle.isle_types.specs.declared.types.Type as T
 use Rattle.isle_types.specs.declared.types.Variant.{Variant}
 use Rattle.isle_types.specs.TypeViews.{type_view, type_views, variant_view}
 use Rattle.isle_terms.specs.declared.term.Term.{Term}
-use Rattle.isle_terms.specs.declared.term.TermFlags.{TermFlags}
-use Rattle.isle_terms.specs.declared.term.ConstructorKind.{ConstructorKind}
-use Rattle.isle_terms.specs.declared.term.ExtractorKind.TheVariants.{InternalExtractor}
-use Rattle.isle_terms.specs.declared.term.TermKind.TheVariants.{Decl}
 use Rattle.isle_terms.specs.declared.term_table.TermTable.{TermTable}
 use Rattle.isle_terms.specs.Externing.{made_by_this, taken_by_this, with_kind}
 use Rattle.isle_terms.specs.Reading.{internal_entry, internal_kind}
 
 use Rattle.isle_terms.specs.Signing.{PushesTerm}
-use Rattle.isle_terms.specs.TermPositions.{type_entry_positions, types_positions, variants_positions, argument_places, argument_places_all, entry_positions, kind_positions, table_positions, taker_positions, terms_positions, IsPlacedAmong}
-use Rattle.isle_terms.specs.TermViews.{kind_view, term_view, term_views}
+use Rattle.isle_terms.specs.TermPositions.{taken_positions, taker_template, template_place, type_entry_positions, types_positions, variants_positions, argument_places, argument_places_all, entry_positions, kind_positions, table_positions, taker_positions, terms_positions, IsPlacedAmong}
+use Rattle.isle_terms.specs.TermViews.{term_view, term_views}
 
 -- positions among others
 pub among_none : (rs : List Position) → AreAmong [] rs
@@ -345,6 +341,9 @@ first_argument qs a p h first =
 pub first_in_declaration : (d : DeclTree) (rest : List Position) → AreAmong (d.at ∷ []) (declaration_positions d ++ rest)
 first_in_declaration d rest = among_one d.at (declaration_positions d ++ rest) (in_head d.at (d.term.at ∷ d.ret_ty.at ∷ name_positions d.arg_tys ++ rest))
 
+pub declaration_there : (d : DeclTree) → Contains (declaration_positions d) d.at
+declaration_there d = in_head d.at (d.term.at ∷ d.ret_ty.at ∷ name_positions d.arg_tys)
+
 pub converter_first : (x : ConverterTree) → AreAmong (x.at ∷ []) (converter_positions x)
 converter_first x = among_one x.at (converter_positions x) (in_head x.at (x.term.at ∷ x.inner_ty.at ∷ x.outer_ty.at ∷ []))
 
@@ -396,9 +395,111 @@ root_there (wildcard_pattern at) = in_head at []
 root_there (and_pattern ps at) = in_head at (patterns_positions ps)
 root_there (macro_arg i at) = in_head at []
 
--- a term that has a template keeps where its root stands
-pub template_there : (t : Term) (f : TermFlags) (k : Option ConstructorKind) (p : Pattern) (q : Pos) → t.kind ≡ Decl f k (Some (InternalExtractor p)) → position q ≡ pattern_position (pattern_view p) → Contains (entry_positions (term_view t)) (position q)
-template_there t f k p q is same =
-    let at : Position = position t.decl_pos in
-    let here : Contains (pattern_positions (pattern_view p)) (position q) = subst (Contains (pattern_positions (pattern_view p))) (sym same) (root_there (pattern_view p)) in
-    subst (λ x. Contains (at ∷ kind_positions (kind_view x)) (position q)) (sym is) (in_tail at (position q) (pattern_positions (pattern_view p)) here)
+-- a term keeps where the root of its template stands
+taker_keeps : (x : Option ExtractorEntry) (q : Position) → taker_template x ≡ Some q → Contains (taken_positions x) q
+taker_keeps None q e = absurd (cc)
+taker_keeps (Some (internal_extractor template)) q e = subst (Contains (pattern_positions template)) (same_Some (pattern_position template) q e) (root_there template)
+taker_keeps (Some (external_extractor name infallible at)) q e = absurd (cc)
+
+template_kept : (k : TermKindEntry) (q : Position) → template_place k ≡ Some q → Contains (kind_positions k) q
+template_kept (variant_term variant) q e = absurd (cc)
+template_kept struct_term q e = absurd (cc)
+template_kept (declared_term flags constructor_kind extractor_kind) q e = taker_keeps extractor_kind q e
+
+pub template_there : (table : TermTable) (i : ℕ) (t : Term) → i < length table.terms.items → t ≡ get_or table.terms.items i t → (q : Position) → template_place (term_view t).kind ≡ Some q → AreAmong (q ∷ []) (table_positions table)
+template_there table i t within here q e =
+    among_one q (table_positions table) (entry_among table.terms.items i t within here q (in_tail (position t.decl_pos) q (kind_positions (term_view t).kind) (template_kept (term_view t).kind q e)))
+
+-- whatever a call answers, a table that it left stands where it stood
+pub placed_still : {R E : Type 0} (r : Result R E) (old new : TermTable) (ps : List Position) → new.terms ≡ old.terms → OnOk r (IsPlacedAmong (ps ++ table_positions old) new)
+placed_still (Ok x) old new ps same = placed_same old new ps same
+placed_still (Err e) old new ps same = tt
+
+pub noted_still : {R E : Type 0} (r : Result R E) (ps : List Position) (old new : List Error) → new ≡ old → OnOk r (NotesAt ps old new)
+noted_still (Ok x) ps old new same = notes_nothing ps old new same
+noted_still (Err e) ps old new same = tt
+
+-- what was noted before a call that notes nothing
+pub noted_before : {R E : Type 0} (r : Result R E) (ps : List Position) (old new : List Error) → NotesAt ps old new → OnOk r (NotesAt ps old new)
+noted_before (Ok x) ps old new n = n
+noted_before (Err e) ps old new n = tt
+
+-- an extractor that a term has already, or a term that can't have one
+pub entry_taken : (at : Position) (e : TermEntry) (qs : List Position) (old new : List Error) → NotesAt (at ∷ qs) old new → kind_positions e.kind ≡ qs → NotesAt (at ∷ entry_positions e) old new
+entry_taken at e qs old new n is =
+    notes_among (at ∷ qs) (at ∷ entry_positions e) old new (among_under at qs (entry_positions e) (among_as (kind_positions e.kind) qs (entry_positions e) is (among_rest e.at (kind_positions e.kind)))) n
+
+pub entry_first : (at : Position) (e : TermEntry) (old new : List Error) → NotesAt (at ∷ []) old new → NotesAt (at ∷ entry_positions e) old new
+entry_first at e old new n = notes_among (at ∷ []) (at ∷ entry_positions e) old new (among_first at (entry_positions e)) n
+
+-- an error of a term, at those of its table
+pub notes_at_term : (at : Position) (table : TermTable) (i : ℕ) (t : Term) → i < length table.terms.items → t ≡ get_or table.terms.items i t → (old new : List Error) → NotesAt (at ∷ entry_positions (term_view t)) old new → NotesAt (at ∷ table_positions table) old new
+notes_at_term at table i t within here old new n =
+    notes_among (at ∷ entry_positions (term_view t)) (at ∷ table_positions table) old new
+    (among_under at (entry_positions (term_view t)) (table_positions table) (entry_among table.terms.items i t within here)) n
+
+pub placed_on : {R E : Type 0} (r : Result R E) (ps qs : List Position) (table : TermTable) → AreAmong ps qs → OnOk r (IsPlacedAmong ps table) → OnOk r (IsPlacedAmong qs table)
+placed_on r ps qs table a h = on_ok_weaker r (placed_among ps qs table a) h
+
+-- parts of an extractor
+pub extractor_at : (x : ExtractorTree) (rest : List Position) → AreAmong (x.at ∷ []) (extractor_positions x ++ rest)
+extractor_at x rest = among_one x.at (extractor_positions x ++ rest) (Contains-append_left (extractor_positions x) rest x.at (in_head x.at (x.term.at ∷ map (λ n. n.at) x.args ++ pattern_positions x.template)))
+
+pub extractor_noted : (x : ExtractorTree) (rest : List Position) (a b c : List Error) → NotesAt (pattern_positions x.template) a b → NotesAt (x.at ∷ rest) b c → NotesAt (extractor_positions x ++ rest) a c
+extractor_noted x rest a b c first second =
+    let ps : List Position = extractor_positions x ++ rest in
+    notes_parts (pattern_positions x.template) (x.at ∷ rest) ps a b c (pattern_among x rest) (among_join (x.at ∷ []) rest ps (extractor_at x rest) (among_right (extractor_positions x) rest)) first second
+
+-- a macro argument in the pattern of an extractor
+pub argument_noted : (x : ExtractorTree) (rest : List Position) (qs : List (Pos × ℕ)) (a : Pos × ℕ) → map (λ (y : Pos × ℕ). position y.0) qs ≡ argument_places x.template → slice_get qs 0 ≡ Some a → AreAmong (position a.0 ∷ []) (extractor_positions x ++ rest)
+argument_noted x rest qs a h first = among_one (position a.0) (extractor_positions x ++ rest) (pattern_among x rest (position a.0) (first_argument qs a x.template h first))
+
+-- the recursion that is looked for last
+pub recursion_noted : (ps : List Position) (table : TermTable) (a b c : List Error) → NotesAt ps a b → IsPlacedAmong ps table → NotesAt (table_positions table) b c → NotesAt ps a c
+recursion_noted ps table a b c first placed second = notes_both ps a b c first (notes_among (table_positions table) ps b c placed.each second)
+
+-- rules, and then extractors
+pub rules_so_far : (ps : List Position) (old table : TermTable) (a b : List Error) → NotesAt ps a b → IsPlacedAmong (table_positions old) table → PlacedSoFar (ps ++ table_positions old) a table b
+rules_so_far ps old table a b noted placed = record {
+  noted = notes_among ps (ps ++ table_positions old) a b (among_left ps (table_positions old)) noted;
+  kept = placed_among (table_positions old) (ps ++ table_positions old) table (among_right ps (table_positions old)) placed;
+}
+
+-- declarations, and then the terms that types make
+pub made_so_far : (ds ts ts' : List Position) (old mid new : TermTable) (a b c : List Error) → ts' ≡ ts → NotesAt (ds ++ table_positions old) a b → IsPlacedAmong (ds ++ table_positions old) mid → NotesAt ts' b c → IsPlacedAmong (ts' ++ table_positions mid) new
+    → PlacedSoFar ((ds ++ ts) ++ table_positions old) a new c
+made_so_far ds ts ts' old mid new a b c same noted placed noted' placed' =
+    let rest : List Position = table_positions old in
+    let ps : List Position = (ds ++ ts) ++ rest in
+    let from_declarations : AreAmong (ds ++ rest) ps = among_sides ds rest (ds ++ ts) rest (among_left ds ts) (among_same rest) in
+    let from_types : AreAmong ts' ps = among_as ts ts' ps (sym same) (among_both ts (ds ++ ts) ps (among_right ds ts) (among_left (ds ++ ts) rest)) in
+    let kept : IsPlacedAmong ps mid = placed_among (ds ++ rest) ps mid from_declarations placed in
+    record {
+      noted = notes_parts (ds ++ rest) ts' ps a b c from_declarations from_types noted noted';
+      kept = placed_next ts' ps mid new from_types kept placed';
+    }
+
+-- the terms and the types of a table that had none
+pub begun : (ps : List Position) (old new : TermTable) (a b : List Error) → old.terms.items ≡ [] → a ≡ [] → NotesAt (ps ++ table_positions old) a b → IsPlacedAmong (ps ++ table_positions old) new → PlacedSoFar ps [] new b
+begun ps old new a b no_terms no_errors noted placed =
+    let fewer : AreAmong (ps ++ table_positions old) ps = among_join ps (table_positions old) ps (among_same ps) (among_as [] (table_positions old) ps (ap (λ ts. terms_positions (term_views ts)) (sym no_terms)) (among_none ps)) in
+    record {
+      noted = subst (λ es. NotesAt ps es b) no_errors (notes_among (ps ++ table_positions old) ps a b fewer noted);
+      kept = placed_among (ps ++ table_positions old) ps new fewer placed;
+    }
+
+pub converters_so_far : (part ps : List Position) (old new : TermTable) (a b c : List Error) → AreAmong part ps → NotesAt part b c → new.terms ≡ old.terms → PlacedSoFar ps a old b → PlacedSoFar ps a new c
+converters_so_far part ps old new a b c within noted same s = record {
+  noted = notes_both ps a b c s.noted (notes_among part ps b c within noted);
+  kept = record { each = subst (λ v. AreAmong (terms_positions (term_views v.items)) ps) (sym same) s.kept.each };
+}
+
+-- parts of an external definition
+pub extern_rest : (at term function : Position) (rest : List Position) → AreAmong rest (at ∷ term ∷ function ∷ rest)
+extern_rest at term function rest p c = in_tail at p (term ∷ function ∷ rest) (in_tail term p (function ∷ rest) (in_tail function p rest c))
+
+pub extern_at : (at term function : Position) (rest : List Position) → AreAmong (at ∷ []) (at ∷ term ∷ function ∷ rest)
+extern_at at term function rest = among_first at (term ∷ function ∷ rest)
+
+pub extern_among : (at term function : Position) (rest : List Position) → AreAmong (at ∷ rest) (at ∷ term ∷ function ∷ rest)
+extern_among at term function rest = among_next at rest (at ∷ term ∷ function ∷ rest) (in_head at (term ∷ function ∷ rest)) (extern_rest at term function rest)

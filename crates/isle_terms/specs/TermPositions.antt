@@ -4,6 +4,7 @@ use Rattle.std.specs.Prelude.{List, [], ◌∷◌, ◌++◌, Option, Some, None,
 use Rattle.std.specs.List.{flat_map}
 use Rattle.isle_model.specs.lists.Syntax.{Position, PatternTree, PatternTrees, bind_pattern, term_pattern, and_pattern, macro_arg, no_pattern, pattern_and}
 use Rattle.isle_model.specs.lists.Tables.{VariantEntry, TypeEntry, builtin_type, primitive_type, enum_type, struct_type, ExtractorEntry, internal_extractor, external_extractor, TermKindEntry, variant_term, struct_term, declared_term, TermEntry}
+use Rattle.isle_base.specs.Patterns.{pattern_position}
 use Rattle.isle_base.specs.Positions.{pattern_positions, AreAmong}
 use Rattle.isle_terms.specs.declared.term.ExtractorKind.{ExtractorKind}
 use Rattle.isle_terms.specs.declared.term_table.TermTable.{TermTable}
@@ -25,6 +26,17 @@ abbrev pub kind_positions : TermKindEntry → List Position
 kind_positions (variant_term variant) = []
 kind_positions struct_term = []
 kind_positions (declared_term flags constructor_kind extractor_kind) = taken_positions extractor_kind
+
+-- where the template of a term stands, if it has one
+abbrev pub taker_template : Option ExtractorEntry → Option Position
+taker_template None = None
+taker_template (Some (internal_extractor template)) = Some (pattern_position template)
+taker_template (Some (external_extractor name infallible at)) = None
+
+abbrev pub template_place : TermKindEntry → Option Position
+template_place (variant_term variant) = None
+template_place struct_term = None
+template_place (declared_term flags constructor_kind extractor_kind) = taker_template extractor_kind
 
 -- where a term is declared, and where its extractor is defined
 abbrev pub entry_positions : TermEntry → List Position

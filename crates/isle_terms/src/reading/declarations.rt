@@ -41,7 +41,7 @@ impl TermTable {
     }
 
     // Reads a definition, if it is a declaration.
-    #[tactic(auto, using(isle_base::proofs::Positioned::notes_nothing, crate::proofs::PlacesNoted::placed_same))]
+    #[tactic(auto, using(isle_base::proofs::Positioned::notes_nothing))]
     fn read_if_declared(
         &mut self,
         tyenv: &mut TypeEnv,

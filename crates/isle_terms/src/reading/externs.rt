@@ -47,7 +47,7 @@ impl TermTable {
     }
 
     // Reads a definition, if it is an external constructor or extractor.
-    #[tactic(auto, using(isle_base::proofs::Positioned::notes_nothing, crate::proofs::PlacesNoted::placed_same))]
+    #[tactic(auto, using(isle_base::proofs::Positioned::notes_nothing))]
     fn read_if_extern(
         &mut self,
         tyenv: &mut TypeEnv,
@@ -69,7 +69,7 @@ impl TermTable {
     }
 
     // Reads an external constructor or extractor. Constants are read with the types.
-    #[tactic(auto, using(isle_base::proofs::Positioned::notes_nothing, crate::proofs::PlacesNoted::placed_same))]
+    #[tactic(auto, using(isle_base::proofs::Positioned::notes_nothing))]
     fn read_extern(
         &mut self,
         tyenv: &mut TypeEnv,
@@ -103,7 +103,7 @@ impl TermTable {
     }
 
     // Reads the external constructor of a term.
-    #[tactic(auto, using(isle_base::proofs::Positioned::notes_nothing, crate::proofs::PlacesNoted::placed_same))]
+    #[tactic(auto, using(isle_base::proofs::Positioned::notes_nothing))]
     fn read_constructor(
         &mut self,
         tyenv: &TypeEnv,
@@ -129,7 +129,7 @@ impl TermTable {
     }
 
     // Reads the external extractor of a term.
-    #[tactic(auto, using(isle_base::proofs::Positioned::notes_nothing, crate::proofs::PlacesNoted::placed_same))]
+    #[tactic(auto, using(isle_base::proofs::Positioned::notes_nothing))]
     fn read_extractor(
         &mut self,
         tyenv: &TypeEnv,

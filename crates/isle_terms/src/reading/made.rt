@@ -38,7 +38,7 @@ impl TermTable {
     }
 
     // Adds the terms that a type makes.
-    #[tactic(auto, using(isle_base::proofs::Positioned::notes_nothing, crate::proofs::PlacesNoted::placed_same))]
+    #[tactic(auto, using(isle_base::proofs::Positioned::notes_nothing))]
     fn add_terms_of(
         &mut self,
         tyenv: &TypeEnv,
@@ -108,7 +108,7 @@ impl TermTable {
     }
 
     // Adds the term of a struct, if its name isn't taken.
-    #[tactic(auto, using(isle_base::proofs::Positioned::notes_nothing, crate::proofs::PlacesNoted::placed_same))]
+    #[tactic(auto, using(isle_base::proofs::Positioned::notes_nothing))]
     fn add_struct(
         &mut self,
         tyenv: &TypeEnv,

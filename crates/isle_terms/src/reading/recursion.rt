@@ -2,7 +2,7 @@
 //! that templates name, the greatest one first. A term from which nothing comes back is walked once, whatever
 //! root it is met from. The path is kept in a list, so that a long chain of templates takes no stack.
 
-ghost use Rattle.std.specs.Prelude.{◌≡◌, [], ◌∷◌, Contains, ◌+◌, ◌-◌, ◌<◌, ◌^◌, All, IfOk, IfSome, OnOk, MatchOption, Some, get_or, is_some, length, option_map, slice_get};
+ghost use Rattle.std.specs.Prelude.{◌≡◌, [], ◌∷◌, ◌+◌, ◌-◌, ◌<◌, ◌^◌, All, IfOk, IfSome, OnOk, MatchOption, Some, get_or, is_some, length, option_map, slice_get};
 ghost use Rattle.isle_base.specs.Positions.{NotesAt};
 ghost use Rattle.isle_base.specs.SyntaxViews.{position};
 ghost use Rattle.isle_base.specs.Noting.{NotesMore};
@@ -10,7 +10,7 @@ ghost use Rattle.isle_terms.specs.Signing.{Notes};
 ghost use Rattle.isle_terms.specs.TermViews.{term_view};
 ghost use Rattle.isle_terms.specs.Templating.{AreCallees, callees_of};
 ghost use Rattle.isle_terms.specs.Recursion.{AreFindings, AreWithin, ComesBack, EndsBelow, Enters, GoesOn, HasEnd, HaveTemplates, IsAtStart, IsSearched, IsOnWay, IsWayBack, has_template, is_end, is_on};
-ghost use Rattle.isle_terms.specs.TermPositions.{entry_positions, table_positions};
+ghost use Rattle.isle_terms.specs.TermPositions.{table_positions, template_place};
 
 use crate::term::{ExtractorKind, Term, TermKind};
 use crate::term_table::TermTable;
@@ -204,7 +204,7 @@ impl Search {
 // Where the template of a term stands, if it has one.
 fn template_pos(term: &Term) -> Option<Pos>
     ensures has { is_some result ≡ has_template (term_view term.now).kind }
-    ensures there { IfSome result (λ p. Contains (entry_positions (term_view term.now)) (position p)) }
+    ensures place { option_map position result ≡ template_place (term_view term.now).kind }
 {
     match &term.kind {
         TermKind::Decl {

@@ -39,7 +39,7 @@ impl TermTable {
     }
 
     // Reads which term a definition is a rule of, if it is one.
-    #[tactic(auto, using(isle_base::proofs::Positioned::notes_nothing, crate::proofs::PlacesNoted::placed_same))]
+    #[tactic(auto, using(isle_base::proofs::Positioned::notes_nothing))]
     fn read_if_rule(
         &mut self,
         tyenv: &TypeEnv,
@@ -59,7 +59,7 @@ impl TermTable {
     }
 
     // Reads which term a rule is of: a declared one.
-    #[tactic(auto, using(isle_base::proofs::Positioned::notes_nothing, crate::proofs::PlacesNoted::placed_same))]
+    #[tactic(auto, using(isle_base::proofs::Positioned::notes_nothing))]
     fn read_root(
         &mut self,
         tyenv: &TypeEnv,

@@ -73,7 +73,7 @@ impl TermTable {
     }
 
     // Reads a definition, if it is an internal extractor.
-    #[tactic(auto, using(isle_base::proofs::Positioned::notes_nothing, crate::proofs::PlacesNoted::placed_same))]
+    #[tactic(auto, using(isle_base::proofs::Positioned::notes_nothing))]
     fn read_if_template(
         &mut self,
         tyenv: &TypeEnv,
@@ -96,7 +96,7 @@ impl TermTable {
     }
 
     // Reads an internal extractor.
-    #[tactic(auto, using(isle_base::proofs::Positioned::notes_nothing, crate::proofs::PlacesNoted::placed_same))]
+    #[tactic(auto, using(isle_base::proofs::Positioned::notes_nothing))]
     fn read_template(
         &mut self,
         tyenv: &TypeEnv,

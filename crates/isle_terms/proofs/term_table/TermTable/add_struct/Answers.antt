@@ -5,7 +5,7 @@ use Rattle.isle_base.specs.SyntaxViews.{position}
 use Rattle.isle_types.specs.TypeViews.{fields_view}
 use Rattle.isle_model.specs.lists.TermTable.{struct_as_term}
 use Rattle.isle_terms.specs.TermTables.{term_at}
-use Rattle.isle_terms.proofs.PlacesNoted.{placed_pushed}
+use Rattle.isle_terms.proofs.PlacesNoted.{placed_pushed, placed_still}
 use Rattle.isle_terms.proofs.Making.{none_mapped, some_mapped, added_one, taken_one}
 use Rattle.isle_terms.proofs.term_table.TermTable.add_struct.Goals as goal
 
@@ -23,3 +23,6 @@ pub returns-clause-placed : goal.returns-clause-placed
 returns-clause-placed c =
     let at = position c.args.pos in
     on_ok_weaker c.push_made.result (λ p. placed_pushed c.args.self.now c.push_made.new.self _ at (at ∷ []) refl (in_head at []) p.terms) c.push_made.ensures.pushes
+
+pub returns-then-contains_key-clause-placed : goal.returns-then-contains_key-clause-placed
+returns-then-contains_key-clause-placed c = placed_still c.report_taken.result c.args.self.now _ (position c.args.pos ∷ []) refl

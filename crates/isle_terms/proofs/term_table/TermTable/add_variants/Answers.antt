@@ -1,14 +1,16 @@
-use Rattle.std.proofs.Common.{◌≡◌, ◌≤◌, [], ◌∷◌, None, length, sym, subst, inl, inr, ◌∙◌, rules}
+use Rattle.std.proofs.Common.{◌≡◌, ◌≤◌, [], ◌∷◌, None, length, map, refl, sym, subst, inl, inr, ◌∙◌, rules}
 use Rattle.std.proofs.lemmas.List.{take_all}
 use Rattle.std.proofs.lemmas.Result.{on_ok_weaker}
 use Rattle.isle_terms.specs.TermTables.{term_at}
 use Rattle.isle_base.specs.Positions.{NotesAt}
 use Rattle.isle_base.specs.SyntaxViews.{position}
 use Rattle.isle_base.proofs.Positioned.{notes_nothing}
-use Rattle.isle_terms.proofs.PlacesNoted.{variant_placed}
+use Rattle.isle_terms.proofs.PlacesNoted.{placed_same, variant_placed}
+use Rattle.isle_types.specs.TypeViews.{variant_view}
+use Rattle.isle_terms.specs.TermPositions.{variants_positions}
 use Rattle.isle_base.specs.Noting.{NotesMore}
 use Rattle.isle_terms.specs.Signing.{GrowsBy}
-use Rattle.isle_terms.proofs.Making.{none_mapped, some_mapped, next_variant, taken_variant, variant_numbers_of, variant_entries_of}
+use Rattle.isle_terms.proofs.Making.{grows_nothing, none_mapped, some_mapped, next_variant, taken_variant, variant_numbers_of, variant_entries_of}
 use Rattle.isle_terms.proofs.term_table.TermTable.add_variants.Goals as goal
 
 pub returns-then-contains_key-clause-adds : goal.returns-then-contains_key-clause-adds
@@ -42,3 +44,6 @@ returns-then-contains_key-clause-placed c = on_ok_weaker c.report_taken.result (
 
 pub returns-clause-places : goal.returns-clause-places
 returns-clause-places c = notes_nothing _ _ _ c.loop-variant.invariant.1
+
+pub loop-variant-init : goal.loop-variant-init
+loop-variant-init c = (c.requires, refl, grows_nothing c.args.self.now, placed_same c.args.self.now c.args.self.now (variants_positions (map variant_view c.args.variants.now)) refl)

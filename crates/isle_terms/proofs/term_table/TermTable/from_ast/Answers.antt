@@ -1,10 +1,14 @@
-use Rattle.std.proofs.Common.{◌≡◌, length, rules}
+use Rattle.std.proofs.Common.{◌≡◌, ◌++◌, [], length, rules}
 use Rattle.std.proofs.lemmas.List.{nil_from_length}
+use Rattle.isle_base.specs.Positions.{positions_of}
 use Rattle.isle_base.specs.SyntaxViews.{definition_views}
 use Rattle.isle_base.proofs.Noted.{name_no_limit}
 use Rattle.isle_terms.specs.Converting.{ConvertersRead}
 use Rattle.isle_terms.specs.ExternStages.{ExternsRead}
 use Rattle.isle_terms.specs.Recursion.{ExtractorsRead}
+use Rattle.isle_base.proofs.Positioned.{all_stand, among_left}
+use Rattle.isle_terms.specs.TermPositions.{types_positions}
+use Rattle.isle_terms.proofs.PlacesNoted.{begun, converters_so_far, step_so_far}
 use Rattle.isle_terms.proofs.Whole.{first_converter, first_declared, first_extern, right_now, all_read, why_refused}
 use Rattle.isle_terms.proofs.term_table.TermTable.from_ast.Goals as goal
 
@@ -59,3 +63,66 @@ returns-then-not-is_empty-3-clause-no_limit g c = name_no_limit _ c.in_ok-read_c
 
 pub returns-then-not-is_empty-4-clause-no_limit : goal.returns-then-not-is_empty-4-clause-no_limit
 returns-then-not-is_empty-4-clause-no_limit g c = name_no_limit _ c.in_ok-read_externs.ensures.reads.ill_typed
+
+pub returns-then-not-is_empty-clause-places : goal.returns-then-not-is_empty-clause-places
+returns-then-not-is_empty-clause-places g c =
+    let ds = positions_of (definition_views c.args.defs.now) in
+    let ts = types_positions g.read.known.types in
+    let ps = ds ++ ts in
+    let a = c.in_ok-read_signatures.ensures in
+    let one = begun ps c.in_ok-table.table c.read_signatures.new.self c.new-errors.result.items c.read_signatures.new.errors.items c.in_ok-table.ensures.terms c.new-errors.ensures.items a.places a.placed in
+    all_stand ps c.read_signatures.new.errors.items one.noted
+
+pub returns-then-not-is_empty-2-clause-places : goal.returns-then-not-is_empty-2-clause-places
+returns-then-not-is_empty-2-clause-places g c =
+    let ds = positions_of (definition_views c.args.defs.now) in
+    let ts = types_positions g.read.known.types in
+    let ps = ds ++ ts in
+    let a = c.in_ok-read_signatures.ensures in
+    let one = begun ps c.in_ok-table.table c.read_signatures.new.self c.new-errors.result.items c.read_signatures.new.errors.items c.in_ok-table.ensures.terms c.new-errors.ensures.items a.places a.placed in
+    let b = c.in_ok-read_definitions.ensures in
+    let two = step_so_far ds ps c.read_signatures.new.self c.read_definitions.new.self [] c.read_signatures.new.errors.items c.read_definitions.new.errors.items (among_left ds ts) b.places b.placed one in
+    all_stand ps c.read_definitions.new.errors.items two.noted
+
+pub returns-then-not-is_empty-3-clause-places : goal.returns-then-not-is_empty-3-clause-places
+returns-then-not-is_empty-3-clause-places g c =
+    let ds = positions_of (definition_views c.args.defs.now) in
+    let ts = types_positions g.read.known.types in
+    let ps = ds ++ ts in
+    let a = c.in_ok-read_signatures.ensures in
+    let one = begun ps c.in_ok-table.table c.read_signatures.new.self c.new-errors.result.items c.read_signatures.new.errors.items c.in_ok-table.ensures.terms c.new-errors.ensures.items a.places a.placed in
+    let b = c.in_ok-read_definitions.ensures in
+    let two = step_so_far ds ps c.read_signatures.new.self c.read_definitions.new.self [] c.read_signatures.new.errors.items c.read_definitions.new.errors.items (among_left ds ts) b.places b.placed one in
+    let d = c.in_ok-read_converters.ensures in
+    let three = converters_so_far ds ps c.read_definitions.new.self c.read_converters.new.self [] c.read_definitions.new.errors.items c.read_converters.new.errors.items (among_left ds ts) d.places c.read_converters.ensures.terms two in
+    all_stand ps c.read_converters.new.errors.items three.noted
+
+pub returns-then-not-is_empty-4-clause-places : goal.returns-then-not-is_empty-4-clause-places
+returns-then-not-is_empty-4-clause-places g c =
+    let ds = positions_of (definition_views c.args.defs.now) in
+    let ts = types_positions g.read.known.types in
+    let ps = ds ++ ts in
+    let a = c.in_ok-read_signatures.ensures in
+    let one = begun ps c.in_ok-table.table c.read_signatures.new.self c.new-errors.result.items c.read_signatures.new.errors.items c.in_ok-table.ensures.terms c.new-errors.ensures.items a.places a.placed in
+    let b = c.in_ok-read_definitions.ensures in
+    let two = step_so_far ds ps c.read_signatures.new.self c.read_definitions.new.self [] c.read_signatures.new.errors.items c.read_definitions.new.errors.items (among_left ds ts) b.places b.placed one in
+    let d = c.in_ok-read_converters.ensures in
+    let three = converters_so_far ds ps c.read_definitions.new.self c.read_converters.new.self [] c.read_definitions.new.errors.items c.read_converters.new.errors.items (among_left ds ts) d.places c.read_converters.ensures.terms two in
+    let e = c.in_ok-read_externs.ensures in
+    let four = step_so_far ds ps c.read_converters.new.self c.read_externs.new.self [] c.read_converters.new.errors.items c.read_externs.new.errors.items (among_left ds ts) e.places e.placed three in
+    all_stand ps c.read_externs.new.errors.items four.noted
+
+pub returns-clause-placed : goal.returns-clause-placed
+returns-clause-placed g c =
+    let ds = positions_of (definition_views c.args.defs.now) in
+    let ts = types_positions g.read.known.types in
+    let ps = ds ++ ts in
+    let a = c.in_ok-read_signatures.ensures in
+    let one = begun ps c.in_ok-table.table c.read_signatures.new.self c.new-errors.result.items c.read_signatures.new.errors.items c.in_ok-table.ensures.terms c.new-errors.ensures.items a.places a.placed in
+    let b = c.in_ok-read_definitions.ensures in
+    let two = step_so_far ds ps c.read_signatures.new.self c.read_definitions.new.self [] c.read_signatures.new.errors.items c.read_definitions.new.errors.items (among_left ds ts) b.places b.placed one in
+    let d = c.in_ok-read_converters.ensures in
+    let three = converters_so_far ds ps c.read_definitions.new.self c.read_converters.new.self [] c.read_definitions.new.errors.items c.read_converters.new.errors.items (among_left ds ts) d.places c.read_converters.ensures.terms two in
+    let e = c.in_ok-read_externs.ensures in
+    let four = step_so_far ds ps c.read_converters.new.self c.read_externs.new.self [] c.read_converters.new.errors.items c.read_externs.new.errors.items (among_left ds ts) e.places e.placed three in
+    four.kept

@@ -1,0 +1,6 @@
+use Rattle.std.proofs.Common.{[], refl}
+use Rattle.isle_terms.proofs.PlacesNoted.{placed_same}
+use Rattle.isle_terms.proofs.term_table.TermTable.read_if_rule.Goals as goal
+
+pub returns-in_default-clause-placed : goal.returns-in_default-clause-placed
+returns-in_default-clause-placed c = placed_same c.args.self.now c.args.self.now [] refl
