@@ -1,5 +1,5 @@
 use Rattle.std.proofs.Common.{map, refl, sym, ap, ◌∙◌}
-use Rattle.isle_base.specs.SyntaxViews.{extractor_view}
+use Rattle.isle_base.specs.SyntaxViews.{extractor_view, position}
 use Rattle.isle_base.specs.Positions.{extractor_positions}
 use Rattle.isle_terms.specs.TermPositions.{table_positions}
 use Rattle.isle_terms.proofs.PlacesNoted.{argument_noted, extractor_noted, noted_among, placed_still}
@@ -23,9 +23,8 @@ returns-clause-notes c =
 pub returns-in-Some-clause-places : goal.returns-in-Some-clause-places
 returns-in-Some-clause-places c =
     let x = extractor_view c.args.extractor.now in
-    let items = c.in_ok-arguments.arguments.items in
-    let first = c.in-Some.ensures.value in
-    noted_among c.report.result _ _ _ _ (argument_noted x (table_positions c.args.self.now) items _ c.in_ok-arguments.ensures.places first) c.report.ensures.places
+    let places = ap (map (λ a. position a.0)) c.deref.ensures.value ∙ c.in_ok-arguments.ensures.places in
+    noted_among c.report.result _ _ _ _ (argument_noted x (table_positions c.args.self.now) c.deref.result.now _ places (sym c.in-Some.ensures.value)) c.report.ensures.places
 
 pub returns-in-Some-clause-placed : goal.returns-in-Some-clause-placed
 returns-in-Some-clause-placed c = placed_still c.report.result c.args.self.now _ (extractor_positions (extractor_view c.args.extractor.now)) refl
