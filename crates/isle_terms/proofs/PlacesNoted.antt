@@ -29,7 +29,6 @@ use Rattle.isle_terms.specs.declared.term.Term.{Term}
 use Rattle.isle_terms.specs.declared.term_table.TermTable.{TermTable}
 use Rattle.isle_terms.specs.Externing.{made_by_this, taken_by_this, with_kind}
 use Rattle.isle_terms.specs.Reading.{internal_entry, internal_kind}
-
 use Rattle.isle_terms.specs.Signing.{PushesTerm}
 use Rattle.isle_terms.specs.TermPositions.{taken_positions, taker_template, template_place, type_entry_positions, types_positions, variants_positions, argument_places, argument_places_all, entry_positions, kind_positions, table_positions, taker_positions, terms_positions, IsPlacedAmong}
 use Rattle.isle_terms.specs.TermViews.{term_view, term_views}
@@ -137,7 +136,7 @@ placed_push old new e ps terms a =
     record {
       each = among_as (table_positions old ++ (entry_positions e ++ [])) (table_positions new) (ps ++ table_positions old) (sym all)
           (among_join (table_positions old) (entry_positions e ++ []) (ps ++ table_positions old) (among_right ps (table_positions old))
-              (among_join (entry_positions e) [] (ps ++ table_positions old) (among_both (entry_positions e) ps (ps ++ table_positions old) a (among_left ps (table_positions old))) (among_none (ps ++ table_positions old))));
+          (among_join (entry_positions e) [] (ps ++ table_positions old) (among_both (entry_positions e) ps (ps ++ table_positions old) a (among_left ps (table_positions old))) (among_none (ps ++ table_positions old))));
     }
 
 member_set : (ts : List Term) (k : ℕ) (t x : Term) → Contains (set ts k t) x → (t ≡ x) ⊎ Contains ts x

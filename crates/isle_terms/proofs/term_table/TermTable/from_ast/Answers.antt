@@ -126,3 +126,6 @@ returns-clause-placed g c =
     let e = c.in_ok-read_externs.ensures in
     let four = step_so_far ds ps c.read_converters.new.self c.read_externs.new.self [] c.read_converters.new.errors.items c.read_externs.new.errors.items (among_left ds ts) e.places e.placed three in
     four.kept
+
+pub returns-then-not-is_empty-clause-no_limit : goal.returns-then-not-is_empty-clause-no_limit
+returns-then-not-is_empty-clause-no_limit g c = name_no_limit _ c.in_ok-read_signatures.ensures.reads.ill_typed

@@ -15,7 +15,7 @@ loop-def-preserved g c =
     )
 
 pub loop-def-init : goal.loop-def-init
-loop-def-init g c = (c.requires.1, c.requires.2, not_begun _ _ _)
+loop-def-init g c = (c.requires.1.0, c.requires.1.1, not_begun _ _ _)
 
 pub returns-then-not-branch-clause-reads : goal.returns-then-not-branch-clause-reads
 returns-then-not-branch-clause-reads g c =
