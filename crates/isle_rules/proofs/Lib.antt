@@ -1,5 +1,9 @@
 mod UsedTerms
 pub mod Noted
+pub mod Placed
+pub mod SubstitutedPlaces
+pub mod PartPlaces
+pub mod TermPlaces
 pub mod Readings
 pub mod Bindings
 pub mod Scopes

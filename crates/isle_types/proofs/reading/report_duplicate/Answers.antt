@@ -3,4 +3,4 @@ use Rattle.isle_base.proofs.Noted.{both}
 use Rattle.isle_types.proofs.reading.report_duplicate.Goals as goal
 
 pub returns : goal.returns
-returns c = on_ok_weaker c.report-2.result (λ r. both _ _ _ c.in_ok-report.ensures r) c.report-2.ensures
+returns c = on_ok_weaker c.report-2.result (λ r. both _ _ _ c.in_ok-report.ensures.noted r) c.report-2.ensures.noted

@@ -9,4 +9,4 @@ returns-then-greatest-count c =
 
 pub returns : goal.returns
 returns c =
-    on_ok_weaker c.report.result (λ r. inr (r, greatest_past c.deref.result.now c.in-Some.field-0.now c.args.count _ (ap (map (λ a. a.1)) c.deref.ensures.value ∙ c.in_ok-arguments.ensures) c.in-Some.ensures.0 c.if-greatest-count.false)) c.report.ensures
+    on_ok_weaker c.report.result (λ r. inr (r, greatest_past c.deref.result.now c.in-Some.field-0.now c.args.count _ (ap (map (λ a. a.1)) c.deref.ensures.value ∙ c.in_ok-arguments.ensures) c.in-Some.ensures.0 c.if-greatest-count.false)) c.report.ensures.noted

@@ -30,7 +30,7 @@ returns-in-Some-what_is_no_root-clause-reads c =
         at = view_at items c.in-Some-find_term.id.0 c.index-2.result.now c.index-2.result.now within value;
         made = kind;
       }),
-    )) c.report-in-Some-what_is_no_root.ensures
+    )) c.report-in-Some-what_is_no_root.ensures.noted
 
 pub returns-clause-reads : goal.returns-clause-reads
 returns-clause-reads c =
