@@ -12,7 +12,6 @@ use std::alloc::AllocError;
 use std::fmt::Display;
 
 // Notes that what stands at a place isn't right: one error more, which names no limit.
-#[tactic(auto, using(isle_base::proofs::Positioned::notes_one, isle_base::proofs::Positioned::stands_there))]
 pub fn report<M: Display + Drop>(
     errors: &mut Vec<Error>,
     pos: Pos,
