@@ -4,6 +4,7 @@ pub mod Placed
 pub mod SubstitutedPlaces
 pub mod PartPlaces
 pub mod TermPlaces
+pub mod PlacesAtEnd
 pub mod Readings
 pub mod Bindings
 pub mod Scopes

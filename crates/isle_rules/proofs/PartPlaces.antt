@@ -112,34 +112,33 @@ pub each_inside : {X Y : Type 0} (f : Y → List Position) (view : X → Y) (xs 
 each_inside f view xs i x lt is = let here : Contains xs x = (i, lt, sym is) in among_each f (map view xs) (view x) (in_map view xs x here)
 
 module _ (r : RuleTree) where
-  abbrev names : List Position
-  names = rule_name_positions r.name
+  abbrev before : List Position
+  before = rule_name_positions r.name ++ pattern_positions r.pattern
 
-  abbrev sides : List Position
-  sides = flat_map iflet_positions r.iflets ++ expr_positions r.expr
+  abbrev iflets : List Position
+  iflets = flat_map iflet_positions r.iflets
 
-  behind : (ps : List Position) → AreAmong ps (pattern_positions r.pattern ++ sides) → AreAmong ps (rule_positions r)
-  behind ps a =
-      among_both ps (pattern_positions r.pattern ++ sides) (rule_positions r) a
-      (among_both (pattern_positions r.pattern ++ sides) (names ++ pattern_positions r.pattern ++ sides) (rule_positions r) (among_right names (pattern_positions r.pattern ++ sides)) (among_rest r.at (names ++ pattern_positions r.pattern ++ sides)))
+  abbrev inside : List Position
+  inside = before ++ iflets ++ expr_positions r.expr
+
+  behind : (ps : List Position) → AreAmong ps inside → AreAmong ps (rule_positions r)
+  behind ps a = among_both ps inside (rule_positions r) a (among_rest r.at inside)
 
   pub rule_at : AreAmong (r.at ∷ []) (rule_positions r)
-  rule_at = among_first r.at (names ++ pattern_positions r.pattern ++ sides)
+  rule_at = among_first r.at inside
 
   pub rule_root : (args : PatternTrees) → root_parts r.pattern ≡ args → AreAmong (r.at ∷ patterns_positions args) (rule_positions r)
   rule_root args is =
-      among_one_more r.at (patterns_positions args) (rule_positions r) (in_head r.at (names ++ pattern_positions r.pattern ++ sides))
+      among_one_more r.at (patterns_positions args) (rule_positions r) (in_head r.at inside)
       (behind (patterns_positions args)
-      (among_both (patterns_positions args) (pattern_positions r.pattern) (pattern_positions r.pattern ++ sides) (subst (λ ps. AreAmong (patterns_positions ps) (pattern_positions r.pattern)) is (root_inside r.pattern)) (among_left (pattern_positions r.pattern) sides)))
+      (among_both (patterns_positions args) (pattern_positions r.pattern) inside (subst (λ ps. AreAmong (patterns_positions ps) (pattern_positions r.pattern)) is (root_inside r.pattern))
+      (among_both (pattern_positions r.pattern) before inside (among_right (rule_name_positions r.name) (pattern_positions r.pattern)) (among_both before (before ++ iflets) inside (among_left before iflets) (among_left (before ++ iflets) (expr_positions r.expr))))))
 
   pub rule_iflets : AreAmong (flat_map iflet_positions r.iflets) (rule_positions r)
-  rule_iflets =
-      behind (flat_map iflet_positions r.iflets)
-      (among_both (flat_map iflet_positions r.iflets) sides (pattern_positions r.pattern ++ sides) (among_left (flat_map iflet_positions r.iflets) (expr_positions r.expr)) (among_right (pattern_positions r.pattern) sides))
+  rule_iflets = behind iflets (among_both iflets (before ++ iflets) inside (among_right before iflets) (among_left (before ++ iflets) (expr_positions r.expr)))
 
   pub rule_value : AreAmong (expr_positions r.expr) (rule_positions r)
-  rule_value =
-      behind (expr_positions r.expr) (among_both (expr_positions r.expr) sides (pattern_positions r.pattern ++ sides) (among_right (flat_map iflet_positions r.iflets) (expr_positions r.expr)) (among_right (pattern_positions r.pattern) sides))
+  rule_value = behind (expr_positions r.expr) (among_right (before ++ iflets) (expr_positions r.expr))
 
 -- terms that expressions use stand at positions of these
 two_placed : (xs ys : List (Position × Name)) (all : List Position) → AreAmong (map (λ u. u.0) xs) all → AreAmong (map (λ u. u.0) ys) all → AreAmong (map (λ u. u.0) (xs ++ ys)) all

@@ -89,14 +89,6 @@ module _ (env : TermEnv) (tyenv : TypeEnv) (name : Name) (args : PatternTrees) (
   abbrev whole : PatternTree
   whole = term_pattern name args at
 
-  -- a use inside a converter's
-  pub converted_places : (by : TermEntry) → AreAmong (pattern_positions (inside_term tyenv by at whole)) (with_terms env (pattern_positions whole))
-  converted_places by =
-      let inside = pattern_positions whole in
-      let here = in_head at (name.at ∷ patterns_positions args) in
-      among_here env (pattern_positions (inside_term tyenv by at whole)) inside
-      (among_one_more at (at ∷ inside ++ []) inside here (among_one_more at (inside ++ []) inside here (among_joined inside [] inside (among_same inside) (among_nothing inside))))
-
   -- the template of a term, with the arguments
   pub expanded_places : (t : TermEntry) → Some t ≡ found_term env tyenv name.text → (template : PatternTree) → Some template ≡ found_template env t → (made : PatternTree) → Some made ≡ substituted (pattern_list args) template
       → AreAmong (pattern_positions made) (with_terms env (pattern_positions whole))
@@ -115,7 +107,14 @@ module _ (env : TermEnv) (tyenv : TypeEnv) (name : Name) (args : PatternTrees) (
       template made (sym is_made)
       (among_both (pattern_positions template) (terms_positions terms) (with_terms env (pattern_positions whole)) of_term (among_right (pattern_positions whole) (terms_positions terms)))
 
--- an expression inside a converter's use, at a position of its own
+-- a pattern inside a converter's use, at a position of its own
+pub converted_places : (env : TermEnv) (tyenv : TypeEnv) (by : TermEntry) (at : Position) (p : PatternTree) → Contains (pattern_positions p) at → AreAmong (pattern_positions (inside_term tyenv by at p)) (with_terms env (pattern_positions p))
+converted_places env tyenv by at p here =
+    let inside = pattern_positions p in
+    among_here env (pattern_positions (inside_term tyenv by at p)) inside
+    (among_one_more at (at ∷ inside ++ []) inside here (among_one_more at (inside ++ []) inside here (among_joined inside [] inside (among_same inside) (among_nothing inside))))
+
+-- an expression likewise
 pub called_places : (tyenv : TypeEnv) (by : TermEntry) (at : Position) (x : ExprTree) → Contains (expr_positions x) at → AreAmong (expr_positions (inside_call tyenv by at x)) (expr_positions x)
 called_places tyenv by at x here =
     let inside = expr_positions x in

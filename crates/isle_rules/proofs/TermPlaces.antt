@@ -1,5 +1,5 @@
 -- The positions of the terms of a list of definitions are those of the definitions, and of the types that they are read with.
-use Rattle.std.proofs.Common.{◌≡◌, ℕ, suc, Bool, true, false, cond, List, [], ◌∷◌, ◌++◌, Option, Some, None, Contains, map, option_map, refl, sym, ap, subst, ◌∙◌, inl, inr}
+use Rattle.std.proofs.Common.{◌≡◌, ℕ, ◌+◌, Bool, true, false, cond, List, [], ◌∷◌, ◌++◌, Option, Some, None, Contains, map, option_map, refl, sym, ap, subst, ◌∙◌, inl, inr}
 use Rattle.std.specs.List.{flat_map, find, enumerate_from, position_from}
 use Rattle.std.specs.Str.{bytes_eq}
 use Rattle.std.proofs.lemmas.Bool.{cases_Bool, cond-true, cond-false}
@@ -148,8 +148,8 @@ of_made (struct_type name ty is_extern is_nodebug fields at) f c id = subst (λ 
 each_made : (all : List Position) (fs : List (ℕ → TermEntry)) (i : ℕ) → ((f : ℕ → TermEntry) → Contains fs f → (id : ℕ) → AreAmong (entry_positions (f id)) all) → AreAmong (terms_positions (map (λ p. p.1 p.0) (enumerate_from i fs))) all
 each_made all [] i each = among_nothing all
 each_made all (f ∷ fs) i each =
-    among_joined (entry_positions (f i)) (terms_positions (map (λ p. p.1 p.0) (enumerate_from (suc i) fs))) all (each f (in_head f fs) i)
-    (each_made all fs (suc i) (λ g c id. each g (in_tail f g fs c) id))
+    among_joined (entry_positions (f i)) (terms_positions (map (λ p. p.1 p.0) (enumerate_from (i + 1) fs))) all (each f (in_head f fs) i)
+    (each_made all fs (i + 1) (λ g c id. each g (in_tail f g fs c) id))
 
 pub terms_inside : (k : KnownTypes) (defs : List Definition) → AreAmong (terms_positions (term_table k defs)) (positions_of defs ++ types_positions k.types)
 terms_inside k defs =

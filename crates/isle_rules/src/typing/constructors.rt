@@ -1,6 +1,6 @@
 //! Whether the terms that the expressions of rules use have constructors: looked at after all rules, as upstream does.
 
-ghost use Rattle.std.specs.Prelude.{◌≡◌, IsTrue, OnOk, map, string_bytes, [], ◌∷◌};
+ghost use Rattle.std.specs.Prelude.{◌≡◌, [], ◌∷◌, IsTrue, OnOk, map, string_bytes};
 ghost use Rattle.std.specs.List.{flat_map};
 ghost use Rattle.isle_base.specs.Expressions.{terms_of_expr};
 ghost use Rattle.isle_base.specs.Places.{term_view};

@@ -1,6 +1,6 @@
 //! How expressions without parts are typed, but for variables.
 
-ghost use Rattle.std.specs.Prelude.{◌≡◌, ℕ, true, OnOk, [], ◌∷◌};
+ghost use Rattle.std.specs.Prelude.{◌≡◌, [], ◌∷◌, ℕ, true, OnOk};
 ghost use Rattle.isle_base.specs.SyntaxViews.{name_view, position};
 ghost use Rattle.isle_model.specs.lists.Syntax.{bool_expr, int_expr, prim_expr};
 ghost use Rattle.isle_model.specs.lists.Tables.{Flags};

@@ -1,6 +1,6 @@
 //! What names in expressions stand for: variables and terms.
 
-ghost use Rattle.std.specs.Prelude.{◌≡◌, true, not, ◌||◌, IfOk, OnOk, option_map, option_and_then, length, string_bytes, [], ◌∷◌};
+ghost use Rattle.std.specs.Prelude.{◌≡◌, ◌||◌, [], ◌∷◌, true, not, IfOk, OnOk, option_map, option_and_then, length, string_bytes};
 ghost use Rattle.isle_base.specs.SyntaxViews.{name_view, position, expr_view, expr_views};
 ghost use Rattle.isle_model.specs.lists.Syntax.{term_expr, var_expr};
 ghost use Rattle.isle_model.specs.lists.Setting.{is_expected};

@@ -1,6 +1,6 @@
 //! How the limit that a rule passes is noted.
 
-ghost use Rattle.std.specs.Prelude.{OnOk, [], ◌∷◌};
+ghost use Rattle.std.specs.Prelude.{[], ◌∷◌, OnOk};
 ghost use Rattle.isle_rules.specs.RuleLists.{NotesLimit, NotesStop};
 ghost use Rattle.isle_base.specs.Positions.{NotesAt};
 ghost use Rattle.isle_base.specs.SyntaxViews.{position};

@@ -1,6 +1,6 @@
 //! How patterns without parts are typed, and how a name is bound around a pattern.
 
-ghost use Rattle.std.specs.Prelude.{◌≡◌, ℕ, Bool, None, OnOk, string_bytes, [], ◌∷◌};
+ghost use Rattle.std.specs.Prelude.{◌≡◌, [], ◌∷◌, ℕ, Bool, None, OnOk, string_bytes};
 ghost use Rattle.isle_base.specs.SyntaxViews.{name_view, position};
 ghost use Rattle.isle_model.specs.lists.Syntax.{var_pattern, bool_pattern, int_pattern, prim_pattern, macro_arg};
 ghost use Rattle.isle_types.specs.Envs.{IsInterned};

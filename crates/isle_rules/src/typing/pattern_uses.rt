@@ -1,6 +1,6 @@
 //! What the use of a term in a pattern stands for.
 
-ghost use Rattle.std.specs.Prelude.{◌≡◌, true, IfOk, OnOk, IsTrue, option_map, length, string_bytes, [], ◌∷◌};
+ghost use Rattle.std.specs.Prelude.{◌≡◌, [], ◌∷◌, true, IfOk, OnOk, IsTrue, option_map, length, string_bytes};
 ghost use Rattle.isle_base.specs.SyntaxViews.{name_view, position, pattern_view, pattern_views};
 ghost use Rattle.isle_model.specs.lists.Setting.{is_matchable};
 ghost use Rattle.isle_model.specs.lists.Syntax.{term_pattern};

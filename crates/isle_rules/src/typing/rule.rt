@@ -1,6 +1,6 @@
 //! How a rule is typed.
 
-ghost use Rattle.std.specs.Prelude.{◌≡◌, true, not, ◌&&◌, [], pos, IfOk, OnOk, option_map, is_some, unwrap_or, ◌∷◌};
+ghost use Rattle.std.specs.Prelude.{◌≡◌, ◌&&◌, [], ◌∷◌, true, not, pos, IfOk, OnOk, option_map, is_some, unwrap_or};
 ghost use Rattle.isle_base.specs.SyntaxViews as S;
 ghost use Rattle.isle_model.specs.lists.Elaborated.{root_parts, rule_of_sides, with_own_name, own_number};
 ghost use Rattle.isle_model.specs.lists.Setting.{declared_flags};

@@ -1,6 +1,6 @@
 //! How the rules of a list are typed, one after another and each within the limits on expansions.
 
-ghost use Rattle.std.specs.Prelude.{◌≡◌, IfOk, OnOk, option_map, ◌++◌};
+ghost use Rattle.std.specs.Prelude.{◌≡◌, ◌++◌, IfOk, OnOk, option_map};
 ghost use Rattle.isle_base.specs.SyntaxViews.{position, definition_view, definition_views, rule_view as tree_view};
 ghost use Rattle.isle_model.specs.lists.TermTable.{rule_trees};
 ghost use Rattle.isle_types.specs.Envs.{IsInterned};

@@ -154,11 +154,11 @@ translate_exprs-loop-i-preserved t c =
           c.args.args.now c.args.tys.now c.loop-i.i c.index-args-i.result ty w v c.index-args-i.is (same_default c.args.tys.now c.loop-i.i (record { 0 = 0 }) ty v) c.loop-i.invariant.0
           c.loop-i.parts.items c.loop-i.invariant.1 c.in_ok-part.part c.in_ok-part.ensures.made),
       (
-        let whole = exprs_positions (S.expr_views c.args.args.now) in
-        let part = expr_positions (S.expr_view c.index-args-i.result) in
-        notes_step whole part whole c.args.work.now.errors.items c.loop-i.work.errors.items c.translate_expr.new.work.errors.items
-        (among_same whole) (arg_inside c.args.args.now c.loop-i.i c.index-args-i.result w c.index-args-i.is) c.loop-i.invariant.2 c.in_ok-part.ensures.places
-      ),
+          let whole = exprs_positions (S.expr_views c.args.args.now) in
+          let part = expr_positions (S.expr_view c.index-args-i.result) in
+          notes_step whole part whole c.args.work.now.errors.items c.loop-i.work.errors.items c.translate_expr.new.work.errors.items
+          (among_same whole) (arg_inside c.args.args.now c.loop-i.i c.index-args-i.result w c.index-args-i.is) c.loop-i.invariant.2 c.in_ok-part.ensures.places
+          ),
     )
 
 pub translate_let-translate_defs-requires : goal.translate_let-translate_defs-requires
@@ -230,12 +230,12 @@ translate_defs-loop-def-preserved t c =
           c.args.defs.now c.loop-def.def-index c.def-item.result c.loop-def-test.true c.def-item.is c.loop-def.invariant.0 c.loop-def.bindings.items c.args.hidden.now.items c.loop-def.hidden.items c.loop-def.invariant.1
           c.in_ok-made.made c.translate_def.new.hidden.items c.in_ok-made.ensures.made),
       (
-        let at = S.position c.args.pos in
-        let whole = at ∷ lets_positions (S.let_views c.args.defs.now) in
-        let one = lets_positions (with_let c.def-item.result no_let) in
-        let inside : AreAmong (at ∷ one) whole = among_both_first at one (lets_positions (S.let_views c.args.defs.now)) (def_inside c.args.defs.now c.loop-def.def-index c.def-item.result c.loop-def-test.true c.def-item.is) in
-        notes_step whole (at ∷ one) whole c.args.work.now.errors.items c.loop-def.work.errors.items c.translate_def.new.work.errors.items (among_same whole) inside c.loop-def.invariant.2 c.in_ok-made.ensures.places
-      ),
+          let at = S.position c.args.pos in
+          let whole = at ∷ lets_positions (S.let_views c.args.defs.now) in
+          let one = lets_positions (with_let c.def-item.result no_let) in
+          let inside : AreAmong (at ∷ one) whole = among_both_first at one (lets_positions (S.let_views c.args.defs.now)) (def_inside c.args.defs.now c.loop-def.def-index c.def-item.result c.loop-def-test.true c.def-item.is) in
+          notes_step whole (at ∷ one) whole c.args.work.now.errors.items c.loop-def.work.errors.items c.translate_def.new.work.errors.items (among_same whole) inside c.loop-def.invariant.2 c.in_ok-made.ensures.places
+          ),
     )
 
 pub translate_def-returns-in_default-clause-made : goal.translate_def-returns-in_default-clause-made
@@ -398,7 +398,7 @@ translate_expr-returns-in_err-use_in_expr-in-Term-clause-places t c =
     let at = S.position c.in-Term.pos in
     let all : List Position = expr_positions (term_expr name args at) in
     let here : AreAmong (at ∷ []) all = among_first at (name.at ∷ exprs_positions args) in
-    rw (stop_is c.from_residual-in_err-use_in_expr-in-Term.result c.in_err-use_in_expr-in-Term.field-0.0 c.from_residual-in_err-use_in_expr-in-Term.ensures, seen_call c.args.expr.now c.in-Term.sym c.in-Term.args c.in-Term.pos c.deref.result.now c.in-Term.is c.deref.ensures.value)
+    rw (stop_is c.from_residual.result c.in_err-use_in_expr-in-Term.field-0.0 c.from_residual.ensures, seen_call c.args.expr.now c.in-Term.sym c.in-Term.args c.in-Term.pos c.deref.result.now c.in-Term.is c.deref.ensures.value)
     (stop_among (at ∷ []) all c.args.work.now.errors.items c.use_in_expr.new.work.errors.items c.in_err-use_in_expr-in-Term.field-0.0 here c.in_err-use_in_expr-in-Term.ensures.places)
 
 pub translate_expr-returns-in-Wrong-clause-places : goal.translate_expr-returns-in-Wrong-clause-places

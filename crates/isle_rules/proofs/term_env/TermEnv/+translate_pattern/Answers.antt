@@ -192,11 +192,11 @@ translate_args-loop-i-preserved t c =
           c.args.args.now c.args.tys.now c.loop-i.i c.index-args-i.result ty w v c.index-args-i.is (same_default c.args.tys.now c.loop-i.i (record { 0 = 0 }) ty v) c.loop-i.invariant.0
           c.loop-i.parts.items c.loop-i.invariant.1 c.in_ok-part.part c.in_ok-part.ensures.made),
       (
-        let whole = patterns_positions (S.pattern_views c.args.args.now) in
-        let part = pattern_positions (S.pattern_view c.index-args-i.result) in
-        notes_step (with_terms c.args.self.now whole) (with_terms c.args.self.now part) (with_terms c.args.self.now whole) c.args.work.now.errors.items c.loop-i.work.errors.items c.translate_pattern.new.work.errors.items
-        (among_same (with_terms c.args.self.now whole)) (among_with c.args.self.now part whole (part_inside c.args.args.now c.loop-i.i c.index-args-i.result w c.index-args-i.is)) c.loop-i.invariant.2 c.in_ok-part.ensures.places
-      ),
+          let whole = patterns_positions (S.pattern_views c.args.args.now) in
+          let part = pattern_positions (S.pattern_view c.index-args-i.result) in
+          notes_step (with_terms c.args.self.now whole) (with_terms c.args.self.now part) (with_terms c.args.self.now whole) c.args.work.now.errors.items c.loop-i.work.errors.items c.translate_pattern.new.work.errors.items
+          (among_same (with_terms c.args.self.now whole)) (among_with c.args.self.now part whole (part_inside c.args.args.now c.loop-i.i c.index-args-i.result w c.index-args-i.is)) c.loop-i.invariant.2 c.in_ok-part.ensures.places
+          ),
     )
 
 pub translate_each-loop-subpat-init : goal.translate_each-loop-subpat-init
@@ -222,11 +222,11 @@ translate_each-loop-subpat-preserved t c =
           c.args.subpats.now c.args.expected_ty.0 c.loop-subpat.subpat-index c.subpat-item.result c.loop-subpat-test.true c.subpat-item.is c.loop-subpat.invariant.0
           c.loop-subpat.parts.items c.loop-subpat.invariant.1 c.in_ok-part.part c.in_ok-part.ensures.made),
       (
-        let whole = patterns_positions (S.pattern_views c.args.subpats.now) in
-        let part = pattern_positions (S.pattern_view c.subpat-item.result) in
-        notes_step (with_terms c.args.self.now whole) (with_terms c.args.self.now part) (with_terms c.args.self.now whole) c.args.work.now.errors.items c.loop-subpat.work.errors.items c.translate_pattern.new.work.errors.items
-        (among_same (with_terms c.args.self.now whole)) (among_with c.args.self.now part whole (part_inside c.args.subpats.now c.loop-subpat.subpat-index c.subpat-item.result c.loop-subpat-test.true c.subpat-item.is)) c.loop-subpat.invariant.2 c.in_ok-part.ensures.places
-      ),
+          let whole = patterns_positions (S.pattern_views c.args.subpats.now) in
+          let part = pattern_positions (S.pattern_view c.subpat-item.result) in
+          notes_step (with_terms c.args.self.now whole) (with_terms c.args.self.now part) (with_terms c.args.self.now whole) c.args.work.now.errors.items c.loop-subpat.work.errors.items c.translate_pattern.new.work.errors.items
+          (among_same (with_terms c.args.self.now whole)) (among_with c.args.self.now part whole (part_inside c.args.subpats.now c.loop-subpat.subpat-index c.subpat-item.result c.loop-subpat-test.true c.subpat-item.is)) c.loop-subpat.invariant.2 c.in_ok-part.ensures.places
+          ),
     )
 
 pub translate_args-returns-in_err-part-clause-places : goal.translate_args-returns-in_err-part-clause-places

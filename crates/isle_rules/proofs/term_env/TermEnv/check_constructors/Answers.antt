@@ -18,15 +18,15 @@ loop-def-init c = (checked_first (λ (u : Position × Name). IsTrue (is_made (fo
 
 pub loop-def-preserved : goal.loop-def-preserved
 loop-def-preserved c = (
-    checked_next (λ (u : Position × Name). IsTrue (is_made (found_term c.args.self.now c.args.tyenv.now u.1.text))) _ _ (uses_of_definition (definition_view c.def-item.result)) _ _ _ _
-    (left_at (λ d. uses_of_definition (definition_view d)) (λ ds. flat_map uses_of_rule (rule_trees (definition_views ds))) uses_split c.args.defs.now c.loop-def.def-index c.def-item.result c.loop-def-test.true c.def-item.is)
-    c.loop-def.invariant.0 c.in_ok-check_definition.ensures.checks,
-    (
+  checked_next (λ (u : Position × Name). IsTrue (is_made (found_term c.args.self.now c.args.tyenv.now u.1.text))) _ _ (uses_of_definition (definition_view c.def-item.result)) _ _ _ _
+      (left_at (λ d. uses_of_definition (definition_view d)) (λ ds. flat_map uses_of_rule (rule_trees (definition_views ds))) uses_split c.args.defs.now c.loop-def.def-index c.def-item.result c.loop-def-test.true c.def-item.is)
+      c.loop-def.invariant.0 c.in_ok-check_definition.ensures.checks,
+  (
       let all = positions_of (definition_views c.args.defs.now) in
       let one = definition_positions (definition_view c.def-item.result) in
       notes_step all one all c.args.errors.now.items c.loop-def.errors.items c.check_definition.new.errors.items (among_same all)
       (each_inside definition_positions definition_view c.args.defs.now c.loop-def.def-index c.def-item.result c.loop-def-test.true c.def-item.is) c.loop-def.invariant.1 c.in_ok-check_definition.ensures.places
-    ),
+      ),
 )
 
 pub returns-clause-checks : goal.returns-clause-checks

@@ -16,15 +16,15 @@ loop-used-init c = (checked_first (λ (u : Position × Name). IsTrue (is_made (f
 
 pub loop-used-preserved : goal.loop-used-preserved
 loop-used-preserved c = (
-    checked_next (λ (u : Position × Name). IsTrue (is_made (found_term c.args.self.now c.args.tyenv.now u.1.text))) _ _ (term_view c.used-item.result.0 c.used-item.result.1.now ∷ []) _ _ _ _
-    (left_at (λ t. term_view t.0 t.1.now ∷ []) (map (λ t. term_view t.0 t.1.now)) (λ t rest. refl) c.args.uses.now c.loop-used.used-index c.used-item.result c.loop-used-test.true c.used-item.is)
-    c.loop-used.invariant.0
-    (checks_one (λ (u : Position × Name). IsTrue (is_made (found_term c.args.self.now c.args.tyenv.now u.1.text))) (term_view c.used-item.result.0 c.used-item.result.1.now) _ _ c.in_ok-check_use.ensures.checks),
-    (
+  checked_next (λ (u : Position × Name). IsTrue (is_made (found_term c.args.self.now c.args.tyenv.now u.1.text))) _ _ (term_view c.used-item.result.0 c.used-item.result.1.now ∷ []) _ _ _ _
+      (left_at (λ t. term_view t.0 t.1.now ∷ []) (map (λ t. term_view t.0 t.1.now)) (λ t rest. refl) c.args.uses.now c.loop-used.used-index c.used-item.result c.loop-used-test.true c.used-item.is)
+      c.loop-used.invariant.0
+      (checks_one (λ (u : Position × Name). IsTrue (is_made (found_term c.args.self.now c.args.tyenv.now u.1.text))) (term_view c.used-item.result.0 c.used-item.result.1.now) _ _ c.in_ok-check_use.ensures.checks),
+  (
       let all = map (λ t. position t.0) c.args.uses.now in
       notes_step all (position c.used-item.result.0 ∷ []) all c.args.errors.now.items c.loop-used.errors.items c.check_use.new.errors.items (among_same all)
       (one_inside (λ t. position t.0) c.args.uses.now c.loop-used.used-index c.used-item.result c.loop-used-test.true c.used-item.is) c.loop-used.invariant.1 c.in_ok-check_use.ensures.places
-    ),
+      ),
 )
 
 pub returns-clause-checks : goal.returns-clause-checks

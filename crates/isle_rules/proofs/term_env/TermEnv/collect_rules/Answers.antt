@@ -37,7 +37,7 @@ loop-def-preserved c = (
       let one = definition_positions (definition_view c.def-item.result) in
       let inside : AreAmong one all = each_inside definition_positions definition_view c.args.defs.now c.loop-def.def-index c.def-item.result c.loop-def-test.true c.def-item.is in
       notes_step (with_terms env all) (with_terms env one) (with_terms env all) c.args.work.now.errors.items c.loop-def.work.errors.items c.collect_definition.new.work.errors.items (among_same (with_terms env all)) (among_with env one all inside) c.loop-def.invariant.3 c.in_ok-collect_definition.ensures.places
-  ),
+      ),
   (
       let env = c.args.self.now in
       let all = positions_of (definition_views c.args.defs.now) in
@@ -45,7 +45,7 @@ loop-def-preserved c = (
       let inside : AreAmong one all = each_inside definition_positions definition_view c.args.defs.now c.loop-def.def-index c.def-item.result c.loop-def-test.true c.def-item.is in
       let before = rules_at (rule_views c.loop-def.rules.items) in
       among_both (rules_at (rule_views c.collect_definition.new.rules.items)) (before ++ one) all c.in_ok-collect_definition.ensures.stand (among_joined before one all c.loop-def.invariant.4 inside)
-  ),
+      ),
 )
 
 pub returns-clause-reads : goal.returns-clause-reads

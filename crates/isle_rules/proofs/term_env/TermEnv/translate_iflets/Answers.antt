@@ -31,12 +31,12 @@ loop-iflet-preserved c =
           c.args.iflets.now c.loop-iflet.iflet-index c.iflet-item.result c.loop-iflet-test.true c.iflet-item.is c.loop-iflet.invariant.0 c.loop-iflet.made.items c.loop-iflet.invariant.1
           c.in_ok-one.one c.in_ok-one.ensures.made),
       (
-        let env = c.args.self.now in
-        let part = iflet_positions (S.iflet_view c.iflet-item.result) in
-        let parts = flat_map iflet_positions (map S.iflet_view c.args.iflets.now) in
-        let inside : AreAmong (with_terms env part) (with_terms env parts) = among_with env part parts (each_inside iflet_positions S.iflet_view c.args.iflets.now c.loop-iflet.iflet-index c.iflet-item.result c.loop-iflet-test.true c.iflet-item.is) in
-        notes_step (with_terms env parts) (with_terms env part) (with_terms env parts) c.args.work.now.errors.items c.loop-iflet.work.errors.items c.translate_iflet.new.work.errors.items (among_same (with_terms env parts)) inside c.loop-iflet.invariant.2 c.in_ok-one.ensures.places
-      ),
+          let env = c.args.self.now in
+          let part = iflet_positions (S.iflet_view c.iflet-item.result) in
+          let parts = flat_map iflet_positions (map S.iflet_view c.args.iflets.now) in
+          let inside : AreAmong (with_terms env part) (with_terms env parts) = among_with env part parts (each_inside iflet_positions S.iflet_view c.args.iflets.now c.loop-iflet.iflet-index c.iflet-item.result c.loop-iflet-test.true c.iflet-item.is) in
+          notes_step (with_terms env parts) (with_terms env part) (with_terms env parts) c.args.work.now.errors.items c.loop-iflet.work.errors.items c.translate_iflet.new.work.errors.items (among_same (with_terms env parts)) inside c.loop-iflet.invariant.2 c.in_ok-one.ensures.places
+          ),
     )
 
 pub returns-in_err-one-clause-places : goal.returns-in_err-one-clause-places

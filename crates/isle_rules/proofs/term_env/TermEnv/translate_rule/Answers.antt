@@ -57,7 +57,7 @@ returns-in_default-find_term-clause-places c =
     let tree = S.rule_view c.args.rule.now in
     let all = with_terms env (rule_positions tree) in
     let here : AreAmong (tree.at ∷ []) all = among_here env (tree.at ∷ []) (rule_positions tree) (rule_at tree) in
-    notes_among (tree.at ∷ []) all c.args.work.now.errors.items c.report-2.new.errors.items here c.in_ok-report-2.ensures.places
+    notes_among (tree.at ∷ []) all c.args.work.now.errors.items c.report-in_default-find_term.new.errors.items here c.in_ok-report-2.ensures.places
 
 pub returns-in_default-flags_of-clause-places : goal.returns-in_default-flags_of-clause-places
 returns-in_default-flags_of-clause-places c =
@@ -65,7 +65,7 @@ returns-in_default-flags_of-clause-places c =
     let tree = S.rule_view c.args.rule.now in
     let all = with_terms env (rule_positions tree) in
     let here : AreAmong (tree.at ∷ []) all = among_here env (tree.at ∷ []) (rule_positions tree) (rule_at tree) in
-    notes_among (tree.at ∷ []) all c.args.work.now.errors.items c.report-3.new.errors.items here c.in_ok-report-3.ensures.places
+    notes_among (tree.at ∷ []) all c.args.work.now.errors.items c.report-in_default-flags_of.new.errors.items here c.in_ok-report-3.ensures.places
 
 pub returns-in_err-made-clause-places : goal.returns-in_err-made-clause-places
 returns-in_err-made-clause-places c =

@@ -1,5 +1,5 @@
-use Rattle.std.proofs.Common.{refl, sym, [], ◌∷◌}
-use Rattle.isle_base.specs.SyntaxViews.{name_view, position, expr_views}
+use Rattle.std.proofs.Common.{Contains, refl, sym, [], ◌∷◌}
+use Rattle.isle_base.specs.SyntaxViews.{name_view, position, expr_view, expr_views}
 use Rattle.isle_model.specs.lists.Syntax.{term_expr}
 use Rattle.isle_terms.specs.TermViews.{flags_view, term_view}
 use Rattle.isle_rules.specs.ExprReadings.{expected}
@@ -8,7 +8,7 @@ use Rattle.isle_rules.proofs.Readings.{stop_is}
 use Rattle.isle_rules.proofs.ExprUsing.{list_length, call_unknown, call_converts, converted, conversion_stops, args_used, call_unmade}
 use Rattle.isle_base.proofs.Positioned.{notes_nothing}
 use Rattle.isle_model.proofs.Members.{in_head}
-use Rattle.isle_base.specs.Positions.{exprs_positions}
+use Rattle.isle_base.specs.Positions.{expr_positions, exprs_positions}
 use Rattle.isle_rules.proofs.Placed.{counted_stop}
 use Rattle.isle_rules.proofs.SubstitutedPlaces.{called_places}
 use Rattle.isle_rules.proofs.term_env.TermEnv.use_in_expr.Goals as goal
@@ -59,5 +59,6 @@ returns-in-Some-expr_converter-clause-places c =
 
 pub returns-in-Some-expr_converter-clause-among : goal.returns-in-Some-expr_converter-clause-among
 returns-in-Some-expr_converter-clause-among c =
-    rw (c.in_ok-inside.ensures, c.requires.whole)
-    (called_places c.args.tyenv.now (term_view c.in-Some-expr_converter.by.now) (position c.args.pos) (term_expr (name_view c.args.sym.now) (expr_views c.args.args.now) (position c.args.pos)) (in_head (position c.args.pos) ((name_view c.args.sym.now).at ∷ exprs_positions (expr_views c.args.args.now))))
+    let at = position c.args.pos in
+    let here : Contains (expr_positions (expr_view c.args.whole.now)) at = rw c.requires.whole (in_head at ((name_view c.args.sym.now).at ∷ exprs_positions (expr_views c.args.args.now))) in
+    rw c.in_ok-inside.ensures (called_places c.args.tyenv.now (term_view c.in-Some-expr_converter.by.now) at (expr_view c.args.whole.now) here)

@@ -1,4 +1,4 @@
-use Rattle.std.proofs.Common.{◌≡◌, Option, None, Some, map, option_map, refl, sym, ap, ◌∙◌, inl, [], ◌∷◌}
+use Rattle.std.proofs.Common.{Contains, ◌≡◌, Option, None, Some, map, option_map, refl, sym, ap, ◌∙◌, inl, [], ◌∷◌}
 use Rattle.isle_base.specs.SyntaxViews.{name_view, position, pattern_view, pattern_views}
 use Rattle.isle_model.specs.lists.Syntax.{PatternTree}
 use Rattle.isle_model.specs.lists.Expansions.{substituted}
@@ -7,6 +7,8 @@ use Rattle.isle_rules.specs.PatternUses.{name_at}
 use Rattle.isle_rules.specs.Translating.{standing}
 use Rattle.isle_rules.proofs.Readings.{stop_is}
 use Rattle.isle_rules.proofs.PatternUsing.{checks_both, list_is, list_length, unknown_use, converted_use, conversion_stops, parts_used, nothing_made, template_expands, template_made, template_stops}
+use Rattle.isle_model.proofs.Members.{in_head}
+use Rattle.isle_base.specs.Positions.{pattern_positions, patterns_positions}
 use Rattle.isle_base.proofs.Positioned.{among_same, notes_nothing, notes_both}
 use Rattle.isle_rules.proofs.Placed.{stop_step, counted_stop}
 use Rattle.isle_rules.proofs.SubstitutedPlaces.{converted_places, expanded_places}
@@ -102,8 +104,9 @@ returns-clause-places c =
 
 pub returns-in-Some-pattern_converter-clause-among : goal.returns-in-Some-pattern_converter-clause-among
 returns-in-Some-pattern_converter-clause-among c =
-    rw (c.in_ok-inside.ensures, c.requires.whole)
-    (converted_places c.args.self.now c.args.tyenv.now (name_view c.args.sym.now) (pattern_views c.args.args.now) (position c.args.pos) (term_view c.in-Some-pattern_converter.by.now))
+    let at = position c.args.pos in
+    let here : Contains (pattern_positions (pattern_view c.args.whole.now)) at = rw c.requires.whole (in_head at ((name_view c.args.sym.now).at ∷ patterns_positions (pattern_views c.args.args.now))) in
+    rw c.in_ok-inside.ensures (converted_places c.args.self.now c.args.tyenv.now (term_view c.in-Some-pattern_converter.by.now) at (pattern_view c.args.whole.now) here)
 
 pub returns-clause-among : goal.returns-clause-among
 returns-clause-among c =

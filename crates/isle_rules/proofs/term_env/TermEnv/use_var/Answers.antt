@@ -1,5 +1,5 @@
-use Rattle.std.proofs.Common.{refl, [], ◌∷◌}
-use Rattle.isle_base.specs.SyntaxViews.{name_view, position}
+use Rattle.std.proofs.Common.{Contains, refl, [], ◌∷◌}
+use Rattle.isle_base.specs.SyntaxViews.{name_view, position, expr_view}
 use Rattle.isle_model.specs.lists.Syntax.{var_expr}
 use Rattle.isle_terms.specs.TermViews.{term_view}
 use Rattle.isle_rules.specs.ExprReadings.{expected}
@@ -7,6 +7,7 @@ use Rattle.isle_typed.specs.RuleViews.{var_view}
 use Rattle.isle_rules.specs.Translating.{standing}
 use Rattle.isle_rules.proofs.Readings.{stop_is}
 use Rattle.isle_rules.proofs.ExprUsing.{var_unknown, var_converts, converted, conversion_stops, var_made, var_unmade}
+use Rattle.isle_base.specs.Positions.{expr_positions}
 use Rattle.isle_base.proofs.Positioned.{notes_nothing}
 use Rattle.isle_model.proofs.Members.{in_head}
 use Rattle.isle_rules.proofs.Placed.{counted_stop}
@@ -58,5 +59,6 @@ returns-in-Some-expr_converter-clause-places c =
 
 pub returns-in-Some-expr_converter-clause-among : goal.returns-in-Some-expr_converter-clause-among
 returns-in-Some-expr_converter-clause-among c =
-    rw (c.in_ok-inside.ensures, c.requires.whole)
-    (called_places c.args.tyenv.now (term_view c.in-Some-expr_converter.by.now) (position c.args.pos) (var_expr (name_view c.args.name.now) (position c.args.pos)) (in_head (position c.args.pos) ((name_view c.args.name.now).at ∷ [])))
+    let at = position c.args.pos in
+    let here : Contains (expr_positions (expr_view c.args.whole.now)) at = rw c.requires.whole (in_head at ((name_view c.args.name.now).at ∷ [])) in
+    rw c.in_ok-inside.ensures (called_places c.args.tyenv.now (term_view c.in-Some-expr_converter.by.now) at (expr_view c.args.whole.now) here)
