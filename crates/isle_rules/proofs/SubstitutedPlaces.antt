@@ -17,7 +17,7 @@ use Rattle.isle_rules.specs.declared.term_env.TermEnv.{TermEnv}
 use Rattle.isle_rules.specs.TermEnvs.{term_in_env}
 use Rattle.isle_rules.specs.PatternUses.{found_term, found_template, inside_term}
 use Rattle.isle_rules.specs.ExprUses.{inside_call}
-use Rattle.isle_rules.specs.RulePositions.{extractor_kind_positions, kind_positions, entry_positions, terms_positions, with_terms}
+use Rattle.isle_rules.specs.RulePositions.{taken_positions, kind_positions, entry_positions, terms_positions, with_terms}
 use Rattle.isle_rules.proofs.PatternSizes.{mapped_gives, with_gives}
 use Rattle.isle_rules.proofs.Placed.{among_joined, among_here}
 
@@ -75,7 +75,7 @@ part_places (pattern_and q ps) (suc i) p h =
     among_both (pattern_positions p) (patterns_positions ps) (pattern_positions q ++ patterns_positions ps) (part_places ps i p h) (among_right (pattern_positions q) (patterns_positions ps))
 
 -- a term's template has positions among those of the term
-of_extractor : (x : Option ExtractorEntry) (p : PatternTree) → entry_template x ≡ Some p → AreAmong (pattern_positions p) (extractor_kind_positions x)
+of_extractor : (x : Option ExtractorEntry) (p : PatternTree) → entry_template x ≡ Some p → AreAmong (pattern_positions p) (taken_positions x)
 of_extractor None p h = absurd (none-some p h)
 of_extractor (Some (internal_extractor template)) p h = subst (λ x. AreAmong (pattern_positions x) (pattern_positions template)) (same_Some template p h) (among_same (pattern_positions template))
 of_extractor (Some (external_extractor name infallible at)) p h = absurd (none-some p h)

@@ -13,7 +13,7 @@ use Rattle.isle_model.specs.lists.TermTable.{ExternalTree, decl_of, decl_trees, 
 use Rattle.isle_model.proofs.Members.{nothing_in, in_head, in_tail, in_alone, in_cases, in_map, from_map, from_flat_map}
 use Rattle.isle_base.specs.Positions.{AreAmong, pattern_positions, patterns_positions, name_positions, extractor_positions, definition_positions, positions_of}
 use Rattle.isle_base.proofs.Positioned.{among_same, among_both, among_left, among_right, among_rest, among_first, among_one, among_each}
-use Rattle.isle_rules.specs.RulePositions.{extractor_kind_positions, entry_positions, terms_positions, type_entry_positions, types_positions}
+use Rattle.isle_rules.specs.RulePositions.{taken_positions, entry_positions, terms_positions, type_entry_positions, types_positions}
 use Rattle.isle_rules.proofs.Placed.{among_joined}
 use Rattle.isle_rules.proofs.SubstitutedPlaces.{among_one_more, among_nothing}
 use Rattle.isle_rules.proofs.PartPlaces.{among_both_first}
@@ -110,28 +110,28 @@ of_external (rule_definition r) x c = absurd (nothing_in x c)
 of_external other_definition x c = absurd (nothing_in x c)
 
 module _ (defs : List Definition) where
-  of_template : (o : Option ExtractorTree) → ((e : ExtractorTree) → o ≡ Some e → Contains (extractor_trees defs) e) → AreAmong (extractor_kind_positions (option_map (λ e. internal_extractor (extractor_template e)) o)) (positions_of defs)
+  of_template : (o : Option ExtractorTree) → ((e : ExtractorTree) → o ≡ Some e → Contains (extractor_trees defs) e) → AreAmong (taken_positions (option_map (λ e. internal_extractor (extractor_template e)) o)) (positions_of defs)
   of_template None there = among_nothing (positions_of defs)
   of_template (Some e) there =
       among_both (pattern_positions (extractor_template e)) (pattern_positions e.template) (positions_of defs) (template_inside (map (λ n. n.text) e.args) e.template)
       (of_definitions extractor_of (λ x. pattern_positions x.template) of_internal defs e (there e refl))
 
   of_function : (names : List (List ℕ)) (o : Option ExternalTree) → ((e : ExternalTree) → o ≡ Some e → Contains (external_trees defs) e)
-      → AreAmong (extractor_kind_positions (option_map (λ e. external_extractor (number names e.function.text) e.infallible e.at) o)) (positions_of defs)
+      → AreAmong (taken_positions (option_map (λ e. external_extractor (number names e.function.text) e.infallible e.at) o)) (positions_of defs)
   of_function names None there = among_nothing (positions_of defs)
   of_function names (Some e) there = of_definitions external_extractor_of (λ x. x.at ∷ []) of_external defs e (there e refl)
 
-  of_extractor_kind : (names : List (List ℕ)) (x : List ℕ) → AreAmong (extractor_kind_positions (extractor_kind defs names x)) (positions_of defs)
+  of_extractor_kind : (names : List (List ℕ)) (x : List ℕ) → AreAmong (taken_positions (extractor_kind defs names x)) (positions_of defs)
   of_extractor_kind names x =
       let internal = option_map (λ e. internal_extractor (extractor_template e)) (find (λ e. bytes_eq e.term.text x) (extractor_trees defs)) in
       let external = option_map (λ e. external_extractor (number names e.function.text) e.infallible e.at) (find (λ e. bytes_eq e.term.text x) (external_trees defs)) in
-      let one : AreAmong (extractor_kind_positions internal) (positions_of defs) = of_template (find (λ e. bytes_eq e.term.text x) (extractor_trees defs)) (λ e h. found_there (λ e. bytes_eq e.term.text x) (extractor_trees defs) e h) in
-      let other : AreAmong (extractor_kind_positions external) (positions_of defs) = of_function names (find (λ e. bytes_eq e.term.text x) (external_trees defs)) (λ e h. found_there (λ e. bytes_eq e.term.text x) (external_trees defs) e h) in
-      elim (has_name (internal_extractors defs) x) as (λ b. AreAmong (extractor_kind_positions (cond b internal external)) (positions_of defs)) [ true ↦ one | false ↦ other ]
+      let one : AreAmong (taken_positions internal) (positions_of defs) = of_template (find (λ e. bytes_eq e.term.text x) (extractor_trees defs)) (λ e h. found_there (λ e. bytes_eq e.term.text x) (extractor_trees defs) e h) in
+      let other : AreAmong (taken_positions external) (positions_of defs) = of_function names (find (λ e. bytes_eq e.term.text x) (external_trees defs)) (λ e h. found_there (λ e. bytes_eq e.term.text x) (external_trees defs) e h) in
+      elim (has_name (internal_extractors defs) x) as (λ b. AreAmong (taken_positions (cond b internal external)) (positions_of defs)) [ true ↦ one | false ↦ other ]
 
   of_declared : (k : KnownTypes) (d : DeclTree) → Contains (decl_trees defs) d → (id : ℕ) → AreAmong (entry_positions (decl_as_term k defs (term_names_met k defs) d id)) (positions_of defs)
   of_declared k d c id =
-      let kind = extractor_kind_positions (extractor_kind defs (term_names_met k defs) d.term.text) in
+      let kind = taken_positions (extractor_kind defs (term_names_met k defs) d.term.text) in
       among_joined (d.at ∷ []) kind (positions_of defs) (of_definitions decl_of (λ x. x.at ∷ []) of_declaration defs d c) (of_extractor_kind (term_names_met k defs) d.term.text)
 
 -- a term that a type makes stands where the type or one of its variants does

@@ -19,17 +19,21 @@ use Rattle.isle_rules.specs.declared.typing.expr_uses.VarUse.TheVariants as V
 use Rattle.isle_rules.specs.declared.typing.expr_uses.CallUse.{CallUse}
 use Rattle.isle_rules.specs.declared.typing.expr_uses.CallUse.TheVariants as C
 
--- those of a term's template, or where its extractor was declared
-abbrev pub extractor_kind_positions : Option ExtractorEntry → List Position
-extractor_kind_positions None = []
-extractor_kind_positions (Some (internal_extractor template)) = pattern_positions template
-extractor_kind_positions (Some (external_extractor name infallible at)) = at ∷ []
+-- what takes a term apart: an internal extractor by its template, an external one by where it is defined
+abbrev pub taker_positions : ExtractorEntry → List Position
+taker_positions (internal_extractor template) = pattern_positions template
+taker_positions (external_extractor name infallible at) = at ∷ []
+
+abbrev pub taken_positions : Option ExtractorEntry → List Position
+taken_positions None = []
+taken_positions (Some x) = taker_positions x
 
 abbrev pub kind_positions : TermKindEntry → List Position
 kind_positions (variant_term variant) = []
 kind_positions struct_term = []
-kind_positions (declared_term flags constructor_kind extractor_kind) = extractor_kind_positions extractor_kind
+kind_positions (declared_term flags constructor_kind extractor_kind) = taken_positions extractor_kind
 
+-- where a term is declared, and what takes it apart
 abbrev pub entry_positions : TermEntry → List Position
 entry_positions t = t.at ∷ kind_positions t.kind
 
