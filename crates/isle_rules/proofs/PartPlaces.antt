@@ -16,7 +16,7 @@ use Rattle.isle_base.proofs.Positioned.{among_both, among_left, among_right, amo
 use Rattle.isle_typed.specs.declared.rules.Rule.{Rule}
 use Rattle.isle_typed.specs.RuleViews.{rule_views}
 use Rattle.isle_reports.specs.RuleNaming.{rules_at, terms_at}
-use Rattle.isle_rules.specs.RulePositions.{kind_positions, entry_positions, terms_positions}
+use Rattle.isle_terms.specs.TermPositions.{kind_positions, entry_positions, terms_positions}
 use Rattle.isle_rules.specs.Lets.{with_let}
 use Rattle.isle_rules.proofs.Placed.{among_joined}
 use Rattle.isle_rules.proofs.SubstitutedPlaces.{among_one_more, among_nothing}

@@ -13,7 +13,8 @@ use Rattle.isle_rules.specs.declared.typing.progress.Stop.TheVariants.{Memory, N
 use Rattle.isle_rules.specs.declared.typing.progress.Progress.{Progress}
 use Rattle.isle_rules.specs.Progress.{Counts}
 use Rattle.isle_rules.specs.RuleLists.{NotesStop}
-use Rattle.isle_rules.specs.RulePositions.{terms_positions, with_terms, KeepsPlaced, StaysPlaced}
+use Rattle.isle_rules.specs.RulePositions.{with_terms, KeepsPlaced, StaysPlaced}
+use Rattle.isle_terms.specs.TermPositions.{terms_positions}
 
 pub among_joined : (ps qs rs : List Position) → AreAmong ps rs → AreAmong qs rs → AreAmong (ps ++ qs) rs
 among_joined ps qs rs a b p c = elim (Contains-append_cases ps qs p c) [ inl l ↦ a p l | inr r ↦ b p r ]

@@ -12,7 +12,9 @@ use Rattle.isle_terms.specs.TermViews.{term_views}
 use Rattle.isle_terms.specs.Whole.{shown_by}
 use Rattle.isle_rules.specs.declared.term_env.TermEnv.{TermEnv}
 use Rattle.isle_rules.specs.ShownEnvs.{terms_shown_by}
-use Rattle.isle_rules.specs.RulePositions.{terms_positions, types_positions, with_terms}
+use Rattle.isle_rules.specs.RulePositions.{with_terms}
+use Rattle.isle_terms.specs.TermPositions.{terms_positions}
+use Rattle.isle_types.specs.TypePositions.{types_positions}
 use Rattle.isle_rules.proofs.Placed.{among_joined}
 use Rattle.isle_rules.proofs.TermPlaces.{terms_inside}
 

@@ -17,7 +17,8 @@ use Rattle.isle_rules.specs.declared.term_env.TermEnv.{TermEnv}
 use Rattle.isle_rules.specs.TermEnvs.{term_in_env}
 use Rattle.isle_rules.specs.PatternUses.{found_term, found_template, inside_term}
 use Rattle.isle_rules.specs.ExprUses.{inside_call}
-use Rattle.isle_rules.specs.RulePositions.{taken_positions, kind_positions, entry_positions, terms_positions, with_terms}
+use Rattle.isle_rules.specs.RulePositions.{with_terms}
+use Rattle.isle_terms.specs.TermPositions.{taken_positions, kind_positions, entry_positions, terms_positions}
 use Rattle.isle_rules.proofs.PatternSizes.{mapped_gives, with_gives}
 use Rattle.isle_rules.proofs.Placed.{among_joined, among_here}
 

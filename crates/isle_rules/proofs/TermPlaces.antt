@@ -13,7 +13,8 @@ use Rattle.isle_model.specs.lists.TermTable.{ExternalTree, decl_of, decl_trees, 
 use Rattle.isle_model.proofs.Members.{nothing_in, in_head, in_tail, in_alone, in_cases, in_map, from_map, from_flat_map}
 use Rattle.isle_base.specs.Positions.{AreAmong, pattern_positions, patterns_positions, name_positions, extractor_positions, definition_positions, positions_of}
 use Rattle.isle_base.proofs.Positioned.{among_same, among_both, among_left, among_right, among_rest, among_first, among_one, among_each}
-use Rattle.isle_rules.specs.RulePositions.{taken_positions, entry_positions, terms_positions, type_entry_positions, types_positions}
+use Rattle.isle_terms.specs.TermPositions.{taken_positions, entry_positions, terms_positions}
+use Rattle.isle_types.specs.TypePositions.{entry_positions as type_entry_positions, types_positions}
 use Rattle.isle_rules.proofs.Placed.{among_joined}
 use Rattle.isle_rules.proofs.SubstitutedPlaces.{among_one_more, among_nothing}
 use Rattle.isle_rules.proofs.PartPlaces.{among_both_first}

@@ -30,7 +30,8 @@ use Rattle.isle_terms.specs.declared.term_table.TermTable.{TermTable}
 use Rattle.isle_terms.specs.Externing.{made_by_this, taken_by_this, with_kind}
 use Rattle.isle_terms.specs.Reading.{internal_entry, internal_kind}
 use Rattle.isle_terms.specs.Signing.{PushesTerm}
-use Rattle.isle_terms.specs.TermPositions.{taken_positions, taker_template, template_place, type_entry_positions, types_positions, variants_positions, argument_places, argument_places_all, entry_positions, kind_positions, table_positions, taker_positions, terms_positions, IsPlacedAmong}
+use Rattle.isle_terms.specs.TermPositions.{taken_positions, taker_template, template_place, variants_positions, argument_places, argument_places_all, entry_positions, kind_positions, table_positions, taker_positions, terms_positions, IsPlacedAmong}
+use Rattle.isle_types.specs.TypePositions.{entry_positions as type_entry_positions, types_positions}
 use Rattle.isle_terms.specs.TermViews.{term_view, term_views}
 
 -- positions among others

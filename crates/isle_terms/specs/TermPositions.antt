@@ -3,7 +3,7 @@
 use Rattle.std.specs.Prelude.{List, [], ◌∷◌, ◌++◌, Option, Some, None, map}
 use Rattle.std.specs.List.{flat_map}
 use Rattle.isle_model.specs.lists.Syntax.{Position, PatternTree, PatternTrees, bind_pattern, term_pattern, and_pattern, macro_arg, no_pattern, pattern_and}
-use Rattle.isle_model.specs.lists.Tables.{VariantEntry, TypeEntry, builtin_type, primitive_type, enum_type, struct_type, ExtractorEntry, internal_extractor, external_extractor, TermKindEntry, variant_term, struct_term, declared_term, TermEntry}
+use Rattle.isle_model.specs.lists.Tables.{VariantEntry, ExtractorEntry, internal_extractor, external_extractor, TermKindEntry, variant_term, struct_term, declared_term, TermEntry}
 use Rattle.isle_base.specs.Patterns.{pattern_position}
 use Rattle.isle_base.specs.Positions.{pattern_positions, AreAmong}
 use Rattle.isle_terms.specs.declared.term.ExtractorKind.{ExtractorKind}
@@ -48,18 +48,9 @@ terms_positions es = flat_map entry_positions es
 abbrev pub table_positions : TermTable → List Position
 table_positions table = terms_positions (term_views table.terms.items)
 
+-- where variants are defined
 abbrev pub variants_positions : List VariantEntry → List Position
 variants_positions vs = map (λ v. v.at) vs
-
--- where a type is defined, and its variants; a built-in one is nowhere
-abbrev pub type_entry_positions : TypeEntry → List Position
-type_entry_positions (builtin_type place) = []
-type_entry_positions (primitive_type id name at) = at ∷ []
-type_entry_positions (enum_type name id is_extern is_nodebug variants at) = at ∷ variants_positions variants
-type_entry_positions (struct_type name id is_extern is_nodebug fields at) = at ∷ []
-
-abbrev pub types_positions : List TypeEntry → List Position
-types_positions ts = flat_map type_entry_positions ts
 
 -- each position that a table keeps is one of these
 pub record IsPlacedAmong (positions : List Position) (table : TermTable) : Type 0 where

@@ -10,7 +10,8 @@ ghost use Rattle.isle_base.specs.Noting.{NotesMore};
 ghost use Rattle.isle_terms.specs.Reading.{IsWithin};
 ghost use Rattle.isle_terms.specs.TermViews.{kind_view};
 ghost use Rattle.isle_terms.specs.Signing.{AddsMade, PushesTerm, made_entry};
-ghost use Rattle.isle_terms.specs.TermPositions.{table_positions, type_entry_positions, types_positions, variants_positions, IsPlacedAmong};
+ghost use Rattle.isle_terms.specs.TermPositions.{table_positions, variants_positions, IsPlacedAmong};
+ghost use Rattle.isle_types.specs.TypePositions.{entry_positions as type_entry_positions, types_positions};
 
 use crate::term::{Term, TermKind};
 use crate::term_table::TermTable;

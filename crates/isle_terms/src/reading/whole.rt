@@ -15,7 +15,8 @@ ghost use Rattle.isle_terms.specs.Stages.{HasNoConverter};
 ghost use Rattle.isle_terms.specs.Standing.{RootsRead};
 ghost use Rattle.isle_terms.specs.TermTables.{term_at};
 ghost use Rattle.isle_terms.specs.Whole.{shown_by};
-ghost use Rattle.isle_terms.specs.TermPositions.{table_positions, types_positions, IsPlacedAmong};
+ghost use Rattle.isle_terms.specs.TermPositions.{table_positions, IsPlacedAmong};
+ghost use Rattle.isle_types.specs.TypePositions.{types_positions};
 
 use crate::term_table::TermTable;
 use isle_base::stablemapset::StableMap;

@@ -1,10 +1,9 @@
-use Rattle.std.proofs.Common.{◌++◌, All, ◌∙◌}
+use Rattle.std.proofs.Common.{◌++◌, All, refl, ◌∙◌}
 use Rattle.isle_base.specs.SyntaxViews.{definition_views}
 use Rattle.isle_model.specs.claims.Refusals.{PassedInReading}
 use Rattle.isle_base.specs.Positions.{StandsAt, positions_of}
 use Rattle.isle_types.specs.EnvViews.{environment_view}
-use Rattle.isle_types.specs.TypeViews.{type_views}
-use Rattle.isle_rules.specs.RulePositions.{types_positions}
+use Rattle.isle_types.specs.TypePositions.{types_positions}
 use Rattle.isle_rules.specs.RulesRead.{rules_of}
 use Rattle.isle_rules.proofs.RulesRefused.{passed_on, limits_named, named_by_none, refused_by_rules, refused_by_terms}
 use Rattle.isle_rules.proofs.EnvironmentsAtEnd.{left_in_the_end, all_read, could_be_read, whatever, is_nothing, is_something, wrong_in_the_end, right_in_the_end, read_by_terms}
@@ -60,9 +59,9 @@ returns-in_err-table-clause-refused g c =
 pub returns-then-not-is_empty-clause-places : goal.returns-then-not-is_empty-clause-places
 returns-then-not-is_empty-clause-places g c =
     stand_in_the_end g.read (definition_views c.args.defs.now) c.in_ok-table.table (environment_view c.from_ast.new.tyenv) c.in_ok-table.ensures.answers.1 c.with_terms-env.result c.with_terms-env.ensures.terms
-    (type_views c.args.tyenv.now.types.items) c.requires.1.types c.in_ok-errors.errors.items c.in_ok-errors.ensures.places
+    g.read.known.types refl c.in_ok-errors.errors.items c.in_ok-errors.ensures.places
 
 pub returns-in_err-table-clause-places : goal.returns-in_err-table-clause-places
 returns-in_err-table-clause-places g c =
-    let all = positions_of (definition_views c.args.defs.now) ++ types_positions (type_views c.args.tyenv.now.types.items) in
+    let all = positions_of (definition_views c.args.defs.now) ++ types_positions g.read.known.types in
     passed_on (All (StandsAt all)) (All (StandsAt all)) (λ es h. h) c.from_residual.result c.in_err-table.field-0.0 c.from_residual.ensures c.in_err-table.ensures.places

@@ -13,7 +13,8 @@ use Rattle.isle_rules.proofs.Noted.{may_both, may_check}
 use Rattle.isle_rules.proofs.RulesAtEnd.{rules_end}
 use Rattle.isle_base.specs.Positions.{NotesAt, AreAmong, positions_of}
 use Rattle.isle_base.proofs.Positioned.{among_same, among_both, among_right}
-use Rattle.isle_rules.specs.RulePositions.{terms_positions, with_terms}
+use Rattle.isle_rules.specs.RulePositions.{with_terms}
+use Rattle.isle_terms.specs.TermPositions.{terms_positions}
 use Rattle.isle_rules.proofs.Placed.{among_here, notes_step}
 use Rattle.isle_rules.proofs.PartPlaces.{named_places, declared_inside}
 use Rattle.isle_rules.proofs.term_env.TermEnv.read_rules.Goals as goal

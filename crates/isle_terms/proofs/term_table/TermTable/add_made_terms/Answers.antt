@@ -2,7 +2,7 @@ use Rattle.std.proofs.Common.{◌≡◌, ◌≤◌, get_or, length, refl, subst,
 use Rattle.std.proofs.lemmas.List.{take_all}
 use Rattle.isle_base.proofs.Positioned.{notes_nothing}
 use Rattle.isle_types.specs.TypeViews.{type_views}
-use Rattle.isle_terms.specs.TermPositions.{types_positions}
+use Rattle.isle_types.specs.TypePositions.{types_positions}
 use Rattle.isle_terms.specs.Signing.{AddsMade}
 use Rattle.isle_terms.proofs.PlacesNoted.{placed_same, type_noted, type_placed}
 use Rattle.isle_terms.proofs.Making.{grows_nothing, next_made, numbers_of, entries_of}

@@ -4,7 +4,8 @@ use Rattle.isle_model.specs.lists.TermTable.{made_by, terms_made}
 use Rattle.isle_base.specs.Positions.{NotesAt}
 use Rattle.isle_types.specs.TypeViews.{type_views}
 use Rattle.isle_terms.specs.Reading.{IsWithin}
-use Rattle.isle_terms.specs.TermPositions.{table_positions, types_positions, IsPlacedAmong}
+use Rattle.isle_terms.specs.TermPositions.{table_positions, IsPlacedAmong}
+use Rattle.isle_types.specs.TypePositions.{types_positions}
 use Rattle.isle_terms.specs.Signing.{AddsMade}
 use Rattle.isle_terms.proofs.term_table.TermTable.add_made_terms.Given as goal
 

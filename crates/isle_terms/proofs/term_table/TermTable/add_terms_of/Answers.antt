@@ -3,7 +3,7 @@ use Rattle.isle_base.proofs.Positioned.{among_first, among_rest}
 use Rattle.isle_terms.proofs.PlacesNoted.{noted_among, placed_on, placed_same}
 use Rattle.std.proofs.Common.{refl}
 use Rattle.isle_types.specs.TypeViews.{type_view}
-use Rattle.isle_terms.specs.TermPositions.{type_entry_positions}
+use Rattle.isle_types.specs.TypePositions.{entry_positions as type_entry_positions}
 use Rattle.isle_terms.proofs.term_table.TermTable.add_terms_of.Goals as goal
 
 pub returns-in-Enum-clause-adds : goal.returns-in-Enum-clause-adds

@@ -7,7 +7,7 @@ use Rattle.isle_terms.specs.Converting.{ConvertersRead}
 use Rattle.isle_terms.specs.ExternStages.{ExternsRead}
 use Rattle.isle_terms.specs.Recursion.{ExtractorsRead}
 use Rattle.isle_base.proofs.Positioned.{all_stand, among_left}
-use Rattle.isle_terms.specs.TermPositions.{types_positions}
+use Rattle.isle_types.specs.TypePositions.{types_positions}
 use Rattle.isle_terms.proofs.PlacesNoted.{begun, converters_so_far, step_so_far}
 use Rattle.isle_terms.proofs.Whole.{first_converter, first_declared, first_extern, right_now, all_read, why_refused}
 use Rattle.isle_terms.proofs.term_table.TermTable.from_ast.Goals as goal
