@@ -1,7 +1,6 @@
 -- Errors that stand at the positions of a definition or at those that a table keeps, and the positions that a table keeps
 -- after a step.
-use Rattle.std.proofs.Common.{◌≡◌, ◌⊎◌, ℕ, zero, suc, ◌+◌, ◌<◌, Option, Some, None, Bor, OnOk, Result, Ok, Err, List, [], ◌∷◌, ◌++◌, Contains, length, get_or, map, slice_get, refl, sym, ap, subst, ◌∙◌, inl, inr, arith}
-use Rattle.std.specs.List.{flat_map}
+use Rattle.std.proofs.Common.{◌≡◌, ◌⊎◌, ℕ, zero, suc, ◌+◌, ◌<◌, Option, Some, None, Bor, OnOk, Result, Ok, Err, List, [], ◌∷◌, ◌++◌, Contains, length, get_or, map, slice_get, refl, sym, ap, subst, ◌∙◌, inl, inr}
 use Rattle.std.proofs.Math.ListN.{set}
 use Rattle.std.proofs.lemmas.List.{map-append}
 use Rattle.std.proofs.lemmas.Option.{same_Some}
@@ -356,7 +355,7 @@ converter_inner x = among_one x.inner_ty.at (converter_positions x) (in_tail x.a
 pub converter_outer : (x : ConverterTree) → AreAmong (x.outer_ty.at ∷ []) (converter_positions x)
 converter_outer x = among_one x.outer_ty.at (converter_positions x) (in_tail x.at x.outer_ty.at (x.term.at ∷ x.inner_ty.at ∷ x.outer_ty.at ∷ []) (in_tail x.term.at x.outer_ty.at (x.inner_ty.at ∷ x.outer_ty.at ∷ []) (in_tail x.inner_ty.at x.outer_ty.at (x.outer_ty.at ∷ []) (in_head x.outer_ty.at []))))
 
--- an error at the one place, in the form that a call with a result says it
+-- what a call notes at some positions, said of more
 pub noted_among : {R E : Type 0} (r : Result R E) (ps qs : List Position) (old new : List Error) → AreAmong ps qs → OnOk r (NotesAt ps old new) → OnOk r (NotesAt qs old new)
 noted_among r ps qs old new a h = on_ok_weaker r (notes_among ps qs old new a) h
 
@@ -414,10 +413,6 @@ template_there table i t within here q e =
 pub placed_still : {R E : Type 0} (r : Result R E) (old new : TermTable) (ps : List Position) → new.terms ≡ old.terms → OnOk r (IsPlacedAmong (ps ++ table_positions old) new)
 placed_still (Ok x) old new ps same = placed_same old new ps same
 placed_still (Err e) old new ps same = tt
-
-pub noted_still : {R E : Type 0} (r : Result R E) (ps : List Position) (old new : List Error) → new ≡ old → OnOk r (NotesAt ps old new)
-noted_still (Ok x) ps old new same = notes_nothing ps old new same
-noted_still (Err e) ps old new same = tt
 
 -- what was noted before a call that notes nothing
 pub noted_before : {R E : Type 0} (r : Result R E) (ps : List Position) (old new : List Error) → NotesAt ps old new → OnOk r (NotesAt ps old new)

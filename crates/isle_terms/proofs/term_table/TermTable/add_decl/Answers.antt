@@ -1,4 +1,4 @@
-use Rattle.std.proofs.Common.{[], None, length, map, refl, subst, sym}
+use Rattle.std.proofs.Common.{map, refl, subst}
 use Rattle.std.proofs.lemmas.Result.{on_ok_weaker}
 use Rattle.isle_base.specs.Positions.{NotesAt, declaration_positions, name_positions}
 use Rattle.isle_base.specs.SyntaxViews.{decl_view, name_view}
