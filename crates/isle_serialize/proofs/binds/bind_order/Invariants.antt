@@ -5,4 +5,4 @@ use Rattle.isle_sets.specs.SiteViews.{set_view}
 use Rattle.isle_serialize.proofs.binds.bind_order.Given as goal
 
 abbrev pub invariant-loop-site : goal.invariant-loop-site
-invariant-loop-site l = l.bound.items ≡ filter (λ s. not (is_in_place (slice_get (set_view l.set).sites s))) (take l.site-index l.listed.items)
+invariant-loop-site l = l.bound.items ≡ filter (λ s. not (is_in_place (slice_get (set_view l.set).sites s))) (take l.site-index l.site-items)

@@ -1,4 +1,4 @@
-use Rattle.std.proofs.Common.{◌≡◌, ◌<◌, ◌∙◌, ◌==◌, true, false, sym, ap, subst, inl, inr, rules, arith, Contains}
+use Rattle.std.proofs.Common.{◌≡◌, ◌<◌, ◌∙◌, true, false, sym, ap, subst, inl, inr, rules, arith, Contains}
 use Rattle.std.specs.List.{list_all}
 use Rattle.std.proofs.lemmas.Bool.{or_cases}
 use Rattle.std.proofs.lemmas.List.{take_all}
@@ -65,4 +65,7 @@ note-requires t c =
     let sites = (set_view c.args.set.now).sites in
     let ar = around_view c.args.around.now in
     let all = sym (ap (list_all (available sites ar)) (take_all c.loop-source.source-index c.sources_of-source-items.result.now c.loop-source-test.false ∙ c.sources_of-source-items.ensures)) ∙ c.loop-source.invariant.come in
-    (made_at_hand sites c.requires.sources ar.brought c.args.site (sym c.waits_at.ensures ∙ c.if-waits_at.false) all, c.loop-source.invariant.found)
+    record {
+      at_hand = made_at_hand sites c.requires.sources ar.brought c.args.site (sym c.waits_at.ensures ∙ c.if-waits_at.false) all;
+      found = c.loop-source.invariant.found;
+    }
