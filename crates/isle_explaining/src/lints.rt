@@ -1,7 +1,7 @@
 //! What is likely not meant, in definitions that are accepted.
 
 use crate::diagnosis::{add_help, add_rule};
-use cranelift_isle::lower::{Lowered, LoweredTerm};
+use cranelift_isle::lower::Lowered;
 use isle_base::syntax::{Def, Pos};
 use isle_reading::premises::is_multi;
 use isle_reading::walk::{Visit, steps};
@@ -17,7 +17,7 @@ pub fn warnings(alloc: Global, defs: &[Def], lowered: &Lowered) -> Result<Vec<Re
     let mut reports = Vec::new(alloc);
     for term in &lowered.terms {
         if !is_multi(&lowered.termenv, term.id) {
-            add_dead(alloc, &mut reports, defs, term)?;
+            add_dead(alloc, &mut reports, defs, &steps(alloc, &term.block)?)?;
             add_idle_priorities(alloc, &mut reports, defs, &term.rules.rules)?;
         }
     }
@@ -41,17 +41,16 @@ fn begun(alloc: Global, kind: &'static str, message: String) -> Report {
     }
 }
 
-// Adds a warning for each rule of a term that never runs. A return ends its block: what stands after it in the block, and
-// inside these steps, is told by the tests around it.
+// Adds a warning for each rule of a term that never runs, where these are the steps of its tree. A return ends its block: what
+// stands after it in the block, and inside these steps, is told by the tests around it.
 fn add_dead(
     alloc: Global,
     reports: &mut Vec<Report>,
     defs: &[Def],
-    term: &LoweredTerm,
+    visits: &[Visit<'_>],
 ) -> Result<(), AllocError> {
-    let visits = steps(alloc, &term.block)?;
     let mut ended: Option<(&Visit<'_>, Pos)> = None;
-    for visit in &visits {
+    for visit in visits {
         let pos = return_of(visit);
         match ended {
             Some((before, first)) if visit.path.starts_with(&before.path) => {
