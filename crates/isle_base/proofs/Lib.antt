@@ -4,4 +4,5 @@ mod Files
 mod Copies
 mod Pairs
 pub mod Noted
+pub mod Positioned
 pub mod Beginnings

@@ -6,3 +6,4 @@ pub mod Places
 pub mod Stable
 pub mod ErrorViews
 pub mod Noting
+pub mod Positions

@@ -1,11 +1,15 @@
 //! What the command answers to texts.
 
-use crate::words::{Request, Task};
+use crate::comparison::difference;
+use crate::graphs::graph_of;
+use crate::words::{Format, Request, Task};
 use cranelift_isle::lower::{Lowered, LoweredTerm, lower};
 use isle_base::syntax::{Def, Fault, Files};
 use isle_explaining::diagnosis::reports_of;
 use isle_explaining::explanation::{explanation, with_rules};
+use isle_explaining::lints::warnings;
 use isle_explaining::stats::stats;
+use isle_json::documents::{document_of_reports, document_of_terms, document_of_warnings};
 use isle_printing::print::{Names, print_term};
 use isle_rendering::layout::push_reports;
 use isle_rendering::report::{Label, Level, Report};
@@ -38,7 +42,9 @@ pub fn answer_to(alloc: Global, asked: &Request<'_>, files: &Files) -> Result<An
     let mut defs = Vec::new(alloc);
     let mut reports = Vec::new(alloc);
     for (number, text) in files.texts.iter().enumerate() {
-        read_text(alloc, number, text, &mut defs, &mut reports)?;
+        if !asked.has_trees(number) {
+            read_text(alloc, number, text, &mut defs, &mut reports)?;
+        }
     }
     if !reports.is_empty() {
         return refusal(alloc, asked, files, &reports);
@@ -96,8 +102,16 @@ fn refusal(
     files: &Files,
     reports: &[Report],
 ) -> Result<Answer, AllocError> {
+    if asked.format == Format::Json {
+        let parts = asked.task == Task::Lower;
+        return Ok(Answer {
+            status: 1,
+            out: document_of_reports(alloc, files, reports, parts)?,
+            err: String::new(alloc),
+        });
+    }
     let mut err = String::new(alloc);
-    push_reports(&mut err, files, reports, asked.layout)?;
+    push_reports(&mut err, files, reports, asked.format.layout())?;
     Ok(Answer {
         status: 1,
         out: String::new(alloc),
@@ -113,7 +127,7 @@ fn answer_to_defs(
     defs: &[Def],
 ) -> Result<Answer, AllocError> {
     match lower(alloc, defs, asked.expand) {
-        Ok(lowered) => answer_to_lowered(alloc, asked, files, &lowered),
+        Ok(lowered) => answer_to_lowered(alloc, asked, files, defs, &lowered),
         Err(Fault::Errors(errors)) => {
             let reports = reports_of(alloc, defs, asked.expand, &errors)?;
             refusal(alloc, asked, files, &reports)
@@ -127,12 +141,15 @@ fn answer_to_lowered(
     alloc: Global,
     asked: &Request<'_>,
     files: &Files,
+    defs: &[Def],
     lowered: &Lowered,
 ) -> Result<Answer, AllocError> {
     match asked.task {
         Task::Lower => trees(alloc, asked, files, lowered),
-        Task::Check | Task::Samples => Ok(accepted(alloc, String::new(alloc))),
+        Task::Check => warned(alloc, asked, files, &warnings(alloc, defs, lowered)?),
+        Task::Samples => Ok(accepted(alloc, String::new(alloc))),
         Task::Stats => Ok(accepted(alloc, stats(alloc, lowered)?)),
+        Task::Compare => compared(alloc, asked, files, lowered),
         Task::Explain => {
             let text = explanation(alloc, files, lowered, asked.rule)?;
             if text.is_empty() {
@@ -152,12 +169,72 @@ fn accepted(alloc: Global, out: String) -> Answer {
     }
 }
 
+// The answer to `check` where nothing is wrong: what is likely not meant. Its status is 1 where that is asked for.
+fn warned(
+    alloc: Global,
+    asked: &Request<'_>,
+    files: &Files,
+    warnings: &[Report],
+) -> Result<Answer, AllocError> {
+    let status = if asked.deny && !warnings.is_empty() {
+        1
+    } else {
+        0
+    };
+    let mut out = String::new(alloc);
+    let mut err = String::new(alloc);
+    if asked.format == Format::Json {
+        out = document_of_warnings(alloc, files, warnings)?;
+    } else {
+        push_reports(&mut err, files, warnings, asked.format.layout())?;
+    }
+    Ok(Answer { status, out, err })
+}
+
 // The answer where there is nothing of a name.
 fn missing(alloc: Global, what: &str, name: &str) -> Result<Answer, AllocError> {
     Ok(Answer {
         status: 1,
         out: String::new(alloc),
         err: format!(in alloc; "error: there is no {what} `{name}`\n")?,
+    })
+}
+
+// The terms that are asked for.
+fn wanted<'a>(
+    alloc: Global,
+    asked: &Request<'_>,
+    lowered: &'a Lowered,
+) -> Result<Vec<&'a LoweredTerm>, AllocError> {
+    let mut wanted = Vec::new(alloc);
+    for term in &lowered.terms {
+        if is_wanted(asked.terms, term_name(lowered, term)) {
+            wanted.push(term)?;
+        }
+    }
+    Ok(wanted)
+}
+
+// Where the trees of the last file depart from those of the terms that are asked for.
+fn compared(
+    alloc: Global,
+    asked: &Request<'_>,
+    files: &Files,
+    lowered: &Lowered,
+) -> Result<Answer, AllocError> {
+    if let Some(name) = missing_term(asked.terms, lowered) {
+        return missing(alloc, "term with rules", name);
+    }
+    let trees = printed(alloc, files, lowered, &wanted(alloc, asked, lowered)?)?;
+    let (Some(name), Some(text)) = (files.names.last(), files.texts.last()) else {
+        return Ok(accepted(alloc, String::new(alloc)));
+    };
+    let err = difference(alloc, name, text, &trees)?;
+    let status = if err.is_empty() { 0 } else { 1 };
+    Ok(Answer {
+        status,
+        out: String::new(alloc),
+        err,
     })
 }
 
@@ -171,13 +248,41 @@ fn trees(
     if let Some(name) = missing_term(asked.terms, lowered) {
         return missing(alloc, "term with rules", name);
     }
-    let mut out = String::new(alloc);
-    for term in &lowered.terms {
-        if is_wanted(asked.terms, term_name(lowered, term)) {
-            out.push_str(&tree(alloc, files, lowered, term)?)?;
-        }
-    }
+    let wanted = wanted(alloc, asked, lowered)?;
+    let out = match asked.format {
+        Format::Json => document_of_terms(alloc, files, lowered, &wanted)?,
+        Format::Dot => graphs(alloc, files, lowered, &wanted)?,
+        Format::Text | Format::Line => printed(alloc, files, lowered, &wanted)?,
+    };
     Ok(accepted(alloc, out))
+}
+
+// The trees of terms as graphs, one after another.
+fn graphs(
+    alloc: Global,
+    files: &Files,
+    lowered: &Lowered,
+    terms: &[&LoweredTerm],
+) -> Result<String, AllocError> {
+    let mut out = String::new(alloc);
+    for term in terms {
+        out.push_str(&graph_of(alloc, files, lowered, term)?)?;
+    }
+    Ok(out)
+}
+
+// The trees of terms in words, one after another.
+fn printed(
+    alloc: Global,
+    files: &Files,
+    lowered: &Lowered,
+    terms: &[&LoweredTerm],
+) -> Result<String, AllocError> {
+    let mut out = String::new(alloc);
+    for term in terms {
+        out.push_str(&tree(alloc, files, lowered, term)?)?;
+    }
+    Ok(out)
 }
 
 // The tree of a term, with the rules that its returns take.

@@ -2,6 +2,8 @@
 #![tactic(auto)]
 
 pub mod answers;
+mod comparison;
+mod graphs;
 mod inputs;
 pub mod run;
 pub mod words;

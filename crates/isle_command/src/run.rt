@@ -10,7 +10,7 @@ use std::io::{Read, Write};
 
 // What the program says of words that ask for nothing.
 const USAGE: &str =
-    "usage: isle lower|check|explain RULE|stats|samples [OPTIONS] FILE.. (isle --help says more)\n";
+    "usage: isle lower|check|explain RULE|stats|compare|samples [OPTIONS] FILE.. (isle --help says more)\n";
 
 // The names of the samples.
 const SAMPLES: &str =
@@ -19,7 +19,8 @@ const SAMPLES: &str =
 /// Runs the command: `words` are its arguments without its own name, `input` is standard input, and the answer is its
 /// status.
 ///
-/// 0: what is asked is on `out`. 1: what is wrong with the files is on `err`, or what there isn't. 2: the words ask for
+/// 0: what is asked is on `out`. 1: what is wrong with the files is on `err`, or on `out` as JSON; or `err` says what there
+/// isn't. 2: the words ask for
 /// nothing, and `err` says how the command is used. 3: memory was refused. 4: a file can't be read, or `out` can't be
 /// written. A failure of `err` changes no status.
 pub fn run<R: std::rt::Files + AllocGlobal, I: Read + Drop, O: Write, E: Write>(
@@ -60,10 +61,20 @@ fn write_answer<O: Write, E: Write>(
     err: &mut E,
 ) -> u8 {
     match answer {
-        Ok(answer) if answer.status == 0 => write_text(&answer.out, out, err),
-        Ok(answer) => end(err, &answer.err, answer.status),
+        Ok(answer) => write_both(&answer, out, err),
         Err(AllocError) => no_memory(err),
     }
+}
+
+// Writes both texts of an answer, and answers its status, or 4 where `out` can't be written.
+fn write_both<O: Write, E: Write>(answer: &Answer, out: &mut O, err: &mut E) -> u8 {
+    if !answer.out.is_empty() {
+        let status = write_text(&answer.out, out, err);
+        if status != 0 {
+            return status;
+        }
+    }
+    end(err, &answer.err, answer.status)
 }
 
 // Says why files can't be read, and answers the status for it.

@@ -14,8 +14,42 @@ pub enum Task {
     Explain,
     /// How large terms are.
     Stats,
+    /// Where the printed trees of the last file depart from those of the others.
+    Compare,
     /// The names of the samples, or the trees of one.
     Samples,
+}
+
+/// The form of an answer.
+#[derive(Clone, Copy, PartialEq, Eq)]
+pub enum Format {
+    /// For a person: of an error the lines that it speaks of.
+    Text,
+    /// The same, but each error in one line.
+    Line,
+    /// One JSON object, errors too: docs/JSON.md.
+    Json,
+    /// Trees as graphs in Graphviz's notation.
+    Dot,
+}
+
+impl Format {
+    /// How reports are laid out where they are told to a person.
+    pub fn layout(self) -> Layout {
+        match self {
+            Format::Line => Layout::Line,
+            Format::Text | Format::Json | Format::Dot => Layout::Text,
+        }
+    }
+
+    // Whether a task has answers of this form.
+    fn is_of(self, task: Task) -> bool {
+        match self {
+            Format::Text | Format::Line => true,
+            Format::Json => task == Task::Lower || task == Task::Check,
+            Format::Dot => task == Task::Lower,
+        }
+    }
 }
 
 /// What the command is asked.
@@ -24,15 +58,17 @@ pub struct Request<'a> {
     pub task: Task,
     /// Whether uses of internal extractors are replaced by their templates.
     pub expand: bool,
-    /// How reports are laid out.
-    pub layout: Layout,
+    /// Whether warnings count as errors.
+    pub deny: bool,
+    /// The form of the answer.
+    pub format: Format,
     /// The names of the terms whose trees are wanted, with commas between them; all where there are none.
     pub terms: Option<&'a str>,
     /// Where files are looked for whose names don't begin with `/`; the empty text for where the command runs.
     pub folder: &'a str,
     /// The rule that is to be explained, by its name, its line, or its file, a colon and its line.
     pub rule: &'a str,
-    /// The files, where `-` is standard input, or the sample.
+    /// The files, where `-` is standard input, or the sample. The last one has printed trees where they are compared.
     pub files: Vec<&'a str>,
 }
 
@@ -41,7 +77,8 @@ impl<'a> Drop for Request<'a> {
         let Request {
             task: _,
             expand: _,
-            layout: _,
+            deny: _,
+            format: _,
             terms: _,
             folder: _,
             rule: _,
@@ -63,13 +100,14 @@ enum Awaited {
 }
 
 /// What these words ask, or None where they ask for nothing. They are the name of a task; for `explain` the rule; then
-/// files, or for `samples` at most one sample. Everywhere behind the task there may be `--no-expand`, `--terms NAMES`,
-/// `--format text`, `--format line` and `-C FOLDER`.
+/// files, the last of `compare` with trees, or for `samples` at most one sample. Everywhere behind the task there may be `--no-expand`, `--terms NAMES`,
+/// `--format text`, `--format line` and `-C FOLDER`; `--deny` for `check`, `--format json` for `lower` and `check`, `--format dot` for `lower`.
 pub fn asked_by<'a>(alloc: Global, words: &'a [String]) -> Result<Option<Request<'a>>, AllocError> {
     let mut asked = Request {
         task: Task::Lower,
         expand: true,
-        layout: Layout::Text,
+        deny: false,
+        format: Format::Text,
         terms: None,
         folder: "",
         rule: "",
@@ -82,7 +120,7 @@ pub fn asked_by<'a>(alloc: Global, words: &'a [String]) -> Result<Option<Request
             None => return Ok(None),
         }
     }
-    if awaited == Awaited::Any && asked.has_files() {
+    if awaited == Awaited::Any && asked.has_files() && asked.format.is_of(asked.task) {
         Ok(Some(asked))
     } else {
         Ok(None)
@@ -94,8 +132,14 @@ impl<'a> Request<'a> {
     fn has_files(&self) -> bool {
         match self.task {
             Task::Samples => self.files.len() <= 1,
+            Task::Compare => self.files.len() >= 2,
             Task::Lower | Task::Check | Task::Explain | Task::Stats => !self.files.is_empty(),
         }
+    }
+
+    /// Whether the file of a number has printed trees, and no definitions.
+    pub fn has_trees(&self, number: usize) -> bool {
+        self.task == Task::Compare && number.saturating_add(1) == self.files.len()
     }
 
     // Reads a word. What is awaited then, or None where the word says nothing.
@@ -126,6 +170,7 @@ impl<'a> Request<'a> {
             "check" => (Task::Check, Awaited::Any),
             "explain" => (Task::Explain, Awaited::Rule),
             "stats" => (Task::Stats, Awaited::Any),
+            "compare" => (Task::Compare, Awaited::Any),
             "samples" => (Task::Samples, Awaited::Any),
             _ => return None,
         };
@@ -133,11 +178,13 @@ impl<'a> Request<'a> {
         Some(next)
     }
 
-    // Reads the name of a layout.
+    // Reads the name of a form.
     fn read_format(&mut self, word: &str) -> Option<Awaited> {
-        self.layout = match word {
-            "text" => Layout::Text,
-            "line" => Layout::Line,
+        self.format = match word {
+            "text" => Format::Text,
+            "line" => Format::Line,
+            "json" => Format::Json,
+            "dot" => Format::Dot,
             _ => return None,
         };
         Some(Awaited::Any)
@@ -149,6 +196,14 @@ impl<'a> Request<'a> {
             "--no-expand" => {
                 self.expand = false;
                 Ok(Some(Awaited::Any))
+            }
+            "--deny" => {
+                self.deny = true;
+                Ok(if self.task == Task::Check {
+                    Some(Awaited::Any)
+                } else {
+                    None
+                })
             }
             "--terms" => Ok(Some(Awaited::Terms)),
             "--format" => Ok(Some(Awaited::Format)),

@@ -244,7 +244,7 @@ fn classes_copied<T: Copy + Debug + Eq + Hash>(
     ensures same { IfOk result (λ copy. (q : T) → get T.eq copy q ≡ get T.eq classes.now q) }
     ensures len { IfOk result (λ copy. hash_map_len copy ≡ hash_map_len classes.now) }
 {
-    let mut copy = HashMap::new(alloc);
+    let mut copy = HashMap::with_capacity(alloc, classes.len())?;
     copy.extend(classes.iter())?;
     Ok(copy)
 }

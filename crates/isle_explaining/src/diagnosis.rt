@@ -109,12 +109,23 @@ fn overlap(
         add_rule(alloc, &mut report, defs, span.from, before, "")?;
     }
     add_values(alloc, &mut report, sets, rules)?;
-    add_help(
-        alloc,
-        &mut report,
-        "give the rule that is to come first a greater priority, as (rule 1 ..), or one of them a narrower pattern",
+    let above = priority_above(defs, rules);
+    let help = format!(in alloc;
+        "give the rule that is to come first a greater priority, as (rule {above} ..), or one of them a narrower pattern"
     )?;
+    add_note(&mut report, "help", help)?;
     Ok(report)
+}
+
+// A priority above that of rules of one priority, where there is one.
+fn priority_above(defs: &[Def], rules: &[Span]) -> i64 {
+    let Some(first) = rules.first() else {
+        return 1;
+    };
+    match rule_at(defs, first.from) {
+        Some(rule) => priority_of(rule).saturating_add(1),
+        None => 1,
+    }
 }
 
 // A report of rules that another one shadows.
@@ -145,7 +156,7 @@ fn shadow(
 }
 
 // Adds the place of a rule, with its name and priority between two texts.
-fn add_rule(
+pub(crate) fn add_rule(
     alloc: Global,
     report: &mut Report,
     defs: &[Def],
@@ -176,7 +187,7 @@ fn push_rule(text: &mut String, defs: &[Def], pos: Pos) -> Result<(), AllocError
 }
 
 // Adds a line that helps.
-fn add_help(alloc: Global, report: &mut Report, text: &str) -> Result<(), AllocError> {
+pub(crate) fn add_help(alloc: Global, report: &mut Report, text: &str) -> Result<(), AllocError> {
     add_note(report, "help", String::from_str(alloc, text)?)
 }
 

@@ -1,3 +1,4 @@
+pub mod Apart
 pub mod Gone
 pub mod Rows
 pub mod Ascents

@@ -1,5 +1,5 @@
 //! The check of overlaps: rules of one priority that may both match, and rules that others mask.
-ghost use Rattle.std.specs.Prelude.{◌^◌, List, false, if◌then◌else◌, slice_index_or, ◌≡◌, ◌++◌, ◌∷◌, [], ◌+◌, ◌-◌, ◌<◌, ℕ, All, IfOk, OnOk, drop, length, map, vec_len};
+ghost use Rattle.std.specs.Prelude.{◌^◌, List, true, false, Some, slice_get, if◌then◌else◌, slice_index_or, ◌≡◌, ◌++◌, ◌∷◌, [], ◌+◌, ◌-◌, ◌<◌, ℕ, All, IfOk, OnOk, drop, length, map, nat_lt, cond, vec_len};
 ghost use Rattle.isle_model.specs.claims.Refusals.{overlapping, refusal_of};
 ghost use Rattle.isle_model.specs.sites.Overlap.{RuleReport, ShadowReport, ascending_positions, by_position, degree, has_end, other_end, overlap_reports, rule_shadows, rules_overlap};
 ghost use Rattle.isle_model.specs.sites.SetRules.{is_mask_of, overlap_wrongly, shadows_among, wrong_among};
@@ -9,10 +9,12 @@ ghost use Rattle.isle_sets.specs.SiteViews.{set_rule_view, set_rule_views};
 ghost use Rattle.isle_overlap.specs.Comparisons.{AreGrouped, list_views, masked_behind, masked_pair, masked_rows, masked_views, pair_views, positions, shadow_of, shadows_of, wrong_behind, wrong_pair, wrong_rows};
 ghost use Rattle.isle_overlap.specs.ErrorViews.{error_pos};
 ghost use Rattle.isle_overlap.specs.Found.{found_shadows, found_wrong};
+ghost use Rattle.isle_overlap.specs.Keys.{AreApart, AreKeys, key_views};
 ghost use Rattle.isle_overlap.specs.Graphs.{count_at, count_left, counts_before, ends_of, listed_at, neighbours, same_pos, times, unreported};
 
+use crate::keys::{are_apart, keys_of};
 use isle_base::syntax::{Error, Pos, Span};
-use isle_sets::trie_again::{Overlap, Rule};
+use isle_sets::trie_again::{Constraint, Overlap, Rule};
 use std::alloc::{AllocError, Global};
 use std::collections::BTreeMap;
 
@@ -58,7 +60,8 @@ impl Errors {
             ≡ found_shadows self.old ++ map refusal_of (map rule_shadows (shadows_among (set_rule_views rules.now)))) }
     {
         let mut masked = Vec::new(alloc);
-        check_pairs(rules, &mut self.wrong, &mut masked)?;
+        let keys = keys_of(alloc, rules)?;
+        check_pairs(rules, &keys, &mut self.wrong, &mut masked)?;
         let lists = masked_by_each(alloc, rules.len(), &masked)?;
         add_shadows(alloc, rules, &lists, &mut self.shadows)?;
         Ok(())
@@ -137,15 +140,42 @@ fn add_masked(
     Ok(())
 }
 
+// Adds what is found of two rules, and nothing where it is known that they are apart.
+#[tactic(auto, using(crate::proofs::Apart::apart_wrong, crate::proofs::Apart::apart_masked))]
+fn compare(
+    i: usize,
+    left: &Rule,
+    j: usize,
+    right: &Rule,
+    apart: bool,
+    wrong: &mut Vec<(Pos, Pos)>,
+    masked: &mut Vec<(usize, Pos)>,
+) -> Result<(), AllocError>
+    requires { apart ≡ true → AreApart (set_rule_view left.now) (set_rule_view right.now) }
+    ensures wrong { OnOk result (pair_views wrong.new.items ≡ pair_views wrong.old.items ++ wrong_pair (set_rule_view left.now) (set_rule_view right.now)) }
+    ensures masked { OnOk result (masked_views masked.new.items
+        ≡ masked_views masked.old.items ++ masked_pair i (set_rule_view left.now) j (set_rule_view right.now)) }
+{
+    if apart {
+        return Ok(());
+    }
+    add_wrong(left, right, wrong)?;
+    add_masked(i, left, j, right, masked)?;
+    Ok(())
+}
+
 // Adds what is found of a rule, the one of this number, and those behind it.
 fn check_behind(
     i: usize,
     left: &Rule,
     rules: &[Rule],
+    keys: &[Option<Constraint>],
     wrong: &mut Vec<(Pos, Pos)>,
     masked: &mut Vec<(usize, Pos)>,
 ) -> Result<(), AllocError>
-    requires { i < length rules.now }
+    requires within { i < length rules.now }
+    requires left { slice_get (set_rule_views rules.now) i ≡ Some (set_rule_view left.now) }
+    requires keys { AreKeys (set_rule_views rules.now) (key_views keys.now) }
     ensures wrong { OnOk result (pair_views wrong.new.items
         ≡ pair_views wrong.old.items ++ wrong_behind (set_rule_view left.now) (set_rule_views (drop (i + 1) rules.now))) }
     ensures masked { OnOk result (masked_views masked.new.items
@@ -153,8 +183,8 @@ fn check_behind(
 {
     for j in i + 1..rules.len() {
         let right = &rules[j];
-        add_wrong(left, right, wrong)?;
-        add_masked(i, left, j, right, masked)?;
+        let apart = are_apart(keys[i], keys[j]);
+        compare(i, left, j, right, apart, wrong, masked)?;
     }
     Ok(())
 }
@@ -162,14 +192,16 @@ fn check_behind(
 // Adds what is found of each two rules.
 fn check_pairs(
     rules: &[Rule],
+    keys: &[Option<Constraint>],
     wrong: &mut Vec<(Pos, Pos)>,
     masked: &mut Vec<(usize, Pos)>,
 ) -> Result<(), AllocError>
+    requires { AreKeys (set_rule_views rules.now) (key_views keys.now) }
     ensures wrong { OnOk result (pair_views wrong.new.items ≡ pair_views wrong.old.items ++ wrong_rows (set_rule_views rules.now)) }
     ensures masked { OnOk result (masked_views masked.new.items ≡ masked_views masked.old.items ++ masked_rows 0 (set_rule_views rules.now)) }
 {
     for i in 0..rules.len() {
-        check_behind(i, &rules[i], rules, wrong, masked)?;
+        check_behind(i, &rules[i], rules, keys, wrong, masked)?;
     }
     Ok(())
 }
@@ -388,6 +420,20 @@ fn listed(others: &BTreeMap<Pos, Vec<Pos>>, place: Pos) -> &[Pos]
     }
 }
 
+// Adds a rule where it has overlaps that aren't reported.
+fn add_left(
+    counts: &BTreeMap<Pos, usize>,
+    place: Pos,
+    left: &mut Vec<Pos>,
+) -> Result<(), AllocError>
+    ensures { OnOk result (left.new.items ≡ left.old.items ++ cond (nat_lt 0 (count_at counts.now place)) (place ∷ []) []) }
+{
+    if count(counts, place) > 0 {
+        left.push(place)?;
+    }
+    Ok(())
+}
+
 // The rules that a rule overlaps and that aren't reported, once for each overlap.
 fn unreported(
     alloc: Global,
@@ -397,11 +443,11 @@ fn unreported(
 ) -> Result<Vec<Pos>, AllocError>
     ensures { IfOk result (λ v. v.items ≡ unreported others.now counts.now place) }
 {
-    listed(others, place)
-        .iter()
-        .copied()
-        .filter(|other| count(counts, *other) > 0)
-        .collect(alloc)
+    let mut found = Vec::new(alloc);
+    for other in listed(others, place) {
+        add_left(counts, *other, &mut found)?;
+    }
+    Ok(found)
 }
 
 // Takes an overlap from those of a rule.

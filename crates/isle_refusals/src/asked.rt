@@ -151,7 +151,8 @@ pub fn sites_answer(asked: &Asked) -> bool {
     let site = BindingId::from(0);
     let numbers = BindingId::try_from(65536usize).is_err()
         && TupleIndex::try_from(256usize).is_err()
-        && BindingId::try_from(65535usize).is_ok();
+        && BindingId::try_from(65535usize).is_ok()
+        && TupleIndex::try_from(255usize).is_ok();
     let found = asked.site.find_binding(&TRUE) == Some(site) && TRUE.sources().is_empty();
     let rules = rule.may_overlap(&other) == Overlap::Yes { subset: true }
         && rule.total_constraints() == 0

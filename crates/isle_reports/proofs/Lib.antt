@@ -3,3 +3,4 @@ mod MapSteps
 mod NameSteps
 mod CountSteps
 mod DefinedSteps
+mod PlacesNoted

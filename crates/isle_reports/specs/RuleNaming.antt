@@ -1,8 +1,9 @@
 -- What naming one rule after another does.
-use Rattle.std.specs.Prelude.{◌≡◌, ℕ, ◌<◌, Bool, ◌||◌, ◌⊎◌, nat_eq, List, length, count_by, Option, Some, None, option_map, is_some, slice_get, All, IsTrue, if◌then◌else◌}
+use Rattle.std.specs.Prelude.{◌≡◌, ℕ, ◌<◌, Bool, ◌||◌, ◌⊎◌, nat_eq, List, length, map, count_by, Option, Some, None, option_map, is_some, slice_get, All, IsTrue, if◌then◌else◌}
 use Rattle.std.specs.Bool.{◌==◌}
 use Rattle.isle_base.specs.declared.syntax.Error.{Error}
 use Rattle.isle_base.specs.Stable.{Entries, look_up}
+use Rattle.isle_model.specs.lists.Syntax.{Position}
 use Rattle.isle_model.specs.lists.Names.{IsDistinct}
 use Rattle.isle_model.specs.lists.Tables.{TermEntry}
 use Rattle.isle_model.specs.rules.Typed.{TypedRule}
@@ -12,6 +13,14 @@ use Rattle.isle_types.specs.declared.ids.RuleId.{RuleId}
 use Rattle.isle_types.specs.Envs.{same_symbol, symbol}
 use Rattle.isle_terms.specs.Terms.{has_constructor_term, has_extractor_term}
 use Rattle.isle_base.specs.Noting.{NotesMore}
+
+-- where each rule stands
+abbrev pub rules_at : List TypedRule → List Position
+rules_at rules = map (λ r. r.at) rules
+
+-- where each term was declared
+abbrev pub terms_at : List TermEntry → List Position
+terms_at terms = map (λ t. t.at) terms
 
 -- how many of the rules each of so many terms has, by the terms' ids
 pub record AreCounts (terms : ℕ) (rules : List TypedRule) (counts : List ℕ) : Type 0 where

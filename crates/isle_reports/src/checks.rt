@@ -1,6 +1,8 @@
 //! What is checked of literals and of counts, in patterns and in expressions alike. What is wrong is noted.
 
-ghost use Rattle.std.specs.Prelude.{◌≡◌, true, OnOk, Some, option_map, slice_get};
+ghost use Rattle.std.specs.Prelude.{◌≡◌, true, [], ◌∷◌, OnOk, Some, option_map, slice_get};
+ghost use Rattle.isle_base.specs.Positions.{NotesAt};
+ghost use Rattle.isle_base.specs.SyntaxViews.{position};
 ghost use Rattle.isle_model.specs.lists.Ranges.{reduced};
 ghost use Rattle.isle_model.specs.rules.Values.{is_atom_type};
 ghost use Rattle.isle_types.specs.Envs.{constant_at};
@@ -14,6 +16,7 @@ use std::alloc::AllocError;
 use std::fmt::Display;
 
 /// Whether integers stand for values of the type: of a built-in integer type, or of a primitive one.
+#[tactic(auto, using(isle_base::proofs::Positioned::notes_nothing))]
 pub fn check_integer(
     tyenv: &TypeEnv,
     errors: &mut Vec<Error>,
@@ -21,7 +24,8 @@ pub fn check_integer(
     val: i128,
     ty: TypeId,
 ) -> Result<(), AllocError>
-    ensures { OnOk result (Checks errors.old.items errors.new.items (is_atom_type (slice_get (type_views tyenv.now.types.items) ty.0) ≡ true)) }
+    ensures checks { OnOk result (Checks errors.old.items errors.new.items (is_atom_type (slice_get (type_views tyenv.now.types.items) ty.0) ≡ true)) }
+    ensures places { OnOk result (NotesAt (position pos ∷ []) errors.old.items errors.new.items) }
 {
     if has_integers(tyenv, ty) {
         return Ok(());
@@ -66,6 +70,7 @@ fn number_at(ty: &Type, val: i128) -> i128
 }
 
 /// Whether the type is that of truth values.
+#[tactic(auto, using(isle_base::proofs::Positioned::notes_nothing))]
 pub fn check_bool(
     tyenv: &TypeEnv,
     errors: &mut Vec<Error>,
@@ -73,7 +78,8 @@ pub fn check_bool(
     val: bool,
     ty: TypeId,
 ) -> Result<(), AllocError>
-    ensures { OnOk result (Checks errors.old.items errors.new.items (ty.0 ≡ 0)) }
+    ensures checks { OnOk result (Checks errors.old.items errors.new.items (ty.0 ≡ 0)) }
+    ensures places { OnOk result (NotesAt (position pos ∷ []) errors.old.items errors.new.items) }
 {
     if ty == TypeId::BOOL {
         return Ok(());
@@ -84,6 +90,7 @@ pub fn check_bool(
 }
 
 /// Whether a type is the one that is wanted; else this is noted.
+#[tactic(auto, using(isle_base::proofs::Positioned::notes_nothing))]
 pub fn check_same<M: Display + Drop>(
     errors: &mut Vec<Error>,
     pos: Pos,
@@ -91,7 +98,8 @@ pub fn check_same<M: Display + Drop>(
     want: TypeId,
     msg: M,
 ) -> Result<(), AllocError>
-    ensures { OnOk result (Checks errors.old.items errors.new.items (has.0 ≡ want.0)) }
+    ensures checks { OnOk result (Checks errors.old.items errors.new.items (has.0 ≡ want.0)) }
+    ensures places { OnOk result (NotesAt (position pos ∷ []) errors.old.items errors.new.items) }
 {
     if has == want {
         return Ok(());
@@ -100,6 +108,7 @@ pub fn check_same<M: Display + Drop>(
 }
 
 /// Whether there are as many arguments as the term has.
+#[tactic(auto, using(isle_base::proofs::Positioned::notes_nothing))]
 pub fn check_count(
     errors: &mut Vec<Error>,
     pos: Pos,
@@ -107,7 +116,8 @@ pub fn check_count(
     got: usize,
     expect: usize,
 ) -> Result<(), AllocError>
-    ensures { OnOk result (Checks errors.old.items errors.new.items (got ≡ expect)) }
+    ensures checks { OnOk result (Checks errors.old.items errors.new.items (got ≡ expect)) }
+    ensures places { OnOk result (NotesAt (position pos ∷ []) errors.old.items errors.new.items) }
 {
     if got == expect {
         return Ok(());

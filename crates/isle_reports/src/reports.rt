@@ -1,8 +1,10 @@
 //! How what is wrong with rules is noted, and the texts of types, for messages.
 
-ghost use Rattle.std.specs.Prelude.{◌≡◌, true, OnOk};
+ghost use Rattle.std.specs.Prelude.{◌≡◌, true, [], ◌∷◌, OnOk};
 ghost use Rattle.isle_reports.specs.Elaborating.{Checks};
 ghost use Rattle.isle_base.specs.Noting.{NotesMore};
+ghost use Rattle.isle_base.specs.Positions.{NotesAt};
+ghost use Rattle.isle_base.specs.SyntaxViews.{position};
 
 use isle_base::syntax::{Error, Pos, Span};
 use isle_types::{Type, TypeEnv, TypeId};
@@ -15,7 +17,8 @@ pub fn report<M: Display + Drop>(
     pos: Pos,
     msg: M,
 ) -> Result<(), AllocError>
-    ensures { OnOk result (NotesMore errors.old.items errors.new.items) }
+    ensures noted { OnOk result (NotesMore errors.old.items errors.new.items) }
+    ensures places { OnOk result (NotesAt (position pos ∷ []) errors.old.items errors.new.items) }
 {
     let msg = String::format(*errors.allocator(), msg)?;
     let span = Span::new_single(pos);
@@ -24,13 +27,15 @@ pub fn report<M: Display + Drop>(
 }
 
 // Notes this of what stands at a place, unless what is asked of it holds.
+#[tactic(auto, using(isle_base::proofs::Positioned::notes_nothing))]
 pub fn check<M: Display + Drop>(
     errors: &mut Vec<Error>,
     pos: Pos,
     holds: bool,
     msg: M,
 ) -> Result<(), AllocError>
-    ensures { OnOk result (Checks errors.old.items errors.new.items (holds ≡ true)) }
+    ensures checks { OnOk result (Checks errors.old.items errors.new.items (holds ≡ true)) }
+    ensures places { OnOk result (NotesAt (position pos ∷ []) errors.old.items errors.new.items) }
 {
     if holds {
         return Ok(());
@@ -40,7 +45,8 @@ pub fn check<M: Display + Drop>(
 
 // Notes that a term of this name, which an expression uses, has no constructor.
 pub fn report_unmade(errors: &mut Vec<Error>, pos: Pos, name: &str) -> Result<(), AllocError>
-    ensures { OnOk result (NotesMore errors.old.items errors.new.items) }
+    ensures noted { OnOk result (NotesMore errors.old.items errors.new.items) }
+    ensures places { OnOk result (NotesAt (position pos ∷ []) errors.old.items errors.new.items) }
 {
     let msg = format_args!(
         "term `{name}` cannot be used in an expression because it does not have a constructor"

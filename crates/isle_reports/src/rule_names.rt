@@ -1,11 +1,12 @@
 //! The names of typed rules, and the terms that have none.
 
-ghost use Rattle.std.specs.Prelude.{◌≡◌, List, IfOk, OnOk, OnErr, IsTrue, length, option_map};
+ghost use Rattle.std.specs.Prelude.{◌≡◌, List, [], ◌∷◌, IfOk, OnOk, OnErr, IsTrue, length, option_map};
+ghost use Rattle.isle_base.specs.Positions.{NotesAt};
 ghost use Rattle.isle_model.specs.lists.Elaborated.{named_rule, named_rules, term_name};
 ghost use Rattle.isle_model.specs.rules.Typed.{TypedRule};
 ghost use Rattle.isle_terms.specs.TermViews.{term_view, term_views};
 ghost use Rattle.isle_reports.specs.Elaborating.{Checks};
-ghost use Rattle.isle_reports.specs.RuleNaming.{AreCounts, MapsNames, NamesRule, is_defined_term, AreDefined};
+ghost use Rattle.isle_reports.specs.RuleNaming.{AreCounts, MapsNames, NamesRule, is_defined_term, AreDefined, rules_at, terms_at};
 ghost use Rattle.isle_typed.specs.RuleViews.{rule_view, rule_views};
 
 use crate::reports::report;
@@ -73,7 +74,8 @@ pub fn map_names(
     rules: &[Rule],
     errors: &mut Vec<Error>,
 ) -> Result<StableMap<Sym, RuleId>, AllocError>
-    ensures { IfOk result (λ m. MapsNames errors.old.items errors.new.items (rule_views rules.now) m) }
+    ensures maps { IfOk result (λ m. MapsNames errors.old.items errors.new.items (rule_views rules.now) m) }
+    ensures places { OnOk result (NotesAt (rules_at (rule_views rules.now)) errors.old.items errors.new.items) }
 {
     let mut rule_map = StableMap::new(alloc);
     for rule in rules {
@@ -82,13 +84,15 @@ pub fn map_names(
     Ok(rule_map)
 }
 
+#[tactic(auto, using(isle_base::proofs::Positioned::notes_nothing))]
 fn map_name(
     tyenv: &TypeEnv,
     rule: &Rule,
     rule_map: &mut StableMap<Sym, RuleId>,
     errors: &mut Vec<Error>,
 ) -> Result<(), AllocError>
-    ensures { OnOk result (NamesRule errors.old.items errors.new.items (rule_view rule.now) rule_map.old rule_map.new) }
+    ensures names { OnOk result (NamesRule errors.old.items errors.new.items (rule_view rule.now) rule_map.old rule_map.new) }
+    ensures places { OnOk result (NotesAt ((rule_view rule.now).at ∷ []) errors.old.items errors.new.items) }
 {
     let Some(name) = rule.name else {
         return Ok(());
@@ -107,7 +111,8 @@ pub fn check_defined(
     terms: &[Term],
     errors: &mut Vec<Error>,
 ) -> Result<(), AllocError>
-    ensures { OnOk result (Checks errors.old.items errors.new.items (AreDefined (term_views terms.now))) }
+    ensures checks { OnOk result (Checks errors.old.items errors.new.items (AreDefined (term_views terms.now))) }
+    ensures places { OnOk result (NotesAt (terms_at (term_views terms.now)) errors.old.items errors.new.items) }
 {
     for term in terms {
         check_term(tyenv, term, errors)?;
@@ -115,8 +120,10 @@ pub fn check_defined(
     Ok(())
 }
 
+#[tactic(auto, using(isle_base::proofs::Positioned::notes_nothing))]
 fn check_term(tyenv: &TypeEnv, term: &Term, errors: &mut Vec<Error>) -> Result<(), AllocError>
-    ensures { OnOk result (Checks errors.old.items errors.new.items (IsTrue (is_defined_term (term_view term.now)))) }
+    ensures checks { OnOk result (Checks errors.old.items errors.new.items (IsTrue (is_defined_term (term_view term.now)))) }
+    ensures places { OnOk result (NotesAt ((term_view term.now).at ∷ []) errors.old.items errors.new.items) }
 {
     if term.has_constructor() || term.has_extractor() {
         return Ok(());

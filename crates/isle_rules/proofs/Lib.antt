@@ -1,5 +1,10 @@
 mod UsedTerms
 pub mod Noted
+pub mod Placed
+pub mod SubstitutedPlaces
+pub mod PartPlaces
+pub mod TermPlaces
+pub mod PlacesAtEnd
 pub mod Readings
 pub mod Bindings
 pub mod Scopes

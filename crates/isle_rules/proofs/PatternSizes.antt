@@ -75,11 +75,11 @@ part_size no_pattern i p h = absurd (cc)
 part_size (pattern_and q ps) zero p h = let e : tree_size q ≡ tree_size p = ap tree_size (same_Some q p h) in omega (arith, e)
 part_size (pattern_and q ps) (suc i) p h = let r = part_size ps i p h in omega (arith, r)
 
-mapped_gives : {A B : Type 0} (f : A → B) (o : Option A) (b : B) → option_map f o ≡ Some b → (a : A) × (o ≡ Some a) × (f a ≡ b)
+pub mapped_gives : {A B : Type 0} (f : A → B) (o : Option A) (b : B) → option_map f o ≡ Some b → (a : A) × (o ≡ Some a) × (f a ≡ b)
 mapped_gives f None b h = absurd (cc)
 mapped_gives f (Some a) b h = (a, refl, same_Some (f a) b h)
 
-with_gives : (o : Option PatternTree) (r : Option PatternTrees) (qs : PatternTrees) → with_pattern o r ≡ Some qs → (p : PatternTree) × (ps : PatternTrees) × (o ≡ Some p) × (r ≡ Some ps) × (pattern_and p ps ≡ qs)
+pub with_gives : (o : Option PatternTree) (r : Option PatternTrees) (qs : PatternTrees) → with_pattern o r ≡ Some qs → (p : PatternTree) × (ps : PatternTrees) × (o ≡ Some p) × (r ≡ Some ps) × (pattern_and p ps ≡ qs)
 with_gives None r qs h = absurd (cc)
 with_gives (Some p) None qs h = absurd (cc)
 with_gives (Some p) (Some ps) qs h = (p, ps, refl, refl, same_Some (pattern_and p ps) qs h)

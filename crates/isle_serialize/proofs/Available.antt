@@ -4,11 +4,11 @@ use Rattle.std.specs.List.{list_all}
 use Rattle.std.proofs.lemmas.Bool.{cases_Bool, cond-false, or_left, or_right}
 use Rattle.std.proofs.lemmas.List.{take_more}
 use Rattle.std.proofs.lemmas.List.Folds.{list_all-append}
-use Rattle.isle_base.specs.Stable.{Members, contains}
+use Rattle.isle_serialize.specs.declared.small_set.SmallSet.{SmallSet}
 use Rattle.isle_model.specs.sites.Sites.{Site, sources_at}
 use Rattle.isle_model.specs.trees.Places.{Around, available, is_in, waits, is_available}
 use Rattle.isle_model.proofs.Members.{nothing_in, in_head, in_tail, in_cases}
-use Rattle.isle_serialize.specs.AroundViews.{AreAtHand}
+use Rattle.isle_serialize.specs.AroundViews.{has, AreAtHand}
 
 module _ (sites : List Site) (sources : (s a : ℕ) → Contains (sources_at sites s) a → a < s) (brought : List ℕ) where
   -- more layers than a number has change nothing
@@ -86,9 +86,9 @@ neither true b h = h
 neither false b h = refl
 
 -- a site that is found is noted
-pub found_more : (sites : List Site) (ar : Around) (x : ℕ) (old new : Members ℕ) → ((s : ℕ) → contains ◌==◌ new s ≡ (if x == s then true else contains ◌==◌ old s)) → available sites ar x ≡ true → AreAtHand sites ar old → AreAtHand sites ar new
+pub found_more : (sites : List Site) (ar : Around) (x : ℕ) (old new : SmallSet) → ((s : ℕ) → has new s ≡ (if x == s then true else has old s)) → available sites ar x ≡ true → AreAtHand sites ar old → AreAtHand sites ar new
 found_more sites ar x old new h k a s e =
     elim (cases_Bool (x == s)) [
       | inl t ↦ subst (λ y. available sites ar y ≡ true) (eqb-true x s t) k
-      | inr f ↦ a s (sym (h s ∙ cond-false (x == s) true (contains ◌==◌ old s) f) ∙ e)
+      | inr f ↦ a s (sym (h s ∙ cond-false (x == s) true (has old s) f) ∙ e)
     ]

@@ -1,13 +1,14 @@
 -- What stands around a place, as it is kept: the sources of arms and loops in one list.
-use Rattle.std.specs.Prelude.{◌≡◌, ℕ, true, ◌==◌, ◌||◌, if◌then◌else◌, List, [], ◌∷◌, ◌++◌, Option}
+use Rattle.std.specs.Prelude.{◌≡◌, ℕ, Bool, true, ◌==◌, ◌||◌, if◌then◌else◌, List, [], ◌∷◌, ◌++◌, Option}
 use Rattle.std.specs.List.{flat_map}
 use Rattle.isle_model.specs.sites.Sites.{Site, SiteSet, sources_at}
 use Rattle.isle_model.specs.trees.Places as Places
 use Rattle.isle_model.specs.trees.Places.{is_in, class, all_below, available, field_sites}
 use Rattle.isle_model.specs.trees.Tests.{sources_around}
-use Rattle.isle_base.specs.Stable.{Members, contains}
+use Rattle.isle_base.specs.Stable.{contains}
 use Rattle.isle_serialize.specs.declared.around.Around.{Around}
 use Rattle.isle_serialize.specs.declared.around.Known.{Known}
+use Rattle.isle_serialize.specs.declared.small_set.SmallSet.{SmallSet}
 
 -- of the arms around only the sources are kept, and they stand with those of the loops: no more is asked of them
 abbrev pub around_view : Around → Places.Around
@@ -26,17 +27,21 @@ name_in (e ∷ es) s = if e.0 == s then e.1 else name_in es s
 abbrev pub IsNaming : List (ℕ × ℕ) → List (ℕ × ℕ) → Type 0
 IsNaming pairs names = (s : ℕ) → name_in names s ≡ class pairs s
 
+-- whether a set has a site
+abbrev pub has : SmallSet → ℕ → Bool
+has set s = is_in s set.few.items || contains ◌==◌ set.others s
+
 -- a set of exactly these sites
-abbrev pub IsSetOf : List ℕ → Members ℕ → Type 0
-IsSetOf sites set = (s : ℕ) → contains ◌==◌ set s ≡ is_in s sites
+abbrev pub IsSetOf : List ℕ → SmallSet → Type 0
+IsSetOf sites set = (s : ℕ) → has set s ≡ is_in s sites
 
 -- a set of exactly the sites of two lists
-abbrev pub AreSettled : List ℕ → List ℕ → Members ℕ → Type 0
-AreSettled emitted listed set = (s : ℕ) → contains ◌==◌ set s ≡ (is_in s emitted || is_in s listed)
+abbrev pub AreSettled : List ℕ → List ℕ → SmallSet → Type 0
+AreSettled emitted listed set = (s : ℕ) → has set s ≡ (is_in s emitted || is_in s listed)
 
 -- each site of the set is available
-abbrev pub AreAtHand : List Site → Places.Around → Members ℕ → Type 0
-AreAtHand sites ar found = (s : ℕ) → contains ◌==◌ found s ≡ true → available sites ar s ≡ true
+abbrev pub AreAtHand : List Site → Places.Around → SmallSet → Type 0
+AreAtHand sites ar found = (s : ℕ) → has found s ≡ true → available sites ar s ≡ true
 
 -- look-ups of what is around a place
 pub record IsKnown (ar : Places.Around) (known : Known) : Type 0 where

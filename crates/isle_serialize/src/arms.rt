@@ -11,6 +11,7 @@ ghost use Rattle.isle_serialize.specs.Growing.{CanGrow, IsLeastAsked, IsNextArmO
 use crate::around::Around;
 use crate::fields::fields_of;
 use crate::inside::in_arm;
+use crate::parts::part;
 use isle_sets::trie_again::{BindingId, Constraint, RuleSet};
 use std::alloc::{AllocError, Global};
 
@@ -69,11 +70,11 @@ fn least_asked(set: &RuleSet, source: BindingId, here: &[usize]) -> Option<Const
 }
 
 // Whether the rule of a number asks this of a site.
-fn asks(set: &RuleSet, source: BindingId, constraint: Constraint, number: usize) -> bool
-    ensures { result ≡ Growing.asks (set_view set.now).rules source (constraint_view constraint) number }
+fn asks(set: &RuleSet, source: BindingId, constraint: &Constraint, number: usize) -> bool
+    ensures { result ≡ Growing.asks (set_view set.now).rules source (constraint_view constraint.now) number }
 {
     match asked_at(set, source, number) {
-        Some(asked) => asked == constraint,
+        Some(asked) => asked == *constraint,
         None => false,
     }
 }
@@ -89,9 +90,13 @@ fn parted(
     ensures asking { IfOk result (λ p. p.0.items ≡ filter (Growing.asks (set_view set.now).rules source (constraint_view constraint)) here.now) }
     ensures others { IfOk result (λ p. p.1.items ≡ filter (λ i. not (Growing.asks (set_view set.now).rules source (constraint_view constraint) i)) here.now) }
 {
-    here.iter()
-        .copied()
-        .partition(alloc, |number| asks(set, source, constraint, *number))
+    let mut asking = Vec::new(alloc);
+    let mut others = Vec::new(alloc);
+    for number in here {
+        let asks = asks(set, source, &constraint, *number);
+        part(&mut asking, &mut others, *number, asks)?;
+    }
+    Ok((asking, others))
 }
 
 /// The next arm of a match, of the least constraint that some of these rules ask of its source, and none where none of

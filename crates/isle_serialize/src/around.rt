@@ -5,7 +5,7 @@ ghost use Rattle.isle_model.specs.trees.Places.{nothing_around, class, is_in, jo
 ghost use Rattle.isle_sets.specs.SiteViews.{site_view};
 ghost use Rattle.isle_serialize.specs.AroundViews.{around_view, sites_of_pairs, name_in, IsKnown, IsNaming, IsSetOf};
 
-use isle_base::stablemapset::StableSet;
+use crate::small_set::SmallSet;
 use isle_sets::trie_again::{Binding, BindingId};
 use std::alloc::{AllocError, Global};
 
@@ -42,11 +42,11 @@ pub struct Known {
     /// The names of the classes of all sites that equalities around joined.
     pub names: Vec<(BindingId, BindingId)>,
     /// The sources of the arms and loops around.
-    pub sources: StableSet<BindingId>,
+    pub sources: SmallSet,
     /// The sites that arms and loops around brought.
-    pub brought: StableSet<BindingId>,
+    pub brought: SmallSet,
     /// The sites that are emitted.
-    pub emitted: StableSet<BindingId>,
+    pub emitted: SmallSet,
 }
 
 /// What is looked up of a place.
@@ -66,10 +66,10 @@ pub fn known_of(alloc: Global, around: &Around) -> Result<Known, AllocError>
 }
 
 /// The set of these sites.
-pub fn set_of(alloc: Global, sites: &[BindingId]) -> Result<StableSet<BindingId>, AllocError>
+pub fn set_of(alloc: Global, sites: &[BindingId]) -> Result<SmallSet, AllocError>
     ensures { IfOk result (IsSetOf sites.now) }
 {
-    let mut set = StableSet::new(alloc);
+    let mut set = SmallSet::new(alloc);
     for site in sites {
         set.insert(*site)?;
     }
@@ -89,7 +89,7 @@ pub fn is_source(around: &Around, known: &Known, site: BindingId) -> bool
     requires { IsKnown (around_view around.now) known.now }
     ensures { result ≡ is_in site around.now.sources.items }
 {
-    known.sources.contains(&site)
+    known.sources.contains(site)
 }
 
 /// Whether an arm or a loop around brought the site.
@@ -97,7 +97,7 @@ pub fn is_brought(around: &Around, known: &Known, site: BindingId) -> bool
     requires { IsKnown (around_view around.now) known.now }
     ensures { result ≡ is_in site around.now.brought.items }
 {
-    known.brought.contains(&site)
+    known.brought.contains(site)
 }
 
 /// Whether the site is emitted.
@@ -105,7 +105,7 @@ pub fn is_emitted(around: &Around, known: &Known, site: BindingId) -> bool
     requires { IsKnown (around_view around.now) known.now }
     ensures { result ≡ is_in site around.now.emitted.items }
 {
-    known.emitted.contains(&site)
+    known.emitted.contains(site)
 }
 
 /// The site of this number.
@@ -183,10 +183,11 @@ fn joining(
 {
     let from = name_of(a, names);
     let to = name_of(b, names);
-    names
-        .iter()
-        .map(|entry| (entry.0, renamed(entry.1, from, to)))
-        .collect(alloc)
+    let mut joined = Vec::with_capacity(alloc, names.len())?;
+    for entry in names {
+        joined.push((entry.0, renamed(entry.1, from, to)))?;
+    }
+    Ok(joined)
 }
 
 // The names of the classes of all sites that equalities around joined.

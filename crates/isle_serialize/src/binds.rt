@@ -9,7 +9,8 @@ ghost use Rattle.isle_sets.specs.SiteViews.{site_view, set_view};
 ghost use Rattle.isle_serialize.specs.AroundViews.{around_view, AreSettled};
 
 use crate::around::{Around, set_of};
-use isle_base::stablemapset::StableSet;
+use crate::parts::keep;
+use crate::small_set::SmallSet;
 use isle_sets::trie_again::{Binding, BindingId, RuleSet};
 use std::alloc::{AllocError, Global};
 
@@ -28,12 +29,12 @@ fn is_settled(
     site: BindingId,
     emitted: &[BindingId],
     listed: &[BindingId],
-    settled: &StableSet<BindingId>,
+    settled: &SmallSet,
 ) -> bool
     requires { AreSettled emitted.now listed.now settled.now }
     ensures { result ≡ (is_in site emitted.now || is_in site listed.now) }
 {
-    settled.contains(&site)
+    settled.contains(site)
 }
 
 // Lists the sites below a site that aren't emitted, after those already listed: sources first, left to right, each once.
@@ -42,7 +43,7 @@ fn list_below(
     set: &RuleSet,
     emitted: &[BindingId],
     site: BindingId,
-    settled: &mut StableSet<BindingId>,
+    settled: &mut SmallSet,
     listed: &mut Vec<BindingId>,
 ) -> Result<(), AllocError>
     requires sources { (s a : ℕ) → Contains (sources_at (set_view set.now).sites s) a → a < s }
@@ -122,11 +123,11 @@ pub fn bind_order(
     ensures { IfOk result (λ v. v.items ≡ Places.bind_order (set_view set.now).sites (around_view around.now) sites.now) }
 {
     let listed = all_listed(alloc, set, &around.emitted, sites)?;
-    listed
-        .iter()
-        .copied()
-        .filter(|site| is_bound(set, *site))
-        .collect(alloc)
+    let mut bound = Vec::new(alloc);
+    for site in &listed {
+        keep(&mut bound, *site, is_bound(set, *site))?;
+    }
+    Ok(bound)
 }
 
 /// The sites that are emitted once these are used: these, and all that they are made of, each once.

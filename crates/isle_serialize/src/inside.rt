@@ -1,16 +1,16 @@
 //! What stands around the body of a test, and around the steps after one.
 
-ghost use Rattle.std.specs.Prelude.{◌≡◌, ◌<◌, ◌==◌, ◌++◌, ℕ, not, Contains, IfOk};
+ghost use Rattle.std.specs.Prelude.{◌≡◌, ◌<◌, ◌++◌, ℕ, not, Contains, IfOk};
 ghost use Rattle.std.specs.List.{filter};
-ghost use Rattle.isle_base.specs.Stable.{contains};
 ghost use Rattle.isle_model.specs.sites.Sites.{sources_at};
 ghost use Rattle.isle_model.specs.trees.Places as Places;
 ghost use Rattle.isle_sets.specs.SiteViews.{set_view};
-ghost use Rattle.isle_serialize.specs.AroundViews.{around_view, IsInside, after_uses, brings, arm_around, loop_around};
+ghost use Rattle.isle_serialize.specs.AroundViews.{around_view, has, IsInside, after_uses, brings, arm_around, loop_around};
 
 use crate::around::{Around, set_of};
 use crate::binds::{all_below, sources_of};
-use isle_base::stablemapset::StableSet;
+use crate::parts::keep;
+use crate::small_set::SmallSet;
 use isle_sets::trie_again::{BindingId, RuleSet};
 use std::alloc::{AllocError, Global};
 
@@ -31,15 +31,15 @@ fn chained(
 fn not_in(
     alloc: Global,
     sites: &[BindingId],
-    others: &StableSet<BindingId>,
+    others: &SmallSet,
 ) -> Result<Vec<BindingId>, AllocError>
-    ensures { IfOk result (λ v. v.items ≡ filter (λ s. not (contains ◌==◌ others.now s)) sites.now) }
+    ensures { IfOk result (λ v. v.items ≡ filter (λ s. not (has others.now s)) sites.now) }
 {
-    sites
-        .iter()
-        .copied()
-        .filter(|site| !others.contains(site))
-        .collect(alloc)
+    let mut left = Vec::new(alloc);
+    for site in sites {
+        keep(&mut left, *site, !others.contains(*site))?;
+    }
+    Ok(left)
 }
 
 // Those of these sites that aren't among others.

@@ -9,6 +9,8 @@ pub mod ends;
 pub mod fields;
 pub mod inside;
 pub mod open;
+mod parts;
 pub mod serialize;
+pub mod small_set;
 pub mod steps;
 pub mod tests;

@@ -1,22 +1,21 @@
 //! The open tests of a place that its highest rules need: all other open tests cover no rule.
 
-ghost use Rattle.std.specs.Prelude.{◌≡◌, ◌<◌, ◌==◌, ◌||◌, false, true, ℕ, IsTrue, Contains, IfOk, OnOk, slice_get};
+ghost use Rattle.std.specs.Prelude.{◌≡◌, ◌<◌, ◌||◌, false, true, ℕ, IsTrue, Contains, IfOk, OnOk, slice_get};
 ghost use Rattle.std.specs.List.{list_any};
-ghost use Rattle.isle_base.specs.Stable.{contains};
 ghost use Rattle.isle_model.specs.sites.Sites.{sources_at};
 ghost use Rattle.isle_model.specs.trees.Best.{descend};
 ghost use Rattle.isle_model.specs.trees.Places.{available, is_in, waits};
 ghost use Rattle.isle_model.specs.trees.Tests as Tests;
 ghost use Rattle.isle_sets.specs.SiteViews.{set_rule_view, set_view, site_view};
-ghost use Rattle.isle_serialize.specs.AroundViews.{around_view, AreAtHand, IsKnown};
+ghost use Rattle.isle_serialize.specs.AroundViews.{around_view, has, AreAtHand, IsKnown};
 ghost use Rattle.isle_serialize.specs.Growing.{CanGrow};
 ghost use Rattle.isle_serialize.specs.Opened.{AddsOpen, IsEqualOf, IsLoopBy, IsLoopOf, IsMatchOf, IsPairOf, IsPairWith, IsTest, IsWanted, OfSome};
 ghost use Rattle.isle_serialize.specs.TestViews.{test_view, AreUseful};
 
 use crate::around::{Around, Known, are_joined, is_brought, is_source, must_wait};
 use crate::binds::sources_of;
+use crate::small_set::SmallSet;
 use crate::tests::{Test, needs_at, reach_count};
-use isle_base::stablemapset::StableSet;
 use isle_sets::trie_again::{Binding, BindingId, Rule, RuleSet};
 use std::alloc::{AllocError, Global};
 
@@ -31,11 +30,29 @@ fn waits_at(set: &RuleSet, site: BindingId) -> bool
 }
 
 // Whether a site is known to be available: it was brought, or was found to be.
-fn is_found(around: &Around, known: &Known, site: BindingId, found: &StableSet<BindingId>) -> bool
+fn is_found(around: &Around, known: &Known, site: BindingId, found: &SmallSet) -> bool
     requires { IsKnown (around_view around.now) known.now }
-    ensures { result ≡ (is_in site around.now.brought.items || contains ◌==◌ found.now site) }
+    ensures { result ≡ (is_in site around.now.brought.items || has found.now site) }
 {
-    is_brought(around, known, site) || found.contains(&site)
+    is_brought(around, known, site) || found.contains(site)
+}
+
+// Notes that a site is available, where it is made of others: else that is found again as fast.
+fn note(
+    set: &RuleSet,
+    around: &Around,
+    site: BindingId,
+    found: &mut SmallSet,
+) -> Result<(), AllocError>
+    requires at_hand { available (set_view set.now).sites (around_view around.now) site ≡ true }
+    requires found { AreAtHand (set_view set.now).sites (around_view around.now) found.old }
+    ensures { OnOk result (AreAtHand (set_view set.now).sites (around_view around.now) found.new) }
+{
+    if sources_of(set, site).is_empty() {
+        return Ok(());
+    }
+    found.insert(site)?;
+    Ok(())
 }
 
 // Whether a site is available: it was brought, or none has to bring it, and its sources are available. What is found to
@@ -45,7 +62,7 @@ fn comes_to_hand(
     around: &Around,
     known: &Known,
     site: BindingId,
-    found: &mut StableSet<BindingId>,
+    found: &mut SmallSet,
 ) -> Result<bool, AllocError>
     requires sources { (s a : ℕ) → Contains (sources_at (set_view set.now).sites s) a → a < s }
     requires known { IsKnown (around_view around.now) known.now }
@@ -64,7 +81,7 @@ fn comes_to_hand(
             return Ok(false);
         }
     }
-    found.insert(site)?;
+    note(set, around, site, found)?;
     Ok(true)
 }
 
@@ -83,7 +100,7 @@ fn is_at_hand(
     if site.index() >= set.bindings.len() {
         return Ok(false);
     }
-    let mut found = StableSet::new(alloc);
+    let mut found = SmallSet::new(alloc);
     comes_to_hand(set, around, known, site, &mut found)
 }
 

@@ -13,6 +13,7 @@ ghost use Rattle.isle_serialize.specs.AroundViews.{around_view, IsKnown};
 ghost use Rattle.isle_serialize.specs.TestViews.{test_view, score_view, greater_test, IsGreatestScored, IsScored};
 
 use crate::around::{Around, Known, is_emitted};
+use crate::parts::part;
 use isle_sets::trie_again::{BindingId, Rule, RuleSet};
 use std::alloc::{AllocError, Global};
 
@@ -161,9 +162,13 @@ fn parted_at(
     ensures reaching { IfOk result (λ p. p.0.items ≡ filter (Bars.is_at_bar (set_view set.now).rules (test_view test.now) bar) here.now) }
     ensures others { IfOk result (λ p. p.1.items ≡ filter (λ i. not (Bars.is_at_bar (set_view set.now).rules (test_view test.now) bar i)) here.now) }
 {
-    here.iter()
-        .copied()
-        .partition(alloc, |number| is_at_bar(set, test, bar, *number))
+    let mut reaching = Vec::new(alloc);
+    let mut others = Vec::new(alloc);
+    for number in here {
+        let reaches = is_at_bar(set, test, bar, *number);
+        part(&mut reaching, &mut others, *number, reaches)?;
+    }
+    Ok((reaching, others))
 }
 
 /// The rules of a place that a test covers, and those that it doesn't: it covers a rule that needs it, where each rule of

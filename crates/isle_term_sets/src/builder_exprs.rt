@@ -121,7 +121,11 @@ impl RuleSetBuilder {
 fn ids_of(alloc: Global, inputs: &[(BindingId, TypeId)]) -> Result<Vec<BindingId>, AllocError>
     ensures { IfOk result (λ ids. ids.items ≡ map (λ x. x.0) inputs.now) }
 {
-    inputs.iter().map(|input| input.0).collect(alloc)
+    let mut ids = Vec::new(alloc);
+    for input in inputs {
+        ids.push(input.0)?;
+    }
+    Ok(ids)
 }
 
 // Each call goes on from every visit at which the builder stands.

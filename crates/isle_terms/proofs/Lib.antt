@@ -20,3 +20,4 @@ pub mod TemplateParts
 pub mod Marks
 pub mod Recursion
 pub mod Whole
+pub mod PlacesNoted

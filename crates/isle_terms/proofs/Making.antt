@@ -59,6 +59,10 @@ met_left e xs ys m = all_left (λ n. n < length e.known.names) xs ys m
 abbrev met_right : (e : TypesRead) (xs ys : List ℕ) → NumbersAreMet e (xs ++ ys) → NumbersAreMet e ys
 met_right e xs ys m = all_right (λ n. n < length e.known.names) xs ys m
 
+pub grows_nothing : (a : TermTable) → GrowsBy [] [] a a
+grows_nothing a e met named fs env i m s =
+    subst (λ l. HoldsTerms e met l (fs ++ []) env a) (sym (append-nil named)) (subst (λ l. HoldsTerms e met named l env a) (sym (append-nil fs)) s)
+
 pub grows_more : (xs ys : List ℕ) (gs hs : List (ℕ → TermEntry)) (a b c : TermTable) → GrowsBy xs gs a b → GrowsBy ys hs b c → GrowsBy (xs ++ ys) (gs ++ hs) a c
 grows_more xs ys gs hs a b c g h e met named fs env i m s =
     let first = g e met named fs env i (met_left e xs ys m) s in

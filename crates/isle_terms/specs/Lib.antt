@@ -12,3 +12,4 @@ pub mod ExternStages
 pub mod Templating
 pub mod Recursion
 pub mod Whole
+pub mod TermPositions

@@ -2,13 +2,15 @@
 //! reading goes on.
 
 ghost use Rattle.std.specs.Prelude.{◌≡◌, ◌⊎◌, ◌++◌, ◌∷◌, [], ℕ, None, Some, All, nat_eq, if◌then◌else◌, length, map, IfOk, OnOk, MatchOption, option_map};
-ghost use Rattle.isle_base.specs.SyntaxViews.{decl_view, name_view};
+ghost use Rattle.isle_base.specs.Positions.{NotesAt, declaration_positions, name_positions};
+ghost use Rattle.isle_base.specs.SyntaxViews.{decl_view, name_view, position};
 ghost use Rattle.isle_types.specs.Envs.{names_of, IsInterned};
 ghost use Rattle.isle_model.specs.lists.Names.{number};
 ghost use Rattle.isle_base.specs.Noting.{NotesMore};
 ghost use Rattle.isle_terms.specs.TermTables.{term_at};
 ghost use Rattle.isle_terms.specs.TermViews.{term_view, term_views};
 ghost use Rattle.isle_terms.specs.Reading.{IsWithin, Interns, MayIntern, IsKnownInEnv, HaveTypes, IsFreeOrReported, AddsOrReports, internal_entry, signature_entry, term_of_name};
+ghost use Rattle.isle_terms.specs.TermPositions.{table_positions, IsPlacedAmong};
 
 mod converters;
 mod declarations;
@@ -34,7 +36,8 @@ impl TermTable {
         name: Sym,
     ) -> Result<(), AllocError>
         requires { IsWithin self.now }
-        ensures { OnOk result (IsFreeOrReported name.0 self.now errors.old.items errors.new.items) }
+        ensures noted { OnOk result (IsFreeOrReported name.0 self.now errors.old.items errors.new.items) }
+        ensures places { OnOk result (NotesAt (declaration_positions (decl_view decl.now) ++ table_positions self.now) errors.old.items errors.new.items) }
     {
         let Some(existing) = self.term_map.get(&name) else {
             return Ok(());
@@ -55,6 +58,8 @@ impl TermTable {
         requires { IsWithin self.old }
         ensures within { OnOk result (IsWithin self.new) }
         ensures adds { OnOk result (AddsOrReports (decl_view decl.now) tyenv.now name.0 self.old self.new errors.old.items errors.new.items) }
+        ensures places { OnOk result (NotesAt (declaration_positions (decl_view decl.now)) errors.old.items errors.new.items) }
+        ensures placed { OnOk result (IsPlacedAmong (declaration_positions (decl_view decl.now) ++ table_positions self.old) self.new) }
     {
         let Some(arg_tys) = arg_types(tyenv, errors, &decl.arg_tys)? else {
             return Ok(());
@@ -141,9 +146,10 @@ fn arg_types(
     errors: &mut Vec<Error>,
     names: &[Ident],
 ) -> Result<Option<Vec<TypeId>>, AllocError>
-    ensures { IfOk result (λ o. MatchOption o
+    ensures noted { IfOk result (λ o. MatchOption o
         (NotesMore errors.old.items errors.new.items × (All (IsKnownInEnv tyenv.now) (map name_view names.now) → ⊥))
         (λ tys. (errors.new.items ≡ errors.old.items) × HaveTypes tyenv.now (map name_view names.now) (map (λ t. t.0) tys.items))) }
+    ensures places { OnOk result (NotesAt (name_positions (map name_view names.now)) errors.old.items errors.new.items) }
 {
     let mut arg_tys = Vec::with_capacity(*errors.allocator(), names.len())?;
     for name in names {
@@ -163,7 +169,8 @@ pub(crate) fn report_name(
     what: &str,
     name: &Ident,
 ) -> Result<(), AllocError>
-    ensures { OnOk result (NotesMore errors.old.items errors.new.items) }
+    ensures noted { OnOk result (NotesMore errors.old.items errors.new.items) }
+    ensures places { OnOk result (NotesAt (position pos ∷ []) errors.old.items errors.new.items) }
 {
     let alloc = *errors.allocator();
     let msg = format!(in alloc; "{what} '{}'", name.0)?;

@@ -209,5 +209,5 @@ fn one_type(alloc: Global, ty: TypeId) -> Result<Vec<TypeId>, AllocError>
 fn copied_types(alloc: Global, types: &[TypeId]) -> Result<Vec<TypeId>, AllocError>
     ensures { IfOk result (λ v. v.items ≡ types.now) }
 {
-    types.iter().copied().collect(alloc)
+    Vec::from_slice(alloc, types)
 }

@@ -21,3 +21,5 @@ pub mod VariantRuns
 pub mod RightValues
 pub mod FillingTypes
 pub mod Reducing
+pub mod PlacesNoted
+pub mod TablePositions

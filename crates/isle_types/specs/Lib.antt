@@ -11,3 +11,4 @@ pub mod Promises
 pub mod ConstantReading
 pub mod EnvViews
 pub mod IntRanges
+pub mod TypePositions

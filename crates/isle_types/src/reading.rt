@@ -1,19 +1,20 @@
 //! How the type table is read off a list of definitions: the names of the types first, then what the
 //! types are, then constants. What is wrong with a definition is noted, and the reading goes on.
 
-ghost use Rattle.std.specs.Prelude.{◌≡◌, ◌⊎◌, [], IfOk, OnOk, MatchOption, Some};
+ghost use Rattle.std.specs.Prelude.{◌≡◌, ◌⊎◌, [], ◌∷◌, ◌++◌, All, IfOk, OnOk, MatchOption, Some};
 ghost use Rattle.isle_model.specs.lists.Names.{number};
 ghost use Rattle.isle_model.specs.lists.TypeTable.{IsValidTypes, builtin_names, type_names_met};
 ghost use Rattle.isle_model.specs.claims.Environments.{AreTypesOf};
 ghost use Rattle.isle_model.specs.claims.Questions.{IsWellFormedEnvironment};
-ghost use Rattle.isle_model.specs.claims.Refusals.{RefusesTypes};
+ghost use Rattle.isle_model.specs.claims.Refusals.{RefusesTypes, ill_typed};
 ghost use Rattle.isle_base.specs.Answers.{Answers, NoLimit, OnErrors};
 ghost use Rattle.isle_base.specs.ErrorViews.{error_views};
 ghost use Rattle.isle_base.specs.Stable.{entry_count};
-ghost use Rattle.isle_base.specs.SyntaxViews.{definition_view, definition_views, type_view};
+ghost use Rattle.isle_base.specs.SyntaxViews.{position, definition_view, definition_views, type_view};
 ghost use Rattle.isle_types.specs.EnvViews.{environment_view};
 ghost use Rattle.isle_types.specs.Envs.{names_of, type_at, IsInterned};
 ghost use Rattle.isle_base.specs.Noting.{NotesMore};
+ghost use Rattle.isle_base.specs.Positions.{StandsAt, NotesAt, definition_positions, positions_of};
 ghost use Rattle.isle_types.specs.Reading.{AddsBuiltin, NamesType, NamesDefinition};
 ghost use Rattle.isle_types.specs.Stages.{Booting, NamesTypes};
 ghost use Rattle.isle_types.specs.TypeTables.{SeesTypes};
@@ -52,10 +53,11 @@ impl TypeEnv {
     /// primitive one, or each variant's full name, name and fields, or the struct's fields, and last those
     /// of constants. A constant has the type of its last definition.
     ///
-    /// `Errors` has what is wrong, each with its place: all types are looked at, and the first error ends
-    /// the work on one type. A type whose name is another type's, a primitive type that is marked `extern`
-    /// or `nodebug`, another type that is marked both, two variants of an enum or two fields of a list with
-    /// one name, a field or a constant of an unknown type. `Memory` where memory is refused.
+    /// `Errors` has what is wrong, each with its place, which is one in the definitions: all types are looked
+    /// at, and the first error ends the work on one type. A type whose name is another type's, a primitive
+    /// type that is marked `extern` or `nodebug`, another type that is marked both, two variants of an enum or
+    /// two fields of a list with one name, a field or a constant of an unknown type. `Memory` where memory is
+    /// refused.
     ///
     /// The table that is answered is well formed: terms and rules can be read with it.
     pub fn from_ast(alloc: Global, defs: &[Def]) -> Result<TypeEnv, Fault>
@@ -63,6 +65,7 @@ impl TypeEnv {
             (λ env. SeesTypes env (definition_views defs.now) (type_names_met (definition_views defs.now))) }
         ensures no_limit { NoLimit result }
         ensures refused { OnErrors result (λ es. RefusesTypes (definition_views defs.now) (error_views es)) }
+        ensures places { OnErrors result (All (StandsAt (positions_of (definition_views defs.now)))) }
         ensures shown { IfOk result (λ env. AreTypesOf (definition_views defs.now) (environment_view env)) }
         ensures well_formed { IfOk result (λ env. IsWellFormedEnvironment (environment_view env)) }
     {
@@ -138,6 +141,7 @@ impl TypeEnv {
     fn name_definition(&mut self, errors: &mut Vec<Error>, def: &Def) -> Result<(), AllocError>
         requires { IsInterned self.old }
         ensures inverse { IsInterned self.new }
+        ensures places { OnOk result (NotesAt (definition_positions (definition_view def.now)) errors.old.items errors.new.items) }
         ensures names { OnOk result (NamesDefinition (definition_view def.now) self.old errors.old.items self.new errors.new.items) }
     {
         let Def::TypeDef(ty) = def else {
@@ -152,7 +156,8 @@ impl TypeEnv {
     // Reads the names of all types.
     fn name_types(&mut self, errors: &mut Vec<Error>, defs: &[Def]) -> Result<(), AllocError>
         requires { NamesTypes (definition_views defs.now) (definition_views defs.now) self.old errors.old.items }
-        ensures { OnOk result (NamesTypes (definition_views defs.now) [] self.new errors.new.items) }
+        ensures names { OnOk result (NamesTypes (definition_views defs.now) [] self.new errors.new.items) }
+        ensures places { OnOk result (NotesAt (positions_of (definition_views defs.now)) errors.old.items errors.new.items) }
     {
         for def in defs {
             self.name_definition(errors, def)?;
@@ -166,8 +171,11 @@ impl TypeEnv {
 /// # Errors
 ///
 /// Where memory is refused.
+#[tactic(auto, using(isle_base::proofs::Positioned::notes_one, isle_base::proofs::Positioned::stands_there))]
 pub fn report(errors: &mut Vec<Error>, pos: Pos, msg: &str) -> Result<(), AllocError>
-    ensures { OnOk result (NotesMore errors.old.items errors.new.items) }
+    ensures noted { OnOk result (NotesMore errors.old.items errors.new.items) }
+    ensures places { OnOk result (NotesAt (position pos ∷ []) errors.old.items errors.new.items) }
+    ensures one { OnOk result (error_views errors.new.items ≡ error_views errors.old.items ++ ill_typed (position pos) ∷ []) }
 {
     let msg = String::from_str(*errors.allocator(), msg)?;
     let span = Span::new_single(pos);
@@ -181,7 +189,8 @@ fn report_duplicate(
     ty: &syntax::Type,
     existing: TypeId,
 ) -> Result<(), AllocError>
-    ensures { OnOk result (NotesMore errors.old.items errors.new.items) }
+    ensures noted { OnOk result (NotesMore errors.old.items errors.new.items) }
+    ensures places { OnOk result (NotesAt (position ty.now.pos ∷ []) errors.old.items errors.new.items) }
 {
     let alloc = *errors.allocator();
     let twice = format!(in alloc; "Type with name '{}' defined more than once", ty.name.0)?;

@@ -186,14 +186,22 @@ impl Fields {
 fn struct_field_types(alloc: Global, fields: &[StructField]) -> Result<Vec<TypeId>, AllocError>
     ensures { IfOk result (λ v. v.items ≡ map (λ f. f.ty) fields.now) }
 {
-    fields.iter().map(|field| field.ty).collect(alloc)
+    let mut types = Vec::new(alloc);
+    for field in fields {
+        types.push(field.ty)?;
+    }
+    Ok(types)
 }
 
 // The types of fields without names.
 fn tuple_field_types(alloc: Global, fields: &[TupleField]) -> Result<Vec<TypeId>, AllocError>
     ensures { IfOk result (λ v. v.items ≡ map (λ f. f.ty) fields.now) }
 {
-    fields.iter().map(|part| part.ty).collect(alloc)
+    let mut types = Vec::new(alloc);
+    for part in fields {
+        types.push(part.ty)?;
+    }
+    Ok(types)
 }
 
 // Written out, and so proved here once: a derived `Drop` is proved again in each crate that drops the

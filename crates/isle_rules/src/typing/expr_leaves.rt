@@ -1,6 +1,6 @@
 //! How expressions without parts are typed, but for variables.
 
-ghost use Rattle.std.specs.Prelude.{◌≡◌, ℕ, true, OnOk};
+ghost use Rattle.std.specs.Prelude.{◌≡◌, [], ◌∷◌, ℕ, true, OnOk};
 ghost use Rattle.isle_base.specs.SyntaxViews.{name_view, position};
 ghost use Rattle.isle_model.specs.lists.Syntax.{bool_expr, int_expr, prim_expr};
 ghost use Rattle.isle_model.specs.lists.Tables.{Flags};
@@ -11,6 +11,8 @@ ghost use Rattle.isle_reports.specs.Elaborating.{Checks};
 ghost use Rattle.isle_typed.specs.ExprViews.{expr_view};
 ghost use Rattle.isle_rules.specs.ExprReadings.{expected, expr_reading};
 ghost use Rattle.isle_rules.specs.Translating.{standing, Keeps, MayTranslate};
+ghost use Rattle.isle_base.specs.Positions.{NotesAt};
+ghost use Rattle.isle_rules.specs.RulePositions.{StaysPlaced};
 
 use crate::term_env::TermEnv;
 use crate::typing::expr_uses::meets_expected;
@@ -32,8 +34,9 @@ impl TermEnv {
         pos: Pos,
         expected_ty: Option<TypeId>,
     ) -> Result<Option<Expr>, Stop>
-        ensures { (flags : Flags) (d : ℕ) → MayTranslate self.now (standing tyenv.now work.old) (standing tyenv.now work.new) d
+        ensures made { (flags : Flags) (d : ℕ) → MayTranslate self.now (standing tyenv.now work.old) (standing tyenv.now work.new) d
             (expr_reading (bool_expr val (position pos)) flags (expected expected_ty)) expr_view result }
+        ensures places { StaysPlaced (position pos ∷ []) work.old.errors.items work.new.errors.items result }
     {
         check_truth(tyenv, &mut work.errors, pos, val, expected_ty)?;
         Ok(Some(Expr::ConstBool(TypeId::BOOL, val)))
@@ -49,8 +52,9 @@ impl TermEnv {
         pos: Pos,
         expected_ty: Option<TypeId>,
     ) -> Result<Option<Expr>, Stop>
-        ensures { (flags : Flags) (d : ℕ) → MayTranslate self.now (standing tyenv.now work.old) (standing tyenv.now work.new) d
+        ensures made { (flags : Flags) (d : ℕ) → MayTranslate self.now (standing tyenv.now work.old) (standing tyenv.now work.new) d
             (expr_reading (int_expr val (position pos)) flags (expected expected_ty)) expr_view result }
+        ensures places { StaysPlaced (position pos ∷ []) work.old.errors.items work.new.errors.items result }
     {
         let Some(ty) = expected_ty else {
             report(
@@ -66,6 +70,7 @@ impl TermEnv {
     }
 
     // A named constant, at its own type. One of another type is noted, and nothing is made.
+    #[tactic(auto, using(isle_base::proofs::Positioned::notes_nothing))]
     pub(crate) fn make_prim(
         &self,
         tyenv: &mut TypeEnv,
@@ -78,6 +83,7 @@ impl TermEnv {
         ensures keeps { Keeps tyenv.old tyenv.new }
         ensures made { (flags : Flags) (d : ℕ) → MayTranslate self.now (standing tyenv.old work.old) (standing tyenv.new work.new) d
             (expr_reading (prim_expr (name_view val.now) (position pos)) flags (expected expected_ty)) expr_view result }
+        ensures places { StaysPlaced (position pos ∷ []) work.old.errors.items work.new.errors.items result }
     {
         let name = tyenv.intern_mut(val)?;
         let Some(ty) = constant_type(tyenv, name) else {
@@ -93,6 +99,7 @@ impl TermEnv {
 }
 
 // Whether a truth value is expected, or anything; else this is noted.
+#[tactic(auto, using(isle_base::proofs::Positioned::notes_nothing))]
 fn check_truth(
     tyenv: &TypeEnv,
     errors: &mut Vec<Error>,
@@ -100,7 +107,8 @@ fn check_truth(
     val: bool,
     expected_ty: Option<TypeId>,
 ) -> Result<(), AllocError>
-    ensures { OnOk result (Checks errors.old.items errors.new.items (is_expected (expected expected_ty) 0 ≡ true)) }
+    ensures checks { OnOk result (Checks errors.old.items errors.new.items (is_expected (expected expected_ty) 0 ≡ true)) }
+    ensures places { OnOk result (NotesAt (position pos ∷ []) errors.old.items errors.new.items) }
 {
     match expected_ty {
         Some(ty) => check_bool(tyenv, errors, pos, val, ty),
@@ -117,7 +125,8 @@ fn report_constant(
     has: TypeId,
     want: Option<TypeId>,
 ) -> Result<(), AllocError>
-    ensures { OnOk result (NotesMore errors.old.items errors.new.items) }
+    ensures noted { OnOk result (NotesMore errors.old.items errors.new.items) }
+    ensures places { OnOk result (NotesAt (position pos ∷ []) errors.old.items errors.new.items) }
 {
     let name = val.0.as_str();
     let want = expected_text(tyenv, want);

@@ -1,6 +1,6 @@
 //! What names in expressions stand for: variables and terms.
 
-ghost use Rattle.std.specs.Prelude.{◌≡◌, true, not, ◌||◌, IfOk, OnOk, option_map, option_and_then, length, string_bytes};
+ghost use Rattle.std.specs.Prelude.{◌≡◌, ◌||◌, [], ◌∷◌, true, not, IfOk, OnOk, option_map, option_and_then, length, string_bytes};
 ghost use Rattle.isle_base.specs.SyntaxViews.{name_view, position, expr_view, expr_views};
 ghost use Rattle.isle_model.specs.lists.Syntax.{term_expr, var_expr};
 ghost use Rattle.isle_model.specs.lists.Setting.{is_expected};
@@ -14,6 +14,8 @@ ghost use Rattle.isle_rules.specs.ExprUses.{found_expr_converter, declared_conve
 ghost use Rattle.isle_rules.specs.Progress.{newest, Remains};
 ghost use Rattle.isle_typed.specs.RuleViews.{var_view};
 ghost use Rattle.isle_rules.specs.Translating.{standing};
+ghost use Rattle.isle_base.specs.Positions.{NotesAt, expr_positions};
+ghost use Rattle.isle_rules.specs.RulePositions.{StaysPlaced, ConvertsAmong, CallsAmong};
 
 use crate::term_env::TermEnv;
 use crate::typing::progress::{Progress, Stop};
@@ -89,7 +91,9 @@ impl TermEnv {
     ) -> Result<VarUse, Stop>
         requires inverse { IsInterned tyenv.now }
         requires whole { expr_view whole.now ≡ var_expr (name_view name.now) (position pos) }
-        ensures { (flags : Flags) → UsesVar self.now (standing tyenv.now work.old) (standing tyenv.now work.new) nesting (expr_view whole.now) flags (expected expected_ty) result }
+        ensures uses { (flags : Flags) → UsesVar self.now (standing tyenv.now work.old) (standing tyenv.now work.new) nesting (expr_view whole.now) flags (expected expected_ty) result }
+        ensures places { StaysPlaced (position pos ∷ []) work.old.errors.items work.new.errors.items result }
+        ensures among { ConvertsAmong (expr_positions (expr_view whole.now)) result }
     {
         let Some(bound) = find_var(tyenv, work, name) else {
             report_variable(&mut work.errors, pos, name)?;
@@ -124,7 +128,9 @@ impl TermEnv {
     ) -> Result<CallUse<'_>, Stop>
         requires inverse { IsInterned tyenv.now }
         requires whole { expr_view whole.now ≡ term_expr (name_view sym.now) (expr_views args.now) (position pos) }
-        ensures { UsesCall self.now (standing tyenv.now work.old) (standing tyenv.now work.new) nesting (expr_view whole.now) (expr_views args.now) (flags_view flags) (expected expected_ty) result }
+        ensures uses { UsesCall self.now (standing tyenv.now work.old) (standing tyenv.now work.new) nesting (expr_view whole.now) (expr_views args.now) (flags_view flags) (expected expected_ty) result }
+        ensures places { StaysPlaced (position pos ∷ []) work.old.errors.items work.new.errors.items result }
+        ensures among { CallsAmong (expr_positions (expr_view whole.now)) result }
     {
         let Some(term) = self.find_term(tyenv, sym) else {
             report_unknown(tyenv, work, pos, sym)?;
@@ -168,6 +174,7 @@ fn find_var(tyenv: &TypeEnv, work: &Progress, name: &Ident) -> Option<BoundVar>
 }
 
 // Whether a variable has the type that is expected, where one is; else this is noted.
+#[tactic(auto, using(isle_base::proofs::Positioned::notes_nothing))]
 fn check_variable(
     tyenv: &TypeEnv,
     errors: &mut Vec<Error>,
@@ -176,7 +183,8 @@ fn check_variable(
     has: TypeId,
     want: Option<TypeId>,
 ) -> Result<(), AllocError>
-    ensures { OnOk result (Checks errors.old.items errors.new.items (is_expected (expected want) has.0 ≡ true)) }
+    ensures checks { OnOk result (Checks errors.old.items errors.new.items (is_expected (expected want) has.0 ≡ true)) }
+    ensures places { OnOk result (NotesAt (position pos ∷ []) errors.old.items errors.new.items) }
 {
     if meets_expected(has, want) {
         return Ok(());
@@ -190,6 +198,7 @@ fn check_variable(
 
 // Whether a call has the type that is expected, where one is, the flags in force allow it, and it has as many arguments as
 // the term; else this is noted.
+#[tactic(auto, using(isle_base::proofs::Positioned::notes_both))]
 fn check_call(
     tyenv: &TypeEnv,
     work: &mut Progress,
@@ -203,6 +212,7 @@ fn check_call(
     ensures checks { OnOk result (Checks work.old.errors.items work.new.errors.items
         (((is_expected (expected expected_ty) (term_view term.now).ret_ty ≡ true) × (allowed (flags_view flags) (term_view term.now).kind ≡ true)) × (args ≡ length (term_view term.now).arg_tys))) }
     ensures remains { Remains work.old work.new }
+    ensures places { OnOk result (NotesAt (position pos ∷ []) work.old.errors.items work.new.errors.items) }
 {
     check_type(tyenv, &mut work.errors, pos, term.ret_ty, expected_ty)?;
     check_flags(&mut work.errors, pos, sym, term, flags)?;
@@ -211,6 +221,7 @@ fn check_call(
 }
 
 // Whether a call has the type that is expected, where one is; else this is noted.
+#[tactic(auto, using(isle_base::proofs::Positioned::notes_nothing))]
 fn check_type(
     tyenv: &TypeEnv,
     errors: &mut Vec<Error>,
@@ -218,7 +229,8 @@ fn check_type(
     has: TypeId,
     want: Option<TypeId>,
 ) -> Result<(), AllocError>
-    ensures { OnOk result (Checks errors.old.items errors.new.items (is_expected (expected want) has.0 ≡ true)) }
+    ensures checks { OnOk result (Checks errors.old.items errors.new.items (is_expected (expected want) has.0 ≡ true)) }
+    ensures places { OnOk result (NotesAt (position pos ∷ []) errors.old.items errors.new.items) }
 {
     if meets_expected(has, want) {
         return Ok(());
@@ -232,6 +244,7 @@ fn check_type(
 }
 
 // Whether the flags in force allow a call; else each that forbids it is noted, with what helps.
+#[tactic(auto, using(isle_base::proofs::Positioned::notes_nothing, isle_base::proofs::Positioned::notes_both))]
 fn check_flags(
     errors: &mut Vec<Error>,
     pos: Pos,
@@ -239,7 +252,8 @@ fn check_flags(
     term: &Term,
     flags: TermFlags,
 ) -> Result<(), AllocError>
-    ensures { OnOk result (Checks errors.old.items errors.new.items (allowed (flags_view flags) (term_view term.now).kind ≡ true)) }
+    ensures checks { OnOk result (Checks errors.old.items errors.new.items (allowed (flags_view flags) (term_view term.now).kind ≡ true)) }
+    ensures places { OnOk result (NotesAt (position pos ∷ []) errors.old.items errors.new.items) }
 {
     let TermKind::Decl { flags: own, .. } = &term.kind else {
         return Ok(());
@@ -289,7 +303,8 @@ fn is_total_enough(flags: TermFlags, own: TermFlags) -> bool
 
 // Notes that no variable has the name.
 fn report_variable(errors: &mut Vec<Error>, pos: Pos, name: &Ident) -> Result<(), AllocError>
-    ensures { OnOk result (NotesMore errors.old.items errors.new.items) }
+    ensures noted { OnOk result (NotesMore errors.old.items errors.new.items) }
+    ensures places { OnOk result (NotesAt (position pos ∷ []) errors.old.items errors.new.items) }
 {
     let msg = format_args!("Unknown variable '{}'", name.0);
     report(errors, pos, msg)
@@ -302,7 +317,8 @@ fn report_unknown(
     pos: Pos,
     sym: &Ident,
 ) -> Result<(), AllocError>
-    ensures { OnOk result (NotesMore work.old.errors.items work.new.errors.items) }
+    ensures noted { OnOk result (NotesMore work.old.errors.items work.new.errors.items) }
+    ensures places { OnOk result (NotesAt (position pos ∷ []) work.old.errors.items work.new.errors.items) }
 {
     let hint = match find_var(tyenv, work, sym) {
         Some(_) => { ". Variable binding under this name exists; try removing the parens?" }

@@ -1,6 +1,6 @@
 //! How expressions are typed.
 
-ghost use Rattle.std.specs.Prelude.{◌≡◌, ◌++◌, OnOk, length, map};
+ghost use Rattle.std.specs.Prelude.{◌≡◌, ◌∷◌, ◌++◌, OnOk, length, map};
 ghost use Rattle.std.specs.Option.{option_to_list};
 ghost use Rattle.isle_base.specs.SyntaxViews as S;
 ghost use Rattle.isle_model.specs.lists.Syntax.{no_let, let_expr};
@@ -10,6 +10,8 @@ ghost use Rattle.isle_rules.specs.ExprReadings.{expected, expr_reading, args_rea
 ghost use Rattle.isle_typed.specs.ExprViews.{expr_view, expr_views, expr_parts};
 ghost use Rattle.isle_rules.specs.Lets.{DefinesAll, DefinesOne, with_let};
 ghost use Rattle.isle_rules.specs.Translating.{standing, Keeps, StaysNoted, MayTranslate, Translates};
+ghost use Rattle.isle_base.specs.Positions.{expr_positions, exprs_positions, lets_positions};
+ghost use Rattle.isle_rules.specs.RulePositions.{StaysPlaced};
 
 use crate::term_env::TermEnv;
 use crate::typing::expr_uses::{CallUse, VarUse};
@@ -44,6 +46,7 @@ impl TermEnv {
         ensures keeps { Keeps tyenv.old tyenv.new }
         ensures made { MayTranslate self.now (standing tyenv.old work.old) (standing tyenv.new work.new) nesting
             (expr_reading (S.expr_view expr.now) (flags_view flags) (expected expected_ty)) expr_view result }
+        ensures places { StaysPlaced (expr_positions (S.expr_view expr.now)) work.old.errors.items work.new.errors.items result }
     {
         match expr {
             syntax::Expr::Term { sym, args, pos } => {
@@ -117,6 +120,7 @@ impl TermEnv {
             → Translates self.now (standing tyenv.old work.old) (standing tyenv.new work.new) nesting
             (args_reading (S.expr_views args.now) (flags_view flags) (map (λ t. t.0) tys.now)) (λ v. expr_parts (expr_views v.items)) result }
         ensures errors { StaysNoted (standing tyenv.old work.old) (standing tyenv.new work.new) result }
+        ensures places { StaysPlaced (exprs_positions (S.expr_views args.now)) work.old.errors.items work.new.errors.items result }
     {
         let count = args.len().min(tys.len());
         let mut parts = Vec::with_capacity(*self.terms.allocator(), count)?;
@@ -145,6 +149,7 @@ impl TermEnv {
         ensures keeps { Keeps tyenv.old tyenv.new }
         ensures made { MayTranslate self.now (standing tyenv.old work.old) (standing tyenv.new work.new) nesting
             (expr_reading (let_expr (S.let_views defs.now) (S.expr_view body.now) (S.position pos)) (flags_view flags) (expected expected_ty)) expr_view result }
+        ensures places { StaysPlaced (expr_positions (let_expr (S.let_views defs.now) (S.expr_view body.now) (S.position pos))) work.old.errors.items work.new.errors.items result }
     {
         let mut hidden = Vec::new(*self.terms.allocator());
         let bindings = self.translate_defs(tyenv, work, &mut hidden, defs, pos, flags, nesting)?;
@@ -172,6 +177,7 @@ impl TermEnv {
         ensures keeps { Keeps tyenv.old tyenv.new }
         ensures made { DefinesAll self.now (standing tyenv.old work.old) (standing tyenv.new work.new) nesting
             (lets_reading (S.let_views defs.now) (flags_view flags)) hidden.old.items hidden.new.items result }
+        ensures places { StaysPlaced (S.position pos ∷ lets_positions (S.let_views defs.now)) work.old.errors.items work.new.errors.items result }
     {
         let mut bindings = Vec::with_capacity(*self.terms.allocator(), defs.len())?;
         for def in defs {
@@ -197,6 +203,7 @@ impl TermEnv {
         ensures keeps { Keeps tyenv.old tyenv.new }
         ensures made { DefinesOne self.now (standing tyenv.old work.old) (standing tyenv.new work.new) nesting
             (lets_reading (with_let def.now no_let) (flags_view flags)) hidden.old.items hidden.new.items result }
+        ensures places { StaysPlaced (S.position pos ∷ lets_positions (with_let def.now no_let)) work.old.errors.items work.new.errors.items result }
     {
         let Some((name, ty)) = begin_def(tyenv, &mut work.errors, def, pos)? else {
             return Ok(None);

@@ -1,14 +1,15 @@
 //! The scopes of lets: the name and the type of a definition, what names stood for before, and the end of a scope.
 
-ghost use Rattle.std.specs.Prelude.{◌≡◌, ◌++◌, ℕ, IfOk, OnOk, length};
+ghost use Rattle.std.specs.Prelude.{◌≡◌, [], ◌∷◌, ◌++◌, ℕ, IfOk, OnOk, length};
 ghost use Rattle.std.specs.Option.{option_to_list};
-ghost use Rattle.isle_base.specs.SyntaxViews.{name_view};
+ghost use Rattle.isle_base.specs.SyntaxViews.{name_view, position};
 ghost use Rattle.isle_model.specs.lists.Elaborated.{typed_let};
 ghost use Rattle.isle_types.specs.Envs.{IsInterned};
 ghost use Rattle.isle_base.specs.Noting.{NotesMore};
 ghost use Rattle.isle_typed.specs.ExprViews.{expr_view, let_views, let_parts};
 ghost use Rattle.isle_rules.specs.Lets.{Begins, Binds, Closes};
 ghost use Rattle.isle_rules.specs.Translating.{Keeps};
+ghost use Rattle.isle_base.specs.Positions.{NotesAt};
 
 use crate::typing::progress::Progress;
 use isle_base::syntax::{Error, LetDef, Pos};
@@ -18,6 +19,7 @@ use isle_types::{Sym, TypeEnv, TypeId, VarId};
 use std::alloc::AllocError;
 
 /// The name and the type of a let's definition. A type that isn't known is noted.
+#[tactic(auto, using(isle_base::proofs::Positioned::notes_nothing))]
 pub(crate) fn begin_def(
     tyenv: &mut TypeEnv,
     errors: &mut Vec<Error>,
@@ -27,6 +29,7 @@ pub(crate) fn begin_def(
     requires { IsInterned tyenv.old }
     ensures keeps { Keeps tyenv.old tyenv.new }
     ensures begins { OnOk result (Begins tyenv.old tyenv.new errors.old.items errors.new.items (name_view def.now.var) (name_view def.now.ty) result) }
+    ensures places { OnOk result (NotesAt (position pos ∷ []) errors.old.items errors.new.items) }
 {
     let ty = tyenv.get_type_by_name(&def.ty);
     let name = tyenv.intern_mut(&def.var)?;
@@ -39,7 +42,8 @@ pub(crate) fn begin_def(
 
 // Notes that the type of a definition isn't known.
 fn report_type(errors: &mut Vec<Error>, pos: Pos, def: &LetDef) -> Result<(), AllocError>
-    ensures { OnOk result (NotesMore errors.old.items errors.new.items) }
+    ensures noted { OnOk result (NotesMore errors.old.items errors.new.items) }
+    ensures places { OnOk result (NotesAt (position pos ∷ []) errors.old.items errors.new.items) }
 {
     let msg = format_args!("Unknown type {} for variable '{}'", def.ty.0, def.var.0);
     report(errors, pos, msg)

@@ -1,7 +1,9 @@
 //! How the limit that a rule passes is noted.
 
-ghost use Rattle.std.specs.Prelude.{OnOk};
+ghost use Rattle.std.specs.Prelude.{[], ◌∷◌, OnOk};
 ghost use Rattle.isle_rules.specs.RuleLists.{NotesLimit, NotesStop};
+ghost use Rattle.isle_base.specs.Positions.{NotesAt};
+ghost use Rattle.isle_base.specs.SyntaxViews.{position};
 
 use crate::typing::progress::Stop;
 use isle_base::syntax::{Error, Limit, Pos, Span};
@@ -14,7 +16,8 @@ impl Stop {
     ///
     /// Where memory is refused; also where that ended the work.
     pub(crate) fn report(self, errors: &mut Vec<Error>, pos: Pos) -> Result<(), AllocError>
-        ensures { OnOk result (NotesStop self pos errors.old.items errors.new.items) }
+        ensures noted { OnOk result (NotesStop self pos errors.old.items errors.new.items) }
+        ensures places { OnOk result (NotesAt (position pos ∷ []) errors.old.items errors.new.items) }
     {
         match &self {
             Stop::Memory(refused) => Err(*refused),
@@ -25,8 +28,10 @@ impl Stop {
 }
 
 // Notes that the rule at a place passes a limit.
+#[tactic(auto, using(isle_base::proofs::Positioned::notes_one, isle_base::proofs::Positioned::limit_stands_there))]
 fn report_limit(errors: &mut Vec<Error>, limit: Limit, pos: Pos) -> Result<(), AllocError>
-    ensures { OnOk result (NotesLimit limit pos errors.old.items errors.new.items) }
+    ensures noted { OnOk result (NotesLimit limit pos errors.old.items errors.new.items) }
+    ensures places { OnOk result (NotesAt (position pos ∷ []) errors.old.items errors.new.items) }
 {
     let msg = String::from_str(*errors.allocator(), limit.text())?;
     let span = Span::new_single(pos);

@@ -1,6 +1,6 @@
 //! How patterns without parts are typed, and how a name is bound around a pattern.
 
-ghost use Rattle.std.specs.Prelude.{◌≡◌, ℕ, Bool, None, OnOk, string_bytes};
+ghost use Rattle.std.specs.Prelude.{◌≡◌, [], ◌∷◌, ℕ, Bool, None, OnOk, string_bytes};
 ghost use Rattle.isle_base.specs.SyntaxViews.{name_view, position};
 ghost use Rattle.isle_model.specs.lists.Syntax.{var_pattern, bool_pattern, int_pattern, prim_pattern, macro_arg};
 ghost use Rattle.isle_types.specs.Envs.{IsInterned};
@@ -9,6 +9,8 @@ ghost use Rattle.isle_typed.specs.PatternViews.{pattern_view};
 ghost use Rattle.isle_rules.specs.PatternReadings.{pattern_reading, BindsAround};
 ghost use Rattle.isle_rules.specs.Progress.{newest, Remains};
 ghost use Rattle.isle_rules.specs.Translating.{standing, Keeps, MayTranslate};
+ghost use Rattle.isle_base.specs.Positions.{NotesAt};
+ghost use Rattle.isle_rules.specs.RulePositions.{StaysPlaced};
 
 use crate::term_env::TermEnv;
 use crate::typing::progress::{Progress, Stop};
@@ -21,6 +23,7 @@ use std::alloc::AllocError;
 
 impl TermEnv {
     // A name that is bound already is a use of its variable, at that one's type; a new name is bound.
+    #[tactic(auto, using(isle_base::proofs::Positioned::notes_nothing))]
     pub(crate) fn translate_var(
         &self,
         tyenv: &mut TypeEnv,
@@ -33,6 +36,7 @@ impl TermEnv {
         ensures keeps { Keeps tyenv.old tyenv.new }
         ensures made { (multi : Bool) (d : ℕ) → MayTranslate self.now (standing tyenv.old work.old) (standing tyenv.new work.new) d
             (pattern_reading multi (var_pattern (name_view var.now) (position pos)) expected_ty.0) pattern_view result }
+        ensures places { StaysPlaced (position pos ∷ []) work.old.errors.items work.new.errors.items result }
     {
         let name = tyenv.intern_mut(var)?;
         let Some(bound) = work.lookup(name) else {
@@ -53,8 +57,9 @@ impl TermEnv {
         pos: Pos,
         expected_ty: TypeId,
     ) -> Result<Option<Pattern>, Stop>
-        ensures { (multi : Bool) (d : ℕ) → MayTranslate self.now (standing tyenv.now work.old) (standing tyenv.now work.new) d
+        ensures made { (multi : Bool) (d : ℕ) → MayTranslate self.now (standing tyenv.now work.old) (standing tyenv.now work.new) d
             (pattern_reading multi (bool_pattern val (position pos)) expected_ty.0) pattern_view result }
+        ensures places { StaysPlaced (position pos ∷ []) work.old.errors.items work.new.errors.items result }
     {
         check_bool(tyenv, &mut work.errors, pos, val, expected_ty)?;
         Ok(Some(Pattern::ConstBool(TypeId::BOOL, val)))
@@ -70,8 +75,9 @@ impl TermEnv {
         pos: Pos,
         expected_ty: TypeId,
     ) -> Result<Option<Pattern>, Stop>
-        ensures { (multi : Bool) (d : ℕ) → MayTranslate self.now (standing tyenv.now work.old) (standing tyenv.now work.new) d
+        ensures made { (multi : Bool) (d : ℕ) → MayTranslate self.now (standing tyenv.now work.old) (standing tyenv.now work.new) d
             (pattern_reading multi (int_pattern val (position pos)) expected_ty.0) pattern_view result }
+        ensures places { StaysPlaced (position pos ∷ []) work.old.errors.items work.new.errors.items result }
     {
         check_integer(tyenv, &mut work.errors, pos, val, expected_ty)?;
         let number = literal_number(tyenv, expected_ty, val);
@@ -79,6 +85,7 @@ impl TermEnv {
     }
 
     // A named constant, at its own type.
+    #[tactic(auto, using(isle_base::proofs::Positioned::notes_nothing))]
     pub(crate) fn translate_prim(
         &self,
         tyenv: &mut TypeEnv,
@@ -91,6 +98,7 @@ impl TermEnv {
         ensures keeps { Keeps tyenv.old tyenv.new }
         ensures made { (multi : Bool) (d : ℕ) → MayTranslate self.now (standing tyenv.old work.old) (standing tyenv.new work.new) d
             (pattern_reading multi (prim_pattern (name_view val.now) (position pos)) expected_ty.0) pattern_view result }
+        ensures places { StaysPlaced (position pos ∷ []) work.old.errors.items work.new.errors.items result }
     {
         let name = tyenv.intern_mut(val)?;
         let Some(ty) = constant_type(tyenv, name) else {
@@ -116,6 +124,7 @@ impl TermEnv {
         ensures keeps { Keeps tyenv.old tyenv.new }
         ensures binds { (d : ℕ) → BindsAround self.now (standing tyenv.old work.old) (standing tyenv.new work.new) d
             (string_bytes var.now.0) (pattern_view of) result }
+        ensures places { StaysPlaced (position pos ∷ []) work.old.errors.items work.new.errors.items result }
     {
         let ty = of.ty();
         let name = tyenv.intern_mut(var)?;
@@ -134,8 +143,9 @@ impl TermEnv {
         index: usize,
         expected_ty: TypeId,
     ) -> Result<Option<Pattern>, Stop>
-        ensures { (multi : Bool) (d : ℕ) → MayTranslate self.now (standing tyenv.now work.old) (standing tyenv.now work.new) d
+        ensures made { (multi : Bool) (d : ℕ) → MayTranslate self.now (standing tyenv.now work.old) (standing tyenv.now work.new) d
             (pattern_reading multi (macro_arg index (position pos)) expected_ty.0) pattern_view result }
+        ensures places { StaysPlaced (position pos ∷ []) work.old.errors.items work.new.errors.items result }
     {
         report(
             &mut work.errors,
@@ -147,6 +157,7 @@ impl TermEnv {
 }
 
 // Whether a variable that is bound has the type that is expected; else this is noted.
+#[tactic(auto, using(isle_base::proofs::Positioned::notes_nothing))]
 fn check_bound(
     tyenv: &TypeEnv,
     errors: &mut Vec<Error>,
@@ -155,7 +166,8 @@ fn check_bound(
     has: TypeId,
     want: TypeId,
 ) -> Result<(), AllocError>
-    ensures { OnOk result (Checks errors.old.items errors.new.items (has.0 ≡ want.0)) }
+    ensures checks { OnOk result (Checks errors.old.items errors.new.items (has.0 ≡ want.0)) }
+    ensures places { OnOk result (NotesAt (position pos ∷ []) errors.old.items errors.new.items) }
 {
     if has == want {
         return Ok(());
@@ -170,9 +182,11 @@ fn check_bound(
 }
 
 // Whether a name stands for no variable; else this is noted.
+#[tactic(auto, using(isle_base::proofs::Positioned::notes_nothing))]
 fn check_new(work: &mut Progress, name: Sym, var: &Ident, pos: Pos) -> Result<(), AllocError>
     ensures checks { OnOk result (Checks work.old.errors.items work.new.errors.items (newest work.old name.0 ≡ None)) }
     ensures remains { Remains work.old work.new }
+    ensures places { OnOk result (NotesAt (position pos ∷ []) work.old.errors.items work.new.errors.items) }
 {
     if work.lookup(name).is_none() {
         return Ok(());

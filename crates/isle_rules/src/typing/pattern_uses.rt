@@ -1,6 +1,6 @@
 //! What the use of a term in a pattern stands for.
 
-ghost use Rattle.std.specs.Prelude.{◌≡◌, true, IfOk, OnOk, IsTrue, option_map, length, string_bytes};
+ghost use Rattle.std.specs.Prelude.{◌≡◌, [], ◌∷◌, true, IfOk, OnOk, IsTrue, option_map, length, string_bytes};
 ghost use Rattle.isle_base.specs.SyntaxViews.{name_view, position, pattern_view, pattern_views};
 ghost use Rattle.isle_model.specs.lists.Setting.{is_matchable};
 ghost use Rattle.isle_model.specs.lists.Syntax.{term_pattern};
@@ -12,6 +12,8 @@ ghost use Rattle.isle_reports.specs.Elaborating.{Checks};
 ghost use Rattle.isle_rules.specs.Progress.{Remains};
 ghost use Rattle.isle_rules.specs.PatternUses.{found_term, found_converter, found_template, inside_term, UsesTerm};
 ghost use Rattle.isle_rules.specs.Translating.{standing};
+ghost use Rattle.isle_base.specs.Positions.{NotesAt, pattern_positions};
+ghost use Rattle.isle_rules.specs.RulePositions.{with_terms, StaysPlaced, ExpandsAmong};
 
 use crate::term_env::TermEnv;
 use crate::typing::progress::{Progress, Stop};
@@ -88,7 +90,9 @@ impl TermEnv {
     ) -> Result<PatternUse<'_>, Stop>
         requires inverse { IsInterned tyenv.now }
         requires whole { pattern_view whole.now ≡ term_pattern (name_view sym.now) (pattern_views args.now) (position pos) }
-        ensures { UsesTerm self.now (standing tyenv.now work.old) (standing tyenv.now work.new) nesting multi (pattern_view whole.now) (pattern_views args.now) expected_ty.0 result }
+        ensures uses { UsesTerm self.now (standing tyenv.now work.old) (standing tyenv.now work.new) nesting multi (pattern_view whole.now) (pattern_views args.now) expected_ty.0 result }
+        ensures places { StaysPlaced (position pos ∷ []) work.old.errors.items work.new.errors.items result }
+        ensures among { ExpandsAmong (with_terms self.now (pattern_positions (pattern_view whole.now))) result }
     {
         let Some(term) = self.find_term(tyenv, sym) else {
             report_unknown(&mut work.errors, pos, sym)?;
@@ -128,6 +132,7 @@ fn convert(tyenv: &TypeEnv, by: &Term, of: &Pattern, pos: Pos) -> Result<Pattern
 }
 
 // Whether a term is of the type that is expected and has so many arguments; else this is noted.
+#[tactic(auto, using(isle_base::proofs::Positioned::notes_both))]
 fn check_use(
     tyenv: &TypeEnv,
     work: &mut Progress,
@@ -140,6 +145,7 @@ fn check_use(
     ensures checks { OnOk result (Checks work.old.errors.items work.new.errors.items
         (((term_view term.now).ret_ty ≡ expected_ty.0) × (args ≡ length (term_view term.now).arg_tys))) }
     ensures remains { Remains work.old work.new }
+    ensures places { OnOk result (NotesAt (position pos ∷ []) work.old.errors.items work.new.errors.items) }
 {
     check_type(tyenv, &mut work.errors, pos, term.ret_ty, expected_ty)?;
     check_count(&mut work.errors, pos, sym, args, term.arg_tys.len())?;
@@ -147,6 +153,7 @@ fn check_use(
 }
 
 // Whether a term is of the type that is expected; else this is noted.
+#[tactic(auto, using(isle_base::proofs::Positioned::notes_nothing))]
 fn check_type(
     tyenv: &TypeEnv,
     errors: &mut Vec<Error>,
@@ -154,7 +161,8 @@ fn check_type(
     has: TypeId,
     want: TypeId,
 ) -> Result<(), AllocError>
-    ensures { OnOk result (Checks errors.old.items errors.new.items (has.0 ≡ want.0)) }
+    ensures checks { OnOk result (Checks errors.old.items errors.new.items (has.0 ≡ want.0)) }
+    ensures places { OnOk result (NotesAt (position pos ∷ []) errors.old.items errors.new.items) }
 {
     if has == want {
         return Ok(());
@@ -168,6 +176,7 @@ fn check_type(
 }
 
 // Whether a term has an extractor, and one that a rule may use whose term is multi or not; else this is noted.
+#[tactic(auto, using(isle_base::proofs::Positioned::notes_nothing))]
 fn check_extractor(
     errors: &mut Vec<Error>,
     pos: Pos,
@@ -175,7 +184,8 @@ fn check_extractor(
     term: &Term,
     multi: bool,
 ) -> Result<(), AllocError>
-    ensures { OnOk result (Checks errors.old.items errors.new.items (is_matchable multi (term_view term.now).kind ≡ true)) }
+    ensures checks { OnOk result (Checks errors.old.items errors.new.items (is_matchable multi (term_view term.now).kind ≡ true)) }
+    ensures places { OnOk result (NotesAt (position pos ∷ []) errors.old.items errors.new.items) }
 {
     let name = sym.0.as_str();
     if !term.has_extractor() {
@@ -204,7 +214,8 @@ fn is_usable(term: &Term, multi: bool) -> bool
 
 // Notes that no term has the name.
 fn report_unknown(errors: &mut Vec<Error>, pos: Pos, sym: &Ident) -> Result<(), AllocError>
-    ensures { OnOk result (NotesMore errors.old.items errors.new.items) }
+    ensures noted { OnOk result (NotesMore errors.old.items errors.new.items) }
+    ensures places { OnOk result (NotesAt (position pos ∷ []) errors.old.items errors.new.items) }
 {
     let msg = format_args!("Unknown term in pattern: '{}'", sym.0);
     report(errors, pos, msg)

@@ -1,6 +1,6 @@
 //! How a rule is typed.
 
-ghost use Rattle.std.specs.Prelude.{◌≡◌, true, not, ◌&&◌, [], pos, IfOk, OnOk, option_map, is_some, unwrap_or};
+ghost use Rattle.std.specs.Prelude.{◌≡◌, ◌&&◌, [], ◌∷◌, true, not, pos, IfOk, OnOk, option_map, is_some, unwrap_or};
 ghost use Rattle.isle_base.specs.SyntaxViews as S;
 ghost use Rattle.isle_model.specs.lists.Elaborated.{root_parts, rule_of_sides, with_own_name, own_number};
 ghost use Rattle.isle_model.specs.lists.Setting.{declared_flags};
@@ -10,6 +10,8 @@ ghost use Rattle.isle_reports.specs.Elaborating.{Checks};
 ghost use Rattle.isle_rules.specs.RuleReadings.{rule_reading, sides_view, scope_of};
 ghost use Rattle.isle_typed.specs.RuleViews.{rule_view};
 ghost use Rattle.isle_rules.specs.Translating.{standing, Keeps, MayTranslate};
+ghost use Rattle.isle_base.specs.Positions.{NotesAt, rule_positions};
+ghost use Rattle.isle_rules.specs.RulePositions.{with_terms, StaysPlaced, StandsIf};
 
 use crate::term_env::TermEnv;
 use crate::typing::progress::{Progress, Stop};
@@ -42,6 +44,8 @@ impl TermEnv {
         ensures keeps { Keeps tyenv.old tyenv.new }
         ensures made { MayTranslate self.now (standing tyenv.old work.old) (standing tyenv.new work.new) nesting
             (rule_reading (S.rule_view rule.now) id.0) rule_view result }
+        ensures places { StaysPlaced (with_terms self.now (rule_positions (S.rule_view rule.now))) work.old.errors.items work.new.errors.items result }
+        ensures stands { IfOk result (StandsIf (S.position rule.now.pos)) }
     {
         let Some(sym) = rule.pattern.root_term() else {
             let what = "Rule does not have a term at the root of its left-hand side";
@@ -97,13 +101,15 @@ fn flags_of(term: &Term) -> Option<TermFlags>
 }
 
 // Whether a rule has a priority only where its term isn't multi; else this is noted.
+#[tactic(auto, using(isle_base::proofs::Positioned::notes_nothing))]
 fn check_priority(
     errors: &mut Vec<Error>,
     pos: Pos,
     prio: Option<i64>,
     flags: TermFlags,
 ) -> Result<(), AllocError>
-    ensures { OnOk result (Checks errors.old.items errors.new.items (not (flags.multi && is_some prio) ≡ true)) }
+    ensures checks { OnOk result (Checks errors.old.items errors.new.items (not (flags.multi && is_some prio) ≡ true)) }
+    ensures places { OnOk result (NotesAt (S.position pos ∷ []) errors.old.items errors.new.items) }
 {
     if !(flags.multi && prio.is_some()) {
         return Ok(());

@@ -1,13 +1,16 @@
 //! How the rules of a list are typed, one after another and each within the limits on expansions.
 
-ghost use Rattle.std.specs.Prelude.{◌≡◌, IfOk, OnOk, option_map};
-ghost use Rattle.isle_base.specs.SyntaxViews.{definition_view, definition_views};
+ghost use Rattle.std.specs.Prelude.{◌≡◌, ◌++◌, IfOk, OnOk, option_map};
+ghost use Rattle.isle_base.specs.SyntaxViews.{position, definition_view, definition_views, rule_view as tree_view};
 ghost use Rattle.isle_model.specs.lists.TermTable.{rule_trees};
 ghost use Rattle.isle_types.specs.Envs.{IsInterned};
 ghost use Rattle.isle_rules.specs.RuleErrors.{NotesOfRules, NotesOfDefinition};
 ghost use Rattle.isle_rules.specs.RuleLists.{CollectsRule, CollectsNext, CollectsRules};
 ghost use Rattle.isle_typed.specs.RuleViews.{rule_view, rule_views};
 ghost use Rattle.isle_rules.specs.Translating.{Keeps};
+ghost use Rattle.isle_base.specs.Positions.{NotesAt, AreAmong, rule_positions, definition_positions, positions_of};
+ghost use Rattle.isle_rules.specs.RulePositions.{with_terms, StandsIf};
+ghost use Rattle.isle_reports.specs.RuleNaming.{rules_at};
 
 use crate::term_env::TermEnv;
 use crate::typing::progress::Progress;
@@ -33,6 +36,8 @@ impl TermEnv {
         requires { IsInterned tyenv.old }
         ensures keeps { Keeps tyenv.old tyenv.new }
         ensures ends { IfOk result (λ o. CollectsRule self.now tyenv.old tyenv.new work.old.errors.items work.new.errors.items id.0 rule.now (option_map rule_view o)) }
+        ensures places { OnOk result (NotesAt (with_terms self.now (rule_positions (tree_view rule.now))) work.old.errors.items work.new.errors.items) }
+        ensures stands { IfOk result (StandsIf (position rule.now.pos)) }
     {
         work.begin();
         match self.translate_rule(tyenv, work, rule, id, MOST_NESTED) {
@@ -56,6 +61,8 @@ impl TermEnv {
         ensures keeps { Keeps tyenv.old tyenv.new }
         ensures reads { OnOk result (CollectsNext self.now tyenv.old tyenv.new work.old.errors.items work.new.errors.items (definition_view def.now) rules.old.items rules.new.items) }
         ensures notes { OnOk result (NotesOfDefinition self.now tyenv.old (definition_view def.now) work.old.errors.items work.new.errors.items) }
+        ensures places { OnOk result (NotesAt (with_terms self.now (definition_positions (definition_view def.now))) work.old.errors.items work.new.errors.items) }
+        ensures stand { OnOk result (AreAmong (rules_at (rule_views rules.new.items)) (rules_at (rule_views rules.old.items) ++ definition_positions (definition_view def.now))) }
     {
         let Def::Rule(rule) = def else {
             return Ok(());
@@ -85,6 +92,8 @@ impl TermEnv {
         ensures keeps { Keeps tyenv.old tyenv.new }
         ensures reads { IfOk result (λ v. CollectsRules self.now tyenv.old tyenv.new work.old.errors.items work.new.errors.items (rule_trees (definition_views defs.now)) (rule_views v.items)) }
         ensures notes { OnOk result (NotesOfRules self.now tyenv.old (rule_trees (definition_views defs.now)) work.old.errors.items work.new.errors.items) }
+        ensures places { OnOk result (NotesAt (with_terms self.now (positions_of (definition_views defs.now))) work.old.errors.items work.new.errors.items) }
+        ensures stand { IfOk result (λ v. AreAmong (rules_at (rule_views v.items)) (positions_of (definition_views defs.now))) }
     {
         let mut rules = Vec::with_capacity(*self.terms.allocator(), defs.len())?;
         for def in defs {

@@ -8,6 +8,8 @@ ghost use Rattle.isle_rules.specs.RuleErrors.{NotesOfRules};
 ghost use Rattle.isle_rules.specs.RulesRead.{ReadsRules};
 ghost use Rattle.isle_rules.specs.ShownEnvs.{terms_shown_by};
 ghost use Rattle.isle_rules.specs.Translating.{Keeps};
+ghost use Rattle.isle_base.specs.Positions.{NotesAt, positions_of};
+ghost use Rattle.isle_rules.specs.RulePositions.{with_terms};
 
 use crate::term_env::TermEnv;
 use crate::typing::progress::Progress;
@@ -34,6 +36,7 @@ impl TermEnv {
         ensures expand { self.new.expand_internal_extractors ≡ self.old.expand_internal_extractors }
         ensures reads { IfOk result (λ v. ReadsRules self.old tyenv.old tyenv.new (definition_views defs.now) self.new v.items) }
         ensures notes { IfOk result (λ v. NotesOfRules self.old tyenv.old (rule_trees (definition_views defs.now)) [] v.items) }
+        ensures places { IfOk result (λ v. NotesAt (with_terms self.old (positions_of (definition_views defs.now))) [] v.items) }
     {
         let alloc = *self.terms.allocator();
         let mut work = Progress::new(alloc, Vec::new(alloc));

@@ -1,8 +1,9 @@
 //! How converters are read: each is the term that a conversion from one type to another calls.
 
-ghost use Rattle.std.specs.Prelude.{[], OnOk};
+ghost use Rattle.std.specs.Prelude.{◌≡◌, [], ◌∷◌, OnOk};
 ghost use Rattle.isle_model.specs.claims.Environments.{TypesRead, AreReadable};
-ghost use Rattle.isle_base.specs.SyntaxViews.{converter_view, definition_view, definition_views};
+ghost use Rattle.isle_base.specs.Positions.{NotesAt, converter_positions, definition_positions, positions_of};
+ghost use Rattle.isle_base.specs.SyntaxViews.{converter_view, definition_view, definition_views, position};
 ghost use Rattle.isle_base.specs.Noting.{NotesMore};
 ghost use Rattle.isle_terms.specs.Reading.{IsWithin};
 ghost use Rattle.isle_terms.specs.Signing.{ReadsTerms};
@@ -25,7 +26,9 @@ impl TermTable {
         ghost read: { TypesRead }
         requires readable { AreReadable read }
         requires start { ReadsTerms read (definition_views defs.now) (ConvertersRead read (definition_views defs.now) []) tyenv.now self.old errors.old.items }
-        ensures { OnOk result (ReadsTerms read (definition_views defs.now) (ConvertersRead read (definition_views defs.now) (definition_views defs.now)) tyenv.now self.new errors.new.items) }
+        ensures reads { OnOk result (ReadsTerms read (definition_views defs.now) (ConvertersRead read (definition_views defs.now) (definition_views defs.now)) tyenv.now self.new errors.new.items) }
+        ensures places { OnOk result (NotesAt (positions_of (definition_views defs.now)) errors.old.items errors.new.items) }
+        ensures terms { self.new.terms ≡ self.old.terms }
     {
         for def in defs {
             self.read_if_converter(tyenv, errors, def)?;
@@ -34,6 +37,7 @@ impl TermTable {
     }
 
     // Reads a definition, if it is a converter.
+    #[tactic(auto, using(isle_base::proofs::Positioned::notes_nothing))]
     fn read_if_converter(
         &mut self,
         tyenv: &TypeEnv,
@@ -43,6 +47,8 @@ impl TermTable {
         requires { IsWithin self.old }
         ensures within { OnOk result (IsWithin self.new) }
         ensures reads { OnOk result (ReadsIfConverter (definition_view def.now) tyenv.now self.old errors.old.items self.new errors.new.items) }
+        ensures places { OnOk result (NotesAt (definition_positions (definition_view def.now)) errors.old.items errors.new.items) }
+        ensures terms { self.new.terms ≡ self.old.terms }
     {
         let Def::Converter(converter) = def else {
             return Ok(());
@@ -51,6 +57,7 @@ impl TermTable {
     }
 
     // Reads a converter: the first one of a pair of types.
+    #[tactic(auto, using(isle_base::proofs::Positioned::notes_nothing))]
     fn read_converter(
         &mut self,
         tyenv: &TypeEnv,
@@ -60,6 +67,8 @@ impl TermTable {
         requires { IsWithin self.old }
         ensures within { OnOk result (IsWithin self.new) }
         ensures reads { OnOk result (ReadsConverter (converter_view converter.now) tyenv.now self.old errors.old.items self.new errors.new.items) }
+        ensures places { OnOk result (NotesAt (converter_positions (converter_view converter.now)) errors.old.items errors.new.items) }
+        ensures terms { self.new.terms ≡ self.old.terms }
     {
         let Some(inner) = tyenv.get_type_by_name(&converter.inner_ty) else {
             let what = "Unknown inner type for converter:";
@@ -86,7 +95,8 @@ impl TermTable {
 
 // Notes a converter of a pair of types that has one already.
 fn report_converted(errors: &mut Vec<Error>, converter: &Converter) -> Result<(), AllocError>
-    ensures { OnOk result (NotesMore errors.old.items errors.new.items) }
+    ensures noted { OnOk result (NotesMore errors.old.items errors.new.items) }
+    ensures places { OnOk result (NotesAt (position converter.now.pos ∷ []) errors.old.items errors.new.items) }
 {
     let alloc = *errors.allocator();
     let msg = format!(in alloc;

@@ -1,14 +1,16 @@
 //! How declared terms are read: each declaration becomes the next term.
 
-ghost use Rattle.std.specs.Prelude.{◌≡◌, ◌&&◌, [], OnOk};
+ghost use Rattle.std.specs.Prelude.{◌≡◌, ◌&&◌, [], ◌∷◌, ◌++◌, OnOk};
 ghost use Rattle.isle_model.specs.claims.Environments.{TypesRead, AreReadable, IsLeftByRefusal};
-ghost use Rattle.isle_base.specs.SyntaxViews.{decl_view, definition_view, definition_views};
+ghost use Rattle.isle_base.specs.Positions.{NotesAt, declaration_positions, definition_positions, positions_of};
+ghost use Rattle.isle_base.specs.SyntaxViews.{decl_view, definition_view, definition_views, position};
 ghost use Rattle.isle_types.specs.EnvViews.{environment_view};
 ghost use Rattle.isle_types.specs.Envs.{IsInterned};
 ghost use Rattle.isle_terms.specs.Reading.{MayIntern};
 ghost use Rattle.isle_types.specs.VariantReading.{ReportsIf};
 ghost use Rattle.isle_terms.specs.Reading.{IsWithin};
 ghost use Rattle.isle_terms.specs.Signing.{ReadsTerms, Declaring, ReadsDeclaration, ReadsIfDeclared};
+ghost use Rattle.isle_terms.specs.TermPositions.{table_positions, IsPlacedAmong};
 
 use crate::reading::meet_name;
 use crate::term_table::TermTable;
@@ -29,6 +31,8 @@ impl TermTable {
         requires start { ReadsTerms read (definition_views defs.now) (Declaring read (definition_views defs.now) []) tyenv.old self.old errors.old.items }
         ensures left { IsLeftByRefusal read (environment_view tyenv.new) }
         ensures reads { OnOk result (ReadsTerms read (definition_views defs.now) (Declaring read (definition_views defs.now) (definition_views defs.now)) tyenv.new self.new errors.new.items) }
+        ensures places { OnOk result (NotesAt (positions_of (definition_views defs.now) ++ table_positions self.old) errors.old.items errors.new.items) }
+        ensures placed { OnOk result (IsPlacedAmong (positions_of (definition_views defs.now) ++ table_positions self.old) self.new) }
     {
         for def in defs {
             self.read_if_declared(tyenv, errors, def)?;
@@ -37,6 +41,7 @@ impl TermTable {
     }
 
     // Reads a definition, if it is a declaration.
+    #[tactic(auto, using(isle_base::proofs::Positioned::notes_nothing))]
     fn read_if_declared(
         &mut self,
         tyenv: &mut TypeEnv,
@@ -48,6 +53,8 @@ impl TermTable {
         ensures interns { MayIntern tyenv.old tyenv.new }
         ensures within { OnOk result (IsWithin self.new) }
         ensures reads { OnOk result (ReadsIfDeclared (definition_view def.now) tyenv.old self.old errors.old.items tyenv.new self.new errors.new.items) }
+        ensures places { OnOk result (NotesAt (definition_positions (definition_view def.now) ++ table_positions self.old) errors.old.items errors.new.items) }
+        ensures placed { OnOk result (IsPlacedAmong (definition_positions (definition_view def.now) ++ table_positions self.old) self.new) }
     {
         let Def::Decl(decl) = def else {
             return Ok(());
@@ -68,6 +75,8 @@ impl TermTable {
         ensures interns { MayIntern tyenv.old tyenv.new }
         ensures within { OnOk result (IsWithin self.new) }
         ensures reads { OnOk result (ReadsDeclaration (decl_view decl.now) tyenv.old self.old errors.old.items tyenv.new self.new errors.new.items) }
+        ensures places { OnOk result (NotesAt (declaration_positions (decl_view decl.now) ++ table_positions self.old) errors.old.items errors.new.items) }
+        ensures placed { OnOk result (IsPlacedAmong (declaration_positions (decl_view decl.now) ++ table_positions self.old) self.new) }
     {
         let name = meet_name(tyenv, &decl.term)?;
         self.check_free(errors, decl, name)?;
@@ -77,8 +86,10 @@ impl TermTable {
 }
 
 // Notes a declaration of a term that is both multi and partial.
+#[tactic(auto, using(isle_base::proofs::Positioned::notes_nothing))]
 fn check_marks(errors: &mut Vec<Error>, decl: &Decl) -> Result<(), AllocError>
-    ensures { OnOk result (ReportsIf (decl.now.multi && decl.now.partial) errors.old.items errors.new.items) }
+    ensures noted { OnOk result (ReportsIf (decl.now.multi && decl.now.partial) errors.old.items errors.new.items) }
+    ensures places { OnOk result (NotesAt (position decl.now.pos ∷ []) errors.old.items errors.new.items) }
 {
     if !(decl.multi && decl.partial) {
         return Ok(());

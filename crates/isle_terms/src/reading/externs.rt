@@ -1,9 +1,10 @@
 //! How external constructors and extractors are read: functions from outside that make values of declared
 //! terms or take them apart.
 
-ghost use Rattle.std.specs.Prelude.{◌≡◌, [], not, IfOk, OnOk};
+ghost use Rattle.std.specs.Prelude.{◌≡◌, [], ◌∷◌, ◌++◌, Contains, not, IfOk, OnOk};
 ghost use Rattle.isle_model.specs.claims.Environments.{TypesRead, AreReadable, IsLeftByRefusal};
 ghost use Rattle.isle_model.specs.lists.Tables.{external_constructor, external_extractor};
+ghost use Rattle.isle_base.specs.Positions.{NotesAt, definition_positions, extern_positions, positions_of};
 ghost use Rattle.isle_base.specs.SyntaxViews.{definition_view, definition_views, extern_view, name_view, position};
 ghost use Rattle.isle_types.specs.Envs.{IsInterned};
 ghost use Rattle.isle_types.specs.EnvViews.{environment_view};
@@ -14,6 +15,7 @@ ghost use Rattle.isle_terms.specs.ExternStages.{ExternsRead, ReadsExtern, ReadsI
 ghost use Rattle.isle_terms.specs.Reading.{IsWithin, MayIntern};
 ghost use Rattle.isle_terms.specs.Signing.{ReadsTerms};
 ghost use Rattle.isle_terms.specs.TermViews.{term_view};
+ghost use Rattle.isle_terms.specs.TermPositions.{entry_positions, table_positions, taker_places, IsPlacedAmong};
 
 use crate::reading::{meet_name, report_name};
 use crate::term::{ConstructorKind, ExtractorKind, Term, TermKind};
@@ -35,6 +37,8 @@ impl TermTable {
         requires start { ReadsTerms read (definition_views defs.now) (ExternsRead read (definition_views defs.now) []) tyenv.old self.old errors.old.items }
         ensures left { IsLeftByRefusal read (environment_view tyenv.new) }
         ensures reads { OnOk result (ReadsTerms read (definition_views defs.now) (ExternsRead read (definition_views defs.now) (definition_views defs.now)) tyenv.new self.new errors.new.items) }
+        ensures places { OnOk result (NotesAt (positions_of (definition_views defs.now) ++ table_positions self.old) errors.old.items errors.new.items) }
+        ensures placed { OnOk result (IsPlacedAmong (positions_of (definition_views defs.now) ++ table_positions self.old) self.new) }
     {
         for def in defs {
             self.read_if_extern(tyenv, errors, def)?;
@@ -43,6 +47,7 @@ impl TermTable {
     }
 
     // Reads a definition, if it is an external constructor or extractor.
+    #[tactic(auto, using(isle_base::proofs::Positioned::notes_nothing))]
     fn read_if_extern(
         &mut self,
         tyenv: &mut TypeEnv,
@@ -54,6 +59,8 @@ impl TermTable {
         ensures interns { MayIntern tyenv.old tyenv.new }
         ensures within { OnOk result (IsWithin self.new) }
         ensures reads { OnOk result (ReadsIfExtern (definition_view def.now) tyenv.old self.old errors.old.items tyenv.new self.new errors.new.items) }
+        ensures places { OnOk result (NotesAt (definition_positions (definition_view def.now) ++ table_positions self.old) errors.old.items errors.new.items) }
+        ensures placed { OnOk result (IsPlacedAmong (definition_positions (definition_view def.now) ++ table_positions self.old) self.new) }
     {
         let Def::Extern(extern_def) = def else {
             return Ok(());
@@ -62,6 +69,7 @@ impl TermTable {
     }
 
     // Reads an external constructor or extractor. Constants are read with the types.
+    #[tactic(auto, using(isle_base::proofs::Positioned::notes_nothing))]
     fn read_extern(
         &mut self,
         tyenv: &mut TypeEnv,
@@ -73,6 +81,8 @@ impl TermTable {
         ensures interns { MayIntern tyenv.old tyenv.new }
         ensures within { OnOk result (IsWithin self.new) }
         ensures reads { OnOk result (ReadsExtern (extern_view extern_def.now) tyenv.old self.old errors.old.items tyenv.new self.new errors.new.items) }
+        ensures places { OnOk result (NotesAt (extern_positions (extern_view extern_def.now) ++ table_positions self.old) errors.old.items errors.new.items) }
+        ensures placed { OnOk result (IsPlacedAmong (extern_positions (extern_view extern_def.now) ++ table_positions self.old) self.new) }
     {
         match extern_def {
             Extern::Constructor { term, func, pos } => {
@@ -93,6 +103,7 @@ impl TermTable {
     }
 
     // Reads the external constructor of a term.
+    #[tactic(auto, using(isle_base::proofs::Positioned::notes_nothing))]
     fn read_constructor(
         &mut self,
         tyenv: &TypeEnv,
@@ -104,6 +115,8 @@ impl TermTable {
         requires { IsWithin self.old }
         ensures within { OnOk result (IsWithin self.new) }
         ensures reads { OnOk result (ReadsKind lacks_constructor (made_by_this (external_constructor name.0)) (name_view term.now) tyenv.now self.old errors.old.items self.new errors.new.items) }
+        ensures places { OnOk result (NotesAt (position pos ∷ []) errors.old.items errors.new.items) }
+        ensures placed { OnOk result (IsPlacedAmong (table_positions self.old) self.new) }
     {
         let Some(id) = self.find_term(tyenv, term) else {
             return report_name(errors, pos, "Constructor declared on undefined term", term);
@@ -116,6 +129,7 @@ impl TermTable {
     }
 
     // Reads the external extractor of a term.
+    #[tactic(auto, using(isle_base::proofs::Positioned::notes_nothing))]
     fn read_extractor(
         &mut self,
         tyenv: &TypeEnv,
@@ -128,6 +142,8 @@ impl TermTable {
         requires { IsWithin self.old }
         ensures within { OnOk result (IsWithin self.new) }
         ensures reads { OnOk result (ReadsKind lacks_extractor (taken_by_this (external_extractor name.0 infallible (position pos))) (name_view term.now) tyenv.now self.old errors.old.items self.new errors.new.items) }
+        ensures places { OnOk result (NotesAt (position pos ∷ table_positions self.old) errors.old.items errors.new.items) }
+        ensures placed { OnOk result (IsPlacedAmong (position pos ∷ table_positions self.old) self.new) }
     {
         let Some(id) = self.find_term(tyenv, term) else {
             return report_name(errors, pos, "Extractor declared on undefined term", term);
@@ -146,6 +162,7 @@ impl TermTable {
 }
 
 // Whether a term can have an external constructor, which stands at this place: what is against it is noted.
+#[tactic(auto, using(isle_base::proofs::Positioned::notes_nothing))]
 fn may_have_constructor(
     errors: &mut Vec<Error>,
     entry: &Term,
@@ -154,6 +171,7 @@ fn may_have_constructor(
 ) -> Result<bool, AllocError>
     ensures free { IfOk result (λ b. b ≡ lacks_constructor (term_view entry.now).kind) }
     ensures noted { IfOk result (λ b. ReportsIf (not b) errors.old.items errors.new.items) }
+    ensures places { OnOk result (NotesAt (position pos ∷ []) errors.old.items errors.new.items) }
 {
     match &entry.kind {
         TermKind::Decl {
@@ -192,6 +210,7 @@ fn may_have_external(
 ) -> Result<bool, AllocError>
     ensures free { IfOk result (λ b. b ≡ lacks_extractor (term_view entry.now).kind) }
     ensures noted { IfOk result (λ b. ReportsIf (not b) errors.old.items errors.new.items) }
+    ensures places { OnOk result (NotesAt (position pos ∷ entry_positions (term_view entry.now)) errors.old.items errors.new.items) }
 {
     match &entry.kind {
         TermKind::Decl {
@@ -219,7 +238,8 @@ fn report_second(
     pos: Pos,
     earlier: &ExtractorKind,
 ) -> Result<(), AllocError>
-    ensures { OnOk result (NotesMore errors.old.items errors.new.items) }
+    ensures noted { OnOk result (NotesMore errors.old.items errors.new.items) }
+    ensures places { OnOk result (NotesAt (position pos ∷ taker_places earlier.now) errors.old.items errors.new.items) }
 {
     let (second, first) = match earlier {
         ExtractorKind::ExternalExtractor { .. } => (
@@ -242,7 +262,8 @@ fn report_after(
     what: &str,
     name: &Ident,
 ) -> Result<(), AllocError>
-    ensures { OnOk result (NotesMore errors.old.items errors.new.items) }
+    ensures noted { OnOk result (NotesMore errors.old.items errors.new.items) }
+    ensures places { OnOk result (NotesAt (position pos ∷ []) errors.old.items errors.new.items) }
 {
     let alloc = *errors.allocator();
     let msg = format!(in alloc; "{what} {}", name.0)?;
@@ -250,7 +271,9 @@ fn report_after(
 }
 
 // Where an extractor is defined: an internal one at its template.
-pub(crate) fn place_of(extractor: &ExtractorKind) -> Pos {
+pub(crate) fn place_of(extractor: &ExtractorKind) -> Pos
+    ensures there { Contains (taker_places extractor.now) (position result) }
+{
     match extractor {
         ExtractorKind::InternalExtractor { template } => template.pos(),
         ExtractorKind::ExternalExtractor { pos, .. } => *pos,

@@ -1,14 +1,17 @@
 //! How the terms that types make are read: one for each variant of an enum, and one for a struct.
 
-ghost use Rattle.std.specs.Prelude.{◌∷◌, [], OnOk, map};
+ghost use Rattle.std.specs.Prelude.{◌∷◌, ◌++◌, [], OnOk, map};
 ghost use Rattle.std.specs.List.{flat_map};
 ghost use Rattle.isle_model.specs.lists.TermTable.{made_by, terms_made, variant_as_term, struct_as_term};
+ghost use Rattle.isle_base.specs.Positions.{NotesAt};
 ghost use Rattle.isle_base.specs.SyntaxViews.{position};
 ghost use Rattle.isle_types.specs.TypeViews.{fields_view, type_view, type_views, variant_view};
 ghost use Rattle.isle_base.specs.Noting.{NotesMore};
 ghost use Rattle.isle_terms.specs.Reading.{IsWithin};
 ghost use Rattle.isle_terms.specs.TermViews.{kind_view};
 ghost use Rattle.isle_terms.specs.Signing.{AddsMade, PushesTerm, made_entry};
+ghost use Rattle.isle_terms.specs.TermPositions.{table_positions, variants_positions, IsPlacedAmong};
+ghost use Rattle.isle_types.specs.TypePositions.{entry_positions as type_entry_positions, types_positions};
 
 use crate::term::{Term, TermKind};
 use crate::term_table::TermTable;
@@ -26,6 +29,8 @@ impl TermTable {
         requires { IsWithin self.old }
         ensures within { OnOk result (IsWithin self.new) }
         ensures adds { OnOk result (AddsMade (flat_map made_by (type_views tyenv.now.types.items)) (flat_map terms_made (type_views tyenv.now.types.items)) self.old errors.old.items self.new errors.new.items) }
+        ensures places { OnOk result (NotesAt (types_positions (type_views tyenv.now.types.items)) errors.old.items errors.new.items) }
+        ensures placed { OnOk result (IsPlacedAmong (types_positions (type_views tyenv.now.types.items) ++ table_positions self.old) self.new) }
     {
         for ty in &tyenv.types {
             self.add_terms_of(tyenv, errors, ty)?;
@@ -34,6 +39,7 @@ impl TermTable {
     }
 
     // Adds the terms that a type makes.
+    #[tactic(auto, using(isle_base::proofs::Positioned::notes_nothing))]
     fn add_terms_of(
         &mut self,
         tyenv: &TypeEnv,
@@ -43,6 +49,8 @@ impl TermTable {
         requires { IsWithin self.old }
         ensures within { OnOk result (IsWithin self.new) }
         ensures adds { OnOk result (AddsMade (made_by (type_view ty.now)) (terms_made (type_view ty.now)) self.old errors.old.items self.new errors.new.items) }
+        ensures places { OnOk result (NotesAt (type_entry_positions (type_view ty.now)) errors.old.items errors.new.items) }
+        ensures placed { OnOk result (IsPlacedAmong (type_entry_positions (type_view ty.now) ++ table_positions self.old) self.new) }
     {
         match ty {
             Type::Enum {
@@ -75,6 +83,8 @@ impl TermTable {
         requires { IsWithin self.old }
         ensures within { OnOk result (IsWithin self.new) }
         ensures adds { OnOk result (AddsMade (map (λ v. v.full_name) (map variant_view variants.now)) (map (variant_as_term ty.0) (map variant_view variants.now)) self.old errors.old.items self.new errors.new.items) }
+        ensures places { OnOk result (NotesAt (position pos ∷ []) errors.old.items errors.new.items) }
+        ensures placed { OnOk result (IsPlacedAmong (variants_positions (map variant_view variants.now) ++ table_positions self.old) self.new) }
     {
         for variant in variants {
             if self.term_map.contains_key(&variant.fullname) {
@@ -99,6 +109,7 @@ impl TermTable {
     }
 
     // Adds the term of a struct, if its name isn't taken.
+    #[tactic(auto, using(isle_base::proofs::Positioned::notes_nothing))]
     fn add_struct(
         &mut self,
         tyenv: &TypeEnv,
@@ -111,6 +122,8 @@ impl TermTable {
         requires { IsWithin self.old }
         ensures within { OnOk result (IsWithin self.new) }
         ensures adds { OnOk result (AddsMade (name.0 ∷ []) (struct_as_term name.0 ty.0 (fields_view fields.now) (position pos) ∷ []) self.old errors.old.items self.new errors.new.items) }
+        ensures places { OnOk result (NotesAt (position pos ∷ []) errors.old.items errors.new.items) }
+        ensures placed { OnOk result (IsPlacedAmong (position pos ∷ table_positions self.old) self.new) }
     {
         if self.term_map.contains_key(&name) {
             let what = "Duplicate struct constructor:";
@@ -155,7 +168,8 @@ fn report_taken(
     what: &str,
     name: Sym,
 ) -> Result<(), AllocError>
-    ensures { OnOk result (NotesMore errors.old.items errors.new.items) }
+    ensures noted { OnOk result (NotesMore errors.old.items errors.new.items) }
+    ensures places { OnOk result (NotesAt (position pos ∷ []) errors.old.items errors.new.items) }
 {
     let alloc = *errors.allocator();
     let msg = format!(in alloc; "{what} '{}'", tyenv.text_of(name))?;

@@ -2,12 +2,15 @@
 //! that templates name, the greatest one first. A term from which nothing comes back is walked once, whatever
 //! root it is met from. The path is kept in a list, so that a long chain of templates takes no stack.
 
-ghost use Rattle.std.specs.Prelude.{◌≡◌, ◌+◌, ◌-◌, ◌<◌, ◌^◌, All, IfOk, IfSome, OnOk, MatchOption, Some, get_or, is_some, length, option_map, slice_get};
+ghost use Rattle.std.specs.Prelude.{◌≡◌, [], ◌∷◌, ◌+◌, ◌-◌, ◌<◌, ◌^◌, All, IfOk, IfSome, OnOk, MatchOption, Some, get_or, is_some, length, option_map, slice_get};
+ghost use Rattle.isle_base.specs.Positions.{NotesAt};
+ghost use Rattle.isle_base.specs.SyntaxViews.{position};
 ghost use Rattle.isle_base.specs.Noting.{NotesMore};
 ghost use Rattle.isle_terms.specs.Signing.{Notes};
 ghost use Rattle.isle_terms.specs.TermViews.{term_view};
 ghost use Rattle.isle_terms.specs.Templating.{AreCallees, callees_of};
 ghost use Rattle.isle_terms.specs.Recursion.{AreFindings, AreWithin, ComesBack, EndsBelow, Enters, GoesOn, HasEnd, HaveTemplates, IsAtStart, IsSearched, IsOnWay, IsWayBack, has_template, is_end, is_on};
+ghost use Rattle.isle_terms.specs.TermPositions.{table_positions, template_place};
 
 use crate::term::{ExtractorKind, Term, TermKind};
 use crate::term_table::TermTable;
@@ -40,6 +43,7 @@ pub(crate) struct Search {
 
 impl TermTable {
     // Notes each term from which recursion is met.
+    #[tactic(auto, using(isle_base::proofs::Positioned::notes_nothing))]
     pub(crate) fn check_recursion(
         &self,
         tyenv: &TypeEnv,
@@ -47,7 +51,8 @@ impl TermTable {
         callees: &[Vec<TermId>],
     ) -> Result<(), AllocError>
         requires { AreCallees self.now callees.now }
-        ensures { OnOk result (Notes errors.old.items errors.new.items (EndsBelow self.now callees.now (length callees.now)) (ComesBack callees.now)) }
+        ensures notes { OnOk result (Notes errors.old.items errors.new.items (EndsBelow self.now callees.now (length callees.now)) (ComesBack callees.now)) }
+        ensures places { OnOk result (NotesAt (table_positions self.now) errors.old.items errors.new.items) }
     {
         let mut search = Search::new(*errors.allocator(), callees.len())?;
         for id in 0..callees.len() {
@@ -57,6 +62,7 @@ impl TermTable {
     }
 
     // Notes recursion that is met from a root.
+    #[tactic(auto, using(isle_base::proofs::Positioned::notes_nothing))]
     fn check_root(
         &self,
         tyenv: &TypeEnv,
@@ -70,6 +76,7 @@ impl TermTable {
         requires findings { AreFindings callees.now root.0 search.old }
         ensures findings { OnOk result (AreFindings callees.now (root.0 + 1) search.new) }
         ensures notes { OnOk result (Notes errors.old.items errors.new.items (HaveTemplates self.now callees.now → HasEnd callees.now root.0) (ComesBack callees.now)) }
+        ensures places { OnOk result (NotesAt (table_positions self.now) errors.old.items errors.new.items) }
     {
         let Some(repeated) = search.walk(callees, root)? else {
             return Ok(());
@@ -91,7 +98,8 @@ impl TermTable {
     ) -> Result<(), AllocError>
         requires root { root.0 < length self.now.terms.items }
         requires path { All (λ t. t.0 < length self.now.terms.items) path.now }
-        ensures { OnOk result (NotesMore errors.old.items errors.new.items) }
+        ensures noted { OnOk result (NotesMore errors.old.items errors.new.items) }
+        ensures places { OnOk result (NotesAt (position pos ∷ []) errors.old.items errors.new.items) }
     {
         let alloc = *errors.allocator();
         let name = tyenv.text_of(self.terms[root.index()].name);
@@ -195,7 +203,8 @@ impl Search {
 
 // Where the template of a term stands, if it has one.
 fn template_pos(term: &Term) -> Option<Pos>
-    ensures { is_some result ≡ has_template (term_view term.now).kind }
+    ensures has { is_some result ≡ has_template (term_view term.now).kind }
+    ensures place { option_map position result ≡ template_place (term_view term.now).kind }
 {
     match &term.kind {
         TermKind::Decl {

@@ -1,12 +1,14 @@
 //! How the terms that rules are of are read: such a term is made by its rules.
 
-ghost use Rattle.std.specs.Prelude.{◌≡◌, [], OnOk, is_none, true, false};
+ghost use Rattle.std.specs.Prelude.{◌≡◌, [], ◌∷◌, OnOk, is_none, true, false};
 ghost use Rattle.isle_model.specs.claims.Environments.{TypesRead, AreReadable};
-ghost use Rattle.isle_base.specs.SyntaxViews.{definition_view, definition_views, rule_view};
+ghost use Rattle.isle_base.specs.Positions.{NotesAt, definition_positions, positions_of};
+ghost use Rattle.isle_base.specs.SyntaxViews.{definition_view, definition_views, position, rule_view};
 ghost use Rattle.isle_terms.specs.Reading.{IsWithin};
 ghost use Rattle.isle_terms.specs.Signing.{ReadsTerms};
 ghost use Rattle.isle_terms.specs.Standing.{is_declared_kind, RootsRead, ReadsRuleRoot, ReadsIfRule};
 ghost use Rattle.isle_terms.specs.TermViews.{term_view};
+ghost use Rattle.isle_terms.specs.TermPositions.{table_positions, IsPlacedAmong};
 
 use crate::reading::set_internal;
 use crate::term::{Term, TermKind};
@@ -26,7 +28,9 @@ impl TermTable {
         ghost read: { TypesRead }
         requires readable { AreReadable read }
         requires start { ReadsTerms read (definition_views defs.now) (RootsRead read (definition_views defs.now) []) tyenv.now self.old errors.old.items }
-        ensures { OnOk result (ReadsTerms read (definition_views defs.now) (RootsRead read (definition_views defs.now) (definition_views defs.now)) tyenv.now self.new errors.new.items) }
+        ensures reads { OnOk result (ReadsTerms read (definition_views defs.now) (RootsRead read (definition_views defs.now) (definition_views defs.now)) tyenv.now self.new errors.new.items) }
+        ensures places { OnOk result (NotesAt (positions_of (definition_views defs.now)) errors.old.items errors.new.items) }
+        ensures placed { OnOk result (IsPlacedAmong (table_positions self.old) self.new) }
     {
         for def in defs {
             self.read_if_rule(tyenv, errors, def)?;
@@ -35,6 +39,7 @@ impl TermTable {
     }
 
     // Reads which term a definition is a rule of, if it is one.
+    #[tactic(auto, using(isle_base::proofs::Positioned::notes_nothing))]
     fn read_if_rule(
         &mut self,
         tyenv: &TypeEnv,
@@ -44,6 +49,8 @@ impl TermTable {
         requires { IsWithin self.old }
         ensures within { OnOk result (IsWithin self.new) }
         ensures reads { OnOk result (ReadsIfRule (definition_view def.now) tyenv.now self.old errors.old.items self.new errors.new.items) }
+        ensures places { OnOk result (NotesAt (definition_positions (definition_view def.now)) errors.old.items errors.new.items) }
+        ensures placed { OnOk result (IsPlacedAmong (table_positions self.old) self.new) }
     {
         let Def::Rule(rule) = def else {
             return Ok(());
@@ -52,6 +59,7 @@ impl TermTable {
     }
 
     // Reads which term a rule is of: a declared one.
+    #[tactic(auto, using(isle_base::proofs::Positioned::notes_nothing))]
     fn read_root(
         &mut self,
         tyenv: &TypeEnv,
@@ -61,6 +69,8 @@ impl TermTable {
         requires { IsWithin self.old }
         ensures within { OnOk result (IsWithin self.new) }
         ensures reads { OnOk result (ReadsRuleRoot (rule_view rule.now) tyenv.now self.old errors.old.items self.new errors.new.items) }
+        ensures places { OnOk result (NotesAt (position rule.now.pos ∷ []) errors.old.items errors.new.items) }
+        ensures placed { OnOk result (IsPlacedAmong (table_positions self.old) self.new) }
     {
         let Some(root) = rule.pattern.root_term() else {
             let what = "Rule does not have a term at the LHS root";

@@ -1,9 +1,10 @@
 //! How internal extractors are read: the pattern of each becomes the template of its term.
 
-ghost use Rattle.std.specs.Prelude.{◌≡◌, ◌++◌, ◌<◌, ◌≤◌, [], None, true, not, All, Contains, IfOk, OnOk, MatchOption, length, map};
+ghost use Rattle.std.specs.Prelude.{◌≡◌, ◌++◌, ◌<◌, ◌≤◌, [], ◌∷◌, None, true, not, All, Contains, IfOk, OnOk, MatchOption, length, map};
 ghost use Rattle.isle_model.specs.claims.Environments.{TypesRead, AreReadable};
 ghost use Rattle.isle_model.specs.lists.TermTable.{arguments_in, extractor_template, terms_in};
-ghost use Rattle.isle_base.specs.SyntaxViews.{definition_view, definition_views, extractor_view, name_view, pattern_view};
+ghost use Rattle.isle_base.specs.Positions.{NotesAt, definition_positions, extractor_positions, pattern_positions, positions_of};
+ghost use Rattle.isle_base.specs.SyntaxViews.{definition_view, definition_views, extractor_view, name_view, pattern_view, position};
 ghost use Rattle.isle_base.specs.Noting.{NotesMore};
 ghost use Rattle.isle_types.specs.VariantReading.{ReportsIf};
 ghost use Rattle.isle_terms.specs.Reading.{IsWithin, term_of_name};
@@ -12,6 +13,7 @@ ghost use Rattle.isle_terms.specs.Recursion.{ExtractorsRead};
 ghost use Rattle.isle_terms.specs.Standing.{RootsRead};
 ghost use Rattle.isle_terms.specs.TermViews.{term_view};
 ghost use Rattle.isle_terms.specs.Templating.{AddsFound, AreArguments, AreCallees, AreFound, CantTakeTemplate, HaveUnknown, IsTemplate, IsWrongTemplate, NameNothing, ReadsIfTemplate, ReadsExtractor, SetsCallees, TakesTemplate, TemplatesRead, may_have_template};
+ghost use Rattle.isle_terms.specs.TermPositions.{argument_places, entry_positions, table_positions, taker_places, IsPlacedAmong};
 
 use crate::reading::externs::place_of;
 use crate::term::{ExtractorKind, Term, TermFlags, TermKind};
@@ -32,7 +34,9 @@ impl TermTable {
         ghost read: { TypesRead }
         requires readable { AreReadable read }
         requires start { ReadsTerms read (definition_views defs.now) (RootsRead read (definition_views defs.now) (definition_views defs.now)) tyenv.now self.old errors.old.items }
-        ensures { OnOk result (ReadsTerms read (definition_views defs.now) (ExtractorsRead read (definition_views defs.now)) tyenv.now self.new errors.new.items) }
+        ensures reads { OnOk result (ReadsTerms read (definition_views defs.now) (ExtractorsRead read (definition_views defs.now)) tyenv.now self.new errors.new.items) }
+        ensures places { OnOk result (NotesAt (positions_of (definition_views defs.now) ++ table_positions self.old) errors.old.items errors.new.items) }
+        ensures placed { OnOk result (IsPlacedAmong (positions_of (definition_views defs.now) ++ table_positions self.old) self.new) }
     {
         let mut callees = no_callees(*errors.allocator(), self.terms.len())?;
         if !self.read_templates(tyenv, errors, &mut callees, defs)? {
@@ -57,6 +61,8 @@ impl TermTable {
         ensures callees { OnOk result (AreCallees self.new callees.new.items) }
         ensures reads { IfOk result (λ b. ReadsTerms read (definition_views defs.now)
             (λ env table. (b ≡ true) × TemplatesRead read (definition_views defs.now) (definition_views defs.now) callees.new.items env table) tyenv.now self.new errors.new.items) }
+        ensures places { OnOk result (NotesAt (positions_of (definition_views defs.now) ++ table_positions self.old) errors.old.items errors.new.items) }
+        ensures placed { OnOk result (IsPlacedAmong (positions_of (definition_views defs.now) ++ table_positions self.old) self.new) }
     {
         for def in defs {
             if !self.read_if_template(tyenv, errors, callees, def)? {
@@ -67,6 +73,7 @@ impl TermTable {
     }
 
     // Reads a definition, if it is an internal extractor.
+    #[tactic(auto, using(isle_base::proofs::Positioned::notes_nothing))]
     fn read_if_template(
         &mut self,
         tyenv: &TypeEnv,
@@ -79,6 +86,8 @@ impl TermTable {
         ensures within { OnOk result (IsWithin self.new) }
         ensures callees { OnOk result (AreCallees self.new callees.new.items) }
         ensures reads { IfOk result (λ b. ReadsIfTemplate (definition_view def.now) tyenv.now self.old callees.old.items errors.old.items self.new callees.new.items errors.new.items b) }
+        ensures places { OnOk result (NotesAt (definition_positions (definition_view def.now) ++ table_positions self.old) errors.old.items errors.new.items) }
+        ensures placed { OnOk result (IsPlacedAmong (definition_positions (definition_view def.now) ++ table_positions self.old) self.new) }
     {
         let Def::Extractor(extractor) = def else {
             return Ok(true);
@@ -87,6 +96,7 @@ impl TermTable {
     }
 
     // Reads an internal extractor.
+    #[tactic(auto, using(isle_base::proofs::Positioned::notes_nothing))]
     fn read_template(
         &mut self,
         tyenv: &TypeEnv,
@@ -99,6 +109,8 @@ impl TermTable {
         ensures within { OnOk result (IsWithin self.new) }
         ensures callees { OnOk result (AreCallees self.new callees.new.items) }
         ensures reads { IfOk result (λ b. ReadsExtractor (extractor_view extractor.now) tyenv.now self.old callees.old.items errors.old.items self.new callees.new.items errors.new.items b) }
+        ensures places { OnOk result (NotesAt (extractor_positions (extractor_view extractor.now) ++ table_positions self.old) errors.old.items errors.new.items) }
+        ensures placed { OnOk result (IsPlacedAmong (extractor_positions (extractor_view extractor.now) ++ table_positions self.old) self.new) }
     {
         let Some(id) = self.find_term(tyenv, &extractor.term) else {
             let what = "Extractor macro body definition on a non-existent term";
@@ -127,6 +139,8 @@ impl TermTable {
         ensures notes { OnOk result (Notes errors.old.items errors.new.items
             (IsTemplate (extractor_view extractor.now) id.0 tyenv.now self.old self.new callees.old.items callees.new.items)
             (IsWrongTemplate (extractor_view extractor.now) id.0 tyenv.now self.old)) }
+        ensures places { OnOk result (NotesAt (extractor_positions (extractor_view extractor.now) ++ table_positions self.old) errors.old.items errors.new.items) }
+        ensures placed { OnOk result (IsPlacedAmong (extractor_positions (extractor_view extractor.now) ++ table_positions self.old) self.new) }
     {
         let arguments = arguments_of(*errors.allocator(), &extractor.template)?;
         if let Some((pos, _)) = arguments.first() {
@@ -150,6 +164,7 @@ impl TermTable {
         ensures notes { IfOk result (λ v. Notes errors.old.items errors.new.items
             (AreFound tyenv.now self.now (terms_in (pattern_view extractor.now.template)) (map (λ t. t.0) v.items))
             (HaveUnknown tyenv.now self.now (terms_in (pattern_view extractor.now.template)))) }
+        ensures places { OnOk result (NotesAt (pattern_positions (pattern_view extractor.now.template)) errors.old.items errors.new.items) }
     {
         let mut named = Vec::new(*errors.allocator());
         extractor.template.terms(&mut named)?;
@@ -158,6 +173,7 @@ impl TermTable {
 
     // The terms of these names, which stand in the pattern of a term's extractor. Each that is no term's is
     // noted.
+    #[tactic(auto, using(isle_base::proofs::Positioned::notes_nothing))]
     fn find_terms(
         &self,
         tyenv: &TypeEnv,
@@ -170,6 +186,7 @@ impl TermTable {
         ensures notes { IfOk result (λ v. Notes errors.old.items errors.new.items
             (AreFound tyenv.now self.now (map (λ n. name_view n.1.now) named.now) (map (λ t. t.0) v.items))
             (HaveUnknown tyenv.now self.now (map (λ n. name_view n.1.now) named.now))) }
+        ensures places { OnOk result (NotesAt (map (λ n. position n.0) named.now) errors.old.items errors.new.items) }
     {
         let mut found = Vec::new(*errors.allocator());
         for name in named {
@@ -180,6 +197,7 @@ impl TermTable {
 
     // Adds the term of a name, which stands in the pattern of a term's extractor. One that is no term's is
     // noted.
+    #[tactic(auto, using(isle_base::proofs::Positioned::notes_nothing))]
     fn find_named(
         &self,
         tyenv: &TypeEnv,
@@ -195,6 +213,7 @@ impl TermTable {
         ensures notes { OnOk result (Notes errors.old.items errors.new.items
             (AddsFound (term_of_name tyenv.now self.now (name_view name.now)) found.old.items found.new.items)
             (term_of_name tyenv.now self.now (name_view name.now) ≡ None)) }
+        ensures places { OnOk result (NotesAt (position pos ∷ []) errors.old.items errors.new.items) }
     {
         let Some(id) = self.find_term(tyenv, name) else {
             return report_unknown(errors, pos, term, name);
@@ -218,6 +237,8 @@ impl TermTable {
         ensures notes { OnOk result (Notes errors.old.items errors.new.items
             (TakesTemplate (extractor_view extractor.now) id.0 self.old self.new)
             (CantTakeTemplate (extractor_view extractor.now) id.0 self.old)) }
+        ensures places { OnOk result (NotesAt (position extractor.now.pos ∷ table_positions self.old) errors.old.items errors.new.items) }
+        ensures placed { OnOk result (IsPlacedAmong (extractor_positions (extractor_view extractor.now) ++ table_positions self.old) self.new) }
     {
         if !can_have_template(errors, &self.terms[id.index()], extractor.pos)? {
             return Ok(());
@@ -269,7 +290,8 @@ fn report_unknown(
     term: &Ident,
     name: &Ident,
 ) -> Result<(), AllocError>
-    ensures { OnOk result (NotesMore errors.old.items errors.new.items) }
+    ensures noted { OnOk result (NotesMore errors.old.items errors.new.items) }
+    ensures places { OnOk result (NotesAt (position pos ∷ []) errors.old.items errors.new.items) }
 {
     let alloc = *errors.allocator();
     let msg = format!(in alloc;
@@ -283,6 +305,7 @@ fn report_unknown(
 fn can_have_template(errors: &mut Vec<Error>, entry: &Term, pos: Pos) -> Result<bool, AllocError>
     ensures free { IfOk result (λ b. b ≡ may_have_template (term_view entry.now).kind) }
     ensures noted { IfOk result (λ b. ReportsIf (not b) errors.old.items errors.new.items) }
+    ensures places { OnOk result (NotesAt (position pos ∷ entry_positions (term_view entry.now)) errors.old.items errors.new.items) }
 {
     match &entry.kind {
         TermKind::Decl {
@@ -320,7 +343,8 @@ fn report_again(
     pos: Pos,
     earlier: &ExtractorKind,
 ) -> Result<(), AllocError>
-    ensures { OnOk result (NotesMore errors.old.items errors.new.items) }
+    ensures noted { OnOk result (NotesMore errors.old.items errors.new.items) }
+    ensures places { OnOk result (NotesAt (position pos ∷ taker_places earlier.now) errors.old.items errors.new.items) }
 {
     report(errors, pos, "Duplicate extractor definition")?;
     let what = "Extractor was already defined here";
@@ -329,16 +353,17 @@ fn report_again(
 
 // Notes the greatest argument that a template uses, where it is past the arguments that the term is
 // declared with.
-#[tactic(auto, using(crate::proofs::TemplateNames::greatest_below, crate::proofs::TemplateNames::greatest_past, crate::proofs::TemplateNames::none_used))]
+#[tactic(auto, using(crate::proofs::TemplateNames::greatest_below, crate::proofs::TemplateNames::greatest_past, crate::proofs::TemplateNames::none_used, isle_base::proofs::Positioned::notes_nothing))]
 fn check_arguments(
     errors: &mut Vec<Error>,
     pos: Pos,
     template: &Pattern,
     count: usize,
 ) -> Result<(), AllocError>
-    ensures { OnOk result (Notes errors.old.items errors.new.items
+    ensures notes { OnOk result (Notes errors.old.items errors.new.items
         (AreArguments count (arguments_in (pattern_view template.now)))
         (AreArguments count (arguments_in (pattern_view template.now)) → ⊥)) }
+    ensures places { OnOk result (NotesAt (position pos ∷ []) errors.old.items errors.new.items) }
 {
     let alloc = *errors.allocator();
     let arguments = arguments_of(alloc, template)?;
@@ -364,7 +389,8 @@ fn greatest_argument(arguments: &[(Pos, usize)]) -> Option<&(Pos, usize)>
 
 // The places and the numbers of the macro arguments of a pattern, left to right.
 fn arguments_of(alloc: Global, pattern: &Pattern) -> Result<Vec<(Pos, usize)>, AllocError>
-    ensures { IfOk result (λ v. map (λ a. a.1) v.items ≡ arguments_in (pattern_view pattern.now)) }
+    ensures numbers { IfOk result (λ v. map (λ a. a.1) v.items ≡ arguments_in (pattern_view pattern.now)) }
+    ensures places { IfOk result (λ v. map (λ a. position a.0) v.items ≡ argument_places (pattern_view pattern.now)) }
 {
     let mut arguments = Vec::new(alloc);
     add_arguments(pattern, &mut arguments)?;
@@ -374,7 +400,8 @@ fn arguments_of(alloc: Global, pattern: &Pattern) -> Result<Vec<(Pos, usize)>, A
 // Adds the places and the numbers of the macro arguments of a pattern, left to right.
 #[tactic(auto, using(isle_base::proofs::PatternViews::pattern_steps))]
 fn add_arguments(pattern: &Pattern, out: &mut Vec<(Pos, usize)>) -> Result<(), AllocError>
-    ensures { OnOk result (map (λ a. a.1) out.new.items ≡ map (λ a. a.1) out.old.items ++ arguments_in (pattern_view pattern.now)) }
+    ensures numbers { OnOk result (map (λ a. a.1) out.new.items ≡ map (λ a. a.1) out.old.items ++ arguments_in (pattern_view pattern.now)) }
+    ensures places { OnOk result (map (λ a. position a.0) out.new.items ≡ map (λ a. position a.0) out.old.items ++ argument_places (pattern_view pattern.now)) }
 {
     match pattern {
         Pattern::MacroArg { index, pos } => {

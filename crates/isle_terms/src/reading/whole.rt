@@ -1,9 +1,10 @@
 //! How the whole term table is read, group by group. Each group is read only where nothing is wrong so far.
 
-ghost use Rattle.std.specs.Prelude.{◌≡◌, ℕ, None, [], IfOk, OnErr, OnOk};
+ghost use Rattle.std.specs.Prelude.{◌≡◌, ◌++◌, ℕ, None, [], All, IfOk, OnErr, OnOk};
 ghost use Rattle.isle_model.specs.claims.Environments.{TypesRead, AreReadable, AreTermsOf, IsLeftByRefusal, IsReadAs};
 ghost use Rattle.isle_model.specs.lists.TermTable.{IsValidTerms};
 ghost use Rattle.isle_model.specs.claims.Refusals.{RefusesTerms};
+ghost use Rattle.isle_base.specs.Positions.{NotesAt, StandsAt, positions_of};
 ghost use Rattle.isle_base.specs.Answers.{Answers, NoLimit, OnErrors};
 ghost use Rattle.isle_base.specs.ErrorViews.{error_views};
 ghost use Rattle.isle_base.specs.SyntaxViews.{definition_views};
@@ -14,6 +15,8 @@ ghost use Rattle.isle_terms.specs.Stages.{HasNoConverter};
 ghost use Rattle.isle_terms.specs.Standing.{RootsRead};
 ghost use Rattle.isle_terms.specs.TermTables.{term_at};
 ghost use Rattle.isle_terms.specs.Whole.{shown_by};
+ghost use Rattle.isle_terms.specs.TermPositions.{table_positions, IsPlacedAmong};
+ghost use Rattle.isle_types.specs.TypePositions.{types_positions};
 
 use crate::term_table::TermTable;
 use isle_base::stablemapset::StableMap;
@@ -30,7 +33,8 @@ impl TermTable {
     ///
     /// `Errors` has all that is wrong in the first of four groups in which something is: declarations and the
     /// terms that types make; rules' terms and internal extractors; converters; external functions. `Memory`
-    /// where memory is refused.
+    /// where memory is refused. Each error stands at positions that occur in the definitions or that the types of `tyenv`
+    /// keep, and so do all positions that the table keeps.
     pub fn from_ast(alloc: Global, tyenv: &mut TypeEnv, defs: &[Def]) -> Result<TermTable, Fault>
         ghost read: { TypesRead }
         requires readable { AreReadable read }
@@ -40,6 +44,8 @@ impl TermTable {
         ensures left { OnErr result (IsLeftByRefusal read (environment_view tyenv.new)) }
         ensures no_limit { NoLimit result }
         ensures refused { OnErrors result (λ es. RefusesTerms read (definition_views defs.now) (error_views es)) }
+        ensures places { OnErrors result (All (StandsAt (positions_of (definition_views defs.now) ++ types_positions read.known.types))) }
+        ensures placed { IfOk result (IsPlacedAmong (positions_of (definition_views defs.now) ++ types_positions read.known.types)) }
     {
         let mut table = TermTable::with_room(alloc, defs.len())?;
         let mut errors = Vec::new(alloc);
@@ -88,6 +94,8 @@ impl TermTable {
         requires start { ReadsTerms read (definition_views defs.now) (Declaring read (definition_views defs.now) []) tyenv.old self.old errors.old.items }
         ensures left { IsLeftByRefusal read (environment_view tyenv.new) }
         ensures reads { OnOk result (ReadsTerms read (definition_views defs.now) (RootsRead read (definition_views defs.now) []) tyenv.new self.new errors.new.items) }
+        ensures places { OnOk result (NotesAt ((positions_of (definition_views defs.now) ++ types_positions read.known.types) ++ table_positions self.old) errors.old.items errors.new.items) }
+        ensures placed { OnOk result (IsPlacedAmong ((positions_of (definition_views defs.now) ++ types_positions read.known.types) ++ table_positions self.old) self.new) }
     {
         self.read_declarations(tyenv, errors, defs)?;
         self.add_made_terms(tyenv, errors)
@@ -103,7 +111,9 @@ impl TermTable {
         ghost read: { TypesRead }
         requires readable { AreReadable read }
         requires start { ReadsTerms read (definition_views defs.now) (RootsRead read (definition_views defs.now) []) tyenv.now self.old errors.old.items }
-        ensures { OnOk result (ReadsTerms read (definition_views defs.now) (ExtractorsRead read (definition_views defs.now)) tyenv.now self.new errors.new.items) }
+        ensures reads { OnOk result (ReadsTerms read (definition_views defs.now) (ExtractorsRead read (definition_views defs.now)) tyenv.now self.new errors.new.items) }
+        ensures places { OnOk result (NotesAt (positions_of (definition_views defs.now) ++ table_positions self.old) errors.old.items errors.new.items) }
+        ensures placed { OnOk result (IsPlacedAmong (positions_of (definition_views defs.now) ++ table_positions self.old) self.new) }
     {
         self.read_roots(tyenv, errors, defs)?;
         self.collect_extractor_templates(tyenv, errors, defs)

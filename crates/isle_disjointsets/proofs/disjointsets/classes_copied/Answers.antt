@@ -20,9 +20,9 @@ returns-clause-same g c =
     let h : OnOk c.extend.result ((q : _) → get e c.extend.new.self q ≡ get e c.args.classes.now q) =
     fact_from_extend deref_pair c.extend.result c.extend.ensures.ran (λ it b. YieldsList-from_rest es (b ∙ c.iter.ensures.rest))
     (λ xs all inserted q.
-    let these : InsertsAll e c.new-copy.result es c.extend.new.self = subst (λ l. InsertsAll e c.new-copy.result l c.extend.new.self) all inserted in
-    these.0 q ∙ update_all_distinct g.met.T.Eq.laws e (λ x y. refl) (get e c.new-copy.result) es q c.iter.ensures.unique
-    ∙ ap (λ fs. option_or (lookup (e q) es) (lookup (e q) fs)) c.new-copy.ensures.empty ∙ or_none (lookup (e q) es)) in
+    let these : InsertsAll e c.in_ok-copy.copy es c.extend.new.self = subst (λ l. InsertsAll e c.in_ok-copy.copy l c.extend.new.self) all inserted in
+    these.0 q ∙ update_all_distinct g.met.T.Eq.laws e (λ x y. refl) (get e c.in_ok-copy.copy) es q c.iter.ensures.unique
+    ∙ ap (λ fs. option_or (lookup (e q) es) (lookup (e q) fs)) c.in_ok-copy.ensures.empty ∙ or_none (lookup (e q) es)) in
     rw c.in_ok-extend.was at h
 
 pub returns-clause-len : goal.returns-clause-len

@@ -27,7 +27,7 @@ loop-source-preserved t c =
 
 pub returns-clause-settled : goal.returns-clause-settled
 returns-clause-settled t c =
-    settled_more c.args.emitted.now c.loop-source.listed.items c.push.new.self.items c.args.site c.loop-source.settled c.insert.new.self c.in_ok-insert.ensures.has c.in_ok-push.ensures.items c.loop-source.invariant.settled
+    settled_more c.args.emitted.now c.loop-source.listed.items c.push.new.self.items c.args.site c.loop-source.settled c.insert.new.self c.in_ok-insert.ensures c.in_ok-push.ensures.items c.loop-source.invariant.settled
 
 pub returns-clause-listed : goal.returns-clause-listed
 returns-clause-listed t c =

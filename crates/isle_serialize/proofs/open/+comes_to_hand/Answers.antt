@@ -1,12 +1,11 @@
-use Rattle.std.proofs.Common.{◌≡◌, ◌<◌, ◌∙◌, ◌==◌, true, false, sym, ap, subst, inl, inr, rules, arith, Contains}
+use Rattle.std.proofs.Common.{◌≡◌, ◌<◌, ◌∙◌, true, false, sym, ap, subst, inl, inr, rules, arith, Contains}
 use Rattle.std.specs.List.{list_all}
 use Rattle.std.proofs.lemmas.Bool.{or_cases}
 use Rattle.std.proofs.lemmas.List.{take_all}
-use Rattle.isle_base.specs.Stable.{contains}
 use Rattle.isle_model.specs.trees.Places.{available, is_in}
 use Rattle.isle_sets.specs.SiteViews.{set_view}
-use Rattle.isle_serialize.specs.AroundViews.{around_view}
-use Rattle.isle_serialize.proofs.Available.{neither, brought_at_hand, missed, lacking, made_at_hand, source_more, found_more}
+use Rattle.isle_serialize.specs.AroundViews.{around_view, has}
+use Rattle.isle_serialize.proofs.Available.{neither, brought_at_hand, missed, lacking, made_at_hand, source_more}
 use Rattle.isle_serialize.proofs.open.+comes_to_hand.Goals as goal
 
 pub comes_to_hand-requires : goal.comes_to_hand-requires
@@ -31,7 +30,7 @@ returns-then-is_found-clause-at_hand t c =
     let sites = (set_view c.args.set.now).sites in
     let brought = c.args.around.now.brought.items in
     let s = c.args.site in
-    elim (or_cases (is_in s brought) (contains ◌==◌ c.args.found.now s) (sym c.is_found.ensures ∙ c.if-is_found.true)) [
+    elim (or_cases (is_in s brought) (has c.args.found.now s) (sym c.is_found.ensures ∙ c.if-is_found.true)) [
       | inl b ↦ sym (brought_at_hand sites c.requires.sources brought s b)
       | inr f ↦ sym (c.requires.found s f)
     ]
@@ -41,7 +40,7 @@ returns-then-waits_at-clause-at_hand t c =
     let sites = (set_view c.args.set.now).sites in
     let brought = c.args.around.now.brought.items in
     let s = c.args.site in
-    let not_brought = neither (is_in s brought) (contains ◌==◌ c.args.found.now s) (sym c.is_found.ensures ∙ c.if-is_found.false) in
+    let not_brought = neither (is_in s brought) (has c.args.found.now s) (sym c.is_found.ensures ∙ c.if-is_found.false) in
     sym (missed sites c.requires.sources brought s not_brought (sym c.waits_at.ensures ∙ c.if-waits_at.true))
 
 pub returns-then-not-branch-clause-at_hand : goal.returns-then-not-branch-clause-at_hand
@@ -49,7 +48,7 @@ returns-then-not-branch-clause-at_hand t c =
     let sites = (set_view c.args.set.now).sites in
     let brought = c.args.around.now.brought.items in
     let s = c.args.site in
-    let not_brought = neither (is_in s brought) (contains ◌==◌ c.args.found.now s) (sym c.is_found.ensures ∙ c.if-is_found.false) in
+    let not_brought = neither (is_in s brought) (has c.args.found.now s) (sym c.is_found.ensures ∙ c.if-is_found.false) in
     let there = subst (λ l. Contains l c.source-item.result) c.sources_of-source-items.ensures (c.loop-source.source-index, c.loop-source-test.true, sym c.source-item.is) in
     let stops : c.in_ok-comes_to_hand.field-0 ≡ false = search rules in
     sym (lacking sites c.requires.sources brought s c.source-item.result not_brought there (sym c.in_ok-comes_to_hand.ensures.at_hand ∙ stops))
@@ -61,10 +60,12 @@ returns-clause-at_hand t c =
     let all = sym (ap (list_all (available sites ar)) (take_all c.loop-source.source-index c.sources_of-source-items.result.now c.loop-source-test.false ∙ c.sources_of-source-items.ensures)) ∙ c.loop-source.invariant.come in
     sym (made_at_hand sites c.requires.sources ar.brought c.args.site (sym c.waits_at.ensures ∙ c.if-waits_at.false) all)
 
-pub returns-clause-found : goal.returns-clause-found
-returns-clause-found t c =
+pub note-requires : goal.note-requires
+note-requires t c =
     let sites = (set_view c.args.set.now).sites in
     let ar = around_view c.args.around.now in
     let all = sym (ap (list_all (available sites ar)) (take_all c.loop-source.source-index c.sources_of-source-items.result.now c.loop-source-test.false ∙ c.sources_of-source-items.ensures)) ∙ c.loop-source.invariant.come in
-    found_more sites ar c.args.site c.loop-source.found c.insert.new.self c.in_ok-insert.ensures.has (made_at_hand sites c.requires.sources ar.brought c.args.site (sym c.waits_at.ensures ∙ c.if-waits_at.false) all)
-    c.loop-source.invariant.found
+    record {
+      at_hand = made_at_hand sites c.requires.sources ar.brought c.args.site (sym c.waits_at.ensures ∙ c.if-waits_at.false) all;
+      found = c.loop-source.invariant.found;
+    }

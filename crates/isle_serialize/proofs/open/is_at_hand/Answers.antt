@@ -9,7 +9,7 @@ use Rattle.isle_serialize.specs.AroundViews.{around_view}
 use Rattle.isle_serialize.proofs.open.is_at_hand.Goals as goal
 
 pub comes_to_hand-requires : goal.comes_to_hand-requires
-comes_to_hand-requires c = record { sources = c.requires.sources; known = c.requires.known; found = λ s e. absurd (false≢true (sym (c.new-found.ensures.none s) ∙ e)) }
+comes_to_hand-requires c = record { sources = c.requires.sources; known = c.requires.known; found = λ s e. absurd (false≢true (sym (c.new-found.ensures s) ∙ e)) }
 
 pub returns : goal.returns
 returns c =

@@ -1,10 +1,10 @@
-use Rattle.std.proofs.Common.{◌≡◌, suc, ◌+◌, ◌<◌, [], length, get_or, refl, sym, ap, ◌∙◌, inl, Some, rules, arith}
+use Rattle.std.proofs.Common.{◌≡◌, suc, ◌+◌, ◌<◌, List, [], ◌∷◌, length, get_or, refl, sym, ap, ◌∙◌, inl, Some, rules, arith}
 use Rattle.std.proofs.lemmas.Int.{to_z-of_z}
 use Rattle.std.proofs.lemmas.List.{length-map}
 use mir.Val.{SFits}
 use mir.Syntax.{w128}
 use Rattle.isle_base.specs.SyntaxViews as S
-use Rattle.isle_model.specs.lists.Syntax.{no_expr}
+use Rattle.isle_model.specs.lists.Syntax.{Position, no_expr, term_expr, let_expr, no_let}
 use Rattle.isle_terms.specs.TermViews.{flags_view, term_view}
 use Rattle.isle_types.specs.declared.ids.TypeId.{TypeId}
 use Rattle.isle_rules.specs.ExprReadings.{expected, expr_reading, args_reading}
@@ -17,6 +17,11 @@ use Rattle.isle_rules.proofs.ExprSizes.{expr_size, exprs_size, lets_size, less, 
 use Rattle.isle_rules.proofs.ExprForms.{seen_call, seen_let, args_done, args_stop}
 use Rattle.isle_rules.proofs.LetForms.{def_unknown, def_reported, def_stops, def_done, no_def_yet, next_def, next_stops, let_first_stops, let_reported, let_stops, let_done}
 use Rattle.isle_rules.proofs.Readings.{stop_is, stop_keeps, stays_on, may_report, keep_none, keep_on, expanded_done}
+use Rattle.isle_base.specs.Positions.{AreAmong, expr_positions, exprs_positions, lets_positions}
+use Rattle.isle_base.proofs.Positioned.{among_same, among_first, notes_among, notes_nothing}
+use Rattle.isle_rules.specs.Lets.{with_let}
+use Rattle.isle_rules.proofs.Placed.{stays_among, stays_step, stop_among, stop_step, notes_step}
+use Rattle.isle_rules.proofs.PartPlaces.{among_both_first, call_inside, defs_inside, body_inside, arg_inside, def_inside, value_inside}
 use Rattle.isle_rules.proofs.term_env.TermEnv.+translate_expr.Goals as goal
 
 pub translate_expr-use_in_expr-requires-clause-whole : goal.translate_expr-use_in_expr-requires-clause-whole
@@ -24,13 +29,13 @@ translate_expr-use_in_expr-requires-clause-whole t c = seen_call c.args.expr.now
 
 pub translate_expr-translate_expr-requires : goal.translate_expr-translate_expr-requires
 translate_expr-translate_expr-requires t c =
-    let u = rw c.in-Conversion.is at c.in_ok-use_in_expr-in-Term.ensures in
+    let u = rw c.in-Conversion.is at c.in_ok-use_in_expr-in-Term.ensures.uses in
     let h = inside_less c.args.nesting c.in-Conversion.left (S.expr_view c.args.expr.now) (S.expr_view c.in-Conversion.inside) u.form.0 u.form.1 u.nests u.form.2 in
     (omega (arith, c.decreases, h), c.requires)
 
 pub translate_expr-returns-in-Conversion-clause-made : goal.translate_expr-returns-in-Conversion-clause-made
 translate_expr-returns-in-Conversion-clause-made t c =
-    let u = rw c.in-Conversion.is at c.in_ok-use_in_expr-in-Term.ensures in
+    let u = rw c.in-Conversion.is at c.in_ok-use_in_expr-in-Term.ensures.uses in
     expanded_done c.args.self.now (standing c.args.tyenv.now c.args.work.now) (standing c.args.tyenv.now c.use_in_expr.new.work) _ refl c.args.nesting c.in-Conversion.left u.nests
     (expr_reading (S.expr_view c.args.expr.now) (flags_view c.args.flags) (expected c.args.expected_ty)) (expr_reading (S.expr_view c.in-Conversion.inside) (flags_view c.args.flags) (expected c.args.expected_ty)) expr_view (inl u.expands) _ c.translate_expr.ensures.made
 
@@ -42,7 +47,7 @@ translate_expr-translate_exprs-requires t c =
 
 pub translate_expr-returns-in_err-parts-in-Parts-clause-made : goal.translate_expr-returns-in_err-parts-in-Parts-clause-made
 translate_expr-returns-in_err-parts-in-Parts-clause-made t c =
-    let u = rw c.in-Parts.is at c.in_ok-use_in_expr-in-Term.ensures in
+    let u = rw c.in-Parts.is at c.in_ok-use_in_expr-in-Term.ensures.uses in
     let args : c.deref-in-Parts.result.now ≡ c.deref.result.now = c.deref-in-Parts.ensures.value ∙ sym c.deref.ensures.value in
     let made = rw (args, c.as_slice-tys.ensures.value) at c.in_err-parts-in-Parts.ensures.made in
     rw (stop_is c.from_residual-in_err-parts-in-Parts.result c.in_err-parts-in-Parts.field-0.0 c.from_residual-in_err-parts-in-Parts.ensures)
@@ -52,7 +57,7 @@ translate_expr-returns-in_err-parts-in-Parts-clause-made t c =
 
 pub translate_expr-returns-in_ok-parts-in-Parts-clause-made : goal.translate_expr-returns-in_ok-parts-in-Parts-clause-made
 translate_expr-returns-in_ok-parts-in-Parts-clause-made t c =
-    let u = rw c.in-Parts.is at c.in_ok-use_in_expr-in-Term.ensures in
+    let u = rw c.in-Parts.is at c.in_ok-use_in_expr-in-Term.ensures.uses in
     let args : c.deref-in-Parts.result.now ≡ c.deref.result.now = c.deref-in-Parts.ensures.value ∙ sym c.deref.ensures.value in
     let made = rw (args, c.as_slice-tys.ensures.value) at c.in_ok-parts-in-Parts.ensures.made in
     rw (row_exprs-hidden c.in_ok-parts-in-Parts.parts)
@@ -62,33 +67,33 @@ translate_expr-returns-in_ok-parts-in-Parts-clause-made t c =
 
 pub translate_expr-returns-in_err-use_var-in-Var-clause-made : goal.translate_expr-returns-in_err-use_var-in-Var-clause-made
 translate_expr-returns-in_err-use_var-in-Var-clause-made t c =
-    rw (stop_is c.from_residual-in_err-use_var-in-Var.result c.in_err-use_var-in-Var.field-0.0 c.from_residual-in_err-use_var-in-Var.ensures) (c.in_err-use_var-in-Var.ensures (flags_view c.args.flags))
+    rw (stop_is c.from_residual-in_err-use_var-in-Var.result c.in_err-use_var-in-Var.field-0.0 c.from_residual-in_err-use_var-in-Var.ensures) (c.in_err-use_var-in-Var.ensures.uses (flags_view c.args.flags))
 
 pub translate_expr-returns-in-Wrong-2-clause-made : goal.translate_expr-returns-in-Wrong-2-clause-made
-translate_expr-returns-in-Wrong-2-clause-made t c = rw c.in-Wrong-2.is at (c.in_ok-use_var-in-Var.ensures (flags_view c.args.flags))
+translate_expr-returns-in-Wrong-2-clause-made t c = rw c.in-Wrong-2.is at (c.in_ok-use_var-in-Var.ensures.uses (flags_view c.args.flags))
 
 pub translate_expr-translate_expr-requires-in-Conversion-2 : goal.translate_expr-translate_expr-requires-in-Conversion-2
 translate_expr-translate_expr-requires-in-Conversion-2 t c =
-    let u = rw c.in-Conversion-2.is at (c.in_ok-use_var-in-Var.ensures (flags_view c.args.flags)) in
+    let u = rw c.in-Conversion-2.is at (c.in_ok-use_var-in-Var.ensures.uses (flags_view c.args.flags)) in
     let h = inside_less c.args.nesting c.in-Conversion-2.left (S.expr_view c.args.expr.now) (S.expr_view c.in-Conversion-2.inside) u.form.0 u.form.1 u.nests u.form.2 in
     (omega (arith, c.decreases, h), c.requires)
 
 pub translate_expr-returns-in-Conversion-2-clause-made : goal.translate_expr-returns-in-Conversion-2-clause-made
 translate_expr-returns-in-Conversion-2-clause-made t c =
-    let u = rw c.in-Conversion-2.is at (c.in_ok-use_var-in-Var.ensures (flags_view c.args.flags)) in
+    let u = rw c.in-Conversion-2.is at (c.in_ok-use_var-in-Var.ensures.uses (flags_view c.args.flags)) in
     expanded_done c.args.self.now (standing c.args.tyenv.now c.args.work.now) (standing c.args.tyenv.now c.use_var.new.work) _ refl c.args.nesting c.in-Conversion-2.left u.nests
     (expr_reading (S.expr_view c.args.expr.now) (flags_view c.args.flags) (expected c.args.expected_ty)) (expr_reading (S.expr_view c.in-Conversion-2.inside) (flags_view c.args.flags) (expected c.args.expected_ty)) expr_view (inl u.expands) _ c.translate_expr-in-Conversion-2.ensures.made
 
 pub translate_expr-returns-in-Var-2-clause-made : goal.translate_expr-returns-in-Var-2-clause-made
-translate_expr-returns-in-Var-2-clause-made t c = rw c.in-Var-2.is at (c.in_ok-use_var-in-Var.ensures (flags_view c.args.flags))
+translate_expr-returns-in-Var-2-clause-made t c = rw c.in-Var-2.is at (c.in_ok-use_var-in-Var.ensures.uses (flags_view c.args.flags))
 
 pub translate_expr-returns-in-ConstBool-clause-made : goal.translate_expr-returns-in-ConstBool-clause-made
-translate_expr-returns-in-ConstBool-clause-made t c = rw c.in-ConstBool.is (c.make_bool.ensures (flags_view c.args.flags) c.args.nesting)
+translate_expr-returns-in-ConstBool-clause-made t c = rw c.in-ConstBool.is (c.make_bool.ensures.made (flags_view c.args.flags) c.args.nesting)
 
 pub translate_expr-returns-in-ConstInt-clause-made : goal.translate_expr-returns-in-ConstInt-clause-made
 translate_expr-returns-in-ConstInt-clause-made t c =
     let fits : SFits w128 c.in-ConstInt.val = search rules in
-    rw c.in-ConstInt.is (rw (to_z-of_z w128 c.in-ConstInt.val fits) at (c.make_int.ensures (flags_view c.args.flags) c.args.nesting))
+    rw c.in-ConstInt.is (rw (to_z-of_z w128 c.in-ConstInt.val fits) at (c.make_int.ensures.made (flags_view c.args.flags) c.args.nesting))
 
 pub translate_expr-returns-in-ConstPrim-clause-made : goal.translate_expr-returns-in-ConstPrim-clause-made
 translate_expr-returns-in-ConstPrim-clause-made t c = rw c.in-ConstPrim.is (c.make_prim.ensures.made (flags_view c.args.flags) c.args.nesting)
@@ -116,6 +121,7 @@ pub translate_exprs-loop-i-init : goal.translate_exprs-loop-i-init
 translate_exprs-loop-i-init t c = (
   keep_none c.args.tyenv.now c.requires,
   none_yet c.args.self.now (standing c.args.tyenv.now c.args.work.now) c.args.nesting (args_reading no_expr (flags_view c.args.flags) []) c.in_ok-parts.parts.items c.in_ok-parts.ensures.items (λ e k s. refl),
+  notes_nothing _ _ _ refl,
 )
 
 pub translate_exprs-returns-in_err-part-clause-made : goal.translate_exprs-returns-in_err-part-clause-made
@@ -147,6 +153,12 @@ translate_exprs-loop-i-preserved t c =
           (next_arg c.args.self.now (standing c.args.tyenv.now c.args.work.now) (standing c.loop-i.tyenv c.loop-i.work) (standing c.translate_expr.new.tyenv c.translate_expr.new.work) c.args.nesting (flags_view c.args.flags)
           c.args.args.now c.args.tys.now c.loop-i.i c.index-args-i.result ty w v c.index-args-i.is (same_default c.args.tys.now c.loop-i.i (record { 0 = 0 }) ty v) c.loop-i.invariant.0
           c.loop-i.parts.items c.loop-i.invariant.1 c.in_ok-part.part c.in_ok-part.ensures.made),
+      (
+          let whole = exprs_positions (S.expr_views c.args.args.now) in
+          let part = expr_positions (S.expr_view c.index-args-i.result) in
+          notes_step whole part whole c.args.work.now.errors.items c.loop-i.work.errors.items c.translate_expr.new.work.errors.items
+          (among_same whole) (arg_inside c.args.args.now c.loop-i.i c.index-args-i.result w c.index-args-i.is) c.loop-i.invariant.2 c.in_ok-part.ensures.places
+          ),
     )
 
 pub translate_let-translate_defs-requires : goal.translate_let-translate_defs-requires
@@ -192,6 +204,7 @@ pub translate_defs-loop-def-init : goal.translate_defs-loop-def-init
 translate_defs-loop-def-init t c = (
   keep_none c.args.tyenv.now c.requires,
   no_def_yet c.args.self.now (standing c.args.tyenv.now c.args.work.now) c.args.nesting (flags_view c.args.flags) c.args.hidden.now.items c.in_ok-bindings.bindings.items c.in_ok-bindings.ensures.items,
+  notes_nothing _ _ _ refl,
 )
 
 pub translate_defs-translate_def-requires : goal.translate_defs-translate_def-requires
@@ -216,6 +229,13 @@ translate_defs-loop-def-preserved t c =
           (next_def c.args.self.now (standing c.args.tyenv.now c.args.work.now) (standing c.loop-def.tyenv c.loop-def.work) (standing c.translate_def.new.tyenv c.translate_def.new.work) c.args.nesting (flags_view c.args.flags)
           c.args.defs.now c.loop-def.def-index c.def-item.result c.loop-def-test.true c.def-item.is c.loop-def.invariant.0 c.loop-def.bindings.items c.args.hidden.now.items c.loop-def.hidden.items c.loop-def.invariant.1
           c.in_ok-made.made c.translate_def.new.hidden.items c.in_ok-made.ensures.made),
+      (
+          let at = S.position c.args.pos in
+          let whole = at ∷ lets_positions (S.let_views c.args.defs.now) in
+          let one = lets_positions (with_let c.def-item.result no_let) in
+          let inside : AreAmong (at ∷ one) whole = among_both_first at one (lets_positions (S.let_views c.args.defs.now)) (def_inside c.args.defs.now c.loop-def.def-index c.def-item.result c.loop-def-test.true c.def-item.is) in
+          notes_step whole (at ∷ one) whole c.args.work.now.errors.items c.loop-def.work.errors.items c.translate_def.new.work.errors.items (among_same whole) inside c.loop-def.invariant.2 c.in_ok-made.ensures.places
+          ),
     )
 
 pub translate_def-returns-in_default-clause-made : goal.translate_def-returns-in_default-clause-made
@@ -253,3 +273,217 @@ translate_def-returns-clause-made t c =
     (standing c.translate_expr.new.tyenv c.translate_expr.new.work) (standing c.translate_expr.new.tyenv c.bind_def.new.work) (expr_view c.in-Some-made.val) refl c.translate_expr.ensures.keeps c.args.hidden.now.items c.bind_def.new.hidden.items
     c.in-Some.name.0 u.2 c.in_ok-bound.bound c.in_ok-bound.ensures
     (rw (c.in-Some-made.is, c.deref.ensures) at c.in_ok-made.ensures.made)
+
+pub translate_exprs-returns-in_err-part-clause-places : goal.translate_exprs-returns-in_err-part-clause-places
+translate_exprs-returns-in_err-part-clause-places t c =
+    let w : c.loop-i.i < length c.args.args.now = search rules in
+    let whole = exprs_positions (S.expr_views c.args.args.now) in
+    let part = expr_positions (S.expr_view c.index-args-i.result) in
+    rw (stop_is c.from_residual-in_err-part.result c.in_err-part.field-0.0 c.from_residual-in_err-part.ensures)
+    (stop_step whole part whole c.args.work.now.errors.items c.loop-i.work.errors.items c.translate_expr.new.work.errors.items c.in_err-part.field-0.0
+    (among_same whole) (arg_inside c.args.args.now c.loop-i.i c.index-args-i.result w c.index-args-i.is) c.loop-i.invariant.2 c.in_err-part.ensures.places)
+
+pub translate_exprs-returns-clause-places : goal.translate_exprs-returns-clause-places
+translate_exprs-returns-clause-places t c =
+    c.loop-i.invariant.2
+
+pub translate_defs-returns-in_err-made-clause-places : goal.translate_defs-returns-in_err-made-clause-places
+translate_defs-returns-in_err-made-clause-places t c =
+    let at = S.position c.args.pos in
+    let whole = at ∷ lets_positions (S.let_views c.args.defs.now) in
+    let one = lets_positions (with_let c.def-item.result no_let) in
+    let inside : AreAmong (at ∷ one) whole = among_both_first at one (lets_positions (S.let_views c.args.defs.now)) (def_inside c.args.defs.now c.loop-def.def-index c.def-item.result c.loop-def-test.true c.def-item.is) in
+    rw (stop_is c.from_residual-in_err-made.result c.in_err-made.field-0.0 c.from_residual-in_err-made.ensures)
+    (stop_step whole (at ∷ one) whole c.args.work.now.errors.items c.loop-def.work.errors.items c.translate_def.new.work.errors.items c.in_err-made.field-0.0 (among_same whole) inside c.loop-def.invariant.2 c.in_err-made.ensures.places)
+
+pub translate_defs-returns-clause-places : goal.translate_defs-returns-clause-places
+translate_defs-returns-clause-places t c =
+    c.loop-def.invariant.2
+
+pub translate_def-returns-in_default-clause-places : goal.translate_def-returns-in_default-clause-places
+translate_def-returns-in_default-clause-places t c =
+    let at = S.position c.args.pos in
+    let whole = at ∷ lets_positions (with_let c.args.def.now no_let) in
+    let value = expr_positions (S.expr_view c.args.def.now.val.value) in
+    let here : AreAmong (at ∷ []) whole = among_first at (lets_positions (with_let c.args.def.now no_let)) in
+    notes_among (at ∷ []) whole c.args.work.now.errors.items c.begin_def.new.errors.items here c.in_ok-name.ensures.places
+
+pub translate_def-returns-in_err-made-clause-places : goal.translate_def-returns-in_err-made-clause-places
+translate_def-returns-in_err-made-clause-places t c =
+    let at = S.position c.args.pos in
+    let whole = at ∷ lets_positions (with_let c.args.def.now no_let) in
+    let value = expr_positions (S.expr_view c.args.def.now.val.value) in
+    let here : AreAmong (at ∷ []) whole = among_first at (lets_positions (with_let c.args.def.now no_let)) in
+    let placed = rw c.deref.ensures at c.in_err-made.ensures.places in
+    rw (stop_is c.from_residual-in_err-made.result c.in_err-made.field-0.0 c.from_residual-in_err-made.ensures)
+    (stop_step (at ∷ []) value whole c.args.work.now.errors.items c.begin_def.new.errors.items c.translate_expr.new.work.errors.items c.in_err-made.field-0.0 here (value_inside at c.args.def.now) c.in_ok-name.ensures.places placed)
+
+pub translate_def-returns-in_default-made-clause-places : goal.translate_def-returns-in_default-made-clause-places
+translate_def-returns-in_default-made-clause-places t c =
+    let at = S.position c.args.pos in
+    let whole = at ∷ lets_positions (with_let c.args.def.now no_let) in
+    let value = expr_positions (S.expr_view c.args.def.now.val.value) in
+    let here : AreAmong (at ∷ []) whole = among_first at (lets_positions (with_let c.args.def.now no_let)) in
+    let placed = rw c.deref.ensures at c.in_ok-made.ensures.places in
+    notes_step (at ∷ []) value whole c.args.work.now.errors.items c.begin_def.new.errors.items c.translate_expr.new.work.errors.items here (value_inside at c.args.def.now) c.in_ok-name.ensures.places placed
+
+pub translate_def-returns-clause-places : goal.translate_def-returns-clause-places
+translate_def-returns-clause-places t c =
+    let at = S.position c.args.pos in
+    let whole = at ∷ lets_positions (with_let c.args.def.now no_let) in
+    let value = expr_positions (S.expr_view c.args.def.now.val.value) in
+    let here : AreAmong (at ∷ []) whole = among_first at (lets_positions (with_let c.args.def.now no_let)) in
+    let placed = rw c.deref.ensures at c.in_ok-made.ensures.places in
+    rw c.in_ok-bound.ensures.binds.errors
+    (notes_step (at ∷ []) value whole c.args.work.now.errors.items c.begin_def.new.errors.items c.translate_expr.new.work.errors.items here (value_inside at c.args.def.now) c.in_ok-name.ensures.places placed)
+
+pub translate_let-returns-in_err-bindings-clause-places : goal.translate_let-returns-in_err-bindings-clause-places
+translate_let-returns-in_err-bindings-clause-places t c =
+    let at = S.position c.args.pos in
+    let defs = S.let_views c.args.defs.now in
+    let body = S.expr_view c.args.body.now in
+    let all = expr_positions (let_expr defs body at) in
+    let first : List Position = at ∷ lets_positions defs in
+    rw (stop_is c.from_residual.result c.in_err-bindings.field-0.0 c.from_residual.ensures)
+    (stop_among first all c.args.work.now.errors.items c.translate_defs.new.work.errors.items c.in_err-bindings.field-0.0 (defs_inside defs body at) c.in_err-bindings.ensures.places)
+
+pub translate_let-returns-in_err-made-clause-places : goal.translate_let-returns-in_err-made-clause-places
+translate_let-returns-in_err-made-clause-places t c =
+    let at = S.position c.args.pos in
+    let defs = S.let_views c.args.defs.now in
+    let body = S.expr_view c.args.body.now in
+    let all = expr_positions (let_expr defs body at) in
+    let first : List Position = at ∷ lets_positions defs in
+    rw (stop_is c.from_residual-in_err-made.result c.in_err-made.field-0.0 c.from_residual-in_err-made.ensures)
+    (stop_step first (expr_positions body) all c.args.work.now.errors.items c.translate_defs.new.work.errors.items c.translate_expr.new.work.errors.items c.in_err-made.field-0.0 (defs_inside defs body at) (body_inside defs body at) c.in_ok-bindings.ensures.places c.in_err-made.ensures.places)
+
+pub translate_let-returns-in_default-clause-places : goal.translate_let-returns-in_default-clause-places
+translate_let-returns-in_default-clause-places t c =
+    let at = S.position c.args.pos in
+    let defs = S.let_views c.args.defs.now in
+    let body = S.expr_view c.args.body.now in
+    let all = expr_positions (let_expr defs body at) in
+    let first : List Position = at ∷ lets_positions defs in
+    notes_step first (expr_positions body) all c.args.work.now.errors.items c.translate_defs.new.work.errors.items c.translate_expr.new.work.errors.items (defs_inside defs body at) (body_inside defs body at) c.in_ok-bindings.ensures.places c.in_ok-made.ensures.places
+
+pub translate_let-returns-clause-places : goal.translate_let-returns-clause-places
+translate_let-returns-clause-places t c =
+    let at = S.position c.args.pos in
+    let defs = S.let_views c.args.defs.now in
+    let body = S.expr_view c.args.body.now in
+    let all = expr_positions (let_expr defs body at) in
+    let first : List Position = at ∷ lets_positions defs in
+    rw c.in_ok-whole.ensures.closes.errors
+    (notes_step first (expr_positions body) all c.args.work.now.errors.items c.translate_defs.new.work.errors.items c.translate_expr.new.work.errors.items (defs_inside defs body at) (body_inside defs body at) c.in_ok-bindings.ensures.places c.in_ok-made.ensures.places)
+
+pub translate_expr-returns-in-ConstBool-clause-places : goal.translate_expr-returns-in-ConstBool-clause-places
+translate_expr-returns-in-ConstBool-clause-places t c =
+    rw c.in-ConstBool.is
+    (stays_among (S.position c.in-ConstBool.pos ∷ []) (S.position c.in-ConstBool.pos ∷ []) c.args.work.now.errors.items c.make_bool.new.work.errors.items c.make_bool.result (among_first (S.position c.in-ConstBool.pos) []) c.make_bool.ensures.places)
+
+pub translate_expr-returns-in-ConstInt-clause-places : goal.translate_expr-returns-in-ConstInt-clause-places
+translate_expr-returns-in-ConstInt-clause-places t c =
+    rw c.in-ConstInt.is
+    (stays_among (S.position c.in-ConstInt.pos ∷ []) (S.position c.in-ConstInt.pos ∷ []) c.args.work.now.errors.items c.make_int.new.work.errors.items c.make_int.result (among_first (S.position c.in-ConstInt.pos) []) c.make_int.ensures.places)
+
+pub translate_expr-returns-in-ConstPrim-clause-places : goal.translate_expr-returns-in-ConstPrim-clause-places
+translate_expr-returns-in-ConstPrim-clause-places t c =
+    rw c.in-ConstPrim.is
+    (stays_among (S.position c.in-ConstPrim.pos ∷ []) (S.position c.in-ConstPrim.pos ∷ ((S.name_view c.in-ConstPrim.val).at ∷ [])) c.args.work.now.errors.items c.make_prim.new.work.errors.items c.make_prim.result (among_first (S.position c.in-ConstPrim.pos) ((S.name_view c.in-ConstPrim.val).at ∷ [])) c.make_prim.ensures.places)
+
+pub translate_expr-returns-in_err-use_in_expr-in-Term-clause-places : goal.translate_expr-returns-in_err-use_in_expr-in-Term-clause-places
+translate_expr-returns-in_err-use_in_expr-in-Term-clause-places t c =
+    let name = S.name_view c.in-Term.sym in
+    let args = S.expr_views c.deref.result.now in
+    let at = S.position c.in-Term.pos in
+    let all : List Position = expr_positions (term_expr name args at) in
+    let here : AreAmong (at ∷ []) all = among_first at (name.at ∷ exprs_positions args) in
+    rw (stop_is c.from_residual.result c.in_err-use_in_expr-in-Term.field-0.0 c.from_residual.ensures, seen_call c.args.expr.now c.in-Term.sym c.in-Term.args c.in-Term.pos c.deref.result.now c.in-Term.is c.deref.ensures.value)
+    (stop_among (at ∷ []) all c.args.work.now.errors.items c.use_in_expr.new.work.errors.items c.in_err-use_in_expr-in-Term.field-0.0 here c.in_err-use_in_expr-in-Term.ensures.places)
+
+pub translate_expr-returns-in-Wrong-clause-places : goal.translate_expr-returns-in-Wrong-clause-places
+translate_expr-returns-in-Wrong-clause-places t c =
+    let name = S.name_view c.in-Term.sym in
+    let args = S.expr_views c.deref.result.now in
+    let at = S.position c.in-Term.pos in
+    let all : List Position = expr_positions (term_expr name args at) in
+    let here : AreAmong (at ∷ []) all = among_first at (name.at ∷ exprs_positions args) in
+    rw (seen_call c.args.expr.now c.in-Term.sym c.in-Term.args c.in-Term.pos c.deref.result.now c.in-Term.is c.deref.ensures.value) (notes_among (at ∷ []) all c.args.work.now.errors.items c.use_in_expr.new.work.errors.items here c.in_ok-use_in_expr-in-Term.ensures.places)
+
+pub translate_expr-returns-in-Conversion-clause-places : goal.translate_expr-returns-in-Conversion-clause-places
+translate_expr-returns-in-Conversion-clause-places t c =
+    let name = S.name_view c.in-Term.sym in
+    let args = S.expr_views c.deref.result.now in
+    let at = S.position c.in-Term.pos in
+    let all : List Position = expr_positions (term_expr name args at) in
+    let here : AreAmong (at ∷ []) all = among_first at (name.at ∷ exprs_positions args) in
+    let made = expr_positions (S.expr_view c.in-Conversion.inside) in
+    let inside : AreAmong made all = rw (seen_call c.args.expr.now c.in-Term.sym c.in-Term.args c.in-Term.pos c.deref.result.now c.in-Term.is c.deref.ensures.value) at (rw c.in-Conversion.is at c.in_ok-use_in_expr-in-Term.ensures.among) in
+    rw (seen_call c.args.expr.now c.in-Term.sym c.in-Term.args c.in-Term.pos c.deref.result.now c.in-Term.is c.deref.ensures.value)
+    (stays_step (at ∷ []) made all c.args.work.now.errors.items c.use_in_expr.new.work.errors.items c.translate_expr.new.work.errors.items c.translate_expr.result here inside c.in_ok-use_in_expr-in-Term.ensures.places c.translate_expr.ensures.places)
+
+pub translate_expr-returns-in_err-parts-in-Parts-clause-places : goal.translate_expr-returns-in_err-parts-in-Parts-clause-places
+translate_expr-returns-in_err-parts-in-Parts-clause-places t c =
+    let name = S.name_view c.in-Term.sym in
+    let args = S.expr_views c.deref.result.now in
+    let at = S.position c.in-Term.pos in
+    let all : List Position = expr_positions (term_expr name args at) in
+    let here : AreAmong (at ∷ []) all = among_first at (name.at ∷ exprs_positions args) in
+    let same : c.deref-in-Parts.result.now ≡ c.deref.result.now = c.deref-in-Parts.ensures.value ∙ sym c.deref.ensures.value in
+    let parts = exprs_positions args in
+    let placed = rw same at c.in_err-parts-in-Parts.ensures.places in
+    rw (stop_is c.from_residual-in_err-parts-in-Parts.result c.in_err-parts-in-Parts.field-0.0 c.from_residual-in_err-parts-in-Parts.ensures, seen_call c.args.expr.now c.in-Term.sym c.in-Term.args c.in-Term.pos c.deref.result.now c.in-Term.is c.deref.ensures.value)
+    (stop_step (at ∷ []) parts all c.args.work.now.errors.items c.use_in_expr.new.work.errors.items c.translate_exprs.new.work.errors.items c.in_err-parts-in-Parts.field-0.0 here (call_inside name args at) c.in_ok-use_in_expr-in-Term.ensures.places placed)
+
+pub translate_expr-returns-in_ok-parts-in-Parts-clause-places : goal.translate_expr-returns-in_ok-parts-in-Parts-clause-places
+translate_expr-returns-in_ok-parts-in-Parts-clause-places t c =
+    let name = S.name_view c.in-Term.sym in
+    let args = S.expr_views c.deref.result.now in
+    let at = S.position c.in-Term.pos in
+    let all : List Position = expr_positions (term_expr name args at) in
+    let here : AreAmong (at ∷ []) all = among_first at (name.at ∷ exprs_positions args) in
+    let same : c.deref-in-Parts.result.now ≡ c.deref.result.now = c.deref-in-Parts.ensures.value ∙ sym c.deref.ensures.value in
+    let parts = exprs_positions args in
+    let placed = rw same at c.in_ok-parts-in-Parts.ensures.places in
+    rw (seen_call c.args.expr.now c.in-Term.sym c.in-Term.args c.in-Term.pos c.deref.result.now c.in-Term.is c.deref.ensures.value) (notes_step (at ∷ []) parts all c.args.work.now.errors.items c.use_in_expr.new.work.errors.items c.translate_exprs.new.work.errors.items here (call_inside name args at) c.in_ok-use_in_expr-in-Term.ensures.places placed)
+
+pub translate_expr-returns-in_err-use_var-in-Var-clause-places : goal.translate_expr-returns-in_err-use_var-in-Var-clause-places
+translate_expr-returns-in_err-use_var-in-Var-clause-places t c =
+    let at = S.position c.in-Var.pos in
+    let name = S.name_view c.in-Var.name in
+    let all : List Position = at ∷ name.at ∷ [] in
+    let here : AreAmong (at ∷ []) all = among_first at (name.at ∷ []) in
+    rw (stop_is c.from_residual-in_err-use_var-in-Var.result c.in_err-use_var-in-Var.field-0.0 c.from_residual-in_err-use_var-in-Var.ensures, c.in-Var.is)
+    (stop_among (at ∷ []) all c.args.work.now.errors.items c.use_var.new.work.errors.items c.in_err-use_var-in-Var.field-0.0 here c.in_err-use_var-in-Var.ensures.places)
+
+pub translate_expr-returns-in-Wrong-2-clause-places : goal.translate_expr-returns-in-Wrong-2-clause-places
+translate_expr-returns-in-Wrong-2-clause-places t c =
+    let at = S.position c.in-Var.pos in
+    let name = S.name_view c.in-Var.name in
+    let all : List Position = at ∷ name.at ∷ [] in
+    let here : AreAmong (at ∷ []) all = among_first at (name.at ∷ []) in
+    rw c.in-Var.is (notes_among (at ∷ []) all c.args.work.now.errors.items c.use_var.new.work.errors.items here c.in_ok-use_var-in-Var.ensures.places)
+
+pub translate_expr-returns-in-Var-2-clause-places : goal.translate_expr-returns-in-Var-2-clause-places
+translate_expr-returns-in-Var-2-clause-places t c =
+    let at = S.position c.in-Var.pos in
+    let name = S.name_view c.in-Var.name in
+    let all : List Position = at ∷ name.at ∷ [] in
+    let here : AreAmong (at ∷ []) all = among_first at (name.at ∷ []) in
+    rw c.in-Var.is (notes_among (at ∷ []) all c.args.work.now.errors.items c.use_var.new.work.errors.items here c.in_ok-use_var-in-Var.ensures.places)
+
+pub translate_expr-returns-in-Conversion-2-clause-places : goal.translate_expr-returns-in-Conversion-2-clause-places
+translate_expr-returns-in-Conversion-2-clause-places t c =
+    let at = S.position c.in-Var.pos in
+    let name = S.name_view c.in-Var.name in
+    let all : List Position = at ∷ name.at ∷ [] in
+    let here : AreAmong (at ∷ []) all = among_first at (name.at ∷ []) in
+    let made = expr_positions (S.expr_view c.in-Conversion-2.inside) in
+    let inside : AreAmong made all = rw c.in-Var.is at (rw c.in-Conversion-2.is at c.in_ok-use_var-in-Var.ensures.among) in
+    rw c.in-Var.is
+    (stays_step (at ∷ []) made all c.args.work.now.errors.items c.use_var.new.work.errors.items c.translate_expr-in-Conversion-2.new.work.errors.items c.translate_expr-in-Conversion-2.result here inside c.in_ok-use_var-in-Var.ensures.places c.translate_expr-in-Conversion-2.ensures.places)
+
+pub translate_expr-returns-in-Let-clause-places : goal.translate_expr-returns-in-Let-clause-places
+translate_expr-returns-in-Let-clause-places t c =
+    rw (seen_let c.args.expr.now c.in-Let.defs c.in-Let.body c.in-Let.pos c.deref-in-Let.result.now c.deref-in-Let-2.result.now c.in-Let.is c.deref-in-Let.ensures.value c.deref-in-Let-2.ensures)
+    c.translate_let.ensures.places

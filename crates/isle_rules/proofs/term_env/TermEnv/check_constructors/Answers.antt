@@ -1,4 +1,4 @@
-use Rattle.std.proofs.Common.{IsTrue}
+use Rattle.std.proofs.Common.{IsTrue, refl}
 use Rattle.std.specs.List.{flat_map}
 use Rattle.std.proofs.lemmas.List.{drop_all}
 use Rattle.isle_base.specs.SyntaxViews.{definition_view, definition_views}
@@ -7,17 +7,32 @@ use Rattle.isle_model.specs.lists.TermTable.{rule_trees}
 use Rattle.isle_rules.specs.Constructors.{is_made, uses_of_rule, uses_of_definition}
 use Rattle.isle_rules.specs.PatternUses.{found_term}
 use Rattle.isle_rules.proofs.CheckedUses.{checked_first, checked_next, checked_last, left_at, uses_split}
+use Rattle.isle_base.specs.Positions.{definition_positions, positions_of}
+use Rattle.isle_base.proofs.Positioned.{among_same, notes_nothing}
+use Rattle.isle_rules.proofs.Placed.{notes_step}
+use Rattle.isle_rules.proofs.PartPlaces.{each_inside}
 use Rattle.isle_rules.proofs.term_env.TermEnv.check_constructors.Goals as goal
 
 pub loop-def-init : goal.loop-def-init
-loop-def-init c = checked_first (λ (u : Position × Name). IsTrue (is_made (found_term c.args.self.now c.args.tyenv.now u.1.text))) _ _
+loop-def-init c = (checked_first (λ (u : Position × Name). IsTrue (is_made (found_term c.args.self.now c.args.tyenv.now u.1.text))) _ _, notes_nothing _ _ _ refl)
 
 pub loop-def-preserved : goal.loop-def-preserved
-loop-def-preserved c =
-    checked_next (λ (u : Position × Name). IsTrue (is_made (found_term c.args.self.now c.args.tyenv.now u.1.text))) _ _ (uses_of_definition (definition_view c.def-item.result)) _ _ _ _
-    (left_at (λ d. uses_of_definition (definition_view d)) (λ ds. flat_map uses_of_rule (rule_trees (definition_views ds))) uses_split c.args.defs.now c.loop-def.def-index c.def-item.result c.loop-def-test.true c.def-item.is)
-    c.loop-def.invariant c.in_ok-check_definition.ensures
+loop-def-preserved c = (
+  checked_next (λ (u : Position × Name). IsTrue (is_made (found_term c.args.self.now c.args.tyenv.now u.1.text))) _ _ (uses_of_definition (definition_view c.def-item.result)) _ _ _ _
+      (left_at (λ d. uses_of_definition (definition_view d)) (λ ds. flat_map uses_of_rule (rule_trees (definition_views ds))) uses_split c.args.defs.now c.loop-def.def-index c.def-item.result c.loop-def-test.true c.def-item.is)
+      c.loop-def.invariant.0 c.in_ok-check_definition.ensures.checks,
+  (
+      let all = positions_of (definition_views c.args.defs.now) in
+      let one = definition_positions (definition_view c.def-item.result) in
+      notes_step all one all c.args.errors.now.items c.loop-def.errors.items c.check_definition.new.errors.items (among_same all)
+      (each_inside definition_positions definition_view c.args.defs.now c.loop-def.def-index c.def-item.result c.loop-def-test.true c.def-item.is) c.loop-def.invariant.1 c.in_ok-check_definition.ensures.places
+      ),
+)
 
-pub returns : goal.returns
-returns c =
-    checked_last (λ (u : Position × Name). IsTrue (is_made (found_term c.args.self.now c.args.tyenv.now u.1.text))) _ _ _ (rw (drop_all c.loop-def.def-index c.args.defs.now c.loop-def-test.false) at c.loop-def.invariant)
+pub returns-clause-checks : goal.returns-clause-checks
+returns-clause-checks c =
+    checked_last (λ (u : Position × Name). IsTrue (is_made (found_term c.args.self.now c.args.tyenv.now u.1.text))) _ _ _ (rw (drop_all c.loop-def.def-index c.args.defs.now c.loop-def-test.false) at c.loop-def.invariant.0)
+
+pub returns-clause-places : goal.returns-clause-places
+returns-clause-places c =
+    c.loop-def.invariant.1

@@ -7,12 +7,24 @@ use Rattle.isle_rules.specs.Constructors.{is_made, uses_of_rule, AreFoundMade}
 use Rattle.isle_reports.specs.Elaborating.{Checks}
 use Rattle.isle_rules.specs.PatternUses.{found_term}
 use Rattle.isle_rules.proofs.CheckedUses.{on_then, checks_all}
+use Rattle.isle_base.specs.Positions.{NotesAt, expr_positions, iflet_positions, rule_positions}
+use Rattle.isle_rules.proofs.Placed.{notes_step}
+use Rattle.isle_rules.proofs.PartPlaces.{rule_iflets, rule_value}
 use Rattle.isle_rules.proofs.term_env.TermEnv.check_rule.Goals as goal
 
-pub returns : goal.returns
-returns c =
+pub returns-clause-checks : goal.returns-clause-checks
+returns-clause-checks c =
     on_then c.check_expr.result (Checks c.check_iflets.new.errors.items c.check_expr.new.errors.items (AreFoundMade c.args.self.now c.args.tyenv.now (terms_of_expr (expr_view c.args.rule.now.expr))))
     (Checks c.args.errors.now.items c.check_expr.new.errors.items (AreFoundMade c.args.self.now c.args.tyenv.now (uses_of_rule (rule_view c.args.rule.now))))
     (checks_all (λ (u : Position × Name). IsTrue (is_made (found_term c.args.self.now c.args.tyenv.now u.1.text))) (flat_map (λ i. terms_of_expr i.expr) (map iflet_view c.args.rule.now.iflets.items)) (terms_of_expr (expr_view c.args.rule.now.expr))
-    c.args.errors.now.items c.check_iflets.new.errors.items c.check_expr.new.errors.items (rw c.deref.ensures.value at c.in_ok-check_iflets.ensures))
-    c.check_expr.ensures
+    c.args.errors.now.items c.check_iflets.new.errors.items c.check_expr.new.errors.items (rw c.deref.ensures.value at c.in_ok-check_iflets.ensures.checks))
+    c.check_expr.ensures.checks
+
+pub returns-clause-places : goal.returns-clause-places
+returns-clause-places c =
+    let tree = rule_view c.args.rule.now in
+    let first = flat_map iflet_positions (map iflet_view c.args.rule.now.iflets.items) in
+    let last = expr_positions (expr_view c.args.rule.now.expr) in
+    on_then c.check_expr.result (NotesAt last c.check_iflets.new.errors.items c.check_expr.new.errors.items) (NotesAt (rule_positions tree) c.args.errors.now.items c.check_expr.new.errors.items)
+    (notes_step first last (rule_positions tree) c.args.errors.now.items c.check_iflets.new.errors.items c.check_expr.new.errors.items (rule_iflets tree) (rule_value tree) (rw c.deref.ensures.value at c.in_ok-check_iflets.ensures.places))
+    c.check_expr.ensures.places

@@ -1,7 +1,12 @@
-use Rattle.std.proofs.Common.{◌≡◌, length, option_map, rules}
-use Rattle.isle_typed.specs.RuleViews.{rule_view}
+use Rattle.std.proofs.Common.{◌≡◌, length, option_map, rules, refl}
+use Rattle.isle_typed.specs.RuleViews.{rule_view, rule_views}
 use Rattle.isle_rules.proofs.RuleErrorSteps.{rule_noted}
 use Rattle.isle_rules.proofs.RuleEnds.{rule_added, rule_left_out}
+use Rattle.isle_base.specs.SyntaxViews.{definition_view, rule_view as tree_view}
+use Rattle.isle_base.specs.Positions.{definition_positions}
+use Rattle.isle_base.proofs.Positioned.{among_left, notes_nothing}
+use Rattle.isle_reports.specs.RuleNaming.{rules_at}
+use Rattle.isle_rules.proofs.PartPlaces.{added_rule}
 use Rattle.isle_rules.proofs.term_env.TermEnv.collect_definition.Goals as goal
 
 pub returns-in_default-2-clause-reads : goal.returns-in_default-2-clause-reads
@@ -27,3 +32,28 @@ pub returns-clause-notes : goal.returns-clause-notes
 returns-clause-notes c =
     rw c.in-Rule.is
     (rule_noted c.args.self.now c.args.tyenv.now c.collect_rule.new.tyenv c.requires c.args.work.now.errors.items c.collect_rule.new.work.errors.items c.len.result c.in-Rule.rule (option_map rule_view c.in_ok-made.field-0) c.in_ok-made.ensures.ends)
+
+pub returns-in_default-2-clause-places : goal.returns-in_default-2-clause-places
+returns-in_default-2-clause-places c =
+    rw c.in-Rule.is c.in_ok-made.ensures.places
+
+pub returns-clause-places : goal.returns-clause-places
+returns-clause-places c =
+    rw c.in-Rule.is c.in_ok-made.ensures.places
+
+pub returns-in_default-clause-places : goal.returns-in_default-clause-places
+returns-in_default-clause-places c =
+    notes_nothing _ _ _ refl
+
+pub returns-in_default-clause-stand : goal.returns-in_default-clause-stand
+returns-in_default-clause-stand c =
+    among_left (rules_at (rule_views c.args.rules.now.items)) (definition_positions (definition_view c.args.def.now))
+
+pub returns-in_default-2-clause-stand : goal.returns-in_default-2-clause-stand
+returns-in_default-2-clause-stand c =
+    among_left (rules_at (rule_views c.args.rules.now.items)) (definition_positions (definition_view c.args.def.now))
+
+pub returns-clause-stand : goal.returns-clause-stand
+returns-clause-stand c =
+    let stands = rw c.in-Some.is at c.in_ok-made.ensures.stands in
+    rw (c.in_ok-push.ensures.items, c.in-Rule.is) (added_rule c.args.rules.now.items c.in-Some.made (tree_view c.in-Rule.rule) stands)

@@ -1,5 +1,11 @@
 use Rattle.isle_rules.specs.Translating.{standing}
 use Rattle.isle_rules.proofs.RuleEnds.{at_end, at_stop}
+use Rattle.std.proofs.Common.{[], ◌∷◌}
+use Rattle.isle_base.specs.SyntaxViews.{rule_view}
+use Rattle.isle_base.specs.Positions.{AreAmong, rule_positions}
+use Rattle.isle_rules.specs.RulePositions.{with_terms}
+use Rattle.isle_rules.proofs.Placed.{among_here, stop_noted}
+use Rattle.isle_rules.proofs.PartPlaces.{rule_at}
 use Rattle.isle_rules.proofs.term_env.TermEnv.collect_rule.Goals as goal
 
 pub returns-in-Ok-clause-ends : goal.returns-in-Ok-clause-ends
@@ -10,4 +16,17 @@ returns-in-Ok-clause-ends c =
 pub returns-in_ok-report-in-Err-clause-ends : goal.returns-in_ok-report-in-Err-clause-ends
 returns-in_ok-report-in-Err-clause-ends c =
     at_stop c.args.self.now c.args.tyenv.now c.begin.new.self c.args.work.now.errors.items c.begin.ensures c.args.id.0 c.args.rule.now (standing c.translate_rule.new.tyenv c.translate_rule.new.work) c.report.new.errors.items
-    c.in-Err.stop c.in-Err.ensures.made c.in_ok-report-in-Err.ensures
+    c.in-Err.stop c.in-Err.ensures.made c.in_ok-report-in-Err.ensures.noted
+
+pub returns-in-Ok-clause-places : goal.returns-in-Ok-clause-places
+returns-in-Ok-clause-places c =
+    rw (← c.begin.ensures.errors) c.in-Ok.ensures.places
+
+pub returns-in_ok-report-in-Err-clause-places : goal.returns-in_ok-report-in-Err-clause-places
+returns-in_ok-report-in-Err-clause-places c =
+    let env = c.args.self.now in
+    let tree = rule_view c.args.rule.now in
+    let all = with_terms env (rule_positions tree) in
+    let here : AreAmong (tree.at ∷ []) all = among_here env (tree.at ∷ []) (rule_positions tree) (rule_at tree) in
+    rw (← c.begin.ensures.errors)
+    (stop_noted (tree.at ∷ []) all c.begin.new.self.errors.items c.translate_rule.new.work.errors.items c.report.new.errors.items c.args.rule.now.pos c.in-Err.stop here c.in-Err.ensures.places c.in_ok-report-in-Err.ensures.places c.in_ok-report-in-Err.ensures.noted)

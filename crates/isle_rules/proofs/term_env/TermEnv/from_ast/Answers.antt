@@ -1,9 +1,13 @@
-use Rattle.std.proofs.Common.{◌∙◌}
+use Rattle.std.proofs.Common.{◌++◌, All, refl, ◌∙◌}
 use Rattle.isle_base.specs.SyntaxViews.{definition_views}
 use Rattle.isle_model.specs.claims.Refusals.{PassedInReading}
+use Rattle.isle_base.specs.Positions.{StandsAt, positions_of}
+use Rattle.isle_types.specs.EnvViews.{environment_view}
+use Rattle.isle_types.specs.TypePositions.{types_positions}
 use Rattle.isle_rules.specs.RulesRead.{rules_of}
-use Rattle.isle_rules.proofs.RulesRefused.{limits_named, named_by_none, refused_by_rules, refused_by_terms}
+use Rattle.isle_rules.proofs.RulesRefused.{passed_on, limits_named, named_by_none, refused_by_rules, refused_by_terms}
 use Rattle.isle_rules.proofs.EnvironmentsAtEnd.{left_in_the_end, all_read, could_be_read, whatever, is_nothing, is_something, wrong_in_the_end, right_in_the_end, read_by_terms}
+use Rattle.isle_rules.proofs.PlacesAtEnd.{stand_in_the_end}
 use Rattle.isle_rules.proofs.term_env.TermEnv.from_ast.Goals as goal
 
 pub returns-in_err-errors-clause-left : goal.returns-in_err-errors-clause-left
@@ -51,3 +55,13 @@ returns-then-not-is_empty-clause-refused g c =
 pub returns-in_err-table-clause-refused : goal.returns-in_err-table-clause-refused
 returns-in_err-table-clause-refused g c =
     refused_by_terms g.read (definition_views c.args.defs.now) c.args.expand_internal_extractors c.from_residual.result c.in_err-table.field-0.0 c.from_residual.ensures c.in_err-table.ensures.refused
+
+pub returns-then-not-is_empty-clause-places : goal.returns-then-not-is_empty-clause-places
+returns-then-not-is_empty-clause-places g c =
+    stand_in_the_end g.read (definition_views c.args.defs.now) c.in_ok-table.table (environment_view c.from_ast.new.tyenv) c.in_ok-table.ensures.answers.1 c.with_terms-env.result c.with_terms-env.ensures.terms
+    g.read.known.types refl c.in_ok-errors.errors.items c.in_ok-errors.ensures.places
+
+pub returns-in_err-table-clause-places : goal.returns-in_err-table-clause-places
+returns-in_err-table-clause-places g c =
+    let all = positions_of (definition_views c.args.defs.now) ++ types_positions g.read.known.types in
+    passed_on (All (StandsAt all)) (All (StandsAt all)) (λ es h. h) c.from_residual.result c.in_err-table.field-0.0 c.from_residual.ensures c.in_err-table.ensures.places

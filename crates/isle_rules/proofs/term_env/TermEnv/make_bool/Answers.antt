@@ -5,7 +5,7 @@ use Rattle.isle_rules.specs.Translating.{standing}
 use Rattle.isle_rules.proofs.ExprLeaves.{truth_made}
 use Rattle.isle_rules.proofs.term_env.TermEnv.make_bool.Goals as goal
 
-pub returns : goal.returns
-returns c flags =
+pub returns-clause-made : goal.returns-clause-made
+returns-clause-made c flags =
     truth_made c.args.self.now (standing c.args.tyenv.now c.args.work.now) _ flags (position c.args.pos) refl (record { vars = refl; names = λ k. refl; expansions = refl })
-    (expected c.args.expected_ty) c.args.val c.in_ok-check_truth.ensures
+    (expected c.args.expected_ty) c.args.val c.in_ok-check_truth.ensures.checks

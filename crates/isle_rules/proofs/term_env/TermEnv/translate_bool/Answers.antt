@@ -4,7 +4,7 @@ use Rattle.isle_rules.specs.Translating.{standing}
 use Rattle.isle_rules.proofs.PatternLeaves.{truth_used}
 use Rattle.isle_rules.proofs.term_env.TermEnv.translate_bool.Goals as goal
 
-pub returns : goal.returns
-returns c =
+pub returns-clause-made : goal.returns-clause-made
+returns-clause-made c =
     truth_used c.args.self.now (standing c.args.tyenv.now c.args.work.now) _ refl (position c.args.pos) c.args.expected_ty.0 (record { vars = refl; names = λ k. refl; expansions = refl })
-    c.args.val c.in_ok-check_bool.ensures
+    c.args.val c.in_ok-check_bool.ensures.checks

@@ -1,11 +1,19 @@
+use Rattle.isle_base.specs.SyntaxViews as S
 use Rattle.isle_terms.specs.TermViews.{flags_view}
 use Rattle.isle_rules.specs.Translating.{standing}
 use Rattle.isle_rules.proofs.IfLetLists.{no_iflet_yet, next_iflet, iflet_stops}
 use Rattle.isle_rules.proofs.Readings.{stop_is, keep_none, keep_on}
+use Rattle.std.proofs.Common.{map, refl}
+use Rattle.std.specs.List.{flat_map}
+use Rattle.isle_base.specs.Positions.{AreAmong, iflet_positions}
+use Rattle.isle_base.proofs.Positioned.{among_same, notes_nothing}
+use Rattle.isle_rules.specs.RulePositions.{with_terms}
+use Rattle.isle_rules.proofs.Placed.{among_with, stop_step, notes_step}
+use Rattle.isle_rules.proofs.PartPlaces.{each_inside}
 use Rattle.isle_rules.proofs.term_env.TermEnv.translate_iflets.Goals as goal
 
 pub loop-iflet-init : goal.loop-iflet-init
-loop-iflet-init c = (keep_none c.args.tyenv.now c.requires, no_iflet_yet c.args.self.now (standing c.args.tyenv.now c.args.work.now) c.args.nesting (flags_view c.args.flags) c.new-made.result.items c.new-made.ensures.items)
+loop-iflet-init c = (keep_none c.args.tyenv.now c.requires, no_iflet_yet c.args.self.now (standing c.args.tyenv.now c.args.work.now) c.args.nesting (flags_view c.args.flags) c.new-made.result.items c.new-made.ensures.items, notes_nothing _ _ _ refl)
 
 pub returns-in_err-one-clause-made : goal.returns-in_err-one-clause-made
 returns-in_err-one-clause-made c =
@@ -22,4 +30,24 @@ loop-iflet-preserved c =
           (next_iflet c.args.self.now (standing c.args.tyenv.now c.args.work.now) (standing c.loop-iflet.tyenv c.loop-iflet.work) (standing c.translate_iflet.new.tyenv c.translate_iflet.new.work) c.args.nesting (flags_view c.args.flags)
           c.args.iflets.now c.loop-iflet.iflet-index c.iflet-item.result c.loop-iflet-test.true c.iflet-item.is c.loop-iflet.invariant.0 c.loop-iflet.made.items c.loop-iflet.invariant.1
           c.in_ok-one.one c.in_ok-one.ensures.made),
+      (
+          let env = c.args.self.now in
+          let part = iflet_positions (S.iflet_view c.iflet-item.result) in
+          let parts = flat_map iflet_positions (map S.iflet_view c.args.iflets.now) in
+          let inside : AreAmong (with_terms env part) (with_terms env parts) = among_with env part parts (each_inside iflet_positions S.iflet_view c.args.iflets.now c.loop-iflet.iflet-index c.iflet-item.result c.loop-iflet-test.true c.iflet-item.is) in
+          notes_step (with_terms env parts) (with_terms env part) (with_terms env parts) c.args.work.now.errors.items c.loop-iflet.work.errors.items c.translate_iflet.new.work.errors.items (among_same (with_terms env parts)) inside c.loop-iflet.invariant.2 c.in_ok-one.ensures.places
+          ),
     )
+
+pub returns-in_err-one-clause-places : goal.returns-in_err-one-clause-places
+returns-in_err-one-clause-places c =
+    let env = c.args.self.now in
+    let part = iflet_positions (S.iflet_view c.iflet-item.result) in
+    let parts = flat_map iflet_positions (map S.iflet_view c.args.iflets.now) in
+    let inside : AreAmong (with_terms env part) (with_terms env parts) = among_with env part parts (each_inside iflet_positions S.iflet_view c.args.iflets.now c.loop-iflet.iflet-index c.iflet-item.result c.loop-iflet-test.true c.iflet-item.is) in
+    rw (stop_is c.from_residual.result c.in_err-one.field-0.0 c.from_residual.ensures)
+    (stop_step (with_terms env parts) (with_terms env part) (with_terms env parts) c.args.work.now.errors.items c.loop-iflet.work.errors.items c.translate_iflet.new.work.errors.items c.in_err-one.field-0.0 (among_same (with_terms env parts)) inside c.loop-iflet.invariant.2 c.in_err-one.ensures.places)
+
+pub returns-clause-places : goal.returns-clause-places
+returns-clause-places c =
+    c.loop-iflet.invariant.2

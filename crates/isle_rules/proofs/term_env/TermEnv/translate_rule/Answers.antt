@@ -1,4 +1,4 @@
-use Rattle.std.proofs.Common.{refl}
+use Rattle.std.proofs.Common.{refl, [], ◌∷◌, ap}
 use Rattle.isle_base.specs.SyntaxViews as S
 use Rattle.isle_terms.specs.TermViews.{flags_view, term_view}
 use Rattle.isle_rules.specs.RuleReadings.{sides_view}
@@ -6,20 +6,25 @@ use Rattle.isle_typed.specs.RuleViews.{rule_view}
 use Rattle.isle_rules.specs.Translating.{standing}
 use Rattle.isle_rules.proofs.Readings.{stop_is}
 use Rattle.isle_rules.proofs.RuleForms.{no_root, no_term, not_declared, no_sides, rule_stops, rule_done}
+use Rattle.isle_base.specs.Positions.{AreAmong, rule_positions}
+use Rattle.isle_base.proofs.Positioned.{among_same, notes_among}
+use Rattle.isle_rules.specs.RulePositions.{with_terms}
+use Rattle.isle_rules.proofs.Placed.{among_here, notes_step}
+use Rattle.isle_rules.proofs.PartPlaces.{rule_at}
 use Rattle.isle_rules.proofs.term_env.TermEnv.translate_rule.Goals as goal
 
 pub returns-in_default-clause-made : goal.returns-in_default-clause-made
 returns-in_default-clause-made c =
-    no_root c.args.self.now (standing c.args.tyenv.now c.args.work.now) c.requires (S.rule_view c.args.rule.now) c.args.id.0 _ c.in_default.ensures c.in_ok-report.ensures
+    no_root c.args.self.now (standing c.args.tyenv.now c.args.work.now) c.requires (S.rule_view c.args.rule.now) c.args.id.0 _ c.in_default.ensures c.in_ok-report.ensures.noted
 
 pub returns-in_default-find_term-clause-made : goal.returns-in_default-find_term-clause-made
 returns-in_default-find_term-clause-made c =
-    no_term c.args.self.now (standing c.args.tyenv.now c.args.work.now) c.requires (S.rule_view c.args.rule.now) c.args.id.0 (S.name_view c.in-Some.sym.now) c.in-Some.ensures _ c.in_default-find_term.ensures c.in_ok-report-2.ensures
+    no_term c.args.self.now (standing c.args.tyenv.now c.args.work.now) c.requires (S.rule_view c.args.rule.now) c.args.id.0 (S.name_view c.in-Some.sym.now) c.in-Some.ensures _ c.in_default-find_term.ensures c.in_ok-report-2.ensures.noted
 
 pub returns-in_default-flags_of-clause-made : goal.returns-in_default-flags_of-clause-made
 returns-in_default-flags_of-clause-made c =
     not_declared c.args.self.now (standing c.args.tyenv.now c.args.work.now) c.requires (S.rule_view c.args.rule.now) c.args.id.0 (S.name_view c.in-Some.sym.now) c.in-Some.ensures (term_view c.in-Some-find_term.term.now) c.in-Some-find_term.ensures
-    _ c.in_default-flags_of.ensures c.in_ok-report-3.ensures
+    _ c.in_default-flags_of.ensures c.in_ok-report-3.ensures.noted
 
 pub returns-in_err-made-clause-made : goal.returns-in_err-made-clause-made
 returns-in_err-made-clause-made c =
@@ -36,4 +41,48 @@ pub returns-clause-made : goal.returns-clause-made
 returns-clause-made c =
     rule_done c.args.self.now (standing c.args.tyenv.now c.args.work.now) c.requires (S.rule_view c.args.rule.now) c.args.id.0 (S.name_view c.in-Some.sym.now) c.in-Some.ensures (term_view c.in-Some-find_term.term.now) c.in-Some-find_term.ensures
     (flags_view c.in-Some-flags_of.flags) c.in-Some-flags_of.ensures c.args.nesting (standing c.translate_sides.new.tyenv c.translate_sides.new.work) (standing c.translate_sides.new.tyenv _) _ (sides_view c.in-Some-made.sides) (rule_view c.in_ok-whole.whole) c.translate_sides.new.work.seen.items
-    (rw c.in-Some-made.is at c.in_ok-made.ensures.made) refl (record { vars = refl; names = λ k. refl; expansions = refl }) c.in_ok-check_priority.ensures refl c.finish_rule.ensures.keeps c.in_ok-whole.ensures.names refl c.in_ok-whole.ensures.view
+    (rw c.in-Some-made.is at c.in_ok-made.ensures.made) refl (record { vars = refl; names = λ k. refl; expansions = refl }) c.in_ok-check_priority.ensures.checks refl c.finish_rule.ensures.keeps c.in_ok-whole.ensures.names refl c.in_ok-whole.ensures.view
+
+pub returns-in_default-clause-places : goal.returns-in_default-clause-places
+returns-in_default-clause-places c =
+    let env = c.args.self.now in
+    let tree = S.rule_view c.args.rule.now in
+    let all = with_terms env (rule_positions tree) in
+    let here : AreAmong (tree.at ∷ []) all = among_here env (tree.at ∷ []) (rule_positions tree) (rule_at tree) in
+    notes_among (tree.at ∷ []) all c.args.work.now.errors.items c.report.new.errors.items here c.in_ok-report.ensures.places
+
+pub returns-in_default-find_term-clause-places : goal.returns-in_default-find_term-clause-places
+returns-in_default-find_term-clause-places c =
+    let env = c.args.self.now in
+    let tree = S.rule_view c.args.rule.now in
+    let all = with_terms env (rule_positions tree) in
+    let here : AreAmong (tree.at ∷ []) all = among_here env (tree.at ∷ []) (rule_positions tree) (rule_at tree) in
+    notes_among (tree.at ∷ []) all c.args.work.now.errors.items c.report-in_default-find_term.new.errors.items here c.in_ok-report-2.ensures.places
+
+pub returns-in_default-flags_of-clause-places : goal.returns-in_default-flags_of-clause-places
+returns-in_default-flags_of-clause-places c =
+    let env = c.args.self.now in
+    let tree = S.rule_view c.args.rule.now in
+    let all = with_terms env (rule_positions tree) in
+    let here : AreAmong (tree.at ∷ []) all = among_here env (tree.at ∷ []) (rule_positions tree) (rule_at tree) in
+    notes_among (tree.at ∷ []) all c.args.work.now.errors.items c.report-in_default-flags_of.new.errors.items here c.in_ok-report-3.ensures.places
+
+pub returns-in_err-made-clause-places : goal.returns-in_err-made-clause-places
+returns-in_err-made-clause-places c =
+    rw (stop_is c.from_residual-in_err-made.result c.in_err-made.field-0.0 c.from_residual-in_err-made.ensures) c.in_err-made.ensures.places
+
+pub returns-in_default-made-clause-places : goal.returns-in_default-made-clause-places
+returns-in_default-made-clause-places c =
+    c.in_ok-made.ensures.places
+
+pub returns-clause-places : goal.returns-clause-places
+returns-clause-places c =
+    let env = c.args.self.now in
+    let tree = S.rule_view c.args.rule.now in
+    let all = with_terms env (rule_positions tree) in
+    let here : AreAmong (tree.at ∷ []) all = among_here env (tree.at ∷ []) (rule_positions tree) (rule_at tree) in
+    notes_step all (tree.at ∷ []) all c.args.work.now.errors.items c.translate_sides.new.work.errors.items c.check_priority.new.errors.items (among_same all) here c.in_ok-made.ensures.places c.in_ok-check_priority.ensures.places
+
+pub returns-clause-stands : goal.returns-clause-stands
+returns-clause-stands c =
+    ap (λ r. r.at) c.in_ok-whole.ensures.view

@@ -1,4 +1,4 @@
-use Rattle.std.proofs.Common.{◌≡◌, Option, None, Some, map, option_map, refl, sym, ap, ◌∙◌, inl}
+use Rattle.std.proofs.Common.{Contains, ◌≡◌, Option, None, Some, map, option_map, refl, sym, ap, ◌∙◌, inl, [], ◌∷◌}
 use Rattle.isle_base.specs.SyntaxViews.{name_view, position, pattern_view, pattern_views}
 use Rattle.isle_model.specs.lists.Syntax.{PatternTree}
 use Rattle.isle_model.specs.lists.Expansions.{substituted}
@@ -7,23 +7,28 @@ use Rattle.isle_rules.specs.PatternUses.{name_at}
 use Rattle.isle_rules.specs.Translating.{standing}
 use Rattle.isle_rules.proofs.Readings.{stop_is}
 use Rattle.isle_rules.proofs.PatternUsing.{checks_both, list_is, list_length, unknown_use, converted_use, conversion_stops, parts_used, nothing_made, template_expands, template_made, template_stops}
+use Rattle.isle_model.proofs.Members.{in_head}
+use Rattle.isle_base.specs.Positions.{pattern_positions, patterns_positions}
+use Rattle.isle_base.proofs.Positioned.{among_same, notes_nothing, notes_both}
+use Rattle.isle_rules.proofs.Placed.{stop_step, counted_stop}
+use Rattle.isle_rules.proofs.SubstitutedPlaces.{converted_places, expanded_places}
 use Rattle.isle_rules.proofs.term_env.TermEnv.use_in_pattern.Goals as goal
 
-pub returns-in_default : goal.returns-in_default
-returns-in_default c =
+pub returns-in_default-clause-uses : goal.returns-in_default-clause-uses
+returns-in_default-clause-uses c =
     rw c.requires.whole
     (unknown_use c.args.multi c.args.self.now (standing c.args.tyenv.now c.args.work.now) c.requires.inverse (name_view c.args.sym.now) (pattern_views c.args.args.now) (position c.args.pos) c.args.expected_ty.0
-    _ c.in_default.ensures c.in_ok-report_unknown.ensures)
+    _ c.in_default.ensures c.in_ok-report_unknown.ensures.noted)
 
-pub returns-in_err-left : goal.returns-in_err-left
-returns-in_err-left c =
+pub returns-in_err-left-clause-uses : goal.returns-in_err-left-clause-uses
+returns-in_err-left-clause-uses c =
     rw (stop_is c.from_residual-in_err-left.result c.in_err-left.field-0.0 c.from_residual-in_err-left.ensures, c.requires.whole)
     (conversion_stops c.args.multi c.args.self.now (standing c.args.tyenv.now c.args.work.now) c.requires.inverse (name_view c.args.sym.now) (pattern_views c.args.args.now) (position c.args.pos) c.args.expected_ty.0
     (term_view c.in-Some.term.now) c.in-Some.ensures (term_view c.in-Some-pattern_converter.by.now) c.in-Some-pattern_converter.ensures
     (standing c.args.tyenv.now c.expand.new.self) c.args.nesting c.in_err-left.field-0.0 c.in_err-left.ensures)
 
-pub returns-in-Some-pattern_converter : goal.returns-in-Some-pattern_converter
-returns-in-Some-pattern_converter c =
+pub returns-in-Some-pattern_converter-clause-uses : goal.returns-in-Some-pattern_converter-clause-uses
+returns-in-Some-pattern_converter-clause-uses c =
     rw (c.in_ok-inside.ensures, c.requires.whole) (
       c.in_ok-left.ensures.0,
       inl (name_at c.args.tyenv.now (term_view c.in-Some-pattern_converter.by.now) (position c.args.pos), position c.args.pos, refl),
@@ -32,16 +37,16 @@ returns-in-Some-pattern_converter c =
           (standing c.args.tyenv.now c.expand.new.self) refl c.in_ok-left.ensures.1),
     )
 
-pub returns-in_default-template_of : goal.returns-in_default-template_of
-returns-in_default-template_of c =
+pub returns-in_default-template_of-clause-uses : goal.returns-in_default-template_of-clause-uses
+returns-in_default-template_of-clause-uses c =
     rw c.requires.whole
     (parts_used c.args.multi c.args.self.now (standing c.args.tyenv.now c.args.work.now) c.requires.inverse (name_view c.args.sym.now) (pattern_views c.args.args.now) (position c.args.pos) c.args.expected_ty.0
     (term_view c.in-Some.term.now) c.in-Some.ensures c.in_default-pattern_converter.ensures c.in_default-template_of.ensures
     _ _ (sym (list_length c.args.args.now)) refl (record { vars = c.check_use.ensures.remains.vars; names = c.check_use.ensures.remains.names; expansions = c.check_use.ensures.remains.expansions })
-    (checks_both _ _ _ _ _ c.in_ok-check_use.ensures.checks c.in_ok-check_extractor.ensures))
+    (checks_both _ _ _ _ _ c.in_ok-check_use.ensures.checks c.in_ok-check_extractor.ensures.checks))
 
-pub returns-in_default-2 : goal.returns-in_default-2
-returns-in_default-2 c =
+pub returns-in_default-2-clause-uses : goal.returns-in_default-2-clause-uses
+returns-in_default-2-clause-uses c =
     let missing : ◌≡◌ {A = Option PatternTree} None (substituted (map pattern_view c.args.args.now) (pattern_view c.in-Some-template_of.template.now)) = sym (ap (option_map pattern_view) c.in_default-2.is) ∙ c.in_ok-made.ensures in
     rw c.requires.whole
     (nothing_made c.args.multi c.args.self.now (standing c.args.tyenv.now c.args.work.now) c.requires.inverse (name_view c.args.sym.now) (pattern_views c.args.args.now) (position c.args.pos) c.args.expected_ty.0
@@ -49,8 +54,8 @@ returns-in_default-2 c =
     (standing c.args.tyenv.now c.check_use.new.work) _ (sym (list_length c.args.args.now)) c.in_ok-check_use.ensures.checks
     (missing ∙ ap (λ gs. substituted gs (pattern_view c.in-Some-template_of.template.now)) (sym (list_is c.args.args.now))))
 
-pub returns-in_err-left-2 : goal.returns-in_err-left-2
-returns-in_err-left-2 c =
+pub returns-in_err-left-2-clause-uses : goal.returns-in_err-left-2-clause-uses
+returns-in_err-left-2-clause-uses c =
     let made : Some (pattern_view c.in-Some-2.made) ≡ substituted (map pattern_view c.args.args.now) (pattern_view c.in-Some-template_of.template.now) = sym (ap (option_map pattern_view) c.in-Some-2.is) ∙ c.in_ok-made.ensures in
     rw (stop_is c.from_residual-in_err-left-2.result c.in_err-left-2.field-0.0 c.from_residual-in_err-left-2.ensures, c.requires.whole)
     (template_stops c.args.multi c.args.self.now (standing c.args.tyenv.now c.args.work.now) c.requires.inverse (name_view c.args.sym.now) (pattern_views c.args.args.now) (position c.args.pos) c.args.expected_ty.0
@@ -59,8 +64,8 @@ returns-in_err-left-2 c =
     (pattern_view c.in-Some-2.made) (made ∙ ap (λ gs. substituted gs (pattern_view c.in-Some-template_of.template.now)) (sym (list_is c.args.args.now)))
     (standing c.args.tyenv.now c.expand-2.new.self) c.args.nesting c.check_use.ensures.remains c.in_err-left-2.field-0.0 c.in_err-left-2.ensures)
 
-pub returns : goal.returns
-returns c =
+pub returns-clause-uses : goal.returns-clause-uses
+returns-clause-uses c =
     let made : Some (pattern_view c.in-Some-2.made) ≡ substituted (map pattern_view c.args.args.now) (pattern_view c.in-Some-template_of.template.now) = sym (ap (option_map pattern_view) c.in-Some-2.is) ∙ c.in_ok-made.ensures in
     let is_made = made ∙ ap (λ gs. substituted gs (pattern_view c.in-Some-template_of.template.now)) (sym (list_is c.args.args.now)) in
     rw c.requires.whole (
@@ -73,3 +78,40 @@ returns c =
           (standing c.args.tyenv.now c.check_use.new.work) _ (sym (list_length c.args.args.now)) c.in_ok-check_use.ensures.checks (pattern_view c.in-Some-2.made) is_made
           (standing c.args.tyenv.now c.expand-2.new.self) refl refl c.check_use.ensures.remains c.in_ok-left-2.ensures.1,
     )
+
+pub returns-in_err-left-clause-places : goal.returns-in_err-left-clause-places
+returns-in_err-left-clause-places c =
+    rw (stop_is c.from_residual-in_err-left.result c.in_err-left.field-0.0 c.from_residual-in_err-left.ensures)
+    (counted_stop (position c.args.pos ∷ []) c.args.nesting c.args.work.now c.expand.new.self c.in_err-left.field-0.0 c.in_err-left.ensures)
+
+pub returns-in-Some-pattern_converter-clause-places : goal.returns-in-Some-pattern_converter-clause-places
+returns-in-Some-pattern_converter-clause-places c =
+    notes_nothing (position c.args.pos ∷ []) c.args.work.now.errors.items c.expand.new.self.errors.items c.in_ok-left.ensures.1.errors
+
+pub returns-in_default-template_of-clause-places : goal.returns-in_default-template_of-clause-places
+returns-in_default-template_of-clause-places c =
+    notes_both (position c.args.pos ∷ []) c.args.work.now.errors.items c.check_use.new.work.errors.items _ c.in_ok-check_use.ensures.places c.in_ok-check_extractor.ensures.places
+
+pub returns-in_err-left-2-clause-places : goal.returns-in_err-left-2-clause-places
+returns-in_err-left-2-clause-places c =
+    rw (stop_is c.from_residual-in_err-left-2.result c.in_err-left-2.field-0.0 c.from_residual-in_err-left-2.ensures)
+    (stop_step (position c.args.pos ∷ []) (position c.args.pos ∷ []) (position c.args.pos ∷ []) c.args.work.now.errors.items c.check_use.new.work.errors.items c.expand-2.new.self.errors.items c.in_err-left-2.field-0.0 (among_same (position c.args.pos ∷ [])) (among_same (position c.args.pos ∷ [])) c.in_ok-check_use.ensures.places
+    (counted_stop (position c.args.pos ∷ []) c.args.nesting c.check_use.new.work c.expand-2.new.self c.in_err-left-2.field-0.0 c.in_err-left-2.ensures))
+
+pub returns-clause-places : goal.returns-clause-places
+returns-clause-places c =
+    rw c.in_ok-left-2.ensures.1.errors c.in_ok-check_use.ensures.places
+
+pub returns-in-Some-pattern_converter-clause-among : goal.returns-in-Some-pattern_converter-clause-among
+returns-in-Some-pattern_converter-clause-among c =
+    let at = position c.args.pos in
+    let here : Contains (pattern_positions (pattern_view c.args.whole.now)) at = rw c.requires.whole (in_head at ((name_view c.args.sym.now).at ∷ patterns_positions (pattern_views c.args.args.now))) in
+    rw c.in_ok-inside.ensures (converted_places c.args.self.now c.args.tyenv.now (term_view c.in-Some-pattern_converter.by.now) at (pattern_view c.args.whole.now) here)
+
+pub returns-clause-among : goal.returns-clause-among
+returns-clause-among c =
+    let made : Some (pattern_view c.in-Some-2.made) ≡ substituted (map pattern_view c.args.args.now) (pattern_view c.in-Some-template_of.template.now) = sym (ap (option_map pattern_view) c.in-Some-2.is) ∙ c.in_ok-made.ensures in
+    let is_made = made ∙ ap (λ gs. substituted gs (pattern_view c.in-Some-template_of.template.now)) (sym (list_is c.args.args.now)) in
+    rw c.requires.whole
+    (expanded_places c.args.self.now c.args.tyenv.now (name_view c.args.sym.now) (pattern_views c.args.args.now) (position c.args.pos) (term_view c.in-Some.term.now) c.in-Some.ensures (pattern_view c.in-Some-template_of.template.now) c.in-Some-template_of.ensures
+    (pattern_view c.in-Some-2.made) is_made)

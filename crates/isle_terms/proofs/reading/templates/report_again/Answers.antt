@@ -1,6 +1,11 @@
 use Rattle.std.proofs.lemmas.Result.{on_ok_weaker}
 use Rattle.isle_base.proofs.Noted.{both}
+use Rattle.isle_terms.specs.TermPositions.{taker_places}
+use Rattle.isle_terms.proofs.PlacesNoted.{notes_earlier}
 use Rattle.isle_terms.proofs.reading.templates.report_again.Goals as goal
 
-pub returns : goal.returns
-returns c = on_ok_weaker c.report-2.result (λ r. both _ _ _ c.in_ok-report.ensures r) c.report-2.ensures
+pub returns-clause-noted : goal.returns-clause-noted
+returns-clause-noted c = on_ok_weaker c.report-2.result (λ r. both _ _ _ c.in_ok-report.ensures.noted r) c.report-2.ensures.noted
+
+pub returns-clause-places : goal.returns-clause-places
+returns-clause-places c = on_ok_weaker c.report-2.result (λ r. notes_earlier _ _ (taker_places c.args.earlier.now) _ _ _ c.place_of.ensures.there c.in_ok-report.ensures.places r) c.report-2.ensures.places

@@ -1,10 +1,12 @@
-use Rattle.std.proofs.Common.{◌≡◌, take, map}
+use Rattle.std.proofs.Common.{◌≡◌, ◌++◌, take, map}
 use Rattle.isle_model.specs.lists.TermTable.{variant_as_term}
 use Rattle.isle_types.specs.TypeViews.{variant_view}
 use Rattle.isle_terms.specs.Reading.{IsWithin}
+use Rattle.isle_terms.specs.TermPositions.{table_positions, variants_positions, IsPlacedAmong}
 use Rattle.isle_terms.specs.Signing.{GrowsBy}
 use Rattle.isle_terms.proofs.term_table.TermTable.add_variants.Given as goal
 
 abbrev pub invariant-loop-variant : goal.invariant-loop-variant
 invariant-loop-variant l =
     IsWithin l.self × (l.errors.items ≡ l.initial.errors.items) × GrowsBy (map (λ v. v.full_name) (map variant_view (take l.variant-index l.variants))) (map (variant_as_term l.ty.0) (map variant_view (take l.variant-index l.variants))) l.initial.self l.self
+    × IsPlacedAmong (variants_positions (map variant_view l.variants) ++ table_positions l.initial.self) l.self

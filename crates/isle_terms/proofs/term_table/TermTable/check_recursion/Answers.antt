@@ -1,4 +1,5 @@
 use Rattle.std.proofs.Common.{◌≡◌, length, subst, arith}
+use Rattle.isle_base.proofs.Positioned.{notes_both}
 use Rattle.isle_terms.specs.Signing.{Notes}
 use Rattle.isle_terms.specs.Recursion.{ComesBack, EndsBelow}
 use Rattle.isle_terms.proofs.Recursion.{next_root_ends}
@@ -9,10 +10,11 @@ loop-id-preserved c =
     let a = c.in_ok-check_root.ensures in (
       a.findings,
       next_root_ends c.args.self.now c.args.callees.now c.loop-id.id c.args.errors.now.items c.loop-id.errors.items c.check_root.new.errors.items a.notes c.loop-id.invariant.1,
+      notes_both _ _ _ _ c.loop-id.invariant.2 a.places,
     )
 
-pub returns : goal.returns
-returns c =
+pub returns-clause-notes : goal.returns-clause-notes
+returns-clause-notes c =
     let cs = c.args.callees.now in
     let all : c.loop-id.id ≡ length cs = omega (arith, c.loop-id-test.false, c.loop-id.auto.id-end) in
     subst (λ n. Notes c.args.errors.now.items c.loop-id.errors.items (EndsBelow c.args.self.now cs n) (ComesBack cs)) all c.loop-id.invariant.1

@@ -3,14 +3,24 @@ use Rattle.std.proofs.lemmas.Result.{on_ok_weaker}
 use Rattle.isle_base.specs.SyntaxViews.{definition_views}
 use Rattle.isle_terms.specs.Signing.{Notes}
 use Rattle.isle_terms.specs.Recursion.{ComesBack, EndsBelow}
+use Rattle.isle_terms.proofs.PlacesNoted.{recursion_noted}
 use Rattle.isle_terms.proofs.Recursion.{searched}
 use Rattle.isle_terms.proofs.term_table.TermTable.collect_extractor_templates.Goals as goal
 
-pub returns : goal.returns
-returns g c =
+pub returns-clause-reads : goal.returns-clause-reads
+returns-clause-reads g c =
     let table = c.read_templates.new.self in
     let es = c.read_templates.new.errors.items in
     let es' = c.check_recursion.new.errors.items in
     on_ok_weaker c.check_recursion.result (λ n.
     searched g.read c.requires.0 (definition_views c.args.defs.now) c.read_templates.new.callees.items c.args.tyenv.now table es es' c.in_ok-read_templates.field-0
-    (subst (λ l. Notes es es' (EndsBelow table l (length l)) (ComesBack l)) c.deref.ensures.value n) c.in_ok-read_templates.ensures.reads) c.check_recursion.ensures
+    (subst (λ l. Notes es es' (EndsBelow table l (length l)) (ComesBack l)) c.deref.ensures.value n) c.in_ok-read_templates.ensures.reads) c.check_recursion.ensures.notes
+
+pub returns-clause-places : goal.returns-clause-places
+returns-clause-places g c =
+    let table = c.read_templates.new.self in
+    let es = c.read_templates.new.errors.items in
+    on_ok_weaker c.check_recursion.result (λ r. recursion_noted _ table _ es c.check_recursion.new.errors.items c.in_ok-read_templates.ensures.places c.in_ok-read_templates.ensures.placed r) c.check_recursion.ensures.places
+
+pub returns-clause-placed : goal.returns-clause-placed
+returns-clause-placed g c = on_ok_weaker c.check_recursion.result (λ _. c.in_ok-read_templates.ensures.placed) c.check_recursion.ensures.places

@@ -1,7 +1,9 @@
 use Rattle.std.proofs.Common.{◌≡◌, None, refl, sym, inl, inr, ◌∙◌}
 use Rattle.std.proofs.lemmas.Result.{on_ok_weaker}
+use Rattle.isle_base.specs.SyntaxViews.{converter_view}
 use Rattle.isle_terms.specs.Converting.{converter_at}
 use Rattle.isle_terms.proofs.ConverterSteps.{read_conversions}
+use Rattle.isle_terms.proofs.PlacesNoted.{noted_among, converter_first, converter_inner, converter_outer, converter_term}
 use Rattle.isle_terms.proofs.Making.{none_mapped, some_mapped}
 use Rattle.isle_terms.proofs.term_table.TermTable.read_converter.Goals as goal
 
@@ -18,7 +20,7 @@ returns-then-contains_key-clause-reads c =
         outer_is = sym c.in-Some-get_type_by_name.ensures;
         taken = taken.1;
       }))),
-    )) c.report_converted.ensures
+    )) c.report_converted.ensures.noted
 
 pub returns-clause-reads : goal.returns-clause-reads
 returns-clause-reads c =
@@ -38,3 +40,16 @@ returns-clause-reads c =
         term_map = refl;
       },
     )
+
+pub returns-in_default-clause-places : goal.returns-in_default-clause-places
+returns-in_default-clause-places c = noted_among c.report_name.result _ _ _ _ (converter_inner (converter_view c.args.converter.now)) c.report_name.ensures.places
+
+pub returns-in_default-get_type_by_name-clause-places :
+    goal.returns-in_default-get_type_by_name-clause-places
+returns-in_default-get_type_by_name-clause-places c = noted_among c.report_name-in_default-get_type_by_name.result _ _ _ _ (converter_outer (converter_view c.args.converter.now)) c.report_name-in_default-get_type_by_name.ensures.places
+
+pub returns-in_default-find_term-clause-places : goal.returns-in_default-find_term-clause-places
+returns-in_default-find_term-clause-places c = noted_among c.report_name-in_default-find_term.result _ _ _ _ (converter_term (converter_view c.args.converter.now)) c.report_name-in_default-find_term.ensures.places
+
+pub returns-then-contains_key-clause-places : goal.returns-then-contains_key-clause-places
+returns-then-contains_key-clause-places c = noted_among c.report_converted.result _ _ _ _ (converter_first (converter_view c.args.converter.now)) c.report_converted.ensures.places

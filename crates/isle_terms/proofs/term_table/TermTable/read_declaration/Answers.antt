@@ -2,6 +2,8 @@ use Rattle.std.proofs.Common.{subst}
 use Rattle.std.proofs.lemmas.Result.{on_ok_weaker}
 use Rattle.isle_base.specs.SyntaxViews.{decl_view}
 use Rattle.isle_terms.specs.Reading.{IsFreeOrReported, AddsOrReports}
+use Rattle.isle_terms.specs.TermPositions.{table_positions}
+use Rattle.isle_terms.proofs.PlacesNoted.{declaration_noted}
 use Rattle.isle_terms.proofs.Declaring.{declaration_read}
 use Rattle.isle_terms.proofs.term_table.TermTable.read_declaration.Goals as goal
 
@@ -9,6 +11,12 @@ pub returns-clause-reads : goal.returns-clause-reads
 returns-clause-reads c =
     let d = decl_view c.args.decl.now in
     let number = c.in_ok-name.ensures.number in
-    let free = subst (λ n. IsFreeOrReported n c.args.self.now c.args.errors.now.items c.check_free.new.errors.items) number c.in_ok-check_free.ensures in
-    on_ok_weaker c.add_decl.result (λ a. declaration_read d _ _ _ _ _ _ _ _ c.in_ok-name.ensures.met free c.in_ok-check_marks.ensures
+    let free = subst (λ n. IsFreeOrReported n c.args.self.now c.args.errors.now.items c.check_free.new.errors.items) number c.in_ok-check_free.ensures.noted in
+    on_ok_weaker c.add_decl.result (λ a. declaration_read d _ _ _ _ _ _ _ _ c.in_ok-name.ensures.met free c.in_ok-check_marks.ensures.noted
     (subst (λ n. AddsOrReports d c.meet_name.new.tyenv n c.args.self.now c.add_decl.new.self c.check_marks.new.errors.items c.add_decl.new.errors.items) number a)) c.add_decl.ensures.adds
+
+pub returns-clause-places : goal.returns-clause-places
+returns-clause-places c =
+    let d = decl_view c.args.decl.now in
+    on_ok_weaker c.add_decl.result (λ r.
+    declaration_noted d (table_positions c.args.self.now) c.args.errors.now.items c.check_free.new.errors.items c.check_marks.new.errors.items c.add_decl.new.errors.items c.in_ok-check_free.ensures.places c.in_ok-check_marks.ensures.places r) c.add_decl.ensures.places

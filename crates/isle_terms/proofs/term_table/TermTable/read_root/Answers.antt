@@ -1,4 +1,4 @@
-use Rattle.std.proofs.Common.{◌≡◌, ◌<◌, Some, is_none, true, false, length, get_or, refl, sym, ap, ◌∙◌, inl, inr}
+use Rattle.std.proofs.Common.{◌≡◌, ◌<◌, [], Some, is_none, true, false, length, get_or, refl, sym, ap, ◌∙◌, inl, inr}
 use Rattle.std.proofs.Math.ListN.{set}
 use Rattle.std.proofs.lemmas.Result.{on_ok_weaker}
 use Rattle.isle_model.specs.rules.Outcome.{then_option}
@@ -9,6 +9,7 @@ use Rattle.isle_terms.specs.TermViews.{term_view, term_views}
 use Rattle.isle_terms.specs.Reading.{internal_entry, root_term_id, term_of_name}
 use Rattle.isle_terms.specs.Standing.{is_declared_kind}
 use Rattle.isle_terms.proofs.Changing.{changes_one, view_at, not_there}
+use Rattle.isle_terms.proofs.PlacesNoted.{internal_among, placed_set, placed_still}
 use Rattle.isle_terms.proofs.Rooting.{is_within}
 use Rattle.isle_terms.proofs.term_table.TermTable.read_root.Goals as goal
 
@@ -30,7 +31,7 @@ returns-in-Some-what_is_no_root-clause-reads c =
         at = view_at items c.in-Some-find_term.id.0 c.index-2.result.now c.index-2.result.now within value;
         made = kind;
       }),
-    )) c.report-in-Some-what_is_no_root.ensures
+    )) c.report-in-Some-what_is_no_root.ensures.noted
 
 pub returns-clause-reads : goal.returns-clause-reads
 returns-clause-reads c =
@@ -58,3 +59,22 @@ returns-clause-reads c =
         };
       },
     )
+
+pub returns-in_default-clause-placed : goal.returns-in_default-clause-placed
+returns-in_default-clause-placed c = placed_still c.report.result c.args.self.now c.args.self.now [] refl
+
+pub returns-in_default-find_term-clause-placed : goal.returns-in_default-find_term-clause-placed
+returns-in_default-find_term-clause-placed c = placed_still c.report-in_default-find_term.result c.args.self.now c.args.self.now [] refl
+
+pub returns-in-Some-what_is_no_root-clause-placed :
+    goal.returns-in-Some-what_is_no_root-clause-placed
+returns-in-Some-what_is_no_root-clause-placed c = placed_still c.report-in-Some-what_is_no_root.result c.args.self.now _ [] refl
+
+pub returns-clause-placed : goal.returns-clause-placed
+returns-clause-placed c =
+    let items = c.args.self.now.terms.items in
+    let id = c.in-Some-find_term.id.0 in
+    let within : id < length items = is_within c.args.self.now c.requires (symbol_of c.args.tyenv.now (name_view c.in-Some.root.now).text) id c.in-Some-find_term.ensures in
+    let again : c.index_mut.result.now ≡ get_or items id c.index_mut.result.now = c.index_mut.ensures.value ∙ ap (λ k. get_or items k c.index_mut.result.now) c.index-3.ensures in
+    placed_set c.args.self.now _ id c.set_internal.new.term c.index_mut.result.now [] within again (ap (λ k. set items k c.set_internal.new.term) c.index-3.ensures)
+    (internal_among (term_view c.set_internal.new.term) (term_view c.index_mut.result.now) c.set_internal.ensures)

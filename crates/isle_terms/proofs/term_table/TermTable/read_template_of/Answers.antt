@@ -1,5 +1,8 @@
-use Rattle.std.proofs.Common.{map, sym, ap, ◌∙◌}
-use Rattle.isle_base.specs.SyntaxViews.{extractor_view}
+use Rattle.std.proofs.Common.{map, refl, sym, ap, ◌∙◌}
+use Rattle.isle_base.specs.SyntaxViews.{extractor_view, position}
+use Rattle.isle_base.specs.Positions.{extractor_positions}
+use Rattle.isle_terms.specs.TermPositions.{table_positions}
+use Rattle.isle_terms.proofs.PlacesNoted.{argument_noted, extractor_noted, noted_among, placed_still}
 use Rattle.isle_terms.proofs.TemplateParts.{parts_noted, no_first}
 use Rattle.std.proofs.lemmas.Result.{on_ok_weaker}
 use Rattle.isle_terms.proofs.Callees.{still_callees}
@@ -15,4 +18,19 @@ returns-clause-notes c =
     let none = no_first c.deref.result.now (sym c.in_default.ensures.value) in
     let x = extractor_view c.args.extractor.now in
     on_ok_weaker c.take_template.result (λ r.
-    parts_noted x c.args.id.0 c.args.tyenv.now c.args.self.now c.take_template.new.self c.args.callees.now.items c.set_callees.new.callees.items (map (λ t. t.0) c.in_ok-named.named.items) c.args.errors.now.items c.terms_named.new.errors.items c.take_template.new.errors.items (sym c.in_ok-arguments.ensures ∙ ap (map (λ a. a.1)) (sym c.deref.ensures.value ∙ none)) c.set_callees.ensures c.in_ok-named.ensures.notes r) c.take_template.ensures.notes
+    parts_noted x c.args.id.0 c.args.tyenv.now c.args.self.now c.take_template.new.self c.args.callees.now.items c.set_callees.new.callees.items (map (λ t. t.0) c.in_ok-named.named.items) c.args.errors.now.items c.terms_named.new.errors.items c.take_template.new.errors.items (sym c.in_ok-arguments.ensures.numbers ∙ ap (map (λ a. a.1)) (sym c.deref.ensures.value ∙ none)) c.set_callees.ensures c.in_ok-named.ensures.notes r) c.take_template.ensures.notes
+
+pub returns-in-Some-clause-places : goal.returns-in-Some-clause-places
+returns-in-Some-clause-places c =
+    let x = extractor_view c.args.extractor.now in
+    let places = ap (map (λ a. position a.0)) c.deref.ensures.value ∙ c.in_ok-arguments.ensures.places in
+    noted_among c.report.result _ _ _ _ (argument_noted x (table_positions c.args.self.now) c.deref.result.now _ places (sym c.in-Some.ensures.value)) c.report.ensures.places
+
+pub returns-in-Some-clause-placed : goal.returns-in-Some-clause-placed
+returns-in-Some-clause-placed c = placed_still c.report.result c.args.self.now _ (extractor_positions (extractor_view c.args.extractor.now)) refl
+
+pub returns-clause-places : goal.returns-clause-places
+returns-clause-places c =
+    let x = extractor_view c.args.extractor.now in
+    on_ok_weaker c.take_template.result (λ r.
+    extractor_noted x (table_positions c.args.self.now) c.args.errors.now.items c.terms_named.new.errors.items c.take_template.new.errors.items c.in_ok-named.ensures.places r) c.take_template.ensures.places

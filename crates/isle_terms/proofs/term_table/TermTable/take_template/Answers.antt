@@ -1,10 +1,14 @@
-use Rattle.std.proofs.Common.{◌≡◌, Some, true, false, not, length, get_or, refl, sym, ap, subst, ◌∙◌, inl, inr, ⊎_elim, slice_get, rules}
+use Rattle.std.proofs.Common.{◌≡◌, [], ◌∷◌, Some, true, false, not, length, get_or, refl, sym, ap, subst, ◌∙◌, inl, inr, ⊎_elim, slice_get, rules}
 use Rattle.std.proofs.Math.ListN.{set}
 use Rattle.std.proofs.lemmas.List.{length-map}
 use Rattle.std.proofs.lemmas.Option.{same_Some}
 use Rattle.isle_model.specs.lists.Tables.{TermEntry, internal_extractor}
 use Rattle.isle_model.specs.lists.TermTable.{arguments_in, extractor_template}
-use Rattle.isle_base.specs.SyntaxViews.{extractor_view, pattern_view}
+use Rattle.isle_base.specs.SyntaxViews.{extractor_view, pattern_view, position}
+use Rattle.isle_base.specs.Positions.{AreAmong, extractor_positions, pattern_positions}
+use Rattle.isle_base.proofs.Positioned.{among_first, notes_among, notes_both}
+use Rattle.isle_terms.specs.TermPositions.{table_positions}
+use Rattle.isle_terms.proofs.PlacesNoted.{notes_at_term, placed_same, placed_set, taken_entry_among, template_in_extractor}
 use Rattle.isle_base.specs.Noting.{NotesMore}
 use Rattle.isle_types.specs.VariantReading.{ReportsIf}
 use Rattle.isle_terms.specs.TermViews.{term_view, term_views}
@@ -70,4 +74,33 @@ returns-clause-notes c =
         fails = inr (λ all. r.1 (subst (λ q. AreArguments c.len-count.result (arguments_in q)) (sym c.in_ok-template.ensures) (subst (λ n. AreArguments n (arguments_in (extractor_template x))) (sym count) all)));
       },
     ))
-    c.in_ok-check_arguments.ensures
+    c.in_ok-check_arguments.ensures.notes
+
+pub returns-then-not-branch-clause-places : goal.returns-then-not-branch-clause-places
+returns-then-not-branch-clause-places c =
+    let items = c.args.self.now.terms.items in
+    let value : c.index-2.result.now ≡ get_or items c.args.id.0 c.index-2.result.now = c.index-2.ensures ∙ ap (λ k. get_or items k c.index-2.result.now) c.index.ensures in
+    notes_at_term (position c.args.extractor.now.pos) c.args.self.now c.args.id.0 c.index-2.result.now c.requires.there value _ _ c.in_ok-can_have_template.ensures.places
+
+pub returns-then-not-branch-clause-placed : goal.returns-then-not-branch-clause-placed
+returns-then-not-branch-clause-placed c = placed_same c.args.self.now _ (extractor_positions (extractor_view c.args.extractor.now)) refl
+
+pub returns-clause-places : goal.returns-clause-places
+returns-clause-places c =
+    let items = c.args.self.now.terms.items in
+    let at = position c.args.extractor.now.pos in
+    let ps = table_positions c.args.self.now in
+    let value : c.index-2.result.now ≡ get_or items c.args.id.0 c.index-2.result.now = c.index-2.ensures ∙ ap (λ k. get_or items k c.index-2.result.now) c.index.ensures in
+    notes_both (at ∷ ps) _ _ _ (notes_at_term at c.args.self.now c.args.id.0 c.index-2.result.now c.requires.there value _ _ c.in_ok-can_have_template.ensures.places)
+    (notes_among (at ∷ []) (at ∷ ps) _ _ (among_first at ps) c.in_ok-check_arguments.ensures.places)
+
+pub returns-clause-placed : goal.returns-clause-placed
+returns-clause-placed c =
+    let items = c.args.self.now.terms.items in
+    let id = c.args.id.0 in
+    let x = extractor_view c.args.extractor.now in
+    let p = pattern_view c.in_ok-template.template in
+    let again : c.index_mut.result.now ≡ get_or items id c.index_mut.result.now = c.index_mut.ensures.value ∙ ap (λ k. get_or items k c.index_mut.result.now) c.index-5.ensures in
+    let of_extractor = subst (λ q. AreAmong (pattern_positions q) (extractor_positions x)) (sym c.in_ok-template.ensures) (template_in_extractor x) in
+    placed_set c.args.self.now _ id c.set_extractor.new.self c.index_mut.result.now (extractor_positions x) c.requires.there again (ap (λ k. set items k c.set_extractor.new.self) c.index-5.ensures)
+    (taken_entry_among (internal_extractor p) (term_view c.set_extractor.new.self) (term_view c.index_mut.result.now) (extractor_positions x) of_extractor c.set_extractor.ensures)

@@ -2,10 +2,15 @@ use Rattle.std.proofs.Common.{◌≡◌, Some, string_bytes, inr}
 use Rattle.std.proofs.lemmas.Result.{on_ok_weaker}
 use Rattle.isle_model.specs.lists.Names.{number}
 use Rattle.isle_types.specs.Envs.{names_of, type_at}
+use Rattle.isle_types.proofs.PlacesNoted.{notes_there}
 use Rattle.isle_types.proofs.type_env.TypeEnv.name_definition.Goals as goal
 
 pub returns-clause-names : goal.returns-clause-names
 returns-clause-names c =
     let taken : type_at c.args.self.now (number (names_of c.args.self.now) (string_bytes c.in-TypeDef.ty.name.0)) ≡ Some c.in-Some.existing.0 =
     rw (← c.as_str.ensures.value) (rw c.in-Some.is at c.in_ok-existing.ensures.named) in
-    on_ok_weaker c.report_duplicate.result (λ r. rw c.in-TypeDef.is (inr (r, record { id = c.in-Some.existing.0; taken = taken }))) c.report_duplicate.ensures
+    on_ok_weaker c.report_duplicate.result (λ r. rw c.in-TypeDef.is (inr (r, record { id = c.in-Some.existing.0; taken = taken }))) c.report_duplicate.ensures.noted
+
+pub returns-clause-places : goal.returns-clause-places
+returns-clause-places c =
+    on_ok_weaker c.report_duplicate.result (λ r. rw c.in-TypeDef.is (notes_there _ _ _ _ r)) c.report_duplicate.ensures.places

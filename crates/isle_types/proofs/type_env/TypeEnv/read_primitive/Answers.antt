@@ -3,6 +3,7 @@ use Rattle.isle_model.specs.lists.Tables.{primitive_type}
 use Rattle.isle_base.specs.SyntaxViews.{name_view, type_view, position}
 use Rattle.isle_types.proofs.NamesMet.{meet_one}
 use Rattle.isle_types.proofs.RightValues.{named_now, primitive_right}
+use Rattle.isle_base.proofs.Positioned.{notes_nothing}
 use Rattle.isle_types.proofs.type_env.TypeEnv.read_primitive.Goals as goal
 
 pub returns-clause-reads : goal.returns-clause-reads
@@ -15,3 +16,6 @@ returns-clause-reads c =
       meet_one _ _ c.args.self.now c.intern_mut.new.self refl n.names n.types n.type_map n.const_types n.errors,
       ap (λ k. primitive_type c.args.id.0 k (position c.args.ty.now.pos)) named.numbered,
     )
+
+pub returns-clause-places : goal.returns-clause-places
+returns-clause-places c = notes_nothing _ _ _ refl

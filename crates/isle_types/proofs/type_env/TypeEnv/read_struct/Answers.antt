@@ -5,6 +5,7 @@ use Rattle.isle_base.specs.SyntaxViews as views
 use Rattle.isle_types.specs.Envs.{names_of}
 use Rattle.isle_types.specs.TypeViews.{fields_view}
 use Rattle.isle_types.proofs.RightValues.{number_later, struct_right}
+use Rattle.isle_types.proofs.PlacesNoted.{notes_there, notes_then}
 use Rattle.isle_types.proofs.type_env.TypeEnv.read_struct.Goals as goal
 
 pub returns-clause-reads : goal.returns-clause-reads
@@ -20,3 +21,12 @@ returns-clause-reads c =
       ap (λ k. struct_type k c.args.id.0 c.args.ty.now.is_extern c.args.ty.now.is_nodebug (fields_view c.in-Some.fields) (views.position c.args.ty.now.pos)) name
           ∙ ap (λ f. struct_type (number (names_of c.read_fields.new.self) (string_bytes c.args.ty.now.name.0)) c.args.id.0 c.args.ty.now.is_extern c.args.ty.now.is_nodebug f (views.position c.args.ty.now.pos)) r.3,
     )
+
+pub returns-then-branch-clause-places : goal.returns-then-branch-clause-places
+returns-then-branch-clause-places c = notes_there _ _ _ _ c.in_ok-has_both_marks.ensures.places
+
+pub returns-in_default-clause-places : goal.returns-in_default-clause-places
+returns-in_default-clause-places c = notes_then _ _ _ _ _ c.in_ok-has_both_marks.ensures.places c.in_ok-fields.ensures.places
+
+pub returns-clause-places : goal.returns-clause-places
+returns-clause-places c = notes_then _ _ _ _ _ c.in_ok-has_both_marks.ensures.places c.in_ok-fields.ensures.places

@@ -1,0 +1,9 @@
+//! What the command answers, as JSON: docs/JSON.md says in which form.
+#![tactic(auto)]
+
+pub mod documents;
+mod reports;
+mod sets;
+mod tables;
+mod trees;
+mod writer;

@@ -1,0 +1,60 @@
+-- The positions that terms have, and where the errors stand that are noted while a rule is read: at positions of what is read,
+-- or at those of terms, whose templates take the place of their uses.
+use Rattle.std.specs.Prelude.{◌≡◌, List, [], ◌∷◌, ◌++◌, map, Option, Some, None, Result, Ok, Err, ⊤}
+use Rattle.isle_model.specs.lists.Syntax.{Position}
+use Rattle.isle_base.specs.declared.syntax.Error.{Error}
+use Rattle.isle_base.specs.Positions.{NotesAt, AreAmong, pattern_positions, expr_positions}
+use Rattle.isle_base.specs.SyntaxViews.{position, pattern_view, expr_view}
+use Rattle.isle_terms.specs.TermPositions.{terms_positions}
+use Rattle.isle_terms.specs.TermViews.{term_views}
+use Rattle.isle_typed.specs.declared.rules.Rule.{Rule}
+use Rattle.isle_rules.specs.declared.term_env.TermEnv.{TermEnv}
+use Rattle.isle_rules.specs.declared.typing.progress.Stop.{Stop}
+use Rattle.isle_rules.specs.declared.typing.progress.Stop.TheVariants.{Memory, Nesting, Expansions}
+use Rattle.isle_rules.specs.declared.typing.pattern_uses.PatternUse.{PatternUse}
+use Rattle.isle_rules.specs.declared.typing.pattern_uses.PatternUse.TheVariants as P
+use Rattle.isle_rules.specs.declared.typing.expr_uses.VarUse.{VarUse}
+use Rattle.isle_rules.specs.declared.typing.expr_uses.VarUse.TheVariants as V
+use Rattle.isle_rules.specs.declared.typing.expr_uses.CallUse.{CallUse}
+use Rattle.isle_rules.specs.declared.typing.expr_uses.CallUse.TheVariants as C
+
+-- positions, and those of all terms
+abbrev pub with_terms : TermEnv → List Position → List Position
+with_terms env ps = ps ++ terms_positions (term_views env.terms.items)
+
+-- the errors that were noted before a limit was passed stand at some of these positions; want of memory says nothing
+abbrev pub KeepsPlaced : List Position → List Error → List Error → Stop → Type 0
+KeepsPlaced ps old new (Memory e) = ⊤
+KeepsPlaced ps old new Nesting = NotesAt ps old new
+KeepsPlaced ps old new Expansions = NotesAt ps old new
+
+-- the same, however the work ended
+abbrev pub StaysPlaced : {X : Type 0} → List Position → List Error → List Error → Result X Stop → Type 0
+StaysPlaced ps old new (Ok x) = NotesAt ps old new
+StaysPlaced ps old new (Err stop) = KeepsPlaced ps old new stop
+
+-- a pattern that takes the place of a use has some of these positions
+abbrev pub ExpandsAmong : List Position → Result PatternUse Stop → Type 0
+ExpandsAmong ps (Ok P.Wrong) = ⊤
+ExpandsAmong ps (Ok (P.Expansion made left)) = AreAmong (pattern_positions (pattern_view made)) ps
+ExpandsAmong ps (Ok (P.Parts t)) = ⊤
+ExpandsAmong ps (Err stop) = ⊤
+
+-- likewise an expression that takes the place of a variable
+abbrev pub ConvertsAmong : List Position → Result VarUse Stop → Type 0
+ConvertsAmong ps (Ok V.Wrong) = ⊤
+ConvertsAmong ps (Ok (V.Conversion made left)) = AreAmong (expr_positions (expr_view made)) ps
+ConvertsAmong ps (Ok (V.Var v)) = ⊤
+ConvertsAmong ps (Err stop) = ⊤
+
+-- or of a call
+abbrev pub CallsAmong : List Position → Result CallUse Stop → Type 0
+CallsAmong ps (Ok C.Wrong) = ⊤
+CallsAmong ps (Ok (C.Conversion made left)) = AreAmong (expr_positions (expr_view made)) ps
+CallsAmong ps (Ok (C.Parts t)) = ⊤
+CallsAmong ps (Err stop) = ⊤
+
+-- the rule that is made, if one is, stands at a position
+abbrev pub StandsIf : Position → Option Rule → Type 0
+StandsIf at None = ⊤
+StandsIf at (Some r) = position r.pos ≡ at
