@@ -19,7 +19,7 @@ use Rattle.isle_laws_lists.proofs.NamesOfTables.{names_of_rules_dont_matter_lem}
 use Rattle.isle_laws_lists.proofs.TypedResults.{names_stay}
 use Rattle.isle_laws_lists.proofs.TypedRules.{rules_agree, rules_one_way, typed_within_limits}
 use Rattle.isle_laws_lists.proofs.Typings.{then_gives}
-use Rattle.isle_rules.specs.LimitsNamed.{IsTypedPastLimits, NamesTypedPastLimits, rules_reached, LackOnlyLimits, NamesFirstPastLimits}
+use Rattle.isle_rules.specs.LimitsNamed.{IsTypedPastLimits, NamesTypedPastLimits, rules_reached, NamesFirstPastLimits}
 
 -- 1. what is so from further names is so from the first ones
 alike_some : {X : Type 0} (o p : Option (Typing X)) (a : Typing X) → AreThereAlike o p → p ≡ Some a → (b : Typing X) × (o ≡ Some b)
