@@ -2,8 +2,9 @@
 
 ghost use Rattle.std.specs.Prelude.{◌≡◌, ◌++◌, IfOk, OnOk, option_map};
 ghost use Rattle.isle_base.specs.SyntaxViews.{position, definition_view, definition_views, rule_view as tree_view};
-ghost use Rattle.isle_model.specs.lists.TermTable.{rule_trees};
+ghost use Rattle.isle_model.specs.lists.TermTable.{rule_of, rule_trees};
 ghost use Rattle.isle_types.specs.Envs.{IsInterned};
+ghost use Rattle.isle_rules.specs.LimitsNamed.{NamesPastLimits};
 ghost use Rattle.isle_rules.specs.RuleErrors.{NotesOfRules, NotesOfDefinition};
 ghost use Rattle.isle_rules.specs.RuleLists.{CollectsRule, CollectsNext, CollectsRules};
 ghost use Rattle.isle_typed.specs.RuleViews.{rule_view, rule_views};
@@ -61,6 +62,7 @@ impl TermEnv {
         ensures keeps { Keeps tyenv.old tyenv.new }
         ensures reads { OnOk result (CollectsNext self.now tyenv.old tyenv.new work.old.errors.items work.new.errors.items (definition_view def.now) rules.old.items rules.new.items) }
         ensures notes { OnOk result (NotesOfDefinition self.now tyenv.old (definition_view def.now) work.old.errors.items work.new.errors.items) }
+        ensures named { OnOk result (NamesPastLimits self.now tyenv.old (rule_of (definition_view def.now)) work.new.errors.items) }
         ensures places { OnOk result (NotesAt (with_terms self.now (definition_positions (definition_view def.now))) work.old.errors.items work.new.errors.items) }
         ensures stand { OnOk result (AreAmong (rules_at (rule_views rules.new.items)) (rules_at (rule_views rules.old.items) ++ definition_positions (definition_view def.now))) }
     {
@@ -92,6 +94,7 @@ impl TermEnv {
         ensures keeps { Keeps tyenv.old tyenv.new }
         ensures reads { IfOk result (λ v. CollectsRules self.now tyenv.old tyenv.new work.old.errors.items work.new.errors.items (rule_trees (definition_views defs.now)) (rule_views v.items)) }
         ensures notes { OnOk result (NotesOfRules self.now tyenv.old (rule_trees (definition_views defs.now)) work.old.errors.items work.new.errors.items) }
+        ensures named { OnOk result (NamesPastLimits self.now tyenv.old (rule_trees (definition_views defs.now)) work.new.errors.items) }
         ensures places { OnOk result (NotesAt (with_terms self.now (positions_of (definition_views defs.now))) work.old.errors.items work.new.errors.items) }
         ensures stand { IfOk result (λ v. AreAmong (rules_at (rule_views v.items)) (positions_of (definition_views defs.now))) }
     {

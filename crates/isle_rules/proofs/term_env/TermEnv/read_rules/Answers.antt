@@ -8,6 +8,7 @@ use Rattle.isle_rules.specs.RuleLists.{CollectsRules}
 use Rattle.isle_reports.specs.RuleNaming.{MapsNames, AreDefined, rules_at, terms_at}
 use Rattle.isle_typed.specs.RuleViews.{rule_views}
 use Rattle.isle_rules.specs.RuleErrors.{NotesOfRules}
+use Rattle.isle_rules.proofs.NamedLimits.{named_to_the_end}
 use Rattle.isle_rules.proofs.RulesRefused.{mapped_noted, noted_to_the_end}
 use Rattle.isle_rules.proofs.Noted.{may_both, may_check}
 use Rattle.isle_rules.proofs.RulesAtEnd.{rules_end}
@@ -50,6 +51,22 @@ returns-clause-notes c =
     let mapped = subst (λ es. MapsNames es named rules by_name) (ap (λ v. v.items) c.replace-errors.ensures.value) c.in_ok-rule_map.ensures.maps in
     let names = mapped_noted found named rules by_name mapped in
     noted_to_the_end env old (rule_trees defs) found last read
+    (may_both found named last names (may_both named defined last (may_check c.in_ok-check_defined.ensures.checks) (may_check c.in_ok-check_constructors.ensures.checks)))
+
+pub returns-clause-named : goal.returns-clause-named
+returns-clause-named c =
+    let defs = definition_views c.args.defs.now in
+    let env = c.args.self.now in
+    let old = c.args.tyenv.now in
+    let found = c.collect_rules.new.work.errors.items in
+    let named = c.map_names.new.errors.items in
+    let defined = c.check_defined.new.errors.items in
+    let last = c.check_constructors.new.errors.items in
+    let by_name = c.in_ok-rule_map.rule_map in
+    let rules = rule_views c.deref-2.result.now in
+    let mapped = subst (λ es. MapsNames es named rules by_name) (ap (λ v. v.items) c.replace-errors.ensures.value) c.in_ok-rule_map.ensures.maps in
+    let names = mapped_noted found named rules by_name mapped in
+    named_to_the_end env old (rule_trees defs) found last c.in_ok-rules.ensures.named
     (may_both found named last names (may_both named defined last (may_check c.in_ok-check_defined.ensures.checks) (may_check c.in_ok-check_constructors.ensures.checks)))
 
 pub returns-clause-places : goal.returns-clause-places
