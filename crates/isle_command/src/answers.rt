@@ -7,8 +7,9 @@ use cranelift_isle::lower::{Lowered, LoweredTerm, lower};
 use isle_base::syntax::{Def, Fault, Files};
 use isle_explaining::diagnosis::reports_of;
 use isle_explaining::explanation::{explanation, with_rules};
+use isle_explaining::lints::warnings;
 use isle_explaining::stats::stats;
-use isle_json::documents::{document_of_reports, document_of_terms};
+use isle_json::documents::{document_of_reports, document_of_terms, document_of_warnings};
 use isle_printing::print::{Names, print_term};
 use isle_rendering::layout::push_reports;
 use isle_rendering::report::{Label, Level, Report};
@@ -126,7 +127,7 @@ fn answer_to_defs(
     defs: &[Def],
 ) -> Result<Answer, AllocError> {
     match lower(alloc, defs, asked.expand) {
-        Ok(lowered) => answer_to_lowered(alloc, asked, files, &lowered),
+        Ok(lowered) => answer_to_lowered(alloc, asked, files, defs, &lowered),
         Err(Fault::Errors(errors)) => {
             let reports = reports_of(alloc, defs, asked.expand, &errors)?;
             refusal(alloc, asked, files, &reports)
@@ -140,11 +141,12 @@ fn answer_to_lowered(
     alloc: Global,
     asked: &Request<'_>,
     files: &Files,
+    defs: &[Def],
     lowered: &Lowered,
 ) -> Result<Answer, AllocError> {
     match asked.task {
         Task::Lower => trees(alloc, asked, files, lowered),
-        Task::Check => nothing_wrong(alloc, asked, files),
+        Task::Check => warned(alloc, asked, files, &warnings(alloc, defs, lowered)?),
         Task::Samples => Ok(accepted(alloc, String::new(alloc))),
         Task::Stats => Ok(accepted(alloc, stats(alloc, lowered)?)),
         Task::Compare => compared(alloc, asked, files, lowered),
@@ -167,12 +169,26 @@ fn accepted(alloc: Global, out: String) -> Answer {
     }
 }
 
-// The answer to `check` where nothing is wrong.
-fn nothing_wrong(alloc: Global, asked: &Request<'_>, files: &Files) -> Result<Answer, AllocError> {
+// The answer to `check` where nothing is wrong: what is likely not meant. Its status is 1 where that is asked for.
+fn warned(
+    alloc: Global,
+    asked: &Request<'_>,
+    files: &Files,
+    warnings: &[Report],
+) -> Result<Answer, AllocError> {
+    let status = if asked.deny && !warnings.is_empty() {
+        1
+    } else {
+        0
+    };
+    let mut out = String::new(alloc);
+    let mut err = String::new(alloc);
     if asked.format == Format::Json {
-        return Ok(accepted(alloc, document_of_reports(alloc, files, &[], false)?));
+        out = document_of_warnings(alloc, files, warnings)?;
+    } else {
+        push_reports(&mut err, files, warnings, asked.format.layout())?;
     }
-    Ok(accepted(alloc, String::new(alloc)))
+    Ok(Answer { status, out, err })
 }
 
 // The answer where there is nothing of a name.

@@ -13,11 +13,11 @@ pub fn difference(
 ) -> Result<String, AllocError> {
     let mut lines = text.lines();
     let mut number = 0usize;
-    let mut term = "";
+    let mut term = String::new(alloc);
     for line in trees.lines() {
         number = number.saturating_add(1);
         if line.starts_with("term ") {
-            term = line;
+            term = String::from_str(alloc, line)?;
         }
         let line = said(line);
         let Some(other) = lines.next() else {

@@ -58,6 +58,8 @@ pub struct Request<'a> {
     pub task: Task,
     /// Whether uses of internal extractors are replaced by their templates.
     pub expand: bool,
+    /// Whether warnings count as errors.
+    pub deny: bool,
     /// The form of the answer.
     pub format: Format,
     /// The names of the terms whose trees are wanted, with commas between them; all where there are none.
@@ -75,6 +77,7 @@ impl<'a> Drop for Request<'a> {
         let Request {
             task: _,
             expand: _,
+            deny: _,
             format: _,
             terms: _,
             folder: _,
@@ -98,11 +101,12 @@ enum Awaited {
 
 /// What these words ask, or None where they ask for nothing. They are the name of a task; for `explain` the rule; then
 /// files, the last of `compare` with trees, or for `samples` at most one sample. Everywhere behind the task there may be `--no-expand`, `--terms NAMES`,
-/// `--format text`, `--format line` and `-C FOLDER`; `--format json` for `lower` and `check`, `--format dot` for `lower`.
+/// `--format text`, `--format line` and `-C FOLDER`; `--deny` for `check`, `--format json` for `lower` and `check`, `--format dot` for `lower`.
 pub fn asked_by<'a>(alloc: Global, words: &'a [String]) -> Result<Option<Request<'a>>, AllocError> {
     let mut asked = Request {
         task: Task::Lower,
         expand: true,
+        deny: false,
         format: Format::Text,
         terms: None,
         folder: "",
@@ -192,6 +196,14 @@ impl<'a> Request<'a> {
             "--no-expand" => {
                 self.expand = false;
                 Ok(Some(Awaited::Any))
+            }
+            "--deny" => {
+                self.deny = true;
+                Ok(if self.task == Task::Check {
+                    Some(Awaited::Any)
+                } else {
+                    None
+                })
             }
             "--terms" => Ok(Some(Awaited::Terms)),
             "--format" => Ok(Some(Awaited::Format)),

@@ -156,7 +156,7 @@ fn shadow(
 }
 
 // Adds the place of a rule, with its name and priority between two texts.
-fn add_rule(
+pub(crate) fn add_rule(
     alloc: Global,
     report: &mut Report,
     defs: &[Def],
@@ -187,7 +187,7 @@ fn push_rule(text: &mut String, defs: &[Def], pos: Pos) -> Result<(), AllocError
 }
 
 // Adds a line that helps.
-fn add_help(alloc: Global, report: &mut Report, text: &str) -> Result<(), AllocError> {
+pub(crate) fn add_help(alloc: Global, report: &mut Report, text: &str) -> Result<(), AllocError> {
     add_note(report, "help", String::from_str(alloc, text)?)
 }
 

@@ -4,6 +4,7 @@
 pub mod demands;
 pub mod diagnosis;
 pub mod explanation;
+pub mod lints;
 pub mod names;
 pub mod sets;
 pub mod stats;

@@ -28,7 +28,19 @@ pub fn document_of_reports(
         push_empty(&mut json, "types")?;
         push_empty(&mut json, "terms")?;
     }
-    push_reports(&mut json, files, reports)?;
+    push_reports(&mut json, files, "errors", reports)?;
+    ended(alloc, json)
+}
+
+/// The document of accepted definitions of which only warnings are asked, in one line.
+pub fn document_of_warnings(
+    alloc: Global,
+    files: &Files,
+    warnings: &[Report],
+) -> Result<String, AllocError> {
+    let mut json = begun(alloc)?;
+    push_empty(&mut json, "errors")?;
+    push_reports(&mut json, files, "warnings", warnings)?;
     ended(alloc, json)
 }
 

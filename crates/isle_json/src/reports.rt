@@ -6,13 +6,14 @@ use isle_base::syntax::Files;
 use isle_rendering::report::{Label, Note, Report};
 use std::alloc::AllocError;
 
-/// Adds reports, in order.
+/// Adds reports at a key, in order.
 pub(crate) fn push_reports(
     json: &mut Json,
     files: &Files,
+    key: &str,
     reports: &[Report],
 ) -> Result<(), AllocError> {
-    json.begin_at("errors", '[')?;
+    json.begin_at(key, '[')?;
     for report in reports {
         push_report(json, files, report)?;
     }
