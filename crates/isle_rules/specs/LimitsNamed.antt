@@ -40,7 +40,7 @@ abbrev pub NamesPastLimits : TermEnv → TypeEnv → List RuleTree → List Erro
 NamesPastLimits env old trees errors = (e : Setting) → IsSettingOf old env e → All (IsNamedPastLimits e (names_of old) errors) trees
 
 -- the terms are valid, and a rule has a typed rule where expansions may nest to some depth, however many there are, and none
--- within the limits: all that it lacks is the limits. As for these it is read from the names of the terms
+-- within the limits: all that it lacks is the limits. As where a limit is passed, it is read from the names of the terms
 pub record IsTypedPastLimits (e : TypesRead) (defs : List Definition) (expand : Bool) (id : ℕ) : Type 0 where
   pub terms : IsValidTerms e.known defs
   pub rule : RuleTree
@@ -54,8 +54,8 @@ pub record IsTypedPastLimits (e : TypesRead) (defs : List Definition) (expand : 
 abbrev pub NamesTypedPastLimits : TypesRead → List Definition → Bool → List Refusal → Type 0
 NamesTypedPastLimits e defs expand errors = (id : ℕ) (h : IsTypedPastLimits e defs expand id) → NamesALimit h.rule.at errors
 
--- rules in order, the first of which has this id, each from the names met before it, where so many expansions may nest in each
--- and any number of them be
+-- rules in order, the first of which has this id, each from the names met before it, where so many expansions may nest in one
+-- another, however many there are
 abbrev pub rules_reached : Setting → ℕ → ℕ → List RuleTree → List (List ℕ) → Option TypedRules
 rules_reached e d id [] names = Some (record { rules = []; names = names })
 rules_reached e d id (r ∷ rs) names = then_option (elaborated_rule e d id r names) (λ a. with_typed a.made (rules_reached e d (suc id) rs a.scope.names))
@@ -79,6 +79,6 @@ pub record NamesFirst (e : TypesRead) (defs : List Definition) (expand : Bool) (
   pub none : typed_rule (setting_of e defs expand) id rule before.names ≡ None
   pub named : NamesALimit rule.at errors
 
--- then it is that one at least
+-- that is so of each list where only the limits are lacking
 abbrev pub NamesFirstPastLimits : TypesRead → List Definition → Bool → List Refusal → Type 0
 NamesFirstPastLimits e defs expand errors = LackOnlyLimits e defs expand → NamesFirst e defs expand errors
