@@ -1,7 +1,7 @@
 //! The table of terms and rules.
 
 ghost use Rattle.isle_base.specs.Answers.{Answers, OnErrors};
-ghost use Rattle.isle_base.specs.Positions.{StandsAt, positions_of};
+ghost use Rattle.isle_base.specs.Positions.{ErrorStandsAt, positions_of};
 ghost use Rattle.isle_base.specs.SyntaxViews.{definition_views};
 ghost use Rattle.isle_model.specs.claims.Environments.{TypesRead, AreReadable, AreRulesOf, HasTypedRules, IsLeftByRefusal, IsReadAs};
 ghost use Rattle.isle_model.specs.claims.Questions.{variant_by_id};
@@ -77,7 +77,7 @@ impl TermEnv {
         ensures named { OnErrors result (λ es. NamesTypedPastLimits read (definition_views defs.now) expand_internal_extractors (error_views es)) }
         ensures first { OnErrors result (λ es. NamesFirstPastLimits read (definition_views defs.now) expand_internal_extractors (error_views es)) }
         ensures refused { OnErrors result (λ es. RefusesRules read (definition_views defs.now) expand_internal_extractors (error_views es)) }
-        ensures places { OnErrors result (All (StandsAt (positions_of (definition_views defs.now) ++ types_positions read.known.types))) }
+        ensures places { OnErrors result (All (ErrorStandsAt (positions_of (definition_views defs.now) ++ types_positions read.known.types))) }
     {
         let table = TermTable::from_ast(alloc, tyenv, defs)?;
         let mut env = TermEnv::with_terms(alloc, table, expand_internal_extractors);

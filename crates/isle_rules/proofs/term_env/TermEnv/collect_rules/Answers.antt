@@ -6,7 +6,7 @@ use Rattle.isle_rules.proofs.Readings.{keep_none, keep_on}
 use Rattle.isle_rules.proofs.NamedLimits.{none_named, next_named, all_named}
 use Rattle.isle_rules.proofs.RuleErrorSteps.{none_noted, next_noted}
 use Rattle.isle_rules.proofs.RuleListSteps.{first_reading, next_reading, last_reading}
-use Rattle.isle_base.specs.Positions.{AreAmong, definition_positions, positions_of}
+use Rattle.isle_base.specs.Positions.{OccurAmong, definition_positions, positions_of}
 use Rattle.isle_base.proofs.Positioned.{among_same, among_both, notes_nothing}
 use Rattle.isle_rules.specs.RulePositions.{with_terms}
 use Rattle.isle_typed.specs.RuleViews.{rule_views}
@@ -39,14 +39,14 @@ loop-def-preserved c = (
       let env = c.args.self.now in
       let all = positions_of (definition_views c.args.defs.now) in
       let one = definition_positions (definition_view c.def-item.result) in
-      let inside : AreAmong one all = each_inside definition_positions definition_view c.args.defs.now c.loop-def.def-index c.def-item.result c.loop-def-test.true c.def-item.is in
+      let inside : OccurAmong one all = each_inside definition_positions definition_view c.args.defs.now c.loop-def.def-index c.def-item.result c.loop-def-test.true c.def-item.is in
       notes_step (with_terms env all) (with_terms env one) (with_terms env all) c.args.work.now.errors.items c.loop-def.work.errors.items c.collect_definition.new.work.errors.items (among_same (with_terms env all)) (among_with env one all inside) c.loop-def.invariant.4 c.in_ok-collect_definition.ensures.places
       ),
   (
       let env = c.args.self.now in
       let all = positions_of (definition_views c.args.defs.now) in
       let one = definition_positions (definition_view c.def-item.result) in
-      let inside : AreAmong one all = each_inside definition_positions definition_view c.args.defs.now c.loop-def.def-index c.def-item.result c.loop-def-test.true c.def-item.is in
+      let inside : OccurAmong one all = each_inside definition_positions definition_view c.args.defs.now c.loop-def.def-index c.def-item.result c.loop-def-test.true c.def-item.is in
       let before = rules_at (rule_views c.loop-def.rules.items) in
       among_both (rules_at (rule_views c.collect_definition.new.rules.items)) (before ++ one) all c.in_ok-collect_definition.ensures.stand (among_joined before one all c.loop-def.invariant.5 inside)
       ),

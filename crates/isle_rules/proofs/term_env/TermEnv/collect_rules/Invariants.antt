@@ -1,7 +1,7 @@
 use Rattle.std.proofs.Common.{drop}
 use Rattle.isle_base.specs.SyntaxViews.{definition_views}
 use Rattle.isle_model.specs.lists.TermTable.{rule_trees}
-use Rattle.isle_base.specs.Positions.{NotesAt, AreAmong, positions_of}
+use Rattle.isle_base.specs.Positions.{NotesAt, OccurAmong, positions_of}
 use Rattle.isle_typed.specs.RuleViews.{rule_views}
 use Rattle.isle_reports.specs.RuleNaming.{rules_at}
 use Rattle.isle_rules.specs.RulePositions.{with_terms}
@@ -19,4 +19,4 @@ invariant-loop-def l =
     × NotesOfRules l.self l.fn.tyenv (rule_trees (definition_views l.defs)) l.fn.work.errors.items l.work.errors.items
     × NamesPastLimits l.self l.fn.tyenv (rules_before l.defs l.def-index) l.work.errors.items
     × NotesAt (with_terms l.self (positions_of (definition_views l.defs))) l.fn.work.errors.items l.work.errors.items
-    × AreAmong (rules_at (rule_views l.rules.items)) (positions_of (definition_views l.defs))
+    × OccurAmong (rules_at (rule_views l.rules.items)) (positions_of (definition_views l.defs))

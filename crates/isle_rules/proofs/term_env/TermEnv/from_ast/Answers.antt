@@ -1,7 +1,7 @@
 use Rattle.std.proofs.Common.{◌++◌, All, refl, ◌∙◌}
 use Rattle.isle_base.specs.SyntaxViews.{definition_views}
 use Rattle.isle_model.specs.claims.Refusals.{PassedInReading}
-use Rattle.isle_base.specs.Positions.{StandsAt, positions_of}
+use Rattle.isle_base.specs.Positions.{ErrorStandsAt, positions_of}
 use Rattle.isle_types.specs.EnvViews.{environment_view}
 use Rattle.isle_types.specs.TypePositions.{types_positions}
 use Rattle.isle_base.specs.ErrorViews.{error_views}
@@ -83,4 +83,4 @@ returns-then-not-is_empty-clause-places g c =
 pub returns-in_err-table-clause-places : goal.returns-in_err-table-clause-places
 returns-in_err-table-clause-places g c =
     let all = positions_of (definition_views c.args.defs.now) ++ types_positions g.read.known.types in
-    passed_on (All (StandsAt all)) (All (StandsAt all)) (λ es h. h) c.from_residual.result c.in_err-table.field-0.0 c.from_residual.ensures c.in_err-table.ensures.places
+    passed_on (All (ErrorStandsAt all)) (All (ErrorStandsAt all)) (λ es h. h) c.from_residual.result c.in_err-table.field-0.0 c.from_residual.ensures c.in_err-table.ensures.places
