@@ -225,7 +225,8 @@ fn compared(
     if let Some(name) = missing_term(asked.terms, lowered) {
         return missing(alloc, "term with rules", name);
     }
-    let trees = printed(alloc, files, lowered, &wanted(alloc, asked, lowered)?)?;
+    let wanted = wanted(alloc, asked, lowered)?;
+    let trees = drawn(alloc, Format::Text, files, lowered, &wanted)?;
     let (Some(name), Some(text)) = (files.names.last(), files.texts.last()) else {
         return Ok(accepted(alloc, String::new(alloc)));
     };
@@ -251,36 +252,28 @@ fn trees(
     let wanted = wanted(alloc, asked, lowered)?;
     let out = match asked.format {
         Format::Json => document_of_terms(alloc, files, lowered, &wanted)?,
-        Format::Dot => graphs(alloc, files, lowered, &wanted)?,
-        Format::Text | Format::Line => printed(alloc, files, lowered, &wanted)?,
+        Format::Dot | Format::Text | Format::Line => {
+            drawn(alloc, asked.format, files, lowered, &wanted)?
+        }
     };
     Ok(accepted(alloc, out))
 }
 
-// The trees of terms as graphs, one after another.
-fn graphs(
+// The trees of terms, one after another: as graphs, or in words.
+fn drawn(
     alloc: Global,
+    format: Format,
     files: &Files,
     lowered: &Lowered,
     terms: &[&LoweredTerm],
 ) -> Result<String, AllocError> {
     let mut out = String::new(alloc);
     for term in terms {
-        out.push_str(&graph_of(alloc, files, lowered, term)?)?;
-    }
-    Ok(out)
-}
-
-// The trees of terms in words, one after another.
-fn printed(
-    alloc: Global,
-    files: &Files,
-    lowered: &Lowered,
-    terms: &[&LoweredTerm],
-) -> Result<String, AllocError> {
-    let mut out = String::new(alloc);
-    for term in terms {
-        out.push_str(&tree(alloc, files, lowered, term)?)?;
+        let drawing = match format {
+            Format::Dot => graph_of(alloc, files, lowered, term)?,
+            Format::Json | Format::Text | Format::Line => tree(alloc, files, lowered, term)?,
+        };
+        out.push_str(&drawing)?;
     }
     Ok(out)
 }
