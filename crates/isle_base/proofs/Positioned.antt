@@ -13,47 +13,47 @@ use Rattle.isle_base.specs.declared.syntax.Span.{Span}
 use Rattle.isle_base.specs.Places.{single_end}
 use Rattle.isle_base.specs.SyntaxViews.{position}
 use Rattle.isle_base.specs.ErrorViews.{error_view}
-use Rattle.isle_base.specs.Positions.{StandsAt, NotesAt, AreAmong, positions_named}
+use Rattle.isle_base.specs.Positions.{ErrorStandsAt, NotesAt, OccurAmong, positions_named}
 
 -- positions among those of a longer list
-pub among_same : (ps : List Position) → AreAmong ps ps
+pub among_same : (ps : List Position) → OccurAmong ps ps
 among_same ps p c = c
 
-pub among_both : (ps qs rs : List Position) → AreAmong ps qs → AreAmong qs rs → AreAmong ps rs
+pub among_both : (ps qs rs : List Position) → OccurAmong ps qs → OccurAmong qs rs → OccurAmong ps rs
 among_both ps qs rs a b p c = b p (a p c)
 
-pub among_left : (ps qs : List Position) → AreAmong ps (ps ++ qs)
+pub among_left : (ps qs : List Position) → OccurAmong ps (ps ++ qs)
 among_left ps qs p c = Contains-append_left ps qs p c
 
-pub among_right : (ps qs : List Position) → AreAmong qs (ps ++ qs)
+pub among_right : (ps qs : List Position) → OccurAmong qs (ps ++ qs)
 among_right ps qs p c = Contains-append_right ps qs p c
 
-pub among_rest : (q : Position) (ps : List Position) → AreAmong ps (q ∷ ps)
+pub among_rest : (q : Position) (ps : List Position) → OccurAmong ps (q ∷ ps)
 among_rest q ps p c = in_tail q p ps c
 
-pub among_one : (q : Position) (ps : List Position) → Contains ps q → AreAmong (q ∷ []) ps
+pub among_one : (q : Position) (ps : List Position) → Contains ps q → OccurAmong (q ∷ []) ps
 among_one q ps within p c = subst (Contains ps) (in_alone q p c) within
 
-pub among_first : (q : Position) (ps : List Position) → AreAmong (q ∷ []) (q ∷ ps)
+pub among_first : (q : Position) (ps : List Position) → OccurAmong (q ∷ []) (q ∷ ps)
 among_first q ps = among_one q (q ∷ ps) (in_head q ps)
 
-pub among_each : {X : Type 0} (f : X → List Position) (xs : List X) (x : X) → Contains xs x → AreAmong (f x) (flat_map f xs)
+pub among_each : {X : Type 0} (f : X → List Position) (xs : List X) (x : X) → Contains xs x → OccurAmong (f x) (flat_map f xs)
 among_each f xs x c p h = in_flat_map f xs x p c h
 
-pub stand_among : (ps qs : List Position) (e : Error) → AreAmong ps qs → StandsAt ps e → StandsAt qs e
+pub stand_among : (ps qs : List Position) (e : Error) → OccurAmong ps qs → ErrorStandsAt ps e → ErrorStandsAt qs e
 stand_among ps qs e a s = record {
   named = All-weaker (Contains ps) (Contains qs) a (positions_named (error_view e)) s.named;
   single = s.single;
 }
 
 -- an error at a place
-pub stands_there : (at : Pos) (msg : String Global) (span : Span) → span.from ≡ at → span.to ≡ single_end at → StandsAt (position at ∷ []) (TypeError msg span)
+pub stands_there : (at : Pos) (msg : String Global) (span : Span) → span.from ≡ at → span.to ≡ single_end at → ErrorStandsAt (position at ∷ []) (TypeError msg span)
 stands_there at msg span from to = record {
   named = subst (λ p. All (Contains (position at ∷ [])) (position p ∷ [])) (sym from) (All-contains_itself (position at ∷ []));
   single = to ∙ ap single_end (sym from);
 }
 
-pub limit_stands_there : (at : Pos) (limit : Limit) (msg : String Global) (span : Span) → span.from ≡ at → span.to ≡ single_end at → StandsAt (position at ∷ []) (LimitError limit msg span)
+pub limit_stands_there : (at : Pos) (limit : Limit) (msg : String Global) (span : Span) → span.from ≡ at → span.to ≡ single_end at → ErrorStandsAt (position at ∷ []) (LimitError limit msg span)
 limit_stands_there at limit msg span from to = record {
   named = subst (λ p. All (Contains (position at ∷ [])) (position p ∷ [])) (sym from) (All-contains_itself (position at ∷ []));
   single = to ∙ ap single_end (sym from);
@@ -63,11 +63,11 @@ limit_stands_there at limit msg span from to = record {
 pub notes_nothing : (ps : List Position) (old new : List Error) → new ≡ old → NotesAt ps old new
 notes_nothing ps old new same = record { each = λ e c. inl (subst (λ es. Contains es e) same c) }
 
-pub notes_one : (ps : List Position) (old new : List Error) (e : Error) → new ≡ old ++ e ∷ [] → StandsAt ps e → NotesAt ps old new
+pub notes_one : (ps : List Position) (old new : List Error) (e : Error) → new ≡ old ++ e ∷ [] → ErrorStandsAt ps e → NotesAt ps old new
 notes_one ps old new e added stands = record {
   each = λ x c. elim (Contains-append_cases old (e ∷ []) x (subst (λ es. Contains es x) added c)) [
     | inl before ↦ inl before
-    | inr this ↦ inr (subst (StandsAt ps) (in_alone e x this) stands)
+    | inr this ↦ inr (subst (ErrorStandsAt ps) (in_alone e x this) stands)
   ];
 }
 
@@ -79,7 +79,7 @@ notes_both ps a b c first second = record {
   ];
 }
 
-pub notes_among : (ps qs : List Position) (old new : List Error) → AreAmong ps qs → NotesAt ps old new → NotesAt qs old new
+pub notes_among : (ps qs : List Position) (old new : List Error) → OccurAmong ps qs → NotesAt ps old new → NotesAt qs old new
 notes_among ps qs old new a n = record {
   each = λ e c. elim (n.each e c) [
     | inl before ↦ inl before
@@ -88,8 +88,8 @@ notes_among ps qs old new a n = record {
 }
 
 -- all errors stand there where there were none before
-pub all_stand : (ps : List Position) (es : List Error) → NotesAt ps [] es → All (StandsAt ps) es
-all_stand ps es n = all_members (StandsAt ps) es (λ e c. elim (n.each e c) [
+pub all_stand : (ps : List Position) (es : List Error) → NotesAt ps [] es → All (ErrorStandsAt ps) es
+all_stand ps es n = all_members (ErrorStandsAt ps) es (λ e c. elim (n.each e c) [
   | inl before ↦ absurd (nothing_in e before)
   | inr stands ↦ stands
 ])

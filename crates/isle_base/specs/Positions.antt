@@ -126,14 +126,14 @@ HasSingleSpans (ShadowedError shadowed mask) = All IsSingle shadowed.items × Is
 HasSingleSpans (LimitError limit msg span) = IsSingle span
 
 -- an error stands at some of these positions: it names no other, and its spans are those of single positions
-pub record StandsAt (positions : List Position) (e : Error) : Type 0 where
+pub record ErrorStandsAt (positions : List Position) (e : Error) : Type 0 where
   pub named : All (Contains positions) (positions_named (error_view e))
   pub single : HasSingleSpans e
 
 -- each error is one of those before, or stands at some of these positions
 pub record NotesAt (positions : List Position) (old new : List Error) : Type 0 where
-  pub each : (e : Error) → Contains new e → Contains old e ⊎ StandsAt positions e
+  pub each : (e : Error) → Contains new e → Contains old e ⊎ ErrorStandsAt positions e
 
 -- all that occur in one list occur in another
-abbrev pub AreAmong : List Position → List Position → Type 0
-AreAmong positions others = (p : Position) → Contains positions p → Contains others p
+abbrev pub OccurAmong : List Position → List Position → Type 0
+OccurAmong positions others = (p : Position) → Contains positions p → Contains others p

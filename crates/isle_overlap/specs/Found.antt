@@ -1,8 +1,9 @@
 -- What was found of rules that were compared.
-use Rattle.std.specs.Prelude.{List}
+use Rattle.std.specs.Prelude.{List, All}
 use Rattle.isle_model.specs.lists.Syntax.{Position}
 use Rattle.isle_model.specs.claims.Refusals.{Refusal}
 use Rattle.isle_base.specs.ErrorViews.{error_views}
+use Rattle.isle_base.specs.Positions.{HasSingleSpans}
 use Rattle.isle_overlap.specs.Comparisons.{pair_views}
 use Rattle.isle_overlap.specs.declared.overlap.Errors.{Errors}
 
@@ -13,3 +14,7 @@ found_wrong e = pair_views e.wrong.items
 -- the errors of rules that mask others
 abbrev pub found_shadows : Errors → List Refusal
 found_shadows e = error_views e.shadows.items
+
+-- each span of these errors is that of one position
+abbrev pub HaveSingleSpans : Errors → Type 0
+HaveSingleSpans e = All HasSingleSpans e.shadows.items

@@ -4,11 +4,12 @@ ghost use Rattle.isle_model.specs.claims.Refusals.{overlapping, refusal_of};
 ghost use Rattle.isle_model.specs.sites.Overlap.{RuleReport, ShadowReport, ascending_positions, by_position, degree, has_end, other_end, overlap_reports, rule_shadows, rules_overlap};
 ghost use Rattle.isle_model.specs.sites.SetRules.{is_mask_of, overlap_wrongly, shadows_among, wrong_among};
 ghost use Rattle.isle_base.specs.ErrorViews.{error_view, error_views, span_starts};
+ghost use Rattle.isle_base.specs.Positions.{HasSingleSpans, IsSingle};
 ghost use Rattle.isle_base.specs.SyntaxViews.{position};
 ghost use Rattle.isle_sets.specs.SiteViews.{set_rule_view, set_rule_views};
 ghost use Rattle.isle_overlap.specs.Comparisons.{AreGrouped, list_views, masked_behind, masked_pair, masked_rows, masked_views, pair_views, positions, shadow_of, shadows_of, wrong_behind, wrong_pair, wrong_rows};
 ghost use Rattle.isle_overlap.specs.ErrorViews.{error_pos};
-ghost use Rattle.isle_overlap.specs.Found.{found_shadows, found_wrong};
+ghost use Rattle.isle_overlap.specs.Found.{HaveSingleSpans, found_shadows, found_wrong};
 ghost use Rattle.isle_overlap.specs.Keys.{AreApart, AreKeys, key_views};
 ghost use Rattle.isle_overlap.specs.Graphs.{count_at, count_left, counts_before, ends_of, listed_at, neighbours, same_pos, times, unreported};
 
@@ -41,6 +42,7 @@ impl Errors {
     pub fn new(alloc: Global) -> Errors
         ensures wrong { found_wrong result ≡ [] }
         ensures shadows { found_shadows result ≡ [] }
+        ensures single { HaveSingleSpans result }
     {
         Errors {
             wrong: Vec::new(alloc),
@@ -58,6 +60,7 @@ impl Errors {
         ensures wrong { OnOk result (found_wrong self.new ≡ found_wrong self.old ++ wrong_among (set_rule_views rules.now)) }
         ensures shadows { OnOk result (found_shadows self.new
             ≡ found_shadows self.old ++ map refusal_of (map rule_shadows (shadows_among (set_rule_views rules.now)))) }
+        ensures single { OnOk result (HaveSingleSpans self.old → HaveSingleSpans self.new) }
     {
         let mut masked = Vec::new(alloc);
         let keys = keys_of(alloc, rules)?;
@@ -76,7 +79,8 @@ impl Errors {
     ///
     /// Where memory is refused.
     pub fn report(self, alloc: Global) -> Result<Vec<Error>, AllocError>
-        ensures { IfOk result (λ v. (shadows : List ShadowReport) → found_shadows self ≡ map refusal_of (map rule_shadows shadows)
+        ensures single { IfOk result (λ v. HaveSingleSpans self → All HasSingleSpans v.items) }
+        ensures reports { IfOk result (λ v. (shadows : List ShadowReport) → found_shadows self ≡ map refusal_of (map rule_shadows shadows)
             → error_views v.items ≡ map refusal_of (by_position (map rules_overlap (overlap_reports (found_wrong self)) ++ map rule_shadows shadows))) }
     {
         let Errors { wrong, mut shadows } = self;
@@ -235,7 +239,8 @@ fn masked_by_each(
 
 // Spans at these places.
 fn spans_of(alloc: Global, places: &[Pos]) -> Result<Vec<Span>, AllocError>
-    ensures { IfOk result (λ v. span_starts v.items ≡ positions places.now) }
+    ensures starts { IfOk result (λ v. span_starts v.items ≡ positions places.now) }
+    ensures single { IfOk result (λ v. All IsSingle v.items) }
 {
     let mut spans = Vec::new(alloc);
     for place in places {
@@ -251,7 +256,8 @@ fn add_shadow(
     masked: &[Pos],
     errors: &mut Vec<Error>,
 ) -> Result<(), AllocError>
-    ensures { OnOk result (error_views errors.new.items ≡ error_views errors.old.items ++ shadow_of (set_rule_view mask.now) (positions masked.now)) }
+    ensures shadow { OnOk result (error_views errors.new.items ≡ error_views errors.old.items ++ shadow_of (set_rule_view mask.now) (positions masked.now)) }
+    ensures single { OnOk result (All HasSingleSpans errors.old.items → All HasSingleSpans errors.new.items) }
 {
     if masked.is_empty() {
         return Ok(());
@@ -272,7 +278,8 @@ fn add_shadows(
     errors: &mut Vec<Error>,
 ) -> Result<(), AllocError>
     requires { length lists.now ≡ length rules.now }
-    ensures { OnOk result (error_views errors.new.items ≡ error_views errors.old.items ++ shadows_of (set_rule_views rules.now) (list_views lists.now)) }
+    ensures shadows { OnOk result (error_views errors.new.items ≡ error_views errors.old.items ++ shadows_of (set_rule_views rules.now) (list_views lists.now)) }
+    ensures single { OnOk result (All HasSingleSpans errors.old.items → All HasSingleSpans errors.new.items) }
 {
     for i in 0..rules.len() {
         add_shadow(alloc, &rules[i], &lists[i], errors)?;
@@ -471,7 +478,8 @@ fn take_away(counts: &mut BTreeMap<Pos, usize>, found: &[Pos]) -> Result<(), All
 
 // The error of a rule that overlaps others.
 fn overlap_error(alloc: Global, place: Pos, others: &[Pos]) -> Result<Error, AllocError>
-    ensures { IfOk result (λ e. error_view e ≡ overlapping (position place ∷ positions others.now)) }
+    ensures says { IfOk result (λ e. error_view e ≡ overlapping (position place ∷ positions others.now)) }
+    ensures single { IfOk result HasSingleSpans }
 {
     let mut rules = Vec::new(alloc);
     rules.push(Span::new_single(place))?;
@@ -492,6 +500,7 @@ fn report(
     ensures counts { OnOk result ((q : Pos) → count_at counts.new q ≡ count_left counts.old place (unreported others.now counts.old place) q) }
     ensures error { OnOk result (error_views errors.new.items
         ≡ error_views errors.old.items ++ overlapping (position place ∷ ascending_positions (positions (unreported others.now counts.old place))) ∷ []) }
+    ensures single { OnOk result (All HasSingleSpans errors.old.items → All HasSingleSpans errors.new.items) }
 {
     let found = unreported(alloc, others, counts, place)?;
     take_away(counts, &found)?;
@@ -504,7 +513,8 @@ fn report(
 // The errors of wrong overlaps. The rule with the most of them is reported first, of several the latest, with all that it
 // overlaps; then the same of the overlaps that are left.
 fn overlap_errors(alloc: Global, wrong: &[(Pos, Pos)]) -> Result<Vec<Error>, AllocError>
-    ensures { IfOk result (λ v. error_views v.items ≡ map refusal_of (map rules_overlap (overlap_reports (pair_views wrong.now)))) }
+    ensures reports { IfOk result (λ v. error_views v.items ≡ map refusal_of (map rules_overlap (overlap_reports (pair_views wrong.now)))) }
+    ensures single { IfOk result (λ v. All HasSingleSpans v.items) }
 {
     let most = wrong.len();
     let mut errors = Vec::new(alloc);
@@ -540,8 +550,9 @@ fn place_of(error: &Error) -> Pos
 
 // Errors by place, those of one place as they stood.
 fn by_place(mut errors: Vec<Error>) -> Result<Vec<Error>, AllocError>
-    ensures { IfOk result (λ v. (reports : List RuleReport) → error_views errors.items ≡ map refusal_of reports
+    ensures reports { IfOk result (λ v. (reports : List RuleReport) → error_views errors.items ≡ map refusal_of reports
         → error_views v.items ≡ map refusal_of (by_position reports)) }
+    ensures single { IfOk result (λ v. All HasSingleSpans errors.items → All HasSingleSpans v.items) }
 {
     errors.sort_by_key(place_of)?;
     Ok(errors)

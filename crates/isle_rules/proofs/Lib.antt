@@ -33,6 +33,8 @@ pub mod ConstructorLaws
 pub mod CheckedUses
 pub mod RulesTyped
 pub mod RuleErrorSteps
+pub mod NamedLimits
+pub mod FirstPastLimits
 pub mod NamedTerms
 pub mod TemplateUses
 pub mod DefinedTerms

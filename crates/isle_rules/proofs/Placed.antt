@@ -4,7 +4,7 @@ use Rattle.std.proofs.lemmas.List.Elements.{Contains-append_cases}
 use Rattle.isle_model.specs.lists.Syntax.{Position}
 use Rattle.isle_base.specs.declared.syntax.Error.{Error}
 use Rattle.isle_base.specs.declared.syntax.Pos.{Pos}
-use Rattle.isle_base.specs.Positions.{NotesAt, AreAmong}
+use Rattle.isle_base.specs.Positions.{NotesAt, OccurAmong}
 use Rattle.isle_base.proofs.Positioned.{among_both, among_left, among_right, among_first, notes_nothing, notes_both, notes_among}
 use Rattle.isle_terms.specs.TermViews.{term_views}
 use Rattle.isle_rules.specs.declared.term_env.TermEnv.{TermEnv}
@@ -16,24 +16,24 @@ use Rattle.isle_rules.specs.RuleLists.{NotesStop}
 use Rattle.isle_rules.specs.RulePositions.{with_terms, KeepsPlaced, StaysPlaced}
 use Rattle.isle_terms.specs.TermPositions.{terms_positions}
 
-pub among_joined : (ps qs rs : List Position) → AreAmong ps rs → AreAmong qs rs → AreAmong (ps ++ qs) rs
+pub among_joined : (ps qs rs : List Position) → OccurAmong ps rs → OccurAmong qs rs → OccurAmong (ps ++ qs) rs
 among_joined ps qs rs a b p c = elim (Contains-append_cases ps qs p c) [ inl l ↦ a p l | inr r ↦ b p r ]
 
 -- those of a part, and of the terms, are among those of the whole and of the terms
-pub among_with : (env : TermEnv) (ps qs : List Position) → AreAmong ps qs → AreAmong (with_terms env ps) (with_terms env qs)
+pub among_with : (env : TermEnv) (ps qs : List Position) → OccurAmong ps qs → OccurAmong (with_terms env ps) (with_terms env qs)
 among_with env ps qs a =
     let terms = terms_positions (term_views env.terms.items) in
     among_joined ps terms (with_terms env qs) (among_both ps qs (with_terms env qs) a (among_left qs terms)) (among_right qs terms)
 
-pub among_here : (env : TermEnv) (ps qs : List Position) → AreAmong ps qs → AreAmong ps (with_terms env qs)
+pub among_here : (env : TermEnv) (ps qs : List Position) → OccurAmong ps qs → OccurAmong ps (with_terms env qs)
 among_here env ps qs a = among_both ps qs (with_terms env qs) a (among_left qs (terms_positions (term_views env.terms.items)))
 
 -- what is among those of the whole and of the terms already
-pub among_made : (env : TermEnv) (ps qs : List Position) → AreAmong ps (with_terms env qs) → AreAmong (with_terms env ps) (with_terms env qs)
+pub among_made : (env : TermEnv) (ps qs : List Position) → OccurAmong ps (with_terms env qs) → OccurAmong (with_terms env ps) (with_terms env qs)
 among_made env ps qs a =
     among_joined ps (terms_positions (term_views env.terms.items)) (with_terms env qs) a (among_right qs (terms_positions (term_views env.terms.items)))
 
-keeps_among : (ps qs : List Position) (a b : List Error) (stop : Stop) → AreAmong ps qs → KeepsPlaced ps a b stop → KeepsPlaced qs a b stop
+keeps_among : (ps qs : List Position) (a b : List Error) (stop : Stop) → OccurAmong ps qs → KeepsPlaced ps a b stop → KeepsPlaced qs a b stop
 keeps_among ps qs a b (Memory e) h n = n
 keeps_among ps qs a b Nesting h n = notes_among ps qs a b h n
 keeps_among ps qs a b Expansions h n = notes_among ps qs a b h n
@@ -44,7 +44,7 @@ keeps_after ps a b c Nesting m n = notes_both ps a b c m n
 keeps_after ps a b c Expansions m n = notes_both ps a b c m n
 
 module _ {X : Type 0} where
-  pub stays_among : (ps qs : List Position) (a b : List Error) (r : Result X Stop) → AreAmong ps qs → StaysPlaced ps a b r → StaysPlaced qs a b r
+  pub stays_among : (ps qs : List Position) (a b : List Error) (r : Result X Stop) → OccurAmong ps qs → StaysPlaced ps a b r → StaysPlaced qs a b r
   stays_among ps qs a b (Ok x) h n = notes_among ps qs a b h n
   stays_among ps qs a b (Err stop) h n = keeps_among ps qs a b stop h n
 
@@ -57,21 +57,21 @@ module _ {X : Type 0} where
   stays_head env p ps a b r n = stays_among (p ∷ []) (with_terms env (p ∷ ps)) a b r (among_here env (p ∷ []) (p ∷ ps) (among_first p ps)) n
 
   -- one step after another, each of a part
-  pub stays_step : (ps qs all : List Position) (a b c : List Error) (r : Result X Stop) → AreAmong ps all → AreAmong qs all → NotesAt ps a b → StaysPlaced qs b c r → StaysPlaced all a c r
+  pub stays_step : (ps qs all : List Position) (a b c : List Error) (r : Result X Stop) → OccurAmong ps all → OccurAmong qs all → NotesAt ps a b → StaysPlaced qs b c r → StaysPlaced all a c r
   stays_step ps qs all a b c r g h m n = stays_after all a b c r (notes_among ps all a b g m) (stays_among qs all b c r h n)
 
-pub notes_step : (ps qs all : List Position) (a b c : List Error) → AreAmong ps all → AreAmong qs all → NotesAt ps a b → NotesAt qs b c → NotesAt all a c
+pub notes_step : (ps qs all : List Position) (a b c : List Error) → OccurAmong ps all → OccurAmong qs all → NotesAt ps a b → NotesAt qs b c → NotesAt all a c
 notes_step ps qs all a b c g h m n = notes_both all a b c (notes_among ps all a b g m) (notes_among qs all b c h n)
 
 -- the same where the work ended
-pub stop_among : (ps qs : List Position) (a b : List Error) (stop : Stop) → AreAmong ps qs → KeepsPlaced ps a b stop → KeepsPlaced qs a b stop
+pub stop_among : (ps qs : List Position) (a b : List Error) (stop : Stop) → OccurAmong ps qs → KeepsPlaced ps a b stop → KeepsPlaced qs a b stop
 stop_among ps qs a b stop h n = keeps_among ps qs a b stop h n
 
-pub stop_step : (ps qs all : List Position) (a b c : List Error) (stop : Stop) → AreAmong ps all → AreAmong qs all → NotesAt ps a b → KeepsPlaced qs b c stop → KeepsPlaced all a c stop
+pub stop_step : (ps qs all : List Position) (a b c : List Error) (stop : Stop) → OccurAmong ps all → OccurAmong qs all → NotesAt ps a b → KeepsPlaced qs b c stop → KeepsPlaced all a c stop
 stop_step ps qs all a b c stop g h m n = keeps_after all a b c stop (notes_among ps all a b g m) (keeps_among qs all b c stop h n)
 
 -- a limit that ended the work is noted after what else was
-pub stop_noted : (ps all : List Position) (a b c : List Error) (at : Pos) (stop : Stop) → AreAmong ps all → KeepsPlaced all a b stop → NotesAt ps b c → NotesStop stop at b c → NotesAt all a c
+pub stop_noted : (ps all : List Position) (a b c : List Error) (at : Pos) (stop : Stop) → OccurAmong ps all → KeepsPlaced all a b stop → NotesAt ps b c → NotesStop stop at b c → NotesAt all a c
 stop_noted ps all a b c at (Memory e) h n m s = absurd s
 stop_noted ps all a b c at Nesting h n m s = notes_both all a b c n (notes_among ps all b c h m)
 stop_noted ps all a b c at Expansions h n m s = notes_both all a b c n (notes_among ps all b c h m)

@@ -5,7 +5,7 @@ use Rattle.isle_model.specs.lists.Tables.{TypeEntry}
 use Rattle.isle_model.specs.lists.TermTable.{term_table}
 use Rattle.isle_model.specs.claims.Environments.{TypesRead, TypeEnvironment, AreTermsOf}
 use Rattle.isle_base.specs.declared.syntax.Error.{Error}
-use Rattle.isle_base.specs.Positions.{StandsAt, NotesAt, AreAmong, positions_of}
+use Rattle.isle_base.specs.Positions.{ErrorStandsAt, NotesAt, OccurAmong, positions_of}
 use Rattle.isle_base.proofs.Positioned.{among_left, notes_among, all_stand}
 use Rattle.isle_terms.specs.declared.term_table.TermTable.{TermTable}
 use Rattle.isle_terms.specs.TermViews.{term_views}
@@ -20,11 +20,11 @@ use Rattle.isle_rules.proofs.TermPlaces.{terms_inside}
 
 -- at positions of the definitions and of the types, since the terms are those of the list
 pub stand_in_the_end : (read : TypesRead) (defs : List Definition) (table : TermTable) (names : TypeEnvironment) → AreTermsOf read defs (shown_by table) names → (env : TermEnv) → terms_shown_by env ≡ shown_by table
-    → (types : List TypeEntry) → types ≡ read.known.types → (es : List Error) → NotesAt (with_terms env (positions_of defs)) [] es → All (StandsAt (positions_of defs ++ types_positions types)) es
+    → (types : List TypeEntry) → types ≡ read.known.types → (es : List Error) → NotesAt (with_terms env (positions_of defs)) [] es → All (ErrorStandsAt (positions_of defs ++ types_positions types)) es
 stand_in_the_end read defs table names terms env shows types is es noted =
     let all = positions_of defs ++ types_positions types in
     let same : term_views env.terms.items ≡ term_table read.known defs = ap (λ s. s.terms) shows ∙ terms.rows.table in
-    let of_terms : AreAmong (terms_positions (term_views env.terms.items)) all =
-    subst (λ ts. AreAmong (terms_positions ts) all) (sym same) (subst (λ ts. AreAmong (terms_positions (term_table read.known defs)) (positions_of defs ++ types_positions ts)) (sym is) (terms_inside read.known defs)) in
+    let of_terms : OccurAmong (terms_positions (term_views env.terms.items)) all =
+    subst (λ ts. OccurAmong (terms_positions ts) all) (sym same) (subst (λ ts. OccurAmong (terms_positions (term_table read.known defs)) (positions_of defs ++ types_positions ts)) (sym is) (terms_inside read.known defs)) in
     all_stand all es
     (notes_among (with_terms env (positions_of defs)) all [] es (among_joined (positions_of defs) (terms_positions (term_views env.terms.items)) all (among_left (positions_of defs) (types_positions types)) of_terms) noted)

@@ -17,7 +17,7 @@ use Rattle.isle_model.specs.lists.TermTable.{rule_of, rule_trees, IsValidTerms, 
 use Rattle.isle_model.specs.lists.Setting.{Setting, Scope, new_scope, term_of, declared_flags}
 use Rattle.isle_model.specs.lists.TermTable.{root_name}
 use Rattle.isle_model.specs.lists.Typings.{Typing}
-use Rattle.isle_model.specs.lists.Elaborated.{Sides, finished_rule, may_have_priority, few_enough, most_nested, most_expansions, elaborated_rule}
+use Rattle.isle_model.specs.lists.Elaborated.{Sides, finished_rule, may_have_priority, few_enough, most_nested, most_expansions, elaborated_rule, typed_rule}
 use Rattle.isle_model.specs.rules.Outcome.{then_option}
 use Rattle.isle_model.specs.rules.Typed.{TypedRule}
 use Rattle.isle_model.specs.claims.Environments.{TypesRead, AreReadable, HasTypedRules, setting_of, PassesNesting, PassesExpansions}
@@ -33,7 +33,7 @@ use Rattle.isle_rules.specs.declared.term_env.TermEnv.{TermEnv}
 use Rattle.isle_base.specs.ErrorViews.{error_view, error_views}
 use Rattle.isle_base.specs.Noting.{NotesMore, MayNoteMore}
 use Rattle.isle_rules.specs.RuleErrors.{NotesEach, IsNestedDeeper, IsExpandedMore, PassesFrom, IsOfRules, NotesOfRules, NotesOfDefinition}
-use Rattle.isle_rules.specs.RuleLists.{rule_from, EndsRule, is_typed, is_reported, is_too_deep, is_too_long, CollectsRule}
+use Rattle.isle_rules.specs.RuleLists.{rule_from, rule_within, EndsRule, is_typed, is_reported, is_too_deep, is_too_long, CollectsRule}
 use Rattle.isle_rules.specs.RuleReadings.{rule_reading, sides_reading}
 use Rattle.isle_rules.specs.Translating.{Keeps, IsSettingOf}
 use Rattle.isle_rules.proofs.ConstructorLaws.{rule_same, rule_uses}
@@ -162,6 +162,10 @@ none_counted : {X Y : Type 0} (o : Option (Typing X)) (p : Option (Typing Y)) �
 none_counted o None same none = refl
 none_counted o (Some b) same none = absurd (none-some b.expansions (sym (ap count none) ∙ same))
 
+some_counted : {X Y : Type 0} (o : Option (Typing X)) (p : Option (Typing Y)) → count o ≡ count p → (a : Typing X) → o ≡ Some a → (b : Typing Y) × (p ≡ Some b)
+some_counted o None same a h = absurd (none-some a.expansions (sym same ∙ ap count h))
+some_counted o (Some b) same a h = (b, refl)
+
 past_count : {X Y : Type 0} (a : Typing X) (b : Typing Y) → a.expansions ≡ b.expansions → few_enough (Some a) ≡ None → few_enough (Some b) ≡ None
 past_count a b same h =
     elim (nat_le a.expansions most_expansions) as (λ c. nat_le a.expansions most_expansions ≡ c → cond c (Some a) None ≡ None → few_enough (Some b) ≡ None) [
@@ -205,25 +209,33 @@ module _ (e : Setting) (names : List (List ℕ)) (k : AreTermsNamed e names) (r 
   kept : Kept names (names ++ more)
   kept = record { at = λ i x h. get_front names more i x h; once = λ _. once }
 
-  read_alike : (d : ℕ) (a : Typing TypedRule) → elaborated_rule e d at r names ≡ Some a → count (rule_from e id r (names ++ more) d) ≡ count (elaborated_rule e d at r names)
-  read_alike d a h =
+  -- at any depth, where it has a typed rule at some depth
+  read_alike : (c d : ℕ) (a : Typing TypedRule) → elaborated_rule e c at r names ≡ Some a → count (rule_from e id r (names ++ more) d) ≡ count (elaborated_rule e d at r names)
+  read_alike c d a h =
       id_counted r id at e d (new_scope (names ++ more))
-      ∙ ap count (rule_same e names k at d r (names ++ more) kept (rule_uses e names k at d r names a kept_here h))
+      ∙ ap count (rule_same e names k at d r (names ++ more) kept (rule_uses e names k at c r names a kept_here h))
       ∙ sym (alike_counted (elaborated_rule e d at r names) (elaborated_rule e d at r (names ++ more)) (alike d))
 
   pub nests_deeper : IsNestedDeeper (rule_from e id r (names ++ more)) → elaborated_rule e most_nested at r names ≡ None
   nests_deeper none =
       elim (elaborated_rule e most_nested at r names) as (λ o. elaborated_rule e most_nested at r names ≡ o → elaborated_rule e most_nested at r names ≡ None) [
         | None ↦ λ h. h
-        | Some a ↦ λ h. none_counted (rule_from e id r (names ++ more) most_nested) (elaborated_rule e most_nested at r names) (read_alike most_nested a h) none
+        | Some a ↦ λ h. none_counted (rule_from e id r (names ++ more) most_nested) (elaborated_rule e most_nested at r names) (read_alike most_nested most_nested a h) none
       ] refl
 
   pub expands_more : IsExpandedMore (rule_from e id r (names ++ more)) → (d : ℕ) → few_enough (elaborated_rule e d at r names) ≡ None
   expands_more none d =
       elim (elaborated_rule e d at r names) as (λ o. elaborated_rule e d at r names ≡ o → few_enough (elaborated_rule e d at r names) ≡ None) [
         | None ↦ λ h. ap few_enough h
-        | Some a ↦ λ h. past_counted (rule_from e id r (names ++ more) d) (elaborated_rule e d at r names) (read_alike d a h) (none d)
+        | Some a ↦ λ h. past_counted (rule_from e id r (names ++ more) d) (elaborated_rule e d at r names) (read_alike d d a h) (none d)
       ] refl
+
+  -- and what it has from those of the terms it has from further ones
+  pub reached_from : (d : ℕ) (a : Typing TypedRule) → elaborated_rule e d at r names ≡ Some a → (b : Typing TypedRule) × (rule_from e id r (names ++ more) d ≡ Some b)
+  reached_from d a h = some_counted (elaborated_rule e d at r names) (rule_from e id r (names ++ more) d) (sym (read_alike d d a h)) a h
+
+  pub past_limits_from : (d : ℕ) (a : Typing TypedRule) → elaborated_rule e d at r names ≡ Some a → typed_rule e at r names ≡ None → rule_within e id r (names ++ more) ≡ None
+  past_limits_from d a h none = past_counted (elaborated_rule e most_nested at r names) (rule_from e id r (names ++ more) most_nested) (sym (read_alike d most_nested a h)) none
 
 -- 6. the errors of a list
 module _ (e : TypesRead) (defs : List Definition) (expand : Bool) (readable : AreReadable e) (valid : IsValidTerms e.known defs) (k : AreTermsNamed (setting_of e defs expand) (term_names_met e.known defs)) where

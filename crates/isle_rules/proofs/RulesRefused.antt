@@ -23,10 +23,12 @@ use Rattle.isle_rules.specs.declared.term_env.TermEnv.{TermEnv}
 use Rattle.isle_rules.specs.Constructors.{AreTermsNamed}
 use Rattle.isle_base.specs.ErrorViews.{error_views}
 use Rattle.isle_base.specs.Noting.{MayNoteMore}
+use Rattle.isle_rules.specs.LimitsNamed.{NamesPastLimits, NamesTypedPastLimits, NamesFirstPastLimits}
 use Rattle.isle_rules.specs.RuleErrors.{NotesOfRules, IsOfRules}
 use Rattle.isle_reports.specs.RuleNaming.{MapsNames}
 use Rattle.isle_rules.specs.ShownEnvs.{terms_shown_by}
 use Rattle.isle_rules.specs.Translating.{IsSettingOf}
+use Rattle.isle_rules.proofs.NamedLimits.{each_named}
 use Rattle.isle_rules.proofs.NamedTerms.{terms_named}
 use Rattle.isle_rules.proofs.RuleErrorSteps.{each_then, may_noted, wrong_of_rules, names_only_passed, refuses_rules, no_limit_named}
 use Rattle.isle_rules.proofs.ShownSettings.{setting_shown, terms_once}
@@ -42,7 +44,7 @@ noted_to_the_end env old trees read after notes more e is =
 
 -- the errors of the rules, by the tables of the terms
 module _ (e : TypesRead) (r : AreReadable e) (defs : List Definition) (table : TermTable) (old : TypeEnv) (a : AreTermsOf e defs (shown_by table) (environment_view old))
-    (env : TermEnv) (shown : terms_shown_by env ≡ shown_by table) (expand : Bool) (flag : env.expand_internal_extractors ≡ expand) (errors : List Error) (notes : NotesOfRules env old (rule_trees defs) [] errors) where
+    (env : TermEnv) (shown : terms_shown_by env ≡ shown_by table) (expand : Bool) (flag : env.expand_internal_extractors ≡ expand) (errors : List Error) where
   own : AreTermsOf e defs (terms_shown_by env) (environment_view old)
   own = subst (λ t. AreTermsOf e defs t (environment_view old)) (sym shown) a
 
@@ -55,11 +57,15 @@ module _ (e : TypesRead) (r : AreReadable e) (defs : List Definition) (table : T
   terms : AreTermsNamed (setting_of e defs expand) (term_names_met e.known defs)
   terms = subst (AreTermsNamed (setting_of e defs expand)) a.types.names (terms_named env old (setting_of e defs expand) inverse is (terms_once e r defs env old own))
 
-  pub limits_named : NamesOnlyPassed (PassedInReading e defs expand) (error_views errors)
-  limits_named = names_only_passed e defs expand r a.valid terms env old is a.types.names errors errors notes (inl refl)
+  module _ (notes : NotesOfRules env old (rule_trees defs) [] errors) where
+    pub limits_named : NamesOnlyPassed (PassedInReading e defs expand) (error_views errors)
+    limits_named = names_only_passed e defs expand r a.valid terms env old is a.types.names errors errors notes (inl refl)
 
-  pub refused_by_rules : errors ≢ [] → (HasTypedRules e defs expand → ⊥) → RefusesRules e defs expand (error_views errors)
-  refused_by_rules = refuses_rules e defs expand r a.valid terms env old is a.types.names errors errors notes (inl refl)
+    pub refused_by_rules : errors ≢ [] → (HasTypedRules e defs expand → ⊥) → RefusesRules e defs expand (error_views errors)
+    refused_by_rules = refuses_rules e defs expand r a.valid terms env old is a.types.names errors errors notes (inl refl)
+
+  pub past_limits_named : NamesPastLimits env old (rule_trees defs) errors → NamesTypedPastLimits e defs expand (error_views errors)
+  past_limits_named named = each_named e defs expand r terms env old is a.types.names errors named
 
 -- what the errors of the terms say is passed on
 pub passed_on : {X : Type 0} (P Q : List Error → Type 0) → ((es : List Error) → P es → Q es) → (r : Result X Fault) (f : Fault) → IsErr r × IsErrAnd r (λ y. y ≡ f) → OnErrors {A = TermTable} (Err f) P → OnErrors r Q
@@ -73,6 +79,14 @@ passed_on {X} P Q same (Err y) f h n = of_fault y (subst (λ z. OnErrors {A = Te
 -- they name no limit
 pub named_by_none : {X : Type 0} (Passed : NamedLimit → Position → Type 0) (r : Result X Fault) (f : Fault) → IsErr r × IsErrAnd r (λ y. y ≡ f) → NoLimit {A = TermTable} (Err f) → OnErrors r (λ es. NamesOnlyPassed Passed (error_views es))
 named_by_none Passed r f h n = passed_on (All (λ e. limit_of e ≡ None)) (λ es. NamesOnlyPassed Passed (error_views es)) (no_limit_named Passed) r f h n
+
+-- where the terms aren't valid no rule has to be named
+module _ {X : Type 0} (e : TypesRead) (defs : List Definition) (expand : Bool) (r : Result X Fault) (f : Fault) (h : IsErr r × IsErrAnd r (λ y. y ≡ f)) (n : OnErrors {A = TermTable} (Err f) (λ es. RefusesTerms e defs (error_views es))) where
+  pub no_rule_to_name : OnErrors r (λ es. NamesTypedPastLimits e defs expand (error_views es))
+  no_rule_to_name = passed_on (λ es. RefusesTerms e defs (error_views es)) (λ es. NamesTypedPastLimits e defs expand (error_views es)) (λ es t id p. absurd (t.not_valid p.terms)) r f h n
+
+  pub no_first_to_name : OnErrors r (λ es. NamesFirstPastLimits e defs expand (error_views es))
+  no_first_to_name = passed_on (λ es. RefusesTerms e defs (error_views es)) (λ es. NamesFirstPastLimits e defs expand (error_views es)) (λ es t p. absurd (t.not_valid p.terms)) r f h n
 
 of_reading : (x : Refusal) → IsIllTyped x → IsOfReading x
 of_reading (ill_typed at) h = h

@@ -9,6 +9,7 @@ pub mod Lets
 pub mod RuleReadings
 pub mod RuleLists
 pub mod RuleErrors
+pub mod LimitsNamed
 pub mod RulePositions
 pub mod Constructors
 pub mod ShownEnvs

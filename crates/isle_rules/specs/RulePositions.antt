@@ -3,7 +3,7 @@
 use Rattle.std.specs.Prelude.{◌≡◌, List, [], ◌∷◌, ◌++◌, map, Option, Some, None, Result, Ok, Err, ⊤}
 use Rattle.isle_model.specs.lists.Syntax.{Position}
 use Rattle.isle_base.specs.declared.syntax.Error.{Error}
-use Rattle.isle_base.specs.Positions.{NotesAt, AreAmong, pattern_positions, expr_positions}
+use Rattle.isle_base.specs.Positions.{NotesAt, OccurAmong, pattern_positions, expr_positions}
 use Rattle.isle_base.specs.SyntaxViews.{position, pattern_view, expr_view}
 use Rattle.isle_terms.specs.TermPositions.{terms_positions}
 use Rattle.isle_terms.specs.TermViews.{term_views}
@@ -36,21 +36,21 @@ StaysPlaced ps old new (Err stop) = KeepsPlaced ps old new stop
 -- a pattern that takes the place of a use has some of these positions
 abbrev pub ExpandsAmong : List Position → Result PatternUse Stop → Type 0
 ExpandsAmong ps (Ok P.Wrong) = ⊤
-ExpandsAmong ps (Ok (P.Expansion made left)) = AreAmong (pattern_positions (pattern_view made)) ps
+ExpandsAmong ps (Ok (P.Expansion made left)) = OccurAmong (pattern_positions (pattern_view made)) ps
 ExpandsAmong ps (Ok (P.Parts t)) = ⊤
 ExpandsAmong ps (Err stop) = ⊤
 
 -- likewise an expression that takes the place of a variable
 abbrev pub ConvertsAmong : List Position → Result VarUse Stop → Type 0
 ConvertsAmong ps (Ok V.Wrong) = ⊤
-ConvertsAmong ps (Ok (V.Conversion made left)) = AreAmong (expr_positions (expr_view made)) ps
+ConvertsAmong ps (Ok (V.Conversion made left)) = OccurAmong (expr_positions (expr_view made)) ps
 ConvertsAmong ps (Ok (V.Var v)) = ⊤
 ConvertsAmong ps (Err stop) = ⊤
 
 -- or of a call
 abbrev pub CallsAmong : List Position → Result CallUse Stop → Type 0
 CallsAmong ps (Ok C.Wrong) = ⊤
-CallsAmong ps (Ok (C.Conversion made left)) = AreAmong (expr_positions (expr_view made)) ps
+CallsAmong ps (Ok (C.Conversion made left)) = OccurAmong (expr_positions (expr_view made)) ps
 CallsAmong ps (Ok (C.Parts t)) = ⊤
 CallsAmong ps (Err stop) = ⊤
 

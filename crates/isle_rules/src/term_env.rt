@@ -1,7 +1,7 @@
 //! The table of terms and rules.
 
 ghost use Rattle.isle_base.specs.Answers.{Answers, OnErrors};
-ghost use Rattle.isle_base.specs.Positions.{StandsAt, positions_of};
+ghost use Rattle.isle_base.specs.Positions.{ErrorStandsAt, positions_of};
 ghost use Rattle.isle_base.specs.SyntaxViews.{definition_views};
 ghost use Rattle.isle_model.specs.claims.Environments.{TypesRead, AreReadable, AreRulesOf, HasTypedRules, IsLeftByRefusal, IsReadAs};
 ghost use Rattle.isle_model.specs.claims.Questions.{variant_by_id};
@@ -12,6 +12,7 @@ ghost use Rattle.isle_types.specs.EnvViews.{environment_view};
 ghost use Rattle.isle_types.specs.TypeViews.{type_views};
 ghost use Rattle.isle_terms.specs.Whole.{shown_by};
 ghost use Rattle.isle_base.specs.ErrorViews.{error_views};
+ghost use Rattle.isle_rules.specs.LimitsNamed.{NamesTypedPastLimits, NamesFirstPastLimits};
 ghost use Rattle.isle_rules.specs.ShownEnvs.{terms_shown_by, environment_shown_by};
 ghost use Rattle.isle_types.specs.TypePositions.{types_positions};
 ghost use Rattle.isle_rules.specs.TermEnvs.{term_in_env, rule_in_env, variant_term_in};
@@ -57,6 +58,7 @@ impl TermEnv {
     /// wrong with the rules: what typing them finds, rule by rule, a limit on expansions that a rule passes with the
     /// place of the rule; then each rule with a name that an earlier rule has; then each declared term without rules,
     /// external constructor and extractor; then each use of a term without a constructor in an expression.
+    /// Each rule that lacks nothing but the limits on expansions is named with one of these.
     /// `Memory` where memory is refused. Each error stands at positions that occur in the definitions or that the types of
     /// `tyenv` keep.
     pub fn from_ast(
@@ -72,8 +74,10 @@ impl TermEnv {
             (λ env. (rules : TypedRules) × AreRulesOf read (definition_views defs.now) expand_internal_extractors rules (environment_shown_by env) (environment_view tyenv.new)) }
         ensures left { OnErr result (IsLeftByRefusal read (environment_view tyenv.new)) }
         ensures limits { OnErrors result (λ es. NamesOnlyPassed (PassedInReading read (definition_views defs.now) expand_internal_extractors) (error_views es)) }
+        ensures named { OnErrors result (λ es. NamesTypedPastLimits read (definition_views defs.now) expand_internal_extractors (error_views es)) }
+        ensures first { OnErrors result (λ es. NamesFirstPastLimits read (definition_views defs.now) expand_internal_extractors (error_views es)) }
         ensures refused { OnErrors result (λ es. RefusesRules read (definition_views defs.now) expand_internal_extractors (error_views es)) }
-        ensures places { OnErrors result (All (StandsAt (positions_of (definition_views defs.now) ++ types_positions read.known.types))) }
+        ensures places { OnErrors result (All (ErrorStandsAt (positions_of (definition_views defs.now) ++ types_positions read.known.types))) }
     {
         let table = TermTable::from_ast(alloc, tyenv, defs)?;
         let mut env = TermEnv::with_terms(alloc, table, expand_internal_extractors);

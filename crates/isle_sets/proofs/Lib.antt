@@ -1,4 +1,5 @@
 pub mod Ascending
+pub mod AskedAt
 pub mod AskedClasses
 pub mod PartsAdded
 pub mod PartsLeft

@@ -9,6 +9,3 @@ rest_is xs i x h e = drop-cons xs i x h ∙ (λ k. sym e k ∷ drop (sym (add-on
 -- what is kept of a list grows by the element here, where that passes
 pub kept_at : {X : Type 0} (p : X → Bool) (xs : List X) (i : ℕ) (d : X) (old new : List X) → i < length xs → old ≡ filter p (take i xs) → new ≡ old ++ cond (p (get_or xs i d)) (get_or xs i d ∷ []) [] → new ≡ filter p (take (i + 1) xs)
 kept_at p xs i d old new l h n = n ∙ ap (λ o. o ++ cond (p (get_or xs i d)) (get_or xs i d ∷ []) []) h ∙ sym (filter_more p xs i d l)
-
-pub kept_more : {X : Type 0} (p : X → Bool) (xs : List X) (i : ℕ) (x : X) (old new : List X) → i < length xs → x ≡ get_or xs i x → old ≡ filter p (take i xs) → new ≡ old ++ cond (p x) (x ∷ []) [] → new ≡ filter p (take (i + 1) xs)
-kept_more p xs i x old new l e h n = kept_at p xs i x old new l h (n ∙ ap (λ y. old ++ cond (p y) (y ∷ []) []) e)

@@ -83,11 +83,12 @@ impl Rule {
     pub fn get_constraint(&self, source: BindingId) -> Option<Constraint>
         ensures { option_map constraint_view result ≡ constraint_at (set_rule_view self.now).constraints source }
     {
-        for (site, constraint) in &self.constraints {
-            if *site == source {
-                return Some(*constraint);
-            }
+        match self
+            .constraints
+            .binary_search_by_key(&source, |asked| asked.0)
+        {
+            Ok(place) => Some(self.constraints[place].1),
+            Err(_) => None,
         }
-        None
     }
 }

@@ -18,7 +18,7 @@ use Rattle.isle_base.specs.declared.syntax.Ident.{Ident}
 use Rattle.isle_base.specs.declared.syntax.Pos.{Pos}
 use Rattle.isle_base.specs.Patterns.{pattern_position}
 use Rattle.isle_base.specs.Places.{term_view as place_view}
-use Rattle.isle_base.specs.Positions.{NotesAt, AreAmong, converter_positions, declaration_positions, name_positions, definition_positions, extractor_positions, pattern_positions, patterns_positions, positions_of}
+use Rattle.isle_base.specs.Positions.{NotesAt, OccurAmong, converter_positions, declaration_positions, name_positions, definition_positions, extractor_positions, pattern_positions, patterns_positions, positions_of}
 use Rattle.isle_base.specs.SyntaxViews.{definition_view, definition_views, name_view, position}
 use Rattle.isle_base.proofs.Positioned.{among_same, among_both, among_left, among_right, among_rest, among_one, among_first, among_each, notes_nothing, notes_both, notes_among}
 use Rattle.isle_types.specs.declared.types.Type as T
@@ -34,23 +34,23 @@ use Rattle.isle_types.specs.TypePositions.{entry_positions as type_entry_positio
 use Rattle.isle_terms.specs.TermViews.{term_view, term_views}
 
 -- positions among others
-pub among_none : (rs : List Position) → AreAmong [] rs
+pub among_none : (rs : List Position) → OccurAmong [] rs
 among_none rs p c = absurd (nothing_in p c)
 
-pub among_join : (ps qs rs : List Position) → AreAmong ps rs → AreAmong qs rs → AreAmong (ps ++ qs) rs
+pub among_join : (ps qs rs : List Position) → OccurAmong ps rs → OccurAmong qs rs → OccurAmong (ps ++ qs) rs
 among_join ps qs rs a b p c = elim (Contains-append_cases ps qs p c) [ inl d ↦ a p d | inr d ↦ b p d ]
 
-pub among_next : (q : Position) (ps rs : List Position) → Contains rs q → AreAmong ps rs → AreAmong (q ∷ ps) rs
+pub among_next : (q : Position) (ps rs : List Position) → Contains rs q → OccurAmong ps rs → OccurAmong (q ∷ ps) rs
 among_next q ps rs here a p c = elim (in_cases q p ps c) [ inl e ↦ subst (Contains rs) e here | inr d ↦ a p d ]
 
-pub among_under : (q : Position) (ps rs : List Position) → AreAmong ps rs → AreAmong (q ∷ ps) (q ∷ rs)
+pub among_under : (q : Position) (ps rs : List Position) → OccurAmong ps rs → OccurAmong (q ∷ ps) (q ∷ rs)
 among_under q ps rs a = among_next q ps (q ∷ rs) (in_head q rs) (among_both ps rs (q ∷ rs) a (among_rest q rs))
 
-pub among_sides : (ps qs ps' qs' : List Position) → AreAmong ps ps' → AreAmong qs qs' → AreAmong (ps ++ qs) (ps' ++ qs')
+pub among_sides : (ps qs ps' qs' : List Position) → OccurAmong ps ps' → OccurAmong qs qs' → OccurAmong (ps ++ qs) (ps' ++ qs')
 among_sides ps qs ps' qs' a b = among_join ps qs (ps' ++ qs') (among_both ps ps' (ps' ++ qs') a (among_left ps' qs')) (among_both qs qs' (ps' ++ qs') b (among_right ps' qs'))
 
-pub among_as : (ps qs rs : List Position) → ps ≡ qs → AreAmong ps rs → AreAmong qs rs
-among_as ps qs rs e a = subst (λ l. AreAmong l rs) e a
+pub among_as : (ps qs rs : List Position) → ps ≡ qs → OccurAmong ps rs → OccurAmong qs rs
+among_as ps qs rs e a = subst (λ l. OccurAmong l rs) e a
 
 -- an error, and one at an earlier place
 pub notes_earlier : (p q : Position) (ps : List Position) (old mid new : List Error) → Contains ps q → NotesAt (p ∷ []) old mid → NotesAt (q ∷ []) mid new → NotesAt (p ∷ ps) old new
@@ -59,21 +59,21 @@ notes_earlier p q ps old mid new there first second =
     (notes_among (q ∷ []) (p ∷ ps) mid new (among_one q (p ∷ ps) (in_tail p q ps there)) second)
 
 -- errors at some positions, and at others
-pub notes_parts : (ps qs rs : List Position) (old mid new : List Error) → AreAmong ps rs → AreAmong qs rs → NotesAt ps old mid → NotesAt qs mid new → NotesAt rs old new
+pub notes_parts : (ps qs rs : List Position) (old mid new : List Error) → OccurAmong ps rs → OccurAmong qs rs → NotesAt ps old mid → NotesAt qs mid new → NotesAt rs old new
 notes_parts ps qs rs old mid new a b first second = notes_both rs old mid new (notes_among ps rs old mid a first) (notes_among qs rs mid new b second)
 
 -- tables
 pub placed_same : (old new : TermTable) (ps : List Position) → new.terms ≡ old.terms → IsPlacedAmong (ps ++ table_positions old) new
-placed_same old new ps same = record { each = subst (λ v. AreAmong (terms_positions (term_views v.items)) (ps ++ table_positions old)) (sym same) (among_right ps (table_positions old)) }
+placed_same old new ps same = record { each = subst (λ v. OccurAmong (terms_positions (term_views v.items)) (ps ++ table_positions old)) (sym same) (among_right ps (table_positions old)) }
 
-pub placed_among : (ps qs : List Position) (table : TermTable) → AreAmong ps qs → IsPlacedAmong ps table → IsPlacedAmong qs table
+pub placed_among : (ps qs : List Position) (table : TermTable) → OccurAmong ps qs → IsPlacedAmong ps table → IsPlacedAmong qs table
 placed_among ps qs table a w = record { each = among_both (table_positions table) ps qs w.each a }
 
 -- what a step keeps, where all that was kept stands among positions
-pub placed_next : (part ps : List Position) (old new : TermTable) → AreAmong part ps → IsPlacedAmong ps old → IsPlacedAmong (part ++ table_positions old) new → IsPlacedAmong ps new
+pub placed_next : (part ps : List Position) (old new : TermTable) → OccurAmong part ps → IsPlacedAmong ps old → IsPlacedAmong (part ++ table_positions old) new → IsPlacedAmong ps new
 placed_next part ps old new a before after = record { each = among_both (table_positions new) (part ++ table_positions old) ps after.each (among_join part (table_positions old) ps a before.each) }
 
-pub notes_next : (part ps : List Position) (old : TermTable) (es mid es' : List Error) → AreAmong part ps → IsPlacedAmong ps old → NotesAt ps es mid → NotesAt (part ++ table_positions old) mid es' → NotesAt ps es es'
+pub notes_next : (part ps : List Position) (old : TermTable) (es mid es' : List Error) → OccurAmong part ps → IsPlacedAmong ps old → NotesAt ps es mid → NotesAt (part ++ table_positions old) mid es' → NotesAt ps es es'
 notes_next part ps old es mid es' a before first second =
     notes_both ps es mid es' first (notes_among (part ++ table_positions old) ps mid es' (among_join part (table_positions old) ps a before.each) second)
 
@@ -85,14 +85,14 @@ pub record PlacedSoFar (ps : List Position) (es : List Error) (table : TermTable
 pub not_begun : (ps : List Position) (table : TermTable) (es : List Error) → PlacedSoFar (ps ++ table_positions table) es table es
 not_begun ps table es = record { noted = notes_nothing (ps ++ table_positions table) es es refl; kept = placed_same table table ps refl }
 
-pub step_so_far : (part ps : List Position) (table table' : TermTable) (es mid es' : List Error) → AreAmong part ps → NotesAt (part ++ table_positions table) mid es' → IsPlacedAmong (part ++ table_positions table) table' → PlacedSoFar ps es table mid → PlacedSoFar ps es table' es'
+pub step_so_far : (part ps : List Position) (table table' : TermTable) (es mid es' : List Error) → OccurAmong part ps → NotesAt (part ++ table_positions table) mid es' → IsPlacedAmong (part ++ table_positions table) table' → PlacedSoFar ps es table mid → PlacedSoFar ps es table' es'
 step_so_far part ps table table' es mid es' a noted placed s = record {
   noted = notes_next part ps table es mid es' a s.kept s.noted noted;
   kept = placed_next part ps table table' a s.kept placed;
 }
 
 -- the positions of one definition are among those of all
-pub def_among : (defs : List Def) (i : ℕ) (def : Def) → i < length defs → def ≡ get_or defs i def → (rest : List Position) → AreAmong (definition_positions (definition_view def)) (positions_of (definition_views defs) ++ rest)
+pub def_among : (defs : List Def) (i : ℕ) (def : Def) → i < length defs → def ≡ get_or defs i def → (rest : List Position) → OccurAmong (definition_positions (definition_view def)) (positions_of (definition_views defs) ++ rest)
 def_among defs i def within here rest =
     let member : Contains defs def = subst (Contains defs) (sym here) (Contains-get_or defs i def within) in
     among_both (definition_positions (definition_view def)) (positions_of (definition_views defs)) (positions_of (definition_views defs) ++ rest)
@@ -112,25 +112,25 @@ next_noted defs i def within here es mid es' second first =
     (notes_among (definition_positions (definition_view def)) (positions_of (definition_views defs)) mid es' (among_each definition_positions (definition_views defs) (definition_view def) (in_map definition_view defs def member)) second)
 
 -- the place of one name is among those of all
-pub name_among : (names : List Ident) (i : ℕ) (n : Ident) → i < length names → n ≡ get_or names i n → AreAmong (position n.1 ∷ []) (name_positions (map name_view names))
+pub name_among : (names : List Ident) (i : ℕ) (n : Ident) → i < length names → n ≡ get_or names i n → OccurAmong (position n.1 ∷ []) (name_positions (map name_view names))
 name_among names i n within here =
     let member : Contains names n = subst (Contains names) (sym here) (Contains-get_or names i n within) in
     among_one (position n.1) (name_positions (map name_view names)) (in_map (λ (m : Name). m.at) (map name_view names) (name_view n) (in_map name_view names n member))
 
-pub arguments_in_declaration : (d : DeclTree) → AreAmong (name_positions d.arg_tys) (declaration_positions d)
+pub arguments_in_declaration : (d : DeclTree) → OccurAmong (name_positions d.arg_tys) (declaration_positions d)
 arguments_in_declaration d p c = in_tail d.at p (d.term.at ∷ d.ret_ty.at ∷ name_positions d.arg_tys) (in_tail d.term.at p (d.ret_ty.at ∷ name_positions d.arg_tys) (in_tail d.ret_ty.at p (name_positions d.arg_tys) c))
 
-pub result_in_declaration : (d : DeclTree) → AreAmong (d.ret_ty.at ∷ []) (declaration_positions d)
+pub result_in_declaration : (d : DeclTree) → OccurAmong (d.ret_ty.at ∷ []) (declaration_positions d)
 result_in_declaration d = among_one d.ret_ty.at (declaration_positions d) (in_tail d.at d.ret_ty.at (d.term.at ∷ d.ret_ty.at ∷ name_positions d.arg_tys) (in_tail d.term.at d.ret_ty.at (d.ret_ty.at ∷ name_positions d.arg_tys) (in_head d.ret_ty.at (name_positions d.arg_tys))))
 
 -- those of one term are among those of its table
-pub entry_among : (ts : List Term) (i : ℕ) (t : Term) → i < length ts → t ≡ get_or ts i t → AreAmong (entry_positions (term_view t)) (terms_positions (term_views ts))
+pub entry_among : (ts : List Term) (i : ℕ) (t : Term) → i < length ts → t ≡ get_or ts i t → OccurAmong (entry_positions (term_view t)) (terms_positions (term_views ts))
 entry_among ts i t within here =
     let member : Contains ts t = subst (Contains ts) (sym here) (Contains-get_or ts i t within) in
     among_each entry_positions (term_views ts) (term_view t) (in_map term_view ts t member)
 
 -- a term is added
-pub placed_push : (old new : TermTable) (e : TermEntry) (ps : List Position) → term_views new.terms.items ≡ term_views old.terms.items ++ e ∷ [] → AreAmong (entry_positions e) ps → IsPlacedAmong (ps ++ table_positions old) new
+pub placed_push : (old new : TermTable) (e : TermEntry) (ps : List Position) → term_views new.terms.items ≡ term_views old.terms.items ++ e ∷ [] → OccurAmong (entry_positions e) ps → IsPlacedAmong (ps ++ table_positions old) new
 placed_push old new e ps terms a =
     let all : terms_positions (term_views new.terms.items) ≡ table_positions old ++ (entry_positions e ++ []) = ap terms_positions terms ∙ flat_map-append entry_positions (term_views old.terms.items) (e ∷ []) in
     record {
@@ -149,8 +149,8 @@ member_set (y ∷ ys) (suc k) t x c =
     ]
 
 -- a term is changed
-pub set_among : (ts : List Term) (k : ℕ) (t d : Term) (ps : List Position) → k < length ts → d ≡ get_or ts k d → AreAmong (entry_positions (term_view t)) (ps ++ entry_positions (term_view d))
-    → AreAmong (terms_positions (term_views (set ts k t))) (ps ++ terms_positions (term_views ts))
+pub set_among : (ts : List Term) (k : ℕ) (t d : Term) (ps : List Position) → k < length ts → d ≡ get_or ts k d → OccurAmong (entry_positions (term_view t)) (ps ++ entry_positions (term_view d))
+    → OccurAmong (terms_positions (term_views (set ts k t))) (ps ++ terms_positions (term_views ts))
 set_among ts k t d ps within here a p c =
     let others : List Position = terms_positions (term_views ts) in
     let of = from_flat_map entry_positions (term_views (set ts k t)) p c in
@@ -165,9 +165,9 @@ set_among ts k t d ps within here a p c =
     ]
 
 pub placed_set : (old new : TermTable) (k : ℕ) (t d : Term) (ps : List Position) → k < length old.terms.items → d ≡ get_or old.terms.items k d → new.terms.items ≡ set old.terms.items k t
-    → AreAmong (entry_positions (term_view t)) (ps ++ entry_positions (term_view d)) → IsPlacedAmong (ps ++ table_positions old) new
+    → OccurAmong (entry_positions (term_view t)) (ps ++ entry_positions (term_view d)) → IsPlacedAmong (ps ++ table_positions old) new
 placed_set old new k t d ps within here is a = record {
-  each = subst (λ ts. AreAmong (terms_positions (term_views ts)) (ps ++ table_positions old)) (sym is) (set_among old.terms.items k t d ps within here a);
+  each = subst (λ ts. OccurAmong (terms_positions (term_views ts)) (ps ++ table_positions old)) (sym is) (set_among old.terms.items k t d ps within here a);
 }
 
 -- one name after another, each with its place
@@ -177,7 +177,7 @@ next_place f xs i x within here es mid es' second first =
     notes_both (map f xs) es mid es' first (notes_among (f x ∷ []) (map f xs) mid es' (among_one (f x) (map f xs) (in_map f xs x member)) second)
 
 -- one type after another
-pub type_among : (types : List T.Type) (i : ℕ) (t : T.Type) → i < length types → t ≡ get_or types i t → AreAmong (type_entry_positions (type_view t)) (types_positions (type_views types))
+pub type_among : (types : List T.Type) (i : ℕ) (t : T.Type) → i < length types → t ≡ get_or types i t → OccurAmong (type_entry_positions (type_view t)) (types_positions (type_views types))
 type_among types i t within here =
     let member : Contains types t = subst (Contains types) (sym here) (Contains-get_or types i t within) in
     among_each type_entry_positions (type_views types) (type_view t) (in_map type_view types t member)
@@ -211,18 +211,18 @@ made_same c (variant_term variant) = refl
 made_same c struct_term = refl
 made_same c (declared_term flags constructor_kind extractor_kind) = refl
 
-taken_among : (x : ExtractorEntry) (k : TermKindEntry) → AreAmong (kind_positions (taken_by_this x k)) (taker_positions x)
+taken_among : (x : ExtractorEntry) (k : TermKindEntry) → OccurAmong (kind_positions (taken_by_this x k)) (taker_positions x)
 taken_among x (variant_term variant) = among_none (taker_positions x)
 taken_among x struct_term = among_none (taker_positions x)
 taken_among x (declared_term flags constructor_kind extractor_kind) = among_same (taker_positions x)
 
-pub internal_among : (new old : TermEntry) → new ≡ internal_entry old → AreAmong (entry_positions new) (entry_positions old)
+pub internal_among : (new old : TermEntry) → new ≡ internal_entry old → OccurAmong (entry_positions new) (entry_positions old)
 internal_among new old is = among_as (entry_positions old) (entry_positions new) (entry_positions old) (ap (λ ps. old.at ∷ ps) (sym (internal_same old.kind)) ∙ ap entry_positions (sym is)) (among_same (entry_positions old))
 
-pub made_among : (c : ConstructorEntry) (new old : TermEntry) → new ≡ with_kind (made_by_this c) old → AreAmong (entry_positions new) (entry_positions old)
+pub made_among : (c : ConstructorEntry) (new old : TermEntry) → new ≡ with_kind (made_by_this c) old → OccurAmong (entry_positions new) (entry_positions old)
 made_among c new old is = among_as (entry_positions old) (entry_positions new) (entry_positions old) (ap (λ ps. old.at ∷ ps) (sym (made_same c old.kind)) ∙ ap entry_positions (sym is)) (among_same (entry_positions old))
 
-pub taken_entry_among : (x : ExtractorEntry) (new old : TermEntry) (ps : List Position) → AreAmong (taker_positions x) ps → new ≡ with_kind (taken_by_this x) old → AreAmong (entry_positions new) (ps ++ entry_positions old)
+pub taken_entry_among : (x : ExtractorEntry) (new old : TermEntry) (ps : List Position) → OccurAmong (taker_positions x) ps → new ≡ with_kind (taken_by_this x) old → OccurAmong (entry_positions new) (ps ++ entry_positions old)
 taken_entry_among x new old ps a is =
     among_as (old.at ∷ kind_positions (taken_by_this x old.kind)) (entry_positions new) (ps ++ entry_positions old) (ap entry_positions (sym is))
     (among_next old.at (kind_positions (taken_by_this x old.kind)) (ps ++ entry_positions old) (Contains-append_right ps (entry_positions old) old.at (in_head old.at (kind_positions old.kind)))
@@ -230,11 +230,11 @@ taken_entry_among x new old ps a is =
     (among_both (taker_positions x) ps (ps ++ entry_positions old) a (among_left ps (entry_positions old)))))
 
 -- a template stands where its pattern does
-argument_among : (o : Option ℕ) (at : Position) (p : PatternTree) (qs : List Position) → Contains qs at → AreAmong (pattern_positions p) qs → AreAmong (pattern_positions (argument_or o at p)) qs
+argument_among : (o : Option ℕ) (at : Position) (p : PatternTree) (qs : List Position) → Contains qs at → OccurAmong (pattern_positions p) qs → OccurAmong (pattern_positions (argument_or o at p)) qs
 argument_among None at p qs here a = a
 argument_among (Some i) at p qs here a = among_one at qs here
 
-binding_among : (o : Option ℕ) (name : Name) (q : PatternTree) (at : Position) → AreAmong (pattern_positions (binding_or o name q at)) (at ∷ name.at ∷ pattern_positions q)
+binding_among : (o : Option ℕ) (name : Name) (q : PatternTree) (at : Position) → OccurAmong (pattern_positions (binding_or o name q at)) (at ∷ name.at ∷ pattern_positions q)
 binding_among o name (wildcard_pattern w) at = argument_among o at (bind_pattern name (wildcard_pattern w) at) (at ∷ name.at ∷ w ∷ []) (in_head at (name.at ∷ w ∷ [])) (among_same (at ∷ name.at ∷ w ∷ []))
 binding_among o name (var_pattern n w) at = among_same (at ∷ name.at ∷ w ∷ n.at ∷ [])
 binding_among o name (bind_pattern n q w) at = among_same (at ∷ name.at ∷ w ∷ n.at ∷ pattern_positions q)
@@ -246,7 +246,7 @@ binding_among o name (and_pattern ps w) at = among_same (at ∷ name.at ∷ w �
 binding_among o name (macro_arg i w) at = among_same (at ∷ name.at ∷ w ∷ [])
 
 mutual
-  pub template_among : (args : List (List ℕ)) (p : PatternTree) → AreAmong (pattern_positions (template args p)) (pattern_positions p)
+  pub template_among : (args : List (List ℕ)) (p : PatternTree) → OccurAmong (pattern_positions (template args p)) (pattern_positions p)
   template_among args (var_pattern name at) = argument_among _ at (var_pattern name at) (at ∷ name.at ∷ []) (in_head at (name.at ∷ [])) (among_same (at ∷ name.at ∷ []))
   template_among args (bind_pattern name p at) =
       among_both (pattern_positions (template args (bind_pattern name p at))) (at ∷ name.at ∷ pattern_positions (template args p)) (at ∷ name.at ∷ pattern_positions p)
@@ -261,12 +261,12 @@ mutual
   template_among args (wildcard_pattern at) = among_same (at ∷ [])
   template_among args (macro_arg i at) = among_same (at ∷ [])
 
-  templates_among : (args : List (List ℕ)) (ps : PatternTrees) → AreAmong (patterns_positions (templates args ps)) (patterns_positions ps)
+  templates_among : (args : List (List ℕ)) (ps : PatternTrees) → OccurAmong (patterns_positions (templates args ps)) (patterns_positions ps)
   templates_among args no_pattern = among_same []
   templates_among args (pattern_and p ps) = among_sides (pattern_positions (template args p)) (patterns_positions (templates args ps)) (pattern_positions p) (patterns_positions ps) (template_among args p) (templates_among args ps)
 
 -- those of its pattern are among those of an extractor
-pub pattern_among : (x : ExtractorTree) (rest : List Position) → AreAmong (pattern_positions x.template) (extractor_positions x ++ rest)
+pub pattern_among : (x : ExtractorTree) (rest : List Position) → OccurAmong (pattern_positions x.template) (extractor_positions x ++ rest)
 pattern_among x rest =
     let ps : List Position = pattern_positions x.template in
     let args : List Position = map (λ n. n.at) x.args in
@@ -274,7 +274,7 @@ pattern_among x rest =
     (among_both ps (args ++ ps) (extractor_positions x) (among_right args ps) (among_both (args ++ ps) (x.term.at ∷ args ++ ps) (extractor_positions x) (among_rest x.term.at (args ++ ps)) (among_rest x.at (x.term.at ∷ args ++ ps))))
     (among_left (extractor_positions x) rest)
 
-pub template_in_extractor : (x : ExtractorTree) → AreAmong (pattern_positions (extractor_template x)) (extractor_positions x)
+pub template_in_extractor : (x : ExtractorTree) → OccurAmong (pattern_positions (extractor_template x)) (extractor_positions x)
 template_in_extractor x =
     let ps : List Position = pattern_positions x.template in
     let args : List Position = map (λ n. n.at) x.args in
@@ -283,7 +283,7 @@ template_in_extractor x =
 
 -- where terms stand in a pattern
 mutual
-  terms_among : (p : PatternTree) → AreAmong (map (λ t. t.0) (terms_of p)) (pattern_positions p)
+  terms_among : (p : PatternTree) → OccurAmong (map (λ t. t.0) (terms_of p)) (pattern_positions p)
   terms_among (bind_pattern name p at) =
       among_both (map (λ t. t.0) (terms_of p)) (pattern_positions p) (at ∷ name.at ∷ pattern_positions p) (terms_among p)
       (among_both (pattern_positions p) (name.at ∷ pattern_positions p) (at ∷ name.at ∷ pattern_positions p) (among_rest name.at (pattern_positions p)) (among_rest at (name.at ∷ pattern_positions p)))
@@ -297,7 +297,7 @@ mutual
   terms_among (wildcard_pattern at) = among_none (at ∷ [])
   terms_among (macro_arg i at) = among_none (at ∷ [])
 
-  terms_all_among : (ps : PatternTrees) → AreAmong (map (λ t. t.0) (terms_of_all ps)) (patterns_positions ps)
+  terms_all_among : (ps : PatternTrees) → OccurAmong (map (λ t. t.0) (terms_of_all ps)) (patterns_positions ps)
   terms_all_among no_pattern = among_same []
   terms_all_among (pattern_and p ps) =
       among_as (map (λ t. t.0) (terms_of p) ++ map (λ t. t.0) (terms_of_all ps)) (map (λ t. t.0) (terms_of p ++ terms_of_all ps)) (pattern_positions p ++ patterns_positions ps) (sym (map-append (λ t. t.0) (terms_of p) (terms_of_all ps)))
@@ -305,7 +305,7 @@ mutual
 
 -- where macro arguments stand in a pattern
 mutual
-  arguments_among : (p : PatternTree) → AreAmong (argument_places p) (pattern_positions p)
+  arguments_among : (p : PatternTree) → OccurAmong (argument_places p) (pattern_positions p)
   arguments_among (bind_pattern name p at) =
       among_both (argument_places p) (pattern_positions p) (at ∷ name.at ∷ pattern_positions p) (arguments_among p)
       (among_both (pattern_positions p) (name.at ∷ pattern_positions p) (at ∷ name.at ∷ pattern_positions p) (among_rest name.at (pattern_positions p)) (among_rest at (name.at ∷ pattern_positions p)))
@@ -320,12 +320,12 @@ mutual
   arguments_among (wildcard_pattern at) = among_none (at ∷ [])
   arguments_among (macro_arg i at) = among_same (at ∷ [])
 
-  arguments_all_among : (ps : PatternTrees) → AreAmong (argument_places_all ps) (patterns_positions ps)
+  arguments_all_among : (ps : PatternTrees) → OccurAmong (argument_places_all ps) (patterns_positions ps)
   arguments_all_among no_pattern = among_same []
   arguments_all_among (pattern_and p ps) = among_sides (argument_places p) (argument_places_all ps) (pattern_positions p) (patterns_positions ps) (arguments_among p) (arguments_all_among ps)
 
 -- where the names of what was listed of a pattern stand
-pub named_among : (ts old : List (Pos × Bor Ident)) (p : PatternTree) → map (λ (t : Pos × Bor Ident). place_view t.0 t.1.now) ts ≡ map (λ (t : Pos × Bor Ident). place_view t.0 t.1.now) old ++ terms_of p → old ≡ [] → AreAmong (map (λ (t : Pos × Bor Ident). position t.0) ts) (pattern_positions p)
+pub named_among : (ts old : List (Pos × Bor Ident)) (p : PatternTree) → map (λ (t : Pos × Bor Ident). place_view t.0 t.1.now) ts ≡ map (λ (t : Pos × Bor Ident). place_view t.0 t.1.now) old ++ terms_of p → old ≡ [] → OccurAmong (map (λ (t : Pos × Bor Ident). position t.0) ts) (pattern_positions p)
 named_among ts old p h none =
     among_as (map (λ (t : Position × Name). t.0) (terms_of p)) (map (λ (t : Pos × Bor Ident). position t.0) ts) (pattern_positions p)
     (ap (map (λ (t : Position × Name). t.0)) (sym (h ∙ ap (λ l. map (λ (t : Pos × Bor Ident). place_view t.0 t.1.now) l ++ terms_of p) none)) ∙ map-map (λ (t : Position × Name). t.0) (λ (t : Pos × Bor Ident). place_view t.0 t.1.now) ts)
@@ -337,26 +337,26 @@ first_argument qs a p h first =
     arguments_among p (position a.0) (subst (λ l. Contains l (position a.0)) h (in_map (λ (x : Pos × ℕ). position x.0) qs a (member_from_get qs 0 a first)))
 
 -- parts of definitions
-pub first_in_declaration : (d : DeclTree) (rest : List Position) → AreAmong (d.at ∷ []) (declaration_positions d ++ rest)
+pub first_in_declaration : (d : DeclTree) (rest : List Position) → OccurAmong (d.at ∷ []) (declaration_positions d ++ rest)
 first_in_declaration d rest = among_one d.at (declaration_positions d ++ rest) (in_head d.at (d.term.at ∷ d.ret_ty.at ∷ name_positions d.arg_tys ++ rest))
 
 pub declaration_there : (d : DeclTree) → Contains (declaration_positions d) d.at
 declaration_there d = in_head d.at (d.term.at ∷ d.ret_ty.at ∷ name_positions d.arg_tys)
 
-pub converter_first : (x : ConverterTree) → AreAmong (x.at ∷ []) (converter_positions x)
+pub converter_first : (x : ConverterTree) → OccurAmong (x.at ∷ []) (converter_positions x)
 converter_first x = among_one x.at (converter_positions x) (in_head x.at (x.term.at ∷ x.inner_ty.at ∷ x.outer_ty.at ∷ []))
 
-pub converter_term : (x : ConverterTree) → AreAmong (x.term.at ∷ []) (converter_positions x)
+pub converter_term : (x : ConverterTree) → OccurAmong (x.term.at ∷ []) (converter_positions x)
 converter_term x = among_one x.term.at (converter_positions x) (in_tail x.at x.term.at (x.term.at ∷ x.inner_ty.at ∷ x.outer_ty.at ∷ []) (in_head x.term.at (x.inner_ty.at ∷ x.outer_ty.at ∷ [])))
 
-pub converter_inner : (x : ConverterTree) → AreAmong (x.inner_ty.at ∷ []) (converter_positions x)
+pub converter_inner : (x : ConverterTree) → OccurAmong (x.inner_ty.at ∷ []) (converter_positions x)
 converter_inner x = among_one x.inner_ty.at (converter_positions x) (in_tail x.at x.inner_ty.at (x.term.at ∷ x.inner_ty.at ∷ x.outer_ty.at ∷ []) (in_tail x.term.at x.inner_ty.at (x.inner_ty.at ∷ x.outer_ty.at ∷ []) (in_head x.inner_ty.at (x.outer_ty.at ∷ []))))
 
-pub converter_outer : (x : ConverterTree) → AreAmong (x.outer_ty.at ∷ []) (converter_positions x)
+pub converter_outer : (x : ConverterTree) → OccurAmong (x.outer_ty.at ∷ []) (converter_positions x)
 converter_outer x = among_one x.outer_ty.at (converter_positions x) (in_tail x.at x.outer_ty.at (x.term.at ∷ x.inner_ty.at ∷ x.outer_ty.at ∷ []) (in_tail x.term.at x.outer_ty.at (x.inner_ty.at ∷ x.outer_ty.at ∷ []) (in_tail x.inner_ty.at x.outer_ty.at (x.outer_ty.at ∷ []) (in_head x.outer_ty.at []))))
 
 -- what a call notes at some positions, said of more
-pub noted_among : {R E : Type 0} (r : Result R E) (ps qs : List Position) (old new : List Error) → AreAmong ps qs → OnOk r (NotesAt ps old new) → OnOk r (NotesAt qs old new)
+pub noted_among : {R E : Type 0} (r : Result R E) (ps qs : List Position) (old new : List Error) → OccurAmong ps qs → OnOk r (NotesAt ps old new) → OnOk r (NotesAt qs old new)
 noted_among r ps qs old new a h = on_ok_weaker r (notes_among ps qs old new a) h
 
 -- a declaration is read
@@ -405,7 +405,7 @@ template_kept (variant_term variant) q e = absurd (cc)
 template_kept struct_term q e = absurd (cc)
 template_kept (declared_term flags constructor_kind extractor_kind) q e = taker_keeps extractor_kind q e
 
-pub template_there : (table : TermTable) (i : ℕ) (t : Term) → i < length table.terms.items → t ≡ get_or table.terms.items i t → (q : Position) → template_place (term_view t).kind ≡ Some q → AreAmong (q ∷ []) (table_positions table)
+pub template_there : (table : TermTable) (i : ℕ) (t : Term) → i < length table.terms.items → t ≡ get_or table.terms.items i t → (q : Position) → template_place (term_view t).kind ≡ Some q → OccurAmong (q ∷ []) (table_positions table)
 template_there table i t within here q e =
     among_one q (table_positions table) (entry_among table.terms.items i t within here q (in_tail (position t.decl_pos) q (kind_positions (term_view t).kind) (template_kept (term_view t).kind q e)))
 
@@ -433,11 +433,11 @@ notes_at_term at table i t within here old new n =
     notes_among (at ∷ entry_positions (term_view t)) (at ∷ table_positions table) old new
     (among_under at (entry_positions (term_view t)) (table_positions table) (entry_among table.terms.items i t within here)) n
 
-pub placed_on : {R E : Type 0} (r : Result R E) (ps qs : List Position) (table : TermTable) → AreAmong ps qs → OnOk r (IsPlacedAmong ps table) → OnOk r (IsPlacedAmong qs table)
+pub placed_on : {R E : Type 0} (r : Result R E) (ps qs : List Position) (table : TermTable) → OccurAmong ps qs → OnOk r (IsPlacedAmong ps table) → OnOk r (IsPlacedAmong qs table)
 placed_on r ps qs table a h = on_ok_weaker r (placed_among ps qs table a) h
 
 -- parts of an extractor
-pub extractor_at : (x : ExtractorTree) (rest : List Position) → AreAmong (x.at ∷ []) (extractor_positions x ++ rest)
+pub extractor_at : (x : ExtractorTree) (rest : List Position) → OccurAmong (x.at ∷ []) (extractor_positions x ++ rest)
 extractor_at x rest = among_one x.at (extractor_positions x ++ rest) (Contains-append_left (extractor_positions x) rest x.at (in_head x.at (x.term.at ∷ map (λ n. n.at) x.args ++ pattern_positions x.template)))
 
 pub extractor_noted : (x : ExtractorTree) (rest : List Position) (a b c : List Error) → NotesAt (pattern_positions x.template) a b → NotesAt (x.at ∷ rest) b c → NotesAt (extractor_positions x ++ rest) a c
@@ -446,7 +446,7 @@ extractor_noted x rest a b c first second =
     notes_parts (pattern_positions x.template) (x.at ∷ rest) ps a b c (pattern_among x rest) (among_join (x.at ∷ []) rest ps (extractor_at x rest) (among_right (extractor_positions x) rest)) first second
 
 -- a macro argument in the pattern of an extractor
-pub argument_noted : (x : ExtractorTree) (rest : List Position) (qs : List (Pos × ℕ)) (a : Pos × ℕ) → map (λ (y : Pos × ℕ). position y.0) qs ≡ argument_places x.template → slice_get qs 0 ≡ Some a → AreAmong (position a.0 ∷ []) (extractor_positions x ++ rest)
+pub argument_noted : (x : ExtractorTree) (rest : List Position) (qs : List (Pos × ℕ)) (a : Pos × ℕ) → map (λ (y : Pos × ℕ). position y.0) qs ≡ argument_places x.template → slice_get qs 0 ≡ Some a → OccurAmong (position a.0 ∷ []) (extractor_positions x ++ rest)
 argument_noted x rest qs a h first = among_one (position a.0) (extractor_positions x ++ rest) (pattern_among x rest (position a.0) (first_argument qs a x.template h first))
 
 -- the recursion that is looked for last
@@ -466,8 +466,8 @@ pub made_so_far : (ds ts ts' : List Position) (old mid new : TermTable) (a b c :
 made_so_far ds ts ts' old mid new a b c same noted placed noted' placed' =
     let rest : List Position = table_positions old in
     let ps : List Position = (ds ++ ts) ++ rest in
-    let from_declarations : AreAmong (ds ++ rest) ps = among_sides ds rest (ds ++ ts) rest (among_left ds ts) (among_same rest) in
-    let from_types : AreAmong ts' ps = among_as ts ts' ps (sym same) (among_both ts (ds ++ ts) ps (among_right ds ts) (among_left (ds ++ ts) rest)) in
+    let from_declarations : OccurAmong (ds ++ rest) ps = among_sides ds rest (ds ++ ts) rest (among_left ds ts) (among_same rest) in
+    let from_types : OccurAmong ts' ps = among_as ts ts' ps (sym same) (among_both ts (ds ++ ts) ps (among_right ds ts) (among_left (ds ++ ts) rest)) in
     let kept : IsPlacedAmong ps mid = placed_among (ds ++ rest) ps mid from_declarations placed in
     record {
       noted = notes_parts (ds ++ rest) ts' ps a b c from_declarations from_types noted noted';
@@ -477,24 +477,24 @@ made_so_far ds ts ts' old mid new a b c same noted placed noted' placed' =
 -- the terms and the types of a table that had none
 pub begun : (ps : List Position) (old new : TermTable) (a b : List Error) → old.terms.items ≡ [] → a ≡ [] → NotesAt (ps ++ table_positions old) a b → IsPlacedAmong (ps ++ table_positions old) new → PlacedSoFar ps [] new b
 begun ps old new a b no_terms no_errors noted placed =
-    let fewer : AreAmong (ps ++ table_positions old) ps = among_join ps (table_positions old) ps (among_same ps) (among_as [] (table_positions old) ps (ap (λ ts. terms_positions (term_views ts)) (sym no_terms)) (among_none ps)) in
+    let fewer : OccurAmong (ps ++ table_positions old) ps = among_join ps (table_positions old) ps (among_same ps) (among_as [] (table_positions old) ps (ap (λ ts. terms_positions (term_views ts)) (sym no_terms)) (among_none ps)) in
     record {
       noted = subst (λ es. NotesAt ps es b) no_errors (notes_among (ps ++ table_positions old) ps a b fewer noted);
       kept = placed_among (ps ++ table_positions old) ps new fewer placed;
     }
 
-pub converters_so_far : (part ps : List Position) (old new : TermTable) (a b c : List Error) → AreAmong part ps → NotesAt part b c → new.terms ≡ old.terms → PlacedSoFar ps a old b → PlacedSoFar ps a new c
+pub converters_so_far : (part ps : List Position) (old new : TermTable) (a b c : List Error) → OccurAmong part ps → NotesAt part b c → new.terms ≡ old.terms → PlacedSoFar ps a old b → PlacedSoFar ps a new c
 converters_so_far part ps old new a b c within noted same s = record {
   noted = notes_both ps a b c s.noted (notes_among part ps b c within noted);
-  kept = record { each = subst (λ v. AreAmong (terms_positions (term_views v.items)) ps) (sym same) s.kept.each };
+  kept = record { each = subst (λ v. OccurAmong (terms_positions (term_views v.items)) ps) (sym same) s.kept.each };
 }
 
 -- parts of an external definition
-pub extern_rest : (at term function : Position) (rest : List Position) → AreAmong rest (at ∷ term ∷ function ∷ rest)
+pub extern_rest : (at term function : Position) (rest : List Position) → OccurAmong rest (at ∷ term ∷ function ∷ rest)
 extern_rest at term function rest p c = in_tail at p (term ∷ function ∷ rest) (in_tail term p (function ∷ rest) (in_tail function p rest c))
 
-pub extern_at : (at term function : Position) (rest : List Position) → AreAmong (at ∷ []) (at ∷ term ∷ function ∷ rest)
+pub extern_at : (at term function : Position) (rest : List Position) → OccurAmong (at ∷ []) (at ∷ term ∷ function ∷ rest)
 extern_at at term function rest = among_first at (term ∷ function ∷ rest)
 
-pub extern_among : (at term function : Position) (rest : List Position) → AreAmong (at ∷ rest) (at ∷ term ∷ function ∷ rest)
+pub extern_among : (at term function : Position) (rest : List Position) → OccurAmong (at ∷ rest) (at ∷ term ∷ function ∷ rest)
 extern_among at term function rest = among_next at rest (at ∷ term ∷ function ∷ rest) (in_head at (term ∷ function ∷ rest)) (extern_rest at term function rest)

@@ -5,7 +5,7 @@ use Rattle.std.specs.List.{flat_map}
 use Rattle.isle_model.specs.lists.Syntax.{Position, PatternTree, PatternTrees, bind_pattern, term_pattern, and_pattern, macro_arg, no_pattern, pattern_and}
 use Rattle.isle_model.specs.lists.Tables.{VariantEntry, ExtractorEntry, internal_extractor, external_extractor, TermKindEntry, variant_term, struct_term, declared_term, TermEntry}
 use Rattle.isle_base.specs.Patterns.{pattern_position}
-use Rattle.isle_base.specs.Positions.{pattern_positions, AreAmong}
+use Rattle.isle_base.specs.Positions.{pattern_positions, OccurAmong}
 use Rattle.isle_terms.specs.declared.term.ExtractorKind.{ExtractorKind}
 use Rattle.isle_terms.specs.declared.term_table.TermTable.{TermTable}
 use Rattle.isle_terms.specs.TermViews.{extractor_view, term_views}
@@ -54,7 +54,7 @@ variants_positions vs = map (λ v. v.at) vs
 
 -- each position that a table keeps is one of these
 pub record IsPlacedAmong (positions : List Position) (table : TermTable) : Type 0 where
-  pub each : AreAmong (table_positions table) positions
+  pub each : OccurAmong (table_positions table) positions
 
 -- where the macro arguments of a pattern stand, left to right
 abbrev mutual

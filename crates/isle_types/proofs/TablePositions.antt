@@ -7,7 +7,7 @@ use Rattle.isle_model.specs.lists.Syntax.{Position, VariantTree, TypeTree, TypeV
 use Rattle.isle_model.specs.lists.TypeTable.{builtin_names, type_trees, type_names_met, builtin_from, variant_entry, entry_at, type_entry, type_table}
 use Rattle.isle_model.specs.claims.Environments.{TypeEnvironment, AreTypesOf}
 use Rattle.isle_model.proofs.Members.{in_head, in_tail}
-use Rattle.isle_base.specs.Positions.{AreAmong, fields_positions, variant_positions, value_positions, type_positions, definition_positions, positions_of}
+use Rattle.isle_base.specs.Positions.{OccurAmong, fields_positions, variant_positions, value_positions, type_positions, definition_positions, positions_of}
 use Rattle.isle_base.proofs.Positioned.{among_same, among_first, among_both, among_right}
 use Rattle.isle_types.specs.declared.type_env.TypeEnv.{TypeEnv}
 use Rattle.isle_types.specs.TypePositions.{entry_positions, types_positions}
@@ -16,7 +16,7 @@ use Rattle.isle_types.specs.TypeViews.{type_views}
 use Rattle.isle_types.proofs.PlacesNoted.{among_more}
 
 -- two lists, each among its own
-among_append : (ps qs rs ss : List Position) → AreAmong ps rs → AreAmong qs ss → AreAmong (ps ++ qs) (rs ++ ss)
+among_append : (ps qs rs ss : List Position) → OccurAmong ps rs → OccurAmong qs ss → OccurAmong (ps ++ qs) (rs ++ ss)
 among_append ps qs rs ss a b p c = elim (Contains-append_cases ps qs p c) [
   | inl left ↦ Contains-append_left rs ss p (a p left)
   | inr right ↦ Contains-append_right rs ss p (b p right)
@@ -28,11 +28,11 @@ none_stands n [] = refl
 none_stands n (x ∷ xs) = none_stands (suc n) xs
 
 module _ (defs : List Definition) (names : List (List ℕ)) where
-  variants_among : (ty : List ℕ) (id : ℕ) (vs : List VariantTree) → AreAmong (map (λ v. v.at) (map (λ p. variant_entry defs names ty p.0 p.1) (enumerate_from id vs))) (flat_map variant_positions vs)
+  variants_among : (ty : List ℕ) (id : ℕ) (vs : List VariantTree) → OccurAmong (map (λ v. v.at) (map (λ p. variant_entry defs names ty p.0 p.1) (enumerate_from id vs))) (flat_map variant_positions vs)
   variants_among ty id [] = among_same []
   variants_among ty id (v ∷ vs) = among_append (v.at ∷ []) (map (λ v. v.at) (map (λ p. variant_entry defs names ty p.0 p.1) (enumerate_from (id + 1) vs))) (variant_positions v) (flat_map variant_positions vs) (among_first v.at (v.name.at ∷ fields_positions v.fields)) (variants_among ty (id + 1) vs)
 
-  value_among : (id : ℕ) (t : TypeTree) (value : TypeValueTree) → AreAmong (entry_positions (entry_at defs names id t value)) (t.at ∷ t.name.at ∷ value_positions value)
+  value_among : (id : ℕ) (t : TypeTree) (value : TypeValueTree) → OccurAmong (entry_positions (entry_at defs names id t value)) (t.at ∷ t.name.at ∷ value_positions value)
   value_among id t (primitive_value name at) = among_first t.at (t.name.at ∷ value_positions (primitive_value name at))
   value_among id t (struct_value fields at) = among_first t.at (t.name.at ∷ value_positions (struct_value fields at))
   value_among id t (enum_value vs at) =
@@ -40,15 +40,15 @@ module _ (defs : List Definition) (names : List (List ℕ)) where
       among_more t.at (map (λ v. v.at) (map (λ p. variant_entry defs names t.name.text p.0 p.1) (enumerate_from 0 vs))) whole (in_head t.at (t.name.at ∷ value_positions (enum_value vs at)))
       (λ p c. in_tail t.at p (t.name.at ∷ value_positions (enum_value vs at)) (in_tail t.name.at p (value_positions (enum_value vs at)) (in_tail at p (flat_map variant_positions vs) (variants_among t.name.text 0 vs p c))))
 
-  entries_among : (id : ℕ) (ts : List TypeTree) → AreAmong (types_positions (map (λ p. type_entry defs names p.0 p.1) (enumerate_from id ts))) (flat_map type_positions ts)
+  entries_among : (id : ℕ) (ts : List TypeTree) → OccurAmong (types_positions (map (λ p. type_entry defs names p.0 p.1) (enumerate_from id ts))) (flat_map type_positions ts)
   entries_among id [] = among_same []
   entries_among id (t ∷ ts) = among_append (entry_positions (type_entry defs names id t)) (types_positions (map (λ p. type_entry defs names p.0 p.1) (enumerate_from (id + 1) ts))) (type_positions t) (flat_map type_positions ts) (value_among id t t.value) (entries_among (id + 1) ts)
 
 -- behind others
-among_behind : (ps qs rs : List Position) → AreAmong qs rs → AreAmong qs (ps ++ rs)
+among_behind : (ps qs rs : List Position) → OccurAmong qs rs → OccurAmong qs (ps ++ rs)
 among_behind ps qs rs a = among_both qs rs (ps ++ rs) a (among_right ps rs)
 
-trees_among : (defs : List Definition) → AreAmong (flat_map type_positions (type_trees defs)) (positions_of defs)
+trees_among : (defs : List Definition) → OccurAmong (flat_map type_positions (type_trees defs)) (positions_of defs)
 trees_among [] = among_same []
 trees_among (type_definition t ∷ defs) = among_append (type_positions t) (flat_map type_positions (type_trees defs)) (type_positions t) (positions_of defs) (among_same (type_positions t)) (trees_among defs)
 trees_among (declaration d ∷ defs) = among_behind (definition_positions (declaration d)) (flat_map type_positions (type_trees defs)) (positions_of defs) (trees_among defs)
@@ -59,15 +59,15 @@ trees_among (extern_definition d ∷ defs) = among_behind (definition_positions 
 trees_among (other_definition ∷ defs) = trees_among defs
 
 -- those of the table that definitions make
-pub table_among : (defs : List Definition) → AreAmong (types_positions (type_table defs)) (positions_of defs)
+pub table_among : (defs : List Definition) → OccurAmong (types_positions (type_table defs)) (positions_of defs)
 table_among defs =
     let entries = map (λ p. type_entry defs (type_names_met defs) p.0 p.1) (enumerate_from 13 (type_trees defs)) in
     let same : types_positions (type_table defs) ≡ types_positions entries = flat_map-append entry_positions (builtin_from 0 builtin_names) entries ∙ ap (λ ps. ps ++ types_positions entries) (none_stands 0 builtin_names) in
-    subst (λ ps. AreAmong ps (positions_of defs)) (sym same) (among_both (types_positions entries) (flat_map type_positions (type_trees defs)) (positions_of defs) (entries_among defs (type_names_met defs) 13 (type_trees defs)) (trees_among defs))
+    subst (λ ps. OccurAmong ps (positions_of defs)) (sym same) (among_both (types_positions entries) (flat_map type_positions (type_trees defs)) (positions_of defs) (entries_among defs (type_names_met defs) 13 (type_trees defs)) (trees_among defs))
 
 -- and of each environment that shows that table
-pub shown_among : (defs : List Definition) (env : TypeEnvironment) → AreTypesOf defs env → AreAmong (types_positions env.types) (positions_of defs)
-shown_among defs env s = subst (λ ts. AreAmong (types_positions ts) (positions_of defs)) (sym s.shown.types) (table_among defs)
+pub shown_among : (defs : List Definition) (env : TypeEnvironment) → AreTypesOf defs env → OccurAmong (types_positions env.types) (positions_of defs)
+shown_among defs env s = subst (λ ts. OccurAmong (types_positions ts) (positions_of defs)) (sym s.shown.types) (table_among defs)
 
-pub seen_among : (env : TypeEnv) (defs : List Definition) (texts : List (List ℕ)) → SeesTypes env defs texts → AreAmong (types_positions (type_views env.types.items)) (positions_of defs)
-seen_among env defs texts s = subst (λ ts. AreAmong (types_positions ts) (positions_of defs)) (sym s.types) (table_among defs)
+pub seen_among : (env : TypeEnv) (defs : List Definition) (texts : List (List ℕ)) → SeesTypes env defs texts → OccurAmong (types_positions (type_views env.types.items)) (positions_of defs)
+seen_among env defs texts s = subst (λ ts. OccurAmong (types_positions ts) (positions_of defs)) (sym s.types) (table_among defs)

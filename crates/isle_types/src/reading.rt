@@ -14,7 +14,7 @@ ghost use Rattle.isle_base.specs.SyntaxViews.{position, definition_view, definit
 ghost use Rattle.isle_types.specs.EnvViews.{environment_view};
 ghost use Rattle.isle_types.specs.Envs.{names_of, type_at, IsInterned};
 ghost use Rattle.isle_base.specs.Noting.{NotesMore};
-ghost use Rattle.isle_base.specs.Positions.{StandsAt, NotesAt, definition_positions, positions_of};
+ghost use Rattle.isle_base.specs.Positions.{ErrorStandsAt, NotesAt, definition_positions, positions_of};
 ghost use Rattle.isle_types.specs.Reading.{AddsBuiltin, NamesType, NamesDefinition};
 ghost use Rattle.isle_types.specs.Stages.{Booting, NamesTypes};
 ghost use Rattle.isle_types.specs.TypeTables.{SeesTypes};
@@ -65,7 +65,7 @@ impl TypeEnv {
             (λ env. SeesTypes env (definition_views defs.now) (type_names_met (definition_views defs.now))) }
         ensures no_limit { NoLimit result }
         ensures refused { OnErrors result (λ es. RefusesTypes (definition_views defs.now) (error_views es)) }
-        ensures places { OnErrors result (All (StandsAt (positions_of (definition_views defs.now)))) }
+        ensures places { OnErrors result (All (ErrorStandsAt (positions_of (definition_views defs.now)))) }
         ensures shown { IfOk result (λ env. AreTypesOf (definition_views defs.now) (environment_view env)) }
         ensures well_formed { IfOk result (λ env. IsWellFormedEnvironment (environment_view env)) }
     {

@@ -4,6 +4,7 @@ ghost use Rattle.std.specs.Prelude.{◌≡◌, [], IfOk};
 ghost use Rattle.isle_base.specs.SyntaxViews.{definition_views};
 ghost use Rattle.isle_model.specs.lists.TermTable.{rule_trees};
 ghost use Rattle.isle_types.specs.Envs.{IsInterned};
+ghost use Rattle.isle_rules.specs.LimitsNamed.{NamesPastLimits};
 ghost use Rattle.isle_rules.specs.RuleErrors.{NotesOfRules};
 ghost use Rattle.isle_rules.specs.RulesRead.{ReadsRules};
 ghost use Rattle.isle_rules.specs.ShownEnvs.{terms_shown_by};
@@ -36,6 +37,7 @@ impl TermEnv {
         ensures expand { self.new.expand_internal_extractors ≡ self.old.expand_internal_extractors }
         ensures reads { IfOk result (λ v. ReadsRules self.old tyenv.old tyenv.new (definition_views defs.now) self.new v.items) }
         ensures notes { IfOk result (λ v. NotesOfRules self.old tyenv.old (rule_trees (definition_views defs.now)) [] v.items) }
+        ensures named { IfOk result (λ v. NamesPastLimits self.old tyenv.old (rule_trees (definition_views defs.now)) v.items) }
         ensures places { IfOk result (λ v. NotesAt (with_terms self.old (positions_of (definition_views defs.now))) [] v.items) }
     {
         let alloc = *self.terms.allocator();

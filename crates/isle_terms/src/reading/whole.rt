@@ -4,7 +4,7 @@ ghost use Rattle.std.specs.Prelude.{◌≡◌, ◌++◌, ℕ, None, [], All, IfO
 ghost use Rattle.isle_model.specs.claims.Environments.{TypesRead, AreReadable, AreTermsOf, IsLeftByRefusal, IsReadAs};
 ghost use Rattle.isle_model.specs.lists.TermTable.{IsValidTerms};
 ghost use Rattle.isle_model.specs.claims.Refusals.{RefusesTerms};
-ghost use Rattle.isle_base.specs.Positions.{NotesAt, StandsAt, positions_of};
+ghost use Rattle.isle_base.specs.Positions.{NotesAt, ErrorStandsAt, positions_of};
 ghost use Rattle.isle_base.specs.Answers.{Answers, NoLimit, OnErrors};
 ghost use Rattle.isle_base.specs.ErrorViews.{error_views};
 ghost use Rattle.isle_base.specs.SyntaxViews.{definition_views};
@@ -44,7 +44,7 @@ impl TermTable {
         ensures left { OnErr result (IsLeftByRefusal read (environment_view tyenv.new)) }
         ensures no_limit { NoLimit result }
         ensures refused { OnErrors result (λ es. RefusesTerms read (definition_views defs.now) (error_views es)) }
-        ensures places { OnErrors result (All (StandsAt (positions_of (definition_views defs.now) ++ types_positions read.known.types))) }
+        ensures places { OnErrors result (All (ErrorStandsAt (positions_of (definition_views defs.now) ++ types_positions read.known.types))) }
         ensures placed { IfOk result (IsPlacedAmong (positions_of (definition_views defs.now) ++ types_positions read.known.types)) }
     {
         let mut table = TermTable::with_room(alloc, defs.len())?;

@@ -4,8 +4,8 @@ use Rattle.isle_overlap.specs.ErrorViews.{error_pos}
 use Rattle.isle_overlap.proofs.Sorted.{errors_in_order}
 use Rattle.isle_overlap.proofs.overlap.by_place.Goals as goal
 
-pub returns : goal.returns
-returns c = λ reports e.
+pub returns-clause-reports : goal.returns-clause-reports
+returns-clause-reports c = λ reports e.
     errors_in_order c.args.errors.items c.sort_by_key.new.self.items reports
     (c.in_ok-sort_by_key.ensures.sorted error_pos (always_returns_same _ _ _ (λ a r q k. search rules)))
     (c.in_ok-sort_by_key.ensures.stable error_pos (always_returns_same _ _ _ (λ a r q k. search rules)))

@@ -17,7 +17,7 @@ use Rattle.isle_rules.proofs.ExprSizes.{expr_size, exprs_size, lets_size, less, 
 use Rattle.isle_rules.proofs.ExprForms.{seen_call, seen_let, args_done, args_stop}
 use Rattle.isle_rules.proofs.LetForms.{def_unknown, def_reported, def_stops, def_done, no_def_yet, next_def, next_stops, let_first_stops, let_reported, let_stops, let_done}
 use Rattle.isle_rules.proofs.Readings.{stop_is, stop_keeps, stays_on, may_report, keep_none, keep_on, expanded_done}
-use Rattle.isle_base.specs.Positions.{AreAmong, expr_positions, exprs_positions, lets_positions}
+use Rattle.isle_base.specs.Positions.{OccurAmong, expr_positions, exprs_positions, lets_positions}
 use Rattle.isle_base.proofs.Positioned.{among_same, among_first, notes_among, notes_nothing}
 use Rattle.isle_rules.specs.Lets.{with_let}
 use Rattle.isle_rules.proofs.Placed.{stays_among, stays_step, stop_among, stop_step, notes_step}
@@ -233,7 +233,7 @@ translate_defs-loop-def-preserved t c =
           let at = S.position c.args.pos in
           let whole = at ∷ lets_positions (S.let_views c.args.defs.now) in
           let one = lets_positions (with_let c.def-item.result no_let) in
-          let inside : AreAmong (at ∷ one) whole = among_both_first at one (lets_positions (S.let_views c.args.defs.now)) (def_inside c.args.defs.now c.loop-def.def-index c.def-item.result c.loop-def-test.true c.def-item.is) in
+          let inside : OccurAmong (at ∷ one) whole = among_both_first at one (lets_positions (S.let_views c.args.defs.now)) (def_inside c.args.defs.now c.loop-def.def-index c.def-item.result c.loop-def-test.true c.def-item.is) in
           notes_step whole (at ∷ one) whole c.args.work.now.errors.items c.loop-def.work.errors.items c.translate_def.new.work.errors.items (among_same whole) inside c.loop-def.invariant.2 c.in_ok-made.ensures.places
           ),
     )
@@ -292,7 +292,7 @@ translate_defs-returns-in_err-made-clause-places t c =
     let at = S.position c.args.pos in
     let whole = at ∷ lets_positions (S.let_views c.args.defs.now) in
     let one = lets_positions (with_let c.def-item.result no_let) in
-    let inside : AreAmong (at ∷ one) whole = among_both_first at one (lets_positions (S.let_views c.args.defs.now)) (def_inside c.args.defs.now c.loop-def.def-index c.def-item.result c.loop-def-test.true c.def-item.is) in
+    let inside : OccurAmong (at ∷ one) whole = among_both_first at one (lets_positions (S.let_views c.args.defs.now)) (def_inside c.args.defs.now c.loop-def.def-index c.def-item.result c.loop-def-test.true c.def-item.is) in
     rw (stop_is c.from_residual-in_err-made.result c.in_err-made.field-0.0 c.from_residual-in_err-made.ensures)
     (stop_step whole (at ∷ one) whole c.args.work.now.errors.items c.loop-def.work.errors.items c.translate_def.new.work.errors.items c.in_err-made.field-0.0 (among_same whole) inside c.loop-def.invariant.2 c.in_err-made.ensures.places)
 
@@ -305,7 +305,7 @@ translate_def-returns-in_default-clause-places t c =
     let at = S.position c.args.pos in
     let whole = at ∷ lets_positions (with_let c.args.def.now no_let) in
     let value = expr_positions (S.expr_view c.args.def.now.val.value) in
-    let here : AreAmong (at ∷ []) whole = among_first at (lets_positions (with_let c.args.def.now no_let)) in
+    let here : OccurAmong (at ∷ []) whole = among_first at (lets_positions (with_let c.args.def.now no_let)) in
     notes_among (at ∷ []) whole c.args.work.now.errors.items c.begin_def.new.errors.items here c.in_ok-name.ensures.places
 
 pub translate_def-returns-in_err-made-clause-places : goal.translate_def-returns-in_err-made-clause-places
@@ -313,7 +313,7 @@ translate_def-returns-in_err-made-clause-places t c =
     let at = S.position c.args.pos in
     let whole = at ∷ lets_positions (with_let c.args.def.now no_let) in
     let value = expr_positions (S.expr_view c.args.def.now.val.value) in
-    let here : AreAmong (at ∷ []) whole = among_first at (lets_positions (with_let c.args.def.now no_let)) in
+    let here : OccurAmong (at ∷ []) whole = among_first at (lets_positions (with_let c.args.def.now no_let)) in
     let placed = rw c.deref.ensures at c.in_err-made.ensures.places in
     rw (stop_is c.from_residual-in_err-made.result c.in_err-made.field-0.0 c.from_residual-in_err-made.ensures)
     (stop_step (at ∷ []) value whole c.args.work.now.errors.items c.begin_def.new.errors.items c.translate_expr.new.work.errors.items c.in_err-made.field-0.0 here (value_inside at c.args.def.now) c.in_ok-name.ensures.places placed)
@@ -323,7 +323,7 @@ translate_def-returns-in_default-made-clause-places t c =
     let at = S.position c.args.pos in
     let whole = at ∷ lets_positions (with_let c.args.def.now no_let) in
     let value = expr_positions (S.expr_view c.args.def.now.val.value) in
-    let here : AreAmong (at ∷ []) whole = among_first at (lets_positions (with_let c.args.def.now no_let)) in
+    let here : OccurAmong (at ∷ []) whole = among_first at (lets_positions (with_let c.args.def.now no_let)) in
     let placed = rw c.deref.ensures at c.in_ok-made.ensures.places in
     notes_step (at ∷ []) value whole c.args.work.now.errors.items c.begin_def.new.errors.items c.translate_expr.new.work.errors.items here (value_inside at c.args.def.now) c.in_ok-name.ensures.places placed
 
@@ -332,7 +332,7 @@ translate_def-returns-clause-places t c =
     let at = S.position c.args.pos in
     let whole = at ∷ lets_positions (with_let c.args.def.now no_let) in
     let value = expr_positions (S.expr_view c.args.def.now.val.value) in
-    let here : AreAmong (at ∷ []) whole = among_first at (lets_positions (with_let c.args.def.now no_let)) in
+    let here : OccurAmong (at ∷ []) whole = among_first at (lets_positions (with_let c.args.def.now no_let)) in
     let placed = rw c.deref.ensures at c.in_ok-made.ensures.places in
     rw c.in_ok-bound.ensures.binds.errors
     (notes_step (at ∷ []) value whole c.args.work.now.errors.items c.begin_def.new.errors.items c.translate_expr.new.work.errors.items here (value_inside at c.args.def.now) c.in_ok-name.ensures.places placed)
@@ -397,7 +397,7 @@ translate_expr-returns-in_err-use_in_expr-in-Term-clause-places t c =
     let args = S.expr_views c.deref.result.now in
     let at = S.position c.in-Term.pos in
     let all : List Position = expr_positions (term_expr name args at) in
-    let here : AreAmong (at ∷ []) all = among_first at (name.at ∷ exprs_positions args) in
+    let here : OccurAmong (at ∷ []) all = among_first at (name.at ∷ exprs_positions args) in
     rw (stop_is c.from_residual.result c.in_err-use_in_expr-in-Term.field-0.0 c.from_residual.ensures, seen_call c.args.expr.now c.in-Term.sym c.in-Term.args c.in-Term.pos c.deref.result.now c.in-Term.is c.deref.ensures.value)
     (stop_among (at ∷ []) all c.args.work.now.errors.items c.use_in_expr.new.work.errors.items c.in_err-use_in_expr-in-Term.field-0.0 here c.in_err-use_in_expr-in-Term.ensures.places)
 
@@ -407,7 +407,7 @@ translate_expr-returns-in-Wrong-clause-places t c =
     let args = S.expr_views c.deref.result.now in
     let at = S.position c.in-Term.pos in
     let all : List Position = expr_positions (term_expr name args at) in
-    let here : AreAmong (at ∷ []) all = among_first at (name.at ∷ exprs_positions args) in
+    let here : OccurAmong (at ∷ []) all = among_first at (name.at ∷ exprs_positions args) in
     rw (seen_call c.args.expr.now c.in-Term.sym c.in-Term.args c.in-Term.pos c.deref.result.now c.in-Term.is c.deref.ensures.value) (notes_among (at ∷ []) all c.args.work.now.errors.items c.use_in_expr.new.work.errors.items here c.in_ok-use_in_expr-in-Term.ensures.places)
 
 pub translate_expr-returns-in-Conversion-clause-places : goal.translate_expr-returns-in-Conversion-clause-places
@@ -416,9 +416,9 @@ translate_expr-returns-in-Conversion-clause-places t c =
     let args = S.expr_views c.deref.result.now in
     let at = S.position c.in-Term.pos in
     let all : List Position = expr_positions (term_expr name args at) in
-    let here : AreAmong (at ∷ []) all = among_first at (name.at ∷ exprs_positions args) in
+    let here : OccurAmong (at ∷ []) all = among_first at (name.at ∷ exprs_positions args) in
     let made = expr_positions (S.expr_view c.in-Conversion.inside) in
-    let inside : AreAmong made all = rw (seen_call c.args.expr.now c.in-Term.sym c.in-Term.args c.in-Term.pos c.deref.result.now c.in-Term.is c.deref.ensures.value) at (rw c.in-Conversion.is at c.in_ok-use_in_expr-in-Term.ensures.among) in
+    let inside : OccurAmong made all = rw (seen_call c.args.expr.now c.in-Term.sym c.in-Term.args c.in-Term.pos c.deref.result.now c.in-Term.is c.deref.ensures.value) at (rw c.in-Conversion.is at c.in_ok-use_in_expr-in-Term.ensures.among) in
     rw (seen_call c.args.expr.now c.in-Term.sym c.in-Term.args c.in-Term.pos c.deref.result.now c.in-Term.is c.deref.ensures.value)
     (stays_step (at ∷ []) made all c.args.work.now.errors.items c.use_in_expr.new.work.errors.items c.translate_expr.new.work.errors.items c.translate_expr.result here inside c.in_ok-use_in_expr-in-Term.ensures.places c.translate_expr.ensures.places)
 
@@ -428,7 +428,7 @@ translate_expr-returns-in_err-parts-in-Parts-clause-places t c =
     let args = S.expr_views c.deref.result.now in
     let at = S.position c.in-Term.pos in
     let all : List Position = expr_positions (term_expr name args at) in
-    let here : AreAmong (at ∷ []) all = among_first at (name.at ∷ exprs_positions args) in
+    let here : OccurAmong (at ∷ []) all = among_first at (name.at ∷ exprs_positions args) in
     let same : c.deref-in-Parts.result.now ≡ c.deref.result.now = c.deref-in-Parts.ensures.value ∙ sym c.deref.ensures.value in
     let parts = exprs_positions args in
     let placed = rw same at c.in_err-parts-in-Parts.ensures.places in
@@ -441,7 +441,7 @@ translate_expr-returns-in_ok-parts-in-Parts-clause-places t c =
     let args = S.expr_views c.deref.result.now in
     let at = S.position c.in-Term.pos in
     let all : List Position = expr_positions (term_expr name args at) in
-    let here : AreAmong (at ∷ []) all = among_first at (name.at ∷ exprs_positions args) in
+    let here : OccurAmong (at ∷ []) all = among_first at (name.at ∷ exprs_positions args) in
     let same : c.deref-in-Parts.result.now ≡ c.deref.result.now = c.deref-in-Parts.ensures.value ∙ sym c.deref.ensures.value in
     let parts = exprs_positions args in
     let placed = rw same at c.in_ok-parts-in-Parts.ensures.places in
@@ -452,7 +452,7 @@ translate_expr-returns-in_err-use_var-in-Var-clause-places t c =
     let at = S.position c.in-Var.pos in
     let name = S.name_view c.in-Var.name in
     let all : List Position = at ∷ name.at ∷ [] in
-    let here : AreAmong (at ∷ []) all = among_first at (name.at ∷ []) in
+    let here : OccurAmong (at ∷ []) all = among_first at (name.at ∷ []) in
     rw (stop_is c.from_residual-in_err-use_var-in-Var.result c.in_err-use_var-in-Var.field-0.0 c.from_residual-in_err-use_var-in-Var.ensures, c.in-Var.is)
     (stop_among (at ∷ []) all c.args.work.now.errors.items c.use_var.new.work.errors.items c.in_err-use_var-in-Var.field-0.0 here c.in_err-use_var-in-Var.ensures.places)
 
@@ -461,7 +461,7 @@ translate_expr-returns-in-Wrong-2-clause-places t c =
     let at = S.position c.in-Var.pos in
     let name = S.name_view c.in-Var.name in
     let all : List Position = at ∷ name.at ∷ [] in
-    let here : AreAmong (at ∷ []) all = among_first at (name.at ∷ []) in
+    let here : OccurAmong (at ∷ []) all = among_first at (name.at ∷ []) in
     rw c.in-Var.is (notes_among (at ∷ []) all c.args.work.now.errors.items c.use_var.new.work.errors.items here c.in_ok-use_var-in-Var.ensures.places)
 
 pub translate_expr-returns-in-Var-2-clause-places : goal.translate_expr-returns-in-Var-2-clause-places
@@ -469,7 +469,7 @@ translate_expr-returns-in-Var-2-clause-places t c =
     let at = S.position c.in-Var.pos in
     let name = S.name_view c.in-Var.name in
     let all : List Position = at ∷ name.at ∷ [] in
-    let here : AreAmong (at ∷ []) all = among_first at (name.at ∷ []) in
+    let here : OccurAmong (at ∷ []) all = among_first at (name.at ∷ []) in
     rw c.in-Var.is (notes_among (at ∷ []) all c.args.work.now.errors.items c.use_var.new.work.errors.items here c.in_ok-use_var-in-Var.ensures.places)
 
 pub translate_expr-returns-in-Conversion-2-clause-places : goal.translate_expr-returns-in-Conversion-2-clause-places
@@ -477,9 +477,9 @@ translate_expr-returns-in-Conversion-2-clause-places t c =
     let at = S.position c.in-Var.pos in
     let name = S.name_view c.in-Var.name in
     let all : List Position = at ∷ name.at ∷ [] in
-    let here : AreAmong (at ∷ []) all = among_first at (name.at ∷ []) in
+    let here : OccurAmong (at ∷ []) all = among_first at (name.at ∷ []) in
     let made = expr_positions (S.expr_view c.in-Conversion-2.inside) in
-    let inside : AreAmong made all = rw c.in-Var.is at (rw c.in-Conversion-2.is at c.in_ok-use_var-in-Var.ensures.among) in
+    let inside : OccurAmong made all = rw c.in-Var.is at (rw c.in-Conversion-2.is at c.in_ok-use_var-in-Var.ensures.among) in
     rw c.in-Var.is
     (stays_step (at ∷ []) made all c.args.work.now.errors.items c.use_var.new.work.errors.items c.translate_expr-in-Conversion-2.new.work.errors.items c.translate_expr-in-Conversion-2.result here inside c.in_ok-use_var-in-Var.ensures.places c.translate_expr-in-Conversion-2.ensures.places)
 

@@ -17,7 +17,7 @@ use Rattle.isle_rules.proofs.PatternLists.{none_yet, next_part, part_stops, next
 use Rattle.isle_rules.proofs.PatternSizes.{tree_size, trees_size, growth, grown, smaller, deeper_smaller, expansion_smaller, smaller_part}
 use Rattle.isle_rules.proofs.PatternForms.{seen_bind, seen_term, seen_and, any_used, bind_done, bind_reported, bind_stops, parts_done, parts_stop}
 use Rattle.isle_rules.proofs.Readings.{stop_is, stop_keeps, stays_on, may_report, keep_none, keep_on, made_done, made_stops, expanded_done}
-use Rattle.isle_base.specs.Positions.{AreAmong, pattern_positions, patterns_positions}
+use Rattle.isle_base.specs.Positions.{OccurAmong, pattern_positions, patterns_positions}
 use Rattle.isle_base.proofs.Positioned.{among_same, among_first, notes_among, notes_nothing}
 use Rattle.isle_rules.specs.RulePositions.{with_terms}
 use Rattle.isle_rules.proofs.Placed.{among_with, among_here, among_made, stays_head, stays_among, stays_step, stop_among, stop_step, notes_step}
@@ -280,7 +280,7 @@ translate_pattern-returns-in_err-made-in-BindPattern-clause-places t c =
     let name = S.name_view c.in-BindPattern.var in
     let of = S.pattern_view c.deref.result.now in
     let at = S.position c.in-BindPattern.pos in
-    let inside : AreAmong (with_terms c.args.self.now (pattern_positions of)) (with_terms c.args.self.now (pattern_positions (bind_pattern name of at))) = among_with c.args.self.now (pattern_positions of) (pattern_positions (bind_pattern name of at)) (bind_inside name of at) in
+    let inside : OccurAmong (with_terms c.args.self.now (pattern_positions of)) (with_terms c.args.self.now (pattern_positions (bind_pattern name of at))) = among_with c.args.self.now (pattern_positions of) (pattern_positions (bind_pattern name of at)) (bind_inside name of at) in
     rw (stop_is c.from_residual.result c.in_err-made-in-BindPattern.field-0.0 c.from_residual.ensures, seen_bind c.args.pat.now c.in-BindPattern.var c.in-BindPattern.subpat c.in-BindPattern.pos c.deref.result.now c.in-BindPattern.is c.deref.ensures)
     (stop_among (with_terms c.args.self.now (pattern_positions of)) (with_terms c.args.self.now (pattern_positions (bind_pattern name of at))) c.args.work.now.errors.items c.translate_pattern.new.work.errors.items c.in_err-made-in-BindPattern.field-0.0 inside c.in_err-made-in-BindPattern.ensures.places)
 
@@ -289,7 +289,7 @@ translate_pattern-returns-in_default-clause-places t c =
     let name = S.name_view c.in-BindPattern.var in
     let of = S.pattern_view c.deref.result.now in
     let at = S.position c.in-BindPattern.pos in
-    let inside : AreAmong (with_terms c.args.self.now (pattern_positions of)) (with_terms c.args.self.now (pattern_positions (bind_pattern name of at))) = among_with c.args.self.now (pattern_positions of) (pattern_positions (bind_pattern name of at)) (bind_inside name of at) in
+    let inside : OccurAmong (with_terms c.args.self.now (pattern_positions of)) (with_terms c.args.self.now (pattern_positions (bind_pattern name of at))) = among_with c.args.self.now (pattern_positions of) (pattern_positions (bind_pattern name of at)) (bind_inside name of at) in
     rw (seen_bind c.args.pat.now c.in-BindPattern.var c.in-BindPattern.subpat c.in-BindPattern.pos c.deref.result.now c.in-BindPattern.is c.deref.ensures)
     (notes_among (with_terms c.args.self.now (pattern_positions of)) (with_terms c.args.self.now (pattern_positions (bind_pattern name of at))) c.args.work.now.errors.items c.translate_pattern.new.work.errors.items inside c.in_ok-made-in-BindPattern.ensures.places)
 
@@ -298,7 +298,7 @@ translate_pattern-returns-in-Some-clause-places t c =
     let name = S.name_view c.in-BindPattern.var in
     let of = S.pattern_view c.deref.result.now in
     let at = S.position c.in-BindPattern.pos in
-    let inside : AreAmong (with_terms c.args.self.now (pattern_positions of)) (with_terms c.args.self.now (pattern_positions (bind_pattern name of at))) = among_with c.args.self.now (pattern_positions of) (pattern_positions (bind_pattern name of at)) (bind_inside name of at) in
+    let inside : OccurAmong (with_terms c.args.self.now (pattern_positions of)) (with_terms c.args.self.now (pattern_positions (bind_pattern name of at))) = among_with c.args.self.now (pattern_positions of) (pattern_positions (bind_pattern name of at)) (bind_inside name of at) in
     rw (seen_bind c.args.pat.now c.in-BindPattern.var c.in-BindPattern.subpat c.in-BindPattern.pos c.deref.result.now c.in-BindPattern.is c.deref.ensures)
     (stays_step (with_terms c.args.self.now (pattern_positions of)) (at ∷ []) (with_terms c.args.self.now (pattern_positions (bind_pattern name of at))) c.args.work.now.errors.items c.translate_pattern.new.work.errors.items c.bind_around.new.work.errors.items c.bind_around.result
     inside (among_here c.args.self.now (at ∷ []) (pattern_positions (bind_pattern name of at)) (among_first at (name.at ∷ pattern_positions of))) c.in_ok-made-in-BindPattern.ensures.places c.bind_around.ensures.places)
@@ -310,7 +310,7 @@ translate_pattern-returns-in_err-use_in_pattern-in-Term-clause-places t c =
     let at = S.position c.in-Term.pos in
     let whole : List Position = pattern_positions (term_pattern name args at) in
     let all = with_terms c.args.self.now whole in
-    let here : AreAmong (at ∷ []) all = among_here c.args.self.now (at ∷ []) whole (among_first at (name.at ∷ patterns_positions args)) in
+    let here : OccurAmong (at ∷ []) all = among_here c.args.self.now (at ∷ []) whole (among_first at (name.at ∷ patterns_positions args)) in
     rw (stop_is c.from_residual-in_err-use_in_pattern-in-Term.result c.in_err-use_in_pattern-in-Term.field-0.0 c.from_residual-in_err-use_in_pattern-in-Term.ensures, seen_term c.args.pat.now c.in-Term.sym c.in-Term.args c.in-Term.pos c.deref-in-Term.result.now c.in-Term.is c.deref-in-Term.ensures.value)
     (stop_among (at ∷ []) all c.args.work.now.errors.items c.use_in_pattern.new.work.errors.items c.in_err-use_in_pattern-in-Term.field-0.0 here c.in_err-use_in_pattern-in-Term.ensures.places)
 
@@ -321,7 +321,7 @@ translate_pattern-returns-in-Wrong-clause-places t c =
     let at = S.position c.in-Term.pos in
     let whole : List Position = pattern_positions (term_pattern name args at) in
     let all = with_terms c.args.self.now whole in
-    let here : AreAmong (at ∷ []) all = among_here c.args.self.now (at ∷ []) whole (among_first at (name.at ∷ patterns_positions args)) in
+    let here : OccurAmong (at ∷ []) all = among_here c.args.self.now (at ∷ []) whole (among_first at (name.at ∷ patterns_positions args)) in
     rw (seen_term c.args.pat.now c.in-Term.sym c.in-Term.args c.in-Term.pos c.deref-in-Term.result.now c.in-Term.is c.deref-in-Term.ensures.value) (notes_among (at ∷ []) all c.args.work.now.errors.items c.use_in_pattern.new.work.errors.items here c.in_ok-use_in_pattern-in-Term.ensures.places)
 
 pub translate_pattern-returns-in-Expansion-clause-places : goal.translate_pattern-returns-in-Expansion-clause-places
@@ -331,9 +331,9 @@ translate_pattern-returns-in-Expansion-clause-places t c =
     let at = S.position c.in-Term.pos in
     let whole : List Position = pattern_positions (term_pattern name args at) in
     let all = with_terms c.args.self.now whole in
-    let here : AreAmong (at ∷ []) all = among_here c.args.self.now (at ∷ []) whole (among_first at (name.at ∷ patterns_positions args)) in
+    let here : OccurAmong (at ∷ []) all = among_here c.args.self.now (at ∷ []) whole (among_first at (name.at ∷ patterns_positions args)) in
     let made = pattern_positions (S.pattern_view c.in-Expansion.made) in
-    let inside : AreAmong made all = rw (seen_term c.args.pat.now c.in-Term.sym c.in-Term.args c.in-Term.pos c.deref-in-Term.result.now c.in-Term.is c.deref-in-Term.ensures.value) at (rw c.in-Expansion.is at c.in_ok-use_in_pattern-in-Term.ensures.among) in
+    let inside : OccurAmong made all = rw (seen_term c.args.pat.now c.in-Term.sym c.in-Term.args c.in-Term.pos c.deref-in-Term.result.now c.in-Term.is c.deref-in-Term.ensures.value) at (rw c.in-Expansion.is at c.in_ok-use_in_pattern-in-Term.ensures.among) in
     rw (seen_term c.args.pat.now c.in-Term.sym c.in-Term.args c.in-Term.pos c.deref-in-Term.result.now c.in-Term.is c.deref-in-Term.ensures.value)
     (stays_step (at ∷ []) (with_terms c.args.self.now made) all c.args.work.now.errors.items c.use_in_pattern.new.work.errors.items c.translate_pattern-in-Expansion.new.work.errors.items c.translate_pattern-in-Expansion.result
     here (among_made c.args.self.now made whole inside) c.in_ok-use_in_pattern-in-Term.ensures.places c.translate_pattern-in-Expansion.ensures.places)
@@ -345,10 +345,10 @@ translate_pattern-returns-in_err-parts-in-Parts-clause-places t c =
     let at = S.position c.in-Term.pos in
     let whole : List Position = pattern_positions (term_pattern name args at) in
     let all = with_terms c.args.self.now whole in
-    let here : AreAmong (at ∷ []) all = among_here c.args.self.now (at ∷ []) whole (among_first at (name.at ∷ patterns_positions args)) in
+    let here : OccurAmong (at ∷ []) all = among_here c.args.self.now (at ∷ []) whole (among_first at (name.at ∷ patterns_positions args)) in
     let same : c.deref-in-Parts.result.now ≡ c.deref-in-Term.result.now = c.deref-in-Parts.ensures.value ∙ sym c.deref-in-Term.ensures.value in
     let parts = with_terms c.args.self.now (patterns_positions args) in
-    let inside : AreAmong parts all = among_with c.args.self.now (patterns_positions args) whole (term_inside name args at) in
+    let inside : OccurAmong parts all = among_with c.args.self.now (patterns_positions args) whole (term_inside name args at) in
     let placed = rw same at c.in_err-parts-in-Parts.ensures.places in
     rw (stop_is c.from_residual-in_err-parts-in-Parts.result c.in_err-parts-in-Parts.field-0.0 c.from_residual-in_err-parts-in-Parts.ensures, seen_term c.args.pat.now c.in-Term.sym c.in-Term.args c.in-Term.pos c.deref-in-Term.result.now c.in-Term.is c.deref-in-Term.ensures.value)
     (stop_step (at ∷ []) parts all c.args.work.now.errors.items c.use_in_pattern.new.work.errors.items c.translate_args.new.work.errors.items c.in_err-parts-in-Parts.field-0.0 here inside c.in_ok-use_in_pattern-in-Term.ensures.places placed)
@@ -360,10 +360,10 @@ translate_pattern-returns-in_ok-parts-in-Parts-clause-places t c =
     let at = S.position c.in-Term.pos in
     let whole : List Position = pattern_positions (term_pattern name args at) in
     let all = with_terms c.args.self.now whole in
-    let here : AreAmong (at ∷ []) all = among_here c.args.self.now (at ∷ []) whole (among_first at (name.at ∷ patterns_positions args)) in
+    let here : OccurAmong (at ∷ []) all = among_here c.args.self.now (at ∷ []) whole (among_first at (name.at ∷ patterns_positions args)) in
     let same : c.deref-in-Parts.result.now ≡ c.deref-in-Term.result.now = c.deref-in-Parts.ensures.value ∙ sym c.deref-in-Term.ensures.value in
     let parts = with_terms c.args.self.now (patterns_positions args) in
-    let inside : AreAmong parts all = among_with c.args.self.now (patterns_positions args) whole (term_inside name args at) in
+    let inside : OccurAmong parts all = among_with c.args.self.now (patterns_positions args) whole (term_inside name args at) in
     let placed = rw same at c.in_ok-parts-in-Parts.ensures.places in
     rw (seen_term c.args.pat.now c.in-Term.sym c.in-Term.args c.in-Term.pos c.deref-in-Term.result.now c.in-Term.is c.deref-in-Term.ensures.value)
     (notes_step (at ∷ []) parts all c.args.work.now.errors.items c.use_in_pattern.new.work.errors.items c.translate_args.new.work.errors.items here inside c.in_ok-use_in_pattern-in-Term.ensures.places placed)
@@ -372,7 +372,7 @@ pub translate_pattern-returns-in_err-parts-in-And-clause-places : goal.translate
 translate_pattern-returns-in_err-parts-in-And-clause-places t c =
     let parts = S.pattern_views c.deref-in-And.result.now in
     let at = S.position c.in-And.pos in
-    let inside : AreAmong (with_terms c.args.self.now (patterns_positions parts)) (with_terms c.args.self.now (pattern_positions (and_pattern parts at))) = among_with c.args.self.now (patterns_positions parts) (pattern_positions (and_pattern parts at)) (and_inside parts at) in
+    let inside : OccurAmong (with_terms c.args.self.now (patterns_positions parts)) (with_terms c.args.self.now (pattern_positions (and_pattern parts at))) = among_with c.args.self.now (patterns_positions parts) (pattern_positions (and_pattern parts at)) (and_inside parts at) in
     rw (stop_is c.from_residual-in_err-parts-in-And.result c.in_err-parts-in-And.field-0.0 c.from_residual-in_err-parts-in-And.ensures, seen_and c.args.pat.now c.in-And.subpats c.in-And.pos c.deref-in-And.result.now c.in-And.is c.deref-in-And.ensures.value)
     (stop_among (with_terms c.args.self.now (patterns_positions parts)) (with_terms c.args.self.now (pattern_positions (and_pattern parts at))) c.args.work.now.errors.items c.translate_each.new.work.errors.items c.in_err-parts-in-And.field-0.0 inside c.in_err-parts-in-And.ensures.places)
 
@@ -380,5 +380,5 @@ pub translate_pattern-returns-in_ok-parts-in-And-clause-places : goal.translate_
 translate_pattern-returns-in_ok-parts-in-And-clause-places t c =
     let parts = S.pattern_views c.deref-in-And.result.now in
     let at = S.position c.in-And.pos in
-    let inside : AreAmong (with_terms c.args.self.now (patterns_positions parts)) (with_terms c.args.self.now (pattern_positions (and_pattern parts at))) = among_with c.args.self.now (patterns_positions parts) (pattern_positions (and_pattern parts at)) (and_inside parts at) in
+    let inside : OccurAmong (with_terms c.args.self.now (patterns_positions parts)) (with_terms c.args.self.now (pattern_positions (and_pattern parts at))) = among_with c.args.self.now (patterns_positions parts) (pattern_positions (and_pattern parts at)) (and_inside parts at) in
     rw (seen_and c.args.pat.now c.in-And.subpats c.in-And.pos c.deref-in-And.result.now c.in-And.is c.deref-in-And.ensures.value) (notes_among (with_terms c.args.self.now (patterns_positions parts)) (with_terms c.args.self.now (pattern_positions (and_pattern parts at))) c.args.work.now.errors.items c.translate_each.new.work.errors.items inside c.in_ok-parts-in-And.ensures.places)

@@ -1,5 +1,6 @@
 use Rattle.std.proofs.Common.{◌≡◌, length, option_map, rules, refl}
 use Rattle.isle_typed.specs.RuleViews.{rule_view, rule_views}
+use Rattle.isle_rules.proofs.NamedLimits.{rule_named}
 use Rattle.isle_rules.proofs.RuleErrorSteps.{rule_noted}
 use Rattle.isle_rules.proofs.RuleEnds.{rule_added, rule_left_out}
 use Rattle.isle_base.specs.SyntaxViews.{definition_view, rule_view as tree_view}
@@ -32,6 +33,16 @@ pub returns-clause-notes : goal.returns-clause-notes
 returns-clause-notes c =
     rw c.in-Rule.is
     (rule_noted c.args.self.now c.args.tyenv.now c.collect_rule.new.tyenv c.requires c.args.work.now.errors.items c.collect_rule.new.work.errors.items c.len.result c.in-Rule.rule (option_map rule_view c.in_ok-made.field-0) c.in_ok-made.ensures.ends)
+
+pub returns-in_default-2-clause-named : goal.returns-in_default-2-clause-named
+returns-in_default-2-clause-named c =
+    rw c.in-Rule.is
+    (rule_named c.args.self.now c.args.tyenv.now c.collect_rule.new.tyenv c.requires c.args.work.now.errors.items c.collect_rule.new.work.errors.items c.len.result c.in-Rule.rule (option_map rule_view c.in_ok-made.field-0) c.in_ok-made.ensures.ends)
+
+pub returns-clause-named : goal.returns-clause-named
+returns-clause-named c =
+    rw c.in-Rule.is
+    (rule_named c.args.self.now c.args.tyenv.now c.collect_rule.new.tyenv c.requires c.args.work.now.errors.items c.collect_rule.new.work.errors.items c.len.result c.in-Rule.rule (option_map rule_view c.in_ok-made.field-0) c.in_ok-made.ensures.ends)
 
 pub returns-in_default-2-clause-places : goal.returns-in_default-2-clause-places
 returns-in_default-2-clause-places c =

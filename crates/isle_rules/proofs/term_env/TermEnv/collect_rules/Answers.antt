@@ -3,9 +3,10 @@ use Rattle.std.proofs.lemmas.List.{drop_all}
 use Rattle.isle_base.specs.SyntaxViews.{definition_views, definition_view}
 use Rattle.isle_model.specs.lists.TermTable.{rule_trees}
 use Rattle.isle_rules.proofs.Readings.{keep_none, keep_on}
+use Rattle.isle_rules.proofs.NamedLimits.{none_named, next_named, all_named}
 use Rattle.isle_rules.proofs.RuleErrorSteps.{none_noted, next_noted}
 use Rattle.isle_rules.proofs.RuleListSteps.{first_reading, next_reading, last_reading}
-use Rattle.isle_base.specs.Positions.{AreAmong, definition_positions, positions_of}
+use Rattle.isle_base.specs.Positions.{OccurAmong, definition_positions, positions_of}
 use Rattle.isle_base.proofs.Positioned.{among_same, among_both, notes_nothing}
 use Rattle.isle_rules.specs.RulePositions.{with_terms}
 use Rattle.isle_typed.specs.RuleViews.{rule_views}
@@ -20,6 +21,7 @@ loop-def-init c = (
   keep_none c.args.tyenv.now c.requires,
   first_reading c.args.self.now c.args.tyenv.now c.args.work.now.errors.items (rule_trees (definition_views c.args.defs.now)) c.in_ok-rules.rules.items c.in_ok-rules.ensures.items,
   none_noted c.args.self.now c.args.tyenv.now c.args.work.now.errors.items (rule_trees (definition_views c.args.defs.now)),
+  none_named c.args.self.now c.args.tyenv.now c.args.work.now.errors.items,
   notes_nothing _ _ _ refl,
   rw c.in_ok-rules.ensures.items (among_nothing (positions_of (definition_views c.args.defs.now))),
 )
@@ -31,20 +33,22 @@ loop-def-preserved c = (
       c.loop-def.invariant.1 c.in_ok-collect_definition.ensures.reads,
   next_noted c.args.self.now c.args.tyenv.now c.loop-def.tyenv c.loop-def.invariant.0 c.args.work.now.errors.items c.loop-def.work.errors.items c.collect_definition.new.work.errors.items c.args.defs.now c.loop-def.def-index c.def-item.result c.loop-def-test.true c.def-item.is
       c.loop-def.invariant.2 c.in_ok-collect_definition.ensures.notes,
+  next_named c.args.self.now c.args.tyenv.now c.loop-def.tyenv c.loop-def.invariant.0 c.loop-def.work.errors.items c.collect_definition.new.work.errors.items c.args.defs.now c.loop-def.def-index c.def-item.result c.loop-def-test.true c.def-item.is
+      c.loop-def.invariant.3 c.in_ok-collect_definition.ensures.notes c.in_ok-collect_definition.ensures.named,
   (
       let env = c.args.self.now in
       let all = positions_of (definition_views c.args.defs.now) in
       let one = definition_positions (definition_view c.def-item.result) in
-      let inside : AreAmong one all = each_inside definition_positions definition_view c.args.defs.now c.loop-def.def-index c.def-item.result c.loop-def-test.true c.def-item.is in
-      notes_step (with_terms env all) (with_terms env one) (with_terms env all) c.args.work.now.errors.items c.loop-def.work.errors.items c.collect_definition.new.work.errors.items (among_same (with_terms env all)) (among_with env one all inside) c.loop-def.invariant.3 c.in_ok-collect_definition.ensures.places
+      let inside : OccurAmong one all = each_inside definition_positions definition_view c.args.defs.now c.loop-def.def-index c.def-item.result c.loop-def-test.true c.def-item.is in
+      notes_step (with_terms env all) (with_terms env one) (with_terms env all) c.args.work.now.errors.items c.loop-def.work.errors.items c.collect_definition.new.work.errors.items (among_same (with_terms env all)) (among_with env one all inside) c.loop-def.invariant.4 c.in_ok-collect_definition.ensures.places
       ),
   (
       let env = c.args.self.now in
       let all = positions_of (definition_views c.args.defs.now) in
       let one = definition_positions (definition_view c.def-item.result) in
-      let inside : AreAmong one all = each_inside definition_positions definition_view c.args.defs.now c.loop-def.def-index c.def-item.result c.loop-def-test.true c.def-item.is in
+      let inside : OccurAmong one all = each_inside definition_positions definition_view c.args.defs.now c.loop-def.def-index c.def-item.result c.loop-def-test.true c.def-item.is in
       let before = rules_at (rule_views c.loop-def.rules.items) in
-      among_both (rules_at (rule_views c.collect_definition.new.rules.items)) (before ++ one) all c.in_ok-collect_definition.ensures.stand (among_joined before one all c.loop-def.invariant.4 inside)
+      among_both (rules_at (rule_views c.collect_definition.new.rules.items)) (before ++ one) all c.in_ok-collect_definition.ensures.stand (among_joined before one all c.loop-def.invariant.5 inside)
       ),
 )
 
@@ -53,10 +57,14 @@ returns-clause-reads c =
     last_reading c.args.self.now c.args.tyenv.now c.loop-def.tyenv c.args.work.now.errors.items c.loop-def.work.errors.items (rule_trees (definition_views c.args.defs.now)) c.loop-def.rules.items
     (rw (drop_all c.loop-def.def-index c.args.defs.now c.loop-def-test.false) at c.loop-def.invariant.1)
 
+pub returns-clause-named : goal.returns-clause-named
+returns-clause-named c =
+    all_named c.args.self.now c.args.tyenv.now c.loop-def.work.errors.items c.args.defs.now c.loop-def.def-index c.loop-def-test.false c.loop-def.invariant.3
+
 pub returns-clause-places : goal.returns-clause-places
 returns-clause-places c =
-    c.loop-def.invariant.3
+    c.loop-def.invariant.4
 
 pub returns-clause-stand : goal.returns-clause-stand
 returns-clause-stand c =
-    c.loop-def.invariant.4
+    c.loop-def.invariant.5

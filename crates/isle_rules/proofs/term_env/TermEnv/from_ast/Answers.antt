@@ -1,11 +1,13 @@
 use Rattle.std.proofs.Common.{◌++◌, All, refl, ◌∙◌}
 use Rattle.isle_base.specs.SyntaxViews.{definition_views}
 use Rattle.isle_model.specs.claims.Refusals.{PassedInReading}
-use Rattle.isle_base.specs.Positions.{StandsAt, positions_of}
+use Rattle.isle_base.specs.Positions.{ErrorStandsAt, positions_of}
 use Rattle.isle_types.specs.EnvViews.{environment_view}
 use Rattle.isle_types.specs.TypePositions.{types_positions}
+use Rattle.isle_base.specs.ErrorViews.{error_views}
 use Rattle.isle_rules.specs.RulesRead.{rules_of}
-use Rattle.isle_rules.proofs.RulesRefused.{passed_on, limits_named, named_by_none, refused_by_rules, refused_by_terms}
+use Rattle.isle_rules.proofs.FirstPastLimits.{first_named}
+use Rattle.isle_rules.proofs.RulesRefused.{passed_on, limits_named, named_by_none, past_limits_named, no_rule_to_name, no_first_to_name, refused_by_rules, refused_by_terms}
 use Rattle.isle_rules.proofs.EnvironmentsAtEnd.{left_in_the_end, all_read, could_be_read, whatever, is_nothing, is_something, wrong_in_the_end, right_in_the_end, read_by_terms}
 use Rattle.isle_rules.proofs.PlacesAtEnd.{stand_in_the_end}
 use Rattle.isle_rules.proofs.term_env.TermEnv.from_ast.Goals as goal
@@ -46,6 +48,23 @@ pub returns-in_err-table-clause-limits : goal.returns-in_err-table-clause-limits
 returns-in_err-table-clause-limits g c =
     named_by_none (PassedInReading g.read (definition_views c.args.defs.now) c.args.expand_internal_extractors) c.from_residual.result c.in_err-table.field-0.0 c.from_residual.ensures c.in_err-table.ensures.no_limit
 
+pub returns-then-not-is_empty-clause-named : goal.returns-then-not-is_empty-clause-named
+returns-then-not-is_empty-clause-named g c =
+    past_limits_named g.read c.requires.0 (definition_views c.args.defs.now) c.in_ok-table.table c.from_ast.new.tyenv c.in_ok-table.ensures.answers.1 c.with_terms-env.result c.with_terms-env.ensures.terms c.args.expand_internal_extractors c.with_terms-env.ensures.expand
+    c.in_ok-errors.errors.items c.in_ok-errors.ensures.named
+
+pub returns-in_err-table-clause-named : goal.returns-in_err-table-clause-named
+returns-in_err-table-clause-named g c =
+    no_rule_to_name g.read (definition_views c.args.defs.now) c.args.expand_internal_extractors c.from_residual.result c.in_err-table.field-0.0 c.from_residual.ensures c.in_err-table.ensures.refused
+
+pub returns-then-not-is_empty-clause-first : goal.returns-then-not-is_empty-clause-first
+returns-then-not-is_empty-clause-first g c =
+    first_named g.read c.requires.0 (definition_views c.args.defs.now) c.args.expand_internal_extractors (error_views c.in_ok-errors.errors.items) (returns-then-not-is_empty-clause-named g c)
+
+pub returns-in_err-table-clause-first : goal.returns-in_err-table-clause-first
+returns-in_err-table-clause-first g c =
+    no_first_to_name g.read (definition_views c.args.defs.now) c.args.expand_internal_extractors c.from_residual.result c.in_err-table.field-0.0 c.from_residual.ensures c.in_err-table.ensures.refused
+
 pub returns-then-not-is_empty-clause-refused : goal.returns-then-not-is_empty-clause-refused
 returns-then-not-is_empty-clause-refused g c =
     let wrong = returns-then-not-is_empty-clause-answers g c in
@@ -64,4 +83,4 @@ returns-then-not-is_empty-clause-places g c =
 pub returns-in_err-table-clause-places : goal.returns-in_err-table-clause-places
 returns-in_err-table-clause-places g c =
     let all = positions_of (definition_views c.args.defs.now) ++ types_positions g.read.known.types in
-    passed_on (All (StandsAt all)) (All (StandsAt all)) (λ es h. h) c.from_residual.result c.in_err-table.field-0.0 c.from_residual.ensures c.in_err-table.ensures.places
+    passed_on (All (ErrorStandsAt all)) (All (ErrorStandsAt all)) (λ es h. h) c.from_residual.result c.in_err-table.field-0.0 c.from_residual.ensures c.in_err-table.ensures.places

@@ -8,10 +8,11 @@ use Rattle.isle_rules.specs.RuleLists.{CollectsRules}
 use Rattle.isle_reports.specs.RuleNaming.{MapsNames, AreDefined, rules_at, terms_at}
 use Rattle.isle_typed.specs.RuleViews.{rule_views}
 use Rattle.isle_rules.specs.RuleErrors.{NotesOfRules}
+use Rattle.isle_rules.proofs.NamedLimits.{named_to_the_end}
 use Rattle.isle_rules.proofs.RulesRefused.{mapped_noted, noted_to_the_end}
 use Rattle.isle_rules.proofs.Noted.{may_both, may_check}
 use Rattle.isle_rules.proofs.RulesAtEnd.{rules_end}
-use Rattle.isle_base.specs.Positions.{NotesAt, AreAmong, positions_of}
+use Rattle.isle_base.specs.Positions.{NotesAt, OccurAmong, positions_of}
 use Rattle.isle_base.proofs.Positioned.{among_same, among_both, among_right}
 use Rattle.isle_rules.specs.RulePositions.{with_terms}
 use Rattle.isle_terms.specs.TermPositions.{terms_positions}
@@ -52,6 +53,22 @@ returns-clause-notes c =
     noted_to_the_end env old (rule_trees defs) found last read
     (may_both found named last names (may_both named defined last (may_check c.in_ok-check_defined.ensures.checks) (may_check c.in_ok-check_constructors.ensures.checks)))
 
+pub returns-clause-named : goal.returns-clause-named
+returns-clause-named c =
+    let defs = definition_views c.args.defs.now in
+    let env = c.args.self.now in
+    let old = c.args.tyenv.now in
+    let found = c.collect_rules.new.work.errors.items in
+    let named = c.map_names.new.errors.items in
+    let defined = c.check_defined.new.errors.items in
+    let last = c.check_constructors.new.errors.items in
+    let by_name = c.in_ok-rule_map.rule_map in
+    let rules = rule_views c.deref-2.result.now in
+    let mapped = subst (λ es. MapsNames es named rules by_name) (ap (λ v. v.items) c.replace-errors.ensures.value) c.in_ok-rule_map.ensures.maps in
+    let names = mapped_noted found named rules by_name mapped in
+    named_to_the_end env old (rule_trees defs) found last c.in_ok-rules.ensures.named
+    (may_both found named last names (may_both named defined last (may_check c.in_ok-check_defined.ensures.checks) (may_check c.in_ok-check_constructors.ensures.checks)))
+
 pub returns-clause-places : goal.returns-clause-places
 returns-clause-places c =
     let env = c.args.self.now in
@@ -66,11 +83,11 @@ returns-clause-places c =
     let rules = rules_at (rule_views c.deref-2.result.now) in
     let same : rules ≡ rules_at (rule_views typed) =
     ap (λ rs. rules_at (rule_views rs)) c.deref-2.ensures.value ∙ ap rules_at c.in_ok-name_rules.ensures.names ∙ named_places (term_views c.deref.result.now) (rule_views typed) in
-    let at_rules : AreAmong rules all = subst (λ ps. AreAmong ps all) (sym same) (among_here env (rules_at (rule_views typed)) defs c.in_ok-rules.ensures.stand) in
+    let at_rules : OccurAmong rules all = subst (λ ps. OccurAmong ps all) (sym same) (among_here env (rules_at (rule_views typed)) defs c.in_ok-rules.ensures.stand) in
     let mapped = subst (λ es. NotesAt rules es named) (ap (λ v. v.items) c.replace-errors.ensures.value) c.in_ok-rule_map.ensures.places in
     let terms = terms_at (term_views c.deref-3.result.now) in
-    let at_terms : AreAmong terms all =
-    subst (λ ts. AreAmong (terms_at (term_views ts)) all) (sym c.deref-3.ensures.value)
+    let at_terms : OccurAmong terms all =
+    subst (λ ts. OccurAmong (terms_at (term_views ts)) all) (sym c.deref-3.ensures.value)
     (among_both (terms_at (term_views env.terms.items)) (terms_positions (term_views env.terms.items)) all (declared_inside (term_views env.terms.items)) (among_right defs (terms_positions (term_views env.terms.items)))) in
     let by_name = notes_step all rules all [] found named (among_same all) at_rules read mapped in
     let by_terms = notes_step all terms all [] named defined (among_same all) at_terms by_name c.in_ok-check_defined.ensures.places in

@@ -6,7 +6,7 @@ use Rattle.isle_typed.specs.RuleViews.{rule_view}
 use Rattle.isle_rules.specs.Translating.{standing}
 use Rattle.isle_rules.proofs.Readings.{stop_is}
 use Rattle.isle_rules.proofs.RuleForms.{no_root, no_term, not_declared, no_sides, rule_stops, rule_done}
-use Rattle.isle_base.specs.Positions.{AreAmong, rule_positions}
+use Rattle.isle_base.specs.Positions.{OccurAmong, rule_positions}
 use Rattle.isle_base.proofs.Positioned.{among_same, notes_among}
 use Rattle.isle_rules.specs.RulePositions.{with_terms}
 use Rattle.isle_rules.proofs.Placed.{among_here, notes_step}
@@ -48,7 +48,7 @@ returns-in_default-clause-places c =
     let env = c.args.self.now in
     let tree = S.rule_view c.args.rule.now in
     let all = with_terms env (rule_positions tree) in
-    let here : AreAmong (tree.at ∷ []) all = among_here env (tree.at ∷ []) (rule_positions tree) (rule_at tree) in
+    let here : OccurAmong (tree.at ∷ []) all = among_here env (tree.at ∷ []) (rule_positions tree) (rule_at tree) in
     notes_among (tree.at ∷ []) all c.args.work.now.errors.items c.report.new.errors.items here c.in_ok-report.ensures.places
 
 pub returns-in_default-find_term-clause-places : goal.returns-in_default-find_term-clause-places
@@ -56,7 +56,7 @@ returns-in_default-find_term-clause-places c =
     let env = c.args.self.now in
     let tree = S.rule_view c.args.rule.now in
     let all = with_terms env (rule_positions tree) in
-    let here : AreAmong (tree.at ∷ []) all = among_here env (tree.at ∷ []) (rule_positions tree) (rule_at tree) in
+    let here : OccurAmong (tree.at ∷ []) all = among_here env (tree.at ∷ []) (rule_positions tree) (rule_at tree) in
     notes_among (tree.at ∷ []) all c.args.work.now.errors.items c.report-in_default-find_term.new.errors.items here c.in_ok-report-2.ensures.places
 
 pub returns-in_default-flags_of-clause-places : goal.returns-in_default-flags_of-clause-places
@@ -64,7 +64,7 @@ returns-in_default-flags_of-clause-places c =
     let env = c.args.self.now in
     let tree = S.rule_view c.args.rule.now in
     let all = with_terms env (rule_positions tree) in
-    let here : AreAmong (tree.at ∷ []) all = among_here env (tree.at ∷ []) (rule_positions tree) (rule_at tree) in
+    let here : OccurAmong (tree.at ∷ []) all = among_here env (tree.at ∷ []) (rule_positions tree) (rule_at tree) in
     notes_among (tree.at ∷ []) all c.args.work.now.errors.items c.report-in_default-flags_of.new.errors.items here c.in_ok-report-3.ensures.places
 
 pub returns-in_err-made-clause-places : goal.returns-in_err-made-clause-places
@@ -80,7 +80,7 @@ returns-clause-places c =
     let env = c.args.self.now in
     let tree = S.rule_view c.args.rule.now in
     let all = with_terms env (rule_positions tree) in
-    let here : AreAmong (tree.at ∷ []) all = among_here env (tree.at ∷ []) (rule_positions tree) (rule_at tree) in
+    let here : OccurAmong (tree.at ∷ []) all = among_here env (tree.at ∷ []) (rule_positions tree) (rule_at tree) in
     notes_step all (tree.at ∷ []) all c.args.work.now.errors.items c.translate_sides.new.work.errors.items c.check_priority.new.errors.items (among_same all) here c.in_ok-made.ensures.places c.in_ok-check_priority.ensures.places
 
 pub returns-clause-stands : goal.returns-clause-stands

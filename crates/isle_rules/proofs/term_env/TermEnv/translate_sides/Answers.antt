@@ -9,7 +9,7 @@ use Rattle.isle_rules.proofs.Readings.{stop_is}
 use Rattle.isle_rules.proofs.SidesForms.{sides_first_stops, sides_second_stops, sides_third_stops, sides_reported, sides_done}
 use Rattle.std.specs.List.{flat_map}
 use Rattle.isle_model.specs.lists.Syntax.{Position}
-use Rattle.isle_base.specs.Positions.{AreAmong, patterns_positions, expr_positions, iflet_positions, rule_positions}
+use Rattle.isle_base.specs.Positions.{OccurAmong, patterns_positions, expr_positions, iflet_positions, rule_positions}
 use Rattle.isle_base.proofs.Positioned.{among_same}
 use Rattle.isle_rules.specs.RulePositions.{with_terms}
 use Rattle.isle_rules.proofs.Placed.{among_here, among_with, stop_among, stop_step, notes_step}
@@ -61,7 +61,7 @@ returns-in_err-parts-clause-places c =
     let tree = S.rule_view c.args.rule.now in
     let all = with_terms env (rule_positions tree) in
     let args : List Position = tree.at ∷ patterns_positions (S.pattern_views c.args.args.now) in
-    let first : AreAmong (with_terms env args) all = among_with env args (rule_positions tree) (rule_root tree (S.pattern_views c.args.args.now) c.requires.root) in
+    let first : OccurAmong (with_terms env args) all = among_with env args (rule_positions tree) (rule_root tree (S.pattern_views c.args.args.now) c.requires.root) in
     rw (stop_is c.from_residual.result c.in_err-parts.field-0.0 c.from_residual.ensures)
     (stop_among (with_terms env args) all c.args.work.now.errors.items c.translate_root.new.work.errors.items c.in_err-parts.field-0.0 first c.in_err-parts.ensures.places)
 
@@ -71,9 +71,9 @@ returns-in_err-iflets-clause-places c =
     let tree = S.rule_view c.args.rule.now in
     let all = with_terms env (rule_positions tree) in
     let args : List Position = tree.at ∷ patterns_positions (S.pattern_views c.args.args.now) in
-    let first : AreAmong (with_terms env args) all = among_with env args (rule_positions tree) (rule_root tree (S.pattern_views c.args.args.now) c.requires.root) in
+    let first : OccurAmong (with_terms env args) all = among_with env args (rule_positions tree) (rule_root tree (S.pattern_views c.args.args.now) c.requires.root) in
     let iflets = flat_map iflet_positions (map S.iflet_view c.args.rule.now.iflets.items) in
-    let second : AreAmong (with_terms env iflets) all = among_with env iflets (rule_positions tree) (rule_iflets tree) in
+    let second : OccurAmong (with_terms env iflets) all = among_with env iflets (rule_positions tree) (rule_iflets tree) in
     rw (stop_is c.from_residual-in_err-iflets.result c.in_err-iflets.field-0.0 c.from_residual-in_err-iflets.ensures)
     (stop_step (with_terms env args) (with_terms env iflets) all c.args.work.now.errors.items c.translate_root.new.work.errors.items c.translate_iflets.new.work.errors.items c.in_err-iflets.field-0.0 first second c.in_ok-parts.ensures.places (rw c.deref.ensures.value at c.in_err-iflets.ensures.places))
 
@@ -83,11 +83,11 @@ returns-in_err-value-clause-places c =
     let tree = S.rule_view c.args.rule.now in
     let all = with_terms env (rule_positions tree) in
     let args : List Position = tree.at ∷ patterns_positions (S.pattern_views c.args.args.now) in
-    let first : AreAmong (with_terms env args) all = among_with env args (rule_positions tree) (rule_root tree (S.pattern_views c.args.args.now) c.requires.root) in
+    let first : OccurAmong (with_terms env args) all = among_with env args (rule_positions tree) (rule_root tree (S.pattern_views c.args.args.now) c.requires.root) in
     let iflets = flat_map iflet_positions (map S.iflet_view c.args.rule.now.iflets.items) in
-    let second : AreAmong (with_terms env iflets) all = among_with env iflets (rule_positions tree) (rule_iflets tree) in
+    let second : OccurAmong (with_terms env iflets) all = among_with env iflets (rule_positions tree) (rule_iflets tree) in
     let value = expr_positions tree.expr in
-    let third : AreAmong value all = among_here env value (rule_positions tree) (rule_value tree) in
+    let third : OccurAmong value all = among_here env value (rule_positions tree) (rule_value tree) in
     let before = notes_step (with_terms env args) (with_terms env iflets) all c.args.work.now.errors.items c.translate_root.new.work.errors.items c.translate_iflets.new.work.errors.items first second c.in_ok-parts.ensures.places (rw c.deref.ensures.value at c.in_ok-iflets.ensures.places) in
     rw (stop_is c.from_residual-in_err-value.result c.in_err-value.field-0.0 c.from_residual-in_err-value.ensures)
     (stop_step all value all c.args.work.now.errors.items c.translate_iflets.new.work.errors.items c.translate_expr.new.work.errors.items c.in_err-value.field-0.0 (among_same all) third before c.in_err-value.ensures.places)
@@ -98,11 +98,11 @@ returns-in_default-clause-places c =
     let tree = S.rule_view c.args.rule.now in
     let all = with_terms env (rule_positions tree) in
     let args : List Position = tree.at ∷ patterns_positions (S.pattern_views c.args.args.now) in
-    let first : AreAmong (with_terms env args) all = among_with env args (rule_positions tree) (rule_root tree (S.pattern_views c.args.args.now) c.requires.root) in
+    let first : OccurAmong (with_terms env args) all = among_with env args (rule_positions tree) (rule_root tree (S.pattern_views c.args.args.now) c.requires.root) in
     let iflets = flat_map iflet_positions (map S.iflet_view c.args.rule.now.iflets.items) in
-    let second : AreAmong (with_terms env iflets) all = among_with env iflets (rule_positions tree) (rule_iflets tree) in
+    let second : OccurAmong (with_terms env iflets) all = among_with env iflets (rule_positions tree) (rule_iflets tree) in
     let value = expr_positions tree.expr in
-    let third : AreAmong value all = among_here env value (rule_positions tree) (rule_value tree) in
+    let third : OccurAmong value all = among_here env value (rule_positions tree) (rule_value tree) in
     let before = notes_step (with_terms env args) (with_terms env iflets) all c.args.work.now.errors.items c.translate_root.new.work.errors.items c.translate_iflets.new.work.errors.items first second c.in_ok-parts.ensures.places (rw c.deref.ensures.value at c.in_ok-iflets.ensures.places) in
     notes_step all value all c.args.work.now.errors.items c.translate_iflets.new.work.errors.items c.translate_expr.new.work.errors.items (among_same all) third before c.in_ok-value.ensures.places
 
@@ -112,10 +112,10 @@ returns-clause-places c =
     let tree = S.rule_view c.args.rule.now in
     let all = with_terms env (rule_positions tree) in
     let args : List Position = tree.at ∷ patterns_positions (S.pattern_views c.args.args.now) in
-    let first : AreAmong (with_terms env args) all = among_with env args (rule_positions tree) (rule_root tree (S.pattern_views c.args.args.now) c.requires.root) in
+    let first : OccurAmong (with_terms env args) all = among_with env args (rule_positions tree) (rule_root tree (S.pattern_views c.args.args.now) c.requires.root) in
     let iflets = flat_map iflet_positions (map S.iflet_view c.args.rule.now.iflets.items) in
-    let second : AreAmong (with_terms env iflets) all = among_with env iflets (rule_positions tree) (rule_iflets tree) in
+    let second : OccurAmong (with_terms env iflets) all = among_with env iflets (rule_positions tree) (rule_iflets tree) in
     let value = expr_positions tree.expr in
-    let third : AreAmong value all = among_here env value (rule_positions tree) (rule_value tree) in
+    let third : OccurAmong value all = among_here env value (rule_positions tree) (rule_value tree) in
     let before = notes_step (with_terms env args) (with_terms env iflets) all c.args.work.now.errors.items c.translate_root.new.work.errors.items c.translate_iflets.new.work.errors.items first second c.in_ok-parts.ensures.places (rw c.deref.ensures.value at c.in_ok-iflets.ensures.places) in
     notes_step all value all c.args.work.now.errors.items c.translate_iflets.new.work.errors.items c.translate_expr.new.work.errors.items (among_same all) third before c.in_ok-value.ensures.places

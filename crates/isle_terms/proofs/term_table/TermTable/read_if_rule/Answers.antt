@@ -2,13 +2,13 @@ use Rattle.std.proofs.Common.{[], ◌∷◌, ◌++◌, refl, subst, sym}
 use Rattle.std.specs.List.{flat_map}
 use Rattle.std.proofs.lemmas.Result.{on_ok_weaker}
 use Rattle.isle_model.specs.lists.Syntax.{RuleTree}
-use Rattle.isle_base.specs.Positions.{NotesAt, AreAmong, definition_positions, expr_positions, iflet_positions, pattern_positions, rule_name_positions, rule_positions}
+use Rattle.isle_base.specs.Positions.{NotesAt, OccurAmong, definition_positions, expr_positions, iflet_positions, pattern_positions, rule_name_positions, rule_positions}
 use Rattle.isle_base.specs.SyntaxViews.{definition_view, rule_view}
 use Rattle.isle_base.proofs.Positioned.{among_first, notes_among}
 use Rattle.isle_terms.proofs.PlacesNoted.{placed_same}
 use Rattle.isle_terms.proofs.term_table.TermTable.read_if_rule.Goals as goal
 
-rule_at : (r : RuleTree) → AreAmong (r.at ∷ []) (rule_positions r)
+rule_at : (r : RuleTree) → OccurAmong (r.at ∷ []) (rule_positions r)
 rule_at r = among_first r.at (rule_name_positions r.name ++ pattern_positions r.pattern ++ flat_map iflet_positions r.iflets ++ expr_positions r.expr)
 
 pub returns-in_default-clause-placed : goal.returns-in_default-clause-placed

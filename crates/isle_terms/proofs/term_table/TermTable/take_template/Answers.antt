@@ -5,7 +5,7 @@ use Rattle.std.proofs.lemmas.Option.{same_Some}
 use Rattle.isle_model.specs.lists.Tables.{TermEntry, internal_extractor}
 use Rattle.isle_model.specs.lists.TermTable.{arguments_in, extractor_template}
 use Rattle.isle_base.specs.SyntaxViews.{extractor_view, pattern_view, position}
-use Rattle.isle_base.specs.Positions.{AreAmong, extractor_positions, pattern_positions}
+use Rattle.isle_base.specs.Positions.{OccurAmong, extractor_positions, pattern_positions}
 use Rattle.isle_base.proofs.Positioned.{among_first, notes_among, notes_both}
 use Rattle.isle_terms.specs.TermPositions.{table_positions}
 use Rattle.isle_terms.proofs.PlacesNoted.{notes_at_term, placed_same, placed_set, taken_entry_among, template_in_extractor}
@@ -101,6 +101,6 @@ returns-clause-placed c =
     let x = extractor_view c.args.extractor.now in
     let p = pattern_view c.in_ok-template.template in
     let again : c.index_mut.result.now ≡ get_or items id c.index_mut.result.now = c.index_mut.ensures.value ∙ ap (λ k. get_or items k c.index_mut.result.now) c.index-5.ensures in
-    let of_extractor = subst (λ q. AreAmong (pattern_positions q) (extractor_positions x)) (sym c.in_ok-template.ensures) (template_in_extractor x) in
+    let of_extractor = subst (λ q. OccurAmong (pattern_positions q) (extractor_positions x)) (sym c.in_ok-template.ensures) (template_in_extractor x) in
     placed_set c.args.self.now _ id c.set_extractor.new.self c.index_mut.result.now (extractor_positions x) c.requires.there again (ap (λ k. set items k c.set_extractor.new.self) c.index-5.ensures)
     (taken_entry_among (internal_extractor p) (term_view c.set_extractor.new.self) (term_view c.index_mut.result.now) (extractor_positions x) of_extractor c.set_extractor.ensures)
