@@ -1,25 +1,27 @@
--- Rules that ask different things of one site overlap nowhere.
-use Rattle.std.proofs.Common.{◌≡◌, ◌≢◌, ℕ, zero, suc, ◌+◌, ◌<◌, option_map, ◌==◌, get_or, inl, inr, replicate, Bool, true, false, not, ◌&&◌, List, [], ◌∷◌, ◌++◌, map, length, Option, Some, None, slice_get, int_lt, nat_le, if◌then◌else◌, refl, sym, ap, ◌∙◌, subst, eq-eqb, arith}
+-- Rules that ask different things of one site overlap nowhere, and keys by what is asked there tell them apart.
+use Rattle.std.proofs.Common.{take, ◌≡◌, ◌≢◌, ℕ, zero, suc, ◌+◌, ◌<◌, ◌==◌, get_or, inl, inr, replicate, true, false, not, ◌&&◌, List, [], ◌∷◌, ◌++◌, length, Option, Some, None, slice_get, int_lt, nat_le, if◌then◌else◌, refl, sym, ap, ◌∙◌, subst, eq-eqb, arith}
+use Rattle.std.specs.BTreeMap.{BTreeMap, get}
 use Rattle.std.specs.List.{list_any}
 use Rattle.std.specs.Ordering.{int_eq}
 use Rattle.std.proofs.lemmas.Bool.{cases_Bool, and_from}
 use Rattle.std.proofs.Math.Bool.{and-false}
-use Rattle.std.proofs.lemmas.List.{length-map, length-replicate, map-append}
-use Rattle.std.proofs.lemmas.Option.{same_Some, slice_get-get_or}
-use Rattle.isle_model.specs.sites.Sites as Sites
-use Rattle.isle_model.specs.sites.Sites.{Constraint, SetRule}
+use Rattle.std.proofs.lemmas.List.{length-append, length-replicate, map-append, take_more}
+use Rattle.std.proofs.lemmas.Option.{same_Some, slice_get_within}
+use Rattle.isle_model.specs.sites.Sites.{Constraint, is_variant, is_struct, is_bool, is_int, is_prim, is_present, SetRule}
 use Rattle.isle_model.specs.sites.Demands.{constraint_eq}
 use Rattle.isle_model.specs.sites.SetRules.{sites_differ, differs_at, overlap_between, overlap_wrongly, is_mask_of, may_both_match, is_subset, no_overlap, some_overlap, is_subset_of_sites}
 use Rattle.isle_model.specs.trees.Places.{constraint_at}
 use Rattle.isle_model.specs.trees.Best.{total_constraints}
-use Rattle.isle_model.proofs.Mapped.{get_map}
 use Rattle.isle_model.proofs.Members.{constraint_in, passes_any}
 use Rattle.isle_model.proofs.SameSites.{constraint_means, same_constraint}
 use Rattle.isle_overlap.specs.Comparisons.{wrong_pair, masked_pair}
+use Rattle.isle_model.proofs.Positions.{get_push_cases}
 use Rattle.isle_sets.specs.SiteViews.{constraint_view, set_rule_view, set_rule_views}
-use Rattle.isle_sets.specs.declared.trie_again.Constraint as C
 use Rattle.isle_sets.specs.declared.trie_again.Rule.{Rule}
-use Rattle.isle_overlap.specs.Keys.{AreApart, AreKeys, differ, key_views}
+use Rattle.isle_sets.specs.contracts.trie_again.ConstraintOrd.TheImpl.{ghosts}
+use Rattle.isle_sets.specs.declared.trie_again.Constraint as C
+use Rattle.isle_sets.specs.declared.trie_again.Constraint.TheVariants as T
+use Rattle.isle_overlap.specs.Keys.{AreApart, AreNumbered, IsNumbered, TellApart}
 
 -- two constraints of one site
 told : (as' bs : List (ℕ × Constraint)) (s : ℕ) (c d : Constraint) → constraint_at as' s ≡ Some c → constraint_at bs s ≡ Some d → constraint_eq c d ≡ false → sites_differ as' bs ≡ true
@@ -36,27 +38,51 @@ either_way c d n =
       | inr f ↦ f
     ]
 
-not_false : (b : Bool) → not b ≡ true → b ≡ false
-not_false true h = absurd (cc)
-not_false false h = refl
+-- a constraint by what it says
+abbrev of_view : Constraint → C.Constraint
+of_view (is_variant ty v fields) = T.Variant (record { 0 = ty }) (record { 0 = v }) fields
+of_view (is_struct ty fields) = T.Struct (record { 0 = ty }) fields
+of_view (is_bool b ty) = T.ConstBool b (record { 0 = ty })
+of_view (is_int z ty) = T.ConstInt z (record { 0 = ty })
+of_view (is_prim name) = T.ConstPrim (record { 0 = name })
+of_view is_present = T.Some
 
--- the view of the element at a place
-pub seen_at : {X Y : Type 0} (f : X → Y) (xs : List X) (i : ℕ) (x : X) → i < length xs → x ≡ get_or xs i x → slice_get (map f xs) i ≡ Some (f x)
-seen_at f xs i x l e = get_map f xs i x (slice_get-get_or xs i x l ∙ ap Some (sym e))
+back : (c : C.Constraint) → of_view (constraint_view c) ≡ c
+back (T.Variant ty v fields) = refl
+back (T.Struct ty fields) = refl
+back (T.ConstBool b ty) = refl
+back (T.ConstInt z ty) = refl
+back (T.ConstPrim name) = refl
+back T.Some = refl
 
--- rules whose keys differ
-pub keys_apart : (rules : List SetRule) (keys : List (Option Constraint)) (i j : ℕ) (a b : SetRule) (k l : Option Constraint)
-    → AreKeys rules keys → slice_get rules i ≡ Some a → slice_get rules j ≡ Some b → slice_get keys i ≡ Some k → slice_get keys j ≡ Some l → differ k l ≡ true → AreApart a b
-keys_apart rules keys i j a b (Some c) (Some d) h ai bj ki lj n =
-    let x = h.asked i a c ai ki in
-    let y = h.asked j b d bj lj in
-    let f = not_false (constraint_eq c d) n in
-    record {
-      first = told a.constraints b.constraints h.site c d x y f;
-      second = told b.constraints a.constraints h.site d c y x (either_way c d f);
-    }
-keys_apart rules keys i j a b (Some c) None h ai bj ki lj n = absurd (cc)
-keys_apart rules keys i j a b None l h ai bj ki lj n = absurd (cc)
+-- which says all of it
+says_all : (c d : C.Constraint) → constraint_view c ≡ constraint_view d → c ≡ d
+says_all c d e = sym (back c) ∙ ap of_view e ∙ back d
+
+-- two different numbers are of different constraints
+other_number : (numbers : BTreeMap C.Constraint ℕ) (c d : C.Constraint) (k l : ℕ) → get ghosts.cmp numbers c ≡ Some k → get ghosts.cmp numbers d ≡ Some l → k ≢ l
+    → constraint_eq (constraint_view c) (constraint_view d) ≡ false
+other_number numbers c d k l e f n =
+    elim (cases_Bool (constraint_eq (constraint_view c) (constraint_view d))) [
+      | inl t ↦
+          let same = says_all c d (constraint_means (constraint_view c) (constraint_view d) t) in
+          absurd (n (same_Some k l (sym e ∙ ap (get ghosts.cmp numbers) same ∙ f)))
+      | inr f ↦ f
+    ]
+
+-- rules whose numbers differ
+pub numbered_tell_apart : (numbers : BTreeMap C.Constraint ℕ) (site : ℕ) (rules : List SetRule) (keys : List (Option ℕ)) → AreNumbered numbers site rules keys → TellApart rules keys
+numbered_tell_apart numbers site rules keys h = record {
+  each = h.each;
+  apart = λ i j a b k l ai bj ki lj n.
+      let x = h.numbered i a k ai ki in
+      let y = h.numbered j b l bj lj in
+      let f = other_number numbers x.asked y.asked k l x.number y.number n in
+      record {
+        first = told a.constraints b.constraints site (constraint_view x.asked) (constraint_view y.asked) x.here y.here f;
+        second = told b.constraints a.constraints site (constraint_view y.asked) (constraint_view x.asked) y.here x.here (either_way (constraint_view x.asked) (constraint_view y.asked) f);
+      };
+}
 
 no_match : (a b : SetRule) → sites_differ a.constraints b.constraints ≡ true → overlap_between a b ≡ no_overlap
 no_match a b h = ap (λ t. if t then no_overlap else some_overlap (is_subset_of_sites a b)) h
@@ -75,47 +101,41 @@ apart_masked i a j b h =
     ap (λ t. (if t then (i, b.at) ∷ [] else []) ++ (if is_mask_of b a then (j, a.at) ∷ [] else [])) (no_mask a b h.first)
     ∙ ap (λ t. if t then (j, a.at) ∷ [] else []) (no_mask b a h.second)
 
--- what is asked of one site is a key
-pub asked_are_keys : (rules : List SetRule) (keys : List (Option Constraint)) (site : ℕ) → keys ≡ map (λ r. constraint_at r.constraints site) rules → AreKeys rules keys
-asked_are_keys rules keys site same = record {
-  site = site;
-  each = ap length same ∙ length-map rules (λ r. constraint_at r.constraints site);
-  asked = λ i r c e k. at_place i rules r c e (sym (ap (λ l. slice_get l i) same) ∙ k);
-}
+-- one more number
+pub numbered_more : (numbers : BTreeMap C.Constraint ℕ) (site : ℕ) (rules : List Rule) (i : ℕ) (d : Rule) (old new : List (Option ℕ)) (key : Option ℕ) → i < length rules
+    → AreNumbered numbers site (set_rule_views (take i rules)) old → new ≡ old ++ key ∷ [] → ((k : ℕ) → key ≡ Some k → IsNumbered numbers site (set_rule_view (get_or rules i d)) k)
+    → AreNumbered numbers site (set_rule_views (take (i + 1) rules)) new
+numbered_more numbers site rules i d old new key l h added this =
+    let v = set_rule_view (get_or rules i d) in
+    let upto = ap set_rule_views (take_more rules i d l) ∙ map-append set_rule_view (take i rules) (get_or rules i d ∷ []) in
+    subst (λ vs. AreNumbered numbers site vs new) (sym upto) (subst (AreNumbered numbers site (set_rule_views (take i rules) ++ v ∷ [])) (sym added) (both (set_rule_views (take i rules)) v h this))
   where
-    at_place : (i : ℕ) (rs : List SetRule) (r : SetRule) (c : Constraint) → slice_get rs i ≡ Some r → slice_get (map (λ r. constraint_at r.constraints site) rs) i ≡ Some (Some c) → constraint_at r.constraints site ≡ Some c
-    at_place i [] r c e k = absurd (cc)
-    at_place zero (x ∷ rs) r c e k = ap (λ y. constraint_at y.constraints site) (sym (same_Some x r e)) ∙ same_Some (constraint_at x.constraints site) (Some c) k
-    at_place (suc i) (x ∷ rs) r c e k = at_place i rs r c e k
+    both : (vs : List SetRule) (v : SetRule) → AreNumbered numbers site vs old → ((k : ℕ) → key ≡ Some k → IsNumbered numbers site v k) → AreNumbered numbers site (vs ++ v ∷ []) (old ++ key ∷ [])
+    both vs v h this = record {
+      each = length-append old (key ∷ []) ∙ ap (λ n. n + 1) h.each ∙ sym (length-append vs (v ∷ []));
+      numbered = λ j r k rj kj. elim (get_push_cases vs v r j rj) [
+        | inl before ↦ elim (get_push_cases old key (Some k) j kj) [
+          | inl known ↦ h.numbered j r k before known
+          | inr last ↦ absurd (let lt = slice_get_within vs j r before in let at = last.0 in let e = h.each in omega (arith, lt, at, e))
+        ]
+        | inr here ↦ elim (get_push_cases old key (Some k) j kj) [
+          | inl known ↦ absurd (let lt = slice_get_within old j (Some k) known in let at = here.0 in let e = h.each in omega (arith, lt, at, e))
+          | inr last ↦ subst (λ x. IsNumbered numbers site x k) here.1 (this k last.1)
+        ]
+      ];
+    }
 
-abbrev nothing : Option Constraint
+abbrev nothing : Option ℕ
 nothing = None
 
-says_nothing : (n i : ℕ) (c : Constraint) → slice_get (replicate n nothing) i ≡ Some (Some c) → ⊥
-says_nothing zero i c e = absurd (cc)
-says_nothing (suc n) zero c e = absurd (cc)
-says_nothing (suc n) (suc i) c e = says_nothing n i c e
+says_nothing : (n i k : ℕ) → slice_get (replicate n nothing) i ≡ Some (Some k) → ⊥
+says_nothing zero i k e = absurd (cc)
+says_nothing (suc n) zero k e = absurd (cc)
+says_nothing (suc n) (suc i) k e = says_nothing n i k e
 
 -- no key says anything
-pub none_are_keys : (rules : List SetRule) (keys : List (Option Constraint)) → keys ≡ replicate (length rules) nothing → AreKeys rules keys
-none_are_keys rules keys same = record {
-  site = 0;
-  each = ap length same ∙ length-replicate (length rules) None;
-  asked = λ i r c e k. absurd (says_nothing (length rules) i c (sym (ap (λ l. slice_get l i) same) ∙ k));
+pub none_tell_apart : (rules : List SetRule) (keys : List (Option ℕ)) → keys ≡ replicate (length rules) nothing → TellApart rules keys
+none_tell_apart rules keys same = record {
+  each = ap length same ∙ length-replicate (length rules) nothing;
+  apart = λ i j a b k l ai bj ki lj n. absurd (says_nothing (length rules) i k (sym (ap (λ ks. slice_get ks i) same) ∙ ki));
 }
-
--- one more key that says nothing
-pub none_more : (n : ℕ) (old new : List (Option C.Constraint)) → key_views old ≡ replicate n nothing → new ≡ old ++ None ∷ [] → key_views new ≡ replicate (n + 1) nothing
-none_more n old new h e =
-    ap key_views e
-    ∙ map-append (option_map constraint_view) old (None ∷ [])
-    ∙ ap (λ ks. ks ++ nothing ∷ []) h
-    ∙ replicate_more n
-  where
-    replicate_more : (n : ℕ) → replicate n nothing ++ nothing ∷ [] ≡ replicate (n + 1) nothing
-    replicate_more zero = refl
-    replicate_more (suc n) = let e : suc (n + 1) ≡ suc n + 1 = omega arith in ap (λ ks. nothing ∷ ks) (replicate_more n) ∙ ap (λ k. replicate k nothing) e
-
-pub asked_each : (rules : List Rule) (site : ℕ) → map (λ r. constraint_at (set_rule_view r).constraints site) rules ≡ map (λ r. constraint_at r.constraints site) (set_rule_views rules)
-asked_each [] site = refl
-asked_each (r ∷ rules) site = ap (λ ks. constraint_at (set_rule_view r).constraints site ∷ ks) (asked_each rules site)

@@ -1,5 +1,5 @@
 -- Lists that are gone over, with what is added at each element.
-use Rattle.std.proofs.Common.{◌≡◌, ℕ, ◌+◌, ◌≤◌, List, [], ◌++◌, length, drop, sym, ap, ◌∙◌, append_assoc, drop_of_length-le}
+use Rattle.std.proofs.Common.{◌≡◌, ℕ, ◌≤◌, List, [], ◌++◌, length, drop, sym, ap, ◌∙◌, append_assoc, drop_of_length-le}
 use Rattle.std.proofs.lemmas.List.{append-nil}
 
 -- one more piece

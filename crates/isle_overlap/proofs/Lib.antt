@@ -1,4 +1,5 @@
 pub mod Apart
+pub mod Chains
 pub mod Gone
 pub mod Rows
 pub mod Ascents

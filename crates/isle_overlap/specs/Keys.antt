@@ -1,29 +1,59 @@
--- Keys of rules: what each asks of one site.
-use Rattle.std.specs.Prelude.{◌≡◌, ℕ, Bool, true, false, not, List, Option, Some, None, length, map, option_map, slice_get}
-use Rattle.isle_model.specs.sites.Sites as Sites
+-- Keys of rules: numbers that tell rules apart, and where the next rule of a key stands.
+use Rattle.std.specs.Prelude.{true, ◌≡◌, ◌≢◌, ◌≤◌, ◌<◌, ◌+◌, ℕ, List, Option, Some, None, length, slice_get, nat_lt, if◌then◌else◌}
+use Rattle.std.specs.BTreeMap.{BTreeMap, get}
 use Rattle.isle_model.specs.sites.Sites.{SetRule}
-use Rattle.isle_model.specs.sites.Demands.{constraint_eq}
 use Rattle.isle_model.specs.sites.SetRules.{sites_differ}
 use Rattle.isle_model.specs.trees.Places.{constraint_at}
 use Rattle.isle_sets.specs.SiteViews.{constraint_view}
+use Rattle.isle_sets.specs.contracts.trie_again.ConstraintOrd.TheImpl.{ghosts}
 use Rattle.isle_sets.specs.declared.trie_again.Constraint.{Constraint}
-
-abbrev pub key_views : List (Option Constraint) → List (Option Sites.Constraint)
-key_views keys = map (option_map constraint_view) keys
-
--- each rule has a key; one that says something is what the rule asks of a site, the same site for all rules
-pub record AreKeys (rules : List SetRule) (keys : List (Option Sites.Constraint)) : Type 0 where
-  pub site : ℕ
-  pub each : length keys ≡ length rules
-  pub asked : (i : ℕ) (r : SetRule) (c : Sites.Constraint) → slice_get rules i ≡ Some r → slice_get keys i ≡ Some (Some c) → constraint_at r.constraints site ≡ Some c
+use Rattle.isle_overlap.specs.declared.keys.Keys.{Keys}
+use Rattle.isle_overlap.specs.declared.overlap.Ahead.{Ahead}
 
 -- some site has different constraints in two rules
 pub record AreApart (a b : SetRule) : Type 0 where
   pub first : sites_differ a.constraints b.constraints ≡ true
   pub second : sites_differ b.constraints a.constraints ≡ true
 
--- two keys say different things
-abbrev pub differ : Option Sites.Constraint → Option Sites.Constraint → Bool
-differ (Some c) (Some d) = not (constraint_eq c d)
-differ (Some c) None = false
-differ None k = false
+-- each rule has a key, if only one that says nothing; rules whose keys say different things are apart
+pub record TellApart (rules : List SetRule) (keys : List (Option ℕ)) : Type 0 where
+  pub each : length keys ≡ length rules
+  pub apart : (i j : ℕ) (a b : SetRule) (k l : ℕ) → slice_get rules i ≡ Some a → slice_get rules j ≡ Some b
+      → slice_get keys i ≡ Some (Some k) → slice_get keys j ≡ Some (Some l) → k ≢ l → AreApart a b
+
+-- a number is that of what a rule asks of a site
+pub record IsNumbered (numbers : BTreeMap Constraint ℕ) (site : ℕ) (r : SetRule) (k : ℕ) : Type 0 where
+  pub asked : Constraint
+  pub here : constraint_at r.constraints site ≡ Some (constraint_view asked)
+  pub number : get ghosts.cmp numbers asked ≡ Some k
+
+-- the keys of rules are these numbers
+pub record AreNumbered (numbers : BTreeMap Constraint ℕ) (site : ℕ) (rules : List SetRule) (keys : List (Option ℕ)) : Type 0 where
+  pub each : length keys ≡ length rules
+  pub numbered : (i : ℕ) (r : SetRule) (k : ℕ) → slice_get rules i ≡ Some r → slice_get keys i ≡ Some (Some k) → IsNumbered numbers site r k
+
+-- the first place, from one on, at which a key stands, or the end
+pub record IsFirst (keys : List (Option ℕ)) (from : ℕ) (key : Option ℕ) (at : ℕ) : Type 0 where
+  pub behind : from ≤ at
+  pub within : at ≤ length keys
+  pub none_between : (m : ℕ) → from ≤ m → m < at → slice_get keys m ≢ Some key
+  pub there : at < length keys → slice_get keys at ≡ Some key
+
+-- behind each place, the next one of its key
+pub record AreNext (keys : List (Option ℕ)) (next : List ℕ) : Type 0 where
+  pub each : length next ≡ length keys
+  pub behind : (i j : ℕ) (k : Option ℕ) → slice_get keys i ≡ Some k → slice_get next i ≡ Some j → IsFirst keys (i + 1) k j
+
+-- the keys of rules, with where the next one of each stands
+pub record AreKeys (rules : List SetRule) (keys : Keys) : Type 0 where
+  pub apart : TellApart rules keys.of_rules.items
+  pub next : AreNext keys.of_rules.items keys.next.items
+
+-- the nearer one of two places
+abbrev pub nearer : Ahead → ℕ
+nearer a = if nat_lt a.alike a.bare then a.alike else a.bare
+
+-- from a place on, the first of a key, and the first that has none
+pub record IsAhead (keys : List (Option ℕ)) (key from : ℕ) (a : Ahead) : Type 0 where
+  pub alike : IsFirst keys from (Some key) a.alike
+  pub bare : IsFirst keys from None a.bare

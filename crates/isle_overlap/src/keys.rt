@@ -1,9 +1,11 @@
-//! Keys that tell most rules of a set apart: what each rule asks of one site.
+//! Keys that tell most rules of a set apart: each is the number of what a rule asks of one site.
 
-ghost use Rattle.std.specs.Prelude.{◌≡◌, IfOk, None, map, option_map, replicate};
-ghost use Rattle.isle_model.specs.trees.Places.{constraint_at};
-ghost use Rattle.isle_sets.specs.SiteViews.{constraint_view, set_rule_views};
-ghost use Rattle.isle_overlap.specs.Keys.{AreKeys, differ, key_views};
+ghost use Rattle.std.specs.BTreeMap.{get};
+ghost use Rattle.std.specs.Option.{option_cmp};
+ghost use Rattle.std.specs.Ordering.{nat_cmp};
+ghost use Rattle.std.specs.Prelude.{◌≡◌, ◌+◌, ℕ, List, Option, IfOk, None, Some, replicate, length, slice_get, unwrap_or};
+ghost use Rattle.isle_sets.specs.SiteViews.{set_rule_view, set_rule_views};
+ghost use Rattle.isle_overlap.specs.Keys.{AreKeys, AreNext, AreNumbered, IsFirst, IsNumbered, TellApart};
 
 use isle_sets::trie_again::{BindingId, Constraint, Rule};
 use std::alloc::{AllocError, Global};
@@ -11,6 +13,18 @@ use std::collections::{BTreeMap, BTreeSet};
 
 // Fewer rules than these are compared at once.
 const FEW: usize = 16;
+
+// About as many rules are looked at for a site that tells many apart.
+const LOOKED_AT: usize = 64;
+
+/// Keys of the rules of a set, in rule order.
+#[derive(Drop)]
+pub struct Keys {
+    /// Each rule's key, if it has one. Rules of different keys are apart.
+    pub of_rules: Vec<Option<usize>>,
+    /// Behind each rule, where the next one of its key stands, or of those without; the number of all rules where none does.
+    pub next: Vec<usize>,
+}
 
 // How many different things are asked of each site, and the site of which the most are asked.
 #[derive(Drop)]
@@ -45,7 +59,8 @@ impl Asked {
     }
 }
 
-// The site of which rules ask the most different things. Any other would do, and would tell fewer rules apart.
+// The site of which some rules, evenly taken, ask the most different things. Any other would do, and would tell fewer
+// rules apart.
 fn telling_site(alloc: Global, rules: &[Rule]) -> Result<BindingId, AllocError> {
     let mut asked = Asked {
         pairs: BTreeSet::new(alloc),
@@ -53,31 +68,58 @@ fn telling_site(alloc: Global, rules: &[Rule]) -> Result<BindingId, AllocError> 
         site: BindingId::from(0),
         most: 0,
     };
-    for rule in rules {
+    let step = rules.len() / LOOKED_AT + 1;
+    for rule in rules.iter().step_by(step) {
         asked.count_rule(rule)?;
     }
     Ok(asked.site)
 }
 
-// What each rule asks of a site.
-fn asked_of(
+// A number for each thing that rules ask of a site.
+fn numbers_of(
     alloc: Global,
     rules: &[Rule],
     site: BindingId,
-) -> Result<Vec<Option<Constraint>>, AllocError>
-    ensures { IfOk result (λ v. key_views v.items ≡ map (λ r. constraint_at r.constraints site) (set_rule_views rules.now)) }
+) -> Result<BTreeMap<Constraint, usize>, AllocError> {
+    let mut numbers = BTreeMap::new(alloc);
+    for rule in rules {
+        if let Some(asked) = rule.get_constraint(site) {
+            let next = numbers.len();
+            numbers.entry(asked)?.or_insert(next);
+        }
+    }
+    Ok(numbers)
+}
+
+// The number of what a rule asks of a site.
+fn key_of(numbers: &BTreeMap<Constraint, usize>, rule: &Rule, site: BindingId) -> Option<usize>
+    ensures { (k : ℕ) → result ≡ Some k → IsNumbered numbers.now site (set_rule_view rule.now) k }
+{
+    match rule.get_constraint(site) {
+        Some(asked) => numbers.get(&asked).copied(),
+        None => None,
+    }
+}
+
+// The number of what each rule asks of a site.
+fn numbered(
+    alloc: Global,
+    rules: &[Rule],
+    numbers: &BTreeMap<Constraint, usize>,
+    site: BindingId,
+) -> Result<Vec<Option<usize>>, AllocError>
+    ensures { IfOk result (λ v. AreNumbered numbers.now site (set_rule_views rules.now) v.items) }
 {
     let mut keys = Vec::with_capacity(alloc, rules.len())?;
     for rule in rules {
-        keys.push(rule.get_constraint(site))?;
+        keys.push(key_of(numbers, rule, site))?;
     }
     Ok(keys)
 }
 
 // As many keys that say nothing.
-#[tactic(auto, using(crate::proofs::Apart::none_more))]
-fn no_keys(alloc: Global, count: usize) -> Result<Vec<Option<Constraint>>, AllocError>
-    ensures { IfOk result (λ v. key_views v.items ≡ replicate count None) }
+fn no_keys(alloc: Global, count: usize) -> Result<Vec<Option<usize>>, AllocError>
+    ensures { IfOk result (λ v. v.items ≡ replicate count None) }
 {
     let mut keys = Vec::new(alloc);
     for _ in 0..count {
@@ -86,24 +128,74 @@ fn no_keys(alloc: Global, count: usize) -> Result<Vec<Option<Constraint>>, Alloc
     Ok(keys)
 }
 
-/// A key for each rule: what it asks of one site, which tells it from rules that ask something else there. Of a few rules
-/// none has one: comparing them is faster than finding keys.
-pub fn keys_of(alloc: Global, rules: &[Rule]) -> Result<Vec<Option<Constraint>>, AllocError>
-    ensures { IfOk result (λ v. AreKeys (set_rule_views rules.now) (key_views v.items)) }
+// A key for each rule: what it asks of one site, which tells it from rules that ask something else there. Of a few rules
+// none has one: comparing them is faster than finding keys.
+fn keys_by_site(alloc: Global, rules: &[Rule]) -> Result<Vec<Option<usize>>, AllocError>
+    ensures { IfOk result (λ v. TellApart (set_rule_views rules.now) v.items) }
 {
     if rules.len() < FEW {
         return no_keys(alloc, rules.len());
     }
     let site = telling_site(alloc, rules)?;
-    asked_of(alloc, rules, site)
+    let numbers = numbers_of(alloc, rules, site)?;
+    numbered(alloc, rules, &numbers, site)
 }
 
-/// Whether two rules ask different things of the site of their keys.
-pub fn are_apart(key: Option<Constraint>, other: Option<Constraint>) -> bool
-    ensures { result ≡ differ (option_map constraint_view key) (option_map constraint_view other) }
+// Where the first rule of a key stands among those that were noted, or the end.
+fn first_of(firsts: &BTreeMap<Option<usize>, usize>, key: Option<usize>, end: usize) -> usize
+    ensures { result ≡ unwrap_or (get (option_cmp nat_cmp) firsts.now key) end }
 {
-    match (key, other) {
-        (Some(asked), Some(constraint)) => asked != constraint,
-        _ => false,
+    match firsts.get(&key) {
+        Some(first) => *first,
+        None => end,
     }
+}
+
+// As many ends.
+fn ends(alloc: Global, count: usize) -> Result<Vec<usize>, AllocError>
+    ensures { IfOk result (λ v. length v.items ≡ count) }
+{
+    let mut ends = Vec::with_capacity(alloc, count)?;
+    for _ in 0..count {
+        ends.push(count)?;
+    }
+    Ok(ends)
+}
+
+// Behind each place, where the next one of its key stands, or the end.
+fn next_alike(alloc: Global, keys: &[Option<usize>]) -> Result<Vec<usize>, AllocError>
+    ensures { IfOk result (λ v. AreNext keys.now v.items) }
+{
+    let mut next = ends(alloc, keys.len())?;
+    let mut firsts = BTreeMap::new(alloc);
+    let mut left = keys.len();
+    while left > 0 {
+        let i = left - 1;
+        let key = keys[i];
+        next[i] = first_of(&firsts, key, keys.len());
+        firsts.insert(key, i)?;
+        left = i;
+    }
+    Ok(next)
+}
+
+/// Keys of the rules of a set. Of a few rules none has one.
+pub fn keys_of(alloc: Global, rules: &[Rule]) -> Result<Keys, AllocError>
+    ensures { IfOk result (λ k. AreKeys (set_rule_views rules.now) k) }
+{
+    let of_rules = keys_by_site(alloc, rules)?;
+    let next = next_alike(alloc, &of_rules)?;
+    Ok(Keys { of_rules, next })
+}
+
+/// Where the first rule without a key stands, or the end.
+pub fn first_without(keys: &[Option<usize>]) -> usize
+    ensures { IsFirst keys.now 0 None result }
+{
+    for i in 0..keys.len() {
+        if keys[i].is_none() {
+            return i;
+        }
+    }
+    keys.len()
 }

@@ -1,5 +1,5 @@
 //! The check of overlaps: rules of one priority that may both match, and rules that others mask.
-ghost use Rattle.std.specs.Prelude.{◌^◌, List, true, false, Some, slice_get, if◌then◌else◌, slice_index_or, ◌≡◌, ◌++◌, ◌∷◌, [], ◌+◌, ◌-◌, ◌<◌, ℕ, All, IfOk, OnOk, drop, length, map, nat_lt, cond, vec_len};
+ghost use Rattle.std.specs.Prelude.{◌^◌, List, Option, None, true, false, Some, slice_get, if◌then◌else◌, slice_index_or, ◌≡◌, ◌++◌, ◌∷◌, [], ◌+◌, ◌-◌, ◌<◌, ℕ, All, IfOk, OnOk, drop, length, map, nat_lt, cond, vec_len};
 ghost use Rattle.isle_model.specs.claims.Refusals.{overlapping, refusal_of};
 ghost use Rattle.isle_model.specs.sites.Overlap.{RuleReport, ShadowReport, ascending_positions, by_position, degree, has_end, other_end, overlap_reports, rule_shadows, rules_overlap};
 ghost use Rattle.isle_model.specs.sites.SetRules.{is_mask_of, overlap_wrongly, shadows_among, wrong_among};
@@ -10,12 +10,12 @@ ghost use Rattle.isle_sets.specs.SiteViews.{set_rule_view, set_rule_views};
 ghost use Rattle.isle_overlap.specs.Comparisons.{AreGrouped, list_views, masked_behind, masked_pair, masked_rows, masked_views, pair_views, positions, shadow_of, shadows_of, wrong_behind, wrong_pair, wrong_rows};
 ghost use Rattle.isle_overlap.specs.ErrorViews.{error_pos};
 ghost use Rattle.isle_overlap.specs.Found.{HaveSingleSpans, found_shadows, found_wrong};
-ghost use Rattle.isle_overlap.specs.Keys.{AreApart, AreKeys, key_views};
+ghost use Rattle.isle_overlap.specs.Keys.{AreKeys, AreNext, IsAhead, IsFirst, nearer};
 ghost use Rattle.isle_overlap.specs.Graphs.{count_at, count_left, counts_before, ends_of, listed_at, neighbours, same_pos, times, unreported};
 
-use crate::keys::{are_apart, keys_of};
+use crate::keys::{Keys, first_without, keys_of};
 use isle_base::syntax::{Error, Pos, Span};
-use isle_sets::trie_again::{Constraint, Overlap, Rule};
+use isle_sets::trie_again::{Overlap, Rule};
 use std::alloc::{AllocError, Global};
 use std::collections::BTreeMap;
 
@@ -144,25 +144,19 @@ fn add_masked(
     Ok(())
 }
 
-// Adds what is found of two rules, and nothing where it is known that they are apart.
-#[tactic(auto, using(crate::proofs::Apart::apart_wrong, crate::proofs::Apart::apart_masked))]
+// Adds what is found of two rules.
 fn compare(
     i: usize,
     left: &Rule,
     j: usize,
     right: &Rule,
-    apart: bool,
     wrong: &mut Vec<(Pos, Pos)>,
     masked: &mut Vec<(usize, Pos)>,
 ) -> Result<(), AllocError>
-    requires { apart ≡ true → AreApart (set_rule_view left.now) (set_rule_view right.now) }
     ensures wrong { OnOk result (pair_views wrong.new.items ≡ pair_views wrong.old.items ++ wrong_pair (set_rule_view left.now) (set_rule_view right.now)) }
     ensures masked { OnOk result (masked_views masked.new.items
         ≡ masked_views masked.old.items ++ masked_pair i (set_rule_view left.now) j (set_rule_view right.now)) }
 {
-    if apart {
-        return Ok(());
-    }
     add_wrong(left, right, wrong)?;
     add_masked(i, left, j, right, masked)?;
     Ok(())
@@ -173,39 +167,124 @@ fn check_behind(
     i: usize,
     left: &Rule,
     rules: &[Rule],
-    keys: &[Option<Constraint>],
     wrong: &mut Vec<(Pos, Pos)>,
     masked: &mut Vec<(usize, Pos)>,
 ) -> Result<(), AllocError>
     requires within { i < length rules.now }
-    requires left { slice_get (set_rule_views rules.now) i ≡ Some (set_rule_view left.now) }
-    requires keys { AreKeys (set_rule_views rules.now) (key_views keys.now) }
     ensures wrong { OnOk result (pair_views wrong.new.items
         ≡ pair_views wrong.old.items ++ wrong_behind (set_rule_view left.now) (set_rule_views (drop (i + 1) rules.now))) }
     ensures masked { OnOk result (masked_views masked.new.items
         ≡ masked_views masked.old.items ++ masked_behind i (set_rule_view left.now) (i + 1) (set_rule_views (drop (i + 1) rules.now))) }
 {
     for j in i + 1..rules.len() {
-        let right = &rules[j];
-        let apart = are_apart(keys[i], keys[j]);
-        compare(i, left, j, right, apart, wrong, masked)?;
+        compare(i, left, j, &rules[j], wrong, masked)?;
     }
     Ok(())
+}
+
+// Where rules stand behind a rule that has a key and that aren't apart from it: the next one of its key, and the next one
+// without.
+#[derive(Clone, Copy)]
+struct Ahead {
+    alike: usize,
+    bare: usize,
+}
+
+impl Ahead {
+    // The nearer one of the two.
+    fn nearer(&self) -> usize
+        ensures { result ≡ nearer self.now }
+    {
+        if self.alike < self.bare {
+            self.alike
+        } else {
+            self.bare
+        }
+    }
+
+    // From the nearer one to the next of its key.
+    fn go_on(&mut self, next: &[usize])
+        requires { nearer self.old < length next.now }
+        ensures { (keys : List (Option ℕ)) (key from : ℕ) → AreNext keys next.now → IsAhead keys key from self.old → IsAhead keys key (nearer self.old + 1) self.new }
+    {
+        if self.alike < self.bare {
+            self.alike = next[self.alike];
+        } else {
+            self.bare = next[self.bare];
+        }
+    }
+}
+
+// Adds what is found of a rule that has a key and those behind it: of these the ones of another key are apart from it.
+fn check_alike(
+    i: usize,
+    left: &Rule,
+    rules: &[Rule],
+    keys: &Keys,
+    mut ahead: Ahead,
+    wrong: &mut Vec<(Pos, Pos)>,
+    masked: &mut Vec<(usize, Pos)>,
+) -> Result<(), AllocError>
+    requires left { slice_get (set_rule_views rules.now) i ≡ Some (set_rule_view left.now) }
+    requires keys { AreKeys (set_rule_views rules.now) keys.now }
+    requires ahead { (key : ℕ) × (slice_get keys.now.of_rules.items i ≡ Some (Some key)) × IsAhead keys.now.of_rules.items key (i + 1) ahead }
+    ensures wrong { OnOk result (pair_views wrong.new.items
+        ≡ pair_views wrong.old.items ++ wrong_behind (set_rule_view left.now) (set_rule_views (drop (i + 1) rules.now))) }
+    ensures masked { OnOk result (masked_views masked.new.items
+        ≡ masked_views masked.old.items ++ masked_behind i (set_rule_view left.now) (i + 1) (set_rule_views (drop (i + 1) rules.now))) }
+{
+    while ahead.nearer() < rules.len() {
+        let j = ahead.nearer();
+        compare(i, left, j, &rules[j], wrong, masked)?;
+        ahead.go_on(&keys.next);
+    }
+    Ok(())
+}
+
+// Adds what is found of a rule and those behind it. The first rule without a key from this one on stands there; the first
+// behind this one is given.
+fn check_row(
+    i: usize,
+    rules: &[Rule],
+    keys: &Keys,
+    bare: usize,
+    wrong: &mut Vec<(Pos, Pos)>,
+    masked: &mut Vec<(usize, Pos)>,
+) -> Result<usize, AllocError>
+    requires within { i < length rules.now }
+    requires keys { AreKeys (set_rule_views rules.now) keys.now }
+    requires bare { IsFirst keys.now.of_rules.items i None bare }
+    ensures wrong { OnOk result (pair_views wrong.new.items ++ wrong_rows (set_rule_views (drop (i + 1) rules.now))
+        ≡ pair_views wrong.old.items ++ wrong_rows (set_rule_views (drop i rules.now))) }
+    ensures masked { OnOk result (masked_views masked.new.items ++ masked_rows (i + 1) (set_rule_views (drop (i + 1) rules.now))
+        ≡ masked_views masked.old.items ++ masked_rows i (set_rule_views (drop i rules.now))) }
+    ensures bare { IfOk result (λ b. IsFirst keys.now.of_rules.items (i + 1) None b) }
+{
+    let left = &rules[i];
+    let alike = keys.next[i];
+    if bare == i {
+        check_behind(i, left, rules, wrong, masked)?;
+        return Ok(alike);
+    }
+    let ahead = Ahead { alike, bare };
+    check_alike(i, left, rules, keys, ahead, wrong, masked)?;
+    Ok(bare)
 }
 
 // Adds what is found of each two rules.
 fn check_pairs(
     rules: &[Rule],
-    keys: &[Option<Constraint>],
+    keys: &Keys,
     wrong: &mut Vec<(Pos, Pos)>,
     masked: &mut Vec<(usize, Pos)>,
 ) -> Result<(), AllocError>
-    requires { AreKeys (set_rule_views rules.now) (key_views keys.now) }
+    requires { AreKeys (set_rule_views rules.now) keys.now }
     ensures wrong { OnOk result (pair_views wrong.new.items ≡ pair_views wrong.old.items ++ wrong_rows (set_rule_views rules.now)) }
     ensures masked { OnOk result (masked_views masked.new.items ≡ masked_views masked.old.items ++ masked_rows 0 (set_rule_views rules.now)) }
 {
+    let mut bare = first_without(&keys.of_rules);
     for i in 0..rules.len() {
-        check_behind(i, &rules[i], rules, keys, wrong, masked)?;
+        bare = check_row(i, rules, keys, bare, wrong, masked)?;
     }
     Ok(())
 }

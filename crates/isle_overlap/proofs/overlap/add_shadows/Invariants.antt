@@ -8,6 +8,6 @@ use Rattle.isle_overlap.proofs.overlap.add_shadows.Given as goal
 abbrev pub invariant-loop-i : goal.invariant-loop-i
 invariant-loop-i l = record {
   shadows : error_views l.errors.items ++ shadows_of (set_rule_views (drop l.i l.rules)) (list_views (drop l.i l.lists))
-    ≡ error_views l.initial.errors.items ++ shadows_of (set_rule_views l.rules) (list_views l.lists);
+      ≡ error_views l.initial.errors.items ++ shadows_of (set_rule_views l.rules) (list_views l.lists);
   single : All HasSingleSpans l.initial.errors.items → All HasSingleSpans l.errors.items;
 }

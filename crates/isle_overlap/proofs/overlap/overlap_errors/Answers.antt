@@ -23,14 +23,14 @@ returns-then-count-eq0-clause-reports c =
 
 pub loop-preserved : goal.loop-preserved
 loop-preserved c = record {
-    counted = so_far_more (pair_views c.args.wrong.now) c.deref.result.now c.loop.counts c.loop.errors.items (length c.args.wrong.now - c.loop.counter) c.foremost-place.result
-    (ap positions c.deref.ensures.value ∙ c.in_ok-rules.ensures ∙ ap ascending_positions c.in_ok-ends.ensures) c.foremost-place.ensures c.loop.invariant.counted
-    c.in_ok-others.others c.report.new.counts c.report.new.errors.items (length c.args.wrong.now - (c.loop.counter + 1))
-    (let h = c.loop-test.true in omega (arith, h))
-    (λ z. c.if-count-eq0.false (c.count.ensures ∙ z))
-    c.in_ok-others.ensures c.in_ok-report.ensures.counts c.in_ok-report.ensures.error;
-    single = c.in_ok-report.ensures.single c.loop.invariant.single;
-  }
+  counted = so_far_more (pair_views c.args.wrong.now) c.deref.result.now c.loop.counts c.loop.errors.items (length c.args.wrong.now - c.loop.counter) c.foremost-place.result
+      (ap positions c.deref.ensures.value ∙ c.in_ok-rules.ensures ∙ ap ascending_positions c.in_ok-ends.ensures) c.foremost-place.ensures c.loop.invariant.counted
+      c.in_ok-others.others c.report.new.counts c.report.new.errors.items (length c.args.wrong.now - (c.loop.counter + 1))
+      (let h = c.loop-test.true in omega (arith, h))
+      (λ z. c.if-count-eq0.false (c.count.ensures ∙ z))
+      c.in_ok-others.ensures c.in_ok-report.ensures.counts c.in_ok-report.ensures.error;
+  single = c.in_ok-report.ensures.single c.loop.invariant.single;
+}
 
 pub returns-clause-reports : goal.returns-clause-reports
 returns-clause-reports c =

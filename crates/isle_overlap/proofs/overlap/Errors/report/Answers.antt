@@ -1,4 +1,4 @@
-use Rattle.std.proofs.Common.{All, sym, ap, subst, ◌∙◌, ◌++◌}
+use Rattle.std.proofs.Common.{All, sym, subst}
 use Rattle.std.proofs.lemmas.Result.{IfOk-weaker}
 use Rattle.std.proofs.lemmas.List.Elements.{All-append}
 use Rattle.isle_base.specs.Positions.{HasSingleSpans}
