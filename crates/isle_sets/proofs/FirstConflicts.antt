@@ -18,10 +18,10 @@ conflict_from class all (a ∷ rest) = first_filled (conflict_asked (asked_in cl
 
 module _ (class : ℕ → ℕ) where
   -- sites of a class are asked one thing
-  abbrev Agree : ℕ × Constraint → List (ℕ × Constraint) → Type 0
+  abbrev pub Agree : ℕ × Constraint → List (ℕ × Constraint) → Type 0
   Agree a bs = (b : ℕ × Constraint) → In bs b → class b.0 ≡ class a.0 → a.1 ≡ b.1
 
-  no_other : (a : ℕ × Constraint) (bs : List (ℕ × Constraint)) → Agree a bs → first_other class a bs ≡ None
+  pub no_other : (a : ℕ × Constraint) (bs : List (ℕ × Constraint)) → Agree a bs → first_other class a bs ≡ None
   no_other a [] h = refl
   no_other a (b ∷ bs) h = cond-false (differ_in class a b) (Some b.1) (first_other class a bs) agreed ∙ no_other a bs (λ c i. h c (inr i))
     where

@@ -21,6 +21,7 @@ pub mod FieldJoins
 pub mod FieldSites
 pub mod FoundSites
 pub mod FullTables
+pub mod NoEqualities
 pub mod NotedSites
 pub mod JoinedSets
 pub mod ListedConstraints

@@ -155,6 +155,10 @@ pub fn why_unreachable(
 {
     let constraints = demanded.list_constraints(alloc)?;
     let parts = list_parts(alloc, table, &constraints)?;
+    if demanded.equals.sets().len() == 0 {
+        // each site is asked one thing, and has a smaller number than its parts
+        return Ok(None);
+    }
     let classes = close_classes(alloc, demanded.equals.sets(), &parts)?;
     let conflict = find_conflict(alloc, &classes, &constraints)?;
     let cyclic = has_cycle(alloc, &classes, &parts)?;
