@@ -1,6 +1,8 @@
 //! What is likely not meant, in definitions that are accepted.
 
 use crate::diagnosis::{add_help, add_rule};
+use crate::literals::add_outside;
+use crate::variables::add_unused;
 use cranelift_isle::lower::Lowered;
 use isle_base::syntax::{Def, Pos};
 use isle_reading::premises::is_multi;
@@ -11,8 +13,9 @@ use isle_sets::trie_again::{Overlap, Rule};
 use std::alloc::{AllocError, Global};
 
 /// The warnings of accepted definitions, term by term: rules that never run, since the return of another one stands before
-/// theirs; and priorities that no other rule of the term makes use of. Then, rule by rule, variables whose names have a
-/// point. Rules of multi terms all run, so that of these only the names are looked at.
+/// theirs; and priorities that no other rule of the term makes use of. Rules of multi terms all run, so that these aren't
+/// looked at for that. Then, rule by rule, variables whose names have a point; and, definition by definition, variables that
+/// nothing uses, and integer literals outside the ranges of their built-in types.
 pub fn warnings(alloc: Global, defs: &[Def], lowered: &Lowered) -> Result<Vec<Report>, AllocError> {
     let mut reports = Vec::new(alloc);
     for term in &lowered.terms {
@@ -27,11 +30,27 @@ pub fn warnings(alloc: Global, defs: &[Def], lowered: &Lowered) -> Result<Vec<Re
             add_pointed(alloc, &mut reports, rule.pos, name)?;
         }
     }
+    for def in defs {
+        add_in_definition(alloc, &mut reports, lowered, def)?;
+    }
     Ok(reports)
 }
 
+// Adds what a definition says that is likely not meant.
+fn add_in_definition(
+    alloc: Global,
+    reports: &mut Vec<Report>,
+    lowered: &Lowered,
+    def: &Def,
+) -> Result<(), AllocError> {
+    if let Def::Rule(rule) = def {
+        add_unused(alloc, reports, rule)?;
+    }
+    add_outside(alloc, reports, lowered, def)
+}
+
 // A warning with these words and places to come.
-fn begun(alloc: Global, kind: &'static str, message: String) -> Report {
+pub(crate) fn begun(alloc: Global, kind: &'static str, message: String) -> Report {
     Report {
         level: Level::Warning,
         kind,
