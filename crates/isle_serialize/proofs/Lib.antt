@@ -10,6 +10,7 @@ pub mod Alike
 pub mod Growth
 pub mod Listed
 pub mod FieldSteps
+pub mod FieldLists
 pub mod Ascents
 pub mod Descents
 pub mod StepsJoined

@@ -1,8 +1,12 @@
--- Which sites are the fields that a constraint brings, one by one.
-use Rattle.std.specs.Prelude.{ℕ, Bool, false}
+-- Which sites are the fields that a constraint brings, one by one, and which ones an arm or a loop of a site can bring.
+use Rattle.std.specs.Prelude.{◌≡◌, ℕ, Bool, false, List, [], length, map, Option, Some, None, slice_get, slice_index_or}
 use Rattle.std.specs.Bool.{◌==◌}
-use Rattle.isle_model.specs.sites.Sites.{Site, iterator_site, Constraint, is_variant, is_struct, is_present}
+use Rattle.std.specs.List.{filter}
+use Rattle.std.specs.Global.{Vec}
+use Rattle.isle_model.specs.sites.Sites.{Site, iterator_site, match_variant_site, extract_struct_site, match_some_site, Constraint, is_variant, is_struct, is_present}
 use Rattle.isle_model.specs.trees.Places.{is_variant_field, is_struct_field, is_part_of}
+use Rattle.isle_model.specs.trees.Tests.{up_to}
+use Rattle.isle_serialize.specs.declared.fields.Fields.{Fields}
 
 -- whether a site is field i of what a constraint on s brings
 abbrev pub is_field : ℕ → Constraint → ℕ → Site → Bool
@@ -22,3 +26,34 @@ field_count _ = 0
 abbrev pub is_pick : ℕ → Site → Bool
 is_pick s (iterator_site source) = source == s
 is_pick s _ = false
+
+-- whether the site of a number passes a test
+abbrev pub passes_at : (Site → Bool) → List Site → ℕ → Bool
+passes_at p sites k = elim (slice_get sites k) [ None ↦ false | Some b ↦ p b ]
+
+-- the source of a site that only an arm or a loop brings, and none of any other one
+abbrev pub brought_from : Site → Option ℕ
+brought_from (iterator_site source) = Some source
+brought_from (match_variant_site source variant field) = Some source
+brought_from (extract_struct_site source field) = Some source
+brought_from (match_some_site source) = Some source
+brought_from _ = None
+
+-- whether only an arm or a loop of s brings a site
+abbrev pub is_brought_from : ℕ → Site → Bool
+is_brought_from s b = elim (brought_from b) [ None ↦ false | Some source ↦ source == s ]
+
+-- the sites that only an arm or a loop of s brings, ascending
+abbrev pub brought_by : List Site → ℕ → List ℕ
+brought_by sites s = filter (passes_at (is_brought_from s) sites) (up_to (length sites))
+
+-- the list of a number
+abbrev pub list_at : List (Vec ℕ) → ℕ → List ℕ
+list_at lists s = slice_index_or (map (λ v. v.items) lists) s []
+
+abbrev pub listed_under : Fields → ℕ → List ℕ
+listed_under fields s = list_at fields.by_source.items s
+
+-- under each site stand exactly those that only an arm or a loop of it brings, each once and ascending
+pub record AreFields (sites : List Site) (fields : Fields) : Type 0 where
+  pub listed : (s : ℕ) → listed_under fields s ≡ brought_by sites s

@@ -5,11 +5,12 @@ ghost use Rattle.std.specs.List.{filter};
 ghost use Rattle.isle_model.specs.trees.Sound as Sound;
 ghost use Rattle.isle_sets.specs.SiteViews.{constraint_view, set_view};
 ghost use Rattle.isle_serialize.specs.AroundViews.{around_view};
+ghost use Rattle.isle_serialize.specs.FieldTests.{AreFields};
 ghost use Rattle.isle_serialize.specs.Growing as Growing;
 ghost use Rattle.isle_serialize.specs.Growing.{CanGrow, IsLeastAsked, IsNextArmOf};
 
 use crate::around::Around;
-use crate::fields::fields_of;
+use crate::fields::{Fields, fields_of};
 use crate::inside::in_arm;
 use crate::parts::part;
 use isle_sets::trie_again::{BindingId, Constraint, RuleSet};
@@ -104,17 +105,19 @@ fn parted(
 pub fn next_arm(
     alloc: Global,
     set: &RuleSet,
+    fields: &Fields,
     around: &Around,
     source: BindingId,
     here: &[usize],
 ) -> Result<Option<NextArm>, AllocError>
-    requires { CanGrow (set_view set.now) }
+    requires set { CanGrow (set_view set.now) }
+    requires fields { AreFields (set_view set.now).sites fields.now }
     ensures { IfOk result (λ o. IsNextArmOf (set_view set.now) (around_view around.now) source here.now o) }
 {
     let Some(constraint) = least_asked(set, source, here) else {
         return Ok(None);
     };
-    let fields = fields_of(alloc, set, source, &constraint)?;
+    let fields = fields_of(alloc, set, fields, source, &constraint)?;
     let (asking, others) = parted(alloc, set, source, constraint, here)?;
     let inside = in_arm(alloc, set, around, source, &fields)?;
     Ok(Some(NextArm {

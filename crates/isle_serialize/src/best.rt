@@ -5,6 +5,7 @@ ghost use Rattle.isle_model.specs.trees.Best.{descend};
 ghost use Rattle.isle_model.specs.trees.Tests as Tests;
 ghost use Rattle.isle_sets.specs.SiteViews.{set_view};
 ghost use Rattle.isle_serialize.specs.AroundViews.{around_view};
+ghost use Rattle.isle_serialize.specs.FieldTests.{AreFields};
 ghost use Rattle.isle_serialize.specs.Growing.{AreBestArms, CanGrow, IsBestBody, IsBestFrom, IsStepOf};
 ghost use Rattle.isle_serialize.specs.TestViews.{test_view};
 ghost use Rattle.isle_serialize.specs.TreeViews.{arms_view, check_view, tree_view};
@@ -12,6 +13,7 @@ ghost use Rattle.isle_serialize.specs.TreeViews.{arms_view, check_view, tree_vie
 use crate::arms::next_arm;
 use crate::around::Around;
 use crate::ends::returns_of;
+use crate::fields::Fields;
 use crate::inside::{in_equal, in_loop};
 use crate::serialize::{Block, ControlFlow, EvalStep, MatchArm};
 use crate::steps::{next_test, pick_of};
@@ -25,10 +27,12 @@ use std::alloc::{AllocError, Global};
 pub fn block_of(
     alloc: Global,
     set: &RuleSet,
+    fields: &Fields,
     here: Vec<usize>,
     around: Around,
 ) -> Result<Block, AllocError>
     requires set { CanGrow (set_view set.now) }
+    requires fields { AreFields (set_view set.now).sites fields.now }
     requires order { IsTrue (descend (set_view set.now).rules here.items) }
     ensures { IfOk result (λ b. IsBestFrom (set_view set.now) (around_view around) here.items (tree_view b)) }
 {
@@ -36,7 +40,7 @@ pub fn block_of(
     let mut left = here;
     let mut around = around;
     while let Some(next) = next_test(alloc, set, &around, &left)? {
-        let check = check_of(alloc, set, &around, next.test, next.covered)?;
+        let check = check_of(alloc, set, fields, &around, next.test, next.covered)?;
         steps.push(EvalStep {
             bind_order: next.binds,
             check,
@@ -54,11 +58,13 @@ pub fn block_of(
 fn check_of(
     alloc: Global,
     set: &RuleSet,
+    fields: &Fields,
     around: &Around,
     test: Test,
     here: Vec<usize>,
 ) -> Result<ControlFlow, AllocError>
     requires set { CanGrow (set_view set.now) }
+    requires fields { AreFields (set_view set.now).sites fields.now }
     requires order { IsTrue (descend (set_view set.now).rules here.items) }
     requires step { IsStepOf (set_view set.now) (around_view around.now) (test_view test) here.items }
     ensures { IfOk result (λ check. IsBestBody (set_view set.now) (around_view around.now) (test_view test) here.items (check_view check)) }
@@ -66,22 +72,22 @@ fn check_of(
     match test {
         Test::Match { source } => Ok(ControlFlow::Match {
             source,
-            arms: arms_of(alloc, set, around, source, here)?,
+            arms: arms_of(alloc, set, fields, around, source, here)?,
         }),
         Test::Equal { a, b } => {
             let inside = in_equal(alloc, set, around, a, b)?;
             Ok(ControlFlow::Equal {
                 a,
                 b,
-                body: block_of(alloc, set, here, inside)?,
+                body: block_of(alloc, set, fields, here, inside)?,
             })
         }
         Test::Loop { source } => {
-            let result = pick_of(set, source);
+            let result = pick_of(set, fields, source);
             let inside = in_loop(alloc, set, around, source, result)?;
             Ok(ControlFlow::Loop {
                 result,
-                body: block_of(alloc, set, here, inside)?,
+                body: block_of(alloc, set, fields, here, inside)?,
             })
         }
     }
@@ -92,22 +98,24 @@ fn check_of(
 fn arms_of(
     alloc: Global,
     set: &RuleSet,
+    fields: &Fields,
     around: &Around,
     source: BindingId,
     here: Vec<usize>,
 ) -> Result<Vec<MatchArm>, AllocError>
     requires set { CanGrow (set_view set.now) }
+    requires fields { AreFields (set_view set.now).sites fields.now }
     requires order { IsTrue (descend (set_view set.now).rules here.items) }
     requires step { IsStepOf (set_view set.now) (around_view around.now) (Tests.match_test source) here.items }
     ensures { IfOk result (λ v. AreBestArms (set_view set.now) (around_view around.now) source None here.items (arms_view v.items)) }
 {
     let mut arms = Vec::new(alloc);
     let mut left = here;
-    while let Some(next) = next_arm(alloc, set, around, source, &left)? {
+    while let Some(next) = next_arm(alloc, set, fields, around, source, &left)? {
         arms.push(MatchArm {
             constraint: next.constraint,
             bindings: next.fields,
-            body: block_of(alloc, set, next.asking, next.inside)?,
+            body: block_of(alloc, set, fields, next.asking, next.inside)?,
         })?;
         left = next.others;
     }

@@ -1,15 +1,101 @@
 //! The sites that an arm or a loop brings.
 
-ghost use Rattle.std.specs.Prelude.{◌≡◌, ◌≤◌, IfOk, length};
+ghost use Rattle.std.specs.Prelude.{◌≡◌, ◌≤◌, ◌<◌, ◌∷◌, ◌++◌, [], ℕ, cond, Some, Contains, IfOk, OnOk, length};
+ghost use Rattle.std.specs.List.{find};
+ghost use Rattle.isle_model.specs.sites.Sites.{sources_at};
 ghost use Rattle.isle_model.specs.trees.Places as Places;
 ghost use Rattle.isle_model.specs.trees.Places.{site_from};
 ghost use Rattle.isle_sets.specs.SiteViews.{constraint_view, set_view, site_view};
 ghost use Rattle.isle_serialize.specs.FieldTests as FieldTests;
+ghost use Rattle.isle_serialize.specs.FieldTests.{passes_at, AreFields, is_brought_from, list_at, listed_under};
 
 use crate::around::site_at;
 use isle_sets::trie_again::{Binding, BindingId, Constraint, RuleSet};
 use isle_types::VariantId;
 use std::alloc::{AllocError, Global};
+
+/// The sites that only an arm or a loop brings, by their sources, so that the fields of one site are found without a look
+/// at all others.
+#[derive(Debug, Drop)]
+pub struct Fields {
+    /// At the number of each site those that an arm or a loop of it brings, ascending.
+    pub by_source: Vec<Vec<BindingId>>,
+}
+
+impl Fields {
+    /// The sites that only an arm or a loop of this one brings, ascending.
+    pub fn under(&self, source: BindingId) -> &[BindingId]
+        ensures { result.now ≡ listed_under self.now source }
+    {
+        match self.by_source.get(source.index()) {
+            Some(sites) => sites,
+            None => &[],
+        }
+    }
+}
+
+// The source of a site that only an arm or a loop brings, and none of any other one.
+fn brought_from(binding: &Binding) -> Option<BindingId>
+    ensures { result ≡ FieldTests.brought_from (site_view binding.now) }
+{
+    match binding {
+        Binding::Iterator { source }
+        | Binding::MatchVariant { source, .. }
+        | Binding::ExtractStruct { source, .. }
+        | Binding::MatchSome { source } => Some(*source),
+        Binding::ConstBool { .. }
+        | Binding::ConstInt { .. }
+        | Binding::ConstPrim { .. }
+        | Binding::Argument { .. }
+        | Binding::Extractor { .. }
+        | Binding::Constructor { .. }
+        | Binding::MakeVariant { .. }
+        | Binding::MakeStruct { .. }
+        | Binding::MakeSome { .. }
+        | Binding::MatchTuple { .. } => None,
+    }
+}
+
+// As many empty lists.
+fn empty_lists(alloc: Global, count: usize) -> Result<Vec<Vec<BindingId>>, AllocError>
+    ensures count { IfOk result (λ v. length v.items ≡ count) }
+    ensures empty { IfOk result (λ v. (s : ℕ) → list_at v.items s ≡ []) }
+{
+    let mut lists = Vec::with_capacity(alloc, count)?;
+    for _ in 0..count {
+        lists.push(Vec::new(alloc))?;
+    }
+    Ok(lists)
+}
+
+// Lists a site under its source, where only an arm or a loop brings it.
+fn add_field(
+    lists: &mut Vec<Vec<BindingId>>,
+    binding: &Binding,
+    site: BindingId,
+) -> Result<(), AllocError>
+    requires { (a : ℕ) → FieldTests.brought_from (site_view binding.now) ≡ Some a → a < length lists.old.items }
+    ensures count { OnOk result (length lists.new.items ≡ length lists.old.items) }
+    ensures listed { OnOk result ((s : ℕ) → list_at lists.new.items s ≡ list_at lists.old.items s ++ cond (is_brought_from s (site_view binding.now)) (site ∷ []) []) }
+{
+    if let Some(source) = brought_from(binding) {
+        lists[source.index()].push(site)?;
+    }
+    Ok(())
+}
+
+/// The sites of a set that arms and loops bring, by their sources.
+pub fn fields_by_source(alloc: Global, set: &RuleSet) -> Result<Fields, AllocError>
+    requires few { length (set_view set.now).sites ≤ 65536 }
+    requires sources { (s a : ℕ) → Contains (sources_at (set_view set.now).sites s) a → a < s }
+    ensures { IfOk result (AreFields (set_view set.now).sites) }
+{
+    let mut by_source = empty_lists(alloc, set.bindings.len())?;
+    for s in 0..set.bindings.len() {
+        add_field(&mut by_source, &set.bindings[s], site_at(s))?;
+    }
+    Ok(Fields { by_source })
+}
 
 // Whether a site is that field of a source, which is of that variant.
 fn is_variant_field(binding: &Binding, of: BindingId, of_variant: VariantId, number: usize) -> bool
@@ -70,52 +156,68 @@ fn field_count(constraint: &Constraint) -> usize
     }
 }
 
-// The site of that field of what a constraint on a source brings.
-fn field_site(
+// Whether the site of a number is that field of what a constraint on a source brings.
+fn is_field_at(
     set: &RuleSet,
     of: BindingId,
     constraint: &Constraint,
     number: usize,
+    site: BindingId,
+) -> bool
+    ensures { result ≡ passes_at (FieldTests.is_field of (constraint_view constraint.now) number) (set_view set.now).sites site }
+{
+    match set.bindings.get(site.index()) {
+        Some(binding) => is_field(binding, of, constraint, number),
+        None => false,
+    }
+}
+
+// The first of some sites that is that field of what a constraint on a source brings.
+fn first_field(
+    set: &RuleSet,
+    sites: &[BindingId],
+    of: BindingId,
+    constraint: &Constraint,
+    number: usize,
 ) -> Option<BindingId>
-    requires { length (set_view set.now).sites ≤ 65536 }
+    ensures { result ≡ find (passes_at (FieldTests.is_field of (constraint_view constraint.now) number) (set_view set.now).sites) sites.now }
+{
+    sites
+        .iter()
+        .copied()
+        .find(|site| is_field_at(set, of, constraint, number, *site))
+}
+
+// The site of that field of what a constraint on a source brings.
+fn field_site(
+    set: &RuleSet,
+    fields: &Fields,
+    of: BindingId,
+    constraint: &Constraint,
+    number: usize,
+) -> Option<BindingId>
+    requires { AreFields (set_view set.now).sites fields.now }
     ensures { result ≡ site_from 0 (FieldTests.is_field of (constraint_view constraint.now) number) (set_view set.now).sites }
 {
-    for s in 0..set.bindings.len() {
-        if is_field(&set.bindings[s], of, constraint, number) {
-            return Some(site_at(s));
-        }
-    }
-    None
+    first_field(set, fields.under(of), of, constraint, number)
 }
 
 /// The sites of the fields that a constraint on a source brings, in order; None where the set has no such site.
 pub fn fields_of(
     alloc: Global,
     set: &RuleSet,
+    fields: &Fields,
     source: BindingId,
     constraint: &Constraint,
 ) -> Result<Vec<Option<BindingId>>, AllocError>
-    requires { length (set_view set.now).sites ≤ 65536 }
+    requires { AreFields (set_view set.now).sites fields.now }
     ensures { IfOk result (λ v. v.items ≡ Places.fields_of (set_view set.now).sites source (constraint_view constraint.now)) }
 {
-    let mut fields = Vec::new(alloc);
+    let mut sites = Vec::new(alloc);
     for number in 0..field_count(constraint) {
-        fields.push(field_site(set, source, constraint, number))?;
+        sites.push(field_site(set, fields, source, constraint, number))?;
     }
-    Ok(fields)
-}
-
-/// The site that stands for each value that a call answered, if the set has one.
-pub fn iterator_of(set: &RuleSet, call: BindingId) -> Option<BindingId>
-    requires { length (set_view set.now).sites ≤ 65536 }
-    ensures { result ≡ site_from 0 (FieldTests.is_pick call) (set_view set.now).sites }
-{
-    for s in 0..set.bindings.len() {
-        if is_pick(&set.bindings[s], call) {
-            return Some(site_at(s));
-        }
-    }
-    None
+    Ok(sites)
 }
 
 // Whether a site stands for each value that a call answered.
@@ -126,4 +228,32 @@ fn is_pick(binding: &Binding, call: BindingId) -> bool
         Binding::Iterator { source } => *source == call,
         _ => false,
     }
+}
+
+// Whether the site of a number stands for each value that a call answered.
+fn is_pick_at(set: &RuleSet, call: BindingId, site: BindingId) -> bool
+    ensures { result ≡ passes_at (FieldTests.is_pick call) (set_view set.now).sites site }
+{
+    match set.bindings.get(site.index()) {
+        Some(binding) => is_pick(binding, call),
+        None => false,
+    }
+}
+
+// The first of some sites that stands for each value that a call answered.
+fn first_pick(set: &RuleSet, sites: &[BindingId], call: BindingId) -> Option<BindingId>
+    ensures { result ≡ find (passes_at (FieldTests.is_pick call) (set_view set.now).sites) sites.now }
+{
+    sites
+        .iter()
+        .copied()
+        .find(|site| is_pick_at(set, call, *site))
+}
+
+/// The site that stands for each value that a call answered, if the set has one.
+pub fn iterator_of(set: &RuleSet, fields: &Fields, call: BindingId) -> Option<BindingId>
+    requires { AreFields (set_view set.now).sites fields.now }
+    ensures { result ≡ site_from 0 (FieldTests.is_pick call) (set_view set.now).sites }
+{
+    first_pick(set, fields.under(call), call)
 }

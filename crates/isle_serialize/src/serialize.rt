@@ -13,6 +13,7 @@ ghost use Rattle.isle_serialize.specs.TreeViews.{tree_view};
 
 use crate::around::Around;
 use crate::best::block_of;
+use crate::fields::fields_by_source;
 use crate::tests::priority;
 use isle_base::syntax::Pos;
 use isle_laws_trees::{best_trees_mean_their_sets, built_sets_have_one_best_tree};
@@ -158,7 +159,8 @@ pub fn serialize(alloc: Global, set: &RuleSet) -> Result<Block, AllocError>
     built_sets_have_one_best_tree();
     let numbers = all_rules(alloc, set)?;
     let here = in_order(set, numbers)?;
-    block_of(alloc, set, here, Around::new(alloc))
+    let fields = fields_by_source(alloc, set)?;
+    block_of(alloc, set, &fields, here, Around::new(alloc))
 }
 
 // The numbers of all rules of a set, ascending.

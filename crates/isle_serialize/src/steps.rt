@@ -1,16 +1,17 @@
 //! The test steps of a place: which test comes next, and what its step binds, covers and leaves.
 
-ghost use Rattle.std.specs.Prelude.{◌≡◌, ◌<◌, ◌≤◌, ℕ, Some, Contains, IfOk, IsTrue, length, option_map, slice_get};
+ghost use Rattle.std.specs.Prelude.{◌≡◌, ◌<◌, ℕ, Some, Contains, IfOk, IsTrue, option_map, slice_get};
 ghost use Rattle.isle_model.specs.sites.Sites.{iterator_site, sources_at};
 ghost use Rattle.isle_model.specs.trees.Best.{descend};
 ghost use Rattle.isle_sets.specs.SiteViews.{set_view};
 ghost use Rattle.isle_serialize.specs.AroundViews.{around_view, after_uses, IsInside, IsKnown};
+ghost use Rattle.isle_serialize.specs.FieldTests.{AreFields};
 ghost use Rattle.isle_serialize.specs.Growing.{test_sites, test_emits, CanGrow, IsNext};
 ghost use Rattle.isle_serialize.specs.TestViews.{test_view, AreUseful, IsChosen};
 
 use crate::around::{Around, Known, known_of};
 use crate::binds::{bind_order, sources_of};
-use crate::fields::iterator_of;
+use crate::fields::{Fields, iterator_of};
 use crate::inside::after_step;
 use crate::open::useful_tests;
 use crate::tests::{Test, greatest_of, parted};
@@ -126,12 +127,12 @@ pub fn next_test(
 }
 
 /// The site that stands for each answer of a call that a rule goes over: a built set has one.
-pub fn pick_of(set: &RuleSet, call: BindingId) -> BindingId
-    requires few { length (set_view set.now).sites ≤ 65536 }
+pub fn pick_of(set: &RuleSet, fields: &Fields, call: BindingId) -> BindingId
+    requires fields { AreFields (set_view set.now).sites fields.now }
     requires made { (k : ℕ) × (slice_get (set_view set.now).sites k ≡ Some (iterator_site call)) }
     ensures { slice_get (set_view set.now).sites result ≡ Some (iterator_site call) }
 {
-    match iterator_of(set, call) {
+    match iterator_of(set, fields, call) {
         Some(each) => each,
         None => unreachable!(),
     }

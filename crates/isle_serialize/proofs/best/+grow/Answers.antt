@@ -21,7 +21,7 @@ block_of-check_of-requires t c =
     let next = c.in-Some.next in
     let h = subst (λ l. IsNextTest set ar l next) c.deref.ensures.value (subst (IsNext set ar c.deref.result.now) c.in-Some.is c.in_ok-next.ensures) in
     let same : untried (length set.sites) ar ≡ untried (length set.sites) (around_view c.args.around) = c.loop-around.invariant.as_many in
-    (search (rules, arith, same), (c.requires.set, (covered_ordered set ar left next h c.loop-around.invariant.ordered, covered_step set ar left next h)))
+    (search (rules, arith, same), (c.requires.set, (c.requires.fields, (covered_ordered set ar left next h c.loop-around.invariant.ordered, covered_step set ar left next h))))
 
 pub block_of-loop-around-smaller : goal.block_of-loop-around-smaller
 block_of-loop-around-smaller t c =
@@ -58,7 +58,7 @@ check_of-block_of-requires t c =
     let here = c.args.here.items in
     let h = subst (λ u. IsStepOf set (around_view around) (test_view u) here) c.in-Equal.is c.requires.step in
     let smaller : untried (length set.sites) (around_view inside) < untried (length set.sites) (around_view around) = equal_fewer set around inside here c.in-Equal.a c.in-Equal.b h.open_here c.in_ok-inside-in-Equal.ensures in
-    (search (rules, arith, smaller), (c.requires.set, c.requires.order))
+    (search (rules, arith, smaller), (c.requires.set, (c.requires.fields, c.requires.order)))
 
 pub check_of-pick_of-result-requires-clause-made : goal.check_of-pick_of-result-requires-clause-made
 check_of-pick_of-result-requires-clause-made t c =
@@ -75,7 +75,7 @@ check_of-block_of-requires-in-Loop t c =
     let result = c.pick_of-result.result in
     let h = subst (λ u. IsStepOf set (around_view around) (test_view u) here) c.in-Loop.is c.requires.step in
     let smaller : untried (length set.sites) (around_view inside) < untried (length set.sites) (around_view around) = loop_fewer set around inside here c.in-Loop.source result h.open_here c.in_ok-inside-in-Loop.ensures in
-    (search (rules, arith, smaller), (c.requires.set, c.requires.order))
+    (search (rules, arith, smaller), (c.requires.set, (c.requires.fields, c.requires.order)))
 
 pub check_of-returns-in_ok-arms_of-in-Match : goal.check_of-returns-in_ok-arms_of-in-Match
 check_of-returns-in_ok-arms_of-in-Match t c =
@@ -119,7 +119,7 @@ arms_of-block_of-requires t c =
       search (rules, arith, smaller),
       (
         c.requires.set,
-        asking_ordered set around c.args.source c.args.here.items left next h c.loop-left.invariant.ordered,
+        (c.requires.fields, asking_ordered set around c.args.source c.args.here.items left next h c.loop-left.invariant.ordered),
       ),
     )
 

@@ -6,4 +6,4 @@ use Rattle.isle_serialize.proofs.fields.fields_of.Goals as goal
 pub returns : goal.returns
 returns c =
     let e : c.loop-number.number ≡ c.field_count-number-end.result = omega arith in
-    fields_done (set_view c.args.set.now).sites c.args.source (constraint_view c.args.constraint.now) c.loop-number.number c.loop-number.fields.items (e ∙ c.field_count-number-end.ensures) c.loop-number.invariant
+    fields_done (set_view c.args.set.now).sites c.args.source (constraint_view c.args.constraint.now) c.loop-number.number c.loop-number.sites.items (e ∙ c.field_count-number-end.ensures) c.loop-number.invariant

@@ -6,4 +6,4 @@ use Rattle.isle_serialize.specs.FieldTests.{is_field}
 use Rattle.isle_serialize.proofs.fields.fields_of.Given as goal
 
 abbrev pub invariant-loop-number : goal.invariant-loop-number
-invariant-loop-number l = l.fields.items ≡ map (λ i. site_from 0 (is_field l.source (constraint_view l.constraint) i) (set_view l.set).sites) (up_to l.number)
+invariant-loop-number l = l.sites.items ≡ map (λ i. site_from 0 (is_field l.source (constraint_view l.constraint) i) (set_view l.set).sites) (up_to l.number)

@@ -15,8 +15,11 @@ use Rattle.isle_serialize.proofs.serialize.serialize.Goals as goal
 pub in_order-requires : goal.in_order-requires
 in_order-requires c = ap ascends c.in_ok-numbers.ensures ∙ ascends_up_to (length (set_view c.args.set.now).rules)
 
+pub fields_by_source-requires : goal.fields_by_source-requires
+fields_by_source-requires c = let grow = can_grow (set_view c.args.set.now) c.requires in record { few = grow.few; sources = grow.sources }
+
 pub block_of-requires : goal.block_of-requires
-block_of-requires c = record { set = can_grow (set_view c.args.set.now) c.requires; order = c.in_ok-here.ensures.order }
+block_of-requires c = record { set = can_grow (set_view c.args.set.now) c.requires; fields = c.in_ok-fields.ensures; order = c.in_ok-here.ensures.order }
 
 pub returns-clause-serialized : goal.returns-clause-serialized
 returns-clause-serialized c =
