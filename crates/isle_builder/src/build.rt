@@ -1,13 +1,14 @@
 //! How the rule sets of terms are built of typed rules.
 ghost use Rattle.std.specs.BTreeMap.{IsOrdered, get};
 ghost use Rattle.std.specs.Ordering.{nat_cmp};
-ghost use Rattle.std.specs.Prelude.{◌≡◌, ◌≢◌, ◌++◌, ◌∷◌, [], ℕ, Bool, List, IfOk, OnOk};
+ghost use Rattle.std.specs.Prelude.{◌≡◌, ◌≢◌, ◌++◌, ◌∷◌, [], ℕ, All, Bool, List, IfOk, OnOk};
 ghost use Rattle.isle_model.specs.claims.Environments.{IsElaborated, TypesRead, program_of};
 ghost use Rattle.isle_model.specs.lists.Elaborated.{TypedRules};
 ghost use Rattle.isle_model.specs.lists.Syntax.{Definition};
 ghost use Rattle.isle_model.specs.rules.Program.{Program};
 ghost use Rattle.isle_model.specs.rules.Typed.{TypedRule};
 ghost use Rattle.isle_model.specs.sites.Overlap.{build_reports};
+ghost use Rattle.isle_base.specs.Positions.{HasSingleSpans};
 ghost use Rattle.isle_laws_demands.specs.RuleByRule.{or_nothing_built};
 ghost use Rattle.isle_typed.specs.RuleViews.{rule_view};
 ghost use Rattle.isle_term_sets.specs.AddedRules.{HasTable, set_so_far};
@@ -42,6 +43,7 @@ pub fn build(
     requires elaborated { IsOfElaborated termenv.now }
     ensures built { (e : TypesRead) (defs : List Definition) (expand : Bool) (rules : TypedRules) → IsElaborated e defs expand rules → ShowsElaborated e defs rules termenv.now
         → IfOk result (λ b. WereBuilt termenv.now (program_of e defs rules.rules) b.0.items b.1.items (build_reports (program_of e defs rules.rules))) }
+    ensures single { IfOk result (λ b. All HasSingleSpans b.1.items) }
 {
     // laws, without code: what building asks of elaborated rules, and what its sets are
     rules_are_formed();
@@ -77,8 +79,9 @@ fn add_rule<E: UsedTerms>(
     errors: &mut Vec<Error>,
 ) -> Result<(), AllocError>
     requires may { (p : Program) × (done : List TypedRule) × MayGoOn (E.term_entries termenv.now) (rule_view rule.now) p done sets.old errors.old.items }
-    ensures { (p : Program) (done : List TypedRule) → MayGoOn (E.term_entries termenv.now) (rule_view rule.now) p done sets.old errors.old.items
+    ensures goes { (p : Program) (done : List TypedRule) → MayGoOn (E.term_entries termenv.now) (rule_view rule.now) p done sets.old errors.old.items
         → OnOk result (StandAfter p (done ++ rule_view rule.now ∷ []) sets.new errors.new.items) }
+    ensures single { OnOk result (All HasSingleSpans errors.old.items → All HasSingleSpans errors.new.items) }
 {
     let term = rule.root_term.index();
     let mut set = take_set(alloc, sets, term);

@@ -2,7 +2,6 @@
 use Rattle.std.proofs.Common.{◌≡◌, ◌⊎◌, ℕ, zero, suc, ◌≤◌, ◌<◌, Bool, true, false, if◌then◌else◌, List, [], ◌∷◌, ◌++◌, length, map, Some, slice_get, All, refl, sym, ap, ◌∙◌, subst, inl, inr, arith}
 use Rattle.std.proofs.lemmas.List.{length-map}
 use Rattle.std.proofs.lemmas.List.Elements.{All-head, All-tail}
-use Rattle.isle_model.specs.lists.Names.{IsDistinct}
 use Rattle.isle_model.specs.lists.Tables.{Flags}
 use Rattle.isle_model.specs.sites.Sites.{SiteTerm, pick_of, some_part, unfold_site}
 use Rattle.isle_model.specs.sites.Demands.{Visit, call_result}

@@ -1,8 +1,9 @@
 //! The errors of rules that are left out, with their texts.
-ghost use Rattle.std.specs.Prelude.{◌≡◌, ◌++◌, ◌∷◌, [], OnOk};
+ghost use Rattle.std.specs.Prelude.{◌≡◌, ◌++◌, ◌∷◌, [], All, OnOk};
 ghost use Rattle.isle_base.specs.SyntaxViews.{position};
 ghost use Rattle.isle_model.specs.claims.Refusals.{past_limit, unreachable};
 ghost use Rattle.isle_base.specs.ErrorViews.{error_views, limit_view};
+ghost use Rattle.isle_base.specs.Positions.{HasSingleSpans};
 ghost use Rattle.isle_term_sets.specs.AddedRules.{unreachable_each};
 
 use isle_base::syntax::{Error, Limit, Pos, Span};
@@ -44,7 +45,8 @@ pub(crate) fn report_unreachable(
     why: Unreachable,
     pos: Pos,
 ) -> Result<(), AllocError>
-    ensures { OnOk result (error_views errors.new.items ≡ error_views errors.old.items ++ unreachable (position pos) ∷ []) }
+    ensures says { OnOk result (error_views errors.new.items ≡ error_views errors.old.items ++ unreachable (position pos) ∷ []) }
+    ensures single { OnOk result (All HasSingleSpans errors.old.items → All HasSingleSpans errors.new.items) }
 {
     let msg = unreachable_text(*errors.allocator(), why)?;
     let span = Span::new_single(pos);
@@ -58,7 +60,8 @@ pub(crate) fn report_conflicts(
     conflicts: &[(Constraint, Constraint)],
     pos: Pos,
 ) -> Result<(), AllocError>
-    ensures { OnOk result (error_views errors.new.items ≡ error_views errors.old.items ++ unreachable_each conflicts.now pos) }
+    ensures says { OnOk result (error_views errors.new.items ≡ error_views errors.old.items ++ unreachable_each conflicts.now pos) }
+    ensures single { OnOk result (All HasSingleSpans errors.old.items → All HasSingleSpans errors.new.items) }
 {
     for (first, second) in conflicts {
         let why = Unreachable::Conflict {
@@ -76,7 +79,8 @@ pub(crate) fn report_limit(
     limit: Limit,
     pos: Pos,
 ) -> Result<(), AllocError>
-    ensures { OnOk result (error_views errors.new.items ≡ error_views errors.old.items ++ past_limit (limit_view limit) (position pos) ∷ []) }
+    ensures says { OnOk result (error_views errors.new.items ≡ error_views errors.old.items ++ past_limit (limit_view limit) (position pos) ∷ []) }
+    ensures single { OnOk result (All HasSingleSpans errors.old.items → All HasSingleSpans errors.new.items) }
 {
     let msg = String::from_str(*errors.allocator(), limit.text())?;
     let span = Span::new_single(pos);

@@ -1,5 +1,6 @@
 //! The rule set of a term, as its rules are read one after another.
-ghost use Rattle.std.specs.Prelude.{◌≡◌, ◌≢◌, List, false, IfOk, OnOk};
+ghost use Rattle.std.specs.Prelude.{◌≡◌, ◌≢◌, List, false, All, IfOk, OnOk};
+ghost use Rattle.isle_base.specs.Positions.{HasSingleSpans};
 ghost use Rattle.isle_base.specs.declared.visit_fault.VisitFault.TheVariants as Faults;
 ghost use Rattle.isle_model.specs.rules.Program.{Program};
 ghost use Rattle.isle_model.specs.sites.Closure.{Closed, is_unreachable};
@@ -75,8 +76,9 @@ impl TermSet {
         errors: &mut Vec<Error>,
     ) -> Result<(), AllocError>
         requires may { (p : Program) × (before : List SiteTerm) × MayAddRule (E.term_entries termenv.now) (rule_view rule.now) self.old.builder p before }
-        ensures { (p : Program) (before : List SiteTerm) → MayAddRule (E.term_entries termenv.now) (rule_view rule.now) self.old.builder p before
+        ensures goes { (p : Program) (before : List SiteTerm) → MayAddRule (E.term_entries termenv.now) (rule_view rule.now) self.old.builder p before
             → OnOk result (SetGoesOn p before (rule_view rule.now) self.old self.new errors.old.items errors.new.items) }
+        ensures single { OnOk result (All HasSingleSpans errors.old.items → All HasSingleSpans errors.new.items) }
     {
         self.builder.start_rule();
         match self.builder.visit_rule(rule, termenv) {
@@ -93,8 +95,9 @@ impl TermSet {
         errors: &mut Vec<Error>,
     ) -> Result<(), AllocError>
         requires visited { (before : List SiteTerm) × (v : Visit) × StandsAt before self.old.builder v }
-        ensures { (p : Program) (before : List SiteTerm) → WasVisited p before (rule_view rule.now) self.old.builder value
+        ensures goes { (p : Program) (before : List SiteTerm) → WasVisited p before (rule_view rule.now) self.old.builder value
             → OnOk result (SetGoesOn p before (rule_view rule.now) self.old self.new errors.old.items errors.new.items) }
+        ensures single { OnOk result (All HasSingleSpans errors.old.items → All HasSingleSpans errors.new.items) }
     {
         if !self.builder.conflicts.is_empty() {
             return report_conflicts(errors, &self.builder.conflicts, rule.pos);
@@ -114,8 +117,9 @@ impl TermSet {
         errors: &mut Vec<Error>,
     ) -> Result<(), AllocError>
         requires visited { (before : List SiteTerm) × (v : Visit) × StandsAt before self.old.builder v }
-        ensures { (p : Program) (before : List SiteTerm) → WasVisited p before (rule_view rule.now) self.old.builder value → is_unreachable (demands_of p (rule_view rule.now)) ≡ false
+        ensures goes { (p : Program) (before : List SiteTerm) → WasVisited p before (rule_view rule.now) self.old.builder value → is_unreachable (demands_of p (rule_view rule.now)) ≡ false
             → OnOk result (SetGoesOn p before (rule_view rule.now) self.old self.new errors.old.items errors.new.items) }
+        ensures single { OnOk result (All HasSingleSpans errors.old.items → All HasSingleSpans errors.new.items) }
     {
         match self.builder.close() {
             Ok(()) => self.push_rule(rule, value),
@@ -157,7 +161,8 @@ impl RuleSetBuilder {
 // A rule is left out for the limit that it passes; or memory was refused. A builder never stops a visit itself.
 fn report_fault(errors: &mut Vec<Error>, fault: VisitFault, pos: Pos) -> Result<(), AllocError>
     requires goes_on { fault ≢ Faults.Stopped }
-    ensures { OnOk result (ReportsLimit errors.old.items errors.new.items fault pos) }
+    ensures says { OnOk result (ReportsLimit errors.old.items errors.new.items fault pos) }
+    ensures single { OnOk result (All HasSingleSpans errors.old.items → All HasSingleSpans errors.new.items) }
 {
     match &fault {
         VisitFault::Limit(limit) => report_limit(errors, *limit, pos),

@@ -19,8 +19,8 @@ add_rule-requires g c =
     let start = c.take_set-set.ensures.set ∙ ap (λ t. or_nothing_built (set_at c.args.sets.now t)) same in
     record { may = (p, sites_after_rules p [] (of_one_term r.root_term done), may_add (g.E.UsedTerms.term_entries c.args.termenv.now) p done r c.args.sets.now c.args.errors.now.items m c.take_set-set.result start (c.take_set-set.ensures.table m.stand.tables)) }
 
-pub returns : goal.returns
-returns g c p done m =
+pub returns-clause-goes : goal.returns-clause-goes
+returns-clause-goes g c p done m =
     let r = rule_view c.args.rule.now in
     let known = g.E.UsedTerms.term_entries c.args.termenv.now in
     let sets = c.args.sets.now in
@@ -28,7 +28,7 @@ returns g c p done m =
     let same : c.index-term.result ≡ r.root_term = search (rules, c.index-term.ensures) in
     let start = c.take_set-set.ensures.set ∙ ap (λ t. or_nothing_built (set_at sets t)) same in
     let may = may_add known p done r sets errors m c.take_set-set.result start (c.take_set-set.ensures.table m.stand.tables) in
-    let goes = c.in_ok-add_rule.ensures p (sites_after_rules p [] (of_one_term r.root_term done)) may in
+    let goes = c.in_ok-add_rule.ensures.goes p (sites_after_rules p [] (of_one_term r.root_term done)) may in
     let u = c.in_ok-insert.ensures.updates in
     goes_on_next known p done r sets errors m c.take_set-set.result start c.take_set-set.new.sets c.insert.new.self c.add_rule.new.self c.add_rule.new.errors.items
     (λ t n. c.take_set-set.ensures.others t (λ e. n (e ∙ same))) goes

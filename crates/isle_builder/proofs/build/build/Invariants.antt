@@ -1,4 +1,5 @@
-use Rattle.std.proofs.Common.{Bool, List, take}
+use Rattle.std.proofs.Common.{All, Bool, List, take}
+use Rattle.isle_base.specs.Positions.{HasSingleSpans}
 use Rattle.isle_model.specs.claims.Environments.{IsElaborated, TypesRead, program_of}
 use Rattle.isle_model.specs.lists.Elaborated.{TypedRules}
 use Rattle.isle_model.specs.lists.Syntax.{Definition}
@@ -7,6 +8,8 @@ use Rattle.isle_builder.specs.Built.{ShowsElaborated}
 use Rattle.isle_builder.proofs.build.build.Given as goal
 
 abbrev pub invariant-loop-rule : goal.invariant-loop-rule
-invariant-loop-rule l =
-    (e : TypesRead) (defs : List Definition) (expand : Bool) (rules : TypedRules) → IsElaborated e defs expand rules → ShowsElaborated e defs rules l.fn.termenv
-    → StandAfter (program_of e defs rules.rules) (take l.rule-index rules.rules) l.sets l.errors.items
+invariant-loop-rule l = record {
+  stand : (e : TypesRead) (defs : List Definition) (expand : Bool) (rules : TypedRules) → IsElaborated e defs expand rules → ShowsElaborated e defs rules l.fn.termenv
+      → StandAfter (program_of e defs rules.rules) (take l.rule-index rules.rules) l.sets l.errors.items;
+  single : All HasSingleSpans l.errors.items;
+}

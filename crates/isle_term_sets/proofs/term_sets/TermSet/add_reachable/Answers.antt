@@ -12,8 +12,8 @@ use Rattle.isle_term_sets.proofs.term_sets.TermSet.add_reachable.Goals as goal
 pub report_fault-requires : goal.report_fault-requires
 report_fault-requires c = record { goes_on = λ e. subst (ForWantOfRoom (IsTable c.close.new.self.table)) e c.in-Err.ensures.kept }
 
-pub returns-in-Ok : goal.returns-in-Ok
-returns-in-Ok c p before w reachable =
+pub returns-in-Ok-clause-goes : goal.returns-in-Ok-clause-goes
+returns-in-Ok-clause-goes c p before w reachable =
     let r = rule_view c.args.rule.now in
     let after = c.close.new.self in
     let mid : TermSet = record { builder = after; rules = c.args.self.now.rules } in
@@ -23,8 +23,8 @@ returns-in-Ok c p before w reachable =
     c.push_rule.ensures.table)
     (c.push_rule.ensures.added (closing most_closing_steps (before_closing before (demands_of p r))) closed.1.demands)
 
-pub returns-in-Err : goal.returns-in-Err
-returns-in-Err c p before w reachable =
+pub returns-in-Err-clause-goes : goal.returns-in-Err-clause-goes
+returns-in-Err-clause-goes c p before w reachable =
     let r = rule_view c.args.rule.now in
     let b = c.args.self.now.builder in
     let after = c.close.new.self in
@@ -34,4 +34,4 @@ returns-in-Err c p before w reachable =
     on_ok_then _ _ c.report_fault.result
     (goes_on_limited p before r after c.args.errors.now.items c.report_fault.new.errors.items c.args.rule.now.pos c.args.self.now mid c.in-Err.fault (with_sites before (demands_of p r).made) refl refl refl w.stands.demands.stand
     (visited_stay p before r rules b w.stands w.few reachable) ends)
-    c.report_fault.ensures
+    c.report_fault.ensures.says

@@ -33,8 +33,8 @@ report_fault-requires g c =
     let ends = c.in-Err.ensures.limit p before m.terms m.formed (c.start_rule.ensures.started before m.table m.once m.stand) in
     record { goes_on = λ e. subst (EndsAtLimit p before (rule_view c.args.rule.now) c.visit_rule.new.self) e ends }
 
-pub returns-in-Ok : goal.returns-in-Ok
-returns-in-Ok g c p before m =
+pub returns-in-Ok-clause-goes : goal.returns-in-Ok-clause-goes
+returns-in-Ok-clause-goes g c p before m =
     let r = rule_view c.args.rule.now in
     let mid : TermSet = record { builder = c.visit_rule.new.self; rules = c.args.self.now.rules } in
     let v = c.in-Ok.ensures.visited p before m.terms m.formed (c.start_rule.ensures.started before m.table m.once m.stand) in
@@ -43,10 +43,10 @@ returns-in-Ok g c p before m =
     (goes_on_from p before r c.args.self.now mid c.add_visited.new.self c.args.errors.now.items c.add_visited.new.errors.items refl
     (λ s l. v.0.goes.kept s (subst (λ ss. s < length ss) (sym same) l) ∙ ap (λ ss. unfold_site ss s) same)
     (subst (λ ss. length ss ≤ length (built_sites c.visit_rule.new.self)) same v.0.goes.longer))
-    (c.add_visited.ensures p before (record { few = v.1; stands = v.0.goes.stands; site = v.0.site }))
+    (c.add_visited.ensures.goes p before (record { few = v.1; stands = v.0.goes.stands; site = v.0.site }))
 
-pub returns-in-Err : goal.returns-in-Err
-returns-in-Err g c p before m =
+pub returns-in-Err-clause-goes : goal.returns-in-Err-clause-goes
+returns-in-Err-clause-goes g c p before m =
     let r = rule_view c.args.rule.now in
     let mid : TermSet = record { builder = c.visit_rule.new.self; rules = c.args.self.now.rules } in
     let ends = c.in-Err.ensures.limit p before m.terms m.formed (c.start_rule.ensures.started before m.table m.once m.stand) in
@@ -55,4 +55,4 @@ returns-in-Err g c p before m =
     let few : length before ≤ most_sites = omega (arith, count, room) in
     on_ok_then _ _ c.report_fault.result
     (goes_on_limited p before r c.visit_rule.new.self c.args.errors.now.items c.report_fault.new.errors.items c.args.rule.now.pos c.args.self.now mid c.in-Err.fault before refl refl refl m.stand (stays_after p before r few) ends)
-    c.report_fault.ensures
+    c.report_fault.ensures.says

@@ -7,27 +7,27 @@ use Rattle.isle_term_sets.proofs.PassedRules.{reachable_if}
 use Rattle.isle_term_sets.proofs.RulesReported.{goes_on_conflicting, goes_on_refused, none_listed, on_ok_then, some_listed, visited_fields}
 use Rattle.isle_term_sets.proofs.term_sets.TermSet.add_visited.Goals as goal
 
-pub returns-then-not-is_empty : goal.returns-then-not-is_empty
-returns-then-not-is_empty c p before w =
+pub returns-then-not-is_empty-clause-goes : goal.returns-then-not-is_empty-clause-goes
+returns-then-not-is_empty-clause-goes c p before w =
     let b = c.args.self.now.builder in
     let same : b.conflicts.items ≡ c.deref.result.now = search (rules, c.deref.ensures) in
     on_ok_then _ _ c.report_conflicts.result
     (goes_on_conflicting p before (rule_view c.args.rule.now) c.args.self.now w.stands w.few c.args.errors.now.items c.report_conflicts.new.errors.items c.args.rule.now.pos refl c.deref.result.now same
     (λ e. some_listed b.conflicts c.is_empty.result c.is_empty.ensures c.if-not-is_empty.true (same ∙ e)))
-    c.report_conflicts.ensures
+    c.report_conflicts.ensures.says
 
-pub returns-in-Some : goal.returns-in-Some
-returns-in-Some c p before w =
+pub returns-in-Some-clause-goes : goal.returns-in-Some-clause-goes
+returns-in-Some-clause-goes c p before w =
     let r = rule_view c.args.rule.now in
     let met = none_listed c.args.self.now.builder.conflicts c.is_empty.result c.is_empty.ensures c.if-not-is_empty.false in
     let found = c.in_ok-why.ensures before (demands_of p r) (visited_fields p before r c.args.self.now.builder w.stands met) in
     on_ok_then _ _ c.report_unreachable.result
     (goes_on_refused p before r c.args.self.now w.stands w.few c.args.errors.now.items c.report_unreachable.new.errors.items c.args.rule.now.pos refl (report_view c.in-Some.why) (sym found ∙ ap report_views c.in-Some.is))
-    c.report_unreachable.ensures
+    c.report_unreachable.ensures.says
 
-pub returns-in-None : goal.returns-in-None
-returns-in-None c p before w =
+pub returns-in-None-clause-goes : goal.returns-in-None-clause-goes
+returns-in-None-clause-goes c p before w =
     let r = rule_view c.args.rule.now in
     let met = none_listed c.args.self.now.builder.conflicts c.is_empty.result c.is_empty.ensures c.if-not-is_empty.false in
     let found = c.in_ok-why.ensures before (demands_of p r) (visited_fields p before r c.args.self.now.builder w.stands met) in
-    c.add_reachable.ensures p before w (reachable_if p before r (set_rule_views c.args.self.now.rules.items) c.args.self.now.builder w.stands w.few (sym found ∙ ap report_views c.in-None.is))
+    c.add_reachable.ensures.goes p before w (reachable_if p before r (set_rule_views c.args.self.now.rules.items) c.args.self.now.builder w.stands w.few (sym found ∙ ap report_views c.in-None.is))
