@@ -10,7 +10,7 @@ use isle_sets::trie_again::BindingId;
 use std::alloc::{AllocError, Global};
 
 // So many sites are walked faster than one is looked up.
-const FEW: usize = 8;
+const FEW: usize = 32;
 
 /// A set of sites: the first few are walked, all others looked up.
 #[derive(Drop)]
