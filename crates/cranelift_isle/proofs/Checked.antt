@@ -1,5 +1,5 @@
 -- Built sets, their errors and what is found in them.
-use Rattle.std.proofs.Common.{◌≡◌, ℕ, Bool, List, [], ◌++◌, slice_get, Some, None, sym, ap, ◌∙◌}
+use Rattle.std.proofs.Common.{◌≡◌, ℕ, Bool, List, [], ◌++◌, slice_get, Some, None, sym, ap, subst, ◌∙◌}
 use Rattle.std.proofs.lemmas.List.{map-append}
 use Rattle.isle_model.specs.rules.Program.{Program, kind_of, flags_of, unknown, is_multi}
 use Rattle.isle_model.specs.lists.Tables.{TermEntry}
@@ -10,13 +10,15 @@ use Rattle.isle_model.specs.claims.Refusals.{refusal_of}
 use Rattle.isle_laws_demands.specs.SetReportLaws.{all_reports}
 use Rattle.isle_model.proofs.Mapped.{nothing_mapped}
 use Rattle.isle_laws_demands.proofs.overlaps.SetChecks.{built_sets_are_checked_lem}
+use Rattle.isle_laws_demands.proofs.overlaps.SetReports.{built_sets_are_reported_lem}
 use Rattle.isle_base.specs.declared.syntax.Error.{Error}
 use Rattle.isle_types.specs.declared.ids.TermId.{TermId}
 use Rattle.isle_rules.specs.declared.term_env.TermEnv.{TermEnv}
 use Rattle.isle_sets.specs.declared.trie_again.RuleSet.{RuleSet}
 use Rattle.isle_term_sets.specs.AddedRules.{report_views}
 use Rattle.isle_builder.specs.Built.{term_set_views, WereBuilt}
-use Rattle.cranelift_isle.specs.Checks.{env_program, ReportsAreErrors}
+use Rattle.cranelift_isle.specs.Checks.{env_program, NamesRules, ReportsAreErrors}
+use Rattle.cranelift_isle.proofs.NamedPlaces.{reports_name_rules}
 use Rattle.isle_base.specs.ErrorViews.{error_view, error_views}
 
 abbrev multi_among : List TermEntry → ℕ → Bool
@@ -45,3 +47,8 @@ module _ (env : TermEnv) (p : Program) (sets : List (TermId × RuleSet)) (errors
     are = views;
     reported = (built_sets_are_checked_lem p (term_set_views sets) reports built.known built.answers).1 (λ e. n (nothing_mapped error_view all (views ∙ ap report_views e)));
   }
+
+  pub found_names_rules : NamesRules p (error_views all)
+  found_names_rules =
+      let later = built_sets_are_reported_lem p (term_set_views sets) built.answers.given.terms built.answers.given.built in
+      subst (NamesRules p) (sym (views ∙ (λ k. report_views (built.answers.reported k ++ later k)))) (reports_name_rules p)

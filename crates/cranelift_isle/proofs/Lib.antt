@@ -4,3 +4,4 @@ pub mod Lowered
 pub mod Checked
 pub mod OneAnswer
 pub mod NamedErrors
+pub mod NamedPlaces

@@ -4,6 +4,7 @@ use Rattle.std.specs.Prelude.{All, Result, slice_index_or}
 use Rattle.std.specs.Global.{Vec}
 use Rattle.std.proofs.lemmas.List.Elements.{All-nil, All-cons, All-head, All-tail}
 use Rattle.isle_base.specs.Answers.{Answers, OnErrors}
+use Rattle.isle_base.specs.Positions.{HasSingleSpans, ErrorStandsAt, positions_of}
 use Rattle.isle_base.specs.declared.syntax.Error.{Error}
 use Rattle.isle_base.specs.declared.syntax.Fault.{Fault}
 use Rattle.isle_base.specs.declared.syntax.Fault.TheVariants.{Memory, Errors}
@@ -25,7 +26,8 @@ use Rattle.isle_rules.specs.ShownEnvs.{environment_shown_by}
 use Rattle.isle_rules.specs.declared.term_env.TermEnv.{TermEnv}
 use Rattle.isle_sets.specs.declared.trie_again.RuleSet.{RuleSet}
 use Rattle.isle_builder.specs.Built.{IsOfElaborated, ShowsElaborated, term_set_views}
-use Rattle.cranelift_isle.specs.Checks.{IsChecked, ReportsAreErrors}
+use Rattle.cranelift_isle.specs.Checks.{IsChecked, NamesRules, OfErrors, ReportsAreErrors}
+use Rattle.cranelift_isle.proofs.NamedPlaces.{rules_stand}
 use Rattle.cranelift_isle.specs.declared.lower.Lowered.{Lowered}
 use Rattle.cranelift_isle.specs.Lowerings.{set_of_term, AreAccepted, IsLowered, OfAccepted, ChooseAsSource, CollectBags, SharesTests, DemandWhole}
 
@@ -161,6 +163,16 @@ module _ {defs : List Definition} {expand : Bool} {env : TermEnv} {types : TypeE
   limits_as : (f : Fault) → IsChecked p (Err f) → OnErrors {A = Lowered} (Err f) (λ es. NamesOnlyPassed (PassedInLowering defs expand) (error_views es))
   limits_as (Errors es) c = passed_in_building es.items c
   limits_as (Memory m) c = tt
+
+  stand_as : (f : Fault) → OnErrors {A = Vec (TermId × RuleSet)} (Err f) (λ es. NamesRules p (error_views es)) → OnErrors {A = Vec (TermId × RuleSet)} (Err f) (λ es. All HasSingleSpans es)
+      → OnErrors {A = Lowered} (Err f) (λ es. All (ErrorStandsAt (positions_of defs)) es)
+  stand_as (Errors es) names single = rules_stand (types_read defs) defs expand rules elaborated es.items single names
+  stand_as (Memory m) names single = tt
+
+  pub stand_of_check : (r : Result Lowered Fault) (f : Fault) → r ≡ Err f → OfErrors env (Err f) NamesRules → OnErrors {A = Vec (TermId × RuleSet)} (Err f) (λ es. All HasSingleSpans es)
+      → OnErrors r (λ es. All (ErrorStandsAt (positions_of defs)) es)
+  stand_of_check r f is names single =
+      subst (λ x. OnErrors x (λ es. All (ErrorStandsAt (positions_of defs)) es)) (sym is) (stand_as f (names (types_read defs) defs expand rules elaborated shown) single)
 
   module _ (r : Result Lowered Fault) (f : Fault) (is : r ≡ Err f) (check : AnswersCheck env (Err f)) where
     pub refused_by_check : Answers r (AreAccepted defs expand) (IsLowered defs expand)

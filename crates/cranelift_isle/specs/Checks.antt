@@ -1,8 +1,8 @@
 -- What checking answers of a program, and of sets that were built.
-use Rattle.std.specs.Prelude.{◌≡◌, Bool, List, [], Result, Ok, Err, ⊤}
+use Rattle.std.specs.Prelude.{◌≡◌, Bool, List, [], map, All, Contains, Result, Ok, Err, ⊤}
 use Rattle.std.specs.Global.{Vec}
 use Rattle.isle_model.specs.rules.Program.{Program}
-use Rattle.isle_model.specs.lists.Syntax.{Definition}
+use Rattle.isle_model.specs.lists.Syntax.{Definition, Position}
 use Rattle.isle_model.specs.lists.Elaborated.{TypedRules}
 use Rattle.isle_model.specs.claims.Environments.{TypesRead, IsElaborated, program_of}
 use Rattle.isle_model.specs.claims.Refusals.{Refusal}
@@ -20,6 +20,7 @@ use Rattle.isle_sets.specs.declared.trie_again.RuleSet.{RuleSet}
 use Rattle.isle_term_sets.specs.AddedRules.{report_views}
 use Rattle.isle_builder.specs.Built.{ShowsElaborated, term_set_views}
 use Rattle.isle_base.specs.ErrorViews.{error_views}
+use Rattle.isle_base.specs.Positions.{positions_named}
 
 -- the terms and rules of an environment, as a program; which terms are multi needs no more of it
 abbrev pub env_program : TermEnv → Program
@@ -46,3 +47,11 @@ OfErrors env result P =
 -- if no two rules stand at one position
 abbrev pub WhereApart : (Program → List Refusal → Type 0) → Program → List Refusal → Type 0
 WhereApart P p errors = HasDistinctPositions p → P p errors
+
+-- where the rules of a program stand
+abbrev pub rule_places : Program → List Position
+rule_places p = map (λ r. r.at) p.rules
+
+-- each position that errors name is that of a rule
+abbrev pub NamesRules : Program → List Refusal → Type 0
+NamesRules p errors = All (λ x. All (Contains (rule_places p)) (positions_named x)) errors

@@ -7,7 +7,6 @@ use Rattle.isle_model.specs.sites.Sites.{SiteSet}
 use Rattle.isle_model.specs.trees.Trees.{Tree}
 use Rattle.isle_model.specs.trees.Best.{IsBestTree}
 use Rattle.isle_model.specs.trees.Collects.{CollectsTheBag}
-use Rattle.isle_model.specs.claims.Environments.{types_read}
 use Rattle.isle_model.specs.claims.Headline.{RunsAsChosen}
 use Rattle.isle_model.specs.claims.Layers.{own_program, IsAccepted, LoweredTerm, LoweringAnswers, TestsAreShared, MeansItsSet, BindsBeforeUse}
 use Rattle.isle_model.specs.claims.SetMeanings.{DemandsAreWhole}

@@ -2,6 +2,7 @@
 
 ghost use Rattle.std.specs.Prelude.{◌≡◌, List, map, All, IfOk};
 ghost use Rattle.isle_base.specs.Answers.{Answers, OnErrors};
+ghost use Rattle.isle_base.specs.Positions.{ErrorStandsAt, positions_of};
 ghost use Rattle.isle_base.specs.SyntaxViews.{definition_views};
 ghost use Rattle.isle_model.specs.claims.Layers.{IsBuiltForSome, RefusedBy};
 ghost use Rattle.isle_model.specs.claims.Refusals.{NamesOnlyPassed};
@@ -105,6 +106,9 @@ pub fn lower(alloc: Global, defs: &[Def], expand: bool) -> Result<Lowered, Fault
 
     // an error names a limit only where a rule passes it
     ensures limits { OnErrors result (λ es. NamesOnlyPassed (PassedInLowering (definition_views defs.now) expand) (error_views es)) }
+
+    // an error names only positions that occur in the definitions, and each of its spans is that of one position
+    ensures places { OnErrors result (λ es. All (ErrorStandsAt (positions_of (definition_views defs.now))) es) }
 {
     // laws, without code: the best trees of accepted definitions keep the headline, and no set has two; accepted definitions
     // pass no limit, and the demands of their rules are whole

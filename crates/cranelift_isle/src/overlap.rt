@@ -1,6 +1,6 @@
 //! The check of overlaps: rules of one priority that may both match, and rules that others mask.
 
-ghost use Rattle.std.specs.Prelude.{Bool, List, ◌≡◌, IfOk};
+ghost use Rattle.std.specs.Prelude.{All, Bool, List, ◌≡◌, IfOk};
 ghost use Rattle.isle_model.specs.lists.Syntax.{Definition};
 ghost use Rattle.isle_model.specs.lists.Elaborated.{TypedRules};
 ghost use Rattle.isle_model.specs.rules.Program.{Program, is_multi};
@@ -8,10 +8,12 @@ ghost use Rattle.isle_model.specs.claims.Environments.{IsElaborated, TypesRead, 
 ghost use Rattle.isle_model.specs.sites.Overlap.{RuleReport};
 ghost use Rattle.isle_model.specs.sites.SetRules.{reports_of_sets};
 ghost use Rattle.isle_laws_demands.specs.ErrorLaws.{NamesLeftOut, NamesPairs, NamesMasks};
+ghost use Rattle.isle_base.specs.Answers.{OnErrors};
 ghost use Rattle.isle_base.specs.ErrorViews.{error_views};
+ghost use Rattle.isle_base.specs.Positions.{HasSingleSpans};
 ghost use Rattle.isle_term_sets.specs.AddedRules.{report_views};
 ghost use Rattle.isle_builder.specs.Built.{IsOfElaborated, ShowsElaborated, WereBuilt, term_set_views};
-ghost use Rattle.cranelift_isle.specs.Checks.{IsChecked, OfErrors, WhereApart, env_program};
+ghost use Rattle.cranelift_isle.specs.Checks.{IsChecked, NamesRules, OfErrors, WhereApart, env_program};
 
 use isle_base::syntax::{Error, Fault};
 use isle_builder::build::build;
@@ -55,7 +57,8 @@ pub fn check_overlaps(
     termenv: &TermEnv,
     sets: &[(TermId, RuleSet)],
 ) -> Result<Vec<Error>, AllocError>
-    ensures { IfOk result (λ v. error_views v.items ≡ report_views (reports_of_sets (is_multi (env_program termenv.now)) (term_set_views sets.now))) }
+    ensures reports { IfOk result (λ v. error_views v.items ≡ report_views (reports_of_sets (is_multi (env_program termenv.now)) (term_set_views sets.now))) }
+    ensures single { IfOk result (λ v. All HasSingleSpans v.items) }
 {
     let mut errors = Errors::new(alloc);
     for (term, set) in sets {
@@ -79,7 +82,10 @@ pub fn check_built(
     sets: Vec<(TermId, RuleSet)>,
     mut errors: Vec<Error>,
 ) -> Result<Vec<(TermId, RuleSet)>, Fault>
-    ensures { (p : Program) (reports : List RuleReport) → WereBuilt termenv.now p sets.items errors.items reports → IsChecked p result }
+    ensures checked { (p : Program) (reports : List RuleReport) → WereBuilt termenv.now p sets.items errors.items reports → IsChecked p result }
+    ensures single { All HasSingleSpans errors.items → OnErrors result (λ es. All HasSingleSpans es) }
+    ensures places { (p : Program) (reports : List RuleReport) → WereBuilt termenv.now p sets.items errors.items reports
+        → OnErrors result (λ es. NamesRules p (error_views es)) }
 {
     let mut found = check_overlaps(alloc, termenv, &sets)?;
     errors.append(&mut found)?;
@@ -113,6 +119,10 @@ pub fn check(alloc: Global, termenv: &TermEnv) -> Result<Vec<(TermId, RuleSet)>,
 
     // and each mask is named by exactly one shadow error, which lists exactly the rules that it shadows
     ensures masks { OfErrors termenv.now result (WhereApart NamesMasks) }
+
+    // an error names only positions of rules, and each of its spans is that of one position
+    ensures places { OfErrors termenv.now result NamesRules }
+    ensures single { OnErrors result (λ es. All HasSingleSpans es) }
 {
     // laws, without code: what the errors name
     check_errors_name_left_out();

@@ -1,18 +1,22 @@
-use Rattle.std.proofs.Common.{◌≡◌, Err, None, All, sym, subst, rules}
+use Rattle.std.proofs.Common.{◌≡◌, ◌++◌, Err, None, All, sym, subst, rules}
 use Rattle.isle_base.specs.Answers.{OnErrors, limit_of}
+use Rattle.isle_base.specs.Positions.{ErrorStandsAt, positions_of}
 use Rattle.isle_base.specs.SyntaxViews.{definition_views}
 use Rattle.isle_laws_lists.proofs.OwnTypes.{own_types_read}
 use Rattle.isle_model.specs.claims.Environments.{types_read}
+use Rattle.isle_model.specs.lists.TypeTable.{type_table}
 use Rattle.isle_model.specs.claims.Layers.{RefusedBy, by_types, by_rules}
 use Rattle.isle_model.specs.claims.Refusals.{NamesOnlyPassed, PassedInReading, RefusesTypes, RefusesRules}
 use Rattle.isle_laws_trees.specs.NoLimits.{PassedInLowering}
+use Rattle.isle_types.specs.TypePositions.{types_positions}
 use Rattle.isle_types.specs.declared.type_env.TypeEnv.{TypeEnv}
 use Rattle.isle_base.specs.ErrorViews.{error_views}
 use Rattle.isle_rules.specs.declared.term_env.TermEnv.{TermEnv}
 use Rattle.isle_rules.proofs.RuleErrorSteps.{no_limit_named}
 use Rattle.cranelift_isle.specs.declared.lower.Lowered.{Lowered}
 use Rattle.cranelift_isle.specs.Lowerings.{lowered_views}
-use Rattle.cranelift_isle.proofs.Lowered.{were_read, of_elaborated, accepted, built_for_some, answers, chosen, unique, whole, collected, refused_by_check, why_refused, limits_of_check, errors_so, passed_in_reading}
+use Rattle.cranelift_isle.proofs.Lowered.{were_read, of_elaborated, accepted, built_for_some, answers, chosen, unique, whole, collected, refused_by_check, why_refused, limits_of_check, stand_of_check, errors_so, passed_in_reading}
+use Rattle.cranelift_isle.proofs.NamedPlaces.{with_types_among}
 use Rattle.cranelift_isle.proofs.lower.lower.Goals as goal
 
 -- valid types can be read, and the type table is read as them
@@ -85,6 +89,12 @@ returns-in_err-tyenv-clause-refused c =
     subst (λ r. OnErrors r (λ es. RefusedBy defs c.args.expand (error_views es))) (sym e)
     (errors_so Lowered TypeEnv c.in_err-tyenv.field-0.0 (λ es. RefusesTypes defs (error_views es)) (λ es. RefusedBy defs c.args.expand (error_views es)) (λ es r. by_types (error_views es) r) c.in_err-tyenv.ensures.refused)
 
+pub returns-in_err-tyenv-clause-places : goal.returns-in_err-tyenv-clause-places
+returns-in_err-tyenv-clause-places c =
+    let P = All (ErrorStandsAt (positions_of (definition_views c.args.defs.now))) in
+    let e : c.from_residual.result ≡ Err c.in_err-tyenv.field-0.0 = search rules in
+    subst (λ r. OnErrors r P) (sym e) (errors_so Lowered TypeEnv c.in_err-tyenv.field-0.0 P P (λ es h. h) c.in_err-tyenv.ensures.places)
+
 pub returns-in_err-termenv-clause-limits : goal.returns-in_err-termenv-clause-limits
 returns-in_err-termenv-clause-limits c =
     let defs = definition_views c.args.defs.now in
@@ -98,6 +108,14 @@ returns-in_err-termenv-clause-refused c =
     let e : c.from_residual-in_err-termenv.result ≡ Err c.in_err-termenv.field-0.0 = search rules in
     subst (λ r. OnErrors r (λ es. RefusedBy defs c.args.expand (error_views es))) (sym e)
     (errors_so Lowered TermEnv c.in_err-termenv.field-0.0 (λ es. RefusesRules (types_read defs) defs c.args.expand (error_views es)) (λ es. RefusedBy defs c.args.expand (error_views es)) (λ es r. by_rules (error_views es) c.in_ok-tyenv.ensures.shown.valid r) c.in_err-termenv.ensures.refused)
+
+pub returns-in_err-termenv-clause-places : goal.returns-in_err-termenv-clause-places
+returns-in_err-termenv-clause-places c =
+    let defs = definition_views c.args.defs.now in
+    let P = All (ErrorStandsAt (positions_of defs)) in
+    let e : c.from_residual-in_err-termenv.result ≡ Err c.in_err-termenv.field-0.0 = search rules in
+    subst (λ r. OnErrors r P) (sym e)
+    (errors_so Lowered TermEnv c.in_err-termenv.field-0.0 (All (ErrorStandsAt (positions_of defs ++ types_positions (type_table defs)))) P (with_types_among defs) c.in_err-termenv.ensures.places)
 
 -- errors of the check
 pub returns-in_err-sets-clause-accepted : goal.returns-in_err-sets-clause-accepted
@@ -114,3 +132,8 @@ pub returns-in_err-sets-clause-refused : goal.returns-in_err-sets-clause-refused
 returns-in_err-sets-clause-refused c =
     let read = were_read (definition_views c.args.defs.now) c.args.expand c.in_ok-termenv.termenv _ c.in_ok-tyenv.ensures.shown.valid c.in_ok-termenv.ensures.answers.1 in
     why_refused read c.from_residual-in_err-sets.result c.in_err-sets.field-0.0 (search rules) c.in_err-sets.ensures.checked
+
+pub returns-in_err-sets-clause-places : goal.returns-in_err-sets-clause-places
+returns-in_err-sets-clause-places c =
+    let read = were_read (definition_views c.args.defs.now) c.args.expand c.in_ok-termenv.termenv _ c.in_ok-tyenv.ensures.shown.valid c.in_ok-termenv.ensures.answers.1 in
+    stand_of_check read c.from_residual-in_err-sets.result c.in_err-sets.field-0.0 (search rules) c.in_err-sets.ensures.places c.in_err-sets.ensures.single

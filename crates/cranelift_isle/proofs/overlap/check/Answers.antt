@@ -8,17 +8,20 @@ use Rattle.cranelift_isle.proofs.overlap.check.Goals as goal
 pub returns : goal.returns
 returns c = record {
   checked = λ e defs expand rules is shown.
-      let p = program_of e defs rules.rules in c.check_built.ensures p (build_reports p) (c.in_ok-sets.ensures.built e defs expand rules is shown);
+      let p = program_of e defs rules.rules in c.check_built.ensures.checked p (build_reports p) (c.in_ok-sets.ensures.built e defs expand rules is shown);
   left_out = λ e defs expand rules is shown.
       let p = program_of e defs rules.rules in
       named NamesLeftOut p c.check_built.result (λ reports. c.check_errors_name_left_out.ensures e defs expand rules reports is)
-      (c.check_built.ensures p (build_reports p) (c.in_ok-sets.ensures.built e defs expand rules is shown));
+      (c.check_built.ensures.checked p (build_reports p) (c.in_ok-sets.ensures.built e defs expand rules is shown));
   pairs = λ e defs expand rules is shown.
       let p = program_of e defs rules.rules in
       named (WhereApart NamesPairs) p c.check_built.result (λ reports. c.check_errors_name_pairs.ensures e defs expand rules reports is)
-      (c.check_built.ensures p (build_reports p) (c.in_ok-sets.ensures.built e defs expand rules is shown));
+      (c.check_built.ensures.checked p (build_reports p) (c.in_ok-sets.ensures.built e defs expand rules is shown));
   masks = λ e defs expand rules is shown.
       let p = program_of e defs rules.rules in
       named (WhereApart NamesMasks) p c.check_built.result (λ reports. c.check_errors_name_masks.ensures e defs expand rules reports is)
-      (c.check_built.ensures p (build_reports p) (c.in_ok-sets.ensures.built e defs expand rules is shown));
+      (c.check_built.ensures.checked p (build_reports p) (c.in_ok-sets.ensures.built e defs expand rules is shown));
+  places = λ e defs expand rules is shown.
+      let p = program_of e defs rules.rules in c.check_built.ensures.places p (build_reports p) (c.in_ok-sets.ensures.built e defs expand rules is shown);
+  single = c.check_built.ensures.single c.in_ok-sets.ensures.single;
 }

@@ -4,7 +4,7 @@ use Rattle.isle_model.specs.rules.Program.{is_multi}
 use Rattle.isle_model.specs.sites.Overlap.{rule_shadows}
 use Rattle.isle_model.specs.sites.SetRules.{shadows_in_sets, wrong_in_sets}
 use Rattle.isle_builder.specs.Built.{term_set_views}
-use Rattle.isle_overlap.specs.Found.{found_shadows, found_wrong}
+use Rattle.isle_overlap.specs.Found.{HaveSingleSpans, found_shadows, found_wrong}
 use Rattle.cranelift_isle.specs.Checks.{env_program}
 use Rattle.cranelift_isle.proofs.overlap.check_overlaps.Given as goal
 
@@ -12,4 +12,5 @@ abbrev pub invariant-loop-term : goal.invariant-loop-term
 invariant-loop-term l = record {
   wrong : found_wrong l.errors ≡ wrong_in_sets (is_multi (env_program l.termenv)) (term_set_views (take l.term-index l.sets));
   shadows : found_shadows l.errors ≡ map refusal_of (map rule_shadows (shadows_in_sets (is_multi (env_program l.termenv)) (term_set_views (take l.term-index l.sets))));
+  single : HaveSingleSpans l.errors;
 }

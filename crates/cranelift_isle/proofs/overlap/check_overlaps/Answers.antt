@@ -1,0 +1,9 @@
+use Rattle.std.proofs.Common.{All}
+use Rattle.std.proofs.lemmas.Result.{IfOk-weaker}
+use Rattle.isle_base.specs.Positions.{HasSingleSpans}
+use Rattle.isle_overlap.specs.Found.{HaveSingleSpans}
+use Rattle.cranelift_isle.proofs.overlap.check_overlaps.Goals as goal
+
+pub returns-clause-single : goal.returns-clause-single
+returns-clause-single c =
+    IfOk-weaker c.report.result (λ v. HaveSingleSpans c.loop-term.errors → All HasSingleSpans v.items) (λ v. All HasSingleSpans v.items) (λ v h. h c.loop-term.invariant.single) c.report.ensures.single
