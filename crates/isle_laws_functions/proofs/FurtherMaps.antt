@@ -1,0 +1,123 @@
+-- Finite maps for more than the rules of a term ask serve them too.
+use Rattle.std.proofs.Common.{◌≡◌, ℕ, suc, Bool, true, false, List, Option, Some, IsSomeAnd, IsTrue, Contains, flat_map, sym, ap, ◌∙◌, subst, inl, inr}
+use Rattle.isle_model.specs.lists.Syntax.{Definition}
+use Rattle.isle_model.specs.lists.Elaborated.{TypedRules}
+use Rattle.isle_model.specs.rules.Values.{Value, of_variant, Values, of_list, well_typed, all_well_typed}
+use Rattle.isle_model.specs.rules.Meaning.{Content, one, Meaning, bool_literal, int_literal}
+use Rattle.isle_model.specs.rules.Outcome.{then_option}
+use Rattle.isle_model.specs.rules.Program.{Program, kind, arg_types, rules_of}
+use Rattle.isle_model.specs.rules.Picks.{Pick, site_values}
+use Rattle.isle_model.specs.rules.Typed.{TypedRule}
+use Rattle.isle_model.specs.sites.Sites.{Constraint, SiteTerm, bool_term, int_term, prim_term, extractor_call, constructor_call, variant_made, SiteTerms}
+use Rattle.isle_model.specs.sites.Demands.{demands_of}
+use Rattle.isle_model.specs.sites.Serves.{Holds, holds_variant, HoldsAll, asked_by, asked, constant_site, constant_type, typed_as, fits_extractor, fits_constructor, Serves}
+use Rattle.isle_model.specs.claims.Environments.{TypesRead, IsElaborated, program_of}
+use Rattle.isle_model.proofs.Elements.{In, in_from_contains, contains_from_in, in_either, in_left, in_flat_map, from_flat_map}
+use Rattle.isle_laws_lists.proofs.FormedRules.{rules_are_formed}
+use Rattle.isle_laws_lists.proofs.TypedRules as typed
+use Rattle.isle_laws_runs.proofs.picks.Held.{contents_are_held_lem}
+use Rattle.isle_laws_demands.proofs.visits.Declared.{program_not_both}
+use Rattle.isle_laws_demands.proofs.visits.Elaborated.{elaborated_rules_hang}
+use Rattle.isle_laws_demands.proofs.matching.NeverMatches.{program_has_types}
+use Rattle.isle_laws_demands.proofs.matching.TypedParts.{program_has_typed_parts}
+use Rattle.isle_laws_demands.proofs.matching.Visits.{of_term}
+use Rattle.isle_laws_demands.specs.TotalLaws.{TotalMeaning, matched_in, called_in, matched_terms, called_terms, IsTotalFor, Agrees}
+use Rattle.isle_laws_demands.proofs.total.Listed.{restricted, restricted_agrees, bool_there, int_there, constant_there, extractor_there, pure_there, impure_there}
+use Rattle.isle_laws_demands.proofs.total.Shaped.{Uses, HasShape, held_fits, all_held_fit, bool_shape, int_shape, prim_shape, ExtractorShape, extractor_shape, ConstructorShape, pure_shape, impure_shape}
+use Rattle.isle_laws_demands.proofs.total.ShapedSites.{rule_shaped}
+
+-- 1. what a pick gives can be held
+made_held : {m : Meaning} {args : List Value} {ss : SiteTerms} {vs : Values} → Holds m args (variant_made 0 0 ss) (one (of_variant 0 0 vs)) → HoldsAll m args ss vs
+made_held (holds_variant h) = h
+
+values_held : (m : Meaning) (args : List Value) (k : Pick) (ss : SiteTerms) (vs : Values) → site_values m args k ss ≡ Some vs → HoldsAll m args ss vs
+values_held m args k ss vs e =
+    made_held (contents_are_held_lem m args k (variant_made 0 0 ss) (one (of_variant 0 0 vs)) (ap (λ (o : Option Values). then_option o (λ ws. Some (one (of_variant 0 0 ws)))) e))
+
+-- 2. the maps serve
+module _ (e : TypesRead) (defs : List Definition) (expand : Bool) (rules : TypedRules) (h : IsElaborated e defs expand rules) (t : ℕ) where
+  abbrev p : Program
+  p = program_of e defs rules.rules
+
+  abbrev rs : List TypedRule
+  rs = rules_of p t
+
+  abbrev uses : Uses
+  uses = record { args = arg_types p t; matched = matched_terms rs; called = called_terms rs }
+
+  -- each site that is asked has a shape
+  asked_shaped : (u : SiteTerm) → Contains (asked p rs) u → HasShape p uses u
+  asked_shaped u c =
+      let a = from_flat_map (λ (r : TypedRule). asked_by (demands_of p r)) rs u (in_from_contains (asked p rs) u c) in
+      let b = of_term e defs expand rules h t a.0 (contains_from_in rs a.0 a.1) in
+      let formed = (elaborated_rules_hang rules_are_formed typed.lists_agree e defs expand rules h a.0 b.0).0 in
+      let s = rule_shaped p uses (program_has_typed_parts e defs expand rules h) (program_has_types e defs expand rules h) (program_not_both e defs expand rules h) a.0 formed
+      (λ x i. contains_from_in (matched_terms rs) x (in_flat_map matched_in rs a.0 x a.1 i)) (λ x i. contains_from_in (called_terms rs) x (in_flat_map called_in rs a.0 x a.1 i)) (ap (arg_types p) b.1) in
+      elim (in_either (demands_of p a.0).made (flat_map (λ (x : SiteTerm × Constraint). constant_site x.1) (demands_of p a.0).constraints) u a.2) [
+        | inl i ↦ s.0 u i
+        | inr i ↦ let d = from_flat_map (λ (x : SiteTerm × Constraint). constant_site x.1) (demands_of p a.0).constraints u i in s.1 d.0 d.1 u d.2
+      ]
+
+  module _ (f : TotalMeaning) (args : List Value) (well : IsTotalFor p t f) (given : all_well_typed p.types (Some uses.args) (of_list args) ≡ true)
+      (sites : List SiteTerm) (all : (u : SiteTerm) → In (asked p rs) u → In sites u) where
+    abbrev m : Meaning
+    m = restricted f args sites
+
+    abbrev agrees : Agrees m f
+    agrees = restricted_agrees f args sites
+
+    constant_fits : (name ty : ℕ) → constant_type p name ≡ Some ty → typed_as p (constant_type p name) (f.constants name) ≡ true
+    constant_fits name ty there = subst (λ o. typed_as p o (f.constants name) ≡ true) (sym there) (well.constants name ty there)
+
+    extractor_fits : (u : ℕ) (s : SiteTerm) (v : Value) → ExtractorShape p uses u s → Holds m args s (one v) → fits_extractor p u (kind p u) (f.extractors u v) ≡ true
+    extractor_fits u s v x g = well.extractors u x.entry v x.used x.there x.can (held_fits p uses f well m agrees args given s x.of (one v) g)
+
+    pure_fits : (u : ℕ) (ss : SiteTerms) (vs : Values) → ConstructorShape p uses u ss true → HoldsAll m args ss vs → fits_constructor p u (kind p u) (f.pures u vs) ≡ true
+    pure_fits u ss vs x g = well.pures u x.entry vs x.used x.there x.can x.is (all_held_fit p uses f well m agrees args given ss x.of vs g)
+
+    impure_fits : (u before : ℕ) (ss : SiteTerms) (vs : Values) → ConstructorShape p uses u ss false → HoldsAll m args ss vs → fits_constructor p u (kind p u) (f.impures u before) ≡ true
+    impure_fits u before ss vs x g = well.impures u before x.entry vs x.used x.there x.can x.is (all_held_fit p uses f well m agrees args given ss x.of vs g)
+
+    made_asked : (r : TypedRule) (u : SiteTerm) → Contains rs r → Contains (demands_of p r).made u → Contains (asked p rs) u
+    made_asked r u c i =
+        contains_from_in (asked p rs) u
+        (in_flat_map (λ (q : TypedRule). asked_by (demands_of p q)) rs r u (in_from_contains rs r c)
+        (in_left (demands_of p r).made (flat_map (λ (x : SiteTerm × Constraint). constant_site x.1) (demands_of p r).constraints) u (in_from_contains (demands_of p r).made u i)))
+
+    answered : (o : Option Content) (c : Content) (fits : Content → Bool) → o ≡ Some c → fits c ≡ true → IsSomeAnd o (λ d. IsTrue (fits d))
+    answered o c fits q x = subst (λ y. IsSomeAnd y (λ d. IsTrue (fits d))) (sym q) x
+
+    valued : (o : Option Value) (v : Value) (fits : Value → Bool) → o ≡ Some v → fits v ≡ true → IsSomeAnd o (λ w. IsTrue (fits w))
+    valued o v fits q x = subst (λ y. IsSomeAnd y (λ w. IsTrue (fits w))) (sym q) x
+
+    is_here : (u : SiteTerm) → Contains (asked p rs) u → In sites u
+    is_here u c = all u (in_from_contains (asked p rs) u c)
+
+    pub further_serves : Serves p m args rs
+    further_serves = record {
+      bools = λ b ty c.
+          valued _ (f.literals (bool_literal b ty)) (well_typed p.types ty) (bool_there f args sites b ty (is_here (bool_term b ty) c))
+          (well.bools b ty (bool_shape (asked_shaped (bool_term b ty) c).shaped));
+      ints = λ z ty c.
+          valued _ (f.literals (int_literal z ty)) (well_typed p.types ty) (int_there f args sites z ty (is_here (int_term z ty) c))
+          (well.ints z ty (int_shape (asked_shaped (int_term z ty) c).shaped));
+      written_bools = λ b ty c.
+          bool_there f args sites b ty (is_here (bool_term b ty) c) ∙ ap Some (well.written_bools b ty (bool_shape (asked_shaped (bool_term b ty) c).shaped));
+      written_ints = λ z ty c own. int_there f args sites z ty (is_here (int_term z ty) c) ∙ ap Some (well.written_ints z ty own);
+      prims = λ name c.
+          (let x = prim_shape (asked_shaped (prim_term name) c).shaped in
+          valued _ (f.constants name) (typed_as p (constant_type p name)) (constant_there f args sites name (is_here (prim_term name) c)) (constant_fits name x.0 x.1));
+      extractors = λ k u s v c i.
+          (let g = contents_are_held_lem m args k s (one v) i in
+          answered _ (f.extractors u v) (fits_extractor p u (kind p u)) (extractor_there f args sites u s v (is_here (extractor_call u s) c) g)
+          (extractor_fits u s v (extractor_shape (asked_shaped (extractor_call u s) c).shaped) g));
+      pures = λ k u ss vs c i.
+          (let g = values_held m args k ss vs i in
+          answered _ (f.pures u vs) (fits_constructor p u (kind p u)) (pure_there f args sites u ss vs (is_here (constructor_call u ss 0) c) g)
+          (pure_fits u ss vs (pure_shape (asked_shaped (constructor_call u ss 0) c).shaped) g));
+      impures = λ k r u before ss vs c matched i had j.
+          (let g = values_held m args k ss vs j in
+          let a = made_asked r (constructor_call u ss (suc before)) c i in
+          answered _ (f.impures u before) (fits_constructor p u (kind p u)) (impure_there f args sites u before ss (is_here (constructor_call u ss (suc before)) a))
+          (impure_fits u before ss vs (impure_shape (asked_shaped (constructor_call u ss (suc before)) a).shaped) g));
+    }

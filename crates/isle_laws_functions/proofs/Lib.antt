@@ -1,0 +1,4 @@
+pub mod Equations
+pub mod UnderMeanings
+pub mod FurtherMaps
+pub mod Choosing

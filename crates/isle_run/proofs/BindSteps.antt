@@ -1,0 +1,85 @@
+-- Sites that are bound, one after another.
+use Rattle.std.proofs.Common.{◌≡◌, ℕ, zero, suc, true, false, ◌+◌, ◌<◌, ◌≤◌, List, [], ◌∷◌, ◌++◌, length, get_or, take, drop, Some, slice_get, refl, sym, ap, ◌∙◌, append_assoc}
+use Rattle.std.proofs.lemmas.Bool.{false≢true}
+use Rattle.std.proofs.lemmas.List.{at_drop_more, at_drop_all, append-nil, map-append, length-map}
+use Rattle.std.proofs.Math.Seq.{take-append_seam}
+use Rattle.isle_model.specs.rules.Values.{Values}
+use Rattle.isle_model.specs.rules.Meaning as M
+use Rattle.isle_model.specs.rules.Outcome as O
+use Rattle.isle_model.specs.trees.Run.{Env, Bound, all_bound, now_bound, then_bind}
+use Rattle.isle_laws_functions.specs.RunBy.{Stage, bind_site_by, bind_all_by, constructed_by}
+use Rattle.isle_run.specs.declared.values.Content.{Content}
+use Rattle.isle_run.specs.declared.state.Call.{Call}
+use Rattle.isle_run.specs.declared.state.Bound as C
+use Rattle.isle_run.specs.declared.state.Bound.TheVariants.{All, Failed, Missing}
+use Rattle.isle_run.specs.RunViews.{env_view, Begins, bound_view, is_all_bound, call_view, call_views}
+use Rattle.isle_run.specs.ValueViews.{content_view}
+use Rattle.isle_run.proofs.EnvSteps.{onto_push}
+
+-- 1. the list of what is bound
+pub env_pushed : (old new : List (ℕ × Content)) (s : ℕ) (c : Content) → new ≡ old ++ (s, c) ∷ [] → env_view new ≡ (s, content_view c) ∷ env_view old
+env_pushed old new s c is = ap env_view is ∙ onto_push old (s, c) []
+
+pub begins_here : (old : List (ℕ × Content)) → Begins old old
+begins_here old = ([], sym (append-nil old))
+
+pub begins_same : (old new : List (ℕ × Content)) → new ≡ old → Begins old new
+begins_same old new is = ([], is ∙ sym (append-nil old))
+
+pub begins_pushed : (old new : List (ℕ × Content)) (e : ℕ × Content) → new ≡ old ++ e ∷ [] → Begins old new
+begins_pushed old new e is = (e ∷ [], is)
+
+pub begins_then : (a b c : List (ℕ × Content)) → Begins a b → Begins b c → Begins a c
+begins_then a b c g h = (g.0 ++ h.0, h.1 ∙ ap (λ l. l ++ h.0) g.1 ∙ append_assoc a g.0 h.0)
+
+pub cut_back : (old new cut : List (ℕ × Content)) (n : ℕ) → Begins old new → n ≡ length old → cut ≡ take n new → cut ≡ old
+cut_back old new cut n g e is = is ∙ ap (λ k. take k new) e ∙ ap (take (length old)) g.1 ∙ take-append_seam old g.0
+
+-- 2. calls that are listed
+pub call_listed : (old new : List Call) (c : Call) → new ≡ old ++ c ∷ [] → call_views new ≡ call_views old ++ call_view c ∷ []
+call_listed old new c is = ap call_views is ∙ map-append call_view old (c ∷ [])
+
+pub calls_counted : (w : Stage) (calls : List Call) (term n : ℕ) (c : M.Content) → n ≡ length calls → c ≡ w.functions.impures term n → c ≡ w.functions.impures term (length (call_views calls))
+calls_counted w calls term n c e h = h ∙ ap (w.functions.impures term) (e ∙ sym (length-map calls call_view))
+
+pub pure_called : (w : Stage) (calls : List O.Call) (term instance : ℕ) (vs : Values) (c : M.Content) → instance ≡ 0 → c ≡ w.functions.pures term vs
+    → (env : Env) (s : ℕ) → now_bound env calls s (Some c) ≡ constructed_by w env calls s term instance (Some vs)
+pure_called w calls term instance vs c z h env s = ap (λ d. now_bound env calls s (Some d)) h ∙ ap (λ k. constructed_by w env calls s term k (Some vs)) (sym z)
+
+impure_by : (w : Stage) (env : Env) (calls : List O.Call) (s term instance : ℕ) (vs : Values) → (instance ≡ 0 → ⊥)
+    → constructed_by w env calls s term instance (Some vs) ≡ now_bound env (calls ++ record { term = term; args = vs } ∷ []) s (Some (w.functions.impures term (length calls)))
+impure_by w env calls s term zero vs n = absurd (n refl)
+impure_by w env calls s term (suc k) vs n = refl
+
+pub impure_called : (w : Stage) (calls new : List O.Call) (term instance : ℕ) (vs : Values) (c : M.Content) → (instance ≡ 0 → ⊥) → c ≡ w.functions.impures term (length calls) → new ≡ calls ++ record { term = term; args = vs } ∷ []
+    → (env : Env) (s : ℕ) → now_bound env new s (Some c) ≡ constructed_by w env calls s term instance (Some vs)
+impure_called w calls new term instance vs c n h is env s =
+    ap (λ l. now_bound env l s (Some c)) is ∙ ap (λ d. now_bound env (calls ++ record { term = term; args = vs } ∷ []) s (Some d)) h ∙ sym (impure_by w env calls s term instance vs n)
+
+-- 3. sites in order
+module _ (w : Stage) where
+  pub then_all : (env env' : Env) (calls calls' : List O.Call) (s : ℕ) (rest : List ℕ) (b : C.Bound) → bound_view b env' calls' ≡ bind_site_by w env calls s (slice_get w.sites s) → is_all_bound b ≡ true
+      → bind_all_by w env' calls' rest ≡ bind_all_by w env calls (s ∷ rest)
+  then_all env env' calls calls' s rest All e h = ap (λ z. then_bind z (λ env'' calls''. bind_all_by w env'' calls'' rest)) e
+  then_all env env' calls calls' s rest Failed e h = absurd (false≢true h)
+  then_all env env' calls calls' s rest Missing e h = absurd (false≢true h)
+
+  pub not_all : (env env' : Env) (calls calls' : List O.Call) (s : ℕ) (rest : List ℕ) (b : C.Bound) → bound_view b env' calls' ≡ bind_site_by w env calls s (slice_get w.sites s) → is_all_bound b ≡ false
+      → bound_view b env' calls' ≡ bind_all_by w env calls (s ∷ rest)
+  not_all env env' calls calls' s rest All e h = absurd (false≢true (sym h))
+  not_all env env' calls calls' s rest Failed e h = ap (λ z. then_bind z (λ env'' calls''. bind_all_by w env'' calls'' rest)) e
+  not_all env env' calls calls' s rest Missing e h = ap (λ z. then_bind z (λ env'' calls''. bind_all_by w env'' calls'' rest)) e
+
+  here : (env : Env) (calls : List O.Call) (ss : List ℕ) (i s : ℕ) → i < length ss → s ≡ get_or ss i s → bind_all_by w env calls (drop i ss) ≡ bind_all_by w env calls (s ∷ drop (i + 1) ss)
+  here env calls ss i s h at = at_drop_more (bind_all_by w env calls) ss i s h ∙ ap (λ k. bind_all_by w env calls (k ∷ drop (i + 1) ss)) (sym at)
+
+  pub all_more : (env env' : Env) (calls calls' : List O.Call) (ss : List ℕ) (i s : ℕ) (b : C.Bound) (whole : Bound) → i < length ss → s ≡ get_or ss i s → bound_view b env' calls' ≡ bind_site_by w env calls s (slice_get w.sites s) → is_all_bound b ≡ true
+      → bind_all_by w env calls (drop i ss) ≡ whole → bind_all_by w env' calls' (drop (i + 1) ss) ≡ whole
+  all_more env env' calls calls' ss i s b whole h at e t inv = then_all env env' calls calls' s (drop (i + 1) ss) b e t ∙ sym (here env calls ss i s h at) ∙ inv
+
+  pub all_stopped : (env env' : Env) (calls calls' : List O.Call) (ss : List ℕ) (i s : ℕ) (b : C.Bound) (whole : Bound) → i < length ss → s ≡ get_or ss i s → bound_view b env' calls' ≡ bind_site_by w env calls s (slice_get w.sites s) → is_all_bound b ≡ false
+      → bind_all_by w env calls (drop i ss) ≡ whole → bound_view b env' calls' ≡ whole
+  all_stopped env env' calls calls' ss i s b whole h at e t inv = not_all env env' calls calls' s (drop (i + 1) ss) b e t ∙ sym (here env calls ss i s h at) ∙ inv
+
+  pub all_done : (env : Env) (calls : List O.Call) (ss : List ℕ) (i : ℕ) (whole : Bound) → length ss ≤ i → bind_all_by w env calls (drop i ss) ≡ whole → all_bound env calls ≡ whole
+  all_done env calls ss i whole h inv = sym (at_drop_all (bind_all_by w env calls) ss i h) ∙ inv

@@ -1,0 +1,2 @@
+pub mod ValueViews
+pub mod RunViews
