@@ -230,7 +230,8 @@ pub fn none_is_accepted_and_refused()
     ensures { NoneIsAcceptedAndRefused }
 {}
 
-/// Definitions that are read, and whose rules stand at distinct positions, are refused with one list of errors.
+/// Definitions that are read are refused with one list of errors, those of their check; what says why they are refused fixes
+/// it too, where no two rules stand at one position.
 pub fn refusing_gives_one()
     ensures { RefusingGivesOne }
 {}
