@@ -1,9 +1,9 @@
 -- The rules of built sets ask all that follows from what the source rules demand, by the numbers of the set.
-use Rattle.std.proofs.Common.{◌≡◌, ◌≢◌, ◌↔◌, ◌∙◌, ap, sym, subst, ℕ, zero, suc, ◌<◌, List, [], ◌∷◌, map, length, Some, slice_get, Contains}
+use Rattle.std.proofs.Common.{◌≡◌, ◌≢◌, ap, sym, subst, ℕ, zero, suc, ◌<◌, List, [], ◌∷◌, length, Some, slice_get, Contains}
 use Rattle.std.specs.Prelude.{IsTrue}
 use Rattle.std.proofs.lemmas.Option.{none-some}
 use Rattle.isle_model.specs.rules.Typed.{TypedRule}
-use Rattle.isle_model.specs.rules.Program.{Program, rules_of}
+use Rattle.isle_model.specs.rules.Program.{Program}
 use Rattle.isle_model.specs.sites.Sites.{Site, Constraint, SetRule, SiteSet, SiteTerm, unfold_site}
 use Rattle.isle_model.specs.sites.Demands.{Demands, demands_of}
 use Rattle.isle_model.specs.sites.Closure.{HasConstraint, IsClosedEquality, ClosedIsWhole}
@@ -16,7 +16,7 @@ use Rattle.isle_model.proofs.Elements.{contains_from_in, in_slice, some_is}
 use Rattle.isle_model.proofs.Mapped.{get_mapped, get_map}
 use Rattle.isle_laws_demands.specs.BuiltLaws.{BuiltDemandsAreWhole}
 use Rattle.isle_laws_demands.proofs.visits.Once.{one_number}
-use Rattle.isle_laws_trees.specs.WholeDemands.{HasSiteFor, AsksWhatFollows, HasSource, HasRuleFor, IsWhole, AcceptedSetsAreWhole}
+use Rattle.isle_laws_trees.specs.WholeDemands.{HasSiteFor, AsksWhatFollows, AcceptedSetsAreWhole}
 
 -- a rule of a built set and the built rule that it stands for
 module _ (p : Program) (t : ℕ) (set : SiteSet) (built : IsBuilt p t set) (b : BuiltRule) (r : SetRule) (is : IsRuleOf p set.sites b r) (whole : ClosedIsWhole (demands_of p b.rule) b.demands) where

@@ -1,5 +1,5 @@
 -- What the errors that checking answers name.
-use Rattle.std.proofs.Common.{◌≡◌, ℕ, ◌+◌, ◌≤◌, Bool, true, false, List, [], ◌∷◌, ◌++◌, length, map, Contains, refl, sym, ap, ◌∙◌, subst, inl, inr, arith}
+use Rattle.std.proofs.Common.{◌≡◌, ◌+◌, ◌≤◌, Bool, true, false, List, [], ◌∷◌, length, map, Contains, refl, sym, ap, ◌∙◌, subst, inl, inr, arith}
 use Rattle.std.proofs.lemmas.Bool.{false≢true}
 use Rattle.std.proofs.lemmas.List.Elements.{All-contains}
 use Rattle.isle_model.specs.lists.Syntax.{Position}
@@ -12,7 +12,7 @@ use Rattle.isle_model.proofs.Elements.{In, in_from_contains, contains_from_in, i
 use Rattle.isle_laws_demands.specs.ErrorLaws.{SaysLeftOut, NamesLeftOut, names_both, NamesPairs, NamesMasks, CheckErrorsNameLeftOut, CheckErrorsNamePairs, CheckErrorsNameMasks}
 use Rattle.isle_laws_demands.specs.PairLaws.{lists_both, one_if, times}
 use Rattle.isle_laws_demands.specs.ReportLaws.{RulesHaveTerms, OverlapAt}
-use Rattle.isle_laws_demands.specs.ShadowLaws.{names_mask, shadowed_by, check_errors}
+use Rattle.isle_laws_demands.specs.ShadowLaws.{check_errors}
 use Rattle.isle_laws_demands.proofs.overlaps.Counted.{said_once}
 use Rattle.isle_laws_demands.proofs.overlaps.Judged.{elaborated_rules_have_terms_lem}
 use Rattle.isle_laws_demands.proofs.overlaps.LeftOut.{build_reports_are_left_out, left_out_rules_are_reported_lem}
