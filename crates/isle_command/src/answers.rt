@@ -111,7 +111,7 @@ fn refusal(
         });
     }
     let mut err = String::new(alloc);
-    push_reports(&mut err, files, reports, asked.format.layout())?;
+    push_reports(&mut err, files, reports, asked.layout())?;
     Ok(Answer {
         status: 1,
         out: String::new(alloc),
@@ -186,7 +186,7 @@ fn warned(
     if asked.format == Format::Json {
         out = document_of_warnings(alloc, files, warnings)?;
     } else {
-        push_reports(&mut err, files, warnings, asked.format.layout())?;
+        push_reports(&mut err, files, warnings, asked.layout())?;
     }
     Ok(Answer { status, out, err })
 }

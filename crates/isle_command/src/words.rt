@@ -34,14 +34,6 @@ pub enum Format {
 }
 
 impl Format {
-    /// How reports are laid out where they are told to a person.
-    pub fn layout(self) -> Layout {
-        match self {
-            Format::Line => Layout::Line,
-            Format::Text | Format::Json | Format::Dot => Layout::Text,
-        }
-    }
-
     // Whether a task has answers of this form.
     fn is_of(self, task: Task) -> bool {
         match self {
@@ -62,6 +54,8 @@ pub struct Request<'a> {
     pub deny: bool,
     /// The form of the answer.
     pub format: Format,
+    /// Whether what is told to a person has a terminal's colours.
+    pub colored: bool,
     /// The names of the terms whose trees are wanted, with commas between them; all where there are none.
     pub terms: Option<&'a str>,
     /// Where files are looked for whose names don't begin with `/`; the empty text for where the command runs.
@@ -79,6 +73,7 @@ impl<'a> Drop for Request<'a> {
             expand: _,
             deny: _,
             format: _,
+            colored: _,
             terms: _,
             folder: _,
             rule: _,
@@ -95,19 +90,21 @@ enum Awaited {
     Terms,
     Folder,
     Format,
+    Color,
     // An option or a file.
     Any,
 }
 
 /// What these words ask, or None where they ask for nothing. They are the name of a task; for `explain` the rule; then
 /// files, the last of `compare` with trees, or for `samples` at most one sample. Everywhere behind the task there may be `--no-expand`, `--terms NAMES`,
-/// `--format text`, `--format line` and `-C FOLDER`; `--deny` for `check`, `--format json` for `lower` and `check`, `--format dot` for `lower`.
+/// `--format text`, `--format line`, `--color always`, `--color never` and `-C FOLDER`; `--deny` for `check`, `--format json` for `lower` and `check`, `--format dot` for `lower`.
 pub fn asked_by<'a>(alloc: Global, words: &'a [String]) -> Result<Option<Request<'a>>, AllocError> {
     let mut asked = Request {
         task: Task::Lower,
         expand: true,
         deny: false,
         format: Format::Text,
+        colored: false,
         terms: None,
         folder: "",
         rule: "",
@@ -137,6 +134,20 @@ impl<'a> Request<'a> {
         }
     }
 
+    /// How reports are laid out where they are told to a person.
+    pub fn layout(&self) -> Layout {
+        match self.format {
+            Format::Line => Layout::Line,
+            Format::Text | Format::Json | Format::Dot => {
+                if self.colored {
+                    Layout::Colored
+                } else {
+                    Layout::Text
+                }
+            }
+        }
+    }
+
     /// Whether the file of a number has printed trees, and no definitions.
     pub fn has_trees(&self, number: usize) -> bool {
         self.task == Task::Compare && number.saturating_add(1) == self.files.len()
@@ -147,6 +158,7 @@ impl<'a> Request<'a> {
         match awaited {
             Awaited::Task => Ok(self.read_task(word)),
             Awaited::Format => Ok(self.read_format(word)),
+            Awaited::Color => Ok(self.read_color(word)),
             Awaited::Any => self.read_any(word),
             Awaited::Rule => {
                 self.rule = word;
@@ -190,6 +202,16 @@ impl<'a> Request<'a> {
         Some(Awaited::Any)
     }
 
+    // Reads when there are colours.
+    fn read_color(&mut self, word: &str) -> Option<Awaited> {
+        self.colored = match word {
+            "always" => true,
+            "never" => false,
+            _ => return None,
+        };
+        Some(Awaited::Any)
+    }
+
     // Reads an option or a file.
     fn read_any(&mut self, word: &'a str) -> Result<Option<Awaited>, AllocError> {
         match word {
@@ -207,6 +229,7 @@ impl<'a> Request<'a> {
             }
             "--terms" => Ok(Some(Awaited::Terms)),
             "--format" => Ok(Some(Awaited::Format)),
+            "--color" => Ok(Some(Awaited::Color)),
             "-C" => Ok(Some(Awaited::Folder)),
             _ => self.read_file(word),
         }

@@ -1,5 +1,7 @@
-// Trees of generated definitions, judged; and trees that the judge refuses.
+// Trees of generated definitions and of samples, judged; and trees that the judge refuses.
+use crate::tests::samples::TREES;
 use cranelift_isle::lower::{Lowered, LoweredTerm, lower};
+use isle_answers::samples::sample_text;
 use isle_base::syntax;
 use isle_base::syntax::Pos;
 use isle_judge::generated::{FORMS, list};
@@ -99,6 +101,25 @@ fn lists_from_300_have_best_trees(rt: HostRuntime) -> Result<(), Fail> {
 #[test]
 fn lists_from_400_have_best_trees(rt: HostRuntime) -> Result<(), Fail> {
     judge_hundred(&rt, rt.alloc(), 400)
+}
+
+// The samples with trees have 15 terms.
+#[test]
+fn samples_have_best_trees(rt: HostRuntime) -> Result<(), Fail> {
+    let alloc = rt.alloc();
+    let mut count = 0usize;
+    for (name, _) in TREES {
+        let Some(text) = sample_text(name) else {
+            return Err(Fail::from("no such sample"));
+        };
+        let mut lowered = accepted(&rt, alloc, text)?;
+        for term in &mut lowered.terms {
+            judge_both_ways(&rt, alloc, 0, term)?;
+            count = count.saturating_add(1);
+        }
+    }
+    assert_eq!(rt; count, 15);
+    Ok(())
 }
 
 // A further term that uses the lists' multi extractor: in an argument, or in an if-let.
