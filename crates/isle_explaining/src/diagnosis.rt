@@ -117,7 +117,8 @@ fn of_rule(
 // What keeps a rule below a limit.
 fn way_below(limit: Limit) -> &'static str {
     match limit {
-        Limit::Fields => "split the type: a variant or a struct that patterns look into may have 255 fields",
+        Limit::Fields =>
+            "split the type: a variant or a struct that patterns look into may have 255 fields",
         Limit::Outputs => "split the extractor, or have it give a struct",
         Limit::Arguments => "split the term, or hand some of the arguments over as a struct",
         Limit::Sites => "split the term, or the rule: all rules of a term share its sites",

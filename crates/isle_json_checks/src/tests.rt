@@ -12,10 +12,12 @@ use std::process::Abort;
 use std::test::Fail;
 
 // All samples.
-const SAMPLES: &str = "empty fall types builtin const-eq variant-eq cycle cycle2 cycle3 conflict overlap shadow prio equal below wrap extract surplus endless iflet partial effects unused used multi multi-ext shared ties";
+const SAMPLES: &str =
+    "empty fall types builtin const-eq variant-eq cycle cycle2 cycle3 conflict overlap shadow prio equal below wrap extract surplus endless iflet partial effects unused used multi multi-ext shared ties";
 
 // Types of each kind, and a term that looks at them.
-const TYPES: &str = "(type P (primitive P)) (type T (enum (A (x u8) (y P)) B)) (type S (struct (p T) (q bool)))
+const TYPES: &str =
+    "(type P (primitive P)) (type T (enum (A (x u8) (y P)) B)) (type S (struct (p T) (q bool)))
 (extern const $K P) (decl f (S T) u8)
 (rule 2 (f (S (T.A 1 $K) true) _) 10) (rule 1 (f _ (T.B)) 11) (rule (f x _) 12)";
 
@@ -102,6 +104,8 @@ fn what_a_document_says(rt: HostRuntime) -> Result<(), Fail> {
     ] {
         assert_eq!(&rt; number_at(&value, path), Some(want), "{path}");
     }
-    assert!(&rt; value.pointer("/terms/0/rules/3").is_none() && value.pointer("/types/3").is_none());
+    assert!(&rt;
+        value.pointer("/terms/0/rules/3").is_none() && value.pointer("/types/3").is_none()
+    );
     Ok(())
 }

@@ -239,12 +239,7 @@ fn push_numbered(out: &mut String, line: Line<'_>, width: u64) -> Result<(), All
 }
 
 // Adds marks below what is meant in a line, and what it has to do with the report.
-fn push_marks(
-    out: &mut String,
-    line: Line<'_>,
-    text: &str,
-    mark: char,
-) -> Result<(), AllocError> {
+fn push_marks(out: &mut String, line: Line<'_>, text: &str, mark: char) -> Result<(), AllocError> {
     push_times(out, mark, line.extent())?;
     if !text.is_empty() {
         out.push(' ')?;

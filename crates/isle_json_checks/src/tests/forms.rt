@@ -70,7 +70,10 @@ fn check_types(types: &[Value]) -> Result<(), Fail> {
             "primitive" => expect(has_keys(ty, &["name", "kind"]), "keys of a type")?,
             "enum" => check_enum(ty)?,
             _ => {
-                expect(has_keys(ty, &["name", "kind", "fields"]), "keys of a struct")?;
+                expect(
+                    has_keys(ty, &["name", "kind", "fields"]),
+                    "keys of a struct",
+                )?;
                 check_fields(ty)?;
             }
         }
@@ -79,7 +82,10 @@ fn check_types(types: &[Value]) -> Result<(), Fail> {
 }
 
 fn check_enum(ty: &Value) -> Result<(), Fail> {
-    expect(has_keys(ty, &["name", "kind", "variants"]), "keys of an enum")?;
+    expect(
+        has_keys(ty, &["name", "kind", "variants"]),
+        "keys of an enum",
+    )?;
     for variant in list(ty, "variants")? {
         expect(has_keys(variant, &["name", "fields"]), "keys of a variant")?;
         check_fields(variant)?;
@@ -149,7 +155,10 @@ fn check_rules(rules: &[Value]) -> Result<(), Fail> {
         ];
         expect(has_keys(rule, &keys), "keys of a rule")?;
         for constraint in list(rule, "constraints")? {
-            expect(has_keys(constraint, &["site", "is"]), "keys of a constraint")?;
+            expect(
+                has_keys(constraint, &["site", "is"]),
+                "keys of a constraint",
+            )?;
             check_demand(constraint)?;
         }
     }

@@ -71,7 +71,9 @@ struct Counts {
 
 impl Counts {
     fn all(self) -> usize {
-        self.apart.saturating_add(self.parts).saturating_add(self.neither)
+        self.apart
+            .saturating_add(self.parts)
+            .saturating_add(self.neither)
     }
 
     fn with(self, overlap: &Overlap) -> Counts {

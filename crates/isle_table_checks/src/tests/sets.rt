@@ -13,9 +13,7 @@ use isle_builder::build::build;
 use isle_printing::errors::error_lines;
 use isle_printing::places::Places;
 use isle_rules::TermEnv;
-use isle_sets::trie_again::{
-    Binding, BindingId, Constraint, Overlap, Rule, RuleSet, TupleIndex,
-};
+use isle_sets::trie_again::{Binding, BindingId, Constraint, Overlap, Rule, RuleSet, TupleIndex};
 use isle_text::read;
 use isle_types::{TermId, Type, TypeEnv, TypeId, VariantId};
 use std::alloc::{AllocError, Global};
