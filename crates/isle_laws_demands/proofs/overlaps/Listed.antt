@@ -155,8 +155,8 @@ reports_list (suc n) (e ∷ es) r (inl same) =
     let x = first_has e es in (
       other_end at x.0,
       subst (λ (q : OverlapReport). In q.others (other_end at x.0)) same
-      (in_ascending (map (other_end at) (filter (has_end at) (e ∷ es))) (other_end at x.0)
-      (map_in (other_end at) (filter (has_end at) (e ∷ es)) x.0 (filter_from (has_end at) (e ∷ es) x.0 x.1 x.2))),
+          (in_ascending (map (other_end at) (filter (has_end at) (e ∷ es))) (other_end at x.0)
+          (map_in (other_end at) (filter (has_end at) (e ∷ es)) x.0 (filter_from (has_end at) (e ∷ es) x.0 x.1 x.2))),
     )
 reports_list (suc n) (e ∷ es) r (inr i) = reports_list n (left_over (rule_first e es) (e ∷ es)) r i
 
