@@ -16,7 +16,7 @@ use Rattle.isle_model.proofs.Elements.{contains_from_in, in_slice, some_is}
 use Rattle.isle_model.proofs.Mapped.{get_mapped, get_map}
 use Rattle.isle_laws_demands.specs.BuiltLaws.{BuiltDemandsAreWhole}
 use Rattle.isle_laws_demands.proofs.visits.Once.{one_number}
-use Rattle.isle_laws_trees.specs.WholeDemands.{HasSiteFor, AsksWhatFollows, AcceptedSetsAreWhole}
+use Rattle.isle_laws_trees.specs.WholeDemands.{AsksAt, JoinsAt, AsksWhatFollows, AcceptedSetsAreWhole}
 
 -- a rule of a built set and the built rule that it stands for
 module _ (p : Program) (t : ℕ) (set : SiteSet) (built : IsBuilt p t set) (b : BuiltRule) (r : SetRule) (is : IsRuleOf p set.sites b r) (whole : ClosedIsWhole (demands_of p b.rule) b.demands) where
@@ -47,17 +47,22 @@ module _ (p : Program) (t : ℕ) (set : SiteSet) (built : IsBuilt p t set) (b : 
       let j = is.classes.joined a b' h.1 in
       (j.0, j.1, (whole.equalities (tree_of a) (tree_of b')).0 (λ same. h.0 (one_number p t set built a b' j.0 j.1 same), (j.2, j.3, j.4, j.5)))
 
-  site_of : (u : SiteTerm) (c : Constraint) → HasConstraint d u c → HasSiteFor set.sites u
-  site_of u c has =
+  asks_at : (u : SiteTerm) (c : Constraint) → HasConstraint d u c → AsksAt set.sites r u c
+  asks_at u c has =
       let k = is.constraints.all_asked u c ((whole.constraints u c).1 has) in
-      record { site = k.0; within = (is.constraints.asked k.0 c k.1).0; stands = k.2 }
+      record { site = k.0; stands = k.2; asked = k.1 }
 
-  sites_of : (u v : SiteTerm) → IsClosedEquality d u v → HasSiteFor set.sites u × HasSiteFor set.sites v
-  sites_of u v e =
+  joins_at : (u v : SiteTerm) → IsClosedEquality d u v → JoinsAt set.sites r u v
+  joins_at u v e =
       let w = (whole.equalities u v).1 e in
       let k = is.classes.all_joined w.1.0 u v w.1.1 w.1.2 w.1.3 in
-      let j = is.classes.joined k.0 k.1 k.2 in
-      (record { site = k.0; within = j.0; stands = k.3 }, record { site = k.1; within = j.1; stands = k.4 })
+      record {
+        first = k.0;
+        second = k.1;
+        first_stands = k.3;
+        second_stands = k.4;
+        joined = k.2;
+      }
 
   pub asks_what_follows : AsksWhatFollows p set.sites b.rule r
   asks_what_follows = record {
@@ -68,8 +73,8 @@ module _ (p : Program) (t : ℕ) (set : SiteSet) (built : IsBuilt p t set) (b : 
       λ h. number_there s c h.0 h.1,
     );
     classes = λ a b'. (classes_follow a b', λ h. classes_there a b' h.0 h.1 h.2);
-    constrained = site_of;
-    equated = sites_of;
+    all_constraints = asks_at;
+    all_classes = joins_at;
   }
 
 -- rules at one place

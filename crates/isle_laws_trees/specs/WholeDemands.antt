@@ -16,23 +16,31 @@ use Rattle.isle_model.specs.claims.SetMeanings.{DemandsAreWhole}
 abbrev pub AcceptedDemandsAreWhole : Type 0
 AcceptedDemandsAreWhole = (defs : List Definition) (expand : Bool) (rules : TypedRules) → IsAccepted defs expand rules → (t : ℕ) → DemandsAreWhole (own_program defs rules) t
 
--- some site of these stands for a tree
-pub record HasSiteFor (sites : List Site) (u : SiteTerm) : Type 0 where
+-- a rule of a set asks a constraint of the site that stands for a tree
+pub record AsksAt (sites : List Site) (r : SetRule) (u : SiteTerm) (c : Constraint) : Type 0 where
   pub site : ℕ
-  pub within : site < length sites
   pub stands : unfold_site sites site ≡ u
+  pub asked : Contains r.constraints (site, c)
+
+-- it has the sites that stand for two trees in one class
+pub record JoinsAt (sites : List Site) (r : SetRule) (u v : SiteTerm) : Type 0 where
+  pub first : ℕ
+  pub second : ℕ
+  pub first_stands : unfold_site sites first ≡ u
+  pub second_stands : unfold_site sites second ≡ v
+  pub joined : IsTrue (joins_in r.classes first second)
 
 -- a rule of a set asks what follows from the demands of a source rule, and nothing else: a constraint stands at a site exactly
--- where the site must meet it, and two sites are in one class exactly where they must be equal and meet no constraint. All
--- that must be so has its sites
+-- where the site must meet it, and two sites are in one class exactly where they must be equal and meet no constraint. Whatever
+-- follows is asked of some site
 pub record AsksWhatFollows (p : Program) (sites : List Site) (source : TypedRule) (r : SetRule) : Type 0 where
   pub id : r.id ≡ source.id
   pub at : r.at ≡ source.at
   pub constraints : (s : ℕ) (c : Constraint) → Contains r.constraints (s, c) ↔ ((s < length sites) × HasConstraint (demands_of p source) (unfold_site sites s) c)
   pub classes : (a b : ℕ) → ((a ≢ b) × IsTrue (joins_in r.classes a b))
       ↔ ((a < length sites) × (b < length sites) × IsClosedEquality (demands_of p source) (unfold_site sites a) (unfold_site sites b))
-  pub constrained : (u : SiteTerm) (c : Constraint) → HasConstraint (demands_of p source) u c → HasSiteFor sites u
-  pub equated : (u v : SiteTerm) → IsClosedEquality (demands_of p source) u v → HasSiteFor sites u × HasSiteFor sites v
+  pub all_constraints : (u : SiteTerm) (c : Constraint) → HasConstraint (demands_of p source) u c → AsksAt sites r u c
+  pub all_classes : (u v : SiteTerm) → IsClosedEquality (demands_of p source) u v → JoinsAt sites r u v
 
 -- a source rule of a term, at a place among the term's rules, that a rule of a set asks for
 pub record HasSource (p : Program) (t : ℕ) (sites : List Site) (place : ℕ) (r : SetRule) : Type 0 where
