@@ -13,6 +13,7 @@ ghost use Rattle.isle_terms.specs.Recursion.{ExtractorsRead};
 ghost use Rattle.isle_terms.specs.Signing.{Declaring, ReadsTerms};
 ghost use Rattle.isle_terms.specs.Stages.{HasNoConverter};
 ghost use Rattle.isle_terms.specs.Standing.{RootsRead};
+ghost use Rattle.isle_terms.specs.TermBreaches.{FirstBreaksTerms};
 ghost use Rattle.isle_terms.specs.TermTables.{term_at};
 ghost use Rattle.isle_terms.specs.Whole.{shown_by};
 ghost use Rattle.isle_terms.specs.TermPositions.{table_positions, IsPlacedAmong};
@@ -44,6 +45,7 @@ impl TermTable {
         ensures left { OnErr result (IsLeftByRefusal read (environment_view tyenv.new)) }
         ensures no_limit { NoLimit result }
         ensures refused { OnErrors result (λ es. RefusesTerms read (definition_views defs.now) (error_views es)) }
+        ensures breach { OnErrors result (FirstBreaksTerms read.known (definition_views defs.now)) }
         ensures places { OnErrors result (All (ErrorStandsAt (positions_of (definition_views defs.now) ++ types_positions read.known.types))) }
         ensures placed { IfOk result (IsPlacedAmong (positions_of (definition_views defs.now) ++ types_positions read.known.types)) }
     {
