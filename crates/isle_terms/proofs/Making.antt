@@ -76,19 +76,6 @@ grows_more xs ys gs hs a b c g h e met named fs env i m s =
     subst (λ ns. HoldsTerms e met ns (fs ++ (gs ++ hs)) env c) (texts_behind e named xs ys)
     (subst (λ l. HoldsTerms e met ((named ++ texts_at e xs) ++ texts_at e ys) l env c) (append_assoc fs gs hs) second)
 
-pub taken_first : (xs ys : List ℕ) (a : TermTable) → AreTaken xs a → AreTaken (xs ++ ys) a
-taken_first xs ys a t e met named fs env i m s =
-    let first = t e met named fs env i (met_left e xs ys m) s in
-    record {
-      earlier = first.earlier;
-      number = first.number;
-      later = first.later ++ ys;
-      is = ap (λ l. l ++ ys) first.is ∙ append_assoc first.earlier (first.number ∷ first.later) ys;
-      name = first.name;
-      name_is = first.name_is;
-      taken = first.taken;
-    }
-
 pub taken_later : (xs ys : List ℕ) (gs : List (ℕ → TermEntry)) (a b : TermTable) → GrowsBy xs gs a b → AreTaken ys b → AreTaken (xs ++ ys) a
 taken_later xs ys gs a b g t e met named fs env i m s =
     let later = t e met (named ++ texts_at e xs) (fs ++ gs) env i (met_right e xs ys m) (g e met named fs env i (met_left e xs ys m) s) in
@@ -166,7 +153,7 @@ adds_next types t a b c es mid es' (inl q) begun (inl p) =
     inl (
       q.0 ∙ p.0,
       subst (λ ns. GrowsBy ns (flat_map terms_made (types ++ t ∷ [])) a c) (sym numbers) (subst (λ gs. GrowsBy (flat_map made_by types ++ made_by t) gs a c) (sym entries)
-      (grows_more (flat_map made_by types) (made_by t) (flat_map terms_made types) (terms_made t) a b c p.1 q.1)),
+          (grows_more (flat_map made_by types) (made_by t) (flat_map terms_made types) (terms_made t) a b c p.1 q.1)),
     )
 adds_next types t a b c es mid es' (inr q) begun (inl p) =
     inr (subst (λ l. NotesMore l es') p.0 q.0, record { before = types; entry = t; after = []; whole = refl; mid = b; grows = p.1; taken = q.1; begins = subst (λ l. BeginsAt (entry_positions t) l es') p.0 begun })

@@ -34,8 +34,10 @@ impl TermTable {
     ///
     /// `Errors` has all that is wrong in the first of four groups in which something is: declarations and the
     /// terms that types make; rules' terms and internal extractors; converters; external functions. `Memory`
-    /// where memory is refused. Each error stands at positions that occur in the definitions or that the types of `tyenv`
-    /// keep, and so do all positions that the table keeps.
+    /// where memory is refused. The first error stands at a definition that breaks a condition of validity, of two that
+    /// have one name at the later one, or at a type that makes a term whose name is taken. Each error stands at
+    /// positions that occur in the definitions or that the types of `tyenv` keep, and so do all positions that the table
+    /// keeps.
     pub fn from_ast(alloc: Global, tyenv: &mut TypeEnv, defs: &[Def]) -> Result<TermTable, Fault>
         ghost read: { TypesRead }
         requires readable { AreReadable read }
