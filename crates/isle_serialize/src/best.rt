@@ -10,7 +10,7 @@ ghost use Rattle.isle_serialize.specs.Growing.{AreBestArms, CanGrow, IsBestBody,
 ghost use Rattle.isle_serialize.specs.TestViews.{test_view};
 ghost use Rattle.isle_serialize.specs.TreeViews.{arms_view, check_view, tree_view};
 
-use crate::arms::next_arm;
+use crate::arms::{asked_in_turn, behind, next_arm};
 use crate::around::Around;
 use crate::ends::returns_of;
 use crate::fields::Fields;
@@ -109,15 +109,17 @@ fn arms_of(
     requires step { IsStepOf (set_view set.now) (around_view around.now) (Tests.match_test source) here.items }
     ensures { IfOk result (λ v. AreBestArms (set_view set.now) (around_view around.now) source None here.items (arms_view v.items)) }
 {
+    let turns = asked_in_turn(alloc, set, source, &here)?;
     let mut arms = Vec::new(alloc);
-    let mut left = here;
-    while let Some(next) = next_arm(alloc, set, fields, around, source, &left)? {
+    let mut left = behind(&turns, 0);
+    while let Some(next) = next_arm(alloc, set, fields, around, source, left)? {
+        let asking = next.asking.len();
         arms.push(MatchArm {
             constraint: next.constraint,
             bindings: next.fields,
             body: block_of(alloc, set, fields, next.asking, next.inside)?,
         })?;
-        left = next.others;
+        left = behind(left, asking);
     }
     Ok(arms)
 }

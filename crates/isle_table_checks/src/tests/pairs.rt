@@ -21,12 +21,12 @@ const PAIRS: usize = 1_000;
 
 // What a rule demands: its constraints by their sites, and how many sites it joins.
 #[derive(Drop)]
-struct Asked {
+struct Demands {
     constraints: StableMap<BindingId, Constraint>,
     joined: usize,
 }
 
-fn asked(alloc: Global, sites: usize, rule: &Rule) -> Result<Asked, Fail> {
+fn demands_of(alloc: Global, sites: usize, rule: &Rule) -> Result<Demands, Fail> {
     let mut constraints = StableMap::new(alloc);
     for number in 0..sites {
         let site = BindingId::try_from(number)?;
@@ -35,7 +35,7 @@ fn asked(alloc: Global, sites: usize, rule: &Rule) -> Result<Asked, Fail> {
         }
     }
     let joined = rule.equals.len();
-    Ok(Asked {
+    Ok(Demands {
         constraints,
         joined,
     })
@@ -43,7 +43,7 @@ fn asked(alloc: Global, sites: usize, rule: &Rule) -> Result<Asked, Fail> {
 
 // Whether two rules overlap: not where they ask different things of one site; and one is a part of the other where neither
 // joins sites and all that the one with fewer constraints asks the other asks too.
-fn overlap(sites: usize, one: &Asked, other: &Asked) -> Result<Overlap, Fail> {
+fn overlap(sites: usize, one: &Demands, other: &Demands) -> Result<Overlap, Fail> {
     let (few, many) = if one.constraints.len() <= other.constraints.len() {
         (one, other)
     } else {
@@ -111,11 +111,11 @@ fn compare(
     behind: &[Rule],
     mut counts: Counts,
 ) -> Result<Counts, Fail> {
-    let one = asked(alloc, sites, rule)?;
+    let one = demands_of(alloc, sites, rule)?;
     let total = one.constraints.len().saturating_add(one.joined);
     assert_eq!(rt; rule.total_constraints(), total);
     for other in behind {
-        let want = overlap(sites, &one, &asked(alloc, sites, other)?)?;
+        let want = overlap(sites, &one, &demands_of(alloc, sites, other)?)?;
         assert!(rt; rule.may_overlap(other) == want && other.may_overlap(rule) == want);
         counts = counts.with(&want);
     }
