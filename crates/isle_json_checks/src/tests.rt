@@ -52,6 +52,14 @@ fn document(rt: &impl Abort, alloc: Global, asked: &str, text: &str) -> Result<V
     }
 }
 
+// A document has no errors.
+fn is_accepted(value: &Value) -> bool {
+    match value.get("errors").and_then(Value::as_array) {
+        Some(errors) => errors.is_empty(),
+        None => false,
+    }
+}
+
 // Every sample has trees or errors, and its document the documented form.
 #[test]
 fn samples_are_read_back(rt: HostRuntime) -> Result<(), Fail> {
@@ -63,7 +71,11 @@ fn samples_are_read_back(rt: HostRuntime) -> Result<(), Fail> {
         let lowered = document(&rt, alloc, "lower --format json a.isle", text)?;
         check_document(alloc, &lowered, &["schema", "types", "terms", "errors"])?;
         let checked = document(&rt, alloc, "check --format json a.isle", text)?;
-        let keys: &[&str] = &["schema", "errors", "warnings"];
+        let keys: &[&str] = if is_accepted(&checked) {
+            &["schema", "errors", "warnings"]
+        } else {
+            &["schema", "errors"]
+        };
         check_document(alloc, &checked, keys)?;
     }
     Ok(())
@@ -100,7 +112,7 @@ fn what_a_document_says(rt: HostRuntime) -> Result<(), Fail> {
         ("/terms/0/rules/0/column", 1),
         ("/terms/0/rules/1/priority", 1),
         ("/terms/0/rules/2/id", 2),
-        ("/terms/0/rules/2/column", 65),
+        ("/terms/0/rules/2/column", 63),
     ] {
         assert_eq!(&rt; number_at(&value, path), Some(want), "{path}");
     }
