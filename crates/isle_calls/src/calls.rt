@@ -98,7 +98,7 @@ pub fn outcome_of(
 {
     let echo = Echo {
         tyenv: &lowered.tyenv,
-        termenv: &lowered.termenv,
+        terms: &lowered.termenv.terms,
     };
     run(alloc, &echo, &entry.rules, &entry.block, args, multi)
 }

@@ -9,11 +9,10 @@ ghost use Rattle.isle_types.specs.Envs.{constant_at};
 ghost use Rattle.isle_run.specs.ValueViews.{content_view, value_view, value_views};
 ghost use Rattle.isle_calls.specs.Echoes.{constant_number, counted, echoes, extracted_by, first_or_zero, for_each_type, given_by, in_form, made, named_value, outputs_of};
 
-use cranelift_isle::sema::{
-    ExtractorKind, Sym, Term, TermEnv, TermFlags, TermId, TermKind, TypeEnv, TypeId,
-};
 use isle_run::externs::Externs;
 use isle_run::values::{Content, Value};
+use isle_terms::{ExtractorKind, Term, TermFlags, TermKind};
+use isle_types::{Sym, TermId, TypeEnv, TypeId};
 use std::alloc::{AllocError, Global};
 
 /// Answers each call by one rule. A literal is the value that it writes, and a named constant a value that no other
@@ -24,15 +23,12 @@ pub struct Echo<'a> {
     /// The names and types.
     pub tyenv: &'a TypeEnv,
     /// The terms.
-    pub termenv: &'a TermEnv,
+    pub terms: &'a [Term],
 }
 
 impl<'a> Drop for Echo<'a> {
     fn drop(self) {
-        let Self {
-            tyenv: _,
-            termenv: _,
-        } = self;
+        let Self { tyenv: _, terms: _ } = self;
     }
 }
 
@@ -157,7 +153,7 @@ fn first_or_zero(ty: TypeId, values: &[Value]) -> Result<Value, AllocError>
 }
 
 impl<'a> Externs for Echo<'a> {
-    ghost functions = { λ e. echoes (constant_at e.tyenv.now) (term_views e.termenv.now.terms.items) };
+    ghost functions = { λ e. echoes (constant_at e.tyenv.now) (term_views e.terms.now) };
 
     fn bool_literal(&self, alloc: Global, value: bool, ty: TypeId) -> Result<Value, AllocError> {
         Ok(Value::Truth(value))
@@ -177,7 +173,7 @@ impl<'a> Externs for Echo<'a> {
         term: TermId,
         argument: &Value,
     ) -> Result<Content, AllocError> {
-        match self.termenv.terms.get(term.index()) {
+        match self.terms.get(term.index()) {
             Some(term) => extracted(alloc, term, argument),
             None => Ok(Content::Nothing),
         }
@@ -189,7 +185,7 @@ impl<'a> Externs for Echo<'a> {
         term: TermId,
         arguments: &[Value],
     ) -> Result<Content, AllocError> {
-        match self.termenv.terms.get(term.index()) {
+        match self.terms.get(term.index()) {
             Some(term) => given(alloc, term, first_or_zero(term.ret_ty, arguments)?),
             None => Ok(Content::Nothing),
         }
@@ -202,7 +198,7 @@ impl<'a> Externs for Echo<'a> {
         arguments: &[Value],
         before: usize,
     ) -> Result<Content, AllocError> {
-        match self.termenv.terms.get(term.index()) {
+        match self.terms.get(term.index()) {
             Some(term) => given(alloc, term, Value::Atom(term.ret_ty, before as i128)),
             None => Ok(Content::Nothing),
         }

@@ -4,5 +4,6 @@
 
 pub mod calls;
 pub mod echo;
+pub mod laws;
 pub mod outcomes;
 pub mod values;

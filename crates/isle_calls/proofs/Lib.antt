@@ -1,0 +1,2 @@
+pub mod EchoesFit
+pub mod EchoesApart
