@@ -18,6 +18,8 @@ pub enum Task {
     Compare,
     /// The names of the samples, or the trees of one.
     Samples,
+    /// The outcome of a call of a term.
+    Run,
 }
 
 /// The form of an answer.
@@ -62,8 +64,12 @@ pub struct Request<'a> {
     pub folder: &'a str,
     /// The rule that is to be explained, by its name, its line, or its file, a colon and its line.
     pub rule: &'a str,
+    /// Whether it is told what is being done.
+    pub progress: bool,
     /// The files, where `-` is standard input, or the sample. The last one has printed trees where they are compared.
     pub files: Vec<&'a str>,
+    /// The words of the call that is to be run.
+    pub call: Vec<&'a str>,
 }
 
 impl<'a> Drop for Request<'a> {
@@ -77,7 +83,9 @@ impl<'a> Drop for Request<'a> {
             terms: _,
             folder: _,
             rule: _,
+            progress: _,
             files: _,
+            call: _,
         } = self;
     }
 }
@@ -93,10 +101,13 @@ enum Awaited {
     Color,
     // An option or a file.
     Any,
+    // A word of a call.
+    Call,
 }
 
 /// What these words ask, or None where they ask for nothing. They are the name of a task; for `explain` the rule; then
-/// files, the last of `compare` with trees, or for `samples` at most one sample. Everywhere behind the task there may be `--no-expand`, `--terms NAMES`,
+/// files, the last of `compare` with trees, or for `samples` at most one sample; for `run` then `--` and the words of a call, the
+/// term and its arguments. Everywhere behind the task, and before `--`, there may be `--no-expand`, `--progress`, `--terms NAMES`,
 /// `--format text`, `--format line`, `--color always`, `--color never` and `-C FOLDER`; `--deny` for `check`, `--format json` for `lower` and `check`, `--format dot` for `lower`.
 pub fn asked_by<'a>(alloc: Global, words: &'a [String]) -> Result<Option<Request<'a>>, AllocError> {
     let mut asked = Request {
@@ -108,7 +119,9 @@ pub fn asked_by<'a>(alloc: Global, words: &'a [String]) -> Result<Option<Request
         terms: None,
         folder: "",
         rule: "",
+        progress: false,
         files: Vec::new(alloc),
+        call: Vec::new(alloc),
     };
     let mut awaited = Awaited::Task;
     for word in words {
@@ -117,7 +130,8 @@ pub fn asked_by<'a>(alloc: Global, words: &'a [String]) -> Result<Option<Request
             None => return Ok(None),
         }
     }
-    if awaited == Awaited::Any && asked.has_files() && asked.format.is_of(asked.task) {
+    let ended = awaited == Awaited::Any || awaited == Awaited::Call;
+    if ended && asked.has_files() && asked.has_call() && asked.format.is_of(asked.task) {
         Ok(Some(asked))
     } else {
         Ok(None)
@@ -130,7 +144,9 @@ impl<'a> Request<'a> {
         match self.task {
             Task::Samples => self.files.len() <= 1,
             Task::Compare => self.files.len() >= 2,
-            Task::Lower | Task::Check | Task::Explain | Task::Stats => !self.files.is_empty(),
+            Task::Lower | Task::Check | Task::Explain | Task::Stats | Task::Run => {
+                !self.files.is_empty()
+            }
         }
     }
 
@@ -146,6 +162,11 @@ impl<'a> Request<'a> {
                 }
             }
         }
+    }
+
+    // Whether there is a call exactly where the task wants one.
+    fn has_call(&self) -> bool {
+        self.call.is_empty() != (self.task == Task::Run)
     }
 
     /// Whether the file of a number has printed trees, and no definitions.
@@ -172,6 +193,10 @@ impl<'a> Request<'a> {
                 self.folder = word;
                 Ok(Some(Awaited::Any))
             }
+            Awaited::Call => {
+                self.call.push(word)?;
+                Ok(Some(Awaited::Call))
+            }
         }
     }
 
@@ -184,6 +209,7 @@ impl<'a> Request<'a> {
             "stats" => (Task::Stats, Awaited::Any),
             "compare" => (Task::Compare, Awaited::Any),
             "samples" => (Task::Samples, Awaited::Any),
+            "run" => (Task::Run, Awaited::Any),
             _ => return None,
         };
         self.task = task;
@@ -227,6 +253,15 @@ impl<'a> Request<'a> {
                     None
                 })
             }
+            "--progress" => {
+                self.progress = true;
+                Ok(Some(Awaited::Any))
+            }
+            "--" => Ok(if self.task == Task::Run {
+                Some(Awaited::Call)
+            } else {
+                None
+            }),
             "--terms" => Ok(Some(Awaited::Terms)),
             "--format" => Ok(Some(Awaited::Format)),
             "--color" => Ok(Some(Awaited::Color)),
