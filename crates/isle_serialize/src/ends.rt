@@ -82,7 +82,7 @@ pub fn returns_of(
             bind_order: bind_order(alloc, set, &around, &used)?,
             check: return_of(set, *number),
         })?;
-        around = after_step(alloc, set, &around, &used)?;
+        around = after_step(alloc, set, around, &used)?;
     }
     Ok(steps)
 }

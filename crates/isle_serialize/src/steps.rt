@@ -4,7 +4,7 @@ ghost use Rattle.std.specs.Prelude.{◌≡◌, ◌<◌, ℕ, Some, Contains, IfO
 ghost use Rattle.isle_model.specs.sites.Sites.{iterator_site, sources_at};
 ghost use Rattle.isle_model.specs.trees.Best.{descend};
 ghost use Rattle.isle_sets.specs.SiteViews.{set_view};
-ghost use Rattle.isle_serialize.specs.AroundViews.{around_view, after_uses, IsInside, IsKnown};
+ghost use Rattle.isle_serialize.specs.AroundViews.{around_view, AreEmitted, IsKnown};
 ghost use Rattle.isle_serialize.specs.FieldTests.{AreFields};
 ghost use Rattle.isle_serialize.specs.Growing.{test_sites, test_emits, CanGrow, IsNext};
 ghost use Rattle.isle_serialize.specs.TestViews.{test_view, AreUseful, IsChosen};
@@ -12,7 +12,7 @@ ghost use Rattle.isle_serialize.specs.TestViews.{test_view, AreUseful, IsChosen}
 use crate::around::{Around, Known, known_of};
 use crate::binds::{bind_order, sources_of};
 use crate::fields::{Fields, iterator_of};
-use crate::inside::after_step;
+use crate::inside::emitted_after;
 use crate::open::useful_tests;
 use crate::tests::{Test, greatest_of, parted};
 use isle_sets::trie_again::{BindingId, RuleSet};
@@ -29,8 +29,8 @@ pub struct NextTest {
     pub covered: Vec<usize>,
     /// The other rules of the place: they are left for the steps behind it.
     pub others: Vec<usize>,
-    /// What stands around the steps behind it.
-    pub after: Around,
+    /// The sites that are emitted after it.
+    pub emitted: Vec<BindingId>,
 }
 
 // The sites that a step of a test uses.
@@ -48,21 +48,26 @@ fn sites_of(alloc: Global, test: &Test) -> Result<Vec<BindingId>, AllocError>
     Ok(sites)
 }
 
-// Around the steps after a test's.
-fn after_test(
+// The sites that are emitted after a test.
+fn emitted_by(
     alloc: Global,
     set: &RuleSet,
     around: &Around,
     test: &Test,
-) -> Result<Around, AllocError>
+) -> Result<Vec<BindingId>, AllocError>
     requires { (s a : ℕ) → Contains (sources_at (set_view set.now).sites s) a → a < s }
-    ensures { IfOk result (λ r. IsInside (around_view r) (after_uses (set_view set.now) (around_view around.now) (test_emits (set_view set.now) (test_view test.now)))) }
+    ensures { IfOk result (λ v. AreEmitted (set_view set.now) (around_view around.now) (test_emits (set_view set.now) (test_view test.now)) v.items) }
 {
     match test {
-        Test::Match { source } => after_step(alloc, set, around, &[*source]),
-        Test::Equal { a, b } => after_step(alloc, set, around, &[*a, *b]),
+        Test::Match { source } => emitted_after(alloc, set, &around.emitted, &[*source]),
+        Test::Equal { a, b } => emitted_after(alloc, set, &around.emitted, &[*a, *b]),
         // the call itself may be bound again, so that its sources alone are emitted
-        Test::Loop { source } => after_step(alloc, set, around, sources_of(set, *source)),
+        Test::Loop { source } => emitted_after(
+            alloc,
+            set,
+            &around.emitted,
+            sources_of(set, *source),
+        ),
     }
 }
 
@@ -96,6 +101,9 @@ fn chosen_test(
     requires order { IsTrue (descend (set_view set.now).rules here.now) }
     ensures { IfOk result (λ o. IsChosen (set_view set.now) (around_view around.now) here.now (option_map test_view o)) }
 {
+    if here.is_empty() {
+        return Ok(None);
+    }
     let known = known_of(alloc, around)?;
     let tests = useful_tests(alloc, set, around, &known, here)?;
     Ok(chosen_of(set, around, &known, here, &tests))
@@ -122,7 +130,7 @@ pub fn next_test(
         binds: bind_order(alloc, set, around, &sites)?,
         covered,
         others,
-        after: after_test(alloc, set, around, &test)?,
+        emitted: emitted_by(alloc, set, around, &test)?,
     }))
 }
 
