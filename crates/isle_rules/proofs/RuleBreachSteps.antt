@@ -114,9 +114,14 @@ module _ (env : TermEnv) (old now new : TypeEnv) (keeps : Keeps old now) (errors
         inl (b.2 ∙ none, within_push e 0 at done r (names_of old) l right (let c = counted in omega (arith, c)) b.0 b.1 ∙ ap (λ (qs : List TypedRule). Some (record { rules = qs; names = b.0.scope.names })) (sym b.3) ∙ ap (λ (ns : List (List ℕ)). Some (record { rules = rule_views rules; names = ns })) (sym b.4))
     rule_begins (inr b) =
         let l : TypedRules = record { rules = rule_views before; names = names_of now } in
-        inr (b.0, (rule_positions r ++ templates_positions e.expand e.terms,
-          untyped done r rest split l right (ap (λ k. rule_within e k r (names_of now)) (sym counted) ∙ b.1),
-          subst (λ ps. NotesAt ps mid after) templates noted))
+        inr (
+          b.0,
+          (
+            rule_positions r ++ templates_positions e.expand e.terms,
+            untyped done r rest split l right (ap (λ k. rule_within e k r (names_of now)) (sym counted) ∙ b.1),
+            subst (λ ps. NotesAt ps mid after) templates noted,
+          ),
+        )
 
   -- another definition
   other_begins : TypedUpTo env old now all done before errors mid → (names_of new ≡ names_of now) × (after ≡ mid) × (rules ≡ before) → TypedUpTo env old new all (done ++ []) rules errors after
