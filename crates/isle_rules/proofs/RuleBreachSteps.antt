@@ -1,8 +1,8 @@
 -- The first error while the rules of a list are read: one definition after another, and one stage after another.
-use Rattle.std.proofs.Common.{◌≡◌, ◌≢◌, ℕ, zero, suc, ◌+◌, ◌<◌, All, IsTrue, List, [], ◌∷◌, ◌++◌, length, take, drop, get_or, map, Option, Some, None, refl, sym, ap, subst, ◌∙◌, inl, inr, ◌⊎◌, append_assoc, arith}
+use Rattle.std.proofs.Common.{◌≡◌, ◌≢◌, ℕ, suc, ◌+◌, ◌<◌, IsTrue, List, [], ◌∷◌, ◌++◌, length, take, drop, get_or, Option, Some, None, refl, sym, ap, subst, ◌∙◌, inl, inr, ◌⊎◌, arith}
 use Rattle.std.specs.List.{flat_map}
 use Rattle.std.proofs.lemmas.Grind.{flat_map-append}
-use Rattle.std.proofs.lemmas.List.{append-nil, take_all, length_push}
+use Rattle.std.proofs.lemmas.List.{append-nil}
 use Rattle.std.proofs.lemmas.List.Elements.{All-nil, All-append}
 use Rattle.std.proofs.lemmas.Option.{none-some, same_Some}
 use Rattle.isle_base.specs.declared.syntax.Def.{Def}
@@ -25,7 +25,6 @@ use Rattle.isle_typed.specs.RuleViews.{rule_views}
 use Rattle.isle_reports.specs.Elaborating.{Checks}
 use Rattle.isle_reports.specs.FirstErrors.{MayBegin}
 use Rattle.isle_reports.proofs.FirstErrors.{IsNoted, BeginsUnless, begins_next, may_check, goes_on, parted}
-use Rattle.isle_terms.specs.TermViews.{term_views}
 use Rattle.isle_rules.specs.declared.term_env.TermEnv.{TermEnv}
 use Rattle.isle_rules.specs.Constructors.{uses_of_rule, uses_of_definition, is_made, AreFoundMade}
 use Rattle.isle_rules.specs.PatternUses.{found_term}
@@ -114,9 +113,14 @@ module _ (env : TermEnv) (old now new : TypeEnv) (keeps : Keeps old now) (errors
         inl (b.2 ∙ none, within_push e 0 at done r (names_of old) l right (let c = counted in omega (arith, c)) b.0 b.1 ∙ ap (λ (qs : List TypedRule). Some (record { rules = qs; names = b.0.scope.names })) (sym b.3) ∙ ap (λ (ns : List (List ℕ)). Some (record { rules = rule_views rules; names = ns })) (sym b.4))
     rule_begins (inr b) =
         let l : TypedRules = record { rules = rule_views before; names = names_of now } in
-        inr (b.0, (rule_positions r ++ templates_positions e.expand e.terms,
-          untyped done r rest split l right (ap (λ k. rule_within e k r (names_of now)) (sym counted) ∙ b.1),
-          subst (λ ps. NotesAt ps mid after) templates noted))
+        inr (
+          b.0,
+          (
+            rule_positions r ++ templates_positions e.expand e.terms,
+            untyped done r rest split l right (ap (λ k. rule_within e k r (names_of now)) (sym counted) ∙ b.1),
+            subst (λ ps. NotesAt ps mid after) templates noted,
+          ),
+        )
 
   -- another definition
   other_begins : TypedUpTo env old now all done before errors mid → (names_of new ≡ names_of now) × (after ≡ mid) × (rules ≡ before) → TypedUpTo env old new all (done ++ []) rules errors after
