@@ -1,8 +1,8 @@
 -- The first error while the rules of a list are read: one definition after another, and one stage after another.
-use Rattle.std.proofs.Common.{◌≡◌, ◌≢◌, ℕ, zero, suc, ◌+◌, ◌<◌, All, IsTrue, List, [], ◌∷◌, ◌++◌, length, take, drop, get_or, map, Option, Some, None, refl, sym, ap, subst, ◌∙◌, inl, inr, ◌⊎◌, append_assoc, arith}
+use Rattle.std.proofs.Common.{◌≡◌, ◌≢◌, ℕ, suc, ◌+◌, ◌<◌, IsTrue, List, [], ◌∷◌, ◌++◌, length, take, drop, get_or, Option, Some, None, refl, sym, ap, subst, ◌∙◌, inl, inr, ◌⊎◌, arith}
 use Rattle.std.specs.List.{flat_map}
 use Rattle.std.proofs.lemmas.Grind.{flat_map-append}
-use Rattle.std.proofs.lemmas.List.{append-nil, take_all, length_push}
+use Rattle.std.proofs.lemmas.List.{append-nil}
 use Rattle.std.proofs.lemmas.List.Elements.{All-nil, All-append}
 use Rattle.std.proofs.lemmas.Option.{none-some, same_Some}
 use Rattle.isle_base.specs.declared.syntax.Def.{Def}
@@ -25,7 +25,6 @@ use Rattle.isle_typed.specs.RuleViews.{rule_views}
 use Rattle.isle_reports.specs.Elaborating.{Checks}
 use Rattle.isle_reports.specs.FirstErrors.{MayBegin}
 use Rattle.isle_reports.proofs.FirstErrors.{IsNoted, BeginsUnless, begins_next, may_check, goes_on, parted}
-use Rattle.isle_terms.specs.TermViews.{term_views}
 use Rattle.isle_rules.specs.declared.term_env.TermEnv.{TermEnv}
 use Rattle.isle_rules.specs.Constructors.{uses_of_rule, uses_of_definition, is_made, AreFoundMade}
 use Rattle.isle_rules.specs.PatternUses.{found_term}

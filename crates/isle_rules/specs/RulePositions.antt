@@ -1,6 +1,6 @@
 -- Where the errors stand that are noted while a rule is read: at positions of what is read, or at those of the templates of
 -- terms, which take the place of their uses.
-use Rattle.std.specs.Prelude.{◌≡◌, Bool, List, [], ◌∷◌, ◌++◌, map, Option, Some, None, Result, Ok, Err, ⊤, if◌then◌else◌}
+use Rattle.std.specs.Prelude.{◌≡◌, Bool, List, [], ◌++◌, Option, Some, None, Result, Ok, Err, ⊤, if◌then◌else◌}
 use Rattle.std.specs.List.{flat_map}
 use Rattle.isle_model.specs.lists.Syntax.{Position, PatternTree}
 use Rattle.isle_model.specs.lists.Tables.{TermEntry}

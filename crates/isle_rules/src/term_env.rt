@@ -61,9 +61,9 @@ impl TermEnv {
     /// external constructor and extractor; then each use of a term without a constructor in an expression.
     /// Each rule that lacks nothing but the limits on expansions is named with one of these.
     /// `Memory` where memory is refused. Each error stands at positions that occur in the definitions or that the types of
-    /// `tyenv` keep. The first error stands at a definition that breaks a condition of this: where the terms are valid, at the
-    /// first rule that can't be typed, or in a template that it may use; where all can, at the first rule whose name is taken,
-    /// then at the first declaration of a term that isn't defined, then at the first rule that uses a term without a constructor.
+    /// `tyenv` keep. The first error stands where a condition of this is broken: where the terms are valid, at the first rule
+    /// that can't be typed, or in a template that is expanded; where all can, at the first rule whose name is taken; else at the
+    /// first declaration of a term that isn't defined; else at the first rule that uses a term without a constructor.
     pub fn from_ast(
         alloc: Global,
         tyenv: &mut TypeEnv,

@@ -20,7 +20,7 @@ use Rattle.isle_rules.proofs.Readings.{stop_is, stop_keeps, stays_on, may_report
 use Rattle.isle_base.specs.Positions.{OccurAmong, pattern_positions, patterns_positions}
 use Rattle.isle_base.proofs.Positioned.{among_same, among_first, notes_among, notes_nothing}
 use Rattle.isle_rules.specs.RulePositions.{with_templates}
-use Rattle.isle_rules.proofs.Placed.{among_with, among_here, among_made, stays_head, stays_among, stays_step, stop_among, stop_step, notes_step}
+use Rattle.isle_rules.proofs.Placed.{among_with, among_here, among_made, stays_head, stays_step, stop_among, stop_step, notes_step}
 use Rattle.isle_rules.proofs.PartPlaces.{bind_inside, term_inside, and_inside, part_inside}
 use Rattle.isle_rules.proofs.term_env.TermEnv.+translate_pattern.Goals as goal
 
