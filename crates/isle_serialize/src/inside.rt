@@ -5,9 +5,9 @@ ghost use Rattle.std.specs.List.{filter};
 ghost use Rattle.isle_model.specs.sites.Sites.{sources_at};
 ghost use Rattle.isle_model.specs.trees.Places as Places;
 ghost use Rattle.isle_sets.specs.SiteViews.{set_view};
-ghost use Rattle.isle_serialize.specs.AroundViews.{around_view, has, IsInside, after_uses, brings, where_emitted, where_joined};
+ghost use Rattle.isle_serialize.specs.AroundViews.{around_view, has, IsSetOf, brings, where_emitted, where_joined};
 
-use crate::around::{Around, set_of};
+use crate::around::Around;
 use crate::binds::all_below;
 use crate::parts::keep;
 use crate::small_set::SmallSet;
@@ -43,18 +43,6 @@ fn not_in(
     Ok(left)
 }
 
-// Those of these sites that aren't among others.
-fn not_among(
-    alloc: Global,
-    sites: &[BindingId],
-    others: &[BindingId],
-) -> Result<Vec<BindingId>, AllocError>
-    ensures { IfOk result (λ v. v.items ≡ filter (λ s. not (Places.is_in s others.now)) sites.now) }
-{
-    let set = set_of(alloc, others)?;
-    not_in(alloc, sites, &set)
-}
-
 // The sites of some fields.
 fn field_sites(alloc: Global, fields: &[Option<BindingId>]) -> Result<Vec<BindingId>, AllocError>
     ensures { IfOk result (λ v. v.items ≡ Places.field_sites fields.now) }
@@ -73,33 +61,16 @@ pub fn emitted_after(
     alloc: Global,
     set: &RuleSet,
     emitted: &[BindingId],
+    known: &SmallSet,
     used: &[BindingId],
 ) -> Result<Vec<BindingId>, AllocError>
-    requires { (s a : ℕ) → Contains (sources_at (set_view set.now).sites s) a → a < s }
+    requires known { IsSetOf emitted.now known.now }
+    requires sources { (s a : ℕ) → Contains (sources_at (set_view set.now).sites s) a → a < s }
     ensures { IfOk result (λ v. (s : ℕ) → Places.is_in s v.items ≡ Places.is_in s (Places.all_below (set_view set.now).sites used.now ++ emitted.now)) }
 {
     let below = all_below(alloc, set, used)?;
-    let new = not_among(alloc, &below, emitted)?;
+    let new = not_in(alloc, &below, known)?;
     chained(alloc, &new, emitted)
-}
-
-/// Around the steps after one that used these sites.
-pub fn after_step(
-    alloc: Global,
-    set: &RuleSet,
-    around: Around,
-    used: &[BindingId],
-) -> Result<Around, AllocError>
-    requires { (s a : ℕ) → Contains (sources_at (set_view set.now).sites s) a → a < s }
-    ensures { IfOk result (λ r. IsInside (around_view r) (after_uses (set_view set.now) (around_view around) used.now)) }
-{
-    let emitted = emitted_after(alloc, set, &around.emitted, used)?;
-    Ok(Around {
-        sources: around.sources,
-        joined: around.joined,
-        brought: around.brought,
-        emitted,
-    })
 }
 
 // Around the body of an arm or a loop of a source, which brings these sites, where what its step uses is emitted.

@@ -48,26 +48,38 @@ fn sites_of(alloc: Global, test: &Test) -> Result<Vec<BindingId>, AllocError>
     Ok(sites)
 }
 
+// The sites that are emitted once these are used too.
+fn used_too(
+    alloc: Global,
+    set: &RuleSet,
+    around: &Around,
+    known: &Known,
+    used: &[BindingId],
+) -> Result<Vec<BindingId>, AllocError>
+    requires known { IsKnown (around_view around.now) known.now }
+    requires sources { (s a : ℕ) → Contains (sources_at (set_view set.now).sites s) a → a < s }
+    ensures { IfOk result (λ v. AreEmitted (set_view set.now) (around_view around.now) used.now v.items) }
+{
+    emitted_after(alloc, set, &around.emitted, &known.emitted, used)
+}
+
 // The sites that are emitted after a test.
 fn emitted_by(
     alloc: Global,
     set: &RuleSet,
     around: &Around,
+    known: &Known,
     test: &Test,
 ) -> Result<Vec<BindingId>, AllocError>
-    requires { (s a : ℕ) → Contains (sources_at (set_view set.now).sites s) a → a < s }
+    requires known { IsKnown (around_view around.now) known.now }
+    requires sources { (s a : ℕ) → Contains (sources_at (set_view set.now).sites s) a → a < s }
     ensures { IfOk result (λ v. AreEmitted (set_view set.now) (around_view around.now) (test_emits (set_view set.now) (test_view test.now)) v.items) }
 {
     match test {
-        Test::Match { source } => emitted_after(alloc, set, &around.emitted, &[*source]),
-        Test::Equal { a, b } => emitted_after(alloc, set, &around.emitted, &[*a, *b]),
+        Test::Match { source } => used_too(alloc, set, around, known, &[*source]),
+        Test::Equal { a, b } => used_too(alloc, set, around, known, &[*a, *b]),
         // the call itself may be bound again, so that its sources alone are emitted
-        Test::Loop { source } => emitted_after(
-            alloc,
-            set,
-            &around.emitted,
-            sources_of(set, *source),
-        ),
+        Test::Loop { source } => used_too(alloc, set, around, known, sources_of(set, *source)),
     }
 }
 
@@ -95,18 +107,16 @@ fn chosen_test(
     alloc: Global,
     set: &RuleSet,
     around: &Around,
+    known: &Known,
     here: &[usize],
 ) -> Result<Option<Test>, AllocError>
+    requires known { IsKnown (around_view around.now) known.now }
     requires set { CanGrow (set_view set.now) }
     requires order { IsTrue (descend (set_view set.now).rules here.now) }
     ensures { IfOk result (λ o. IsChosen (set_view set.now) (around_view around.now) here.now (option_map test_view o)) }
 {
-    if here.is_empty() {
-        return Ok(None);
-    }
-    let known = known_of(alloc, around)?;
-    let tests = useful_tests(alloc, set, around, &known, here)?;
-    Ok(chosen_of(set, around, &known, here, &tests))
+    let tests = useful_tests(alloc, set, around, known, here)?;
+    Ok(chosen_of(set, around, known, here, &tests))
 }
 
 /// The test that is made next at a place with these rules, and none where the place is an end.
@@ -120,17 +130,23 @@ pub fn next_test(
     requires order { IsTrue (descend (set_view set.now).rules here.now) }
     ensures { IfOk result (λ o. IsNext (set_view set.now) (around_view around.now) here.now o) }
 {
-    let Some(test) = chosen_test(alloc, set, around, here)? else {
+    if here.is_empty() {
+        return Ok(None);
+    }
+    let known = known_of(alloc, around)?;
+    let Some(test) = chosen_test(alloc, set, around, &known, here)? else {
         return Ok(None);
     };
     let sites = sites_of(alloc, &test)?;
     let (covered, others) = parted(alloc, set, here, &test)?;
+    let emitted = emitted_by(alloc, set, around, &known, &test)?;
+    let mut settled = known.emitted;
     Ok(Some(NextTest {
         test,
-        binds: bind_order(alloc, set, around, &sites)?,
+        binds: bind_order(alloc, set, around, &mut settled, &sites)?,
         covered,
         others,
-        emitted: emitted_by(alloc, set, around, &test)?,
+        emitted,
     }))
 }
 
