@@ -6,7 +6,7 @@ use Rattle.isle_model.specs.trees.Trees.{Tree, Check, match_at, equal_at, loop_a
 use Rattle.isle_model.specs.trees.Places.{Around, bind_order, in_equal, in_loop}
 use Rattle.isle_model.specs.trees.Tests.{Test, match_test, equal_test, loop_test, needs_at, is_covered, cover, IsOpen}
 use Rattle.isle_model.specs.trees.Best.{descend, BestSteps, BestArms}
-use Rattle.isle_serialize.specs.AroundViews.{around_view, IsInside, after_uses}
+use Rattle.isle_serialize.specs.AroundViews.{AreEmitted}
 use Rattle.isle_serialize.specs.TestViews.{test_view, IsChosen}
 use Rattle.isle_serialize.specs.declared.steps.NextTest.{NextTest}
 
@@ -70,7 +70,7 @@ pub record IsNextTest (set : SiteSet) (ar : Around) (here : List ℕ) (next : Ne
   pub binds : next.binds.items ≡ bind_order set.sites ar (test_sites (test_view next.test))
   pub covered : next.covered.items ≡ cover set.rules here (test_view next.test)
   pub others : next.others.items ≡ filter (λ i. not (is_covered set.rules here (test_view next.test) i)) here
-  pub after : IsInside (around_view next.after) (after_uses set ar (test_emits set (test_view next.test)))
+  pub emitted : AreEmitted set ar (test_emits set (test_view next.test)) next.emitted.items
 
 -- the same where there is one; where there is none, no open test covers a rule
 abbrev pub IsNext : SiteSet → Around → List ℕ → Option NextTest → Type 0

@@ -1,11 +1,11 @@
 //! The arms of a match: one for each constraint that some rule asks of its source, by ascending constraints.
 
-ghost use Rattle.std.specs.Prelude.{◌≡◌, ◌≤◌, IfOk, drop, length, option_map};
+ghost use Rattle.std.specs.Prelude.{◌≡◌, ◌≤◌, ◌∷◌, [], IfOk, drop, length, option_map};
 ghost use Rattle.std.specs.List.{filter, prefix_len};
 ghost use Rattle.std.specs.Ordering.{is_lt};
 ghost use Rattle.isle_model.specs.trees.Sound as Sound;
 ghost use Rattle.isle_sets.specs.SiteViews.{constraint_view, set_view};
-ghost use Rattle.isle_serialize.specs.AroundViews.{around_view};
+ghost use Rattle.isle_serialize.specs.AroundViews.{around_view, AreEmitted};
 ghost use Rattle.isle_serialize.specs.FieldTests.{AreFields};
 ghost use Rattle.isle_serialize.specs.Growing.{CanGrow};
 ghost use Rattle.isle_serialize.specs.Turns as Turns;
@@ -139,12 +139,14 @@ pub fn next_arm(
     set: &RuleSet,
     fields: &Fields,
     around: &Around,
+    emitted: &[BindingId],
     source: BindingId,
     left: &[Asked],
 ) -> Result<Option<NextArm>, AllocError>
     requires set { CanGrow (set_view set.now) }
     requires fields { AreFields (set_view set.now).sites fields.now }
     requires turns { AreTurns (set_view set.now).rules source left.now }
+    requires emitted { AreEmitted (set_view set.now) (around_view around.now) (source ∷ []) emitted.now }
     ensures { IfOk result (λ o. IsNextArmOf (set_view set.now) (around_view around.now) source (numbers left.now) o) }
 {
     let Some(first) = left.first() else {
@@ -154,7 +156,7 @@ pub fn next_arm(
     let fields = fields_of(alloc, set, fields, source, &constraint)?;
     let count = run_len(left, &constraint);
     let asking = numbers_of(alloc, &left[..count])?;
-    let inside = in_arm(alloc, set, around, source, &fields)?;
+    let inside = in_arm(alloc, around, emitted, source, &fields)?;
     Ok(Some(NextArm {
         constraint,
         fields,
