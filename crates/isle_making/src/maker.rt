@@ -9,12 +9,14 @@ use std::alloc::{AllocError, Global};
 
 /// Makes definitions.
 ///
-/// What it makes stands at `pos`, with all names in it. Each definition takes that position and counts it up by one, so that no
-/// two have the same: errors and returns name rules by their positions. Names, fields, patterns, expressions and conditions
-/// don't count: made before their definition, they stand where it does. Where memory is refused, nothing is counted.
+/// What it makes stands at `pos`, with all names in it. Each definition takes that position and counts it up by one, so that up
+/// to the greatest offset each has one of its own: errors and returns name rules by their positions. Names, fields, variants,
+/// patterns, expressions and conditions don't count: what is made after one definition stands where the next one does. Where
+/// memory is refused, nothing is counted.
 ///
 /// A caller may set `pos` at any time, and what was made has public parts: a flag, a priority, a rule's name or its conditions
 /// are set there.
+#[derive(Drop)]
 pub struct Maker {
     /// Where the memory of what is made comes from.
     pub alloc: Global,
