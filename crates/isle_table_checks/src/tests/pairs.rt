@@ -130,7 +130,10 @@ fn compare_all(
     mut counts: Counts,
 ) -> Result<Counts, Fail> {
     let mut behind = set.rules.as_slice();
-    while let [rule, rest @ ..] = behind {
+    for _ in 0..set.rules.len() {
+        let [rule, rest @ ..] = behind else {
+            return Ok(counts);
+        };
         counts = compare(rt, alloc, set.bindings.len(), rule, rest, counts)?;
         behind = rest;
     }
