@@ -44,8 +44,10 @@ fn document(rt: &impl Abort, alloc: Global, asked: &str, text: &str) -> Result<V
     let Some(request) = asked_by(alloc, &words)? else {
         return Err(Fail::from("wrong words"));
     };
-    let answer = answer_to(alloc, &request, &one_file(alloc, text)?)?;
-    assert!(rt; answer.err.is_empty());
+    let files = one_file(alloc, text)?;
+    let mut told: Vec<u8> = Vec::new(alloc);
+    let answer = answer_to(alloc, &request, &files, false, &mut told)?;
+    assert!(rt; answer.err.is_empty() && told.is_empty());
     match Value::from_str(alloc, &answer.out) {
         Ok(value) => Ok(value),
         Err(_) => Err(Fail::from("no JSON")),
